@@ -1,0 +1,14 @@
+//! What the crates of the simulator share: drives and levels, refusals, lists, the flash image,
+//! the outside as the trait `Bench`, and what joins the parts of a board.
+//! Each call is exact; a call that grows a list or makes an image may answer want of memory.
+#![tactic(auto)]
+
+mod fault;
+mod flash;
+mod list;
+mod signal;
+
+pub use fault::{Fault, OutOfMemory, Place, Refusal, refusal_name};
+pub use flash::Flash;
+pub use list::List;
+pub use signal::{Drive, Level, reads_one};
