@@ -1,3 +1,6 @@
-pub mod Refusals
+pub mod Causes
+pub mod Outside
 pub mod Reads
+pub mod Refusals
+pub mod Rows
 pub mod Signal

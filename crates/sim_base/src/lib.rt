@@ -3,12 +3,20 @@
 //! Each call is exact; a call that grows a list or makes an image may answer want of memory.
 #![tactic(auto)]
 
+mod bench;
 mod fault;
 mod flash;
 mod list;
 mod signal;
+mod steps;
+mod watcher;
+mod wiring;
 
+pub use bench::{Bench, Port, ReadEnd, WriteEnd};
 pub use fault::{Fault, OutOfMemory, Place, Refusal, refusal_name};
 pub use flash::Flash;
 pub use list::List;
 pub use signal::{Drive, Level, reads_one};
+pub use steps::Steps;
+pub use watcher::Watcher;
+pub use wiring::{Input, Wiring};

@@ -1,0 +1,95 @@
+-- The outside of the program, as a value: files, ports and counts of faults.
+use Rattle.std.specs.Prelude.{◌≡◌, ◌≢◌, ℕ, ◌≤◌, ◌<◌, List, [], ◌++◌, length, Bool, true, false, Option, None, Some, ◌⊎◌}
+use Rattle.std.specs.Option.{option_map}
+use Rattle.std.specs.FinMap.{FinMap, get}
+use Rattle.std.specs.Cmp.Lexicographic.{slice_cmp}
+use Rattle.std.specs.Ordering.{nat_cmp}
+use Rattle.sim_base.specs.declared.bench.Port.{Port}
+use Rattle.sim_base.specs.declared.bench.Port.TheVariants as ports
+use Rattle.sim_base.specs.declared.bench.ReadEnd.{ReadEnd}
+use Rattle.sim_base.specs.declared.bench.ReadEnd.TheVariants as reads
+use Rattle.sim_base.specs.declared.bench.WriteEnd.{WriteEnd}
+use Rattle.sim_base.specs.declared.bench.WriteEnd.TheVariants as writes
+use Rattle.sim_base.specs.Causes.{Rose}
+
+-- a finite map from the names of files to their bytes
+abbrev pub Files : Type 0
+Files = FinMap (slice_cmp nat_cmp) (List ℕ)
+
+-- Files and what was written are told or not (None); a bench that tells nothing still says which
+-- ports are open and how many faults it has seen.
+pub record Outside : Type 0 where
+  pub files : Option Files
+  pub written : Port → Option (List ℕ)
+  pub opened : Port → Bool
+  pub read_faults : ℕ
+  pub faults : Port → ℕ
+
+-- Serial and Complaint are open from the start, Wave and Report are opened by a call
+abbrev pub is_openable : Port → Bool
+is_openable ports.Serial = false
+is_openable ports.Wave = true
+is_openable ports.Report = true
+is_openable ports.Complaint = false
+
+-- nothing but the count of failed reads may have changed
+pub record SamePorts (a b : Outside) : Type 0 where
+  pub files : b.files ≡ a.files
+  pub written : (p : Port) → b.written p ≡ a.written p
+  pub opened : (p : Port) → b.opened p ≡ a.opened p
+  pub faults : (p : Port) → b.faults p ≡ a.faults p
+
+-- nothing but one port may have changed
+pub record SameOthers (port : Port) (a b : Outside) : Type 0 where
+  pub files : b.files ≡ a.files
+  pub written : (p : Port) → p ≢ port → b.written p ≡ a.written p
+  pub opened : (p : Port) → p ≢ port → b.opened p ≡ a.opened p
+  pub faults : (p : Port) → p ≢ port → b.faults p ≡ a.faults p
+  pub reads : b.read_faults ≡ a.read_faults
+
+-- told bytes have grown by these; what is not told stays untold
+abbrev pub Grows : Option (List ℕ) → Option (List ℕ) → List ℕ → Type 0
+Grows old new bytes = new ≡ option_map (λ xs. xs ++ bytes) old
+
+-- told bytes are these now
+abbrev pub Becomes : Option (List ℕ) → Option (List ℕ) → List ℕ → Type 0
+Becomes old new bytes = new ≡ option_map (λ _. bytes) old
+
+-- a first part of a text
+pub record IsFront (front text : List ℕ) : Type 0 where
+  pub rest : List ℕ
+  pub whole : front ++ rest ≡ text
+
+-- a text was appended, or a first part of it where the write failed
+abbrev pub WriteLeaves : WriteEnd → Option (List ℕ) → Option (List ℕ) → List ℕ → Type 0
+WriteLeaves writes.Ok old new bytes = Grows old new bytes
+WriteLeaves writes.Failed old new bytes = (front : List ℕ) × IsFront front bytes × Grows old new front
+
+-- An opened port is empty. One that could not be opened is as before or empty, and is not opened by that.
+abbrev pub Opens : WriteEnd → Port → Outside → Outside → Type 0
+Opens writes.Ok p a b = (b.opened p ≡ true) × Becomes (a.written p) (b.written p) [] × (b.faults p ≡ a.faults p)
+Opens writes.Failed p a b =
+    ((b.opened p ≡ a.opened p) ⊎ (b.opened p ≡ false))
+    × ((b.written p ≡ a.written p) ⊎ Becomes (a.written p) (b.written p) [])
+    × (a.faults p ≤ b.faults p)
+    × Rose (a.faults p) (b.faults p)
+
+-- what reading a file of a told map gives
+abbrev pub ReadsFile : ReadEnd → Option (List ℕ) → ℕ → List ℕ → Type 0
+ReadsFile reads.Ok file limit into = file ≡ Some into
+ReadsFile reads.Missing file limit into = file ≡ None
+ReadsFile reads.TooLong file limit into = (bytes : List ℕ) × (file ≡ Some bytes) × (limit < length bytes)
+ReadsFile reads.Failed file limit into = Unit {0}
+ReadsFile reads.OutOfMemory file limit into = Unit {0}
+
+abbrev pub ReadsTold : ReadEnd → Option Files → List ℕ → ℕ → List ℕ → Type 0
+ReadsTold end None name limit into = Unit {0}
+ReadsTold end (Some files) name limit into = ReadsFile end (get files name) limit into
+
+-- what was read is within the limit, and nothing is left of a read that was not Ok
+abbrev pub ReadFits : ReadEnd → ℕ → List ℕ → Type 0
+ReadFits reads.Ok limit into = length into ≤ limit
+ReadFits reads.Missing limit into = into ≡ []
+ReadFits reads.TooLong limit into = into ≡ []
+ReadFits reads.Failed limit into = into ≡ []
+ReadFits reads.OutOfMemory limit into = into ≡ []

@@ -1,0 +1,63 @@
+//! The outside of the program, as a trait.
+ghost use Rattle.std.specs.Prelude.{◌≡◌, ℕ, [], Bool, true};
+ghost use Rattle.sim_base.specs.declared.bench.Port.{Port};
+ghost use Rattle.sim_base.specs.declared.bench.Port.TheVariants as ports;
+ghost use Rattle.sim_base.specs.Causes.{ReadCause, WriteCause};
+ghost use Rattle.sim_base.specs.Outside.{Outside, SamePorts, SameOthers, Opens, WriteLeaves, ReadsTold, ReadFits, is_openable};
+
+/// Where the program writes: the serial bytes, the wave, the report, and the one line of a complaint.
+#[derive(Clone, Copy, Debug, PartialEq, Eq)]
+pub enum Port {
+    Serial,
+    Wave,
+    Report,
+    Complaint,
+}
+
+#[derive(Clone, Copy, Debug, PartialEq, Eq)]
+pub enum ReadEnd {
+    Ok,
+    Missing,
+    TooLong,
+    Failed,
+    OutOfMemory,
+}
+
+#[derive(Clone, Copy, Debug, PartialEq, Eq)]
+pub enum WriteEnd {
+    Ok,
+    Failed,
+}
+
+/// Files and ports. A count of faults never falls, and a call raises the one count that it names
+/// and only where it answers `Failed`.
+pub trait Bench {
+    /// Files, ports and counts of faults.
+    ghost outside: { Self → Outside };
+
+    /// Reads a whole file of at most `limit` bytes into an empty Vec, which stays empty after every
+    /// answer but `Ok`.
+    fn read_file(&mut self, name: &str, limit: u32, into: &mut Vec<u8>) -> ReadEnd
+        requires { into.old.items ≡ [] }
+        ensures told { ReadsTold result (outside self.old).files name.now limit into.new.items }
+        ensures fits { ReadFits result limit into.new.items }
+        ensures cause { ReadCause result (outside self.old).read_faults (outside self.new).read_faults }
+        ensures ports { SamePorts (outside self.old) (outside self.new) };
+
+    /// Opens Wave or Report on a file, which is empty then; `-` is standard output.
+    fn open_port(&mut self, port: Port, name: &str) -> WriteEnd
+        requires { is_openable port ≡ true }
+        ensures opens { Opens result port (outside self.old) (outside self.new) }
+        ensures others { SameOthers port (outside self.old) (outside self.new) };
+
+    /// Appends to an open port; of a write that fails a first part may stand there.
+    fn write(&mut self, port: Port, bytes: &[u8]) -> WriteEnd
+        requires { (outside self.old).opened port ≡ true }
+        ensures leaves { WriteLeaves result ((outside self.old).written port) ((outside self.new).written port) bytes.now }
+        ensures cause { WriteCause result ((outside self.old).faults port) ((outside self.new).faults port) }
+        ensures opened { (outside self.new).opened port ≡ (outside self.old).opened port }
+        ensures others { SameOthers port (outside self.old) (outside self.new) };
+
+    /// Serial and Complaint are open from the start.
+    ghost always_open: { (b : Self) → ((outside b).opened ports.Serial ≡ true) × ((outside b).opened ports.Complaint ≡ true) };
+}

@@ -1,0 +1,48 @@
+//! Who is handed the rows and bytes of a run, so that the engine knows no text.
+ghost use Rattle.std.specs.Prelude.{◌≡◌, ℕ, List, [], ◌∷◌, ◌<◌, Bool, true, false, Option, Some};
+ghost use Rattle.std.specs.Option.{ForSome};
+ghost use Rattle.sim_base.specs.Causes.{Rose};
+ghost use Rattle.sim_base.specs.Rows.{Row, Handed, Appends};
+
+use crate::bench::WriteEnd;
+use crate::signal::{Drive, Level};
+
+/// A watcher is whole until a call fails, and then has stopped within what it was handed.
+pub trait Watcher {
+    /// That it stands for these rows and bytes.
+    ghost stands: { Self → List Row → List ℕ → Type 0 };
+
+    /// That it has stopped within these rows and bytes.
+    ghost stopped: { Self → List Row → List ℕ → Type 0 };
+
+    ghost whole: { Self → Bool };
+
+    /// The cycle of its last row.
+    ghost last: { Self → Option ℕ };
+
+    ghost faults: { Self → ℕ };
+
+    /// What it writes on, by the names of the references that it holds: no call changes it.
+    ghost place: { Self → ℕ };
+
+    /// Is handed the levels by net and the drives by pin of a cycle after the last row's.
+    fn row(&mut self, t: u32, levels: &[Level], drives: &[Drive]) -> WriteEnd
+        requires whole { whole self.old ≡ true }
+        requires later { ForSome (last self.old) (λ u. u < t) }
+        ensures ok { result ≡ WriteEnd.Ok → Handed whole faults stands self.old self.new (record { cycle = t; levels = levels.now; drives = drives.now } ∷ []) [] }
+        ensures last { result ≡ WriteEnd.Ok → last self.new ≡ Some t }
+        ensures failed { result ≡ WriteEnd.Failed → Rose (faults self.old) (faults self.new)
+            × Appends (stands self.old) (stopped self.new) (record { cycle = t; levels = levels.now; drives = drives.now } ∷ []) [] }
+        ensures broken { result ≡ WriteEnd.Failed → whole self.new ≡ false }
+        ensures place { place self.new ≡ place self.old };
+
+    /// Is handed a byte that the serial port sent.
+    fn byte(&mut self, b: u8) -> WriteEnd
+        requires { whole self.old ≡ true }
+        ensures ok { result ≡ WriteEnd.Ok → Handed whole faults stands self.old self.new [] (b ∷ []) }
+        ensures last { result ≡ WriteEnd.Ok → last self.new ≡ last self.old }
+        ensures failed { result ≡ WriteEnd.Failed → Rose (faults self.old) (faults self.new)
+            × Appends (stands self.old) (stopped self.new) [] (b ∷ []) }
+        ensures broken { result ≡ WriteEnd.Failed → whole self.new ≡ false }
+        ensures place { place self.new ≡ place self.old };
+}
