@@ -1,4 +1,5 @@
 pub mod Causes
+pub mod Mem
 pub mod Outside
 pub mod Reads
 pub mod Refusals

@@ -1,0 +1,57 @@
+-- What the calls of a bench in memory leave of the outside.
+use Rattle.std.proofs.Common.{◌≡◌, ℕ, List, Bool, true, false, not, refl, inl, sym, ◌∙◌, Some, Option, ap, cond, ◌∷◌, [], subst, ◌||◌}
+use Rattle.std.specs.Cmp.Lexicographic.{slice_cmp}
+use Rattle.std.specs.Ordering.{nat_cmp, eq_by_cmp}
+use Rattle.std.specs.FinMap.{from_entries, get, get-empty, get-insert}
+use Rattle.std.proofs.lemmas.Map.Text.{is_eq-slice_cmp}
+use Rattle.std.proofs.lemmas.Cmp.{nat_list_cmp_total}
+use Rattle.sim_base.specs.declared.bench.Port.{Port}
+use Rattle.sim_base.specs.declared.bench.Port.TheVariants as ports
+use Rattle.sim_base.specs.declared.bench.ReadEnd.{ReadEnd}
+use Rattle.sim_base.specs.declared.bench.WriteEnd.{WriteEnd}
+use Rattle.sim_base.specs.Causes.{WriteCause}
+use Rattle.sim_base.specs.Outside.{Opens, ReadsFile, ReadsTold}
+use Rattle.sim_base.specs.Mem.{MemState, port_of, with_port, with_open, called, opened, write_end, outside_of, file_in}
+
+or_true : (b : Bool) → b || true ≡ true
+or_true true = refl
+or_true false = refl
+
+or_false : (b : Bool) → b || false ≡ b
+or_false true = refl
+or_false false = refl
+
+-- what a bench is after a port was opened, or failed to open
+abbrev after : MemState → Port → Bool → MemState
+after a p fails = with_open (with_port a p (opened fails (port_of a p))) p (not fails)
+
+opens_here : (s : MemState) (p : Port) (fails : Bool) → WriteCause (write_end (not fails)) (port_of (called s) p).faults (port_of (after (called s) p fails) p).faults → Opens (write_end (not fails)) p (outside_of s) (outside_of (after (called s) p fails))
+opens_here s ports.Serial true cause = (inl refl, inl refl, cause.0, cause.1)
+opens_here s ports.Wave true cause = (inl (or_false s.wave_open), inl refl, cause.0, cause.1)
+opens_here s ports.Report true cause = (inl (or_false s.report_open), inl refl, cause.0, cause.1)
+opens_here s ports.Complaint true cause = (inl refl, inl refl, cause.0, cause.1)
+opens_here s ports.Serial false cause = (refl, refl, cause)
+opens_here s ports.Wave false cause = (or_true s.wave_open, refl, cause)
+opens_here s ports.Report false cause = (or_true s.report_open, refl, cause)
+opens_here s ports.Complaint false cause = (refl, refl, cause)
+
+-- opening a port, where its count of faults has this cause
+pub opens : (s a b : MemState) (p : Port) (fails : Bool) (end : WriteEnd) → a ≡ called s → end ≡ write_end (not fails) → b ≡ with_open (with_port a p (opened fails (port_of a p))) p (not fails) → WriteCause end (port_of a p).faults (port_of b p).faults → Opens end p (outside_of s) (outside_of b)
+opens s a b p fails end is_called is_end is_after cause =
+    let e : b ≡ after (called s) p fails = is_after ∙ ap (λ (x : MemState). after x p fails) is_called in
+    let here : WriteCause (write_end (not fails)) (port_of a p).faults (port_of b p).faults = subst (λ (x : WriteEnd). WriteCause x (port_of a p).faults (port_of b p).faults) is_end cause in
+    let there : WriteCause (write_end (not fails)) (port_of (called s) p).faults (port_of b p).faults = subst (λ (x : MemState). WriteCause (write_end (not fails)) (port_of x p).faults (port_of b p).faults) is_called here in
+    let then : WriteCause (write_end (not fails)) (port_of (called s) p).faults (port_of (after (called s) p fails) p).faults = subst (λ (x : MemState). WriteCause (write_end (not fails)) (port_of (called s) p).faults (port_of x p).faults) e there in
+    let done : Opens (write_end (not fails)) p (outside_of s) (outside_of b) = subst (λ (x : MemState). Opens (write_end (not fails)) p (outside_of s) (outside_of x)) (sym e) (opens_here s p fails then) in
+    subst (λ (x : WriteEnd). Opens x p (outside_of s) (outside_of b)) (sym is_end) done
+
+-- a file of the list is that of the map
+pub get_file : (name : List ℕ) (files : List (List ℕ × List ℕ)) → get (from_entries {R = slice_cmp nat_cmp} files) name ≡ file_in name files
+get_file name [] = get-empty (slice_cmp nat_cmp) name
+get_file name (file ∷ files) =
+    get-insert nat_list_cmp_total (from_entries {R = slice_cmp nat_cmp} files) file.0 file.1 name
+    ∙ ap (λ (m : Option (List ℕ)). cond (eq_by_cmp (slice_cmp nat_cmp) name file.0) (Some file.1) m) (get_file name files)
+    ∙ ap (λ (b : Bool). cond b (Some file.1) (file_in name files)) (is_eq-slice_cmp name file.0)
+
+pub told : (end : ReadEnd) (files : List (List ℕ × List ℕ)) (name : List ℕ) (limit : ℕ) (into : List ℕ) → ReadsFile end (file_in name files) limit into → ReadsTold end (Some (from_entries files)) name limit into
+told end files name limit into read = subst (λ (f : Option (List ℕ)). ReadsFile end f limit into) (sym (get_file name files)) read
