@@ -10,6 +10,7 @@ mod list;
 mod mem_bench;
 mod signal;
 mod steps;
+mod text;
 mod watcher;
 mod wiring;
 
@@ -20,5 +21,6 @@ pub use list::List;
 pub use mem_bench::MemBench;
 pub use signal::{Drive, Level, reads_one};
 pub use steps::Steps;
+pub use text::Text;
 pub use watcher::Watcher;
 pub use wiring::{Input, Wiring};
