@@ -1,5 +1,6 @@
 pub mod Causes
 pub mod Mem
+pub mod Names
 pub mod Outside
 pub mod Reads
 pub mod Refusals

@@ -80,6 +80,22 @@ impl<T: Drop> From<AllocFailed<T>> for Fault {
     }
 }
 
+/// Whether a refusal has this number.
+pub fn is_refusal(number: u8) -> bool
+    ensures { result ≡ is_number number }
+{
+    matches!(
+        number,
+        10 | 20..=26
+            | 30..=31
+            | 40..=49
+            | 50..=53
+            | 60..=79
+            | 80..=83
+            | 90..=95
+    )
+}
+
 /// The name of a refusal's number, as the complaint's line has it.
 pub fn refusal_name(number: u8) -> &'static str
     requires { is_number number ≡ true }
