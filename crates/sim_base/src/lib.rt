@@ -11,6 +11,8 @@ mod mem_bench;
 mod name;
 mod signal;
 mod steps;
+#[cfg(test)]
+mod tests;
 mod text;
 mod watcher;
 mod wiring;

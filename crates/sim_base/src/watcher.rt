@@ -22,8 +22,11 @@ pub trait Watcher {
 
     ghost faults: { Self → ℕ };
 
-    /// What it writes on, by the names of the references that it holds: no call changes it.
-    ghost place: { Self → ℕ };
+    /// What no call changes, such as the name of a reference that it holds: by that name whoever
+    /// lent the reference knows that the watcher gives it back.
+    ghost Place: { Type 0 };
+
+    ghost place: { Self → Place };
 
     /// Is handed the levels by net and the drives by pin of a cycle after the last row's.
     fn row(&mut self, t: u32, levels: &[Level], drives: &[Drive]) -> WriteEnd
