@@ -1,0 +1,3 @@
+mod HexLemmas
+mod ImageLemmas
+mod LineLemmas

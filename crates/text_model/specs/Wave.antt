@@ -1,0 +1,134 @@
+-- The wave of a run as a value change dump (IEEE 1364-2005, "Value change dump files", "Format of
+-- four-state VCD file"; which variables there are and their identifier codes are the profile's).
+use Rattle.std.specs.Prelude.{ℕ, suc, ◌+◌, ◌-◌, ◌*◌, ◌/◌, ◌%◌, nat_lt, ◌==◌, Bool, true, false, if◌then◌else◌, List, [], ◌∷◌, ◌++◌, map, codes, decimal, slice_get}
+use Rattle.std.specs.Option.{option_map_or}
+use Rattle.std.specs.Str.{bytes_eq}
+use Rattle.sim_base.specs.declared.signal.Level.{Level}
+use Rattle.sim_base.specs.declared.signal.Level.TheVariants as levels
+use Rattle.sim_base.specs.declared.signal.Drive.{Drive}
+use Rattle.sim_base.specs.Signal.{value_of, strong_of, is_weak, is_upper}
+use Rattle.sim_base.specs.Rows.{Row}
+
+-- What a variable shows: the level of a net, or what a pin drives strongly or weakly.
+pub data Shown : Type 0 where
+  Net : ℕ → Shown
+  Strong : ℕ → Shown
+  Weak : ℕ → Shown
+
+pub record Variable : Type 0 where
+  pub name : List ℕ
+  pub shows : Shown
+
+-- the characters `0`, `1`, `x` and `z`
+abbrev pub bit_value : Bool → ℕ
+bit_value false = 48
+bit_value true = 49
+
+-- a wiper alone on its net is shown as an input reads it
+abbrev pub level_value : Level → ℕ
+level_value levels.Low = 48
+level_value levels.High = 49
+level_value levels.X = 120
+level_value levels.Z = 122
+level_value (levels.Wiped w) = bit_value (is_upper w)
+
+-- the value while the pin drives strongly, else `z`
+abbrev pub strong_value : Drive → ℕ
+strong_value d = option_map_or bit_value (strong_of d) 122
+
+-- the value while the pin drives weakly, else `z`
+abbrev pub weak_value : Drive → ℕ
+weak_value d = if is_weak d then option_map_or bit_value (value_of d) 122 else 122
+
+-- what a variable has in a row; `z` where the row lacks the net or pin
+abbrev pub shown_value : Row → Shown → ℕ
+shown_value row (Net n) = option_map_or level_value (slice_get row.levels n) 122
+shown_value row (Strong p) = option_map_or strong_value (slice_get row.drives p) 122
+shown_value row (Weak p) = option_map_or weak_value (slice_get row.drives p) 122
+
+-- the values of all variables in a row
+abbrev pub values : List Variable → Row → List ℕ
+values variables row = map (λ v. shown_value row v.shows) variables
+
+-- The identifier code of variable i: one printable character for the first 94, then two.
+abbrev pub id_of : ℕ → List ℕ
+id_of i =
+    if nat_lt i 94 then (33 + i) ∷ []
+    else (33 + (i - 94) / 94) ∷ (33 + (i - 94) % 94) ∷ []
+
+-- the declaration of variable i
+abbrev pub declaration : ℕ → Variable → List ℕ
+declaration i v = codes "$var wire 1 " ++ id_of i ++ codes " " ++ v.name ++ codes " $end\n"
+
+-- the declarations from variable i on
+unfoldable pub declarations : ℕ → List Variable → List ℕ
+declarations i [] = []
+declarations i (v ∷ vs) = declaration i v ++ declarations (suc i) vs
+
+abbrev pub head : List Variable → List ℕ
+head variables =
+    codes "$timescale 100 ps $end\n$scope module board $end\n"
+    ++ declarations 0 variables
+    ++ codes "$upscope $end\n$enddefinitions $end\n"
+
+-- the time of a cycle: a cycle of the 16 MHz clock is 625 times 100 ps
+abbrev pub time_line : ℕ → List ℕ
+time_line cycle = codes "#" ++ decimal (625 * cycle) ++ codes "\n"
+
+-- value v of variable i
+abbrev pub value_line : ℕ → ℕ → List ℕ
+value_line i v = (v ∷ id_of i) ++ codes "\n"
+
+-- the values from variable i on
+unfoldable pub value_lines : ℕ → List ℕ → List ℕ
+value_lines i [] = []
+value_lines i (v ∷ vs) = value_line i v ++ value_lines (suc i) vs
+
+-- the initial values, of the first row
+abbrev pub initial_values : ℕ → List ℕ → List ℕ
+initial_values cycle now = time_line cycle ++ codes "$dumpvars\n" ++ value_lines 0 now ++ codes "$end\n"
+
+-- the values from variable i on that are not what they were before
+unfoldable pub changes : ℕ → List ℕ → List ℕ → List ℕ
+changes i before [] = []
+changes i [] (v ∷ now) = []
+changes i (u ∷ before) (v ∷ now) = (if u == v then [] else value_line i v) ++ changes (suc i) before now
+
+-- the value changes of a cycle; no text where no variable changed
+abbrev pub value_changes : ℕ → List ℕ → List ℕ → List ℕ
+value_changes cycle before now = if bytes_eq before now then [] else time_line cycle ++ changes 0 before now
+
+-- the text of rows that follow one with the values `before`
+unfoldable pub later_text : List Variable → List ℕ → List Row → List ℕ
+later_text variables before [] = []
+later_text variables before (row ∷ rows) =
+    value_changes row.cycle before (values variables row) ++ later_text variables (values variables row) rows
+
+-- The wave of rows but for its last line; the first row is that of cycle 0.
+unfoldable pub begun_text : List Variable → List Row → List ℕ
+begun_text variables [] = []
+begun_text variables (row ∷ rows) =
+    head variables
+    ++ initial_values row.cycle (values variables row)
+    ++ later_text variables (values variables row) rows
+
+-- The wave of the rows of a run that ends at cycle n.
+abbrev pub wave_text : List Variable → List Row → ℕ → List ℕ
+wave_text variables rows n = begun_text variables rows ++ time_line n
+
+-- how many variables have another value than before
+unfoldable pub change_count : List ℕ → List ℕ → ℕ
+change_count before [] = 0
+change_count [] (v ∷ now) = 0
+change_count (u ∷ before) (v ∷ now) = (if u == v then 0 else 1) + change_count before now
+
+-- how many value changes the rows have that follow one with the values `before`
+unfoldable pub later_count : List Variable → List ℕ → List Row → ℕ
+later_count variables before [] = 0
+later_count variables before (row ∷ rows) =
+    change_count before (values variables row) + later_count variables (values variables row) rows
+
+-- how many value changes the wave of rows has after the initial values
+unfoldable pub wave_count : List Variable → List Row → ℕ
+wave_count variables [] = 0
+wave_count variables (row ∷ rows) = later_count variables (values variables row) rows
