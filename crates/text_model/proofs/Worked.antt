@@ -74,7 +74,7 @@ four_rows =
 
 small_wave : wave_text three four_rows 16 ≡
     codes "$timescale 100 ps $end\n$scope module board $end\n$var wire 1 ! c.OUT $end\n$var wire 1 \" c.OUT.out $end\n$var wire 1 # c.OUT.pull $end\n$upscope $end\n$enddefinitions $end\n#0\n$dumpvars\nz!\nz\"\nz#\n$end\n#625\n0!\n0\"\n#2500\n1!\nz\"\n1#\n#10000\n"
-unfolding digits three four_rows declarations value_lines changes later_text begun_text
+unfolding digits three four_rows declarations value_lines changes change_count later_text begun_text
 small_wave = refl
 
 small_count : wave_count three four_rows ≡ 5

@@ -2,7 +2,6 @@
 -- four-state VCD file"; which variables there are and their identifier codes are the profile's).
 use Rattle.std.specs.Prelude.{ℕ, suc, ◌+◌, ◌-◌, ◌*◌, ◌/◌, ◌%◌, nat_lt, ◌==◌, Bool, true, false, if◌then◌else◌, List, [], ◌∷◌, ◌++◌, map, codes, decimal, slice_get}
 use Rattle.std.specs.Option.{option_map_or}
-use Rattle.std.specs.Str.{bytes_eq}
 use Rattle.sim_base.specs.declared.signal.Level.{Level}
 use Rattle.sim_base.specs.declared.signal.Level.TheVariants as levels
 use Rattle.sim_base.specs.declared.signal.Drive.{Drive}
@@ -40,15 +39,15 @@ strong_value d = option_map_or bit_value (strong_of d) 122
 abbrev pub weak_value : Drive → ℕ
 weak_value d = if is_weak d then option_map_or bit_value (value_of d) 122 else 122
 
--- what a variable has in a row; `z` where the row lacks the net or pin
-abbrev pub shown_value : Row → Shown → ℕ
-shown_value row (Net n) = option_map_or level_value (slice_get row.levels n) 122
-shown_value row (Strong p) = option_map_or strong_value (slice_get row.drives p) 122
-shown_value row (Weak p) = option_map_or weak_value (slice_get row.drives p) 122
+-- what a variable has at these levels and drives; `z` where they lack its net or pin
+abbrev pub shown_value : List Level → List Drive → Shown → ℕ
+shown_value levels drives (Net n) = option_map_or level_value (slice_get levels n) 122
+shown_value levels drives (Strong p) = option_map_or strong_value (slice_get drives p) 122
+shown_value levels drives (Weak p) = option_map_or weak_value (slice_get drives p) 122
 
 -- the values of all variables in a row
 abbrev pub values : List Variable → Row → List ℕ
-values variables row = map (λ v. shown_value row v.shows) variables
+values variables row = map (λ v. shown_value row.levels row.drives v.shows) variables
 
 -- The identifier code of variable i: one printable character for the first 94, then two.
 abbrev pub id_of : ℕ → List ℕ
@@ -94,9 +93,15 @@ changes i before [] = []
 changes i [] (v ∷ now) = []
 changes i (u ∷ before) (v ∷ now) = (if u == v then [] else value_line i v) ++ changes (suc i) before now
 
+-- how many variables have another value than before
+unfoldable pub change_count : List ℕ → List ℕ → ℕ
+change_count before [] = 0
+change_count [] (v ∷ now) = 0
+change_count (u ∷ before) (v ∷ now) = (if u == v then 0 else 1) + change_count before now
+
 -- the value changes of a cycle; no text where no variable changed
 abbrev pub value_changes : ℕ → List ℕ → List ℕ → List ℕ
-value_changes cycle before now = if bytes_eq before now then [] else time_line cycle ++ changes 0 before now
+value_changes cycle before now = if change_count before now == 0 then [] else time_line cycle ++ changes 0 before now
 
 -- the text of rows that follow one with the values `before`
 unfoldable pub later_text : List Variable → List ℕ → List Row → List ℕ
@@ -115,12 +120,6 @@ begun_text variables (row ∷ rows) =
 -- The wave of the rows of a run that ends at cycle n.
 abbrev pub wave_text : List Variable → List Row → ℕ → List ℕ
 wave_text variables rows n = begun_text variables rows ++ time_line n
-
--- how many variables have another value than before
-unfoldable pub change_count : List ℕ → List ℕ → ℕ
-change_count before [] = 0
-change_count [] (v ∷ now) = 0
-change_count (u ∷ before) (v ∷ now) = (if u == v then 0 else 1) + change_count before now
 
 -- how many value changes the rows have that follow one with the values `before`
 unfoldable pub later_count : List Variable → List ℕ → List Row → ℕ
