@@ -1,0 +1,5 @@
+pub mod Buffers
+pub mod Heads
+pub mod Ports
+pub mod Variables
+pub mod Writers

@@ -1,0 +1,75 @@
+-- What a writer stands for.
+use Rattle.std.specs.Prelude.{◌≡◌, ℕ, ◌+◌, ◌-◌, ◌^◌, min, List, [], ◌∷◌, length, Bool, true, false, not, ◌&&◌, ◌||◌, Option, if◌then◌else◌}
+use Rattle.sim_base.specs.declared.bench.Port.{Port}
+use Rattle.sim_base.specs.declared.bench.Port.TheVariants as ports
+use Rattle.sim_base.specs.declared.bench.WriteEnd.{WriteEnd}
+use Rattle.sim_base.specs.declared.bench.WriteEnd.TheVariants as writes
+use Rattle.sim_base.specs.Outside.{Outside}
+use Rattle.sim_base.specs.Rows.{Row}
+use Rattle.text_model.specs.Wave.{Variable, values, begun_text, wave_count}
+use Rattle.vcd_text.specs.Heads.{HeadState}
+use Rattle.vcd_text.specs.Ports.{texts, Leaves, BreaksOff}
+use Rattle.vcd_text.specs.declared.writer.WaveWriter.{WaveWriter}
+
+-- What no call of a writer changes: the reference that it holds, the outside as it was lent, and
+-- what it is to write.
+pub record Tied : Type 0 where
+  pub reference : ℕ
+  pub start : Outside
+  pub variables : List Variable
+  pub wave : Bool
+  pub serial : Bool
+
+-- the values of the last row, after one with the values `before`
+abbrev pub last_values : List Variable → List ℕ → List Row → List ℕ
+last_values variables before [] = before
+last_values variables before (row ∷ rows) = last_values variables (values variables row) rows
+
+-- the text of rows has come to the end of these
+abbrev pub IsAfter : HeadState → List Row → Type 0
+IsAfter s [] = s.started ≡ false
+IsAfter s (row ∷ rows) = (s.started ≡ true) × (s.values ≡ last_values s.variables (values s.variables row) rows)
+
+-- a count that stays at the greatest number
+abbrev pub capped : ℕ → ℕ
+capped n = min n (2 ^ 64 - 1)
+
+-- the texts for the ports, by what is to be written
+abbrev pub texts_of : Tied → List ℕ → List ℕ → Port → Option (List ℕ)
+texts_of tied = texts tied.wave tied.serial
+
+abbrev pub place_of : {B : Type 0} → (B → Outside) → WaveWriter B → Tied
+place_of outside w = record {
+  reference = w.bench.ghost_name;
+  start = outside w.start.now.value;
+  variables = w.head.now.variables;
+  wave = w.wave;
+  serial = w.serial;
+}
+
+-- the outside as a writer has it
+abbrev pub outside_of : {B : Type 0} → (B → Outside) → WaveWriter B → Outside
+outside_of outside w = outside w.bench.now
+
+abbrev pub last_of : {B : Type 0} → WaveWriter B → Option ℕ
+last_of w = w.last
+
+-- no call has failed, the wave has not ended, and a wanted Wave is open
+abbrev pub is_whole : {B : Type 0} → (B → Outside) → WaveWriter B → Bool
+is_whole outside w = w.whole && (not w.wave || (outside w.bench.now).opened ports.Wave)
+
+abbrev pub faults_of : {B : Type 0} → (B → Outside) → WaveWriter B → ℕ
+faults_of outside w = (outside w.bench.now).faults ports.Wave + (outside w.bench.now).faults ports.Serial
+
+-- Since the outside was lent, a wanted Wave has got the text of the rows, but for the wave's last
+-- line, and a wanted Serial the bytes, and nothing else has changed; what is not wanted is counted.
+pub record Stands {B : Type 0} (outside : B → Outside) (w : WaveWriter B) (rows : List Row) (bytes : List ℕ) : Type 0 where
+  pub leaves : Leaves (texts w.wave w.serial (begun_text w.head.now.variables rows) bytes) (outside w.start.now.value) (outside w.bench.now)
+  pub follows : IsAfter w.head.now rows
+  pub changed : w.wave ≡ false → w.changes ≡ capped (wave_count w.head.now.variables rows)
+  pub sent : w.serial ≡ false → w.sent ≡ capped (length bytes)
+
+-- Since the outside was lent, first parts of these were written, and a write failed.
+abbrev pub HasStopped : {B : Type 0} → (B → Outside) → WaveWriter B → List Row → List ℕ → Type 0
+HasStopped outside w rows bytes =
+    BreaksOff (texts w.wave w.serial (begun_text w.head.now.variables rows) bytes) (outside w.start.now.value) (outside w.bench.now)

@@ -1,0 +1,79 @@
+//! The value of a variable as a character: `0`, `1`, `x` or `z`.
+ghost use Rattle.std.specs.Prelude.{◌≡◌, Bool, List, length, map, slice_get};
+ghost use Rattle.sim_base.specs.Signal.{is_weak, strong_of, value_of};
+ghost use Rattle.text_model.specs.Wave.{bit_value, level_value, strong_value, weak_value, shown_value};
+ghost use Rattle.vcd_text.specs.Variables.{shown_of, variable_of};
+
+use crate::variable::{Shown, Variable};
+use sim_base::{Drive, Level, reads_one};
+
+fn bit(value: bool) -> u8
+    ensures { result ≡ bit_value value }
+{
+    if value { b'1' } else { b'0' }
+}
+
+fn of_level(level: Level) -> u8
+    ensures { result ≡ level_value level }
+{
+    match level {
+        Level::Low => b'0',
+        Level::High => b'1',
+        Level::X => b'x',
+        Level::Z => b'z',
+        Level::Wiped(position) => bit(position >= 512),
+    }
+}
+
+fn of_strong(drive: Drive) -> u8
+    ensures { result ≡ strong_value drive }
+{
+    match drive {
+        Drive::Low => b'0',
+        Drive::High => b'1',
+        Drive::Z | Drive::PullLow | Drive::PullHigh | Drive::Wiper(_) => b'z',
+    }
+}
+
+fn of_weak(drive: Drive) -> u8
+    ensures { result ≡ weak_value drive }
+{
+    match drive {
+        Drive::PullLow => b'0',
+        Drive::PullHigh => b'1',
+        Drive::Wiper(position) => bit(position >= 512),
+        Drive::Z | Drive::Low | Drive::High => b'z',
+    }
+}
+
+fn level_at(levels: &[Level], net: u16) -> Option<Level>
+    ensures { result ≡ slice_get levels.now net }
+{
+    levels.get(net as usize).copied()
+}
+
+fn drive_at(drives: &[Drive], pin: u16) -> Option<Drive>
+    ensures { result ≡ slice_get drives.now pin }
+{
+    drives.get(pin as usize).copied()
+}
+
+fn of_shown(shows: Shown, levels: &[Level], drives: &[Drive]) -> u8
+    ensures { result ≡ shown_value levels.now drives.now (shown_of shows) }
+{
+    match shows {
+        Shown::Net(net) => level_at(levels, net).map_or(b'z', of_level),
+        Shown::Strong(pin) => drive_at(drives, pin).map_or(b'z', of_strong),
+        Shown::Weak(pin) => drive_at(drives, pin).map_or(b'z', of_weak),
+    }
+}
+
+/// Puts the value of each variable at its place.
+pub fn fill_values(variables: &[Variable], levels: &[Level], drives: &[Drive], now: &mut [u8])
+    requires { length now.old ≡ length variables.now }
+    ensures { now.new ≡ map (λ v. shown_value levels.now drives.now v.shows) (map variable_of variables.now) }
+{
+    for (i, variable) in variables.iter().enumerate() {
+        now[i] = of_shown(variable.shows, levels, drives);
+    }
+}

@@ -1,0 +1,161 @@
+//! Who writes the wave and the serial bytes while a run goes on.
+ghost use Rattle.std.specs.Prelude.{◌≡◌, ℕ, ◌+◌, List, [], ◌∷◌, Bool, true, false, Option, None, Some, if◌then◌else◌, length};
+ghost use Rattle.sim_base.specs.declared.bench.Port.{Port};
+ghost use Rattle.sim_base.specs.declared.bench.WriteEnd.{WriteEnd};
+ghost use Rattle.sim_base.specs.Causes.{Rose};
+ghost use Rattle.sim_base.specs.Outside.{Outside};
+ghost use Rattle.sim_base.specs.Rows.{Row};
+ghost use Rattle.text_model.specs.Wave.{wave_text, wave_count};
+ghost use Rattle.vcd_text.specs.Ports.{texts, Writes};
+ghost use Rattle.vcd_text.specs.Writers.{Tied, texts_of, place_of, outside_of, last_of, is_whole, faults_of, Stands, HasStopped, capped};
+
+use crate::head::WaveHead;
+use sim_base::{Bench, Drive, Level, Port, Watcher, WriteEnd};
+use std::snapshot::Snapshot;
+
+/// Writes the wave of the rows on Wave and the bytes on Serial, each where it is wanted, and counts
+/// what is not.
+#[derive(Drop)]
+pub struct WaveWriter<'a, B: Bench> {
+    head: &'a mut WaveHead,
+    bench: &'a mut B,
+    /// The bench as it was lent.
+    start: &'a Snapshot<B>,
+    wave: bool,
+    serial: bool,
+    whole: bool,
+    last: Option<u32>,
+    changes: u64,
+    sent: u64,
+}
+
+fn write_wave<B: Bench>(wanted: bool, text: &[u8], bench: &mut B) -> WriteEnd
+    requires { wanted ≡ true → (B.outside bench.old).opened Port.Wave ≡ true }
+    ensures { Writes result (texts wanted false text.now []) (B.outside bench.old) (B.outside bench.new) }
+{
+    if !wanted || text.is_empty() {
+        return WriteEnd::Ok;
+    }
+    bench.write(Port::Wave, text)
+}
+
+fn write_serial<B: Bench>(wanted: bool, byte: u8, bench: &mut B) -> WriteEnd
+    ensures { Writes result (texts false wanted [] (byte ∷ [])) (B.outside bench.old) (B.outside bench.new) }
+{
+    if !wanted {
+        return WriteEnd::Ok;
+    }
+    bench.write(Port::Serial, &[byte])
+}
+
+/// A count of what is not wanted, with this much more.
+fn counted(count: u64, wanted: bool, more: u64) -> u64
+    ensures { result ≡ (if wanted then count else capped (count + more)) }
+{
+    if wanted {
+        count
+    } else {
+        count.saturating_add(more)
+    }
+}
+
+fn is_ok(end: WriteEnd) -> bool
+    ensures ok { end ≡ WriteEnd.Ok → result ≡ true }
+    ensures failed { end ≡ WriteEnd.Failed → result ≡ false }
+{
+    match end {
+        WriteEnd::Ok => true,
+        WriteEnd::Failed => false,
+    }
+}
+
+impl<'a, B: Bench> Watcher for WaveWriter<'a, B> {
+    ghost stands = { Stands B.outside };
+
+    ghost stopped = { HasStopped B.outside };
+
+    ghost whole = { is_whole B.outside };
+
+    ghost last = { last_of };
+
+    ghost faults = { faults_of B.outside };
+
+    ghost Place = { Tied };
+
+    ghost place = { place_of B.outside };
+
+    fn row(&mut self, t: u32, levels: &[Level], drives: &[Drive]) -> WriteEnd {
+        let changed = self.head.take_row(t, levels, drives);
+        self.changes = counted(self.changes, self.wave, changed);
+        self.last = Some(t);
+        let end = write_wave(self.wave, self.head.text(), self.bench);
+        self.whole = is_ok(end);
+        end
+    }
+
+    fn byte(&mut self, b: u8) -> WriteEnd {
+        self.sent = counted(self.sent, self.serial, 1);
+        let end = write_serial(self.serial, b, self.bench);
+        self.whole = is_ok(end);
+        end
+    }
+}
+
+impl<'a, B: Bench> WaveWriter<'a, B> {
+    /// A writer that has written nothing yet. `start` is the bench as it is lent: it has no bytes,
+    /// and clauses alone read it.
+    pub fn new(
+        head: &'a mut WaveHead,
+        bench: &'a mut B,
+        start: &'a Snapshot<B>,
+        wave: bool,
+        serial: bool,
+    ) -> WaveWriter<'a, B>
+        requires lent { start.now.value ≡ bench.old }
+        requires opened { wave ≡ true → (B.outside bench.old).opened Port.Wave ≡ true }
+        ensures place { place_of B.outside result ≡ record { reference = bench.entry.ghost_name; start = B.outside bench.old; variables = head.old.variables; wave = wave; serial = serial } }
+        ensures whole { is_whole B.outside result ≡ true }
+        ensures last { last_of result ≡ None }
+        ensures stands { Stands B.outside result [] [] }
+    {
+        head.restart();
+        WaveWriter {
+            head,
+            bench,
+            start,
+            wave,
+            serial,
+            whole: true,
+            last: None,
+            changes: 0,
+            sent: 0,
+        }
+    }
+
+    /// Ends a wanted Wave with the time of cycle `n`, the cycle at which the run ends.
+    pub fn end(&mut self, n: u32) -> WriteEnd
+        requires { is_whole B.outside self.old ≡ true }
+        ensures ends { (rows : List Row) → (bytes : List ℕ) → Stands B.outside self.old rows bytes
+            → Writes result (texts_of (place_of B.outside self.old) (wave_text (place_of B.outside self.old).variables rows n) bytes)
+                (place_of B.outside self.old).start (outside_of B.outside self.new) }
+        ensures failed { result ≡ WriteEnd.Failed → Rose (faults_of B.outside self.old) (faults_of B.outside self.new) }
+        ensures over { is_whole B.outside self.new ≡ false }
+        ensures place { place_of B.outside self.new ≡ place_of B.outside self.old }
+    {
+        self.head.take_end(n);
+        self.whole = false;
+        write_wave(self.wave, self.head.text(), self.bench)
+    }
+
+    /// How many value changes the rows have after the initial values, and how many bytes there are,
+    /// where neither is written; a number that reaches 2^64 - 1 stays there.
+    pub fn counts(&self) -> (u64, u64)
+        requires whole { is_whole B.outside self.now ≡ true }
+        requires wave { (place_of B.outside self.now).wave ≡ false }
+        requires serial { (place_of B.outside self.now).serial ≡ false }
+        ensures { (rows : List Row) → (bytes : List ℕ) → Stands B.outside self.now rows bytes
+            → (result.0 ≡ capped (wave_count (place_of B.outside self.now).variables rows)) × (result.1 ≡ capped (length bytes)) }
+    {
+        (self.changes, self.sent)
+    }
+}
