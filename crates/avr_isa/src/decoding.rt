@@ -242,7 +242,11 @@ fn row_b(w: u16) -> Instr
     ensures instr { result ≡ row_b w }
     ensures operands { HasOperands result }
 {
-    if w >> 11 & 1 == 0 { Instr::In(d5(w), a6(w)) } else { Instr::Out(a6(w), d5(w)) }
+    if w >> 11 & 1 == 0 {
+        Instr::In(d5(w), a6(w))
+    } else {
+        Instr::Out(a6(w), d5(w))
+    }
 }
 
 // 1111 ....
