@@ -170,19 +170,17 @@ impl Core {
             | Instr::Rcall(..)
             | Instr::Brbs(..)
             | Instr::Brbc(..) => self.jump_any(i, flash, bus),
-            Instr::Nop
-            | Instr::Sleep
-            | Instr::Break
-            | Instr::Wdr
-            | Instr::Cbi(..)
+            Instr::Cbi(..)
             | Instr::Sbic(..)
             | Instr::Sbi(..)
             | Instr::Sbis(..)
             | Instr::In(..)
             | Instr::Out(..)
             | Instr::Sbrc(..)
-            | Instr::Sbrs(..)
-            | Instr::Halt(..) => self.do_other(i, flash, bus),
+            | Instr::Sbrs(..) => self.use_io(i, flash, bus),
+            Instr::Nop | Instr::Sleep | Instr::Break | Instr::Wdr | Instr::Halt(..) => {
+                self.control(i, flash, bus)
+            }
         }
     }
 }

@@ -8,3 +8,6 @@ mod instr;
 
 pub use decoding::{decode, words};
 pub use instr::Instr;
+
+#[cfg(test)]
+mod tests;

@@ -1,4 +1,4 @@
-use Rattle.std.proofs.Common.{rules, ◌≡◌, ◌*ℤ◌}
+use Rattle.std.proofs.Common.{rules, ◌*ℤ◌}
 use Rattle.avr_alu.proofs.Words.{low_word_is}
 use Rattle.avr_alu.proofs.pairs.multiply.Goals as goal
 
