@@ -1,7 +1,8 @@
 -- The definitions on texts that are known.
 use Rattle.std.specs.Fmt.{digits}
-use Rattle.std.proofs.Common.{◌≡◌, refl, codes, List, [], ◌∷◌, ℕ, Ok, Err}
+use Rattle.std.proofs.Common.{◌++◌, replicate, ◌≡◌, refl, codes, List, [], ◌∷◌, ℕ, Ok, Err}
 use Rattle.sim_base.specs.declared.fault.Place.TheVariants as places
+use Rattle.sim_base.specs.declared.signal.Level.{Level}
 use Rattle.sim_base.specs.declared.signal.Level.TheVariants as levels
 use Rattle.sim_base.specs.declared.signal.Drive.TheVariants as drives
 use Rattle.sim_base.specs.Rows.{Row}
@@ -80,3 +81,42 @@ small_wave = refl
 small_count : wave_count three four_rows ≡ 5
 unfolding three four_rows change_count later_count wave_count
 small_count = refl
+
+-- the pins of an Uno without wires, each on a net of its own
+uno_pins : List Variable
+uno_pins =
+    record { name = codes "uno.0"; shows = Net 0 } ∷
+    record { name = codes "uno.1"; shows = Net 1 } ∷
+    record { name = codes "uno.2"; shows = Net 2 } ∷
+    record { name = codes "uno.3"; shows = Net 3 } ∷
+    record { name = codes "uno.4"; shows = Net 4 } ∷
+    record { name = codes "uno.5"; shows = Net 5 } ∷
+    record { name = codes "uno.6"; shows = Net 6 } ∷
+    record { name = codes "uno.7"; shows = Net 7 } ∷
+    record { name = codes "uno.8"; shows = Net 8 } ∷
+    record { name = codes "uno.9"; shows = Net 9 } ∷
+    record { name = codes "uno.10"; shows = Net 10 } ∷
+    record { name = codes "uno.11"; shows = Net 11 } ∷
+    record { name = codes "uno.12"; shows = Net 12 } ∷
+    record { name = codes "uno.13"; shows = Net 13 } ∷
+    record { name = codes "uno.A0"; shows = Net 14 } ∷
+    record { name = codes "uno.A1"; shows = Net 15 } ∷
+    record { name = codes "uno.A2"; shows = Net 16 } ∷
+    record { name = codes "uno.A3"; shows = Net 17 } ∷
+    record { name = codes "uno.A4"; shows = Net 18 } ∷
+    record { name = codes "uno.A5"; shows = Net 19 } ∷
+    []
+
+-- a row in which pin 13 alone has a level
+pin_13 : ℕ → Level → Row
+pin_13 cycle level = record { cycle = cycle; levels = replicate 13 levels.Z ++ level ∷ replicate 6 levels.Z; drives = [] }
+
+blink_rows : List Row
+blink_rows =
+    pin_13 0 levels.Z ∷ pin_13 1 levels.Low ∷ pin_13 3 levels.High ∷ pin_13 5 levels.Low ∷ pin_13 9 levels.High ∷ pin_13 11 levels.Low ∷ pin_13 15 levels.High ∷ []
+
+blink_wave : wave_text uno_pins blink_rows 16 ≡
+    codes "$timescale 100 ps $end\n$scope module board $end\n$var wire 1 ! uno.0 $end\n$var wire 1 \" uno.1 $end\n$var wire 1 # uno.2 $end\n$var wire 1 $ uno.3 $end\n$var wire 1 % uno.4 $end\n$var wire 1 & uno.5 $end\n$var wire 1 ' uno.6 $end\n$var wire 1 ( uno.7 $end\n$var wire 1 ) uno.8 $end\n$var wire 1 * uno.9 $end\n$var wire 1 + uno.10 $end\n$var wire 1 , uno.11 $end\n$var wire 1 - uno.12 $end\n$var wire 1 . uno.13 $end\n$var wire 1 / uno.A0 $end\n$var wire 1 0 uno.A1 $end\n$var wire 1 1 uno.A2 $end\n$var wire 1 2 uno.A3 $end\n$var wire 1 3 uno.A4 $end\n$var wire 1 4 uno.A5 $end\n$upscope $end\n$enddefinitions $end\n#0\n$dumpvars\nz!\nz\"\nz#\nz$\nz%\nz&\nz'\nz(\nz)\nz*\nz+\nz,\nz-\nz.\nz/\nz0\nz1\nz2\nz3\nz4\n$end\n"
+    ++ codes "#625\n0.\n#1875\n1.\n#3125\n0.\n#5625\n1.\n#6875\n0.\n#9375\n1.\n#10000\n"
+unfolding digits uno_pins pin_13 blink_rows declarations value_lines changes change_count later_text begun_text
+blink_wave = refl

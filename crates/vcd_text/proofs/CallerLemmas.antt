@@ -1,14 +1,14 @@
 -- What whoever lent a bench to a writer knows of it, once the run is over.
-use Rattle.std.proofs.Common.{◌≡◌, ◌≤◌, ℕ, List, [], ◌∷◌, ◌++◌, Bool, true, false, if◌then◌else◌, Option, None, Some, refl, ap, sym, subst, ◌∙◌}
+use Rattle.std.proofs.Common.{◌≡◌, ℕ, List, [], ◌∷◌, ◌++◌, Bool, true, false, None, refl, ap, sym, subst, ◌∙◌}
 use Rattle.std.specs.Prelude.{IsSome}
-use Rattle.std.proofs.lemmas.List.{append_assoc, append-nil}
+use Rattle.std.proofs.lemmas.List.{append_assoc}
 use Rattle.sim_base.specs.declared.bench.Port.{Port}
 use Rattle.sim_base.specs.declared.bench.Port.TheVariants as ports
-use Rattle.sim_base.specs.Outside.{Outside, Grows, IsFront}
-use Rattle.sim_base.specs.Rows.{Row, AreFronts, StopsWithin}
+use Rattle.sim_base.specs.Outside.{Outside, IsFront}
+use Rattle.sim_base.specs.Rows.{Row, StopsWithin}
 use Rattle.text_model.specs.Wave.{Variable, values, head, initial_values, value_changes, later_text, begun_text, time_line, wave_text}
 use Rattle.vcd_text.specs.declared.writer.WaveWriter.{WaveWriter}
-use Rattle.vcd_text.specs.Ports.{texts, BeginsOn, Leaves, BreaksOff}
+use Rattle.vcd_text.specs.Ports.{texts, BeginsOn, BreaksOff}
 use Rattle.vcd_text.specs.Writers.{Tied, texts_of, place_of, outside_of, last_values, Stands, HasStopped}
 
 later_split : (vs : List Variable) (before : List ℕ) (rows more : List Row) →
@@ -30,9 +30,9 @@ begun_front vs (r ∷ rows) more all n e =
       rest = rest ++ time_line n;
       whole = sym (append_assoc (begun ++ later_text vs (values vs r) rows) rest (time_line n))
           ∙ ap (λ (l : List ℕ). l ++ time_line n)
-              (append_assoc begun (later_text vs (values vs r) rows) rest
-              ∙ ap (λ (l : List ℕ). begun ++ l) (sym (later_split vs (values vs r) rows more))
-              ∙ ap (begun_text vs) e);
+          (append_assoc begun (later_text vs (values vs r) rows) rest
+          ∙ ap (λ (l : List ℕ). begun ++ l) (sym (later_split vs (values vs r) rows more))
+          ∙ ap (begun_text vs) e);
     }
 
 front_of : (a b c : List ℕ) → IsFront a b → IsFront b c → IsFront a c
@@ -84,7 +84,7 @@ pub stopped_within : {B : Type 0} (outside : B → Outside) (old new : WaveWrite
 stopped_within outside old new rows bytes n stood same (r, b, fronts, appended) =
     let P : Tied → Type 0 = λ tied. BreaksOff (texts_of tied (wave_text tied.variables rows n) bytes) tied.start (outside_of outside new) in
     subst P same
-      (breaks_within new.wave new.serial (begun_text new.head.now.variables r) (wave_text new.head.now.variables rows n) b bytes (outside new.start.now.value) (outside_of outside new)
-      (begun_front new.head.now.variables r fronts.more_rows rows n fronts.whole_rows)
-      (record { rest = fronts.more_bytes; whole = fronts.whole_bytes })
-      (appended [] [] stood))
+    (breaks_within new.wave new.serial (begun_text new.head.now.variables r) (wave_text new.head.now.variables rows n) b bytes (outside new.start.now.value) (outside_of outside new)
+    (begun_front new.head.now.variables r fronts.more_rows rows n fronts.whole_rows)
+    (record { rest = fronts.more_bytes; whole = fronts.whole_bytes })
+    (appended [] [] stood))

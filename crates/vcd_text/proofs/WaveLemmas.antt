@@ -1,6 +1,6 @@
 -- The parts of a wave, one more at a time.
-use Rattle.std.proofs.Common.{◌≡◌, ◌<◌, ◌≤◌, ◌+◌, ℕ, zero, suc, List, [], ◌∷◌, ◌++◌, ◌==◌, length, get_or, take, drop, map, set, if◌then◌else◌, refl, ap, sym, ◌∙◌, add-one, arith}
-use Rattle.std.proofs.lemmas.List.{append_assoc, append-nil, drop_more, drop_all, take_more, take_more_set, take_all, get_or-map, length-map}
+use Rattle.std.proofs.Common.{◌≡◌, ◌<◌, ◌≤◌, ◌+◌, ℕ, suc, List, [], ◌∷◌, ◌++◌, ◌==◌, length, get_or, take, drop, map, set, if◌then◌else◌, refl, ap, sym, ◌∙◌, add-one, arith}
+use Rattle.std.proofs.lemmas.List.{append_assoc, drop_more, drop_all, take_more, take_more_set, take_all, get_or-map, length-map}
 use Rattle.vcd_text.specs.Buffers.{BufferState}
 use Rattle.text_model.specs.Wave.{Variable, declaration, declarations, value_line, value_lines, changes, change_count}
 

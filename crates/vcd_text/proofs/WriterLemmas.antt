@@ -1,7 +1,6 @@
 -- What a writer stands for, one call further.
-use Rattle.std.proofs.Common.{◌≡◌, ◌≢◌, ◌<◌, ◌≤◌, ◌+◌, ◌-◌, ◌^◌, ◌==◌, min, ℕ, suc, List, [], ◌∷◌, ◌++◌, length, Bool, true, false, not, ◌&&◌, ◌||◌, if◌then◌else◌, Option, None, Some, refl, ap, sym, ◌∙◌, arith}
+use Rattle.std.proofs.Common.{◌≡◌, ◌+◌, ℕ, List, [], ◌∷◌, ◌++◌, Bool, true, false, not, ◌&&◌, ◌||◌, Option, None, Some, refl, ap, sym, ◌∙◌, arith}
 use Rattle.std.specs.Prelude.{IsSome}
-use Rattle.std.specs.Option.{option_map}
 use Rattle.std.proofs.lemmas.List.{append_assoc, append-nil}
 use Rattle.sim_base.specs.declared.bench.Port.{Port}
 use Rattle.sim_base.specs.declared.bench.Port.TheVariants as ports
@@ -30,8 +29,8 @@ unfolding begun_text later_text
 begun_more s [] row fresh = rw fresh (append-nil (head s.variables ++ initial_values row.cycle (values s.variables row)))
 begun_more s (r ∷ rows) row (begun, kept) =
     rw (begun, kept)
-      (ap (λ (l : List ℕ). head s.variables ++ initial_values r.cycle (values s.variables r) ++ l) (later_push s.variables (values s.variables r) rows row)
-      ∙ sym (append_assoc (head s.variables ++ initial_values r.cycle (values s.variables r)) (later_text s.variables (values s.variables r) rows) (value_changes row.cycle (last_values s.variables (values s.variables r) rows) (values s.variables row))))
+    (ap (λ (l : List ℕ). head s.variables ++ initial_values r.cycle (values s.variables r) ++ l) (later_push s.variables (values s.variables r) rows row)
+    ∙ sym (append_assoc (head s.variables ++ initial_values r.cycle (values s.variables r)) (later_text s.variables (values s.variables r) rows) (value_changes row.cycle (last_values s.variables (values s.variables r) rows) (values s.variables row))))
 
 last_push : (vs : List Variable) (before : List ℕ) (rows : List Row) (row : Row) → last_values vs before (rows ++ row ∷ []) ≡ values vs row
 last_push vs before [] row = refl

@@ -1,5 +1,5 @@
 -- The head of a wave, and the text of one row after another.
-use Rattle.std.specs.Prelude.{ℕ, ◌+◌, ◌*◌, List, [], ◌++◌, Bool, true, false, if◌then◌else◌, length, replicate}
+use Rattle.std.specs.Prelude.{ℕ, ◌+◌, ◌*◌, List, ◌++◌, Bool, true, if◌then◌else◌, length}
 use Rattle.sim_base.specs.Rows.{Row}
 use Rattle.text_model.specs.Wave.{Variable, values, head, initial_values, value_changes, change_count}
 
@@ -20,8 +20,8 @@ after_row s row = record {
   variables = s.variables;
   values = values s.variables row;
   text =
-    if s.started then value_changes row.cycle s.values (values s.variables row)
-    else head s.variables ++ initial_values row.cycle (values s.variables row);
+      if s.started then value_changes row.cycle s.values (values s.variables row)
+      else head s.variables ++ initial_values row.cycle (values s.variables row);
   started = true;
 }
 

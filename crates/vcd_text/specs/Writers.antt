@@ -1,9 +1,7 @@
 -- What a writer stands for.
-use Rattle.std.specs.Prelude.{◌≡◌, ℕ, ◌+◌, ◌-◌, ◌^◌, min, List, [], ◌∷◌, length, Bool, true, false, not, ◌&&◌, ◌||◌, Option, if◌then◌else◌}
+use Rattle.std.specs.Prelude.{◌≡◌, ℕ, ◌+◌, ◌-◌, ◌^◌, min, List, [], ◌∷◌, length, Bool, true, false, not, ◌&&◌, ◌||◌, Option}
 use Rattle.sim_base.specs.declared.bench.Port.{Port}
 use Rattle.sim_base.specs.declared.bench.Port.TheVariants as ports
-use Rattle.sim_base.specs.declared.bench.WriteEnd.{WriteEnd}
-use Rattle.sim_base.specs.declared.bench.WriteEnd.TheVariants as writes
 use Rattle.sim_base.specs.Outside.{Outside}
 use Rattle.sim_base.specs.Rows.{Row}
 use Rattle.text_model.specs.Wave.{Variable, values, begun_text, wave_count}

@@ -47,11 +47,11 @@ impl Model for WaveHead {
     ghost view = { λ a. record { variables = variables_of a.variables; values = a.before.items; text = a.text.text; started = a.started } };
 
     ghost invariant = { λ a.
-      (length a.variables ≤ 8930)
-      × (a.head_bytes.items ≡ head (variables_of a.variables))
-      × (vec_len a.before ≡ length a.variables)
-      × (vec_len a.current ≡ length a.variables)
-      × (text_room (variables_of a.variables) ≤ a.text.room) };
+        (length a.variables ≤ 8930)
+        × (a.head_bytes.items ≡ head (variables_of a.variables))
+        × (vec_len a.before ≡ length a.variables)
+        × (vec_len a.current ≡ length a.variables)
+        × (text_room (variables_of a.variables) ≤ a.text.room) };
 }
 
 impl WaveHead {
@@ -87,7 +87,12 @@ impl WaveHead {
         ensures text { self.new ≡ after_row self.old (record { cycle = cycle; levels = levels.now; drives = drives.now }) }
         ensures count { result ≡ changed_by self.old (record { cycle = cycle; levels = levels.now; drives = drives.now }) }
     {
-        fill_values(self.variables.as_slice(), levels, drives, self.current.as_mut_slice());
+        fill_values(
+            self.variables.as_slice(),
+            levels,
+            drives,
+            self.current.as_mut_slice(),
+        );
         let count = if self.started {
             put_value_changes(cycle, &self.before, &self.current, &mut self.text)
         } else {

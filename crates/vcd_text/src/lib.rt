@@ -11,6 +11,7 @@ mod head;
 mod value;
 mod variable;
 mod writer;
+
 pub use head::WaveHead;
 pub use variable::{Shown, Variable};
 pub use writer::WaveWriter;

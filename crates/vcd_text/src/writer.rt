@@ -137,7 +137,7 @@ impl<'a, B: Bench> WaveWriter<'a, B> {
         requires { is_whole B.outside self.old ≡ true }
         ensures ends { (rows : List Row) → (bytes : List ℕ) → Stands B.outside self.old rows bytes
             → Writes result (texts_of (place_of B.outside self.old) (wave_text (place_of B.outside self.old).variables rows n) bytes)
-                (place_of B.outside self.old).start (outside_of B.outside self.new) }
+            (place_of B.outside self.old).start (outside_of B.outside self.new) }
         ensures failed { result ≡ WriteEnd.Failed → Rose (faults_of B.outside self.old) (faults_of B.outside self.new) }
         ensures over { is_whole B.outside self.new ≡ false }
         ensures place { place_of B.outside self.new ≡ place_of B.outside self.old }

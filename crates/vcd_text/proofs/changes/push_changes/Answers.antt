@@ -1,4 +1,4 @@
-use Rattle.std.proofs.Common.{◌≡◌, ◌<◌, ◌∙◌, ◌+◌, sym, ap, drop, ◌++◌, [], length, List, ℕ, arith}
+use Rattle.std.proofs.Common.{◌≡◌, ◌<◌, ◌∙◌, sym, ap, drop, ◌++◌, [], length, List, ℕ, arith}
 use Rattle.std.proofs.lemmas.List.{append-nil}
 use Rattle.text_model.specs.Wave.{changes, change_count}
 use Rattle.vcd_text.proofs.WaveLemmas.{changes_more, no_changes, count_more, no_count, state_is}

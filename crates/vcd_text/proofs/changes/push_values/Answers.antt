@@ -1,4 +1,4 @@
-use Rattle.std.proofs.Common.{◌≡◌, ◌∙◌, ◌+◌, sym, ap, drop, ◌++◌, [], length, List, ℕ, arith}
+use Rattle.std.proofs.Common.{◌≡◌, ◌∙◌, sym, ap, drop, ◌++◌, [], List, ℕ, arith}
 use Rattle.std.proofs.lemmas.List.{append-nil}
 use Rattle.text_model.specs.Wave.{value_lines}
 use Rattle.vcd_text.proofs.WaveLemmas.{values_more, no_values, state_is}

@@ -1,4 +1,4 @@
-use Rattle.std.proofs.Common.{◌≡◌, ◌∙◌, ap, ◌++◌, List, ℕ, codes, string_bytes}
+use Rattle.std.proofs.Common.{◌∙◌, ap, ◌++◌, List, ℕ, codes, string_bytes}
 use Rattle.text_model.specs.Wave.{id_of}
 use Rattle.vcd_text.proofs.WaveLemmas.{five_pushed}
 use Rattle.vcd_text.proofs.declarations.declare.Goals as goal

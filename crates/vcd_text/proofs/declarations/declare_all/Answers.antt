@@ -1,6 +1,5 @@
-use Rattle.std.proofs.Common.{◌≡◌, ◌<◌, ◌≤◌, ◌∙◌, sym, ap, length, List, ℕ, [], ◌++◌, drop, map, arith}
+use Rattle.std.proofs.Common.{◌<◌, ◌≤◌, ◌∙◌, sym, ap, length, List, ℕ, ◌++◌, map, arith}
 use Rattle.std.proofs.lemmas.List.{append-nil, get_or-map, length-map}
-use Rattle.text_model.specs.Wave.{declarations}
 use Rattle.vcd_text.specs.Variables.{variable_of}
 use Rattle.vcd_text.proofs.WaveLemmas.{declarations_next, no_declarations}
 use Rattle.vcd_text.proofs.declarations.declare_all.Goals as goal

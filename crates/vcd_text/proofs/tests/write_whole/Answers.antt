@@ -1,9 +1,9 @@
-use Rattle.std.proofs.Common.{◌≡◌, ◌∙◌, ◌∷◌, [], List, ℕ, ap, sym, subst, refl}
+use Rattle.std.proofs.Common.{◌∙◌, ◌∷◌, [], List, ap, sym, subst, refl}
 use Rattle.sim_base.specs.Rows.{Row}
 use Rattle.sim_base.specs.declared.signal.Level.TheVariants as levels
 use Rattle.text_model.specs.Wave.{wave_text}
-use Rattle.vcd_text.specs.Ports.{texts, Writes, BreaksOff}
-use Rattle.vcd_text.specs.Writers.{Tied, texts_of, place_of, outside_of}
+use Rattle.vcd_text.specs.Ports.{Writes, BreaksOff}
+use Rattle.vcd_text.specs.Writers.{Tied, texts_of}
 use Rattle.vcd_text.proofs.CallerLemmas.{stopped_within}
 use Rattle.vcd_text.proofs.tests.write_whole.Goals as goal
 
@@ -13,7 +13,6 @@ two_rows = record { cycle = 0; levels = levels.Z ∷ []; drives = [] } ∷ recor
 -- The writer still holds the bench that it was lent, so the bench ends as the writer left it.
 pub returns-in-Ok : goal.returns-in-Ok
 unfolding two_rows
-
 returns-in-Ok g c =
     let outside = g.B.Bench.outside in
     let place = c.hand_out.ensures.place ∙ c.new-writer.ensures.place in

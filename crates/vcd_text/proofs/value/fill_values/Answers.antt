@@ -1,4 +1,4 @@
-use Rattle.std.proofs.Common.{◌≡◌, ◌<◌, ◌≤◌, length, arith}
+use Rattle.std.proofs.Common.{◌<◌, ◌≤◌, length, arith}
 use Rattle.text_model.specs.Wave.{shown_value}
 use Rattle.vcd_text.specs.Variables.{variable_of}
 use Rattle.vcd_text.proofs.WaveLemmas.{filled_more, filled_all}

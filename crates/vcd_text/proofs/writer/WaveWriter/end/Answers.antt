@@ -1,7 +1,6 @@
-use Rattle.std.proofs.Common.{◌≡◌, ◌∙◌, false, [], List, ℕ}
-use Rattle.sim_base.specs.declared.bench.WriteEnd.TheVariants as writes
+use Rattle.std.proofs.Common.{◌≡◌, ◌∙◌, false, []}
 use Rattle.text_model.specs.Wave.{begun_text, time_line}
-use Rattle.vcd_text.specs.Ports.{texts, Writes, BreaksOff}
+use Rattle.vcd_text.specs.Ports.{texts, BreaksOff}
 use Rattle.vcd_text.proofs.WriterLemmas.{writes_more, sum_rose}
 use Rattle.vcd_text.proofs.writer.WaveWriter.end.Goals as goal
 

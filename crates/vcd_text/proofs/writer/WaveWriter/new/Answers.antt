@@ -1,7 +1,6 @@
-use Rattle.std.proofs.Common.{◌≡◌, ap, refl, [], sym}
+use Rattle.std.proofs.Common.{ap, refl}
 use Rattle.text_model.specs.Wave.{begun_text, wave_count}
 use Rattle.vcd_text.specs.Heads.{HeadState}
-use Rattle.vcd_text.specs.Ports.{texts, Leaves}
 use Rattle.vcd_text.proofs.WriterLemmas.{leaves_nothing}
 use Rattle.vcd_text.proofs.writer.WaveWriter.new.Goals as goal
 

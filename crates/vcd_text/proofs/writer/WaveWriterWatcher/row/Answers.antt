@@ -1,13 +1,9 @@
-use Rattle.std.proofs.Common.{◌≡◌, ◌∙◌, ◌+◌, ◌++◌, ◌∷◌, [], List, ℕ, Bool, true, false, if◌then◌else◌, ap, sym, arith}
+use Rattle.std.proofs.Common.{[], false, arith}
 use Rattle.std.proofs.lemmas.List.{append-nil}
 use Rattle.sim_base.specs.declared.bench.Port.TheVariants as ports
-use Rattle.sim_base.specs.declared.bench.WriteEnd.TheVariants as writes
-use Rattle.sim_base.specs.Outside.{Outside}
 use Rattle.sim_base.specs.Rows.{Row}
-use Rattle.text_model.specs.Wave.{begun_text, wave_count}
-use Rattle.vcd_text.specs.Heads.{HeadState}
-use Rattle.vcd_text.specs.Ports.{texts, Writes, Leaves, BreaksOff}
-use Rattle.vcd_text.specs.Writers.{capped}
+use Rattle.text_model.specs.Wave.{begun_text}
+use Rattle.vcd_text.specs.Ports.{texts, Leaves, BreaksOff}
 use Rattle.vcd_text.proofs.WriterLemmas.{leaves_more, breaks_off, sum_rose, after_more, whole_still, changed_more, text_more}
 use Rattle.vcd_text.proofs.writer.WaveWriterWatcher.row.Goals as goal
 
@@ -38,8 +34,9 @@ returns-clause-failed g c = λ e.
     let w = c.args.self.now in
     let row : Row = record { cycle = c.args.t; levels = c.args.levels.now; drives = c.args.drives.now } in
     let broke : BreaksOff (texts w.wave false c.text.result.now []) (outside w.bench.now) (outside c.write_wave-end.new.bench) =
-    rw e at c.write_wave-end.ensures in
-    (sum_rose w.wave c.text.result.now (outside w.bench.now) (outside c.write_wave-end.new.bench) broke,
-    λ rows bytes stood.
-    rw (text_more w.head.now c.take_row-changed.new.self rows row c.text.result.now c.take_row-changed.ensures.text c.text.ensures stood.follows, append-nil bytes)
-      (breaks_off w.wave w.serial (begun_text w.head.now.variables rows) c.text.result.now bytes (outside w.start.now.value) (outside w.bench.now) (outside c.write_wave-end.new.bench) stood.leaves broke))
+    rw e at c.write_wave-end.ensures in (
+      sum_rose w.wave c.text.result.now (outside w.bench.now) (outside c.write_wave-end.new.bench) broke,
+      λ rows bytes stood.
+          rw (text_more w.head.now c.take_row-changed.new.self rows row c.text.result.now c.take_row-changed.ensures.text c.text.ensures stood.follows, append-nil bytes)
+          (breaks_off w.wave w.serial (begun_text w.head.now.variables rows) c.text.result.now bytes (outside w.start.now.value) (outside w.bench.now) (outside c.write_wave-end.new.bench) stood.leaves broke),
+    )
