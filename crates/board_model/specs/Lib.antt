@@ -1,0 +1,6 @@
+pub mod Walks
+pub mod Nets
+pub mod Resolve
+pub mod Board
+pub mod Rows
+pub mod Fits

@@ -1,0 +1,76 @@
+//! What a part is to an engine.
+ghost use Rattle.std.specs.Prelude.{◌≡◌, ℕ, ◌+◌, ◌-◌, ◌<◌, ◌≤◌, Bool, false, List, length, slice_get, Some};
+ghost use Rattle.part_law.specs.Machine.{Machine, Laws, glide, IsQuiet, IsFirstDue};
+
+use sim_base::{Drive, Level};
+
+/// A part of a board, which stands at a cycle in a state of its machine.
+pub trait Part {
+    ghost State: { Type 0 };
+
+    ghost machine: { Machine State };
+
+    ghost state: { Self → State };
+
+    /// The cycle whose step comes next.
+    ghost now: { Self → ℕ };
+
+    /// How often it was woken.
+    ghost wake_count: { Self → ℕ };
+
+    /// Whether its last wake may have changed a drive or a contact.
+    ghost changes: { Self → Bool };
+
+    /// How many pins it has; no call changes it.
+    fn pins(&self) -> u8
+        ensures { result ≡ length (machine.drives (state self.now)) };
+
+    /// How many contacts it has; no call changes it.
+    fn contacts(&self) -> u8
+        ensures { result ≡ length (machine.contacts (state self.now)) };
+
+    /// What the pin drives.
+    fn drive(&self, pin: u8) -> Drive
+        requires { pin < length (machine.drives (state self.now)) }
+        ensures { slice_get (machine.drives (state self.now)) pin ≡ Some result };
+
+    /// Whether the contact is closed. A part without contacts may answer anything.
+    fn contact(&self, i: u8) -> bool
+        ensures { i < length (machine.contacts (state self.now)) → slice_get (machine.contacts (state self.now)) i ≡ Some result };
+
+    /// The first cycle from now on at which the part is due though nothing changes.
+    fn due(&self) -> Option<u32>
+        ensures { IsFirstDue machine (state self.now) (now self.now) result };
+
+    /// How often the part was woken.
+    fn woken(&self) -> u32
+        ensures { result ≡ wake_count self.now };
+
+    /// Whether the last wake may have changed a drive or a contact; where it did not, an engine need
+    /// not read them again. A part may always answer that it may have.
+    fn changed(&self) -> bool
+        ensures { result ≡ changes self.now };
+
+    /// Goes on to cycle `to`, before which nothing is due: as many steps on the held levels.
+    fn settle(&mut self, to: u32)
+        requires later { now self.old ≤ to }
+        requires end { to ≤ 160000000 }
+        requires quiet { IsQuiet machine (state self.old) (now self.old) (to - now self.old) }
+        ensures state { state self.new ≡ glide machine (state self.old) (now self.old) (to - now self.old) }
+        ensures now { now self.new ≡ to }
+        ensures wake_count { wake_count self.new ≡ wake_count self.old };
+
+    /// Does one step on these levels of its pins, and answers the byte that it emits.
+    fn wake(&mut self, levels: &[Level], input: Option<u16>) -> Option<u8>
+        requires pins { length levels.now ≡ length (machine.drives (state self.old)) }
+        requires end { now self.old < 160000000 }
+        requires count { wake_count self.old ≤ now self.old }
+        ensures state { state self.new ≡ (machine.step (state self.old) (now self.old) levels.now input).0 }
+        ensures byte { result ≡ (machine.step (state self.old) (now self.old) levels.now input).1 }
+        ensures now { now self.new ≡ now self.old + 1 }
+        ensures wake_count { wake_count self.new ≡ wake_count self.old + 1 }
+        ensures drives { changes self.new ≡ false → machine.drives (state self.new) ≡ machine.drives (state self.old) }
+        ensures contacts { changes self.new ≡ false → machine.contacts (state self.new) ≡ machine.contacts (state self.old) };
+
+    ghost laws: { Laws machine };
+}
