@@ -1,5 +1,11 @@
 -- Worked boards: what the definitions give, by computing them.
-use Rattle.std.specs.Prelude.{◌≡◌, [], ◌∷◌, true, false, refl}
+use Rattle.std.specs.Prelude.{◌≡◌, List, [], ◌∷◌, Bool, true, false, not, ◌==◌, map, None, slice_get, unwrap_or, if◌then◌else◌, refl}
+use Rattle.sim_base.specs.declared.signal.Level.{Level}
+use Rattle.sim_base.specs.declared.wiring.Wiring.{Wiring}
+use Rattle.sim_base.specs.Signal.{reads}
+use Rattle.part_law.specs.Machine.{Machine}
+use Rattle.board_model.specs.Board.{states, levels_of}
+use Rattle.board_model.specs.Rows.{rows, shown_before}
 use Rattle.sim_base.specs.declared.signal.Drive.TheVariants as drives
 use Rattle.sim_base.specs.declared.signal.Level.TheVariants as levels
 use Rattle.board_model.specs.Walks.{walk_within}
@@ -40,3 +46,43 @@ closed_contact = refl
 open_contact : resolve 2 (0 ∷ []) ((0, 1) ∷ []) [] (false ∷ []) (drives.Low ∷ []) ≡ levels.Low ∷ levels.Z ∷ []
 unfolding resolve walk_within
 open_contact = refl
+
+-- an inverter with an input and an output: what it puts out, and the levels that it holds
+record InverterState : Type 0 where
+  high : Bool
+  held : List Level
+
+inverter : Machine InverterState
+inverter = record {
+  step = λ s t l i. (record { high = not (reads (unwrap_or (slice_get l 0) levels.Z)); held = l }, None);
+  drives = λ s. drives.Z ∷ (if s.high then drives.High else drives.Low) ∷ [];
+  contacts = λ s. [];
+  held = λ s. s.held;
+  due = λ s t. t == 0;
+  valid = λ s t. true;
+}
+
+-- two in a ring: the output of each is the input of the other
+ring : Wiring
+ring = record { nets = 2; net_of = 1 ∷ 0 ∷ 0 ∷ 1 ∷ []; contacts = []; resistors = []; first_pin = 0 ∷ 2 ∷ []; chip = true ∷ true ∷ [] }
+
+both_high : List InverterState
+both_high = let s : InverterState = record { high = true; held = levels.Z ∷ levels.Z ∷ [] } in s ∷ s ∷ []
+
+-- Both nets are High in even cycles and Low in odd ones, and each cycle has a row.
+ring_levels : map (λ n. levels_of inverter ring (states inverter ring [] both_high 0 n)) (0 ∷ 1 ∷ 2 ∷ 3 ∷ [])
+    ≡ (levels.High ∷ levels.High ∷ []) ∷ (levels.Low ∷ levels.Low ∷ []) ∷ (levels.High ∷ levels.High ∷ []) ∷ (levels.Low ∷ levels.Low ∷ []) ∷ []
+unfolding inverter ring both_high states resolve walk_within
+ring_levels = refl
+
+ring_rows : map (λ r. r.cycle) (rows inverter ring [] None both_high 0 4) ≡ 0 ∷ 1 ∷ 2 ∷ 3 ∷ []
+unfolding inverter ring both_high rows shown_before states resolve walk_within
+ring_rows = refl
+
+-- An inverter whose input has no other pin stays High after cycle 0, and has no further row.
+alone : Wiring
+alone = record { nets = 2; net_of = 0 ∷ 1 ∷ []; contacts = []; resistors = []; first_pin = 0 ∷ []; chip = false ∷ [] }
+
+alone_rows : map (λ r. r.cycle) (rows inverter alone [] None (record { high = false; held = [] } ∷ []) 0 4) ≡ 0 ∷ 1 ∷ []
+unfolding inverter alone rows shown_before states resolve walk_within
+alone_rows = refl
