@@ -31,6 +31,10 @@ level_of_drives [] = levels.Z
 level_of_drives (drives.Wiper w ∷ []) = levels.Wiped w
 level_of_drives (d ∷ ds) = level_of_all (d ∷ ds)
 
+-- whether one of the contacts that are closed joins two nets
+abbrev pub contact_joins : List (ℕ × ℕ) → List Bool → ℕ → ℕ → Bool
+contact_joins contacts closed n m = list_any (λ c. c.1 && joins c.0 n m) (zip contacts closed)
+
 -- `nets` nets; the net of each pin; the nets of each contact, and whether it is closed; the nets of each resistor;
 -- and the drive of each pin
 module _ (nets : ℕ) (net_of : List ℕ) (contacts resistors : List (ℕ × ℕ)) (closed : List Bool) (ds : List Drive) where
@@ -38,12 +42,9 @@ module _ (nets : ℕ) (net_of : List ℕ) (contacts resistors : List (ℕ × ℕ
   abbrev pub pins : List (ℕ × Drive)
   pins = zip net_of ds
 
-  abbrev pub contact_joins : ℕ → ℕ → Bool
-  contact_joins n m = list_any (λ c. c.1 && joins c.0 n m) (zip contacts closed)
-
   -- Closed contacts lead from n to m.
   abbrev pub is_one : ℕ → ℕ → Bool
-  is_one n m = leads nets contact_joins n m
+  is_one n m = leads nets (contact_joins contacts closed) n m
 
   -- some pin on a net to which closed contacts lead from n drives the value strongly
   abbrev pub has_strong : ℕ → Bool → Bool
@@ -54,7 +55,7 @@ module _ (nets : ℕ) (net_of : List ℕ) (contacts resistors : List (ℕ × ℕ
 
   -- one step over a closed contact or a resistor, from a net that has no strong value
   abbrev pub passes : ℕ → ℕ → Bool
-  passes n m = not (is_driven n) && (contact_joins n m || joined_by resistors n m)
+  passes n m = not (is_driven n) && (contact_joins contacts closed n m || joined_by resistors n m)
 
   -- A walk leads from n to m on which each net before the last has no strong value.
   abbrev pub reaches : ℕ → ℕ → Bool

@@ -1,0 +1,3 @@
+pub mod ForestLemmas
+pub mod SumLemmas
+pub mod ContactLemmas

@@ -1,0 +1,86 @@
+-- Sums of levels, place by place.
+use Rattle.std.proofs.Common.{◌≡◌, ◌≢◌, ℕ, zero, suc, ◌+◌, ◌<◌, ◌≤◌, List, [], ◌∷◌, length, map, drop, Bool, true, false, refl, ap, sym, ◌∙◌, arith, add-one, get_or, set, get_or-set_other, get_or-set_same, drop-cons, ◌⊎◌, inl, inr, subst, Some}
+use Rattle.std.proofs.lemmas.Bool.Decides.{eqb_tells}
+use Rattle.std.proofs.lemmas.Option.{slice_get-get_or}
+use Rattle.std.specs.Prelude.{◌==◌, ◌&&◌, if◌then◌else◌, slice_get, slice_set, slice_index}
+use Rattle.std.specs.List.{zip}
+use Rattle.sim_base.specs.declared.signal.Drive.{Drive}
+use Rattle.sim_base.specs.declared.signal.Drive.TheVariants as drives
+use Rattle.sim_base.specs.declared.signal.Level.{Level}
+use Rattle.sim_base.specs.declared.signal.Level.TheVariants as levels
+use Rattle.board_model.specs.Walks.{below}
+use Rattle.board_model.proofs.Lists.{some_map, get-below}
+use Rattle.net_resolve.specs.Sums.{together, sum_at, added, is_loose, over_adds, resistors_add, level_here, is_z}
+
+-- a sum after something was added to one
+pub sum_set : (sums : List Level) (k g : ℕ) (r x : Level) → k < length sums → r ≡ together (sum_at sums k) x →
+    sum_at (slice_set sums k r) g ≡ (if k == g then together (sum_at sums g) x else sum_at sums g)
+sum_set sums k g r x within e = elim (eqb_tells k g) [
+    | inl same ↦ rw same.0 (
+        ap (sum_at (slice_set sums k r)) (sym same.1)
+        ∙ get_or-set_same sums k r levels.Low within ∙ e
+        ∙ ap (λ (i : ℕ). together (sum_at sums i) x) same.1)
+    | inr ne ↦ rw ne.0 (get_or-set_other sums k g r levels.Low (λ h. ne.1 (sym h)))
+  ]
+
+-- what the pins from i on add: pin i, and then those from i + 1 on
+pub added_next : (gives : Drive → Level) (counts : ℕ → Bool) (sum : Level) (ns : List ℕ) (ds : List Drive) (i : ℕ) → i < length ns → length ds ≡ length ns →
+    added gives counts sum (zip (drop i ns) (drop i ds))
+    ≡ added gives counts (if counts (get_or ns i 0) then together sum (gives (get_or ds i drives.Z)) else sum) (zip (drop (i + 1) ns) (drop (i + 1) ds))
+unfolding added
+added_next gives counts sum ns ds i h long =
+    let l : i < length ds = omega (arith, long) in
+    rw (add-one) (rw (drop-cons ns i 0) (rw (drop-cons ds i drives.Z) refl))
+
+-- nothing is left to add
+pub added_end : (gives : Drive → Level) (counts : ℕ → Bool) (sum : Level) (ns : List ℕ) (ds : List Drive) (i : ℕ) → length ns ≤ i →
+    added gives counts sum (zip (drop i ns) (drop i ds)) ≡ sum
+unfolding added
+added_end gives counts sum ns ds i h = rw (drop_all i ns h) refl
+  where
+    drop_all : {B : Type 0} (n : ℕ) (xs : List B) → length xs ≤ n → drop n xs ≡ []
+    drop_all zero [] h = refl
+    drop_all (suc n) [] h = refl
+    drop_all zero (x ∷ xs) h = absurd (omega arith)
+    drop_all (suc n) (x ∷ xs) h = drop_all n xs (omega arith)
+
+-- one pin adds
+pub added_one : (gives : Drive → Level) (counts : ℕ → Bool) (sum : Level) (n : ℕ) (d : Drive) →
+    added gives counts sum ((n, d) ∷ []) ≡ (if counts n then together sum (gives d) else sum)
+unfolding added
+added_one gives counts sum n d = refl
+
+drop_all : {B : Type 0} (n : ℕ) (xs : List B) → length xs ≤ n → drop n xs ≡ []
+drop_all zero [] h = refl
+drop_all (suc n) [] h = refl
+drop_all zero (x ∷ xs) h = absurd (omega arith)
+drop_all (suc n) (x ∷ xs) h = drop_all n xs (omega arith)
+
+pub resistors_next : (groups : List ℕ) (strong : List Level) (areas : List ℕ) (a : ℕ) (sum : Level) (rs : List (ℕ × ℕ)) (i : ℕ) → i < length rs →
+    resistors_add groups strong areas a sum (drop i rs)
+    ≡ resistors_add groups strong areas a (over_adds groups strong areas a (get_or rs i (0, 0)).0 (get_or rs i (0, 0)).1 (over_adds groups strong areas a (get_or rs i (0, 0)).1 (get_or rs i (0, 0)).0 sum)) (drop (i + 1) rs)
+unfolding resistors_add
+resistors_next groups strong areas a sum rs i h = rw add-one (rw (drop-cons rs i (0, 0)) refl)
+
+pub resistors_end : (groups : List ℕ) (strong : List Level) (areas : List ℕ) (a : ℕ) (sum : Level) (rs : List (ℕ × ℕ)) (i : ℕ) → length rs ≤ i →
+    resistors_add groups strong areas a sum (drop i rs) ≡ sum
+unfolding resistors_add
+resistors_end groups strong areas a sum rs i h = rw (drop_all i rs h) refl
+
+-- the level of a net, as it is chosen
+pub level_chosen : (groups : List ℕ) (strong : List Level) (areas : List ℕ) (sums : List Level) (n : ℕ) (b : Bool) → b ≡ is_z (sum_at strong (slice_index groups n)) →
+    (if b then sum_at sums (slice_index areas n) else sum_at strong (slice_index groups n)) ≡ level_here groups strong areas sums n
+level_chosen groups strong areas sums n b e = rw e refl
+
+pub both_same : {a b c d : Bool} → a ≡ b → c ≡ d → (a && c) ≡ (b && d)
+both_same e f = cc
+
+-- a weak drive on a loose net adds to the net's area
+pub loose_adds : (groups : List ℕ) (strong : List Level) (areas : List ℕ) (n a : ℕ) (sum x : Level) → is_loose groups strong n ≡ true →
+    (if slice_index areas n == a then together sum x else sum) ≡ (if is_loose groups strong n && (slice_index areas n == a) then together sum x else sum)
+loose_adds groups strong areas n a sum x e = rw e refl
+
+-- one on a net with a strong value does not
+pub driven_adds : (groups : List ℕ) (strong : List Level) (areas : List ℕ) (n a : ℕ) (sum x : Level) → is_loose groups strong n ≡ false →
+    sum ≡ (if is_loose groups strong n && (slice_index areas n == a) then together sum x else sum)
+driven_adds groups strong areas n a sum x e = rw e refl

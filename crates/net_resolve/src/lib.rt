@@ -1,0 +1,8 @@
+//! The levels of the nets of a board (profile): what the pins drive, over closed contacts and resistors.
+//! `Nets::resolve` is exactly the definition, at a cost that grows with the pins, contacts and resistors.
+//! Only `Nets::new` takes memory, and it alone may answer want of it.
+#![tactic(auto)]
+
+mod forest;
+mod groups;
+mod sums;
