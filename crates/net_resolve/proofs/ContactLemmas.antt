@@ -240,3 +240,7 @@ contact_bounds n cs chosen each x y h =
       | inl same ↦ (subst (λ (z : ℕ). z < n) same.0 e.0, subst (λ (z : ℕ). z < n) same.1 e.1)
       | inr back ↦ (subst (λ (z : ℕ). z < n) back.1 e.1, subst (λ (z : ℕ). z < n) back.0 e.0)
     ]
+
+-- without pairs nothing is joined
+pub joins_none : (old : List ℕ) (cs : List (ℕ × ℕ)) (chosen : List Bool) → IsForest old → length cs ≡ 0 → Joins (contact_joins cs chosen) old old
+joins_none old cs chosen forest none = joining_end old cs chosen 0 old (joining_start old cs chosen forest) (omega arith)

@@ -1,5 +1,7 @@
 -- Sums of levels, place by place.
-use Rattle.std.proofs.Common.{◌≡◌, ◌≢◌, ℕ, zero, suc, ◌+◌, ◌<◌, ◌≤◌, List, [], ◌∷◌, length, map, drop, Bool, true, false, refl, ap, sym, ◌∙◌, arith, add-one, get_or, set, get_or-set_other, get_or-set_same, drop-cons, ◌⊎◌, inl, inr, subst, Some}
+use Rattle.std.proofs.Common.{◌≡◌, ◌≢◌, ℕ, zero, suc, ◌+◌, ◌<◌, ◌≤◌, List, [], ◌∷◌, length, map, drop, Bool, true, false, not, refl, ap, sym, ◌∙◌, arith, add-one, get_or, set, get_or-set_other, get_or-set_same, drop-cons, ◌⊎◌, inl, inr, subst, Some}
+use Rattle.std.specs.Cmp.Lexicographic.{pointwise}
+use Rattle.std.proofs.Math.Bool.{beq}
 use Rattle.std.proofs.lemmas.Bool.Decides.{eqb_tells}
 use Rattle.std.proofs.lemmas.Option.{slice_get-get_or}
 use Rattle.std.specs.Prelude.{◌==◌, ◌&&◌, if◌then◌else◌, slice_get, slice_set, slice_index}
@@ -84,3 +86,13 @@ loose_adds groups strong areas n a sum x e = rw e refl
 pub driven_adds : (groups : List ℕ) (strong : List Level) (areas : List ℕ) (n a : ℕ) (sum x : Level) → is_loose groups strong n ≡ false →
     sum ≡ (if is_loose groups strong n && (slice_index areas n == a) then together sum x else sum)
 driven_adds groups strong areas n a sum x e = rw e refl
+
+-- flags that do not differ
+pub same_flags : (xs ys : List Bool) → not (pointwise beq xs ys) ≡ false → xs ≡ ys
+same_flags [] [] h = refl
+same_flags [] (y ∷ ys) h = absurd cc
+same_flags (x ∷ xs) [] h = absurd cc
+same_flags (true ∷ xs) (true ∷ ys) h = ap (λ (l : List Bool). true ∷ l) (same_flags xs ys h)
+same_flags (false ∷ xs) (false ∷ ys) h = ap (λ (l : List Bool). false ∷ l) (same_flags xs ys h)
+same_flags (true ∷ xs) (false ∷ ys) h = absurd cc
+same_flags (false ∷ xs) (true ∷ ys) h = absurd cc

@@ -1,6 +1,7 @@
 -- How places that are joined are kept: each has a parent, none later than itself. No public clause cites this.
-use Rattle.std.specs.Prelude.{◌≡◌, ℕ, zero, suc, ◌+◌, ◌<◌, ◌≤◌, List, length, Bool, true, ◌&&◌, ◌||◌, nat_lt, ◌==◌, min, if◌then◌else◌, slice_index}
-use Rattle.board_model.specs.Walks.{Walk}
+use Rattle.std.specs.Prelude.{◌≡◌, ℕ, zero, suc, ◌+◌, ◌<◌, ◌≤◌, List, length, Bool, true, ◌&&◌, ◌||◌, nat_lt, ◌==◌, min, if◌then◌else◌, slice_index, slice_get, Some}
+use Rattle.board_model.specs.Walks.{Walk, below}
+use Rattle.board_model.specs.Resolve.{contact_joins}
 
 abbrev pub IsForest : List ℕ → Type 0
 IsForest parents = (x : ℕ) → slice_index parents x ≤ x
@@ -32,3 +33,9 @@ pub record Joins (step : ℕ → ℕ → Bool) (old new : List ℕ) : Type 0 whe
   pub walks : (x : ℕ) → x < length old → Walk (same_or old step) x (root_of new x)
   pub keeps : (x y : ℕ) → x < length old → y < length old → root_of old x ≡ root_of old y → root_of new x ≡ root_of new y
   pub joined : (x y : ℕ) → step x y ≡ true → root_of new x ≡ root_of new y
+
+-- the groups of nets over closed contacts
+pub record AreGroups (contacts : List (ℕ × ℕ)) (closed : List Bool) (groups : List ℕ) : Type 0 where
+  pub contacts_within : (k : ℕ) (c : ℕ × ℕ) → slice_get contacts k ≡ Some c → (c.0 < length groups) × (c.1 < length groups)
+  pub labels : AreLabels groups
+  pub joins : Joins (contact_joins contacts closed) (below (length groups)) groups

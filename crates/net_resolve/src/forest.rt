@@ -1,5 +1,6 @@
 //! Places that are joined: each has a parent that is no later, and those of one tree are joined.
 ghost use Rattle.std.specs.Prelude.{◌≡◌, ℕ, ◌<◌, ◌≤◌, List, length, slice_index};
+ghost use Rattle.board_model.specs.Walks.{below};
 ghost use Rattle.net_resolve.specs.Forest.{IsForest, AreLabels, root_of, root_joined};
 
 /// The first place of the tree.
@@ -48,8 +49,7 @@ pub(crate) fn flatten(parents: &mut [u16])
 /// Puts each place alone.
 pub(crate) fn put_alone(parents: &mut [u16])
     requires { length parents.old ≤ 65536 }
-    ensures alone { (x : ℕ) → x < length parents.old → slice_index parents.new x ≡ x }
-    ensures labels { AreLabels parents.new }
+    ensures { parents.new ≡ below (length parents.old) }
 {
     for i in 0..parents.len() {
         parents[i] = i as u16;

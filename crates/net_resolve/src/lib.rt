@@ -5,4 +5,8 @@
 
 mod forest;
 mod groups;
+mod levels;
+mod nets;
 mod sums;
+
+pub use nets::Nets;

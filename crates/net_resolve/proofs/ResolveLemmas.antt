@@ -1,0 +1,356 @@
+-- The sums by group and by area give the levels of the definition.
+use Rattle.std.proofs.Common.{◌≡◌, ℕ, zero, suc, ◌<◌, List, [], ◌∷◌, ◌++◌, length, map, Bool, true, false, not, refl, ap, sym, ◌∙◌, arith, ◌⊎◌, inl, inr, subst, Some, eq-eqb}
+use Rattle.std.proofs.lemmas.Bool.{eqb-true}
+use Rattle.std.proofs.lemmas.Option.{slice_get_within}
+use Rattle.std.proofs.lemmas.List.Folds.{list_any-append}
+use Rattle.std.proofs.lemmas.List.{length-map}
+use Rattle.std.specs.Prelude.{◌==◌, ◌&&◌, ◌||◌, if◌then◌else◌, slice_get, slice_index}
+use Rattle.std.specs.List.{zip, list_any, flat_map}
+use Rattle.sim_base.specs.declared.signal.Drive.{Drive}
+use Rattle.sim_base.specs.declared.signal.Drive.TheVariants as drives
+use Rattle.sim_base.specs.declared.signal.Level.{Level}
+use Rattle.sim_base.specs.declared.signal.Level.TheVariants as levels
+use Rattle.sim_base.specs.Signal.{value_of}
+use Rattle.board_model.specs.Walks.{Walk, here, further, below}
+use Rattle.board_model.specs.Nets.{joins, joined_by}
+use Rattle.board_model.specs.Resolve.{contact_joins, has_strong, is_driven, passes, reaches, strong_values, collected, level_of, level_of_values, level_of_all, level_of_drives, resolve, is_value}
+use Rattle.board_model.proofs.WalkLemmas.{walk_sound, walk_complete}
+use Rattle.board_model.proofs.Lists.{some_same, get-below, length-below, get_map_some, some_map, same_lists}
+use Rattle.net_resolve.specs.Forest.{AreLabels, Joins}
+use Rattle.net_resolve.specs.Sums.{is_loose, sum_at, added, weak_level, over_adds, resistors_add, together, level_here}
+use Rattle.net_resolve.proofs.ContactLemmas.{or_cases, or_left, or_right, and_both, and_first, joins_cases, joins_is, joins_swap}
+use Rattle.net_resolve.proofs.ReachLemmas.{both_ways, either_way, not_false, any_at, any_some, one_label, strong_is}
+use Rattle.net_resolve.proofs.AreaLemmas.{Grouped, bridges_of, loose_here, passes_within, joined_within, area_is}
+use Rattle.net_resolve.proofs.ValueLemmas.{values_together, any_value, weak_of, weak_added, weak_alone}
+
+-- what is added where the same pins count
+added_same : (gives : Drive → Level) (count : ℕ) (f h : ℕ → Bool) → ((n : ℕ) → n < count → f n ≡ h n) → (ns : List ℕ) (ds : List Drive) (sum : Level) →
+    ((k n : ℕ) → slice_get ns k ≡ Some n → n < count) → added gives f sum (zip ns ds) ≡ added gives h sum (zip ns ds)
+unfolding added
+added_same gives count f h same [] ds sum within = refl
+added_same gives count f h same (n ∷ ns) [] sum within = refl
+added_same gives count f h same (n ∷ ns) (d ∷ ds) sum within =
+    ap (λ (b : Bool). added gives f (if b then together sum (gives d) else sum) (zip ns ds)) (same n (within 0 n refl))
+    ∙ added_same gives count f h same ns ds (if h n then together sum (gives d) else sum) (λ k m e. within (suc k) m e)
+
+any_flat_some : {A B : Type 0} (test : B → Bool) (f : A → List B) (xs : List A) → list_any test (flat_map f xs) ≡ true → (k : ℕ) × (x : A) × (slice_get xs k ≡ Some x) × (list_any test (f x) ≡ true)
+any_flat_some test f [] h = absurd cc
+any_flat_some test f (x ∷ xs) h = elim (or_cases (list_any test (f x)) (list_any test (flat_map f xs)) (sym (list_any-append test (f x) (flat_map f xs)) ∙ h)) [
+    | inl l ↦ (0, x, refl, l)
+    | inr r ↦ let s = any_flat_some test f xs r in (suc s.0, s.1, s.2, s.3)
+  ]
+
+any_flat_at : {A B : Type 0} (test : B → Bool) (f : A → List B) (xs : List A) (k : ℕ) (x : A) → slice_get xs k ≡ Some x → list_any test (f x) ≡ true → list_any test (flat_map f xs) ≡ true
+any_flat_at test f [] k x e h = absurd cc
+any_flat_at test f (y ∷ xs) zero x e h =
+    list_any-append test (f y) (flat_map f xs) ∙ or_left (list_any test (f y)) (list_any test (flat_map f xs)) (ap (λ z. list_any test (f z)) (some_same e) ∙ h)
+any_flat_at test f (y ∷ xs) (suc k) x e h =
+    list_any-append test (f y) (flat_map f xs) ∙ or_right (list_any test (f y)) (list_any test (flat_map f xs)) (any_flat_at test f xs k x e h)
+
+-- a High where the first holds, and a Low where the second does
+abbrev two_values : Bool → Bool → List Drive
+two_values a b = (if a then drives.High ∷ [] else []) ++ (if b then drives.Low ∷ [] else [])
+
+values_any : (v a b : Bool) → any_value v (two_values a b) ≡ (if v then a else b)
+values_any true true true = refl
+values_any true true false = refl
+values_any true false true = refl
+values_any true false false = refl
+values_any false true true = refl
+values_any false true false = refl
+values_any false false true = refl
+values_any false false false = refl
+
+abbrev AreStrong : List Drive → Type 0
+AreStrong [] = Unit {0}
+AreStrong (drives.High ∷ ds) = AreStrong ds
+AreStrong (drives.Low ∷ ds) = AreStrong ds
+AreStrong (drives.Z ∷ ds) = ⊥
+AreStrong (drives.PullLow ∷ ds) = ⊥
+AreStrong (drives.PullHigh ∷ ds) = ⊥
+AreStrong (drives.Wiper w ∷ ds) = ⊥
+
+strong_join : (a b : Bool) (ds : List Drive) → AreStrong ds → AreStrong (two_values a b ++ ds)
+strong_join true true ds s = s
+strong_join true false ds s = s
+strong_join false true ds s = s
+strong_join false false ds s = s
+
+strong_maybe : (c a b : Bool) (ds : List Drive) → AreStrong ds → AreStrong ((if c then two_values a b else []) ++ ds)
+strong_maybe true a b ds s = strong_join a b ds s
+strong_maybe false a b ds s = s
+
+strong_flat : (c a b : ℕ → Bool) (ns : List ℕ) → AreStrong (flat_map (λ m. if c m then two_values (a m) (b m) else []) ns)
+strong_flat c a b [] = tt
+strong_flat c a b (n ∷ ns) = strong_maybe (c n) (a n) (b n) (flat_map (λ m. if c m then two_values (a m) (b m) else []) ns) (strong_flat c a b ns)
+
+or_true : (b : Bool) → (b || true) ≡ true
+or_true true = refl
+or_true false = refl
+
+-- strong values are none, or more than a lone wiper
+strong_first : (ds : List Drive) → AreStrong ds → ((ds ≡ []) × ((any_value true ds || any_value false ds) ≡ false))
+    ⊎ (((any_value true ds || any_value false ds) ≡ true) × ((ws : List Drive) → level_of_drives (ds ++ ws) ≡ level_of_all (ds ++ ws)))
+strong_first [] s = inl (refl, refl)
+strong_first (drives.High ∷ ds) s = inr (refl, λ ws. refl)
+strong_first (drives.Low ∷ ds) s = inr (or_true (any_value true ds), λ ws. refl)
+strong_first (drives.Z ∷ ds) s = absurd s
+strong_first (drives.PullLow ∷ ds) s = absurd s
+strong_first (drives.PullHigh ∷ ds) s = absurd s
+strong_first (drives.Wiper w ∷ ds) s = absurd s
+
+or_four : (h a b c : Bool) → (((h || a) || b) || c) ≡ (h || ((a || b) || c))
+or_four true a b c = refl
+or_four false a b c = refl
+
+or_end : (a b : Bool) → level_of_values a b ≡ level_of_values (a || false) (b || false)
+or_end true true = refl
+or_end true false = refl
+or_end false true = refl
+or_end false false = refl
+
+both_none : (a b : Bool) → (a || b) ≡ false → level_of_values a b ≡ levels.Z
+both_none true b h = absurd cc
+both_none false true h = absurd cc
+both_none false false h = refl
+
+module _ (net_of : List ℕ) (contacts resistors : List (ℕ × ℕ)) (closed : List Bool) (ds : List Drive) (groups : List ℕ) (strong : List Level)
+    (g : Grouped net_of contacts resistors closed ds groups strong) (areas : List ℕ) (long : length areas ≡ length groups) (labels : AreLabels areas)
+    (j : Joins (contact_joins resistors (bridges_of groups strong resistors)) groups areas) where
+  strong_here : (n : ℕ) → n < length groups → sum_at strong (slice_index groups n)
+      ≡ level_of_values (has_strong (length groups) net_of contacts resistors closed ds n true) (has_strong (length groups) net_of contacts resistors closed ds n false)
+  strong_here = strong_is contacts closed groups g.groups_are net_of resistors ds strong g.pins_within g.strong_are
+
+  loose : (n : ℕ) → n < length groups → is_loose groups strong n ≡ not (is_driven (length groups) net_of contacts resistors closed ds n)
+  loose = loose_here net_of contacts resistors closed ds groups strong g
+
+  within : (x y : ℕ) → passes (length groups) net_of contacts resistors closed ds x y ≡ true → (x < length groups) × (y < length groups)
+  within = passes_within net_of contacts resistors closed ds groups strong g
+
+  area : (n m : ℕ) → n < length groups → m < length groups → is_loose groups strong n ≡ true → is_loose groups strong m ≡ true →
+      (slice_index areas m == slice_index areas n) ≡ reaches (length groups) net_of contacts resistors closed ds n m
+  area = area_is net_of contacts resistors closed ds groups strong g areas long labels j
+
+  -- one end of a resistor brings a value to an area at its other end
+  abbrev brings : Bool → ℕ → ℕ → ℕ → Bool
+  brings v a from to = ((not (is_loose groups strong from) && is_loose groups strong to) && (slice_index areas to == a)) && has_strong (length groups) net_of contacts resistors closed ds from v
+
+  abbrev adds : Bool → ℕ → ℕ × ℕ → Bool
+  adds v a r = brings v a r.1 r.0 || brings v a r.0 r.1
+
+  over_is : (a from to : ℕ) (h l : Bool) → from < length groups → over_adds groups strong areas a from to (level_of_values h l) ≡ level_of_values (h || brings true a from to) (l || brings false a from to)
+  over_is a from to h l inside = go ((not (is_loose groups strong from) && is_loose groups strong to) && (slice_index areas to == a)) refl (strong_here from inside)
+    where
+      go : (c : Bool) → ((not (is_loose groups strong from) && is_loose groups strong to) && (slice_index areas to == a)) ≡ c →
+          sum_at strong (slice_index groups from) ≡ level_of_values (has_strong (length groups) net_of contacts resistors closed ds from true) (has_strong (length groups) net_of contacts resistors closed ds from false) →
+          over_adds groups strong areas a from to (level_of_values h l) ≡ level_of_values (h || brings true a from to) (l || brings false a from to)
+      go true e s = rw e (ap (together (level_of_values h l)) s ∙ values_together h l (has_strong (length groups) net_of contacts resistors closed ds from true) (has_strong (length groups) net_of contacts resistors closed ds from false))
+      go false e s = rw e (or_end h l)
+
+  resistors_are : (a : ℕ) (rs : List (ℕ × ℕ)) (h l : Bool) → ((k : ℕ) (r : ℕ × ℕ) → slice_get rs k ≡ Some r → (r.0 < length groups) × (r.1 < length groups)) →
+      resistors_add groups strong areas a (level_of_values h l) rs ≡ level_of_values (h || list_any (adds true a) rs) (l || list_any (adds false a) rs)
+  unfolding resistors_add
+  resistors_are a [] h l inside = or_end h l
+  resistors_are a (r ∷ rs) h l inside =
+      let at = inside 0 r refl in
+      let h2 = (h || brings true a r.1 r.0) || brings true a r.0 r.1 in
+      let l2 = (l || brings false a r.1 r.0) || brings false a r.0 r.1 in
+      ap (λ (x : Level). resistors_add groups strong areas a (over_adds groups strong areas a r.0 r.1 x) rs) (over_is a r.1 r.0 h l at.1)
+      ∙ ap (λ (x : Level). resistors_add groups strong areas a x rs) (over_is a r.0 r.1 (h || brings true a r.1 r.0) (l || brings false a r.1 r.0) at.0)
+      ∙ resistors_are a rs h2 l2 (λ k q e. inside (suc k) q e)
+      ∙ ap (λ (x : Bool). level_of_values x (l2 || list_any (adds false a) rs)) (or_four h (brings true a r.1 r.0) (brings true a r.0 r.1) (list_any (adds true a) rs))
+      ∙ ap (level_of_values (h || list_any (adds true a) (r ∷ rs))) (or_four l (brings false a r.1 r.0) (brings false a r.0 r.1) (list_any (adds false a) rs))
+
+  -- the strong values that are reached from n
+  abbrev reached_values : ℕ → List Drive
+  reached_values n = flat_map (λ m. if reaches (length groups) net_of contacts resistors closed ds n m then strong_values (length groups) net_of contacts resistors closed ds m else []) (below (length groups))
+
+  values_at : (n m : ℕ) (v : Bool) → reaches (length groups) net_of contacts resistors closed ds n m ≡ true → has_strong (length groups) net_of contacts resistors closed ds m v ≡ true →
+      any_value v (if reaches (length groups) net_of contacts resistors closed ds n m then strong_values (length groups) net_of contacts resistors closed ds m else []) ≡ true
+  values_at n m v e h = rw e (
+      values_any v (has_strong (length groups) net_of contacts resistors closed ds m true) (has_strong (length groups) net_of contacts resistors closed ds m false)
+      ∙ choose v h)
+    where
+      choose : (v : Bool) → has_strong (length groups) net_of contacts resistors closed ds m v ≡ true →
+          (if v then has_strong (length groups) net_of contacts resistors closed ds m true else has_strong (length groups) net_of contacts resistors closed ds m false) ≡ true
+      choose true h = h
+      choose false h = h
+
+  -- what is brought over one resistor is reached
+  brought : (n from to : ℕ) (v : Bool) → n < length groups → from < length groups → to < length groups → is_loose groups strong n ≡ true → joined_by resistors to from ≡ true →
+      brings v (slice_index areas n) from to ≡ true → any_value v (reached_values n) ≡ true
+  brought n from to v ln lf lt free by h =
+      let step = passes (length groups) net_of contacts resistors closed ds in
+      let a = and_first ((not (is_loose groups strong from) && is_loose groups strong to) && (slice_index areas to == slice_index areas n)) (has_strong (length groups) net_of contacts resistors closed ds from v) h in
+      let b = and_first (not (is_loose groups strong from) && is_loose groups strong to) (slice_index areas to == slice_index areas n) a.0 in
+      let d = and_first (not (is_loose groups strong from)) (is_loose groups strong to) b.0 in
+      let at_to : reaches (length groups) net_of contacts resistors closed ds n to ≡ true = sym (area n to ln lt free d.1) ∙ b.1 in
+      let way = walk_sound (length groups) step (length groups) n to at_to in
+      let pass : step to from ≡ true = and_both (not (is_driven (length groups) net_of contacts resistors closed ds to)) (contact_joins contacts closed to from || joined_by resistors to from)
+          (sym (loose to lt) ∙ d.1) (or_right (contact_joins contacts closed to from) (joined_by resistors to from) by) in
+      let at_from : reaches (length groups) net_of contacts resistors closed ds n from ≡ true = walk_complete (length groups) step within n from ln (further to from way pass) in
+      any_flat_at (λ (e : Drive). is_value v (value_of e)) (λ (m : ℕ). if reaches (length groups) net_of contacts resistors closed ds n m then strong_values (length groups) net_of contacts resistors closed ds m else [])
+        (below (length groups)) from from (get-below (length groups) from lf) (values_at n from v at_from a.1)
+
+  -- a net with a strong value is reached over a resistor from a loose one
+  last_step : (n m : ℕ) → n < length groups → is_loose groups strong n ≡ true → is_loose groups strong m ≡ false → Walk (passes (length groups) net_of contacts resistors closed ds) n m →
+      (i : ℕ) × (i < length groups) × (is_loose groups strong i ≡ true) × Walk (passes (length groups) net_of contacts resistors closed ds) n i × (joined_by resistors i m ≡ true)
+  last_step n _ ln free driven here = absurd cc
+  last_step n _ ln free driven (further i m w s) =
+      let at = within i m s in
+      let both = and_first (not (is_driven (length groups) net_of contacts resistors closed ds i)) (contact_joins contacts closed i m || joined_by resistors i m) s in
+      let free_i : is_loose groups strong i ≡ true = loose i at.0 ∙ both.0 in
+      elim (or_cases (contact_joins contacts closed i m) (joined_by resistors i m) both.1) [
+        | inl c ↦
+            let e : is_loose groups strong i ≡ is_loose groups strong m = ap (λ (x : ℕ). is_loose_label x) (one_label contacts closed groups g.groups_are i m c) in
+            absurd cc
+        | inr r ↦ (i, at.0, free_i, w, r)
+      ]
+    where
+      is_loose_label : ℕ → Bool
+      is_loose_label x = Rattle.net_resolve.specs.Sums.is_z (sum_at strong x)
+
+  driven_by : (m : ℕ) (v : Bool) → has_strong (length groups) net_of contacts resistors closed ds m v ≡ true → is_driven (length groups) net_of contacts resistors closed ds m ≡ true
+  driven_by m true h = or_left (has_strong (length groups) net_of contacts resistors closed ds m true) (has_strong (length groups) net_of contacts resistors closed ds m false) h
+  driven_by m false h = or_right (has_strong (length groups) net_of contacts resistors closed ds m true) (has_strong (length groups) net_of contacts resistors closed ds m false) h
+
+  -- what is reached is brought over some resistor
+  some_brings : (n m : ℕ) (v : Bool) → n < length groups → m < length groups → is_loose groups strong n ≡ true → reaches (length groups) net_of contacts resistors closed ds n m ≡ true →
+      has_strong (length groups) net_of contacts resistors closed ds m v ≡ true → list_any (adds v (slice_index areas n)) resistors ≡ true
+  some_brings n m v ln lm free at h =
+      let step = passes (length groups) net_of contacts resistors closed ds in
+      let driven : is_loose groups strong m ≡ false = loose m lm ∙ ap not (driven_by m v h) in
+      let s = last_step n m ln free driven (walk_sound (length groups) step (length groups) n m at) in
+      let at_i : reaches (length groups) net_of contacts resistors closed ds n s.0 ≡ true = walk_complete (length groups) step within n s.0 ln s.3 in
+      let same : (slice_index areas s.0 == slice_index areas n) ≡ true = area n s.0 ln s.1 free s.2 ∙ at_i in
+      let it : brings v (slice_index areas n) m s.0 ≡ true =
+          and_both ((not (is_loose groups strong m) && is_loose groups strong s.0) && (slice_index areas s.0 == slice_index areas n)) (has_strong (length groups) net_of contacts resistors closed ds m v)
+          (and_both (not (is_loose groups strong m) && is_loose groups strong s.0) (slice_index areas s.0 == slice_index areas n) (and_both (not (is_loose groups strong m)) (is_loose groups strong s.0) (ap not driven) s.2) same) h in
+      let r = any_some (λ pair. joins pair s.0 m) resistors s.4 in
+      any_at (adds v (slice_index areas n)) resistors r.0 r.1 r.2 (elim (joins_cases r.1 s.0 m r.3) [
+        | inl e ↦ or_left (brings v (slice_index areas n) r.1.1 r.1.0) (brings v (slice_index areas n) r.1.0 r.1.1)
+            (ap (λ (x : ℕ). brings v (slice_index areas n) x r.1.0) e.1 ∙ ap (λ (x : ℕ). brings v (slice_index areas n) m x) e.0 ∙ it)
+        | inr e ↦ or_right (brings v (slice_index areas n) r.1.1 r.1.0) (brings v (slice_index areas n) r.1.0 r.1.1)
+            (ap (λ (x : ℕ). brings v (slice_index areas n) x r.1.1) e.0 ∙ ap (λ (x : ℕ). brings v (slice_index areas n) m x) e.1 ∙ it)
+      ])
+
+  values_from : (n m : ℕ) (v : Bool) → any_value v (if reaches (length groups) net_of contacts resistors closed ds n m then strong_values (length groups) net_of contacts resistors closed ds m else []) ≡ true →
+      (reaches (length groups) net_of contacts resistors closed ds n m ≡ true) × (has_strong (length groups) net_of contacts resistors closed ds m v ≡ true)
+  values_from n m v h = go (reaches (length groups) net_of contacts resistors closed ds n m) refl
+    where
+      choose : (v : Bool) → (if v then has_strong (length groups) net_of contacts resistors closed ds m true else has_strong (length groups) net_of contacts resistors closed ds m false)
+          ≡ has_strong (length groups) net_of contacts resistors closed ds m v
+      choose true = refl
+      choose false = refl
+      go : (c : Bool) → reaches (length groups) net_of contacts resistors closed ds n m ≡ c →
+          (reaches (length groups) net_of contacts resistors closed ds n m ≡ true) × (has_strong (length groups) net_of contacts resistors closed ds m v ≡ true)
+      go true e =
+          let k : any_value v (strong_values (length groups) net_of contacts resistors closed ds m) ≡ true =
+              subst (λ (c : Bool). any_value v (if c then strong_values (length groups) net_of contacts resistors closed ds m else []) ≡ true) e h in
+          (e, sym (choose v) ∙ sym (values_any v (has_strong (length groups) net_of contacts resistors closed ds m true) (has_strong (length groups) net_of contacts resistors closed ds m false)) ∙ k)
+      go false e =
+          let k : any_value v [] ≡ true = subst (λ (c : Bool). any_value v (if c then strong_values (length groups) net_of contacts resistors closed ds m else []) ≡ true) e h in
+          absurd cc
+
+  adds_are : (n : ℕ) (v : Bool) → n < length groups → is_loose groups strong n ≡ true → list_any (adds v (slice_index areas n)) resistors ≡ any_value v (reached_values n)
+  adds_are n v ln free = both_ways (list_any (adds v (slice_index areas n)) resistors) (any_value v (reached_values n))
+      (λ h.
+        let s = any_some (adds v (slice_index areas n)) resistors h in
+        let at = g.resistors_within s.0 s.1 s.2 in
+        let by = any_at (λ pair. joins pair s.1.0 s.1.1) resistors s.0 s.1 s.2 (joins_is s.1) in
+        let back = any_at (λ pair. joins pair s.1.1 s.1.0) resistors s.0 s.1 s.2 (joins_swap s.1 s.1.0 s.1.1 (joins_is s.1)) in
+        elim (or_cases (brings v (slice_index areas n) s.1.1 s.1.0) (brings v (slice_index areas n) s.1.0 s.1.1) s.3) [
+          | inl l ↦ brought n s.1.1 s.1.0 v ln at.1 at.0 free by l
+          | inr r ↦ brought n s.1.0 s.1.1 v ln at.0 at.1 free back r
+        ])
+      (λ h.
+        let s = any_flat_some (λ (e : Drive). is_value v (value_of e)) (λ (m : ℕ). if reaches (length groups) net_of contacts resistors closed ds n m then strong_values (length groups) net_of contacts resistors closed ds m else []) (below (length groups)) h in
+        let lm : s.0 < length groups = omega (arith, slice_get_within (below (length groups)) s.0 s.1 s.2, length-below (length groups)) in
+        let same : s.0 ≡ s.1 = some_same (sym (get-below (length groups) s.0 lm) ∙ s.2) in
+        let from = values_from n s.1 v s.3 in
+        some_brings n s.1 v ln (subst (λ (x : ℕ). x < length groups) same lm) free from.0 from.1)
+
+  -- the sums by area
+  module _ (sums : List Level)
+      (summed : (a : ℕ) → a < length groups → sum_at sums a
+          ≡ added weak_level (λ n. is_loose groups strong n && (slice_index areas n == a)) (resistors_add groups strong areas a levels.Z resistors) (zip net_of ds)) where
+    -- the weak drives that count for n
+    abbrev counts : ℕ → ℕ → Bool
+    counts n m = reaches (length groups) net_of contacts resistors closed ds n m && not (is_driven (length groups) net_of contacts resistors closed ds m)
+
+    and_true : (b : Bool) → (b && true) ≡ b
+    and_true true = refl
+    and_true false = refl
+
+    and_false : (b : Bool) → (b && false) ≡ false
+    and_false true = refl
+    and_false false = refl
+
+    counts_are : (n m : ℕ) → n < length groups → m < length groups → is_loose groups strong n ≡ true →
+        (is_loose groups strong m && (slice_index areas m == slice_index areas n)) ≡ counts n m
+    counts_are n m ln lm free = elim (either_way (is_loose groups strong m)) [
+        | inl e ↦
+            ap (λ (b : Bool). b && (slice_index areas m == slice_index areas n)) e ∙ area n m ln lm free e
+            ∙ sym (ap (λ (b : Bool). reaches (length groups) net_of contacts resistors closed ds n m && b) (sym (loose m lm) ∙ e) ∙ and_true (reaches (length groups) net_of contacts resistors closed ds n m))
+        | inr e ↦
+            ap (λ (b : Bool). b && (slice_index areas m == slice_index areas n)) e
+            ∙ sym (ap (λ (b : Bool). reaches (length groups) net_of contacts resistors closed ds n m && b) (sym (loose m lm) ∙ e) ∙ and_false (reaches (length groups) net_of contacts resistors closed ds n m))
+      ]
+
+    area_within : (n : ℕ) → n < length groups → slice_index areas n < length groups
+    area_within n l = omega (arith, labels.forest n)
+
+    sum_is : (n : ℕ) → n < length groups → is_loose groups strong n ≡ true →
+        sum_at sums (slice_index areas n) ≡ added weak_level (counts n) (level_of_values (any_value true (reached_values n)) (any_value false (reached_values n))) (zip net_of ds)
+    sum_is n ln free =
+        let a = slice_index areas n in
+        let la = area_within n ln in
+        summed a la
+        ∙ added_same weak_level (length groups) (λ m. is_loose groups strong m && (slice_index areas m == a)) (counts n) (λ m lm. counts_are n m ln lm free) net_of ds (resistors_add groups strong areas a levels.Z resistors) g.pins_within
+        ∙ ap (λ (l : Level). added weak_level (counts n) l (zip net_of ds))
+            (resistors_are a resistors false false g.resistors_within
+             ∙ ap (λ (b : Bool). level_of_values b (list_any (adds false a) resistors)) (adds_are n true ln free)
+             ∙ ap (level_of_values (any_value true (reached_values n))) (adds_are n false ln free))
+
+    loose_level : (n : ℕ) → n < length groups → is_loose groups strong n ≡ true → sum_at sums (slice_index areas n) ≡ level_of_drives (collected (length groups) net_of contacts resistors closed ds n)
+    loose_level n ln free =
+        let rs = reached_values n in
+        let ws = weak_of (counts n) (zip net_of ds) in
+        sum_is n ln free ∙ elim (strong_first rs (strong_flat (λ m. reaches (length groups) net_of contacts resistors closed ds n m) (λ m. has_strong (length groups) net_of contacts resistors closed ds m true) (λ m. has_strong (length groups) net_of contacts resistors closed ds m false) (below (length groups)))) [
+          | inl none ↦
+              ap (λ (l : Level). added weak_level (counts n) l (zip net_of ds)) (both_none (any_value true rs) (any_value false rs) none.1)
+              ∙ weak_alone (counts n) (zip net_of ds) ∙ ap (λ (xs : List Drive). level_of_drives (xs ++ ws)) (sym none.0)
+          | inr some ↦
+              weak_added (counts n) (zip net_of ds) (any_value true rs) (any_value false rs) some.0
+              ∙ ap (λ (b : Bool). level_of_values b (any_value false rs || any_value false ws)) (sym (list_any-append (λ (e : Drive). is_value true (value_of e)) rs ws))
+              ∙ ap (level_of_values (any_value true (rs ++ ws))) (sym (list_any-append (λ (e : Drive). is_value false (value_of e)) rs ws))
+              ∙ sym (some.1 ws)
+        ]
+
+    level_is : (n : ℕ) → n < length groups → level_here groups strong areas sums n ≡ level_of (length groups) net_of contacts resistors closed ds n
+    level_is n ln = elim (either_way (is_driven (length groups) net_of contacts resistors closed ds n)) [
+        | inl driven ↦
+            let e : is_loose groups strong n ≡ false = loose n ln ∙ ap not driven in
+            ap (λ (b : Bool). if b then sum_at sums (slice_index areas n) else sum_at strong (slice_index groups n)) e
+            ∙ strong_here n ln
+            ∙ sym (ap (λ (b : Bool). if b then level_of_values (has_strong (length groups) net_of contacts resistors closed ds n true) (has_strong (length groups) net_of contacts resistors closed ds n false) else level_of_drives (collected (length groups) net_of contacts resistors closed ds n)) driven)
+        | inr free ↦
+            let e : is_loose groups strong n ≡ true = loose n ln ∙ ap not free in
+            ap (λ (b : Bool). if b then sum_at sums (slice_index areas n) else sum_at strong (slice_index groups n)) e
+            ∙ loose_level n ln e
+            ∙ sym (ap (λ (b : Bool). if b then level_of_values (has_strong (length groups) net_of contacts resistors closed ds n true) (has_strong (length groups) net_of contacts resistors closed ds n false) else level_of_drives (collected (length groups) net_of contacts resistors closed ds n)) free)
+      ]
+
+    map_same : (f h : ℕ → Level) (count : ℕ) → ((n : ℕ) → n < count → f n ≡ h n) → map f (below count) ≡ map h (below count)
+    map_same f h count same = same_lists (map f (below count)) (map h (below count)) (simp length-map refl) (λ k x y ex ey.
+        let sx = get_map_some f (below count) k x ex in
+        let sy = get_map_some h (below count) k y ey in
+        let lk : k < count = omega (arith, slice_get_within (below count) k sx.0 sx.1, length-below count) in
+        let kx : k ≡ sx.0 = some_same (sym (get-below count k lk) ∙ sx.1) in
+        let ky : k ≡ sy.0 = some_same (sym (get-below count k lk) ∙ sy.1) in
+        sym sx.2 ∙ ap f (sym kx) ∙ same k lk ∙ ap h ky ∙ sy.2)
+
+    -- all levels are those of the definition
+    pub levels_are : map (level_here groups strong areas sums) (below (length groups)) ≡ resolve (length groups) net_of contacts resistors closed ds
+    unfolding resolve
+    levels_are = map_same (level_here groups strong areas sums) (level_of (length groups) net_of contacts resistors closed ds) (length groups) level_is

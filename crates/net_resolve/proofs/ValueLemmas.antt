@@ -1,0 +1,286 @@
+-- What the sums of levels are, by the values of the drives that were added.
+use Rattle.std.proofs.Common.{◌≡◌, ℕ, List, [], ◌∷◌, ◌++◌, map, Bool, true, false, not, refl, ap, sym, ◌∙◌, ◌⊎◌, inl, inr, subst, Option, None, Some, arith, append_assoc}
+use Rattle.std.specs.Prelude.{◌&&◌, ◌||◌, if◌then◌else◌, filter}
+use Rattle.std.specs.List.{list_any}
+use Rattle.sim_base.specs.declared.signal.Drive.{Drive}
+use Rattle.sim_base.specs.declared.signal.Drive.TheVariants as drives
+use Rattle.sim_base.specs.declared.signal.Level.{Level}
+use Rattle.sim_base.specs.declared.signal.Level.TheVariants as levels
+use Rattle.sim_base.specs.Signal.{value_of, strong_of, is_weak, is_upper}
+use Rattle.board_model.specs.Resolve.{is_value, level_of_values, level_of_all, level_of_drives}
+use Rattle.net_resolve.specs.Sums.{has_high, has_low, is_z, together, strong_level, weak_level, added}
+
+pub values_together : (a b c d : Bool) → together (level_of_values a b) (level_of_values c d) ≡ level_of_values (a || c) (b || d)
+values_together true true true true = refl
+values_together true true true false = refl
+values_together true true false true = refl
+values_together true true false false = refl
+values_together true false true true = refl
+values_together true false true false = refl
+values_together true false false true = refl
+values_together true false false false = refl
+values_together false true true true = refl
+values_together false true true false = refl
+values_together false true false true = refl
+values_together false true false false = refl
+values_together false false true true = refl
+values_together false false true false = refl
+values_together false false false true = refl
+values_together false false false false = refl
+
+strong_values_of : (d : Drive) → strong_level d ≡ level_of_values (is_value true (strong_of d)) (is_value false (strong_of d))
+strong_values_of drives.Z = refl
+strong_values_of drives.Low = refl
+strong_values_of drives.High = refl
+strong_values_of drives.PullLow = refl
+strong_values_of drives.PullHigh = refl
+strong_values_of (drives.Wiper w) = refl
+
+pub is_z_values : (a b : Bool) → is_z (level_of_values a b) ≡ not (a || b)
+is_z_values true true = refl
+is_z_values true false = refl
+is_z_values false true = refl
+is_z_values false false = refl
+
+pub or_again : (a b c : Bool) → ((a || b) || c) ≡ (a || (b || c))
+or_again true b c = refl
+or_again false b c = refl
+
+-- the strong drives of pins, some of which count
+pub strong_added : (counts : ℕ → Bool) (ps : List (ℕ × Drive)) (a b : Bool) →
+    added strong_level counts (level_of_values a b) ps
+    ≡ level_of_values (a || list_any (λ p. counts p.0 && is_value true (strong_of p.1)) ps) (b || list_any (λ p. counts p.0 && is_value false (strong_of p.1)) ps)
+unfolding added
+strong_added counts [] a b = or_end a b
+  where
+    or_end : (x y : Bool) → level_of_values x y ≡ level_of_values (x || false) (y || false)
+    or_end true true = refl
+    or_end true false = refl
+    or_end false true = refl
+    or_end false false = refl
+strong_added counts (p ∷ ps) a b = go (strong_added counts ps) (counts p.0) refl
+  where
+    go : ((x y : Bool) → added strong_level counts (level_of_values x y) ps
+            ≡ level_of_values (x || list_any (λ q. counts q.0 && is_value true (strong_of q.1)) ps) (y || list_any (λ q. counts q.0 && is_value false (strong_of q.1)) ps)) →
+        (c : Bool) → counts p.0 ≡ c → added strong_level counts (if counts p.0 then together (level_of_values a b) (strong_level p.1) else level_of_values a b) ps
+        ≡ level_of_values (a || ((counts p.0 && is_value true (strong_of p.1)) || list_any (λ q. counts q.0 && is_value true (strong_of q.1)) ps))
+                          (b || ((counts p.0 && is_value false (strong_of p.1)) || list_any (λ q. counts q.0 && is_value false (strong_of q.1)) ps))
+    go ih true e = rw e (
+        ap (λ (l : Level). added strong_level counts (together (level_of_values a b) l) ps) (strong_values_of p.1)
+        ∙ ap (λ (l : Level). added strong_level counts l ps) (values_together a b (is_value true (strong_of p.1)) (is_value false (strong_of p.1)))
+        ∙ ih (a || is_value true (strong_of p.1)) (b || is_value false (strong_of p.1))
+        ∙ ap (λ (x : Bool). level_of_values x ((b || is_value false (strong_of p.1)) || list_any (λ q. counts q.0 && is_value false (strong_of q.1)) ps)) (or_again a (is_value true (strong_of p.1)) _)
+        ∙ ap (λ (y : Bool). level_of_values (a || (is_value true (strong_of p.1) || list_any (λ q. counts q.0 && is_value true (strong_of q.1)) ps)) y) (or_again b (is_value false (strong_of p.1)) _))
+    go ih false e = rw e (ih a b)
+
+-- whether some drive of a list has the value
+abbrev pub any_value : Bool → List Drive → Bool
+any_value v ds = list_any (λ d. is_value v (value_of d)) ds
+
+-- those weak drives of pins that count
+abbrev pub weak_of : (ℕ → Bool) → List (ℕ × Drive) → List Drive
+weak_of counts ps = map (λ p. p.1) (filter (λ p. counts p.0 && is_weak p.1) ps)
+
+weak_high : (d : Drive) → is_weak d ≡ true → has_high (weak_level d) ≡ is_value true (value_of d)
+weak_high drives.Z h = absurd cc
+weak_high drives.Low h = absurd cc
+weak_high drives.High h = absurd cc
+weak_high drives.PullLow h = refl
+weak_high drives.PullHigh h = refl
+weak_high (drives.Wiper w) h = refl
+
+weak_low : (d : Drive) → is_weak d ≡ true → has_low (weak_level d) ≡ is_value false (value_of d)
+weak_low drives.Z h = absurd cc
+weak_low drives.Low h = absurd cc
+weak_low drives.High h = absurd cc
+weak_low drives.PullLow h = refl
+weak_low drives.PullHigh h = refl
+weak_low (drives.Wiper w) h = refl
+
+weak_there : (d : Drive) → is_weak d ≡ true → is_z (weak_level d) ≡ false
+weak_there drives.Z h = absurd cc
+weak_there drives.Low h = absurd cc
+weak_there drives.High h = absurd cc
+weak_there drives.PullLow h = refl
+weak_there drives.PullHigh h = refl
+weak_there (drives.Wiper w) h = refl
+
+other_none : (d : Drive) → is_weak d ≡ false → weak_level d ≡ levels.Z
+other_none drives.Z h = refl
+other_none drives.Low h = refl
+other_none drives.High h = refl
+other_none drives.PullLow h = absurd cc
+other_none drives.PullHigh h = absurd cc
+other_none (drives.Wiper w) h = absurd cc
+
+not_or : (b : Bool) → (b || not b) ≡ true
+not_or true = refl
+not_or false = refl
+
+some_value : (d : Drive) → is_weak d ≡ true → (is_value true (value_of d) || is_value false (value_of d)) ≡ true
+some_value drives.Z h = absurd cc
+some_value drives.Low h = absurd cc
+some_value drives.High h = absurd cc
+some_value drives.PullLow h = refl
+some_value drives.PullHigh h = refl
+some_value (drives.Wiper w) h = not_or (is_upper w)
+
+plus_z : (l : Level) → together l levels.Z ≡ l
+plus_z levels.Low = refl
+plus_z levels.High = refl
+plus_z levels.X = refl
+plus_z levels.Z = refl
+plus_z (levels.Wiped w) = refl
+
+both_there : (a b : Level) → is_z a ≡ false → is_z b ≡ false → together a b ≡ level_of_values (has_high a || has_high b) (has_low a || has_low b)
+both_there a b ea eb = rw ea (rw eb refl)
+
+has_high_values : (a b : Bool) → has_high (level_of_values a b) ≡ a
+has_high_values true true = refl
+has_high_values true false = refl
+has_high_values false true = refl
+has_high_values false false = refl
+
+has_low_values : (a b : Bool) → has_low (level_of_values a b) ≡ b
+has_low_values true true = refl
+has_low_values true false = refl
+has_low_values false true = refl
+has_low_values false false = refl
+
+or_some : (a b c d : Bool) → (c || d) ≡ true → ((a || c) || (b || d)) ≡ true
+or_some a b c d h = grind arith
+
+or_some_left : (a b c d : Bool) → (a || b) ≡ true → ((a || c) || (b || d)) ≡ true
+or_some_left a b c d h = grind arith
+
+not_true : (b : Bool) → b ≡ true → not b ≡ false
+not_true b e = ap not e
+
+-- weak drives that join values
+pub weak_added : (counts : ℕ → Bool) (ps : List (ℕ × Drive)) (a b : Bool) → (a || b) ≡ true →
+    added weak_level counts (level_of_values a b) ps ≡ level_of_values (a || any_value true (weak_of counts ps)) (b || any_value false (weak_of counts ps))
+unfolding added
+weak_added counts [] a b h = or_end a b
+  where
+    or_end : (x y : Bool) → level_of_values x y ≡ level_of_values (x || false) (y || false)
+    or_end true true = refl
+    or_end true false = refl
+    or_end false true = refl
+    or_end false false = refl
+weak_added counts (p ∷ ps) a b h = go (weak_added counts ps) (counts p.0) refl (is_weak p.1) refl
+  where
+    go : ((x y : Bool) → (x || y) ≡ true → added weak_level counts (level_of_values x y) ps
+            ≡ level_of_values (x || any_value true (weak_of counts ps)) (y || any_value false (weak_of counts ps))) →
+        (c : Bool) → counts p.0 ≡ c → (w : Bool) → is_weak p.1 ≡ w →
+        added weak_level counts (if counts p.0 then together (level_of_values a b) (weak_level p.1) else level_of_values a b) ps
+        ≡ level_of_values (a || any_value true (weak_of counts (p ∷ ps))) (b || any_value false (weak_of counts (p ∷ ps)))
+    go ih false e w f = rw e (ih a b h)
+    go ih true e false f = rw e (rw f (
+        ap (λ (l : Level). added weak_level counts l ps) (ap (together (level_of_values a b)) (other_none p.1 f) ∙ plus_z (level_of_values a b))
+        ∙ ih a b h))
+    go ih true e true f = rw e (rw f (
+        let hi = is_value true (value_of p.1) in
+        let lo = is_value false (value_of p.1) in
+        let there : is_z (level_of_values a b) ≡ false = is_z_values a b ∙ not_true (a || b) h in
+        let sum : together (level_of_values a b) (weak_level p.1) ≡ level_of_values (a || hi) (b || lo) =
+            both_there (level_of_values a b) (weak_level p.1) there (weak_there p.1 f)
+            ∙ ap (λ (x : Bool). level_of_values (x || has_high (weak_level p.1)) (has_low (level_of_values a b) || has_low (weak_level p.1))) (has_high_values a b)
+            ∙ ap (λ (x : Bool). level_of_values (a || x) (has_low (level_of_values a b) || has_low (weak_level p.1))) (weak_high p.1 f)
+            ∙ ap (λ (x : Bool). level_of_values (a || hi) (x || has_low (weak_level p.1))) (has_low_values a b)
+            ∙ ap (λ (x : Bool). level_of_values (a || hi) (b || x)) (weak_low p.1 f) in
+        ap (λ (l : Level). added weak_level counts l ps) sum
+        ∙ ih (a || hi) (b || lo) (or_some_left a b hi lo h)
+        ∙ ap (λ (x : Bool). level_of_values x ((b || lo) || any_value false (weak_of counts ps))) (or_again a hi (any_value true (weak_of counts ps)))
+        ∙ ap (λ (y : Bool). level_of_values (a || (hi || any_value true (weak_of counts ps))) y) (or_again b lo (any_value false (weak_of counts ps)))))
+
+-- a level that some drives give
+record IsSum (es : List Drive) (sum : Level) : Type 0 where
+  there : is_z sum ≡ false
+  high : has_high sum ≡ any_value true es
+  low : has_low sum ≡ any_value false es
+  is : sum ≡ level_of_drives es
+
+any_value_end : (v : Bool) (es : List Drive) (d : Drive) → any_value v (es ++ d ∷ []) ≡ (any_value v es || is_value v (value_of d))
+any_value_end v [] d = or_false (is_value v (value_of d))
+  where
+    or_false : (b : Bool) → (b || false) ≡ b
+    or_false true = refl
+    or_false false = refl
+any_value_end v (e ∷ es) d = ap (λ (x : Bool). is_value v (value_of e) || x) (any_value_end v es d) ∙ sym (or_again (is_value v (value_of e)) (any_value v es) (is_value v (value_of d)))
+
+-- two drives or more go by their values
+more_by_values : (e : Drive) (es : List Drive) (d : Drive) → level_of_drives (e ∷ es ++ d ∷ []) ≡ level_of_all (e ∷ es ++ d ∷ [])
+more_by_values drives.Z es d = refl
+more_by_values drives.Low es d = refl
+more_by_values drives.High es d = refl
+more_by_values drives.PullLow es d = refl
+more_by_values drives.PullHigh es d = refl
+more_by_values (drives.Wiper w) [] d = refl
+more_by_values (drives.Wiper w) (f ∷ es) d = refl
+
+first_sum : (d : Drive) → is_weak d ≡ true → IsSum (d ∷ []) (weak_level d)
+first_sum drives.Z h = absurd cc
+first_sum drives.Low h = absurd cc
+first_sum drives.High h = absurd cc
+first_sum drives.PullLow h = record { there = refl; high = refl; low = refl; is = refl }
+first_sum drives.PullHigh h = record { there = refl; high = refl; low = refl; is = refl }
+first_sum (drives.Wiper w) h = record { there = refl; high = sym (or_false (is_upper w)); low = sym (or_false (not (is_upper w))); is = refl }
+  where
+    or_false : (b : Bool) → (b || false) ≡ b
+    or_false true = refl
+    or_false false = refl
+
+more_sum : (e : Drive) (es : List Drive) (sum : Level) (d : Drive) → IsSum (e ∷ es) sum → is_weak d ≡ true → IsSum (e ∷ es ++ d ∷ []) (together sum (weak_level d))
+more_sum e es sum d s h =
+    let hi = any_value true (e ∷ es ++ d ∷ []) in
+    let lo = any_value false (e ∷ es ++ d ∷ []) in
+    let highs : (has_high sum || has_high (weak_level d)) ≡ hi =
+        ap (λ (x : Bool). x || has_high (weak_level d)) s.high ∙ ap (λ (x : Bool). any_value true (e ∷ es) || x) (weak_high d h) ∙ sym (any_value_end true (e ∷ es) d) in
+    let lows : (has_low sum || has_low (weak_level d)) ≡ lo =
+        ap (λ (x : Bool). x || has_low (weak_level d)) s.low ∙ ap (λ (x : Bool). any_value false (e ∷ es) || x) (weak_low d h) ∙ sym (any_value_end false (e ∷ es) d) in
+    let is : together sum (weak_level d) ≡ level_of_values hi lo =
+        both_there sum (weak_level d) s.there (weak_there d h)
+        ∙ ap (λ (x : Bool). level_of_values x (has_low sum || has_low (weak_level d))) highs
+        ∙ ap (λ (y : Bool). level_of_values hi y) lows in
+    let some : (hi || lo) ≡ true =
+        ap (λ (x : Bool). x || lo) (any_value_end true (e ∷ es) d) ∙ ap (λ (y : Bool). (any_value true (e ∷ es) || is_value true (value_of d)) || y) (any_value_end false (e ∷ es) d)
+        ∙ or_some (any_value true (e ∷ es)) (any_value false (e ∷ es)) (is_value true (value_of d)) (is_value false (value_of d)) (some_value d h) in
+    record {
+      there = ap is_z is ∙ is_z_values hi lo ∙ not_true (hi || lo) some;
+      high = ap has_high is ∙ has_high_values hi lo;
+      low = ap has_low is ∙ has_low_values hi lo;
+      is = is ∙ sym (more_by_values e es d);
+    }
+
+rest_added : (counts : ℕ → Bool) (ps : List (ℕ × Drive)) (e : Drive) (es : List Drive) (sum : Level) → IsSum (e ∷ es) sum →
+    added weak_level counts sum ps ≡ level_of_drives (e ∷ es ++ weak_of counts ps)
+unfolding added
+rest_added counts [] e es sum s = s.is ∙ ap (λ (l : List Drive). level_of_drives (e ∷ l)) (sym (append_nil es))
+  where
+    append_nil : (l : List Drive) → l ++ [] ≡ l
+    append_nil [] = refl
+    append_nil (x ∷ xs) = ap (λ (l : List Drive). x ∷ l) (append_nil xs)
+rest_added counts (p ∷ ps) e es sum s = go (rest_added counts ps) (counts p.0) refl (is_weak p.1) refl
+  where
+    go : ((f : Drive) (fs : List Drive) (l : Level) → IsSum (f ∷ fs) l → added weak_level counts l ps ≡ level_of_drives (f ∷ fs ++ weak_of counts ps)) →
+        (c : Bool) → counts p.0 ≡ c → (w : Bool) → is_weak p.1 ≡ w →
+        added weak_level counts (if counts p.0 then together sum (weak_level p.1) else sum) ps ≡ level_of_drives (e ∷ es ++ weak_of counts (p ∷ ps))
+    go ih false f w g = rw f (ih e es sum s)
+    go ih true f false g = rw f (rw g (
+        ap (λ (l : Level). added weak_level counts l ps) (ap (together sum) (other_none p.1 g) ∙ plus_z sum)
+        ∙ ih e es sum s))
+    go ih true f true g = rw f (rw g (
+        ih e (es ++ p.1 ∷ []) (together sum (weak_level p.1)) (more_sum e es sum p.1 s g)
+        ∙ ap (λ (l : List Drive). level_of_drives (e ∷ l)) (append_assoc es (p.1 ∷ []) (weak_of counts ps))))
+
+-- weak drives alone
+pub weak_alone : (counts : ℕ → Bool) (ps : List (ℕ × Drive)) → added weak_level counts levels.Z ps ≡ level_of_drives (weak_of counts ps)
+unfolding added
+weak_alone counts [] = refl
+weak_alone counts (p ∷ ps) = go (weak_alone counts ps) (counts p.0) refl (is_weak p.1) refl
+  where
+    go : added weak_level counts levels.Z ps ≡ level_of_drives (weak_of counts ps) → (c : Bool) → counts p.0 ≡ c → (w : Bool) → is_weak p.1 ≡ w →
+        added weak_level counts (if counts p.0 then together levels.Z (weak_level p.1) else levels.Z) ps ≡ level_of_drives (weak_of counts (p ∷ ps))
+    go ih false f w g = rw f (ih)
+    go ih true f false g = rw f (rw g (ap (λ (l : Level). added weak_level counts l ps) (other_none p.1 g) ∙ ih))
+    go ih true f true g = rw f (rw g (rest_added counts ps p.1 [] (weak_level p.1) (first_sum p.1 g)))

@@ -1,0 +1,106 @@
+//! The levels of all nets, from what the pins drive now.
+ghost use Rattle.std.specs.Prelude.{◌≡◌, ℕ, ◌<◌, ◌≤◌, ◌&&◌, ◌==◌, List, length, map, Some, slice_get, slice_index, Bool};
+ghost use Rattle.std.specs.List.{zip};
+ghost use Rattle.board_model.specs.Walks.{below};
+ghost use Rattle.board_model.specs.Resolve.{contact_joins, resolve};
+ghost use Rattle.sim_base.specs.declared.signal.Level.{Level};
+ghost use Rattle.net_resolve.specs.Forest.{AreLabels, AreGroups, Joins};
+ghost use Rattle.net_resolve.specs.Sums.{sum_at, added, strong_level, weak_level, is_loose, resistors_add};
+
+use crate::forest::put_alone;
+use crate::groups::{join_labels, put_bridges};
+use crate::sums::{add_resistors, add_strong, add_weak, put_levels};
+use sim_base::{Drive, Level};
+
+/// Starts each sum with nothing.
+fn clear(sums: &mut [Level])
+    ensures { (k : ℕ) → k < length sums.old → sum_at sums.new k ≡ Level.Z }
+{
+    for i in 0..sums.len() {
+        sums[i] = Level::Z;
+    }
+}
+
+/// Groups the nets over the contacts that are closed.
+pub(crate) fn group_nets(contacts: &[(u16, u16)], closed: &[bool], groups: &mut [u16])
+    requires contacts { (k : ℕ) (c : ℕ × ℕ) → slice_get contacts.now k ≡ Some c → (c.0 < length groups.old) × (c.1 < length groups.old) }
+    requires closed { length closed.now ≡ length contacts.now }
+    requires few { length groups.old ≤ 65536 }
+    ensures { AreGroups contacts.now closed.now groups.new }
+{
+    put_alone(groups);
+    join_labels(contacts, closed, groups);
+}
+
+/// Sums the strong drives of each group.
+fn sum_groups(net_of: &[u16], drives: &[Drive], groups: &[u16], strong: &mut [Level])
+    requires pins { length drives.now ≡ length net_of.now }
+    requires nets { (k : ℕ) → k < length net_of.now → slice_index net_of.now k < length groups.now }
+    requires groups { (n : ℕ) → n < length groups.now → slice_index groups.now n < length strong.old }
+    ensures { (g : ℕ) → g < length strong.old → sum_at strong.new g ≡ added strong_level (λ n. slice_index groups.now n == g) Level.Z (zip net_of.now drives.now) }
+{
+    clear(strong);
+    add_strong(net_of, drives, groups, strong);
+}
+
+/// Joins the groups without a strong value that resistors connect.
+fn find_areas(resistors: &[(u16, u16)], groups: &[u16], strong: &[Level], bridges: &mut [bool], areas: &mut [u16])
+    requires resistors { (k : ℕ) (r : ℕ × ℕ) → slice_get resistors.now k ≡ Some r → (r.0 < length groups.now) × (r.1 < length groups.now) }
+    requires groups { (n : ℕ) → n < length groups.now → slice_index groups.now n < length strong.now }
+    requires labels { AreLabels groups.now }
+    requires bridges { length bridges.old ≡ length resistors.now }
+    requires areas { length areas.old ≡ length groups.now }
+    ensures labels { AreLabels areas.new }
+    ensures joins { Joins (contact_joins resistors.now (map (λ r. is_loose groups.now strong.now r.0 && is_loose groups.now strong.now r.1) resistors.now)) groups.now areas.new }
+{
+    areas.copy_from_slice(groups);
+    if !resistors.is_empty() {
+        put_bridges(resistors, groups, strong, bridges);
+        join_labels(resistors, bridges, areas);
+    }
+}
+
+/// Sums what comes together in each area.
+fn sum_areas(net_of: &[u16], drives: &[Drive], resistors: &[(u16, u16)], groups: &[u16], strong: &[Level], areas: &[u16], sums: &mut [Level])
+    requires pins { length drives.now ≡ length net_of.now }
+    requires nets { (k : ℕ) → k < length net_of.now → slice_index net_of.now k < length groups.now }
+    requires resistors { (k : ℕ) (r : ℕ × ℕ) → slice_get resistors.now k ≡ Some r → (r.0 < length groups.now) × (r.1 < length groups.now) }
+    requires groups { (n : ℕ) → n < length groups.now → slice_index groups.now n < length strong.now }
+    requires places { length areas.now ≡ length groups.now }
+    requires areas { (n : ℕ) → n < length areas.now → slice_index areas.now n < length sums.old }
+    ensures { (a : ℕ) → a < length sums.old → sum_at sums.new a
+        ≡ added weak_level (λ n. is_loose groups.now strong.now n && (slice_index areas.now n == a)) (resistors_add groups.now strong.now areas.now a Level.Z resistors.now) (zip net_of.now drives.now) }
+{
+    clear(sums);
+    add_resistors(resistors, groups, strong, areas, sums);
+    add_weak(net_of, drives, groups, strong, areas, sums);
+}
+
+/// Writes the level of each net. The other lists are room to work in.
+pub(crate) fn resolve_groups(
+    net_of: &[u16],
+    drives: &[Drive],
+    resistors: &[(u16, u16)],
+    groups: &[u16],
+    strong: &mut [Level],
+    bridges: &mut [bool],
+    areas: &mut [u16],
+    sums: &mut [Level],
+    levels: &mut [Level],
+)
+    requires pins { length drives.now ≡ length net_of.now }
+    requires nets { (k n : ℕ) → slice_get net_of.now k ≡ Some n → n < length groups.now }
+    requires resistors { (k : ℕ) (r : ℕ × ℕ) → slice_get resistors.now k ≡ Some r → (r.0 < length groups.now) × (r.1 < length groups.now) }
+    requires labels { AreLabels groups.now }
+    requires strong { length strong.old ≡ length groups.now }
+    requires bridges { length bridges.old ≡ length resistors.now }
+    requires areas { length areas.old ≡ length groups.now }
+    requires sums { length sums.old ≡ length groups.now }
+    requires levels { length levels.old ≡ length groups.now }
+    ensures { (contacts : List (ℕ × ℕ)) (closed : List Bool) → AreGroups contacts closed groups.now → levels.new ≡ resolve (length groups.now) net_of.now contacts resistors.now closed drives.now }
+{
+    sum_groups(net_of, drives, groups, strong);
+    find_areas(resistors, groups, strong, bridges, areas);
+    sum_areas(net_of, drives, resistors, groups, strong, areas, sums);
+    put_levels(groups, strong, areas, sums, levels);
+}
