@@ -5,3 +5,4 @@ pub mod ValueLemmas
 pub mod ReachLemmas
 pub mod AreaLemmas
 pub mod ResolveLemmas
+pub mod PlainLemmas

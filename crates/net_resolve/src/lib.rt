@@ -7,6 +7,8 @@ mod forest;
 mod groups;
 mod levels;
 mod nets;
+mod plain;
 mod sums;
 
 pub use nets::Nets;
+pub use plain::plain_levels;
