@@ -5,6 +5,7 @@ use Rattle.sim_base.specs.declared.signal.Drive.{Drive}
 use Rattle.sim_base.specs.declared.signal.Drive.TheVariants as drives
 use Rattle.sim_base.specs.declared.signal.Level.{Level}
 use Rattle.sim_base.specs.declared.signal.Level.TheVariants as levels
+use Rattle.avr_ports.specs.declared.pins.Driving.{Driving}
 use Rattle.unit_law.specs.Bits.{is_set, one, with_bit}
 use Rattle.unit_law.specs.UnitMachine.{UnitMachine}
 
@@ -73,11 +74,19 @@ pin_drive ddr port k =
     else if is_set port k then drives.PullHigh
     else drives.Z
 
+-- the registers on which the drives of the pins rest
+abbrev pub driving : Ports → Driving
+driving u = record { ddrb = u.ddrb; portb = u.portb; ddrc = u.ddrc; portc = u.portc; ddrd = u.ddrd; portd = u.portd }
+
+abbrev pub drive_by : Driving → ℕ → Drive
+drive_by d p =
+    if nat_lt p 8 then pin_drive d.ddrd d.portd p
+    else if nat_lt p 14 then pin_drive d.ddrb d.portb (p - 8)
+    else pin_drive d.ddrc d.portc (p - 14)
+
+-- the drive of the Uno's pin p
 abbrev pub drive : Ports → ℕ → Drive
-drive u p =
-    if nat_lt p 8 then pin_drive u.ddrd u.portd p
-    else if nat_lt p 14 then pin_drive u.ddrb u.portb (p - 8)
-    else pin_drive u.ddrc u.portc (p - 14)
+drive u p = drive_by (driving u) p
 
 -- What an external interrupt is sensitive to (data sheet, "External Interrupts", "Interrupt Sense Control").
 abbrev pub isc0 : Ports → ℕ

@@ -10,6 +10,7 @@ mod registers;
 #[cfg(test)]
 mod tests;
 
+pub use pins::Driving;
 pub use ports::Ports;
 pub use registers::{
     DDRB, DDRC, DDRD, EICRA, EIFR, EIMSK, PCICR, PCIFR, PCMSK0, PCMSK1, PCMSK2, PINB, PINC, PIND,

@@ -5,6 +5,17 @@ ghost use Rattle.avr_ports.specs.Ports.{on, six, pinb, pinc, pind, pin_drive, is
 use sim_base::{Drive, Level, reads_one};
 use unit_law::{has_bit, one};
 
+/// The registers on which the drives of the pins rest: where they are the same, the drives are.
+#[derive(Clone, Copy, Debug, PartialEq, Eq)]
+pub struct Driving {
+    pub ddrb: u8,
+    pub portb: u8,
+    pub ddrc: u8,
+    pub portc: u8,
+    pub ddrd: u8,
+    pub portd: u8,
+}
+
 // Whether a pin reads 1.
 pub(crate) fn on(levels: &[Level], pin: usize) -> bool
     requires { pin < length levels.now }

@@ -3,9 +3,9 @@ ghost use Rattle.std.specs.Prelude.{◌≡◌, ◌+◌, ◌-◌, ◌<◌, ◌≤
 ghost use Rattle.sim_base.specs.declared.signal.Level.{Level};
 ghost use Rattle.sim_base.specs.declared.signal.Level.TheVariants as levels;
 ghost use Rattle.unit_law.specs.UnitMachine.{Seeing, moved, moves, IsStill, IsNextDue};
-ghost use Rattle.avr_ports.specs.Ports.{ports, reset, flags, taken, drive, is_register, acts_by_ones, is_pins, register, kept, with_register, with_register_bit, edges_sensed, changes_sensed, ports_step};
+ghost use Rattle.avr_ports.specs.Ports.{ports, reset, flags, taken, drive, driving, is_register, acts_by_ones, is_pins, register, kept, with_register, with_register_bit, edges_sensed, changes_sensed, ports_step};
 
-use crate::pins::{is_change, is_edge, on, pin_drive, pinb, pinc, pind, requests_int};
+use crate::pins::{Driving, is_change, is_edge, on, pin_drive, pinb, pinc, pind, requests_int};
 use crate::registers::{
     DDRB, DDRC, DDRD, EICRA, EIFR, EIMSK, PCICR, PCIFR, PCMSK0, PCMSK1, PCMSK2, PINB, PINC, PIND,
     PORTB, PORTC, PORTD,
@@ -38,20 +38,22 @@ pub struct Ports {
     pcif1: bool,
     pcif2: bool,
     before: [Level; 20],
-    seen: [Level; 20],
+    // None stands for the levels before
+    seen: Option<[Level; 20]>,
     cycle: u32,
 }
 
 impl Model for Ports {
-    ghost use Rattle.std.specs.Prelude.{◌≡◌, ◌≤◌, length};
+    ghost use Rattle.std.specs.Prelude.{◌≡◌, ◌≤◌, length, IfSome};
+    ghost use Rattle.std.specs.Option.{unwrap_or};
     ghost use Rattle.unit_law.specs.UnitMachine.{Seeing};
     ghost use Rattle.avr_ports.specs.Ports.{Ports as State};
 
     ghost Value = { Seeing State };
 
-    ghost view = { λ p. record { unit = record { ddrb = p.ddrb; portb = p.portb; ddrc = p.ddrc; portc = p.portc; ddrd = p.ddrd; portd = p.portd; eicra = p.eicra; eimsk = p.eimsk; intf0 = p.intf0; intf1 = p.intf1; pcicr = p.pcicr; pcmsk0 = p.pcmsk0; pcmsk1 = p.pcmsk1; pcmsk2 = p.pcmsk2; pcif0 = p.pcif0; pcif1 = p.pcif1; pcif2 = p.pcif2 }; before = p.before; seen = p.seen; cycle = p.cycle } };
+    ghost view = { λ p. record { unit = record { ddrb = p.ddrb; portb = p.portb; ddrc = p.ddrc; portc = p.portc; ddrd = p.ddrd; portd = p.portd; eicra = p.eicra; eimsk = p.eimsk; intf0 = p.intf0; intf1 = p.intf1; pcicr = p.pcicr; pcmsk0 = p.pcmsk0; pcmsk1 = p.pcmsk1; pcmsk2 = p.pcmsk2; pcif0 = p.pcif0; pcif1 = p.pcif1; pcif2 = p.pcif2 }; before = p.before; seen = unwrap_or p.seen p.before; cycle = p.cycle } };
 
-    ghost invariant = { λ p. (length p.before ≡ 20) × (length p.seen ≡ 20) × (p.cycle ≤ 160000000) };
+    ghost invariant = { λ p. (length p.before ≡ 20) × IfSome p.seen (λ l. length l ≡ 20) × (p.cycle ≤ 160000000) };
 }
 
 impl Ports {
@@ -78,7 +80,7 @@ impl Ports {
             pcif1: false,
             pcif2: false,
             before: [Level::Z; PINS],
-            seen: [Level::Z; PINS],
+            seen: None,
             cycle: 0,
         }
     }
@@ -140,7 +142,9 @@ impl Ports {
         requires { length levels.now ≡ 20 }
         ensures { self.new ≡ record self.old { seen = levels.now } }
     {
-        self.seen.copy_from_slice(levels);
+        let mut seen = [Level::Z; PINS];
+        seen.copy_from_slice(levels);
+        self.seen = Some(seen);
     }
 
     /// Goes to cycle `to`, at most one above its next event, on the levels that it sees.
@@ -157,6 +161,17 @@ impl Ports {
             self.cycle = to;
         }
         None
+    }
+
+    /// Sees these levels and does one cycle on them: `see` and `step_to` in one, for an engine that
+    /// wakes it in each cycle.
+    pub fn step_seeing(&mut self, levels: &[Level])
+        requires levels { length levels.now ≡ 20 }
+        requires end { self.old.cycle < 160000000 }
+        ensures { self.new ≡ moved ports (record self.old { seen = levels.now }) }
+    {
+        self.hear(levels);
+        self.cycle += 1;
     }
 
     /// The next cycle with an event of its own: there is none, since edges come with a change of level.
@@ -215,6 +230,20 @@ impl Ports {
             Some(pin_drive(self.ddrb, self.portb, pin - 8))
         } else {
             Some(pin_drive(self.ddrc, self.portc, pin - 14))
+        }
+    }
+
+    /// The registers on which the outputs rest.
+    pub fn driving(&self) -> Driving
+        ensures { result ≡ driving self.now.unit }
+    {
+        Driving {
+            ddrb: self.ddrb,
+            portb: self.portb,
+            ddrc: self.ddrc,
+            portc: self.portc,
+            ddrd: self.ddrd,
+            portd: self.portd,
         }
     }
 
@@ -278,35 +307,47 @@ impl Ports {
         }
     }
 
-    // One cycle, of which the number is left as it is.
+    // One cycle on the levels that it sees; the number of the cycle is left as it is.
     fn step(&mut self)
         ensures { self.new ≡ record self.old { unit = ports_step self.old.unit self.old.before self.old.seen; before = self.old.seen } }
     {
-        self.sense_edges();
-        self.sense_changes();
-        let seen = self.seen;
-        self.before = seen;
+        match self.seen {
+            Some(levels) => self.hear(&levels),
+            None => {}
+        }
     }
 
-    fn sense_edges(&mut self)
-        ensures { self.new ≡ record self.old { unit = edges_sensed self.old.unit self.old.before self.old.seen } }
+    // One cycle on these levels; the number of the cycle is left as it is.
+    fn hear(&mut self, levels: &[Level])
+        requires { length levels.now ≡ 20 }
+        ensures { self.new ≡ record { unit = ports_step self.old.unit self.old.before levels.now; before = levels.now; seen = levels.now; cycle = self.old.cycle } }
+    {
+        self.sense_edges(levels);
+        self.sense_changes(levels);
+        self.before.copy_from_slice(levels);
+        self.seen = None;
+    }
+
+    fn sense_edges(&mut self, levels: &[Level])
+        requires { length levels.now ≡ 20 }
+        ensures { self.new ≡ record self.old { unit = edges_sensed self.old.unit self.old.before levels.now } }
     {
         if self.eicra % 16 == 0 {
             return;
         }
-        self.intf0 = self.intf0 | is_edge(self.eicra % 4, on(&self.before, 2), on(&self.seen, 2));
-        self.intf1 = self.intf1
-            | is_edge(self.eicra / 4 % 4, on(&self.before, 3), on(&self.seen, 3));
+        self.intf0 = self.intf0 | is_edge(self.eicra % 4, on(&self.before, 2), on(levels, 2));
+        self.intf1 = self.intf1 | is_edge(self.eicra / 4 % 4, on(&self.before, 3), on(levels, 3));
     }
 
-    fn sense_changes(&mut self)
-        ensures { self.new ≡ record self.old { unit = changes_sensed self.old.unit self.old.before self.old.seen } }
+    fn sense_changes(&mut self, levels: &[Level])
+        requires { length levels.now ≡ 20 }
+        ensures { self.new ≡ record self.old { unit = changes_sensed self.old.unit self.old.before levels.now } }
     {
         if (self.pcmsk0 == 0) & (self.pcmsk1 == 0) & (self.pcmsk2 == 0) {
             return;
         }
-        self.pcif0 = self.pcif0 | is_change(self.pcmsk0, pinb(&self.before), pinb(&self.seen));
-        self.pcif1 = self.pcif1 | is_change(self.pcmsk1, pinc(&self.before), pinc(&self.seen));
-        self.pcif2 = self.pcif2 | is_change(self.pcmsk2, pind(&self.before), pind(&self.seen));
+        self.pcif0 = self.pcif0 | is_change(self.pcmsk0, pinb(&self.before), pinb(levels));
+        self.pcif1 = self.pcif1 | is_change(self.pcmsk1, pinc(&self.before), pinc(levels));
+        self.pcif2 = self.pcif2 | is_change(self.pcmsk2, pind(&self.before), pind(levels));
     }
 }

@@ -6,4 +6,4 @@ use Rattle.avr_ports.proofs.ports.Ports.sense_changes.Goals as goal
 
 pub returns-then-self : goal.returns-then-self
 returns-then-self c =
-    changes_unchosen c.args.self.now (subst (λ (x : Seeing Ports). unchosen x.unit ≡ true) c.self.view_is c.if-self.true)
+    changes_unchosen c.args.self.now c.args.levels.now (subst (λ (x : Seeing Ports). unchosen x.unit ≡ true) c.self.view_is c.if-self.true)
