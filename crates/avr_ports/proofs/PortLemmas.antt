@@ -1,44 +1,55 @@
 -- Cycles in which the ports sense nothing.
-use Rattle.std.proofs.Common.{◌≡◌, ℕ, zero, suc, ◌+◌, ◌-◌, ◌<◌, ◌∙◌, Bool, true, false, ◌&&◌, ◌||◌, List, refl, arith, ap, sym}
+use Rattle.std.proofs.Common.{◌≡◌, ℕ, zero, suc, ◌+◌, ◌-◌, ◌<◌, ◌%◌, ◌∙◌, Bool, true, false, ◌&&◌, ◌||◌, List, refl, arith, ap, sym}
 use Rattle.std.specs.Prelude.{◌==◌}
 use Rattle.std.proofs.lemmas.Bool.Decides.{nat_tests}
 use Rattle.std.specs.Int.Bits.{and_zero_r}
 use Rattle.sim_base.specs.declared.signal.Level.{Level}
 use Rattle.unit_law.specs.UnitMachine.{Seeing, moved, moves}
-use Rattle.avr_ports.specs.Ports.{Ports, ports, is_change, pinb, pinc, pind, changes_sensed, ports_step}
+use Rattle.avr_ports.specs.Ports.{Ports, ports, is_change, is_edge, isc0, isc1, on, edges_sensed, pinb, pinc, pind, changes_sensed, ports_step}
 use Rattle.avr_ports.specs.PortLaws.{ports_still}
 
 or_none : (x y m : ℕ) (b : Bool) → m ≡ 0 → (b || is_change m x y) ≡ b
 or_none x y m true h = refl
 or_none x y m false h = rw (h, and_zero_r) refl
 
-and_parts : (a b c : Bool) → (a && b && c) ≡ true → (a ≡ true) × (b ≡ true) × (c ≡ true)
-and_parts true true true h = (refl, refl, refl)
-and_parts true true false h = cc
-and_parts true false c h = cc
-and_parts false b c h = cc
+or_no_edge : (x y b : Bool) (sense : ℕ) → sense ≡ 0 → (b || is_edge sense x y) ≡ b
+or_no_edge x y true sense h = refl
+or_no_edge x y false sense h = rw h refl
+
+and_parts : (a b c d : Bool) → (a && b && c && d) ≡ true → (a ≡ true) × (b ≡ true) × (c ≡ true) × (d ≡ true)
+and_parts true true true true h = (refl, refl, refl, refl)
+and_parts true true true false h = cc
+and_parts true true false d h = cc
+and_parts true false c d h = cc
+and_parts false b c d h = cc
 
 is_none : (x : ℕ) → (x == 0) ≡ true → x ≡ 0
 is_none x h = grind (arith, nat_tests)
 
--- whether no pin is chosen
-abbrev pub unchosen : Ports → Bool
-unchosen u = u.pcmsk0 == 0 && u.pcmsk1 == 0 && u.pcmsk2 == 0
+-- whether no edge is sensed and no pin is chosen
+abbrev pub is_deaf : Ports → Bool
+is_deaf u = u.eicra % 16 == 0 && u.pcmsk0 == 0 && u.pcmsk1 == 0 && u.pcmsk2 == 0
 
--- where no pin is chosen, no flag is set
-pub changes_unchosen : (s : Seeing Ports) (now : List Level) → unchosen s.unit ≡ true → s ≡ record s { unit = changes_sensed s.unit s.before now }
-changes_unchosen s now h =
-    let p = and_parts (s.unit.pcmsk0 == 0) (s.unit.pcmsk1 == 0) (s.unit.pcmsk2 == 0) h in
-    let e : s.unit.pcmsk0 ≡ 0 = is_none s.unit.pcmsk0 p.0 in
-    let f : s.unit.pcmsk1 ≡ 0 = is_none s.unit.pcmsk1 p.1 in
-    let g : s.unit.pcmsk2 ≡ 0 = is_none s.unit.pcmsk2 p.2 in
-    sym (ap (λ (u : Ports). record s { unit = u }) (by s.unit e f g))
+-- then no flag is set
+pub nothing_sensed : (s : Seeing Ports) (now : List Level) → is_deaf s.unit ≡ true → s ≡ record s { unit = ports_step s.unit s.before now }
+nothing_sensed s now h =
+    let p = and_parts (s.unit.eicra % 16 == 0) (s.unit.pcmsk0 == 0) (s.unit.pcmsk1 == 0) (s.unit.pcmsk2 == 0) h in
+    let d : s.unit.eicra % 16 ≡ 0 = is_none (s.unit.eicra % 16) p.0 in
+    let d0 : isc0 s.unit ≡ 0 = omega arith in
+    let d1 : isc1 s.unit ≡ 0 = omega arith in
+    let e : s.unit.pcmsk0 ≡ 0 = is_none s.unit.pcmsk0 p.1 in
+    let f : s.unit.pcmsk1 ≡ 0 = is_none s.unit.pcmsk1 p.2 in
+    let g : s.unit.pcmsk2 ≡ 0 = is_none s.unit.pcmsk2 p.3 in
+    sym (ap (λ (u : Ports). record s { unit = u }) (changes (edges_sensed s.unit s.before now) e f g ∙ edges s.unit d0 d1))
   where
-    by : (u : Ports) → u.pcmsk0 ≡ 0 → u.pcmsk1 ≡ 0 → u.pcmsk2 ≡ 0 → changes_sensed u s.before now ≡ u
-    by u e f g =
+    changes : (u : Ports) → u.pcmsk0 ≡ 0 → u.pcmsk1 ≡ 0 → u.pcmsk2 ≡ 0 → changes_sensed u s.before now ≡ u
+    changes u e f g =
         rw (or_none (pinb s.before) (pinb now) u.pcmsk0 u.pcif0 e)
         (rw (or_none (pinc s.before) (pinc now) u.pcmsk1 u.pcif1 f)
         (rw (or_none (pind s.before) (pind now) u.pcmsk2 u.pcif2 g) refl))
+
+    edges : (u : Ports) → isc0 u ≡ 0 → isc1 u ≡ 0 → edges_sensed u s.before now ≡ u
+    edges u e f = rw (or_no_edge (on s.before 2) (on now 2) u.intf0 (isc0 u) e) (rw (or_no_edge (on s.before 3) (on now 3) u.intf1 (isc1 u) f) refl)
 
 -- levels that stay leave all as it is
 pub step_same : (s : Seeing Ports) → s.seen ≡ s.before → s ≡ record s { unit = ports_step s.unit s.before s.seen; before = s.seen }
@@ -62,3 +73,11 @@ ports_moved_to s zero to h e = absurd (omega arith)
 ports_moved_to s (suc n) to h e =
     let f : to ≡ s.cycle + suc n = omega arith in
     ap (λ (t : ℕ). record { unit = ports_step s.unit s.before s.seen; before = s.seen; seen = s.seen; cycle = t }) f ∙ sym (ports_moved s n)
+
+-- ports that see the levels of the cycle before rest
+pub ports_rest : (s : Seeing Ports) (n : ℕ) → s.seen ≡ s.before → moves ports s n ≡ record s { cycle = s.cycle + n }
+unfolding moves
+ports_rest s zero same = let e : s.cycle ≡ s.cycle + 0 = omega arith in ap (λ (t : ℕ). record s { cycle = t }) e
+ports_rest s (suc n) same =
+    let put : Ports → List Level → Seeing Ports = λ u l. record s { unit = u; before = l; cycle = s.cycle + suc n } in
+    ports_moved s n ∙ ap (λ (l : List Level). put (ports_step s.unit s.before l) l) same ∙ ap (λ (u : Ports). put u s.before) (ports_still s.unit s.before)

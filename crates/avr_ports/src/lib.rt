@@ -14,5 +14,5 @@ pub use pins::Driving;
 pub use ports::Ports;
 pub use registers::{
     DDRB, DDRC, DDRD, EICRA, EIFR, EIMSK, PCICR, PCIFR, PCMSK0, PCMSK1, PCMSK2, PINB, PINC, PIND,
-    PORTB, PORTC, PORTD,
+    PORTB, PORTC, PORTD, has_register,
 };

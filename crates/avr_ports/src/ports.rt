@@ -38,22 +38,22 @@ pub struct Ports {
     pcif1: bool,
     pcif2: bool,
     before: [Level; 20],
-    // None stands for the levels before
-    seen: Option<[Level; 20]>,
+    // what it sees is `seen` where it is fresh, and else `before`
+    seen: [Level; 20],
+    fresh: bool,
     cycle: u32,
 }
 
 impl Model for Ports {
-    ghost use Rattle.std.specs.Prelude.{◌≡◌, ◌≤◌, length, IfSome};
-    ghost use Rattle.std.specs.Option.{unwrap_or};
+    ghost use Rattle.std.specs.Prelude.{◌≡◌, ◌≤◌, length, if◌then◌else◌};
     ghost use Rattle.unit_law.specs.UnitMachine.{Seeing};
     ghost use Rattle.avr_ports.specs.Ports.{Ports as State};
 
     ghost Value = { Seeing State };
 
-    ghost view = { λ p. record { unit = record { ddrb = p.ddrb; portb = p.portb; ddrc = p.ddrc; portc = p.portc; ddrd = p.ddrd; portd = p.portd; eicra = p.eicra; eimsk = p.eimsk; intf0 = p.intf0; intf1 = p.intf1; pcicr = p.pcicr; pcmsk0 = p.pcmsk0; pcmsk1 = p.pcmsk1; pcmsk2 = p.pcmsk2; pcif0 = p.pcif0; pcif1 = p.pcif1; pcif2 = p.pcif2 }; before = p.before; seen = unwrap_or p.seen p.before; cycle = p.cycle } };
+    ghost view = { λ p. record { unit = record { ddrb = p.ddrb; portb = p.portb; ddrc = p.ddrc; portc = p.portc; ddrd = p.ddrd; portd = p.portd; eicra = p.eicra; eimsk = p.eimsk; intf0 = p.intf0; intf1 = p.intf1; pcicr = p.pcicr; pcmsk0 = p.pcmsk0; pcmsk1 = p.pcmsk1; pcmsk2 = p.pcmsk2; pcif0 = p.pcif0; pcif1 = p.pcif1; pcif2 = p.pcif2 }; before = p.before; seen = if p.fresh then p.seen else p.before; cycle = p.cycle } };
 
-    ghost invariant = { λ p. (length p.before ≡ 20) × IfSome p.seen (λ l. length l ≡ 20) × (p.cycle ≤ 160000000) };
+    ghost invariant = { λ p. (length p.before ≡ 20) × (length p.seen ≡ 20) × (p.cycle ≤ 160000000) };
 }
 
 impl Ports {
@@ -80,7 +80,8 @@ impl Ports {
             pcif1: false,
             pcif2: false,
             before: [Level::Z; PINS],
-            seen: None,
+            seen: [Level::Z; PINS],
+            fresh: false,
             cycle: 0,
         }
     }
@@ -142,9 +143,8 @@ impl Ports {
         requires { length levels.now ≡ 20 }
         ensures { self.new ≡ record self.old { seen = levels.now } }
     {
-        let mut seen = [Level::Z; PINS];
-        seen.copy_from_slice(levels);
-        self.seen = Some(seen);
+        self.seen.copy_from_slice(levels);
+        self.fresh = true;
     }
 
     /// Goes to cycle `to`, at most one above its next event, on the levels that it sees.
@@ -165,6 +165,7 @@ impl Ports {
 
     /// Sees these levels and does one cycle on them: `see` and `step_to` in one, for an engine that
     /// wakes it in each cycle.
+    #[inline]
     pub fn step_seeing(&mut self, levels: &[Level])
         requires levels { length levels.now ≡ 20 }
         requires end { self.old.cycle < 160000000 }
@@ -311,41 +312,50 @@ impl Ports {
     fn step(&mut self)
         ensures { self.new ≡ record self.old { unit = ports_step self.old.unit self.old.before self.old.seen; before = self.old.seen } }
     {
-        match self.seen {
-            Some(levels) => self.hear(&levels),
-            None => {}
+        if self.fresh {
+            let seen = self.seen;
+            self.hear(&seen);
         }
     }
 
     // One cycle on these levels; the number of the cycle is left as it is.
+    #[inline]
     fn hear(&mut self, levels: &[Level])
         requires { length levels.now ≡ 20 }
         ensures { self.new ≡ record { unit = ports_step self.old.unit self.old.before levels.now; before = levels.now; seen = levels.now; cycle = self.old.cycle } }
     {
-        self.sense_edges(levels);
-        self.sense_changes(levels);
+        self.sense(levels);
         self.before.copy_from_slice(levels);
-        self.seen = None;
+        self.fresh = false;
     }
 
+    // The flags after a cycle on these levels; most firmware asks for none.
+    #[inline]
+    fn sense(&mut self, levels: &[Level])
+        requires { length levels.now ≡ 20 }
+        ensures { self.new ≡ record self.old { unit = ports_step self.old.unit self.old.before levels.now } }
+    {
+        if (self.eicra % 16 == 0) & (self.pcmsk0 == 0) & (self.pcmsk1 == 0) & (self.pcmsk2 == 0) {
+            return;
+        }
+        self.sense_edges(levels);
+        self.sense_changes(levels);
+    }
+
+    #[inline(never)]
     fn sense_edges(&mut self, levels: &[Level])
         requires { length levels.now ≡ 20 }
         ensures { self.new ≡ record self.old { unit = edges_sensed self.old.unit self.old.before levels.now } }
     {
-        if self.eicra % 16 == 0 {
-            return;
-        }
         self.intf0 = self.intf0 | is_edge(self.eicra % 4, on(&self.before, 2), on(levels, 2));
         self.intf1 = self.intf1 | is_edge(self.eicra / 4 % 4, on(&self.before, 3), on(levels, 3));
     }
 
+    #[inline(never)]
     fn sense_changes(&mut self, levels: &[Level])
         requires { length levels.now ≡ 20 }
         ensures { self.new ≡ record self.old { unit = changes_sensed self.old.unit self.old.before levels.now } }
     {
-        if (self.pcmsk0 == 0) & (self.pcmsk1 == 0) & (self.pcmsk2 == 0) {
-            return;
-        }
         self.pcif0 = self.pcif0 | is_change(self.pcmsk0, pinb(&self.before), pinb(levels));
         self.pcif1 = self.pcif1 | is_change(self.pcmsk1, pinc(&self.before), pinc(levels));
         self.pcif2 = self.pcif2 | is_change(self.pcmsk2, pind(&self.before), pind(levels));

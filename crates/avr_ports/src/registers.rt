@@ -1,4 +1,6 @@
 //! Data addresses of the registers (data sheet, "Register Summary").
+ghost use Rattle.std.specs.Prelude.{◌≡◌};
+ghost use Rattle.avr_ports.specs.Ports.{is_register};
 
 /// Port B input pins.
 pub const PINB: u8 = 0x23;
@@ -34,3 +36,10 @@ pub const PCMSK0: u8 = 0x6B;
 pub const PCMSK1: u8 = 0x6C;
 /// Pin change mask of port D.
 pub const PCMSK2: u8 = 0x6D;
+
+/// Whether a data address is one of these registers.
+pub fn has_register(addr: u8) -> bool
+    ensures { result ≡ is_register addr }
+{
+    matches!(addr, PINB..=PORTD | PCIFR..=EIMSK | PCICR | EICRA | PCMSK0..=PCMSK2)
+}

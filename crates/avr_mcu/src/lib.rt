@@ -1,0 +1,12 @@
+//! The microcontroller ATmega328P of an Arduino Uno as a part of a board: core, SRAM, ports and plain
+//! registers (data sheet; AVR Instruction Set Manual).
+//! Each cycle is one step of the definition `Mcu`: the core acts, then each unit steps.
+//! Only `Mcu::new` takes memory, and may fail for want of it.
+#![tactic(auto)]
+
+mod mcu;
+#[cfg(test)]
+mod tests;
+mod units;
+
+pub use mcu::Mcu;
