@@ -1,0 +1,6 @@
+pub mod Bare
+pub mod Request
+pub mod Answer
+pub mod Happens
+pub mod Promises
+pub mod Work
