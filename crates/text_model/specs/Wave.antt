@@ -1,5 +1,5 @@
--- The wave of a run as a value change dump (IEEE 1364-2005, "Value change dump files", "Format of
--- four-state VCD file"; which variables there are and their identifier codes are the profile's).
+-- The wave of a run as a value change dump (IEEE 1364-2005, clause 18, "Value change dump (VCD)
+-- files", the four-state format; which variables there are and their codes are the profile's).
 use Rattle.std.specs.Prelude.{ℕ, suc, ◌+◌, ◌-◌, ◌*◌, ◌/◌, ◌%◌, nat_lt, ◌==◌, Bool, true, false, if◌then◌else◌, List, [], ◌∷◌, ◌++◌, map, codes, decimal, slice_get}
 use Rattle.std.specs.Option.{option_map_or}
 use Rattle.sim_base.specs.declared.signal.Level.{Level}

@@ -1,5 +1,5 @@
-//! The wave of a run as a value change dump (IEEE 1364-2005, "Value change dump files"), written
-//! while the run goes on, and the bytes of the serial port.
+//! The wave of a run as a value change dump (IEEE 1364-2005, clause 18, "Value change dump (VCD)
+//! files"), written while the run goes on, and the bytes of the serial port.
 //! A writer's ports hold exactly the text of the rows and the bytes that it was handed, or a first
 //! part of it after a write that failed; only `WaveHead::of` takes memory.
 #![tactic(auto)]

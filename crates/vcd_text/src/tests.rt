@@ -224,6 +224,23 @@ fn hand_out_both<W: Watcher>(out: &mut W) -> WriteEnd
 }
 
 #[test]
+fn a_bench_that_was_lent_has_the_wave(rt: HostRuntime) {
+    let alloc = rt.alloc();
+    let variables = variables_of(alloc, &[("a", Shown::Net(0))]).expect(&rt, "memory");
+    assert_eq!(rt; variables.len(), 1);
+    let mut head = WaveHead::of(alloc, variables).ok().expect(&rt, "memory");
+    let mut bench = MemBench::new(alloc);
+    bench.room(Port::Wave, 1000).ok().expect(&rt, "memory");
+    assert!(rt; bench.open_port(Port::Wave, "-") == WriteEnd::Ok);
+    assert_eq!(rt; write_whole(&mut head, &mut bench), WriteEnd::Ok);
+    assert!(rt;
+        bench
+            .written(Port::Wave)
+            .ends_with(b"#0\n$dumpvars\nz!\n$end\n#1875\n1!\n#10000\n")
+    );
+}
+
+#[test]
 fn what_is_not_wanted_is_counted(rt: HostRuntime) {
     let alloc = rt.alloc();
     let variables = variables_of(alloc, &[("a", Shown::Net(0))]).expect(&rt, "memory");
