@@ -1,0 +1,5 @@
+pub mod GatherLemmas
+pub mod StepLemmas
+pub mod HandLemmas
+pub mod ScriptLemmas
+pub mod WakeLemmas

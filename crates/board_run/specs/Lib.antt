@@ -1,0 +1,4 @@
+pub mod BoardView
+pub mod Seen
+pub mod Woken
+pub mod Upcoming

@@ -1,0 +1,10 @@
+//! A board of parts, run cycle by cycle (profile): in each cycle all parts step on the same levels.
+//! A run hands out exactly the rows and bytes of the definition, whatever parts there are.
+//! Only `Board::new` takes memory; a run fails only where writing does.
+#![tactic(auto)]
+
+mod gather;
+mod hand;
+mod reading;
+mod script;
+mod wake;
