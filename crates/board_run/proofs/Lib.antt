@@ -3,3 +3,5 @@ pub mod StepLemmas
 pub mod HandLemmas
 pub mod ScriptLemmas
 pub mod WakeLemmas
+pub mod CycleLemmas
+pub mod RunLemmas

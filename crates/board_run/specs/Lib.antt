@@ -2,3 +2,4 @@ pub mod BoardView
 pub mod Seen
 pub mod Woken
 pub mod Upcoming
+pub mod Runs

@@ -3,8 +3,10 @@
 //! Only `Board::new` takes memory; a run fails only where writing does.
 #![tactic(auto)]
 
+mod cycle;
 mod gather;
 mod hand;
 mod reading;
+mod run;
 mod script;
 mod wake;
