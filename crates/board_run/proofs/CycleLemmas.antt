@@ -1,9 +1,6 @@
 -- One cycle of a board.
-use Rattle.std.proofs.Common.{◌≡◌, ℕ, zero, suc, ◌+◌, ◌-◌, ◌<◌, ◌≤◌, List, [], ◌∷◌, ◌++◌, length, map, take, drop, Bool, true, false, not, Option, None, Some, refl, ap, sym, ◌∙◌, arith, subst, length-append}
-use Rattle.std.specs.Prelude.{◌==◌, ◌||◌, ◌&&◌, if◌then◌else◌, slice_get, slice_index}
-use Rattle.std.specs.List.{flat_map}
-use Rattle.std.proofs.lemmas.Option.{slice_get_within}
-use Rattle.std.proofs.lemmas.List.{length-map}
+use Rattle.std.proofs.Common.{◌≡◌, ℕ, zero, suc, ◌+◌, ◌-◌, ◌≤◌, List, [], ◌∷◌, length, map, take, drop, Bool, true, false, not, Option, Some, refl, ap, sym, ◌∙◌, arith}
+use Rattle.std.specs.Prelude.{◌==◌, ◌||◌, ◌&&◌, if◌then◌else◌, replicate}
 use Rattle.sim_base.specs.declared.signal.Level.{Level}
 use Rattle.sim_base.specs.declared.signal.Level.TheVariants as levels
 use Rattle.sim_base.specs.declared.signal.Drive.{Drive}
@@ -11,17 +8,14 @@ use Rattle.sim_base.specs.declared.signal.Drive.TheVariants as drives
 use Rattle.sim_base.specs.declared.wiring.Wiring.{Wiring}
 use Rattle.sim_base.specs.declared.wiring.Input.{Input}
 use Rattle.sim_base.specs.Rows.{Row}
-use Rattle.part_law.specs.Machine.{Machine, Laws}
-use Rattle.board_model.specs.Board.{drives_of, contacts_of, levels_of, level_at, own_nets, part_step, steps_from, board_step, bytes_of, options, input_at, states, bytes}
-use Rattle.board_model.specs.Rows.{Shown, same_level, same_drive, same_list, same_shown, is_new, chip_drives_of, shown_of, row_of, row_if, shown_before, rows}
-use Rattle.board_model.specs.Fits.{Fits}
-use Rattle.board_model.proofs.Lists.{get_map_some, some_map, flat_map_same, some_same}
-use Rattle.board_run.specs.Seen.{Seen, Suits, IsOf, shown, shown_at}
-use Rattle.board_run.specs.Woken.{AreStill}
+use Rattle.part_law.specs.Machine.{Machine}
+use Rattle.board_model.specs.Board.{levels_of, level_at, own_nets, part_step, steps_from, board_step, bytes_of, options, input_at}
+use Rattle.board_model.specs.Rows.{Shown, same_level, same_drive, same_list, same_shown, is_new, shown_of, row_if}
+use Rattle.board_model.proofs.Lists.{some_same}
+use Rattle.board_run.specs.Seen.{Seen, IsOf, shown, shown_at}
 use Rattle.board_run.specs.Upcoming.{AreBehind}
 use Rattle.board_run.specs.declared.cycle.Next.{Next}
 use Rattle.board_run.proofs.ScriptLemmas.{values_now}
-use Rattle.board_run.proofs.StepLemmas.{get-steps_from, length-steps_from}
 
 eqb_same : (n : ℕ) → (n == n) ≡ true
 eqb_same n = grind arith
@@ -101,3 +95,20 @@ module _ {S : Type 0} (m : Machine S) (w : Wiring) where
 
 pub stale_is : (i : ℕ) (b : Bool) (x : Next) → Some (record { input = i; stale = b }) ≡ Some x → b ≡ x.stale
 stale_is i b x e = ap (λ (n : Next). n.stale) (some_same e)
+
+-- levels that are all Z are those of pins on nets that are all Z
+pub own_first : (n : ℕ) (nets : List ℕ) → replicate (length nets) levels.Z ≡ map (level_at (replicate n levels.Z)) nets
+own_first n [] = refl
+own_first n (k ∷ nets) =
+    let a : level_at (replicate n levels.Z) k ≡ levels.Z = all_z n k in
+    let b : replicate (length nets) levels.Z ≡ map (level_at (replicate n levels.Z)) nets = own_first n nets in
+    cc
+  where
+    all_z : (n k : ℕ) → level_at (replicate n levels.Z) k ≡ levels.Z
+    all_z zero k = refl
+    all_z (suc n) zero = refl
+    all_z (suc n) (suc k) = all_z n k
+
+pub long_first : (n : ℕ) → length (replicate n levels.Z) ≡ n
+long_first zero = refl
+long_first (suc n) = ap suc (long_first n)

@@ -1,10 +1,7 @@
 -- A watcher is handed one part after another.
-use Rattle.std.proofs.Common.{◌≡◌, ℕ, zero, suc, ◌+◌, ◌<◌, List, [], ◌∷◌, ◌++◌, ◌∙◌, Option, None, Some, refl, ap, sym, subst, append_assoc, rules, take, drop, length, add-one, arith, get_or, Bool, true}
+use Rattle.std.proofs.Common.{◌≡◌, ℕ, zero, suc, ◌+◌, ◌<◌, List, [], ◌∷◌, ◌++◌, ◌∙◌, Option, None, Some, refl, ap, sym, subst, append_assoc, take, drop, length, add-one, Bool}
 use Rattle.std.specs.Prelude.{slice_get}
 use Rattle.sim_base.specs.Rows.{Row, Appends, StopsWithin, AreFronts, Handed}
-use Rattle.sim_base.specs.declared.signal.Level.{Level}
-use Rattle.sim_base.specs.declared.signal.Drive.{Drive}
-use Rattle.std.specs.Prelude.{if◌then◌else◌}
 use Rattle.board_model.specs.Board.{options}
 
 pub options-append : (xs ys : List (Option ℕ)) → options (xs ++ ys) ≡ options xs ++ options ys
@@ -49,15 +46,17 @@ module _ {W : Type 0} (stands : W → List Row → List ℕ → Type 0) where
   pub stops_after : (stopped : W → List Row → List ℕ → Type 0) (a b c : W) (r1 r2 rows : List Row) (b1 b2 bytes : List ℕ) →
       Appends (stands a) (stands b) r1 b1 → StopsWithin (stands b) (stopped c) r2 b2 → AreFronts (r1 ++ r2) (b1 ++ b2) rows bytes → StopsWithin (stands a) (stopped c) rows bytes
   stops_after stopped a b c r1 r2 rows b1 b2 bytes p q front =
-      let f = q.2 in
-      (r1 ++ q.0, b1 ++ q.1,
+      let f = q.2 in (
+        r1 ++ q.0,
+        b1 ++ q.1,
         record {
           more_rows = f.more_rows ++ front.more_rows;
           more_bytes = f.more_bytes ++ front.more_bytes;
           whole_rows = regroup r1 q.0 f.more_rows front.more_rows ∙ ap (λ (l : List Row). (r1 ++ l) ++ front.more_rows) f.whole_rows ∙ front.whole_rows;
           whole_bytes = regroup b1 q.1 f.more_bytes front.more_bytes ∙ ap (λ (l : List ℕ). (b1 ++ l) ++ front.more_bytes) f.whole_bytes ∙ front.whole_bytes;
         },
-        appends_then stopped a b c r1 q.0 b1 q.1 p q.3)
+        appends_then stopped a b c r1 q.0 b1 q.1 p q.3,
+      )
     where
       regroup : {A : Type 0} (a b c d : List A) → (a ++ b) ++ (c ++ d) ≡ (a ++ (b ++ c)) ++ d
       regroup a b c d = simp append_assoc

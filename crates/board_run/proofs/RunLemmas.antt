@@ -1,6 +1,6 @@
 -- Cycle after cycle.
-use Rattle.std.proofs.Common.{◌≡◌, ℕ, zero, suc, ◌+◌, ◌-◌, ◌*◌, ◌<◌, ◌≤◌, List, [], ◌∷◌, ◌++◌, length, map, take, drop, Bool, true, false, Option, None, Some, refl, ap, sym, ◌∙◌, arith, subst, length-append, append_assoc, get_or}
-use Rattle.std.specs.Prelude.{◌==◌, if◌then◌else◌, slice_get, slice_index}
+use Rattle.std.proofs.Common.{◌≡◌, ℕ, zero, suc, ◌+◌, ◌-◌, ◌*◌, ◌<◌, ◌≤◌, List, [], ◌∷◌, ◌++◌, length, map, take, Bool, true, false, Option, None, Some, refl, ap, sym, ◌∙◌, arith, subst, length-append, append_assoc, get_or}
+use Rattle.std.specs.Prelude.{◌==◌, if◌then◌else◌, slice_get}
 use Rattle.std.specs.List.{flat_map}
 use Rattle.std.proofs.lemmas.Option.{slice_get_within, slice_get-get_or}
 use Rattle.std.proofs.lemmas.List.{length-map}
@@ -8,16 +8,17 @@ use Rattle.sim_base.specs.declared.signal.Level.{Level}
 use Rattle.sim_base.specs.declared.signal.Drive.{Drive}
 use Rattle.sim_base.specs.declared.wiring.Wiring.{Wiring}
 use Rattle.sim_base.specs.declared.wiring.Input.{Input}
-use Rattle.sim_base.specs.Rows.{Row, Appends, StopsWithin, AreFronts, Handed}
+use Rattle.sim_base.specs.Rows.{Row, StopsWithin, AreFronts, Handed}
 use Rattle.part_law.specs.Machine.{Machine, Laws}
 use Rattle.board_model.specs.Resolve.{resolve}
 use Rattle.board_model.specs.Board.{drives_of, contacts_of, levels_of, part_step, steps_from, board_step, bytes_of, states, bytes}
 use Rattle.board_model.specs.Rows.{Shown, chip_drives_of, shown_of, row_if, shown_before, rows}
 use Rattle.board_model.specs.Fits.{Fits}
-use Rattle.board_model.proofs.Lists.{get_map_some, flat_map_same, some_same}
+use Rattle.board_model.proofs.Lists.{get_map_some, flat_map_same}
 use Rattle.board_run.specs.Seen.{Seen, Suits, IsOf, shown, shown_at}
 use Rattle.board_run.specs.Runs.{Runs}
 use Rattle.board_run.specs.Woken.{AreStill, AreWoken}
+use Rattle.board_run.specs.Upcoming.{AreBehind}
 use Rattle.board_run.proofs.StepLemmas.{length-steps_from}
 use Rattle.board_run.proofs.CycleLemmas.{shown_is}
 use Rattle.board_run.proofs.HandLemmas.{stops_after, appends_none}
@@ -127,15 +128,15 @@ module _ {S P : Type 0} (m : Machine S) (laws : Laws m) (w : Wiring) (inputs : L
       map state more ≡ board_step m w inputs (map state parts) t → Suits w seen' → IsOf m w (map state parts) seen' → (stale' ≡ false → AreStill m state parts more) →
       Runs m w inputs state before ss c (t + 1) more seen' stale'
   runs_more t parts more seen seen' stale stale' r long step suits is still = record {
-      begun = omega (arith, r.begun);
-      states_are = step ∙ ap (λ (l : List S). board_step m w inputs l t) r.states_are ∙ sym (next_states t r.begun);
-      fits = subst (Fits m w) (sym step) (fits_after m laws w inputs (levels_of m w (map state parts)) t (map state parts) r.fits);
-      suits = suits;
-      chips_long = ap length is.chips_are ∙ sym (chips_kept m laws w inputs (levels_of m w (map state parts)) t w.chip 0 (map state parts)) ∙ ap (λ (l : List S). length (chip_drives_of m w.chip l)) (sym step);
-      fresh = λ none. still_of m w state parts more seen' long (still none) is;
-      before_is = next_shown t r.begun ∙ ap (λ (l : List S). Some (shown_of m w l)) (sym r.states_are) ∙ ap Some (sym (shown_is m w (map state parts) seen' is))
-          ∙ ap (λ (b : Bool). if b then None else Some (shown seen')) (sym (not_first t));
-    }
+    begun = omega (arith, r.begun);
+    states_are = step ∙ ap (λ (l : List S). board_step m w inputs l t) r.states_are ∙ sym (next_states t r.begun);
+    fits = subst (Fits m w) (sym step) (fits_after m laws w inputs (levels_of m w (map state parts)) t (map state parts) r.fits);
+    suits = suits;
+    chips_long = ap length is.chips_are ∙ sym (chips_kept m laws w inputs (levels_of m w (map state parts)) t w.chip 0 (map state parts)) ∙ ap (λ (l : List S). length (chip_drives_of m w.chip l)) (sym step);
+    fresh = λ none. still_of m w state parts more seen' long (still none) is;
+    before_is = next_shown t r.begun ∙ ap (λ (l : List S). Some (shown_of m w l)) (sym r.states_are) ∙ ap Some (sym (shown_is m w (map state parts) seen' is))
+        ∙ ap (λ (b : Bool). if b then None else Some (shown seen')) (sym (not_first t));
+  }
 
   pub rows_next : (t : ℕ) (parts : List P) (seen : Seen) (stale : Bool) → Runs m w inputs state before ss c t parts seen stale →
       rows m w inputs before ss c (t + 1 - c) ≡ rows m w inputs before ss c (t - c) ++ row_if m w (shown_at t seen) (map state parts) t
@@ -197,13 +198,13 @@ module _ {S P : Type 0} (m : Machine S) (laws : Laws m) (w : Wiring) (inputs : L
       let e : (t + 1 - c) + (n - (t + 1)) ≡ n - c = omega (arith, r.begun) in
       let f = fronts (t + 1 - c) (n - (t + 1)) in
       stops_after stands stopped a b d (rows m w inputs before ss c (t - c)) (row_if m w (shown_at t seen) (map state parts) t) (rows m w inputs before ss c (n - c))
-        (bytes m w inputs ss c (t - c)) (bytes_of m w inputs (map state parts) t) (bytes m w inputs ss c (n - c)) h.appended stops
-        (record {
-          more_rows = f.more_rows;
-          more_bytes = f.more_bytes;
-          whole_rows = ap (λ (l : List Row). l ++ f.more_rows) (sym (rows_next t parts seen stale r)) ∙ f.whole_rows ∙ ap (rows m w inputs before ss c) e;
-          whole_bytes = ap (λ (l : List ℕ). l ++ f.more_bytes) (sym (bytes_next t parts seen stale r)) ∙ f.whole_bytes ∙ ap (bytes m w inputs ss c) e;
-        })
+      (bytes m w inputs ss c (t - c)) (bytes_of m w inputs (map state parts) t) (bytes m w inputs ss c (n - c)) h.appended stops
+      (record {
+        more_rows = f.more_rows;
+        more_bytes = f.more_bytes;
+        whole_rows = ap (λ (l : List Row). l ++ f.more_rows) (sym (rows_next t parts seen stale r)) ∙ f.whole_rows ∙ ap (rows m w inputs before ss c) e;
+        whole_bytes = ap (λ (l : List ℕ). l ++ f.more_bytes) (sym (bytes_next t parts seen stale r)) ∙ f.whole_bytes ∙ ap (bytes m w inputs ss c) e;
+      })
 
 -- woken in one more cycle
 pub woken_more : {P : Type 0} (wakes : P → ℕ) (old now new : List P) (c t : ℕ) → c ≤ t → length now ≡ length old → AreWoken wakes (t - c) old now → AreWoken wakes 1 now new → AreWoken wakes (t + 1 - c) old new
@@ -226,3 +227,36 @@ unfolding rows bytes
 none_handed m w inputs before ss c whole faults stands a is =
     let e : c - c ≡ 0 = omega arith in
     rw e (record { is_whole = is; no_fault = refl; appended = appends_none stands a })
+
+-- a board at cycle 0 of which nothing was read
+pub runs_start : {S P : Type 0} (m : Machine S) (w : Wiring) (inputs : List Input) (state : P → S) (parts : List P) (seen : Seen) → Fits m w (map state parts) → Suits w seen →
+    length seen.chip_drives ≡ length (chip_drives_of m w.chip (map state parts)) → Runs m w inputs state None (map state parts) 0 0 parts seen true
+unfolding states shown_before
+runs_start m w inputs state parts seen fits suits chips = record {
+  begun = omega arith;
+  states_are = refl;
+  fits = fits;
+  suits = suits;
+  chips_long = chips;
+  fresh = λ e. absurd cc;
+  before_is = refl;
+}
+
+-- a board that goes on from where a run left it
+pub runs_here : {S P : Type 0} (m : Machine S) (w : Wiring) (inputs : List Input) (state : P → S) (before : Option Shown) (ss : List S) (c n : ℕ) (parts : List P) (seen : Seen) (stale : Bool) →
+    Runs m w inputs state before ss c n parts seen stale → Runs m w inputs state (shown_at n seen) (map state parts) n n parts seen stale
+unfolding states shown_before
+runs_here m w inputs state before ss c n parts seen stale r =
+    let e : n - n ≡ 0 = omega arith in
+    record {
+      begun = omega arith;
+      states_are = ap (states m w inputs (map state parts) n) (sym e);
+      fits = r.fits;
+      suits = r.suits;
+      chips_long = r.chips_long;
+      fresh = r.fresh;
+      before_is = ap (shown_before m w inputs (shown_at n seen) (map state parts) n) e;
+    }
+
+pub behind_start : (inputs : List Input) → AreBehind inputs 0 0
+behind_start inputs = record { within = omega arith; earlier = λ k x l e. absurd (omega arith); later = λ k x l e. omega arith }

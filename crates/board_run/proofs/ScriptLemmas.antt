@@ -1,12 +1,10 @@
 -- The script values of a cycle stand together.
-use Rattle.std.proofs.Common.{◌≡◌, ◌≢◌, ℕ, zero, suc, ◌+◌, ◌-◌, ◌<◌, ◌≤◌, List, [], ◌∷◌, ◌++◌, length, take, drop, Bool, true, false, Option, None, Some, refl, ap, sym, ◌∙◌, arith, get_or, ◌⊎◌, inl, inr, subst}
+use Rattle.std.proofs.Common.{◌≡◌, ◌≢◌, ℕ, zero, suc, ◌+◌, ◌-◌, ◌<◌, ◌≤◌, List, [], ◌∷◌, ◌++◌, length, take, drop, Bool, false, Option, None, Some, refl, ap, sym, ◌∙◌, arith, get_or, inl, inr}
 use Rattle.std.specs.Prelude.{slice_get, ◌==◌, ◌&&◌, if◌then◌else◌}
 use Rattle.std.proofs.lemmas.Option.{slice_get_within, slice_get-get_or}
 use Rattle.std.proofs.lemmas.Bool.Decides.{eqb_tells}
 use Rattle.sim_base.specs.declared.wiring.Input.{Input}
 use Rattle.board_model.specs.Board.{input_at, input_from}
-use Rattle.board_model.specs.Fits.{AreInputs}
-use Rattle.board_model.proofs.Lists.{some_same}
 use Rattle.board_run.specs.Upcoming.{AreBehind}
 
 -- the end of a cycle's values is where one of a later cycle stands
@@ -17,11 +15,11 @@ behind_next inputs from i t d b on within order earlier other = record {
   within = omega arith;
   earlier = earlier;
   later = λ k x l e.
-    let here = slice_get-get_or inputs i d within in
-    let at : t ≤ (get_or inputs i d).cycle = b.later i (get_or inputs i d) on here in
-    let le : (get_or inputs i d).cycle ≤ x.cycle = order i k (get_or inputs i d) x l here e in
-    let ne : (get_or inputs i d).cycle ≢ t = other in
-    omega (arith, at, le, ne);
+      let here = slice_get-get_or inputs i d within in
+      let at : t ≤ (get_or inputs i d).cycle = b.later i (get_or inputs i d) on here in
+      let le : (get_or inputs i d).cycle ≤ x.cycle = order i k (get_or inputs i d) x l here e in
+      let ne : (get_or inputs i d).cycle ≢ t = other in
+      omega (arith, at, le, ne);
 }
 
 -- or the end of the script
@@ -72,15 +70,15 @@ values_now inputs i j t k order before after =
     let rest = drop (j - i) (drop i inputs) in
     let whole : take i inputs ++ (now ++ rest) ≡ inputs = ap (λ (l : List Input). take i inputs ++ l) (take_drop (j - i) (drop i inputs)) ∙ take_drop i inputs in
     let early : input_from None (take i inputs) t k ≡ None = others_leave (take i inputs) None t k (λ n x e.
-        let at = get_take i inputs n x e in
-        let less : x.cycle < t = before.earlier n x at.0 at.1 in
-        (λ same. absurd (omega (arith, less, same)))) in
+    let at = get_take i inputs n x e in
+    let less : x.cycle < t = before.earlier n x at.0 at.1 in
+    (λ same. absurd (omega (arith, less, same)))) in
     let late : input_from (input_from None now t k) rest t k ≡ input_from None now t k = others_leave rest (input_from None now t k) t k (λ n x e.
-        let at : slice_get inputs (i + (j - i + n)) ≡ Some x = sym (get_drop i inputs (j - i + n)) ∙ sym (get_drop (j - i) (drop i inputs) n) ∙ e in
-        let on : j ≤ i + (j - i + n) = omega arith in
-        let more : t + 1 ≤ x.cycle = after.later (i + (j - i + n)) x on at in
-        (λ same. absurd (omega (arith, more, same)))) in
+    let at : slice_get inputs (i + (j - i + n)) ≡ Some x = sym (get_drop i inputs (j - i + n)) ∙ sym (get_drop (j - i) (drop i inputs) n) ∙ e in
+    let on : j ≤ i + (j - i + n) = omega arith in
+    let more : t + 1 ≤ x.cycle = after.later (i + (j - i + n)) x on at in
+    (λ same. absurd (omega (arith, more, same)))) in
     sym (sym (ap (λ (l : List Input). input_from None l t k) whole)
-        ∙ in_parts (take i inputs) (now ++ rest) None t k
-        ∙ ap (λ (f : Option ℕ). input_from f (now ++ rest) t k) early
-        ∙ in_parts now rest None t k ∙ late)
+    ∙ in_parts (take i inputs) (now ++ rest) None t k
+    ∙ ap (λ (f : Option ℕ). input_from f (now ++ rest) t k) early
+    ∙ in_parts now rest None t k ∙ late)

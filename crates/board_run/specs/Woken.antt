@@ -1,4 +1,4 @@
--- Parts that are woken in every cycle. No public clause cites this.
+-- Parts that are woken in every cycle.
 use Rattle.std.specs.Prelude.{◌≡◌, ℕ, ◌+◌, ◌≤◌, List, Some, slice_get}
 use Rattle.part_law.specs.Machine.{Machine}
 

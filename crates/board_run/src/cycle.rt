@@ -37,11 +37,22 @@ fn refresh<P: Part>(stale: bool, parts: &[P], wiring: &Wiring, reading: &mut Rea
     ensures of { IsOf P.machine wiring.now (map P.state parts.now) reading.new }
     ensures same { result ≡ same_shown (shown reading.old) (shown_of P.machine wiring.now (map P.state parts.now)) }
 {
-    if stale { reading.read(parts, wiring) } else { true }
+    if stale {
+        reading.read(parts, wiring)
+    } else {
+        true
+    }
 }
 
 /// Hands out the row of a cycle, where it has one.
-fn show_cycle<P: Part, W: Watcher>(stale: bool, parts: &[P], wiring: &Wiring, cycle: u32, reading: &mut Reading, out: &mut W) -> WriteEnd
+fn show_cycle<P: Part, W: Watcher>(
+    stale: bool,
+    parts: &[P],
+    wiring: &Wiring,
+    cycle: u32,
+    reading: &mut Reading,
+    out: &mut W,
+) -> WriteEnd
     requires fits { Fits P.machine wiring.now (map P.state parts.now) }
     requires suits { Suits wiring.now reading.old }
     requires chips { length reading.old.chip_drives ≡ length (chip_drives_of P.machine wiring.now.chip (map P.state parts.now)) }
@@ -95,7 +106,15 @@ fn turn_cycle<P: Part, W: Watcher, L: Ledger>(
     ensures place { W.place out.new ≡ W.place out.old }
 {
     let end = end_of_cycle(inputs, input, cycle);
-    let stale = wake_all(parts, wiring, &reading.own, &inputs[input..end], answers, cycle, steps);
+    let stale = wake_all(
+        parts,
+        wiring,
+        &reading.own,
+        &inputs[input..end],
+        answers,
+        cycle,
+        steps,
+    );
     match hand_bytes(answers, out) {
         WriteEnd::Ok => Some(Next { input: end, stale }),
         WriteEnd::Failed => None,
@@ -139,12 +158,14 @@ pub(crate) fn step_cycle<P: Part, W: Watcher, L: Ledger>(
     ensures last { (x : Next) → result ≡ Some x → ForSome (W.last out.new) (λ u. u < cycle + 1) }
     ensures failed { result ≡ None → Rose (W.faults out.old) (W.faults out.new)
         × StopsWithin (W.stands out.old) (W.stopped out.new)
-            (row_if P.machine wiring.now (shown_at cycle reading.old) (map P.state parts.old) cycle)
-            (bytes_of P.machine wiring.now inputs.now (map P.state parts.old) cycle) }
+        (row_if P.machine wiring.now (shown_at cycle reading.old) (map P.state parts.old) cycle)
+        (bytes_of P.machine wiring.now inputs.now (map P.state parts.old) cycle) }
     ensures place { W.place out.new ≡ W.place out.old }
 {
     match show_cycle(next.stale, parts, wiring, cycle, reading, out) {
-        WriteEnd::Ok => turn_cycle(parts, wiring, inputs, next.input, cycle, reading, answers, out, steps),
+        WriteEnd::Ok => turn_cycle(
+            parts, wiring, inputs, next.input, cycle, reading, answers, out, steps,
+        ),
         WriteEnd::Failed => None,
     }
 }

@@ -41,7 +41,13 @@ pub(crate) fn hand_bytes<W: Watcher>(answers: &[Option<u8>], out: &mut W) -> Wri
 }
 
 /// Hands out the row of a cycle, where it has one.
-pub(crate) fn hand_row<W: Watcher>(there: bool, t: u32, levels: &[Level], drives: &[Drive], out: &mut W) -> WriteEnd
+pub(crate) fn hand_row<W: Watcher>(
+    there: bool,
+    t: u32,
+    levels: &[Level],
+    drives: &[Drive],
+    out: &mut W,
+) -> WriteEnd
     requires whole { W.whole out.old ≡ true }
     requires later { ForSome (W.last out.old) (λ u. u < t) }
     ensures ok { result ≡ WriteEnd.Ok → Handed W.whole W.faults W.stands out.old out.new
@@ -49,7 +55,7 @@ pub(crate) fn hand_row<W: Watcher>(there: bool, t: u32, levels: &[Level], drives
     ensures last { result ≡ WriteEnd.Ok → ForSome (W.last out.new) (λ u. u < t + 1) }
     ensures failed { result ≡ WriteEnd.Failed → Rose (W.faults out.old) (W.faults out.new)
         × Appends (W.stands out.old) (W.stopped out.new)
-            (if there then record { cycle = t; levels = levels.now; drives = drives.now } ∷ [] else []) [] }
+        (if there then record { cycle = t; levels = levels.now; drives = drives.now } ∷ [] else []) [] }
     ensures place { W.place out.new ≡ W.place out.old }
 {
     if there {

@@ -3,10 +3,14 @@
 //! Only `Board::new` takes memory; a run fails only where writing does.
 #![tactic(auto)]
 
+mod board;
 mod cycle;
 mod gather;
 mod hand;
 mod reading;
 mod run;
 mod script;
+mod start;
 mod wake;
+
+pub use board::{Board, RunEnd};

@@ -5,7 +5,9 @@ ghost use Rattle.board_model.specs.Rows.{chip_drives_of, shown_of, same_shown};
 ghost use Rattle.board_model.specs.Fits.{Fits};
 ghost use Rattle.board_run.specs.Seen.{Seen, Suits, IsOf, shown};
 
-use crate::gather::{keep_drives, keep_levels, put_all_contacts, put_all_drives, put_chip_drives, put_levels};
+use crate::gather::{
+    keep_drives, keep_levels, put_all_contacts, put_all_drives, put_chip_drives, put_levels,
+};
 use net_resolve::Nets;
 use part_law::Part;
 use sim_base::{Drive, Level, Wiring};

@@ -12,7 +12,14 @@ use std::sync::ledger::Ledger;
 
 /// Wakes part i on the levels of its pins, which is one step; answers its byte, and whether a drive or
 /// a contact may have changed.
-fn wake_one<P: Part, L: Ledger>(part: &mut P, i: usize, own: &[Level], given: &[Input], cycle: u32, steps: &mut Steps<L>) -> (Option<u8>, bool)
+fn wake_one<P: Part, L: Ledger>(
+    part: &mut P,
+    i: usize,
+    own: &[Level],
+    given: &[Input],
+    cycle: u32,
+    steps: &mut Steps<L>,
+) -> (Option<u8>, bool)
     requires now { P.now part.old ≡ cycle }
     requires count { P.wake_count part.old ≤ cycle }
     requires end { cycle < 160000000 }
@@ -58,7 +65,14 @@ pub(crate) fn wake_all<P: Part, L: Ledger>(
     for i in 0..parts.len() {
         let first = wiring.first_pin.as_slice()[i] as usize;
         let pins = parts[i].pins() as usize;
-        let (byte, touched) = wake_one(&mut parts[i], i, &own[first..first + pins], given, cycle, steps);
+        let (byte, touched) = wake_one(
+            &mut parts[i],
+            i,
+            &own[first..first + pins],
+            given,
+            cycle,
+            steps,
+        );
         answers[i] = byte;
         changed = changed | touched;
     }

@@ -1,13 +1,13 @@
 -- Areas: nets without a strong value that contacts and resistors connect.
-use Rattle.std.proofs.Common.{◌≡◌, ℕ, zero, suc, ◌<◌, List, [], ◌∷◌, length, map, Bool, true, false, not, refl, ap, sym, ◌∙◌, arith, ◌⊎◌, inl, inr, subst, Some, eq-eqb}
+use Rattle.std.proofs.Common.{◌≡◌, ℕ, ◌<◌, List, length, map, Bool, true, not, refl, ap, sym, ◌∙◌, arith, inl, inr, subst, Some, eq-eqb}
 use Rattle.std.proofs.lemmas.Bool.{eqb-true}
 use Rattle.std.proofs.lemmas.Bool.Decides.{nat_tests}
 use Rattle.std.specs.Prelude.{◌==◌, ◌&&◌, ◌||◌, slice_get, slice_index, nat_lt}
-use Rattle.std.specs.List.{zip, list_any}
+use Rattle.std.specs.List.{zip}
 use Rattle.sim_base.specs.declared.signal.Drive.{Drive}
 use Rattle.sim_base.specs.declared.signal.Level.{Level}
 use Rattle.sim_base.specs.declared.signal.Level.TheVariants as levels
-use Rattle.board_model.specs.Walks.{Walk, here, further, leads}
+use Rattle.board_model.specs.Walks.{Walk, here, further}
 use Rattle.board_model.specs.Nets.{joins, joined_by}
 use Rattle.board_model.specs.Resolve.{contact_joins, is_driven, passes, reaches}
 use Rattle.board_model.proofs.WalkLemmas.{walk_join, walk_back, walk_sound, walk_complete}
@@ -15,8 +15,8 @@ use Rattle.board_model.proofs.Lists.{some_same, some_map}
 use Rattle.net_resolve.specs.Forest.{AreLabels, AreGroups, root_of, same_or, Joins}
 use Rattle.net_resolve.specs.Sums.{is_loose, sum_at, added, strong_level}
 use Rattle.net_resolve.proofs.ForestLemmas.{label_root}
-use Rattle.net_resolve.proofs.ContactLemmas.{or_cases, or_left, or_right, and_both, and_first, joins_cases, contact_of, contact_is, contact_bounds, same_or_swap}
-use Rattle.net_resolve.proofs.ReachLemmas.{both_ways, not_false, any_at, any_some, one_label, same_label, group_walk, loose_is, loose_group, contact_passes}
+use Rattle.net_resolve.proofs.ContactLemmas.{or_cases, or_right, and_both, and_first, joins_cases, contact_of, contact_is, contact_bounds, same_or_swap}
+use Rattle.net_resolve.proofs.ReachLemmas.{both_ways, any_at, any_some, one_label, group_walk, loose_is, loose_group, contact_passes}
 
 -- What holds once the strong drives are summed by group.
 pub record Grouped (net_of : List ℕ) (contacts resistors : List (ℕ × ℕ)) (closed : List Bool) (ds : List Drive) (groups : List ℕ) (strong : List Level) : Type 0 where
@@ -105,10 +105,13 @@ module _ (net_of : List ℕ) (contacts resistors : List (ℕ × ℕ)) (closed : 
             (mn, free, walk_join step n j m before.2 way)
         | inr r ↦
             let b = bridge_of groups strong resistors j m r in
-            let at = joined_within j m b.0 in
-            (at.1, b.2, further j m before.2
-              (and_both (not (is_driven count net_of contacts resistors closed ds j)) (contact_joins contacts closed j m || joined_by resistors j m)
-                (sym (loose_here j before.0) ∙ before.1) (or_right (contact_joins contacts closed j m) (joined_by resistors j m) b.0)))
+            let at = joined_within j m b.0 in (
+              at.1,
+              b.2,
+              further j m before.2
+                  (and_both (not (is_driven count net_of contacts resistors closed ds j)) (contact_joins contacts closed j m || joined_by resistors j m)
+                  (sym (loose_here j before.0) ∙ before.1) (or_right (contact_joins contacts closed j m) (joined_by resistors j m) b.0)),
+            )
       ]
 
   -- the areas that the bridges make
@@ -135,13 +138,13 @@ module _ (net_of : List ℕ) (contacts resistors : List (ℕ × ℕ)) (closed : 
         (slice_index areas m == slice_index areas n) ≡ reaches (length groups) net_of contacts resistors closed ds n m
     area_is n m ln lm free_n free_m = both_ways (slice_index areas m == slice_index areas n) (reaches (length groups) net_of contacts resistors closed ds n m)
         (λ e.
-          let step = passes (length groups) net_of contacts resistors closed ds in
-          let tree = same_or groups (contact_joins resistors (bridges_of groups strong resistors)) in
-          let same : root_of areas m ≡ root_of areas n = area_here m lm ∙ eqb-true (slice_index areas m) (slice_index areas n) e ∙ sym (area_here n ln) in
-          let there = bridge_walk n (root_of areas n) ln free_n (j.walks n ln) in
-          let back : Walk tree (root_of areas n) m = subst (λ (z : ℕ). Walk tree z m) same (walk_back tree (same_or_swap groups resistors (bridges_of groups strong resistors)) m (root_of areas m) (j.walks m lm)) in
-          let on = bridge_walk (root_of areas n) m there.0 there.1 back in
-          walk_complete (length groups) step passes_within n m ln (walk_join step n (root_of areas n) m there.2 on.2))
+        let step = passes (length groups) net_of contacts resistors closed ds in
+        let tree = same_or groups (contact_joins resistors (bridges_of groups strong resistors)) in
+        let same : root_of areas m ≡ root_of areas n = area_here m lm ∙ eqb-true (slice_index areas m) (slice_index areas n) e ∙ sym (area_here n ln) in
+        let there = bridge_walk n (root_of areas n) ln free_n (j.walks n ln) in
+        let back : Walk tree (root_of areas n) m = subst (λ (z : ℕ). Walk tree z m) same (walk_back tree (same_or_swap groups resistors (bridges_of groups strong resistors)) m (root_of areas m) (j.walks m lm)) in
+        let on = bridge_walk (root_of areas n) m there.0 there.1 back in
+        walk_complete (length groups) step passes_within n m ln (walk_join step n (root_of areas n) m there.2 on.2))
         (λ h.
-          let w = walk_sound (length groups) (passes (length groups) net_of contacts resistors closed ds) (length groups) n m h in
-          eq-eqb (slice_index areas m) (slice_index areas n) (sym (sym (area_here n ln) ∙ area_same n m ln free_n free_m w ∙ area_here m lm)))
+        let w = walk_sound (length groups) (passes (length groups) net_of contacts resistors closed ds) (length groups) n m h in
+        eq-eqb (slice_index areas m) (slice_index areas n) (sym (sym (area_here n ln) ∙ area_same n m ln free_n free_m w ∙ area_here m lm)))

@@ -1,12 +1,11 @@
 -- Pairs that join, some of them chosen.
-use Rattle.std.proofs.Common.{◌≡◌, ◌≢◌, ℕ, zero, suc, ◌+◌, ◌<◌, ◌≤◌, List, [], ◌∷◌, length, map, Bool, true, false, not, refl, ap, sym, ◌∙◌, arith, ◌⊎◌, inl, inr, subst, Option, None, Some, eq-eqb, min, get_or}
+use Rattle.std.proofs.Common.{◌≡◌, ℕ, zero, suc, ◌+◌, ◌<◌, ◌≤◌, List, [], ◌∷◌, length, Bool, true, false, refl, ap, sym, ◌∙◌, arith, ◌⊎◌, inl, inr, subst, Some, eq-eqb, min}
 use Rattle.std.proofs.lemmas.Bool.{eqb-true}
 use Rattle.std.proofs.lemmas.Bool.Decides.{eqb_tells, nat_tests}
 use Rattle.std.proofs.lemmas.Option.{slice_get_within}
-use Rattle.std.specs.Prelude.{◌==◌, ◌&&◌, ◌||◌, if◌then◌else◌, slice_get, slice_set, slice_index, nat_lt}
-use Rattle.std.specs.List.{zip, list_any}
+use Rattle.std.specs.Prelude.{◌==◌, ◌&&◌, ◌||◌, slice_get, slice_index, nat_lt}
 use Rattle.board_model.specs.Walks.{Walk, here, further}
-use Rattle.board_model.specs.Nets.{joins, joined_by}
+use Rattle.board_model.specs.Nets.{joins}
 use Rattle.board_model.specs.Resolve.{contact_joins}
 use Rattle.board_model.proofs.WalkLemmas.{walk_join, walk_back}
 use Rattle.board_model.proofs.Lists.{some_same, lt_or_eq}
@@ -33,18 +32,18 @@ and_first false b h = absurd cc
 -- what a pair that joins two names
 pub joins_cases : (c : ℕ × ℕ) (x y : ℕ) → joins c x y ≡ true → ((c.0 ≡ x) × (c.1 ≡ y)) ⊎ ((c.0 ≡ y) × (c.1 ≡ x))
 joins_cases c x y h = elim (or_cases ((c.0 == x) && (c.1 == y)) ((c.1 == x) && (c.0 == y)) h) [
-    | inl l ↦ let b = and_first (c.0 == x) (c.1 == y) l in inl (eqb-true c.0 x b.0, eqb-true c.1 y b.1)
-    | inr r ↦ let b = and_first (c.1 == x) (c.0 == y) r in inr (eqb-true c.0 y b.1, eqb-true c.1 x b.0)
-  ]
+  | inl l ↦ let b = and_first (c.0 == x) (c.1 == y) l in inl (eqb-true c.0 x b.0, eqb-true c.1 y b.1)
+  | inr r ↦ let b = and_first (c.1 == x) (c.0 == y) r in inr (eqb-true c.0 y b.1, eqb-true c.1 x b.0)
+]
 
 pub joins_is : (c : ℕ × ℕ) → joins c c.0 c.1 ≡ true
 joins_is c = or_left ((c.0 == c.0) && (c.1 == c.1)) ((c.1 == c.0) && (c.0 == c.1)) (and_both (c.0 == c.0) (c.1 == c.1) (eq-eqb c.0 c.0 refl) (eq-eqb c.1 c.1 refl))
 
 pub joins_swap : (c : ℕ × ℕ) (x y : ℕ) → joins c x y ≡ true → joins c y x ≡ true
 joins_swap c x y h = elim (or_cases ((c.0 == x) && (c.1 == y)) ((c.1 == x) && (c.0 == y)) h) [
-    | inl l ↦ let b = and_first (c.0 == x) (c.1 == y) l in or_right ((c.0 == y) && (c.1 == x)) ((c.1 == y) && (c.0 == x)) (and_both (c.1 == y) (c.0 == x) b.1 b.0)
-    | inr r ↦ let b = and_first (c.1 == x) (c.0 == y) r in or_left ((c.0 == y) && (c.1 == x)) ((c.1 == y) && (c.0 == x)) (and_both (c.0 == y) (c.1 == x) b.1 b.0)
-  ]
+  | inl l ↦ let b = and_first (c.0 == x) (c.1 == y) l in or_right ((c.0 == y) && (c.1 == x)) ((c.1 == y) && (c.0 == x)) (and_both (c.1 == y) (c.0 == x) b.1 b.0)
+  | inr r ↦ let b = and_first (c.1 == x) (c.0 == y) r in or_left ((c.0 == y) && (c.1 == x)) ((c.1 == y) && (c.0 == x)) (and_both (c.0 == y) (c.1 == x) b.1 b.0)
+]
 
 -- a step over chosen pairs is over one of them
 pub contact_of : (cs : List (ℕ × ℕ)) (chosen : List Bool) (x y : ℕ) → contact_joins cs chosen x y ≡ true →
@@ -52,9 +51,9 @@ pub contact_of : (cs : List (ℕ × ℕ)) (chosen : List Bool) (x y : ℕ) → c
 contact_of [] chosen x y h = absurd cc
 contact_of (c ∷ cs) [] x y h = absurd cc
 contact_of (c ∷ cs) (b ∷ bs) x y h = elim (or_cases (b && joins c x y) (contact_joins cs bs x y) h) [
-    | inl l ↦ let both = and_first b (joins c x y) l in (0, c, refl, ap Some both.0, both.1)
-    | inr r ↦ let s = contact_of cs bs x y r in (suc s.0, s.1, s.2, s.3, s.4)
-  ]
+  | inl l ↦ let both = and_first b (joins c x y) l in (0, c, refl, ap Some both.0, both.1)
+  | inr r ↦ let s = contact_of cs bs x y r in (suc s.0, s.1, s.2, s.3, s.4)
+]
 
 pub contact_is : (cs : List (ℕ × ℕ)) (chosen : List Bool) (k : ℕ) (c : ℕ × ℕ) (x y : ℕ) → slice_get cs k ≡ Some c → slice_get chosen k ≡ Some true → joins c x y ≡ true → contact_joins cs chosen x y ≡ true
 contact_is [] chosen k c x y ec eb j = absurd cc
@@ -72,14 +71,14 @@ contact_swap cs chosen x y h = let s = contact_of cs chosen x y h in contact_is 
 -- steps within old trees or over chosen pairs turn round
 pub same_or_swap : (old : List ℕ) (cs : List (ℕ × ℕ)) (chosen : List Bool) (x y : ℕ) → same_or old (contact_joins cs chosen) x y ≡ true → same_or old (contact_joins cs chosen) y x ≡ true
 same_or_swap old cs chosen x y h = elim (or_cases (nat_lt x (length old) && nat_lt y (length old) && (root_of old x == root_of old y)) (contact_joins cs chosen x y) h) [
-    | inl l ↦
-        let a = and_first (nat_lt x (length old) && nat_lt y (length old)) (root_of old x == root_of old y) l in
-        let b = and_first (nat_lt x (length old)) (nat_lt y (length old)) a.0 in
-        let e : (root_of old y == root_of old x) ≡ true = eq-eqb (root_of old y) (root_of old x) (sym (eqb-true (root_of old x) (root_of old y) a.1)) in
-        or_left (nat_lt y (length old) && nat_lt x (length old) && (root_of old y == root_of old x)) (contact_joins cs chosen y x)
-        (and_both (nat_lt y (length old) && nat_lt x (length old)) (root_of old y == root_of old x) (and_both (nat_lt y (length old)) (nat_lt x (length old)) b.1 b.0) e)
-    | inr r ↦ or_right (nat_lt y (length old) && nat_lt x (length old) && (root_of old y == root_of old x)) (contact_joins cs chosen y x) (contact_swap cs chosen x y r)
-  ]
+  | inl l ↦
+      let a = and_first (nat_lt x (length old) && nat_lt y (length old)) (root_of old x == root_of old y) l in
+      let b = and_first (nat_lt x (length old)) (nat_lt y (length old)) a.0 in
+      let e : (root_of old y == root_of old x) ≡ true = eq-eqb (root_of old y) (root_of old x) (sym (eqb-true (root_of old x) (root_of old y) a.1)) in
+      or_left (nat_lt y (length old) && nat_lt x (length old) && (root_of old y == root_of old x)) (contact_joins cs chosen y x)
+      (and_both (nat_lt y (length old) && nat_lt x (length old)) (root_of old y == root_of old x) (and_both (nat_lt y (length old)) (nat_lt x (length old)) b.1 b.0) e)
+  | inr r ↦ or_right (nat_lt y (length old) && nat_lt x (length old) && (root_of old y == root_of old x)) (contact_joins cs chosen y x) (contact_swap cs chosen x y r)
+]
 
 -- one joins trees by one chosen pair c
 module _ (old p new : List ℕ) (cs : List (ℕ × ℕ)) (chosen : List Bool) (i : ℕ) (c : ℕ × ℕ)
@@ -99,16 +98,16 @@ module _ (old p new : List ℕ) (cs : List (ℕ × ℕ)) (chosen : List Bool) (i
       let back = walk_back step (same_or_swap old cs chosen) a b w in
       elim (eqb_tells r a) [
         | inl ea ↦ rw ea.0 (elim (le_or_lt a b) [
-            | inl l ↦ let m : min a b ≡ a = omega arith in rw m (subst (λ (z : ℕ). Walk step z a) (sym ea.1) here)
-            | inr g ↦ let m : min a b ≡ b = omega arith in rw m (subst (λ (z : ℕ). Walk step z b) (sym ea.1) w)
-          ])
+          | inl l ↦ let m : min a b ≡ a = omega arith in rw m (subst (λ (z : ℕ). Walk step z a) (sym ea.1) here)
+          | inr g ↦ let m : min a b ≡ b = omega arith in rw m (subst (λ (z : ℕ). Walk step z b) (sym ea.1) w)
+        ])
         | inr na ↦ elim (eqb_tells r b) [
-            | inl eb ↦ rw na.0 (rw eb.0 (elim (le_or_lt a b) [
-                | inl l ↦ let m : min a b ≡ a = omega arith in rw m (subst (λ (z : ℕ). Walk step z a) (sym eb.1) back)
-                | inr g ↦ let m : min a b ≡ b = omega arith in rw m (subst (λ (z : ℕ). Walk step z b) (sym eb.1) here)
-              ]))
-            | inr nb ↦ rw na.0 (rw nb.0 here)
-          ]
+          | inl eb ↦ rw na.0 (rw eb.0 (elim (le_or_lt a b) [
+            | inl l ↦ let m : min a b ≡ a = omega arith in rw m (subst (λ (z : ℕ). Walk step z a) (sym eb.1) back)
+            | inr g ↦ let m : min a b ≡ b = omega arith in rw m (subst (λ (z : ℕ). Walk step z b) (sym eb.1) here)
+          ]))
+          | inr nb ↦ rw na.0 (rw nb.0 here)
+        ]
       ]
     where
       le_or_lt : (m n : ℕ) → (m ≤ n) ⊎ (n < m)
@@ -132,22 +131,22 @@ module _ (old p new : List ℕ) (cs : List (ℕ × ℕ)) (chosen : List Bool) (i
   pub joined_more : ((k : ℕ) (d : ℕ × ℕ) → k < i → slice_get cs k ≡ Some d → slice_get chosen k ≡ Some true → root_of p d.0 ≡ root_of p d.1) →
       (k : ℕ) (d : ℕ × ℕ) → k < i + 1 → slice_get cs k ≡ Some d → slice_get chosen k ≡ Some true → root_of new d.0 ≡ root_of new d.1
   joined_more before k d l ed eb = elim (lt_or_eq k i l) [
-      | inl less ↦ keeps_more d.0 d.1 (before k d less ed eb)
-      | inr same ↦
-          let e : c ≡ d = some_same (sym at ∙ subst (λ (j : ℕ). slice_get cs j ≡ Some d) same ed) in
-          subst (λ (z : ℕ × ℕ). root_of new z.0 ≡ root_of new z.1) e (roots c.0 ∙ here_joined (root_of p c.0) (root_of p c.1) ∙ sym (roots c.1))
-    ]
+    | inl less ↦ keeps_more d.0 d.1 (before k d less ed eb)
+    | inr same ↦
+        let e : c ≡ d = some_same (sym at ∙ subst (λ (j : ℕ). slice_get cs j ≡ Some d) same ed) in
+        subst (λ (z : ℕ × ℕ). root_of new z.0 ≡ root_of new z.1) e (roots c.0 ∙ here_joined (root_of p c.0) (root_of p c.1) ∙ sym (roots c.1))
+  ]
 
 -- a pair that is not chosen joins nothing
 pub joined_less : (p : List ℕ) (cs : List (ℕ × ℕ)) (chosen : List Bool) (i : ℕ) → slice_get chosen i ≡ Some false →
     ((k : ℕ) (d : ℕ × ℕ) → k < i → slice_get cs k ≡ Some d → slice_get chosen k ≡ Some true → root_of p d.0 ≡ root_of p d.1) →
     (k : ℕ) (d : ℕ × ℕ) → k < i + 1 → slice_get cs k ≡ Some d → slice_get chosen k ≡ Some true → root_of p d.0 ≡ root_of p d.1
 joined_less p cs chosen i off before k d l ed eb = elim (lt_or_eq k i l) [
-    | inl less ↦ before k d less ed eb
-    | inr same ↦
-        let e : slice_get chosen i ≡ Some true = subst (λ (j : ℕ). slice_get chosen j ≡ Some true) same eb in
-        absurd cc
-  ]
+  | inl less ↦ before k d less ed eb
+  | inr same ↦
+      let e : slice_get chosen i ≡ Some true = subst (λ (j : ℕ). slice_get chosen j ≡ Some true) same eb in
+      absurd cc
+]
 
 -- all chosen pairs are joined
 pub all_joined : (p : List ℕ) (cs : List (ℕ × ℕ)) (chosen : List Bool) →
@@ -170,8 +169,8 @@ walks_start old forest step x l =
     let in_x : nat_lt x (length old) ≡ true = lt_test x (length old) l in
     let in_r : nat_lt r (length old) ≡ true = lt_test r (length old) lower in
     let pass : same_or old step x r ≡ true =
-        or_left (nat_lt x (length old) && nat_lt r (length old) && (root_of old x == root_of old r)) (step x r)
-        (and_both (nat_lt x (length old) && nat_lt r (length old)) (root_of old x == root_of old r) (and_both (nat_lt x (length old)) (nat_lt r (length old)) in_x in_r) (eq-eqb (root_of old x) (root_of old r) (sym own))) in
+    or_left (nat_lt x (length old) && nat_lt r (length old) && (root_of old x == root_of old r)) (step x r)
+    (and_both (nat_lt x (length old) && nat_lt r (length old)) (root_of old x == root_of old r) (and_both (nat_lt x (length old)) (nat_lt r (length old)) in_x in_r) (eq-eqb (root_of old x) (root_of old r) (sym own))) in
     further x r here pass
   where
     lt_test : (a b : ℕ) → a < b → nat_lt a b ≡ true

@@ -1,5 +1,5 @@
 -- Roots of trees that are kept by parents.
-use Rattle.std.proofs.Common.{◌≡◌, ◌≢◌, ℕ, zero, suc, ◌+◌, ◌-◌, ◌<◌, ◌≤◌, List, length, Bool, true, false, ◌||◌, ◌⊎◌, inl, inr, refl, ap, sym, ◌∙◌, subst, arith, eq-eqb, min, get_or, get_or-set_other, get_or-set_same, set, cond}
+use Rattle.std.proofs.Common.{◌≡◌, ◌≢◌, ℕ, zero, suc, ◌+◌, ◌-◌, ◌<◌, ◌≤◌, List, length, true, false, ◌⊎◌, inl, inr, refl, ap, sym, ◌∙◌, subst, arith, eq-eqb, min, get_or, get_or-set_other, get_or-set_same, set}
 use Rattle.std.proofs.lemmas.Bool.Decides.{eqb_tells}
 use Rattle.std.specs.Prelude.{◌==◌, if◌then◌else◌, slice_index, slice_set}
 use Rattle.net_resolve.specs.Forest.{IsForest, AreLabels, ancestor, root_of, root_joined}
@@ -11,12 +11,12 @@ module _ (p : List ℕ) (forest : IsForest p) where
   unfolding ancestor
   settles zero x = inr (omega arith)
   settles (suc k) x = elim (settles k x) [
-      | inl e ↦ inl (ap (slice_index p) e)
-      | inr low ↦ elim (eqb_tells (slice_index p (ancestor p k x)) (ancestor p k x)) [
-          | inl e ↦ inl (ap (slice_index p) e.1)
-          | inr ne ↦ inr (omega (arith, low, ne.1, forest (ancestor p k x)))
-        ]
+    | inl e ↦ inl (ap (slice_index p) e)
+    | inr low ↦ elim (eqb_tells (slice_index p (ancestor p k x)) (ancestor p k x)) [
+      | inl e ↦ inl (ap (slice_index p) e.1)
+      | inr ne ↦ inr (omega (arith, low, ne.1, forest (ancestor p k x)))
     ]
+  ]
 
   -- a place that is its own parent is its own root
   pub own_root : (x : ℕ) → slice_index p x ≡ x → root_of p x ≡ x
@@ -30,9 +30,9 @@ module _ (p : List ℕ) (forest : IsForest p) where
   pub root_is_own : (x : ℕ) → slice_index p (root_of p x) ≡ root_of p x
   unfolding root_of
   root_is_own x = elim (settles x x) [
-      | inl e ↦ e
-      | inr low ↦ let z : ancestor p x x ≡ 0 = omega arith in rw z (omega (arith, forest 0))
-    ]
+    | inl e ↦ e
+    | inr low ↦ let z : ancestor p x x ≡ 0 = omega arith in rw z (omega (arith, forest 0))
+  ]
 
   pub root_below : (x : ℕ) → root_of p x ≤ x
   unfolding root_of ancestor
@@ -76,9 +76,9 @@ module _ (p : List ℕ) (forest : IsForest p) where
 
     pub hung_forest : IsForest (slice_set p hi lo)
     hung_forest x = elim (eqb_tells x hi) [
-        | inl e ↦ subst (λ (y : ℕ). slice_index (slice_set p hi lo) y ≤ y) (sym e.1) (omega (arith, hung_top))
-        | inr ne ↦ omega (arith, hung_other x ne.1, forest x)
-      ]
+      | inl e ↦ subst (λ (y : ℕ). slice_index (slice_set p hi lo) y ≤ y) (sym e.1) (omega (arith, hung_top))
+      | inr ne ↦ omega (arith, hung_other x ne.1, forest x)
+    ]
 
 -- the roots after a tree was hung below another
 module _ (p : List ℕ) (forest : IsForest p) (hi lo : ℕ) (within : hi < length p) (order : lo ≤ hi) (top : slice_index p hi ≡ hi) (low : slice_index p lo ≡ lo) where
@@ -87,9 +87,9 @@ module _ (p : List ℕ) (forest : IsForest p) (hi lo : ℕ) (within : hi < lengt
 
   low_stays : slice_index (slice_set p hi lo) lo ≡ lo
   low_stays = elim (eqb_tells lo hi) [
-      | inl e ↦ subst (λ (y : ℕ). slice_index (slice_set p hi lo) y ≡ lo) (sym e.1) (hung_top p forest hi lo within order top low)
-      | inr ne ↦ hung_other p forest hi lo within order top low lo ne.1 ∙ low
-    ]
+    | inl e ↦ subst (λ (y : ℕ). slice_index (slice_set p hi lo) y ≡ lo) (sym e.1) (hung_top p forest hi lo within order top low)
+    | inr ne ↦ hung_other p forest hi lo within order top low lo ne.1 ∙ low
+  ]
 
   hung_root : root_of (slice_set p hi lo) hi ≡ lo
   hung_root =
@@ -124,12 +124,12 @@ module _ (p : List ℕ) (forest : IsForest p) (hi lo : ℕ) (within : hi < lengt
   pub hung_roots : (n x : ℕ) → x < n → root_of (slice_set p hi lo) x ≡ (if root_of p x == hi then lo else root_of p x)
   hung_roots zero x l = absurd (omega arith)
   hung_roots (suc n) x l = elim (eqb_tells x hi) [
-      | inl e ↦
-          let r : root_of p hi ≡ hi = own_root p forest hi top in
-          let same : (hi == hi) ≡ true = eq-eqb hi hi refl in
-          subst (λ (y : ℕ). root_of (slice_set p hi lo) y ≡ (if root_of p y == hi then lo else root_of p y)) (sym e.1) (rw r (rw same hung_root))
-      | inr ne ↦ other_place (suc n) x l ne.1 (λ y (m : y < suc n) (b : y < x). hung_roots n y (omega arith))
-    ]
+    | inl e ↦
+        let r : root_of p hi ≡ hi = own_root p forest hi top in
+        let same : (hi == hi) ≡ true = eq-eqb hi hi refl in
+        subst (λ (y : ℕ). root_of (slice_set p hi lo) y ≡ (if root_of p y == hi then lo else root_of p y)) (sym e.1) (rw r (rw same hung_root))
+    | inr ne ↦ other_place (suc n) x l ne.1 (λ y (m : y < suc n) (b : y < x). hung_roots n y (omega arith))
+  ]
 
 ne_eqb : (a b : ℕ) → a ≢ b → (a == b) ≡ false
 ne_eqb a b h = elim (eqb_tells a b) [ inl e ↦ absurd (h e.1) | inr n ↦ n.0 ]
@@ -146,13 +146,13 @@ hung_joined lo hi r h =
     let m : min lo hi ≡ lo = min_left lo hi h in
     elim (eqb_tells r hi) [
       | inl e ↦ elim (eqb_tells r lo) [
-          | inl l ↦ rw e.0 (rw l.0 (sym m))
-          | inr n ↦ rw e.0 (rw n.0 (sym m))
-        ]
+        | inl l ↦ rw e.0 (rw l.0 (sym m))
+        | inr n ↦ rw e.0 (rw n.0 (sym m))
+      ]
       | inr ne ↦ elim (eqb_tells r lo) [
-          | inl l ↦ rw ne.0 (rw l.0 (l.1 ∙ sym m))
-          | inr n ↦ rw ne.0 (rw n.0 refl)
-        ]
+        | inl l ↦ rw ne.0 (rw l.0 (l.1 ∙ sym m))
+        | inr n ↦ rw ne.0 (rw n.0 refl)
+      ]
     ]
 
 joined_swap : (a b r : ℕ) → root_joined a b r ≡ root_joined b a r
@@ -185,10 +185,10 @@ pub flat_more : (p old : List ℕ) (i : ℕ) → IsForest old → i < length p �
     ((x : ℕ) → x < i → get_or p x 0 ≡ root_of old x) → ((x : ℕ) → i ≤ x → get_or p x 0 ≡ get_or old x 0) →
     (x : ℕ) → x < i + 1 → get_or (set p i (get_or p (get_or p i 0) 0)) x 0 ≡ root_of old x
 flat_more p old i forest within done rest x l = elim (lt_or_eq x i l) [
-    | inl less ↦ let ne : x ≢ i = omega arith in get_or-set_other p i x (get_or p (get_or p i 0) 0) 0 ne ∙ done x less
-    | inr same ↦ subst (λ (y : ℕ). get_or (set p i (get_or p (get_or p i 0) 0)) y 0 ≡ root_of old y) (sym same)
-        (get_or-set_same p i (get_or p (get_or p i 0) 0) 0 within ∙ parent)
-  ]
+  | inl less ↦ let ne : x ≢ i = omega arith in get_or-set_other p i x (get_or p (get_or p i 0) 0) 0 ne ∙ done x less
+  | inr same ↦ subst (λ (y : ℕ). get_or (set p i (get_or p (get_or p i 0) 0)) y 0 ≡ root_of old y) (sym same)
+      (get_or-set_same p i (get_or p (get_or p i 0) 0) 0 within ∙ parent)
+]
   where
     parent : get_or p (get_or p i 0) 0 ≡ root_of old i
     parent =
@@ -211,9 +211,9 @@ roots_are_labels p old forest long are = record {
     | inr g ↦ omega (arith, get_or_past p x 0 (omega (arith, long)))
   ];
   flat = λ x l.
-    let inside : x < length old = omega (arith, long) in
-    let lower : root_of old x < length old = omega (arith, root_below old forest x) in
-    ap (λ (y : ℕ). get_or p y 0) (are x inside) ∙ are (root_of old x) lower ∙ own_root old forest (root_of old x) (root_is_own old forest x) ∙ sym (are x inside);
+      let inside : x < length old = omega (arith, long) in
+      let lower : root_of old x < length old = omega (arith, root_below old forest x) in
+      ap (λ (y : ℕ). get_or p y 0) (are x inside) ∙ are (root_of old x) lower ∙ own_root old forest (root_of old x) (root_is_own old forest x) ∙ sym (are x inside);
 }
   where
     lt_or_ge : (a b : ℕ) → (a < b) ⊎ (b ≤ a)

@@ -1,5 +1,5 @@
 -- Groups are what closed contacts lead to, and areas what is reached over nets without a strong value.
-use Rattle.std.proofs.Common.{◌≡◌, ◌≢◌, ℕ, zero, suc, ◌+◌, ◌<◌, ◌≤◌, List, [], ◌∷◌, length, map, Bool, true, false, not, refl, ap, sym, ◌∙◌, arith, ◌⊎◌, inl, inr, subst, Some, eq-eqb}
+use Rattle.std.proofs.Common.{◌≡◌, ℕ, zero, suc, ◌<◌, ◌≤◌, List, [], ◌∷◌, length, Bool, true, false, not, refl, ap, sym, ◌∙◌, arith, ◌⊎◌, inl, inr, subst, Some, eq-eqb}
 use Rattle.std.proofs.lemmas.Bool.{eqb-true}
 use Rattle.std.proofs.lemmas.Bool.Decides.{nat_tests}
 use Rattle.std.proofs.lemmas.List.{get_or_past}
@@ -11,14 +11,14 @@ use Rattle.sim_base.specs.declared.signal.Level.{Level}
 use Rattle.sim_base.specs.declared.signal.Level.TheVariants as levels
 use Rattle.sim_base.specs.Signal.{strong_of}
 use Rattle.board_model.specs.Walks.{Walk, here, further, below, leads}
-use Rattle.board_model.specs.Nets.{joins, joined_by}
-use Rattle.board_model.specs.Resolve.{contact_joins, pins, is_one, has_strong, is_driven, passes, reaches, is_value, level_of_values}
-use Rattle.board_model.proofs.WalkLemmas.{walk_join, walk_back, walk_as, walk_sound, walk_complete}
-use Rattle.board_model.proofs.Lists.{get-below, length-below, some_same, some_map}
-use Rattle.net_resolve.specs.Forest.{IsForest, AreLabels, AreGroups, root_of, same_or, Joins}
+use Rattle.board_model.specs.Nets.{joined_by}
+use Rattle.board_model.specs.Resolve.{contact_joins, has_strong, is_driven, passes, is_value, level_of_values}
+use Rattle.board_model.proofs.WalkLemmas.{walk_join, walk_back, walk_sound, walk_complete}
+use Rattle.board_model.proofs.Lists.{get-below, length-below, some_same}
+use Rattle.net_resolve.specs.Forest.{AreLabels, AreGroups, root_of, same_or}
 use Rattle.net_resolve.specs.Sums.{is_loose, is_z, sum_at, added, strong_level}
 use Rattle.net_resolve.proofs.ForestLemmas.{label_root, own_root}
-use Rattle.net_resolve.proofs.ContactLemmas.{or_cases, or_left, or_right, and_both, and_first, joins_cases, joins_is, joins_swap, contact_of, contact_is, contact_swap, contact_bounds, same_or_swap}
+use Rattle.net_resolve.proofs.ContactLemmas.{or_cases, or_left, or_right, and_both, and_first, contact_swap, contact_bounds}
 use Rattle.net_resolve.proofs.ValueLemmas.{is_z_values, strong_added}
 
 -- tests that follow from each other are the same
@@ -47,9 +47,9 @@ lt_or_ge a b = grind arith
 
 below_least : (n y : ℕ) → slice_index (below n) y ≤ y
 below_least n y = elim (lt_or_ge y n) [
-    | inl l ↦ omega (arith, below_index n y l)
-    | inr h ↦ omega (arith, get_or_past (below n) y 0 (omega (arith, length-below n, h)))
-  ]
+  | inl l ↦ omega (arith, below_index n y l)
+  | inr h ↦ omega (arith, get_or_past (below n) y 0 (omega (arith, length-below n, h)))
+]
 
 -- each place alone is its own root
 alone_root : (n x : ℕ) → x < n → root_of (below n) x ≡ x
@@ -64,9 +64,9 @@ any_at test (y ∷ xs) (suc k) x e h = or_right (test y) (list_any test xs) (any
 pub any_some : {A : Type 0} (test : A → Bool) (xs : List A) → list_any test xs ≡ true → (k : ℕ) × (x : A) × (slice_get xs k ≡ Some x) × (test x ≡ true)
 any_some test [] h = absurd cc
 any_some test (y ∷ xs) h = elim (or_cases (test y) (list_any test xs) h) [
-    | inl l ↦ (0, y, refl, l)
-    | inr r ↦ let s = any_some test xs r in (suc s.0, s.1, s.2, s.3)
-  ]
+  | inl l ↦ (0, y, refl, l)
+  | inr r ↦ let s = any_some test xs r in (suc s.0, s.1, s.2, s.3)
+]
 
 -- tests that agree on the pins of nets that there are
 pub any_same : (count : ℕ) (f h : ℕ × Drive → Bool) → ((n : ℕ) (d : Drive) → n < count → f (n, d) ≡ h (n, d)) → (ns : List ℕ) (ds : List Drive) →
@@ -124,9 +124,9 @@ module _ (contacts : List (ℕ × ℕ)) (closed : List Bool) (groups : List ℕ)
   pub one_is : (n m : ℕ) → n < length groups → m < length groups → (slice_index groups m == slice_index groups n) ≡ leads (length groups) (contact_joins contacts closed) n m
   one_is n m ln lm = both_ways (slice_index groups m == slice_index groups n) (leads (length groups) (contact_joins contacts closed) n m)
       (λ e. walk_complete (length groups) (contact_joins contacts closed) contact_within n m ln
-          (group_walk n m ln lm (sym (eqb-true (slice_index groups m) (slice_index groups n) e))))
+      (group_walk n m ln lm (sym (eqb-true (slice_index groups m) (slice_index groups n) e))))
       (λ h. eq-eqb (slice_index groups m) (slice_index groups n)
-          (sym (same_label n m (walk_sound (length groups) (contact_joins contacts closed) (length groups) n m h))))
+      (sym (same_label n m (walk_sound (length groups) (contact_joins contacts closed) (length groups) n m h))))
 
   pub group_within : (n : ℕ) → n < length groups → slice_index groups n < length groups
   group_within n l = omega (arith, g.labels.forest n)
@@ -163,7 +163,7 @@ module _ (contacts : List (ℕ × ℕ)) (closed : List Bool) (groups : List ℕ)
         let at = contact_within j m s in
         further j m (contact_passes n j l loose w)
         (and_both (not (is_driven (length groups) net_of contacts resistors closed ds j)) (contact_joins contacts closed j m || joined_by resistors j m)
-            (sym (loose_is j at.0) ∙ free) (or_left (contact_joins contacts closed j m) (joined_by resistors j m) s))
+        (sym (loose_is j at.0) ∙ free) (or_left (contact_joins contacts closed j m) (joined_by resistors j m) s))
 
 -- places that are alone are labels
 pub below_labels : (n : ℕ) → AreLabels (below n)

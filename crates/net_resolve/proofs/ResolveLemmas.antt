@@ -1,6 +1,5 @@
 -- The sums by group and by area give the levels of the definition.
-use Rattle.std.proofs.Common.{◌≡◌, ℕ, zero, suc, ◌<◌, List, [], ◌∷◌, ◌++◌, length, map, Bool, true, false, not, refl, ap, sym, ◌∙◌, arith, ◌⊎◌, inl, inr, subst, Some, eq-eqb}
-use Rattle.std.proofs.lemmas.Bool.{eqb-true}
+use Rattle.std.proofs.Common.{◌≡◌, ℕ, zero, suc, ◌<◌, List, [], ◌∷◌, ◌++◌, length, map, Bool, true, false, not, refl, ap, sym, ◌∙◌, arith, ◌⊎◌, inl, inr, subst, Some}
 use Rattle.std.proofs.lemmas.Option.{slice_get_within}
 use Rattle.std.proofs.lemmas.List.Folds.{list_any-append}
 use Rattle.std.proofs.lemmas.List.{length-map}
@@ -15,12 +14,12 @@ use Rattle.board_model.specs.Walks.{Walk, here, further, below}
 use Rattle.board_model.specs.Nets.{joins, joined_by}
 use Rattle.board_model.specs.Resolve.{contact_joins, has_strong, is_driven, passes, reaches, strong_values, collected, level_of, level_of_values, level_of_all, level_of_drives, resolve, is_value}
 use Rattle.board_model.proofs.WalkLemmas.{walk_sound, walk_complete}
-use Rattle.board_model.proofs.Lists.{some_same, get-below, length-below, get_map_some, some_map, same_lists}
+use Rattle.board_model.proofs.Lists.{some_same, get-below, length-below, get_map_some, same_lists}
 use Rattle.net_resolve.specs.Forest.{AreLabels, Joins}
 use Rattle.net_resolve.specs.Sums.{is_loose, sum_at, added, weak_level, over_adds, resistors_add, together, level_here}
 use Rattle.net_resolve.proofs.ContactLemmas.{or_cases, or_left, or_right, and_both, and_first, joins_cases, joins_is, joins_swap}
-use Rattle.net_resolve.proofs.ReachLemmas.{both_ways, either_way, not_false, any_at, any_some, one_label, strong_is}
-use Rattle.net_resolve.proofs.AreaLemmas.{Grouped, bridges_of, loose_here, passes_within, joined_within, area_is}
+use Rattle.net_resolve.proofs.ReachLemmas.{both_ways, either_way, any_at, any_some, one_label, strong_is}
+use Rattle.net_resolve.proofs.AreaLemmas.{Grouped, bridges_of, loose_here, passes_within, area_is}
 use Rattle.net_resolve.proofs.ValueLemmas.{values_together, any_value, weak_of, weak_added, weak_alone}
 
 -- what is added where the same pins count
@@ -36,9 +35,9 @@ added_same gives count f h same (n ∷ ns) (d ∷ ds) sum within =
 any_flat_some : {A B : Type 0} (test : B → Bool) (f : A → List B) (xs : List A) → list_any test (flat_map f xs) ≡ true → (k : ℕ) × (x : A) × (slice_get xs k ≡ Some x) × (list_any test (f x) ≡ true)
 any_flat_some test f [] h = absurd cc
 any_flat_some test f (x ∷ xs) h = elim (or_cases (list_any test (f x)) (list_any test (flat_map f xs)) (sym (list_any-append test (f x) (flat_map f xs)) ∙ h)) [
-    | inl l ↦ (0, x, refl, l)
-    | inr r ↦ let s = any_flat_some test f xs r in (suc s.0, s.1, s.2, s.3)
-  ]
+  | inl l ↦ (0, x, refl, l)
+  | inr r ↦ let s = any_flat_some test f xs r in (suc s.0, s.1, s.2, s.3)
+]
 
 any_flat_at : {A B : Type 0} (test : B → Bool) (f : A → List B) (xs : List A) (k : ℕ) (x : A) → slice_get xs k ≡ Some x → list_any test (f x) ≡ true → list_any test (flat_map f xs) ≡ true
 any_flat_at test f [] k x e h = absurd cc
@@ -187,10 +186,10 @@ module _ (net_of : List ℕ) (contacts resistors : List (ℕ × ℕ)) (closed : 
       let at_to : reaches (length groups) net_of contacts resistors closed ds n to ≡ true = sym (area n to ln lt free d.1) ∙ b.1 in
       let way = walk_sound (length groups) step (length groups) n to at_to in
       let pass : step to from ≡ true = and_both (not (is_driven (length groups) net_of contacts resistors closed ds to)) (contact_joins contacts closed to from || joined_by resistors to from)
-          (sym (loose to lt) ∙ d.1) (or_right (contact_joins contacts closed to from) (joined_by resistors to from) by) in
+      (sym (loose to lt) ∙ d.1) (or_right (contact_joins contacts closed to from) (joined_by resistors to from) by) in
       let at_from : reaches (length groups) net_of contacts resistors closed ds n from ≡ true = walk_complete (length groups) step within n from ln (further to from way pass) in
       any_flat_at (λ (e : Drive). is_value v (value_of e)) (λ (m : ℕ). if reaches (length groups) net_of contacts resistors closed ds n m then strong_values (length groups) net_of contacts resistors closed ds m else [])
-        (below (length groups)) from from (get-below (length groups) from lf) (values_at n from v at_from a.1)
+      (below (length groups)) from from (get-below (length groups) from lf) (values_at n from v at_from a.1)
 
   -- a net with a strong value is reached over a resistor from a loose one
   last_step : (n m : ℕ) → n < length groups → is_loose groups strong n ≡ true → is_loose groups strong m ≡ false → Walk (passes (length groups) net_of contacts resistors closed ds) n m →
@@ -224,8 +223,8 @@ module _ (net_of : List ℕ) (contacts resistors : List (ℕ × ℕ)) (closed : 
       let at_i : reaches (length groups) net_of contacts resistors closed ds n s.0 ≡ true = walk_complete (length groups) step within n s.0 ln s.3 in
       let same : (slice_index areas s.0 == slice_index areas n) ≡ true = area n s.0 ln s.1 free s.2 ∙ at_i in
       let it : brings v (slice_index areas n) m s.0 ≡ true =
-          and_both ((not (is_loose groups strong m) && is_loose groups strong s.0) && (slice_index areas s.0 == slice_index areas n)) (has_strong (length groups) net_of contacts resistors closed ds m v)
-          (and_both (not (is_loose groups strong m) && is_loose groups strong s.0) (slice_index areas s.0 == slice_index areas n) (and_both (not (is_loose groups strong m)) (is_loose groups strong s.0) (ap not driven) s.2) same) h in
+      and_both ((not (is_loose groups strong m) && is_loose groups strong s.0) && (slice_index areas s.0 == slice_index areas n)) (has_strong (length groups) net_of contacts resistors closed ds m v)
+      (and_both (not (is_loose groups strong m) && is_loose groups strong s.0) (slice_index areas s.0 == slice_index areas n) (and_both (not (is_loose groups strong m)) (is_loose groups strong s.0) (ap not driven) s.2) same) h in
       let r = any_some (λ pair. joins pair s.0 m) resistors s.4 in
       any_at (adds v (slice_index areas n)) resistors r.0 r.1 r.2 (elim (joins_cases r.1 s.0 m r.3) [
         | inl e ↦ or_left (brings v (slice_index areas n) r.1.1 r.1.0) (brings v (slice_index areas n) r.1.0 r.1.1)
@@ -242,11 +241,12 @@ module _ (net_of : List ℕ) (contacts resistors : List (ℕ × ℕ)) (closed : 
           ≡ has_strong (length groups) net_of contacts resistors closed ds m v
       choose true = refl
       choose false = refl
+
       go : (c : Bool) → reaches (length groups) net_of contacts resistors closed ds n m ≡ c →
           (reaches (length groups) net_of contacts resistors closed ds n m ≡ true) × (has_strong (length groups) net_of contacts resistors closed ds m v ≡ true)
       go true e =
           let k : any_value v (strong_values (length groups) net_of contacts resistors closed ds m) ≡ true =
-              subst (λ (c : Bool). any_value v (if c then strong_values (length groups) net_of contacts resistors closed ds m else []) ≡ true) e h in
+          subst (λ (c : Bool). any_value v (if c then strong_values (length groups) net_of contacts resistors closed ds m else []) ≡ true) e h in
           (e, sym (choose v) ∙ sym (values_any v (has_strong (length groups) net_of contacts resistors closed ds m true) (has_strong (length groups) net_of contacts resistors closed ds m false)) ∙ k)
       go false e =
           let k : any_value v [] ≡ true = subst (λ (c : Bool). any_value v (if c then strong_values (length groups) net_of contacts resistors closed ds m else []) ≡ true) e h in
@@ -255,25 +255,25 @@ module _ (net_of : List ℕ) (contacts resistors : List (ℕ × ℕ)) (closed : 
   adds_are : (n : ℕ) (v : Bool) → n < length groups → is_loose groups strong n ≡ true → list_any (adds v (slice_index areas n)) resistors ≡ any_value v (reached_values n)
   adds_are n v ln free = both_ways (list_any (adds v (slice_index areas n)) resistors) (any_value v (reached_values n))
       (λ h.
-        let s = any_some (adds v (slice_index areas n)) resistors h in
-        let at = g.resistors_within s.0 s.1 s.2 in
-        let by = any_at (λ pair. joins pair s.1.0 s.1.1) resistors s.0 s.1 s.2 (joins_is s.1) in
-        let back = any_at (λ pair. joins pair s.1.1 s.1.0) resistors s.0 s.1 s.2 (joins_swap s.1 s.1.0 s.1.1 (joins_is s.1)) in
-        elim (or_cases (brings v (slice_index areas n) s.1.1 s.1.0) (brings v (slice_index areas n) s.1.0 s.1.1) s.3) [
-          | inl l ↦ brought n s.1.1 s.1.0 v ln at.1 at.0 free by l
-          | inr r ↦ brought n s.1.0 s.1.1 v ln at.0 at.1 free back r
-        ])
+      let s = any_some (adds v (slice_index areas n)) resistors h in
+      let at = g.resistors_within s.0 s.1 s.2 in
+      let by = any_at (λ pair. joins pair s.1.0 s.1.1) resistors s.0 s.1 s.2 (joins_is s.1) in
+      let back = any_at (λ pair. joins pair s.1.1 s.1.0) resistors s.0 s.1 s.2 (joins_swap s.1 s.1.0 s.1.1 (joins_is s.1)) in
+      elim (or_cases (brings v (slice_index areas n) s.1.1 s.1.0) (brings v (slice_index areas n) s.1.0 s.1.1) s.3) [
+        | inl l ↦ brought n s.1.1 s.1.0 v ln at.1 at.0 free by l
+        | inr r ↦ brought n s.1.0 s.1.1 v ln at.0 at.1 free back r
+      ])
       (λ h.
-        let s = any_flat_some (λ (e : Drive). is_value v (value_of e)) (λ (m : ℕ). if reaches (length groups) net_of contacts resistors closed ds n m then strong_values (length groups) net_of contacts resistors closed ds m else []) (below (length groups)) h in
-        let lm : s.0 < length groups = omega (arith, slice_get_within (below (length groups)) s.0 s.1 s.2, length-below (length groups)) in
-        let same : s.0 ≡ s.1 = some_same (sym (get-below (length groups) s.0 lm) ∙ s.2) in
-        let from = values_from n s.1 v s.3 in
-        some_brings n s.1 v ln (subst (λ (x : ℕ). x < length groups) same lm) free from.0 from.1)
+      let s = any_flat_some (λ (e : Drive). is_value v (value_of e)) (λ (m : ℕ). if reaches (length groups) net_of contacts resistors closed ds n m then strong_values (length groups) net_of contacts resistors closed ds m else []) (below (length groups)) h in
+      let lm : s.0 < length groups = omega (arith, slice_get_within (below (length groups)) s.0 s.1 s.2, length-below (length groups)) in
+      let same : s.0 ≡ s.1 = some_same (sym (get-below (length groups) s.0 lm) ∙ s.2) in
+      let from = values_from n s.1 v s.3 in
+      some_brings n s.1 v ln (subst (λ (x : ℕ). x < length groups) same lm) free from.0 from.1)
 
   -- the sums by area
   module _ (sums : List Level)
       (summed : (a : ℕ) → a < length groups → sum_at sums a
-          ≡ added weak_level (λ n. is_loose groups strong n && (slice_index areas n == a)) (resistors_add groups strong areas a levels.Z resistors) (zip net_of ds)) where
+      ≡ added weak_level (λ n. is_loose groups strong n && (slice_index areas n == a)) (resistors_add groups strong areas a levels.Z resistors) (zip net_of ds)) where
     -- the weak drives that count for n
     abbrev counts : ℕ → ℕ → Bool
     counts n m = reaches (length groups) net_of contacts resistors closed ds n m && not (is_driven (length groups) net_of contacts resistors closed ds m)
@@ -289,13 +289,13 @@ module _ (net_of : List ℕ) (contacts resistors : List (ℕ × ℕ)) (closed : 
     counts_are : (n m : ℕ) → n < length groups → m < length groups → is_loose groups strong n ≡ true →
         (is_loose groups strong m && (slice_index areas m == slice_index areas n)) ≡ counts n m
     counts_are n m ln lm free = elim (either_way (is_loose groups strong m)) [
-        | inl e ↦
-            ap (λ (b : Bool). b && (slice_index areas m == slice_index areas n)) e ∙ area n m ln lm free e
-            ∙ sym (ap (λ (b : Bool). reaches (length groups) net_of contacts resistors closed ds n m && b) (sym (loose m lm) ∙ e) ∙ and_true (reaches (length groups) net_of contacts resistors closed ds n m))
-        | inr e ↦
-            ap (λ (b : Bool). b && (slice_index areas m == slice_index areas n)) e
-            ∙ sym (ap (λ (b : Bool). reaches (length groups) net_of contacts resistors closed ds n m && b) (sym (loose m lm) ∙ e) ∙ and_false (reaches (length groups) net_of contacts resistors closed ds n m))
-      ]
+      | inl e ↦
+          ap (λ (b : Bool). b && (slice_index areas m == slice_index areas n)) e ∙ area n m ln lm free e
+          ∙ sym (ap (λ (b : Bool). reaches (length groups) net_of contacts resistors closed ds n m && b) (sym (loose m lm) ∙ e) ∙ and_true (reaches (length groups) net_of contacts resistors closed ds n m))
+      | inr e ↦
+          ap (λ (b : Bool). b && (slice_index areas m == slice_index areas n)) e
+          ∙ sym (ap (λ (b : Bool). reaches (length groups) net_of contacts resistors closed ds n m && b) (sym (loose m lm) ∙ e) ∙ and_false (reaches (length groups) net_of contacts resistors closed ds n m))
+    ]
 
     area_within : (n : ℕ) → n < length groups → slice_index areas n < length groups
     area_within n l = omega (arith, labels.forest n)
@@ -308,9 +308,9 @@ module _ (net_of : List ℕ) (contacts resistors : List (ℕ × ℕ)) (closed : 
         summed a la
         ∙ added_same weak_level (length groups) (λ m. is_loose groups strong m && (slice_index areas m == a)) (counts n) (λ m lm. counts_are n m ln lm free) net_of ds (resistors_add groups strong areas a levels.Z resistors) g.pins_within
         ∙ ap (λ (l : Level). added weak_level (counts n) l (zip net_of ds))
-            (resistors_are a resistors false false g.resistors_within
-             ∙ ap (λ (b : Bool). level_of_values b (list_any (adds false a) resistors)) (adds_are n true ln free)
-             ∙ ap (level_of_values (any_value true (reached_values n))) (adds_are n false ln free))
+        (resistors_are a resistors false false g.resistors_within
+        ∙ ap (λ (b : Bool). level_of_values b (list_any (adds false a) resistors)) (adds_are n true ln free)
+        ∙ ap (level_of_values (any_value true (reached_values n))) (adds_are n false ln free))
 
     loose_level : (n : ℕ) → n < length groups → is_loose groups strong n ≡ true → sum_at sums (slice_index areas n) ≡ level_of_drives (collected (length groups) net_of contacts resistors closed ds n)
     loose_level n ln free =
@@ -329,17 +329,17 @@ module _ (net_of : List ℕ) (contacts resistors : List (ℕ × ℕ)) (closed : 
 
     level_is : (n : ℕ) → n < length groups → level_here groups strong areas sums n ≡ level_of (length groups) net_of contacts resistors closed ds n
     level_is n ln = elim (either_way (is_driven (length groups) net_of contacts resistors closed ds n)) [
-        | inl driven ↦
-            let e : is_loose groups strong n ≡ false = loose n ln ∙ ap not driven in
-            ap (λ (b : Bool). if b then sum_at sums (slice_index areas n) else sum_at strong (slice_index groups n)) e
-            ∙ strong_here n ln
-            ∙ sym (ap (λ (b : Bool). if b then level_of_values (has_strong (length groups) net_of contacts resistors closed ds n true) (has_strong (length groups) net_of contacts resistors closed ds n false) else level_of_drives (collected (length groups) net_of contacts resistors closed ds n)) driven)
-        | inr free ↦
-            let e : is_loose groups strong n ≡ true = loose n ln ∙ ap not free in
-            ap (λ (b : Bool). if b then sum_at sums (slice_index areas n) else sum_at strong (slice_index groups n)) e
-            ∙ loose_level n ln e
-            ∙ sym (ap (λ (b : Bool). if b then level_of_values (has_strong (length groups) net_of contacts resistors closed ds n true) (has_strong (length groups) net_of contacts resistors closed ds n false) else level_of_drives (collected (length groups) net_of contacts resistors closed ds n)) free)
-      ]
+      | inl driven ↦
+          let e : is_loose groups strong n ≡ false = loose n ln ∙ ap not driven in
+          ap (λ (b : Bool). if b then sum_at sums (slice_index areas n) else sum_at strong (slice_index groups n)) e
+          ∙ strong_here n ln
+          ∙ sym (ap (λ (b : Bool). if b then level_of_values (has_strong (length groups) net_of contacts resistors closed ds n true) (has_strong (length groups) net_of contacts resistors closed ds n false) else level_of_drives (collected (length groups) net_of contacts resistors closed ds n)) driven)
+      | inr free ↦
+          let e : is_loose groups strong n ≡ true = loose n ln ∙ ap not free in
+          ap (λ (b : Bool). if b then sum_at sums (slice_index areas n) else sum_at strong (slice_index groups n)) e
+          ∙ loose_level n ln e
+          ∙ sym (ap (λ (b : Bool). if b then level_of_values (has_strong (length groups) net_of contacts resistors closed ds n true) (has_strong (length groups) net_of contacts resistors closed ds n false) else level_of_drives (collected (length groups) net_of contacts resistors closed ds n)) free)
+    ]
 
     map_same : (f h : ℕ → Level) (count : ℕ) → ((n : ℕ) → n < count → f n ≡ h n) → map f (below count) ≡ map h (below count)
     map_same f h count same = same_lists (map f (below count)) (map h (below count)) (simp length-map refl) (λ k x y ex ey.

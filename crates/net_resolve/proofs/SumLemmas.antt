@@ -1,29 +1,26 @@
 -- Sums of levels, place by place.
-use Rattle.std.proofs.Common.{◌≡◌, ◌≢◌, ℕ, zero, suc, ◌+◌, ◌<◌, ◌≤◌, List, [], ◌∷◌, length, map, drop, Bool, true, false, not, refl, ap, sym, ◌∙◌, arith, add-one, get_or, set, get_or-set_other, get_or-set_same, drop-cons, ◌⊎◌, inl, inr, subst, Some}
+use Rattle.std.proofs.Common.{◌≡◌, ℕ, zero, suc, ◌+◌, ◌<◌, ◌≤◌, List, [], ◌∷◌, length, drop, Bool, true, false, not, refl, ap, sym, ◌∙◌, arith, add-one, get_or, get_or-set_other, get_or-set_same, drop-cons, inl, inr}
 use Rattle.std.specs.Cmp.Lexicographic.{pointwise}
 use Rattle.std.proofs.Math.Bool.{beq}
 use Rattle.std.proofs.lemmas.Bool.Decides.{eqb_tells}
-use Rattle.std.proofs.lemmas.Option.{slice_get-get_or}
-use Rattle.std.specs.Prelude.{◌==◌, ◌&&◌, if◌then◌else◌, slice_get, slice_set, slice_index}
+use Rattle.std.specs.Prelude.{◌==◌, ◌&&◌, if◌then◌else◌, slice_set, slice_index}
 use Rattle.std.specs.List.{zip}
 use Rattle.sim_base.specs.declared.signal.Drive.{Drive}
 use Rattle.sim_base.specs.declared.signal.Drive.TheVariants as drives
 use Rattle.sim_base.specs.declared.signal.Level.{Level}
 use Rattle.sim_base.specs.declared.signal.Level.TheVariants as levels
-use Rattle.board_model.specs.Walks.{below}
-use Rattle.board_model.proofs.Lists.{some_map, get-below}
 use Rattle.net_resolve.specs.Sums.{together, sum_at, added, is_loose, over_adds, resistors_add, level_here, is_z}
 
 -- a sum after something was added to one
 pub sum_set : (sums : List Level) (k g : ℕ) (r x : Level) → k < length sums → r ≡ together (sum_at sums k) x →
     sum_at (slice_set sums k r) g ≡ (if k == g then together (sum_at sums g) x else sum_at sums g)
 sum_set sums k g r x within e = elim (eqb_tells k g) [
-    | inl same ↦ rw same.0 (
-        ap (sum_at (slice_set sums k r)) (sym same.1)
-        ∙ get_or-set_same sums k r levels.Low within ∙ e
-        ∙ ap (λ (i : ℕ). together (sum_at sums i) x) same.1)
-    | inr ne ↦ rw ne.0 (get_or-set_other sums k g r levels.Low (λ h. ne.1 (sym h)))
-  ]
+  | inl same ↦ rw same.0 (
+      ap (sum_at (slice_set sums k r)) (sym same.1)
+      ∙ get_or-set_same sums k r levels.Low within ∙ e
+      ∙ ap (λ (i : ℕ). together (sum_at sums i) x) same.1)
+  | inr ne ↦ rw ne.0 (get_or-set_other sums k g r levels.Low (λ h. ne.1 (sym h)))
+]
 
 -- what the pins from i on add: pin i, and then those from i + 1 on
 pub added_next : (gives : Drive → Level) (counts : ℕ → Bool) (sum : Level) (ns : List ℕ) (ds : List Drive) (i : ℕ) → i < length ns → length ds ≡ length ns →

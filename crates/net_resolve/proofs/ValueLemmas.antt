@@ -1,5 +1,5 @@
 -- What the sums of levels are, by the values of the drives that were added.
-use Rattle.std.proofs.Common.{◌≡◌, ℕ, List, [], ◌∷◌, ◌++◌, map, Bool, true, false, not, refl, ap, sym, ◌∙◌, ◌⊎◌, inl, inr, subst, Option, None, Some, arith, append_assoc}
+use Rattle.std.proofs.Common.{◌≡◌, ℕ, List, [], ◌∷◌, ◌++◌, map, Bool, true, false, not, refl, ap, sym, ◌∙◌, arith, append_assoc}
 use Rattle.std.specs.Prelude.{◌&&◌, ◌||◌, if◌then◌else◌, filter}
 use Rattle.std.specs.List.{list_any}
 use Rattle.sim_base.specs.declared.signal.Drive.{Drive}
@@ -61,10 +61,10 @@ strong_added counts [] a b = or_end a b
 strong_added counts (p ∷ ps) a b = go (strong_added counts ps) (counts p.0) refl
   where
     go : ((x y : Bool) → added strong_level counts (level_of_values x y) ps
-            ≡ level_of_values (x || list_any (λ q. counts q.0 && is_value true (strong_of q.1)) ps) (y || list_any (λ q. counts q.0 && is_value false (strong_of q.1)) ps)) →
+        ≡ level_of_values (x || list_any (λ q. counts q.0 && is_value true (strong_of q.1)) ps) (y || list_any (λ q. counts q.0 && is_value false (strong_of q.1)) ps)) →
         (c : Bool) → counts p.0 ≡ c → added strong_level counts (if counts p.0 then together (level_of_values a b) (strong_level p.1) else level_of_values a b) ps
         ≡ level_of_values (a || ((counts p.0 && is_value true (strong_of p.1)) || list_any (λ q. counts q.0 && is_value true (strong_of q.1)) ps))
-                          (b || ((counts p.0 && is_value false (strong_of p.1)) || list_any (λ q. counts q.0 && is_value false (strong_of q.1)) ps))
+        (b || ((counts p.0 && is_value false (strong_of p.1)) || list_any (λ q. counts q.0 && is_value false (strong_of q.1)) ps))
     go ih true e = rw e (
         ap (λ (l : Level). added strong_level counts (together (level_of_values a b) l) ps) (strong_values_of p.1)
         ∙ ap (λ (l : Level). added strong_level counts l ps) (values_together a b (is_value true (strong_of p.1)) (is_value false (strong_of p.1)))
@@ -170,7 +170,7 @@ weak_added counts [] a b h = or_end a b
 weak_added counts (p ∷ ps) a b h = go (weak_added counts ps) (counts p.0) refl (is_weak p.1) refl
   where
     go : ((x y : Bool) → (x || y) ≡ true → added weak_level counts (level_of_values x y) ps
-            ≡ level_of_values (x || any_value true (weak_of counts ps)) (y || any_value false (weak_of counts ps))) →
+        ≡ level_of_values (x || any_value true (weak_of counts ps)) (y || any_value false (weak_of counts ps))) →
         (c : Bool) → counts p.0 ≡ c → (w : Bool) → is_weak p.1 ≡ w →
         added weak_level counts (if counts p.0 then together (level_of_values a b) (weak_level p.1) else level_of_values a b) ps
         ≡ level_of_values (a || any_value true (weak_of counts (p ∷ ps))) (b || any_value false (weak_of counts (p ∷ ps)))
@@ -183,11 +183,11 @@ weak_added counts (p ∷ ps) a b h = go (weak_added counts ps) (counts p.0) refl
         let lo = is_value false (value_of p.1) in
         let there : is_z (level_of_values a b) ≡ false = is_z_values a b ∙ not_true (a || b) h in
         let sum : together (level_of_values a b) (weak_level p.1) ≡ level_of_values (a || hi) (b || lo) =
-            both_there (level_of_values a b) (weak_level p.1) there (weak_there p.1 f)
-            ∙ ap (λ (x : Bool). level_of_values (x || has_high (weak_level p.1)) (has_low (level_of_values a b) || has_low (weak_level p.1))) (has_high_values a b)
-            ∙ ap (λ (x : Bool). level_of_values (a || x) (has_low (level_of_values a b) || has_low (weak_level p.1))) (weak_high p.1 f)
-            ∙ ap (λ (x : Bool). level_of_values (a || hi) (x || has_low (weak_level p.1))) (has_low_values a b)
-            ∙ ap (λ (x : Bool). level_of_values (a || hi) (b || x)) (weak_low p.1 f) in
+        both_there (level_of_values a b) (weak_level p.1) there (weak_there p.1 f)
+        ∙ ap (λ (x : Bool). level_of_values (x || has_high (weak_level p.1)) (has_low (level_of_values a b) || has_low (weak_level p.1))) (has_high_values a b)
+        ∙ ap (λ (x : Bool). level_of_values (a || x) (has_low (level_of_values a b) || has_low (weak_level p.1))) (weak_high p.1 f)
+        ∙ ap (λ (x : Bool). level_of_values (a || hi) (x || has_low (weak_level p.1))) (has_low_values a b)
+        ∙ ap (λ (x : Bool). level_of_values (a || hi) (b || x)) (weak_low p.1 f) in
         ap (λ (l : Level). added weak_level counts l ps) sum
         ∙ ih (a || hi) (b || lo) (or_some_left a b hi lo h)
         ∙ ap (λ (x : Bool). level_of_values x ((b || lo) || any_value false (weak_of counts ps))) (or_again a hi (any_value true (weak_of counts ps)))
@@ -235,16 +235,16 @@ more_sum e es sum d s h =
     let hi = any_value true (e ∷ es ++ d ∷ []) in
     let lo = any_value false (e ∷ es ++ d ∷ []) in
     let highs : (has_high sum || has_high (weak_level d)) ≡ hi =
-        ap (λ (x : Bool). x || has_high (weak_level d)) s.high ∙ ap (λ (x : Bool). any_value true (e ∷ es) || x) (weak_high d h) ∙ sym (any_value_end true (e ∷ es) d) in
+    ap (λ (x : Bool). x || has_high (weak_level d)) s.high ∙ ap (λ (x : Bool). any_value true (e ∷ es) || x) (weak_high d h) ∙ sym (any_value_end true (e ∷ es) d) in
     let lows : (has_low sum || has_low (weak_level d)) ≡ lo =
-        ap (λ (x : Bool). x || has_low (weak_level d)) s.low ∙ ap (λ (x : Bool). any_value false (e ∷ es) || x) (weak_low d h) ∙ sym (any_value_end false (e ∷ es) d) in
+    ap (λ (x : Bool). x || has_low (weak_level d)) s.low ∙ ap (λ (x : Bool). any_value false (e ∷ es) || x) (weak_low d h) ∙ sym (any_value_end false (e ∷ es) d) in
     let is : together sum (weak_level d) ≡ level_of_values hi lo =
-        both_there sum (weak_level d) s.there (weak_there d h)
-        ∙ ap (λ (x : Bool). level_of_values x (has_low sum || has_low (weak_level d))) highs
-        ∙ ap (λ (y : Bool). level_of_values hi y) lows in
+    both_there sum (weak_level d) s.there (weak_there d h)
+    ∙ ap (λ (x : Bool). level_of_values x (has_low sum || has_low (weak_level d))) highs
+    ∙ ap (λ (y : Bool). level_of_values hi y) lows in
     let some : (hi || lo) ≡ true =
-        ap (λ (x : Bool). x || lo) (any_value_end true (e ∷ es) d) ∙ ap (λ (y : Bool). (any_value true (e ∷ es) || is_value true (value_of d)) || y) (any_value_end false (e ∷ es) d)
-        ∙ or_some (any_value true (e ∷ es)) (any_value false (e ∷ es)) (is_value true (value_of d)) (is_value false (value_of d)) (some_value d h) in
+    ap (λ (x : Bool). x || lo) (any_value_end true (e ∷ es) d) ∙ ap (λ (y : Bool). (any_value true (e ∷ es) || is_value true (value_of d)) || y) (any_value_end false (e ∷ es) d)
+    ∙ or_some (any_value true (e ∷ es)) (any_value false (e ∷ es)) (is_value true (value_of d)) (is_value false (value_of d)) (some_value d h) in
     record {
       there = ap is_z is ∙ is_z_values hi lo ∙ not_true (hi || lo) some;
       high = ap has_high is ∙ has_high_values hi lo;

@@ -1,5 +1,5 @@
 -- How places that are joined are kept: each has a parent, none later than itself. No public clause cites this.
-use Rattle.std.specs.Prelude.{◌≡◌, ℕ, zero, suc, ◌+◌, ◌<◌, ◌≤◌, List, length, Bool, true, ◌&&◌, ◌||◌, nat_lt, ◌==◌, min, if◌then◌else◌, slice_index, slice_get, Some}
+use Rattle.std.specs.Prelude.{◌≡◌, ℕ, zero, suc, ◌<◌, ◌≤◌, List, length, Bool, true, ◌&&◌, ◌||◌, nat_lt, ◌==◌, min, if◌then◌else◌, slice_index, slice_get, Some}
 use Rattle.board_model.specs.Walks.{Walk, below}
 use Rattle.board_model.specs.Resolve.{contact_joins}
 

@@ -46,7 +46,12 @@ pub(crate) fn is_net_loose(groups: &[u16], strong: &[Level], net: u16) -> bool
 }
 
 /// Tells of each resistor whether it connects two loose nets.
-pub(crate) fn put_bridges(resistors: &[(u16, u16)], groups: &[u16], strong: &[Level], bridges: &mut [bool])
+pub(crate) fn put_bridges(
+    resistors: &[(u16, u16)],
+    groups: &[u16],
+    strong: &[Level],
+    bridges: &mut [bool],
+)
     requires resistors { (k : ℕ) (r : ℕ × ℕ) → slice_get resistors.now k ≡ Some r → (r.0 < length groups.now) × (r.1 < length groups.now) }
     requires groups { (n : ℕ) → n < length groups.now → slice_index groups.now n < length strong.now }
     requires bridges { length bridges.old ≡ length resistors.now }

@@ -44,7 +44,13 @@ fn sum_groups(net_of: &[u16], drives: &[Drive], groups: &[u16], strong: &mut [Le
 }
 
 /// Joins the groups without a strong value that resistors connect.
-fn find_areas(resistors: &[(u16, u16)], groups: &[u16], strong: &[Level], bridges: &mut [bool], areas: &mut [u16])
+fn find_areas(
+    resistors: &[(u16, u16)],
+    groups: &[u16],
+    strong: &[Level],
+    bridges: &mut [bool],
+    areas: &mut [u16],
+)
     requires resistors { (k : ℕ) (r : ℕ × ℕ) → slice_get resistors.now k ≡ Some r → (r.0 < length groups.now) × (r.1 < length groups.now) }
     requires groups { (n : ℕ) → n < length groups.now → slice_index groups.now n < length strong.now }
     requires labels { AreLabels groups.now }
@@ -61,7 +67,15 @@ fn find_areas(resistors: &[(u16, u16)], groups: &[u16], strong: &[Level], bridge
 }
 
 /// Sums what comes together in each area.
-fn sum_areas(net_of: &[u16], drives: &[Drive], resistors: &[(u16, u16)], groups: &[u16], strong: &[Level], areas: &[u16], sums: &mut [Level])
+fn sum_areas(
+    net_of: &[u16],
+    drives: &[Drive],
+    resistors: &[(u16, u16)],
+    groups: &[u16],
+    strong: &[Level],
+    areas: &[u16],
+    sums: &mut [Level],
+)
     requires pins { length drives.now ≡ length net_of.now }
     requires nets { (k : ℕ) → k < length net_of.now → slice_index net_of.now k < length groups.now }
     requires resistors { (k : ℕ) (r : ℕ × ℕ) → slice_get resistors.now k ≡ Some r → (r.0 < length groups.now) × (r.1 < length groups.now) }

@@ -42,17 +42,17 @@ impl Model for Nets {
     ghost view = { λ a. record { nets = vec_len a.groups; net_of = a.net_of.items; contacts = a.contacts.items; resistors = a.resistors.items; levels = a.levels.items } };
 
     ghost invariant = { λ a. record {
-        few : vec_len a.groups ≤ 65536;
-        pins_within : (k n : ℕ) → slice_get a.net_of.items k ≡ Some n → n < vec_len a.groups;
-        contacts_within : (k : ℕ) (c : ℕ × ℕ) → slice_get a.contacts.items k ≡ Some c → (c.0 < vec_len a.groups) × (c.1 < vec_len a.groups);
-        resistors_within : (k : ℕ) (r : ℕ × ℕ) → slice_get a.resistors.items k ≡ Some r → (r.0 < vec_len a.groups) × (r.1 < vec_len a.groups);
-        grouped : AreGroups a.contacts.items a.closed.items a.groups.items;
-        closed_long : vec_len a.closed ≡ vec_len a.contacts;
-        strong_long : vec_len a.strong ≡ vec_len a.groups;
-        bridges_long : vec_len a.bridges ≡ vec_len a.resistors;
-        areas_long : vec_len a.areas ≡ vec_len a.groups;
-        sums_long : vec_len a.sums ≡ vec_len a.groups;
-        levels_long : vec_len a.levels ≡ vec_len a.groups;
+      few : vec_len a.groups ≤ 65536;
+      pins_within : (k n : ℕ) → slice_get a.net_of.items k ≡ Some n → n < vec_len a.groups;
+      contacts_within : (k : ℕ) (c : ℕ × ℕ) → slice_get a.contacts.items k ≡ Some c → (c.0 < vec_len a.groups) × (c.1 < vec_len a.groups);
+      resistors_within : (k : ℕ) (r : ℕ × ℕ) → slice_get a.resistors.items k ≡ Some r → (r.0 < vec_len a.groups) × (r.1 < vec_len a.groups);
+      grouped : AreGroups a.contacts.items a.closed.items a.groups.items;
+      closed_long : vec_len a.closed ≡ vec_len a.contacts;
+      strong_long : vec_len a.strong ≡ vec_len a.groups;
+      bridges_long : vec_len a.bridges ≡ vec_len a.resistors;
+      areas_long : vec_len a.areas ≡ vec_len a.groups;
+      sums_long : vec_len a.sums ≡ vec_len a.groups;
+      levels_long : vec_len a.levels ≡ vec_len a.groups;
     } };
 }
 
@@ -78,7 +78,12 @@ fn zeros(alloc: Global, count: usize) -> Result<Vec<u16>, AllocError>
 }
 
 /// The groups of so many nets where no contact is closed.
-fn first_groups(alloc: Global, contacts: &[(u16, u16)], closed: &[bool], count: usize) -> Result<Vec<u16>, AllocError>
+fn first_groups(
+    alloc: Global,
+    contacts: &[(u16, u16)],
+    closed: &[bool],
+    count: usize,
+) -> Result<Vec<u16>, AllocError>
     requires contacts { (k : ℕ) (c : ℕ × ℕ) → slice_get contacts.now k ≡ Some c → (c.0 < count) × (c.1 < count) }
     requires closed { length closed.now ≡ length contacts.now }
     requires few { count ≤ 65536 }

@@ -158,7 +158,8 @@ impl<'a> Sight<'a> {
         requires drives { length self.now.drives.now ≡ length self.now.net_of.now }
         ensures { result ≡ passes self.now.nets self.now.net_of.now self.now.contacts.now self.now.resistors.now self.now.closed.now self.now.drives.now n m }
     {
-        !self.is_driven_here(n) & (is_closed_over(self.contacts, self.closed, n, m) | is_joined(self.resistors, n, m))
+        !self.is_driven_here(n)
+            & (is_closed_over(self.contacts, self.closed, n, m) | is_joined(self.resistors, n, m))
     }
 
     /// Whether at most k such steps lead from n to m.
@@ -213,7 +214,10 @@ impl<'a> Sight<'a> {
         ensures { IfOk result (λ l. l ≡ level_of self.now.nets self.now.net_of.now self.now.contacts.now self.now.resistors.now self.now.closed.now self.now.drives.now n) }
     {
         if self.is_driven_here(n) {
-            return Ok(level_of_value(self.has_strong_here(n, true), self.has_strong_here(n, false)));
+            return Ok(level_of_value(
+                self.has_strong_here(n, true),
+                self.has_strong_here(n, false),
+            ));
         }
         let mut collected = Vec::new(alloc);
         self.collect_strong(n, &mut collected)?;
@@ -223,7 +227,12 @@ impl<'a> Sight<'a> {
 }
 
 /// The levels of all nets.
-pub fn plain_levels(alloc: Global, wiring: &Wiring, drives: &[Drive], closed: &[bool]) -> Result<List<Level>, OutOfMemory>
+pub fn plain_levels(
+    alloc: Global,
+    wiring: &Wiring,
+    drives: &[Drive],
+    closed: &[bool],
+) -> Result<List<Level>, OutOfMemory>
     requires closed { length closed.now ≡ length wiring.now.contacts }
     requires drives { length drives.now ≡ length wiring.now.net_of }
     ensures { IfOk result (λ ls. ls ≡ resolve wiring.now.nets wiring.now.net_of wiring.now.contacts wiring.now.resistors closed.now drives.now) }

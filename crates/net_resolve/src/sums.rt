@@ -94,7 +94,14 @@ pub(crate) fn add_strong(net_of: &[u16], drives: &[Drive], groups: &[u16], sums:
 }
 
 /// Adds a weak drive of a pin, to the sum of the area of its net, where that net is loose.
-fn add_weak_of(net: u16, drive: Drive, groups: &[u16], strong: &[Level], areas: &[u16], sums: &mut [Level])
+fn add_weak_of(
+    net: u16,
+    drive: Drive,
+    groups: &[u16],
+    strong: &[Level],
+    areas: &[u16],
+    sums: &mut [Level],
+)
     requires net { net < length groups.now }
     requires group { slice_index groups.now net < length strong.now }
     requires places { length areas.now ≡ length groups.now }
@@ -108,7 +115,14 @@ fn add_weak_of(net: u16, drive: Drive, groups: &[u16], strong: &[Level], areas: 
 }
 
 /// Adds the weak drives of all pins on loose nets, to the sum of each net's area.
-pub(crate) fn add_weak(net_of: &[u16], drives: &[Drive], groups: &[u16], strong: &[Level], areas: &[u16], sums: &mut [Level])
+pub(crate) fn add_weak(
+    net_of: &[u16],
+    drives: &[Drive],
+    groups: &[u16],
+    strong: &[Level],
+    areas: &[u16],
+    sums: &mut [Level],
+)
     requires pins { length drives.now ≡ length net_of.now }
     requires nets { (k : ℕ) → k < length net_of.now → slice_index net_of.now k < length groups.now }
     requires groups { (n : ℕ) → n < length groups.now → slice_index groups.now n < length strong.now }
@@ -139,7 +153,13 @@ fn add_over(from: u16, to: u16, groups: &[u16], strong: &[Level], areas: &[u16],
 }
 
 /// Adds the strong values that resistors bring to loose areas.
-pub(crate) fn add_resistors(resistors: &[(u16, u16)], groups: &[u16], strong: &[Level], areas: &[u16], sums: &mut [Level])
+pub(crate) fn add_resistors(
+    resistors: &[(u16, u16)],
+    groups: &[u16],
+    strong: &[Level],
+    areas: &[u16],
+    sums: &mut [Level],
+)
     requires resistors { (k : ℕ) (r : ℕ × ℕ) → slice_get resistors.now k ≡ Some r → (r.0 < length groups.now) × (r.1 < length groups.now) }
     requires groups { (n : ℕ) → n < length groups.now → slice_index groups.now n < length strong.now }
     requires places { length areas.now ≡ length groups.now }
@@ -154,7 +174,13 @@ pub(crate) fn add_resistors(resistors: &[(u16, u16)], groups: &[u16], strong: &[
 }
 
 /// Writes the level of each net.
-pub(crate) fn put_levels(groups: &[u16], strong: &[Level], areas: &[u16], sums: &[Level], levels: &mut [Level])
+pub(crate) fn put_levels(
+    groups: &[u16],
+    strong: &[Level],
+    areas: &[u16],
+    sums: &[Level],
+    levels: &mut [Level],
+)
     requires places { length areas.now ≡ length groups.now }
     requires levels { length levels.old ≡ length groups.now }
     requires groups { (n : ℕ) → n < length groups.now → slice_index groups.now n < length strong.now }
@@ -163,6 +189,10 @@ pub(crate) fn put_levels(groups: &[u16], strong: &[Level], areas: &[u16], sums: 
 {
     for n in 0..levels.len() {
         let own = strong[groups[n] as usize];
-        levels[n] = if is_level_z(own) { sums[areas[n] as usize] } else { own };
+        levels[n] = if is_level_z(own) {
+            sums[areas[n] as usize]
+        } else {
+            own
+        };
     }
 }

@@ -41,7 +41,7 @@ loop-i-preserved g c =
           (e.state ∙ ap (λ (l : List Level). (m.step (p.state x) c.args.cycle l (input_at c.args.given.now c.args.cycle i)).0) (own ls is));
       answers = λ ls is. take_set_more c.loop-i.answers _ i c.wake_one-byte.result.0 (omega (arith, c.loop-i.auto.answers, c.requires.answers))
           (get_answer m w c.args.given.now ls c.args.cycle i (map p.state c.args.parts.now) (p.state x) (some_map p.state c.args.parts.now i x old)
-            ∙ ap Some (sym (e.byte ∙ ap (λ (l : List Level). (m.step (p.state x) c.args.cycle l (input_at c.args.given.now c.args.cycle i)).1) (own ls is))))
+          ∙ ap Some (sym (e.byte ∙ ap (λ (l : List Level). (m.step (p.state x) c.args.cycle l (input_at c.args.given.now c.args.cycle i)).1) (own ls is))))
           (inv.answers ls is);
       still = λ none. let both = or_none c.loop-i.changed c.wake_one-byte.result.1 none in
           done_more _ i c.args.parts.now c.loop-i.parts x c.wake_one-byte.new.part (inv.still both.0) c.loop-i-test.true old (e.drives both.1, e.contacts both.1);

@@ -1,5 +1,4 @@
-use Rattle.std.proofs.Common.{◌≡◌, ℕ, ◌+◌, ◌≤◌, ◌<◌, List, take, map, length, false, Some}
-use Rattle.std.specs.Prelude.{slice_get}
+use Rattle.std.proofs.Common.{◌≡◌, ◌+◌, List, take, map, false}
 use Rattle.sim_base.specs.declared.signal.Level.{Level}
 use Rattle.board_model.specs.Board.{part_step, steps_from, level_at}
 use Rattle.board_model.proofs.Lists.{Done}

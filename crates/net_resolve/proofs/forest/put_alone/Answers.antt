@@ -1,4 +1,4 @@
-use Rattle.std.proofs.Common.{◌≤◌, ◌<◌, ◌∙◌, arith, length}
+use Rattle.std.proofs.Common.{◌≤◌, ◌∙◌, arith, length}
 use Rattle.board_model.specs.Walks.{below}
 use Rattle.board_model.proofs.Lists.{take_set_more, get-below, length-below, all_taken, take_whole}
 use Rattle.net_resolve.proofs.forest.put_alone.Goals as goal

@@ -1,4 +1,4 @@
-use Rattle.std.proofs.Common.{◌≡◌, ℕ, ◌≤◌}
+use Rattle.std.proofs.Common.{◌≡◌, ◌≤◌}
 use Rattle.net_resolve.specs.Forest.{root_of}
 use Rattle.net_resolve.proofs.forest.root.Given as goal
 

@@ -1,6 +1,5 @@
 use Rattle.std.proofs.Common.{◌<◌, ◌+◌, ◌∙◌, sym, ap, arith, length, subst, false, Some, get_or, List, ℕ}
 use Rattle.std.proofs.lemmas.Option.{slice_get-get_or}
-use Rattle.net_resolve.specs.Forest.{root_of}
 use Rattle.net_resolve.proofs.ContactLemmas.{Joining, joining_start, joining_more, joining_less, joining_end}
 use Rattle.net_resolve.proofs.groups.join_chosen.Goals as goal
 use Rattle.net_resolve.proofs.groups.join_chosen.Goals.{then-chosen-i, else-chosen-i}

@@ -1,4 +1,4 @@
-use Rattle.std.proofs.Common.{sym, subst, length, ℕ, List}
+use Rattle.std.proofs.Common.{sym, subst, length}
 use Rattle.net_resolve.specs.Forest.{AreLabels}
 use Rattle.net_resolve.proofs.ReachLemmas.{below_labels}
 use Rattle.net_resolve.proofs.levels.group_nets.Goals as goal

@@ -1,4 +1,4 @@
-use Rattle.std.proofs.Common.{◌<◌, ◌∙◌, ℕ, arith, length}
+use Rattle.std.proofs.Common.{◌<◌, ◌∙◌, arith, length}
 use Rattle.net_resolve.proofs.AreaLemmas.{Grouped}
 use Rattle.net_resolve.proofs.ResolveLemmas.{levels_are}
 use Rattle.net_resolve.proofs.levels.resolve_groups.Goals as goal
@@ -15,4 +15,4 @@ returns c = λ contacts closed grouped.
     } in
     c.put_levels.ensures
     ∙ levels_are c.args.net_of.now contacts c.args.resistors.now closed c.args.drives.now groups strong g c.find_areas.new.areas (omega (arith, c.find_areas.auto.areas, c.requires.areas)) c.find_areas.ensures.labels c.find_areas.ensures.joins
-        c.sum_areas.new.sums (λ a (l : a < length groups). c.sum_areas.ensures a (omega (arith, c.requires.sums)))
+    c.sum_areas.new.sums (λ a (l : a < length groups). c.sum_areas.ensures a (omega (arith, c.requires.sums)))

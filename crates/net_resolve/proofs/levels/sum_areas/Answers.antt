@@ -1,4 +1,4 @@
-use Rattle.std.proofs.Common.{ℕ, ◌∙◌, ap, arith}
+use Rattle.std.proofs.Common.{ℕ, ◌∙◌, ap}
 use Rattle.std.specs.Prelude.{◌==◌, ◌&&◌, slice_index}
 use Rattle.std.specs.List.{zip}
 use Rattle.sim_base.specs.declared.signal.Level.{Level}
@@ -12,4 +12,4 @@ returns c = λ a l.
     let areas = c.args.areas.now in
     c.add_weak.ensures a
     ∙ ap (λ (x : Level). added weak_level (λ (n : ℕ). is_loose groups strong n && (slice_index areas n == a)) x (zip c.args.net_of.now c.args.drives.now))
-        (c.add_resistors.ensures a ∙ ap (λ (x : Level). resistors_add groups strong areas a x c.args.resistors.now) (c.clear.ensures a l))
+    (c.add_resistors.ensures a ∙ ap (λ (x : Level). resistors_add groups strong areas a x c.args.resistors.now) (c.clear.ensures a l))

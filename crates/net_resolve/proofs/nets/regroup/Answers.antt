@@ -1,4 +1,4 @@
-use Rattle.std.proofs.Common.{◌≡◌, sym, subst, List, Bool}
+use Rattle.std.proofs.Common.{sym, subst, List, Bool}
 use Rattle.net_resolve.specs.Forest.{AreGroups}
 use Rattle.net_resolve.proofs.SumLemmas.{same_flags}
 use Rattle.net_resolve.proofs.nets.regroup.Goals as goal

@@ -1,4 +1,4 @@
-use Rattle.std.proofs.Common.{ℕ, ◌+◌, drop, ◌∙◌, sym, ap, get_or}
+use Rattle.std.proofs.Common.{◌+◌, drop, ◌∙◌, sym, ap, get_or}
 use Rattle.sim_base.specs.declared.signal.Level.{Level}
 use Rattle.net_resolve.specs.Sums.{sum_at, over_adds, resistors_add}
 use Rattle.net_resolve.proofs.SumLemmas.{resistors_next, resistors_end}

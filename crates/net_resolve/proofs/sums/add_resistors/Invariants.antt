@@ -1,4 +1,4 @@
-use Rattle.std.proofs.Common.{◌≡◌, ℕ, ◌<◌, drop, length}
+use Rattle.std.proofs.Common.{◌≡◌, ℕ, drop}
 use Rattle.net_resolve.specs.Sums.{sum_at, resistors_add}
 use Rattle.net_resolve.proofs.sums.add_resistors.Given as goal
 

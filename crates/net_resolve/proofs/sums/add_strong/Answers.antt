@@ -1,4 +1,4 @@
-use Rattle.std.proofs.Common.{◌≡◌, ◌<◌, ◌+◌, ℕ, drop, ◌∙◌, sym, ap, arith, get_or}
+use Rattle.std.proofs.Common.{◌+◌, ℕ, drop, ◌∙◌, sym, ap, arith, get_or}
 use Rattle.std.specs.Prelude.{◌==◌, slice_index}
 use Rattle.std.specs.List.{zip}
 use Rattle.sim_base.specs.declared.signal.Level.{Level}
@@ -16,7 +16,7 @@ loop-i-preserved c = λ g.
     let inside = c.requires.groups (get_or c.args.net_of.now i 0) (c.requires.nets i c.loop-i-test.true) in
     let next = added_next strong_level counts (sum_at sums g) c.args.net_of.now c.args.drives.now i c.loop-i-test.true c.requires.pins in
     let here = sum_set sums k g c.sum.result (strong_level (get_or c.args.drives.now i drives.Z)) (omega (arith, inside, c.loop-i.auto.sums))
-        (c.sum.ensures ∙ ap (λ (x : Level). together (sum_at sums k) x) c.strong.ensures) in
+    (c.sum.ensures ∙ ap (λ (x : Level). together (sum_at sums k) x) c.strong.ensures) in
     ap (λ (x : Level). added strong_level counts x (zip (drop (i + 1) c.args.net_of.now) (drop (i + 1) c.args.drives.now))) here ∙ sym next ∙ c.loop-i.invariant g
 
 pub returns : goal.returns

@@ -1,4 +1,4 @@
-use Rattle.std.proofs.Common.{ℕ, ◌+◌, drop, ◌∙◌, sym, ap, arith, get_or}
+use Rattle.std.proofs.Common.{ℕ, ◌+◌, drop, ◌∙◌, sym, ap, get_or}
 use Rattle.std.specs.Prelude.{◌==◌, ◌&&◌, slice_index}
 use Rattle.std.specs.List.{zip}
 use Rattle.sim_base.specs.declared.signal.Level.{Level}

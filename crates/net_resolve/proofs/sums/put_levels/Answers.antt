@@ -1,5 +1,4 @@
-use Rattle.std.proofs.Common.{◌≡◌, ◌<◌, ◌≤◌, ℕ, ◌∙◌, sym, ap, arith, length, map, Some, true, false, List, take}
-use Rattle.sim_base.specs.declared.signal.Level.{Level}
+use Rattle.std.proofs.Common.{◌≡◌, ◌<◌, ◌≤◌, ◌∙◌, sym, ap, arith, length, map, Some, true, false}
 use Rattle.std.proofs.lemmas.List.{length-map}
 use Rattle.board_model.specs.Walks.{below}
 use Rattle.board_model.proofs.Lists.{take_set_more, some_map, get-below, length-below, all_taken, take_whole}

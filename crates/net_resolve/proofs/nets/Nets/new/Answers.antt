@@ -1,4 +1,4 @@
-use Rattle.std.proofs.Common.{◌≡◌, ◌<◌, sym, subst, List, ℕ, Some, length}
+use Rattle.std.proofs.Common.{◌≡◌, subst, List, ℕ, Some}
 use Rattle.std.specs.Prelude.{slice_get}
 use Rattle.net_resolve.proofs.nets.Nets.new.Goals as goal
 

@@ -1,6 +1,5 @@
-use Rattle.std.proofs.Common.{◌≡◌, ◌++◌, map, drop}
-use Rattle.std.specs.Prelude.{filter, ◌&&◌, not}
-use Rattle.std.specs.List.{zip}
+use Rattle.std.proofs.Common.{◌≡◌, ◌++◌}
+use Rattle.std.specs.Prelude.{◌&&◌, not}
 use Rattle.sim_base.specs.Signal.{is_weak}
 use Rattle.board_model.specs.Resolve.{reaches, is_driven}
 use Rattle.net_resolve.proofs.PlainLemmas.{weak_from}
