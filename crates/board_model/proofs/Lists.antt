@@ -132,17 +132,17 @@ Filled {A = A} {B = B} R i old new = (k : ℕ) (p : A) (b : B) → k < i → sli
 pub filled_more : {A B : Type 0} (R : ℕ → A → B → Type 0) (i : ℕ) (old : List A) (new : List B) (p : A) (b : B) →
     Filled R i old new → i < length new → slice_get old i ≡ Some p → R i p b → Filled R (i + 1) old (slice_set new i b)
 filled_more {A = A} {B = B} R i old new p b f h at r k x y l ex ey = elim (lt_or_eq k i l) [
-    | inl less ↦
-        let other : k ≢ i = omega arith in
-        let e : slice_get new k ≡ Some y = sym (get_set_other new i k b other) ∙ ey in
-        f k x y less ex e
-    | inr same ↦
-        let e1 : slice_get old i ≡ Some x = subst (λ (j : ℕ). slice_get old j ≡ Some x) same ex in
-        let e2 : slice_get (slice_set new i b) i ≡ Some y = subst (λ (j : ℕ). slice_get (slice_set new i b) j ≡ Some y) same ey in
-        let ep : p ≡ x = some_same (sym at ∙ e1) in
-        let eb : b ≡ y = some_same (sym (get_set_same new i b h) ∙ e2) in
-        subst (λ (j : ℕ). R j x y) (sym same) (subst (λ (z : B). R i x z) eb (subst (λ (z : A). R i z b) ep r))
-  ]
+  | inl less ↦
+      let other : k ≢ i = omega arith in
+      let e : slice_get new k ≡ Some y = sym (get_set_other new i k b other) ∙ ey in
+      f k x y less ex e
+  | inr same ↦
+      let e1 : slice_get old i ≡ Some x = subst (λ (j : ℕ). slice_get old j ≡ Some x) same ex in
+      let e2 : slice_get (slice_set new i b) i ≡ Some y = subst (λ (j : ℕ). slice_get (slice_set new i b) j ≡ Some y) same ey in
+      let ep : p ≡ x = some_same (sym at ∙ e1) in
+      let eb : b ≡ y = some_same (sym (get_set_same new i b h) ∙ e2) in
+      subst (λ (j : ℕ). R j x y) (sym same) (subst (λ (z : B). R i x z) eb (subst (λ (z : A). R i z b) ep r))
+]
 
 -- lists that have the same items
 pub same_lists : {A : Type 0} (xs ys : List A) → length xs ≡ length ys → ((k : ℕ) (x y : A) → slice_get xs k ≡ Some x → slice_get ys k ≡ Some y → x ≡ y) → xs ≡ ys
@@ -176,6 +176,7 @@ lent_whole n xs ws e h =
     drop_all (suc n) [] h = refl
     drop_all zero (x ∷ xs) h = absurd (omega arith)
     drop_all (suc n) (x ∷ xs) h = drop_all n xs (omega arith)
+
     nothing_there : {B : Type 0} (xs : List B) → xs ++ [] ≡ xs
     nothing_there [] = refl
     nothing_there {B = B} (x ∷ xs) = ap (λ (l : List B). x ∷ l) (nothing_there xs)
@@ -202,6 +203,6 @@ get_front (x ∷ xs) ys (suc k) h = get_front xs ys k (omega arith)
 pub get-below : (n k : ℕ) → k < n → slice_get (below n) k ≡ Some k
 get-below zero k h = absurd (omega arith)
 get-below (suc n) k h = elim (lt_or_eq k n (omega arith)) [
-    | inl less ↦ let l : k < length (below n) = omega (arith, length-below n) in get_front (below n) (n ∷ []) k l ∙ get-below n k less
-    | inr same ↦ subst (λ (j : ℕ). slice_get (below (suc n)) j ≡ Some j) (sym same) (subst (λ (j : ℕ). slice_get (below (suc n)) j ≡ Some n) (length-below n) (get_last (below n) n))
-  ]
+  | inl less ↦ let l : k < length (below n) = omega (arith, length-below n) in get_front (below n) (n ∷ []) k l ∙ get-below n k less
+  | inr same ↦ subst (λ (j : ℕ). slice_get (below (suc n)) j ≡ Some j) (sym same) (subst (λ (j : ℕ). slice_get (below (suc n)) j ≡ Some n) (length-below n) (get_last (below n) n))
+]
