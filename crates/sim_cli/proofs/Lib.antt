@@ -1,0 +1,6 @@
+mod WriteLemmas
+mod EndLemmas
+mod PromiseLemmas
+mod LineLemmas
+mod PlayLemmas
+mod BareLemmas

@@ -1,0 +1,103 @@
+use Rattle.std.proofs.Common.{map, string_bytes}
+use Rattle.run_model.specs.Request.{request_of}
+use Rattle.sim_cli.specs.Outcomes.{outcome_of}
+use Rattle.sim_cli.proofs.EndLemmas.{told, complains, complains_since}
+use Rattle.sim_cli.proofs.PromiseLemmas.{words_alone, answered, complete, holds_answer, stopped, true_stop, has_cause, holds_front, complains_alone, is_status}
+use Rattle.sim_cli.proofs.simulation.simulate.Goals as goal
+
+pub returns-clause-does : goal.returns-clause-does
+returns-clause-does g c =
+    let words = map string_bytes c.args.words.now in
+    let a = g.B.Bench.outside c.args.bench.now in
+    let m = g.B.Bench.outside c.work-outcome.new.bench in
+    let b = g.B.Bench.outside c.tell-end.new.bench in
+    record {
+      outcome = outcome_of c.work-outcome.result;
+      is_status = c.status.ensures;
+      happens = told (outcome_of c.work-outcome.result) (request_of words) a m b c.tell-end.ensures.quiet c.work-outcome.ensures.happens c.tell-end.ensures.others;
+      complains = complains_since _ a m b c.work-outcome.ensures.silent (complains c.tell-end.result _ m b c.tell-end.ensures.wrote);
+    }
+
+pub returns-clause-words : goal.returns-clause-words
+returns-clause-words g c =
+    let words = map string_bytes c.args.words.now in
+    let a = g.B.Bench.outside c.args.bench.now in
+    let m = g.B.Bench.outside c.work-outcome.new.bench in
+    let b = g.B.Bench.outside c.tell-end.new.bench in
+    rw c.status.ensures (words_alone (outcome_of c.work-outcome.result) (request_of words) a b
+    (told (outcome_of c.work-outcome.result) (request_of words) a m b c.tell-end.ensures.quiet c.work-outcome.ensures.happens c.tell-end.ensures.others))
+
+pub returns-clause-answered : goal.returns-clause-answered
+returns-clause-answered g c =
+    let words = map string_bytes c.args.words.now in
+    let a = g.B.Bench.outside c.args.bench.now in
+    let m = g.B.Bench.outside c.work-outcome.new.bench in
+    let b = g.B.Bench.outside c.tell-end.new.bench in
+    rw c.status.ensures (answered (outcome_of c.work-outcome.result) (request_of words) a b
+    (told (outcome_of c.work-outcome.result) (request_of words) a m b c.tell-end.ensures.quiet c.work-outcome.ensures.happens c.tell-end.ensures.others))
+
+pub returns-clause-complete : goal.returns-clause-complete
+returns-clause-complete g c =
+    let words = map string_bytes c.args.words.now in
+    let a = g.B.Bench.outside c.args.bench.now in
+    let m = g.B.Bench.outside c.work-outcome.new.bench in
+    let b = g.B.Bench.outside c.tell-end.new.bench in
+    rw c.status.ensures (complete (outcome_of c.work-outcome.result) (request_of words) a b
+    (told (outcome_of c.work-outcome.result) (request_of words) a m b c.tell-end.ensures.quiet c.work-outcome.ensures.happens c.tell-end.ensures.others))
+
+pub returns-clause-holds : goal.returns-clause-holds
+returns-clause-holds g c =
+    let words = map string_bytes c.args.words.now in
+    let a = g.B.Bench.outside c.args.bench.now in
+    let m = g.B.Bench.outside c.work-outcome.new.bench in
+    let b = g.B.Bench.outside c.tell-end.new.bench in
+    rw c.status.ensures (holds_answer (outcome_of c.work-outcome.result) (request_of words) a b
+    (told (outcome_of c.work-outcome.result) (request_of words) a m b c.tell-end.ensures.quiet c.work-outcome.ensures.happens c.tell-end.ensures.others))
+
+pub returns-clause-stopped : goal.returns-clause-stopped
+returns-clause-stopped g c =
+    let words = map string_bytes c.args.words.now in
+    let a = g.B.Bench.outside c.args.bench.now in
+    let m = g.B.Bench.outside c.work-outcome.new.bench in
+    let b = g.B.Bench.outside c.tell-end.new.bench in
+    rw c.status.ensures (stopped (outcome_of c.work-outcome.result) (request_of words) a b
+    (told (outcome_of c.work-outcome.result) (request_of words) a m b c.tell-end.ensures.quiet c.work-outcome.ensures.happens c.tell-end.ensures.others))
+
+pub returns-clause-true_stop : goal.returns-clause-true_stop
+returns-clause-true_stop g c =
+    let words = map string_bytes c.args.words.now in
+    let a = g.B.Bench.outside c.args.bench.now in
+    let m = g.B.Bench.outside c.work-outcome.new.bench in
+    let b = g.B.Bench.outside c.tell-end.new.bench in
+    rw c.status.ensures (true_stop (outcome_of c.work-outcome.result) (request_of words) a b
+    (told (outcome_of c.work-outcome.result) (request_of words) a m b c.tell-end.ensures.quiet c.work-outcome.ensures.happens c.tell-end.ensures.others))
+
+pub returns-clause-cause : goal.returns-clause-cause
+returns-clause-cause g c =
+    let words = map string_bytes c.args.words.now in
+    let a = g.B.Bench.outside c.args.bench.now in
+    let m = g.B.Bench.outside c.work-outcome.new.bench in
+    let b = g.B.Bench.outside c.tell-end.new.bench in
+    rw c.status.ensures (has_cause (outcome_of c.work-outcome.result) (request_of words) a b
+    (told (outcome_of c.work-outcome.result) (request_of words) a m b c.tell-end.ensures.quiet c.work-outcome.ensures.happens c.tell-end.ensures.others))
+
+pub returns-clause-front : goal.returns-clause-front
+returns-clause-front g c =
+    let words = map string_bytes c.args.words.now in
+    let a = g.B.Bench.outside c.args.bench.now in
+    let m = g.B.Bench.outside c.work-outcome.new.bench in
+    let b = g.B.Bench.outside c.tell-end.new.bench in
+    rw c.status.ensures (holds_front (outcome_of c.work-outcome.result) (request_of words) a b
+    (told (outcome_of c.work-outcome.result) (request_of words) a m b c.tell-end.ensures.quiet c.work-outcome.ensures.happens c.tell-end.ensures.others))
+
+pub returns-clause-silent : goal.returns-clause-silent
+returns-clause-silent g c =
+    let words = map string_bytes c.args.words.now in
+    let a = g.B.Bench.outside c.args.bench.now in
+    let m = g.B.Bench.outside c.work-outcome.new.bench in
+    let b = g.B.Bench.outside c.tell-end.new.bench in
+    rw c.status.ensures (complains_alone (outcome_of c.work-outcome.result) (request_of words) a b
+    (told (outcome_of c.work-outcome.result) (request_of words) a m b c.tell-end.ensures.quiet c.work-outcome.ensures.happens c.tell-end.ensures.others))
+
+pub returns-clause-status : goal.returns-clause-status
+returns-clause-status g c = rw c.status.ensures (is_status (outcome_of c.work-outcome.result))

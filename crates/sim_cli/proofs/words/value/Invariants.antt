@@ -1,0 +1,9 @@
+use Rattle.std.proofs.Common.{◌≡◌, ◌<◌, ◌^◌, take}
+use Rattle.run_model.specs.Request.{value_of}
+use Rattle.sim_cli.proofs.words.value.Given as goal
+
+abbrev pub invariant-loop-c : goal.invariant-loop-c
+invariant-loop-c l = record {
+  value : l.n ≡ value_of (take l.c-index l.digits);
+  small : l.n < 10 ^ l.c-index;
+}

@@ -1,0 +1,12 @@
+-- A request without where its texts lie in memory.
+use Rattle.std.specs.Prelude.{◌<◌, ◌≤◌}
+use Rattle.run_model.specs.Request as asks
+use Rattle.sim_cli.specs.declared.words.Request.{Request}
+use Rattle.sim_cli.specs.declared.words.Request.TheVariants as requests
+
+abbrev pub asked_of : Request → asks.Request
+asked_of (requests.Bare hex micros) = asks.Bare hex.now micros
+
+-- the number of microseconds is one that words can give
+abbrev pub IsRunTime : Request → Type 0
+IsRunTime (requests.Bare hex micros) = (0 < micros) × (micros ≤ 10000000)

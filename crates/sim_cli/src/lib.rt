@@ -1,0 +1,17 @@
+//! The program without its edge: the words of the command line, the files that they name, and what
+//! is written on the ports (`run_model`).
+//! `simulate` does all of it and answers the status.
+#![tactic(auto)]
+
+mod bare;
+mod complaint;
+mod outcome;
+mod reading;
+mod simulation;
+#[cfg(test)]
+mod tests;
+mod uno;
+mod words;
+mod writing;
+
+pub use simulation::simulate;

@@ -1,0 +1,59 @@
+//! The top call.
+ghost use Rattle.std.specs.Prelude.{◌≡◌, map, string_bytes};
+ghost use Rattle.run_model.specs.Request.{request_of};
+ghost use Rattle.run_model.specs.Happens.{Happens, Does};
+ghost use Rattle.run_model.specs.Promises.{WordsAlone, IsAnswered, IsComplete, HoldsAnswer, IsStopped, IsTrueStop, HasCause, HoldsFront, ComplainsAlone, IsStatus};
+ghost use Rattle.sim_cli.specs.Outcomes.{outcome_of, SaidNothing};
+
+use crate::bare::bare;
+use crate::complaint::tell;
+use crate::outcome::{Outcome, status};
+use crate::words::{Request, read_words};
+use sim_base::{Bench, Steps};
+use std::alloc::Global;
+use std::sync::ledger::Ledger;
+
+/// The work that the words ask for; Complaint is left alone.
+fn work<'a, B: Bench, L: Ledger>(
+    alloc: Global,
+    words: &'a [String],
+    bench: &mut B,
+    steps: &mut Steps<L>,
+) -> Outcome<'a>
+    ensures happens { Happens (outcome_of result) (request_of (map string_bytes words.now)) (B.outside bench.old) (B.outside bench.new) }
+    ensures silent { SaidNothing (B.outside bench.old) (B.outside bench.new) }
+{
+    match read_words(words) {
+        Some(Request::Bare(hex, micros)) => bare(alloc, hex, micros, bench, steps),
+        None => Outcome::NoRequest,
+    }
+}
+
+/// Does all that the program does for its words, which are without its name, and answers its status:
+/// 0 where all is written, 2 where the words ask for nothing known, 3 and 4 where a file is refused
+/// or missing, 5 and 6 where a read or a write failed, 7 where memory is wanting.
+pub fn simulate<B: Bench, L: Ledger>(
+    alloc: Global,
+    words: &[String],
+    bench: &mut B,
+    steps: &mut Steps<L>,
+) -> u8
+    // All at once: the outcome with its cause, the ports, and the line on Complaint.
+    ensures does { Does result (map string_bytes words.now) (B.outside bench.old) (B.outside bench.new) }
+
+    // What follows from it, promise by promise.
+    ensures status { IsStatus result }
+    ensures words { WordsAlone result (request_of (map string_bytes words.now)) }
+    ensures answered { IsAnswered result (request_of (map string_bytes words.now)) (B.outside bench.old) (B.outside bench.new) }
+    ensures complete { IsComplete result (request_of (map string_bytes words.now)) (B.outside bench.old) (B.outside bench.new) }
+    ensures holds { HoldsAnswer result (request_of (map string_bytes words.now)) (B.outside bench.old) (B.outside bench.new) }
+    ensures stopped { IsStopped result (request_of (map string_bytes words.now)) (B.outside bench.old) (B.outside bench.new) }
+    ensures true_stop { IsTrueStop result (request_of (map string_bytes words.now)) (B.outside bench.old) }
+    ensures cause { HasCause result (B.outside bench.old) (B.outside bench.new) }
+    ensures front { HoldsFront result (request_of (map string_bytes words.now)) (B.outside bench.old) (B.outside bench.new) }
+    ensures silent { ComplainsAlone result (B.outside bench.old) (B.outside bench.new) }
+{
+    let outcome = work(alloc, words, bench, steps);
+    let _end = tell(outcome, bench);
+    status(outcome)
+}

@@ -1,0 +1,29 @@
+#!/bin/sh
+# Runs every example and compares what it writes with its expected/ files. Ends with 1 where one differs.
+here=$(cd "$(dirname "$0")" && pwd)
+program=$here/../mudflatjar
+bad=0
+
+# the value on pins 0 to 7 at each rise of pin 8
+pulses() {
+    awk '
+        /^\$var/ { split($5, name, "."); pin[$4] = name[2] }
+        /^[01xz]/ {
+            p = pin[substr($0, 2)]; v = substr($0, 1, 1)
+            if (p == "8" && v == "1" && level[8] != "1") rise = 1
+            level[p] = v
+        }
+        /^#/ { show() }
+        END { show() }
+        function show(  i, n) {
+            if (rise) { n = 0; for (i = 7; i >= 0; i--) n = 2 * n + (level[i] == "1"); print n }
+            rise = 0
+        }'
+}
+same() { # NAME, EXPECTED; the text at hand on standard input
+    if cmp -s - "$2"; then echo "$1: ok"; else echo "$1: differs from $2"; return 1; fi
+}
+"$program" bare "$here/blink/blink.hex" 1 | same blink "$here/blink/expected/wave.vcd" || bad=1
+"$program" bare "$here/crc/crc.hex" 300 | pulses | same crc "$here/crc/expected/pulses.txt" || bad=1
+"$program" bare "$here/sort/sort.hex" 100 | pulses | same sort "$here/sort/expected/pulses.txt" || bad=1
+exit $bad
