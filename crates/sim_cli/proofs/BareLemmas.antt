@@ -43,8 +43,17 @@ is_wiring = record {
   resistors = λ k r e. absurd (cc);
 }
 
-pub fits : (s : Mcu) → Fits mcu uno_wiring (s ∷ [])
-fits s = record {
+-- the same with one resistor between two nets that there are
+pub is_wiring_with : (a b : ℕ) → a < 29 → b < 29 → IsWiring (record uno_wiring { resistors = (a, b) ∷ [] })
+is_wiring_with a b l m = record {
+  pins = is_wiring.pins;
+  contacts = is_wiring.contacts;
+  resistors = λ k r e. subst (λ (x : ℕ × ℕ). (x.0 < 29) × (x.1 < 29)) (only (a, b) r k e) (l, m);
+}
+
+-- one microcontroller suits the wiring of an Uno, with any resistors
+pub fits : (resistors : List (ℕ × ℕ)) (s : Mcu) → Fits mcu (record uno_wiring { resistors = resistors }) (s ∷ [])
+fits resistors s = record {
   parts = refl;
   chips = refl;
   pins = sym (ap (λ (l : List Drive). length l) (append-nil (uno_drives s.units.ports)) ∙ length-uno_drives s.units.ports);

@@ -20,7 +20,7 @@ use std::sync::ledger::Ledger;
 use vcd_text::{WaveHead, WaveWriter};
 
 /// The one part of the board, at cycle 0.
-fn make_parts(alloc: Global, flash: Flash) -> Result<List<Mcu>, OutOfMemory>
+pub(crate) fn make_parts(alloc: Global, flash: Flash) -> Result<List<Mcu>, OutOfMemory>
     ensures { IfOk result (λ l. l ≡ fresh flash ∷ []) }
 {
     let mut parts = List::new(alloc);

@@ -4,6 +4,8 @@
 #![tactic(auto)]
 
 mod bare;
+#[cfg(test)]
+mod board_tests;
 mod complaint;
 mod outcome;
 mod reading;

@@ -34,7 +34,7 @@ pub(crate) fn make_wiring(alloc: Global) -> Result<Wiring, OutOfMemory>
     })
 }
 
-fn make_variable(
+pub(crate) fn make_variable(
     alloc: Global,
     prefix: &str,
     number: u16,

@@ -1,3 +1,4 @@
+use Rattle.std.proofs.Common.{[]}
 use Rattle.avr_mcu.specs.Mcu.{start}
 use Rattle.sim_cli.proofs.BareLemmas.{is_wiring, fits}
 use Rattle.sim_cli.proofs.bare.make_board.Goals as goal
@@ -6,4 +7,4 @@ pub new-requires-2-clause-wiring : goal.new-requires-2-clause-wiring
 new-requires-2-clause-wiring c = rw c.in_ok-wiring.ensures is_wiring
 
 pub new-requires-2-clause-fits : goal.new-requires-2-clause-fits
-new-requires-2-clause-fits c = rw (c.in_ok-wiring.ensures, c.in_ok-parts.ensures) (fits (start c.args.flash))
+new-requires-2-clause-fits c = rw (c.in_ok-wiring.ensures, c.in_ok-parts.ensures) (fits [] (start c.args.flash))
