@@ -5,3 +5,4 @@ pub mod ScriptLemmas
 pub mod WakeLemmas
 pub mod CycleLemmas
 pub mod RunLemmas
+pub mod GateLemmas

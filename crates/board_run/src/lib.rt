@@ -5,12 +5,16 @@
 
 mod board;
 mod cycle;
+#[cfg(test)]
+mod gate;
 mod gather;
 mod hand;
 mod reading;
 mod run;
 mod script;
 mod start;
+#[cfg(test)]
+mod tests;
 mod wake;
 
 pub use board::{Board, RunEnd};

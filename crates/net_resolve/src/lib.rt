@@ -9,6 +9,8 @@ mod levels;
 mod nets;
 mod plain;
 mod sums;
+#[cfg(test)]
+mod tests;
 
-pub use nets::Nets;
+pub use nets::{Nets, has_valid_nets};
 pub use plain::plain_levels;

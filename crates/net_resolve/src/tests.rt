@@ -1,0 +1,163 @@
+//! Worked nets, and every combination of drives on three pins against the plain program of the definition.
+ghost use Rattle.std.specs.Prelude.{◌≡◌, length, IfOk};
+
+use crate::{Nets, has_valid_nets, plain_levels};
+use sim_base::{Drive, Level, List, OutOfMemory, Wiring};
+use std::alloc::{AllocError, Global};
+use std::process::Abort;
+
+const DRIVES: [Drive; 6] = [
+    Drive::Z,
+    Drive::Low,
+    Drive::High,
+    Drive::PullLow,
+    Drive::PullHigh,
+    Drive::Wiper(700),
+];
+
+/// A pin each on nets that contacts and resistors join.
+#[derive(Drop)]
+struct Circuit<'a> {
+    net_of: [u16; 3],
+    contacts: &'a [(u16, u16)],
+    resistors: &'a [(u16, u16)],
+    closed: &'a [bool],
+}
+
+fn list_of<T: Copy>(alloc: Global, items: &[T]) -> Result<List<T>, AllocError>
+    ensures { IfOk result (λ l. l ≡ items.now) }
+{
+    Ok(List::from_vec(Vec::from_slice(alloc, items)?))
+}
+
+fn wiring_of(alloc: Global, circuit: &Circuit) -> Result<Wiring, OutOfMemory>
+    ensures pins { IfOk result (λ w. length w.net_of ≡ 3) }
+    ensures contacts { IfOk result (λ w. w.contacts ≡ circuit.now.contacts.now) }
+{
+    Ok(Wiring {
+        nets: 3,
+        net_of: list_of(alloc, &circuit.net_of)?,
+        contacts: list_of(alloc, circuit.contacts)?,
+        resistors: list_of(alloc, circuit.resistors)?,
+        first_pin: list_of(alloc, &[0])?,
+        chip: list_of(alloc, &[false])?,
+    })
+}
+
+/// The levels of nets 0 to 2 for these drives, which the plain program has too.
+fn levels_of(
+    rt: &impl Abort,
+    alloc: Global,
+    circuit: &Circuit,
+    drives: [Drive; 3],
+) -> Result<List<Level>, OutOfMemory> {
+    let wiring = wiring_of(alloc, circuit)?;
+    assert!(rt; has_valid_nets(&wiring));
+    assert!(rt; circuit.closed.len() == wiring.contacts.len());
+    let mut nets = Nets::new(alloc, &wiring)?;
+    nets.resolve(&drives, circuit.closed);
+    let plain = plain_levels(alloc, &wiring, &drives, circuit.closed)?;
+    assert!(rt; nets.levels() == plain.as_slice());
+    Ok(plain)
+}
+
+#[test]
+fn worked_nets(rt: HostRuntime) -> Result<(), OutOfMemory> {
+    let one_net = Circuit {
+        net_of: [0, 0, 0],
+        contacts: &[],
+        resistors: &[],
+        closed: &[],
+    };
+    let to_each_supply = Circuit {
+        net_of: [0, 1, 2],
+        contacts: &[],
+        resistors: &[(0, 1), (0, 2)],
+        closed: &[],
+    };
+    let in_series = Circuit {
+        net_of: [0, 1, 2],
+        contacts: &[],
+        resistors: &[(0, 1), (1, 2)],
+        closed: &[],
+    };
+    for (circuit, drives, levels) in [
+        (
+            &one_net,
+            [Drive::High, Drive::Low, Drive::Z],
+            [Level::X, Level::Z, Level::Z],
+        ),
+        (
+            &one_net,
+            [Drive::Wiper(700), Drive::Z, Drive::Z],
+            [Level::Wiped(700), Level::Z, Level::Z],
+        ),
+        (
+            &one_net,
+            [Drive::Wiper(700), Drive::PullLow, Drive::Z],
+            [Level::X, Level::Z, Level::Z],
+        ),
+        (
+            &one_net,
+            [Drive::Wiper(100), Drive::PullLow, Drive::Z],
+            [Level::Low, Level::Z, Level::Z],
+        ),
+        (
+            &one_net,
+            [Drive::Wiper(700), Drive::Low, Drive::Z],
+            [Level::Low, Level::Z, Level::Z],
+        ),
+        (
+            &to_each_supply,
+            [Drive::Z, Drive::High, Drive::Low],
+            [Level::X, Level::High, Level::Low],
+        ),
+        (
+            &in_series,
+            [Drive::Z, Drive::Z, Drive::High],
+            [Level::High, Level::High, Level::High],
+        ),
+        (
+            &in_series,
+            [Drive::PullHigh, Drive::Low, Drive::Z],
+            [Level::X, Level::Low, Level::Low],
+        ),
+    ] {
+        let found = levels_of(&rt, rt.alloc(), circuit, drives)?;
+        assert!(rt; found.as_slice() == levels.as_slice(), "{drives:?}");
+    }
+    Ok(())
+}
+
+/// All drives of three pins.
+fn try_all(rt: &impl Abort, alloc: Global, circuit: &Circuit) -> Result<(), OutOfMemory> {
+    for a in DRIVES {
+        for b in DRIVES {
+            for c in DRIVES {
+                levels_of(rt, alloc, circuit, [a, b, c])?;
+            }
+        }
+    }
+    Ok(())
+}
+
+#[test]
+fn every_combination_is_as_the_plain_program_has_it(rt: HostRuntime) -> Result<(), OutOfMemory> {
+    for (net_of, contacts, resistors, closed) in [
+        ([0, 0, 0], [].as_slice(), [].as_slice(), [].as_slice()),
+        ([0, 0, 1], &[], &[(1, 0)], &[]),
+        ([0, 1, 2], &[], &[(0, 1), (1, 2)], &[]),
+        ([0, 1, 2], &[(0, 1)], &[(1, 2)], &[true]),
+        ([0, 1, 2], &[(0, 1)], &[(1, 2)], &[false]),
+        ([0, 1, 2], &[(2, 1), (1, 2)], &[(0, 1)], &[false, true]),
+    ] {
+        let circuit = Circuit {
+            net_of,
+            contacts,
+            resistors,
+            closed,
+        };
+        try_all(&rt, rt.alloc(), &circuit)?;
+    }
+    Ok(())
+}
