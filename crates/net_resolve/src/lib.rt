@@ -12,5 +12,5 @@ mod sums;
 #[cfg(test)]
 mod tests;
 
-pub use nets::Nets;
+pub use nets::{Nets, has_valid_nets};
 pub use plain::plain_levels;

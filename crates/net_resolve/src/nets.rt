@@ -1,5 +1,5 @@
 //! The nets of a board.
-ghost use Rattle.std.specs.Prelude.{◌≡◌, ℕ, ◌<◌, ◌≤◌, List, length, replicate, Some, slice_get, IfOk, vec_len, Bool};
+ghost use Rattle.std.specs.Prelude.{◌≡◌, ℕ, ◌<◌, ◌≤◌, List, length, replicate, Some, slice_get, IfOk, vec_len, Bool, true, false};
 ghost use Rattle.board_model.specs.Fits.{IsWiring};
 ghost use Rattle.board_model.specs.Resolve.{resolve};
 ghost use Rattle.net_resolve.specs.Circuit.{Circuit};
@@ -169,4 +169,38 @@ impl Nets {
     {
         &self.levels
     }
+}
+
+fn are_nets(nets: &[u16], count: u16) -> bool
+    ensures valid { result ≡ true → (k n : ℕ) → slice_get nets.now k ≡ Some n → n < count }
+    ensures invalid { result ≡ false → ((k n : ℕ) → slice_get nets.now k ≡ Some n → n < count) → ⊥ }
+{
+    for net in nets {
+        if *net >= count {
+            return false;
+        }
+    }
+    true
+}
+
+fn are_pairs(pairs: &[(u16, u16)], count: u16) -> bool
+    ensures valid { result ≡ true → (k : ℕ) (c : ℕ × ℕ) → slice_get pairs.now k ≡ Some c → (c.0 < count) × (c.1 < count) }
+    ensures invalid { result ≡ false → ((k : ℕ) (c : ℕ × ℕ) → slice_get pairs.now k ≡ Some c → (c.0 < count) × (c.1 < count)) → ⊥ }
+{
+    for pair in pairs {
+        if pair.0 >= count || pair.1 >= count {
+            return false;
+        }
+    }
+    true
+}
+
+/// Whether each net number in a wiring is below its count of nets.
+pub fn has_valid_nets(wiring: &Wiring) -> bool
+    ensures valid { result ≡ true → IsWiring wiring.now }
+    ensures invalid { result ≡ false → IsWiring wiring.now → ⊥ }
+{
+    are_nets(wiring.net_of.as_slice(), wiring.nets)
+        & are_pairs(wiring.contacts.as_slice(), wiring.nets)
+        & are_pairs(wiring.resistors.as_slice(), wiring.nets)
 }

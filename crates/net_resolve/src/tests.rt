@@ -1,8 +1,7 @@
 //! Worked nets, and every combination of drives on three pins against the plain program of the definition.
-ghost use Rattle.std.specs.Prelude.{◌≡◌, ℕ, ◌<◌, length, slice_get, Some, true, IfOk};
-ghost use Rattle.board_model.specs.Fits.{IsWiring};
+ghost use Rattle.std.specs.Prelude.{◌≡◌, length, IfOk};
 
-use crate::{Nets, plain_levels};
+use crate::{Nets, has_valid_nets, plain_levels};
 use sim_base::{Drive, Level, List, OutOfMemory, Wiring};
 use std::alloc::{AllocError, Global};
 use std::process::Abort;
@@ -43,37 +42,6 @@ fn wiring_of(alloc: Global, circuit: &Circuit) -> Result<Wiring, OutOfMemory>
         first_pin: list_of(alloc, &[0])?,
         chip: list_of(alloc, &[false])?,
     })
-}
-
-fn are_nets(nets: &[u16], count: u16) -> bool
-    ensures { result ≡ true → (k n : ℕ) → slice_get nets.now k ≡ Some n → n < count }
-{
-    for net in nets {
-        if *net >= count {
-            return false;
-        }
-    }
-    true
-}
-
-fn are_pairs(pairs: &[(u16, u16)], count: u16) -> bool
-    ensures { result ≡ true → (k : ℕ) (c : ℕ × ℕ) → slice_get pairs.now k ≡ Some c → (c.0 < count) × (c.1 < count) }
-{
-    for pair in pairs {
-        if pair.0 >= count || pair.1 >= count {
-            return false;
-        }
-    }
-    true
-}
-
-/// Whether each net number in a wiring is below its count of nets.
-fn has_valid_nets(wiring: &Wiring) -> bool
-    ensures { result ≡ true → IsWiring wiring.now }
-{
-    are_nets(wiring.net_of.as_slice(), wiring.nets)
-        & are_pairs(wiring.contacts.as_slice(), wiring.nets)
-        & are_pairs(wiring.resistors.as_slice(), wiring.nets)
 }
 
 /// The levels of nets 0 to 2 for these drives, which the plain program has too.
