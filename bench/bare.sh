@@ -1,7 +1,7 @@
 #!/bin/bash
-# Measures `bare` beside simavr on one firmware that changes no pin, over 160,000,000 cycles (10 s of simulated time):
-# seconds, million cycles a second, and the ratio of the two. The program runs in 64 MiB of address space.
-# simavr is Debian's package; where it is missing, `bare` is measured alone.
+# Measures `bare` beside simavr on two firmwares that change no pin, over 160,000,000 cycles (10 s of simulated time):
+# a loop that counts down, and a CRC over SRAM. Prints seconds, million cycles a second, and the ratio of the two.
+# The program runs in 64 MiB of address space. simavr is Debian's package; where it is missing, `bare` is measured alone.
 set -eu
 here=$(cd "$(dirname "$0")" && pwd)
 program=$here/../mudflatjar
@@ -15,14 +15,15 @@ seconds() { # of a command, the least of three runs
     done
     echo "$best"
 }
-bare() ( ulimit -v 65536; exec "$program" bare "$here/spin.hex" 10000000 )
+bare() ( ulimit -v 65536; exec "$program" bare "$1" 10000000 )
 
-ours=$(seconds bare)
-echo "bare:   $ours s, $(echo "scale=1; 160 / $ours" | bc) million cycles a second, within 64 MiB"
-if command -v simavr >/dev/null; then
-    theirs=$(seconds simavr -m atmega328p -f 16000000 "$here/spin.hex")
-    echo "simavr: $theirs s, $(echo "scale=1; 160 / $theirs" | bc) million cycles a second"
-    echo "bare takes $(echo "scale=2; $ours / $theirs" | bc) times simavr's time"
-else
-    echo "simavr: not installed (Debian's package simavr), so not measured"
-fi
+for firmware in spin crc; do
+    ours=$(seconds bare "$here/$firmware.hex")
+    echo "$firmware: bare takes $ours s, $(echo "scale=1; 160 / $ours" | bc) million cycles a second, within 64 MiB"
+    if command -v simavr >/dev/null; then
+        theirs=$(seconds simavr -m atmega328p -f 16000000 "$here/$firmware.hex")
+        echo "$firmware: simavr takes $theirs s, $(echo "scale=1; 160 / $theirs" | bc) million cycles a second; the ratio is $(echo "scale=2; $ours / $theirs" | bc)"
+    else
+        echo "$firmware: simavr is not installed (Debian's package simavr), so not measured"
+    fi
+done
