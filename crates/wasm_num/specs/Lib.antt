@@ -1,0 +1,4 @@
+pub mod Integer
+pub mod Numeric
+pub mod Mem
+pub mod Traps

@@ -1,0 +1,30 @@
+//! What ends a run of a module before its end.
+ghost use Rattle.std.specs.Prelude.{◌≡◌};
+ghost use Rattle.wasm_num.specs.Traps.{number_of};
+
+/// A trap: of an instruction, of a run's limits (`Exhausted`, `Budget`), or of a host call (from `HostAddress` on).
+#[derive(Clone, Copy, Debug, PartialEq, Eq)]
+pub enum Trap {
+    Unreachable = 1,
+    MemoryBounds = 2,
+    DivideByZero = 3,
+    Overflow = 4,
+    TableBounds = 5,
+    NoElement = 6,
+    TypeMismatch = 7,
+    Exhausted = 8,
+    Budget = 9,
+    HostAddress = 10,
+    HostString = 11,
+    HostPhase = 12,
+    HostLimit = 13,
+}
+
+impl Trap {
+    /// Its number, from 1 on.
+    pub fn number(self) -> u8
+        ensures { result ≡ number_of self }
+    {
+        self as u8
+    }
+}
