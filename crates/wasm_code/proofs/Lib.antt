@@ -1,0 +1,3 @@
+pub mod LimitsLemmas
+pub mod TypeLemmas
+pub mod Nesting

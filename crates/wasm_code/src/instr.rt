@@ -1,0 +1,47 @@
+//! Instructions ("Instructions" of the core specification).
+use crate::labels::Labels;
+use crate::types::ValType;
+
+/// The alignment, as a power of two, and the offset of an access to memory.
+#[derive(Clone, Copy, Debug, PartialEq, Eq)]
+pub struct MemArg {
+    pub align: u32,
+    pub offset: u32,
+}
+
+/// An instruction as a body has it, one for each opcode with its immediates. Loads, stores and
+/// operations on numbers have their opcode; `opcodes` has their types.
+#[derive(Drop)]
+pub enum Instr {
+    Unreachable,
+    Nop,
+    Block(Option<ValType>),
+    Loop(Option<ValType>),
+    If(Option<ValType>),
+    Else,
+    End,
+    Br(u32),
+    BrIf(u32),
+    /// The labels, and the default.
+    BrTable(Labels, u32),
+    Return,
+    Call(u32),
+    CallIndirect(u32),
+    Drop,
+    Select,
+    LocalGet(u32),
+    LocalSet(u32),
+    LocalTee(u32),
+    GlobalGet(u32),
+    GlobalSet(u32),
+    Load(u8, MemArg),
+    Store(u8, MemArg),
+    MemorySize,
+    MemoryGrow,
+    I32Const(u32),
+    I64Const(u64),
+    /// An operation on one number.
+    Unary(u8),
+    /// An operation on two numbers.
+    Binary(u8),
+}

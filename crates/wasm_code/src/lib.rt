@@ -1,0 +1,18 @@
+//! The instructions of WebAssembly modules, their nesting and their typing
+//! (WebAssembly core specification, "Structure" and "Validation").
+//! The calls look a row of the table of opcodes up, or keep nested instructions; one may answer want of memory.
+#![tactic(auto)]
+
+mod expr;
+mod instr;
+mod labels;
+mod opcodes;
+mod type_text;
+mod types;
+
+pub use expr::Expr;
+pub use instr::{Instr, MemArg};
+pub use labels::Labels;
+pub use opcodes::{binary_row, is_float, load_row, store_row, unary_row};
+pub use type_text::{read_global_type, read_limits, table_limits, tables};
+pub use types::{BlockType, FuncType, GlobalType, Limits, ValType};

@@ -1,0 +1,36 @@
+//! Types ("Types" of the core specification).
+use sim_base::List;
+
+/// A value type. Float types are no types of these modules.
+#[derive(Clone, Copy, Debug, PartialEq, Eq)]
+pub enum ValType {
+    I32,
+    I64,
+}
+
+/// The type of a block: no result, or one.
+#[derive(Clone, Copy, Debug, PartialEq, Eq)]
+pub struct BlockType {
+    pub result: Option<ValType>,
+}
+
+/// A function type.
+#[derive(Drop)]
+pub struct FuncType {
+    pub params: List<ValType>,
+    pub results: List<ValType>,
+}
+
+/// The limits of a memory, in pages, or of a table, in entries.
+#[derive(Clone, Copy, Debug, PartialEq, Eq)]
+pub struct Limits {
+    pub least: u32,
+    pub greatest: Option<u32>,
+}
+
+/// The type of a global, and whether it may be changed.
+#[derive(Clone, Copy, Debug, PartialEq, Eq)]
+pub struct GlobalType {
+    pub value: ValType,
+    pub changeable: bool,
+}

@@ -1,0 +1,123 @@
+-- Sections are proper.
+use Rattle.std.proofs.Common.{◌≡◌, ℕ, zero, suc, ◌+◌, ◌-◌, ◌<◌, ◌≤◌, List, [], ◌∷◌, ◌++◌, length, take, Option, Some, None, Bool, true, false, Result, Ok, Err, refl, sym, ap, subst, ◌∙◌, arith, inl, inr, ⊎_elim, append_assoc, length-append, length-take}
+use Rattle.std.specs.Prelude.{◌==◌}
+use Rattle.sim_base.specs.declared.fault.Fault.{Fault}
+use Rattle.wasm_text.specs.declared.reader.Reader.{Reader}
+use Rattle.wasm_text.specs.Form.{Form, give, byte, choose, ◌>>=◌}
+use Rattle.wasm_text.specs.Leb.{u32}
+use Rattle.wasm_text.specs.Lists.{vec, vec_to, sized}
+use Rattle.wasm_text.specs.Names.{name}
+use Rattle.wasm_text.specs.Proper.{Proper}
+use Rattle.wasm_text.specs.Reads.{Reads, Fails}
+use Rattle.wasm_text.proofs.Steps.{append-nil, stops, then_reads, given}
+use Rattle.wasm_text.proofs.Exact.{give_proper, byte_proper, then_proper, unsigned_proper, vec_proper, vec_to_proper, choose_proper, sized_proper, rest_is, recut, whole_is}
+use Rattle.wasm_code.specs.declared.types.FuncType.{FuncType}
+use Rattle.wasm_code.specs.TypeText.{func_type, limits, table_type}
+use Rattle.wasm_code.proofs.LimitsLemmas.{limits_proper}
+use Rattle.wasm_code.proofs.TypeLemmas.{func_type_proper, table_type_proper}
+use Rattle.wasm_decode.specs.declared.module.Module.{Module}
+use Rattle.wasm_decode.specs.declared.module.Body.{Body}
+use Rattle.wasm_decode.specs.declared.progress.Progress.{Progress}
+use Rattle.wasm_decode.specs.declared.progress.Section.{Section}
+use Rattle.wasm_decode.specs.declared.progress.Section.TheVariants as sections
+use Rattle.wasm_decode.specs.ItemText.{imports, imported, global, export, element, segment, bodies}
+use Rattle.wasm_decode.specs.SectionText.{judge_id, custom, IsCustom, CustomBreaks, content, section_of, section}
+use Rattle.wasm_decode.proofs.ItemLemmas.{name_proper, imports_proper, global_proper, export_proper, element_proper, segment_proper, bodies_proper}
+
+u32_proper : Proper u32
+u32_proper = unsigned_proper 32 0 4294967295 62
+
+take_front : (a r : List ℕ) → take (length a) (a ++ r) ≡ a
+take_front [] r = refl
+take_front (x ∷ a) r = ap (λ (z : List ℕ). x ∷ z) (take_front a r)
+
+abbrev head_of : ℕ → List ℕ → ℕ
+head_of d [] = d
+head_of d (x ∷ xs) = x
+
+abbrev tail_of : List ℕ → List ℕ
+tail_of [] = []
+tail_of (x ∷ xs) = xs
+
+same_length : (a b r s : List ℕ) → length a ≡ length b → a ++ r ≡ b ++ s → a ≡ b
+same_length [] [] r s l e = refl
+same_length [] (y ∷ b) r s l e = absurd (omega arith)
+same_length (x ∷ a) [] r s l e = absurd (omega arith)
+same_length (x ∷ a) (y ∷ b) r s l e =
+    let q : x ≡ y = ap (head_of 0) e in
+    ap (λ (z : ℕ). z ∷ a) q ∙ ap (λ (z : List ℕ). y ∷ z) (same_length a b r s (omega arith) (ap tail_of e))
+
+custom_one : (a b r s : List ℕ) (x y : Section) → IsCustom a x → IsCustom b y → a ++ r ≡ b ++ s → (a ≡ b) × (x ≡ y)
+custom_one a b r s x y h k e =
+    let hc = h.1 ++ h.2 in
+    let kc = k.1 ++ k.2 in
+    let e' = recut a b h.0 hc k.0 kc r s h.4 k.4 e in
+    let o = u32_proper.one h.0 k.0 (hc ++ r) (kc ++ s) (length hc) (length kc) h.5 k.5 e' in
+    let t = same_length hc kc r s o.1 (rest_is h.0 k.0 (hc ++ r) (kc ++ s) o.0 e') in
+    (whole_is a b h.0 hc k.0 kc h.4 k.4 o.0 t, h.7 ∙ sym k.7)
+
+custom_excludes : (a r : List ℕ) (x : Section) (i number : ℕ) → IsCustom a x → CustomBreaks (a ++ r) i number → ⊥
+custom_excludes a r x i number h b =
+    let hc = h.1 ++ h.2 in
+    let e : a ++ r ≡ h.0 ++ (hc ++ r) = ap (λ (z : List ℕ). z ++ r) h.4 ∙ append_assoc h.0 hc r in
+    ⊎_elim
+    (λ f. u32_proper.excludes h.0 (hc ++ r) (length hc) i number h.5 (subst (λ (z : List ℕ). u32.breaks z i number) e f))
+    (λ f.
+    let e' : f.0 ++ f.1 ≡ h.0 ++ (hc ++ r) = sym f.4 ∙ e in
+    let q = u32_proper.one f.0 h.0 f.1 (hc ++ r) f.2 (length hc) f.5 h.5 e' in
+    let rest = rest_is f.0 h.0 f.1 (hc ++ r) q.0 e' in
+    let w : take f.2 f.1 ≡ hc = ap (λ (z : List ℕ). take f.2 z) rest ∙ ap (λ (n : ℕ). take n (hc ++ r)) q.1 ∙ take_front hc r in
+    ⊎_elim
+    (λ g. name_proper.excludes h.1 h.2 h.3 f.3 number h.6 (subst (λ (z : List ℕ). name.breaks z f.3 number) w g))
+    (λ g. omega (arith, g.5, ap length rest, length-append hc r, q.1))
+    f.7)
+    b
+
+pub custom_proper : Proper custom
+custom_proper = record { one = custom_one; excludes = custom_excludes }
+
+sect : {X : Type 0} (p : Form X) (make : X → Section) → Proper p → Proper (p >>= (λ x. give (make x)))
+sect p make h = then_proper p (λ x. give (make x)) h (λ x. give_proper (make x))
+
+content_proper : (m : Module) (id : ℕ) → Proper (content m id)
+content_proper m id =
+    choose_proper (id == 1) _ _ (sect (vec_to 1024 func_type) (λ xs. sections.Types xs) (vec_to_proper 1024 func_type func_type_proper))
+    (choose_proper (id == 2) _ _ (sect imports (λ xs. sections.Imports xs) imports_proper)
+    (choose_proper (id == 3) _ _ (sect (vec_to (4096 - imported m.imports) u32) (λ xs. sections.Functions xs) (vec_to_proper (4096 - imported m.imports) u32 u32_proper))
+    (choose_proper (id == 4) _ _ (sect (vec table_type) (λ xs. sections.Tables xs) (vec_proper table_type table_type_proper))
+    (choose_proper (id == 5) _ _ (sect (vec limits) (λ xs. sections.Memories xs) (vec_proper limits limits_proper))
+    (choose_proper (id == 6) _ _ (sect (vec_to 1024 global) (λ xs. sections.Globals xs) (vec_to_proper 1024 global global_proper))
+    (choose_proper (id == 7) _ _ (sect (vec_to 1024 export) (λ xs. sections.Exports xs) (vec_to_proper 1024 export export_proper))
+    (choose_proper (id == 8) _ _ (sect u32 (λ n. sections.Start n) u32_proper)
+    (choose_proper (id == 9) _ _ (sect (vec_to 8192 element) (λ xs. sections.Elements xs) (vec_to_proper 8192 element element_proper))
+    (choose_proper (id == 10) _ _ (sect (bodies m.types m.functions) (λ xs. sections.Bodies xs) (bodies_proper m.types m.functions))
+    (sect (vec_to 8192 segment) (λ xs. sections.Segments xs) (vec_to_proper 8192 segment segment_proper)))))))))))
+
+pub section_proper : (s : Progress) → Proper (section s)
+unfolding section
+section_proper s =
+    then_proper (byte (judge_id s)) (section_of s.module) (byte_proper 61 (judge_id s))
+    (λ id. choose_proper (id == 0) custom (sized false (content s.module id)) custom_proper (sized_proper false (content s.module id) (content_proper s.module id)))
+
+-- a section takes a byte at least
+pub section_some : (s : Progress) (a : List ℕ) (x : Section) → (section s).text a x → 0 < length a
+unfolding section
+section_some s a x t = omega (arith, ap length t.3, length-append t.0 t.1, ap length t.4.1)
+
+pub section_shrinks : (s : Progress) (old new : Reader) (x : Section) → Reads (section s) old new x → length new.rest.now < length old.rest.now
+section_shrinks s old new x h = omega (arith, ap length h.2.parts, length-append h.0 new.rest.now, section_some s h.0 x h.1)
+
+-- the bodies of the module's functions
+pub content_bodies_fail : (m : Module) (id : ℕ) (ts : List FuncType) (fs : List ℕ) (old : Reader) (e : Fault) → id ≡ 10 → ts ≡ m.types → fs ≡ m.functions → Fails (bodies ts fs) old e → Fails (content m id) old e
+content_bodies_fail m id ts fs old e q t f h =
+    let h1 = subst (λ (z : List FuncType). Fails (bodies z fs) old e) t h in
+    let h2 = subst (λ (z : List ℕ). Fails (bodies m.types z) old e) f h1 in
+    let g : Fails (content m 10) old e = stops (bodies m.types m.functions) (λ (xs : List Body). give (sections.Bodies xs)) old e h2 in
+    subst (λ (z : ℕ). Fails (content m z) old e) (sym q) g
+
+pub content_bodies : (m : Module) (id : ℕ) (ts : List FuncType) (fs : List ℕ) (old new : Reader) (xs : List Body) → id ≡ 10 → ts ≡ m.types → fs ≡ m.functions → Reads (bodies ts fs) old new xs → Reads (content m id) old new (sections.Bodies xs)
+content_bodies m id ts fs old new xs q t f h =
+    let h1 = subst (λ (z : List FuncType). Reads (bodies z fs) old new xs) t h in
+    let h2 = subst (λ (z : List ℕ). Reads (bodies m.types z) old new xs) f h1 in
+    let g : Reads (content m 10) old new (sections.Bodies xs) = then_reads (bodies m.types m.functions) (λ (xs : List Body). give (sections.Bodies xs)) old new new xs (sections.Bodies xs) h2 (given (sections.Bodies xs) new) in
+    subst (λ (z : ℕ). Reads (content m z) old new (sections.Bodies xs)) (sym q) g

@@ -1,0 +1,7 @@
+use Rattle.std.proofs.Common.{◌≡◌, ℕ, List, [], ◌∷◌, refl, sym, ap, subst, ◌∙◌, arith}
+use Rattle.std.proofs.lemmas.Result.{err_from_is_err_and}
+use Rattle.wasm_decode.proofs.InstrLemmas.{const_64_done}
+use Rattle.wasm_decode.proofs.instructions.const_64.Goals as goal
+
+pub returns : goal.returns
+returns c = const_64_done _ _ _ _ refl c.in_ok-n.ensures.decodes

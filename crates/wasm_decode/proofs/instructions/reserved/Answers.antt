@@ -1,0 +1,7 @@
+use Rattle.std.proofs.Common.{◌≡◌, ℕ, List, [], ◌∷◌, refl, sym, ap, subst, ◌∙◌, arith}
+use Rattle.std.proofs.lemmas.Result.{err_from_is_err_and}
+use Rattle.wasm_decode.proofs.InstrLemmas.{reserved_done}
+use Rattle.wasm_decode.proofs.instructions.reserved.Goals as goal
+
+pub returns : goal.returns
+returns c = reserved_done c.args.op _ _ _ _ c.memory_instr.ensures c.in_ok-tag.ensures

@@ -1,0 +1,19 @@
+-- What the reader of all sections answers. No public clause cites it.
+use Rattle.std.specs.Prelude.{◌≡◌, ℕ, ◌+◌, List, Bool, false, Result, Ok, Err}
+use Rattle.sim_base.specs.declared.fault.Fault.{Fault}
+use Rattle.sim_base.specs.declared.fault.Fault.TheVariants as faults
+use Rattle.sim_base.specs.declared.fault.Place.TheVariants as places
+use Rattle.wasm_text.specs.declared.reader.Reader.{Reader}
+use Rattle.wasm_decode.specs.declared.progress.Progress.{Progress}
+use Rattle.wasm_decode.specs.declared.progress.Section.{Section}
+use Rattle.wasm_decode.specs.SectionText.{wants_bodies}
+use Rattle.wasm_decode.specs.ModuleText.{nothing, Sections, SectionsBreak}
+
+abbrev pub SectionsFail : Reader → Fault → Type 0
+SectionsFail old faults.OutOfMemory = Unit {0}
+SectionsFail old (faults.Refused r) = (i : ℕ) × (r.place ≡ places.Byte (old.at + i)) × SectionsBreak old.rest.now i r.number
+
+-- all bytes are the sections that lead to this progress, or they break
+abbrev pub SectionsRead : Result Progress Fault → Reader → Type 0
+SectionsRead (Ok t) old = (xs : List Section) × Sections nothing old.rest.now xs t × (wants_bodies t ≡ false)
+SectionsRead (Err e) old = SectionsFail old e

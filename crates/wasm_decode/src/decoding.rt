@@ -1,0 +1,74 @@
+//! A whole module.
+ghost use Rattle.std.specs.Prelude.{◌≡◌, ◌<◌, length};
+ghost use Rattle.wasm_decode.specs.ModuleText.{IsDecoded, magic as magic_form, these_bytes as these_form};
+ghost use Rattle.wasm_decode.specs.SectionViews.{SectionsRead};
+ghost use Rattle.wasm_text.specs.Form.{byte_or, judge_tag};
+ghost use Rattle.wasm_text.specs.Reads.{Decodes};
+
+use crate::module::Module;
+use crate::progress::Progress;
+use crate::sections::section;
+use sim_base::Fault;
+use std::alloc::Global;
+use wasm_text::{Reader, refused};
+
+/// The magic and the version.
+const MAGIC: [u8; 8] = [0x00, 0x61, 0x73, 0x6D, 0x01, 0x00, 0x00, 0x00];
+
+/// The module of these bytes. Refuses with 60 WasmMagic to 69 WasmLimit at the byte, from 0, at which
+/// the bytes break.
+pub fn decode(alloc: Global, bytes: &[u8]) -> Result<Module, Fault>
+    requires { length bytes.now < 4294967295 }
+    ensures { IsDecoded bytes.now result }
+{
+    let mut reader = Reader { rest: bytes, at: 0 };
+    magic(&mut reader)?;
+    let progress = sections(alloc, &mut reader)?;
+    Ok(progress.module)
+}
+
+fn magic(reader: &mut Reader) -> Result<(), Fault>
+    ensures { Decodes magic_form result reader.old reader.new }
+{
+    these_bytes(reader, &MAGIC)
+}
+
+fn these_bytes(reader: &mut Reader, bytes: &[u8]) -> Result<(), Fault>
+    ensures { Decodes (these_form bytes.now) result reader.old reader.new }
+{
+    match bytes {
+        [] => Ok(()),
+        [first, rest @ ..] => {
+            magic_byte(reader, *first)?;
+            these_bytes(reader, rest)
+        }
+    }
+}
+
+fn magic_byte(reader: &mut Reader, wanted: u8) -> Result<(), Fault>
+    ensures { Decodes (byte_or 60 (judge_tag wanted 60)) result reader.old reader.new }
+{
+    if reader.rest.len() == 0 {
+        return Err(refused(60, reader.at));
+    }
+    if reader.rest[0] != wanted {
+        return Err(refused(60, reader.at));
+    }
+    reader.skip(1);
+    Ok(())
+}
+
+/// All sections up to the end.
+fn sections(alloc: Global, reader: &mut Reader) -> Result<Progress, Fault>
+    ensures { SectionsRead result reader.old }
+{
+    let mut progress = Progress::new(alloc);
+    while reader.rest.len() > 0 {
+        let section = section(alloc, reader, &progress)?;
+        progress.put(section);
+    }
+    if progress.wants_bodies() {
+        return Err(refused(68, reader.at));
+    }
+    Ok(progress)
+}

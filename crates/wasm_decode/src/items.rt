@@ -1,0 +1,58 @@
+//! The items of the other sections.
+use crate::expressions::read_expr;
+use crate::module::{DataSegment, ElementSegment, Export, GlobalDef};
+use sim_base::Fault;
+use std::alloc::Global;
+use wasm_code::read_global_type;
+use wasm_text::{Decode, Reader, byte_list, index, judged, list, read_name, tag};
+
+impl Decode for GlobalDef {
+    ghost use Rattle.wasm_decode.specs.ItemText.{global};
+
+    ghost form = { global };
+
+    fn decode(alloc: Global, reader: &mut Reader) -> Result<GlobalDef, Fault> {
+        let kind = read_global_type(reader)?;
+        let init = read_expr(alloc, reader)?;
+        Ok(GlobalDef { kind, init })
+    }
+}
+
+impl Decode for Export {
+    ghost use Rattle.wasm_decode.specs.ItemText.{export};
+
+    ghost form = { export };
+
+    fn decode(alloc: Global, reader: &mut Reader) -> Result<Export, Fault> {
+        let name = read_name(alloc, reader)?;
+        let kind = judged(reader)?;
+        let index = index(reader)?;
+        Ok(Export { name, kind, index })
+    }
+}
+
+impl Decode for ElementSegment {
+    ghost use Rattle.wasm_decode.specs.ItemText.{element};
+
+    ghost form = { element };
+
+    fn decode(alloc: Global, reader: &mut Reader) -> Result<ElementSegment, Fault> {
+        tag(reader, 0x00, 64)?;
+        let offset = read_expr(alloc, reader)?;
+        let functions = list(alloc, reader)?;
+        Ok(ElementSegment { offset, functions })
+    }
+}
+
+impl Decode for DataSegment {
+    ghost use Rattle.wasm_decode.specs.ItemText.{segment};
+
+    ghost form = { segment };
+
+    fn decode(alloc: Global, reader: &mut Reader) -> Result<DataSegment, Fault> {
+        tag(reader, 0x00, 64)?;
+        let offset = read_expr(alloc, reader)?;
+        let bytes = byte_list(alloc, reader)?;
+        Ok(DataSegment { offset, bytes })
+    }
+}

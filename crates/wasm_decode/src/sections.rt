@@ -1,0 +1,146 @@
+//! Sections.
+ghost use Rattle.std.specs.Prelude.{◌≡◌, ◌-◌, false};
+ghost use Rattle.wasm_decode.specs.ItemText.{imported as imported_of};
+ghost use Rattle.wasm_decode.specs.SectionText.{judge_id, custom as custom_form, content as content_form, section_of as section_of_form, section as section_form};
+ghost use Rattle.wasm_text.specs.Lists.{sized as sized_form};
+ghost use Rattle.wasm_text.specs.Reads.{Decodes};
+
+use crate::bodies::bodies;
+use crate::imports::{FUNCTIONS, imported, imports};
+use crate::module::Module;
+use crate::progress::{Progress, Section};
+use sim_base::Fault;
+use std::alloc::Global;
+use wasm_code::tables;
+use wasm_text::{Reader, close, index, list, list_to, read_name, refused};
+
+/// At most so many types, globals and exports.
+const ITEMS: u32 = 1024;
+
+/// At most so many segments of each kind.
+const SEGMENTS: u32 = 8192;
+
+/// The next section.
+pub fn section(alloc: Global, reader: &mut Reader, progress: &Progress) -> Result<Section, Fault>
+    ensures { Decodes (section_form progress.now) result reader.old reader.new }
+{
+    let place = reader.at;
+    let byte = reader.byte()?;
+    match judge(progress, byte) {
+        Ok(id) => section_of(alloc, reader, &progress.module, id),
+        Err(number) => Err(refused(number, place)),
+    }
+}
+
+/// The id of the section, or the rule that the byte breaks.
+fn judge(progress: &Progress, byte: u8) -> Result<u8, u8>
+    ensures { result ≡ judge_id progress.now byte }
+{
+    if byte == 0 {
+        return Ok(0);
+    }
+    if byte > 11 || byte <= progress.last {
+        return Err(63);
+    }
+    if byte == 11 && progress.wants_bodies() {
+        return Err(68);
+    }
+    Ok(byte)
+}
+
+fn section_of(alloc: Global, reader: &mut Reader, known: &Module, id: u8) -> Result<Section, Fault>
+    ensures { Decodes (section_of_form known.now id) result reader.old reader.new }
+{
+    if id == 0 {
+        return custom(alloc, reader);
+    }
+    sized(alloc, reader, known, id)
+}
+
+/// A custom section: its name is read and its other bytes are passed over.
+fn custom(alloc: Global, reader: &mut Reader) -> Result<Section, Fault>
+    ensures { Decodes custom_form result reader.old reader.new }
+{
+    let size = index(reader)?;
+    let mut inner = reader.window(size);
+    let _name = read_name(alloc, &mut inner)?;
+    let size = size as usize;
+    if reader.rest.len() < size {
+        let cut = reader.at + reader.rest.len() as u32;
+        return Err(refused(61, cut));
+    }
+    reader.skip(size);
+    Ok(Section::Custom)
+}
+
+fn sized(alloc: Global, reader: &mut Reader, known: &Module, id: u8) -> Result<Section, Fault>
+    ensures { Decodes (sized_form false (content_form known.now id)) result reader.old reader.new }
+{
+    let size = index(reader)?;
+    let mut inner = reader.window(size);
+    let section = content(alloc, &mut inner, known, id)?;
+    close(reader, &inner, size, false)?;
+    Ok(section)
+}
+
+fn content(alloc: Global, reader: &mut Reader, known: &Module, id: u8) -> Result<Section, Fault>
+    ensures { Decodes (content_form known.now id) result reader.old reader.new }
+{
+    match id {
+        1 => {
+            let types = list_to(alloc, reader, ITEMS)?;
+            Ok(Section::Types(types))
+        }
+        2 => {
+            let imports = imports(alloc, reader)?;
+            Ok(Section::Imports(imports))
+        }
+        3 => {
+            let functions = list_to(alloc, reader, room_for_functions(known))?;
+            Ok(Section::Functions(functions))
+        }
+        4 => {
+            let tables = tables(alloc, reader)?;
+            Ok(Section::Tables(tables))
+        }
+        5 => {
+            let memories = list(alloc, reader)?;
+            Ok(Section::Memories(memories))
+        }
+        6 => {
+            let globals = list_to(alloc, reader, ITEMS)?;
+            Ok(Section::Globals(globals))
+        }
+        7 => {
+            let exports = list_to(alloc, reader, ITEMS)?;
+            Ok(Section::Exports(exports))
+        }
+        8 => {
+            let function = index(reader)?;
+            Ok(Section::Start(function))
+        }
+        9 => {
+            let elements = list_to(alloc, reader, SEGMENTS)?;
+            Ok(Section::Elements(elements))
+        }
+        10 => {
+            let bodies = bodies(
+                alloc,
+                reader,
+                known.types.as_slice(),
+                known.functions.as_slice(),
+            )?;
+            Ok(Section::Bodies(bodies))
+        }
+        _ => {
+            let segments = list_to(alloc, reader, SEGMENTS)?;
+            Ok(Section::Segments(segments))
+        }
+    }
+}
+
+fn room_for_functions(known: &Module) -> u32
+    ensures { result ≡ 4096 - imported_of known.now.imports }
+{
+    (FUNCTIONS as usize).saturating_sub(imported(known.imports.as_slice())) as u32
+}
