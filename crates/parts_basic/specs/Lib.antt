@@ -1,0 +1,4 @@
+pub mod Led
+pub mod Supply
+pub mod Plain
+pub mod BasicLaws
