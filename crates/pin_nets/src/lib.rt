@@ -1,0 +1,11 @@
+//! Which pins are one net, and the numbers of the nets.
+//! The numbers are exactly those of the definition by walks; want of memory is the one other answer.
+#![tactic(auto)]
+
+mod labels;
+mod numbers;
+
+pub use numbers::{NetNumbers, number_nets};
+
+#[cfg(test)]
+mod tests;
