@@ -1,0 +1,10 @@
+use Rattle.std.proofs.Common.{◌≡◌, sym, refl, ◌∙◌}
+use Rattle.document_model.specs.Diagram.{is_id}
+use Rattle.sim_base.specs.Names.{is_name}
+use Rattle.diagram_json.proofs.DocumentLemmas.{is_name-id}
+use Rattle.diagram_json.proofs.parts.read_id.Goals as goal
+
+pub returns-then-is_id_text : goal.returns-then-is_id_text
+returns-then-is_id_text c =
+    let same = sym c.if-is_id_text.ensures in
+    c.read.ensures ∙ rw (same, is_name-id c.args.id.now same) refl

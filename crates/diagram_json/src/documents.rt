@@ -1,0 +1,95 @@
+//! A diagram as a JSON document.
+ghost use Rattle.std.specs.Prelude.{◌≡◌, ◌≤◌, map, length, IfOk, option_map};
+ghost use Rattle.sim_base.specs.Reads.{Reads};
+ghost use Rattle.serde_json.specs.View.{view};
+ghost use Rattle.document_model.specs.Diagram.{array_at, diagram_of, diagram_text, has_version_1, json_document, parts_of, wires_of};
+
+use crate::connections::read_connections;
+use crate::parts::read_parts;
+use crate::refusals::{not_json, not_shaped, over_limit};
+use document_model::{Diagram, PartText, Wire};
+use serde_json::Value;
+use sim_base::{Fault, List, Place};
+use std::alloc::Global;
+
+fn read_document(alloc: Global, bytes: &[u8]) -> Result<Value, Fault>
+    ensures { Reads view result (json_document bytes.now) }
+{
+    match Value::from_slice(alloc, bytes) {
+        Ok(document) => Ok(document),
+        Err(error) => if error.is_memory() {
+            Err(Fault::OutOfMemory)
+        } else {
+            Err(not_json())
+        },
+    }
+}
+
+fn is_version_1(document: &Value) -> bool
+    ensures { result ≡ has_version_1 (view document.now) }
+{
+    document.get("version").and_then(Value::as_u64) == Some(1)
+}
+
+#[tactic(auto, using(crate::proofs::DocumentLemmas::elements_view))]
+fn array_of<'a>(document: &'a Value, key: &str) -> Option<&'a [Value]>
+    ensures { option_map (λ items. map view items.now) result ≡ array_at key.now (view document.now) }
+{
+    let items = document.get(key).and_then(Value::as_array)?;
+    Some(items.as_slice())
+}
+
+fn few_parts(alloc: Global, items: &[Value]) -> Result<List<PartText>, Fault>
+    ensures { Reads (λ parts. parts) result (parts_of (map view items.now)) }
+{
+    if items.len() > 64 {
+        return Err(over_limit(Place::Whole));
+    }
+    read_parts(alloc, items)
+}
+
+fn few_wires(alloc: Global, items: &[Value]) -> Result<List<Wire>, Fault>
+    ensures { Reads (λ wires. wires) result (wires_of (map view items.now)) }
+{
+    if items.len() > 512 {
+        return Err(over_limit(Place::Whole));
+    }
+    read_connections(alloc, items)
+}
+
+fn diagram(alloc: Global, document: &Value) -> Result<Diagram, Fault>
+    ensures { Reads (λ diagram. diagram) result (diagram_of (view document.now)) }
+{
+    if !is_version_1(document) {
+        return Err(not_shaped(Place::Whole));
+    }
+    let items = match array_of(document, "parts") {
+        Some(items) => items,
+        None => return Err(not_shaped(Place::Whole)),
+    };
+    let connections = match array_of(document, "connections") {
+        Some(connections) => connections,
+        None => return Err(not_shaped(Place::Whole)),
+    };
+    let parts = match few_parts(alloc, items) {
+        Ok(parts) => parts,
+        Err(fault) => return Err(fault),
+    };
+    match few_wires(alloc, connections) {
+        Ok(wires) => Ok(Diagram { parts, wires }),
+        Err(fault) => Err(fault),
+    }
+}
+
+/// The parts and wires of a diagram as Wokwi's editor writes it. Connections that lead to `$serialMonitor` and the
+/// like are passed over, and so are all members that no rule names.
+/// Refuses with 40 JsonText at Whole; 41 DiagramShape at Whole, or at the Part or the Connection that fails; and
+/// 48 DiagramLimit at Whole, or at the Part whose id is ill-formed.
+pub fn read_diagram(alloc: Global, bytes: &[u8]) -> Result<Diagram, Fault>
+    ensures { Reads (λ diagram. diagram) result (diagram_text bytes.now) }
+{
+    match read_document(alloc, bytes) {
+        Ok(document) => diagram(alloc, &document),
+        Err(fault) => Err(fault),
+    }
+}

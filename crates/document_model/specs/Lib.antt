@@ -1,0 +1,3 @@
+pub mod Diagram
+pub mod Project
+pub mod Reading

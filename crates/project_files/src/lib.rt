@@ -1,0 +1,17 @@
+//! The project file, `wokwi.toml`: its firmware and its chips.
+//! The reader answers what the text stands for, or the first rule that is broken with its place
+//! (`document_model`, Project); want of memory is the one other answer.
+#![tactic(auto)]
+
+mod chips;
+mod project;
+mod refusals;
+#[cfg(test)]
+mod tests;
+
+pub use document_model::{ChipFile, Project};
+pub use project::read_project;
+use sim_base::{List, Name};
+
+/// The pins of a chip by their positions; None is a position that is skipped.
+pub type ChipPins = List<Option<Name>>;
