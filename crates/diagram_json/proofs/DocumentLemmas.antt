@@ -1,5 +1,5 @@
 -- Documents, and what their items are read as, one after the other.
-use Rattle.std.proofs.Common.{◌≡◌, ◌+◌, ℕ, suc, arith, List, [], ◌∷◌, ◌++◌, length, map, drop, get_or, ◌<◌, nat_le, ◌&&◌, Bool, true, false, refl, ap, sym, ◌∙◌, inl, inr, add-one, Option, Some, None, Result, Ok, Err}
+use Rattle.std.proofs.Common.{◌≡◌, ◌+◌, ℕ, suc, arith, List, [], ◌∷◌, ◌++◌, length, map, drop, get_or, ◌<◌, nat_le, ◌&&◌, true, refl, ap, sym, ◌∙◌, inl, inr, add-one, Some, None, Result, Ok, Err}
 use Rattle.std.specs.List.{flat_map}
 use Rattle.std.specs.Str.{IsUtf8, is_utf8}
 use Rattle.std.proofs.lemmas.Str.{is_utf8-from_IsUtf8, IsUtf8-from_is_utf8}
@@ -18,12 +18,13 @@ use Rattle.document_model.specs.Reading.{◌>>=◌, refusal, each_from}
 use Rattle.std.specs.List.{list_all}
 use Rattle.std.proofs.lemmas.Bool.Decides.{nat_tests}
 use Rattle.sim_base.specs.Names.{is_name, is_name_byte}
-use Rattle.document_model.specs.Diagram.{elements, is_id, is_id_byte, json_document}
+use Rattle.document_model.specs.Json.{elements, json_document}
+use Rattle.document_model.specs.Diagram.{is_id, is_id_byte}
 
-pub document_ok : (bytes : List ℕ) (d : Data) → IsUtf8 bytes → read bytes ≡ Some d → json_document bytes ≡ Ok d
+pub document_ok : (bytes : List ℕ) (d : Data) → IsUtf8 bytes → read bytes ≡ Some d → json_document 40 bytes ≡ Ok d
 document_ok bytes d u e = rw (is_utf8-from_IsUtf8 bytes u, e) refl
 
-pub document_none : (bytes : List ℕ) → (IsUtf8 bytes → read bytes ≡ None) → json_document bytes ≡ Err (refusal 40 places.Whole)
+pub document_none : (bytes : List ℕ) → (IsUtf8 bytes → read bytes ≡ None) → json_document 40 bytes ≡ Err (refusal 40 places.Whole)
 document_none bytes f = elim (cases_Bool (is_utf8 bytes)) [
   | inl e ↦ rw (e, f (IsUtf8-from_is_utf8 bytes e)) refl
   | inr e ↦ rw e refl

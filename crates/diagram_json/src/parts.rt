@@ -6,7 +6,8 @@ ghost use Rattle.sim_base.specs.Reads.{Reads};
 ghost use Rattle.serde_json.specs.View.{view, number_view, members_view};
 ghost use Rattle.serde_json.specs.Find.{get};
 ghost use Rattle.document_model.specs.Reading.{each_from};
-ghost use Rattle.document_model.specs.Diagram.{attrs_in, attrs_of, is_id, is_id_byte, number_text, part_of, value_text};
+ghost use Rattle.document_model.specs.Diagram.{attrs_in, attrs_of, is_id, is_id_byte, part_of, value_text};
+ghost use Rattle.document_model.specs.Json.{number_text};
 
 use crate::refusals::{not_shaped, over_limit};
 use document_model::PartText;

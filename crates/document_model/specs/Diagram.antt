@@ -1,41 +1,22 @@
 -- The diagram of a board, a JSON text (RFC 8259, "Objects", "Arrays", "Numbers"; Wokwi, "diagram.json File Format"; what
 -- counts as an attribute's value, the limits and the order of the refusals are the profile's).
 use Rattle.std.specs.Prelude.{ℕ, ◌&&◌, ◌||◌, nat_le, ◌==◌, if◌then◌else◌, Bool, false, List, [], ◌∷◌, ◌++◌, length, codes, Option, Some, None, Result, Ok, option_and_then, option_map, ok_or}
-use Rattle.std.specs.Fmt.{signed_decimal}
 use Rattle.std.specs.List.{list_all, flat_map, before_first, after_first}
 use Rattle.std.specs.Option.{option_map_or, option_to_list}
-use Rattle.std.specs.Str.{is_utf8}
-use Rattle.serde_json.specs.Data.{Num, Data, null, boolean, number, string, array, object, Items, no_items, item, Members, no_members, member}
-use Rattle.serde_json.specs.Find.{get, at, as_array, as_integer, as_number, as_object, as_str, as_u64}
-use Rattle.serde_json.specs.Read.{read}
+use Rattle.serde_json.specs.Data.{Data, null, boolean, number, string, array, object, Members, no_members, member}
+use Rattle.serde_json.specs.Find.{get, as_number, as_object, as_u64}
 use Rattle.sim_base.specs.declared.fault.Refusal.{Refusal}
 use Rattle.sim_base.specs.declared.fault.Place.TheVariants as places
 use Rattle.sim_base.specs.Names.{is_name}
 use Rattle.document_model.specs.declared.diagram.Diagram.{Diagram}
 use Rattle.document_model.specs.declared.diagram.PartText.{PartText}
 use Rattle.document_model.specs.declared.diagram.Wire.{Wire}
+use Rattle.document_model.specs.Json.{array_at, json_document, number_text, string_at, string_in}
 use Rattle.document_model.specs.Reading.{◌>>=◌, refusal, checked, each_from}
 
--- the items of an array, as a list
-abbrev pub elements : Items → List Data
-elements no_items = []
-elements (item d ds) = d ∷ elements ds
-
--- a member that is a string, or an array
-abbrev pub string_at : List ℕ → Data → Option (List ℕ)
-string_at key d = option_and_then as_str (get key d)
-
-abbrev pub array_at : List ℕ → Data → Option (List Data)
-array_at key d = option_map elements (option_and_then as_array (get key d))
-
--- A whole number is a number without fraction and exponent, not `-0`, from -2^63 to 2^64 - 1: any other one is a float.
 -- whether the member `version` is the whole number 1
 abbrev pub has_version_1 : Data → Bool
 has_version_1 d = option_map_or (λ n. n == 1) (option_and_then as_u64 (option_and_then as_number (get (codes "version") d))) false
-
--- a whole number in decimal digits
-abbrev pub number_text : Num → Option (List ℕ)
-number_text n = option_map signed_decimal (as_integer n)
 
 -- what an attribute's value counts as: a string as itself, a whole number as its digits, any other value as absent
 abbrev pub value_text : Data → Option (List ℕ)
@@ -88,10 +69,6 @@ abbrev pub is_outside : List ℕ → Bool
 is_outside [] = false
 is_outside (c ∷ cs) = c == 36
 
--- the strings that are the first two items of an array
-abbrev pub string_in : ℕ → Data → Option (List ℕ)
-string_in i d = option_and_then as_str (at i d)
-
 -- a wire between two ends, or 41
 abbrev pub wire_between : ℕ → List ℕ → List ℕ → Result Wire Refusal
 wire_between k a b = do
@@ -132,10 +109,6 @@ diagram_of d = do
   wires ← wires_of connections
   Ok (record { parts = parts; wires = wires })
 
--- the JSON document that the bytes are, or 40
-abbrev pub json_document : List ℕ → Result Data Refusal
-json_document bytes = ok_or (if is_utf8 bytes then read bytes else None) (refusal 40 places.Whole)
-
 -- The diagram that a text stands for, or the refusal with its place.
 abbrev pub diagram_text : List ℕ → Result Diagram Refusal
-diagram_text bytes = json_document bytes >>= diagram_of
+diagram_text bytes = json_document 40 bytes >>= diagram_of

@@ -1,25 +1,16 @@
 -- A project file, a TOML text (TOML 1.0, "Table", "Array of Tables", "String", "Integer"; Wokwi, "wokwi.toml"; the limit,
 -- the form of names and paths and the order of the refusals are the profile's).
-use Rattle.std.specs.Prelude.{ℕ, ◌+◌, ◌-◌, ◌&&◌, nat_le, ◌==◌, if◌then◌else◌, Bool, false, not, List, [], ◌∷◌, ◌++◌, length, take, codes, ℤ, pos, negsuc, Option, Some, None, Result, Ok, option_and_then, option_map, ok_or}
+use Rattle.std.specs.Prelude.{ℕ, ◌+◌, ◌-◌, ◌&&◌, nat_le, ◌==◌, Bool, false, not, List, [], ◌∷◌, ◌++◌, length, take, codes, ℤ, pos, negsuc, Option, Some, None, Result, Ok, option_and_then, option_map, ok_or}
 use Rattle.std.specs.List.{list_any, ends_with}
-use Rattle.std.specs.Str.{is_utf8, bytes_eq}
-use Rattle.toml.specs.Data.{Data, table, Items, no_items, item, get, as_array, as_integer, as_str}
-use Rattle.toml.specs.Parse.{parse_document}
+use Rattle.std.specs.Str.{bytes_eq}
+use Rattle.toml.specs.Data.{Data, get, as_array, as_integer}
 use Rattle.sim_base.specs.declared.fault.Refusal.{Refusal}
 use Rattle.sim_base.specs.declared.fault.Place.TheVariants as places
 use Rattle.sim_base.specs.Names.{is_name}
 use Rattle.document_model.specs.declared.project.Project.{Project}
 use Rattle.document_model.specs.declared.project.ChipFile.{ChipFile}
+use Rattle.document_model.specs.Toml.{elements, string_at, toml_document}
 use Rattle.document_model.specs.Reading.{◌>>=◌, refusal, checked}
-
--- the items of an array, as a list
-abbrev pub elements : Items → List Data
-elements no_items = []
-elements (item d ds) = d ∷ elements ds
-
--- a key whose value is a string
-abbrev pub string_at : List ℕ → Data → Option (List ℕ)
-string_at key d = option_and_then as_str (get key d)
 
 -- the whole number 1
 abbrev pub is_one : Option ℤ → Bool
@@ -83,10 +74,6 @@ project_of d = do
   firmware ← firmware_of d
   chips ← chips_of d
   Ok (record { firmware = firmware; chips = chips })
-
--- the TOML document that the bytes are, or 30
-abbrev pub toml_document : List ℕ → Result Data Refusal
-toml_document bytes = ok_or (option_map table (if is_utf8 bytes then parse_document bytes else None)) (refusal 30 places.Whole)
 
 -- The project that a text stands for, or the refusal with its place.
 abbrev pub project_text : List ℕ → Result Project Refusal

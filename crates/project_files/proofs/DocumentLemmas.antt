@@ -1,5 +1,5 @@
 -- Documents, and chips one after the other.
-use Rattle.std.proofs.Common.{◌≡◌, ◌+◌, ◌-◌, ◌≤◌, ℕ, suc, List, [], ◌∷◌, ◌++◌, length, map, take, drop, get_or, ◌<◌, Bool, true, false, refl, ap, sym, ◌∙◌, inl, inr, Option, Some, None, Result, Ok, Err}
+use Rattle.std.proofs.Common.{◌≡◌, ◌+◌, ◌-◌, ℕ, List, [], ◌∷◌, ◌++◌, length, map, take, drop, get_or, ◌<◌, true, false, refl, ap, sym, ◌∙◌, inl, inr, Option, Some, None, Result, Ok, Err}
 use Rattle.std.proofs.Common.{MatchOption, Bor, arith, codes}
 use Rattle.std.specs.Str.{IsUtf8, is_utf8}
 use Rattle.std.specs.Str.Pattern.{FindsTextSuffix, StripsSuffix}
@@ -18,7 +18,8 @@ use Rattle.sim_base.specs.declared.fault.Fault.TheVariants as faults
 use Rattle.sim_base.specs.Reads.{Reads}
 use Rattle.document_model.specs.declared.project.ChipFile.{ChipFile}
 use Rattle.document_model.specs.Reading.{refusal}
-use Rattle.document_model.specs.Project.{chip_of, chips_after, elements, is_binary, stem, toml_document}
+use Rattle.document_model.specs.Project.{chip_of, chips_after, is_binary, stem}
+use Rattle.document_model.specs.Toml.{elements, toml_document}
 
 pub toml_ok : (bytes : List ℕ) (ms : Members) → IsUtf8 bytes → parse_document bytes ≡ Some ms → toml_document bytes ≡ Ok (table ms)
 toml_ok bytes ms u e = rw (is_utf8-from_IsUtf8 bytes u, e) refl

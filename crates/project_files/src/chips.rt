@@ -4,7 +4,8 @@ ghost use Rattle.sim_base.specs.Names.{is_name};
 ghost use Rattle.sim_base.specs.Reads.{Reads};
 ghost use Rattle.toml.specs.Data.{as_array, get};
 ghost use Rattle.toml.specs.View.{view};
-ghost use Rattle.document_model.specs.Project.{chip_items, chip_of, chips_after, chips_of, elements, is_binary, is_repeated, most_chips, stem};
+ghost use Rattle.document_model.specs.Toml.{elements};
+ghost use Rattle.document_model.specs.Project.{chip_items, chip_of, chips_after, chips_of, is_binary, is_repeated, most_chips, stem};
 
 use crate::refusals::not_shaped;
 use document_model::ChipFile;

@@ -2,7 +2,8 @@
 ghost use Rattle.std.specs.Prelude.{◌≡◌};
 ghost use Rattle.sim_base.specs.Reads.{Reads};
 ghost use Rattle.toml.specs.View.{view};
-ghost use Rattle.document_model.specs.Project.{firmware_of, is_one, project_of, project_text, toml_document};
+ghost use Rattle.document_model.specs.Project.{firmware_of, is_one, project_of, project_text};
+ghost use Rattle.document_model.specs.Toml.{toml_document};
 
 use crate::chips::read_chips;
 use crate::refusals::{not_shaped, not_toml};

@@ -1,4 +1,4 @@
-use Rattle.std.proofs.Common.{◌≡◌, ◌≤◌, ◌+◌, ◌++◌, sym, ap, ◌∙◌, map, drop, length, List, ℕ}
+use Rattle.std.proofs.Common.{◌≤◌, ◌+◌, sym, ap, ◌∙◌, map, drop, length, List}
 use Rattle.std.specs.Option.{option_to_list}
 use Rattle.serde_json.specs.Data.{Data}
 use Rattle.serde_json.specs.View.{view}

@@ -1,4 +1,3 @@
-use Rattle.std.proofs.Common.{◌≡◌}
 use Rattle.std.proofs.lemmas.Bool.{false≢true}
 use Rattle.diagram_json.proofs.DocumentLemmas.{document_ok, document_none}
 use Rattle.diagram_json.proofs.documents.read_document.Goals as goal

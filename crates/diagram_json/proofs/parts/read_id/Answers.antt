@@ -1,6 +1,4 @@
-use Rattle.std.proofs.Common.{◌≡◌, sym, refl, ◌∙◌}
-use Rattle.document_model.specs.Diagram.{is_id}
-use Rattle.sim_base.specs.Names.{is_name}
+use Rattle.std.proofs.Common.{sym, refl, ◌∙◌}
 use Rattle.diagram_json.proofs.DocumentLemmas.{is_name-id}
 use Rattle.diagram_json.proofs.parts.read_id.Goals as goal
 

@@ -1,7 +1,6 @@
-use Rattle.std.proofs.Common.{◌≡◌, ◌≤◌, ◌+◌, ◌++◌, ◌∷◌, [], sym, ap, ◌∙◌, map, drop, length, List, ℕ, arith, rules, Result, length-append}
+use Rattle.std.proofs.Common.{◌≤◌, ◌+◌, ◌∷◌, [], sym, ap, ◌∙◌, map, drop, length, List, length-append}
 use Rattle.toml.specs.Data.{Data}
 use Rattle.toml.specs.View.{view}
-use Rattle.sim_base.specs.Reads.{Reads}
 use Rattle.document_model.specs.Project.{chips_after}
 use Rattle.document_model.specs.declared.project.ChipFile.{ChipFile}
 use Rattle.project_files.proofs.DocumentLemmas.{chip_read, chip_refused, chips_all, items_more}

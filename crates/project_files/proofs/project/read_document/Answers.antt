@@ -1,4 +1,3 @@
-use Rattle.std.proofs.Common.{◌≡◌}
 use Rattle.std.proofs.lemmas.Bool.{false≢true}
 use Rattle.toml.proofs.Views.{view-Table}
 use Rattle.project_files.proofs.DocumentLemmas.{toml_ok, toml_none}
