@@ -1,11 +1,11 @@
 -- Reading expressions, and why what was read is nested.
-use Rattle.std.proofs.Common.{◌≡◌, ℕ, zero, suc, ◌+◌, ◌-◌, ◌<◌, ◌≤◌, List, [], ◌∷◌, ◌++◌, length, Option, Some, None, Bool, true, false, not, ◌&&◌, ◌||◌, Result, Ok, Err, refl, sym, ap, subst, ◌∙◌, arith, append_assoc, length-append, inl, inr, ◌⊎◌, ⊎_elim, eqb}
+use Rattle.std.proofs.Common.{◌≡◌, ℕ, ◌<◌, List, [], ◌∷◌, ◌++◌, length, Option, Bool, true, false, not, ◌&&◌, Result, Ok, Err, refl, sym, ap, subst, ◌∙◌, arith, append_assoc, length-append}
 use Rattle.std.specs.Prelude.{if◌then◌else◌, ◌==◌, nat_le, is_some}
 use Rattle.sim_base.specs.declared.fault.Fault.{Fault}
 use Rattle.wasm_text.specs.declared.reader.Reader.{Reader}
-use Rattle.wasm_text.specs.Form.{Form, give, byte}
-use Rattle.wasm_text.specs.Lists.{Run, repeated}
-use Rattle.wasm_text.specs.Reads.{Took, Reads, Fails}
+use Rattle.wasm_text.specs.Form.{Form}
+use Rattle.wasm_text.specs.Lists.{Run}
+use Rattle.wasm_text.specs.Reads.{Reads, Fails}
 use Rattle.wasm_text.proofs.Runs.{HasRun, begins, goes, run_fails, ends}
 use Rattle.wasm_text.specs.Proper.{Proper}
 use Rattle.wasm_text.proofs.Exact.{repeated_proper}
@@ -14,11 +14,11 @@ use Rattle.wasm_code.specs.declared.types.ValType.{ValType}
 use Rattle.wasm_code.specs.declared.instr.Instr.{Instr}
 use Rattle.wasm_code.specs.declared.instr.Instr.TheVariants as instrs
 use Rattle.wasm_code.specs.Opcodes.{from, is_float, load, unary}
-use Rattle.wasm_code.specs.Code.{Block, Loop, If, is_plain, IsNested}
+use Rattle.wasm_code.specs.Code.{Block, Loop, If, IsNested}
 use Rattle.wasm_code.proofs.Nesting.{IsOpen, open_none, open_plain, open_more, open_less, open_parted, open_ends}
 use Rattle.wasm_decode.specs.declared.instructions.Shape.{Shape}
 use Rattle.wasm_decode.specs.declared.instructions.Shape.TheVariants as shapes
-use Rattle.wasm_decode.specs.InstrText.{is_opcode, Opened, else_may_come, judge_opcode, bare, block_of, index_of, access_of, memory_of, numeric_of, shape_of, behind, immediates, instr, InExpr, at_end, at_else, in_expr, expr}
+use Rattle.wasm_decode.specs.InstrText.{is_opcode, Opened, else_may_come, judge_opcode, bare, block_of, index_of, access_of, memory_of, numeric_of, shape_of, behind, instr, InExpr, in_expr, expr}
 
 abbrev pub item : InExpr → Form Instr
 item s = instr s.opened

@@ -1,16 +1,14 @@
 -- Reading instructions.
-use Rattle.std.proofs.Common.{◌≡◌, ℕ, ◌+◌, ◌-◌, List, [], ◌∷◌, ◌++◌, length, Option, Some, None, Bool, true, false, Result, Ok, Err, refl, sym, ap, subst, arith}
+use Rattle.std.proofs.Common.{◌≡◌, ℕ, List, Result, Ok, Err, sym, subst}
 use Rattle.sim_base.specs.declared.fault.Fault.{Fault}
 use Rattle.wasm_text.specs.declared.reader.Reader.{Reader}
-use Rattle.wasm_text.specs.Form.{Form, give, byte, choose, flag, judge_tag, ◌>>=◌}
+use Rattle.wasm_text.specs.Form.{Form, give, byte, judge_tag, ◌>>=◌}
 use Rattle.wasm_text.specs.Reads.{Reads, Fails, Decodes}
 use Rattle.wasm_text.proofs.Steps.{stops, then, then_reads, then_fails, given}
-use Rattle.wasm_text.specs.Form.{judge_flag}
 use Rattle.wasm_text.specs.Proper.{Proper}
-use Rattle.wasm_text.proofs.Exact.{give_proper, byte_proper, then_proper, repeated_proper, unsigned_proper, signed_proper, items_proper, vec_proper, vec_to_proper, byte_vec_proper, choose_proper, sized_proper}
-use Rattle.wasm_text.specs.Leb.{u32, at_most, signed}
-use Rattle.wasm_text.specs.Lists.{vec, vec_to, items}
-use Rattle.wasm_code.specs.declared.types.ValType.{ValType}
+use Rattle.wasm_text.proofs.Exact.{give_proper, byte_proper, then_proper, unsigned_proper, signed_proper, vec_to_proper}
+use Rattle.wasm_text.specs.Leb.{u32, signed}
+use Rattle.wasm_text.specs.Lists.{vec_to}
 use Rattle.wasm_code.specs.declared.types.BlockType.{BlockType}
 use Rattle.wasm_code.specs.declared.instr.Instr.{Instr}
 use Rattle.wasm_code.specs.declared.instr.Instr.TheVariants as instrs

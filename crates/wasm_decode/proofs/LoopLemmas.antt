@@ -1,12 +1,11 @@
 -- Loops over imports, locals and bodies.
-use Rattle.std.proofs.Common.{◌≡◌, ℕ, zero, suc, ◌+◌, ◌-◌, ◌<◌, ◌≤◌, List, [], ◌∷◌, ◌++◌, length, take, drop, get_or, Option, Some, None, Bool, true, false, Result, Ok, Err, refl, sym, ap, subst, ◌∙◌, arith, append_assoc, length-append, drop-cons, length-drop, ⊎_elim, ltb, lt-ltb, le-ltb}
+use Rattle.std.proofs.Common.{◌≡◌, ℕ, zero, suc, ◌+◌, ◌-◌, ◌<◌, ◌≤◌, List, [], ◌∷◌, ◌++◌, length, take, drop, get_or, Bool, true, false, refl, sym, ap, subst, ◌∙◌, arith, drop-cons, length-drop, ⊎_elim, ltb, lt-ltb, le-ltb}
 use Rattle.std.proofs.lemmas.Bool.{cases_lt}
 use Rattle.std.specs.Prelude.{slice_index}
 use Rattle.sim_base.specs.declared.fault.Fault.{Fault}
 use Rattle.wasm_text.specs.declared.reader.Reader.{Reader}
-use Rattle.wasm_text.specs.Form.{Form}
-use Rattle.wasm_text.specs.Lists.{Run, repeated, is_zero, sized}
-use Rattle.wasm_text.specs.Reads.{Took, Reads, Fails}
+use Rattle.wasm_text.specs.Lists.{repeated, is_zero, sized}
+use Rattle.wasm_text.specs.Reads.{Reads, Fails}
 use Rattle.wasm_text.proofs.Runs.{HasRun, begins, goes, run_fails, ends, not_zero, zero_is}
 use Rattle.wasm_code.specs.declared.types.FuncType.{FuncType}
 use Rattle.wasm_decode.specs.declared.module.Extern.{Extern}

@@ -1,26 +1,24 @@
 -- A module text has one module, and bytes that are one do not break.
-use Rattle.std.proofs.Common.{◌≡◌, ℕ, zero, suc, ◌+◌, ◌-◌, ◌<◌, ◌≤◌, List, [], ◌∷◌, ◌++◌, length, take, drop, Option, Some, None, Bool, true, false, Result, Ok, Err, refl, sym, ap, subst, ◌∙◌, arith, inl, inr, ⊎_elim, append_assoc, length-append, length-take}
-use Rattle.std.specs.Prelude.{slice_index, ◌==◌, ◌≢◌}
-use Rattle.std.proofs.Common.{rules}
+use Rattle.std.proofs.Common.{◌≡◌, ℕ, zero, suc, ◌+◌, ◌-◌, ◌<◌, ◌≤◌, List, [], ◌∷◌, ◌++◌, length, take, drop, true, false, Result, Ok, refl, sym, ap, subst, ◌∙◌, arith, inl, inr, ⊎_elim, append_assoc, length-append}
+use Rattle.std.specs.Prelude.{slice_index}
 use Rattle.sim_base.specs.declared.fault.Fault.{Fault}
 use Rattle.sim_base.specs.declared.fault.Fault.TheVariants as faults
 use Rattle.sim_base.specs.declared.fault.Refusal.{Refusal}
 use Rattle.sim_base.specs.declared.fault.Place.TheVariants as places
 use Rattle.wasm_text.specs.declared.reader.Reader.{Reader}
-use Rattle.wasm_text.specs.Form.{Form, give, byte_or, ByteBreaks, judge_tag, ◌>>=◌}
-use Rattle.wasm_text.specs.Lists.{Run}
+use Rattle.wasm_text.specs.Form.{byte_or, judge_tag}
 use Rattle.wasm_text.specs.Proper.{Proper}
-use Rattle.wasm_text.specs.Reads.{Took, Reads, Fails, Decodes}
-use Rattle.wasm_text.proofs.Steps.{append-nil, is_nil, then, stops, given}
+use Rattle.wasm_text.specs.Reads.{Reads, Fails, Decodes}
+use Rattle.wasm_text.proofs.Steps.{append-nil, is_nil, then}
 use Rattle.wasm_text.proofs.Runs.{HasRun, begins, goes}
 use Rattle.wasm_text.proofs.Exact.{give_proper, byte_proper, then_proper, rest_is}
 use Rattle.wasm_decode.specs.declared.module.Module.{Module}
 use Rattle.wasm_decode.specs.declared.progress.Progress.{Progress}
 use Rattle.wasm_decode.specs.declared.progress.Section.{Section}
 use Rattle.wasm_decode.specs.SectionText.{wants_bodies, section, with_section}
-use Rattle.wasm_decode.specs.ModuleText.{these_bytes, magic, nothing, never, Sections, ModuleText, NextBreaks, SectionsBreak, ModuleBreaks, IsBroken, IsDecoded}
+use Rattle.wasm_decode.specs.ModuleText.{these_bytes, magic, nothing, never, Sections, ModuleText, NextBreaks, ModuleBreaks, IsBroken, IsDecoded}
 use Rattle.wasm_decode.specs.SectionViews.{SectionsFail, SectionsRead}
-use Rattle.wasm_decode.proofs.SectionLemmas.{section_proper, section_some, section_shrinks}
+use Rattle.wasm_decode.proofs.SectionLemmas.{section_proper, section_some}
 
 these_proper : (bytes : List ℕ) → Proper (these_bytes bytes)
 these_proper [] = give_proper tt

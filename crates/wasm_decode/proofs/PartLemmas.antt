@@ -1,5 +1,5 @@
 -- Custom sections.
-use Rattle.std.proofs.Common.{◌≡◌, ℕ, ◌+◌, ◌-◌, ◌<◌, ◌≤◌, List, [], ◌∷◌, ◌++◌, length, take, drop, refl, sym, ap, subst, ◌∙◌, arith, inl, inr, append_assoc, length-append, length-take}
+use Rattle.std.proofs.Common.{◌≡◌, ℕ, ◌+◌, ◌<◌, ◌≤◌, List, ◌++◌, length, take, refl, sym, ap, subst, ◌∙◌, arith, inl, inr, length-take}
 use Rattle.sim_base.specs.declared.fault.Fault.{Fault}
 use Rattle.sim_base.specs.declared.fault.Fault.TheVariants as faults
 use Rattle.sim_base.specs.declared.fault.Place.TheVariants as places
@@ -7,10 +7,9 @@ use Rattle.wasm_text.specs.declared.reader.Reader.{Reader}
 use Rattle.wasm_text.specs.Leb.{u32}
 use Rattle.wasm_text.specs.Names.{name}
 use Rattle.wasm_text.specs.Reads.{Took, Reads, Fails}
-use Rattle.wasm_text.proofs.Steps.{took_then, fails_as, append-nil, is_nil}
-use Rattle.wasm_decode.specs.declared.progress.Section.{Section}
+use Rattle.wasm_text.proofs.Steps.{took_then}
 use Rattle.wasm_decode.specs.declared.progress.Section.TheVariants as sections
-use Rattle.wasm_decode.specs.SectionText.{custom, IsCustom, CustomBreaks}
+use Rattle.wasm_decode.specs.SectionText.{custom}
 
 module _ (old mid inner : Reader) (size : ℕ) (h : Reads u32 old mid size) (rest_is : inner.rest.now ≡ take size mid.rest.now) (at_is : inner.at ≡ mid.at) where
   pub custom_name_fails : (e : Fault) → Fails name inner e → Fails custom old e

@@ -1,15 +1,15 @@
 -- Sections are proper.
-use Rattle.std.proofs.Common.{◌≡◌, ℕ, zero, suc, ◌+◌, ◌-◌, ◌<◌, ◌≤◌, List, [], ◌∷◌, ◌++◌, length, take, Option, Some, None, Bool, true, false, Result, Ok, Err, refl, sym, ap, subst, ◌∙◌, arith, inl, inr, ⊎_elim, append_assoc, length-append, length-take}
+use Rattle.std.proofs.Common.{◌≡◌, ℕ, ◌-◌, ◌<◌, List, [], ◌∷◌, ◌++◌, length, take, false, refl, sym, ap, subst, ◌∙◌, arith, ⊎_elim, append_assoc, length-append}
 use Rattle.std.specs.Prelude.{◌==◌}
 use Rattle.sim_base.specs.declared.fault.Fault.{Fault}
 use Rattle.wasm_text.specs.declared.reader.Reader.{Reader}
-use Rattle.wasm_text.specs.Form.{Form, give, byte, choose, ◌>>=◌}
+use Rattle.wasm_text.specs.Form.{Form, give, byte, ◌>>=◌}
 use Rattle.wasm_text.specs.Leb.{u32}
 use Rattle.wasm_text.specs.Lists.{vec, vec_to, sized}
 use Rattle.wasm_text.specs.Names.{name}
 use Rattle.wasm_text.specs.Proper.{Proper}
 use Rattle.wasm_text.specs.Reads.{Reads, Fails}
-use Rattle.wasm_text.proofs.Steps.{append-nil, stops, then_reads, given}
+use Rattle.wasm_text.proofs.Steps.{stops, then_reads, given}
 use Rattle.wasm_text.proofs.Exact.{give_proper, byte_proper, then_proper, unsigned_proper, vec_proper, vec_to_proper, choose_proper, sized_proper, rest_is, recut, whole_is}
 use Rattle.wasm_code.specs.declared.types.FuncType.{FuncType}
 use Rattle.wasm_code.specs.TypeText.{func_type, limits, table_type}

@@ -1,12 +1,12 @@
 -- Instructions and expressions (WebAssembly core specification, "Binary Format", "Instructions", "Expressions").
-use Rattle.std.specs.Prelude.{◌≡◌, ℕ, ◌+◌, List, [], ◌∷◌, length, Bool, true, false, not, ◌&&◌, ◌||◌, ◌==◌, nat_le, nat_lt, if◌then◌else◌, Result, Ok, Err, Option, Some, None, is_some}
+use Rattle.std.specs.Prelude.{ℕ, List, [], ◌∷◌, length, Bool, true, false, not, ◌&&◌, ◌||◌, ◌==◌, nat_le, if◌then◌else◌, Result, Ok, Err, Option, is_some}
 use Rattle.wasm_code.specs.declared.types.ValType.{ValType}
 use Rattle.wasm_code.specs.declared.instr.Instr.{Instr}
 use Rattle.wasm_code.specs.declared.instr.Instr.TheVariants as instrs
 use Rattle.wasm_code.specs.Opcodes.{unary, binary, load, store, is_float, from}
-use Rattle.wasm_text.specs.Form.{Form, give, byte, choose, ◌>>=◌}
-use Rattle.wasm_text.specs.Leb.{u32, at_most, signed}
-use Rattle.wasm_text.specs.Lists.{repeated, items, vec_to}
+use Rattle.wasm_text.specs.Form.{Form, give, byte, ◌>>=◌}
+use Rattle.wasm_text.specs.Leb.{u32, signed}
+use Rattle.wasm_text.specs.Lists.{repeated, vec_to}
 use Rattle.wasm_code.specs.TypeText.{block_type, tag}
 use Rattle.wasm_decode.specs.declared.instructions.Shape.{Shape}
 use Rattle.wasm_decode.specs.declared.instructions.Shape.TheVariants as shapes

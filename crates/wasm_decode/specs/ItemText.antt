@@ -1,5 +1,5 @@
 -- The items of the sections (WebAssembly core specification, "Binary Format", "Modules").
-use Rattle.std.specs.Prelude.{◌≡◌, ℕ, ◌+◌, ◌-◌, List, [], ◌∷◌, length, Bool, true, false, nat_lt, ◌==◌, ◌&&◌, if◌then◌else◌, Result, Ok, Err, Option, Some, None, slice_get}
+use Rattle.std.specs.Prelude.{ℕ, ◌+◌, ◌-◌, List, [], ◌∷◌, length, Bool, true, false, nat_lt, ◌==◌, ◌&&◌, if◌then◌else◌, Result, Ok, Err, Option, Some, None, slice_get}
 use Rattle.wasm_code.specs.declared.types.FuncType.{FuncType}
 use Rattle.wasm_text.specs.Form.{Form, give, byte, ◌>>=◌}
 use Rattle.wasm_text.specs.Leb.{u32, at_most, exactly}

@@ -1,4 +1,4 @@
-use Rattle.std.proofs.Common.{◌≡◌, ◌+◌, length, ltb, arith, refl}
+use Rattle.std.proofs.Common.{◌+◌, length, ltb, arith, refl}
 use Rattle.std.specs.Prelude.{slice_index}
 use Rattle.std.proofs.lemmas.Result.{err_from_is_err_and}
 use Rattle.wasm_decode.proofs.LoopLemmas.{bodies_begin, bodies_go, bodies_fail, bodies_end, more_behind}

@@ -1,4 +1,4 @@
-use Rattle.std.proofs.Common.{◌≡◌, arith, refl}
+use Rattle.std.proofs.Common.{arith}
 use Rattle.std.proofs.lemmas.Result.{err_from_is_err_and}
 use Rattle.wasm_decode.proofs.LoopLemmas.{locals_begin, locals_go, locals_fail, locals_end}
 use Rattle.wasm_decode.proofs.bodies.local_runs.Goals as goal

@@ -1,4 +1,3 @@
-use Rattle.std.proofs.Common.{◌≡◌, arith, refl}
 use Rattle.std.proofs.lemmas.Result.{err_from_is_err_and}
 use Rattle.wasm_text.proofs.Parts.{sized_fails, sized_short, sized_reads, sized_inside}
 use Rattle.wasm_decode.specs.ItemText.{body}

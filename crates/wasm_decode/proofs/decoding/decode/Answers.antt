@@ -1,4 +1,4 @@
-use Rattle.std.proofs.Common.{◌≡◌, refl}
+use Rattle.std.proofs.Common.{refl}
 use Rattle.std.proofs.lemmas.Result.{err_from_is_err_and}
 use Rattle.wasm_decode.proofs.ModuleLemmas.{sections_fail, module_read}
 use Rattle.wasm_decode.proofs.decoding.decode.Goals as goal

@@ -1,7 +1,7 @@
-use Rattle.std.proofs.Common.{◌≡◌, sym, ◌∙◌, arith}
+use Rattle.std.proofs.Common.{sym, ◌∙◌}
 use Rattle.std.proofs.lemmas.Result.{err_from_is_err_and}
 use Rattle.wasm_decode.proofs.SectionLemmas.{section_shrinks}
-use Rattle.wasm_decode.proofs.ModuleLemmas.{sections_begin, sections_go, section_breaks, bodies_missing, sections_end}
+use Rattle.wasm_decode.proofs.ModuleLemmas.{sections_begin, sections_go, section_breaks, sections_end}
 use Rattle.wasm_decode.proofs.decoding.sections.Goals as goal
 
 pub loop-reader-init : goal.loop-reader-init

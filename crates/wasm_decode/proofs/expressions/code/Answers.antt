@@ -1,4 +1,4 @@
-use Rattle.std.proofs.Common.{◌≡◌, List, Bool, refl, sym, subst}
+use Rattle.std.proofs.Common.{List, Bool, subst}
 use Rattle.std.specs.Prelude.{reverse}
 use Rattle.std.proofs.lemmas.Result.{err_from_is_err_and}
 use Rattle.wasm_text.specs.Reads.{Reads, Fails}

@@ -1,4 +1,4 @@
-use Rattle.std.proofs.Common.{◌≡◌, ℕ, List, [], ◌∷◌, refl, sym, ap, subst, ◌∙◌, arith}
+use Rattle.std.proofs.Common.{refl}
 use Rattle.std.proofs.lemmas.Result.{err_from_is_err_and}
 use Rattle.wasm_decode.proofs.ItemLemmas.{import_stops_2, import_stops_3, import_stops_4, import_done}
 use Rattle.wasm_decode.proofs.imports.import_item.Goals as goal

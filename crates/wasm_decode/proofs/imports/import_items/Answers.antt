@@ -1,4 +1,4 @@
-use Rattle.std.proofs.Common.{◌≡◌, arith, refl}
+use Rattle.std.proofs.Common.{arith}
 use Rattle.std.proofs.lemmas.Result.{err_from_is_err_and}
 use Rattle.wasm_decode.proofs.LoopLemmas.{imports_begin, imports_go, imports_fail, imports_end}
 use Rattle.wasm_decode.proofs.imports.import_items.Goals as goal

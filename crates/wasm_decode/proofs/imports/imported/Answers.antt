@@ -1,4 +1,4 @@
-use Rattle.std.proofs.Common.{◌≡◌, ◌+◌, take, length, length-take, arith, refl}
+use Rattle.std.proofs.Common.{◌≡◌, ◌+◌, take, length-take, arith}
 use Rattle.wasm_decode.specs.ItemText.{imported}
 use Rattle.wasm_decode.proofs.LoopLemmas.{imported_next, imported_few}
 use Rattle.wasm_decode.proofs.imports.imported.Goals as goal

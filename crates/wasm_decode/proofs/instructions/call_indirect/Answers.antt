@@ -1,4 +1,4 @@
-use Rattle.std.proofs.Common.{◌≡◌, ℕ, List, [], ◌∷◌, refl, sym, ap, subst, ◌∙◌, arith}
+use Rattle.std.proofs.Common.{refl}
 use Rattle.std.proofs.lemmas.Result.{err_from_is_err_and}
 use Rattle.wasm_decode.proofs.InstrLemmas.{call_indirect_stops_2, call_indirect_done}
 use Rattle.wasm_decode.proofs.instructions.call_indirect.Goals as goal

@@ -1,5 +1,4 @@
-use Rattle.std.proofs.Common.{◌≡◌, ℕ, List, [], ◌∷◌, refl, sym, ap, subst, ◌∙◌, arith}
-use Rattle.std.proofs.lemmas.Result.{err_from_is_err_and}
+use Rattle.std.proofs.Common.{refl}
 use Rattle.wasm_decode.proofs.InstrLemmas.{const_64_done}
 use Rattle.wasm_decode.proofs.instructions.const_64.Goals as goal
 

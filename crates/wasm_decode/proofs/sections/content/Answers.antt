@@ -1,4 +1,3 @@
-use Rattle.std.proofs.Common.{◌≡◌}
 use Rattle.std.proofs.lemmas.Result.{err_from_is_err_and}
 use Rattle.wasm_decode.proofs.SectionLemmas.{content_bodies, content_bodies_fail}
 use Rattle.wasm_decode.proofs.sections.content.Goals as goal

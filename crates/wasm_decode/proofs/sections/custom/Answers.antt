@@ -1,4 +1,4 @@
-use Rattle.std.proofs.Common.{◌≡◌, arith, refl}
+use Rattle.std.proofs.Common.{arith}
 use Rattle.std.proofs.lemmas.Result.{err_from_is_err_and}
 use Rattle.wasm_decode.proofs.PartLemmas.{custom_name_fails, custom_cut, custom_reads}
 use Rattle.wasm_decode.proofs.sections.custom.Goals as goal

@@ -1,4 +1,4 @@
-use Rattle.std.proofs.Common.{◌≡◌, ℕ, List, [], ◌∷◌, refl, sym, ap, subst, ◌∙◌, arith}
+use Rattle.std.proofs.Common.{refl}
 use Rattle.std.proofs.lemmas.Result.{err_from_is_err_and}
 use Rattle.wasm_decode.proofs.ItemLemmas.{segment_stops_2, segment_stops_3, segment_done}
 use Rattle.wasm_decode.proofs.items.DataSegmentDecode.decode.Goals as goal
