@@ -88,7 +88,7 @@ fn level_of_net(levels: &[Level], net: u16) -> Level
 }
 
 /// Writes the level of each pin, by its net.
-pub(crate) fn put_levels(levels: &[Level], nets: &[u16], out: &mut [Level])
+fn put_levels(levels: &[Level], nets: &[u16], out: &mut [Level])
     requires { length out.old ≡ length nets.now }
     ensures { out.new ≡ map (level_at levels.now) nets.now }
 {
@@ -159,14 +159,25 @@ fn are_same_drives(a: &[Drive], b: &[Drive]) -> bool
     same
 }
 
-/// Keeps these levels, and tells whether they are those that were kept.
-pub(crate) fn keep_levels(now: &[Level], kept: &mut [Level]) -> bool
-    requires { length now.now ≡ length kept.old }
+/// Keeps these levels of nets and with them the level of each pin, and tells whether they are those
+/// that were kept.
+pub(crate) fn keep_levels(
+    now: &[Level],
+    nets: &[u16],
+    kept: &mut [Level],
+    own: &mut [Level],
+) -> bool
+    requires levels { length now.now ≡ length kept.old }
+    requires own { own.old ≡ map (level_at kept.old) nets.now }
     ensures kept { kept.new ≡ now.now }
+    ensures own { own.new ≡ map (level_at now.now) nets.now }
     ensures same { result ≡ same_list same_level kept.old now.now }
 {
     let same = are_same_levels(kept, now);
-    kept.copy_from_slice(now);
+    if !same {
+        kept.copy_from_slice(now);
+        put_levels(now, nets, own);
+    }
     same
 }
 
