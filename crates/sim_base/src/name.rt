@@ -55,6 +55,15 @@ impl Name {
         })
     }
 
+    /// The same name again.
+    pub fn copy(&self) -> Name
+        ensures { result ≡ self.now }
+    {
+        Name {
+            bytes: copied(self.bytes.as_slice()),
+        }
+    }
+
     pub fn bytes(&self) -> &[u8]
         ensures { result.now ≡ self.now }
     {
