@@ -6,8 +6,10 @@
 mod hex;
 mod lines;
 mod record;
+mod script;
 
 pub use hex::read_hex;
+pub use script::{Script, ScriptRow};
 
 #[cfg(test)]
 mod tests;
