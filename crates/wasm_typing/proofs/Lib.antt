@@ -1,0 +1,4 @@
+pub mod Exact
+pub mod Beginnings
+pub mod OperandLemmas
+pub mod BodyLemmas
