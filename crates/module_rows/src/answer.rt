@@ -1,0 +1,58 @@
+//! The answer to the bytes of a module.
+use sim_base::{Fault, Place, Refusal, is_refusal, refusal_name};
+use std::alloc::Global;
+use std::fmt;
+use std::fmt::{Display, Formatter, Write};
+use wasm_decode::decode;
+
+/// No file is longer.
+const FILE: usize = 1_048_576;
+
+#[derive(Clone, Copy, Debug, PartialEq, Eq)]
+pub enum Answer {
+    Accepted,
+    Refused(Refusal),
+    OutOfMemory,
+}
+
+pub fn answer_to(alloc: Global, bytes: &[u8]) -> Answer {
+    if bytes.len() > FILE {
+        return Answer::Refused(Refusal {
+            number: 10,
+            place: Place::Whole,
+        });
+    }
+    match decode(alloc, bytes) {
+        Ok(_) => Answer::Accepted,
+        Err(Fault::Refused(refusal)) => Answer::Refused(refusal),
+        Err(Fault::OutOfMemory) => Answer::OutOfMemory,
+    }
+}
+
+/// The name of a number, empty where no refusal has it.
+pub fn name_of(number: u8) -> &'static str {
+    if is_refusal(number) {
+        refusal_name(number)
+    } else {
+        ""
+    }
+}
+
+impl Display for Answer {
+    fn fmt<W: Write>(&self, f: &mut Formatter<W>) -> fmt::Result {
+        match self {
+            Answer::Accepted => write!(f, "accepted"),
+            Answer::OutOfMemory => write!(f, "out of memory"),
+            Answer::Refused(refusal) => {
+                let name = name_of(refusal.number);
+                write!(f, "refused {} {name}", refusal.number)?;
+                match refusal.place {
+                    Place::Byte(n) => write!(f, " byte {n}"),
+                    Place::Entry(section, n) => write!(f, " section {section} entry {n}"),
+                    Place::Code(function, n) => write!(f, " function {function} instruction {n}"),
+                    _ => Ok(()),
+                }
+            }
+        }
+    }
+}
