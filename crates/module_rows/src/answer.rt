@@ -1,9 +1,12 @@
 //! The answer to the bytes of a module.
+ghost use Rattle.std.specs.Prelude.{◌<◌, length};
+
 use sim_base::{Fault, Place, Refusal, is_refusal, refusal_name};
 use std::alloc::Global;
 use std::fmt;
 use std::fmt::{Display, Formatter, Write};
 use wasm_decode::decode;
+use wasm_validate::{Valid, validate};
 
 /// No file is longer.
 const FILE: usize = 1_048_576;
@@ -22,11 +25,18 @@ pub fn answer_to(alloc: Global, bytes: &[u8]) -> Answer {
             place: Place::Whole,
         });
     }
-    match decode(alloc, bytes) {
+    match read(alloc, bytes) {
         Ok(_) => Answer::Accepted,
         Err(Fault::Refused(refusal)) => Answer::Refused(refusal),
         Err(Fault::OutOfMemory) => Answer::OutOfMemory,
     }
+}
+
+fn read(alloc: Global, bytes: &[u8]) -> Result<Valid, Fault>
+    requires { length bytes.now < 4294967295 }
+{
+    let module = decode(alloc, bytes)?;
+    validate(alloc, module)
 }
 
 /// The name of a number, empty where no refusal has it.
