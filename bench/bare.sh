@@ -5,7 +5,7 @@
 set -eu
 here=$(cd "$(dirname "$0")" && pwd)
 program=$here/../mudflatjar
-"$program" bare "$here/spin.hex" 1 >/dev/null
+"$program" bare "$here/spin.hex" --us 1 >/dev/null
 
 seconds() { # of a command, the least of three runs
     local best= s i
@@ -15,7 +15,7 @@ seconds() { # of a command, the least of three runs
     done
     echo "$best"
 }
-bare() ( ulimit -v 65536; exec "$program" bare "$1" 10000000 )
+bare() ( ulimit -v 65536; exec "$program" bare "$1" --us 10000000 )
 
 for firmware in spin crc; do
     ours=$(seconds bare "$here/$firmware.hex")

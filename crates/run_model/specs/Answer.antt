@@ -6,7 +6,7 @@ use Rattle.sim_base.specs.declared.fault.Place.TheVariants as places
 use Rattle.sim_base.specs.Outside.{Files}
 use Rattle.text_model.specs.Hex.{hex_image}
 use Rattle.run_model.specs.Bare.{bare_wave}
-use Rattle.run_model.specs.Request.{Request, Bare}
+use Rattle.words_model.specs.Request.{Request, Bare}
 
 -- the first event that ends the work: a file that is missing, or a refusal with the file that it names
 pub data Stop : Type 0 where

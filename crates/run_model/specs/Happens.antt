@@ -2,7 +2,6 @@
 use Rattle.std.specs.Prelude.{◌≡◌, ◌≢◌, ℕ, List, [], ◌∷◌, ◌++◌, Option, Some, None, Ok, Err, ◌⊎◌, codes, decimal, IfSome, IsSomeAnd}
 use Rattle.std.specs.List.{concat}
 use Rattle.std.specs.FinMap.{remove}
-use Rattle.sim_base.specs.declared.fault.Refusal.{Refusal}
 use Rattle.sim_base.specs.declared.fault.Place.{Place}
 use Rattle.sim_base.specs.declared.fault.Place.TheVariants as places
 use Rattle.sim_base.specs.declared.bench.Port.{Port}
@@ -10,7 +9,7 @@ use Rattle.sim_base.specs.declared.bench.Port.TheVariants as ports
 use Rattle.sim_base.specs.Refusals.{name_of}
 use Rattle.sim_base.specs.Causes.{Rose}
 use Rattle.sim_base.specs.Outside.{Outside, Becomes, Grows, IsFront}
-use Rattle.run_model.specs.Request.{Request, request_of}
+use Rattle.words_model.specs.Request.{Request, request_of}
 use Rattle.run_model.specs.Answer.{Stop, Missing, Refused, Texts, answer}
 
 -- How the work ends. A failed read names its file.

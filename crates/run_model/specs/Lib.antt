@@ -1,5 +1,4 @@
 pub mod Bare
-pub mod Request
 pub mod Answer
 pub mod Happens
 pub mod Promises

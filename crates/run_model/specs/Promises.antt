@@ -1,10 +1,9 @@
 -- What a caller may rest on: the status and the ports, each promise by itself.
 use Rattle.std.specs.Prelude.{◌≡◌, ◌≢◌, ℕ, Option, Some, None, Result, Ok, Err, ◌⊎◌, IfSome}
 use Rattle.sim_base.specs.declared.bench.Port.{Port}
-use Rattle.sim_base.specs.declared.bench.Port.TheVariants as ports
 use Rattle.sim_base.specs.Causes.{Rose}
 use Rattle.sim_base.specs.Outside.{Outside, Files}
-use Rattle.run_model.specs.Request.{Request}
+use Rattle.words_model.specs.Request.{Request}
 use Rattle.run_model.specs.Answer.{Stop, Texts, answer}
 use Rattle.run_model.specs.Happens.{Outcome, Accepted, NoRequest, Stopped, status_of, Hold, Begin, IsFaultless, IsSilent, OutputRose}
 

@@ -1,3 +1,3 @@
-//! What the program does for its words, as definitions: the request that words are, the answer to
-//! a request over files, and what a call of the program leaves outside.
+//! What the program does for its words, as definitions: the answer to a request over files, and what
+//! a call of the program leaves outside. The request that words make is in `words_model`.
 #![tactic(auto)]

@@ -12,7 +12,7 @@ use Rattle.sim_base.specs.declared.fault.Refusal.{Refusal}
 use Rattle.sim_base.specs.Outside.{Outside, SameOthers, SamePorts, Files}
 use Rattle.text_model.specs.Hex.{hex_image}
 use Rattle.run_model.specs.Bare.{bare_wave}
-use Rattle.run_model.specs.Request.{Request, Bare}
+use Rattle.words_model.specs.Request.{Request, Bare}
 use Rattle.run_model.specs.Answer.{Stop, Missing, Texts, answer, file, ◌>>=◌}
 use Rattle.run_model.specs.Work.{Wrote, ReadStops}
 use Rattle.run_model.specs.Happens.{Outcome, Accepted, NoRequest, Stopped, ReadFailed, WriteFailed, OutOfMemory, Happens, Begin, Complains}

@@ -2,7 +2,7 @@
 use Rattle.std.proofs.Common.{◌≡◌, refl, ap, sym, ◌∙◌, Option, Some, None, Result, Ok, Err, inl, inr, ◌⊎◌, IfSome, IsSomeAnd, arith}
 use Rattle.sim_base.specs.declared.bench.Port.TheVariants as ports
 use Rattle.sim_base.specs.Outside.{Outside, Files}
-use Rattle.run_model.specs.Request.{Request}
+use Rattle.words_model.specs.Request.{Request}
 use Rattle.run_model.specs.Answer.{Stop, Missing, Refused, Texts, answer}
 use Rattle.run_model.specs.Happens.{Outcome, Accepted, NoRequest, Stopped, ReadFailed, WriteFailed, OutOfMemory, Happens, Hold, Begin, status_of}
 use Rattle.run_model.specs.Promises.{WordsAlone, IsAnswered, IsComplete, HoldsAnswer, IsStopped, IsTrueStop, HasCause, HoldsFront, ComplainsAlone, IsStatus, expected, outcome_from}

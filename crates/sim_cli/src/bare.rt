@@ -3,7 +3,7 @@ ghost use Rattle.std.specs.Prelude.{◌≡◌, ◌≤◌, ◌<◌, ◌*◌, [], 
 ghost use Rattle.sim_base.specs.Outside.{SameOthers};
 ghost use Rattle.vcd_text.specs.Ports.{texts, Writes};
 ghost use Rattle.run_model.specs.Bare.{bare_wave, uno_variables};
-ghost use Rattle.run_model.specs.Request.{Bare};
+ghost use Rattle.words_model.specs.Request.{Bare};
 ghost use Rattle.run_model.specs.Happens.{Happens};
 ghost use Rattle.sim_cli.specs.Outcomes.{outcome_of, SaidNothing, RanOn};
 ghost use Rattle.sim_cli.specs.Boards.{fresh, bare_board, flash_of};

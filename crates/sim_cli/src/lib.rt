@@ -13,7 +13,6 @@ mod simulation;
 #[cfg(test)]
 mod tests;
 mod uno;
-mod words;
 mod writing;
 
 pub use simulation::simulate;

@@ -1,6 +1,6 @@
 //! The top call.
 ghost use Rattle.std.specs.Prelude.{◌≡◌, map, string_bytes};
-ghost use Rattle.run_model.specs.Request.{request_of};
+ghost use Rattle.words_model.specs.Request.{request_of};
 ghost use Rattle.run_model.specs.Happens.{Happens, Does};
 ghost use Rattle.run_model.specs.Promises.{WordsAlone, IsAnswered, IsComplete, HoldsAnswer, IsStopped, IsTrueStop, HasCause, HoldsFront, ComplainsAlone, IsStatus};
 ghost use Rattle.sim_cli.specs.Outcomes.{outcome_of, SaidNothing};
@@ -8,7 +8,7 @@ ghost use Rattle.sim_cli.specs.Outcomes.{outcome_of, SaidNothing};
 use crate::bare::bare;
 use crate::complaint::tell;
 use crate::outcome::{Outcome, status};
-use crate::words::{Request, read_words};
+use cli_words::{Request, read_words};
 use sim_base::{Bench, Steps};
 use std::alloc::Global;
 use std::sync::ledger::Ledger;
@@ -23,9 +23,10 @@ fn work<'a, B: Bench, L: Ledger>(
     ensures happens { Happens (outcome_of result) (request_of (map string_bytes words.now)) (B.outside bench.old) (B.outside bench.new) }
     ensures silent { SaidNothing (B.outside bench.old) (B.outside bench.new) }
 {
-    match read_words(words) {
-        Some(Request::Bare(hex, micros)) => bare(alloc, hex, micros, bench, steps),
-        None => Outcome::NoRequest,
+    match read_words(alloc, words) {
+        Ok(Some(Request::Bare(hex, micros))) => bare(alloc, hex, micros, bench, steps),
+        Ok(None) => Outcome::NoRequest,
+        Err(_) => Outcome::OutOfMemory,
     }
 }
 

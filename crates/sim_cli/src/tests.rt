@@ -118,11 +118,13 @@ fn run(
 
 #[test]
 fn blink_wave(rt: HostRuntime) -> Result<(), OutOfMemory> {
-    for words in [
-        ["bare", "blink.hex", "1"],
-        ["bare", "blink.hex", "0000000001"],
-    ] {
-        let ended = run(rt.alloc(), Some(BLINK), &words, None)?;
+    let rows: [&[&str]; 3] = [
+        &["bare", "blink.hex", "--us", "1"],
+        &["bare", "--us=0000000001", "blink.hex"],
+        &["bare", "--us", "1", "--", "blink.hex"],
+    ];
+    for words in rows {
+        let ended = run(rt.alloc(), Some(BLINK), words, None)?;
         assert_eq!(rt; ended.status, 0);
         assert!(rt; ended.wave.as_slice() == WAVE);
         assert!(rt; ended.complaint.is_empty());
@@ -149,7 +151,7 @@ fn a_file_that_is_refused_or_missing_is_named(rt: HostRuntime) -> Result<(), Out
         (None, 4, b"blink.hex: missing\n"),
     ];
     for (hex, status, line) in rows {
-        let ended = run(rt.alloc(), hex, &["bare", "blink.hex", "1"], None)?;
+        let ended = run(rt.alloc(), hex, &["bare", "blink.hex", "--us", "1"], None)?;
         assert_eq!(rt; ended.status, status);
         assert!(rt; ended.complaint.as_slice() == line);
         assert!(rt; ended.wave.is_empty());
@@ -159,16 +161,13 @@ fn a_file_that_is_refused_or_missing_is_named(rt: HostRuntime) -> Result<(), Out
 
 #[test]
 fn other_words_are_not_understood(rt: HostRuntime) -> Result<(), OutOfMemory> {
-    let rows: [&[&str]; 9] = [
+    let rows: [&[&str]; 6] = [
         &[],
         &["bare", "blink.hex"],
-        &["bare", "", "1"],
-        &["bare", "blink.hex", "0"],
-        &["bare", "blink.hex", "10000001"],
-        &["bare", "blink.hex", "00000000001"],
-        &["bare", "blink.hex", "1x"],
-        &["bare", "blink.hex", "1", "1"],
-        &["--help", "blink.hex", "1"],
+        &["bare", "blink.hex", "1"],
+        &["bare", "blink.hex", "--us", "0"],
+        &["bare", "blink.hex", "--us", "1", "--us", "1"],
+        &["--help"],
     ];
     for words in rows {
         let ended = run(rt.alloc(), Some(BLINK), words, None)?;
@@ -196,7 +195,7 @@ fn each_call_that_fails_is_told_and_leaves_a_first_part(
         let ended = run(
             rt.alloc(),
             Some(BLINK),
-            &["bare", "blink.hex", "1"],
+            &["bare", "blink.hex", "--us", "1"],
             Some(number),
         )?;
         assert_eq!(rt; ended.status, status);

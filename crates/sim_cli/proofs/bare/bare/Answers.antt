@@ -3,7 +3,7 @@ use Rattle.sim_base.specs.Outside.{Files}
 use Rattle.text_model.specs.Hex.{hex_image}
 use Rattle.run_model.specs.Answer.{file, answer}
 use Rattle.run_model.specs.Bare.{bare_wave}
-use Rattle.run_model.specs.Request.{Bare}
+use Rattle.words_model.specs.Request.{Bare}
 use Rattle.sim_cli.specs.Outcomes.{outcome_of, wave_alone}
 use Rattle.sim_cli.proofs.EndLemmas.{if_some, wave_ran, bare_answer, bare_stops}
 use Rattle.sim_cli.proofs.bare.bare.Goals as goal

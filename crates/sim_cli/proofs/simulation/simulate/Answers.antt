@@ -1,5 +1,5 @@
 use Rattle.std.proofs.Common.{map, string_bytes}
-use Rattle.run_model.specs.Request.{request_of}
+use Rattle.words_model.specs.Request.{request_of}
 use Rattle.sim_cli.specs.Outcomes.{outcome_of}
 use Rattle.sim_cli.proofs.EndLemmas.{told, complains, complains_since}
 use Rattle.sim_cli.proofs.PromiseLemmas.{words_alone, answered, complete, holds_answer, stopped, true_stop, has_cause, holds_front, complains_alone, is_status}

@@ -1,6 +1,6 @@
 use Rattle.std.proofs.Common.{◌≡◌, ◌<◌, ◌^◌, take}
-use Rattle.run_model.specs.Request.{value_of}
-use Rattle.sim_cli.proofs.words.value.Given as goal
+use Rattle.words_model.specs.Request.{value_of}
+use Rattle.cli_words.proofs.number.value.Given as goal
 
 abbrev pub invariant-loop-c : goal.invariant-loop-c
 invariant-loop-c l = record {

@@ -1,8 +1,8 @@
 -- A request without where its texts lie in memory.
 use Rattle.std.specs.Prelude.{◌<◌, ◌≤◌}
-use Rattle.run_model.specs.Request as asks
-use Rattle.sim_cli.specs.declared.words.Request.{Request}
-use Rattle.sim_cli.specs.declared.words.Request.TheVariants as requests
+use Rattle.words_model.specs.Request as asks
+use Rattle.cli_words.specs.declared.request.Request.{Request}
+use Rattle.cli_words.specs.declared.request.Request.TheVariants as requests
 
 abbrev pub asked_of : Request → asks.Request
 asked_of (requests.Bare hex micros) = asks.Bare hex.now micros

@@ -1,0 +1,5 @@
+mod LexLemmas
+mod RuleLemmas
+mod WalkLemmas
+mod AgreeLemmas
+mod ReadLemmas

@@ -1,0 +1,12 @@
+//! The words of the command line (`words_model`), read by clap: the words after a command are its
+//! positional words and its options.
+//! `read_words` answers the request of the words exactly, or want of memory.
+#![tactic(auto)]
+
+mod commands;
+mod number;
+mod request;
+#[cfg(test)]
+mod tests;
+
+pub use request::{Request, read_words};

@@ -1,0 +1,88 @@
+//! The request of the words.
+ghost use Rattle.std.specs.Prelude.{◌≡◌, ◌≤◌, ◌<◌, map, string_bytes, IfOk, IfSome};
+ghost use Rattle.std.specs.Option.{option_map, option_and_then};
+ghost use Rattle.words_model.specs.Words.{Given, texts_of};
+ghost use Rattle.words_model.specs.Request.{request_of, asked_by, bare_syntax, bare_of, path_of, micros_of};
+ghost use Rattle.cli_words.specs.Commands.{AreOf};
+ghost use Rattle.cli_words.specs.Asked.{asked_of, IsRunTime};
+
+use crate::commands::{read_texts, text};
+use crate::number::read_number;
+use clap::ArgMatches;
+use std::alloc::{AllocError, Global};
+
+/// What the words ask for; microseconds are 1 to 10,000,000.
+#[derive(Clone, Copy)]
+pub enum Request<'a> {
+    /// The wave of one Uno without wires that runs a HEX file, for so many microseconds.
+    Bare(&'a str, u32),
+}
+
+/// A file or a folder, whose name is not empty.
+fn path<'a>(matches: &ArgMatches<'a>, name: &str) -> Option<&'a str>
+    ensures { (given : Given) → AreOf given matches.now → option_map (λ t. t.now) result ≡ path_of name.now given }
+{
+    match text(matches, name) {
+        Some(path) if !path.is_empty() => Some(path),
+        _ => None,
+    }
+}
+
+/// The run time.
+fn micros(matches: &ArgMatches) -> Option<u32>
+    ensures asked { (given : Given) → AreOf given matches.now → result ≡ micros_of given }
+    ensures run_time { IfSome result (λ n. (0 < n) × (n ≤ 10000000)) }
+{
+    match text(matches, "us") {
+        Some(word) => read_number(1, 10_000_000, word),
+        None => None,
+    }
+}
+
+fn bare<'a>(matches: &ArgMatches<'a>) -> Option<Request<'a>>
+    ensures asked { (given : Given) → AreOf given matches.now → option_map asked_of result ≡ bare_of given }
+    ensures run_time { IfSome result IsRunTime }
+{
+    match (path(matches, "hex"), micros(matches)) {
+        (Some(hex), Some(micros)) => Some(Request::Bare(hex, micros)),
+        _ => None,
+    }
+}
+
+/// `bare HEX --us N`
+fn read_bare(alloc: Global, given: &[String]) -> Result<Option<Request<'_>>, AllocError>
+    ensures request { IfOk result (λ o. option_map asked_of o ≡ option_and_then bare_of (texts_of bare_syntax (map string_bytes given.entry.now))) }
+    ensures run_time { IfOk result (λ o. IfSome o IsRunTime) }
+{
+    match read_texts(alloc, &["hex"], &["us"], given)? {
+        Some(matches) => Ok(bare(&matches)),
+        None => Ok(None),
+    }
+}
+
+/// The request of a command with these words after it.
+fn read_command<'a>(
+    alloc: Global,
+    command: &str,
+    given: &'a [String],
+) -> Result<Option<Request<'a>>, AllocError>
+    ensures request { IfOk result (λ o. option_map asked_of o ≡ asked_by command.now (map string_bytes given.entry.now)) }
+    ensures run_time { IfOk result (λ o. IfSome o IsRunTime) }
+{
+    match command {
+        "bare" => read_bare(alloc, given),
+        _ => Ok(None),
+    }
+}
+
+/// The request of the words, which are without the program's name; None where they ask for nothing
+/// known.
+pub fn read_words(alloc: Global, words: &[String]) -> Result<Option<Request<'_>>, AllocError>
+    ensures request { IfOk result (λ o. option_map asked_of o ≡ request_of (map string_bytes words.now)) }
+    ensures run_time { IfOk result (λ o. IfSome o IsRunTime) }
+{
+    match words.split_first() {
+        Some((command, given)) => read_command(alloc, command.as_str(), given),
+        None => Ok(None),
+    }
+}

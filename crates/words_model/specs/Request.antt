@@ -1,0 +1,55 @@
+-- What the words of the command line ask for (profile).
+use Rattle.std.specs.Prelude.{ℕ, ◌+◌, ◌-◌, ◌*◌, Bool, ◌&&◌, nat_le, ◌==◌, if◌then◌else◌, List, [], ◌∷◌, length, Option, Some, None, codes, fold}
+use Rattle.std.specs.List.{list_all}
+use Rattle.std.specs.Str.{bytes_eq}
+use Rattle.std.specs.Option.{option_map, option_and_then}
+use Rattle.words_model.specs.Words.{Text, Given, Syntax, texts_of, text_of}
+
+abbrev pub is_digit : ℕ → Bool
+is_digit c = nat_le 48 c && nat_le c 57
+
+-- the number that decimal digits spell
+abbrev pub value_of : List ℕ → ℕ
+value_of digits = fold (λ n c. 10 * n + (c - 48)) 0 digits
+
+-- a number of 1 to 10 digits within bounds; leading zeros are allowed
+abbrev pub number_within : ℕ → ℕ → List ℕ → Option ℕ
+number_within least greatest word =
+    if list_all is_digit word && (nat_le 1 (length word) && (nat_le (length word) 10 && (nat_le least (value_of word) && nat_le (value_of word) greatest)))
+    then Some (value_of word) else None
+
+-- `Bare hex us`: the wave of so many microseconds of one Uno that runs the firmware of a HEX file.
+-- `Check folder`: whether a project is accepted.
+-- `Run folder us vcd`: so many microseconds of a project, with the wave in a file where it is named.
+-- `Module file`: whether a chip's module is accepted.
+pub data Request : Type 0 where
+  Bare : Text → ℕ → Request
+
+-- a file name or a folder's is not empty
+abbrev pub path : Text → Option Text
+path text = if length text == 0 then None else Some text
+
+abbrev pub path_of : Text → Given → Option Text
+path_of name given = option_and_then path (text_of name given)
+
+-- a run time of 1 to 10,000,000 microseconds
+abbrev pub micros_of : Given → Option ℕ
+micros_of given = option_and_then (number_within 1 10000000) (text_of (codes "us") given)
+
+-- `bare HEX --us N`
+abbrev pub bare_syntax : Syntax
+bare_syntax = record { words = codes "hex" ∷ []; options = codes "us" ∷ [] }
+
+abbrev pub bare_of : Given → Option Request
+bare_of given = option_and_then (λ hex. option_map (Bare hex) (micros_of given)) (path_of (codes "hex") given)
+
+-- the request of a command with these words after it
+abbrev pub asked_by : Text → List Text → Option Request
+asked_by command words =
+    if bytes_eq command (codes "bare") then option_and_then bare_of (texts_of bare_syntax words)
+    else None
+
+-- The words are without the program's name; None where they ask for nothing that the program knows.
+abbrev pub request_of : List Text → Option Request
+request_of [] = None
+request_of (command ∷ words) = asked_by command words
