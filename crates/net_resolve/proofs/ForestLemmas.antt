@@ -177,6 +177,62 @@ pub join_roots_back : (p : List ℕ) → IsForest p → (hi lo a b x : ℕ) → 
 join_roots_back p forest hi lo a b x within order top low ea eb =
     join_roots p forest hi lo b a x within order top low eb ea ∙ joined_swap (root_of p b) (root_of p a) (root_of p x)
 
+-- trees joined after the ways to their roots were made shorter
+pub join_after : (old p : List ℕ) → IsForest p → ((x : ℕ) → root_of p x ≡ root_of old x) → (hi lo a b x : ℕ) → hi < length p → lo ≤ hi → lo ≡ root_of old a → hi ≡ root_of old b →
+    root_of (slice_set p hi lo) x ≡ root_joined (root_of old a) (root_of old b) (root_of old x)
+join_after old p forest roots hi lo a b x within order ea eb =
+    let la : lo ≡ root_of p a = ea ∙ sym (roots a) in
+    let hb : hi ≡ root_of p b = eb ∙ sym (roots b) in
+    let top : slice_index p hi ≡ hi = subst (λ (y : ℕ). slice_index p y ≡ y) (sym hb) (root_is_own p forest b) in
+    let low : slice_index p lo ≡ lo = subst (λ (y : ℕ). slice_index p y ≡ y) (sym la) (root_is_own p forest a) in
+    join_roots p forest hi lo a b x within order top low la hb
+    ∙ ap (λ (r : ℕ). root_joined r (root_of p b) (root_of p x)) (roots a)
+    ∙ ap (λ (r : ℕ). root_joined (root_of old a) r (root_of p x)) (roots b)
+    ∙ ap (root_joined (root_of old a) (root_of old b)) (roots x)
+
+pub join_after_back : (old p : List ℕ) → IsForest p → ((x : ℕ) → root_of p x ≡ root_of old x) → (hi lo a b x : ℕ) → hi < length p → lo ≤ hi → hi ≡ root_of old a → lo ≡ root_of old b →
+    root_of (slice_set p hi lo) x ≡ root_joined (root_of old a) (root_of old b) (root_of old x)
+join_after_back old p forest roots hi lo a b x within order ea eb =
+    join_after old p forest roots hi lo b a x within order eb ea ∙ joined_swap (root_of old b) (root_of old a) (root_of old x)
+
+-- a place that is not its own parent is hung below a lower place of its tree
+module _ (p : List ℕ) (forest : IsForest p) (at y : ℕ) (within : at < length p) (lower : y < at) (same : root_of p y ≡ root_of p at) where
+  moved_other : (x : ℕ) → x ≢ at → slice_index (slice_set p at y) x ≡ slice_index p x
+  moved_other x ne = get_or-set_other p at x y 0 ne
+
+  moved_here : slice_index (slice_set p at y) at ≡ y
+  moved_here = get_or-set_same p at y 0 within
+
+  pub moved_forest : IsForest (slice_set p at y)
+  moved_forest x = elim (eqb_tells x at) [
+    | inl e ↦ subst (λ (z : ℕ). slice_index (slice_set p at y) z ≤ z) (sym e.1) (omega (arith, moved_here, lower))
+    | inr ne ↦ omega (arith, moved_other x ne.1, forest x)
+  ]
+
+  moved_place : (n x : ℕ) → x < n → ((z : ℕ) → z < n → z < x → root_of (slice_set p at y) z ≡ root_of p z) → root_of (slice_set p at y) x ≡ root_of p x
+  moved_place n x l less = elim (eqb_tells x at) [
+    | inl e ↦
+        let before : y < x = omega (arith, e.1, lower) in
+        ap (root_of (slice_set p at y)) e.1
+        ∙ sym (root_up (slice_set p at y) moved_forest at) ∙ ap (root_of (slice_set p at y)) moved_here
+        ∙ less y (omega (arith, before, l)) before ∙ same ∙ ap (root_of p) (sym e.1)
+    | inr ne ↦ elim (eqb_tells (slice_index p x) x) [
+      | inl own ↦ own_root (slice_set p at y) moved_forest x (moved_other x ne.1 ∙ own.1) ∙ sym (own_root p forest x own.1)
+      | inr up ↦
+          let z = slice_index p x in
+          let before : z < x = omega (arith, up.1, forest x) in
+          sym (root_up (slice_set p at y) moved_forest x) ∙ ap (root_of (slice_set p at y)) (moved_other x ne.1)
+          ∙ less z (omega (arith, before, l)) before ∙ root_up p forest x
+    ]
+  ]
+
+  moved_below : (n x : ℕ) → x < n → root_of (slice_set p at y) x ≡ root_of p x
+  moved_below zero x l = absurd (omega arith)
+  moved_below (suc n) x l = moved_place (suc n) x l (λ z (m : z < suc n) (b : z < x). moved_below n z (omega arith))
+
+  pub moved_roots : (x : ℕ) → root_of (slice_set p at y) x ≡ root_of p x
+  moved_roots x = moved_below (suc x) x (omega arith)
+
 lt_or_eq : (k i : ℕ) → k < i + 1 → (k < i) ⊎ (k ≡ i)
 lt_or_eq k i h = grind arith
 

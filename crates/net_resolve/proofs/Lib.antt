@@ -6,3 +6,9 @@ pub mod ReachLemmas
 pub mod AreaLemmas
 pub mod ResolveLemmas
 pub mod PlainLemmas
+pub mod PickLemmas
+pub mod LocalLemmas
+pub mod SubcircuitLemmas
+pub mod PlaceLemmas
+pub mod CutLemmas
+pub mod RightLemmas

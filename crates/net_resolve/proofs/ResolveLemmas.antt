@@ -32,14 +32,14 @@ added_same gives count f h same (n ∷ ns) (d ∷ ds) sum within =
     ap (λ (b : Bool). added gives f (if b then together sum (gives d) else sum) (zip ns ds)) (same n (within 0 n refl))
     ∙ added_same gives count f h same ns ds (if h n then together sum (gives d) else sum) (λ k m e. within (suc k) m e)
 
-any_flat_some : {A B : Type 0} (test : B → Bool) (f : A → List B) (xs : List A) → list_any test (flat_map f xs) ≡ true → (k : ℕ) × (x : A) × (slice_get xs k ≡ Some x) × (list_any test (f x) ≡ true)
+pub any_flat_some : {A B : Type 0} (test : B → Bool) (f : A → List B) (xs : List A) → list_any test (flat_map f xs) ≡ true → (k : ℕ) × (x : A) × (slice_get xs k ≡ Some x) × (list_any test (f x) ≡ true)
 any_flat_some test f [] h = absurd cc
 any_flat_some test f (x ∷ xs) h = elim (or_cases (list_any test (f x)) (list_any test (flat_map f xs)) (sym (list_any-append test (f x) (flat_map f xs)) ∙ h)) [
   | inl l ↦ (0, x, refl, l)
   | inr r ↦ let s = any_flat_some test f xs r in (suc s.0, s.1, s.2, s.3)
 ]
 
-any_flat_at : {A B : Type 0} (test : B → Bool) (f : A → List B) (xs : List A) (k : ℕ) (x : A) → slice_get xs k ≡ Some x → list_any test (f x) ≡ true → list_any test (flat_map f xs) ≡ true
+pub any_flat_at : {A B : Type 0} (test : B → Bool) (f : A → List B) (xs : List A) (k : ℕ) (x : A) → slice_get xs k ≡ Some x → list_any test (f x) ≡ true → list_any test (flat_map f xs) ≡ true
 any_flat_at test f [] k x e h = absurd cc
 any_flat_at test f (y ∷ xs) zero x e h =
     list_any-append test (f y) (flat_map f xs) ∙ or_left (list_any test (f y)) (list_any test (flat_map f xs)) (ap (λ z. list_any test (f z)) (some_same e) ∙ h)
@@ -47,10 +47,10 @@ any_flat_at test f (y ∷ xs) (suc k) x e h =
     list_any-append test (f y) (flat_map f xs) ∙ or_right (list_any test (f y)) (list_any test (flat_map f xs)) (any_flat_at test f xs k x e h)
 
 -- a High where the first holds, and a Low where the second does
-abbrev two_values : Bool → Bool → List Drive
+abbrev pub two_values : Bool → Bool → List Drive
 two_values a b = (if a then drives.High ∷ [] else []) ++ (if b then drives.Low ∷ [] else [])
 
-values_any : (v a b : Bool) → any_value v (two_values a b) ≡ (if v then a else b)
+pub values_any : (v a b : Bool) → any_value v (two_values a b) ≡ (if v then a else b)
 values_any true true true = refl
 values_any true true false = refl
 values_any true false true = refl
@@ -60,7 +60,7 @@ values_any false true false = refl
 values_any false false true = refl
 values_any false false false = refl
 
-abbrev AreStrong : List Drive → Type 0
+abbrev pub AreStrong : List Drive → Type 0
 AreStrong [] = Unit {0}
 AreStrong (drives.High ∷ ds) = AreStrong ds
 AreStrong (drives.Low ∷ ds) = AreStrong ds
@@ -79,7 +79,7 @@ strong_maybe : (c a b : Bool) (ds : List Drive) → AreStrong ds → AreStrong (
 strong_maybe true a b ds s = strong_join a b ds s
 strong_maybe false a b ds s = s
 
-strong_flat : (c a b : ℕ → Bool) (ns : List ℕ) → AreStrong (flat_map (λ m. if c m then two_values (a m) (b m) else []) ns)
+pub strong_flat : (c a b : ℕ → Bool) (ns : List ℕ) → AreStrong (flat_map (λ m. if c m then two_values (a m) (b m) else []) ns)
 strong_flat c a b [] = tt
 strong_flat c a b (n ∷ ns) = strong_maybe (c n) (a n) (b n) (flat_map (λ m. if c m then two_values (a m) (b m) else []) ns) (strong_flat c a b ns)
 
@@ -88,7 +88,7 @@ or_true true = refl
 or_true false = refl
 
 -- strong values are none, or more than a lone wiper
-strong_first : (ds : List Drive) → AreStrong ds → ((ds ≡ []) × ((any_value true ds || any_value false ds) ≡ false))
+pub strong_first : (ds : List Drive) → AreStrong ds → ((ds ≡ []) × ((any_value true ds || any_value false ds) ≡ false))
     ⊎ (((any_value true ds || any_value false ds) ≡ true) × ((ws : List Drive) → level_of_drives (ds ++ ws) ≡ level_of_all (ds ++ ws)))
 strong_first [] s = inl (refl, refl)
 strong_first (drives.High ∷ ds) s = inr (refl, λ ws. refl)

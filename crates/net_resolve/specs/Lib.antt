@@ -1,3 +1,5 @@
 pub mod Forest
 pub mod Sums
 pub mod Circuit
+pub mod Subcircuits
+pub mod Sorted

@@ -3,17 +3,21 @@ ghost use Rattle.std.specs.Prelude.{◌≡◌, ℕ, ◌<◌, ◌≤◌, List, le
 ghost use Rattle.board_model.specs.Walks.{below};
 ghost use Rattle.net_resolve.specs.Forest.{IsForest, AreLabels, root_of, root_joined};
 
-/// The first place of the tree.
-fn root(parents: &[u16], place: u16) -> u16
-    requires forest { IsForest parents.now }
-    requires place { place < length parents.now }
-    ensures root { result ≡ root_of parents.now place }
+/// The first place of the tree. On the way to it each second place is hung one higher, so that
+/// later ways are short.
+fn root(parents: &mut [u16], place: u16) -> u16
+    requires forest { IsForest parents.old }
+    requires place { place < length parents.old }
+    ensures forest { IsForest parents.new }
+    ensures roots { (x : ℕ) → root_of parents.new x ≡ root_of parents.old x }
+    ensures root { result ≡ root_of parents.old place }
     ensures first { result ≤ place }
-    ensures own { slice_index parents.now result ≡ result }
 {
     let mut at = place;
     while parents[at as usize] != at {
-        at = parents[at as usize];
+        let up = parents[parents[at as usize] as usize];
+        parents[at as usize] = up;
+        at = up;
     }
     at
 }

@@ -1,114 +1,171 @@
 //! The nets of a board.
-ghost use Rattle.std.specs.Prelude.{◌≡◌, ℕ, ◌<◌, ◌≤◌, List, length, replicate, Some, slice_get, IfOk, vec_len, Bool, true, false};
+ghost use Rattle.std.specs.Prelude.{◌≡◌, ℕ, ◌<◌, ◌≤◌, List, length, replicate, Some, slice_get, slice_index, map, IfOk, vec_len, true, false};
+ghost use Rattle.sim_base.specs.declared.signal.Drive.{Drive};
 ghost use Rattle.board_model.specs.Fits.{IsWiring};
 ghost use Rattle.board_model.specs.Resolve.{resolve};
 ghost use Rattle.net_resolve.specs.Circuit.{Circuit};
-ghost use Rattle.net_resolve.specs.Forest.{AreGroups};
+ghost use Rattle.net_resolve.specs.Subcircuits.{SubcircuitView, IsCut, AreSubcircuits, AreRight, FitsIn, unresolved, labels_of};
 
-use crate::levels::{group_nets, resolve_groups};
+use crate::cut::{cut_all, sort};
+use crate::room::{all_flags, all_z, no_drives, no_flags};
+use crate::subcircuit::Subcircuit;
 use sim_base::{Drive, Level, OutOfMemory, Wiring};
-use std::alloc::{AllocError, Global};
+use std::alloc::Global;
 use std::marker::Model;
 
 /// The nets of a board, with what joins them and the levels that were resolved last; before the
-/// first time every level is Z.
+/// first time every level is Z. They are cut into subcircuits, and only those are resolved again
+/// in which the drive of a pin or a contact changed.
 #[derive(Drop)]
 pub struct Nets {
     net_of: Vec<u16>,
     contacts: Vec<(u16, u16)>,
     resistors: Vec<(u16, u16)>,
-    /// Which contacts were closed when the nets were grouped.
+    /// The number of each net's subcircuit.
+    labels: Vec<u16>,
+    subcircuits: Vec<Subcircuit>,
+    /// What each pin drove and which contacts were closed when the levels were resolved.
+    drives: Vec<Drive>,
     closed: Vec<bool>,
-    /// The group of each net: a net of it that stands for all that closed contacts lead to.
-    groups: Vec<u16>,
-    /// The strong value of each group.
-    strong: Vec<Level>,
-    /// Which resistors connect two groups without a strong value.
-    bridges: Vec<bool>,
-    /// The area of each net: groups without a strong value that resistors connect.
-    areas: Vec<u16>,
-    /// What comes together in each area.
-    sums: Vec<Level>,
+    /// Which subcircuits are to be resolved again.
+    stale: Vec<bool>,
     levels: Vec<Level>,
 }
 
 impl Model for Nets {
-    ghost use Rattle.std.specs.Prelude.{◌≡◌, ℕ, ◌<◌, ◌≤◌, length, Some, slice_get, vec_len};
+    ghost use Rattle.std.specs.Prelude.{◌≡◌, length, vec_len};
     ghost use Rattle.net_resolve.specs.Circuit.{Circuit};
-    ghost use Rattle.net_resolve.specs.Forest.{AreGroups};
+    ghost use Rattle.net_resolve.specs.Subcircuits.{IsCut, AreSubcircuits, AreRight, unresolved};
 
     ghost Value = { Circuit };
 
-    ghost view = { λ a. record { nets = vec_len a.groups; net_of = a.net_of.items; contacts = a.contacts.items; resistors = a.resistors.items; levels = a.levels.items } };
+    ghost view = { λ a. record { nets = vec_len a.levels; net_of = a.net_of.items; contacts = a.contacts.items; resistors = a.resistors.items; levels = a.levels.items } };
 
     ghost invariant = { λ a. record {
-      few : vec_len a.groups ≤ 65536;
-      pins_within : (k n : ℕ) → slice_get a.net_of.items k ≡ Some n → n < vec_len a.groups;
-      contacts_within : (k : ℕ) (c : ℕ × ℕ) → slice_get a.contacts.items k ≡ Some c → (c.0 < vec_len a.groups) × (c.1 < vec_len a.groups);
-      resistors_within : (k : ℕ) (r : ℕ × ℕ) → slice_get a.resistors.items k ≡ Some r → (r.0 < vec_len a.groups) × (r.1 < vec_len a.groups);
-      grouped : AreGroups a.contacts.items a.closed.items a.groups.items;
+      cut : IsCut (unresolved (vec_len a.levels) a.net_of.items a.contacts.items a.resistors.items) a.labels.items;
+      subcircuits : AreSubcircuits (unresolved (vec_len a.levels) a.net_of.items a.contacts.items a.resistors.items) a.labels.items a.subcircuits.items;
+      right : AreRight (unresolved (vec_len a.levels) a.net_of.items a.contacts.items a.resistors.items) a.labels.items a.stale.items a.closed.items a.drives.items a.levels.items;
+      subcircuits_long : length a.subcircuits.items ≡ vec_len a.levels;
+      stale_long : vec_len a.stale ≡ vec_len a.levels;
+      drives_long : vec_len a.drives ≡ vec_len a.net_of;
       closed_long : vec_len a.closed ≡ vec_len a.contacts;
-      strong_long : vec_len a.strong ≡ vec_len a.groups;
-      bridges_long : vec_len a.bridges ≡ vec_len a.resistors;
-      areas_long : vec_len a.areas ≡ vec_len a.groups;
-      sums_long : vec_len a.sums ≡ vec_len a.groups;
-      levels_long : vec_len a.levels ≡ vec_len a.groups;
     } };
 }
 
-/// So many levels, all Z.
-fn all_z(alloc: Global, count: usize) -> Result<Vec<Level>, AllocError>
-    ensures items { IfOk result (λ v. v.items ≡ replicate count Level.Z) }
-    ensures len { IfOk result (λ v. vec_len v ≡ count) }
+fn is_same_drive(a: Drive, b: Drive) -> bool
+    ensures { result ≡ true → a ≡ b }
 {
-    vec![in alloc; Level::Z; count]
+    a == b
 }
 
-/// So many flags, none set.
-fn no_flags(alloc: Global, count: usize) -> Result<Vec<bool>, AllocError>
-    ensures { IfOk result (λ v. vec_len v ≡ count) }
+fn is_same_flag(a: bool, b: bool) -> bool
+    ensures { result ≡ true → a ≡ b }
 {
-    vec![in alloc; false; count]
+    a == b
 }
 
-fn zeros(alloc: Global, count: usize) -> Result<Vec<u16>, AllocError>
-    ensures { IfOk result (λ v. vec_len v ≡ count) }
+/// Keeps what the pins drive now, and marks the subcircuits of those that drove something else.
+fn keep_drives(
+    now: &[Drive],
+    net_of: &[u16],
+    labels: &[u16],
+    kept: &mut [Drive],
+    stale: &mut [bool],
+)
+    requires now { length now.now ≡ length net_of.now }
+    requires kept { length kept.old ≡ length net_of.now }
+    requires nets { (k n : ℕ) → slice_get net_of.now k ≡ Some n → n < length labels.now }
+    requires labels { (n : ℕ) → n < length labels.now → slice_index labels.now n < length stale.old }
+    ensures kept { kept.new ≡ now.now }
+    ensures more { (q : ℕ) → slice_get stale.new q ≡ Some false → slice_get stale.old q ≡ Some false }
+    ensures same { (k q : ℕ) → slice_get (map (slice_index labels.now) net_of.now) k ≡ Some q → slice_get stale.new q ≡ Some false → slice_get kept.old k ≡ slice_get now.now k }
 {
-    vec![in alloc; 0; count]
-}
-
-/// The groups of so many nets where no contact is closed.
-fn first_groups(
-    alloc: Global,
-    contacts: &[(u16, u16)],
-    closed: &[bool],
-    count: usize,
-) -> Result<Vec<u16>, AllocError>
-    requires contacts { (k : ℕ) (c : ℕ × ℕ) → slice_get contacts.now k ≡ Some c → (c.0 < count) × (c.1 < count) }
-    requires closed { length closed.now ≡ length contacts.now }
-    requires few { count ≤ 65536 }
-    ensures grouped { IfOk result (λ v. AreGroups contacts.now closed.now v.items) }
-    ensures len { IfOk result (λ v. vec_len v ≡ count) }
-{
-    let mut groups = zeros(alloc, count)?;
-    group_nets(contacts, closed, groups.as_mut_slice());
-    Ok(groups)
-}
-
-/// Groups the nets again where other contacts are closed than before.
-fn regroup(contacts: &[(u16, u16)], closed: &[bool], kept: &mut [bool], groups: &mut [u16])
-    requires contacts { (k : ℕ) (c : ℕ × ℕ) → slice_get contacts.now k ≡ Some c → (c.0 < length groups.old) × (c.1 < length groups.old) }
-    requires closed { length closed.now ≡ length contacts.now }
-    requires kept { length kept.old ≡ length contacts.now }
-    requires few { length groups.old ≤ 65536 }
-    requires grouped { AreGroups contacts.now kept.old groups.old }
-    ensures kept { kept.new ≡ closed.now }
-    ensures grouped { AreGroups contacts.now closed.now groups.new }
-{
-    if &*kept != closed {
-        kept.copy_from_slice(closed);
-        group_nets(contacts, closed, groups);
+    for k in 0..now.len() {
+        if !is_same_drive(now[k], kept[k]) {
+            kept[k] = now[k];
+            stale[labels[net_of[k] as usize] as usize] = true;
+        }
     }
+}
+
+/// Keeps which contacts are closed now, and marks the subcircuits of those that changed.
+fn keep_closed(
+    now: &[bool],
+    contacts: &[(u16, u16)],
+    labels: &[u16],
+    kept: &mut [bool],
+    stale: &mut [bool],
+)
+    requires now { length now.now ≡ length contacts.now }
+    requires kept { length kept.old ≡ length contacts.now }
+    requires nets { (k : ℕ) (c : ℕ × ℕ) → slice_get contacts.now k ≡ Some c → (c.0 < length labels.now) × (c.1 < length labels.now) }
+    requires labels { (n : ℕ) → n < length labels.now → slice_index labels.now n < length stale.old }
+    ensures kept { kept.new ≡ now.now }
+    ensures more { (q : ℕ) → slice_get stale.new q ≡ Some false → slice_get stale.old q ≡ Some false }
+    ensures same { (k q : ℕ) → slice_get (labels_of labels.now contacts.now) k ≡ Some q → slice_get stale.new q ≡ Some false → slice_get kept.old k ≡ slice_get now.now k }
+{
+    for k in 0..now.len() {
+        if !is_same_flag(now[k], kept[k]) {
+            kept[k] = now[k];
+            let (first, _) = contacts[k];
+            stale[labels[first as usize] as usize] = true;
+        }
+    }
+}
+
+/// Resolves the subcircuits that are marked.
+fn resolve_stale(
+    drives: &[Drive],
+    closed: &[bool],
+    subcircuits: &mut [Subcircuit],
+    stale: &mut [bool],
+    levels: &mut [Level],
+)
+    requires stale { length stale.old ≡ length subcircuits.old }
+    requires fits { (q : ℕ) (s : SubcircuitView) → slice_get subcircuits.old q ≡ Some s → FitsIn (length drives.now) (length closed.now) (length levels.old) s }
+    ensures same { subcircuits.new ≡ subcircuits.old }
+    ensures fresh { (q : ℕ) → q < length stale.old → slice_get stale.new q ≡ Some false }
+    ensures right { (w : Circuit) (labels : List ℕ) → IsCut w labels → AreSubcircuits w labels subcircuits.old → length closed.now ≡ length w.contacts → length drives.now ≡ length w.net_of →
+        AreRight w labels stale.old closed.now drives.now levels.old → AreRight w labels stale.new closed.now drives.now levels.new }
+{
+    for q in 0..subcircuits.len() {
+        if stale[q] {
+            stale[q] = false;
+            subcircuits[q].resolve(drives, closed, levels);
+        }
+    }
+}
+
+/// Resolves the subcircuits in which a drive or a contact changed.
+fn resolve_changed(
+    drives: &[Drive],
+    closed: &[bool],
+    net_of: &[u16],
+    contacts: &[(u16, u16)],
+    labels: &[u16],
+    kept_drives: &mut [Drive],
+    kept_closed: &mut [bool],
+    subcircuits: &mut [Subcircuit],
+    stale: &mut [bool],
+    levels: &mut [Level],
+)
+    requires drives { length drives.now ≡ length net_of.now }
+    requires closed { length closed.now ≡ length contacts.now }
+    requires kept_drives { length kept_drives.old ≡ length net_of.now }
+    requires kept_closed { length kept_closed.old ≡ length contacts.now }
+    requires subcircuits { length subcircuits.old ≡ length levels.old }
+    requires stale { length stale.old ≡ length levels.old }
+    requires cut { (resistors : List (ℕ × ℕ)) × IsCut (unresolved (length levels.old) net_of.now contacts.now resistors) labels.now × AreSubcircuits (unresolved (length levels.old) net_of.now contacts.now resistors) labels.now subcircuits.old }
+    ensures kept_drives { kept_drives.new ≡ drives.now }
+    ensures kept_closed { kept_closed.new ≡ closed.now }
+    ensures same { subcircuits.new ≡ subcircuits.old }
+    ensures right { (resistors : List (ℕ × ℕ)) → IsCut (unresolved (length levels.old) net_of.now contacts.now resistors) labels.now → AreSubcircuits (unresolved (length levels.old) net_of.now contacts.now resistors) labels.now subcircuits.old →
+        AreRight (unresolved (length levels.old) net_of.now contacts.now resistors) labels.now stale.old kept_closed.old kept_drives.old levels.old →
+        AreRight (unresolved (length levels.old) net_of.now contacts.now resistors) labels.now stale.new closed.now drives.now levels.new × (levels.new ≡ resolve (length levels.old) net_of.now contacts.now resistors closed.now drives.now) }
+{
+    keep_drives(drives, net_of, labels, kept_drives, stale);
+    keep_closed(closed, contacts, labels, kept_closed, stale);
+    resolve_stale(drives, closed, subcircuits, stale, levels);
 }
 
 impl Nets {
@@ -118,18 +175,16 @@ impl Nets {
         ensures { IfOk result (λ n. n ≡ record { nets = wiring.now.nets; net_of = wiring.now.net_of; contacts = wiring.now.contacts; resistors = wiring.now.resistors; levels = replicate wiring.now.nets Level.Z }) }
     {
         let count = wiring.nets as usize;
-        let closed = no_flags(alloc, wiring.contacts.len())?;
-        let groups = first_groups(alloc, wiring.contacts.as_slice(), &closed, count)?;
+        let sorted = sort(alloc, wiring)?;
         Ok(Nets {
             net_of: Vec::from_slice(alloc, wiring.net_of.as_slice())?,
             contacts: Vec::from_slice(alloc, wiring.contacts.as_slice())?,
             resistors: Vec::from_slice(alloc, wiring.resistors.as_slice())?,
-            closed,
-            groups,
-            strong: all_z(alloc, count)?,
-            bridges: no_flags(alloc, wiring.resistors.len())?,
-            areas: zeros(alloc, count)?,
-            sums: all_z(alloc, count)?,
+            labels: Vec::from_slice(alloc, sorted.labels.as_slice())?,
+            subcircuits: cut_all(alloc, wiring, &sorted)?,
+            drives: no_drives(alloc, wiring.net_of.len())?,
+            closed: no_flags(alloc, wiring.contacts.len())?,
+            stale: all_flags(alloc, count)?,
             levels: all_z(alloc, count)?,
         })
     }
@@ -140,16 +195,16 @@ impl Nets {
         requires closed { length closed.now ≡ length self.old.contacts }
         ensures { self.new ≡ record self.old { levels = resolve self.old.nets self.old.net_of self.old.contacts self.old.resistors closed.now drives.now } }
     {
-        regroup(&self.contacts, closed, &mut self.closed, &mut self.groups);
-        resolve_groups(
-            &self.net_of,
+        resolve_changed(
             drives,
-            &self.resistors,
-            &self.groups,
-            &mut self.strong,
-            &mut self.bridges,
-            &mut self.areas,
-            &mut self.sums,
+            closed,
+            &self.net_of,
+            &self.contacts,
+            &self.labels,
+            &mut self.drives,
+            &mut self.closed,
+            &mut self.subcircuits,
+            &mut self.stale,
             &mut self.levels,
         );
     }

@@ -44,7 +44,8 @@ fn wiring_of(alloc: Global, circuit: &Circuit) -> Result<Wiring, OutOfMemory>
     })
 }
 
-/// The levels of nets 0 to 2 for these drives, which the plain program has too.
+/// The levels of nets 0 to 2 for these drives, which the plain program has too, though other levels
+/// were resolved before.
 fn levels_of(
     rt: &impl Abort,
     alloc: Global,
@@ -55,6 +56,7 @@ fn levels_of(
     assert!(rt; has_valid_nets(&wiring));
     assert!(rt; circuit.closed.len() == wiring.contacts.len());
     let mut nets = Nets::new(alloc, &wiring)?;
+    nets.resolve(&[drives[1], drives[0], drives[2]], circuit.closed);
     nets.resolve(&drives, circuit.closed);
     let plain = plain_levels(alloc, &wiring, &drives, circuit.closed)?;
     assert!(rt; nets.levels() == plain.as_slice());

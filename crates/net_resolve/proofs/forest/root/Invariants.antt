@@ -1,9 +1,14 @@
-use Rattle.std.proofs.Common.{◌≡◌, ◌≤◌}
-use Rattle.net_resolve.specs.Forest.{root_of}
+use Rattle.std.proofs.Common.{◌≡◌, ◌≤◌, ℕ}
+use Rattle.net_resolve.specs.Forest.{IsForest, root_of}
 use Rattle.net_resolve.proofs.forest.root.Given as goal
 
-abbrev pub invariant-loop-at : goal.invariant-loop-at
-invariant-loop-at l = record { lower : l.at ≤ l.place; same : root_of l.parents l.at ≡ root_of l.parents l.place }
+abbrev pub invariant-loop-parents : goal.invariant-loop-parents
+invariant-loop-parents l = record {
+  forest : IsForest l.parents;
+  roots : (x : ℕ) → root_of l.parents x ≡ root_of l.fn.parents x;
+  lower : l.at ≤ l.place;
+  same : root_of l.fn.parents l.at ≡ root_of l.fn.parents l.place;
+}
 
-abbrev pub decreases-loop-at : goal.decreases-loop-at
-decreases-loop-at l = l.at
+abbrev pub decreases-loop-parents : goal.decreases-loop-parents
+decreases-loop-parents l = l.at

@@ -1,6 +1,31 @@
-use Rattle.std.proofs.Common.{◌≡◌, subst, List, ℕ, Some}
-use Rattle.std.specs.Prelude.{slice_get}
+use Rattle.std.proofs.Common.{◌≡◌, ◌∙◌, ℕ, List, length, arith, sym, ap, refl, subst}
+use Rattle.net_resolve.specs.Subcircuits.{IsCut, AreSubcircuits, unresolved}
+use Rattle.std.specs.Prelude.{vec_len}
+use Rattle.net_resolve.proofs.RightLemmas.{cut_moved, subs_moved, right_none}
 use Rattle.net_resolve.proofs.nets.Nets.new.Goals as goal
 
-pub first_groups-requires-clause-contacts : goal.first_groups-requires-clause-contacts
-first_groups-requires-clause-contacts c = λ k d e. c.requires.contacts k d (subst (λ (cs : List (ℕ × ℕ)). slice_get cs k ≡ Some d) c.as_slice.ensures e)
+pub invariant_of-result : goal.invariant_of-result
+invariant_of-result c =
+    let w = c.args.wiring.now in
+    let n = vec_len c.in_ok-all_z.field-0 in
+    let net_of = c.in_ok-from_slice.field-0.items in
+    let contacts = c.in_ok-from_slice-2.field-0.items in
+    let resistors = c.in_ok-from_slice-3.field-0.items in
+    let labels = c.in_ok-from_slice-4.field-0.items in
+    let same_n : w.nets ≡ n = sym c.in_ok-all_z.ensures.len in
+    let same_net_of : w.net_of ≡ net_of = sym (c.in_ok-from_slice.ensures.items ∙ c.as_slice.ensures) in
+    let same_contacts : w.contacts ≡ contacts = sym (c.in_ok-from_slice-2.ensures.items ∙ c.as_slice-2.ensures) in
+    let same_resistors : w.resistors ≡ resistors = sym (c.in_ok-from_slice-3.ensures.items ∙ c.as_slice-3.ensures) in
+    let same_labels : c.in_ok-sorted.sorted.labels ≡ labels = sym (c.in_ok-from_slice-4.ensures.items ∙ c.as_slice-4.ensures) in
+    record {
+      cut = subst (λ (rs : List (ℕ × ℕ)). IsCut (unresolved n net_of contacts rs) labels) same_resistors
+          (cut_moved w.resistors same_n same_net_of same_contacts same_labels c.in_ok-sorted.ensures.cut);
+      subcircuits = subst (λ (rs : List (ℕ × ℕ)). AreSubcircuits (unresolved n net_of contacts rs) labels c.in_ok-cut_all.field-0.items) same_resistors
+          (subs_moved w.resistors same_n same_net_of same_contacts same_labels refl c.in_ok-cut_all.ensures.subcircuits);
+      right = right_none (unresolved n net_of contacts resistors) labels w.nets c.in_ok-all_flags.field-0.items c.in_ok-no_flags.field-0.items c.in_ok-no_drives.field-0.items c.in_ok-all_z.field-0.items
+          c.in_ok-all_flags.ensures.items;
+      subcircuits_long = c.in_ok-cut_all.ensures.long ∙ same_n;
+      stale_long = c.in_ok-all_flags.ensures.len ∙ same_n;
+      drives_long = omega (arith, c.in_ok-no_drives.ensures, c.len.ensures, c.in_ok-from_slice.ensures.len, ap length c.as_slice.ensures);
+      closed_long = omega (arith, c.in_ok-no_flags.ensures, c.len-2.ensures, c.in_ok-from_slice-2.ensures.len, ap length c.as_slice-2.ensures);
+    }

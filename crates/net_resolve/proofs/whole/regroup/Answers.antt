@@ -1,7 +1,7 @@
 use Rattle.std.proofs.Common.{sym, subst, List, Bool}
 use Rattle.net_resolve.specs.Forest.{AreGroups}
 use Rattle.net_resolve.proofs.SumLemmas.{same_flags}
-use Rattle.net_resolve.proofs.nets.regroup.Goals as goal
+use Rattle.net_resolve.proofs.whole.regroup.Goals as goal
 
 pub returns-else-ne-clause-kept : goal.returns-else-ne-clause-kept
 returns-else-ne-clause-kept c = same_flags c.args.kept.now c.args.closed.now (sym c.if-ne.ensures)

@@ -1,0 +1,253 @@
+-- Nets that are cut into subcircuits.
+use Rattle.std.proofs.Common.{◌≡◌, ◌≢◌, ℕ, zero, suc, ◌+◌, ◌<◌, ◌≤◌, List, [], ◌∷◌, ◌++◌, length, map, take, drop, Bool, true, false, refl, ap, sym, ◌∙◌, arith, ◌⊎◌, inl, inr, subst, Some, get_or, add-one, append_assoc, drop-cons}
+use Rattle.std.proofs.lemmas.Bool.Decides.{eqb_tells}
+use Rattle.std.proofs.lemmas.List.{length-map}
+use Rattle.std.proofs.lemmas.Option.{slice_get_within, get_or_from_slice_get}
+use Rattle.std.specs.Prelude.{◌==◌, if◌then◌else◌, slice_get, slice_index, slice_set, replicate}
+use Rattle.board_model.specs.Resolve.{contact_joins}
+use Rattle.board_model.proofs.Lists.{some_same, some_map, get_map_some, get_within, get_set_same, get_set_other}
+use Rattle.net_resolve.specs.Circuit.{Circuit}
+use Rattle.net_resolve.specs.Forest.{AreLabels, Joins, root_of}
+use Rattle.net_resolve.specs.Subcircuits.{SubcircuitView, IsCut, IsSubcircuit, AreSubcircuits, AreOwn, picked, labels_of}
+use Rattle.net_resolve.proofs.ForestLemmas.{label_root}
+use Rattle.net_resolve.proofs.ContactLemmas.{contact_is, joins_is}
+use Rattle.net_resolve.proofs.PickLemmas.{picked_key}
+use Rattle.net_resolve.proofs.SubcircuitLemmas.{net_there}
+
+pub get_replicate : {A : Type 0} (x : A) (n k : ℕ) → k < n → slice_get (replicate n x) k ≡ Some x
+get_replicate x zero k h = absurd (omega arith)
+get_replicate x (suc n) zero h = refl
+get_replicate x (suc n) (suc k) h = get_replicate x n k (omega arith)
+
+pub replicate_only : {A : Type 0} (x y : A) (n k : ℕ) → slice_get (replicate n x) k ≡ Some y → y ≡ x
+replicate_only x y zero k e = absurd cc
+replicate_only x y (suc n) zero e = sym (some_same e)
+replicate_only x y (suc n) (suc k) e = replicate_only x y n k e
+
+-- labels that were made equal by all pairs
+module _ (pairs : List (ℕ × ℕ)) (old new : List ℕ) (long : length new ≡ length old) (before : AreLabels old) (after : AreLabels new)
+    (j : Joins (contact_joins pairs (replicate (length pairs) true)) old new)
+    (within : (k : ℕ) (c : ℕ × ℕ) → slice_get pairs k ≡ Some c → (c.0 < length old) × (c.1 < length old)) where
+  root : (x : ℕ) → x < length old → root_of new x ≡ slice_index new x
+  root x l = label_root new after x (omega (arith, long))
+
+  pub pairs_joined : (k : ℕ) (c : ℕ × ℕ) → slice_get pairs k ≡ Some c → slice_index new c.0 ≡ slice_index new c.1
+  pairs_joined k c e =
+      let at = within k c e in
+      let step = contact_is pairs (replicate (length pairs) true) k c c.0 c.1 e (get_replicate true (length pairs) k (slice_get_within pairs k c e)) (joins_is c) in
+      sym (root c.0 at.0) ∙ j.joined c.0 c.1 step ∙ root c.1 at.1
+
+  pub labels_kept : (x y : ℕ) → x < length old → y < length old → slice_index old x ≡ slice_index old y → slice_index new x ≡ slice_index new y
+  labels_kept x y lx ly e =
+      sym (root x lx) ∙ j.keeps x y lx ly (label_root old before x lx ∙ e ∙ sym (label_root old before y ly)) ∙ root y ly
+
+-- what is still to be added to the list of each key
+abbrev pub AreAdding : List ℕ → ℕ → List (List ℕ) → Type 0
+AreAdding keys k lists = (q : ℕ) (l : List ℕ) → slice_get lists q ≡ Some l → l ++ picked q k (drop k keys) ≡ picked q 0 keys
+
+pub adding_none : (keys : List ℕ) (lists : List (List ℕ)) → ((q : ℕ) (l : List ℕ) → slice_get lists q ≡ Some l → l ≡ []) → AreAdding keys 0 lists
+adding_none keys lists empty q l e = ap (λ (x : List ℕ). x ++ picked q 0 keys) (empty q l e)
+
+pub adding_more : (keys : List ℕ) (k : ℕ) (lists : List (List ℕ)) → k < length keys → get_or keys k 0 < length lists → AreAdding keys k lists →
+    AreAdding keys (k + 1) (slice_set lists (get_or keys k 0) (get_or lists (get_or keys k 0) [] ++ k ∷ []))
+adding_more keys k lists h within adding q l e =
+    let key = get_or keys k 0 in
+    let rest = drop (k + 1) keys in
+    let front : drop k keys ≡ key ∷ rest = rw add-one (drop-cons keys k 0 h) in
+    elim (eqb_tells key q) [
+      | inl t ↦
+          let m = get_or lists key [] in
+          let at : slice_get lists q ≡ Some m = ap (slice_get lists) (sym t.1) ∙ get_within lists key [] within in
+          let is : l ≡ m ++ k ∷ [] = sym (some_same (sym (get_set_same lists key (m ++ k ∷ []) within) ∙ ap (slice_get (slice_set lists key (m ++ k ∷ []))) t.1 ∙ e)) in
+          let turn : picked q k (key ∷ rest) ≡ k ∷ picked q (k + 1) rest = ap (λ (b : Bool). if b then k ∷ picked q (k + 1) rest else picked q (k + 1) rest) t.0 in
+          ap (λ (x : List ℕ). x ++ picked q (k + 1) rest) is
+          ∙ append_assoc m (k ∷ []) (picked q (k + 1) rest)
+          ∙ ap (λ (x : List ℕ). m ++ x) (sym (ap (picked q k) front ∙ turn))
+          ∙ adding q m at
+      | inr f ↦
+          let other : q ≢ key = λ (same : q ≡ key). f.1 (sym same) in
+          let at : slice_get lists q ≡ Some l = sym (get_set_other lists key q (get_or lists key [] ++ k ∷ []) other) ∙ e in
+          let turn : picked q k (key ∷ rest) ≡ picked q (k + 1) rest = ap (λ (b : Bool). if b then k ∷ picked q (k + 1) rest else picked q (k + 1) rest) f.0 in
+          ap (λ (x : List ℕ). l ++ x) (sym (ap (picked q k) front ∙ turn)) ∙ adding q l at
+    ]
+
+pub adding_done : (keys : List ℕ) (k : ℕ) (lists : List (List ℕ)) → length keys ≤ k → AreAdding keys k lists → (q : ℕ) (l : List ℕ) → slice_get lists q ≡ Some l → l ≡ picked q 0 keys
+adding_done keys k lists h adding q l e = sym (append_nil l) ∙ ap (λ (x : List ℕ). l ++ picked q k x) (sym (drop_all k keys h)) ∙ adding q l e
+  where
+    append_nil : (l : List ℕ) → l ++ [] ≡ l
+    append_nil [] = refl
+    append_nil (x ∷ l) = ap (λ (y : List ℕ). x ∷ y) (append_nil l)
+
+    drop_all : (n : ℕ) (xs : List ℕ) → length xs ≤ n → drop n xs ≡ []
+    drop_all zero [] h = refl
+    drop_all (suc n) [] h = refl
+    drop_all zero (x ∷ xs) h = absurd (omega arith)
+    drop_all (suc n) (x ∷ xs) h = drop_all n xs (omega arith)
+
+-- lists that have nothing
+abbrev pub AreEmpty : List (List ℕ) → Type 0
+AreEmpty lists = (q : ℕ) (l : List ℕ) → slice_get lists q ≡ Some l → l ≡ []
+
+pub empty_more : (lists : List (List ℕ)) → AreEmpty lists → AreEmpty (lists ++ [] ∷ [])
+empty_more [] h zero l e = sym (some_same e)
+empty_more [] h (suc q) l e = absurd cc
+empty_more (x ∷ lists) h zero l e = h 0 l e
+empty_more (x ∷ lists) h (suc q) l e = empty_more lists (λ k m f. h (suc k) m f) q l e
+
+-- the labels of nets are numbers of nets
+pub net_labels_below : (w : Circuit) (labels : List ℕ) → IsCut w labels → (ls : List ℕ) → ls ≡ labels → (ns : List ℕ) → ns ≡ w.net_of → (keys : List ℕ) → keys ≡ map (slice_index ls) ns →
+    (k key : ℕ) → slice_get keys k ≡ Some key → key < w.nets
+net_labels_below w labels cut ls el ns en keys ek k key e =
+    let n = get_map_some (slice_index ls) ns k key (ap (λ (l : List ℕ). slice_get l k) (sym ek) ∙ e) in
+    let l = cut.pins_within k n.0 (subst (λ (x : List ℕ). slice_get x k ≡ Some n.0) en n.1) in
+    let is : slice_index labels n.0 ≡ key = ap (λ (x : List ℕ). slice_index x n.0) (sym el) ∙ n.2 in
+    omega (arith, cut.below n.0, is, l)
+
+pub pair_labels_below : (w : Circuit) (labels : List ℕ) → IsCut w labels → (ls : List ℕ) → ls ≡ labels → (whole ps : List (ℕ × ℕ)) → ps ≡ whole →
+    ((k : ℕ) (c : ℕ × ℕ) → slice_get whole k ≡ Some c → (c.0 < w.nets) × (c.1 < w.nets)) → (keys : List ℕ) → keys ≡ labels_of ls ps →
+    (k key : ℕ) → slice_get keys k ≡ Some key → key < w.nets
+pair_labels_below w labels cut ls el whole ps ep within keys ek k key e =
+    let c = get_map_some (λ (x : ℕ × ℕ). slice_index ls x.0) ps k key (ap (λ (l : List ℕ). slice_get l k) (sym ek) ∙ e) in
+    let l = within k c.0 (subst (λ (x : List (ℕ × ℕ)). slice_get x k ≡ Some c.0) ep c.1) in
+    let is : slice_index labels c.0.0 ≡ key = ap (λ (x : List ℕ). slice_index x c.0.0) (sym el) ∙ c.2 in
+    omega (arith, cut.below c.0.0, is, l.0)
+
+-- what is mapped stays below a bound
+pub mapped_below : {A : Type 0} (f : A → ℕ) (xs : List A) (ys : List ℕ) (count : ℕ) → ys ≡ map f xs → ((j : ℕ) (x : A) → slice_get xs j ≡ Some x → f x < count) → (k y : ℕ) → slice_get ys k ≡ Some y → y < count
+mapped_below f xs ys count are each k y e =
+    let x = get_map_some f xs k y (ap (λ (l : List ℕ). slice_get l k) (sym are) ∙ e) in
+    omega (arith, each k x.0 x.1, x.2)
+
+pub pairs_below : {A : Type 0} (f : A → ℕ × ℕ) (xs : List A) (ys : List (ℕ × ℕ)) (count : ℕ) → ys ≡ map f xs → ((j : ℕ) (x : A) → slice_get xs j ≡ Some x → ((f x).0 < count) × ((f x).1 < count)) →
+    (k : ℕ) (y : ℕ × ℕ) → slice_get ys k ≡ Some y → (y.0 < count) × (y.1 < count)
+pairs_below f xs ys count are each k y e =
+    let x = get_map_some f xs k y (ap (λ (l : List (ℕ × ℕ)). slice_get l k) (sym are) ∙ e) in
+    let at = each k x.0 x.1 in
+    (omega (arith, at.0, ap (λ (z : ℕ × ℕ). z.0) x.2), omega (arith, at.1, ap (λ (z : ℕ × ℕ). z.1) x.2))
+
+-- one more item of a list that is mapped from the front
+pub map_more : {A B : Type 0} (f : A → B) (xs : List A) (i : ℕ) (d : A) → i < length xs → map f (take (i + 1) xs) ≡ map f (take i xs) ++ f (get_or xs i d) ∷ []
+map_more {A = A} {B = B} f xs i d h = rw add-one (more xs i h)
+  where
+    more : (xs : List A) (i : ℕ) → i < length xs → map f (take (suc i) xs) ≡ map f (take i xs) ++ f (get_or xs i d) ∷ []
+    more [] i h = absurd (omega arith)
+    more (x ∷ xs) zero h = refl
+    more (x ∷ xs) (suc i) h = ap (λ (l : List B). f x ∷ l) (more xs i (omega arith))
+
+pub map_here : {A B : Type 0} (f g : A → B) (xs : List A) → ((j : ℕ) (x : A) → slice_get xs j ≡ Some x → f x ≡ g x) → map f xs ≡ map g xs
+map_here f g [] same = refl
+map_here f g (x ∷ xs) same =
+    let a : f x ≡ g x = same 0 x refl in
+    let b : map f xs ≡ map g xs = map_here f g xs (λ j y e. same (suc j) y e) in
+    cc
+
+pub map-map : {A B C : Type 0} (f : B → C) (g : A → B) (xs : List A) → map f (map g xs) ≡ map (λ x. f (g x)) xs
+map-map f g [] = refl
+map-map {C = C} f g (x ∷ xs) = ap (λ (l : List C). f (g x) ∷ l) (map-map f g xs)
+
+-- there are no more places of a key than places
+pub picked_length : (key k : ℕ) (xs : List ℕ) → length (picked key k xs) ≤ length xs
+picked_length key k [] = omega arith
+picked_length key k (x ∷ xs) = one (x == key) (picked_length key (k + 1) xs)
+  where
+    one : (b : Bool) → length (picked key (k + 1) xs) ≤ length xs → length (if b then k ∷ picked key (k + 1) xs else picked key (k + 1) xs) ≤ suc (length xs)
+    one true h = omega (arith, h)
+    one false h = omega (arith, h)
+
+-- a place of a key is one of the list
+pub picked_within : (key : ℕ) (xs : List ℕ) (j m : ℕ) → slice_get (picked key 0 xs) j ≡ Some m → slice_get xs m ≡ Some key
+picked_within key xs j m e =
+    let s = picked_key key 0 xs j m e in
+    let same : s.0 ≡ m = omega (arith, s.1) in
+    subst (λ (z : ℕ). slice_get xs z ≡ Some key) same s.2
+
+-- the pins of a subcircuit are pins
+pub pin_places : (labels ns : List ℕ) (q : ℕ) (pins : List ℕ) → pins ≡ picked q 0 (map (slice_index labels) ns) → (j k : ℕ) → slice_get pins j ≡ Some k → k < length ns
+pin_places labels ns q pins are j k e =
+    let key = picked_within q (map (slice_index labels) ns) j k (subst (λ (l : List ℕ). slice_get l j ≡ Some k) are e) in
+    let n = get_map_some (slice_index labels) ns k q key in
+    slice_get_within ns k n.0 n.1
+
+-- some places of pairs are those of pairs
+pub pair_places : (labels : List ℕ) (whole : List (ℕ × ℕ)) (q : ℕ) (places : List ℕ) → places ≡ picked q 0 (labels_of labels whole) → (j k : ℕ) → slice_get places j ≡ Some k → k < length whole
+pair_places labels whole q places are j k e =
+    let key = picked_within q (labels_of labels whole) j k (subst (λ (l : List ℕ). slice_get l j ≡ Some k) are e) in
+    let c = get_map_some (λ (x : ℕ × ℕ). slice_index labels x.0) whole k q key in
+    slice_get_within whole k c.0 c.1
+
+module _ (w : Circuit) (labels : List ℕ) (cut : IsCut w labels) (q : ℕ) (nets : List ℕ) (nets_are : nets ≡ picked q 0 labels)
+    (numbers : List ℕ) (long : length numbers ≡ w.nets) (numbered : (i n : ℕ) → slice_get nets i ≡ Some n → slice_get numbers n ≡ Some i) where
+  -- the net of the number of a net
+  number_of : (n : ℕ) → n < w.nets → slice_index labels n ≡ q → slice_get nets (slice_index numbers n) ≡ Some n
+  number_of n l e =
+      let t = net_there labels q nets nets_are n (omega (arith, cut.long)) e in
+      let inside : n < length numbers = omega (arith, long) in
+      let is : t.0 ≡ slice_index numbers n = some_same (sym (numbered t.0 n t.1) ∙ get_within numbers n 0 inside) in
+      subst (λ (z : ℕ). slice_get nets z ≡ Some n) is t.1
+
+  pub own_nets_are : (pins : List ℕ) → pins ≡ picked q 0 (map (slice_index labels) w.net_of) →
+      map (slice_get nets) (map (λ k. slice_index numbers (slice_index w.net_of k)) pins) ≡ map (slice_get w.net_of) pins
+  own_nets_are pins are =
+      map-map (slice_get nets) (λ (k : ℕ). slice_index numbers (slice_index w.net_of k)) pins
+      ∙ map_here (λ (k : ℕ). slice_get nets (slice_index numbers (slice_index w.net_of k))) (slice_get w.net_of) pins (λ j k e.
+      let key = picked_within q (map (slice_index labels) w.net_of) j k (subst (λ (l : List ℕ). slice_get l j ≡ Some k) are e) in
+      let n = get_map_some (slice_index labels) w.net_of k q key in
+      let is : slice_index w.net_of k ≡ n.0 = get_or_from_slice_get w.net_of k n.0 0 n.1 in
+      ap (λ (z : ℕ). slice_get nets (slice_index numbers z)) is ∙ number_of n.0 (cut.pins_within k n.0 n.1) n.2 ∙ sym n.1)
+
+  pub own_net_below : (pins : List ℕ) → pins ≡ picked q 0 (map (slice_index labels) w.net_of) → (j k : ℕ) → slice_get pins j ≡ Some k → slice_index numbers (slice_index w.net_of k) < length nets
+  own_net_below pins are j k e =
+      let key = picked_within q (map (slice_index labels) w.net_of) j k (subst (λ (l : List ℕ). slice_get l j ≡ Some k) are e) in
+      let n = get_map_some (slice_index labels) w.net_of k q key in
+      let is : slice_index w.net_of k ≡ n.0 = get_or_from_slice_get w.net_of k n.0 0 n.1 in
+      subst (λ (z : ℕ). slice_index numbers z < length nets) (sym is) (slice_get_within nets (slice_index numbers n.0) n.0 (number_of n.0 (cut.pins_within k n.0 n.1) n.2))
+
+  pub own_pairs_are : (whole : List (ℕ × ℕ)) → ((k : ℕ) (c : ℕ × ℕ) → slice_get whole k ≡ Some c → (c.0 < w.nets) × (c.1 < w.nets)) →
+      ((k : ℕ) (c : ℕ × ℕ) → slice_get whole k ≡ Some c → slice_index labels c.0 ≡ slice_index labels c.1) →
+      (places : List ℕ) → places ≡ picked q 0 (labels_of labels whole) →
+      AreOwn nets whole places (map (λ k. (slice_index numbers (get_or whole k (0, 0)).0, slice_index numbers (get_or whole k (0, 0)).1)) places)
+  own_pairs_are whole within joined places are = record {
+    long = simp length-map refl;
+    each = λ j k c o ep ec eo.
+        let pair : ℕ → ℕ × ℕ = λ k. (slice_index numbers (get_or whole k (0, 0)).0, slice_index numbers (get_or whole k (0, 0)).1) in
+        let key = picked_within q (labels_of labels whole) j k (subst (λ (l : List ℕ). slice_get l j ≡ Some k) are ep) in
+        let s = get_map_some (λ (x : ℕ × ℕ). slice_index labels x.0) whole k q key in
+        let same : s.0 ≡ c = some_same (sym s.1 ∙ ec) in
+        let first : slice_index labels c.0 ≡ q = ap (λ (x : ℕ × ℕ). slice_index labels x.0) (sym same) ∙ s.2 in
+        let second : slice_index labels c.1 ≡ q = sym (joined k c ec) ∙ first in
+        let at = within k c ec in
+        let is : get_or whole k (0, 0) ≡ c = get_or_from_slice_get whole k c (0, 0) ec in
+        let mine : o ≡ pair k = some_same (sym eo ∙ some_map pair places j k ep) in
+        let zero_is : o.0 ≡ slice_index numbers c.0 = ap (λ (x : ℕ × ℕ). x.0) mine ∙ ap (λ (x : ℕ × ℕ). slice_index numbers x.0) is in
+        let one_is : o.1 ≡ slice_index numbers c.1 = ap (λ (x : ℕ × ℕ). x.1) mine ∙ ap (λ (x : ℕ × ℕ). slice_index numbers x.1) is in
+        (ap (slice_get nets) zero_is ∙ number_of c.0 at.0 first, ap (slice_get nets) one_is ∙ number_of c.1 at.1 second);
+  }
+
+  pub own_pair_below : (whole : List (ℕ × ℕ)) → ((k : ℕ) (c : ℕ × ℕ) → slice_get whole k ≡ Some c → (c.0 < w.nets) × (c.1 < w.nets)) →
+      ((k : ℕ) (c : ℕ × ℕ) → slice_get whole k ≡ Some c → slice_index labels c.0 ≡ slice_index labels c.1) →
+      (places : List ℕ) → places ≡ picked q 0 (labels_of labels whole) → (j k : ℕ) → slice_get places j ≡ Some k →
+      (slice_index numbers (get_or whole k (0, 0)).0 < length nets) × (slice_index numbers (get_or whole k (0, 0)).1 < length nets)
+  own_pair_below whole within joined places are j k e =
+      let pair : ℕ → ℕ × ℕ = λ k. (slice_index numbers (get_or whole k (0, 0)).0, slice_index numbers (get_or whole k (0, 0)).1) in
+      let c = get_or whole k (0, 0) in
+      let at : slice_get whole k ≡ Some c = get_within whole k (0, 0) (pair_places labels whole q places are j k e) in
+      let ends = (own_pairs_are whole within joined places are).each j k c (pair k) e at (some_map pair places j k e) in
+      (slice_get_within nets (pair k).0 c.0 ends.0, slice_get_within nets (pair k).1 c.1 ends.1)
+
+-- a list after one more item
+pub snoc_cases : {A : Type 0} (xs : List A) (y z : A) (k : ℕ) → slice_get (xs ++ y ∷ []) k ≡ Some z → (slice_get xs k ≡ Some z) ⊎ ((k ≡ length xs) × (y ≡ z))
+snoc_cases [] y z zero e = inr (refl, some_same e)
+snoc_cases [] y z (suc k) e = absurd cc
+snoc_cases (x ∷ xs) y z zero e = inl e
+snoc_cases (x ∷ xs) y z (suc k) e = elim (snoc_cases xs y z k e) [
+  | inl l ↦ inl l
+  | inr r ↦ inr (ap suc r.0, r.1)
+]
+
+pub subcircuits_more : (w : Circuit) (labels : List ℕ) (subs : List SubcircuitView) (q : ℕ) (s : SubcircuitView) → length subs ≡ q → AreSubcircuits w labels subs → IsSubcircuit w labels q s → AreSubcircuits w labels (subs ++ s ∷ [])
+subcircuits_more w labels subs q s long before is p t e = elim (snoc_cases subs s t p e) [
+  | inl l ↦ before p t l
+  | inr r ↦
+      let here : q ≡ p = omega (arith, long, r.0) in
+      subst (λ (z : ℕ). IsSubcircuit w labels z t) here (subst (λ (v : SubcircuitView). IsSubcircuit w labels q v) r.1 is)
+]

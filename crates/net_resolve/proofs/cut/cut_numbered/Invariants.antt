@@ -1,0 +1,9 @@
+use Rattle.std.proofs.Common.{◌≡◌, length}
+use Rattle.net_resolve.specs.Subcircuits.{AreSubcircuits, circuit_of}
+use Rattle.net_resolve.proofs.cut.cut_numbered.Given as goal
+
+abbrev pub invariant-loop-q : goal.invariant-loop-q
+invariant-loop-q l = record {
+  long : length l.subcircuits.items ≡ l.q;
+  subcircuits : AreSubcircuits (circuit_of l.wiring) l.sorted.labels l.subcircuits.items;
+}

@@ -1,0 +1,85 @@
+-- Nets cut into subcircuits, which no contact and no resistor connects. No public clause cites this.
+use Rattle.std.specs.Prelude.{◌≡◌, ℕ, ◌+◌, ◌<◌, ◌≤◌, ◌==◌, List, [], ◌∷◌, length, map, Bool, Some, slice_get, slice_index, if◌then◌else◌}
+use Rattle.std.specs.Prelude.{false}
+use Rattle.sim_base.specs.declared.signal.Drive.{Drive}
+use Rattle.sim_base.specs.declared.signal.Level.{Level}
+use Rattle.board_model.specs.Resolve.{level_of}
+use Rattle.sim_base.specs.declared.wiring.Wiring.{Wiring}
+use Rattle.net_resolve.specs.Circuit.{Circuit}
+
+-- no place of a list has n
+abbrev pub Lacks : List ℕ → ℕ → Type 0
+Lacks ns n = (j : ℕ) → slice_get ns j ≡ Some n → ⊥
+
+-- no two places of a list have the same number
+abbrev pub AreOnce : List ℕ → Type 0
+AreOnce ns = (i j n : ℕ) → slice_get ns i ≡ Some n → slice_get ns j ≡ Some n → i ≡ j
+
+-- the places at which a list has a key, where the first item's place is k
+abbrev pub picked : ℕ → ℕ → List ℕ → List ℕ
+picked key k [] = []
+picked key k (x ∷ xs) = if x == key then k ∷ picked key (k + 1) xs else picked key (k + 1) xs
+
+-- a subcircuit, in which its nets are numbered anew from 0
+pub record SubcircuitView : Type 0 where
+  pub nets : List ℕ
+  -- its pins and its contacts, by their numbers on the board
+  pub pins : List ℕ
+  pub contacts : List ℕ
+  -- the net of each of its pins, and what its contacts and resistors join, by the new numbers
+  pub own_nets : List ℕ
+  pub own_contacts : List (ℕ × ℕ)
+  pub own_resistors : List (ℕ × ℕ)
+
+-- nets and what joins them, before anything was resolved
+abbrev pub unresolved : ℕ → List ℕ → List (ℕ × ℕ) → List (ℕ × ℕ) → Circuit
+unresolved nets net_of contacts resistors = record { nets = nets; net_of = net_of; contacts = contacts; resistors = resistors; levels = [] }
+
+abbrev pub circuit_of : Wiring → Circuit
+circuit_of w = unresolved w.nets w.net_of w.contacts w.resistors
+
+-- Each net has the number of its subcircuit, and what is joined has the same one.
+pub record IsCut (w : Circuit) (labels : List ℕ) : Type 0 where
+  pub long : length labels ≡ w.nets
+  pub below : (n : ℕ) → slice_index labels n ≤ n
+  pub pins_within : (k n : ℕ) → slice_get w.net_of k ≡ Some n → n < w.nets
+  pub contacts_within : (k : ℕ) (c : ℕ × ℕ) → slice_get w.contacts k ≡ Some c → (c.0 < w.nets) × (c.1 < w.nets)
+  pub resistors_within : (k : ℕ) (r : ℕ × ℕ) → slice_get w.resistors k ≡ Some r → (r.0 < w.nets) × (r.1 < w.nets)
+  pub contacts_joined : (k : ℕ) (c : ℕ × ℕ) → slice_get w.contacts k ≡ Some c → slice_index labels c.0 ≡ slice_index labels c.1
+  pub resistors_joined : (k : ℕ) (r : ℕ × ℕ) → slice_get w.resistors k ≡ Some r → slice_index labels r.0 ≡ slice_index labels r.1
+
+-- the pairs at some places of a list, by the new numbers of the nets
+pub record AreOwn (nets : List ℕ) (whole : List (ℕ × ℕ)) (places : List ℕ) (own : List (ℕ × ℕ)) : Type 0 where
+  pub long : length own ≡ length places
+  pub each : (j k : ℕ) (c o : ℕ × ℕ) → slice_get places j ≡ Some k → slice_get whole k ≡ Some c → slice_get own j ≡ Some o → (slice_get nets o.0 ≡ Some c.0) × (slice_get nets o.1 ≡ Some c.1)
+
+-- the numbers of the subcircuits of pairs
+abbrev pub labels_of : List ℕ → List (ℕ × ℕ) → List ℕ
+labels_of labels pairs = map (λ c. slice_index labels c.0) pairs
+
+-- the subcircuit with number q
+pub record IsSubcircuit (w : Circuit) (labels : List ℕ) (q : ℕ) (s : SubcircuitView) : Type 0 where
+  pub nets_are : s.nets ≡ picked q 0 labels
+  pub pins_are : s.pins ≡ picked q 0 (map (slice_index labels) w.net_of)
+  pub contacts_are : s.contacts ≡ picked q 0 (labels_of labels w.contacts)
+  pub own_nets_are : map (slice_get s.nets) s.own_nets ≡ map (slice_get w.net_of) s.pins
+  pub own_contacts_are : AreOwn s.nets w.contacts s.contacts s.own_contacts
+  pub own_resistors_are : AreOwn s.nets w.resistors (picked q 0 (labels_of labels w.resistors)) s.own_resistors
+
+-- the level of a net by these contacts and drives
+abbrev pub level_now : Circuit → List Bool → List Drive → ℕ → Level
+level_now w closed ds n = level_of w.nets w.net_of w.contacts w.resistors closed ds n
+
+-- The levels are right on each net whose subcircuit is not stale.
+abbrev pub AreRight : Circuit → List ℕ → List Bool → List Bool → List Drive → List Level → Type 0
+AreRight w labels stale closed ds levels = (n : ℕ) → n < w.nets → slice_get stale (slice_index labels n) ≡ Some false → slice_get levels n ≡ Some (level_now w closed ds n)
+
+abbrev pub AreSubcircuits : Circuit → List ℕ → List SubcircuitView → Type 0
+AreSubcircuits w labels subs = (q : ℕ) (s : SubcircuitView) → slice_get subs q ≡ Some s → IsSubcircuit w labels q s
+
+-- the numbers that a subcircuit has are of a board's pins, contacts and nets
+pub record FitsIn (pins_count contacts_count nets_count : ℕ) (s : SubcircuitView) : Type 0 where
+  pub pins : (j k : ℕ) → slice_get s.pins j ≡ Some k → k < pins_count
+  pub contacts : (j k : ℕ) → slice_get s.contacts j ≡ Some k → k < contacts_count
+  pub nets : (j k : ℕ) → slice_get s.nets j ≡ Some k → k < nets_count
+  pub once : AreOnce s.nets

@@ -1,0 +1,137 @@
+//! Nets that no contact and no resistor connects with others: their levels are found alone.
+ghost use Rattle.std.specs.Prelude.{◌≡◌, ℕ, ◌<◌, ◌≤◌, List, length, map, Some, slice_get, IfOk, vec_len, Bool};
+ghost use Rattle.sim_base.specs.declared.signal.Drive.{Drive};
+ghost use Rattle.board_model.specs.Resolve.{resolve};
+ghost use Rattle.net_resolve.specs.Subcircuits.{SubcircuitView, Lacks, AreOnce};
+
+use crate::room::{no_drives, no_flags};
+use crate::whole::Whole;
+use sim_base::{Drive, Level, OutOfMemory};
+use std::alloc::Global;
+use std::marker::Model;
+
+/// Some nets of a board, which are numbered anew from 0, with the pins, contacts and resistors on them.
+#[derive(Drop)]
+pub(crate) struct Subcircuit {
+    /// The number of each net, each pin and each contact on the board.
+    nets: Vec<usize>,
+    pins: Vec<usize>,
+    contacts: Vec<usize>,
+    /// What its pins drive and which of its contacts are closed.
+    drives: Vec<Drive>,
+    closed: Vec<bool>,
+    whole: Whole,
+}
+
+impl Model for Subcircuit {
+    ghost use Rattle.std.specs.Prelude.{◌≡◌, length, vec_len};
+    ghost use Rattle.net_resolve.specs.Subcircuits.{SubcircuitView};
+
+    ghost Value = { SubcircuitView };
+
+    ghost view = { λ a. record { nets = a.nets.items; pins = a.pins.items; contacts = a.contacts.items; own_nets = a.whole.net_of; own_contacts = a.whole.contacts; own_resistors = a.whole.resistors } };
+
+    ghost invariant = { λ a. record {
+      nets_long : vec_len a.nets ≡ a.whole.nets;
+      pins_long : vec_len a.pins ≡ length a.whole.net_of;
+      contacts_long : vec_len a.contacts ≡ length a.whole.contacts;
+      drives_long : vec_len a.drives ≡ vec_len a.pins;
+      closed_long : vec_len a.closed ≡ vec_len a.contacts;
+    } };
+}
+
+/// Takes the items at some places.
+fn gather<T: Copy>(from: &[T], places: &[usize], into: &mut [T])
+    requires places { (j k : ℕ) → slice_get places.now j ≡ Some k → k < length from.now }
+    requires room { length into.old ≡ length places.now }
+    ensures { map Some into.new ≡ map (slice_get from.now) places.now }
+{
+    for j in 0..places.len() {
+        into[j] = from[places[j]];
+    }
+}
+
+/// Puts each level in its place.
+fn scatter(levels: &[Level], places: &[usize], into: &mut [Level])
+    requires places { (j k : ℕ) → slice_get places.now j ≡ Some k → k < length into.old }
+    requires each { length levels.now ≡ length places.now }
+    requires once { AreOnce places.now }
+    ensures put { (j k : ℕ) → slice_get places.now j ≡ Some k → slice_get into.new k ≡ slice_get levels.now j }
+    ensures others { (k : ℕ) → Lacks places.now k → slice_get into.new k ≡ slice_get into.old k }
+{
+    for j in 0..places.len() {
+        into[places[j]] = levels[j];
+    }
+}
+
+/// Resolves some nets of a board by the drives and contacts at some places.
+fn resolve_at(
+    drives: &[Drive],
+    closed: &[bool],
+    pins: &[usize],
+    contacts: &[usize],
+    own_drives: &mut [Drive],
+    own_closed: &mut [bool],
+    whole: &mut Whole,
+)
+    requires pins { (j k : ℕ) → slice_get pins.now j ≡ Some k → k < length drives.now }
+    requires contacts { (j k : ℕ) → slice_get contacts.now j ≡ Some k → k < length closed.now }
+    requires drives_long { length own_drives.old ≡ length pins.now }
+    requires closed_long { length own_closed.old ≡ length contacts.now }
+    requires pins_long { length pins.now ≡ length whole.old.net_of }
+    requires contacts_long { length contacts.now ≡ length whole.old.contacts }
+    ensures same { whole.new ≡ record whole.old { levels = whole.new.levels } }
+    ensures levels { (cs : List Bool) (ds : List Drive) → map Some cs ≡ map (slice_get closed.now) contacts.now → map Some ds ≡ map (slice_get drives.now) pins.now →
+        whole.new.levels ≡ resolve whole.old.nets whole.old.net_of whole.old.contacts whole.old.resistors cs ds }
+{
+    gather(drives, pins, own_drives);
+    gather(closed, contacts, own_closed);
+    whole.resolve(own_drives, own_closed);
+}
+
+impl Subcircuit {
+    pub(crate) fn new(
+        alloc: Global,
+        nets: &[usize],
+        pins: &[usize],
+        contacts: &[usize],
+        whole: Whole,
+    ) -> Result<Subcircuit, OutOfMemory>
+        requires nets { length nets.now ≡ whole.nets }
+        requires pins { length pins.now ≡ length whole.net_of }
+        requires contacts { length contacts.now ≡ length whole.contacts }
+        ensures { IfOk result (λ s. s ≡ record { nets = nets.now; pins = pins.now; contacts = contacts.now; own_nets = whole.net_of; own_contacts = whole.contacts; own_resistors = whole.resistors }) }
+    {
+        Ok(Subcircuit {
+            nets: Vec::from_slice(alloc, nets)?,
+            pins: Vec::from_slice(alloc, pins)?,
+            contacts: Vec::from_slice(alloc, contacts)?,
+            drives: no_drives(alloc, pins.len())?,
+            closed: no_flags(alloc, contacts.len())?,
+            whole,
+        })
+    }
+
+    /// Finds the levels of its nets, by what the pins of the board drive and which contacts are closed.
+    pub(crate) fn resolve(&mut self, drives: &[Drive], closed: &[bool], levels: &mut [Level])
+        requires pins { (j k : ℕ) → slice_get self.old.pins j ≡ Some k → k < length drives.now }
+        requires contacts { (j k : ℕ) → slice_get self.old.contacts j ≡ Some k → k < length closed.now }
+        requires nets { (j k : ℕ) → slice_get self.old.nets j ≡ Some k → k < length levels.old }
+        requires once { AreOnce self.old.nets }
+        ensures same { self.new ≡ self.old }
+        ensures put { (own_closed : List Bool) (own_drives : List Drive) → map Some own_closed ≡ map (slice_get closed.now) self.old.contacts → map Some own_drives ≡ map (slice_get drives.now) self.old.pins →
+            (j n : ℕ) → slice_get self.old.nets j ≡ Some n → slice_get levels.new n ≡ slice_get (resolve (length self.old.nets) self.old.own_nets self.old.own_contacts self.old.own_resistors own_closed own_drives) j }
+        ensures others { (n : ℕ) → Lacks self.old.nets n → slice_get levels.new n ≡ slice_get levels.old n }
+    {
+        resolve_at(
+            drives,
+            closed,
+            &self.pins,
+            &self.contacts,
+            &mut self.drives,
+            &mut self.closed,
+            &mut self.whole,
+        );
+        scatter(self.whole.levels(), &self.nets, levels);
+    }
+}
