@@ -7,4 +7,4 @@ mod diagram;
 mod project;
 
 pub use diagram::{Diagram, PartText, Wire};
-pub use project::{ChipFile, Project};
+pub use project::{ChipFile, ChipPins, Project};

@@ -16,3 +16,6 @@ pub struct ChipFile {
     pub binary: Text,
     pub json: Text,
 }
+
+/// The pins of a chip by their positions; None is a position that is skipped.
+pub type ChipPins = List<Option<Name>>;

@@ -9,9 +9,5 @@ mod refusals;
 #[cfg(test)]
 mod tests;
 
-pub use document_model::{ChipFile, Project};
+pub use document_model::{ChipFile, ChipPins, Project};
 pub use project::read_project;
-use sim_base::{List, Name};
-
-/// The pins of a chip by their positions; None is a position that is skipped.
-pub type ChipPins = List<Option<Name>>;
