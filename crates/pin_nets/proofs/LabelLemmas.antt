@@ -1,14 +1,14 @@
 -- Labels stay right when one more pair is joined.
-use Rattle.std.proofs.Common.{◌≡◌, ◌≢◌, ℕ, zero, suc, ◌+◌, ◌<◌, ◌≤◌, List, [], ◌∷◌, ◌++◌, length, map, min, max, Bool, true, false, ◌&&◌, ◌||◌, get_or, refl, ap, sym, ◌∙◌, subst, arith, inl, inr, ◌⊎◌, eq-eqb, append_assoc}
-use Rattle.std.specs.Prelude.{◌==◌, if◌then◌else◌}
-use Rattle.std.specs.List.{list_any, All}
+use Rattle.std.proofs.Common.{◌≡◌, ◌≢◌, ℕ, zero, suc, ◌<◌, ◌≤◌, List, [], ◌∷◌, ◌++◌, length, map, min, max, Bool, true, false, ◌&&◌, ◌||◌, get_or, refl, ap, sym, ◌∙◌, subst, arith, inl, inr, ◌⊎◌, eq-eqb}
+use Rattle.std.specs.Prelude.{◌==◌}
+use Rattle.std.specs.List.{All}
 use Rattle.std.proofs.lemmas.Bool.{eqb-true, eqb-false, cases_lt}
 use Rattle.std.proofs.lemmas.List.{get_or-map, length-map}
 use Rattle.std.proofs.lemmas.List.Elements.{All-append}
 use Rattle.board_model.specs.Walks.{Walk, here, further}
 use Rattle.board_model.specs.Nets.{joins, joined_by}
 use Rattle.board_model.proofs.WalkLemmas.{walk_join, walk_back, walk_as}
-use Rattle.pin_nets.specs.Labels.{AreLeast, Tell, relabelled}
+use Rattle.pin_nets.specs.Labels.{Tell, relabelled}
 
 or_left : (a b : Bool) → a ≡ true → (a || b) ≡ true
 or_left a b h = grind arith

@@ -1,3 +1,4 @@
+pub mod BoundLemmas
 pub mod FillLemmas
 pub mod LabelLemmas
 pub mod NumberLemmas

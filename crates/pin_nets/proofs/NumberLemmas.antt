@@ -1,13 +1,13 @@
 -- Labels that tell the nets of pairs give the numbers of the definition.
-use Rattle.std.proofs.Common.{◌≡◌, ◌≢◌, ℕ, zero, suc, ◌+◌, ◌<◌, ◌≤◌, List, [], ◌∷◌, ◌++◌, length, map, filter, Bool, true, false, not, ◌&&◌, ◌||◌, cond, get_or, set, refl, ap, sym, ◌∙◌, subst, arith, inl, inr, ◌⊎◌, eq-eqb, append_assoc, add-one, length-append}
+use Rattle.std.proofs.Common.{◌≡◌, ◌≢◌, ℕ, zero, suc, ◌+◌, ◌<◌, ◌≤◌, List, [], ◌∷◌, ◌++◌, length, map, filter, Bool, true, false, get_or, set, refl, ap, sym, ◌∙◌, subst, arith, inl, inr, ◌⊎◌, eq-eqb, add-one, length-append}
 use Rattle.std.specs.Prelude.{◌==◌, if◌then◌else◌}
-use Rattle.std.specs.List.{list_any, All, position_or_len}
+use Rattle.std.specs.List.{position_or_len}
 use Rattle.std.proofs.lemmas.Bool.{eqb-true, eqb-false, cases_lt, cases_Bool}
 use Rattle.std.proofs.lemmas.List.{get_or-map, length-map, append-nil, map-append, ext_get_or}
 use Rattle.std.proofs.lemmas.List.Elements.{filter-append}
 use Rattle.std.proofs.lemmas.List.Folds.{position_or_len_push}
 use Rattle.std.proofs.lemmas.Option.{get_or_from_slice_get}
-use Rattle.board_model.specs.Walks.{Walk, here, further, below, any_below, leads}
+use Rattle.board_model.specs.Walks.{Walk, here, further, below, any_below}
 use Rattle.board_model.specs.Nets.{joins, joined_by}
 use Rattle.board_model.proofs.WalkLemmas.{some_below, any_below_some, walk_sound, walk_complete}
 use Rattle.board_model.proofs.Lists.{length-below, get-below}
@@ -17,13 +17,13 @@ use Rattle.pin_nets.proofs.LabelLemmas.{or_cases, joins_ends, alone}
 use Rattle.pin_nets.proofs.FillLemmas.{Filled, filled_none, filled_next}
 
 -- numbers below another that pass a test
-abbrev passing : (ℕ → Bool) → ℕ → List ℕ
+abbrev pub passing : (ℕ → Bool) → ℕ → List ℕ
 passing test m = filter test (below m)
 
-passing_yes : (test : ℕ → Bool) (m : ℕ) → test m ≡ true → passing test (suc m) ≡ passing test m ++ m ∷ []
+pub passing_yes : (test : ℕ → Bool) (m : ℕ) → test m ≡ true → passing test (suc m) ≡ passing test m ++ m ∷ []
 passing_yes test m h = filter-append test (below m) (m ∷ []) ∙ ap (λ (b : Bool). passing test m ++ (if b then m ∷ [] else [])) h
 
-passing_no : (test : ℕ → Bool) (m : ℕ) → test m ≡ false → passing test (suc m) ≡ passing test m
+pub passing_no : (test : ℕ → Bool) (m : ℕ) → test m ≡ false → passing test (suc m) ≡ passing test m
 passing_no test m h = filter-append test (below m) (m ∷ []) ∙ ap (λ (b : Bool). passing test m ++ (if b then m ∷ [] else [])) h ∙ append-nil (passing test m)
 
 -- two tests that agree below a number pass the same
@@ -95,7 +95,7 @@ found_at f t x fx tx none (suc m) l = elim (cases_lt x m) [
     ]
 
 -- a step joins the two pins of one of the pairs
-joined_some : (pairs : List (ℕ × ℕ)) (n m : ℕ) → joined_by pairs n m ≡ true → (k : ℕ) × (k < length pairs) × (joins (get_or pairs k (0, 0)) n m ≡ true)
+pub joined_some : (pairs : List (ℕ × ℕ)) (n m : ℕ) → joined_by pairs n m ≡ true → (k : ℕ) × (k < length pairs) × (joins (get_or pairs k (0, 0)) n m ≡ true)
 joined_some [] n m h = absurd cc
 joined_some (p ∷ pairs) n m h = elim (or_cases (joins p n m) (joined_by pairs n m) h) [
   | inl a ↦ (0, omega arith, a)

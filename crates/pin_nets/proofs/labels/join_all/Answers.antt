@@ -1,4 +1,4 @@
-use Rattle.std.proofs.Common.{◌<◌, ℕ, List, length, take, subst, arith}
+use Rattle.std.proofs.Common.{◌<◌, ℕ, List, length, subst, arith}
 use Rattle.std.proofs.lemmas.List.{take_more}
 use Rattle.board_model.proofs.Lists.{take_whole}
 use Rattle.pin_nets.specs.Labels.{Tell}

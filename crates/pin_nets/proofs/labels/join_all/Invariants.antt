@@ -1,4 +1,4 @@
-use Rattle.std.proofs.Common.{◌≡◌, take, length}
+use Rattle.std.proofs.Common.{take}
 use Rattle.pin_nets.specs.Labels.{Tell}
 use Rattle.pin_nets.proofs.labels.join_all.Given as goal
 

@@ -1,4 +1,4 @@
-use Rattle.std.proofs.Common.{get_or, ap, ◌∙◌, ◌<◌, length, arith}
+use Rattle.std.proofs.Common.{ap, ◌∙◌, ◌<◌, length, arith}
 use Rattle.pin_nets.specs.Labels.{relabelled}
 use Rattle.pin_nets.proofs.FillLemmas.{filled_none, filled_next, all_mapped}
 use Rattle.pin_nets.proofs.labels.relabel.Goals as goal

@@ -1,4 +1,4 @@
-use Rattle.std.proofs.Common.{◌<◌, ◌≡◌, length, arith, get_or, ap, ◌∙◌}
+use Rattle.std.proofs.Common.{◌<◌, ◌≡◌, length, arith, ap, ◌∙◌}
 use Rattle.pin_nets.specs.Labels.{owns}
 use Rattle.pin_nets.proofs.NumberLemmas.{numbered_begun, numbered_own, numbered_other, all_numbered}
 use Rattle.pin_nets.proofs.numbers.number.Goals as goal

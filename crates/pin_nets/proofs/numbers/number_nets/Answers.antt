@@ -1,4 +1,4 @@
-use Rattle.std.proofs.Common.{◌≡◌, ℕ, List, length, refl, ap, ◌∙◌, arith}
+use Rattle.std.proofs.Common.{◌≡◌, ℕ, length, refl, ap, ◌∙◌, arith}
 use Rattle.board_model.specs.Walks.{below}
 use Rattle.board_model.proofs.Lists.{length-below, lent_whole}
 use Rattle.pin_nets.specs.Numbering.{net_numbers, net_count}
