@@ -1,5 +1,5 @@
 -- One cycle of the microcontroller, as the code does it.
-use Rattle.std.proofs.Common.{◌≡◌, ℕ, zero, suc, ◌+◌, ◌<◌, ◌≤◌, ◌∙◌, List, map, length, true, false, nat_lt, arith, ap, sym, refl, slice_get, Some}
+use Rattle.std.proofs.Common.{◌≡◌, ℕ, zero, suc, ◌+◌, ◌<◌, ◌≤◌, ◌∙◌, List, map, length, Bool, true, false, nat_lt, arith, ap, sym, refl, slice_get, Some}
 use Rattle.std.specs.Prelude.{if◌then◌else◌}
 use Rattle.std.specs.List.{range_with_len}
 use Rattle.std.proofs.lemmas.Bool.Decides.{nat_tests}
@@ -7,15 +7,15 @@ use Rattle.std.proofs.lemmas.Option.{slice_get-get_or}
 use Rattle.std.proofs.lemmas.List.FromFn.{length-map-range_with_len, get_or-map-range_with_len}
 use Rattle.sim_base.specs.declared.signal.Drive.{Drive}
 use Rattle.sim_base.specs.declared.signal.Drive.TheVariants as drives
-use Rattle.sim_base.specs.declared.signal.Level.{Level}
 use Rattle.part_law.specs.Machine.{IsQuiet}
 use Rattle.avr_core.specs.CoreState.{Core}
 use Rattle.avr_core.specs.AvrStep.{avr_step, Did}
 use Rattle.avr_core.proofs.BusLemmas.{step_keeps}
 use Rattle.avr_ports.specs.Ports.{Ports, driving, drive_by}
+use Rattle.avr_ports.specs.PortLaws.{ports_still}
 use Rattle.avr_ports.specs.declared.pins.Driving.{Driving}
-use Rattle.avr_mcu.specs.Units.{UnitsAt, unit_bus, units_step}
-use Rattle.avr_mcu.specs.Mcu.{Mcu, mcu, mcu_step, runs, executed, core_acted, uno_drive, uno_drives}
+use Rattle.avr_mcu.specs.Units.{UnitsAt, unit_bus, pins}
+use Rattle.avr_mcu.specs.Mcu.{Mcu, mcu, mcu_step, runs, starts, executed, core_acted, uno_drive, uno_drives}
 use Rattle.avr_mcu.specs.McuState.{state_of}
 
 -- the drive of one pin of the Uno
@@ -52,14 +52,19 @@ act_is flash core next units cycle d e here l run =
     ap (state_of flash d.core (cycle + d.cycles) d.bus.units) (held_kept flash core units d e)
     ∙ ap by e ∙ ap (λ (u : ℕ). by (avr_step unit_bus flash core (at u))) here ∙ sym go
 
--- the core has acted, and the units step
-pub wake_is : (s : Mcu) (flash : List ℕ) (core : Core) (next : ℕ) (a b : UnitsAt) (t : ℕ) (l : List Level) →
-    state_of flash core next a.units a.held ≡ core_acted s t → a.cycle ≡ t → b ≡ record { units = units_step a.units a.cycle a.held l; held = l; cycle = a.cycle + 1 } →
-    state_of flash core next b.units b.held ≡ mcu_step s t l
-wake_is s flash core next a b t l acted here stepped =
-    ap (λ (x : UnitsAt). state_of flash core next x.units x.held) stepped
-    ∙ ap (λ (u : ℕ). state_of flash core next (units_step a.units u a.held l) l) here
-    ∙ ap (λ (m : Mcu). record m { units = units_step m.units t m.held l; held = l }) acted
+-- what the core does leaves the held levels alone
+acted_holds : (s : Mcu) (t : ℕ) → (core_acted s t).held ≡ s.held
+acted_holds s t = by (starts s t)
+  where
+    by : (b : Bool) → (if b then executed s t else s).held ≡ s.held
+    by true = refl
+    by false = refl
+
+-- on the levels that are held a cycle is what the core does
+pub held_step : (s : Mcu) (t : ℕ) → core_acted s t ≡ mcu_step s t s.held
+held_step s t =
+    let a = core_acted s t in
+    sym (ap (mcu_step s t) (sym (acted_holds s t)) ∙ ap (λ (p : Ports). record a { units = record (a.units) { ports = p } }) (ports_still a.units.ports (pins a.held)))
 
 -- no cycle is quiet
 pub none_quiet : (s : Mcu) (t n : ℕ) → IsQuiet mcu s t n → n ≡ 0

@@ -1,9 +1,10 @@
 //! The microcontroller as a part.
 ghost use Rattle.std.specs.Prelude.{◌≡◌, ◌+◌, ◌<◌, ◌≤◌, List, ℕ, true, false, slice_index_or, slice_get, Some, IfOk};
-ghost use Rattle.avr_core.specs.AvrStep.{IsProgram};
+ghost use Rattle.avr_core.specs.AvrStep.{IsProgram, Did, avr_step};
 ghost use Rattle.avr_ports.specs.Ports.{driving};
 ghost use Rattle.avr_mcu.specs.Mcu.{mcu, start, runs, core_acted, uno_drive};
 ghost use Rattle.avr_mcu.specs.McuState.{state_of};
+ghost use Rattle.avr_mcu.specs.Units.{unit_bus};
 
 use crate::units::Units;
 use avr_core::{Core, Mode, decode_all};
@@ -81,6 +82,27 @@ impl Mcu {
     {
         self.units.ignored(addr)
     }
+
+    // What the core does in the cycle; the units step after it.
+    #[inline]
+    fn act(&mut self)
+        requires { self.old.cycle < 160000000 }
+        ensures acted { self.new.mcu ≡ core_acted self.old.mcu self.old.cycle }
+        ensures cycle { self.new.cycle ≡ self.old.cycle }
+        ensures wakes { self.new.wakes ≡ self.old.wakes }
+        ensures drives { self.new.changed ≡ false → driving self.new.mcu.units.ports ≡ driving self.old.mcu.units.ports }
+    {
+        let (next, changed) = act_core(
+            &mut self.core,
+            &self.program,
+            &self.flash,
+            &mut self.units,
+            self.next,
+            self.cycle,
+        );
+        self.next = next;
+        self.changed = changed;
+    }
 }
 
 impl Part for Mcu {
@@ -137,17 +159,17 @@ impl Part for Mcu {
     }
 
     fn wake(&mut self, levels: &[Level], _input: Option<u16>) -> Option<u8> {
-        let (next, changed) = act_core(
-            &mut self.core,
-            &self.program,
-            &self.flash,
-            &mut self.units,
-            self.next,
-            self.cycle,
-        );
+        self.act();
         self.units.step(levels);
-        self.next = next;
-        self.changed = changed;
+        self.cycle += 1;
+        self.wakes += 1;
+        None
+    }
+
+    #[inline]
+    fn wake_held(&mut self, _input: Option<u16>) -> Option<u8> {
+        self.act();
+        self.units.skip(self.cycle + 1);
         self.cycle += 1;
         self.wakes += 1;
         None
@@ -158,6 +180,7 @@ impl Part for Mcu {
 
 // What the core does in a cycle: answers the cycle in which the next instruction starts, and whether a
 // drive may have changed.
+#[inline]
 fn act_core(
     core: &mut Core,
     program: &[Instr],
@@ -174,12 +197,24 @@ fn act_core(
     ensures drives { result.1 ≡ false → driving units.new.units.ports ≡ driving units.old.units.ports }
 {
     if next <= cycle && is_running(core.mode()) {
-        let before = units.driving();
-        let cycles = core.exec_decoded(program, flash, units);
-        (cycle + cycles as u32, units.driving() != before)
+        let (cycles, changed) = execute(core, program, flash, units);
+        (cycle + cycles as u32, changed)
     } else {
         (next, false)
     }
+}
+
+// One instruction: answers its cycles, and whether a drive may have changed. A function of its own, so
+// that a cycle in which none starts stays short.
+#[inline(never)]
+fn execute(core: &mut Core, program: &[Instr], flash: &Flash, units: &mut Units) -> (u8, bool)
+    requires program { IsProgram flash.now program.now }
+    ensures did { record { core = core.new; bus = units.new; cycles = result.0 } ≡ avr_step unit_bus flash.now core.old units.old }
+    ensures drives { result.1 ≡ false → driving units.new.units.ports ≡ driving units.old.units.ports }
+{
+    let before = units.driving();
+    let cycles = core.exec_decoded(program, flash, units);
+    (cycles, units.driving() != before)
 }
 
 // The drive of a pin of the Uno.

@@ -79,6 +79,7 @@ impl Units {
     }
 
     /// The registers on which the drives rest.
+    #[inline]
     pub(crate) fn driving(&self) -> Driving
         ensures { result ≡ driving self.now.units.ports }
     {
@@ -104,6 +105,7 @@ impl Units {
     }
 
     /// Goes over cycles without an event.
+    #[inline]
     pub(crate) fn skip(&mut self, to: u32)
         requires forward { self.old.cycle ≤ to }
         requires end { to ≤ 160000000 }

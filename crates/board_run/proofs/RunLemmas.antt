@@ -11,15 +11,15 @@ use Rattle.sim_base.specs.declared.wiring.Input.{Input}
 use Rattle.sim_base.specs.Rows.{Row, StopsWithin, AreFronts, Handed}
 use Rattle.part_law.specs.Machine.{Machine, Laws}
 use Rattle.board_model.specs.Resolve.{resolve}
-use Rattle.board_model.specs.Board.{drives_of, contacts_of, levels_of, part_step, steps_from, board_step, bytes_of, states, bytes}
+use Rattle.board_model.specs.Board.{drives_of, contacts_of, levels_of, level_at, own_nets, part_step, steps_from, board_step, bytes_of, states, bytes}
 use Rattle.board_model.specs.Rows.{Shown, chip_drives_of, shown_of, row_if, shown_before, rows}
 use Rattle.board_model.specs.Fits.{Fits}
-use Rattle.board_model.proofs.Lists.{get_map_some, flat_map_same}
+use Rattle.board_model.proofs.Lists.{get_map_some, some_map, some_same, flat_map_same}
 use Rattle.board_run.specs.Seen.{Seen, Suits, IsOf, shown, shown_at}
 use Rattle.board_run.specs.Runs.{Runs}
-use Rattle.board_run.specs.Woken.{AreStill, AreWoken}
+use Rattle.board_run.specs.Woken.{AreStill, AreWoken, AreHeld}
 use Rattle.board_run.specs.Upcoming.{AreBehind}
-use Rattle.board_run.proofs.StepLemmas.{length-steps_from}
+use Rattle.board_run.proofs.StepLemmas.{length-steps_from, get-steps_from}
 use Rattle.board_run.proofs.CycleLemmas.{shown_is}
 use Rattle.board_run.proofs.HandLemmas.{stops_after, appends_none}
 
@@ -108,6 +108,23 @@ still_of m w state old new seen long still is =
       chips_are = is.chips_are ∙ sym (chips_same m state w.chip old new long (λ k p q ep eq. (still k p q ep eq).0));
     }
 
+-- parts that have stepped hold the levels of the cycle
+held_after : {S P : Type 0} (m : Machine S) (laws : Laws m) (w : Wiring) (inputs : List Input) (state : P → S) (t : ℕ) (ls : List Level) (old new : List P) →
+    map state new ≡ map (λ r. r.0) (steps_from m w inputs ls t 0 (map state old)) → AreHeld m w state ls new
+held_after {S = S} m laws w inputs state t ls old new step k q eq =
+    let ss = map state old in
+    let here : slice_get (map (λ r. r.0) (steps_from m w inputs ls t 0 ss)) k ≡ Some (state q) = ap (λ l. slice_get l k) (sym step) ∙ some_map state new k q eq in
+    let r = get_map_some (λ r. r.0) (steps_from m w inputs ls t 0 ss) k (state q) here in
+    let within : k < length ss = omega (arith, slice_get_within (steps_from m w inputs ls t 0 ss) k r.0 r.1, length-steps_from m w inputs ls t 0 ss) in
+    let s = get_or ss k (state q) in
+    let from = get-steps_from m w inputs ls t 0 k ss s (slice_get-get_or ss k (state q) within) in
+    let same : r.0 ≡ part_step m w inputs ls t (0 + k) s = some_same (sym r.1 ∙ from) in
+    let e0 : 0 + k ≡ k = omega arith in
+    let q_is : state q ≡ (part_step m w inputs ls t k s).0 = sym r.2 ∙ ap (λ (x : S × Option ℕ). x.0) same ∙ ap (λ (j : ℕ). (part_step m w inputs ls t j s).0) e0 in
+    ap m.held q_is ∙ laws.holds_levels s t _ _
+    ∙ ap (λ (n : ℕ). map (level_at ls) (own_nets w k n)) (sym (laws.keeps_pins s t _ _))
+    ∙ ap (λ (x : S). map (level_at ls) (own_nets w k (length (m.drives x)))) (sym q_is)
+
 not_first : (t : ℕ) → (t + 1 == 0) ≡ false
 not_first t = grind arith
 
@@ -134,6 +151,7 @@ module _ {S P : Type 0} (m : Machine S) (laws : Laws m) (w : Wiring) (inputs : L
     suits = suits;
     chips_long = ap length is.chips_are ∙ sym (chips_kept m laws w inputs (levels_of m w (map state parts)) t w.chip 0 (map state parts)) ∙ ap (λ (l : List S). length (chip_drives_of m w.chip l)) (sym step);
     fresh = λ none. still_of m w state parts more seen' long (still none) is;
+    held = λ none. subst (λ (l : List Level). AreHeld m w state l more) (sym is.levels_are) (held_after m laws w inputs state t (levels_of m w (map state parts)) parts more step);
     before_is = next_shown t r.begun ∙ ap (λ (l : List S). Some (shown_of m w l)) (sym r.states_are) ∙ ap Some (sym (shown_is m w (map state parts) seen' is))
         ∙ ap (λ (b : Bool). if b then None else Some (shown seen')) (sym (not_first t));
   }
@@ -239,6 +257,7 @@ runs_start m w inputs state parts seen fits suits chips = record {
   suits = suits;
   chips_long = chips;
   fresh = λ e. absurd cc;
+  held = λ e. absurd cc;
   before_is = refl;
 }
 
@@ -255,6 +274,7 @@ runs_here m w inputs state before ss c n parts seen stale r =
       suits = r.suits;
       chips_long = r.chips_long;
       fresh = r.fresh;
+      held = r.held;
       before_is = ap (shown_before m w inputs (shown_at n seen) (map state parts) n) e;
     }
 

@@ -7,14 +7,14 @@ ghost use Rattle.board_model.specs.Board.{board_step, bytes_of};
 ghost use Rattle.board_model.specs.Rows.{chip_drives_of, shown_of, same_shown, row_if};
 ghost use Rattle.board_model.specs.Fits.{Fits};
 ghost use Rattle.board_run.specs.Seen.{Suits, IsOf, shown, shown_at};
-ghost use Rattle.board_run.specs.Woken.{IsAt, AreWoken, AreStill};
+ghost use Rattle.board_run.specs.Woken.{IsAt, AreWoken, AreStill, AreHeld};
 ghost use Rattle.board_run.specs.Upcoming.{AreBehind, IsInOrder};
 ghost use Rattle.board_run.specs.declared.cycle.Next.{Next};
 
-use crate::hand::{hand_bytes, hand_row};
+use crate::hand::{hand_row, hand_sent};
+use crate::held::wake_parts;
 use crate::reading::Reading;
 use crate::script::end_of_cycle;
-use crate::wake::wake_all;
 use part_law::Part;
 use sim_base::{Input, Steps, Watcher, Wiring, WriteEnd};
 use std::sync::ledger::Ledger;
@@ -28,6 +28,7 @@ pub(crate) struct Next {
 }
 
 /// Reads the parts where that is wanted, and tells whether rows show what they showed before.
+#[inline]
 fn refresh<P: Part>(stale: bool, parts: &[P], wiring: &Wiring, reading: &mut Reading) -> bool
     requires fits { Fits P.machine wiring.now (map P.state parts.now) }
     requires suits { Suits wiring.now reading.old }
@@ -36,6 +37,7 @@ fn refresh<P: Part>(stale: bool, parts: &[P], wiring: &Wiring, reading: &mut Rea
     ensures suits { Suits wiring.now reading.new }
     ensures of { IsOf P.machine wiring.now (map P.state parts.now) reading.new }
     ensures same { result ≡ same_shown (shown reading.old) (shown_of P.machine wiring.now (map P.state parts.now)) }
+    ensures kept { stale ≡ false → reading.new ≡ reading.old }
 {
     if stale {
         reading.read(parts, wiring)
@@ -45,6 +47,7 @@ fn refresh<P: Part>(stale: bool, parts: &[P], wiring: &Wiring, reading: &mut Rea
 }
 
 /// Hands out the row of a cycle, where it has one.
+#[inline]
 fn show_cycle<P: Part, W: Watcher>(
     stale: bool,
     parts: &[P],
@@ -61,6 +64,7 @@ fn show_cycle<P: Part, W: Watcher>(
     requires later { ForSome (W.last out.old) (λ u. u < cycle) }
     ensures suits { Suits wiring.now reading.new }
     ensures of { IsOf P.machine wiring.now (map P.state parts.now) reading.new }
+    ensures kept { stale ≡ false → reading.new ≡ reading.old }
     ensures ok { result ≡ WriteEnd.Ok → Handed W.whole W.faults W.stands out.old out.new (row_if P.machine wiring.now (shown_at cycle reading.old) (map P.state parts.now) cycle) [] }
     ensures last { result ≡ WriteEnd.Ok → ForSome (W.last out.new) (λ u. u < cycle + 1) }
     ensures failed { result ≡ WriteEnd.Failed → Rose (W.faults out.old) (W.faults out.new)
@@ -73,7 +77,9 @@ fn show_cycle<P: Part, W: Watcher>(
 }
 
 /// Steps all parts on the levels that were read, and hands out their bytes. None where writing failed.
+#[inline]
 fn turn_cycle<P: Part, W: Watcher, L: Ledger>(
+    stale: bool,
     parts: &mut [P],
     wiring: &Wiring,
     inputs: &[Input],
@@ -91,6 +97,7 @@ fn turn_cycle<P: Part, W: Watcher, L: Ledger>(
     requires behind { AreBehind inputs.now input cycle }
     requires suits { Suits wiring.now reading.now }
     requires of { IsOf P.machine wiring.now (map P.state parts.old) reading.now }
+    requires held { stale ≡ false → AreHeld P.machine wiring.now P.state reading.now.levels parts.old }
     requires answers { length answers.old ≡ length parts.old }
     requires whole { W.whole out.old ≡ true }
     ensures states { map P.state parts.new ≡ board_step P.machine wiring.now inputs.now (map P.state parts.old) cycle }
@@ -106,22 +113,27 @@ fn turn_cycle<P: Part, W: Watcher, L: Ledger>(
     ensures place { W.place out.new ≡ W.place out.old }
 {
     let end = end_of_cycle(inputs, input, cycle);
-    let stale = wake_all(
+    let woken = wake_parts(
+        stale,
         parts,
         wiring,
-        &reading.own,
+        reading,
         &inputs[input..end],
         answers,
         cycle,
         steps,
     );
-    match hand_bytes(answers, out) {
-        WriteEnd::Ok => Some(Next { input: end, stale }),
+    match hand_sent(woken.sent, answers, out) {
+        WriteEnd::Ok => Some(Next {
+            input: end,
+            stale: woken.changed,
+        }),
         WriteEnd::Failed => None,
     }
 }
 
 /// Runs one cycle: its row, the step of every part, its bytes. None where writing failed.
+#[inline]
 pub(crate) fn step_cycle<P: Part, W: Watcher, L: Ledger>(
     parts: &mut [P],
     wiring: &Wiring,
@@ -141,6 +153,7 @@ pub(crate) fn step_cycle<P: Part, W: Watcher, L: Ledger>(
     requires suits { Suits wiring.now reading.old }
     requires chips { length reading.old.chip_drives ≡ length (chip_drives_of P.machine wiring.now.chip (map P.state parts.old)) }
     requires fresh { next.stale ≡ false → IsOf P.machine wiring.now (map P.state parts.old) reading.old }
+    requires held { next.stale ≡ false → AreHeld P.machine wiring.now P.state reading.old.levels parts.old }
     requires answers { length answers.old ≡ length parts.old }
     requires whole { W.whole out.old ≡ true }
     requires later { ForSome (W.last out.old) (λ u. u < cycle) }
@@ -164,7 +177,7 @@ pub(crate) fn step_cycle<P: Part, W: Watcher, L: Ledger>(
 {
     match show_cycle(next.stale, parts, wiring, cycle, reading, out) {
         WriteEnd::Ok => turn_cycle(
-            parts, wiring, inputs, next.input, cycle, reading, answers, out, steps,
+            next.stale, parts, wiring, inputs, next.input, cycle, reading, answers, out, steps,
         ),
         WriteEnd::Failed => None,
     }

@@ -1,5 +1,5 @@
 //! Rows and bytes are handed out.
-ghost use Rattle.std.specs.Prelude.{◌≡◌, ℕ, ◌+◌, ◌<◌, List, [], ◌∷◌, true, if◌then◌else◌};
+ghost use Rattle.std.specs.Prelude.{◌≡◌, ℕ, ◌+◌, ◌<◌, List, [], ◌∷◌, true, false, if◌then◌else◌};
 ghost use Rattle.std.specs.Option.{ForSome};
 ghost use Rattle.sim_base.specs.Causes.{Rose};
 ghost use Rattle.sim_base.specs.Rows.{Handed, Appends, StopsWithin};
@@ -23,7 +23,8 @@ fn hand_byte<W: Watcher>(answer: Option<u8>, out: &mut W) -> WriteEnd
 }
 
 /// Hands out the bytes that there are.
-pub(crate) fn hand_bytes<W: Watcher>(answers: &[Option<u8>], out: &mut W) -> WriteEnd
+#[inline(never)]
+fn hand_bytes<W: Watcher>(answers: &[Option<u8>], out: &mut W) -> WriteEnd
     requires { W.whole out.old ≡ true }
     ensures ok { result ≡ WriteEnd.Ok → Handed W.whole W.faults W.stands out.old out.new [] (options answers.now) }
     ensures last { result ≡ WriteEnd.Ok → W.last out.new ≡ W.last out.old }
@@ -40,7 +41,26 @@ pub(crate) fn hand_bytes<W: Watcher>(answers: &[Option<u8>], out: &mut W) -> Wri
     WriteEnd::Ok
 }
 
+/// Hands out the bytes that there are, where there are any.
+#[inline]
+pub(crate) fn hand_sent<W: Watcher>(sent: bool, answers: &[Option<u8>], out: &mut W) -> WriteEnd
+    requires whole { W.whole out.old ≡ true }
+    requires silent { sent ≡ false → options answers.now ≡ [] }
+    ensures ok { result ≡ WriteEnd.Ok → Handed W.whole W.faults W.stands out.old out.new [] (options answers.now) }
+    ensures last { result ≡ WriteEnd.Ok → W.last out.new ≡ W.last out.old }
+    ensures failed { result ≡ WriteEnd.Failed → Rose (W.faults out.old) (W.faults out.new)
+        × StopsWithin (W.stands out.old) (W.stopped out.new) [] (options answers.now) }
+    ensures place { W.place out.new ≡ W.place out.old }
+{
+    if sent {
+        hand_bytes(answers, out)
+    } else {
+        WriteEnd::Ok
+    }
+}
+
 /// Hands out the row of a cycle, where it has one.
+#[inline]
 pub(crate) fn hand_row<W: Watcher>(
     there: bool,
     t: u32,

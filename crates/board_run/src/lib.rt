@@ -9,6 +9,7 @@ mod cycle;
 mod gate;
 mod gather;
 mod hand;
+mod held;
 mod reading;
 mod run;
 mod script;

@@ -1,6 +1,6 @@
 //! Parts are woken on the levels of their pins.
-ghost use Rattle.std.specs.Prelude.{◌≡◌, ℕ, ◌+◌, ◌<◌, ◌≤◌, List, length, map, Some, Bool, false, slice_get, slice_index};
-ghost use Rattle.board_model.specs.Board.{level_at, input_at, steps_from};
+ghost use Rattle.std.specs.Prelude.{◌≡◌, ℕ, ◌+◌, ◌<◌, ◌≤◌, List, [], length, map, Some, Bool, false, slice_get, slice_index};
+ghost use Rattle.board_model.specs.Board.{level_at, input_at, steps_from, options};
 ghost use Rattle.board_model.specs.Fits.{Fits};
 ghost use Rattle.sim_base.specs.declared.signal.Level.{Level};
 ghost use Rattle.board_run.specs.Woken.{IsAt, AreWoken, AreStill};
@@ -9,6 +9,13 @@ use crate::gather::find_input;
 use part_law::Part;
 use sim_base::{Input, Level, Steps, Wiring};
 use std::sync::ledger::Ledger;
+
+/// Whether a drive or a contact may have changed where parts were woken, and whether one sent a byte.
+#[derive(Clone, Copy, Debug, PartialEq, Eq)]
+pub(crate) struct Woken {
+    pub(crate) changed: bool,
+    pub(crate) sent: bool,
+}
 
 /// Wakes part i on the levels of its pins, which is one step; answers its byte, and whether a drive or
 /// a contact may have changed.
@@ -38,8 +45,8 @@ fn wake_one<P: Part, L: Ledger>(
     (byte, part.changed())
 }
 
-/// Wakes every part on the levels of the pins, leaves the byte of each, if any, in answers, and tells
-/// whether a drive or a contact may have changed.
+/// Wakes every part on the levels of the pins, and leaves the byte of each, if any, in answers.
+#[inline(never)]
 pub(crate) fn wake_all<P: Part, L: Ledger>(
     parts: &mut [P],
     wiring: &Wiring,
@@ -48,7 +55,7 @@ pub(crate) fn wake_all<P: Part, L: Ledger>(
     answers: &mut [Option<u8>],
     cycle: u32,
     steps: &mut Steps<L>,
-) -> bool
+) -> Woken
     requires fits { Fits P.machine wiring.now (map P.state parts.old) }
     requires at { IsAt P.now P.wake_count cycle parts.old }
     requires end { cycle < 160000000 }
@@ -58,10 +65,12 @@ pub(crate) fn wake_all<P: Part, L: Ledger>(
     ensures answers { (ls : List Level) → own.now ≡ map (level_at ls) wiring.now.net_of → answers.new ≡ map (λ r. r.1) (steps_from P.machine wiring.now given.now ls cycle 0 (map P.state parts.old)) }
     ensures at { IsAt P.now P.wake_count (cycle + 1) parts.new }
     ensures woken { AreWoken P.wake_count 1 parts.old parts.new }
-    ensures still { result ≡ false → AreStill P.machine P.state parts.old parts.new }
+    ensures still { result.changed ≡ false → AreStill P.machine P.state parts.old parts.new }
+    ensures silent { result.sent ≡ false → options answers.new ≡ [] }
     ensures steps { steps.new ≡ steps.old + length parts.old }
 {
     let mut changed = false;
+    let mut sent = false;
     for i in 0..parts.len() {
         let first = wiring.first_pin.as_slice()[i] as usize;
         let pins = parts[i].pins() as usize;
@@ -75,6 +84,7 @@ pub(crate) fn wake_all<P: Part, L: Ledger>(
         );
         answers[i] = byte;
         changed = changed | touched;
+        sent = sent | byte.is_some();
     }
-    changed
+    Woken { changed, sent }
 }

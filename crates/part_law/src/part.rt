@@ -72,5 +72,17 @@ pub trait Part {
         ensures drives { changes self.new ≡ false → machine.drives (state self.new) ≡ machine.drives (state self.old) }
         ensures contacts { changes self.new ≡ false → machine.contacts (state self.new) ≡ machine.contacts (state self.old) };
 
+    /// Does one step on the levels that it holds, as `wake` does on those: for an engine that knows
+    /// that no level changed since the last wake.
+    fn wake_held(&mut self, input: Option<u16>) -> Option<u8>
+        requires end { now self.old < 160000000 }
+        requires count { wake_count self.old ≤ now self.old }
+        ensures state { state self.new ≡ (machine.step (state self.old) (now self.old) (machine.held (state self.old)) input).0 }
+        ensures byte { result ≡ (machine.step (state self.old) (now self.old) (machine.held (state self.old)) input).1 }
+        ensures now { now self.new ≡ now self.old + 1 }
+        ensures wake_count { wake_count self.new ≡ wake_count self.old + 1 }
+        ensures drives { changes self.new ≡ false → machine.drives (state self.new) ≡ machine.drives (state self.old) }
+        ensures contacts { changes self.new ≡ false → machine.contacts (state self.new) ≡ machine.contacts (state self.old) };
+
     ghost laws: { Laws machine };
 }

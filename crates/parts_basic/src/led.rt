@@ -143,5 +143,10 @@ impl Part for Led {
         None
     }
 
+    fn wake_held(&mut self, _input: Option<u16>) -> Option<u8> {
+        self.take(self.anode, self.cathode);
+        None
+    }
+
     ghost laws = { led_laws };
 }

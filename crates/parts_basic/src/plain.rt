@@ -111,5 +111,11 @@ impl Part for Plain {
         None
     }
 
+    fn wake_held(&mut self, _input: Option<u16>) -> Option<u8> {
+        self.cycle += 1;
+        self.wakes += 1;
+        None
+    }
+
     ghost laws = { plain_laws };
 }

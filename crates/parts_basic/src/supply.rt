@@ -108,5 +108,11 @@ impl Part for Supply {
         None
     }
 
+    fn wake_held(&mut self, _input: Option<u16>) -> Option<u8> {
+        self.cycle += 1;
+        self.wakes += 1;
+        None
+    }
+
     ghost laws = { supply_laws };
 }
