@@ -110,5 +110,14 @@ impl Part for AnyPart {
         }
     }
 
+    fn wake_held(&mut self, input: Option<u16>) -> Option<u8> {
+        match self {
+            AnyPart::Uno(part) => part.wake_held(input),
+            AnyPart::Led(part) => part.wake_held(input),
+            AnyPart::Supply(part) => part.wake_held(input),
+            AnyPart::Plain(part) => part.wake_held(input),
+        }
+    }
+
     ghost laws = { any_laws };
 }
