@@ -23,6 +23,7 @@ pulses() {
 same() { # NAME, EXPECTED; the text at hand on standard input
     if cmp -s - "$2"; then echo "$1: ok"; else echo "$1: differs from $2"; return 1; fi
 }
+"$program" check "$here/blink" | same "blink as a project" "$here/blink/expected/check.txt" || bad=1
 "$program" bare "$here/blink/blink.hex" --us 1 | same blink "$here/blink/expected/wave.vcd" || bad=1
 "$program" bare "$here/crc/crc.hex" --us 300 | pulses | same crc "$here/crc/expected/pulses.txt" || bad=1
 "$program" bare "$here/sort/sort.hex" --us 100 | pulses | same sort "$here/sort/expected/pulses.txt" || bad=1

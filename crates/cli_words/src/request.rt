@@ -2,7 +2,7 @@
 ghost use Rattle.std.specs.Prelude.{◌≡◌, ◌≤◌, ◌<◌, map, string_bytes, IfOk, IfSome};
 ghost use Rattle.std.specs.Option.{option_map, option_and_then};
 ghost use Rattle.words_model.specs.Words.{Given, texts_of};
-ghost use Rattle.words_model.specs.Request.{request_of, asked_by, bare_syntax, bare_of, path_of, micros_of};
+ghost use Rattle.words_model.specs.Request.{request_of, asked_by, bare_syntax, bare_of, check_syntax, check_of, path_of, micros_of};
 ghost use Rattle.cli_words.specs.Commands.{AreOf};
 ghost use Rattle.cli_words.specs.Asked.{asked_of, IsRunTime};
 
@@ -16,6 +16,8 @@ use std::alloc::{AllocError, Global};
 pub enum Request<'a> {
     /// The wave of one Uno without wires that runs a HEX file, for so many microseconds.
     Bare(&'a str, u32),
+    /// Whether the project of a folder is accepted.
+    Check(&'a str),
 }
 
 /// A file or a folder, whose name is not empty.
@@ -60,6 +62,27 @@ fn read_bare(alloc: Global, given: &[String]) -> Result<Option<Request<'_>>, All
     }
 }
 
+fn check<'a>(matches: &ArgMatches<'a>) -> Option<Request<'a>>
+    ensures asked { (given : Given) → AreOf given matches.now → option_map asked_of result ≡ check_of given }
+    ensures run_time { IfSome result IsRunTime }
+{
+    match path(matches, "folder") {
+        Some(folder) => Some(Request::Check(folder)),
+        None => None,
+    }
+}
+
+/// `check FOLDER`
+fn read_check(alloc: Global, given: &[String]) -> Result<Option<Request<'_>>, AllocError>
+    ensures request { IfOk result (λ o. option_map asked_of o ≡ option_and_then check_of (texts_of check_syntax (map string_bytes given.entry.now))) }
+    ensures run_time { IfOk result (λ o. IfSome o IsRunTime) }
+{
+    match read_texts(alloc, &["folder"], &[], given)? {
+        Some(matches) => Ok(check(&matches)),
+        None => Ok(None),
+    }
+}
+
 /// The request of a command with these words after it.
 fn read_command<'a>(
     alloc: Global,
@@ -71,6 +94,7 @@ fn read_command<'a>(
 {
     match command {
         "bare" => read_bare(alloc, given),
+        "check" => read_check(alloc, given),
         _ => Ok(None),
     }
 }

@@ -2,7 +2,7 @@
 use crate::{Request, read_words};
 use std::alloc::{AllocError, Global};
 
-/// The file and the run time that the words ask for.
+/// The file and the run time that the words ask for, or the folder that is to be checked and 0.
 fn asked(alloc: Global, words: &[&str]) -> Result<Option<(String, u32)>, AllocError> {
     let mut owned = Vec::new(alloc);
     for word in words {
@@ -10,13 +10,14 @@ fn asked(alloc: Global, words: &[&str]) -> Result<Option<(String, u32)>, AllocEr
     }
     match read_words(alloc, &owned)? {
         Some(Request::Bare(hex, micros)) => Ok(Some((String::from_str(alloc, hex)?, micros))),
+        Some(Request::Check(folder)) => Ok(Some((String::from_str(alloc, folder)?, 0))),
         None => Ok(None),
     }
 }
 
 #[test]
 fn options_stand_anywhere_and_end_with_two_hyphens(rt: HostRuntime) -> Result<(), AllocError> {
-    let rows: [(&[&str], &str, u32); 9] = [
+    let rows: [(&[&str], &str, u32); 11] = [
         (&["bare", "a.hex", "--us", "5"], "a.hex", 5),
         (&["bare", "--us", "0000000005", "a.hex"], "a.hex", 5),
         (&["bare", "--us=10000000", "x=y"], "x=y", 10_000_000),
@@ -26,6 +27,8 @@ fn options_stand_anywhere_and_end_with_two_hyphens(rt: HostRuntime) -> Result<()
         (&["bare", "--us=1", "--", "--us"], "--us", 1),
         (&["bare", "--us", "1", "--", "--"], "--", 1),
         (&["bare", "a.hex", "--us=1", "--"], "a.hex", 1),
+        (&["check", "blink"], "blink", 0),
+        (&["check", "--", "--us=1"], "--us=1", 0),
     ];
     for (words, hex, micros) in rows {
         match asked(rt.alloc(), words)? {
@@ -41,7 +44,7 @@ fn options_stand_anywhere_and_end_with_two_hyphens(rt: HostRuntime) -> Result<()
 
 #[test]
 fn other_words_ask_for_nothing(rt: HostRuntime) -> Result<(), AllocError> {
-    let rows: [&[&str]; 27] = [
+    let rows: [&[&str]; 31] = [
         &[],
         &[""],
         &["bare"],
@@ -69,6 +72,10 @@ fn other_words_ask_for_nothing(rt: HostRuntime) -> Result<(), AllocError> {
         &["bare", "-h", "--us=1"],
         &["bare", "a", "--us=1", "--", "b"],
         &["--us=1", "bare", "a"],
+        &["check"],
+        &["check", ""],
+        &["check", "blink", "--us=1"],
+        &["check", "blink", "blink"],
     ];
     for words in rows {
         let given = asked(rt.alloc(), words)?;

@@ -1,46 +1,17 @@
 -- What the program answers to a request over told files (profile).
-use Rattle.std.specs.Prelude.{ℕ, ◌*◌, nat_lt, if◌then◌else◌, List, [], length, Option, Some, None, Result, Ok, Err}
-use Rattle.std.specs.FinMap.{get}
-use Rattle.sim_base.specs.declared.fault.Refusal.{Refusal}
-use Rattle.sim_base.specs.declared.fault.Place.TheVariants as places
+use Rattle.std.specs.Prelude.{◌*◌, [], codes, Some, None, Result, Ok}
 use Rattle.sim_base.specs.Outside.{Files}
 use Rattle.text_model.specs.Hex.{hex_image}
+use Rattle.words_model.specs.Request.{Request, Bare, Check}
+use Rattle.outcome_model.specs.Stop.{Stop, Texts, ◌>>=◌, file}
+use Rattle.project_model.specs.Work.{work_in}
 use Rattle.run_model.specs.Bare.{bare_wave}
-use Rattle.words_model.specs.Request.{Request, Bare}
-
--- the first event that ends the work: a file that is missing, or a refusal with the file that it names
-pub data Stop : Type 0 where
-  Missing : List ℕ → Stop
-  Refused : List ℕ → Refusal → Stop
-
--- the texts on the ports: what Serial gets, and what Wave and Report hold where they are opened
-pub record Texts : Type 0 where
-  pub serial : List ℕ
-  pub wave : Option (List ℕ)
-  pub report : Option (List ℕ)
-
-infixl 10 ◌>>=◌
-abbrev pub ◌>>=◌ : {A B : Type 0} → Result A Stop → (A → Result B Stop) → Result B Stop
-(Ok x) >>= f = f x
-(Err e) >>= f = Err e
-
-abbrev pub refused_in : {X : Type 0} → List ℕ → Result X Refusal → Result X Stop
-refused_in name (Ok x) = Ok x
-refused_in name (Err r) = Err (Refused name r)
-
--- a file is missing, or too long (10), or refused by its reading, or what its bytes stand for
-abbrev pub read_from : {X : Type 0} → List ℕ → ℕ → (List ℕ → Result X Refusal) → Option (List ℕ) → Result X Stop
-read_from name limit reading None = Err (Missing name)
-read_from name limit reading (Some bytes) =
-    if nat_lt limit (length bytes) then Err (Refused name (record { number = 10; place = places.Whole }))
-    else refused_in name (reading bytes)
-
--- a file of at most 1,048,576 bytes
-abbrev pub file : {X : Type 0} → Files → List ℕ → (List ℕ → Result X Refusal) → Result X Stop
-file files name reading = read_from name 1048576 reading (get files name)
 
 -- The texts, or the first event in the order of the work. One microsecond has 16 cycles.
 unfoldable pub answer : Request → Files → Result Texts Stop
 answer (Bare hex us) files = do
   flash ← file files hex hex_image
   Ok (record { serial = []; wave = Some (bare_wave flash (16 * us)); report = None })
+answer (Check folder) files = do
+  work ← work_in folder files
+  Ok (record { serial = []; wave = None; report = Some (codes "accepted\n") })

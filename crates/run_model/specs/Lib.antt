@@ -2,4 +2,3 @@ pub mod Bare
 pub mod Answer
 pub mod Happens
 pub mod Promises
-pub mod Work

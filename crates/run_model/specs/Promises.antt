@@ -4,8 +4,9 @@ use Rattle.sim_base.specs.declared.bench.Port.{Port}
 use Rattle.sim_base.specs.Causes.{Rose}
 use Rattle.sim_base.specs.Outside.{Outside, Files}
 use Rattle.words_model.specs.Request.{Request}
-use Rattle.run_model.specs.Answer.{Stop, Texts, answer}
-use Rattle.run_model.specs.Happens.{Outcome, Accepted, NoRequest, Stopped, status_of, Hold, Begin, IsFaultless, IsSilent, OutputRose}
+use Rattle.outcome_model.specs.Stop.{Stop, Texts}
+use Rattle.run_model.specs.Answer.{answer}
+use Rattle.outcome_model.specs.Outcome.{Outcome, Accepted, NoRequest, Stopped, status_of, Hold, Begin, IsFaultless, IsSilent, OutputRose}
 
 -- no count of faults rose, so that none was answered
 abbrev pub NoneRose : Outside → Outside → Type 0

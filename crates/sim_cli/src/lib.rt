@@ -3,16 +3,8 @@
 //! `simulate` does all of it and answers the status.
 #![tactic(auto)]
 
-mod bare;
-#[cfg(test)]
-mod board_tests;
-mod complaint;
-mod outcome;
-mod reading;
 mod simulation;
 #[cfg(test)]
 mod tests;
-mod uno;
-mod writing;
 
 pub use simulation::simulate;

@@ -3,28 +3,30 @@ ghost use Rattle.std.specs.Prelude.{◌≡◌, map, string_bytes};
 ghost use Rattle.words_model.specs.Request.{request_of};
 ghost use Rattle.run_model.specs.Happens.{Happens, Does};
 ghost use Rattle.run_model.specs.Promises.{WordsAlone, IsAnswered, IsComplete, HoldsAnswer, IsStopped, IsTrueStop, HasCause, HoldsFront, ComplainsAlone, IsStatus};
-ghost use Rattle.sim_cli.specs.Outcomes.{outcome_of, SaidNothing};
+ghost use Rattle.outcome_model.specs.Work.{SaidNothing};
+ghost use Rattle.cli_work.specs.Outcomes.{outcome_of};
 
-use crate::bare::bare;
-use crate::complaint::tell;
-use crate::outcome::{Outcome, status};
+use cli_bare::bare;
+use cli_project::check;
 use cli_words::{Request, read_words};
+use cli_work::{Outcome, status, tell};
 use sim_base::{Bench, Steps};
 use std::alloc::Global;
 use std::sync::ledger::Ledger;
 
 /// The work that the words ask for; Complaint is left alone.
-fn work<'a, B: Bench, L: Ledger>(
+fn work<B: Bench, L: Ledger>(
     alloc: Global,
-    words: &'a [String],
+    words: &[String],
     bench: &mut B,
     steps: &mut Steps<L>,
-) -> Outcome<'a>
+) -> Outcome
     ensures happens { Happens (outcome_of result) (request_of (map string_bytes words.now)) (B.outside bench.old) (B.outside bench.new) }
     ensures silent { SaidNothing (B.outside bench.old) (B.outside bench.new) }
 {
     match read_words(alloc, words) {
         Ok(Some(Request::Bare(hex, micros))) => bare(alloc, hex, micros, bench, steps),
+        Ok(Some(Request::Check(folder))) => check(alloc, folder, bench),
         Ok(None) => Outcome::NoRequest,
         Err(_) => Outcome::OutOfMemory,
     }
@@ -55,6 +57,6 @@ pub fn simulate<B: Bench, L: Ledger>(
     ensures silent { ComplainsAlone result (B.outside bench.old) (B.outside bench.new) }
 {
     let outcome = work(alloc, words, bench, steps);
-    let _end = tell(outcome, bench);
-    status(outcome)
+    let _end = tell(&outcome, bench);
+    status(&outcome)
 }

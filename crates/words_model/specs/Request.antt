@@ -20,10 +20,9 @@ number_within least greatest word =
 
 -- `Bare hex us`: the wave of so many microseconds of one Uno that runs the firmware of a HEX file.
 -- `Check folder`: whether a project is accepted.
--- `Run folder us vcd`: so many microseconds of a project, with the wave in a file where it is named.
--- `Module file`: whether a chip's module is accepted.
 pub data Request : Type 0 where
   Bare : Text → ℕ → Request
+  Check : Text → Request
 
 -- a file name or a folder's is not empty
 abbrev pub path : Text → Option Text
@@ -43,10 +42,18 @@ bare_syntax = record { words = codes "hex" ∷ []; options = codes "us" ∷ [] }
 abbrev pub bare_of : Given → Option Request
 bare_of given = option_and_then (λ hex. option_map (Bare hex) (micros_of given)) (path_of (codes "hex") given)
 
+-- `check FOLDER`
+abbrev pub check_syntax : Syntax
+check_syntax = record { words = codes "folder" ∷ []; options = [] }
+
+abbrev pub check_of : Given → Option Request
+check_of given = option_map Check (path_of (codes "folder") given)
+
 -- the request of a command with these words after it
 abbrev pub asked_by : Text → List Text → Option Request
 asked_by command words =
     if bytes_eq command (codes "bare") then option_and_then bare_of (texts_of bare_syntax words)
+    else if bytes_eq command (codes "check") then option_and_then check_of (texts_of check_syntax words)
     else None
 
 -- The words are without the program's name; None where they ask for nothing that the program knows.

@@ -1,8 +1,9 @@
 use Rattle.std.proofs.Common.{map, string_bytes}
 use Rattle.words_model.specs.Request.{request_of}
-use Rattle.sim_cli.specs.Outcomes.{outcome_of}
-use Rattle.sim_cli.proofs.EndLemmas.{told, complains, complains_since}
-use Rattle.sim_cli.proofs.PromiseLemmas.{words_alone, answered, complete, holds_answer, stopped, true_stop, has_cause, holds_front, complains_alone, is_status}
+use Rattle.cli_work.specs.Outcomes.{outcome_of}
+use Rattle.outcome_model.proofs.WriteLemmas.{complains, complains_since}
+use Rattle.run_model.proofs.EndLemmas.{told}
+use Rattle.run_model.proofs.PromiseLemmas.{words_alone, answered, complete, holds_answer, stopped, true_stop, has_cause, holds_front, complains_alone, is_status}
 use Rattle.sim_cli.proofs.simulation.simulate.Goals as goal
 
 pub returns-clause-does : goal.returns-clause-does

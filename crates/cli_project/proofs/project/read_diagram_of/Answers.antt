@@ -1,0 +1,18 @@
+use Rattle.std.proofs.Common.{◌≡◌, ◌∙◌, sym, subst, ℕ, List, Ok, IfSome, codes}
+use Rattle.sim_base.specs.Outside.{Outside, Files}
+use Rattle.project_model.specs.Work.{in_folder, board_in}
+use Rattle.cli_work.specs.Outcomes.{outcome_of}
+use Rattle.cli_project.proofs.ProjectLemmas.{stopped_at}
+use Rattle.cli_project.proofs.project.read_diagram_of.Goals as goal
+
+pub returns-in-Ok-read_board-clause-got : goal.returns-in-Ok-read_board-clause-got
+returns-in-Ok-read_board-clause-got g c =
+    let a : Outside = g.B.Bench.outside c.args.bench.now in
+    let b : Outside = g.B.Bench.outside c.read_board.new.bench in
+    let is : c.as_str.result.now ≡ in_folder c.args.folder.now (codes "diagram.json") = c.as_str.ensures.value ∙ c.in-Ok.ensures in
+    subst (λ (name : List ℕ). IfSome a.files (λ (files : Files). board_in c.args.project.now name files ≡ Ok c.in-Ok-read_board.plan) × (b.read_faults ≡ a.read_faults)) is c.in-Ok-read_board.ensures.got
+
+pub returns-clause-got : goal.returns-clause-got
+returns-clause-got g c =
+    stopped_at (board_in c.args.project.now) c.in-Err.stop (outcome_of c.stopped.result) _ _ _ _ _ (c.as_str.ensures.value ∙ sym c.as_str-in-Err.ensures.value) (c.as_str.ensures.value ∙ c.in-Ok.ensures)
+    c.in-Err.ensures.got c.stopped.ensures

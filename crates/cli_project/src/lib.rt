@@ -1,0 +1,12 @@
+//! A project in a folder, read and checked (`project_model`), and the command `check`.
+//! Each call ends as its definition says; want of memory comes before a port is opened.
+#![tactic(auto)]
+
+mod checking;
+mod documents;
+mod project;
+#[cfg(test)]
+mod tests;
+
+pub use checking::check;
+pub use project::{Work, read_work};

@@ -1,0 +1,14 @@
+//! What the work of each command is made of: how it ends, reading a file, writing a text on a port,
+//! and the line on Complaint (`outcome_model`).
+//! No call but those that take an allocator takes memory.
+#![tactic(auto)]
+
+mod complaint;
+mod outcome;
+mod reading;
+mod writing;
+
+pub use complaint::tell;
+pub use outcome::{Outcome, Stop, status, stopped};
+pub use reading::{read_bytes, read_flash};
+pub use writing::{write_next, write_parts, write_text};

@@ -1,0 +1,53 @@
+//! Writing texts by their parts.
+ghost use Rattle.std.specs.Prelude.{◌≡◌, ℕ, List, ◌++◌, true, map};
+ghost use Rattle.std.specs.List.{concat};
+ghost use Rattle.sim_base.specs.Outside.{Outside, SameOthers, is_openable};
+ghost use Rattle.outcome_model.specs.Work.{Wrote, RanOn};
+ghost use Rattle.cli_work.specs.Outcomes.{outcome_of};
+
+use crate::outcome::Outcome;
+use sim_base::{Bench, Port, WriteEnd};
+
+/// Writes the parts one after the other, up to the first that fails.
+pub fn write_parts<B: Bench>(bench: &mut B, port: Port, parts: &[&[u8]]) -> WriteEnd
+    requires { (B.outside bench.old).opened port ≡ true }
+    ensures wrote { Wrote result port (concat (map (λ p. p.now) parts.now)) (B.outside bench.old) (B.outside bench.new) }
+    ensures opened { (B.outside bench.new).opened port ≡ (B.outside bench.old).opened port }
+    ensures others { SameOthers port (B.outside bench.old) (B.outside bench.new) }
+{
+    for part in parts {
+        match bench.write(port, part) {
+            WriteEnd::Ok => {}
+            WriteEnd::Failed => return WriteEnd::Failed,
+        }
+    }
+    WriteEnd::Ok
+}
+
+/// Writes more where the writing so far has not failed.
+pub fn write_next<B: Bench>(end: WriteEnd, bench: &mut B, port: Port, bytes: &[u8]) -> WriteEnd
+    requires { (B.outside bench.old).opened port ≡ true }
+    ensures next { (a : Outside) (text : List ℕ) → Wrote end port text a (B.outside bench.old) → Wrote result port (text ++ bytes.now) a (B.outside bench.new) }
+    ensures opened { (B.outside bench.new).opened port ≡ (B.outside bench.old).opened port }
+    ensures others { SameOthers port (B.outside bench.old) (B.outside bench.new) }
+{
+    match end {
+        WriteEnd::Ok => bench.write(port, bytes),
+        WriteEnd::Failed => WriteEnd::Failed,
+    }
+}
+
+/// Opens a port on standard output and writes a text there.
+pub fn write_text<B: Bench>(bench: &mut B, port: Port, parts: &[&[u8]]) -> Outcome
+    requires { is_openable port ≡ true }
+    ensures ran { RanOn port (outcome_of result) (concat (map (λ p. p.now) parts.now)) (B.outside bench.old) (B.outside bench.new) }
+    ensures others { SameOthers port (B.outside bench.old) (B.outside bench.new) }
+{
+    match bench.open_port(port, "-") {
+        WriteEnd::Ok => match write_parts(bench, port, parts) {
+            WriteEnd::Ok => Outcome::Accepted,
+            WriteEnd::Failed => Outcome::WriteFailed,
+        },
+        WriteEnd::Failed => Outcome::WriteFailed,
+    }
+}

@@ -1,0 +1,93 @@
+-- How the work ends: the status, the line on Complaint, and what the ports hold (profile).
+use Rattle.std.specs.Prelude.{◌≡◌, ◌≢◌, ℕ, List, [], ◌∷◌, ◌++◌, Option, Some, None, ◌⊎◌, codes, decimal}
+use Rattle.std.specs.List.{concat}
+use Rattle.sim_base.specs.declared.fault.Place.{Place}
+use Rattle.sim_base.specs.declared.fault.Place.TheVariants as places
+use Rattle.sim_base.specs.declared.bench.Port.{Port}
+use Rattle.sim_base.specs.declared.bench.Port.TheVariants as ports
+use Rattle.sim_base.specs.Refusals.{name_of}
+use Rattle.sim_base.specs.Causes.{Rose}
+use Rattle.sim_base.specs.Outside.{Outside, Becomes, Grows, IsFront}
+use Rattle.outcome_model.specs.Stop.{Stop, Missing, Refused, Texts}
+
+-- How the work ends. A failed read names its file.
+pub data Outcome : Type 0 where
+  Accepted : Outcome
+  NoRequest : Outcome
+  Stopped : Stop → Outcome
+  ReadFailed : List ℕ → Outcome
+  WriteFailed : Outcome
+  OutOfMemory : Outcome
+
+abbrev pub status_of : Outcome → ℕ
+status_of Accepted = 0
+status_of NoRequest = 2
+status_of (Stopped (Refused name refusal)) = 3
+status_of (Stopped (Missing name)) = 4
+status_of (ReadFailed name) = 5
+status_of WriteFailed = 6
+status_of OutOfMemory = 7
+
+abbrev pub place_parts : Place → List (List ℕ)
+place_parts places.Whole = []
+place_parts (places.Line n) = codes " line " ∷ decimal n ∷ []
+place_parts (places.Byte n) = codes " byte " ∷ decimal n ∷ []
+place_parts (places.Part n) = codes " part " ∷ decimal n ∷ []
+place_parts (places.Connection n) = codes " connection " ∷ decimal n ∷ []
+place_parts (places.Chip n) = codes " chip " ∷ decimal n ∷ []
+place_parts (places.Import n) = codes " import " ∷ decimal n ∷ []
+place_parts (places.Entry s n) = codes " section " ∷ decimal s ∷ codes " entry " ∷ decimal n ∷ []
+place_parts (places.Code f i) = codes " function " ∷ decimal f ∷ codes " instruction " ∷ decimal i ∷ []
+
+-- the line on Complaint, by its parts
+abbrev pub parts_of : Outcome → List (List ℕ)
+parts_of Accepted = []
+parts_of NoRequest = codes "words not understood" ∷ codes "\n" ∷ []
+parts_of (Stopped (Refused name refusal)) =
+    name ∷ codes ": refused " ∷ decimal refusal.number ∷ codes " " ∷ name_of refusal.number ∷ (place_parts refusal.place ++ codes "\n" ∷ [])
+parts_of (Stopped (Missing name)) = name ∷ codes ": missing" ∷ codes "\n" ∷ []
+parts_of (ReadFailed name) = name ∷ codes ": read failed" ∷ codes "\n" ∷ []
+parts_of WriteFailed = codes "write failed" ∷ codes "\n" ∷ []
+parts_of OutOfMemory = codes "out of memory" ∷ codes "\n" ∷ []
+
+abbrev pub line_of : Outcome → List ℕ
+line_of outcome = concat (parts_of outcome)
+
+-- a text is appended to Complaint, or a first part of it where a write failed
+pub record Complains (line : List ℕ) (a b : Outside) : Type 0 where
+  pub said : List ℕ
+  pub front : IsFront said line
+  pub grown : Grows (a.written ports.Complaint) (b.written ports.Complaint) said
+  pub whole : (said ≡ line) ⊎ Rose (a.faults ports.Complaint) (b.faults ports.Complaint)
+
+-- no port but Complaint has changed
+abbrev pub IsSilent : Outside → Outside → Type 0
+IsSilent a b = (p : Port) → p ≢ ports.Complaint → b.written p ≡ a.written p
+
+abbrev pub IsFaultless : Outside → Outside → Type 0
+IsFaultless a b = (b.read_faults ≡ a.read_faults) × ((p : Port) → b.faults p ≡ a.faults p)
+
+-- a port with a text has become it; one without is as before
+abbrev pub IsOn : Option (List ℕ) → Option (List ℕ) → Option (List ℕ) → Type 0
+IsOn None old new = new ≡ old
+IsOn (Some text) old new = Becomes old new text
+
+-- the same of a first part; a port that could not be opened is as before
+abbrev pub BeginsOn : Option (List ℕ) → Option (List ℕ) → Option (List ℕ) → Type 0
+BeginsOn None old new = new ≡ old
+BeginsOn (Some text) old new = (new ≡ old) ⊎ ((front : List ℕ) × IsFront front text × Becomes old new front)
+
+-- each port holds its text
+pub record Hold (t : Texts) (a b : Outside) : Type 0 where
+  pub serial : Grows (a.written ports.Serial) (b.written ports.Serial) t.serial
+  pub wave : IsOn t.wave (a.written ports.Wave) (b.written ports.Wave)
+  pub report : IsOn t.report (a.written ports.Report) (b.written ports.Report)
+
+-- each port holds a first part of its text
+pub record Begin (t : Texts) (a b : Outside) : Type 0 where
+  pub serial : (front : List ℕ) × IsFront front t.serial × Grows (a.written ports.Serial) (b.written ports.Serial) front
+  pub wave : BeginsOn t.wave (a.written ports.Wave) (b.written ports.Wave)
+  pub report : BeginsOn t.report (a.written ports.Report) (b.written ports.Report)
+
+abbrev pub OutputRose : Outside → Outside → Type 0
+OutputRose a b = Rose (a.faults ports.Wave) (b.faults ports.Wave) ⊎ (Rose (a.faults ports.Serial) (b.faults ports.Serial) ⊎ Rose (a.faults ports.Report) (b.faults ports.Report))

@@ -1,0 +1,47 @@
+-- What the steps of a call do: writing on a port, reading a file.
+use Rattle.std.specs.Prelude.{◌≡◌, ◌⊎◌, List, ℕ, Result, Ok, Err, Some, IfSome}
+use Rattle.std.specs.FinMap.{remove}
+use Rattle.sim_base.specs.declared.bench.Port.{Port}
+use Rattle.sim_base.specs.declared.bench.Port.TheVariants as ports
+use Rattle.sim_base.specs.declared.bench.WriteEnd.{WriteEnd}
+use Rattle.sim_base.specs.declared.bench.WriteEnd.TheVariants as writes
+use Rattle.sim_base.specs.Causes.{Rose}
+use Rattle.sim_base.specs.Outside.{Outside, Files, Becomes, Grows, IsFront}
+use Rattle.outcome_model.specs.Stop.{Stop, Missing}
+use Rattle.outcome_model.specs.Outcome.{Outcome, Accepted, NoRequest, Stopped, ReadFailed, WriteFailed, OutOfMemory, BeginsOn}
+
+-- a text was written on a port, or a first part of it where a write failed
+abbrev pub Wrote : WriteEnd → Port → List ℕ → Outside → Outside → Type 0
+Wrote writes.Ok p text a b = Grows (a.written p) (b.written p) text × (b.faults p ≡ a.faults p)
+Wrote writes.Failed p text a b = ((front : List ℕ) × IsFront front text × Grows (a.written p) (b.written p) front) × Rose (a.faults p) (b.faults p)
+
+-- the cause of an outcome that ends the reading of a file
+abbrev pub ReadStops : {X : Type 0} → Outcome → (Files → Result X Stop) → Outside → Outside → Type 0
+ReadStops Accepted reading a b = ⊥
+ReadStops NoRequest reading a b = ⊥
+ReadStops (Stopped s) reading a b = IfSome a.files (λ files. reading files ≡ Err s)
+ReadStops (ReadFailed name) reading a b = IfSome a.files (λ files. reading (remove files name) ≡ Err (Missing name)) × Rose a.read_faults b.read_faults
+ReadStops WriteFailed reading a b = ⊥
+ReadStops OutOfMemory reading a b = Unit {0}
+
+-- what reading a file gives
+abbrev pub Got : {V E X : Type 0} → (V → X) → (E → Outcome) → Result V E → (Files → Result X Stop) → Outside → Outside → Type 0
+Got view outcome (Ok x) reading a b = IfSome a.files (λ files. reading files ≡ Ok (view x)) × (b.read_faults ≡ a.read_faults)
+Got view outcome (Err e) reading a b = ReadStops (outcome e) reading a b
+
+abbrev pub SaidNothing : Outside → Outside → Type 0
+SaidNothing a b = (b.written ports.Complaint ≡ a.written ports.Complaint) × (b.faults ports.Complaint ≡ a.faults ports.Complaint)
+
+-- what the writing of a text on a port, opened for it, leaves there
+abbrev pub RanOn : Port → Outcome → List ℕ → Outside → Outside → Type 0
+RanOn p Accepted text a b = Becomes (a.written p) (b.written p) text × (b.faults p ≡ a.faults p)
+RanOn p NoRequest text a b = ⊥
+RanOn p (Stopped s) text a b = ⊥
+RanOn p (ReadFailed name) text a b = ⊥
+RanOn p WriteFailed text a b = Rose (a.faults p) (b.faults p) × BeginsOn (Some text) (a.written p) (b.written p)
+RanOn p OutOfMemory text a b = (b.written p ≡ a.written p) × (b.faults p ≡ a.faults p)
+
+-- A reading of files answers alike where a file that it does not read is not there; where one that it reads is not there,
+-- that is the first event.
+abbrev pub IsSteady : {X : Type 0} → (Files → Result X Stop) → Type 0
+IsSteady {X = X} reading = (files : Files) (name : List ℕ) (x : X) → reading files ≡ Ok x → (reading (remove files name) ≡ Ok x) ⊎ (reading (remove files name) ≡ Err (Missing name))

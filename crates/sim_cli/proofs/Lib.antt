@@ -1,6 +1,0 @@
-mod WriteLemmas
-mod EndLemmas
-mod PromiseLemmas
-mod LineLemmas
-mod PlayLemmas
-mod BareLemmas
