@@ -23,6 +23,15 @@ pulses() {
 same() { # NAME, EXPECTED; the text at hand on standard input
     if cmp -s - "$2"; then echo "$1: ok"; else echo "$1: differs from $2"; return 1; fi
 }
+# the tests of sim_cli run the same firmware
+in_tests() { # HEX
+    tr -d '\r' <"$1" | while read -r line; do
+        grep -qF -- "$line" "$here/../crates/sim_cli/src/example_tests.rt" || exit 1
+    done
+}
+for name in crc sort; do
+    in_tests "$here/$name/$name.hex" || { echo "$name: the test of sim_cli has another firmware"; bad=1; }
+done
 "$program" check "$here/blink" | same "blink as a project" "$here/blink/expected/check.txt" || bad=1
 "$program" bare "$here/blink/blink.hex" --us 1 | same blink "$here/blink/expected/wave.vcd" || bad=1
 "$program" bare "$here/crc/crc.hex" --us 300 | pulses | same crc "$here/crc/expected/pulses.txt" || bad=1

@@ -3,6 +3,8 @@
 //! `simulate` does all of it and answers the status.
 #![tactic(auto)]
 
+#[cfg(test)]
+mod example_tests;
 mod simulation;
 #[cfg(test)]
 mod tests;

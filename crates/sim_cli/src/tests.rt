@@ -73,10 +73,10 @@ $end
 
 /// How a call ended, and what it left on two ports.
 #[derive(Drop)]
-struct Ended {
-    status: u8,
-    wave: Vec<u8>,
-    complaint: Vec<u8>,
+pub(crate) struct Ended {
+    pub(crate) status: u8,
+    pub(crate) wave: Vec<u8>,
+    pub(crate) complaint: Vec<u8>,
 }
 
 fn call<L: Ledger>(alloc: Global, words: &[String], bench: &mut MemBench, blank: Blank) -> u8
@@ -89,7 +89,7 @@ fn call<L: Ledger>(alloc: Global, words: &[String], bench: &mut MemBench, blank:
 }
 
 /// The words over a bench that may have a file `blink.hex`, and of whose calls one may fail.
-fn run(
+pub(crate) fn run(
     alloc: Global,
     hex: Option<&[u8]>,
     words: &[&str],
