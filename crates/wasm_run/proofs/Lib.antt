@@ -1,0 +1,12 @@
+mod Rows
+mod Lists
+mod Typed
+mod Operations
+mod Follows
+mod Stacks
+mod StepLemmas
+mod CallLemmas
+mod ArgLemmas
+mod ByteLemmas
+pub mod Typing
+pub mod Bridge

@@ -1,0 +1,5 @@
+pub mod Machine
+pub mod Turns
+pub mod Gives
+pub mod Loaded
+pub mod Calling
