@@ -1,16 +1,16 @@
 -- Reading a project step by step.
-use Rattle.std.proofs.Common.{◌≡◌, ◌⊎◌, ◌∙◌, ℕ, List, codes, refl, ap, subst, Option, Some, None, Result, Ok, Err, IfSome}
+use Rattle.std.proofs.Common.{◌≡◌, ◌⊎◌, ◌∙◌, ℕ, List, ap, subst, Option, Some, None, Result, Ok, Err, IfSome}
 use Rattle.sim_base.specs.Outside.{Outside, SamePorts, Files}
 use Rattle.text_model.specs.Hex.{hex_image}
 use Rattle.document_model.specs.declared.project.Project.{Project}
 use Rattle.document_model.specs.Project.{project_text}
 use Rattle.words_model.specs.Request.{Check}
-use Rattle.outcome_model.specs.Stop.{Stop, Texts, report_alone, ◌>>=◌}
+use Rattle.outcome_model.specs.Stop.{Stop, Texts, ◌>>=◌}
 use Rattle.outcome_model.specs.Outcome.{Outcome, OutOfMemory}
 use Rattle.outcome_model.specs.Work.{ReadStops, Got, IsSteady}
 use Rattle.outcome_model.proofs.ReadLemmas.{named_stop, second_stops, steady_file}
 use Rattle.project_model.specs.Work.{Work, project_in, firmware_in, work_in}
-use Rattle.run_model.specs.Answer.{answer}
+use Rattle.run_model.specs.Answer.{Answers, accepted}
 use Rattle.run_model.specs.Happens.{Happens}
 use Rattle.run_model.proofs.EndLemmas.{stops}
 use Rattle.cli_work.specs.Outcomes.{stop_of}
@@ -40,13 +40,13 @@ got_after {X = X} view out first next steady x (Ok v) a m b is reads same g = (g
 got_after view out first next steady x (Err e) a m b is reads same g = second_stops first next steady x (out e) a m b is reads same g
 
 -- the answer to `check`
-abbrev accepted : Work → Result Texts Stop
-accepted work = Ok (report_alone (codes "accepted\n"))
+abbrev answer_to : Work → Result Texts Stop
+answer_to work = Ok accepted
 
-pub check_answer : (folder : List ℕ) (files : Files) (work : Work) → work_in folder files ≡ Ok work → answer (Check folder) files ≡ Ok (report_alone (codes "accepted\n"))
-unfolding answer
-check_answer folder files work e = ap (λ (r : Result Work Stop). r >>= accepted) e
+pub check_answer : (folder : List ℕ) (files : Files) (work : Work) → work_in folder files ≡ Ok work → Answers (Check folder) files (Ok accepted)
+unfolding Answers
+check_answer folder files work e = ap (λ (r : Result Work Stop). r >>= answer_to) e
 
 pub check_stops : (folder : List ℕ) (o : Outcome) (a b : Outside) → ReadStops o (work_in folder) a b → SamePorts a b → Happens o (Some (Check folder)) a b
-unfolding answer
-check_stops folder = stops (Check folder) (work_in folder) accepted (λ files. refl)
+unfolding Answers
+check_stops folder = stops (Check folder) (work_in folder) answer_to (λ files result e. e)

@@ -7,8 +7,10 @@ use Rattle.cli_words.specs.declared.request.Request.TheVariants as requests
 abbrev pub asked_of : Request → asks.Request
 asked_of (requests.Bare hex micros) = asks.Bare hex.now micros
 asked_of (requests.Check folder) = asks.Check folder.now
+asked_of (requests.Module file) = asks.Module file.now
 
 -- the number of microseconds is one that words can give
 abbrev pub IsRunTime : Request → Type 0
 IsRunTime (requests.Bare hex micros) = (0 < micros) × (micros ≤ 10000000)
 IsRunTime (requests.Check folder) = Unit {0}
+IsRunTime (requests.Module file) = Unit {0}

@@ -2,7 +2,7 @@
 ghost use Rattle.std.specs.Prelude.{◌≡◌, ◌≤◌, ◌<◌, map, string_bytes, IfOk, IfSome};
 ghost use Rattle.std.specs.Option.{option_map, option_and_then};
 ghost use Rattle.words_model.specs.Words.{Given, texts_of};
-ghost use Rattle.words_model.specs.Request.{request_of, asked_by, bare_syntax, bare_of, check_syntax, check_of, path_of, micros_of};
+ghost use Rattle.words_model.specs.Request.{request_of, asked_by, bare_syntax, bare_of, check_syntax, check_of, module_syntax, module_of, path_of, micros_of};
 ghost use Rattle.cli_words.specs.Commands.{AreOf};
 ghost use Rattle.cli_words.specs.Asked.{asked_of, IsRunTime};
 
@@ -18,6 +18,8 @@ pub enum Request<'a> {
     Bare(&'a str, u32),
     /// Whether the project of a folder is accepted.
     Check(&'a str),
+    /// Whether the module of a file is accepted.
+    Module(&'a str),
 }
 
 /// A file or a folder, whose name is not empty.
@@ -83,6 +85,27 @@ fn read_check(alloc: Global, given: &[String]) -> Result<Option<Request<'_>>, Al
     }
 }
 
+fn module<'a>(matches: &ArgMatches<'a>) -> Option<Request<'a>>
+    ensures asked { (given : Given) → AreOf given matches.now → option_map asked_of result ≡ module_of given }
+    ensures run_time { IfSome result IsRunTime }
+{
+    match path(matches, "file") {
+        Some(file) => Some(Request::Module(file)),
+        None => None,
+    }
+}
+
+/// `module FILE`
+fn read_module(alloc: Global, given: &[String]) -> Result<Option<Request<'_>>, AllocError>
+    ensures request { IfOk result (λ o. option_map asked_of o ≡ option_and_then module_of (texts_of module_syntax (map string_bytes given.entry.now))) }
+    ensures run_time { IfOk result (λ o. IfSome o IsRunTime) }
+{
+    match read_texts(alloc, &["file"], &[], given)? {
+        Some(matches) => Ok(module(&matches)),
+        None => Ok(None),
+    }
+}
+
 /// The request of a command with these words after it.
 fn read_command<'a>(
     alloc: Global,
@@ -95,6 +118,7 @@ fn read_command<'a>(
     match command {
         "bare" => read_bare(alloc, given),
         "check" => read_check(alloc, given),
+        "module" => read_module(alloc, given),
         _ => Ok(None),
     }
 }

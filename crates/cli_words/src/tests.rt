@@ -10,14 +10,17 @@ fn asked(alloc: Global, words: &[&str]) -> Result<Option<(String, u32)>, AllocEr
     }
     match read_words(alloc, &owned)? {
         Some(Request::Bare(hex, micros)) => Ok(Some((String::from_str(alloc, hex)?, micros))),
-        Some(Request::Check(folder)) => Ok(Some((String::from_str(alloc, folder)?, 0))),
+        Some(Request::Check(path) | Request::Module(path)) => Ok(Some((
+            String::from_str(alloc, path)?,
+            0,
+        ))),
         None => Ok(None),
     }
 }
 
 #[test]
 fn options_stand_anywhere_and_end_with_two_hyphens(rt: HostRuntime) -> Result<(), AllocError> {
-    let rows: [(&[&str], &str, u32); 11] = [
+    let rows: [(&[&str], &str, u32); 12] = [
         (&["bare", "a.hex", "--us", "5"], "a.hex", 5),
         (&["bare", "--us", "0000000005", "a.hex"], "a.hex", 5),
         (&["bare", "--us=10000000", "x=y"], "x=y", 10_000_000),
@@ -28,6 +31,7 @@ fn options_stand_anywhere_and_end_with_two_hyphens(rt: HostRuntime) -> Result<()
         (&["bare", "--us", "1", "--", "--"], "--", 1),
         (&["bare", "a.hex", "--us=1", "--"], "a.hex", 1),
         (&["check", "blink"], "blink", 0),
+        (&["module", "chip.wasm"], "chip.wasm", 0),
         (&["check", "--", "--us=1"], "--us=1", 0),
     ];
     for (words, hex, micros) in rows {
@@ -44,7 +48,7 @@ fn options_stand_anywhere_and_end_with_two_hyphens(rt: HostRuntime) -> Result<()
 
 #[test]
 fn other_words_ask_for_nothing(rt: HostRuntime) -> Result<(), AllocError> {
-    let rows: [&[&str]; 31] = [
+    let rows: [&[&str]; 32] = [
         &[],
         &[""],
         &["bare"],
@@ -74,6 +78,7 @@ fn other_words_ask_for_nothing(rt: HostRuntime) -> Result<(), AllocError> {
         &["--us=1", "bare", "a"],
         &["check"],
         &["check", ""],
+        &["module"],
         &["check", "blink", "--us=1"],
         &["check", "blink", "blink"],
     ];

@@ -8,7 +8,7 @@ use Rattle.sim_base.specs.Causes.{Rose}
 use Rattle.sim_base.specs.Outside.{Outside, SameOthers, SamePorts, Files, Becomes, is_openable}
 use Rattle.words_model.specs.Request.{Request}
 use Rattle.outcome_model.specs.Stop.{Stop, Missing, Texts, wave_alone, report_alone, ◌>>=◌}
-use Rattle.run_model.specs.Answer.{answer}
+use Rattle.run_model.specs.Answer.{Answers}
 use Rattle.outcome_model.specs.Work.{ReadStops, RanOn}
 use Rattle.outcome_model.specs.Outcome.{Outcome, Accepted, NoRequest, Stopped, ReadFailed, WriteFailed, OutOfMemory, Hold, Begin, BeginsOn, OutputRose}
 use Rattle.run_model.specs.Happens.{Happens}
@@ -16,21 +16,23 @@ use Rattle.outcome_model.proofs.WriteLemmas.{grows_same, front_all}
 use Rattle.outcome_model.proofs.ReadLemmas.{if_some}
 
 -- where a file that a request reads ends the work
-pub stops : {X : Type 0} (r : Request) (reading : Files → Result X Stop) (texts : X → Result Texts Stop) → ((files : Files) → answer r files ≡ (reading files >>= texts)) →
+pub stopped_by : {X : Type 0} (r : Request) (reading : Files → Result X Stop) → ((files : Files) (s : Stop) → reading files ≡ Err s → Answers r files (Err s)) →
     (o : Outcome) (a b : Outside) → ReadStops o reading a b → SamePorts a b → Happens o (Some r) a b
-stops r reading texts is Accepted a b s same = absurd s
-stops r reading texts is NoRequest a b s same = absurd s
-stops {X = X} r reading texts is (Stopped t) a b s same = (
-  if_some a.files _ _ (λ (files : Files) (e : reading files ≡ Err t). is files ∙ ap (λ (x : Result X Stop). x >>= texts) e) s,
-  λ p ne. same.written p,
-)
-stops {X = X} r reading texts is (ReadFailed n) a b s same = (
-  if_some a.files _ _ (λ (files : Files) (e : reading (remove files n) ≡ Err (Missing n)). is (remove files n) ∙ ap (λ (x : Result X Stop). x >>= texts) e) s.0,
+stopped_by r reading is Accepted a b s same = absurd s
+stopped_by r reading is NoRequest a b s same = absurd s
+stopped_by r reading is (Stopped t) a b s same = (if_some a.files _ _ (λ (files : Files) (e : reading files ≡ Err t). is files t e) s, λ p ne. same.written p)
+stopped_by r reading is (ReadFailed n) a b s same = (
+  if_some a.files _ _ (λ (files : Files) (e : reading (remove files n) ≡ Err (Missing n)). is (remove files n) (Missing n) e) s.0,
   s.1,
   λ p ne. same.written p,
 )
-stops r reading texts is WriteFailed a b s same = absurd s
-stops r reading texts is OutOfMemory a b s same = λ p ne. same.written p
+stopped_by r reading is WriteFailed a b s same = absurd s
+stopped_by r reading is OutOfMemory a b s same = λ p ne. same.written p
+
+-- the same of a request whose texts are made of what was read
+pub stops : {X : Type 0} (r : Request) (reading : Files → Result X Stop) (texts : X → Result Texts Stop) → ((files : Files) (result : Result Texts Stop) → (reading files >>= texts) ≡ result → Answers r files result) →
+    (o : Outcome) (a b : Outside) → ReadStops o reading a b → SamePorts a b → Happens o (Some r) a b
+stops {X = X} r reading texts is = stopped_by r reading (λ files s e. is files (Err s) (ap (λ (x : Result X Stop). x >>= texts) e))
 
 -- a text on one port alone
 abbrev pub alone : Port → List ℕ → Texts
@@ -75,11 +77,11 @@ module _ (r : Request) (a m b : Outside) (reads : m.read_faults ≡ a.read_fault
   kept p q others ne = others.written q ne ∙ same.written q
 
   -- a text on one port alone was written after the files were read
-  pub alone_ran : (p : Port) → is_openable p ≡ true → (o : Outcome) (text : List ℕ) → IfSome a.files (λ (files : Files). answer r files ≡ Ok (alone p text)) →
+  pub alone_ran : (p : Port) → is_openable p ≡ true → (o : Outcome) (text : List ℕ) → IfSome a.files (λ (files : Files). Answers r files (Ok (alone p text))) →
       RanOn p o text m b → SameOthers p m b → Happens o (Some r) a b
   alone_ran p out Accepted text is ran others = (
     (others.reads ∙ reads, at_ports (λ q. b.faults q ≡ a.faults q) p out (ran.1 ∙ same.faults p) (λ q ne. others.faults q ne ∙ same.faults q)),
-    if_some a.files _ _ (λ (files : Files) (e : answer r files ≡ Ok (alone p text)). (
+    if_some a.files _ _ (λ (files : Files) (e : Answers r files (Ok (alone p text))). (
       alone p text,
       e,
       holds_alone p text a b out (ran.0 ∙ ap (option_map (λ (l : List ℕ). text)) (same.written p)) (λ q ne. kept p q others ne),
@@ -90,7 +92,7 @@ module _ (r : Request) (a m b : Outside) (reads : m.read_faults ≡ a.read_fault
   alone_ran p out (ReadFailed name) text is ran others = absurd ran
   alone_ran p out WriteFailed text is ran others = (
     output_rose p a b out (rw (← same.faults p) ran.0),
-    if_some a.files _ _ (λ (files : Files) (e : answer r files ≡ Ok (alone p text)). (
+    if_some a.files _ _ (λ (files : Files) (e : Answers r files (Ok (alone p text))). (
       alone p text,
       e,
       begins_alone p text a b out (rw (← same.written p) ran.1) (λ q ne. kept p q others ne),
@@ -105,9 +107,9 @@ told (Stopped s) asked a m b quiet h others = (h.0, λ p ne. others.written p ne
 told (ReadFailed name) asked a m b quiet h others = (h.0, rw others.reads h.1, λ p ne. others.written p ne ∙ h.2 p ne)
 told WriteFailed asked a m b quiet h others = rw (others.faults ports.Wave (λ e. cc), others.faults ports.Serial (λ e. cc), others.faults ports.Report (λ e. cc)) (h.0, begun asked h.1)
   where
-    begun : (asked : Option Request) → IsSomeAnd asked (λ r. IfSome a.files (λ files. (t : Texts) × (answer r files ≡ Ok t) × Begin t a m)) → IsSomeAnd asked (λ r. IfSome a.files (λ files. (t : Texts) × (answer r files ≡ Ok t) × Begin t a b))
+    begun : (asked : Option Request) → IsSomeAnd asked (λ r. IfSome a.files (λ files. (t : Texts) × (Answers r files (Ok t)) × Begin t a m)) → IsSomeAnd asked (λ r. IfSome a.files (λ files. (t : Texts) × (Answers r files (Ok t)) × Begin t a b))
     begun None x = x
-    begun (Some r) x = if_some a.files _ _ (λ (files : Files) (y : (t : Texts) × (answer r files ≡ Ok t) × Begin t a m). (
+    begun (Some r) x = if_some a.files _ _ (λ (files : Files) (y : (t : Texts) × (Answers r files (Ok t)) × Begin t a m). (
       y.0,
       y.1,
       record {

@@ -4,10 +4,11 @@ use Rattle.sim_base.specs.declared.bench.Port.TheVariants as ports
 use Rattle.sim_base.specs.Outside.{Outside, Files}
 use Rattle.words_model.specs.Request.{Request}
 use Rattle.outcome_model.specs.Stop.{Stop, Missing, Refused, Texts}
-use Rattle.run_model.specs.Answer.{answer}
+use Rattle.run_model.specs.Answer.{Answers}
 use Rattle.outcome_model.specs.Outcome.{Outcome, Accepted, NoRequest, Stopped, ReadFailed, WriteFailed, OutOfMemory, Hold, Begin, status_of}
 use Rattle.run_model.specs.Happens.{Happens}
-use Rattle.run_model.specs.Promises.{WordsAlone, IsAnswered, IsComplete, HoldsAnswer, IsStopped, IsTrueStop, HasCause, HoldsFront, ComplainsAlone, IsStatus, expected, outcome_from}
+use Rattle.run_model.specs.Promises.{WordsAlone, IsAnswered, IsComplete, HoldsAnswer, IsStopped, IsTrueStop, HasCause, HoldsFront, ComplainsAlone, IsStatus, IsExpected, outcome_from}
+use Rattle.run_model.proofs.AnswerLemmas.{one_sided, one_status}
 use Rattle.outcome_model.proofs.ReadLemmas.{if_some, if_always}
 
 -- what holds of the request and the told files, once these are known
@@ -44,9 +45,9 @@ pub complete : (o : Outcome) (asked : Option Request) (a b : Outside) → Happen
 complete Accepted asked a b h none r files t e f g = inl refl
 complete NoRequest asked a b h none r files t e f g = let bad : None ≡ Some r = sym h.0 ∙ e in absurd (cc)
 complete (Stopped s) asked a b h none r files t e f g =
-    let at_r : IsSomeAnd (Some r) (λ r. IfSome a.files (λ files. answer r files ≡ Err s)) = rw e at h.0 in
-    let at_files : IfSome (Some files) (λ files. answer r files ≡ Err s) = rw f at at_r in
-    let bad : Ok t ≡ Err s = sym g ∙ at_files in absurd (cc)
+    let at_r : IsSomeAnd (Some r) (λ r. IfSome a.files (λ files. Answers r files (Err s))) = rw e at h.0 in
+    let at_files : IfSome (Some files) (λ files. Answers r files (Err s)) = rw f at at_r in
+    absurd (one_sided r files t s g at_files)
 complete (ReadFailed name) asked a b h none r files t e f g = absurd (none.0 h.1)
 complete WriteFailed asked a b h none r files t e f g = elim h.0 [
   | inl x ↦ absurd (none.1 ports.Wave x)
@@ -56,10 +57,10 @@ complete OutOfMemory asked a b h none r files t e f g = inr refl
 
 pub answered : (o : Outcome) (asked : Option Request) (a b : Outside) → Happens o asked a b → IsAnswered (status_of o) asked a b
 answered Accepted None a b h none seven = absurd h.1
-answered Accepted (Some r) a b h none seven = if_some a.files _ _ (λ (files : Files) (y : (t : Texts) × (answer r files ≡ Ok t) × Hold t a b). ap (λ (x : Result Texts Stop). status_of (outcome_from x)) (sym y.1)) h.1
-answered NoRequest asked a b h none seven = if_always a.files _ (λ files. ap (λ (x : Option Request). status_of (expected x files)) (sym h.0))
+answered Accepted (Some r) a b h none seven = if_some a.files _ _ (λ (files : Files) (y : (t : Texts) × (Answers r files (Ok t)) × Hold t a b). (Ok y.0, y.1, refl)) h.1
+answered NoRequest asked a b h none seven = if_always a.files _ (λ files. rw h.0 refl)
 answered (Stopped s) None a b h none seven = absurd h.0
-answered (Stopped s) (Some r) a b h none seven = if_some a.files _ _ (λ (files : Files) (e : answer r files ≡ Err s). ap (λ (x : Result Texts Stop). status_of (outcome_from x)) (sym e)) h.0
+answered (Stopped s) (Some r) a b h none seven = if_some a.files _ _ (λ (files : Files) (e : Answers r files (Err s)). (Err s, e, refl)) h.0
 answered (ReadFailed name) asked a b h none seven = absurd (none.0 h.1)
 answered WriteFailed asked a b h none seven = elim h.0 [
   | inl x ↦ absurd (none.1 ports.Wave x)
@@ -71,7 +72,7 @@ pub holds_answer : (o : Outcome) (asked : Option Request) (a b : Outside) → Ha
 holds_answer Accepted asked a b h e = (
   h.0,
   λ files f.
-      let x = at_told asked a.files (λ r files. (t : Texts) × (answer r files ≡ Ok t) × Hold t a b) h.1 files f in
+      let x = at_told asked a.files (λ r files. (t : Texts) × (Answers r files (Ok t)) × Hold t a b) h.1 files f in
       (x.0, x.2.0, x.1, x.2.1, x.2.2),
 )
 holds_answer NoRequest asked a b h e = absurd (omega arith)
@@ -83,7 +84,7 @@ holds_answer OutOfMemory asked a b h e = absurd (omega arith)
 
 pub holds_front : (o : Outcome) (asked : Option Request) (a b : Outside) → Happens o asked a b → HoldsFront (status_of o) asked a b
 holds_front WriteFailed asked a b h e = λ files f.
-    let x = at_told asked a.files (λ r files. (t : Texts) × (answer r files ≡ Ok t) × Begin t a b) h.1 files f in
+    let x = at_told asked a.files (λ r files. (t : Texts) × (Answers r files (Ok t)) × Begin t a b) h.1 files f in
     (x.0, x.2.0, x.1, x.2.1, x.2.2)
 holds_front Accepted asked a b h e = absurd (omega arith)
 holds_front NoRequest asked a b h e = absurd (omega arith)
@@ -101,23 +102,21 @@ same_answer P asked told h r files e f =
 
 pub stopped : (o : Outcome) (asked : Option Request) (a b : Outside) → Happens o asked a b → IsStopped (status_of o) asked a b
 stopped Accepted asked a b h r files s e f g =
-    let x = same_answer (λ r files. (t : Texts) × (answer r files ≡ Ok t) × Hold t a b) asked a.files h.1 r files e f in
-    let bad : Ok x.0 ≡ Err s = sym x.1 ∙ g in absurd (cc)
+    let x = same_answer (λ r files. (t : Texts) × (Answers r files (Ok t)) × Hold t a b) asked a.files h.1 r files e f in
+    absurd (one_sided r files x.0 s x.1 g)
 stopped NoRequest asked a b h r files s e f g = let bad : None ≡ Some r = sym h.0 ∙ e in absurd (cc)
 stopped (Stopped t) asked a b h r files s e f g =
-    let x = same_answer (λ r files. answer r files ≡ Err t) asked a.files h.0 r files e f in
-    let same : Err t ≡ Err s = sym x ∙ g in
-    let it : t ≡ s = cc in
-    inl (ap (λ (y : Stop). status_of (Stopped y)) it)
+    let x = same_answer (λ r files. Answers r files (Err t)) asked a.files h.0 r files e f in
+    inl (one_status r files t s x g)
 stopped (ReadFailed name) asked a b h r files s e f g = inr (inl (refl, h.1))
 stopped WriteFailed asked a b h r files s e f g =
-    let x = same_answer (λ r files. (t : Texts) × (answer r files ≡ Ok t) × Begin t a b) asked a.files h.1 r files e f in
-    let bad : Ok x.0 ≡ Err s = sym x.1 ∙ g in absurd (cc)
+    let x = same_answer (λ r files. (t : Texts) × (Answers r files (Ok t)) × Begin t a b) asked a.files h.1 r files e f in
+    absurd (one_sided r files x.0 s x.1 g)
 stopped OutOfMemory asked a b h r files s e f g = inr (inr refl)
 
 pub true_stop : (o : Outcome) (asked : Option Request) (a b : Outside) → Happens o asked a b → IsTrueStop (status_of o) asked a
 true_stop (Stopped s) asked a b h e = λ files f.
-    let x = at_told asked a.files (λ r files. answer r files ≡ Err s) h.0 files f in
+    let x = at_told asked a.files (λ r files. Answers r files (Err s)) h.0 files f in
     (x.0, s, x.1, x.2, refl)
 true_stop Accepted asked a b h e = elim e [ inl x ↦ absurd (omega arith) | inr x ↦ absurd (omega arith) ]
 true_stop NoRequest asked a b h e = elim e [ inl x ↦ absurd (omega arith) | inr x ↦ absurd (omega arith) ]

@@ -1,17 +1,27 @@
 -- What the program answers to a request over told files (profile).
-use Rattle.std.specs.Prelude.{◌*◌, [], codes, Some, None, Result, Ok}
+use Rattle.std.specs.Prelude.{◌≡◌, ◌*◌, List, ℕ, [], codes, Some, None, Result, Ok, Err}
 use Rattle.sim_base.specs.Outside.{Files}
 use Rattle.text_model.specs.Hex.{hex_image}
-use Rattle.words_model.specs.Request.{Request, Bare, Check}
-use Rattle.outcome_model.specs.Stop.{Stop, Texts, ◌>>=◌, file}
+use Rattle.words_model.specs.Request.{Request, Bare, Check, Module}
+use Rattle.outcome_model.specs.Stop.{Stop, Texts, ◌>>=◌, file, report_alone, Judged}
 use Rattle.project_model.specs.Work.{work_in}
+use Rattle.module_model.specs.Accepts.{Judges}
 use Rattle.run_model.specs.Bare.{bare_wave}
 
+abbrev pub accepted : Texts
+accepted = report_alone (codes "accepted\n")
+
+-- a module's file by what its bytes are worth
+abbrev pub ModuleAnswers : List ℕ → Files → Result Texts Stop → Type 0
+ModuleAnswers name files (Ok texts) = (texts ≡ accepted) × Judged files name Judges (Ok tt)
+ModuleAnswers name files (Err stop) = Judged files name Judges (Err stop)
+
 -- The texts, or the first event in the order of the work. One microsecond has 16 cycles.
-unfoldable pub answer : Request → Files → Result Texts Stop
-answer (Bare hex us) files = do
+unfoldable pub Answers : Request → Files → Result Texts Stop → Type 0
+Answers (Bare hex us) files result = (do
   flash ← file files hex hex_image
-  Ok (record { serial = []; wave = Some (bare_wave flash (16 * us)); report = None })
-answer (Check folder) files = do
+  Ok (record { serial = []; wave = Some (bare_wave flash (16 * us)); report = None })) ≡ result
+Answers (Check folder) files result = (do
   work ← work_in folder files
-  Ok (record { serial = []; wave = None; report = Some (codes "accepted\n") })
+  Ok accepted) ≡ result
+Answers (Module name) files result = ModuleAnswers name files result

@@ -5,7 +5,7 @@ use Rattle.sim_base.specs.Causes.{Rose}
 use Rattle.sim_base.specs.Outside.{Outside, Files}
 use Rattle.words_model.specs.Request.{Request}
 use Rattle.outcome_model.specs.Stop.{Stop, Texts}
-use Rattle.run_model.specs.Answer.{answer}
+use Rattle.run_model.specs.Answer.{Answers}
 use Rattle.outcome_model.specs.Outcome.{Outcome, Accepted, NoRequest, Stopped, status_of, Hold, Begin, IsFaultless, IsSilent, OutputRose}
 
 -- no count of faults rose, so that none was answered
@@ -16,10 +16,10 @@ abbrev pub outcome_from : Result Texts Stop → Outcome
 outcome_from (Ok t) = Accepted
 outcome_from (Err s) = Stopped s
 
--- the outcome where nothing fails and memory is there
-abbrev pub expected : Option Request → Files → Outcome
-expected None files = NoRequest
-expected (Some r) files = outcome_from (answer r files)
+-- the status where nothing fails and memory is there
+abbrev pub IsExpected : ℕ → Option Request → Files → Type 0
+IsExpected status None files = status ≡ status_of NoRequest
+IsExpected status (Some r) files = (result : Result Texts Stop) × Answers r files result × (status ≡ status_of (outcome_from result))
 
 -- The status is 2 where the words ask for nothing, unless memory is wanting, and nowhere else.
 abbrev pub WordsAlone : ℕ → Option Request → Type 0
@@ -27,23 +27,23 @@ WordsAlone status asked = (status ≡ 2 → asked ≡ None) × (asked ≡ None �
 
 -- Where no fault comes and memory is there, the status is that of the answer.
 abbrev pub IsAnswered : ℕ → Option Request → Outside → Outside → Type 0
-IsAnswered status asked a b = NoneRose a b → status ≢ 7 → IfSome a.files (λ files. status ≡ status_of (expected asked files))
+IsAnswered status asked a b = NoneRose a b → status ≢ 7 → IfSome a.files (λ files. IsExpected status asked files)
 
 -- A good request over told files, of which none is refused, is answered unless memory is wanting or a fault comes.
 abbrev pub IsComplete : ℕ → Option Request → Outside → Outside → Type 0
-IsComplete status asked a b = NoneRose a b → (r : Request) (files : Files) (t : Texts) → asked ≡ Some r → a.files ≡ Some files → answer r files ≡ Ok t → (status ≡ 0) ⊎ (status ≡ 7)
+IsComplete status asked a b = NoneRose a b → (r : Request) (files : Files) (t : Texts) → asked ≡ Some r → a.files ≡ Some files → Answers r files (Ok t) → (status ≡ 0) ⊎ (status ≡ 7)
 
 -- With status 0 no count of faults changed, and each told port holds its text, all of it.
 abbrev pub HoldsAnswer : ℕ → Option Request → Outside → Outside → Type 0
-HoldsAnswer status asked a b = status ≡ 0 → IsFaultless a b × ((files : Files) → a.files ≡ Some files → (r : Request) × (t : Texts) × (asked ≡ Some r) × (answer r files ≡ Ok t) × Hold t a b)
+HoldsAnswer status asked a b = status ≡ 0 → IsFaultless a b × ((files : Files) → a.files ≡ Some files → (r : Request) × (t : Texts) × (asked ≡ Some r) × (Answers r files (Ok t)) × Hold t a b)
 
 -- Where the answer is a missing file or a refusal, its status comes, or 5 after a failed read, or 7.
 abbrev pub IsStopped : ℕ → Option Request → Outside → Outside → Type 0
-IsStopped status asked a b = (r : Request) (files : Files) (s : Stop) → asked ≡ Some r → a.files ≡ Some files → answer r files ≡ Err s → (status ≡ status_of (Stopped s)) ⊎ (((status ≡ 5) × Rose a.read_faults b.read_faults) ⊎ (status ≡ 7))
+IsStopped status asked a b = (r : Request) (files : Files) (s : Stop) → asked ≡ Some r → a.files ≡ Some files → Answers r files (Err s) → (status ≡ status_of (Stopped s)) ⊎ (((status ≡ 5) × Rose a.read_faults b.read_faults) ⊎ (status ≡ 7))
 
 -- 3 and 4 come only where the answer is a refusal, or a missing file.
 abbrev pub IsTrueStop : ℕ → Option Request → Outside → Type 0
-IsTrueStop status asked a = (status ≡ 3) ⊎ (status ≡ 4) → (files : Files) → a.files ≡ Some files → (r : Request) × (s : Stop) × (asked ≡ Some r) × (answer r files ≡ Err s) × (status ≡ status_of (Stopped s))
+IsTrueStop status asked a = (status ≡ 3) ⊎ (status ≡ 4) → (files : Files) → a.files ≡ Some files → (r : Request) × (s : Stop) × (asked ≡ Some r) × (Answers r files (Err s)) × (status ≡ status_of (Stopped s))
 
 -- 5 and 6 have their cause: a count of faults that rose in this call.
 abbrev pub HasCause : ℕ → Outside → Outside → Type 0
@@ -51,7 +51,7 @@ HasCause status a b = (status ≡ 5 → Rose a.read_faults b.read_faults) × (st
 
 -- With status 6 each port holds a first part of its text.
 abbrev pub HoldsFront : ℕ → Option Request → Outside → Outside → Type 0
-HoldsFront status asked a b = status ≡ 6 → (files : Files) → a.files ≡ Some files → (r : Request) × (t : Texts) × (asked ≡ Some r) × (answer r files ≡ Ok t) × Begin t a b
+HoldsFront status asked a b = status ≡ 6 → (files : Files) → a.files ≡ Some files → (r : Request) × (t : Texts) × (asked ≡ Some r) × (Answers r files (Ok t)) × Begin t a b
 
 -- With every status but 0 and 6 no port but Complaint changed.
 abbrev pub ComplainsAlone : ℕ → Outside → Outside → Type 0

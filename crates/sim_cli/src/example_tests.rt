@@ -90,7 +90,12 @@ fn examples_show_their_values(rt: HostRuntime) -> Result<(), OutOfMemory> {
         (SORT, "100", &[0, 7, 19, 42, 42, 83, 128, 255]),
     ];
     for (hex, micros, values) in rows {
-        let ended = run(rt.alloc(), Some(hex), &["bare", "blink.hex", "--us", micros], None)?;
+        let ended = run(
+            rt.alloc(),
+            Some(hex),
+            &["bare", "blink.hex", "--us", micros],
+            None,
+        )?;
         assert_eq!(rt; ended.status, 0);
         let shown = pulses(rt.alloc(), &ended.wave)?;
         assert!(rt; shown.as_slice() == values);

@@ -7,6 +7,7 @@ ghost use Rattle.outcome_model.specs.Work.{SaidNothing};
 ghost use Rattle.cli_work.specs.Outcomes.{outcome_of};
 
 use cli_bare::bare;
+use cli_module::check_module;
 use cli_project::check;
 use cli_words::{Request, read_words};
 use cli_work::{Outcome, status, tell};
@@ -27,6 +28,7 @@ fn work<B: Bench, L: Ledger>(
     match read_words(alloc, words) {
         Ok(Some(Request::Bare(hex, micros))) => bare(alloc, hex, micros, bench, steps),
         Ok(Some(Request::Check(folder))) => check(alloc, folder, bench),
+        Ok(Some(Request::Module(file))) => check_module(alloc, file, bench),
         Ok(None) => Outcome::NoRequest,
         Err(_) => Outcome::OutOfMemory,
     }

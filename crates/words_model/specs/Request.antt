@@ -20,9 +20,11 @@ number_within least greatest word =
 
 -- `Bare hex us`: the wave of so many microseconds of one Uno that runs the firmware of a HEX file.
 -- `Check folder`: whether a project is accepted.
+-- `Module file`: whether a chip's module is accepted.
 pub data Request : Type 0 where
   Bare : Text → ℕ → Request
   Check : Text → Request
+  Module : Text → Request
 
 -- a file name or a folder's is not empty
 abbrev pub path : Text → Option Text
@@ -49,11 +51,19 @@ check_syntax = record { words = codes "folder" ∷ []; options = [] }
 abbrev pub check_of : Given → Option Request
 check_of given = option_map Check (path_of (codes "folder") given)
 
+-- `module FILE`
+abbrev pub module_syntax : Syntax
+module_syntax = record { words = codes "file" ∷ []; options = [] }
+
+abbrev pub module_of : Given → Option Request
+module_of given = option_map Module (path_of (codes "file") given)
+
 -- the request of a command with these words after it
 abbrev pub asked_by : Text → List Text → Option Request
 asked_by command words =
     if bytes_eq command (codes "bare") then option_and_then bare_of (texts_of bare_syntax words)
     else if bytes_eq command (codes "check") then option_and_then check_of (texts_of check_syntax words)
+    else if bytes_eq command (codes "module") then option_and_then module_of (texts_of module_syntax words)
     else None
 
 -- The words are without the program's name; None where they ask for nothing that the program knows.

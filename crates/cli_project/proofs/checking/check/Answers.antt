@@ -2,10 +2,9 @@ use Rattle.std.proofs.Common.{◌≡◌, ℕ, List, Ok, IfSome, codes, refl}
 use Rattle.sim_base.specs.declared.bench.Port.TheVariants as ports
 use Rattle.sim_base.specs.Outside.{Files}
 use Rattle.words_model.specs.Request.{Check}
-use Rattle.outcome_model.specs.Stop.{report_alone}
 use Rattle.outcome_model.proofs.ReadLemmas.{if_some}
 use Rattle.project_model.specs.Work.{work_in}
-use Rattle.run_model.specs.Answer.{answer}
+use Rattle.run_model.specs.Answer.{Answers, accepted}
 use Rattle.run_model.proofs.EndLemmas.{alone_ran}
 use Rattle.cli_work.specs.Outcomes.{outcome_of}
 use Rattle.cli_project.specs.Works.{work_of}
@@ -16,7 +15,7 @@ pub returns-in-Ok-clause-happens : goal.returns-in-Ok-clause-happens
 returns-in-Ok-clause-happens g c =
     let a = g.B.Bench.outside c.args.bench.now in
     let folder : List ℕ = c.args.folder.now in
-    let is : IfSome a.files (λ files. answer (Check folder) files ≡ Ok (report_alone (codes "accepted\n"))) =
+    let is : IfSome a.files (λ files. Answers (Check folder) files (Ok accepted)) =
     if_some a.files _ _ (λ (files : Files) (e : work_in folder files ≡ Ok (work_of c.in-Ok.field-0)). check_answer folder files (work_of c.in-Ok.field-0) e) c.in-Ok.ensures.got.0 in
     alone_ran (Check folder) a (g.B.Bench.outside c.read_work.new.bench) (g.B.Bench.outside c.write_text.new.bench) c.in-Ok.ensures.got.1 c.in-Ok.ensures.ports ports.Report refl (outcome_of c.write_text.result) (codes "accepted\n") is c.write_text.ensures.ran c.write_text.ensures.others
 
