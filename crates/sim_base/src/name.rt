@@ -69,4 +69,15 @@ impl Name {
     {
         self.bytes.as_slice()
     }
+
+    /// The name as a text, since its bytes are ASCII.
+    #[tactic(auto, using(crate::proofs::NameLemmas::name_text))]
+    pub fn as_str(&self) -> &str
+        ensures { result.now ≡ self.now }
+    {
+        match std::str::from_utf8(self.bytes.as_slice()) {
+            Ok(text) => text,
+            Err(_) => unreachable!(),
+        }
+    }
 }
