@@ -138,3 +138,41 @@ fn a_project_is_accepted_or_its_first_fault_is_named(rt: HostRuntime) -> Result<
     }
     Ok(())
 }
+
+/// A diagram of an Uno, so many LEDs, and so many wires from pin 13 to their anodes.
+fn large(alloc: Global, leds: u32, wires: u32) -> Result<String, OutOfMemory> {
+    let mut text = String::from_str(
+        alloc,
+        r#"{"version": 1, "parts": [{"type": "wokwi-arduino-uno", "id": "uno"}"#,
+    )?;
+    for i in 0..leds {
+        let part = format!(in alloc; r#", {{"type": "wokwi-led", "id": "led{i}"}}"#)?;
+        text.push_str(&part)?;
+    }
+    text.push_str(r#"], "connections": ["#)?;
+    for i in 0..wires {
+        let mark = if i == 0 { "" } else { ", " };
+        let led = i % 63;
+        let wire = format!(in alloc; r#"{mark}["uno:13", "led{led}:A"]"#)?;
+        text.push_str(&wire)?;
+    }
+    text.push_str("]}")?;
+    Ok(text)
+}
+
+#[test]
+fn at_most_64_parts_and_512_wires_are_accepted(rt: HostRuntime) -> Result<(), OutOfMemory> {
+    let rows = [(63, 512, 0), (64, 0, 3), (63, 513, 3)];
+    for (leds, wires, status) in rows {
+        let diagram = large(rt.alloc(), leds, wires)?;
+        let ended = run(rt.alloc(), TOML, &diagram, 0)?;
+        let line = if status == 0 {
+            ""
+        } else {
+            "p/diagram.json: refused 48 DiagramLimit\n"
+        };
+        assert_eq!(rt; ended.status, status);
+        assert!(rt; ended.complaint.as_slice() == line.as_bytes());
+    }
+    Ok(())
+}
