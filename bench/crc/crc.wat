@@ -1,4 +1,5 @@
-(module (memory 16)
+;; CRC-32 over the 1 MiB of zeros of the memory, bit by bit: 158,334,982 instructions.
+(module (memory 16) (func (export "chipInit"))
  (func (export "crc") (result i32) (local i32 i32 i32)
   i32.const 0xffffffff local.set 1
   loop
