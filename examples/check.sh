@@ -20,8 +20,23 @@ pulses() {
             rise = 0
         }'
 }
+# the number on the LEDs bit2, bit1 and bit0, as it is after each change of one of them
+counts() {
+    awk '
+        /^\$var/ && $5 ~ /^bit[012]\.A$/ { bit[$4] = substr($5, 4, 1) }
+        /^[01xz]/ && substr($0, 2) in bit { level[bit[substr($0, 2)]] = substr($0, 1, 1); change = 1 }
+        /^#/ { show() }
+        END { show() }
+        function show() {
+            if (change && (level[2] level[1] level[0]) !~ /[xz]/) print 4 * level[2] + 2 * level[1] + level[0]
+            change = 0
+        }'
+}
 same() { # NAME, EXPECTED; the text at hand on standard input
     if cmp -s - "$2"; then echo "$1: ok"; else echo "$1: differs from $2"; return 1; fi
+}
+wave() { # FOLDER MICROSECONDS
+    "$program" run "$1" --us "$2" --vcd -
 }
 # the tests of sim_cli run the same firmware
 in_tests() { # HEX
@@ -32,8 +47,21 @@ in_tests() { # HEX
 for name in crc sort; do
     in_tests "$here/$name/$name.hex" || { echo "$name: the test of sim_cli has another firmware"; bad=1; }
 done
-"$program" check "$here/blink" | same "blink as a project" "$here/blink/expected/check.txt" || bad=1
+for name in blink counter; do
+    "$program" check "$here/$name" | same "$name as a project" "$here/$name/expected/check.txt" || bad=1
+done
 "$program" bare "$here/blink/blink.hex" --us 1 | same blink "$here/blink/expected/wave.vcd" || bad=1
 "$program" bare "$here/crc/crc.hex" --us 300 | pulses | same crc "$here/crc/expected/pulses.txt" || bad=1
 "$program" bare "$here/sort/sort.hex" --us 100 | pulses | same sort "$here/sort/expected/pulses.txt" || bad=1
+
+wave "$here/blink" 1 | same "blink with its LED" "$here/blink/expected/run.vcd" || bad=1
+wave "$here/counter" 30 | same counter "$here/counter/expected/run.vcd" || bad=1
+wave "$here/counter" 30 | counts | same "counter's LEDs" "$here/counter/expected/counts.txt" || bad=1
+
+# the counter with pin 2 on ground
+down=$(mktemp -d) || exit 1
+trap 'rm -rf "$down"' EXIT
+cp "$here/counter/wokwi.toml" "$here/counter/counter.hex" "$down"
+sed 's/"vcc1:VCC", "uno:2"/"gnd1:GND", "uno:2"/' "$here/counter/diagram.json" >"$down/diagram.json"
+wave "$down" 30 | counts | same "counter downwards" "$here/counter/expected/counts-down.txt" || bad=1
 exit $bad
