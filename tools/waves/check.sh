@@ -1,0 +1,75 @@
+#!/bin/sh
+# Writes the waves of the examples, and that of a board with more variables than there are characters to name them, and
+# says whether sigrok-cli and vcd2fst read each to its end and find in it what stands there. A tool that is missing is
+# skipped (Debian's packages sigrok-cli and gtkwave have them). Ends with 1 where a wave is not written or read otherwise.
+here=$(cd "$(dirname "$0")" && pwd)
+program=$here/../../mudflatjar
+examples=$here/../../examples
+folder=$(mktemp -d) || exit 1
+trap 'rm -rf "$folder"' EXIT
+bad=0
+
+have() { # TOOLS
+    for tool in "$@"; do command -v "$tool" >/dev/null || return 1; done
+}
+says() { # STATUS WAVE WHAT
+    if [ "$1" = 0 ]; then echo "$2: ok, $3"; else echo "$2: not $3"; bad=1; fi
+}
+
+# an Uno and 63 LEDs on its pins
+many_leds() {
+    awk 'BEGIN {
+        print "{ \"version\": 1, \"parts\": [ { \"type\": \"wokwi-arduino-uno\", \"id\": \"uno\" }"
+        for (i = 1; i <= 63; i++) printf ", { \"type\": \"wokwi-led\", \"id\": \"led%d\" }\n", i
+        print "], \"connections\": [ [ \"uno:GND.1\", \"led1:C\" ]"
+        for (i = 1; i <= 63; i++) printf ", [ \"uno:%d\", \"led%d:A\" ]\n", i % 14, i
+        print "] }"
+    }'
+}
+
+# sigrok-cli takes a sample each cycle, and calls x and z 0
+with_sigrok() { # WAVE
+    awk -f "$here/cycles.awk" "$1" >"$folder/own"
+    sigrok-cli -I vcd:downsample=625 -i "$1" -O csv >"$folder/csv" &&
+        { sed -n 's/^; Channels ([^)]*): //p' "$folder/csv"; grep '^[01]' "$folder/csv"; } | cmp -s - "$folder/own"
+}
+
+# vcd2fst and back again
+with_fst() { # WAVE
+    changes "$1" >"$folder/own"
+    vcd2fst "$1" "$folder/fst" >"$folder/said" && fst2vcd "$folder/fst" >"$folder/back" &&
+        changes "$folder/back" | cmp -s - "$folder/own"
+}
+changes() { # WAVE; those of one cycle may stand in any order
+    awk -f "$here/changes.awk" "$1" | sort
+}
+
+wave() { # NAME WORDS
+    name=$1
+    shift
+    "$program" "$@" >"$folder/wave" && tail -n 1 "$folder/wave" | grep -q '^#[0-9]*$'
+    says $? "$name" "written"
+    if have sigrok-cli; then
+        with_sigrok "$folder/wave"
+        says $? "$name" "read by sigrok-cli"
+    fi
+    if have vcd2fst fst2vcd; then
+        with_fst "$folder/wave"
+        says $? "$name" "read by vcd2fst"
+    fi
+}
+
+have sigrok-cli || echo "sigrok-cli: skipped"
+have vcd2fst fst2vcd || echo "vcd2fst: skipped"
+
+mkdir "$folder/many"
+cp "$examples/blink/wokwi.toml" "$examples/blink/blink.hex" "$folder/many"
+many_leds >"$folder/many/diagram.json"
+
+wave blink bare "$examples/blink/blink.hex" --us 1
+wave crc bare "$examples/crc/crc.hex" --us 300
+wave sort bare "$examples/sort/sort.hex" --us 100
+wave "blink with its LED" run "$examples/blink" --us 1 --vcd -
+wave counter run "$examples/counter" --us 30 --vcd -
+wave "63 LEDs" run "$folder/many" --us 10 --vcd -
+exit $bad
