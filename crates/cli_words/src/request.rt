@@ -2,7 +2,7 @@
 ghost use Rattle.std.specs.Prelude.{◌≡◌, ◌≤◌, ◌<◌, map, string_bytes, IfOk, IfSome};
 ghost use Rattle.std.specs.Option.{option_map, option_and_then};
 ghost use Rattle.words_model.specs.Words.{Given, texts_of};
-ghost use Rattle.words_model.specs.Request.{request_of, asked_by, bare_syntax, bare_of, check_syntax, check_of, module_syntax, module_of, path_of, micros_of};
+ghost use Rattle.words_model.specs.Request.{request_of, asked_by, bare_syntax, bare_of, check_syntax, check_of, module_syntax, module_of, run_syntax, run_of, path_of, file_of, micros_of};
 ghost use Rattle.cli_words.specs.Commands.{AreOf};
 ghost use Rattle.cli_words.specs.Asked.{asked_of, IsRunTime};
 
@@ -20,6 +20,9 @@ pub enum Request<'a> {
     Check(&'a str),
     /// Whether the module of a file is accepted.
     Module(&'a str),
+    /// A run of the project of a folder for so many microseconds, with its wave in a file, if one is
+    /// named.
+    Run(&'a str, u32, Option<&'a str>),
 }
 
 /// A file or a folder, whose name is not empty.
@@ -29,6 +32,16 @@ fn path<'a>(matches: &ArgMatches<'a>, name: &str) -> Option<&'a str>
     match text(matches, name) {
         Some(path) if !path.is_empty() => Some(path),
         _ => None,
+    }
+}
+
+/// A file that may be named; None where its name is empty.
+fn file<'a>(matches: &ArgMatches<'a>, name: &str) -> Option<Option<&'a str>>
+    ensures { (given : Given) → AreOf given matches.now → option_map (option_map (λ t. t.now)) result ≡ file_of name.now given }
+{
+    match text(matches, name) {
+        Some(file) if file.is_empty() => None,
+        named => Some(named),
     }
 }
 
@@ -106,6 +119,31 @@ fn read_module(alloc: Global, given: &[String]) -> Result<Option<Request<'_>>, A
     }
 }
 
+fn run<'a>(matches: &ArgMatches<'a>) -> Option<Request<'a>>
+    ensures asked { (given : Given) → AreOf given matches.now → option_map asked_of result ≡ run_of given }
+    ensures run_time { IfSome result IsRunTime }
+{
+    match (
+        path(matches, "folder"),
+        micros(matches),
+        file(matches, "vcd"),
+    ) {
+        (Some(folder), Some(micros), Some(wave)) => Some(Request::Run(folder, micros, wave)),
+        _ => None,
+    }
+}
+
+/// `run FOLDER --us N [--vcd FILE]`
+fn read_run(alloc: Global, given: &[String]) -> Result<Option<Request<'_>>, AllocError>
+    ensures request { IfOk result (λ o. option_map asked_of o ≡ option_and_then run_of (texts_of run_syntax (map string_bytes given.entry.now))) }
+    ensures run_time { IfOk result (λ o. IfSome o IsRunTime) }
+{
+    match read_texts(alloc, &["folder"], &["us", "vcd"], given)? {
+        Some(matches) => Ok(run(&matches)),
+        None => Ok(None),
+    }
+}
+
 /// The request of a command with these words after it.
 fn read_command<'a>(
     alloc: Global,
@@ -119,6 +157,7 @@ fn read_command<'a>(
         "bare" => read_bare(alloc, given),
         "check" => read_check(alloc, given),
         "module" => read_module(alloc, given),
+        "run" => read_run(alloc, given),
         _ => Ok(None),
     }
 }

@@ -2,7 +2,8 @@
 use crate::{Request, read_words};
 use std::alloc::{AllocError, Global};
 
-/// The file and the run time that the words ask for, or the folder that is to be checked and 0.
+/// The file or folder and the run time that the words ask for, 0 where they ask for no run. A wave's
+/// file follows the folder behind a blank.
 fn asked(alloc: Global, words: &[&str]) -> Result<Option<(String, u32)>, AllocError> {
     let mut owned = Vec::new(alloc);
     for word in words {
@@ -14,13 +15,21 @@ fn asked(alloc: Global, words: &[&str]) -> Result<Option<(String, u32)>, AllocEr
             String::from_str(alloc, path)?,
             0,
         ))),
+        Some(Request::Run(folder, micros, None)) => Ok(Some((
+            String::from_str(alloc, folder)?,
+            micros,
+        ))),
+        Some(Request::Run(folder, micros, Some(wave))) => Ok(Some((
+            format!(in alloc; "{folder} {wave}")?,
+            micros,
+        ))),
         None => Ok(None),
     }
 }
 
 #[test]
 fn options_stand_anywhere_and_end_with_two_hyphens(rt: HostRuntime) -> Result<(), AllocError> {
-    let rows: [(&[&str], &str, u32); 12] = [
+    let rows: [(&[&str], &str, u32); 16] = [
         (&["bare", "a.hex", "--us", "5"], "a.hex", 5),
         (&["bare", "--us", "0000000005", "a.hex"], "a.hex", 5),
         (&["bare", "--us=10000000", "x=y"], "x=y", 10_000_000),
@@ -33,6 +42,14 @@ fn options_stand_anywhere_and_end_with_two_hyphens(rt: HostRuntime) -> Result<()
         (&["check", "blink"], "blink", 0),
         (&["module", "chip.wasm"], "chip.wasm", 0),
         (&["check", "--", "--us=1"], "--us=1", 0),
+        (&["run", "blink", "--us", "5"], "blink", 5),
+        (
+            &["run", "--vcd", "w.vcd", "blink", "--us=5"],
+            "blink w.vcd",
+            5,
+        ),
+        (&["run", "--us", "5", "--vcd", "-", "blink"], "blink -", 5),
+        (&["run", "--vcd=-w", "--us=5", "--", "-b"], "-b -w", 5),
     ];
     for (words, hex, micros) in rows {
         match asked(rt.alloc(), words)? {
@@ -48,7 +65,7 @@ fn options_stand_anywhere_and_end_with_two_hyphens(rt: HostRuntime) -> Result<()
 
 #[test]
 fn other_words_ask_for_nothing(rt: HostRuntime) -> Result<(), AllocError> {
-    let rows: [&[&str]; 32] = [
+    let rows: [&[&str]; 38] = [
         &[],
         &[""],
         &["bare"],
@@ -81,6 +98,12 @@ fn other_words_ask_for_nothing(rt: HostRuntime) -> Result<(), AllocError> {
         &["module"],
         &["check", "blink", "--us=1"],
         &["check", "blink", "blink"],
+        &["run", "blink"],
+        &["run", "--us=1"],
+        &["run", "blink", "--us=1", "--vcd"],
+        &["run", "blink", "--us=1", "--vcd="],
+        &["run", "blink", "--us=1", "--vcd", "-w"],
+        &["run", "blink", "--us=1", "--vcd=a", "--vcd=b"],
     ];
     for words in rows {
         let given = asked(rt.alloc(), words)?;

@@ -2,7 +2,7 @@
 use Rattle.std.proofs.Common.{◌≡◌, ◌∙◌, ℕ, List, Bool, true, false, Option, None, Some, Result, Ok, Err, refl, ap, sym, nat_lt, length}
 use Rattle.std.specs.FinMap.{get}
 use Rattle.sim_base.specs.Outside.{Files}
-use Rattle.words_model.specs.Request.{Request, Bare, Check, Module}
+use Rattle.words_model.specs.Request.{Request, Bare, Check, Module, Run}
 use Rattle.outcome_model.specs.Stop.{Stop, Missing, Refused, Texts, JudgedWithin, JudgedFrom}
 use Rattle.outcome_model.specs.Outcome.{Stopped, status_of}
 use Rattle.module_model.specs.Accepts.{Judges}
@@ -22,6 +22,7 @@ pub one_sided : (r : Request) (files : Files) (t : Texts) (s : Stop) → Answers
 unfolding Answers
 one_sided (Bare hex us) files t s good fails = let bad : Ok t ≡ Err s = sym good ∙ fails in absurd (cc)
 one_sided (Check folder) files t s good fails = let bad : Ok t ≡ Err s = sym good ∙ fails in absurd (cc)
+one_sided (Run folder us vcd) files t s good fails = let bad : Ok t ≡ Err s = sym good ∙ fails in absurd (cc)
 one_sided (Module name) files t s good fails = from_one (get files name) name s good.1 fails
 
 same_stop : (s t : Stop) (x : Result Texts Stop) → x ≡ Err t → x ≡ Err s → status_of (Stopped t) ≡ status_of (Stopped s)
@@ -50,4 +51,5 @@ pub one_status : (r : Request) (files : Files) (t s : Stop) → Answers r files 
 unfolding Answers
 one_status (Bare hex us) files t s e f = same_stop s t _ e f
 one_status (Check folder) files t s e f = same_stop s t _ e f
+one_status (Run folder us vcd) files t s e f = same_stop s t _ e f
 one_status (Module name) files t s e f = from_status (get files name) name t s e f

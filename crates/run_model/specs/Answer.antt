@@ -2,11 +2,12 @@
 use Rattle.std.specs.Prelude.{◌≡◌, ◌*◌, List, ℕ, [], codes, Some, None, Result, Ok, Err}
 use Rattle.sim_base.specs.Outside.{Files}
 use Rattle.text_model.specs.Hex.{hex_image}
-use Rattle.words_model.specs.Request.{Request, Bare, Check, Module}
+use Rattle.words_model.specs.Request.{Request, Bare, Check, Module, Run}
 use Rattle.outcome_model.specs.Stop.{Stop, Texts, ◌>>=◌, file, report_alone, Judged}
 use Rattle.project_model.specs.Work.{work_in}
 use Rattle.module_model.specs.Accepts.{Judges}
 use Rattle.run_model.specs.Bare.{bare_wave}
+use Rattle.run_model.specs.Run.{run_texts}
 
 abbrev pub accepted : Texts
 accepted = report_alone (codes "accepted\n")
@@ -25,3 +26,6 @@ Answers (Check folder) files result = (do
   work ← work_in folder files
   Ok accepted) ≡ result
 Answers (Module name) files result = ModuleAnswers name files result
+Answers (Run folder us vcd) files result = (do
+  work ← work_in folder files
+  Ok (run_texts work (16 * us) vcd)) ≡ result

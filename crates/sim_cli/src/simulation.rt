@@ -9,6 +9,7 @@ ghost use Rattle.cli_work.specs.Outcomes.{outcome_of};
 use cli_bare::bare;
 use cli_module::check_module;
 use cli_project::check;
+use cli_run::run;
 use cli_words::{Request, read_words};
 use cli_work::{Outcome, status, tell};
 use sim_base::{Bench, Steps};
@@ -29,6 +30,9 @@ fn work<B: Bench, L: Ledger>(
         Ok(Some(Request::Bare(hex, micros))) => bare(alloc, hex, micros, bench, steps),
         Ok(Some(Request::Check(folder))) => check(alloc, folder, bench),
         Ok(Some(Request::Module(file))) => check_module(alloc, file, bench),
+        Ok(Some(Request::Run(folder, micros, wave))) => {
+            run(alloc, folder, micros, wave, bench, steps)
+        }
         Ok(None) => Outcome::NoRequest,
         Err(_) => Outcome::OutOfMemory,
     }

@@ -21,10 +21,12 @@ number_within least greatest word =
 -- `Bare hex us`: the wave of so many microseconds of one Uno that runs the firmware of a HEX file.
 -- `Check folder`: whether a project is accepted.
 -- `Module file`: whether a chip's module is accepted.
+-- `Run folder us wave`: a run of a project for so many microseconds, with its wave in a file where one is named.
 pub data Request : Type 0 where
   Bare : Text → ℕ → Request
   Check : Text → Request
   Module : Text → Request
+  Run : Text → ℕ → Option Text → Request
 
 -- a file name or a folder's is not empty
 abbrev pub path : Text → Option Text
@@ -32,6 +34,14 @@ path text = if length text == 0 then None else Some text
 
 abbrev pub path_of : Text → Given → Option Text
 path_of name given = option_and_then path (text_of name given)
+
+-- a file that is named or not; an empty name is none
+abbrev pub named_file : Option Text → Option (Option Text)
+named_file None = Some None
+named_file (Some text) = option_map Some (path text)
+
+abbrev pub file_of : Text → Given → Option (Option Text)
+file_of name given = named_file (text_of name given)
 
 -- a run time of 1 to 10,000,000 microseconds
 abbrev pub micros_of : Given → Option ℕ
@@ -58,12 +68,21 @@ module_syntax = record { words = codes "file" ∷ []; options = [] }
 abbrev pub module_of : Given → Option Request
 module_of given = option_map Module (path_of (codes "file") given)
 
+-- `run FOLDER --us N`, with `--vcd FILE` or without
+abbrev pub run_syntax : Syntax
+run_syntax = record { words = codes "folder" ∷ []; options = codes "us" ∷ codes "vcd" ∷ [] }
+
+abbrev pub run_of : Given → Option Request
+run_of given =
+    option_and_then (λ folder. option_and_then (λ us. option_map (Run folder us) (file_of (codes "vcd") given)) (micros_of given)) (path_of (codes "folder") given)
+
 -- the request of a command with these words after it
 abbrev pub asked_by : Text → List Text → Option Request
 asked_by command words =
     if bytes_eq command (codes "bare") then option_and_then bare_of (texts_of bare_syntax words)
     else if bytes_eq command (codes "check") then option_and_then check_of (texts_of check_syntax words)
     else if bytes_eq command (codes "module") then option_and_then module_of (texts_of module_syntax words)
+    else if bytes_eq command (codes "run") then option_and_then run_of (texts_of run_syntax words)
     else None
 
 -- The words are without the program's name; None where they ask for nothing that the program knows.

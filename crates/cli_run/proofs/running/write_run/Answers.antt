@@ -1,0 +1,16 @@
+use Rattle.std.proofs.Common.{ℕ, List, map, None}
+use Rattle.sim_base.specs.declared.bench.WriteEnd.TheVariants as writes
+use Rattle.text_model.specs.Wave.{wave_text}
+use Rattle.board_model.specs.Board.{bytes}
+use Rattle.board_model.specs.Rows.{rows}
+use Rattle.any_part.specs.AnyPart.{any, state_of}
+use Rattle.cli_run.proofs.RunLemmas.{ran_texts}
+use Rattle.cli_run.proofs.running.write_run.Goals as goal
+
+pub returns-in-Failed-play-clause-ran : goal.returns-in-Failed-play-clause-ran
+returns-in-Failed-play-clause-ran g c =
+    let outside = g.B.Bench.outside in
+    let v = c.args.board.now in
+    let text : List ℕ = wave_text c.args.head.now.variables (rows any v.wiring v.inputs None (map state_of v.parts) 0 c.args.n) c.args.n in
+    let sent : List ℕ = bytes any v.wiring v.inputs (map state_of v.parts) 0 c.args.n in
+    ran_texts c.args.wave writes.Failed text sent (outside c.args.bench.now) (outside c.open_wave.new.bench) (outside c.play.new.bench) c.in-Ok.ensures (rw (← c.is_some.ensures) c.in-Failed-play.ensures)
