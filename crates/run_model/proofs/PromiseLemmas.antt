@@ -1,13 +1,13 @@
 -- What follows from what a call does.
-use Rattle.std.proofs.Common.{◌≡◌, refl, ap, sym, ◌∙◌, Option, Some, None, Result, Ok, Err, inl, inr, ◌⊎◌, IfSome, IsSomeAnd, arith}
+use Rattle.std.proofs.Common.{◌≡◌, refl, sym, ◌∙◌, Option, Some, None, Ok, Err, inl, inr, ◌⊎◌, IfSome, IsSomeAnd, arith}
 use Rattle.sim_base.specs.declared.bench.Port.TheVariants as ports
 use Rattle.sim_base.specs.Outside.{Outside, Files}
 use Rattle.words_model.specs.Request.{Request}
-use Rattle.outcome_model.specs.Stop.{Stop, Missing, Refused, Texts}
+use Rattle.outcome_model.specs.Stop.{Missing, Refused, Texts}
 use Rattle.run_model.specs.Answer.{Answers}
 use Rattle.outcome_model.specs.Outcome.{Outcome, Accepted, NoRequest, Stopped, ReadFailed, WriteFailed, OutOfMemory, Hold, Begin, status_of}
 use Rattle.run_model.specs.Happens.{Happens}
-use Rattle.run_model.specs.Promises.{WordsAlone, IsAnswered, IsComplete, HoldsAnswer, IsStopped, IsTrueStop, HasCause, HoldsFront, ComplainsAlone, IsStatus, IsExpected, outcome_from}
+use Rattle.run_model.specs.Promises.{WordsAlone, IsAnswered, IsComplete, HoldsAnswer, IsStopped, IsTrueStop, HasCause, HoldsFront, ComplainsAlone, IsStatus}
 use Rattle.run_model.proofs.AnswerLemmas.{one_sided, one_status}
 use Rattle.outcome_model.proofs.ReadLemmas.{if_some, if_always}
 
