@@ -71,11 +71,12 @@ $end
 #10000
 ";
 
-/// How a call ended, and what it left on two ports.
+/// How a call ended, and what it left on three ports.
 #[derive(Drop)]
 pub(crate) struct Ended {
     pub(crate) status: u8,
     pub(crate) wave: Vec<u8>,
+    pub(crate) report: Vec<u8>,
     pub(crate) complaint: Vec<u8>,
 }
 
@@ -88,18 +89,19 @@ fn call<L: Ledger>(alloc: Global, words: &[String], bench: &mut MemBench, blank:
     simulate(alloc, words, bench, &mut steps)
 }
 
-/// The words over a bench that may have a file `blink.hex`, and of whose calls one may fail.
-pub(crate) fn run(
+/// The words over a bench with these files, of whose calls one may fail.
+pub(crate) fn run_on(
     alloc: Global,
-    hex: Option<&[u8]>,
+    files: &[(&str, &[u8])],
     words: &[&str],
     failing: Option<u32>,
 ) -> Result<Ended, OutOfMemory> {
     let mut bench = MemBench::new(alloc);
-    if let Some(bytes) = hex {
-        bench.add_file("blink.hex", bytes)?;
+    for (name, bytes) in files {
+        bench.add_file(name, bytes)?;
     }
     bench.room(Port::Wave, 10_000)?;
+    bench.room(Port::Report, 100)?;
     bench.room(Port::Complaint, 100)?;
     if let Some(number) = failing {
         bench.fail_call(number)?;
@@ -112,8 +114,22 @@ pub(crate) fn run(
     Ok(Ended {
         status,
         wave: Vec::from_slice(alloc, bench.written(Port::Wave))?,
+        report: Vec::from_slice(alloc, bench.written(Port::Report))?,
         complaint: Vec::from_slice(alloc, bench.written(Port::Complaint))?,
     })
+}
+
+/// The words over a bench that may have a file `blink.hex`, and of whose calls one may fail.
+pub(crate) fn run(
+    alloc: Global,
+    hex: Option<&[u8]>,
+    words: &[&str],
+    failing: Option<u32>,
+) -> Result<Ended, OutOfMemory> {
+    match hex {
+        Some(bytes) => run_on(alloc, &[("blink.hex", bytes)], words, failing),
+        None => run_on(alloc, &[], words, failing),
+    }
 }
 
 #[test]
@@ -128,6 +144,48 @@ fn blink_wave(rt: HostRuntime) -> Result<(), OutOfMemory> {
         assert_eq!(rt; ended.status, 0);
         assert!(rt; ended.wave.as_slice() == WAVE);
         assert!(rt; ended.complaint.is_empty());
+    }
+    Ok(())
+}
+
+#[test]
+fn a_project_of_an_uno_alone_has_the_wave_of_bare(rt: HostRuntime) -> Result<(), OutOfMemory> {
+    let files: [(&str, &[u8]); 3] = [
+        (
+            "p/wokwi.toml",
+            b"[wokwi]\nversion = 1\nfirmware = 'blink.hex'\n",
+        ),
+        ("p/blink.hex", BLINK),
+        (
+            "p/diagram.json",
+            br#"{"version": 1, "parts": [{"type": "wokwi-arduino-uno", "id": "uno"}], "connections": []}"#,
+        ),
+    ];
+    let rows: [(&[&str], u8, &[u8], &[u8], &[u8]); 5] = [
+        (&["check", "p"], 0, b"", b"accepted\n", b""),
+        (
+            &["run", "p", "--us", "1", "--vcd", "w.vcd"],
+            0,
+            WAVE,
+            b"",
+            b"",
+        ),
+        (&["run", "--vcd=-", "p", "--us=1"], 0, WAVE, b"", b""),
+        (&["run", "p", "--us", "1"], 0, b"", b"", b""),
+        (
+            &["run", "q", "--us", "1", "--vcd", "w.vcd"],
+            4,
+            b"",
+            b"",
+            b"q/wokwi.toml: missing\n",
+        ),
+    ];
+    for (words, status, wave, report, complaint) in rows {
+        let ended = run_on(rt.alloc(), &files, words, None)?;
+        assert_eq!(rt; ended.status, status);
+        assert!(rt; ended.wave.as_slice() == wave);
+        assert!(rt; ended.report.as_slice() == report);
+        assert!(rt; ended.complaint.as_slice() == complaint);
     }
     Ok(())
 }
@@ -161,8 +219,9 @@ fn a_file_that_is_refused_or_missing_is_named(rt: HostRuntime) -> Result<(), Out
 
 #[test]
 fn other_words_are_not_understood(rt: HostRuntime) -> Result<(), OutOfMemory> {
-    let rows: [&[&str]; 6] = [
+    let rows: [&[&str]; 7] = [
         &[],
+        &["run", "blink"],
         &["bare", "blink.hex"],
         &["bare", "blink.hex", "1"],
         &["bare", "blink.hex", "--us", "0"],
