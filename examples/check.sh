@@ -38,14 +38,14 @@ same() { # NAME, EXPECTED; the text at hand on standard input
 wave() { # FOLDER MICROSECONDS
     "$program" run "$1" --us "$2" --vcd -
 }
-# the tests of sim_cli run the same firmware
-in_tests() { # HEX
-    tr -d '\r' <"$1" | while read -r line; do
-        grep -qF -- "$line" "$here/../crates/sim_cli/src/example_tests.rt" || exit 1
+# the tests of sim_cli run the same firmware and diagram
+in_tests() { # FILE
+    tr -d '\r' <"$here/$1" | while read -r line; do
+        grep -qF -- "$line" "$here"/../crates/sim_cli/src/*_tests.rt || exit 1
     done
 }
-for name in crc sort; do
-    in_tests "$here/$name/$name.hex" || { echo "$name: the test of sim_cli has another firmware"; bad=1; }
+for file in crc/crc.hex sort/sort.hex counter/counter.hex counter/diagram.json; do
+    in_tests "$file" || { echo "$file: the test of sim_cli has another text"; bad=1; }
 done
 for name in blink counter; do
     "$program" check "$here/$name" | same "$name as a project" "$here/$name/expected/check.txt" || bad=1

@@ -4,6 +4,8 @@
 #![tactic(auto)]
 
 #[cfg(test)]
+mod counter_tests;
+#[cfg(test)]
 mod example_tests;
 mod simulation;
 #[cfg(test)]
