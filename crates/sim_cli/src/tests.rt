@@ -219,9 +219,10 @@ fn a_file_that_is_refused_or_missing_is_named(rt: HostRuntime) -> Result<(), Out
 
 #[test]
 fn other_words_are_not_understood(rt: HostRuntime) -> Result<(), OutOfMemory> {
-    let rows: [&[&str]; 7] = [
+    let rows: [&[&str]; 8] = [
         &[],
         &["run", "blink"],
+        &["run", "p", "--us", "0"],
         &["bare", "blink.hex"],
         &["bare", "blink.hex", "1"],
         &["bare", "blink.hex", "--us", "0"],
