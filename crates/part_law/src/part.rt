@@ -1,8 +1,22 @@
 //! What a part is to an engine.
-ghost use Rattle.std.specs.Prelude.{◌≡◌, ℕ, ◌+◌, ◌-◌, ◌<◌, ◌≤◌, Bool, false, List, length, slice_get, Some};
-ghost use Rattle.part_law.specs.Machine.{Machine, Laws, glide, IsQuiet, IsFirstDue};
+ghost use Rattle.std.specs.Prelude.{◌≡◌, ℕ, ◌+◌, ◌-◌, ◌<◌, ◌≤◌, Bool, true, false, List, length, slice_get, Some};
+ghost use Rattle.part_law.specs.Machine.{Machine, Laws, glide, dues, sent, IsQuiet, IsFirstDue, IsSame};
+ghost use Rattle.std.specs.Option.{option_to_list};
 
-use sim_base::{Drive, Level};
+use crate::going::below;
+use sim_base::{Drive, Level, Steps};
+use std::sync::ledger::Ledger;
+
+/// Where `Part::go_on` stopped, and what its last wake showed.
+#[derive(Clone, Copy, Debug, PartialEq, Eq, Drop)]
+pub struct Went {
+    /// The cycle at which the part stands.
+    pub to: u32,
+    /// Whether its last wake may have changed a drive or a contact.
+    pub changed: bool,
+    /// The byte that its last wake emitted.
+    pub byte: Option<u8>,
+}
 
 /// A part of a board, which stands at a cycle in a state of its machine.
 pub trait Part {
@@ -83,6 +97,48 @@ pub trait Part {
         ensures wake_count { wake_count self.new ≡ wake_count self.old + 1 }
         ensures drives { changes self.new ≡ false → machine.drives (state self.new) ≡ machine.drives (state self.old) }
         ensures contacts { changes self.new ≡ false → machine.contacts (state self.new) ≡ machine.contacts (state self.old) };
+
+    /// Goes on by itself on the levels that it holds, where no script value comes before cycle `limit`:
+    /// it is woken in each cycle in which it is due, up to the first wake that may have changed a drive
+    /// or a contact or that emitted a byte, and else up to `limit`. `steps` ticks once a wake. A part may
+    /// stop earlier, but goes on by one cycle at least.
+    fn go_on<L: Ledger>(&mut self, limit: u32, steps: &mut Steps<L>) -> Went
+        requires later { now self.old ≤ limit }
+        requires end { limit ≤ 160000000 }
+        requires count { wake_count self.old ≤ now self.old }
+        requires valid { machine.valid (state self.old) (now self.old) ≡ true }
+        ensures to { now self.new ≡ result.to }
+        ensures forward { now self.old ≤ result.to }
+        ensures within { result.to ≤ limit }
+        ensures progress { now self.old < limit → now self.old < result.to }
+        ensures state { state self.new ≡ glide machine (state self.old) (now self.old) (result.to - now self.old) }
+        ensures wake_count { wake_count self.new ≡ wake_count self.old + dues machine (state self.old) (now self.old) (result.to - now self.old) }
+        ensures steps { steps.new ≡ steps.old + dues machine (state self.old) (now self.old) (result.to - now self.old) }
+        ensures same { IsSame machine (state self.old) (now self.old) (result.to - now self.old) }
+        ensures drives { result.changed ≡ false → machine.drives (state self.new) ≡ machine.drives (state self.old) }
+        ensures contacts { result.changed ≡ false → machine.contacts (state self.new) ≡ machine.contacts (state self.old) }
+        ensures sent { sent machine (state self.old) (now self.old) (result.to - now self.old) ≡ option_to_list result.byte }
+    {
+        while let Some(u) = below(self.due(), limit) {
+            self.settle(u);
+            steps.tick();
+            let byte = self.wake_held(None);
+            let changed = self.changed();
+            if changed | byte.is_some() {
+                return Went {
+                    to: u + 1,
+                    changed,
+                    byte,
+                };
+            }
+        }
+        self.settle(limit);
+        Went {
+            to: limit,
+            changed: false,
+            byte: None,
+        }
+    }
 
     ghost laws: { Laws machine };
 }
