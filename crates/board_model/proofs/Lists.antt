@@ -1,9 +1,8 @@
 -- Lists that are filled or changed from the front.
-use Rattle.std.proofs.Common.{◌≡◌, ℕ, zero, suc, ◌+◌, ◌-◌, ◌<◌, ◌≤◌, List, [], ◌∷◌, ◌++◌, ◌∙◌, length, map, take, drop, Option, None, Some, refl, ap, sym, arith, add-one, length-append, get_or, ◌≢◌, ◌⊎◌, inl, inr, subst, length-set}
+use Rattle.std.proofs.Common.{◌≡◌, ℕ, zero, suc, ◌+◌, ◌<◌, ◌≤◌, List, [], ◌∷◌, ◌++◌, ◌∙◌, length, map, take, drop, Some, refl, ap, sym, arith, add-one, length-append, get_or, ◌≢◌, ◌⊎◌, inl, inr, subst, length-set}
 use Rattle.std.specs.Prelude.{slice_get, slice_set}
 use Rattle.std.specs.List.{flat_map}
 use Rattle.std.proofs.lemmas.Option.{slice_get-get_or, slice_get_within}
-use Rattle.std.proofs.lemmas.Grind.{flat_map-append}
 use Rattle.board_model.specs.Walks.{below}
 
 take_set_suc : {A : Type 0} (xs ys : List A) (i : ℕ) (y : A) → i < length xs → slice_get ys i ≡ Some y → take i xs ≡ take i ys → take (suc i) (slice_set xs i y) ≡ take (suc i) ys
