@@ -4,7 +4,7 @@ use Rattle.std.proofs.Math.Seq.{take-append_seam, take-length}
 use Rattle.std.proofs.lemmas.List.{take-append-drop, length-take-le}
 use Rattle.sim_base.specs.declared.signal.Level.{Level}
 use Rattle.sim_base.specs.declared.signal.Level.TheVariants as levels
-use Rattle.unit_law.specs.UnitMachine.{Seeing, moved, moves}
+use Rattle.unit_law.specs.SeenUnit.{Seeing, moved, moves}
 use Rattle.avr_ports.specs.Ports.{Ports, ports, ports_step, register, reset as ports_reset}
 use Rattle.avr_ports.proofs.PortLemmas.{ports_rest}
 use Rattle.avr_mcu.specs.Units.{Units, UnitsAt, reset, pins, units_step}

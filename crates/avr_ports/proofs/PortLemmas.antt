@@ -4,7 +4,7 @@ use Rattle.std.specs.Prelude.{◌==◌}
 use Rattle.std.proofs.lemmas.Bool.Decides.{nat_tests}
 use Rattle.std.specs.Int.Bits.{and_zero_r}
 use Rattle.sim_base.specs.declared.signal.Level.{Level}
-use Rattle.unit_law.specs.UnitMachine.{Seeing, moved, moves}
+use Rattle.unit_law.specs.SeenUnit.{Seeing, moved, moves}
 use Rattle.avr_ports.specs.Ports.{Ports, ports, is_change, is_edge, isc0, isc1, on, edges_sensed, pinb, pinc, pind, changes_sensed, ports_step}
 use Rattle.avr_ports.specs.PortLaws.{ports_still}
 

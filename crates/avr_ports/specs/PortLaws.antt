@@ -3,7 +3,7 @@ use Rattle.std.proofs.Common.{◌≡◌, ℕ, ◌∙◌, Bool, true, false, ◌&
 use Rattle.std.specs.Prelude.{bit_and, bit_xor, if◌then◌else◌, ◌==◌}
 use Rattle.std.specs.Int.Bits.{xor_self}
 use Rattle.sim_base.specs.declared.signal.Level.{Level}
-use Rattle.unit_law.specs.UnitMachine.{Laws}
+use Rattle.unit_law.specs.SeenUnit.{Laws}
 use Rattle.avr_ports.specs.Ports.{Ports, ports, is_edge, is_change, isc0, isc1, on, pinb, pinc, pind, flags, edges_sensed, changes_sensed, ports_step}
 
 or_no : (a b : Bool) → b ≡ false → (a || b) ≡ a

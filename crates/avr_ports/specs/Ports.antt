@@ -7,7 +7,7 @@ use Rattle.sim_base.specs.declared.signal.Level.{Level}
 use Rattle.sim_base.specs.declared.signal.Level.TheVariants as levels
 use Rattle.avr_ports.specs.declared.pins.Driving.{Driving}
 use Rattle.unit_law.specs.Bits.{is_set, one, with_bit}
-use Rattle.unit_law.specs.UnitMachine.{UnitMachine}
+use Rattle.unit_law.specs.SeenUnit.{UnitMachine}
 
 -- the registers, as the firmware wrote them, and the flags INTF and PCIF
 pub record Ports : Type 0 where

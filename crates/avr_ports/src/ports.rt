@@ -2,7 +2,7 @@
 ghost use Rattle.std.specs.Prelude.{◌≡◌, ◌+◌, ◌-◌, ◌<◌, ◌≤◌, ℕ, length, true, false, replicate, Some, None, ◌||◌, ◌==◌};
 ghost use Rattle.sim_base.specs.declared.signal.Level.{Level};
 ghost use Rattle.sim_base.specs.declared.signal.Level.TheVariants as levels;
-ghost use Rattle.unit_law.specs.UnitMachine.{Seeing, moved, moves, IsStill, IsNextDue};
+ghost use Rattle.unit_law.specs.SeenUnit.{Seeing, moved, moves, IsStill, IsNextDue};
 ghost use Rattle.avr_ports.specs.Ports.{ports, reset, flags, taken, drive, driving, is_register, acts_by_ones, is_pins, register, kept, with_register, with_register_bit, edges_sensed, changes_sensed, ports_step};
 
 use crate::pins::{Driving, is_change, is_edge, on, pin_drive, pinb, pinc, pind, requests_int};
@@ -46,7 +46,7 @@ pub struct Ports {
 
 impl Model for Ports {
     ghost use Rattle.std.specs.Prelude.{◌≡◌, ◌≤◌, length, if◌then◌else◌};
-    ghost use Rattle.unit_law.specs.UnitMachine.{Seeing};
+    ghost use Rattle.unit_law.specs.SeenUnit.{Seeing};
     ghost use Rattle.avr_ports.specs.Ports.{Ports as State};
 
     ghost Value = { Seeing State };

@@ -1,2 +1,8 @@
 pub mod Bits
+pub mod Pad
 pub mod UnitMachine
+pub mod Lagging
+pub mod Both
+pub mod BothLaws
+pub mod Late
+pub mod SeenUnit

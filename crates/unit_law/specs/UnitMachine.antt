@@ -1,66 +1,94 @@
 -- A hardware unit of the microcontroller, moved by one cycle at a time (ATmega328P data sheet: each unit is
 -- clocked by clkIO).
-use Rattle.std.specs.Prelude.{◌≡◌, ℕ, zero, suc, ◌+◌, ◌-◌, ◌<◌, ◌≤◌, List, Bool, true, false, Option, None, Some}
-use Rattle.sim_base.specs.declared.signal.Drive.{Drive}
+use Rattle.std.specs.Prelude.{◌≡◌, ℕ, zero, suc, ◌+◌, ◌-◌, ◌<◌, ◌≤◌, ◌&&◌, min, List, [], ◌∷◌, Bool, true, false, if◌then◌else◌, Option, None, Some}
 use Rattle.sim_base.specs.declared.signal.Level.{Level}
+use Rattle.unit_law.specs.declared.request.Request.{Request}
+use Rattle.unit_law.specs.declared.pad.Pad.{Pad}
 
--- A kind of unit: its states of type U, and what they do.
+-- The least vector that is enabled and flagged; 26, the number of vectors, where none is (data sheet, "Reset and
+-- Interrupt Vectors": the lower the address the higher the priority).
+abbrev pub asked : Request → ℕ
+asked r = if r.enabled && r.flag then r.vector else 26
+
+abbrev pub least : List Request → ℕ
+least [] = 26
+least (r ∷ rs) = min (asked r) (least rs)
+
+-- A kind of unit: its states of type U, and what they do. Levels are those of the Uno's pins 0 to 13 and A0 to A5.
 pub record UnitMachine (U : Type 0) : Type 0 where
-  -- the state after a cycle, from the levels of the Uno's pins in the cycle before and in this one
+  -- the state after a cycle, from the levels in the cycle before and in this one
   pub step : U → ℕ → List Level → List Level → U
   -- whether the cycle has an event of its own, one that comes though no level changes
   pub due : U → ℕ → Bool
-  -- the vectors that it requests while the pins have these levels: bit v for vector v
-  pub flags : U → List Level → ℕ
-  -- what it puts on a pin of the Uno, None where it leaves the pin alone
-  pub output : U → ℕ → Option Drive
+  -- whether it takes notice of a change from these levels to those
+  pub hears : U → List Level → List Level → Bool
+  -- its vectors, each with what enables it and its flag, while the pins have these levels
+  pub requests : U → List Level → List Request
+  -- what it asks of an Uno pin
+  pub pad : U → ℕ → Pad
   -- the byte that leaves in the cycle
   pub sends : U → ℕ → Option ℕ
+  -- whether a data address is one of its registers
+  pub has : ℕ → Bool
+  -- whether a write of the register may change what it asks of a pin
+  pub moves : ℕ → Bool
+  -- what reading the register in a cycle answers, on the levels of the cycle before
+  pub answers : U → ℕ → List Level → ℕ → ℕ
+  -- what reading the register leaves
+  pub read : U → ℕ → ℕ → U
+  -- what a write of the register in a cycle leaves
+  pub write : U → ℕ → ℕ → ℕ → U
+  -- what a write of one bit alone leaves, as SBI and CBI do it
+  pub write_bit : U → ℕ → ℕ → ℕ → Bool → U
+  -- what entering a vector leaves
+  pub taken : U → ℕ → U
+  -- the state after reset
+  pub reset : U
 
--- A unit before the step of `cycle`: the levels of the cycle before, and those that it sees from now on.
-pub record Seeing (U : Type 0) : Type 0 where
+-- what a register gives, and what else where there is none
+abbrev pub at_register : {R A : Type 0} → Option R → A → (R → A) → A
+at_register None other f = other
+at_register (Some r) other f = f r
+
+-- A unit before the step of `cycle`.
+pub record At (U : Type 0) : Type 0 where
   pub unit : U
-  pub before : List Level
-  pub seen : List Level
   pub cycle : ℕ
 
 module _ {U : Type 0} (m : UnitMachine U) where
-  -- the n cycles from t on, on levels that stay
-  unfoldable pub steps : List Level → U → ℕ → ℕ → U
-  steps l s t zero = s
-  steps l s t (suc n) = m.step (steps l s t n) (t + n) l l
+  -- The n cycles from t on, as far as none has an event: such a cycle does the same on all levels that stay, so
+  -- that none are named.
+  unfoldable pub steps : U → ℕ → ℕ → U
+  steps s t zero = s
+  steps s t (suc n) = m.step (steps s t n) (t + n) [] []
 
   -- none of these cycles has an event
-  abbrev pub IsQuiet : List Level → U → ℕ → ℕ → Type 0
-  IsQuiet l s t n = (k : ℕ) → k < n → m.due (steps l s t k) (t + k) ≡ false
+  abbrev pub IsQuiet : U → ℕ → ℕ → Type 0
+  IsQuiet s t n = (k : ℕ) → k < n → m.due (steps s t k) (t + k) ≡ false
 
   -- the first cycle from t on with an event, none where it lies behind the longest run
-  abbrev pub IsFirstDue : List Level → U → ℕ → Option ℕ → Type 0
-  IsFirstDue l s t None = IsQuiet l s t (160000000 - t)
-  IsFirstDue l s t (Some u) = (t ≤ u) × (u < 160000000) × IsQuiet l s t (u - t) × (m.due (steps l s t (u - t)) u ≡ true)
+  abbrev pub IsFirstDue : U → ℕ → Option ℕ → Type 0
+  IsFirstDue s t None = IsQuiet s t (160000000 - t)
+  IsFirstDue s t (Some u) = (t ≤ u) × (u < 160000000) × IsQuiet s t (u - t) × (m.due (steps s t (u - t)) u ≡ true)
 
-  -- one cycle on the seen levels
-  abbrev pub moved : Seeing U → Seeing U
-  moved s = record { unit = m.step s.unit s.cycle s.before s.seen; before = s.seen; seen = s.seen; cycle = s.cycle + 1 }
+  -- d is the first cycle from t on with an event, or the end of the longest run, 160,000,000, where none has one
+  pub record FirstDue (s : U) (t d : ℕ) : Type 0 where
+    pub later : t ≤ d
+    pub end : d ≤ 160000000
+    pub quiet : IsQuiet s t (d - t)
+    pub event : d < 160000000 → m.due (steps s t (d - t)) d ≡ true
 
-  -- n cycles on the seen levels
-  unfoldable pub moves : Seeing U → ℕ → Seeing U
-  moves s zero = s
-  moves s (suc n) = moved (moves s n)
-
-  -- none of the next n cycles has an event
-  abbrev pub IsStill : Seeing U → ℕ → Type 0
-  IsStill s n = (k : ℕ) → k < n → m.due (moves s k).unit (s.cycle + k) ≡ false
-
-  -- the next cycle with an event on the seen levels
-  abbrev pub IsNextDue : Seeing U → Option ℕ → Type 0
-  IsNextDue s None = IsStill s (160000000 - s.cycle)
-  IsNextDue s (Some u) = (s.cycle ≤ u) × (u < 160000000) × IsStill s (u - s.cycle) × (m.due (moves s (u - s.cycle)).unit u ≡ true)
-
-  -- What a cycle without an event owes: it changes no output and no request and sends nothing, and what it
-  -- leaves does not depend on the levels, as long as they stay.
+  -- What every unit owes. A cycle without an event asks nothing else of a pin, requests nothing else, sends nothing,
+  -- and does the same on all levels that stay; a change of which it takes no notice is none to it.
   pub record Laws : Type 0 where
-    pub keeps_output : (s : U) (t : ℕ) (l : List Level) (p : ℕ) → m.due s t ≡ false → m.output (m.step s t l l) p ≡ m.output s p
-    pub keeps_flags : (s : U) (t : ℕ) (l : List Level) → m.due s t ≡ false → m.flags (m.step s t l l) l ≡ m.flags s l
+    pub keeps_pad : (s : U) (t : ℕ) (l : List Level) (p : ℕ) → m.due s t ≡ false → m.pad (m.step s t l l) p ≡ m.pad s p
+    pub keeps_requests : (s : U) (t : ℕ) (l : List Level) → m.due s t ≡ false → m.requests (m.step s t l l) l ≡ m.requests s l
+    pub keeps_hears : (s : U) (t : ℕ) (l before now : List Level) → m.due s t ≡ false → m.hears (m.step s t l l) before now ≡ m.hears s before now
     pub keeps_silent : (s : U) (t : ℕ) → m.due s t ≡ false → m.sends s t ≡ None
-    pub keeps_deaf : (s : U) (t : ℕ) (l k : List Level) → m.due s t ≡ false → m.step s t l l ≡ m.step s t k k
+    pub deaf : (s : U) (t : ℕ) (l k : List Level) → m.due s t ≡ false → m.step s t l l ≡ m.step s t k k
+    pub unheard : (s : U) (t : ℕ) (before now : List Level) → m.due s t ≡ false → m.hears s before now ≡ false → m.step s t before now ≡ m.step s t now now
+    pub unheard_requests : (s : U) (before now : List Level) → m.hears s before now ≡ false → least (m.requests s before) ≡ least (m.requests s now)
+    pub reads_pad : (s : U) (t a p : ℕ) → m.pad (m.read s t a) p ≡ m.pad s p
+    pub writes_pad : (s : U) (t a x p : ℕ) → m.moves a ≡ false → m.pad (m.write s t a x) p ≡ m.pad s p
+    pub bits_pad : (s : U) (t a k : ℕ) (x : Bool) (p : ℕ) → m.moves a ≡ false → m.pad (m.write_bit s t a k x) p ≡ m.pad s p
+    pub taken_pad : (s : U) (v p : ℕ) → m.pad (m.taken s v) p ≡ m.pad s p

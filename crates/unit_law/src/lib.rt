@@ -1,10 +1,23 @@
-//! The law of a hardware unit: states that are moved by one cycle at a time, and what cycles
-//! without an event leave. Beside it the words for single bits of a register.
+//! The law of a hardware unit of the microcontroller, and how units become one (data sheet, "Register Summary",
+//! "Reset and Interrupt Vectors", "Alternate Port Functions").
+//! A unit is moved by one cycle at a time; one without an event may lag behind; several side by side are one.
 //! No call takes memory, and none fails.
 #![tactic(auto)]
 
 mod bits;
+mod both;
+mod group;
+mod late;
+mod pad;
+mod request;
 #[cfg(test)]
 mod tests;
+mod unit;
 
 pub use bits::{has_bit, mask, one, with_bit};
+pub use both::Both;
+pub use group::{Group, may_move, wait};
+pub use late::Late;
+pub use pad::Pad;
+pub use request::{Request, VECTORS, least};
+pub use unit::Unit;

@@ -1,5 +1,5 @@
 use Rattle.std.proofs.Common.{◌≡◌, ◌∙◌, ap, sym, ◌+◌, length, take, arith}
-use Rattle.unit_law.specs.UnitMachine.{Seeing}
+use Rattle.unit_law.specs.SeenUnit.{Seeing}
 use Rattle.avr_ports.specs.Ports.{Ports}
 use Rattle.avr_mcu.specs.Units.{UnitsAt, units_step}
 use Rattle.avr_mcu.specs.contracts.units.Units.{the_view}

@@ -1,6 +1,6 @@
 use Rattle.std.proofs.Common.{◌≡◌, ◌-◌, ◌∙◌, ap, sym, arith, refl}
-use Rattle.unit_law.specs.UnitMachine.{Seeing}
-use Rattle.unit_law.proofs.UnitLemmas.{move_none}
+use Rattle.unit_law.specs.SeenUnit.{Seeing}
+use Rattle.unit_law.proofs.SeenLemmas.{move_none}
 use Rattle.avr_ports.specs.Ports.{Ports, ports}
 use Rattle.avr_ports.proofs.PortLemmas.{ports_moved_to}
 use Rattle.avr_ports.proofs.ports.Ports.step_to.Goals as goal

@@ -1,0 +1,148 @@
+//! Two groups of units as one.
+ghost use Rattle.std.specs.Prelude.{◌≡◌, ℕ, ◌+◌, ◌-◌, ◌<◌, ◌≤◌, List, true, length, if◌then◌else◌};
+ghost use Rattle.sim_base.specs.declared.signal.Level.{Level};
+ghost use Rattle.unit_law.specs.Both.{first_of_two};
+
+use crate::group::Group;
+use crate::pad::Pad;
+use sim_base::Level;
+
+/// Two groups side by side: a register is read from the first that has it, and a write goes to each.
+#[derive(Drop)]
+pub struct Both<A, B> {
+    first: A,
+    second: B,
+}
+
+impl<A: Group, B: Group> Group for Both<A, B> {
+    ghost use Rattle.std.specs.Prelude.{◌≡◌, min};
+    ghost use Rattle.unit_law.specs.Both.{both, both_laws};
+    ghost use Rattle.unit_law.specs.BothLaws.{both_wait, first_both};
+
+    ghost State = { A.State × B.State };
+
+    ghost machine = { both A.machine B.machine };
+
+    ghost state = { λ s t. (A.state s.first t, B.state s.second t) };
+
+    ghost until = { λ s. min (A.until s.first) (B.until s.second) };
+
+    ghost stands = { λ s l t. A.stands s.first l t × B.stands s.second l t };
+
+    fn new() -> Both<A, B> {
+        Both {
+            first: A::new(),
+            second: B::new(),
+        }
+    }
+
+    #[inline]
+    fn has(reg: u8) -> bool {
+        A::has(reg) | B::has(reg)
+    }
+
+    #[inline]
+    fn moves(reg: u8) -> bool {
+        A::moves(reg) | B::moves(reg)
+    }
+
+    #[inline]
+    fn hears(&self, before: &[Level], now: &[Level]) -> bool {
+        self.first.hears(before, now) | self.second.hears(before, now)
+    }
+
+    #[inline]
+    fn read(&mut self, cycle: u32, levels: &[Level], reg: u8) -> u8 {
+        if A::has(reg) {
+            self.first.read(cycle, levels, reg)
+        } else {
+            self.second.read(cycle, levels, reg)
+        }
+    }
+
+    #[inline]
+    fn write(&mut self, cycle: u32, levels: &[Level], reg: u8, value: u8) {
+        write_where(&mut self.first, cycle, levels, reg, value);
+        write_where(&mut self.second, cycle, levels, reg, value);
+    }
+
+    #[inline]
+    fn write_bit(&mut self, cycle: u32, levels: &[Level], reg: u8, bit: u8, value: bool) {
+        write_bit_where(&mut self.first, cycle, levels, reg, bit, value);
+        write_bit_where(&mut self.second, cycle, levels, reg, bit, value);
+    }
+
+    fn step(&mut self, cycle: u32, before: &[Level], now: &[Level]) -> Option<u8> {
+        let byte = self.first.step(cycle, before, now);
+        let other = self.second.step(cycle, before, now);
+        first_of_two(byte, other)
+    }
+
+    #[inline]
+    fn due(&self) -> u32 {
+        self.first.due().min(self.second.due())
+    }
+
+    #[inline]
+    fn request(&self) -> u8 {
+        self.first.request().min(self.second.request())
+    }
+
+    fn taken(&mut self, cycle: u32, levels: &[Level], vector: u8) {
+        self.first.taken(cycle, levels, vector);
+        self.second.taken(cycle, levels, vector);
+    }
+
+    fn pad(&self, pin: u8) -> Pad {
+        self.first.pad(pin).joined(self.second.pad(pin))
+    }
+
+    ghost laws = { both_laws A.machine B.machine A.laws B.laws };
+
+    ghost waits = { λ s l t u h le soon. both_wait A.machine B.machine (A.until s.first) (B.until s.second) (A.state s.first) (B.state s.second) (A.stands s.first) (B.stands s.second) l t u (A.waits s.first) (B.waits s.second) h le soon };
+
+    ghost first = { λ s l t h. first_both A.machine B.machine (A.state s.first t, B.state s.second t) t (A.until s.first) (B.until s.second) (A.first s.first l t h.0) (B.first s.second l t h.1) };
+}
+
+fn first_of_two(first: Option<u8>, second: Option<u8>) -> Option<u8>
+    ensures { result ≡ first_of_two first second }
+{
+    match first {
+        Some(x) => Some(x),
+        None => second,
+    }
+}
+
+// Writes a register where the group has it.
+#[inline]
+fn write_where<G: Group>(group: &mut G, cycle: u32, levels: &[Level], reg: u8, value: u8)
+    requires levels { length levels.now ≡ 20 }
+    requires here { G.stands group.old levels.now cycle }
+    ensures state { G.state group.new cycle ≡ (if G.machine.has reg then G.machine.write (G.state group.old cycle) cycle reg value else G.state group.old cycle) }
+    ensures stands { G.stands group.new levels.now cycle }
+{
+    if G::has(reg) {
+        group.write(cycle, levels, reg, value);
+    }
+}
+
+// Writes one bit of a register where the group has it.
+#[inline]
+fn write_bit_where<G: Group>(
+    group: &mut G,
+    cycle: u32,
+    levels: &[Level],
+    reg: u8,
+    bit: u8,
+    value: bool,
+)
+    requires bit { bit < 8 }
+    requires levels { length levels.now ≡ 20 }
+    requires here { G.stands group.old levels.now cycle }
+    ensures state { G.state group.new cycle ≡ (if G.machine.has reg then G.machine.write_bit (G.state group.old cycle) cycle reg bit value else G.state group.old cycle) }
+    ensures stands { G.stands group.new levels.now cycle }
+{
+    if G::has(reg) {
+        group.write_bit(cycle, levels, reg, bit, value);
+    }
+}

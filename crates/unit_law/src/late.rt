@@ -1,0 +1,137 @@
+//! A unit that lags behind.
+ghost use Rattle.std.specs.Prelude.{◌≡◌, ℕ, ◌+◌, ◌-◌, ◌<◌, ◌≤◌, List, true, length};
+ghost use Rattle.sim_base.specs.declared.signal.Level.{Level};
+ghost use Rattle.unit_law.specs.UnitMachine.{At, FirstDue};
+ghost use Rattle.unit_law.specs.Late.{LateStands, late_state, Lags};
+
+use crate::group::Group;
+use crate::pad::Pad;
+use crate::unit::Unit;
+use sim_base::Level;
+
+/// A unit that stands at its own cycle, until it is asked or has an event. Its first cycle with an event and
+/// what it requests are kept, and found anew only where the unit was touched.
+#[derive(Drop)]
+pub struct Late<U> {
+    unit: U,
+    due: u32,
+    request: u8,
+}
+
+impl<U: Unit> Group for Late<U> {
+    ghost use Rattle.unit_law.specs.Late.{LateStands, late_state, late_waits, late_first};
+
+    ghost State = { U.State };
+
+    ghost machine = { U.machine };
+
+    ghost state = { λ s t. late_state U.machine (U.shows s.unit) t };
+
+    ghost until = { λ s. s.due };
+
+    ghost stands = { λ s l t. LateStands U.machine (U.shows s.unit) s.due s.request l t };
+
+    fn new() -> Late<U> {
+        let unit = U::new();
+        let due = first_due(&unit);
+        let request = unit.request(&[Level::Z; 20]);
+        Late { unit, due, request }
+    }
+
+    #[inline]
+    fn has(reg: u8) -> bool {
+        U::has(reg)
+    }
+
+    #[inline]
+    fn moves(reg: u8) -> bool {
+        U::moves(reg)
+    }
+
+    #[inline]
+    fn hears(&self, before: &[Level], now: &[Level]) -> bool {
+        self.unit.hears(before, now)
+    }
+
+    fn read(&mut self, cycle: u32, levels: &[Level], reg: u8) -> u8 {
+        catch_up(&mut self.unit, self.due, cycle);
+        let value = self.unit.read(levels, reg);
+        self.due = first_due(&self.unit);
+        self.request = self.unit.request(levels);
+        value
+    }
+
+    fn write(&mut self, cycle: u32, levels: &[Level], reg: u8, value: u8) {
+        catch_up(&mut self.unit, self.due, cycle);
+        self.unit.write(reg, value);
+        self.due = first_due(&self.unit);
+        self.request = self.unit.request(levels);
+    }
+
+    fn write_bit(&mut self, cycle: u32, levels: &[Level], reg: u8, bit: u8, value: bool) {
+        catch_up(&mut self.unit, self.due, cycle);
+        self.unit.write_bit(reg, bit, value);
+        self.due = first_due(&self.unit);
+        self.request = self.unit.request(levels);
+    }
+
+    fn step(&mut self, cycle: u32, before: &[Level], now: &[Level]) -> Option<u8> {
+        if (cycle < self.due) & !self.unit.hears(before, now) {
+            return None;
+        }
+        catch_up(&mut self.unit, self.due, cycle);
+        let byte = self.unit.step(before, now);
+        self.due = first_due(&self.unit);
+        self.request = self.unit.request(now);
+        byte
+    }
+
+    #[inline]
+    fn due(&self) -> u32 {
+        self.due
+    }
+
+    #[inline]
+    fn request(&self) -> u8 {
+        self.request
+    }
+
+    fn taken(&mut self, cycle: u32, levels: &[Level], vector: u8) {
+        catch_up(&mut self.unit, self.due, cycle);
+        self.unit.taken(vector);
+        self.due = first_due(&self.unit);
+        self.request = self.unit.request(levels);
+    }
+
+    fn pad(&self, pin: u8) -> Pad {
+        self.unit.pad(pin)
+    }
+
+    ghost laws = { U.laws };
+
+    ghost waits = { λ s l t u h le soon. late_waits U.machine (U.shows s.unit) s.due s.request l t u h le soon };
+
+    ghost first = { λ s l t h. late_first U.machine (U.shows s.unit) s.due s.request l t h };
+}
+
+// Goes on to a cycle, over cycles without an event.
+#[inline]
+fn catch_up<U: Unit>(unit: &mut U, due: u32, cycle: u32)
+    requires here { Lags U.machine (U.shows unit.old) due cycle }
+    ensures { U.shows unit.new ≡ record { unit = late_state U.machine (U.shows unit.old) cycle; cycle = cycle } }
+{
+    let _ = due;
+    unit.skip(cycle);
+}
+
+// The first cycle with an event, or 160,000,000.
+#[inline]
+fn first_due<U: Unit>(unit: &U) -> u32
+    requires end { (U.shows unit.now).cycle ≤ 160000000 }
+    ensures { FirstDue U.machine (U.shows unit.now).unit (U.shows unit.now).cycle result }
+{
+    match unit.due() {
+        Some(cycle) => cycle,
+        None => 160_000_000,
+    }
+}
