@@ -108,6 +108,7 @@ impl<R: Runtime> Bench for RealBench<R> {
     ghost outside = { λ b. record {
       files = None;
       written = λ p. None;
+      name = λ p. None;
       opened = elim [ ports.Serial ↦ true | ports.Wave ↦ is_open b.wave | ports.Report ↦ is_open b.report | ports.Complaint ↦ true ];
       read_faults = b.read_faults;
       faults = elim [ ports.Serial ↦ b.serial_faults | ports.Wave ↦ b.wave_faults | ports.Report ↦ b.report_faults | ports.Complaint ↦ b.complaint_faults ];

@@ -9,7 +9,7 @@ use Rattle.board_model.specs.Fits.{IsWiring, Fits, AreInputs}
 use Rattle.board_run.specs.BoardView.{AreFresh}
 use Rattle.avr_mcu.specs.Mcu.{Mcu, McuAt, mcu, uno_drives}
 use Rattle.avr_mcu.specs.McuLaws.{length-uno_drives}
-use Rattle.run_model.specs.Bare.{uno_wiring}
+use Rattle.cli_bare.specs.Bare.{uno_wiring}
 
 and_left : (a b : Bool) → a && b ≡ true → a ≡ true
 and_left true b h = refl

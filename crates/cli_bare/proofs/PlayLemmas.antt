@@ -14,21 +14,22 @@ use Rattle.board_model.specs.Rows.{rows}
 use Rattle.board_run.specs.BoardView.{BoardView}
 use Rattle.avr_mcu.specs.Mcu.{McuAt, mcu, start}
 use Rattle.vcd_text.specs.Ports.{texts, Writes}
-use Rattle.run_model.specs.Bare.{uno_wiring, uno_variables, bare_wave}
+use Rattle.cli_bare.specs.Bare.{uno_wiring, uno_variables, bare_wave}
 use Rattle.cli_bare.specs.Boards.{bare_board, flash_of}
 use Rattle.outcome_model.specs.Work.{RanOn}
-use Rattle.outcome_model.proofs.WriteLemmas.{becomes, end_of}
+use Rattle.outcome_model.specs.Stop.{printed}
+use Rattle.outcome_model.proofs.WriteLemmas.{becomes, end_of, still_named}
 
 -- nothing but Wave has changed
 pub others_of : (end : WriteEnd) (text : List ℕ) (a b : Outside) → Writes end (texts true false text []) a b → SameOthers ports.Wave a b
-others_of writes.Ok text a b w = record { files = w.files; written = written; opened = λ p ne. w.opened p; faults = λ p ne. w.faults p; reads = w.reads }
+others_of writes.Ok text a b w = record { files = w.files; written = written; name = λ p ne. w.name p; opened = λ p ne. w.opened p; faults = λ p ne. w.faults p; reads = w.reads }
   where
     written : (p : Port) → p ≢ ports.Wave → b.written p ≡ a.written p
     written ports.Wave ne = absurd (ne refl)
     written ports.Serial ne = w.written ports.Serial
     written ports.Report ne = w.written ports.Report
     written ports.Complaint ne = w.written ports.Complaint
-others_of writes.Failed text a b w = record { files = w.files; written = written; opened = λ p ne. w.opened p; faults = faults; reads = w.reads }
+others_of writes.Failed text a b w = record { files = w.files; written = written; name = λ p ne. w.name p; opened = λ p ne. w.opened p; faults = faults; reads = w.reads }
   where
     written : (p : Port) → p ≢ ports.Wave → b.written p ≡ a.written p
     written ports.Wave ne = absurd (ne refl)
@@ -42,14 +43,28 @@ others_of writes.Failed text a b w = record { files = w.files; written = written
     faults ports.Report ne = w.alone ports.Report refl
     faults ports.Complaint ne = w.alone ports.Complaint refl
 
-pub ran_of : (end : WriteEnd) (text : List ℕ) (a m b : Outside) → Opens writes.Ok ports.Wave a m → Writes end (texts true false text []) m b → RanOn ports.Wave (end_of end) text a b
-ran_of writes.Ok text a m b opens w = (becomes (a.written ports.Wave) (m.written ports.Wave) (b.written ports.Wave) text opens.1 (w.written ports.Wave), w.faults ports.Wave ∙ opens.2)
+pub ran_of : (end : WriteEnd) (text : List ℕ) (a m b : Outside) → Opens writes.Ok ports.Wave (printed text).name a m → Writes end (texts true false text []) m b → RanOn ports.Wave (end_of end) (printed text) a b
+ran_of writes.Ok text a m b opens w = (
+  (
+    becomes (a.written ports.Wave) (m.written ports.Wave) (b.written ports.Wave) text opens.1 (w.written ports.Wave),
+    still_named ports.Wave (printed text).name a m b opens.2 (w.name ports.Wave),
+  ),
+  w.faults ports.Wave ∙ opens.3,
+)
 ran_of writes.Failed text a m b opens w =
     let begun = w.written ports.Wave in
-    (rose w.rose, inr (begun.0, begun.1, becomes (a.written ports.Wave) (m.written ports.Wave) (b.written ports.Wave) begun.0 opens.1 begun.2))
+    (
+      rose w.rose,
+      inr (
+        begun.0,
+        begun.1,
+        becomes (a.written ports.Wave) (m.written ports.Wave) (b.written ports.Wave) begun.0 opens.1 begun.2,
+        still_named ports.Wave (printed text).name a m b opens.2 (w.name ports.Wave),
+      ),
+    )
   where
     rose : (x : (p : Port) × IsSome (texts true false text [] p) × Rose (m.faults p) (b.faults p)) → Rose (a.faults ports.Wave) (b.faults ports.Wave)
-    rose (ports.Wave, some, up) = rw (← opens.2) up
+    rose (ports.Wave, some, up) = rw (← opens.3) up
     rose (ports.Serial, some, up) = absurd (cc)
     rose (ports.Report, some, up) = absurd (cc)
     rose (ports.Complaint, some, up) = absurd (cc)

@@ -2,7 +2,7 @@
 use Rattle.std.specs.Prelude.{ℕ, List, [], ◌∷◌, false, true, None}
 use Rattle.board_run.specs.BoardView.{BoardView}
 use Rattle.avr_mcu.specs.Mcu.{McuAt, start}
-use Rattle.run_model.specs.Bare.{uno_wiring}
+use Rattle.cli_bare.specs.Bare.{uno_wiring}
 
 -- a microcontroller after reset, with this flash
 abbrev pub fresh : List ℕ → McuAt

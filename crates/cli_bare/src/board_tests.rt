@@ -1,6 +1,6 @@
 //! A board of an Uno and a resistor, whose wiring is made here.
 ghost use Rattle.std.specs.Prelude.{◌≡◌, ◌<◌, [], ◌∷◌, true, false, None, IfOk};
-ghost use Rattle.run_model.specs.Bare.{uno_wiring};
+ghost use Rattle.cli_bare.specs.Bare.{uno_wiring};
 ghost use Rattle.cli_bare.specs.Boards.{fresh};
 ghost use Rattle.sim_base.specs.Mem.{outside_of};
 

@@ -1,5 +1,6 @@
 //! The command `bare`: the wave of one Uno without wires, cycle by cycle.
-//! `bare` ends as `run_model` says of its request; want of memory comes before a port is opened.
+//! `bare` ends as its answer says (`specs/Answer.antt`); memory runs out, if it does, before a port is
+//! opened.
 #![tactic(auto)]
 
 #[cfg(test)]

@@ -2,10 +2,11 @@
 ghost use Rattle.std.specs.Prelude.{◌≡◌, ◌≤◌, ◌<◌, ◌*◌, [], ◌∷◌, Some, true, false, IfOk};
 ghost use Rattle.sim_base.specs.Outside.{SameOthers};
 ghost use Rattle.vcd_text.specs.Ports.{texts, Writes};
-ghost use Rattle.run_model.specs.Bare.{bare_wave, uno_variables};
-ghost use Rattle.words_model.specs.Request.{Bare};
-ghost use Rattle.run_model.specs.Happens.{Happens};
+ghost use Rattle.cli_bare.specs.Bare.{bare_wave, uno_variables};
+ghost use Rattle.outcome_model.specs.Happens.{Ends};
+ghost use Rattle.outcome_model.specs.Stop.{printed};
 ghost use Rattle.outcome_model.specs.Work.{SaidNothing, RanOn};
+ghost use Rattle.cli_bare.specs.Answer.{BareAnswer};
 ghost use Rattle.cli_work.specs.Outcomes.{outcome_of};
 ghost use Rattle.cli_bare.specs.Boards.{fresh, bare_board, flash_of};
 
@@ -80,7 +81,7 @@ fn write_wave<B: Bench, L: Ledger>(
     requires head { head.old.variables ≡ uno_variables }
     requires some { 0 < n }
     requires end { n ≤ 160000000 }
-    ensures ran { RanOn Port.Wave (outcome_of result) (bare_wave (flash_of board.old) n) (B.outside bench.old) (B.outside bench.new) }
+    ensures ran { RanOn Port.Wave (outcome_of result) (printed (bare_wave (flash_of board.old) n)) (B.outside bench.old) (B.outside bench.new) }
     ensures others { SameOthers Port.Wave (B.outside bench.old) (B.outside bench.new) }
 {
     match bench.open_port(Port::Wave, "-") {
@@ -102,7 +103,7 @@ fn run_bare<B: Bench, L: Ledger>(
 ) -> Outcome
     requires some { 0 < n }
     requires end { n ≤ 160000000 }
-    ensures ran { RanOn Port.Wave (outcome_of result) (bare_wave flash n) (B.outside bench.old) (B.outside bench.new) }
+    ensures ran { RanOn Port.Wave (outcome_of result) (printed (bare_wave flash n)) (B.outside bench.old) (B.outside bench.new) }
     ensures others { SameOthers Port.Wave (B.outside bench.old) (B.outside bench.new) }
 {
     let Ok(mut board) = make_board(alloc, flash) else {
@@ -124,7 +125,7 @@ pub fn bare<B: Bench, L: Ledger>(
 ) -> Outcome
     requires some { 0 < micros }
     requires end { micros ≤ 10000000 }
-    ensures happens { Happens (outcome_of result) (Some (Bare hex.now micros)) (B.outside bench.old) (B.outside bench.new) }
+    ensures ends { Ends (BareAnswer hex.now micros) (outcome_of result) (B.outside bench.old) (B.outside bench.new) }
     ensures silent { SaidNothing (B.outside bench.old) (B.outside bench.new) }
 {
     match read_flash(alloc, hex, bench) {

@@ -2,7 +2,7 @@
 ghost use Rattle.std.specs.Prelude.{◌≡◌, ◌+◌, ◌++◌, IfOk, map, decimal};
 ghost use Rattle.text_model.specs.Wave.{Net};
 ghost use Rattle.vcd_text.specs.Variables.{variable_of, variables_of};
-ghost use Rattle.run_model.specs.Bare.{uno_variables, uno_wiring};
+ghost use Rattle.cli_bare.specs.Bare.{uno_variables, uno_wiring};
 
 use sim_base::{List, OutOfMemory, Wiring};
 use std::alloc::{AllocError, Global};

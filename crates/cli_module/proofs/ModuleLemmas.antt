@@ -4,8 +4,7 @@ use Rattle.std.specs.FinMap.{get}
 use Rattle.sim_base.specs.declared.fault.Refusal.{Refusal}
 use Rattle.sim_base.specs.declared.fault.Place.TheVariants as places
 use Rattle.sim_base.specs.Outside.{Outside, SamePorts, Files}
-use Rattle.words_model.specs.Request.{Module}
-use Rattle.outcome_model.specs.Stop.{Stop, Missing, Refused, file, read_from, JudgedAs, JudgedWithin, JudgedFrom}
+use Rattle.outcome_model.specs.Stop.{Stop, Missing, Refused, accepted, file, read_from, JudgedAs, JudgedWithin, JudgedFrom}
 use Rattle.outcome_model.specs.Outcome.{Outcome, OutOfMemory}
 use Rattle.outcome_model.specs.Work.{ReadStops}
 use Rattle.outcome_model.proofs.ReadLemmas.{if_some}
@@ -14,9 +13,9 @@ use Rattle.sim_base.specs.declared.fault.Fault.TheVariants as faults
 use Rattle.wasm_decode.specs.declared.module.Module as wasm
 use Rattle.wasm_decode.specs.ModuleText.{ModuleText, IsBroken}
 use Rattle.module_model.specs.Accepts.{Judges}
-use Rattle.run_model.specs.Answer.{Answers, accepted}
-use Rattle.run_model.specs.Happens.{Happens}
-use Rattle.run_model.proofs.EndLemmas.{stopped_by}
+use Rattle.outcome_model.specs.Happens.{Ends}
+use Rattle.outcome_model.proofs.EndLemmas.{stopped_by}
+use Rattle.cli_module.specs.Answer.{ModuleAnswer}
 use Rattle.cli_work.specs.Outcomes.{stop_of}
 use Rattle.cli_work.specs.declared.outcome.Stop as files_end
 use Rattle.cli_work.specs.declared.outcome.Stop.TheVariants as stops
@@ -54,26 +53,26 @@ judged_from None name bytes x e j = absurd (cc)
 judged_from (Some at) name bytes x e j = judged_within (nat_lt 1048576 (length at)) name at bytes x e j
 
 -- where the file can't be read
-pub module_stops : (name : List ℕ) (o : Outcome) (a b : Outside) → ReadStops o (λ (files : Files). file files name whole) a b → SamePorts a b → Happens o (Some (Module name)) a b
-unfolding Answers
-module_stops name = stopped_by (Module name) (λ (files : Files). file files name whole) (λ files s e. stop_from (get files name) name s e)
+pub module_stops : (name : List ℕ) (o : Outcome) (a b : Outside) → ReadStops o (λ (files : Files). file files name whole) a b → SamePorts a b → Ends (ModuleAnswer name) o a b
+unfolding ModuleAnswer
+module_stops name = stopped_by (ModuleAnswer name) (λ (files : Files). file files name whole) (λ files s e. stop_from (get files name) name s e)
 
 -- where the bytes are judged
-pub module_accepted : (name bytes : List ℕ) (told : Option Files) → IfSome told (λ (files : Files). file files name whole ≡ Ok bytes) → Judges bytes (Ok tt) → IfSome told (λ (files : Files). Answers (Module name) files (Ok accepted))
-unfolding Answers
+pub module_accepted : (name bytes : List ℕ) (told : Option Files) → IfSome told (λ (files : Files). file files name whole ≡ Ok bytes) → Judges bytes (Ok tt) → IfSome told (λ (files : Files). ModuleAnswer name files (Ok accepted))
+unfolding ModuleAnswer
 module_accepted name bytes told read j = if_some told _ _ (λ (files : Files) (e : file files name whole ≡ Ok bytes). (refl, judged_from (get files name) name bytes (Ok tt) e j)) read
 
 pub module_ends : (name bytes : List ℕ) (stop : files_end.Stop) (said : Outcome) (a b : Outside) → IfSome a.files (λ (files : Files). file files name whole ≡ Ok bytes) → SamePorts a b →
-    IsJudged bytes (Err stop) → (said ≡ stop_of name stop) ⊎ (said ≡ OutOfMemory) → Happens said (Some (Module name)) a b
-unfolding Answers
+    IsJudged bytes (Err stop) → (said ≡ stop_of name stop) ⊎ (said ≡ OutOfMemory) → Ends (ModuleAnswer name) said a b
+unfolding ModuleAnswer
 module_ends name bytes stops.Missing said a b read same j is = absurd j
 module_ends name bytes stops.ReadFailed said a b read same j is = absurd j
-module_ends name bytes stops.OutOfMemory said a b read same j (inl is) = rw is (λ p ne. same.written p)
-module_ends name bytes stops.OutOfMemory said a b read same j (inr is) = rw is (λ p ne. same.written p)
-module_ends name bytes (stops.Refused r) said a b read same j (inr is) = rw is (λ p ne. same.written p)
+module_ends name bytes stops.OutOfMemory said a b read same j (inl is) = rw is (λ p ne. (same.written p, same.name p))
+module_ends name bytes stops.OutOfMemory said a b read same j (inr is) = rw is (λ p ne. (same.written p, same.name p))
+module_ends name bytes (stops.Refused r) said a b read same j (inr is) = rw is (λ p ne. (same.written p, same.name p))
 module_ends name bytes (stops.Refused r) said a b read same j (inl is) =
-    subst (λ (o : Outcome). Happens o (Some (Module name)) a b) (sym is)
-    (if_some a.files _ _ (λ (files : Files) (e : file files name whole ≡ Ok bytes). judged_from (get files name) name bytes (Err (Refused name r)) e (refl, j)) read, λ p ne. same.written p)
+    subst (λ (o : Outcome). Ends (ModuleAnswer name) o a b) (sym is)
+    (if_some a.files _ _ (λ (files : Files) (e : file files name whole ≡ Ok bytes). judged_from (get files name) name bytes (Err (Refused name r)) e (refl, j)) read, λ p ne. (same.written p, same.name p))
 
 -- what a decoded module is worth, its bytes are
 pub fit_judged : (bytes : List ℕ) (m : wasm.Module) → ModuleText bytes m → ((n : wasm.Module) → ModuleText bytes n → n ≡ m) → (r : Result (Unit {0}) files_end.Stop) → IsFit m r → IsJudged bytes r

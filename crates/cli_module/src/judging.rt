@@ -1,9 +1,9 @@
 //! `module FILE`: the bytes of a file decoded, and then validated.
-ghost use Rattle.std.specs.Prelude.{◌≡◌, ◌≤◌, length, Some};
+ghost use Rattle.std.specs.Prelude.{◌≡◌, ◌≤◌, length};
 ghost use Rattle.outcome_model.specs.Work.{SaidNothing};
-ghost use Rattle.words_model.specs.Request.{Module as AsksModule};
-ghost use Rattle.run_model.specs.Happens.{Happens};
+ghost use Rattle.outcome_model.specs.Happens.{Ends};
 ghost use Rattle.cli_work.specs.Outcomes.{outcome_of};
+ghost use Rattle.cli_module.specs.Answer.{ModuleAnswer};
 ghost use Rattle.cli_module.specs.Judged.{IsJudged, IsFit, EndsAs};
 
 use cli_work::{Outcome, Stop, read_bytes, stopped, write_text};
@@ -45,7 +45,7 @@ fn broken(fault: Fault) -> Stop
 
 /// Reads and judges the module of a file, and writes `accepted` on Report, which is standard output.
 pub fn check_module<B: Bench>(alloc: Global, name: &str, bench: &mut B) -> Outcome
-    ensures happens { Happens (outcome_of result) (Some (AsksModule name.now)) (B.outside bench.old) (B.outside bench.new) }
+    ensures ends { Ends (ModuleAnswer name.now) (outcome_of result) (B.outside bench.old) (B.outside bench.new) }
     ensures silent { SaidNothing (B.outside bench.old) (B.outside bench.new) }
 {
     match read_bytes(alloc, name, bench) {

@@ -1,5 +1,5 @@
 //! The command `module`: whether a chip's module is accepted.
-//! `check_module` ends as `run_model` says of its request.
+//! `check_module` ends as its answer says (`specs/Answer.antt`).
 #![tactic(auto)]
 
 mod judging;

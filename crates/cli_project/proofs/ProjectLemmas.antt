@@ -4,15 +4,16 @@ use Rattle.sim_base.specs.Outside.{Outside, SamePorts, Files}
 use Rattle.text_model.specs.Hex.{hex_image}
 use Rattle.document_model.specs.declared.project.Project.{Project}
 use Rattle.document_model.specs.Project.{project_text}
-use Rattle.words_model.specs.Request.{Check}
-use Rattle.outcome_model.specs.Stop.{Stop, Texts, ◌>>=◌}
+use Rattle.outcome_model.specs.Stop.{Stop, Texts, ◌>>=◌, accepted}
 use Rattle.outcome_model.specs.Outcome.{Outcome, OutOfMemory}
 use Rattle.outcome_model.specs.Work.{ReadStops, Got, IsSteady}
 use Rattle.outcome_model.proofs.ReadLemmas.{named_stop, second_stops, steady_file}
 use Rattle.project_model.specs.Work.{Work, project_in, firmware_in, work_in}
-use Rattle.run_model.specs.Answer.{Answers, accepted}
-use Rattle.run_model.specs.Happens.{Happens}
-use Rattle.run_model.proofs.EndLemmas.{stops}
+use Rattle.outcome_model.specs.Happens.{Ends}
+use Rattle.outcome_model.specs.Promises.{IsOne}
+use Rattle.outcome_model.proofs.EndLemmas.{stops}
+use Rattle.outcome_model.proofs.PromiseLemmas.{one_answer}
+use Rattle.cli_project.specs.Answer.{check_texts, CheckAnswer}
 use Rattle.cli_work.specs.Outcomes.{stop_of}
 use Rattle.cli_work.specs.declared.outcome.Stop as files_end
 
@@ -43,10 +44,14 @@ got_after view out first next steady x (Err e) a m b is reads same g = second_st
 abbrev answer_to : Work → Result Texts Stop
 answer_to work = Ok accepted
 
-pub check_answer : (folder : List ℕ) (files : Files) (work : Work) → work_in folder files ≡ Ok work → Answers (Check folder) files (Ok accepted)
-unfolding Answers
+pub one_check : (folder : List ℕ) → IsOne (CheckAnswer folder)
+unfolding CheckAnswer
+one_check folder = one_answer (check_texts folder)
+
+pub check_answer : (folder : List ℕ) (files : Files) (work : Work) → work_in folder files ≡ Ok work → CheckAnswer folder files (Ok accepted)
+unfolding CheckAnswer
 check_answer folder files work e = ap (λ (r : Result Work Stop). r >>= answer_to) e
 
-pub check_stops : (folder : List ℕ) (o : Outcome) (a b : Outside) → ReadStops o (work_in folder) a b → SamePorts a b → Happens o (Some (Check folder)) a b
-unfolding Answers
-check_stops folder = stops (Check folder) (work_in folder) answer_to (λ files result e. e)
+pub check_stops : (folder : List ℕ) (o : Outcome) (a b : Outside) → ReadStops o (work_in folder) a b → SamePorts a b → Ends (CheckAnswer folder) o a b
+unfolding CheckAnswer
+check_stops folder = stops (CheckAnswer folder) (work_in folder) answer_to (λ files result e. e)

@@ -1,8 +1,8 @@
 //! `check FOLDER`: whether a project is accepted.
-ghost use Rattle.std.specs.Prelude.{◌≡◌, Some};
+ghost use Rattle.std.specs.Prelude.{◌≡◌};
 ghost use Rattle.outcome_model.specs.Work.{SaidNothing};
-ghost use Rattle.words_model.specs.Request.{Check};
-ghost use Rattle.run_model.specs.Happens.{Happens};
+ghost use Rattle.outcome_model.specs.Happens.{Ends};
+ghost use Rattle.cli_project.specs.Answer.{CheckAnswer};
 ghost use Rattle.cli_work.specs.Outcomes.{outcome_of};
 
 use crate::project::read_work;
@@ -13,7 +13,7 @@ use std::alloc::Global;
 /// Reads and checks the project of a folder, and writes `accepted` on Report, which is standard
 /// output.
 pub fn check<B: Bench>(alloc: Global, folder: &str, bench: &mut B) -> Outcome
-    ensures happens { Happens (outcome_of result) (Some (Check folder.now)) (B.outside bench.old) (B.outside bench.new) }
+    ensures ends { Ends (CheckAnswer folder.now) (outcome_of result) (B.outside bench.old) (B.outside bench.new) }
     ensures silent { SaidNothing (B.outside bench.old) (B.outside bench.new) }
 {
     match read_work(alloc, folder, bench) {

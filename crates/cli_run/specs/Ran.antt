@@ -1,5 +1,5 @@
 -- What a run leaves on the ports.
-use Rattle.std.specs.Prelude.{◌≡◌, Option, None, Some}
+use Rattle.std.specs.Prelude.{◌≡◌, ℕ, List, Option, None, Some}
 use Rattle.sim_base.specs.declared.bench.Port.TheVariants as ports
 use Rattle.sim_base.specs.declared.bench.WriteEnd.{WriteEnd}
 use Rattle.sim_base.specs.declared.bench.WriteEnd.TheVariants as writes
@@ -7,11 +7,11 @@ use Rattle.sim_base.specs.Outside.{Outside, SameOthers, Opens}
 use Rattle.outcome_model.specs.Stop.{Texts}
 use Rattle.outcome_model.specs.Outcome.{Outcome, Accepted, NoRequest, Stopped, ReadFailed, WriteFailed, OutOfMemory, IsFaultless, Hold, Begin, OutputRose}
 
--- the wave is opened where a file is named for it
-abbrev pub OpensNamed : {X : Type 0} → Option X → WriteEnd → Outside → Outside → Type 0
+-- the wave is opened where a file is named for it, under that name
+abbrev pub OpensNamed : Option (List ℕ) → WriteEnd → Outside → Outside → Type 0
 OpensNamed None writes.Ok a b = b ≡ a
 OpensNamed None writes.Failed a b = ⊥
-OpensNamed (Some name) end a b = Opens end ports.Wave a b × SameOthers ports.Wave a b
+OpensNamed (Some name) end a b = Opens end ports.Wave name a b × SameOthers ports.Wave a b
 
 -- the writing of the texts of a run, each on its port
 abbrev pub Ran : Outcome → Texts → Outside → Outside → Type 0

@@ -1,5 +1,6 @@
 //! The command `run`: the wave of a project, and the bytes that its Uno sends.
-//! `run` ends as `run_model` says of its request; want of memory comes before a port is opened.
+//! `run` ends as its answer says (`specs/Answer.antt`); memory runs out, if it does, before a port is
+//! opened.
 #![tactic(auto)]
 
 mod running;

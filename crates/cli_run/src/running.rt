@@ -9,13 +9,13 @@ ghost use Rattle.any_part.specs.AnyPart.{any, state_of};
 ghost use Rattle.any_part.specs.Start.{starts};
 ghost use Rattle.board_build.specs.IsPlan.{IsPlan};
 ghost use Rattle.project_model.specs.Shown.{board_variables};
-ghost use Rattle.words_model.specs.Request.{Run};
+ghost use Rattle.outcome_model.specs.Happens.{Ends};
 ghost use Rattle.outcome_model.specs.Work.{SaidNothing};
-ghost use Rattle.run_model.specs.Run.{run_texts};
-ghost use Rattle.run_model.specs.Happens.{Happens};
 ghost use Rattle.cli_work.specs.Outcomes.{outcome_of};
 ghost use Rattle.cli_project.specs.Works.{work_of};
+ghost use Rattle.cli_run.specs.Answer.{RunAnswer};
 ghost use Rattle.cli_run.specs.Ran.{OpensNamed, Ran};
+ghost use Rattle.cli_run.specs.Run.{run_texts};
 
 use crate::variables::make_variables;
 use any_part::{AnyPart, load};
@@ -80,7 +80,7 @@ fn play<B: Bench, L: Ledger>(
 
 /// Opens the wave on a file, if one is named; `-` is standard output.
 fn open_wave<B: Bench>(wave: Option<&str>, bench: &mut B) -> WriteEnd
-    ensures { OpensNamed wave.entry result (B.outside bench.old) (B.outside bench.new) }
+    ensures { OpensNamed (option_map (λ f. f.now) wave.entry) result (B.outside bench.old) (B.outside bench.new) }
 {
     match wave {
         Some(name) => bench.open_port(Port::Wave, name),
@@ -104,7 +104,7 @@ fn write_run<B: Bench, L: Ledger>(
     requires end { n ≤ 160000000 }
     ensures ran { Ran (outcome_of result) (record {
       serial = bytes any board.old.wiring board.old.inputs (map state_of board.old.parts) 0 n;
-      wave = option_map (λ name. wave_text head.old.variables (rows any board.old.wiring board.old.inputs None (map state_of board.old.parts) 0 n) n) wave.entry;
+      wave = option_map (λ f. record { name = f.now; text = wave_text head.old.variables (rows any board.old.wiring board.old.inputs None (map state_of board.old.parts) 0 n) n }) wave.entry;
       report = None;
     }) (B.outside bench.old) (B.outside bench.new) }
     ensures silent { SaidNothing (B.outside bench.old) (B.outside bench.new) }
@@ -156,7 +156,7 @@ pub fn run<B: Bench, L: Ledger>(
 ) -> Outcome
     requires some { 0 < micros }
     requires end { micros ≤ 10000000 }
-    ensures happens { Happens (outcome_of result) (Some (Run folder.now micros (option_map (λ f. f.now) wave.entry))) (B.outside bench.old) (B.outside bench.new) }
+    ensures ends { Ends (RunAnswer folder.now micros (option_map (λ f. f.now) wave.entry)) (outcome_of result) (B.outside bench.old) (B.outside bench.new) }
     ensures silent { SaidNothing (B.outside bench.old) (B.outside bench.new) }
 {
     match read_work(alloc, folder, bench) {

@@ -4,7 +4,7 @@ ghost use Rattle.std.specs.Prelude.{◌≡◌, ◌<◌};
 
 use crate::run;
 use cli_work::{status, tell};
-use sim_base::{Bench, MemBench, OutOfMemory, Port, ReadEnd, Steps, WriteEnd};
+use sim_base::{MemBench, OutOfMemory, Port, Steps};
 use std::alloc::Global;
 use std::marker::Brand;
 use std::sync::ledger::{Blank, Ledger};
@@ -184,37 +184,6 @@ $upscope $end
 const LAST_RISE: &str =
     "#9375\n1.\n15\n17\n19\n1;\n1=\n1?\n1A\n1C\n1E\n1G\n1I\n1K\n1M\n1O\n1Q\n1S\n1U\n1W\n1Y\n1[\n1]\n1_\n1a\n1c\n1e\n1g\n1i\n1k\n1m\n1o\n1q\n1s\n1u\n1w\n1y\n1{\n1}\n1!!\n#10000\n";
 
-/// A bench in memory that notes whether a port was opened, and under another name than `w.vcd`.
-#[derive(Drop)]
-struct NoteBench {
-    inner: MemBench,
-    opened: bool,
-    misnamed: bool,
-}
-
-impl Bench for NoteBench {
-    ghost use Rattle.std.specs.Prelude.{refl};
-    ghost use Rattle.sim_base.specs.Mem.{outside_of};
-
-    ghost outside = { λ b. outside_of b.inner };
-
-    fn read_file(&mut self, name: &str, limit: u32, into: &mut Vec<u8>) -> ReadEnd {
-        self.inner.read_file(name, limit, into)
-    }
-
-    fn open_port(&mut self, port: Port, name: &str) -> WriteEnd {
-        self.opened = true;
-        self.misnamed = self.misnamed || name != "w.vcd";
-        self.inner.open_port(port, name)
-    }
-
-    fn write(&mut self, port: Port, bytes: &[u8]) -> WriteEnd {
-        self.inner.write(port, bytes)
-    }
-
-    ghost always_open = { λ _. (refl, refl) };
-}
-
 /// How a run ended, and what it left on the ports.
 #[derive(Drop)]
 struct Ended {
@@ -225,10 +194,10 @@ struct Ended {
     complaint: Vec<u8>,
 }
 
-fn status_of<B: Bench, L: Ledger>(
+fn status_of<L: Ledger>(
     alloc: Global,
     wave: Option<&str>,
-    bench: &mut B,
+    bench: &mut MemBench,
     blank: Blank,
 ) -> u8
     requires name { blank.name ≡ L.name }
@@ -264,7 +233,7 @@ fn run_of(
     bench.room(Port::Wave, 5000)?;
     bench.room(Port::Complaint, 100)?;
     bench.fail_call(failing)?;
-    let status = status_of::<MemBench, Brand>(alloc, wave, &mut bench, Blank::new(1));
+    let status = status_of::<Brand>(alloc, wave, &mut bench, Blank::new(1));
     Ok(Ended {
         status,
         serial: Vec::from_slice(alloc, bench.written(Port::Serial))?,
@@ -272,32 +241,6 @@ fn run_of(
         report: Vec::from_slice(alloc, bench.written(Port::Report))?,
         complaint: Vec::from_slice(alloc, bench.written(Port::Complaint))?,
     })
-}
-
-#[test]
-fn the_wave_has_the_name_that_was_given(rt: HostRuntime) -> Result<(), OutOfMemory> {
-    let alloc = rt.alloc();
-    for (wave, opened, misnamed) in [
-        (Some("w.vcd"), true, false),
-        (Some("-"), true, true),
-        (None, false, false),
-    ] {
-        let mut inner = MemBench::new(alloc);
-        inner.add_file("p/wokwi.toml", TOML.as_bytes())?;
-        inner.add_file("p/blink.hex", HEX.as_bytes())?;
-        inner.add_file("p/diagram.json", DIAGRAM.as_bytes())?;
-        inner.room(Port::Wave, 5000)?;
-        let mut bench = NoteBench {
-            inner,
-            opened: false,
-            misnamed: false,
-        };
-        let status = status_of::<NoteBench, Brand>(alloc, wave, &mut bench, Blank::new(1));
-        assert_eq!(rt; status, 0);
-        assert_eq!(rt; bench.opened, opened);
-        assert_eq!(rt; bench.misnamed, misnamed);
-    }
-    Ok(())
 }
 
 /// The wave up to its first changes, of an Uno that comes first, and of further pins with these

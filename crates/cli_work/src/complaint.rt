@@ -2,7 +2,6 @@
 ghost use Rattle.std.specs.Prelude.{◌≡◌, ℕ, List, [], ◌∷◌, ◌++◌, decimal};
 ghost use Rattle.std.specs.List.{concat};
 ghost use Rattle.sim_base.specs.Outside.{Outside, SameOthers};
-ghost use Rattle.sim_base.specs.Refusals.{name_of};
 ghost use Rattle.outcome_model.specs.Stop.{Refused};
 ghost use Rattle.outcome_model.specs.Work.{Wrote};
 ghost use Rattle.outcome_model.specs.Outcome.{Accepted, Stopped, line_of, place_parts};
@@ -11,18 +10,7 @@ ghost use Rattle.cli_work.specs.Outcomes.{outcome_of};
 use crate::outcome::Outcome;
 use crate::writing::{write_next, write_parts};
 use itoa::Buffer;
-use sim_base::{Bench, Place, Port, Refusal, WriteEnd, is_refusal, refusal_name};
-
-/// The name of a number, empty where no refusal has it.
-fn name_or_empty(number: u8) -> &'static str
-    ensures { result.now ≡ name_of number }
-{
-    if is_refusal(number) {
-        refusal_name(number)
-    } else {
-        ""
-    }
-}
+use sim_base::{Bench, Place, Port, Refusal, WriteEnd, refusal_name};
 
 fn tell_text<B: Bench>(end: WriteEnd, text: &str, bench: &mut B) -> WriteEnd
     ensures next { (a : Outside) (said : List ℕ) → Wrote end Port.Complaint said a (B.outside bench.old) → Wrote result Port.Complaint (said ++ text.now) a (B.outside bench.new) }
@@ -71,7 +59,7 @@ fn tell_refusal<B: Bench>(name: &str, refusal: Refusal, bench: &mut B) -> WriteE
     let end = tell_text(WriteEnd::Ok, name, bench);
     let end = tell_count(end, ": refused ", u32::from(refusal.number), bench);
     let end = tell_text(end, " ", bench);
-    let end = tell_text(end, name_or_empty(refusal.number), bench);
+    let end = tell_text(end, refusal_name(refusal.number), bench);
     let end = tell_place(end, refusal.place, bench);
     tell_text(end, "\n", bench)
 }

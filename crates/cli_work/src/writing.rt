@@ -2,6 +2,7 @@
 ghost use Rattle.std.specs.Prelude.{◌≡◌, ℕ, List, ◌++◌, true, map};
 ghost use Rattle.std.specs.List.{concat};
 ghost use Rattle.sim_base.specs.Outside.{Outside, SameOthers, is_openable};
+ghost use Rattle.outcome_model.specs.Stop.{printed};
 ghost use Rattle.outcome_model.specs.Work.{Wrote, RanOn};
 ghost use Rattle.cli_work.specs.Outcomes.{outcome_of};
 
@@ -12,6 +13,7 @@ use sim_base::{Bench, Port, WriteEnd};
 pub fn write_parts<B: Bench>(bench: &mut B, port: Port, parts: &[&[u8]]) -> WriteEnd
     requires { (B.outside bench.old).opened port ≡ true }
     ensures wrote { Wrote result port (concat (map (λ p. p.now) parts.now)) (B.outside bench.old) (B.outside bench.new) }
+    ensures named { (B.outside bench.new).name port ≡ (B.outside bench.old).name port }
     ensures opened { (B.outside bench.new).opened port ≡ (B.outside bench.old).opened port }
     ensures others { SameOthers port (B.outside bench.old) (B.outside bench.new) }
 {
@@ -40,7 +42,7 @@ pub fn write_next<B: Bench>(end: WriteEnd, bench: &mut B, port: Port, bytes: &[u
 /// Opens a port on standard output and writes a text there.
 pub fn write_text<B: Bench>(bench: &mut B, port: Port, parts: &[&[u8]]) -> Outcome
     requires { is_openable port ≡ true }
-    ensures ran { RanOn port (outcome_of result) (concat (map (λ p. p.now) parts.now)) (B.outside bench.old) (B.outside bench.new) }
+    ensures ran { RanOn port (outcome_of result) (printed (concat (map (λ p. p.now) parts.now))) (B.outside bench.old) (B.outside bench.new) }
     ensures others { SameOthers port (B.outside bench.old) (B.outside bench.new) }
 {
     match bench.open_port(port, "-") {

@@ -1,7 +1,7 @@
 //! The answer to the bytes of a module.
 ghost use Rattle.std.specs.Prelude.{◌<◌, length};
 
-use sim_base::{Fault, Place, Refusal, is_refusal, refusal_name};
+use sim_base::{Fault, Place, Refusal, refusal_name};
 use std::alloc::Global;
 use std::fmt;
 use std::fmt::{Display, Formatter, Write};
@@ -39,22 +39,13 @@ fn read(alloc: Global, bytes: &[u8]) -> Result<Valid, Fault>
     validate(alloc, module)
 }
 
-/// The name of a number, empty where no refusal has it.
-pub fn name_of(number: u8) -> &'static str {
-    if is_refusal(number) {
-        refusal_name(number)
-    } else {
-        ""
-    }
-}
-
 impl Display for Answer {
     fn fmt<W: Write>(&self, f: &mut Formatter<W>) -> fmt::Result {
         match self {
             Answer::Accepted => write!(f, "accepted"),
             Answer::OutOfMemory => write!(f, "out of memory"),
             Answer::Refused(refusal) => {
-                let name = name_of(refusal.number);
+                let name = refusal_name(refusal.number);
                 write!(f, "refused {} {name}", refusal.number)?;
                 match refusal.place {
                     Place::Byte(n) => write!(f, " byte {n}"),

@@ -1,6 +1,6 @@
 //! Modules that were cut.
-use crate::answer::{Answer, answer_to, name_of};
-use sim_base::{Place, Refusal};
+use crate::answer::{Answer, answer_to};
+use sim_base::{Place, Refusal, refusal_name};
 use std::alloc::Global;
 use std::io;
 
@@ -31,7 +31,7 @@ fn print_run(rt: &impl Print, name: &str, first: usize, last: usize, cut: Cut) -
         print!(rt; " to {last}")?;
     }
     match cut {
-        Cut::AtTheCut(number) => println!(rt; ": refused {number} {} at the cut", name_of(number)),
+        Cut::AtTheCut(number) => println!(rt; ": refused {number} {} at the cut", refusal_name(number)),
         Cut::Other(answer) => println!(rt; ": {answer}"),
     }
 }

@@ -1,2 +1,4 @@
 pub mod WriteLemmas
 pub mod ReadLemmas
+pub mod EndLemmas
+pub mod PromiseLemmas

@@ -8,9 +8,11 @@ use Rattle.sim_base.specs.declared.bench.Port.TheVariants as ports
 use Rattle.sim_base.specs.declared.bench.WriteEnd.{WriteEnd}
 use Rattle.sim_base.specs.declared.bench.WriteEnd.TheVariants as writes
 use Rattle.sim_base.specs.Causes.{WriteCause}
-use Rattle.sim_base.specs.Outside.{Outside, SameOthers, Becomes, Grows, IsFront, WriteLeaves, Opens}
+use Rattle.sim_base.specs.Outside.{Outside, Files, SameOthers, Becomes, Grows, IsFront, IsNamed, WriteLeaves, Opens}
 use Rattle.outcome_model.specs.Outcome.{Outcome, Accepted, WriteFailed, Complains}
 use Rattle.outcome_model.specs.Work.{Wrote, RanOn}
+use Rattle.outcome_model.specs.Stop.{Output}
+use Rattle.outcome_model.proofs.ReadLemmas.{if_some}
 
 pub grows_more : (a b c : Option (List ℕ)) (xs ys zs : List ℕ) → Grows a b xs → Grows b c ys → xs ++ ys ≡ zs → Grows a c zs
 grows_more None b c xs ys zs p q e = q ∙ ap (option_map (λ (l : List ℕ). l ++ ys)) p
@@ -83,6 +85,7 @@ pub others_more : (p : Port) (a b c : Outside) → SameOthers p a b → SameOthe
 others_more p a b c x y = record {
   files = y.files ∙ x.files;
   written = λ q ne. y.written q ne ∙ x.written q ne;
+  name = λ q ne. y.name q ne ∙ x.name q ne;
   opened = λ q ne. y.opened q ne ∙ x.opened q ne;
   faults = λ q ne. y.faults q ne ∙ x.faults q ne;
   reads = y.reads ∙ x.reads;
@@ -105,11 +108,17 @@ abbrev pub end_of : WriteEnd → Outcome
 end_of writes.Ok = Accepted
 end_of writes.Failed = WriteFailed
 
--- a text on a port that was opened for it
-pub ran_text : (end : WriteEnd) (p : Port) (text : List ℕ) (a m b : Outside) → Opens writes.Ok p a m → Wrote end p text m b → RanOn p (end_of end) text a b
-ran_text writes.Ok p text a m b opens w = (becomes (a.written p) (m.written p) (b.written p) text opens.1 w.0, w.1 ∙ opens.2)
-ran_text writes.Failed p text a m b opens w =
-    (rw (← opens.2) w.1, inr (w.0.0, w.0.1, becomes (a.written p) (m.written p) (b.written p) w.0.0 opens.1 w.0.2))
+-- a name that stays over writes
+pub still_named : (p : Port) (name : List ℕ) (a m b : Outside) → IsNamed p name a m → b.name p ≡ m.name p → IsNamed p name a b
+still_named p name a m b named same = if_some a.files _ _ (λ (files : Files) (e : m.name p ≡ Some name). same ∙ e) named
 
-pub unopened : (p : Port) (text : List ℕ) (a b : Outside) → Opens writes.Failed p a b → RanOn p WriteFailed text a b
-unopened p text a b opens = (opens.3, elim opens.1 [ inl same ↦ inl same | inr empty ↦ inr ([], front_none text, empty) ])
+-- a text on a port that was opened for it
+pub ran_text : (end : WriteEnd) (p : Port) (out : Output) (a m b : Outside) → Opens writes.Ok p out.name a m → Wrote end p out.text m b → b.name p ≡ m.name p → RanOn p (end_of end) out a b
+ran_text writes.Ok p out a m b opens w same = ((becomes (a.written p) (m.written p) (b.written p) out.text opens.1 w.0, still_named p out.name a m b opens.2 same), w.1 ∙ opens.3)
+ran_text writes.Failed p out a m b opens w same = (
+  rw (← opens.3) w.1,
+  inr (w.0.0, w.0.1, becomes (a.written p) (m.written p) (b.written p) w.0.0 opens.1 w.0.2, still_named p out.name a m b opens.2 same),
+)
+
+pub unopened : (p : Port) (out : Output) (a b : Outside) → Opens writes.Failed p out.name a b → RanOn p WriteFailed out a b
+unopened p out a b opens = (opens.3, elim opens.1 [ inl same ↦ inl same | inr empty ↦ inr ([], front_none out.text, empty.0, empty.1) ])

@@ -1,3 +1,5 @@
 pub mod Stop
 pub mod Outcome
 pub mod Work
+pub mod Happens
+pub mod Promises

@@ -7,8 +7,8 @@ use Rattle.sim_base.specs.declared.bench.Port.{Port}
 use Rattle.sim_base.specs.declared.bench.Port.TheVariants as ports
 use Rattle.sim_base.specs.Refusals.{name_of}
 use Rattle.sim_base.specs.Causes.{Rose}
-use Rattle.sim_base.specs.Outside.{Outside, Becomes, Grows, IsFront}
-use Rattle.outcome_model.specs.Stop.{Stop, Missing, Refused, Texts}
+use Rattle.sim_base.specs.Outside.{Outside, Becomes, Grows, IsFront, IsKept, IsNamed}
+use Rattle.outcome_model.specs.Stop.{Stop, Missing, Refused, Output, Texts}
 
 -- How the work ends. A failed read names its file.
 pub data Outcome : Type 0 where
@@ -62,32 +62,32 @@ pub record Complains (line : List ℕ) (a b : Outside) : Type 0 where
 
 -- no port but Complaint has changed
 abbrev pub IsSilent : Outside → Outside → Type 0
-IsSilent a b = (p : Port) → p ≢ ports.Complaint → b.written p ≡ a.written p
+IsSilent a b = (p : Port) → p ≢ ports.Complaint → IsKept p a b
 
 abbrev pub IsFaultless : Outside → Outside → Type 0
 IsFaultless a b = (b.read_faults ≡ a.read_faults) × ((p : Port) → b.faults p ≡ a.faults p)
 
--- a port with a text has become it; one without is as before
-abbrev pub IsOn : Option (List ℕ) → Option (List ℕ) → Option (List ℕ) → Type 0
-IsOn None old new = new ≡ old
-IsOn (Some text) old new = Becomes old new text
+-- a port with a text was opened under its name and has become the text; one without is as before
+abbrev pub IsOn : Option Output → Port → Outside → Outside → Type 0
+IsOn None p a b = IsKept p a b
+IsOn (Some out) p a b = Becomes (a.written p) (b.written p) out.text × IsNamed p out.name a b
 
 -- the same of a first part; a port that could not be opened is as before
-abbrev pub BeginsOn : Option (List ℕ) → Option (List ℕ) → Option (List ℕ) → Type 0
-BeginsOn None old new = new ≡ old
-BeginsOn (Some text) old new = (new ≡ old) ⊎ ((front : List ℕ) × IsFront front text × Becomes old new front)
+abbrev pub BeginsOn : Option Output → Port → Outside → Outside → Type 0
+BeginsOn None p a b = IsKept p a b
+BeginsOn (Some out) p a b = IsKept p a b ⊎ ((front : List ℕ) × IsFront front out.text × Becomes (a.written p) (b.written p) front × IsNamed p out.name a b)
 
 -- each port holds its text
 pub record Hold (t : Texts) (a b : Outside) : Type 0 where
   pub serial : Grows (a.written ports.Serial) (b.written ports.Serial) t.serial
-  pub wave : IsOn t.wave (a.written ports.Wave) (b.written ports.Wave)
-  pub report : IsOn t.report (a.written ports.Report) (b.written ports.Report)
+  pub wave : IsOn t.wave ports.Wave a b
+  pub report : IsOn t.report ports.Report a b
 
 -- each port holds a first part of its text
 pub record Begin (t : Texts) (a b : Outside) : Type 0 where
   pub serial : (front : List ℕ) × IsFront front t.serial × Grows (a.written ports.Serial) (b.written ports.Serial) front
-  pub wave : BeginsOn t.wave (a.written ports.Wave) (b.written ports.Wave)
-  pub report : BeginsOn t.report (a.written ports.Report) (b.written ports.Report)
+  pub wave : BeginsOn t.wave ports.Wave a b
+  pub report : BeginsOn t.report ports.Report a b
 
 abbrev pub OutputRose : Outside → Outside → Type 0
 OutputRose a b = Rose (a.faults ports.Wave) (b.faults ports.Wave) ⊎ (Rose (a.faults ports.Serial) (b.faults ports.Serial) ⊎ Rose (a.faults ports.Report) (b.faults ports.Report))

@@ -1,5 +1,5 @@
 -- What ends the work before its texts: a file that is missing or refused (profile).
-use Rattle.std.specs.Prelude.{◌≡◌, Bool, true, false, ℕ, nat_lt, if◌then◌else◌, List, [], length, Option, Some, None, Result, Ok, Err}
+use Rattle.std.specs.Prelude.{◌≡◌, Bool, true, false, ℕ, nat_lt, if◌then◌else◌, List, [], length, Option, Some, None, Result, Ok, Err, codes}
 use Rattle.std.specs.FinMap.{get}
 use Rattle.sim_base.specs.declared.fault.Refusal.{Refusal}
 use Rattle.sim_base.specs.declared.fault.Place.TheVariants as places
@@ -10,18 +10,31 @@ pub data Stop : Type 0 where
   Missing : List ℕ → Stop
   Refused : List ℕ → Refusal → Stop
 
+-- a text, and the name of the file that it goes to
+pub record Output : Type 0 where
+  pub name : List ℕ
+  pub text : List ℕ
+
+-- a text for standard output
+abbrev pub printed : List ℕ → Output
+printed text = record { name = codes "-"; text = text }
+
 -- the texts on the ports: what Serial gets, and what Wave and Report hold where they are opened
 pub record Texts : Type 0 where
   pub serial : List ℕ
-  pub wave : Option (List ℕ)
-  pub report : Option (List ℕ)
+  pub wave : Option Output
+  pub report : Option Output
 
 -- a text on Wave alone, and on Report alone
-abbrev pub wave_alone : List ℕ → Texts
-wave_alone text = record { serial = []; wave = Some text; report = None }
+abbrev pub wave_alone : Output → Texts
+wave_alone out = record { serial = []; wave = Some out; report = None }
 
-abbrev pub report_alone : List ℕ → Texts
-report_alone text = record { serial = []; wave = None; report = Some text }
+abbrev pub report_alone : Output → Texts
+report_alone out = record { serial = []; wave = None; report = Some out }
+
+-- what is said of an input that keeps all rules
+abbrev pub accepted : Texts
+accepted = report_alone (printed (codes "accepted\n"))
 
 infixl 10 ◌>>=◌
 abbrev pub ◌>>=◌ : {A B : Type 0} → Result A Stop → (A → Result B Stop) → Result B Stop

@@ -6,9 +6,9 @@ use Rattle.sim_base.specs.declared.bench.Port.TheVariants as ports
 use Rattle.sim_base.specs.declared.bench.WriteEnd.{WriteEnd}
 use Rattle.sim_base.specs.declared.bench.WriteEnd.TheVariants as writes
 use Rattle.sim_base.specs.Causes.{Rose}
-use Rattle.sim_base.specs.Outside.{Outside, Files, Becomes, Grows, IsFront}
-use Rattle.outcome_model.specs.Stop.{Stop, Missing}
-use Rattle.outcome_model.specs.Outcome.{Outcome, Accepted, NoRequest, Stopped, ReadFailed, WriteFailed, OutOfMemory, BeginsOn}
+use Rattle.sim_base.specs.Outside.{Outside, Files, Grows, IsFront, IsKept}
+use Rattle.outcome_model.specs.Stop.{Stop, Missing, Output}
+use Rattle.outcome_model.specs.Outcome.{Outcome, Accepted, NoRequest, Stopped, ReadFailed, WriteFailed, OutOfMemory, IsOn, BeginsOn}
 
 -- a text was written on a port, or a first part of it where a write failed
 abbrev pub Wrote : WriteEnd → Port → List ℕ → Outside → Outside → Type 0
@@ -33,13 +33,13 @@ abbrev pub SaidNothing : Outside → Outside → Type 0
 SaidNothing a b = (b.written ports.Complaint ≡ a.written ports.Complaint) × (b.faults ports.Complaint ≡ a.faults ports.Complaint)
 
 -- what the writing of a text on a port, opened for it, leaves there
-abbrev pub RanOn : Port → Outcome → List ℕ → Outside → Outside → Type 0
-RanOn p Accepted text a b = Becomes (a.written p) (b.written p) text × (b.faults p ≡ a.faults p)
-RanOn p NoRequest text a b = ⊥
-RanOn p (Stopped s) text a b = ⊥
-RanOn p (ReadFailed name) text a b = ⊥
-RanOn p WriteFailed text a b = Rose (a.faults p) (b.faults p) × BeginsOn (Some text) (a.written p) (b.written p)
-RanOn p OutOfMemory text a b = (b.written p ≡ a.written p) × (b.faults p ≡ a.faults p)
+abbrev pub RanOn : Port → Outcome → Output → Outside → Outside → Type 0
+RanOn p Accepted out a b = IsOn (Some out) p a b × (b.faults p ≡ a.faults p)
+RanOn p NoRequest out a b = ⊥
+RanOn p (Stopped s) out a b = ⊥
+RanOn p (ReadFailed name) out a b = ⊥
+RanOn p WriteFailed out a b = Rose (a.faults p) (b.faults p) × BeginsOn (Some out) p a b
+RanOn p OutOfMemory out a b = IsKept p a b × (b.faults p ≡ a.faults p)
 
 -- A reading of files answers alike where a file that it does not read is not there; where one that it reads is not there,
 -- that is the first event.

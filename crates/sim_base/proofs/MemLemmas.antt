@@ -1,5 +1,5 @@
--- What the calls of a bench in memory leave of the outside.
-use Rattle.std.proofs.Common.{◌≡◌, ℕ, List, Bool, true, false, not, refl, inl, sym, ◌∙◌, Some, Option, ap, cond, ◌∷◌, [], subst, ◌||◌}
+-- What the calls of a bench in memory leave of the environment.
+use Rattle.std.proofs.Common.{◌≡◌, ℕ, List, Bool, true, false, refl, inl, sym, ◌∙◌, Some, Option, ap, cond, ◌∷◌, [], subst, ◌||◌}
 use Rattle.std.specs.Cmp.Lexicographic.{slice_cmp}
 use Rattle.std.specs.Ordering.{nat_cmp, eq_by_cmp}
 use Rattle.std.specs.FinMap.{from_entries, get, get-empty, get-insert}
@@ -22,28 +22,28 @@ or_false true = refl
 or_false false = refl
 
 -- what a bench is after a port was opened, or failed to open
-abbrev after : MemState → Port → Bool → MemState
-after a p fails = with_open (with_port a p (opened fails (port_of a p))) p (not fails)
+abbrev after : MemState → Port → List ℕ → Bool → MemState
+after a p name done = with_open (with_port a p (opened done (port_of a p) name)) p done
 
-opens_here : (s : MemState) (p : Port) (fails : Bool) → WriteCause (write_end (not fails)) (port_of (called s) p).faults (port_of (after (called s) p fails) p).faults → Opens (write_end (not fails)) p (outside_of s) (outside_of (after (called s) p fails))
-opens_here s ports.Serial true cause = (inl refl, inl refl, cause.0, cause.1)
-opens_here s ports.Wave true cause = (inl (or_false s.wave_open), inl refl, cause.0, cause.1)
-opens_here s ports.Report true cause = (inl (or_false s.report_open), inl refl, cause.0, cause.1)
-opens_here s ports.Complaint true cause = (inl refl, inl refl, cause.0, cause.1)
-opens_here s ports.Serial false cause = (refl, refl, cause)
-opens_here s ports.Wave false cause = (or_true s.wave_open, refl, cause)
-opens_here s ports.Report false cause = (or_true s.report_open, refl, cause)
-opens_here s ports.Complaint false cause = (refl, refl, cause)
+opens_here : (s : MemState) (p : Port) (name : List ℕ) (done : Bool) → WriteCause (write_end done) (port_of (called s) p).faults (port_of (after (called s) p name done) p).faults → Opens (write_end done) p name (outside_of s) (outside_of (after (called s) p name done))
+opens_here s ports.Serial name false cause = (inl refl, inl (refl, refl), cause.0, cause.1)
+opens_here s ports.Wave name false cause = (inl (or_false s.wave_open), inl (refl, refl), cause.0, cause.1)
+opens_here s ports.Report name false cause = (inl (or_false s.report_open), inl (refl, refl), cause.0, cause.1)
+opens_here s ports.Complaint name false cause = (inl refl, inl (refl, refl), cause.0, cause.1)
+opens_here s ports.Serial name true cause = (refl, refl, refl, cause)
+opens_here s ports.Wave name true cause = (or_true s.wave_open, refl, refl, cause)
+opens_here s ports.Report name true cause = (or_true s.report_open, refl, refl, cause)
+opens_here s ports.Complaint name true cause = (refl, refl, refl, cause)
 
 -- opening a port, where its count of faults has this cause
-pub opens : (s a b : MemState) (p : Port) (fails : Bool) (end : WriteEnd) → a ≡ called s → end ≡ write_end (not fails) → b ≡ with_open (with_port a p (opened fails (port_of a p))) p (not fails) → WriteCause end (port_of a p).faults (port_of b p).faults → Opens end p (outside_of s) (outside_of b)
-opens s a b p fails end is_called is_end is_after cause =
-    let e : b ≡ after (called s) p fails = is_after ∙ ap (λ (x : MemState). after x p fails) is_called in
-    let here : WriteCause (write_end (not fails)) (port_of a p).faults (port_of b p).faults = subst (λ (x : WriteEnd). WriteCause x (port_of a p).faults (port_of b p).faults) is_end cause in
-    let there : WriteCause (write_end (not fails)) (port_of (called s) p).faults (port_of b p).faults = subst (λ (x : MemState). WriteCause (write_end (not fails)) (port_of x p).faults (port_of b p).faults) is_called here in
-    let then : WriteCause (write_end (not fails)) (port_of (called s) p).faults (port_of (after (called s) p fails) p).faults = subst (λ (x : MemState). WriteCause (write_end (not fails)) (port_of (called s) p).faults (port_of x p).faults) e there in
-    let done : Opens (write_end (not fails)) p (outside_of s) (outside_of b) = subst (λ (x : MemState). Opens (write_end (not fails)) p (outside_of s) (outside_of x)) (sym e) (opens_here s p fails then) in
-    subst (λ (x : WriteEnd). Opens x p (outside_of s) (outside_of b)) (sym is_end) done
+pub opens : (s a b : MemState) (p : Port) (name : List ℕ) (done : Bool) (end : WriteEnd) → a ≡ called s → end ≡ write_end done → b ≡ with_open (with_port a p (opened done (port_of a p) name)) p done → WriteCause end (port_of a p).faults (port_of b p).faults → Opens end p name (outside_of s) (outside_of b)
+opens s a b p name done end is_called is_end is_after cause =
+    let e : b ≡ after (called s) p name done = is_after ∙ ap (λ (x : MemState). after x p name done) is_called in
+    let here : WriteCause (write_end done) (port_of a p).faults (port_of b p).faults = subst (λ (x : WriteEnd). WriteCause x (port_of a p).faults (port_of b p).faults) is_end cause in
+    let there : WriteCause (write_end done) (port_of (called s) p).faults (port_of b p).faults = subst (λ (x : MemState). WriteCause (write_end done) (port_of x p).faults (port_of b p).faults) is_called here in
+    let then : WriteCause (write_end done) (port_of (called s) p).faults (port_of (after (called s) p name done) p).faults = subst (λ (x : MemState). WriteCause (write_end done) (port_of (called s) p).faults (port_of x p).faults) e there in
+    let made : Opens (write_end done) p name (outside_of s) (outside_of b) = subst (λ (x : MemState). Opens (write_end done) p name (outside_of s) (outside_of x)) (sym e) (opens_here s p name done then) in
+    subst (λ (x : WriteEnd). Opens x p name (outside_of s) (outside_of b)) (sym is_end) made
 
 -- a file of the list is that of the map
 pub get_file : (name : List ℕ) (files : List (List ℕ × List ℕ)) → get (from_entries {R = slice_cmp nat_cmp} files) name ≡ file_in name files

@@ -1,4 +1,4 @@
--- Why a call of the outside answers as it does: by the counts of faults.
+-- Why a call of the environment answers as it does: by the counts of faults.
 use Rattle.std.specs.Prelude.{◌≡◌, ℕ, ◌+◌, ◌-◌, ◌^◌, ◌≤◌, min}
 use Rattle.sim_base.specs.declared.bench.ReadEnd.{ReadEnd}
 use Rattle.sim_base.specs.declared.bench.ReadEnd.TheVariants as reads

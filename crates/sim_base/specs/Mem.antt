@@ -11,10 +11,11 @@ use Rattle.sim_base.specs.declared.bench.WriteEnd.{WriteEnd}
 use Rattle.sim_base.specs.declared.bench.WriteEnd.TheVariants as write_ends
 use Rattle.sim_base.specs.Outside.{Outside}
 
--- a port: its bytes, the number of bytes that it can hold, its count of faults
+-- a port: its bytes, the number of bytes that it can hold, the name under which it was opened last, its count of faults
 pub record Store : Type 0 where
   pub bytes : List ℕ
   pub room : ℕ
+  pub name : Option (List ℕ)
   pub faults : ℕ
 
 -- Files newest first, each with its name; of two of one name the newer one counts.
@@ -68,9 +69,13 @@ write_end done = if done then write_ends.Ok else write_ends.Failed
 abbrev pub stored : Bool → Store → List ℕ → Store
 stored done p bytes = if done then record p { bytes = p.bytes ++ bytes } else record p { faults = raised p.faults }
 
--- an opened port is empty; one that fails to open counts a fault
-abbrev pub opened : Bool → Store → Store
-opened fails p = if fails then record p { faults = raised p.faults } else record p { bytes = [] }
+-- a port is opened where the call is not to fail and the name has at most 255 bytes
+abbrev pub opens_on : Bool → List ℕ → Bool
+opens_on fails name = not fails && nat_le (length name) 255
+
+-- an opened port is empty and has its name; one that fails to open counts a fault
+abbrev pub opened : Bool → Store → List ℕ → Store
+opened done p name = if done then record p { bytes = []; name = Some name } else record p { faults = raised p.faults }
 
 -- Wave or Report is open after it was opened; the other two are open from the start
 abbrev pub with_open : MemState → Port → Bool → MemState
@@ -92,7 +97,7 @@ read_end (Some bytes) limit = if nat_lt limit (length bytes) then read_ends.TooL
 
 -- a port before it was given room, and after
 abbrev pub roomless : Store
-roomless = record { bytes = []; room = 0; faults = 0 }
+roomless = record { bytes = []; room = 0; name = None; faults = 0 }
 
 abbrev pub roomy : Store → ℕ → Store
 roomy p bytes = record p { room = max p.room bytes }
@@ -100,11 +105,12 @@ roomy p bytes = record p { room = max p.room bytes }
 abbrev pub new_bench : MemState
 new_bench = record { files = []; serial = roomless; wave = roomless; report = roomless; complaint = roomless; wave_open = false; report_open = false; read_faults = 0; calls = 0; failing = [] }
 
--- what the bench is of the outside: it tells its files and what is written
+-- the environment that the bench is: it tells its files, what is written and the names of opened ports
 abbrev pub outside_of : MemState → Outside
 outside_of s = record {
   files = Some (from_entries s.files);
   written = λ p. Some (port_of s p).bytes;
+  name = λ p. (port_of s p).name;
   opened = is_open s;
   read_faults = s.read_faults;
   faults = λ p. (port_of s p).faults;
@@ -114,8 +120,8 @@ outside_of s = record {
 abbrev pub after_read : MemState → MemState
 after_read s = if fails_next s then record (called s) { read_faults = raised s.read_faults } else called s
 
-abbrev pub after_open : MemState → Port → MemState
-after_open s p = with_open (with_port (called s) p (opened (fails_next s) (port_of s p))) p (not (fails_next s))
+abbrev pub after_open : MemState → Port → List ℕ → MemState
+after_open s p name = with_open (with_port (called s) p (opened (opens_on (fails_next s) name) (port_of s p) name)) p (opens_on (fails_next s) name)
 
 abbrev pub after_write : MemState → Port → List ℕ → MemState
 after_write s p bytes = with_port (called s) p (stored (writes_on (fails_next s) (port_of s p) bytes) (port_of s p) bytes)

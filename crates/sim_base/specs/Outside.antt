@@ -1,5 +1,5 @@
--- The outside of the program, as a value: files, ports and counts of faults.
-use Rattle.std.specs.Prelude.{◌≡◌, ◌≢◌, ℕ, ◌≤◌, ◌<◌, List, [], ◌++◌, length, Bool, true, false, Option, None, Some, ◌⊎◌}
+-- The environment of the program, as a value: files, ports and counts of faults.
+use Rattle.std.specs.Prelude.{◌≡◌, ◌≢◌, ℕ, ◌≤◌, ◌<◌, List, [], ◌++◌, length, Bool, true, false, Option, None, Some, IfSome, ◌⊎◌}
 use Rattle.std.specs.Option.{option_map}
 use Rattle.std.specs.FinMap.{FinMap, get}
 use Rattle.std.specs.Cmp.Lexicographic.{slice_cmp}
@@ -16,11 +16,12 @@ use Rattle.sim_base.specs.Causes.{Rose}
 abbrev pub Files : Type 0
 Files = FinMap (slice_cmp nat_cmp) (List ℕ)
 
--- Files and what was written are told or not (None); a bench that tells nothing still says which
--- ports are open and how many faults it has seen.
+-- Files, what was written, and the names under which ports were opened are told or not (None); a bench
+-- that tells nothing still says which ports are open and how many faults it has seen.
 pub record Outside : Type 0 where
   pub files : Option Files
   pub written : Port → Option (List ℕ)
+  pub name : Port → Option (List ℕ)
   pub opened : Port → Bool
   pub read_faults : ℕ
   pub faults : Port → ℕ
@@ -36,6 +37,7 @@ is_openable ports.Complaint = false
 pub record SamePorts (a b : Outside) : Type 0 where
   pub files : b.files ≡ a.files
   pub written : (p : Port) → b.written p ≡ a.written p
+  pub name : (p : Port) → b.name p ≡ a.name p
   pub opened : (p : Port) → b.opened p ≡ a.opened p
   pub faults : (p : Port) → b.faults p ≡ a.faults p
 
@@ -43,6 +45,7 @@ pub record SamePorts (a b : Outside) : Type 0 where
 pub record SameOthers (port : Port) (a b : Outside) : Type 0 where
   pub files : b.files ≡ a.files
   pub written : (p : Port) → p ≢ port → b.written p ≡ a.written p
+  pub name : (p : Port) → p ≢ port → b.name p ≡ a.name p
   pub opened : (p : Port) → p ≢ port → b.opened p ≡ a.opened p
   pub faults : (p : Port) → p ≢ port → b.faults p ≡ a.faults p
   pub reads : b.read_faults ≡ a.read_faults
@@ -65,12 +68,21 @@ abbrev pub WriteLeaves : WriteEnd → Option (List ℕ) → Option (List ℕ) �
 WriteLeaves writes.Ok old new bytes = Grows old new bytes
 WriteLeaves writes.Failed old new bytes = (front : List ℕ) × IsFront front bytes × Grows old new front
 
--- An opened port is empty. One that could not be opened is as before or empty, and is not opened by that.
-abbrev pub Opens : WriteEnd → Port → Outside → Outside → Type 0
-Opens writes.Ok p a b = (b.opened p ≡ true) × Becomes (a.written p) (b.written p) [] × (b.faults p ≡ a.faults p)
-Opens writes.Failed p a b =
+-- nothing was written on a port, and it was not opened under another name
+abbrev pub IsKept : Port → Outside → Outside → Type 0
+IsKept p a b = (b.written p ≡ a.written p) × (b.name p ≡ a.name p)
+
+-- a port was opened under this name, as a bench says that tells its files
+abbrev pub IsNamed : Port → List ℕ → Outside → Outside → Type 0
+IsNamed p name a b = IfSome a.files (λ files. b.name p ≡ Some name)
+
+-- A port that was opened under a name is empty. One that could not be opened is as before, or empty, and is not opened by
+-- that.
+abbrev pub Opens : WriteEnd → Port → List ℕ → Outside → Outside → Type 0
+Opens writes.Ok p name a b = (b.opened p ≡ true) × Becomes (a.written p) (b.written p) [] × IsNamed p name a b × (b.faults p ≡ a.faults p)
+Opens writes.Failed p name a b =
     ((b.opened p ≡ a.opened p) ⊎ (b.opened p ≡ false))
-    × ((b.written p ≡ a.written p) ⊎ Becomes (a.written p) (b.written p) [])
+    × (IsKept p a b ⊎ (Becomes (a.written p) (b.written p) [] × IsNamed p name a b))
     × (a.faults p ≤ b.faults p)
     × Rose (a.faults p) (b.faults p)
 

@@ -1,4 +1,4 @@
-//! The outside of the program, as a trait.
+//! The environment of the program, as a trait: files, ports and counts of faults.
 ghost use Rattle.std.specs.Prelude.{◌≡◌, ℕ, [], Bool, true};
 ghost use Rattle.sim_base.specs.declared.bench.Port.{Port};
 ghost use Rattle.sim_base.specs.declared.bench.Port.TheVariants as ports;
@@ -44,10 +44,10 @@ pub trait Bench {
         ensures cause { ReadCause result (outside self.old).read_faults (outside self.new).read_faults }
         ensures ports { SamePorts (outside self.old) (outside self.new) };
 
-    /// Opens Wave or Report on a file, which is empty then; `-` is standard output.
+    /// Opens Wave or Report on the file of this name, which is empty then; `-` is standard output.
     fn open_port(&mut self, port: Port, name: &str) -> WriteEnd
         requires { is_openable port ≡ true }
-        ensures opens { Opens result port (outside self.old) (outside self.new) }
+        ensures opens { Opens result port name.now (outside self.old) (outside self.new) }
         ensures others { SameOthers port (outside self.old) (outside self.new) };
 
     /// Appends to an open port; of a write that fails a first part may stand there.
@@ -55,6 +55,7 @@ pub trait Bench {
         requires { (outside self.old).opened port ≡ true }
         ensures leaves { WriteLeaves result ((outside self.old).written port) ((outside self.new).written port) bytes.now }
         ensures cause { WriteCause result ((outside self.old).faults port) ((outside self.new).faults port) }
+        ensures named { (outside self.new).name port ≡ (outside self.old).name port }
         ensures opened { (outside self.new).opened port ≡ (outside self.old).opened port }
         ensures others { SameOthers port (outside self.old) (outside self.new) };
 

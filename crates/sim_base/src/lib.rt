@@ -1,6 +1,6 @@
 //! What the crates of the simulator share: drives and levels, refusals, lists, the flash image,
-//! the outside as the trait `Bench`, and what joins the parts of a board.
-//! Each call is exact; a call that grows a list or makes an image may answer want of memory.
+//! the environment as the trait `Bench`, and what joins the parts of a board.
+//! Each call is exact; one that grows a list or makes an image may answer that memory ran out.
 #![tactic(auto)]
 
 mod bench;
@@ -9,6 +9,7 @@ mod flash;
 mod list;
 mod mem_bench;
 mod name;
+pub mod refusals;
 mod signal;
 mod steps;
 #[cfg(test)]
@@ -18,11 +19,12 @@ mod watcher;
 mod wiring;
 
 pub use bench::{Bench, Port, ReadEnd, WriteEnd};
-pub use fault::{Fault, OutOfMemory, Place, Refusal, is_refusal, refusal_name};
+pub use fault::{Fault, OutOfMemory, Place, Refusal};
 pub use flash::Flash;
 pub use list::List;
 pub use mem_bench::MemBench;
 pub use name::Name;
+pub use refusals::refusal_name;
 pub use signal::{Drive, Level, reads_one};
 pub use steps::Steps;
 pub use text::Text;

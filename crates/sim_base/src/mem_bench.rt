@@ -1,13 +1,14 @@
 //! A bench in memory, for tests and for callers that keep their files themselves.
 ghost use Rattle.std.specs.Prelude.{◌≡◌, ◌≢◌, ℕ, List, [], ◌+◌, ◌^◌, ◌-◌, ◌≤◌, ◌∷◌, ◌++◌, map, Some, Bool, true, false, OnErr, OnOk, OnErr, length, vec_capacity, string_bytes, if◌then◌else◌, Option, not};
 ghost use Rattle.std.specs.Option.{option_map};
-ghost use Rattle.sim_base.specs.Mem.{port_of, with_port, with_open, called, fails_next, file_in, writes_on, write_end, stored, opened, read_end, roomless, roomy, new_bench, outside_of, after_read, after_open, after_write};
+ghost use Rattle.sim_base.specs.Mem.{port_of, with_port, with_open, called, fails_next, file_in, writes_on, write_end, stored, opens_on, opened, read_end, roomless, roomy, new_bench, outside_of, after_read, after_open, after_write};
 ghost use Rattle.sim_base.specs.Causes.{ReadCause, WriteCause};
 ghost use Rattle.sim_base.specs.Outside.{ReadsFile, ReadFits, ReadsTold, SamePorts, SameOthers, Opens, WriteLeaves, is_openable};
 ghost use Rattle.sim_base.specs.declared.bench.Port.{Port};
 
 use crate::bench::{Bench, Port, ReadEnd, WriteEnd};
 use crate::fault::OutOfMemory;
+use arrayvec::ArrayVec;
 use std::alloc::Global;
 use std::marker::Model;
 
@@ -29,18 +30,32 @@ impl Model for StoredFile {
 struct PortStore {
     bytes: Vec<u8>,
     room: usize,
+    /// The name under which it was opened last.
+    name: Option<ArrayVec<u8, 255>>,
     faults: u64,
 }
 
 impl Model for PortStore {
     ghost use Rattle.std.specs.Prelude.{◌≤◌, vec_capacity};
+    ghost use Rattle.std.specs.Option.{option_map};
     ghost use Rattle.sim_base.specs.Mem.{Store};
 
     ghost Value = { Store };
 
-    ghost view = { λ p. record { bytes = p.bytes.items; room = p.room; faults = p.faults } };
+    ghost view = { λ p. record { bytes = p.bytes.items; room = p.room; name = option_map (λ n. n.items) p.name; faults = p.faults } };
 
     ghost invariant = { λ p. p.room ≤ vec_capacity p.bytes };
+}
+
+fn copied(bytes: &[u8]) -> ArrayVec<u8, 255>
+    requires { length bytes.now ≤ 255 }
+    ensures { result.items ≡ bytes.now }
+{
+    let mut copy = ArrayVec::new();
+    for b in bytes {
+        copy.push(*b);
+    }
+    copy
 }
 
 impl PortStore {
@@ -50,6 +65,7 @@ impl PortStore {
         PortStore {
             bytes: Vec::new(alloc),
             room: 0,
+            name: None,
             faults: 0,
         }
     }
@@ -71,18 +87,28 @@ impl PortStore {
         }
     }
 
-    fn open(&mut self, fails: bool) -> WriteEnd
-        ensures answer { result ≡ write_end (not fails) }
-        ensures leaves { self.new ≡ opened fails self.old }
+    fn open(&mut self, name: &str, fails: bool) -> WriteEnd
+        ensures answer { result ≡ write_end (opens_on fails name.now) }
+        ensures leaves { self.new ≡ opened (opens_on fails name.now) self.old name.now }
         ensures cause { WriteCause result self.old.faults self.new.faults }
-        ensures bytes { self.new.bytes ≡ (if fails then self.old.bytes else []) }
     {
-        if fails {
+        let name = name.as_bytes();
+        if !fails && name.len() <= 255 {
+            self.bytes.clear();
+            self.name = Some(copied(name));
+            WriteEnd::Ok
+        } else {
             self.faults = self.faults.saturating_add(1);
             WriteEnd::Failed
-        } else {
-            self.bytes.clear();
-            WriteEnd::Ok
+        }
+    }
+
+    fn name(&self) -> Option<&[u8]>
+        ensures { option_map (λ n. n.now) result ≡ self.now.name }
+    {
+        match &self.name {
+            Some(name) => Some(name.as_slice()),
+            None => None,
         }
     }
 
@@ -98,8 +124,9 @@ impl PortStore {
     }
 }
 
-/// Keeps and tells its files and what is written. A call fails exactly where its number is listed,
-/// counted from 1 over the calls of `Bench`, or where a write passes the room of its port.
+/// Keeps and tells its files, what is written, and the names under which ports were opened. A call
+/// fails exactly where its number is listed, counted from 1 over the calls of `Bench`, where a write
+/// passes the room of its port, or where a port is opened under a name of more than 255 bytes.
 #[derive(Drop)]
 pub struct MemBench {
     alloc: Global,
@@ -165,7 +192,7 @@ impl MemBench {
         }
     }
 
-    /// Adds or replaces a file; after want of memory all is as before.
+    /// Adds or replaces a file; if memory runs out, all is as before.
     pub fn add_file(&mut self, name: &str, bytes: &[u8]) -> Result<(), OutOfMemory>
         ensures ok { OnOk result (self.new ≡ record self.old { files = (name.now, bytes.now) ∷ self.old.files }) }
         ensures err { OnErr result (self.new ≡ self.old) }
@@ -178,7 +205,7 @@ impl MemBench {
         Ok(())
     }
 
-    /// Makes a port hold at least so many bytes; after want of memory all is as before.
+    /// Makes a port hold at least so many bytes; if memory runs out, all is as before.
     pub fn room(&mut self, port: Port, bytes: u32) -> Result<(), OutOfMemory>
         ensures ok { OnOk result (self.new ≡ with_port self.old port (roomy (port_of self.old port) bytes)) }
         ensures err { OnErr result (self.new ≡ self.old) }
@@ -191,7 +218,7 @@ impl MemBench {
         }
     }
 
-    /// Lists the number of a call that is to fail; after want of memory all is as before.
+    /// Lists the number of a call that is to fail; if memory runs out, all is as before.
     pub fn fail_call(&mut self, number: u32) -> Result<(), OutOfMemory>
         ensures ok { OnOk result (self.new ≡ record self.old { failing = self.old.failing ++ number ∷ [] }) }
         ensures err { OnErr result (self.new ≡ self.old) }
@@ -209,6 +236,18 @@ impl MemBench {
             Port::Wave => self.wave.bytes.as_slice(),
             Port::Report => self.report.bytes.as_slice(),
             Port::Complaint => self.complaint.bytes.as_slice(),
+        }
+    }
+
+    /// The name under which a port was opened last.
+    pub fn name(&self, port: Port) -> Option<&[u8]>
+        ensures { option_map (λ n. n.now) result ≡ (port_of self.now port).name }
+    {
+        match port {
+            Port::Serial => self.serial.name(),
+            Port::Wave => self.wave.name(),
+            Port::Report => self.report.name(),
+            Port::Complaint => self.complaint.name(),
         }
     }
 
@@ -236,22 +275,23 @@ impl MemBench {
         }
     }
 
-    fn open_store(&mut self, port: Port, fails: bool) -> WriteEnd
-        ensures answer { result ≡ write_end (not fails) }
-        ensures leaves { self.new ≡ with_open (with_port self.old port (opened fails (port_of self.old port))) port (not fails) }
+    fn open_store(&mut self, port: Port, name: &str, fails: bool) -> WriteEnd
+        ensures answer { result ≡ write_end (opens_on fails name.now) }
+        ensures leaves { self.new ≡ with_open (with_port self.old port (opened (opens_on fails name.now) (port_of self.old port) name.now)) port (opens_on fails name.now) }
         ensures cause { WriteCause result (port_of self.old port).faults (port_of self.new port).faults }
     {
+        let done = !fails && name.len() <= 255;
         match port {
-            Port::Serial => self.serial.open(fails),
+            Port::Serial => self.serial.open(name, fails),
             Port::Wave => {
-                self.wave_open = self.wave_open || !fails;
-                self.wave.open(fails)
+                self.wave_open = self.wave_open || done;
+                self.wave.open(name, fails)
             }
             Port::Report => {
-                self.report_open = self.report_open || !fails;
-                self.report.open(fails)
+                self.report_open = self.report_open || done;
+                self.report.open(name, fails)
             }
-            Port::Complaint => self.complaint.open(fails),
+            Port::Complaint => self.complaint.open(name, fails),
         }
     }
 
@@ -296,21 +336,22 @@ impl Bench for MemBench {
         self.copy_file(name, limit, into)
     }
 
-    fn open_port(&mut self, port: Port, _name: &str) -> WriteEnd
+    fn open_port(&mut self, port: Port, name: &str) -> WriteEnd
         requires { is_openable port ≡ true }
-        ensures opens { Opens result port (outside_of self.old) (outside_of self.new) }
+        ensures opens { Opens result port name.now (outside_of self.old) (outside_of self.new) }
         ensures others { SameOthers port (outside_of self.old) (outside_of self.new) }
-        ensures answer { result ≡ write_end (not (fails_next self.old)) }
-        ensures leaves { self.new ≡ after_open self.old port }
+        ensures answer { result ≡ write_end (opens_on (fails_next self.old) name.now) }
+        ensures leaves { self.new ≡ after_open self.old port name.now }
     {
         let fails = self.count_call();
-        self.open_store(port, fails)
+        self.open_store(port, name, fails)
     }
 
     fn write(&mut self, port: Port, bytes: &[u8]) -> WriteEnd
         requires { (outside_of self.old).opened port ≡ true }
         ensures leaves { WriteLeaves result ((outside_of self.old).written port) ((outside_of self.new).written port) bytes.now }
         ensures cause { WriteCause result ((outside_of self.old).faults port) ((outside_of self.new).faults port) }
+        ensures named { (outside_of self.new).name port ≡ (outside_of self.old).name port }
         ensures opened { (outside_of self.new).opened port ≡ (outside_of self.old).opened port }
         ensures others { SameOthers port (outside_of self.old) (outside_of self.new) }
         ensures answer { result ≡ write_end (writes_on (fails_next self.old) (port_of self.old port) bytes.now) }

@@ -1,7 +1,7 @@
 //! Each call once with ample memory, and the answers of a bench at the edges of its room.
 use crate::{
     Bench, Drive, Fault, Flash, Level, List, MemBench, Name, Port, ReadEnd, Text, WriteEnd,
-    is_refusal, reads_one, refusal_name,
+    reads_one, refusal_name,
 };
 
 #[test]
@@ -22,19 +22,16 @@ fn an_input_reads_one_on_high_and_on_the_upper_half_of_a_wiper(rt: HostRuntime) 
 
 #[test]
 fn refusals_have_names(rt: HostRuntime) {
-    assert_eq!(rt; refusal_name(10), "FileTooLong");
-    assert_eq!(rt; refusal_name(26), "HexNoEnd");
-    assert_eq!(rt; refusal_name(69), "WasmLimit");
-    assert_eq!(rt; refusal_name(95), "TwinDiffers");
-    for (number, known) in [
-        (9, false),
-        (27, false),
-        (29, false),
-        (49, true),
-        (54, false),
-        (96, false),
+    for (number, name) in [
+        (9, ""),
+        (10, "FileTooLong"),
+        (26, "HexNoEnd"),
+        (27, ""),
+        (69, "WasmLimit"),
+        (95, "TwinDiffers"),
+        (96, ""),
     ] {
-        assert_eq!(rt; is_refusal(number), known);
+        assert_eq!(rt; refusal_name(number), name);
     }
 }
 
@@ -82,7 +79,9 @@ fn a_bench_fails_at_listed_calls_and_where_its_room_ends(rt: HostRuntime) -> Res
     assert!(rt; bench.write(Port::Serial, b"cd") == WriteEnd::Failed);
     assert!(rt; bench.write(Port::Serial, b"c") == WriteEnd::Ok);
     assert_eq!(rt; bench.written(Port::Serial), b"abc".as_slice());
-    assert!(rt; bench.open_port(Port::Wave, "-") == WriteEnd::Ok);
+    assert!(rt; bench.name(Port::Wave).is_none());
+    assert!(rt; bench.open_port(Port::Wave, "w.vcd") == WriteEnd::Ok);
+    assert!(rt; bench.name(Port::Wave).is_some_and(|name| name == b"w.vcd".as_slice()));
     assert_eq!(rt; bench.written(Port::Wave), b"".as_slice());
     Ok(())
 }

@@ -1,9 +1,9 @@
 //! The top call.
 ghost use Rattle.std.specs.Prelude.{◌≡◌, map, string_bytes};
 ghost use Rattle.words_model.specs.Request.{request_of};
-ghost use Rattle.run_model.specs.Happens.{Happens, Does};
-ghost use Rattle.run_model.specs.Promises.{WordsAlone, IsAnswered, IsComplete, HoldsAnswer, IsStopped, IsTrueStop, HasCause, HoldsFront, ComplainsAlone, IsStatus};
+ghost use Rattle.outcome_model.specs.Promises.{WordsAlone, HasCause, ComplainsAlone, IsStatus};
 ghost use Rattle.outcome_model.specs.Work.{SaidNothing};
+ghost use Rattle.sim_cli.specs.Promises.{Happens, Does, IsAnswered, IsComplete, HoldsAnswer, IsStopped, IsTrueStop, HoldsFront};
 ghost use Rattle.cli_work.specs.Outcomes.{outcome_of};
 
 use cli_bare::bare;
@@ -40,7 +40,7 @@ fn work<B: Bench, L: Ledger>(
 
 /// Does all that the program does for its words, which are without its name, and answers its status:
 /// 0 where all is written, 2 where the words ask for nothing known, 3 and 4 where a file is refused
-/// or missing, 5 and 6 where a read or a write failed, 7 where memory is wanting.
+/// or missing, 5 and 6 where a read or a write failed, 7 where memory ran out.
 pub fn simulate<B: Bench, L: Ledger>(
     alloc: Global,
     words: &[String],

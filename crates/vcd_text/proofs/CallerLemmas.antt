@@ -69,6 +69,7 @@ some_wanted wave serial t u s v ports.Complaint i = i
 pub breaks_within : (wave serial : Bool) (t u s v : List ℕ) (a b : Outside) → IsFront t u → IsFront s v → BreaksOff (texts wave serial t s) a b → BreaksOff (texts wave serial u v) a b
 breaks_within wave serial t u s v a b f g broke = record {
   files = broke.files;
+  name = broke.name;
   opened = broke.opened;
   reads = broke.reads;
   written = begins wave serial t u s v a b f g broke;

@@ -68,6 +68,7 @@ grows_on (Some text) m n t u p q = rw (q, p) (ap (λ (l : List ℕ). Some l) (ap
 pub leaves_nothing : (wave serial : Bool) (a : Outside) → Leaves (texts wave serial [] []) a a
 leaves_nothing wave serial a = record {
   files = refl;
+  name = λ p. refl;
   opened = λ p. refl;
   reads = refl;
   written = written wave serial;
@@ -94,6 +95,7 @@ wave_on wave serial t u bytes a m b p q ports.Complaint = q.written ports.Compla
 pub leaves_more : (wave serial : Bool) (t u bytes : List ℕ) (a m b : Outside) → Leaves (texts wave serial t bytes) a m → Leaves (texts wave false u []) m b → Leaves (texts wave serial (t ++ u) bytes) a b
 leaves_more wave serial t u bytes a m b p q = record {
   files = q.files ∙ p.files;
+  name = λ port. q.name port ∙ p.name port;
   opened = λ port. q.opened port ∙ p.opened port;
   reads = q.reads ∙ p.reads;
   written = wave_on wave serial t u bytes a m b p q;
@@ -137,6 +139,7 @@ rose_from x y z e r = rw (sym e) r
 pub breaks_off : (wave serial : Bool) (t u bytes : List ℕ) (a m b : Outside) → Leaves (texts wave serial t bytes) a m → BreaksOff (texts wave false u []) m b → BreaksOff (texts wave serial (t ++ u) bytes) a b
 breaks_off wave serial t u bytes a m b p q = record {
   files = q.files ∙ p.files;
+  name = λ port. q.name port ∙ p.name port;
   opened = λ port. q.opened port ∙ p.opened port;
   reads = q.reads ∙ p.reads;
   written = wave_begins wave serial t u bytes a m b p q;

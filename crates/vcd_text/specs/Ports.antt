@@ -27,6 +27,7 @@ BeginsOn (Some text) old new = (front : List ℕ) × IsFront front text × Grows
 -- From a to b the texts were written, and nothing else has changed.
 pub record Leaves (on : Port → Option (List ℕ)) (a b : Outside) : Type 0 where
   pub files : b.files ≡ a.files
+  pub name : (p : Port) → b.name p ≡ a.name p
   pub opened : (p : Port) → b.opened p ≡ a.opened p
   pub reads : b.read_faults ≡ a.read_faults
   pub written : (p : Port) → IsOn (on p) (a.written p) (b.written p)
@@ -35,6 +36,7 @@ pub record Leaves (on : Port → Option (List ℕ)) (a b : Outside) : Type 0 whe
 -- From a to b first parts of the texts were written, since writing failed on a port that has one.
 pub record BreaksOff (on : Port → Option (List ℕ)) (a b : Outside) : Type 0 where
   pub files : b.files ≡ a.files
+  pub name : (p : Port) → b.name p ≡ a.name p
   pub opened : (p : Port) → b.opened p ≡ a.opened p
   pub reads : b.read_faults ≡ a.read_faults
   pub written : (p : Port) → BeginsOn (on p) (a.written p) (b.written p)

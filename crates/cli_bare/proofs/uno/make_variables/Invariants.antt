@@ -1,7 +1,7 @@
 use Rattle.std.proofs.Common.{◌≡◌, ◌++◌, map}
 use Rattle.vcd_text.specs.Variables.{variables_of}
 use Rattle.board_model.specs.Walks.{below}
-use Rattle.run_model.specs.Bare.{digital_pin, analog_pin}
+use Rattle.cli_bare.specs.Bare.{digital_pin, analog_pin}
 use Rattle.cli_bare.proofs.uno.make_variables.Given as goal
 
 abbrev pub invariant-loop-k : goal.invariant-loop-k

@@ -1,23 +1,23 @@
 use Rattle.std.proofs.Common.{◌≡◌, ℕ, List, Ok, IfSome, codes, refl}
 use Rattle.sim_base.specs.declared.bench.Port.TheVariants as ports
 use Rattle.sim_base.specs.Outside.{Files}
-use Rattle.words_model.specs.Request.{Check}
 use Rattle.outcome_model.proofs.ReadLemmas.{if_some}
 use Rattle.project_model.specs.Work.{work_in}
-use Rattle.run_model.specs.Answer.{Answers, accepted}
-use Rattle.run_model.proofs.EndLemmas.{alone_ran}
+use Rattle.outcome_model.specs.Stop.{accepted, printed}
+use Rattle.outcome_model.proofs.EndLemmas.{alone_ran}
+use Rattle.cli_project.specs.Answer.{CheckAnswer}
 use Rattle.cli_work.specs.Outcomes.{outcome_of}
 use Rattle.cli_project.specs.Works.{work_of}
 use Rattle.cli_project.proofs.ProjectLemmas.{check_answer, check_stops}
 use Rattle.cli_project.proofs.checking.check.Goals as goal
 
-pub returns-in-Ok-clause-happens : goal.returns-in-Ok-clause-happens
-returns-in-Ok-clause-happens g c =
+pub returns-in-Ok-clause-ends : goal.returns-in-Ok-clause-ends
+returns-in-Ok-clause-ends g c =
     let a = g.B.Bench.outside c.args.bench.now in
     let folder : List ℕ = c.args.folder.now in
-    let is : IfSome a.files (λ files. Answers (Check folder) files (Ok accepted)) =
+    let is : IfSome a.files (λ files. CheckAnswer folder files (Ok accepted)) =
     if_some a.files _ _ (λ (files : Files) (e : work_in folder files ≡ Ok (work_of c.in-Ok.field-0)). check_answer folder files (work_of c.in-Ok.field-0) e) c.in-Ok.ensures.got.0 in
-    alone_ran (Check folder) a (g.B.Bench.outside c.read_work.new.bench) (g.B.Bench.outside c.write_text.new.bench) c.in-Ok.ensures.got.1 c.in-Ok.ensures.ports ports.Report refl (outcome_of c.write_text.result) (codes "accepted\n") is c.write_text.ensures.ran c.write_text.ensures.others
+    alone_ran (CheckAnswer folder) a (g.B.Bench.outside c.read_work.new.bench) (g.B.Bench.outside c.write_text.new.bench) c.in-Ok.ensures.got.1 c.in-Ok.ensures.ports ports.Report refl (outcome_of c.write_text.result) (printed (codes "accepted\n")) is c.write_text.ensures.ran c.write_text.ensures.others
 
-pub returns-clause-happens : goal.returns-clause-happens
-returns-clause-happens g c = check_stops c.args.folder.now (outcome_of c.in-Err.outcome) _ _ c.in-Err.ensures.got c.in-Err.ensures.ports
+pub returns-clause-ends : goal.returns-clause-ends
+returns-clause-ends g c = check_stops c.args.folder.now (outcome_of c.in-Err.outcome) _ _ c.in-Err.ensures.got c.in-Err.ensures.ports

@@ -14,7 +14,7 @@ returns-clause-wrote g c =
     let what = c.tell_text-end-3.ensures.next _ _ space in
     let place = c.tell_place-end.ensures.next _ _ what in
     let last = c.tell_text.ensures.next _ _ place in
-    rw (← refusal_line c.args.name.now (codes ": refused ") (decimal c.args.refusal.number) (codes " ") (name_of c.args.refusal.number) (place_parts c.args.refusal.place) (codes "\n")) (rw (c.from.ensures, c.name_or_empty.ensures) at last)
+    rw (← refusal_line c.args.name.now (codes ": refused ") (decimal c.args.refusal.number) (codes " ") (name_of c.args.refusal.number) (place_parts c.args.refusal.place) (codes "\n")) (rw (c.from.ensures, c.refusal_name.ensures) at last)
 
 pub returns-clause-others : goal.returns-clause-others
 returns-clause-others g c =

@@ -15,6 +15,9 @@ returns-in-Failed-clause-wrote g c =
       rw (← c.loop-part.invariant.faults) c.in-Failed.ensures.cause.1,
     )
 
+pub returns-in-Failed-clause-named : goal.returns-in-Failed-clause-named
+returns-in-Failed-clause-named g c = c.in-Failed.ensures.named ∙ c.loop-part.invariant.named
+
 pub loop-part-preserved : goal.loop-part-preserved
 loop-part-preserved g c =
     let bytes : Bor (List ℕ) → List ℕ = λ p. p.now in
@@ -22,6 +25,7 @@ loop-part-preserved g c =
     record {
       grown = grows_more _ _ _ _ _ _ c.loop-part.invariant.grown c.in-Ok.ensures.leaves (part_more bytes c.args.parts.now c.loop-part.part-index none c.loop-part-test.true);
       faults = c.in-Ok.ensures.cause ∙ c.loop-part.invariant.faults;
+      named = c.in-Ok.ensures.named ∙ c.loop-part.invariant.named;
       opened = c.in-Ok.ensures.opened ∙ c.loop-part.invariant.opened;
       others = others_more c.args.port _ _ _ c.loop-part.invariant.others c.in-Ok.ensures.others;
     }

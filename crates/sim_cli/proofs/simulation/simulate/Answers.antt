@@ -2,8 +2,10 @@ use Rattle.std.proofs.Common.{map, string_bytes}
 use Rattle.words_model.specs.Request.{request_of}
 use Rattle.cli_work.specs.Outcomes.{outcome_of}
 use Rattle.outcome_model.proofs.WriteLemmas.{complains, complains_since}
-use Rattle.run_model.proofs.EndLemmas.{told}
-use Rattle.run_model.proofs.PromiseLemmas.{words_alone, answered, complete, holds_answer, stopped, true_stop, has_cause, holds_front, complains_alone, is_status}
+use Rattle.outcome_model.proofs.EndLemmas.{told}
+use Rattle.outcome_model.proofs.PromiseLemmas.{words_alone, answered, complete, holds_answer, stopped, true_stop, has_cause, holds_front, complains_alone, is_status}
+use Rattle.sim_cli.specs.Answers.{Answers}
+use Rattle.sim_cli.proofs.AnswerLemmas.{one}
 use Rattle.sim_cli.proofs.simulation.simulate.Goals as goal
 
 pub returns-clause-does : goal.returns-clause-does
@@ -15,7 +17,7 @@ returns-clause-does g c =
     record {
       outcome = outcome_of c.work-outcome.result;
       is_status = c.status.ensures;
-      happens = told (outcome_of c.work-outcome.result) (request_of words) a m b c.tell-end.ensures.quiet c.work-outcome.ensures.happens c.tell-end.ensures.others;
+      happens = told Answers (outcome_of c.work-outcome.result) (request_of words) a m b c.tell-end.ensures.quiet c.work-outcome.ensures.happens c.tell-end.ensures.others;
       complains = complains_since _ a m b c.work-outcome.ensures.silent (complains c.tell-end.result _ m b c.tell-end.ensures.wrote);
     }
 
@@ -25,8 +27,8 @@ returns-clause-words g c =
     let a = g.B.Bench.outside c.args.bench.now in
     let m = g.B.Bench.outside c.work-outcome.new.bench in
     let b = g.B.Bench.outside c.tell-end.new.bench in
-    rw c.status.ensures (words_alone (outcome_of c.work-outcome.result) (request_of words) a b
-    (told (outcome_of c.work-outcome.result) (request_of words) a m b c.tell-end.ensures.quiet c.work-outcome.ensures.happens c.tell-end.ensures.others))
+    rw c.status.ensures (words_alone Answers a b (outcome_of c.work-outcome.result) (request_of words)
+    (told Answers (outcome_of c.work-outcome.result) (request_of words) a m b c.tell-end.ensures.quiet c.work-outcome.ensures.happens c.tell-end.ensures.others))
 
 pub returns-clause-answered : goal.returns-clause-answered
 returns-clause-answered g c =
@@ -34,8 +36,8 @@ returns-clause-answered g c =
     let a = g.B.Bench.outside c.args.bench.now in
     let m = g.B.Bench.outside c.work-outcome.new.bench in
     let b = g.B.Bench.outside c.tell-end.new.bench in
-    rw c.status.ensures (answered (outcome_of c.work-outcome.result) (request_of words) a b
-    (told (outcome_of c.work-outcome.result) (request_of words) a m b c.tell-end.ensures.quiet c.work-outcome.ensures.happens c.tell-end.ensures.others))
+    rw c.status.ensures (answered Answers a b (outcome_of c.work-outcome.result) (request_of words)
+    (told Answers (outcome_of c.work-outcome.result) (request_of words) a m b c.tell-end.ensures.quiet c.work-outcome.ensures.happens c.tell-end.ensures.others))
 
 pub returns-clause-complete : goal.returns-clause-complete
 returns-clause-complete g c =
@@ -43,8 +45,8 @@ returns-clause-complete g c =
     let a = g.B.Bench.outside c.args.bench.now in
     let m = g.B.Bench.outside c.work-outcome.new.bench in
     let b = g.B.Bench.outside c.tell-end.new.bench in
-    rw c.status.ensures (complete (outcome_of c.work-outcome.result) (request_of words) a b
-    (told (outcome_of c.work-outcome.result) (request_of words) a m b c.tell-end.ensures.quiet c.work-outcome.ensures.happens c.tell-end.ensures.others))
+    rw c.status.ensures (complete Answers a b one (outcome_of c.work-outcome.result) (request_of words)
+    (told Answers (outcome_of c.work-outcome.result) (request_of words) a m b c.tell-end.ensures.quiet c.work-outcome.ensures.happens c.tell-end.ensures.others))
 
 pub returns-clause-holds : goal.returns-clause-holds
 returns-clause-holds g c =
@@ -52,8 +54,8 @@ returns-clause-holds g c =
     let a = g.B.Bench.outside c.args.bench.now in
     let m = g.B.Bench.outside c.work-outcome.new.bench in
     let b = g.B.Bench.outside c.tell-end.new.bench in
-    rw c.status.ensures (holds_answer (outcome_of c.work-outcome.result) (request_of words) a b
-    (told (outcome_of c.work-outcome.result) (request_of words) a m b c.tell-end.ensures.quiet c.work-outcome.ensures.happens c.tell-end.ensures.others))
+    rw c.status.ensures (holds_answer Answers a b (outcome_of c.work-outcome.result) (request_of words)
+    (told Answers (outcome_of c.work-outcome.result) (request_of words) a m b c.tell-end.ensures.quiet c.work-outcome.ensures.happens c.tell-end.ensures.others))
 
 pub returns-clause-stopped : goal.returns-clause-stopped
 returns-clause-stopped g c =
@@ -61,8 +63,8 @@ returns-clause-stopped g c =
     let a = g.B.Bench.outside c.args.bench.now in
     let m = g.B.Bench.outside c.work-outcome.new.bench in
     let b = g.B.Bench.outside c.tell-end.new.bench in
-    rw c.status.ensures (stopped (outcome_of c.work-outcome.result) (request_of words) a b
-    (told (outcome_of c.work-outcome.result) (request_of words) a m b c.tell-end.ensures.quiet c.work-outcome.ensures.happens c.tell-end.ensures.others))
+    rw c.status.ensures (stopped Answers a b one (outcome_of c.work-outcome.result) (request_of words)
+    (told Answers (outcome_of c.work-outcome.result) (request_of words) a m b c.tell-end.ensures.quiet c.work-outcome.ensures.happens c.tell-end.ensures.others))
 
 pub returns-clause-true_stop : goal.returns-clause-true_stop
 returns-clause-true_stop g c =
@@ -70,8 +72,8 @@ returns-clause-true_stop g c =
     let a = g.B.Bench.outside c.args.bench.now in
     let m = g.B.Bench.outside c.work-outcome.new.bench in
     let b = g.B.Bench.outside c.tell-end.new.bench in
-    rw c.status.ensures (true_stop (outcome_of c.work-outcome.result) (request_of words) a b
-    (told (outcome_of c.work-outcome.result) (request_of words) a m b c.tell-end.ensures.quiet c.work-outcome.ensures.happens c.tell-end.ensures.others))
+    rw c.status.ensures (true_stop Answers a b (outcome_of c.work-outcome.result) (request_of words)
+    (told Answers (outcome_of c.work-outcome.result) (request_of words) a m b c.tell-end.ensures.quiet c.work-outcome.ensures.happens c.tell-end.ensures.others))
 
 pub returns-clause-cause : goal.returns-clause-cause
 returns-clause-cause g c =
@@ -79,8 +81,8 @@ returns-clause-cause g c =
     let a = g.B.Bench.outside c.args.bench.now in
     let m = g.B.Bench.outside c.work-outcome.new.bench in
     let b = g.B.Bench.outside c.tell-end.new.bench in
-    rw c.status.ensures (has_cause (outcome_of c.work-outcome.result) (request_of words) a b
-    (told (outcome_of c.work-outcome.result) (request_of words) a m b c.tell-end.ensures.quiet c.work-outcome.ensures.happens c.tell-end.ensures.others))
+    rw c.status.ensures (has_cause Answers a b (outcome_of c.work-outcome.result) (request_of words)
+    (told Answers (outcome_of c.work-outcome.result) (request_of words) a m b c.tell-end.ensures.quiet c.work-outcome.ensures.happens c.tell-end.ensures.others))
 
 pub returns-clause-front : goal.returns-clause-front
 returns-clause-front g c =
@@ -88,8 +90,8 @@ returns-clause-front g c =
     let a = g.B.Bench.outside c.args.bench.now in
     let m = g.B.Bench.outside c.work-outcome.new.bench in
     let b = g.B.Bench.outside c.tell-end.new.bench in
-    rw c.status.ensures (holds_front (outcome_of c.work-outcome.result) (request_of words) a b
-    (told (outcome_of c.work-outcome.result) (request_of words) a m b c.tell-end.ensures.quiet c.work-outcome.ensures.happens c.tell-end.ensures.others))
+    rw c.status.ensures (holds_front Answers a b (outcome_of c.work-outcome.result) (request_of words)
+    (told Answers (outcome_of c.work-outcome.result) (request_of words) a m b c.tell-end.ensures.quiet c.work-outcome.ensures.happens c.tell-end.ensures.others))
 
 pub returns-clause-silent : goal.returns-clause-silent
 returns-clause-silent g c =
@@ -97,8 +99,8 @@ returns-clause-silent g c =
     let a = g.B.Bench.outside c.args.bench.now in
     let m = g.B.Bench.outside c.work-outcome.new.bench in
     let b = g.B.Bench.outside c.tell-end.new.bench in
-    rw c.status.ensures (complains_alone (outcome_of c.work-outcome.result) (request_of words) a b
-    (told (outcome_of c.work-outcome.result) (request_of words) a m b c.tell-end.ensures.quiet c.work-outcome.ensures.happens c.tell-end.ensures.others))
+    rw c.status.ensures (complains_alone Answers a b (outcome_of c.work-outcome.result) (request_of words)
+    (told Answers (outcome_of c.work-outcome.result) (request_of words) a m b c.tell-end.ensures.quiet c.work-outcome.ensures.happens c.tell-end.ensures.others))
 
 pub returns-clause-status : goal.returns-clause-status
 returns-clause-status g c = rw c.status.ensures (is_status (outcome_of c.work-outcome.result))

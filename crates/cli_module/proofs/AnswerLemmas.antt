@@ -1,13 +1,12 @@
--- A request is answered by texts or by a stop, and not by both, and stops have one status.
-use Rattle.std.proofs.Common.{◌≡◌, ◌∙◌, ℕ, List, Bool, true, false, Option, None, Some, Result, Ok, Err, refl, ap, sym, nat_lt, length}
+-- A module is accepted or refused, and not both, and its stops have one status.
+use Rattle.std.proofs.Common.{◌≡◌, ◌∙◌, ℕ, List, Bool, true, false, Option, None, Some, Ok, Err, refl, ap, sym, nat_lt, length}
 use Rattle.std.specs.FinMap.{get}
-use Rattle.sim_base.specs.Outside.{Files}
-use Rattle.words_model.specs.Request.{Request, Bare, Check, Module, Run}
-use Rattle.outcome_model.specs.Stop.{Stop, Missing, Refused, Texts, JudgedWithin, JudgedFrom}
+use Rattle.outcome_model.specs.Stop.{Stop, Missing, Refused, JudgedWithin, JudgedFrom}
 use Rattle.outcome_model.specs.Outcome.{Stopped, status_of}
+use Rattle.outcome_model.specs.Promises.{IsOne}
 use Rattle.module_model.specs.Accepts.{Judges}
 use Rattle.module_model.proofs.AcceptsLemmas.{not_both}
-use Rattle.run_model.specs.Answer.{Answers}
+use Rattle.cli_module.specs.Answer.{ModuleAnswer}
 
 within_one : (b : Bool) (name bytes : List ℕ) (s : Stop) → JudgedWithin b name (Judges bytes) (Ok tt) → JudgedWithin b name (Judges bytes) (Err s) → ⊥
 within_one true name bytes s good fails = absurd (cc)
@@ -17,19 +16,6 @@ within_one false name bytes (Refused other r) good fails = not_both bytes r good
 from_one : (told : Option (List ℕ)) (name : List ℕ) (s : Stop) → JudgedFrom name Judges told (Ok tt) → JudgedFrom name Judges told (Err s) → ⊥
 from_one None name s good fails = absurd (cc)
 from_one (Some bytes) name s good fails = within_one (nat_lt 1048576 (length bytes)) name bytes s good fails
-
-pub one_sided : (r : Request) (files : Files) (t : Texts) (s : Stop) → Answers r files (Ok t) → Answers r files (Err s) → ⊥
-unfolding Answers
-one_sided (Bare hex us) files t s good fails = let bad : Ok t ≡ Err s = sym good ∙ fails in absurd (cc)
-one_sided (Check folder) files t s good fails = let bad : Ok t ≡ Err s = sym good ∙ fails in absurd (cc)
-one_sided (Run folder us vcd) files t s good fails = let bad : Ok t ≡ Err s = sym good ∙ fails in absurd (cc)
-one_sided (Module name) files t s good fails = from_one (get files name) name s good.1 fails
-
-same_stop : (s t : Stop) (x : Result Texts Stop) → x ≡ Err t → x ≡ Err s → status_of (Stopped t) ≡ status_of (Stopped s)
-same_stop s t x e f =
-    let same : Err t ≡ Err s = sym e ∙ f in
-    let it : t ≡ s = cc in
-    ap (λ (y : Stop). status_of (Stopped y)) it
 
 within_status : (b : Bool) (name bytes : List ℕ) (t s : Stop) → JudgedWithin b name (Judges bytes) (Err t) → JudgedWithin b name (Judges bytes) (Err s) → status_of (Stopped t) ≡ status_of (Stopped s)
 within_status true name bytes t s e f =
@@ -47,9 +33,9 @@ from_status None name t s e f =
     ap (λ (y : Stop). status_of (Stopped y)) it
 from_status (Some bytes) name t s e f = within_status (nat_lt 1048576 (length bytes)) name bytes t s e f
 
-pub one_status : (r : Request) (files : Files) (t s : Stop) → Answers r files (Err t) → Answers r files (Err s) → status_of (Stopped t) ≡ status_of (Stopped s)
-unfolding Answers
-one_status (Bare hex us) files t s e f = same_stop s t _ e f
-one_status (Check folder) files t s e f = same_stop s t _ e f
-one_status (Run folder us vcd) files t s e f = same_stop s t _ e f
-one_status (Module name) files t s e f = from_status (get files name) name t s e f
+pub one_module : (name : List ℕ) → IsOne (ModuleAnswer name)
+unfolding ModuleAnswer
+one_module name = record {
+  one_sided = λ files t s good fails. from_one (get files name) name s good.1 fails;
+  one_status = λ files t s e f. from_status (get files name) name t s e f;
+}

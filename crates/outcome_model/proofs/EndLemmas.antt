@@ -1,0 +1,159 @@
+-- From the steps of a call to what it does.
+use Rattle.std.proofs.Common.{◌≡◌, ◌≢◌, ℕ, List, [], true, refl, ap, ◌∙◌, Option, Some, None, Result, Ok, Err, inl, inr, IfSome}
+use Rattle.std.specs.Option.{option_map}
+use Rattle.std.specs.FinMap.{remove}
+use Rattle.sim_base.specs.declared.bench.Port.{Port}
+use Rattle.sim_base.specs.declared.bench.Port.TheVariants as ports
+use Rattle.sim_base.specs.Causes.{Rose}
+use Rattle.sim_base.specs.Outside.{Outside, SameOthers, SamePorts, Files, IsKept, IsNamed, is_openable}
+use Rattle.outcome_model.specs.Stop.{Stop, Missing, Output, Texts, wave_alone, report_alone, ◌>>=◌}
+use Rattle.outcome_model.specs.Work.{ReadStops, RanOn}
+use Rattle.outcome_model.specs.Outcome.{Outcome, Accepted, NoRequest, Stopped, ReadFailed, WriteFailed, OutOfMemory, IsOn, BeginsOn, Hold, Begin, OutputRose}
+use Rattle.outcome_model.specs.Happens.{Answer, Ends, EndsUnasked, Happens}
+use Rattle.outcome_model.proofs.WriteLemmas.{grows_same, front_all}
+use Rattle.outcome_model.proofs.ReadLemmas.{if_some}
+
+kept_port : (p : Port) (a b : Outside) → SamePorts a b → IsKept p a b
+kept_port p a b same = (same.written p, same.name p)
+
+-- where a file that a request reads ends the work
+pub stopped_by : {X : Type 0} (answer : Answer) (reading : Files → Result X Stop) → ((files : Files) (s : Stop) → reading files ≡ Err s → answer files (Err s)) →
+    (o : Outcome) (a b : Outside) → ReadStops o reading a b → SamePorts a b → Ends answer o a b
+stopped_by answer reading is Accepted a b s same = absurd s
+stopped_by answer reading is NoRequest a b s same = absurd s
+stopped_by answer reading is (Stopped t) a b s same = (if_some a.files _ _ (λ (files : Files) (e : reading files ≡ Err t). is files t e) s, λ p ne. kept_port p a b same)
+stopped_by answer reading is (ReadFailed n) a b s same = (
+  if_some a.files _ _ (λ (files : Files) (e : reading (remove files n) ≡ Err (Missing n)). is (remove files n) (Missing n) e) s.0,
+  s.1,
+  λ p ne. kept_port p a b same,
+)
+stopped_by answer reading is WriteFailed a b s same = absurd s
+stopped_by answer reading is OutOfMemory a b s same = λ p ne. kept_port p a b same
+
+-- the same of a request whose texts are made of what was read
+pub stops : {X : Type 0} (answer : Answer) (reading : Files → Result X Stop) (texts : X → Result Texts Stop) → ((files : Files) (result : Result Texts Stop) → (reading files >>= texts) ≡ result → answer files result) →
+    (o : Outcome) (a b : Outside) → ReadStops o reading a b → SamePorts a b → Ends answer o a b
+stops {X = X} answer reading texts is = stopped_by answer reading (λ files s e. is files (Err s) (ap (λ (x : Result X Stop). x >>= texts) e))
+
+-- a text on one port alone
+abbrev pub alone : Port → Output → Texts
+alone ports.Wave out = wave_alone out
+alone ports.Report out = report_alone out
+alone ports.Serial out = record { serial = out.text; wave = None; report = None }
+alone ports.Complaint out = record { serial = []; wave = None; report = None }
+
+-- what holds of a port that can be opened, and of all others
+at_ports : (P : Port → Type 0) (p : Port) → is_openable p ≡ true → P p → ((q : Port) → q ≢ p → P q) → (q : Port) → P q
+at_ports P ports.Wave out x f ports.Wave = x
+at_ports P ports.Wave out x f ports.Serial = f ports.Serial (λ e. cc)
+at_ports P ports.Wave out x f ports.Report = f ports.Report (λ e. cc)
+at_ports P ports.Wave out x f ports.Complaint = f ports.Complaint (λ e. cc)
+at_ports P ports.Report out x f ports.Report = x
+at_ports P ports.Report out x f ports.Serial = f ports.Serial (λ e. cc)
+at_ports P ports.Report out x f ports.Wave = f ports.Wave (λ e. cc)
+at_ports P ports.Report out x f ports.Complaint = f ports.Complaint (λ e. cc)
+at_ports P ports.Serial out x f q = absurd (cc)
+at_ports P ports.Complaint out x f q = absurd (cc)
+
+holds_alone : (p : Port) (out : Output) (a b : Outside) → is_openable p ≡ true → IsOn (Some out) p a b → ((q : Port) → q ≢ p → IsKept q a b) → Hold (alone p out) a b
+holds_alone ports.Wave out a b can on others = record { serial = grows_same _ _ (others ports.Serial (λ e. cc)).0; wave = on; report = others ports.Report (λ e. cc) }
+holds_alone ports.Report out a b can on others = record { serial = grows_same _ _ (others ports.Serial (λ e. cc)).0; wave = others ports.Wave (λ e. cc); report = on }
+holds_alone ports.Serial out a b can on others = absurd (cc)
+holds_alone ports.Complaint out a b can on others = absurd (cc)
+
+begins_alone : (p : Port) (out : Output) (a b : Outside) → is_openable p ≡ true → BeginsOn (Some out) p a b → ((q : Port) → q ≢ p → IsKept q a b) → Begin (alone p out) a b
+begins_alone ports.Wave out a b can on others = record { serial = ([], front_all [], grows_same _ _ (others ports.Serial (λ e. cc)).0); wave = on; report = others ports.Report (λ e. cc) }
+begins_alone ports.Report out a b can on others = record { serial = ([], front_all [], grows_same _ _ (others ports.Serial (λ e. cc)).0); wave = others ports.Wave (λ e. cc); report = on }
+begins_alone ports.Serial out a b can on others = absurd (cc)
+begins_alone ports.Complaint out a b can on others = absurd (cc)
+
+output_rose : (p : Port) (a b : Outside) → is_openable p ≡ true → Rose (a.faults p) (b.faults p) → OutputRose a b
+output_rose ports.Wave a b out up = inl up
+output_rose ports.Report a b out up = inr (inr up)
+output_rose ports.Serial a b out up = absurd (cc)
+output_rose ports.Complaint a b out up = absurd (cc)
+
+-- what a port has become since the files were read, it has become since before
+module _ (a m b : Outside) (same : SamePorts a m) where
+  pub kept_after : (p : Port) → IsKept p m b → IsKept p a b
+  kept_after p is = (is.0 ∙ same.written p, is.1 ∙ same.name p)
+
+  named_after : (p : Port) (name : List ℕ) → IsNamed p name m b → IsNamed p name a b
+  named_after p name is = rw (← same.files) is
+
+  pub on_after : (p : Port) (out : Option Output) → IsOn out p m b → IsOn out p a b
+  on_after p None is = kept_after p is
+  on_after p (Some out) is = (is.0 ∙ ap (option_map (λ (l : List ℕ). out.text)) (same.written p), named_after p out.name is.1)
+
+  pub begins_after : (p : Port) (out : Option Output) → BeginsOn out p m b → BeginsOn out p a b
+  begins_after p None is = kept_after p is
+  begins_after p (Some out) (inl is) = inl (kept_after p is)
+  begins_after p (Some out) (inr is) = inr (is.0, is.1, is.2 ∙ ap (option_map (λ (l : List ℕ). is.0)) (same.written p), named_after p out.name is.3)
+
+module _ (answer : Answer) (a m b : Outside) (reads : m.read_faults ≡ a.read_faults) (same : SamePorts a m) where
+  kept : (p q : Port) → SameOthers p m b → q ≢ p → IsKept q a b
+  kept p q others ne = kept_after a m b same q (others.written q ne, others.name q ne)
+
+  -- a text on one port alone was written after the files were read
+  pub alone_ran : (p : Port) → is_openable p ≡ true → (o : Outcome) (out : Output) → IfSome a.files (λ (files : Files). answer files (Ok (alone p out))) →
+      RanOn p o out m b → SameOthers p m b → Ends answer o a b
+  alone_ran p can Accepted out is ran others = (
+    (others.reads ∙ reads, at_ports (λ q. b.faults q ≡ a.faults q) p can (ran.1 ∙ same.faults p) (λ q ne. others.faults q ne ∙ same.faults q)),
+    if_some a.files _ _ (λ (files : Files) (e : answer files (Ok (alone p out))). (
+      alone p out,
+      e,
+      holds_alone p out a b can (on_after a m b same p (Some out) ran.0) (λ q ne. kept p q others ne),
+    )) is,
+  )
+  alone_ran p can NoRequest out is ran others = absurd ran
+  alone_ran p can (Stopped s) out is ran others = absurd ran
+  alone_ran p can (ReadFailed name) out is ran others = absurd ran
+  alone_ran p can WriteFailed out is ran others = (
+    output_rose p a b can (rw (← same.faults p) ran.0),
+    if_some a.files _ _ (λ (files : Files) (e : answer files (Ok (alone p out))). (
+      alone p out,
+      e,
+      begins_alone p out a b can (begins_after a m b same p (Some out) ran.1) (λ q ne. kept p q others ne),
+    )) is,
+  )
+  alone_ran p can OutOfMemory out is ran others = λ q ne. at_ports (λ q. IsKept q a b) p can (kept_after a m b same p ran.0) (λ q other. kept p q others other) q
+
+module _ (a m b : Outside) (others : SameOthers ports.Complaint m b) where
+  kept_on : (p : Port) → p ≢ ports.Complaint → IsKept p a m → IsKept p a b
+  kept_on p ne is = (others.written p ne ∙ is.0, others.name p ne ∙ is.1)
+
+  begun_on : (t : Option Output) (p : Port) → p ≢ ports.Complaint → BeginsOn t p a m → BeginsOn t p a b
+  begun_on None p ne is = kept_on p ne is
+  begun_on (Some out) p ne is = rw (others.written p ne, others.name p ne) is
+
+  begun : (answer : Answer) → IfSome a.files (λ files. (t : Texts) × answer files (Ok t) × Begin t a m) → IfSome a.files (λ files. (t : Texts) × answer files (Ok t) × Begin t a b)
+  begun answer x = if_some a.files _ _ (λ (files : Files) (y : (t : Texts) × answer files (Ok t) × Begin t a m). (
+    y.0,
+    y.1,
+    record {
+      serial = rw (others.written ports.Serial (λ e. cc)) y.2.serial;
+      wave = begun_on y.0.wave ports.Wave (λ e. cc) y.2.wave;
+      report = begun_on y.0.report ports.Report (λ e. cc) y.2.report;
+    },
+  )) x
+
+  told_asked : (answer : Answer) (o : Outcome) → (o ≡ Accepted → b ≡ m) → Ends answer o a m → Ends answer o a b
+  told_asked answer Accepted quiet h = rw (quiet refl) h
+  told_asked answer NoRequest quiet h = absurd h
+  told_asked answer (Stopped s) quiet h = (h.0, λ p ne. kept_on p ne (h.1 p ne))
+  told_asked answer (ReadFailed name) quiet h = (h.0, rw others.reads h.1, λ p ne. kept_on p ne (h.2 p ne))
+  told_asked answer WriteFailed quiet h = rw (others.faults ports.Wave (λ e. cc), others.faults ports.Serial (λ e. cc), others.faults ports.Report (λ e. cc)) (h.0, begun answer h.1)
+  told_asked answer OutOfMemory quiet h = λ p ne. kept_on p ne (h p ne)
+
+  told_unasked : (o : Outcome) → EndsUnasked o a m → EndsUnasked o a b
+  told_unasked Accepted h = absurd h
+  told_unasked NoRequest h = λ p ne. kept_on p ne (h p ne)
+  told_unasked (Stopped s) h = absurd h
+  told_unasked (ReadFailed name) h = absurd h
+  told_unasked WriteFailed h = absurd h
+  told_unasked OutOfMemory h = λ p ne. kept_on p ne (h p ne)
+
+-- what happened happens still once the line is on Complaint
+pub told : {R : Type 0} (answers : R → Answer) (o : Outcome) (asked : Option R) (a m b : Outside) → (o ≡ Accepted → b ≡ m) → Happens answers o asked a m → SameOthers ports.Complaint m b → Happens answers o asked a b
+told answers o None a m b quiet h others = told_unasked a m b others o h
+told answers o (Some r) a m b quiet h others = told_asked a m b others (answers r) o quiet h

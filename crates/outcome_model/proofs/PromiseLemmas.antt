@@ -1,0 +1,170 @@
+-- What follows from what a call does.
+use Rattle.std.proofs.Common.{◌≡◌, ℕ, refl, sym, ◌∙◌, Option, Some, None, Result, Ok, Err, inl, inr, ◌⊎◌, IfSome, subst, ap, arith}
+use Rattle.sim_base.specs.declared.bench.Port.TheVariants as ports
+use Rattle.sim_base.specs.Causes.{Rose}
+use Rattle.sim_base.specs.Outside.{Outside, Files}
+use Rattle.outcome_model.specs.Stop.{Stop, Missing, Refused, Texts}
+use Rattle.outcome_model.specs.Outcome.{Outcome, Accepted, NoRequest, Stopped, ReadFailed, WriteFailed, OutOfMemory, Hold, Begin, OutputRose, status_of}
+use Rattle.outcome_model.specs.Happens.{Answer, Ends, EndsUnasked, Happens}
+use Rattle.outcome_model.specs.Promises.{IsOne, NoneRose, WordsAlone, IsAnswered, IsComplete, HoldsAnswer, IsStopped, IsTrueStop, HasCause, HoldsFront, ComplainsAlone, IsStatus}
+use Rattle.outcome_model.proofs.ReadLemmas.{if_some, if_always}
+
+-- what holds of told files, once these are known
+at_told : (told : Option Files) (P : Files → Type 0) → IfSome told P → (files : Files) → told ≡ Some files → P files
+at_told None P h files e = absurd (cc)
+at_told (Some f) P h files e = rw (← some_inj e) h
+  where
+    some_inj : Some f ≡ Some files → f ≡ files
+    some_inj e = cc
+
+no_output : (a b : Outside) → NoneRose a b → OutputRose a b → ⊥
+no_output a b none (inl x) = none.1 ports.Wave x
+no_output a b none (inr (inl x)) = none.1 ports.Serial x
+no_output a b none (inr (inr x)) = none.1 ports.Report x
+
+unasked : (o : Outcome) (a b : Outside) → EndsUnasked o a b → (status_of o ≡ 2) ⊎ (status_of o ≡ 7)
+unasked Accepted a b h = absurd h
+unasked NoRequest a b h = inl refl
+unasked (Stopped s) a b h = absurd h
+unasked (ReadFailed name) a b h = absurd h
+unasked WriteFailed a b h = absurd h
+unasked OutOfMemory a b h = inr refl
+
+-- no status but 2 and 7 comes where nothing is asked for
+unasked_not : {X : Type 0} (o : Outcome) (a b : Outside) (n : ℕ) → EndsUnasked o a b → status_of o ≡ n → (n ≡ 2 → ⊥) → (n ≡ 7 → ⊥) → X
+unasked_not o a b n h e two seven = elim (unasked o a b h) [ inl x ↦ absurd (two (sym e ∙ x)) | inr x ↦ absurd (seven (sym e ∙ x)) ]
+
+module _ (answer : Answer) (a b : Outside) where
+  not_two : (o : Outcome) → Ends answer o a b → status_of o ≡ 2 → ⊥
+  not_two Accepted h e = omega arith
+  not_two NoRequest h e = h
+  not_two (Stopped (Missing name)) h e = omega arith
+  not_two (Stopped (Refused name r)) h e = omega arith
+  not_two (ReadFailed name) h e = omega arith
+  not_two WriteFailed h e = omega arith
+  not_two OutOfMemory h e = omega arith
+
+  complete_one : IsOne answer → (o : Outcome) → Ends answer o a b → NoneRose a b → (files : Files) (t : Texts) → a.files ≡ Some files → answer files (Ok t) → (status_of o ≡ 0) ⊎ (status_of o ≡ 7)
+  complete_one one Accepted h none files t f g = inl refl
+  complete_one one NoRequest h none files t f g = absurd h
+  complete_one one (Stopped s) h none files t f g = absurd (one.one_sided files t s g (at_told a.files (λ files. answer files (Err s)) h.0 files f))
+  complete_one one (ReadFailed name) h none files t f g = absurd (none.0 h.1)
+  complete_one one WriteFailed h none files t f g = absurd (no_output a b none h.0)
+  complete_one one OutOfMemory h none files t f g = inr refl
+
+  stopped_one : IsOne answer → (o : Outcome) → Ends answer o a b → (files : Files) (s : Stop) → a.files ≡ Some files → answer files (Err s) →
+      (status_of o ≡ status_of (Stopped s)) ⊎ (((status_of o ≡ 5) × Rose a.read_faults b.read_faults) ⊎ (status_of o ≡ 7))
+  stopped_one one Accepted h files s f g =
+      let x = at_told a.files (λ files. (t : Texts) × answer files (Ok t) × Hold t a b) h.1 files f in
+      absurd (one.one_sided files x.0 s x.1 g)
+  stopped_one one NoRequest h files s f g = absurd h
+  stopped_one one (Stopped t) h files s f g = inl (one.one_status files t s (at_told a.files (λ files. answer files (Err t)) h.0 files f) g)
+  stopped_one one (ReadFailed name) h files s f g = inr (inl (refl, h.1))
+  stopped_one one WriteFailed h files s f g =
+      let x = at_told a.files (λ files. (t : Texts) × answer files (Ok t) × Begin t a b) h.1 files f in
+      absurd (one.one_sided files x.0 s x.1 g)
+  stopped_one one OutOfMemory h files s f g = inr (inr refl)
+
+module _ {R : Type 0} (answers : R → Answer) (a b : Outside) where
+  pub words_alone : (o : Outcome) (asked : Option R) → Happens answers o asked a b → WordsAlone (status_of o) asked
+  words_alone o None h = (λ e. refl, λ e. unasked o a b h)
+  words_alone o (Some r) h = (λ e. absurd (not_two (answers r) a b o h e), λ e. absurd (cc))
+
+  pub complete : ((r : R) → IsOne (answers r)) → (o : Outcome) (asked : Option R) → Happens answers o asked a b → IsComplete answers (status_of o) asked a b
+  complete one o None h none r files t e f g = absurd (cc)
+  complete one o (Some q) h none r files t e f g =
+      let is : q ≡ r = cc in
+      complete_one (answers r) a b (one r) o (subst (λ (x : R). Ends (answers x) o a b) is h) none files t f g
+
+  pub stopped : ((r : R) → IsOne (answers r)) → (o : Outcome) (asked : Option R) → Happens answers o asked a b → IsStopped answers (status_of o) asked a b
+  stopped one o None h r files s e f g = absurd (cc)
+  stopped one o (Some q) h r files s e f g =
+      let is : q ≡ r = cc in
+      stopped_one (answers r) a b (one r) o (subst (λ (x : R). Ends (answers x) o a b) is h) files s f g
+
+  pub answered : (o : Outcome) (asked : Option R) → Happens answers o asked a b → IsAnswered answers (status_of o) asked a b
+  answered Accepted None h none seven = absurd h
+  answered NoRequest None h none seven = if_always a.files _ (λ files. refl)
+  answered (Stopped s) None h none seven = absurd h
+  answered (ReadFailed name) None h none seven = absurd h
+  answered WriteFailed None h none seven = absurd h
+  answered OutOfMemory None h none seven = absurd (seven refl)
+  answered Accepted (Some r) h none seven = if_some a.files _ _ (λ (files : Files) (y : (t : Texts) × answers r files (Ok t) × Hold t a b). (Ok y.0, y.1, refl)) h.1
+  answered NoRequest (Some r) h none seven = absurd h
+  answered (Stopped s) (Some r) h none seven = if_some a.files _ _ (λ (files : Files) (e : answers r files (Err s)). (Err s, e, refl)) h.0
+  answered (ReadFailed name) (Some r) h none seven = absurd (none.0 h.1)
+  answered WriteFailed (Some r) h none seven = absurd (no_output a b none h.0)
+  answered OutOfMemory (Some r) h none seven = absurd (seven refl)
+
+  pub holds_answer : (o : Outcome) (asked : Option R) → Happens answers o asked a b → HoldsAnswer answers (status_of o) asked a b
+  holds_answer o None h e = unasked_not o a b 0 h e (λ x. omega (arith, x)) (λ x. omega (arith, x))
+  holds_answer Accepted (Some r) h e = (
+    h.0,
+    λ files f. (let x = at_told a.files (λ files. (t : Texts) × answers r files (Ok t) × Hold t a b) h.1 files f in (r, x.0, refl, x.1, x.2)),
+  )
+  holds_answer NoRequest (Some r) h e = absurd h
+  holds_answer (Stopped (Missing name)) (Some r) h e = absurd (omega arith)
+  holds_answer (Stopped (Refused name q)) (Some r) h e = absurd (omega arith)
+  holds_answer (ReadFailed name) (Some r) h e = absurd (omega arith)
+  holds_answer WriteFailed (Some r) h e = absurd (omega arith)
+  holds_answer OutOfMemory (Some r) h e = absurd (omega arith)
+
+  pub holds_front : (o : Outcome) (asked : Option R) → Happens answers o asked a b → HoldsFront answers (status_of o) asked a b
+  holds_front o None h e = unasked_not o a b 6 h e (λ x. omega (arith, x)) (λ x. omega (arith, x))
+  holds_front WriteFailed (Some r) h e = λ files f.
+      let x = at_told a.files (λ files. (t : Texts) × answers r files (Ok t) × Begin t a b) h.1 files f in
+      (r, x.0, refl, x.1, x.2)
+  holds_front Accepted (Some r) h e = absurd (omega arith)
+  holds_front NoRequest (Some r) h e = absurd h
+  holds_front (Stopped (Missing name)) (Some r) h e = absurd (omega arith)
+  holds_front (Stopped (Refused name q)) (Some r) h e = absurd (omega arith)
+  holds_front (ReadFailed name) (Some r) h e = absurd (omega arith)
+  holds_front OutOfMemory (Some r) h e = absurd (omega arith)
+
+  pub true_stop : (o : Outcome) (asked : Option R) → Happens answers o asked a b → IsTrueStop answers (status_of o) asked a
+  true_stop o None h (inl e) = unasked_not o a b 3 h e (λ x. omega (arith, x)) (λ x. omega (arith, x))
+  true_stop o None h (inr e) = unasked_not o a b 4 h e (λ x. omega (arith, x)) (λ x. omega (arith, x))
+  true_stop (Stopped s) (Some r) h e = λ files f. (r, s, refl, at_told a.files (λ files. answers r files (Err s)) h.0 files f, refl)
+  true_stop Accepted (Some r) h e = elim e [ inl x ↦ absurd (omega arith) | inr x ↦ absurd (omega arith) ]
+  true_stop NoRequest (Some r) h e = absurd h
+  true_stop (ReadFailed name) (Some r) h e = elim e [ inl x ↦ absurd (omega arith) | inr x ↦ absurd (omega arith) ]
+  true_stop WriteFailed (Some r) h e = elim e [ inl x ↦ absurd (omega arith) | inr x ↦ absurd (omega arith) ]
+  true_stop OutOfMemory (Some r) h e = elim e [ inl x ↦ absurd (omega arith) | inr x ↦ absurd (omega arith) ]
+
+  pub has_cause : (o : Outcome) (asked : Option R) → Happens answers o asked a b → HasCause (status_of o) a b
+  has_cause o None h = (λ e. unasked_not o a b 5 h e (λ x. omega (arith, x)) (λ x. omega (arith, x)), λ e. unasked_not o a b 6 h e (λ x. omega (arith, x)) (λ x. omega (arith, x)))
+  has_cause (ReadFailed name) (Some r) h = (λ e. h.1, λ e. absurd (omega arith))
+  has_cause WriteFailed (Some r) h = (λ e. absurd (omega arith), λ e. h.0)
+  has_cause Accepted (Some r) h = (λ e. absurd (omega arith), λ e. absurd (omega arith))
+  has_cause NoRequest (Some r) h = absurd h
+  has_cause (Stopped (Missing name)) (Some r) h = (λ e. absurd (omega arith), λ e. absurd (omega arith))
+  has_cause (Stopped (Refused name q)) (Some r) h = (λ e. absurd (omega arith), λ e. absurd (omega arith))
+  has_cause OutOfMemory (Some r) h = (λ e. absurd (omega arith), λ e. absurd (omega arith))
+
+  pub complains_alone : (o : Outcome) (asked : Option R) → Happens answers o asked a b → ComplainsAlone (status_of o) a b
+  complains_alone Accepted asked h zero six = absurd (zero refl)
+  complains_alone NoRequest None h zero six = h
+  complains_alone NoRequest (Some r) h zero six = absurd h
+  complains_alone (Stopped s) None h zero six = absurd h
+  complains_alone (Stopped s) (Some r) h zero six = h.1
+  complains_alone (ReadFailed name) None h zero six = absurd h
+  complains_alone (ReadFailed name) (Some r) h zero six = h.2
+  complains_alone WriteFailed asked h zero six = absurd (six refl)
+  complains_alone OutOfMemory None h zero six = h
+  complains_alone OutOfMemory (Some r) h zero six = h
+
+-- an answer that is a function of the files
+pub one_answer : (reading : Files → Result Texts Stop) → IsOne (λ files result. reading files ≡ result)
+one_answer reading = record {
+  one_sided = λ files t s good fails. (let bad : Ok t ≡ Err s = sym good ∙ fails in absurd (cc));
+  one_status = λ files t s e f. (let same : Err t ≡ Err s = sym e ∙ f in let it : t ≡ s = cc in ap (λ (y : Stop). status_of (Stopped y)) it);
+}
+
+pub is_status : (o : Outcome) → IsStatus (status_of o)
+is_status Accepted = inl refl
+is_status NoRequest = inr (inl refl)
+is_status (Stopped (Refused name r)) = inr (inr (inl refl))
+is_status (Stopped (Missing name)) = inr (inr (inr (inl refl)))
+is_status (ReadFailed name) = inr (inr (inr (inr (inl refl))))
+is_status WriteFailed = inr (inr (inr (inr (inr (inl refl)))))
+is_status OutOfMemory = inr (inr (inr (inr (inr (inr refl)))))
