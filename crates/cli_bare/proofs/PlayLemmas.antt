@@ -52,8 +52,7 @@ ran_of writes.Ok text a m b opens w = (
   w.faults ports.Wave ∙ opens.3,
 )
 ran_of writes.Failed text a m b opens w =
-    let begun = w.written ports.Wave in
-    (
+    let begun = w.written ports.Wave in (
       rose w.rose,
       inr (
         begun.0,

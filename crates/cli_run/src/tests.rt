@@ -194,12 +194,7 @@ struct Ended {
     complaint: Vec<u8>,
 }
 
-fn status_of<L: Ledger>(
-    alloc: Global,
-    wave: Option<&str>,
-    bench: &mut MemBench,
-    blank: Blank,
-) -> u8
+fn status_of<L: Ledger>(alloc: Global, wave: Option<&str>, bench: &mut MemBench, blank: Blank) -> u8
     requires name { blank.name ≡ L.name }
     requires ledger { blank.parts ≡ L.parts }
     requires some { 0 < L.parts }

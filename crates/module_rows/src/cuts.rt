@@ -31,7 +31,10 @@ fn print_run(rt: &impl Print, name: &str, first: usize, last: usize, cut: Cut) -
         print!(rt; " to {last}")?;
     }
     match cut {
-        Cut::AtTheCut(number) => println!(rt; ": refused {number} {} at the cut", refusal_name(number)),
+        Cut::AtTheCut(number) => println!(rt;
+            ": refused {number} {} at the cut",
+            refusal_name(number)
+        ),
         Cut::Other(answer) => println!(rt; ": {answer}"),
     }
 }

@@ -81,7 +81,11 @@ fn a_bench_fails_at_listed_calls_and_where_its_room_ends(rt: HostRuntime) -> Res
     assert_eq!(rt; bench.written(Port::Serial), b"abc".as_slice());
     assert!(rt; bench.name(Port::Wave).is_none());
     assert!(rt; bench.open_port(Port::Wave, "w.vcd") == WriteEnd::Ok);
-    assert!(rt; bench.name(Port::Wave).is_some_and(|name| name == b"w.vcd".as_slice()));
+    assert!(rt;
+        bench
+            .name(Port::Wave)
+            .is_some_and(|name| name == b"w.vcd".as_slice())
+    );
     assert_eq!(rt; bench.written(Port::Wave), b"".as_slice());
     Ok(())
 }
