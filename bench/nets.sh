@@ -1,5 +1,5 @@
 #!/bin/bash
-# Measures `Nets::resolve` on a board of 64 parts with 16 pins each and 512 wires, of which one pin drives something
+# Measures `Nets::resolve_marked` on a board of 64 parts with 16 pins each and 512 wires, of which one pin drives something
 # else before each of 1,000,000 resolutions (crates/bench_nets). Prints the processor time of one resolution, the
 # least of three runs. The program is proved and built first.
 set -eu

@@ -2,11 +2,11 @@
 //! drives something else before each resolution. `bench/nets.sh` measures how long this takes.
 #![tactic(auto)]
 
-ghost use Rattle.std.specs.Prelude.{◌≡◌, ◌<◌, length, IfOk};
+ghost use Rattle.std.specs.Prelude.{◌≡◌, ◌<◌, length};
 
 use net_resolve::{Nets, has_valid_nets};
 use sim_base::{Drive, Level, List, OutOfMemory, Wiring};
-use std::alloc::{AllocError, Global};
+use std::alloc::Global;
 use std::process::ExitCode;
 
 const PINS: u16 = 1024;
@@ -39,31 +39,18 @@ fn wiring(alloc: Global) -> Result<Wiring, OutOfMemory> {
     })
 }
 
-fn no_drives(alloc: Global, count: usize) -> Result<Vec<Drive>, AllocError>
-    ensures { IfOk result (λ v. length v.items ≡ count) }
-{
-    vec![in alloc; Drive::Z; count]
-}
-
-fn all_open(alloc: Global, count: usize) -> Result<Vec<bool>, AllocError>
-    ensures { IfOk result (λ v. length v.items ≡ count) }
-{
-    vec![in alloc; false; count]
-}
-
 /// Resolves the nets again and again, each time with another drive of one pin, and counts how often
 /// net 0 is High.
-fn toggle(nets: &mut Nets, drives: &mut [Drive], closed: &[bool]) -> u32
+fn toggle(nets: &mut Nets, pins: usize) -> u32
     requires some { 0 < nets.old.nets }
-    requires pins { 0 < length drives.old }
-    requires drives { length drives.old ≡ length nets.old.net_of }
-    requires closed { length closed.now ≡ length nets.old.contacts }
+    requires any { 0 < pins }
+    requires pins { pins ≡ length nets.old.net_of }
 {
     let mut high: u32 = 0;
     for i in 0..RESOLUTIONS {
-        let pin = (i / 2) as usize % drives.len();
-        drives[pin] = if i % 2 == 0 { Drive::High } else { Drive::Z };
-        nets.resolve(drives, closed);
+        let pin = (i / 2) as usize % pins;
+        nets.set_drive(pin, if i % 2 == 0 { Drive::High } else { Drive::Z });
+        nets.resolve_marked();
         if matches!(nets.level(0), Level::High) {
             high = high.saturating_add(1);
         }
@@ -77,9 +64,7 @@ fn bench(alloc: Global) -> Result<u32, OutOfMemory> {
         return Ok(0);
     }
     let mut nets = Nets::new(alloc, &wiring)?;
-    let mut drives = no_drives(alloc, wiring.net_of.len())?;
-    let closed = all_open(alloc, wiring.contacts.len())?;
-    Ok(toggle(&mut nets, drives.as_mut_slice(), &closed))
+    Ok(toggle(&mut nets, wiring.net_of.len()))
 }
 
 fn main(rt: HostRuntime) -> ExitCode {

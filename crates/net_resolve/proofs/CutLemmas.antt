@@ -6,7 +6,7 @@ use Rattle.std.proofs.lemmas.Option.{slice_get_within, get_or_from_slice_get}
 use Rattle.std.specs.Prelude.{◌==◌, if◌then◌else◌, slice_get, slice_index, slice_set, replicate}
 use Rattle.board_model.specs.Resolve.{contact_joins}
 use Rattle.board_model.proofs.Lists.{some_same, some_map, get_map_some, get_within, get_set_same, get_set_other}
-use Rattle.net_resolve.specs.Circuit.{Circuit}
+use Rattle.net_resolve.specs.Wired.{Wired}
 use Rattle.net_resolve.specs.Forest.{AreLabels, Joins, root_of}
 use Rattle.net_resolve.specs.Subcircuits.{SubcircuitView, IsCut, IsSubcircuit, AreSubcircuits, AreOwn, picked, labels_of}
 use Rattle.net_resolve.proofs.ForestLemmas.{label_root}
@@ -95,7 +95,7 @@ empty_more (x ∷ lists) h zero l e = h 0 l e
 empty_more (x ∷ lists) h (suc q) l e = empty_more lists (λ k m f. h (suc k) m f) q l e
 
 -- the labels of nets are numbers of nets
-pub net_labels_below : (w : Circuit) (labels : List ℕ) → IsCut w labels → (ls : List ℕ) → ls ≡ labels → (ns : List ℕ) → ns ≡ w.net_of → (keys : List ℕ) → keys ≡ map (slice_index ls) ns →
+pub net_labels_below : (w : Wired) (labels : List ℕ) → IsCut w labels → (ls : List ℕ) → ls ≡ labels → (ns : List ℕ) → ns ≡ w.net_of → (keys : List ℕ) → keys ≡ map (slice_index ls) ns →
     (k key : ℕ) → slice_get keys k ≡ Some key → key < w.nets
 net_labels_below w labels cut ls el ns en keys ek k key e =
     let n = get_map_some (slice_index ls) ns k key (ap (λ (l : List ℕ). slice_get l k) (sym ek) ∙ e) in
@@ -103,7 +103,7 @@ net_labels_below w labels cut ls el ns en keys ek k key e =
     let is : slice_index labels n.0 ≡ key = ap (λ (x : List ℕ). slice_index x n.0) (sym el) ∙ n.2 in
     omega (arith, cut.below n.0, is, l)
 
-pub pair_labels_below : (w : Circuit) (labels : List ℕ) → IsCut w labels → (ls : List ℕ) → ls ≡ labels → (whole ps : List (ℕ × ℕ)) → ps ≡ whole →
+pub pair_labels_below : (w : Wired) (labels : List ℕ) → IsCut w labels → (ls : List ℕ) → ls ≡ labels → (whole ps : List (ℕ × ℕ)) → ps ≡ whole →
     ((k : ℕ) (c : ℕ × ℕ) → slice_get whole k ≡ Some c → (c.0 < w.nets) × (c.1 < w.nets)) → (keys : List ℕ) → keys ≡ labels_of ls ps →
     (k key : ℕ) → slice_get keys k ≡ Some key → key < w.nets
 pair_labels_below w labels cut ls el whole ps ep within keys ek k key e =
@@ -175,7 +175,7 @@ pair_places labels whole q places are j k e =
     let c = get_map_some (λ (x : ℕ × ℕ). slice_index labels x.0) whole k q key in
     slice_get_within whole k c.0 c.1
 
-module _ (w : Circuit) (labels : List ℕ) (cut : IsCut w labels) (q : ℕ) (nets : List ℕ) (nets_are : nets ≡ picked q 0 labels)
+module _ (w : Wired) (labels : List ℕ) (cut : IsCut w labels) (q : ℕ) (nets : List ℕ) (nets_are : nets ≡ picked q 0 labels)
     (numbers : List ℕ) (long : length numbers ≡ w.nets) (numbered : (i n : ℕ) → slice_get nets i ≡ Some n → slice_get numbers n ≡ Some i) where
   -- the net of the number of a net
   number_of : (n : ℕ) → n < w.nets → slice_index labels n ≡ q → slice_get nets (slice_index numbers n) ≡ Some n
@@ -244,7 +244,7 @@ snoc_cases (x ∷ xs) y z (suc k) e = elim (snoc_cases xs y z k e) [
   | inr r ↦ inr (ap suc r.0, r.1)
 ]
 
-pub subcircuits_more : (w : Circuit) (labels : List ℕ) (subs : List SubcircuitView) (q : ℕ) (s : SubcircuitView) → length subs ≡ q → AreSubcircuits w labels subs → IsSubcircuit w labels q s → AreSubcircuits w labels (subs ++ s ∷ [])
+pub subcircuits_more : (w : Wired) (labels : List ℕ) (subs : List SubcircuitView) (q : ℕ) (s : SubcircuitView) → length subs ≡ q → AreSubcircuits w labels subs → IsSubcircuit w labels q s → AreSubcircuits w labels (subs ++ s ∷ [])
 subcircuits_more w labels subs q s long before is p t e = elim (snoc_cases subs s t p e) [
   | inl l ↦ before p t l
   | inr r ↦

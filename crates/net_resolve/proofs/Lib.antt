@@ -11,4 +11,5 @@ pub mod LocalLemmas
 pub mod SubcircuitLemmas
 pub mod PlaceLemmas
 pub mod CutLemmas
+pub mod MarkLemmas
 pub mod RightLemmas

@@ -1,19 +1,22 @@
 -- Levels that stay right while drives and contacts change, and subcircuits are resolved.
-use Rattle.std.proofs.Common.{◌≡◌, ◌≢◌, ℕ, zero, suc, ◌+◌, ◌<◌, ◌≤◌, List, [], ◌∷◌, length, map, Bool, true, false, refl, ap, sym, ◌∙◌, arith, inl, inr, subst, Some, get_or, length-set}
+use Rattle.std.proofs.Common.{◌≡◌, ℕ, zero, suc, ◌<◌, List, [], ◌∷◌, length, map, Bool, true, false, refl, ap, sym, ◌∙◌, arith, inl, inr, subst, Some, get_or, length-set, ◌⊎◌}
 use Rattle.std.proofs.lemmas.Bool.Decides.{eqb_tells}
 use Rattle.std.proofs.lemmas.List.{length-map}
 use Rattle.std.proofs.lemmas.Option.{slice_get_within}
-use Rattle.std.specs.Prelude.{slice_get, slice_index, slice_set, replicate}
+use Rattle.std.specs.Prelude.{slice_get, slice_index, slice_index_or, slice_set}
 use Rattle.sim_base.specs.declared.signal.Drive.{Drive}
 use Rattle.sim_base.specs.declared.signal.Drive.TheVariants as drives
 use Rattle.sim_base.specs.declared.signal.Level.{Level}
 use Rattle.board_model.specs.Walks.{below}
 use Rattle.board_model.specs.Resolve.{level_of, resolve}
-use Rattle.board_model.proofs.Lists.{some_same, some_map, get_within, get_set_same, get_set_other, get-below, length-below, lt_or_eq, same_lists}
-use Rattle.net_resolve.specs.Circuit.{Circuit}
+use Rattle.board_model.proofs.Lists.{some_same, some_map, get_map_some, get_within, get_set_same, get_set_other, get-below, length-below, same_lists}
+use Rattle.net_resolve.specs.Wired.{Wired}
+use Rattle.net_resolve.specs.Circuit.{AreChanged}
+use Rattle.net_resolve.specs.Marked.{has, Moves, Noted}
 use Rattle.net_resolve.specs.Subcircuits.{Lacks, SubcircuitView, IsCut, IsSubcircuit, AreSubcircuits, AreRight, FitsIn, unresolved, labels_of, level_now}
 use Rattle.net_resolve.proofs.SubcircuitLemmas.{nets_once, net_labelled, net_there, others_lack, own_level}
-use Rattle.net_resolve.proofs.CutLemmas.{replicate_only, map_here, map-map, picked_within, pin_places, pair_places}
+use Rattle.net_resolve.proofs.MarkLemmas.{has_first}
+use Rattle.net_resolve.proofs.CutLemmas.{map_here, map-map, picked_within, pin_places, pair_places}
 
 -- a list with an item put where it stands
 pub set_same : {A : Type 0} (xs : List A) (i : ℕ) (x : A) → slice_get xs i ≡ Some x → slice_set xs i x ≡ xs
@@ -21,81 +24,17 @@ set_same [] i x e = refl
 set_same {A = A} (y ∷ xs) zero x e = ap (λ (z : A). z ∷ xs) (sym (some_same e))
 set_same {A = A} (y ∷ xs) (suc i) x e = ap (λ (l : List A). y ∷ l) (set_same xs i x e)
 
+-- while subcircuits are resolved: what changed, and that the nets of those that are left wait
+pub record Begun (labels rest : List ℕ) (first now : List Level) (moved : List ℕ) : Type 0 where
+  pub changed : AreChanged first now moved
+  pub waits : (n : ℕ) → has rest (slice_index labels n) ≡ true → slice_get now n ≡ slice_get first n
+
 item_there : {A : Type 0} (xs : List A) (i : ℕ) → i < length xs → (x : A) × (slice_get xs i ≡ Some x)
 item_there [] i h = absurd (omega arith)
 item_there (x ∷ xs) zero h = (x, refl)
 item_there (x ∷ xs) (suc i) h = item_there xs i (omega arith)
 
--- What was kept of a list, place by place, and which keys were marked where it changed.
-pub record Kept {A : Type 0} (now old new : List A) (keys : List ℕ) (before after : List Bool) (k : ℕ) : Type 0 where
-  pub long : length new ≡ length old
-  pub marks_long : length after ≡ length before
-  pub done : (i : ℕ) → i < k → slice_get new i ≡ slice_get now i
-  pub rest : (i : ℕ) → k ≤ i → slice_get new i ≡ slice_get old i
-  pub more : (q : ℕ) → slice_get after q ≡ Some false → slice_get before q ≡ Some false
-  pub same : (i q : ℕ) → i < k → slice_get keys i ≡ Some q → slice_get after q ≡ Some false → slice_get old i ≡ slice_get now i
-
-pub kept_none : {A : Type 0} (now old : List A) (keys : List ℕ) (before : List Bool) → Kept now old old keys before before 0
-kept_none now old keys before = record {
-  long = refl;
-  marks_long = refl;
-  done = λ i h. absurd (omega arith);
-  rest = λ i h. refl;
-  more = λ q e. e;
-  same = λ i q h. absurd (omega arith);
-}
-
--- the next item is as it was
-pub kept_next : {A : Type 0} (now old new : List A) (keys : List ℕ) (before after : List Bool) (k : ℕ) → Kept now old new keys before after k → slice_get new k ≡ slice_get now k → Kept now old new keys before after (k + 1)
-kept_next now old new keys before after k kept e = record {
-  long = kept.long;
-  marks_long = kept.marks_long;
-  done = λ i h. elim (lt_or_eq i k h) [
-    | inl less ↦ kept.done i less
-    | inr here ↦ ap (slice_get new) here ∙ e ∙ ap (slice_get now) (sym here)
-  ];
-  rest = λ i h. kept.rest i (omega arith);
-  more = kept.more;
-  same = λ i q h f g. elim (lt_or_eq i k h) [
-    | inl less ↦ kept.same i q less f g
-    | inr here ↦ ap (slice_get old) here ∙ sym (kept.rest k (omega arith)) ∙ e ∙ ap (slice_get now) (sym here)
-  ];
-}
-
--- the next item is written, and its key is marked
-pub kept_more : {A : Type 0} (now old new : List A) (keys : List ℕ) (before after : List Bool) (k q : ℕ) (x : A) → Kept now old new keys before after k →
-    slice_get now k ≡ Some x → k < length new → slice_get keys k ≡ Some q → q < length after → Kept now old (slice_set new k x) keys before (slice_set after q true) (k + 1)
-kept_more now old new keys before after k q x kept at within key inside = record {
-  long = length-set new k x ∙ kept.long;
-  marks_long = length-set after q true ∙ kept.marks_long;
-  done = λ i h. elim (lt_or_eq i k h) [
-    | inl less ↦ let other : i ≢ k = omega arith in get_set_other new k i x other ∙ kept.done i less
-    | inr here ↦ ap (slice_get (slice_set new k x)) here ∙ get_set_same new k x within ∙ sym at ∙ ap (slice_get now) (sym here)
-  ];
-  rest = λ i h. let other : i ≢ k = omega arith in get_set_other new k i x other ∙ kept.rest i (omega arith);
-  more = λ p e. kept.more p (unmarked p e).1;
-  same = λ i p h f g. elim (lt_or_eq i k h) [
-    | inl less ↦ kept.same i p less f (unmarked p g).1
-    | inr here ↦
-        let same_key : p ≡ q = some_same (sym f ∙ ap (slice_get keys) here ∙ key) in
-        absurd ((unmarked p g).0 same_key)
-  ];
-}
-  where
-    unmarked : (p : ℕ) → slice_get (slice_set after q true) p ≡ Some false → (p ≢ q) × (slice_get after p ≡ Some false)
-    unmarked p e = elim (eqb_tells p q) [
-      | inl t ↦
-          let on : slice_get (slice_set after q true) p ≡ Some true = ap (slice_get (slice_set after q true)) t.1 ∙ get_set_same after q true inside in
-          absurd cc
-      | inr f ↦ (f.1, sym (get_set_other after q p true f.1) ∙ e)
-    ]
-
-pub kept_all : {A : Type 0} (now old new : List A) (keys : List ℕ) (before after : List Bool) (k : ℕ) → Kept now old new keys before after k → length now ≡ length old → length now ≤ k → new ≡ now
-kept_all now old new keys before after k kept long end = same_lists new now (omega (arith, kept.long, long)) (λ i x y ex ey.
-    let l : i < k = omega (arith, slice_get_within now i y ey) in
-    some_same (sym ex ∙ kept.done i l ∙ ey))
-
-module _ (w : Circuit) (labels : List ℕ) (cut : IsCut w labels) where
+module _ (w : Wired) (labels : List ℕ) (cut : IsCut w labels) where
   -- the items at the places of pins and of contacts
   module _ (q : ℕ) (s : SubcircuitView) (is : IsSubcircuit w labels q s) where
     abbrev own_drives : List Drive → List Drive
@@ -139,11 +78,11 @@ module _ (w : Circuit) (labels : List ℕ) (cut : IsCut w labels) where
     }
 
     -- its nets are right once it is resolved, and the others as they were
-    pub right_step : (stale : List Bool) (cs : List Bool) (ds : List Drive) (old new : List Level) → length cs ≡ length w.contacts → length ds ≡ length w.net_of →
+    pub right_step : (rest : List ℕ) (cs : List Bool) (ds : List Drive) (old new : List Level) → length cs ≡ length w.contacts → length ds ≡ length w.net_of →
         ((own_cs : List Bool) (own_ds : List Drive) → map Some own_cs ≡ map (slice_get cs) s.contacts → map Some own_ds ≡ map (slice_get ds) s.pins →
         (j n : ℕ) → slice_get s.nets j ≡ Some n → slice_get new n ≡ slice_get (resolve (length s.nets) s.own_nets s.own_contacts s.own_resistors own_cs own_ds) j) →
-        ((n : ℕ) → Lacks s.nets n → slice_get new n ≡ slice_get old n) → AreRight w labels stale cs ds old → AreRight w labels (slice_set stale q false) cs ds new
-    right_step stale cs ds old new lc ld put others right n l e = elim (eqb_tells (slice_index labels n) q) [
+        ((n : ℕ) → Lacks s.nets n → slice_get new n ≡ slice_get old n) → AreRight w labels (q ∷ rest) cs ds old → AreRight w labels rest cs ds new
+    right_step rest cs ds old new lc ld put others right n l e = elim (eqb_tells (slice_index labels n) q) [
       | inl t ↦
           let at = net_there labels q s.nets is.nets_are n (omega (arith, cut.long)) t.1 in
           let c = own_closed_are cs lc in
@@ -151,31 +90,95 @@ module _ (w : Circuit) (labels : List ℕ) (cut : IsCut w labels) where
           put (own_closed cs) (own_drives ds) c d at.0 n at.1 ∙ own_level w labels cut q s is cs ds (own_closed cs) (own_drives ds) ld c d at.0 n at.1
       | inr f ↦
           others n (others_lack labels q s.nets is.nets_are n f.1)
-          ∙ right n l (sym (get_set_other stale q (slice_index labels n) false f.1) ∙ e)
+          ∙ right n l (rw f.0 e)
     ]
 
+    -- the nets whose levels changed since the first, where those of this subcircuit had not
+    pub changed_step : (rest before after : List ℕ) (first old new : List Level) → length first ≡ w.nets → length old ≡ w.nets → has rest q ≡ false →
+        ((n : ℕ) → Lacks s.nets n → slice_get new n ≡ slice_get old n) → Moves old new before after → Begun labels (q ∷ rest) first old before → Begun labels rest first new after
+    changed_step rest before after first old new lf lo apart others moves begun = record {
+      changed = record {
+        differ = λ n h. elim (moves.differ n h) [
+          | inl earlier ↦ elim (mine n) [
+            | inl here ↦ absurd (begun.changed.differ n earlier (begun.waits n (has_first rest q (slice_index labels n) here)))
+            | inr away ↦ λ same. begun.changed.differ n earlier (sym away ∙ same)
+          ]
+          | inr moved ↦ elim (mine n) [
+            | inl here ↦ λ same. moved (same ∙ sym (begun.waits n (has_first rest q (slice_index labels n) here)))
+            | inr away ↦ absurd (moved away)
+          ]
+        ];
+        others = λ n h.
+            let late = moves.others n h in
+            late.1 ∙ begun.changed.others n late.0;
+      };
+      waits = λ n h. elim (mine n) [
+        | inl here ↦
+            let off : has rest (slice_index labels n) ≡ false = ap (has rest) here ∙ apart in
+            absurd cc
+        | inr away ↦ away ∙ begun.waits n (elim (eqb_tells (slice_index labels n) q) [ inl t ↦ rw t.0 refl | inr f ↦ rw f.0 h ])
+      ];
+    }
+      where
+        mine : (n : ℕ) → (slice_index labels n ≡ q) ⊎ (slice_get new n ≡ slice_get old n)
+        mine n = elim (eqb_tells (slice_index labels n) q) [
+          | inl t ↦ inl t.1
+          | inr f ↦ inr (others n (others_lack labels q s.nets is.nets_are n f.1))
+        ]
+
   -- levels stay right where no drive and no contact of their subcircuit changed
-  pub right_kept : (subs : List SubcircuitView) → length subs ≡ w.nets → AreSubcircuits w labels subs → (stale stale2 : List Bool) (cs cs2 : List Bool) (ds ds2 : List Drive) (levels : List Level) →
+  pub right_kept : (subs : List SubcircuitView) → length subs ≡ w.nets → AreSubcircuits w labels subs → (marked more : List ℕ) (cs cs2 : List Bool) (ds ds2 : List Drive) (levels : List Level) →
       length cs ≡ length w.contacts → length ds ≡ length w.net_of → length ds2 ≡ length w.net_of →
-      ((q : ℕ) → slice_get stale2 q ≡ Some false → slice_get stale q ≡ Some false) →
-      ((k q : ℕ) → slice_get (map (slice_index labels) w.net_of) k ≡ Some q → slice_get stale2 q ≡ Some false → slice_get ds k ≡ slice_get ds2 k) →
-      ((k q : ℕ) → slice_get (labels_of labels w.contacts) k ≡ Some q → slice_get stale2 q ≡ Some false → slice_get cs k ≡ slice_get cs2 k) →
-      AreRight w labels stale cs ds levels → AreRight w labels stale2 cs2 ds2 levels
-  right_kept subs long are stale stale2 cs cs2 ds ds2 levels lc ld ld2 more same_ds same_cs right n l e =
+      ((q : ℕ) → has more q ≡ false → has marked q ≡ false) →
+      ((k q : ℕ) → slice_get (map (slice_index labels) w.net_of) k ≡ Some q → has more q ≡ false → slice_get ds k ≡ slice_get ds2 k) →
+      ((k q : ℕ) → slice_get (labels_of labels w.contacts) k ≡ Some q → has more q ≡ false → slice_get cs k ≡ slice_get cs2 k) →
+      AreRight w labels marked cs ds levels → AreRight w labels more cs2 ds2 levels
+  right_kept subs long are marked more cs cs2 ds ds2 levels lc ld ld2 less same_ds same_cs right n l e =
       let q = slice_index labels n in
       let s = item_there subs q (omega (arith, cut.below n, long)) in
-      right n l (more q e)
+      right n l (less q e)
       ∙ ap Some (same_level q s.0 (are q s.0 s.1) cs cs2 ds ds2 lc ld ld2 (λ k f. same_ds k q f e) (λ k f. same_cs k q f e) n l refl)
 
-  -- where nothing is stale the levels are those of the definition
-  pub right_all : (stale : List Bool) (cs : List Bool) (ds : List Drive) (levels : List Level) → length levels ≡ w.nets → ((q : ℕ) → q < w.nets → slice_get stale q ≡ Some false) →
-      AreRight w labels stale cs ds levels → levels ≡ resolve w.nets w.net_of w.contacts w.resistors cs ds
+  -- a pin drives something else
+  pub right_drive : (subs : List SubcircuitView) → length subs ≡ w.nets → AreSubcircuits w labels subs → (marked more : List ℕ) (cs : List Bool) (ds : List Drive) (levels : List Level) (pin : ℕ) (d : Drive) →
+      length cs ≡ length w.contacts → length ds ≡ length w.net_of → pin < length ds → Noted (slice_get ds pin ≡ Some d) (slice_index labels (slice_index w.net_of pin)) marked more →
+      AreRight w labels marked cs ds levels → AreRight w labels more cs (slice_set ds pin d) levels
+  right_drive subs long are marked more cs ds levels pin d lc ld inside noted =
+      right_kept subs long are marked more cs cs ds (slice_set ds pin d) levels lc ld (length-set ds pin d ∙ ld) noted.more
+      (λ k q f e. elim (eqb_tells k pin) [
+        | inl t ↦
+            let net = get_map_some (slice_index labels) w.net_of k q f in
+            let here : slice_index w.net_of pin ≡ net.0 = some_same (sym (get_within w.net_of pin 0 (omega (arith, ld))) ∙ ap (slice_get w.net_of) (sym t.1) ∙ net.1) in
+            let key : slice_index labels (slice_index w.net_of pin) ≡ q = ap (slice_index labels) here ∙ net.2 in
+            ap (slice_get ds) t.1 ∙ noted.same (ap (has more) key ∙ e) ∙ sym (get_set_same ds pin d inside) ∙ ap (slice_get (slice_set ds pin d)) (sym t.1)
+        | inr o ↦ sym (get_set_other ds pin k d o.1)
+      ])
+      (λ k q f e. refl)
+
+  -- a contact is closed or opened
+  pub right_contact : (subs : List SubcircuitView) → length subs ≡ w.nets → AreSubcircuits w labels subs → (marked more : List ℕ) (cs : List Bool) (ds : List Drive) (levels : List Level) (contact : ℕ) (c : Bool) →
+      length cs ≡ length w.contacts → length ds ≡ length w.net_of → contact < length cs → Noted (slice_get cs contact ≡ Some c) (slice_index labels (slice_index_or w.contacts contact (0, 0)).0) marked more →
+      AreRight w labels marked cs ds levels → AreRight w labels more (slice_set cs contact c) ds levels
+  right_contact subs long are marked more cs ds levels contact c lc ld inside noted =
+      right_kept subs long are marked more cs (slice_set cs contact c) ds ds levels lc ld ld noted.more
+      (λ k q f e. refl)
+      (λ k q f e. elim (eqb_tells k contact) [
+        | inl t ↦
+            let pair = get_map_some (λ (p : ℕ × ℕ). slice_index labels p.0) w.contacts k q f in
+            let here : slice_index_or w.contacts contact (0, 0) ≡ pair.0 = some_same (sym (get_within w.contacts contact (0, 0) (omega (arith, lc))) ∙ ap (slice_get w.contacts) (sym t.1) ∙ pair.1) in
+            let key : slice_index labels (slice_index_or w.contacts contact (0, 0)).0 ≡ q = ap (λ (p : ℕ × ℕ). slice_index labels p.0) here ∙ pair.2 in
+            ap (slice_get cs) t.1 ∙ noted.same (ap (has more) key ∙ e) ∙ sym (get_set_same cs contact c inside) ∙ ap (slice_get (slice_set cs contact c)) (sym t.1)
+        | inr o ↦ sym (get_set_other cs contact k c o.1)
+      ])
+
+  -- where nothing is marked the levels are those of the definition
+  pub right_all : (cs : List Bool) (ds : List Drive) (levels : List Level) → length levels ≡ w.nets →
+      AreRight w labels [] cs ds levels → levels ≡ resolve w.nets w.net_of w.contacts w.resistors cs ds
   unfolding resolve
-  right_all stale cs ds levels long fresh right =
+  right_all cs ds levels long right =
       same_lists levels (map (level_of w.nets w.net_of w.contacts w.resistors cs ds) (below w.nets)) (simp length-map (omega (arith, long, length-below w.nets))) (λ k x y ex ey.
       let l : k < w.nets = omega (arith, long, slice_get_within levels k x ex) in
-      let inside : slice_index labels k < w.nets = omega (arith, cut.below k) in
-      let is = right k l (fresh (slice_index labels k) inside) in
+      let is = right k l refl in
       let at = some_map (level_of w.nets w.net_of w.contacts w.resistors cs ds) (below w.nets) k k (get-below w.nets k l) in
       some_same (sym ex ∙ is ∙ sym at ∙ ey))
 
@@ -197,21 +200,21 @@ subs_moved {n = n} {n2 = n2} {ns = ns} {ns2 = ns2} {cs = cs} {cs2 = cs2} {ls = l
     (subst (λ (x : List ℕ). AreSubcircuits (unresolved n2 x cs rs) ls ss) es
     (subst (λ (x : ℕ). AreSubcircuits (unresolved x ns cs rs) ls ss) en h))))
 
-pub right_moved : {n n2 : ℕ} {ns ns2 : List ℕ} {cs cs2 : List (ℕ × ℕ)} {ls ls2 : List ℕ} {st st2 cl cl2 : List Bool} {ds ds2 : List Drive} {lv lv2 : List Level} (rs : List (ℕ × ℕ)) →
+pub right_moved : {n n2 : ℕ} {ns ns2 : List ℕ} {cs cs2 : List (ℕ × ℕ)} {ls ls2 : List ℕ} {st st2 : List ℕ} {cl cl2 : List Bool} {ds ds2 : List Drive} {lv lv2 : List Level} (rs : List (ℕ × ℕ)) →
     n ≡ n2 → ns ≡ ns2 → cs ≡ cs2 → ls ≡ ls2 → st ≡ st2 → cl ≡ cl2 → ds ≡ ds2 → lv ≡ lv2 →
     AreRight (unresolved n ns cs rs) ls st cl ds lv → AreRight (unresolved n2 ns2 cs2 rs) ls2 st2 cl2 ds2 lv2
 right_moved {n = n} {n2 = n2} {ns = ns} {ns2 = ns2} {cs = cs} {cs2 = cs2} {ls = ls} {ls2 = ls2} {st = st} {st2 = st2} {cl = cl} {cl2 = cl2} {ds = ds} {ds2 = ds2} {lv = lv} {lv2 = lv2} rs en es ec el est ecl eds elv h =
     subst (λ (x : List Level). AreRight (unresolved n2 ns2 cs2 rs) ls2 st2 cl2 ds2 x) elv
     (subst (λ (x : List Drive). AreRight (unresolved n2 ns2 cs2 rs) ls2 st2 cl2 x lv) eds
     (subst (λ (x : List Bool). AreRight (unresolved n2 ns2 cs2 rs) ls2 st2 x ds lv) ecl
-    (subst (λ (x : List Bool). AreRight (unresolved n2 ns2 cs2 rs) ls2 x cl ds lv) est
+    (subst (λ (x : List ℕ). AreRight (unresolved n2 ns2 cs2 rs) ls2 x cl ds lv) est
     (subst (λ (x : List ℕ). AreRight (unresolved n2 ns2 cs2 rs) x st cl ds lv) el
     (subst (λ (x : List (ℕ × ℕ)). AreRight (unresolved n2 ns2 x rs) ls st cl ds lv) ec
     (subst (λ (x : List ℕ). AreRight (unresolved n2 x cs rs) ls st cl ds lv) es
     (subst (λ (x : ℕ). AreRight (unresolved x ns cs rs) ls st cl ds lv) en h)))))))
 
--- where everything is stale nothing is said
-pub right_none : (w : Circuit) (labels : List ℕ) (count : ℕ) (stale : List Bool) (cs : List Bool) (ds : List Drive) (levels : List Level) → stale ≡ replicate count true → AreRight w labels stale cs ds levels
-right_none w labels count stale cs ds levels e n l f =
-    let on : false ≡ true = replicate_only true false count (slice_index labels n) (subst (λ (x : List Bool). slice_get x (slice_index labels n) ≡ Some false) e f) in
+-- where everything is marked nothing is said
+pub right_none : (w : Wired) (labels : List ℕ) → IsCut w labels → (marked : List ℕ) (cs : List Bool) (ds : List Drive) (levels : List Level) → ((q : ℕ) → q < w.nets → has marked q ≡ true) → AreRight w labels marked cs ds levels
+right_none w labels cut marked cs ds levels all n l f =
+    let on = all (slice_index labels n) (omega (arith, cut.below n)) in
     absurd cc

@@ -1,5 +1,7 @@
 pub mod Forest
 pub mod Sums
+pub mod Marked
 pub mod Circuit
+pub mod Wired
 pub mod Subcircuits
 pub mod Sorted

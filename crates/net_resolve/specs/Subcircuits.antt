@@ -5,7 +5,8 @@ use Rattle.sim_base.specs.declared.signal.Drive.{Drive}
 use Rattle.sim_base.specs.declared.signal.Level.{Level}
 use Rattle.board_model.specs.Resolve.{level_of}
 use Rattle.sim_base.specs.declared.wiring.Wiring.{Wiring}
-use Rattle.net_resolve.specs.Circuit.{Circuit}
+use Rattle.net_resolve.specs.Wired.{Wired}
+use Rattle.net_resolve.specs.Marked.{has}
 
 -- no place of a list has n
 abbrev pub Lacks : List ℕ → ℕ → Type 0
@@ -32,14 +33,14 @@ pub record SubcircuitView : Type 0 where
   pub own_resistors : List (ℕ × ℕ)
 
 -- nets and what joins them, before anything was resolved
-abbrev pub unresolved : ℕ → List ℕ → List (ℕ × ℕ) → List (ℕ × ℕ) → Circuit
+abbrev pub unresolved : ℕ → List ℕ → List (ℕ × ℕ) → List (ℕ × ℕ) → Wired
 unresolved nets net_of contacts resistors = record { nets = nets; net_of = net_of; contacts = contacts; resistors = resistors; levels = [] }
 
-abbrev pub circuit_of : Wiring → Circuit
+abbrev pub circuit_of : Wiring → Wired
 circuit_of w = unresolved w.nets w.net_of w.contacts w.resistors
 
 -- Each net has the number of its subcircuit, and what is joined has the same one.
-pub record IsCut (w : Circuit) (labels : List ℕ) : Type 0 where
+pub record IsCut (w : Wired) (labels : List ℕ) : Type 0 where
   pub long : length labels ≡ w.nets
   pub below : (n : ℕ) → slice_index labels n ≤ n
   pub pins_within : (k n : ℕ) → slice_get w.net_of k ≡ Some n → n < w.nets
@@ -58,7 +59,7 @@ abbrev pub labels_of : List ℕ → List (ℕ × ℕ) → List ℕ
 labels_of labels pairs = map (λ c. slice_index labels c.0) pairs
 
 -- the subcircuit with number q
-pub record IsSubcircuit (w : Circuit) (labels : List ℕ) (q : ℕ) (s : SubcircuitView) : Type 0 where
+pub record IsSubcircuit (w : Wired) (labels : List ℕ) (q : ℕ) (s : SubcircuitView) : Type 0 where
   pub nets_are : s.nets ≡ picked q 0 labels
   pub pins_are : s.pins ≡ picked q 0 (map (slice_index labels) w.net_of)
   pub contacts_are : s.contacts ≡ picked q 0 (labels_of labels w.contacts)
@@ -67,14 +68,14 @@ pub record IsSubcircuit (w : Circuit) (labels : List ℕ) (q : ℕ) (s : Subcirc
   pub own_resistors_are : AreOwn s.nets w.resistors (picked q 0 (labels_of labels w.resistors)) s.own_resistors
 
 -- the level of a net by these contacts and drives
-abbrev pub level_now : Circuit → List Bool → List Drive → ℕ → Level
+abbrev pub level_now : Wired → List Bool → List Drive → ℕ → Level
 level_now w closed ds n = level_of w.nets w.net_of w.contacts w.resistors closed ds n
 
--- The levels are right on each net whose subcircuit is not stale.
-abbrev pub AreRight : Circuit → List ℕ → List Bool → List Bool → List Drive → List Level → Type 0
-AreRight w labels stale closed ds levels = (n : ℕ) → n < w.nets → slice_get stale (slice_index labels n) ≡ Some false → slice_get levels n ≡ Some (level_now w closed ds n)
+-- The levels are right on each net whose subcircuit is not marked.
+abbrev pub AreRight : Wired → List ℕ → List ℕ → List Bool → List Drive → List Level → Type 0
+AreRight w labels marked closed ds levels = (n : ℕ) → n < w.nets → has marked (slice_index labels n) ≡ false → slice_get levels n ≡ Some (level_now w closed ds n)
 
-abbrev pub AreSubcircuits : Circuit → List ℕ → List SubcircuitView → Type 0
+abbrev pub AreSubcircuits : Wired → List ℕ → List SubcircuitView → Type 0
 AreSubcircuits w labels subs = (q : ℕ) (s : SubcircuitView) → slice_get subs q ≡ Some s → IsSubcircuit w labels q s
 
 -- the numbers that a subcircuit has are of a board's pins, contacts and nets

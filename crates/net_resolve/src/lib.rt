@@ -1,12 +1,13 @@
 //! The levels of the nets of a board (profile): what the pins drive, over closed contacts and resistors.
-//! `Nets::resolve` is exactly the definition, at a cost that grows with what changed pins and contacts touch.
-//! Only `Nets::new` takes memory, and it alone may answer want of it.
+//! `Nets::resolve_marked` is exactly the definition and lists the nets that changed, at a cost that grows with what
+//! changed pins and contacts touch; `resolve` compares all drives and contacts besides. Only `new` takes memory and may fail.
 #![tactic(auto)]
 
 mod cut;
 mod forest;
 mod groups;
 mod levels;
+mod marks;
 mod nets;
 mod plain;
 mod room;

@@ -1,21 +1,24 @@
 //! The nets of a board.
-ghost use Rattle.std.specs.Prelude.{◌≡◌, ℕ, ◌<◌, ◌≤◌, List, length, replicate, Some, slice_get, slice_index, map, IfOk, vec_len, true, false};
-ghost use Rattle.sim_base.specs.declared.signal.Drive.{Drive};
+ghost use Rattle.std.specs.Prelude.{◌≡◌, ℕ, ◌<◌, ◌≤◌, List, [], length, replicate, Some, eqb, slice_get, slice_set, slice_index, slice_index_or, IfOk, vec_len, true, false};
+ghost use Rattle.std.specs.List.{IsDistinct};
 ghost use Rattle.board_model.specs.Fits.{IsWiring};
 ghost use Rattle.board_model.specs.Resolve.{resolve};
-ghost use Rattle.net_resolve.specs.Circuit.{Circuit};
-ghost use Rattle.net_resolve.specs.Subcircuits.{SubcircuitView, IsCut, AreSubcircuits, AreRight, FitsIn, unresolved, labels_of};
+ghost use Rattle.net_resolve.specs.Circuit.{Circuit, AreChanged};
+ghost use Rattle.net_resolve.specs.Marked.{has, Noted};
+ghost use Rattle.net_resolve.specs.Wired.{Wired};
+ghost use Rattle.net_resolve.specs.Subcircuits.{SubcircuitView, IsCut, AreSubcircuits, AreRight, FitsIn};
 
 use crate::cut::{cut_all, sort};
-use crate::room::{all_flags, all_z, no_drives, no_flags};
+use crate::marks::Marks;
+use crate::room::{all_z, no_drives, no_flags};
 use crate::subcircuit::Subcircuit;
 use sim_base::{Drive, Level, OutOfMemory, Wiring};
 use std::alloc::Global;
 use std::marker::Model;
 
-/// The nets of a board, with what joins them and the levels that were resolved last; before the
-/// first time every level is Z. They are cut into subcircuits, and only those are resolved again
-/// in which the drive of a pin or a contact changed.
+/// The nets of a board, with what joins them, what drives them and the levels that were resolved
+/// last. They are cut into subcircuits, and only those are resolved again in which the drive of a
+/// pin or a contact changed.
 #[derive(Drop)]
 pub struct Nets {
     net_of: Vec<u16>,
@@ -24,29 +27,42 @@ pub struct Nets {
     /// The number of each net's subcircuit.
     labels: Vec<u16>,
     subcircuits: Vec<Subcircuit>,
-    /// What each pin drove and which contacts were closed when the levels were resolved.
+    /// What each pin drives and which contacts are closed.
     drives: Vec<Drive>,
     closed: Vec<bool>,
-    /// Which subcircuits are to be resolved again.
-    stale: Vec<bool>,
+    /// The subcircuits that are to be resolved again.
+    marks: Marks,
     levels: Vec<Level>,
+    /// The nets whose levels the last resolution changed.
+    changed: Marks,
 }
 
 impl Model for Nets {
-    ghost use Rattle.std.specs.Prelude.{◌≡◌, length, vec_len};
+    ghost use Rattle.std.specs.Prelude.{◌≡◌, ◌≤◌, length, vec_len};
     ghost use Rattle.net_resolve.specs.Circuit.{Circuit};
     ghost use Rattle.net_resolve.specs.Subcircuits.{IsCut, AreSubcircuits, AreRight, unresolved};
 
     ghost Value = { Circuit };
 
-    ghost view = { λ a. record { nets = vec_len a.levels; net_of = a.net_of.items; contacts = a.contacts.items; resistors = a.resistors.items; levels = a.levels.items } };
+    ghost view = { λ a. record {
+      nets = vec_len a.levels;
+      net_of = a.net_of.items;
+      contacts = a.contacts.items;
+      resistors = a.resistors.items;
+      drives = a.drives.items;
+      closed = a.closed.items;
+      levels = a.levels.items;
+      changed = a.changed.marked;
+    } };
 
     ghost invariant = { λ a. record {
       cut : IsCut (unresolved (vec_len a.levels) a.net_of.items a.contacts.items a.resistors.items) a.labels.items;
       subcircuits : AreSubcircuits (unresolved (vec_len a.levels) a.net_of.items a.contacts.items a.resistors.items) a.labels.items a.subcircuits.items;
-      right : AreRight (unresolved (vec_len a.levels) a.net_of.items a.contacts.items a.resistors.items) a.labels.items a.stale.items a.closed.items a.drives.items a.levels.items;
+      right : AreRight (unresolved (vec_len a.levels) a.net_of.items a.contacts.items a.resistors.items) a.labels.items a.marks.marked a.closed.items a.drives.items a.levels.items;
+      few : vec_len a.levels ≤ 65536;
       subcircuits_long : length a.subcircuits.items ≡ vec_len a.levels;
-      stale_long : vec_len a.stale ≡ vec_len a.levels;
+      marks_room : a.marks.room ≡ vec_len a.levels;
+      changed_room : a.changed.room ≡ vec_len a.levels;
       drives_long : vec_len a.drives ≡ vec_len a.net_of;
       closed_long : vec_len a.closed ≡ vec_len a.contacts;
     } };
@@ -64,115 +80,93 @@ fn is_same_flag(a: bool, b: bool) -> bool
     a == b
 }
 
-/// Keeps what the pins drive now, and marks the subcircuits of those that drove something else.
-fn keep_drives(
-    now: &[Drive],
+/// Keeps what a pin drives, and marks its subcircuit where it drove something else.
+fn keep_drive(
+    pin: usize,
+    drive: Drive,
     net_of: &[u16],
     labels: &[u16],
-    kept: &mut [Drive],
-    stale: &mut [bool],
+    drives: &mut [Drive],
+    marks: &mut Marks,
 )
-    requires now { length now.now ≡ length net_of.now }
-    requires kept { length kept.old ≡ length net_of.now }
+    requires pin { pin < length drives.old }
+    requires pins { length drives.old ≡ length net_of.now }
     requires nets { (k n : ℕ) → slice_get net_of.now k ≡ Some n → n < length labels.now }
-    requires labels { (n : ℕ) → n < length labels.now → slice_index labels.now n < length stale.old }
-    ensures kept { kept.new ≡ now.now }
-    ensures more { (q : ℕ) → slice_get stale.new q ≡ Some false → slice_get stale.old q ≡ Some false }
-    ensures same { (k q : ℕ) → slice_get (map (slice_index labels.now) net_of.now) k ≡ Some q → slice_get stale.new q ≡ Some false → slice_get kept.old k ≡ slice_get now.now k }
+    requires labels { (n : ℕ) → n < length labels.now → slice_index labels.now n < marks.old.room }
+    ensures drives { drives.new ≡ slice_set drives.old pin drive }
+    ensures room { marks.new.room ≡ marks.old.room }
+    ensures marks { Noted (slice_get drives.old pin ≡ Some drive) (slice_index labels.now (slice_index net_of.now pin)) marks.old.marked marks.new.marked }
 {
-    for k in 0..now.len() {
-        if !is_same_drive(now[k], kept[k]) {
-            kept[k] = now[k];
-            stale[labels[net_of[k] as usize] as usize] = true;
-        }
+    if !is_same_drive(drives[pin], drive) {
+        drives[pin] = drive;
+        marks.mark(labels[net_of[pin] as usize]);
     }
 }
 
-/// Keeps which contacts are closed now, and marks the subcircuits of those that changed.
+/// Keeps whether a contact is closed, and marks its subcircuit where that changed.
 fn keep_closed(
-    now: &[bool],
+    contact: usize,
+    closed: bool,
     contacts: &[(u16, u16)],
     labels: &[u16],
     kept: &mut [bool],
-    stale: &mut [bool],
+    marks: &mut Marks,
 )
-    requires now { length now.now ≡ length contacts.now }
-    requires kept { length kept.old ≡ length contacts.now }
+    requires contact { contact < length kept.old }
+    requires contacts { length kept.old ≡ length contacts.now }
     requires nets { (k : ℕ) (c : ℕ × ℕ) → slice_get contacts.now k ≡ Some c → (c.0 < length labels.now) × (c.1 < length labels.now) }
-    requires labels { (n : ℕ) → n < length labels.now → slice_index labels.now n < length stale.old }
-    ensures kept { kept.new ≡ now.now }
-    ensures more { (q : ℕ) → slice_get stale.new q ≡ Some false → slice_get stale.old q ≡ Some false }
-    ensures same { (k q : ℕ) → slice_get (labels_of labels.now contacts.now) k ≡ Some q → slice_get stale.new q ≡ Some false → slice_get kept.old k ≡ slice_get now.now k }
+    requires labels { (n : ℕ) → n < length labels.now → slice_index labels.now n < marks.old.room }
+    ensures kept { kept.new ≡ slice_set kept.old contact closed }
+    ensures room { marks.new.room ≡ marks.old.room }
+    ensures marks { Noted (slice_get kept.old contact ≡ Some closed) (slice_index labels.now (slice_index_or contacts.now contact (0, 0)).0) marks.old.marked marks.new.marked }
 {
-    for k in 0..now.len() {
-        if !is_same_flag(now[k], kept[k]) {
-            kept[k] = now[k];
-            let (first, _) = contacts[k];
-            stale[labels[first as usize] as usize] = true;
-        }
+    if !is_same_flag(kept[contact], closed) {
+        kept[contact] = closed;
+        let (first, _) = contacts[contact];
+        marks.mark(labels[first as usize]);
     }
 }
 
 /// Resolves the subcircuits that are marked.
-fn resolve_stale(
+fn resolve_subcircuits(
     drives: &[Drive],
     closed: &[bool],
+    marked: &[u16],
     subcircuits: &mut [Subcircuit],
-    stale: &mut [bool],
     levels: &mut [Level],
+    changed: &mut Marks,
 )
-    requires stale { length stale.old ≡ length subcircuits.old }
+    requires marked { (q : ℕ) → has marked.now q ≡ true → q < length subcircuits.old }
+    requires once { IsDistinct eqb marked.now }
+    requires few { length levels.old ≤ 65536 }
+    requires room { changed.old.room ≡ length levels.old }
     requires fits { (q : ℕ) (s : SubcircuitView) → slice_get subcircuits.old q ≡ Some s → FitsIn (length drives.now) (length closed.now) (length levels.old) s }
     ensures same { subcircuits.new ≡ subcircuits.old }
-    ensures fresh { (q : ℕ) → q < length stale.old → slice_get stale.new q ≡ Some false }
-    ensures right { (w : Circuit) (labels : List ℕ) → IsCut w labels → AreSubcircuits w labels subcircuits.old → length closed.now ≡ length w.contacts → length drives.now ≡ length w.net_of →
-        AreRight w labels stale.old closed.now drives.now levels.old → AreRight w labels stale.new closed.now drives.now levels.new }
+    ensures room { changed.new.room ≡ changed.old.room }
+    ensures right { (w : Wired) (labels : List ℕ) → IsCut w labels → AreSubcircuits w labels subcircuits.old → length closed.now ≡ length w.contacts → length drives.now ≡ length w.net_of →
+        AreRight w labels marked.now closed.now drives.now levels.old → AreRight w labels [] closed.now drives.now levels.new }
+    ensures changed { (w : Wired) (labels : List ℕ) → IsCut w labels → AreSubcircuits w labels subcircuits.old → length levels.old ≡ w.nets → changed.old.marked ≡ [] → AreChanged levels.old levels.new changed.new.marked }
 {
-    for q in 0..subcircuits.len() {
-        if stale[q] {
-            stale[q] = false;
-            subcircuits[q].resolve(drives, closed, levels);
-        }
+    for i in 0..marked.len() {
+        subcircuits[marked[i] as usize].resolve(drives, closed, levels, changed);
     }
 }
 
-/// Resolves the subcircuits in which a drive or a contact changed.
-fn resolve_changed(
-    drives: &[Drive],
-    closed: &[bool],
-    net_of: &[u16],
-    contacts: &[(u16, u16)],
-    labels: &[u16],
-    kept_drives: &mut [Drive],
-    kept_closed: &mut [bool],
-    subcircuits: &mut [Subcircuit],
-    stale: &mut [bool],
-    levels: &mut [Level],
-)
-    requires drives { length drives.now ≡ length net_of.now }
-    requires closed { length closed.now ≡ length contacts.now }
-    requires kept_drives { length kept_drives.old ≡ length net_of.now }
-    requires kept_closed { length kept_closed.old ≡ length contacts.now }
-    requires subcircuits { length subcircuits.old ≡ length levels.old }
-    requires stale { length stale.old ≡ length levels.old }
-    requires cut { (resistors : List (ℕ × ℕ)) × IsCut (unresolved (length levels.old) net_of.now contacts.now resistors) labels.now × AreSubcircuits (unresolved (length levels.old) net_of.now contacts.now resistors) labels.now subcircuits.old }
-    ensures kept_drives { kept_drives.new ≡ drives.now }
-    ensures kept_closed { kept_closed.new ≡ closed.now }
-    ensures same { subcircuits.new ≡ subcircuits.old }
-    ensures right { (resistors : List (ℕ × ℕ)) → IsCut (unresolved (length levels.old) net_of.now contacts.now resistors) labels.now → AreSubcircuits (unresolved (length levels.old) net_of.now contacts.now resistors) labels.now subcircuits.old →
-        AreRight (unresolved (length levels.old) net_of.now contacts.now resistors) labels.now stale.old kept_closed.old kept_drives.old levels.old →
-        AreRight (unresolved (length levels.old) net_of.now contacts.now resistors) labels.now stale.new closed.now drives.now levels.new × (levels.new ≡ resolve (length levels.old) net_of.now contacts.now resistors closed.now drives.now) }
-{
-    keep_drives(drives, net_of, labels, kept_drives, stale);
-    keep_closed(closed, contacts, labels, kept_closed, stale);
-    resolve_stale(drives, closed, subcircuits, stale, levels);
-}
-
 impl Nets {
-    /// The nets of a wiring, with every level Z.
+    /// The nets of a wiring, with every drive and every level Z and all contacts open. All are to be
+    /// resolved.
     pub fn new(alloc: Global, wiring: &Wiring) -> Result<Nets, OutOfMemory>
         requires { IsWiring wiring.now }
-        ensures { IfOk result (λ n. n ≡ record { nets = wiring.now.nets; net_of = wiring.now.net_of; contacts = wiring.now.contacts; resistors = wiring.now.resistors; levels = replicate wiring.now.nets Level.Z }) }
+        ensures { IfOk result (λ n. n ≡ record {
+          nets = wiring.now.nets;
+          net_of = wiring.now.net_of;
+          contacts = wiring.now.contacts;
+          resistors = wiring.now.resistors;
+          drives = replicate (length wiring.now.net_of) Drive.Z;
+          closed = replicate (length wiring.now.contacts) false;
+          levels = replicate wiring.now.nets Level.Z;
+          changed = [];
+        }) }
     {
         let count = wiring.nets as usize;
         let sorted = sort(alloc, wiring)?;
@@ -184,29 +178,85 @@ impl Nets {
             subcircuits: cut_all(alloc, wiring, &sorted)?,
             drives: no_drives(alloc, wiring.net_of.len())?,
             closed: no_flags(alloc, wiring.contacts.len())?,
-            stale: all_flags(alloc, count)?,
+            marks: Marks::all(alloc, wiring.nets)?,
             levels: all_z(alloc, count)?,
+            changed: Marks::new(alloc, wiring.nets)?,
         })
+    }
+
+    /// Sets what a pin drives. Levels follow with `resolve_marked`.
+    pub fn set_drive(&mut self, pin: usize, drive: Drive)
+        requires { pin < length self.old.net_of }
+        ensures { self.new ≡ record self.old { drives = slice_set self.old.drives pin drive } }
+    {
+        keep_drive(
+            pin,
+            drive,
+            &self.net_of,
+            &self.labels,
+            &mut self.drives,
+            &mut self.marks,
+        );
+    }
+
+    /// Sets whether a contact is closed. Levels follow with `resolve_marked`.
+    pub fn set_contact(&mut self, contact: usize, closed: bool)
+        requires { contact < length self.old.contacts }
+        ensures { self.new ≡ record self.old { closed = slice_set self.old.closed contact closed } }
+    {
+        keep_closed(
+            contact,
+            closed,
+            &self.contacts,
+            &self.labels,
+            &mut self.closed,
+            &mut self.marks,
+        );
+    }
+
+    /// Finds the levels by what the pins drive and which contacts are closed. Only the subcircuits in
+    /// which one of these was set to something else are looked at.
+    pub fn resolve_marked(&mut self)
+        ensures levels { self.new ≡ record self.old { levels = resolve self.old.nets self.old.net_of self.old.contacts self.old.resistors self.old.closed self.old.drives; changed = self.new.changed } }
+        ensures changed { AreChanged self.old.levels self.new.levels self.new.changed }
+    {
+        self.changed.clear();
+        resolve_subcircuits(
+            &self.drives,
+            &self.closed,
+            self.marks.marked(),
+            &mut self.subcircuits,
+            &mut self.levels,
+            &mut self.changed,
+        );
+        self.marks.clear();
     }
 
     /// Finds the levels by what the pins drive and which contacts are closed.
     pub fn resolve(&mut self, drives: &[Drive], closed: &[bool])
         requires drives { length drives.now ≡ length self.old.net_of }
         requires closed { length closed.now ≡ length self.old.contacts }
-        ensures { self.new ≡ record self.old { levels = resolve self.old.nets self.old.net_of self.old.contacts self.old.resistors closed.now drives.now } }
+        ensures { self.new ≡ record self.old { drives = drives.now; closed = closed.now; levels = resolve self.old.nets self.old.net_of self.old.contacts self.old.resistors closed.now drives.now; changed = self.new.changed } }
     {
-        resolve_changed(
-            drives,
-            closed,
-            &self.net_of,
-            &self.contacts,
-            &self.labels,
-            &mut self.drives,
-            &mut self.closed,
-            &mut self.subcircuits,
-            &mut self.stale,
-            &mut self.levels,
-        );
+        set_drives(self, drives);
+        set_contacts(self, closed);
+        self.resolve_marked();
+    }
+
+    /// What each pin drives.
+    pub fn drives(&self) -> &[Drive]
+        ensures drives { result.now ≡ self.now.drives }
+        ensures pins { length result.now ≡ length self.now.net_of }
+    {
+        &self.drives
+    }
+
+    /// Which contacts are closed.
+    pub fn closed(&self) -> &[bool]
+        ensures closed { result.now ≡ self.now.closed }
+        ensures contacts { length result.now ≡ length self.now.contacts }
+    {
+        &self.closed
     }
 
     /// The level of a net.
@@ -223,6 +273,33 @@ impl Nets {
         ensures nets { length result.now ≡ self.now.nets }
     {
         &self.levels
+    }
+
+    /// The nets whose levels the last resolution changed.
+    pub fn changed(&self) -> &[u16]
+        ensures changed { result.now ≡ self.now.changed }
+        ensures once { IsDistinct eqb result.now }
+        ensures nets { (n : ℕ) → has result.now n ≡ true → n < self.now.nets }
+    {
+        self.changed.marked()
+    }
+}
+
+fn set_drives(nets: &mut Nets, drives: &[Drive])
+    requires { length drives.now ≡ length nets.old.net_of }
+    ensures { nets.new ≡ record nets.old { drives = drives.now } }
+{
+    for pin in 0..nets.drives().len() {
+        nets.set_drive(pin, drives[pin]);
+    }
+}
+
+fn set_contacts(nets: &mut Nets, closed: &[bool])
+    requires { length closed.now ≡ length nets.old.contacts }
+    ensures { nets.new ≡ record nets.old { closed = closed.now } }
+{
+    for contact in 0..nets.closed().len() {
+        nets.set_contact(contact, closed[contact]);
     }
 }
 

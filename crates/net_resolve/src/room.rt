@@ -1,5 +1,5 @@
 //! Room that nets are made with.
-ghost use Rattle.std.specs.Prelude.{◌≡◌, length, replicate, IfOk, vec_len, true};
+ghost use Rattle.std.specs.Prelude.{◌≡◌, length, replicate, IfOk, vec_len, true, false};
 
 use sim_base::{Drive, Level};
 use std::alloc::{AllocError, Global};
@@ -14,14 +14,16 @@ pub(crate) fn all_z(alloc: Global, count: usize) -> Result<Vec<Level>, AllocErro
 
 /// So many drives, all Z.
 pub(crate) fn no_drives(alloc: Global, count: usize) -> Result<Vec<Drive>, AllocError>
-    ensures { IfOk result (λ v. vec_len v ≡ count) }
+    ensures items { IfOk result (λ v. v.items ≡ replicate count Drive.Z) }
+    ensures len { IfOk result (λ v. vec_len v ≡ count) }
 {
     vec![in alloc; Drive::Z; count]
 }
 
 /// So many flags, none set.
 pub(crate) fn no_flags(alloc: Global, count: usize) -> Result<Vec<bool>, AllocError>
-    ensures { IfOk result (λ v. vec_len v ≡ count) }
+    ensures items { IfOk result (λ v. v.items ≡ replicate count false) }
+    ensures len { IfOk result (λ v. vec_len v ≡ count) }
 {
     vec![in alloc; false; count]
 }

@@ -1,9 +1,11 @@
 //! Nets that no contact and no resistor connects with others: their levels are found alone.
-ghost use Rattle.std.specs.Prelude.{◌≡◌, ℕ, ◌<◌, ◌≤◌, List, length, map, Some, slice_get, IfOk, vec_len, Bool};
+ghost use Rattle.std.specs.Prelude.{◌≡◌, ◌≢◌, ℕ, ◌<◌, ◌≤◌, List, length, map, Some, slice_get, slice_set, IfOk, vec_len, Bool, true, false};
 ghost use Rattle.sim_base.specs.declared.signal.Drive.{Drive};
 ghost use Rattle.board_model.specs.Resolve.{resolve};
+ghost use Rattle.net_resolve.specs.Marked.{Moves};
 ghost use Rattle.net_resolve.specs.Subcircuits.{SubcircuitView, Lacks, AreOnce};
 
+use crate::marks::Marks;
 use crate::room::{no_drives, no_flags};
 use crate::whole::Whole;
 use sim_base::{Drive, Level, OutOfMemory};
@@ -51,16 +53,42 @@ fn gather<T: Copy>(from: &[T], places: &[usize], into: &mut [T])
     }
 }
 
-/// Puts each level in its place.
-fn scatter(levels: &[Level], places: &[usize], into: &mut [Level])
+fn is_same_level(a: Level, b: Level) -> bool
+    ensures same { result ≡ true → a ≡ b }
+    ensures differs { result ≡ false → a ≢ b }
+{
+    a == b
+}
+
+/// Puts a level in its place, and marks the place where that had another.
+fn put_level(level: Level, place: usize, into: &mut [Level], changed: &mut Marks)
+    requires place { place < length into.old }
+    requires few { length into.old ≤ 65536 }
+    requires room { changed.old.room ≡ length into.old }
+    ensures put { into.new ≡ slice_set into.old place level }
+    ensures room { changed.new.room ≡ changed.old.room }
+    ensures moves { Moves into.old into.new changed.old.marked changed.new.marked }
+{
+    if !is_same_level(into[place], level) {
+        into[place] = level;
+        changed.mark(place as u16);
+    }
+}
+
+/// Puts each level in its place, and marks the places that had others.
+fn scatter(levels: &[Level], places: &[usize], into: &mut [Level], changed: &mut Marks)
     requires places { (j k : ℕ) → slice_get places.now j ≡ Some k → k < length into.old }
     requires each { length levels.now ≡ length places.now }
     requires once { AreOnce places.now }
+    requires few { length into.old ≤ 65536 }
+    requires room { changed.old.room ≡ length into.old }
     ensures put { (j k : ℕ) → slice_get places.now j ≡ Some k → slice_get into.new k ≡ slice_get levels.now j }
     ensures others { (k : ℕ) → Lacks places.now k → slice_get into.new k ≡ slice_get into.old k }
+    ensures room { changed.new.room ≡ changed.old.room }
+    ensures moves { Moves into.old into.new changed.old.marked changed.new.marked }
 {
     for j in 0..places.len() {
-        into[places[j]] = levels[j];
+        put_level(levels[j], places[j], into, changed);
     }
 }
 
@@ -112,16 +140,27 @@ impl Subcircuit {
         })
     }
 
-    /// Finds the levels of its nets, by what the pins of the board drive and which contacts are closed.
-    pub(crate) fn resolve(&mut self, drives: &[Drive], closed: &[bool], levels: &mut [Level])
+    /// Finds the levels of its nets, by what the pins of the board drive and which contacts are closed,
+    /// and marks the nets whose levels change.
+    pub(crate) fn resolve(
+        &mut self,
+        drives: &[Drive],
+        closed: &[bool],
+        levels: &mut [Level],
+        changed: &mut Marks,
+    )
         requires pins { (j k : ℕ) → slice_get self.old.pins j ≡ Some k → k < length drives.now }
         requires contacts { (j k : ℕ) → slice_get self.old.contacts j ≡ Some k → k < length closed.now }
         requires nets { (j k : ℕ) → slice_get self.old.nets j ≡ Some k → k < length levels.old }
         requires once { AreOnce self.old.nets }
+        requires few { length levels.old ≤ 65536 }
+        requires room { changed.old.room ≡ length levels.old }
         ensures same { self.new ≡ self.old }
         ensures put { (own_closed : List Bool) (own_drives : List Drive) → map Some own_closed ≡ map (slice_get closed.now) self.old.contacts → map Some own_drives ≡ map (slice_get drives.now) self.old.pins →
             (j n : ℕ) → slice_get self.old.nets j ≡ Some n → slice_get levels.new n ≡ slice_get (resolve (length self.old.nets) self.old.own_nets self.old.own_contacts self.old.own_resistors own_closed own_drives) j }
         ensures others { (n : ℕ) → Lacks self.old.nets n → slice_get levels.new n ≡ slice_get levels.old n }
+        ensures room { changed.new.room ≡ changed.old.room }
+        ensures moves { Moves levels.old levels.new changed.old.marked changed.new.marked }
     {
         resolve_at(
             drives,
@@ -132,6 +171,6 @@ impl Subcircuit {
             &mut self.closed,
             &mut self.whole,
         );
-        scatter(self.whole.levels(), &self.nets, levels);
+        scatter(self.whole.levels(), &self.nets, levels, changed);
     }
 }

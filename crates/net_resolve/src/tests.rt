@@ -45,7 +45,7 @@ fn wiring_of(alloc: Global, circuit: &Circuit) -> Result<Wiring, OutOfMemory>
 }
 
 /// The levels of nets 0 to 2 for these drives, which the plain program has too, though other levels
-/// were resolved before.
+/// were resolved before; the nets that are told to have changed are those whose levels differ.
 fn levels_of(
     rt: &impl Abort,
     alloc: Global,
@@ -57,9 +57,23 @@ fn levels_of(
     assert!(rt; circuit.closed.len() == wiring.contacts.len());
     let mut nets = Nets::new(alloc, &wiring)?;
     nets.resolve(&[drives[1], drives[0], drives[2]], circuit.closed);
-    nets.resolve(&drives, circuit.closed);
+    if circuit.closed.len() > 0 {
+        nets.set_contact(0, !circuit.closed[0]);
+        nets.resolve_marked();
+        nets.set_contact(0, circuit.closed[0]);
+    }
+    let before = list_of(alloc, nets.levels())?;
+    nets.set_drive(0, drives[0]);
+    nets.set_drive(1, drives[1]);
+    nets.set_drive(2, drives[2]);
+    nets.resolve_marked();
     let plain = plain_levels(alloc, &wiring, &drives, circuit.closed)?;
     assert!(rt; nets.levels() == plain.as_slice());
+    assert!(rt; nets.drives() == drives.as_slice() && nets.closed() == circuit.closed);
+    for (net, (old, new)) in before.as_slice().iter().zip(plain.as_slice()).enumerate() {
+        let listed = nets.changed().iter().any(|n| *n as usize == net);
+        assert!(rt; listed == (old != new));
+    }
     Ok(plain)
 }
 

@@ -1,7 +1,7 @@
 //! Nets that are resolved as a whole.
 ghost use Rattle.std.specs.Prelude.{◌≡◌, ℕ, ◌<◌, ◌≤◌, List, length, replicate, Some, slice_get, IfOk, vec_len};
 ghost use Rattle.board_model.specs.Resolve.{resolve};
-ghost use Rattle.net_resolve.specs.Circuit.{Circuit};
+ghost use Rattle.net_resolve.specs.Wired.{Wired};
 ghost use Rattle.net_resolve.specs.Forest.{AreGroups};
 
 use crate::levels::{group_nets, resolve_groups};
@@ -33,10 +33,10 @@ pub(crate) struct Whole {
 
 impl Model for Whole {
     ghost use Rattle.std.specs.Prelude.{◌≡◌, ℕ, ◌<◌, ◌≤◌, length, Some, slice_get, vec_len};
-    ghost use Rattle.net_resolve.specs.Circuit.{Circuit};
+    ghost use Rattle.net_resolve.specs.Wired.{Wired};
     ghost use Rattle.net_resolve.specs.Forest.{AreGroups};
 
-    ghost Value = { Circuit };
+    ghost Value = { Wired };
 
     ghost view = { λ a. record { nets = vec_len a.groups; net_of = a.net_of.items; contacts = a.contacts.items; resistors = a.resistors.items; levels = a.levels.items } };
 

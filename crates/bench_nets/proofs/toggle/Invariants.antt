@@ -5,5 +5,4 @@ abbrev pub invariant-loop-i : goal.invariant-loop-i
 invariant-loop-i l = record {
   nets : l.nets.nets ≡ l.fn.nets.nets;
   net_of : l.nets.net_of ≡ l.fn.nets.net_of;
-  contacts : l.nets.contacts ≡ l.fn.nets.contacts;
 }

@@ -1,7 +1,7 @@
 use Rattle.std.proofs.Common.{◌∙◌, ℕ, List, map, ap}
 use Rattle.std.proofs.lemmas.Result.{IfOk-weaker}
 use Rattle.std.specs.Prelude.{slice_index, slice_index_or}
-use Rattle.net_resolve.specs.Circuit.{Circuit}
+use Rattle.net_resolve.specs.Wired.{Wired}
 use Rattle.net_resolve.proofs.CutLemmas.{mapped_below, pairs_below}
 use Rattle.net_resolve.proofs.cut.own_whole.Goals as goal
 
@@ -24,18 +24,18 @@ new-requires-clause-resistors c =
     (c.in_ok-own_resistors.ensures ∙ ap (λ (ps : List (ℕ × ℕ)). map (own ps) c.args.resistors.now) c.as_slice-3.ensures) c.requires.own_resistors
 
 pub returns-clause-net_of : goal.returns-clause-net_of
-returns-clause-net_of c = IfOk-weaker c.new.result _ _ (λ (w : Circuit) e.
-    ap (λ (x : Circuit). x.net_of) e
+returns-clause-net_of c = IfOk-weaker c.new.result _ _ (λ (w : Wired) e.
+    ap (λ (x : Wired). x.net_of) e
     ∙ c.in_ok-net_of.ensures ∙ ap (λ (ns : List ℕ). map (λ (k : ℕ). slice_index c.args.numbers.now (slice_index ns k)) c.args.pins.now) c.as_slice.ensures) c.new.ensures
 
 pub returns-clause-contacts : goal.returns-clause-contacts
 returns-clause-contacts c =
     let own : List (ℕ × ℕ) → ℕ → ℕ × ℕ = λ ps k. (slice_index c.args.numbers.now (slice_index_or ps k (0, 0)).0, slice_index c.args.numbers.now (slice_index_or ps k (0, 0)).1) in
-    IfOk-weaker c.new.result _ _ (λ (w : Circuit) e.
-    ap (λ (x : Circuit). x.contacts) e ∙ c.in_ok-own_contacts.ensures ∙ ap (λ (ps : List (ℕ × ℕ)). map (own ps) c.args.contacts.now) c.as_slice-2.ensures) c.new.ensures
+    IfOk-weaker c.new.result _ _ (λ (w : Wired) e.
+    ap (λ (x : Wired). x.contacts) e ∙ c.in_ok-own_contacts.ensures ∙ ap (λ (ps : List (ℕ × ℕ)). map (own ps) c.args.contacts.now) c.as_slice-2.ensures) c.new.ensures
 
 pub returns-clause-resistors : goal.returns-clause-resistors
 returns-clause-resistors c =
     let own : List (ℕ × ℕ) → ℕ → ℕ × ℕ = λ ps k. (slice_index c.args.numbers.now (slice_index_or ps k (0, 0)).0, slice_index c.args.numbers.now (slice_index_or ps k (0, 0)).1) in
-    IfOk-weaker c.new.result _ _ (λ (w : Circuit) e.
-    ap (λ (x : Circuit). x.resistors) e ∙ c.in_ok-own_resistors.ensures ∙ ap (λ (ps : List (ℕ × ℕ)). map (own ps) c.args.resistors.now) c.as_slice-3.ensures) c.new.ensures
+    IfOk-weaker c.new.result _ _ (λ (w : Wired) e.
+    ap (λ (x : Wired). x.resistors) e ∙ c.in_ok-own_resistors.ensures ∙ ap (λ (ps : List (ℕ × ℕ)). map (own ps) c.args.resistors.now) c.as_slice-3.ensures) c.new.ensures

@@ -4,6 +4,3 @@ use Rattle.net_resolve.proofs.tests.levels_of.Goals as goal
 
 pub resolve-requires-clause-closed : goal.resolve-requires-clause-closed
 resolve-requires-clause-closed g c = omega (arith, ap (λ (x : Circuit). length x.contacts) c.in_ok-nets.ensures)
-
-pub resolve-requires-2-clause-closed : goal.resolve-requires-2-clause-closed
-resolve-requires-2-clause-closed g c = omega (arith, ap (λ (x : Circuit). length x.contacts) c.resolve.ensures, ap (λ (x : Circuit). length x.contacts) c.in_ok-nets.ensures)

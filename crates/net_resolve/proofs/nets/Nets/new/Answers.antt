@@ -1,4 +1,5 @@
 use Rattle.std.proofs.Common.{◌≡◌, ◌∙◌, ℕ, List, length, arith, sym, ap, refl, subst}
+use Rattle.net_resolve.specs.Marked.{MarksView}
 use Rattle.net_resolve.specs.Subcircuits.{IsCut, AreSubcircuits, unresolved}
 use Rattle.std.specs.Prelude.{vec_len}
 use Rattle.net_resolve.proofs.RightLemmas.{cut_moved, subs_moved, right_none}
@@ -22,10 +23,15 @@ invariant_of-result c =
           (cut_moved w.resistors same_n same_net_of same_contacts same_labels c.in_ok-sorted.ensures.cut);
       subcircuits = subst (λ (rs : List (ℕ × ℕ)). AreSubcircuits (unresolved n net_of contacts rs) labels c.in_ok-cut_all.field-0.items) same_resistors
           (subs_moved w.resistors same_n same_net_of same_contacts same_labels refl c.in_ok-cut_all.ensures.subcircuits);
-      right = right_none (unresolved n net_of contacts resistors) labels w.nets c.in_ok-all_flags.field-0.items c.in_ok-no_flags.field-0.items c.in_ok-no_drives.field-0.items c.in_ok-all_z.field-0.items
-          c.in_ok-all_flags.ensures.items;
+      right = right_none (unresolved n net_of contacts resistors) labels
+          (subst (λ (rs : List (ℕ × ℕ)). IsCut (unresolved n net_of contacts rs) labels) same_resistors
+          (cut_moved w.resistors same_n same_net_of same_contacts same_labels c.in_ok-sorted.ensures.cut))
+          c.in_ok-all.field-0.marked c.in_ok-no_flags.field-0.items c.in_ok-no_drives.field-0.items c.in_ok-all_z.field-0.items
+          (λ q l. c.in_ok-all.ensures.all q (omega (arith, l, same_n)));
+      few = omega (arith, c.in_ok-all.ensures.few, c.in_ok-all.ensures.room, same_n);
       subcircuits_long = c.in_ok-cut_all.ensures.long ∙ same_n;
-      stale_long = c.in_ok-all_flags.ensures.len ∙ same_n;
-      drives_long = omega (arith, c.in_ok-no_drives.ensures, c.len.ensures, c.in_ok-from_slice.ensures.len, ap length c.as_slice.ensures);
-      closed_long = omega (arith, c.in_ok-no_flags.ensures, c.len-2.ensures, c.in_ok-from_slice-2.ensures.len, ap length c.as_slice-2.ensures);
+      marks_room = c.in_ok-all.ensures.room ∙ same_n;
+      changed_room = ap (λ (m : MarksView). m.room) c.in_ok-new.ensures ∙ same_n;
+      drives_long = omega (arith, c.in_ok-no_drives.ensures.len, c.len.ensures, c.in_ok-from_slice.ensures.len, ap length c.as_slice.ensures);
+      closed_long = omega (arith, c.in_ok-no_flags.ensures.len, c.len-2.ensures, c.in_ok-from_slice-2.ensures.len, ap length c.as_slice-2.ensures);
     }

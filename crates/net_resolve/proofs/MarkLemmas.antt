@@ -1,0 +1,195 @@
+-- Numbers that are marked, each once.
+use Rattle.std.proofs.Common.{◌≡◌, ◌≢◌, ℕ, zero, suc, ◌+◌, ◌<◌, ◌≤◌, List, [], ◌∷◌, ◌++◌, length, drop, Bool, true, false, ◌||◌, refl, ap, sym, ◌∙◌, arith, inl, inr, Some, eqb, eq-eqb, get_or, length-append}
+use Rattle.std.proofs.lemmas.Bool.{cases_Bool}
+use Rattle.std.proofs.lemmas.Bool.Decides.{eqb_tells}
+use Rattle.std.proofs.lemmas.List.Folds.{list_any-append}
+use Rattle.std.proofs.lemmas.Map.Steps.{length-le_from_distinct_below}
+use Rattle.std.specs.List.{IsDistinct, AllByRecursion}
+use Rattle.std.specs.Prelude.{slice_get, slice_set, replicate}
+use Rattle.sim_base.specs.declared.signal.Level.{Level}
+use Rattle.board_model.proofs.Lists.{get_set_same, get_set_other}
+use Rattle.net_resolve.specs.Marked.{has, with_mark, Moves, Noted}
+
+has_more : (ns : List ℕ) (n m : ℕ) → has (ns ++ n ∷ []) m ≡ (has ns m || (eqb m n || false))
+has_more ns n m = list_any-append (eqb m) ns (n ∷ [])
+
+pub has_last : (ns : List ℕ) (n : ℕ) → has (ns ++ n ∷ []) n ≡ true
+has_last ns n =
+    let same : eqb n n ≡ true = eq-eqb n n refl in
+    has_more ns n n ∙ elim (cases_Bool (has ns n)) [ inl t ↦ rw t refl | inr f ↦ rw (f, same) refl ]
+
+pub has_other : (ns : List ℕ) (n m : ℕ) → m ≢ n → has (ns ++ n ∷ []) m ≡ has ns m
+has_other ns n m ne = has_more ns n m ∙ elim (eqb_tells m n) [
+  | inl e ↦ absurd (ne e.1)
+  | inr f ↦ rw f.0 (elim (cases_Bool (has ns m)) [ inl t ↦ rw t refl | inr u ↦ rw u refl ])
+]
+
+-- what holds once n is marked
+pub with_has : (ns : List ℕ) (n : ℕ) → has (with_mark n ns) n ≡ true
+with_has ns n = elim (cases_Bool (has ns n)) [ inl t ↦ rw (t, t) refl | inr f ↦ rw f (has_last ns n) ]
+
+pub with_other : (ns : List ℕ) (n m : ℕ) → m ≢ n → has (with_mark n ns) m ≡ has ns m
+with_other ns n m ne = elim (cases_Bool (has ns n)) [ inl t ↦ rw t refl | inr f ↦ rw f (has_other ns n m ne) ]
+
+pub with_less : (ns : List ℕ) (n m : ℕ) → has (with_mark n ns) m ≡ false → has ns m ≡ false
+with_less ns n m h = elim (eqb_tells m n) [
+  | inl e ↦
+      let on : has (with_mark n ns) m ≡ true = ap (has (with_mark n ns)) e.1 ∙ with_has ns n in
+      absurd cc
+  | inr f ↦ sym (with_other ns n m f.1) ∙ h
+]
+
+-- a number that is not there stays once
+pub distinct_push : (ns : List ℕ) (n : ℕ) → has ns n ≡ false → IsDistinct eqb ns → IsDistinct eqb (ns ++ n ∷ [])
+unfolding IsDistinct
+distinct_push [] n h once = (cc, cc)
+distinct_push (x ∷ ns) n h once = (all ns once.0, distinct_push ns n (later (eqb n x) (has ns n) h) once.1)
+  where
+    later : (a b : Bool) → (a || b) ≡ false → b ≡ false
+    later true b e = absurd cc
+    later false b e = e
+
+    apart : eqb x n ≡ false
+    apart = elim (eqb_tells x n) [
+      | inl e ↦
+          let same : eqb n x ≡ true = eq-eqb n x (sym e.1) in
+          let on : (eqb n x || has ns n) ≡ true = rw same refl in
+          absurd cc
+      | inr f ↦ f.0
+    ]
+
+    all : (ys : List ℕ) → AllByRecursion (λ y. eqb x y ≡ false) ys → AllByRecursion (λ y. eqb x y ≡ false) (ys ++ n ∷ [])
+    all [] h = (apart, h)
+    all (y ∷ ys) h = (h.0, all ys h.1)
+
+-- the first number is not among the others
+pub distinct_first : (n : ℕ) (ns : List ℕ) → IsDistinct eqb (n ∷ ns) → has ns n ≡ false
+unfolding IsDistinct
+distinct_first n ns once = none ns once.0
+  where
+    none : (ys : List ℕ) → AllByRecursion (λ y. eqb n y ≡ false) ys → has ys n ≡ false
+    none [] h = refl
+    none (y ∷ ys) h = rw h.0 (none ys h.1)
+
+pub distinct_rest : (n : ℕ) (ns : List ℕ) → IsDistinct eqb (n ∷ ns) → IsDistinct eqb ns
+unfolding IsDistinct
+distinct_rest n ns once = once.1
+
+pub drop_more : {A : Type 0} (xs : List A) (i : ℕ) (d : A) → i < length xs → drop i xs ≡ get_or xs i d ∷ drop (i + 1) xs
+drop_more [] i d h = absurd (omega arith)
+drop_more (x ∷ xs) zero d h = refl
+drop_more (x ∷ xs) (suc i) d h =
+    let e : suc (i + 1) ≡ suc i + 1 = omega arith in
+    drop_more xs i d (omega arith) ∙ ap (λ (k : ℕ). get_or xs i d ∷ drop k (x ∷ xs)) e
+
+pub drop_all : {A : Type 0} (xs : List A) (i : ℕ) → length xs ≤ i → drop i xs ≡ []
+drop_all [] zero h = refl
+drop_all [] (suc i) h = refl
+drop_all (x ∷ xs) zero h = absurd (omega arith)
+drop_all (x ∷ xs) (suc i) h = drop_all xs i (omega arith)
+
+pub distinct_drop : (ns : List ℕ) (i : ℕ) → IsDistinct eqb ns → IsDistinct eqb (drop i ns)
+distinct_drop ns zero once = once
+distinct_drop [] (suc i) once = once
+distinct_drop (n ∷ ns) (suc i) once = distinct_drop ns i (distinct_rest n ns once)
+
+-- a level was put in its place, or was there
+pub moves_none : (levels : List Level) (ns : List ℕ) → Moves levels levels ns ns
+moves_none levels ns = record { differ = λ n h. inl h; others = λ n h. (h, refl) }
+
+pub moves_put : (levels : List Level) (ns : List ℕ) (n : ℕ) (x : Level) → n < length levels → slice_get levels n ≢ Some x → Moves levels (slice_set levels n x) ns (with_mark n ns)
+moves_put levels ns n x inside ne = record {
+  differ = λ m h. elim (eqb_tells m n) [
+    | inl e ↦ inr (λ same. ne (ap (slice_get levels) (sym e.1) ∙ sym same ∙ ap (slice_get (slice_set levels n x)) e.1 ∙ get_set_same levels n x inside))
+    | inr f ↦ inl (sym (with_other ns n m f.1) ∙ h)
+  ];
+  others = λ m h. elim (eqb_tells m n) [
+    | inl e ↦
+        let on : has (with_mark n ns) m ≡ true = ap (has (with_mark n ns)) e.1 ∙ with_has ns n in
+        absurd cc
+    | inr f ↦ (sym (with_other ns n m f.1) ∙ h, get_set_other levels n m x f.1)
+  ];
+}
+
+-- a move of one place after moves of others
+pub moves_then : (a b c : List Level) (before between after : List ℕ) (n : ℕ) → Moves a b before between → slice_get b n ≡ slice_get a n → Moves b c between after → ((m : ℕ) → m ≢ n → slice_get c m ≡ slice_get b m) → Moves a c before after
+moves_then a b c before between after n first same second only = record {
+  differ = λ m h. elim (second.differ m h) [
+    | inl earlier ↦ elim (first.differ m earlier) [
+      | inl old ↦ inl old
+      | inr moved ↦ elim (eqb_tells m n) [
+        | inl e ↦ absurd (moved (ap (slice_get b) e.1 ∙ same ∙ ap (slice_get a) (sym e.1)))
+        | inr f ↦ inr (λ back. moved (sym (only m f.1) ∙ back))
+      ]
+    ]
+    | inr moved ↦ elim (eqb_tells m n) [
+      | inl e ↦ inr (λ back. moved (back ∙ ap (slice_get a) e.1 ∙ sym same ∙ ap (slice_get b) (sym e.1)))
+      | inr f ↦ absurd (moved (only m f.1))
+    ]
+  ];
+  others = λ m h.
+      let late = second.others m h in
+      let early = first.others m late.0 in
+      (early.0, late.1 ∙ early.1);
+}
+
+pub noted_none : (Same : Type 0) (q : ℕ) (ns : List ℕ) → Same → Noted Same q ns ns
+noted_none Same q ns same = record { more = λ p h. h; same = λ h. same }
+
+pub noted_mark : (Same : Type 0) (q : ℕ) (ns : List ℕ) → Noted Same q ns (with_mark q ns)
+noted_mark Same q ns = record {
+  more = λ p h. with_less ns q p h;
+  same = λ h. let on = with_has ns q in absurd cc;
+}
+
+-- what a list has is somewhere in it
+pub has_at : (ns : List ℕ) (i : ℕ) → i < length ns → has ns (get_or ns i 0) ≡ true
+has_at [] i h = absurd (omega arith)
+has_at (n ∷ ns) zero h = let same : eqb n n ≡ true = eq-eqb n n refl in rw same refl
+has_at (n ∷ ns) (suc i) h =
+    let rest = has_at ns i (omega arith) in
+    elim (cases_Bool (eqb (get_or ns i 0) n)) [ inl t ↦ rw t refl | inr f ↦ rw (f, rest) refl ]
+
+pub has_first : (ns : List ℕ) (n m : ℕ) → m ≡ n → has (n ∷ ns) m ≡ true
+has_first ns n m e = let same : eqb m n ≡ true = eq-eqb m n e in rw same refl
+
+-- one flag more is off
+pub flag_off : (list : List ℕ) (flags : List Bool) (i : ℕ) → i < length list → get_or list i 0 < length flags → ((n : ℕ) → n < length flags → has (drop i list) n ≡ false → slice_get flags n ≡ Some false) →
+    (n : ℕ) → n < length flags → has (drop (i + 1) list) n ≡ false → slice_get (slice_set flags (get_or list i 0) false) n ≡ Some false
+flag_off list flags i l inside off n h e = elim (eqb_tells n (get_or list i 0)) [
+  | inl t ↦ ap (slice_get (slice_set flags (get_or list i 0) false)) t.1 ∙ get_set_same flags (get_or list i 0) false inside
+  | inr f ↦
+      let none : has (get_or list i 0 ∷ drop (i + 1) list) n ≡ false = rw f.0 e in
+      get_set_other flags (get_or list i 0) n false f.1 ∙ off n h (ap (λ (ns : List ℕ). has ns n) (drop_more list i 0 l) ∙ none)
+]
+
+-- there is room for a number that is not marked
+pub room_left : (ns : List ℕ) (room n : ℕ) → n < room → has ns n ≡ false → IsDistinct eqb ns → ((m : ℕ) → has ns m ≡ true → m < room) → length ns < room
+room_left ns room n l none once low =
+    let most : length (ns ++ n ∷ []) ≤ room = length-le_from_distinct_below (ns ++ n ∷ []) room (distinct_push ns n none once) (λ m h. elim (eqb_tells m n) [
+      | inl e ↦ omega (arith, l, e.1)
+      | inr f ↦ low m (sym (has_other ns n m f.1) ∙ h)
+    ]) in
+    omega (arith, most, length-append ns (n ∷ []))
+
+pub flagged_more : (flags : List Bool) (ns : List ℕ) (n : ℕ) → n < length flags → ((m : ℕ) → m < length flags → slice_get flags m ≡ Some (has ns m)) →
+    (m : ℕ) → m < length flags → slice_get (slice_set flags n true) m ≡ Some (has (ns ++ n ∷ []) m)
+flagged_more flags ns n l flagged m h = elim (eqb_tells m n) [
+  | inl e ↦ ap (slice_get (slice_set flags n true)) e.1 ∙ get_set_same flags n true l ∙ ap Some (sym (ap (has (ns ++ n ∷ [])) e.1 ∙ has_last ns n))
+  | inr f ↦ get_set_other flags n m true f.1 ∙ flagged m h ∙ ap Some (sym (has_other ns n m f.1))
+]
+
+pub low_more : (ns : List ℕ) (n room : ℕ) → n < room → ((m : ℕ) → has ns m ≡ true → m < room) → (m : ℕ) → has (ns ++ n ∷ []) m ≡ true → m < room
+low_more ns n room l low m h = elim (eqb_tells m n) [
+  | inl e ↦ omega (arith, l, e.1)
+  | inr f ↦ low m (sym (has_other ns n m f.1) ∙ h)
+]
+
+pub replicate_get : {A : Type 0} (x : A) (count k : ℕ) → k < count → slice_get (replicate count x) k ≡ Some x
+replicate_get x zero k h = absurd (omega arith)
+replicate_get x (suc count) zero h = refl
+replicate_get x (suc count) (suc k) h = replicate_get x count k (omega arith)
+
+pub distinct_none : IsDistinct eqb []
+unfolding IsDistinct
+distinct_none = cc

@@ -1,0 +1,77 @@
+use Rattle.std.proofs.Common.{◌≡◌, ◌∙◌, List, [], Bool, length, arith, sym, ap, refl, subst, Some}
+use Rattle.std.specs.Prelude.{slice_get}
+use Rattle.sim_base.specs.declared.signal.Drive.{Drive}
+use Rattle.sim_base.specs.declared.signal.Level.{Level}
+use Rattle.board_model.specs.Resolve.{resolve}
+use Rattle.board_model.proofs.Lists.{lent_whole}
+use Rattle.net_resolve.specs.Circuit.{Circuit, AreChanged}
+use Rattle.net_resolve.specs.Marked.{MarksView}
+use Rattle.net_resolve.specs.Subcircuits.{SubcircuitView, AreRight, unresolved}
+use Rattle.net_resolve.proofs.RightLemmas.{right_moved, right_all, subs_moved, fits_in}
+use Rattle.net_resolve.proofs.nets.Nets.resolve_marked.Goals as goal
+
+pub resolve_subcircuits-requires-clause-fits : goal.resolve_subcircuits-requires-clause-fits
+resolve_subcircuits-requires-clause-fits c = λ q s e.
+    let i = c.self.inside in
+    let v = c.self.invariant in
+    let w = unresolved i.levels.len i.net_of.items i.contacts.items i.resistors.items in
+    fits_in w i.labels.items v.cut q s (v.subcircuits q s (subst (λ (ss : List SubcircuitView). slice_get ss q ≡ Some s) c.deref_mut.ensures.value e))
+    (length c.deref.result.now) (length c.deref-2.result.now) (length c.deref_mut-2.result.now)
+    (omega (arith, ap length c.deref.ensures.value, v.drives_long, i.drives.ok.0, i.net_of.ok.0))
+    (omega (arith, ap length c.deref-2.ensures.value, v.closed_long, i.closed.ok.0, i.contacts.ok.0))
+    (omega (arith, ap length c.deref_mut-2.ensures.value, i.levels.ok.0))
+
+pub invariant_of-self : goal.invariant_of-self
+invariant_of-self c =
+    let i = c.self.inside in
+    let v = c.self.invariant in
+    let r = c.resolve_subcircuits in
+    let rs = i.resistors.items in
+    let w = unresolved i.levels.len i.net_of.items i.contacts.items rs in
+    let subs = lent_whole i.subcircuits.len i.subcircuits.items r.new.subcircuits i.subcircuits.ok.0 (r.auto.subcircuits ∙ ap length c.deref_mut.ensures.value) in
+    let levels = lent_whole i.levels.len i.levels.items r.new.levels i.levels.ok.0 (r.auto.levels ∙ ap length c.deref_mut-2.ensures.value) in
+    let same = subs ∙ r.ensures.same ∙ c.deref_mut.ensures.value in
+    let found = r.ensures.right w i.labels.items v.cut (subs_moved rs refl refl refl refl (sym c.deref_mut.ensures.value) v.subcircuits)
+    (omega (arith, ap length c.deref-2.ensures.value, v.closed_long, i.closed.ok.0, i.contacts.ok.0)) (omega (arith, ap length c.deref.ensures.value, v.drives_long, i.drives.ok.0, i.net_of.ok.0))
+    (right_moved rs refl refl refl refl (sym c.marked.ensures.marked) (sym c.deref-2.ensures.value) (sym c.deref.ensures.value) (sym c.deref_mut-2.ensures.value) v.right) in
+    record {
+      cut = v.cut;
+      subcircuits = subs_moved rs refl refl refl refl (sym same) v.subcircuits;
+      right = right_moved rs refl refl refl refl (sym (ap (λ (m : MarksView). m.marked) c.clear-2.ensures)) c.deref-2.ensures.value c.deref.ensures.value (sym levels) found;
+      few = v.few;
+      subcircuits_long = ap length same ∙ v.subcircuits_long;
+      marks_room = ap (λ (m : MarksView). m.room) c.clear-2.ensures ∙ v.marks_room;
+      changed_room = r.ensures.room ∙ ap (λ (m : MarksView). m.room) c.clear.ensures ∙ v.changed_room;
+      drives_long = v.drives_long;
+      closed_long = v.closed_long;
+    }
+
+pub returns-clause-levels : goal.returns-clause-levels
+returns-clause-levels c =
+    let i = c.self.inside in
+    let v = c.self.invariant in
+    let r = c.resolve_subcircuits in
+    let rs = i.resistors.items in
+    let w = unresolved i.levels.len i.net_of.items i.contacts.items rs in
+    let levels = lent_whole i.levels.len i.levels.items r.new.levels i.levels.ok.0 (r.auto.levels ∙ ap length c.deref_mut-2.ensures.value) in
+    let found = r.ensures.right w i.labels.items v.cut (subs_moved rs refl refl refl refl (sym c.deref_mut.ensures.value) v.subcircuits)
+    (omega (arith, ap length c.deref-2.ensures.value, v.closed_long, i.closed.ok.0, i.contacts.ok.0)) (omega (arith, ap length c.deref.ensures.value, v.drives_long, i.drives.ok.0, i.net_of.ok.0))
+    (right_moved rs refl refl refl refl (sym c.marked.ensures.marked) (sym c.deref-2.ensures.value) (sym c.deref.ensures.value) (sym c.deref_mut-2.ensures.value) v.right) in
+    let are = right_all w i.labels.items v.cut i.closed.items i.drives.items r.new.levels (omega (arith, r.auto.levels, ap length c.deref_mut-2.ensures.value, i.levels.ok.0))
+    (subst (λ (ds : List Drive). AreRight w i.labels.items [] i.closed.items ds r.new.levels) c.deref.ensures.value
+    (subst (λ (cs : List Bool). AreRight w i.labels.items [] cs c.deref.result.now r.new.levels) c.deref-2.ensures.value found)) in
+    ap (λ (ls : List Level). record { nets = i.levels.len; net_of = i.net_of.items; contacts = i.contacts.items; resistors = rs; drives = i.drives.items; closed = i.closed.items; levels = ls; changed = r.new.changed.marked }) (levels ∙ are)
+    ∙ ap (λ (x : Circuit). record x { levels = resolve x.nets x.net_of x.contacts x.resistors x.closed x.drives; changed = r.new.changed.marked }) c.self.view_is
+
+pub returns-clause-changed : goal.returns-clause-changed
+returns-clause-changed c =
+    let i = c.self.inside in
+    let v = c.self.invariant in
+    let r = c.resolve_subcircuits in
+    let rs = i.resistors.items in
+    let w = unresolved i.levels.len i.net_of.items i.contacts.items rs in
+    let levels = lent_whole i.levels.len i.levels.items r.new.levels i.levels.ok.0 (r.auto.levels ∙ ap length c.deref_mut-2.ensures.value) in
+    let found = r.ensures.changed w i.labels.items v.cut (subs_moved rs refl refl refl refl (sym c.deref_mut.ensures.value) v.subcircuits)
+    (omega (arith, ap length c.deref_mut-2.ensures.value, i.levels.ok.0)) (ap (λ (m : MarksView). m.marked) c.clear.ensures) in
+    subst (λ (ls : List Level). AreChanged c.args.self.now.levels ls r.new.changed.marked) (sym levels)
+    (subst (λ (ls : List Level). AreChanged ls r.new.levels r.new.changed.marked) (c.deref_mut-2.ensures.value ∙ ap (λ (x : Circuit). x.levels) c.self.view_is) found)

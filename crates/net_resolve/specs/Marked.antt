@@ -1,0 +1,27 @@
+-- Numbers that are marked, each once.
+use Rattle.std.specs.Prelude.{◌≡◌, ◌≢◌, ℕ, eqb, List, [], ◌∷◌, ◌++◌, Bool, true, false, if◌then◌else◌, slice_get, ◌⊎◌}
+use Rattle.std.specs.List.{list_any}
+use Rattle.sim_base.specs.declared.signal.Level.{Level}
+
+-- whether a list has a number
+abbrev pub has : List ℕ → ℕ → Bool
+has ns n = list_any (eqb n) ns
+
+-- marks below `room`
+pub record MarksView : Type 0 where
+  pub room : ℕ
+  pub marked : List ℕ
+
+-- the numbers that are marked once n is too
+abbrev pub with_mark : ℕ → List ℕ → List ℕ
+with_mark n ns = if has ns n then ns else ns ++ n ∷ []
+
+-- what is marked beside what was: the nets whose levels differ
+pub record Moves (old new : List Level) (before after : List ℕ) : Type 0 where
+  pub differ : (n : ℕ) → has after n ≡ true → (has before n ≡ true) ⊎ (slice_get new n ≢ slice_get old n)
+  pub others : (n : ℕ) → has after n ≡ false → (has before n ≡ false) × (slice_get new n ≡ slice_get old n)
+
+-- A number is marked beside others, but where something stays as it was.
+pub record Noted (Same : Type 0) (q : ℕ) (before after : List ℕ) : Type 0 where
+  pub more : (p : ℕ) → has after p ≡ false → has before p ≡ false
+  pub same : has after q ≡ false → Same

@@ -1,0 +1,107 @@
+//! Numbers that are marked.
+ghost use Rattle.std.specs.Prelude.{◌≡◌, ℕ, ◌<◌, ◌≤◌, List, [], ◌∷◌, ◌++◌, length, eqb, true, false, Some, slice_get, IfOk, vec_len, vec_capacity};
+ghost use Rattle.std.specs.List.{IsDistinct};
+ghost use Rattle.net_resolve.specs.Marked.{has, with_mark};
+
+use crate::room::no_flags;
+use sim_base::OutOfMemory;
+use std::alloc::Global;
+use std::marker::Model;
+
+/// Numbers below a count that are marked, each once. To mark one takes no memory.
+#[derive(Drop)]
+pub(crate) struct Marks {
+    flags: Vec<bool>,
+    list: Vec<u16>,
+}
+
+impl Model for Marks {
+    ghost use Rattle.std.specs.Prelude.{◌≡◌, ℕ, ◌<◌, ◌≤◌, eqb, true, Some, slice_get, vec_len, vec_capacity};
+    ghost use Rattle.std.specs.List.{IsDistinct};
+    ghost use Rattle.net_resolve.specs.Marked.{MarksView, has};
+
+    ghost Value = { MarksView };
+
+    ghost view = { λ a. record { room = vec_len a.flags; marked = a.list.items } };
+
+    ghost invariant = { λ a. record {
+      flagged : (n : ℕ) → n < vec_len a.flags → slice_get a.flags.items n ≡ Some (has a.list.items n);
+      low : (n : ℕ) → has a.list.items n ≡ true → n < vec_len a.flags;
+      once : IsDistinct eqb a.list.items;
+      room : vec_len a.flags ≤ vec_capacity a.list;
+    } };
+}
+
+/// Writes a number behind others, for which there is room.
+fn put_last(list: &mut Vec<u16>, n: u16)
+    requires { vec_len list.old < vec_capacity list.old }
+    ensures items { list.new.items ≡ list.old.items ++ n ∷ [] }
+    ensures capacity { vec_capacity list.old ≤ vec_capacity list.new }
+{
+    match list.push(n) {
+        Ok(()) => {}
+        Err(_) => unreachable!(),
+    }
+}
+
+/// Takes the marks off the numbers of a list.
+fn clear_flags(list: &[u16], flags: &mut [bool])
+    requires low { (n : ℕ) → has list.now n ≡ true → n < length flags.old }
+    requires flagged { (n : ℕ) → n < length flags.old → slice_get flags.old n ≡ Some (has list.now n) }
+    ensures { (n : ℕ) → n < length flags.old → slice_get flags.new n ≡ Some false }
+{
+    for i in 0..list.len() {
+        flags[list[i] as usize] = false;
+    }
+}
+
+impl Marks {
+    /// No marks, with room for so many.
+    pub(crate) fn new(alloc: Global, room: u16) -> Result<Marks, OutOfMemory>
+        ensures { IfOk result (λ m. m ≡ record { room = room; marked = [] }) }
+    {
+        Ok(Marks {
+            flags: no_flags(alloc, room as usize)?,
+            list: Vec::with_capacity(alloc, room as usize)?,
+        })
+    }
+
+    /// All numbers below a count, marked.
+    pub(crate) fn all(alloc: Global, room: u16) -> Result<Marks, OutOfMemory>
+        ensures room { IfOk result (λ m. m.room ≡ room) }
+        ensures few { IfOk result (λ m. m.room ≤ 65535) }
+        ensures all { IfOk result (λ m. (n : ℕ) → n < room → has m.marked n ≡ true) }
+    {
+        let mut marks = Marks::new(alloc, room)?;
+        for n in 0..room {
+            marks.mark(n);
+        }
+        Ok(marks)
+    }
+
+    pub(crate) fn mark(&mut self, n: u16)
+        requires { n < self.old.room }
+        ensures { self.new ≡ record self.old { marked = with_mark n self.old.marked } }
+    {
+        if !self.flags[n as usize] {
+            self.flags[n as usize] = true;
+            put_last(&mut self.list, n);
+        }
+    }
+
+    pub(crate) fn clear(&mut self)
+        ensures { self.new ≡ record self.old { marked = [] } }
+    {
+        clear_flags(&self.list, &mut self.flags);
+        self.list.clear();
+    }
+
+    /// The numbers that are marked, in the order in which they were.
+    pub(crate) fn marked(&self) -> &[u16]
+        ensures marked { result.now ≡ self.now.marked }
+        ensures once { IsDistinct eqb result.now }
+        ensures low { (n : ℕ) → has result.now n ≡ true → n < self.now.room }
+    {
+        &self.list
+    }
+}
