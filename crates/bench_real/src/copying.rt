@@ -1,7 +1,9 @@
 //! Whole texts over calls that may do a part.
-ghost use Rattle.std.specs.Prelude.{◌≡◌, ◌≤◌, [], length};
+ghost use Rattle.std.specs.Prelude.{◌≡◌, ◌≤◌, [], true, length};
+ghost use Rattle.std.specs.Io.KnownBytes.{Appends};
 
 use sim_base::ReadEnd;
+use std::io;
 use std::io::{Read, Write};
 
 /// Reads to the end, or up to one chunk more than `limit` bytes.
@@ -28,28 +30,16 @@ pub(crate) fn read_up_to<F: Read>(file: &mut F, limit: u32, into: &mut Vec<u8>) 
     ReadEnd::Failed
 }
 
-/// Writes all bytes; false where the system failed or took nothing.
-pub(crate) fn write_whole<F: Write>(file: &mut F, bytes: &[u8]) -> bool {
-    let mut rest = bytes;
-    while !rest.is_empty() {
-        match file.write(rest) {
-            Ok(0) | Err(_) => return false,
-            Ok(count) => rest = &rest[count..],
-        }
-    }
-    true
+/// Whether all bytes were written; else the system failed, and a first part may be.
+pub(crate) fn write_whole<F: Write>(file: &mut F, bytes: &[u8]) -> bool
+    ensures done { result ≡ true → Appends (F.contents file.old) (F.contents file.new) bytes.now }
+{
+    file.write_all(bytes).is_ok()
 }
 
 /// The same on standard output.
 pub(crate) fn print_whole<R: Print>(rt: &R, bytes: &[u8]) -> bool {
-    let mut rest = bytes;
-    while !rest.is_empty() {
-        match rt.write_some(rest) {
-            Ok(0) | Err(_) => return false,
-            Ok(count) => rest = &rest[count..],
-        }
-    }
-    true
+    write_whole(&mut io::writer(rt), bytes)
 }
 
 /// The same on standard error, which takes text alone.
