@@ -38,15 +38,21 @@ same() { # NAME, EXPECTED; the text at hand on standard input
 wave() { # FOLDER MICROSECONDS
     "$program" run "$1" --us "$2" --vcd -
 }
-# the tests of sim_cli run the same firmware and diagram
-in_tests() { # FILE
-    tr -d '\r' <"$here/$1" | while read -r line; do
-        grep -qF -- "$line" "$here"/../crates/sim_cli/src/*_tests.rt || exit 1
-    done
+# the gate runs the same firmware and diagrams (crates/sim_rows)
+rows=$here/../crates/sim_rows/data
+twin() { # FILE, FILE OF THE ROWS
+    cmp -s "$here/$1" "$rows/$2" || { echo "$1: crates/sim_rows has another $2"; bad=1; }
 }
-for file in crc/crc.hex sort/sort.hex counter/counter.hex counter/diagram.json; do
-    in_tests "$file" || { echo "$file: the test of sim_cli has another text"; bad=1; }
-done
+twin blink/blink.hex blink.hex
+twin blink/expected/wave.vcd blink.vcd
+twin crc/crc.hex crc.hex
+twin sort/sort.hex sort.hex
+twin counter/counter.hex counter.hex
+twin counter/diagram.json counter.json
+twin counter/expected/run.vcd counter.vcd
+pulses <"$rows/crc.vcd" | same "crc in the rows" "$here/crc/expected/pulses.txt" || bad=1
+pulses <"$rows/sort.vcd" | same "sort in the rows" "$here/sort/expected/pulses.txt" || bad=1
+counts <"$rows/counter-down.vcd" | same "counter downwards in the rows" "$here/counter/expected/counts-down.txt" || bad=1
 for name in blink counter; do
     "$program" check "$here/$name" | same "$name as a project" "$here/$name/expected/check.txt" || bad=1
 done

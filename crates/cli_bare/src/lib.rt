@@ -3,8 +3,6 @@
 //! opened.
 #![tactic(auto)]
 
-#[cfg(test)]
-mod board_tests;
 mod running;
 mod uno;
 

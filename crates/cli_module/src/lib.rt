@@ -3,7 +3,5 @@
 #![tactic(auto)]
 
 mod judging;
-#[cfg(test)]
-mod tests;
 
 pub use judging::check_module;

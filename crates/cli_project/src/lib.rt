@@ -5,8 +5,6 @@
 mod checking;
 mod documents;
 mod project;
-#[cfg(test)]
-mod tests;
 
 pub use checking::check;
 pub use project::{Work, read_work};

@@ -4,8 +4,6 @@
 #![tactic(auto)]
 
 mod running;
-#[cfg(test)]
-mod tests;
 mod variables;
 
 pub use running::run;

@@ -3,12 +3,6 @@
 //! `simulate` does all of it and answers the status.
 #![tactic(auto)]
 
-#[cfg(test)]
-mod counter_tests;
-#[cfg(test)]
-mod example_tests;
 mod simulation;
-#[cfg(test)]
-mod tests;
 
 pub use simulation::simulate;

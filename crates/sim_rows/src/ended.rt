@@ -1,0 +1,101 @@
+//! A run over a bench in memory, and what it left.
+ghost use Rattle.std.specs.Prelude.{◌≡◌, ◌<◌};
+
+use crate::row::Row;
+use crate::stage::{Stage, StagedFile};
+use sim_base::{MemBench, OutOfMemory, Port, Steps};
+use sim_cli::simulate;
+use std::alloc::{AllocError, Global};
+use std::io;
+use std::marker::Brand;
+use std::sync::ledger::{Blank, Ledger};
+
+#[derive(Drop)]
+pub struct Ended {
+    status: u8,
+    bench: MemBench,
+}
+
+impl Ended {
+    /// What first differs from the row, the status or a port.
+    pub fn difference(&self, row: &Row) -> Option<&'static str> {
+        let wave = self.bench.written(Port::Wave);
+        if self.status != row.status {
+            Some("status")
+        } else if self.bench.written(Port::Complaint) != row.complaint.as_slice() {
+            Some("complaint")
+        } else if self.bench.written(Port::Report) != row.report.as_slice() {
+            Some("report")
+        } else if self.bench.written(Port::Serial) != row.serial.as_slice() {
+            Some("serial")
+        } else if row.is_wave_begun && row.wave.starts_with(wave) {
+            None
+        } else if wave != row.wave.as_slice() {
+            Some("wave")
+        } else {
+            None
+        }
+    }
+
+    /// Says how the run ended.
+    pub fn show(&self, rt: &HostRuntime) -> io::Result<()> {
+        println!(rt; "ended with {}", self.status)?;
+        for port in [Port::Complaint, Port::Report, Port::Serial, Port::Wave] {
+            match str::from_utf8(self.bench.written(port)) {
+                Ok(text) => print!(rt; "{text}")?,
+                Err(_) => println!(rt; "bytes that are no text")?,
+            }
+        }
+        Ok(())
+    }
+}
+
+fn call<L: Ledger>(alloc: Global, words: &[String], bench: &mut MemBench, blank: Blank) -> u8
+    requires name { blank.name ≡ L.name }
+    requires parts { blank.parts ≡ L.parts }
+    requires some { 0 < L.parts }
+{
+    let mut steps: Steps<L> = Steps::new(blank);
+    simulate(alloc, words, bench, &mut steps)
+}
+
+/// The bytes of a file that are there.
+fn there<'a>(file: &'a StagedFile, row: &Row, number: u32) -> &'a [u8] {
+    let bytes = file.bytes.as_slice();
+    if row.cut.as_str() == file.name.as_str() {
+        &bytes[..bytes.len().min(number as usize)]
+    } else {
+        bytes
+    }
+}
+
+fn make_bench(
+    alloc: Global,
+    stage: &Stage,
+    row: &Row,
+    number: u32,
+) -> Result<MemBench, OutOfMemory> {
+    let mut bench = MemBench::new(alloc);
+    for file in stage.files() {
+        bench.add_file(file.name.as_str(), there(file, row, number))?;
+    }
+    bench.room(Port::Serial, 10_000)?;
+    bench.room(Port::Wave, row.room)?;
+    bench.room(Port::Report, 10_000)?;
+    bench.room(Port::Complaint, 1_000)?;
+    if row.cut.is_empty() {
+        bench.fail_call(number)?;
+    }
+    Ok(bench)
+}
+
+/// Runs the row once.
+pub fn run_once(alloc: Global, stage: &Stage, row: &Row, number: u32) -> Result<Ended, AllocError> {
+    match make_bench(alloc, stage, row, number) {
+        Ok(mut bench) => {
+            let status = call::<Brand>(alloc, &row.words, &mut bench, Blank::new(1));
+            Ok(Ended { status, bench })
+        }
+        Err(_) => Err(AllocError),
+    }
+}

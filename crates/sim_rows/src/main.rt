@@ -1,0 +1,54 @@
+//! Runs the program on rows of data and says which end otherwise than the row has it, with a count at the end.
+//! Its words name files of rows, whose lines `row` and `stage` say; a further row needs no change here.
+#![tactic(auto)]
+
+mod ended;
+mod row;
+mod stage;
+
+use ended::run_once;
+use row::{Row, read_row};
+use stage::Stage;
+use std::{env, fs, io};
+
+fn main(rt: HostRuntime) -> io::Result<()> {
+    let mut count: u32 = 0;
+    for word in env::args(&rt)?.skip(1) {
+        count = count.saturating_add(play(&rt, word.as_str())?);
+    }
+    println!(rt; "{count} runs")
+}
+
+/// Plays the rows of a file, and answers how many runs they were.
+fn play(rt: &HostRuntime, name: &str) -> io::Result<u32> {
+    let text = fs::read_to_string(rt, name)?;
+    let mut stage = Stage::new(rt.alloc());
+    let mut count: u32 = 0;
+    for part in text.as_str().split("\n\n") {
+        for line in part.lines() {
+            stage.read_line(rt, line)?;
+        }
+        let row = read_row(rt, part)?;
+        if row.is_run() {
+            count = count.saturating_add(play_row(rt, name, part, &stage, &row)?);
+        }
+    }
+    Ok(count)
+}
+
+/// Plays a row for each of its numbers.
+fn play_row(rt: &HostRuntime, name: &str, part: &str, stage: &Stage, row: &Row) -> io::Result<u32> {
+    let mut count: u32 = 0;
+    for number in row.first..=row.last {
+        count = count.saturating_add(1);
+        let ended = run_once(rt.alloc(), stage, row, number)?;
+        match ended.difference(row) {
+            None => {}
+            Some(port) => {
+                println!(rt; "{name}: another {port} than this row has, at {number}:\n{part}")?;
+                ended.show(rt)?;
+            }
+        }
+    }
+    Ok(count)
+}

@@ -1,0 +1,141 @@
+//! What a row asks for, and how it is to end.
+use std::alloc::{AllocError, Global};
+use std::{fs, io};
+
+/// A run for each number from `first` to `last`. It is the number of the call of the outside that
+/// fails, where 0 is none, or where `cut` names a file the count of its bytes that are there.
+#[derive(Drop)]
+pub struct Row {
+    pub words: Vec<String>,
+    pub cut: String,
+    pub first: u32,
+    pub last: u32,
+    pub room: u32,
+    pub status: u8,
+    pub serial: Vec<u8>,
+    pub wave: Vec<u8>,
+    pub is_wave_begun: bool,
+    pub report: Vec<u8>,
+    pub complaint: Vec<u8>,
+    is_run: bool,
+}
+
+impl Row {
+    fn new(alloc: Global) -> Row {
+        Row {
+            words: Vec::new(alloc),
+            cut: String::new(alloc),
+            first: 0,
+            last: 0,
+            room: 100_000,
+            status: 0,
+            serial: Vec::new(alloc),
+            wave: Vec::new(alloc),
+            is_wave_begun: false,
+            report: Vec::new(alloc),
+            complaint: Vec::new(alloc),
+            is_run: false,
+        }
+    }
+
+    /// Whether there is anything to run.
+    pub fn is_run(&self) -> bool {
+        self.is_run
+    }
+
+    fn span(&mut self, first: &str, last: &str) {
+        self.first = number(first);
+        self.last = number(last);
+    }
+
+    fn add_words(&mut self, alloc: Global, words: &[&str]) -> Result<(), AllocError> {
+        self.is_run = true;
+        for word in words {
+            self.words.push(String::from_str(alloc, word)?)?;
+        }
+        Ok(())
+    }
+
+    /// - `run WORDS`, `word WORD`: the words of the command line; `word` has the rest of its line as one
+    /// - `fails N`, `fails N M`: the call of the outside that fails, in a run for each
+    /// - `cut NAME N M`: only so many bytes of the file are there, in a run for each
+    /// - `room N`: so many bytes have room in the wave
+    /// - `ends N`: the status
+    fn read_ask(&mut self, alloc: Global, line: &str, words: &[&str]) -> Result<bool, AllocError> {
+        match words {
+            ["run", rest @ ..] => self.add_words(alloc, rest)?,
+            ["word", ..] => self.add_words(alloc, &[behind(line, "word ")])?,
+            ["fails", n] => self.span(n, n),
+            ["fails", n, m] => self.span(n, m),
+            ["cut", name, n, m] => {
+                self.cut.push_str(name)?;
+                self.span(n, m);
+            }
+            ["room", n] => self.room = number(n),
+            ["ends", n] => self.status = n.parse::<u8>().unwrap_or(255),
+            _ => return Ok(false),
+        }
+        Ok(true)
+    }
+
+    /// - `complains TEXT`, `reports TEXT`: a line
+    /// - `wave DATA`, `wave DATA N`: the bytes of `data/DATA`, or so many of them
+    /// - `begins DATA`: any first part of these bytes
+    /// - `serial DATA`: these bytes
+    fn read_end(&mut self, rt: &HostRuntime, line: &str, words: &[&str]) -> io::Result<bool> {
+        match words {
+            ["complains", ..] => add_line(&mut self.complaint, behind(line, "complains "))?,
+            ["reports", ..] => add_line(&mut self.report, behind(line, "reports "))?,
+            ["wave", data] => self.wave = fs::read(rt, *data)?,
+            ["wave", data, count] => {
+                self.wave = fs::read(rt, *data)?;
+                self.wave.truncate(number(count) as usize);
+            }
+            ["begins", data] => {
+                self.wave = fs::read(rt, *data)?;
+                self.is_wave_begun = true;
+            }
+            ["serial", data] => self.serial = fs::read(rt, *data)?,
+            _ => return Ok(false),
+        }
+        Ok(true)
+    }
+
+    fn read_line(&mut self, rt: &HostRuntime, line: &str) -> io::Result<()> {
+        let words: Vec<&str> = line.split_whitespace().collect(rt.alloc())?;
+        if self.read_ask(rt.alloc(), line, &words)? || self.read_end(rt, line, &words)? {
+            return Ok(());
+        }
+        match words.as_slice() {
+            [] | ["file" | "lines", _, _] | ["text", _, ..] | ["empty", _] | ["no", "files"] => {
+                Ok(())
+            }
+            [first, ..] if first.starts_with('#') => Ok(()),
+            _ => println!(rt; "not understood: {line}"),
+        }
+    }
+}
+
+/// The row that lines are.
+pub fn read_row(rt: &HostRuntime, part: &str) -> io::Result<Row> {
+    let mut row = Row::new(rt.alloc());
+    for line in part.lines() {
+        row.read_line(rt, line)?;
+    }
+    Ok(row)
+}
+
+fn number(word: &str) -> u32 {
+    word.parse::<u32>().unwrap_or(0)
+}
+
+/// What stands behind a word that a line begins with.
+pub fn behind<'a>(line: &'a str, key: &str) -> &'a str {
+    line.strip_prefix(key).unwrap_or("")
+}
+
+fn add_line(text: &mut Vec<u8>, line: &str) -> Result<(), AllocError> {
+    text.extend_from_slice(line.as_bytes())?;
+    text.push(b'\n')?;
+    Ok(())
+}
