@@ -4,6 +4,7 @@ use Rattle.std.specs.FinMap.{get}
 use Rattle.sim_base.specs.declared.fault.Refusal.{Refusal}
 use Rattle.sim_base.specs.declared.fault.Place.TheVariants as places
 use Rattle.sim_base.specs.Outside.{Outside, SamePorts, Files}
+use Rattle.sim_base.specs.Refusals.{FileTooLong}
 use Rattle.outcome_model.specs.Stop.{Stop, Missing, Refused, accepted, file, read_from, JudgedAs, JudgedWithin, JudgedFrom}
 use Rattle.outcome_model.specs.Outcome.{Outcome, OutOfMemory}
 use Rattle.outcome_model.specs.Work.{ReadStops}
@@ -25,7 +26,7 @@ abbrev pub whole : List ℕ → Result (List ℕ) Refusal
 whole bytes = Ok bytes
 
 abbrev too_long : Refusal
-too_long = record { number = 10; place = places.Whole }
+too_long = record { number = FileTooLong; place = places.Whole }
 
 same_stop : {X : Type 0} (x s : Stop) → x ≡ s → ◌≡◌ {A = Result X Stop} (Err x) (Err s)
 same_stop x s e = ap Err e

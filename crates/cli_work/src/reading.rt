@@ -8,6 +8,7 @@ ghost use Rattle.cli_work.specs.Outcomes.{stop_of};
 
 use crate::outcome::Stop;
 use input_texts::read_hex;
+use sim_base::refusals::FILE_TOO_LONG;
 use sim_base::{Bench, Fault, Flash, Place, ReadEnd, Refusal};
 use std::alloc::Global;
 
@@ -22,7 +23,7 @@ pub fn read_bytes<B: Bench>(alloc: Global, name: &str, bench: &mut B) -> Result<
         ReadEnd::Ok => Ok(bytes),
         ReadEnd::Missing => Err(Stop::Missing),
         ReadEnd::TooLong => Err(Stop::Refused(Refusal {
-            number: 10,
+            number: FILE_TOO_LONG,
             place: Place::Whole,
         })),
         ReadEnd::Failed => Err(Stop::ReadFailed),

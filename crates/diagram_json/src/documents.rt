@@ -1,6 +1,7 @@
 //! A diagram as a JSON document.
 ghost use Rattle.std.specs.Prelude.{◌≡◌, ◌≤◌, map, length, IfOk, option_map};
 ghost use Rattle.sim_base.specs.Reads.{Reads};
+ghost use Rattle.sim_base.specs.Refusals.{JsonText};
 ghost use Rattle.serde_json.specs.View.{view};
 ghost use Rattle.document_model.specs.Json.{array_at, json_document};
 ghost use Rattle.document_model.specs.Diagram.{diagram_of, diagram_text, has_version_1, parts_of, wires_of};
@@ -14,7 +15,7 @@ use sim_base::{Fault, List, Place};
 use std::alloc::Global;
 
 fn read_document(alloc: Global, bytes: &[u8]) -> Result<Value, Fault>
-    ensures { Reads view result (json_document 40 bytes.now) }
+    ensures { Reads view result (json_document JsonText bytes.now) }
 {
     match Value::from_slice(alloc, bytes) {
         Ok(document) => Ok(document),

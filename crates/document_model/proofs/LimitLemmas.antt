@@ -7,6 +7,7 @@ use Rattle.serde_json.specs.Data.{Data}
 use Rattle.toml.specs.Data.{Data as Table, get}
 use Rattle.sim_base.specs.declared.fault.Refusal.{Refusal}
 use Rattle.sim_base.specs.declared.fault.Place.TheVariants as places
+use Rattle.sim_base.specs.Refusals.{TomlShape, JsonText, DiagramShape, DiagramLimit}
 use Rattle.document_model.specs.declared.diagram.Diagram.{Diagram}
 use Rattle.document_model.specs.declared.diagram.PartText.{PartText}
 use Rattle.document_model.specs.declared.diagram.Wire.{Wire}
@@ -34,10 +35,10 @@ abbrev from_connections : List Data → List Data → Result Diagram Refusal
 from_connections items connections = parts_of items >>= from_parts connections
 
 abbrev from_items : Data → List Data → Result Diagram Refusal
-from_items d items = ok_or (array_at (codes "connections") d) (refusal 41 places.Whole) >>= from_connections items
+from_items d items = ok_or (array_at (codes "connections") d) (refusal DiagramShape places.Whole) >>= from_connections items
 
 abbrev from_version : Data → Result Diagram Refusal
-from_version d = ok_or (array_at (codes "parts") d) (refusal 41 places.Whole) >>= from_items d
+from_version d = ok_or (array_at (codes "parts") d) (refusal DiagramShape places.Whole) >>= from_items d
 
 same_parts : (parts : List PartText) (wires : List Wire) (diagram : Diagram) → from_wires parts wires ≡ Ok diagram → parts ≡ diagram.parts
 same_parts parts wires diagram e = cc
@@ -45,7 +46,7 @@ same_parts parts wires diagram e = cc
 parts_few : (items : List Data) (parts : List PartText) → parts_of items ≡ Ok parts → length parts ≤ 64
 parts_few items parts e =
     let few = in_steps (at_most 64 items) (each_from part_of 1) parts e in
-    let test = passed (nat_le (length items) 64) items few.0 (refusal 48 places.Whole) few.1 in
+    let test = passed (nat_le (length items) 64) items few.0 (refusal DiagramLimit places.Whole) few.1 in
     let most = leb-true (length items) 64 test.0 in
     let same = ap (λ (l : List Data). length l) test.1 in
     let all = each_length part_of 1 few.0 parts few.2 in
@@ -53,10 +54,10 @@ parts_few items parts e =
 
 pub few_parts : (bytes : List ℕ) (diagram : Diagram) → diagram_text bytes ≡ Ok diagram → length diagram.parts ≤ 64
 few_parts bytes diagram e =
-    let document = in_steps (json_document 40 bytes) diagram_of diagram e in
-    let version = in_steps (checked (has_version_1 document.0) document.0 (refusal 41 places.Whole)) from_version diagram document.2 in
-    let items = in_steps (ok_or (array_at (codes "parts") version.0) (refusal 41 places.Whole)) (from_items version.0) diagram version.2 in
-    let connections = in_steps (ok_or (array_at (codes "connections") version.0) (refusal 41 places.Whole)) (from_connections items.0) diagram items.2 in
+    let document = in_steps (json_document JsonText bytes) diagram_of diagram e in
+    let version = in_steps (checked (has_version_1 document.0) document.0 (refusal DiagramShape places.Whole)) from_version diagram document.2 in
+    let items = in_steps (ok_or (array_at (codes "parts") version.0) (refusal DiagramShape places.Whole)) (from_items version.0) diagram version.2 in
+    let connections = in_steps (ok_or (array_at (codes "connections") version.0) (refusal DiagramShape places.Whole)) (from_connections items.0) diagram items.2 in
     let parts = in_steps (parts_of items.0) (from_parts connections.0) diagram connections.2 in
     let wires = in_steps (wires_of connections.0) (from_wires parts.0) diagram parts.2 in
     let same = ap (λ (l : List PartText). length l) (same_parts parts.0 wires.0 diagram wires.2) in
@@ -79,13 +80,13 @@ abbrev from_few : List Table → Result (List ChipFile) Refusal
 from_few few = chips_after [] few
 
 abbrev from_array : List Table → Result (List ChipFile) Refusal
-from_array items = checked (nat_le (length items) most_chips) items (refusal 31 places.Whole) >>= from_few
+from_array items = checked (nat_le (length items) most_chips) items (refusal TomlShape places.Whole) >>= from_few
 
 chips_few : (d : Table) (chips : List ChipFile) → chips_of d ≡ Ok chips → length chips ≤ most_chips
 chips_few d chips e =
-    let items = in_steps (ok_or (chip_items (get (codes "chip") d)) (refusal 31 places.Whole)) from_array chips e in
-    let few = in_steps (checked (nat_le (length items.0) most_chips) items.0 (refusal 31 places.Whole)) from_few chips items.2 in
-    let test = passed (nat_le (length items.0) most_chips) items.0 few.0 (refusal 31 places.Whole) few.1 in
+    let items = in_steps (ok_or (chip_items (get (codes "chip") d)) (refusal TomlShape places.Whole)) from_array chips e in
+    let few = in_steps (checked (nat_le (length items.0) most_chips) items.0 (refusal TomlShape places.Whole)) from_few chips items.2 in
+    let test = passed (nat_le (length items.0) most_chips) items.0 few.0 (refusal TomlShape places.Whole) few.1 in
     let most = leb-true (length items.0) most_chips test.0 in
     let same = ap (λ (l : List Table). length l) test.1 in
     let all = chips_counted [] few.0 chips few.2 in

@@ -7,6 +7,7 @@ use Rattle.serde_json.specs.Data.{Data, null, boolean, number, string, array, ob
 use Rattle.serde_json.specs.Find.{get, as_number, as_object, as_u64}
 use Rattle.sim_base.specs.declared.fault.Refusal.{Refusal}
 use Rattle.sim_base.specs.declared.fault.Place.TheVariants as places
+use Rattle.sim_base.specs.Refusals.{JsonText, DiagramShape, DiagramLimit}
 use Rattle.sim_base.specs.Names.{is_name}
 use Rattle.document_model.specs.declared.diagram.Diagram.{Diagram}
 use Rattle.document_model.specs.declared.diagram.PartText.{PartText}
@@ -48,10 +49,10 @@ is_id id = nat_le 1 (length id) && (nat_le (length id) 64 && list_all is_id_byte
 -- Part k: the strings `type` and `id` and perhaps the object `attrs`, else 41; then 48 for the id's form.
 abbrev pub part_of : ℕ → Data → Result PartText Refusal
 part_of k d = do
-  kind ← ok_or (string_at (codes "type") d) (refusal 41 (places.Part k))
-  id ← ok_or (string_at (codes "id") d) (refusal 41 (places.Part k))
-  attrs ← ok_or (attrs_in (get (codes "attrs") d)) (refusal 41 (places.Part k))
-  checked (is_id id) (record { kind = kind; id = id; attrs = attrs }) (refusal 48 (places.Part k))
+  kind ← ok_or (string_at (codes "type") d) (refusal DiagramShape (places.Part k))
+  id ← ok_or (string_at (codes "id") d) (refusal DiagramShape (places.Part k))
+  attrs ← ok_or (attrs_in (get (codes "attrs") d)) (refusal DiagramShape (places.Part k))
+  checked (is_id id) (record { kind = kind; id = id; attrs = attrs }) (refusal DiagramLimit (places.Part k))
 
 -- the character `:`
 abbrev pub is_colon : ℕ → Bool
@@ -72,20 +73,20 @@ is_outside (c ∷ cs) = c == 36
 -- a wire between two ends, or 41
 abbrev pub wire_between : ℕ → List ℕ → List ℕ → Result Wire Refusal
 wire_between k a b = do
-  from ← ok_or (end_of a) (refusal 41 (places.Connection k))
-  to ← ok_or (end_of b) (refusal 41 (places.Connection k))
+  from ← ok_or (end_of a) (refusal DiagramShape (places.Connection k))
+  to ← ok_or (end_of b) (refusal DiagramShape (places.Connection k))
   Ok (record { from = from; to = to; number = k })
 
 -- Connection k: two strings and perhaps more, else 41. None where it is passed over.
 abbrev pub wire_of : ℕ → Data → Result (Option Wire) Refusal
 wire_of k d = do
-  a ← ok_or (string_in 0 d) (refusal 41 (places.Connection k))
-  b ← ok_or (string_in 1 d) (refusal 41 (places.Connection k))
+  a ← ok_or (string_in 0 d) (refusal DiagramShape (places.Connection k))
+  b ← ok_or (string_in 1 d) (refusal DiagramShape (places.Connection k))
   if is_outside a || is_outside b then Ok None else (wire_between k a b >>= λ wire. Ok (Some wire))
 
 -- at most so many items, else 48
 abbrev pub at_most : ℕ → List Data → Result (List Data) Refusal
-at_most n ds = checked (nat_le (length ds) n) ds (refusal 48 places.Whole)
+at_most n ds = checked (nat_le (length ds) n) ds (refusal DiagramLimit places.Whole)
 
 abbrev pub parts_of : List Data → Result (List PartText) Refusal
 parts_of ds = at_most 64 ds >>= each_from part_of 1
@@ -102,13 +103,13 @@ wires_of ds = at_most 512 ds >>= wires_in
 -- The object with its version and two arrays, else 41; then its parts; then its connections.
 abbrev pub diagram_of : Data → Result Diagram Refusal
 diagram_of d = do
-  document ← checked (has_version_1 d) d (refusal 41 places.Whole)
-  items ← ok_or (array_at (codes "parts") document) (refusal 41 places.Whole)
-  connections ← ok_or (array_at (codes "connections") document) (refusal 41 places.Whole)
+  document ← checked (has_version_1 d) d (refusal DiagramShape places.Whole)
+  items ← ok_or (array_at (codes "parts") document) (refusal DiagramShape places.Whole)
+  connections ← ok_or (array_at (codes "connections") document) (refusal DiagramShape places.Whole)
   parts ← parts_of items
   wires ← wires_of connections
   Ok (record { parts = parts; wires = wires })
 
 -- The diagram that a text stands for, or the refusal with its place.
 abbrev pub diagram_text : List ℕ → Result Diagram Refusal
-diagram_text bytes = json_document 40 bytes >>= diagram_of
+diagram_text bytes = json_document JsonText bytes >>= diagram_of

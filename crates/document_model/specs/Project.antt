@@ -6,6 +6,7 @@ use Rattle.std.specs.Str.{bytes_eq}
 use Rattle.toml.specs.Data.{Data, get, as_array, as_integer}
 use Rattle.sim_base.specs.declared.fault.Refusal.{Refusal}
 use Rattle.sim_base.specs.declared.fault.Place.TheVariants as places
+use Rattle.sim_base.specs.Refusals.{TomlShape}
 use Rattle.sim_base.specs.Names.{is_name}
 use Rattle.document_model.specs.declared.project.Project.{Project}
 use Rattle.document_model.specs.declared.project.ChipFile.{ChipFile}
@@ -21,9 +22,9 @@ is_one (Some (negsuc n)) = false
 -- The table `wokwi` has the whole number `version` 1 and the string `firmware`.
 abbrev pub firmware_of : Data → Result (List ℕ) Refusal
 firmware_of d = do
-  wokwi ← ok_or (get (codes "wokwi") d) (refusal 31 places.Whole)
-  firmware ← ok_or (string_at (codes "firmware") wokwi) (refusal 31 places.Whole)
-  checked (is_one (option_and_then as_integer (get (codes "version") wokwi))) firmware (refusal 31 places.Whole)
+  wokwi ← ok_or (get (codes "wokwi") d) (refusal TomlShape places.Whole)
+  firmware ← ok_or (string_at (codes "firmware") wokwi) (refusal TomlShape places.Whole)
+  checked (is_one (option_and_then as_integer (get (codes "version") wokwi))) firmware (refusal TomlShape places.Whole)
 
 -- How many chips a project may have: none, as long as no board runs them.
 abbrev pub most_chips : ℕ
@@ -48,11 +49,11 @@ is_repeated name chips = list_any (λ chip. bytes_eq chip.name name) chips
 -- The file of its pins is the binary's with `.json` in place of `.wasm`.
 abbrev pub chip_of : List ChipFile → ℕ → Data → Result ChipFile Refusal
 chip_of chips k d = do
-  name ← ok_or (string_at (codes "name") d) (refusal 31 (places.Chip k))
-  binary ← ok_or (string_at (codes "binary") d) (refusal 31 (places.Chip k))
+  name ← ok_or (string_at (codes "name") d) (refusal TomlShape (places.Chip k))
+  binary ← ok_or (string_at (codes "binary") d) (refusal TomlShape (places.Chip k))
   checked (is_name name && (not (is_repeated name chips) && is_binary binary))
       (record { name = name; binary = binary; json = stem binary ++ codes ".json" })
-      (refusal 31 (places.Chip k))
+      (refusal TomlShape (places.Chip k))
 
 -- the chips after others, which count from 1
 unfoldable pub chips_after : List ChipFile → List Data → Result (List ChipFile) Refusal
@@ -64,8 +65,8 @@ chips_after chips (d ∷ ds) = do
 -- at most so many chips, else 31, and then each of them
 abbrev pub chips_of : Data → Result (List ChipFile) Refusal
 chips_of d = do
-  items ← ok_or (chip_items (get (codes "chip") d)) (refusal 31 places.Whole)
-  few ← checked (nat_le (length items) most_chips) items (refusal 31 places.Whole)
+  items ← ok_or (chip_items (get (codes "chip") d)) (refusal TomlShape places.Whole)
+  few ← checked (nat_le (length items) most_chips) items (refusal TomlShape places.Whole)
   chips_after [] few
 
 -- The table `wokwi`, and then the array `chip` that stands beside it.

@@ -5,6 +5,7 @@ use Rattle.toml.specs.Data.{Data, table, Items, no_items, item, get, as_str}
 use Rattle.toml.specs.Parse.{parse_document}
 use Rattle.sim_base.specs.declared.fault.Refusal.{Refusal}
 use Rattle.sim_base.specs.declared.fault.Place.TheVariants as places
+use Rattle.sim_base.specs.Refusals.{TomlText}
 use Rattle.document_model.specs.Reading.{refusal}
 
 -- the items of an array, as a list
@@ -18,4 +19,4 @@ string_at key d = option_and_then as_str (get key d)
 
 -- the TOML document that the bytes are, or 30
 abbrev pub toml_document : List ℕ → Result Data Refusal
-toml_document bytes = ok_or (option_map table (if is_utf8 bytes then parse_document bytes else None)) (refusal 30 places.Whole)
+toml_document bytes = ok_or (option_map table (if is_utf8 bytes then parse_document bytes else None)) (refusal TomlText places.Whole)

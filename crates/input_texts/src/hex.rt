@@ -5,6 +5,7 @@ ghost use Rattle.text_model.specs.Hex.{hex_image, put, length_of, data_of};
 
 use crate::lines::next_line;
 use crate::record::{Line, Record, read_line};
+use sim_base::refusals::HEX_NO_END;
 use sim_base::{Fault, Flash, Place, Refusal};
 use std::alloc::Global;
 
@@ -59,5 +60,5 @@ pub fn read_hex(alloc: Global, bytes: &[u8]) -> Result<Flash, Fault>
         rest = more;
         number += 1;
     }
-    Err(refused(26, number))
+    Err(refused(HEX_NO_END, number))
 }

@@ -6,6 +6,7 @@ ghost use Rattle.text_model.specs.Hex.{hex_bytes, verdict, says, length_of};
 ghost use Rattle.input_texts.specs.Records.{seen, IsFitting};
 
 use arrayvec::ArrayVec;
+use sim_base::refusals::{HEX_DIGIT, HEX_LENGTH, HEX_RANGE, HEX_START, HEX_SUM, HEX_TYPE};
 
 /// The bytes of a record: length, address, type, data and check byte.
 pub type Record = ArrayVec<u8, 260>;
@@ -90,12 +91,12 @@ fn meaning(base: u32, r: Record) -> Line
         (0, _) if count == 0 || u64::from(address) + u64::from(count) <= 32768 => {
             Line::Data(address, r)
         }
-        (0, _) => Line::Faulty(25),
+        (0, _) => Line::Faulty(HEX_RANGE),
         (1, 0) => Line::End,
         (2, 2) => Line::Base(16 * u32::from(two_bytes(r[4], r[5]))),
         (4, 2) => Line::Base(65536 * u32::from(two_bytes(r[4], r[5]))),
         (3 | 5, 4) => Line::Passed,
-        _ => Line::Faulty(24),
+        _ => Line::Faulty(HEX_TYPE),
     }
 }
 
@@ -106,14 +107,14 @@ fn read_digits(digits: &[u8], base: u32) -> Line
     ensures fits { IsFitting result }
 {
     if !are_hex_digits(digits) {
-        return Line::Faulty(21);
+        return Line::Faulty(HEX_DIGIT);
     }
     if digits.len() < 10 || digits.len() != 2 * usize::from(byte_at(digits, 0)) + 10 {
-        return Line::Faulty(22);
+        return Line::Faulty(HEX_LENGTH);
     }
     let bytes = decode(digits);
     if check_sum(&bytes) != 0 {
-        return Line::Faulty(23);
+        return Line::Faulty(HEX_SUM);
     }
     meaning(base, bytes)
 }
@@ -127,6 +128,6 @@ pub fn read_line(line: &[u8], base: u32) -> Line
     match line {
         [] => Line::Passed,
         [b':', digits @ ..] => read_digits(digits, base),
-        [_, ..] => Line::Faulty(20),
+        [_, ..] => Line::Faulty(HEX_START),
     }
 }

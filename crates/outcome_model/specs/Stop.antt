@@ -3,6 +3,7 @@ use Rattle.std.specs.Prelude.{◌≡◌, Bool, true, false, ℕ, nat_lt, if◌th
 use Rattle.std.specs.FinMap.{get}
 use Rattle.sim_base.specs.declared.fault.Refusal.{Refusal}
 use Rattle.sim_base.specs.declared.fault.Place.TheVariants as places
+use Rattle.sim_base.specs.Refusals.{FileTooLong}
 use Rattle.sim_base.specs.Outside.{Files}
 
 -- the first event that ends the work: a file that is missing, or a refusal with the file that it names
@@ -49,7 +50,7 @@ refused_in name (Err r) = Err (Refused name r)
 abbrev pub read_from : {X : Type 0} → List ℕ → ℕ → (List ℕ → Result X Refusal) → Option (List ℕ) → Result X Stop
 read_from name limit reading None = Err (Missing name)
 read_from name limit reading (Some bytes) =
-    if nat_lt limit (length bytes) then Err (Refused name (record { number = 10; place = places.Whole }))
+    if nat_lt limit (length bytes) then Err (Refused name (record { number = FileTooLong; place = places.Whole }))
     else refused_in name (reading bytes)
 
 -- a file of at most 1,048,576 bytes
@@ -63,7 +64,7 @@ JudgedAs name judges (Err (Missing other)) = ⊥
 JudgedAs name judges (Err (Refused other r)) = (other ≡ name) × judges (Err r)
 
 abbrev pub JudgedWithin : {X : Type 0} → Bool → List ℕ → (Result X Refusal → Type 0) → Result X Stop → Type 0
-JudgedWithin true name judges result = Err (Refused name (record { number = 10; place = places.Whole })) ≡ result
+JudgedWithin true name judges result = Err (Refused name (record { number = FileTooLong; place = places.Whole })) ≡ result
 JudgedWithin false name judges result = JudgedAs name judges result
 
 abbrev pub JudgedFrom : {X : Type 0} → List ℕ → (List ℕ → Result X Refusal → Type 0) → Option (List ℕ) → Result X Stop → Type 0

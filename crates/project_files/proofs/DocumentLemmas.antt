@@ -13,6 +13,7 @@ use Rattle.toml.specs.View.{view, items_view}
 use Rattle.toml.specs.declared.value.Value.{Value}
 use Rattle.sim_base.specs.declared.fault.Refusal.{Refusal}
 use Rattle.sim_base.specs.declared.fault.Place.TheVariants as places
+use Rattle.sim_base.specs.Refusals.{TomlText}
 use Rattle.sim_base.specs.declared.fault.Fault.{Fault}
 use Rattle.sim_base.specs.declared.fault.Fault.TheVariants as faults
 use Rattle.sim_base.specs.Reads.{Reads}
@@ -24,7 +25,7 @@ use Rattle.document_model.specs.Toml.{elements, toml_document}
 pub toml_ok : (bytes : List ℕ) (ms : Members) → IsUtf8 bytes → parse_document bytes ≡ Some ms → toml_document bytes ≡ Ok (table ms)
 toml_ok bytes ms u e = rw (is_utf8-from_IsUtf8 bytes u, e) refl
 
-pub toml_none : (bytes : List ℕ) → (IsUtf8 bytes → parse_document bytes ≡ None) → toml_document bytes ≡ Err (refusal 30 places.Whole)
+pub toml_none : (bytes : List ℕ) → (IsUtf8 bytes → parse_document bytes ≡ None) → toml_document bytes ≡ Err (refusal TomlText places.Whole)
 toml_none bytes f = elim (cases_Bool (is_utf8 bytes)) [
   | inl e ↦ rw (e, f (IsUtf8-from_is_utf8 bytes e)) refl
   | inr e ↦ rw e refl

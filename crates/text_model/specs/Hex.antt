@@ -5,6 +5,7 @@ use Rattle.std.specs.List.{list_all}
 use Rattle.std.specs.Char.{is_ascii_hexdigit, digit_value}
 use Rattle.sim_base.specs.declared.fault.Refusal.{Refusal}
 use Rattle.sim_base.specs.declared.fault.Place.TheVariants as places
+use Rattle.sim_base.specs.Refusals.{HexStart, HexDigit, HexLength, HexSum, HexType, HexRange, HexNoEnd}
 use Rattle.text_model.specs.Lines.{lines}
 
 -- the bytes that pairs of digits spell
@@ -48,22 +49,22 @@ pub data Verdict : Type 0 where
 abbrev pub says : ℕ → List ℕ → Verdict
 says base r =
     if type_of r == 0 && is_in_flash base r then Data (base + address_of r) (data_of r)
-    else if type_of r == 0 then Faulty 25
+    else if type_of r == 0 then Faulty HexRange
     else if type_of r == 1 && length_of r == 0 then End
     else if type_of r == 2 && length_of r == 2 then Base (16 * word_of r)
     else if type_of r == 4 && length_of r == 2 then Base (65536 * word_of r)
     else if (type_of r == 3 || type_of r == 5) && length_of r == 4 then Passed
-    else Faulty 24
+    else Faulty HexType
 
 -- What a line is for where a base is given, or the first rule that it breaks: an empty line says
 -- nothing, another one is `:`, hexadecimal digits, as many as its length asks for, of the sum 0.
 abbrev pub verdict : ℕ → List ℕ → Verdict
 verdict base [] = Passed
 verdict base (mark ∷ digits) =
-    if not (mark == 58) then Faulty 20
-    else if not (list_all is_ascii_hexdigit digits) then Faulty 21
-    else if nat_lt (length digits) 10 || not (length digits == 2 * length_of (hex_bytes digits) + 10) then Faulty 22
-    else if not (sum (hex_bytes digits) % 256 == 0) then Faulty 23
+    if not (mark == 58) then Faulty HexStart
+    else if not (list_all is_ascii_hexdigit digits) then Faulty HexDigit
+    else if nat_lt (length digits) 10 || not (length digits == 2 * length_of (hex_bytes digits) + 10) then Faulty HexLength
+    else if not (sum (hex_bytes digits) % 256 == 0) then Faulty HexSum
     else says base (hex_bytes digits)
 
 -- an image with bytes from an address on
@@ -82,7 +83,7 @@ after (Faulty number) image base k on = Err (record { number = number; place = p
 
 -- what the lines from number k on make of an image under a base; 26 where none of them is the end
 unfoldable pub image_of : List ℕ → ℕ → ℕ → List (List ℕ) → Result (List ℕ) Refusal
-image_of image base k [] = Err (record { number = 26; place = places.Line k })
+image_of image base k [] = Err (record { number = HexNoEnd; place = places.Line k })
 image_of image base k (line ∷ rest) =
     after (verdict base line) image base k (λ image base. image_of image base (suc k) rest)
 
