@@ -22,6 +22,8 @@ impl Ended {
         let wave = self.bench.written(Port::Wave);
         if self.status != row.status {
             Some("status")
+        } else if !self.is_opened_as(row.opened.as_str()) {
+            Some("name of the wave")
         } else if self.bench.written(Port::Complaint) != row.complaint.as_slice() {
             Some("complaint")
         } else if self.bench.written(Port::Report) != row.report.as_slice() {
@@ -34,6 +36,14 @@ impl Ended {
             Some("wave")
         } else {
             None
+        }
+    }
+
+    /// Whether the wave was opened under the name, if it is one.
+    fn is_opened_as(&self, name: &str) -> bool {
+        match self.bench.name(Port::Wave) {
+            Some(opened) => name.is_empty() || opened == name.as_bytes(),
+            None => name.is_empty(),
         }
     }
 

@@ -15,6 +15,7 @@ pub struct Row {
     pub serial: Vec<u8>,
     pub wave: Vec<u8>,
     pub is_wave_begun: bool,
+    pub opened: String,
     pub report: Vec<u8>,
     pub complaint: Vec<u8>,
     is_run: bool,
@@ -32,6 +33,7 @@ impl Row {
             serial: Vec::new(alloc),
             wave: Vec::new(alloc),
             is_wave_begun: false,
+            opened: String::new(alloc),
             report: Vec::new(alloc),
             complaint: Vec::new(alloc),
             is_run: false,
@@ -82,6 +84,7 @@ impl Row {
     /// - `wave DATA`, `wave DATA N`: the bytes of `data/DATA`, or so many of them
     /// - `begins DATA`: any first part of these bytes
     /// - `serial DATA`: these bytes
+    /// - `opens NAME`: the name under which the wave was opened
     fn read_end(&mut self, rt: &HostRuntime, line: &str, words: &[&str]) -> io::Result<bool> {
         match words {
             ["complains", ..] => add_line(&mut self.complaint, behind(line, "complains "))?,
@@ -96,6 +99,7 @@ impl Row {
                 self.is_wave_begun = true;
             }
             ["serial", data] => self.serial = fs::read(rt, *data)?,
+            ["opens", name] => self.opened.push_str(name)?,
             _ => return Ok(false),
         }
         Ok(true)
