@@ -59,8 +59,8 @@ wave() { # NAME WORDS
     fi
 }
 
-have sigrok-cli || echo "sigrok-cli: skipped"
-have vcd2fst fst2vcd || echo "vcd2fst: skipped"
+have sigrok-cli || echo "sigrok-cli: skipped" >&2
+have vcd2fst fst2vcd || echo "vcd2fst: skipped" >&2
 
 mkdir "$folder/many"
 cp "$examples/blink/wokwi.toml" "$examples/blink/blink.hex" "$folder/many"

@@ -1,0 +1,63 @@
+#!/bin/sh
+# What other programs make of the same inputs: simavr moves the same pins of the examples in the same cycles, and wabt
+# answers the same to the modules of the gate. What cannot be asked is skipped, and said on standard error.
+# Debian's packages: gcc, simavr, libsimavr-dev; wabt, clang, lld. `--install` installs them first, which wants root.
+# PROGRAM is the program to try, ./mudflatjar if it is not set. Ends with 1 where one answers otherwise.
+here=$(cd "$(dirname "$0")" && pwd)
+program=${PROGRAM:-$here/../../mudflatjar}
+examples=$here/../../examples
+folder=$(mktemp -d) || exit 1
+trap 'rm -rf "$folder"' EXIT
+bad=0
+
+if [ "$1" = --install ]; then
+    apt-get install -y gcc libc6-dev simavr libsimavr-dev wabt clang lld sigrok-cli gtkwave >&2 || exit 1
+fi
+have() { # TOOLS
+    for tool in "$@"; do command -v "$tool" >/dev/null || return 1; done
+}
+says() { # STATUS WHAT
+    if [ "$1" = 0 ]; then echo "$2: ok"; else echo "$2: another answer"; bad=1; fi
+}
+
+# CYCLE PIN VALUE for each change of a pin of the Uno, from a wave; pins 14 to 19 are A0 to A5
+pins() {
+    awk '/^\$var/ && $5 ~ /^uno\./ { p = substr($5, 5); sub(/^A/, "1", p); if ($5 ~ /A/) p = 4 + p; pin[$4] = p }
+        /^#/ { cycle = substr($0, 2) / 625 }
+        /^[01xz]/ && substr($0, 2) in pin && (cycle > 0 || !/^z/) { print cycle, pin[substr($0, 2)], substr($0, 1, 1) }' |
+        sort -n -k 1,1 -k 2,2
+}
+# NAME MICROSECONDS INPUTS; the wave on standard input, the wires of simavr behind it. Pins that are only inputs are
+# told to simavr and not compared.
+with_simavr() {
+    name=$1 cycles=$((16 * $2)) inputs=$3
+    shift 3
+    pins | awk -v inputs=" $inputs " '!index(inputs, " " $2 " ")' >"$folder/ours"
+    "$folder/pins" "$examples/$name/$name.hex" "$cycles" "$@" 2>/dev/null |
+        awk -v cycles="$cycles" '$1 < cycles' | sort -n -k 1,1 -k 2,2 >"$folder/theirs"
+    [ -s "$folder/ours" ] && cmp -s "$folder/ours" "$folder/theirs"
+    says $? "$name on simavr, $(wc -l <"$folder/ours" | tr -d ' ') changes of pins"
+}
+if have cc && cc -O1 -o "$folder/pins" "$here/simavr_pins.c" -lsimavr 2>"$folder/why"; then
+    "$program" bare "$examples/blink/blink.hex" --us 1 | with_simavr blink 1 ""
+    "$program" bare "$examples/crc/crc.hex" --us 300 | with_simavr crc 300 ""
+    "$program" bare "$examples/sort/sort.hex" --us 100 | with_simavr sort 100 ""
+    "$program" run "$examples/counter" --us 30 --vcd - | with_simavr counter 30 "2 3" 12=3 2=high
+else
+    echo "simavr: skipped, no compiler for C or no libsimavr-dev" >&2
+fi
+
+if have python3 wasm-validate wast2json spectest-interp clang wasm-ld; then
+    python3 "$here/../modules/make.py" --check >"$folder/said" 2>&1 && [ ! -s "$folder/said" ]
+    status=$?
+    cat "$folder/said"
+    says $status "modules on wabt"
+    python3 "$here/../calls/make.py" --check >"$folder/said" 2>&1
+    grep -q '^wabt: \([0-9]*\)/\1 tests passed\.$' "$folder/said" && [ "$(wc -l <"$folder/said")" = 1 ]
+    status=$?
+    cat "$folder/said"
+    says $status "calls on wabt"
+else
+    echo "wabt: skipped, no wabt, clang or lld" >&2
+fi
+exit $bad
