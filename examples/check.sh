@@ -1,7 +1,8 @@
 #!/bin/sh
 # Runs every example and compares what it writes with its expected/ files. Ends with 1 where one differs.
+# PROGRAM is the program to try, ./mudflatjar if it is not set.
 here=$(cd "$(dirname "$0")" && pwd)
-program=$here/../mudflatjar
+program=${PROGRAM:-$here/../mudflatjar}
 bad=0
 
 # the value on pins 0 to 7 at each rise of pin 8
@@ -32,6 +33,13 @@ counts() {
             change = 0
         }'
 }
+# CYCLE PIN VALUE for each change of a pin of the Uno
+changes_of() { # PIN
+    awk -v pin="$1" '
+        $5 == "uno." pin { code = $4 }
+        /^#/ { cycle = substr($0, 2) / 625 }
+        /^[01xz]/ && cycle > 0 && substr($0, 2) == code { print cycle, pin, substr($0, 1, 1) }'
+}
 same() { # NAME, EXPECTED; the text at hand on standard input
     if cmp -s - "$2"; then echo "$1: ok"; else echo "$1: differs from $2"; return 1; fi
 }
@@ -53,7 +61,7 @@ twin counter/expected/run.vcd counter.vcd
 pulses <"$rows/crc.vcd" | same "crc in the rows" "$here/crc/expected/pulses.txt" || bad=1
 pulses <"$rows/sort.vcd" | same "sort in the rows" "$here/sort/expected/pulses.txt" || bad=1
 counts <"$rows/counter-down.vcd" | same "counter downwards in the rows" "$here/counter/expected/counts-down.txt" || bad=1
-for name in blink counter; do
+for name in blink counter pulse; do
     "$program" check "$here/$name" | same "$name as a project" "$here/$name/expected/check.txt" || bad=1
 done
 "$program" bare "$here/blink/blink.hex" --us 1 | same blink "$here/blink/expected/wave.vcd" || bad=1
@@ -63,6 +71,8 @@ done
 wave "$here/blink" 1 | same "blink with its LED" "$here/blink/expected/run.vcd" || bad=1
 wave "$here/counter" 30 | same counter "$here/counter/expected/run.vcd" || bad=1
 wave "$here/counter" 30 | counts | same "counter's LEDs" "$here/counter/expected/counts.txt" || bad=1
+
+wave "$here/pulse" 200 | changes_of 13 | same pulse "$here/pulse/expected/changes.txt" || bad=1
 
 # the counter with pin 2 on ground
 down=$(mktemp -d) || exit 1

@@ -42,6 +42,7 @@ if have cc && cc -O1 -o "$folder/pins" "$here/simavr_pins.c" -lsimavr 2>"$folder
     "$program" bare "$examples/blink/blink.hex" --us 1 | with_simavr blink 1 ""
     "$program" bare "$examples/crc/crc.hex" --us 300 | with_simavr crc 300 ""
     "$program" bare "$examples/sort/sort.hex" --us 100 | with_simavr sort 100 ""
+    "$program" bare "$examples/pulse/pulse.hex" --us 200 | with_simavr pulse 200 ""
     "$program" run "$examples/counter" --us 30 --vcd - | with_simavr counter 30 "2 3" 12=3 2=high
 else
     echo "simavr: skipped, no compiler for C or no libsimavr-dev" >&2

@@ -3,7 +3,7 @@
 # says whether sigrok-cli and vcd2fst read each to its end and find in it what stands there. A tool that is missing is
 # skipped (Debian's packages sigrok-cli and gtkwave have them). Ends with 1 where a wave is not written or read otherwise.
 here=$(cd "$(dirname "$0")" && pwd)
-program=$here/../../mudflatjar
+program=${PROGRAM:-$here/../../mudflatjar}
 examples=$here/../../examples
 folder=$(mktemp -d) || exit 1
 trap 'rm -rf "$folder"' EXIT
