@@ -12,11 +12,12 @@ use Rattle.board_model.specs.Nets.{joins, joined_by}
 use Rattle.board_model.specs.Resolve.{contact_joins, is_driven, passes, reaches}
 use Rattle.board_model.proofs.WalkLemmas.{walk_join, walk_back, walk_sound, walk_complete}
 use Rattle.board_model.proofs.Lists.{some_same, some_map}
-use Rattle.net_resolve.specs.Forest.{AreLabels, AreGroups, root_of, same_or, Joins}
+use Rattle.union_find.specs.Forest.{AreLabels, root_of, same_or, Joins}
+use Rattle.net_resolve.specs.Groups.{AreGroups}
 use Rattle.net_resolve.specs.Sums.{is_loose, sum_at, added, strong_level}
-use Rattle.net_resolve.proofs.ForestLemmas.{label_root}
-use Rattle.net_resolve.proofs.ContactLemmas.{or_cases, or_right, and_both, and_first, joins_cases, contact_of, contact_is, contact_bounds, same_or_swap}
-use Rattle.net_resolve.proofs.ReachLemmas.{both_ways, any_at, any_some, one_label, group_walk, loose_is, loose_group, contact_passes}
+use Rattle.union_find.proofs.ForestLemmas.{label_root}
+use Rattle.union_find.proofs.PairLemmas.{or_cases, or_right, and_both, and_first, joins_cases, contact_of, contact_is, contact_bounds, same_or_swap}
+use Rattle.net_resolve.proofs.ReachLemmas.{both_ways, any_at, any_some, one_label, loose_is, loose_group, contact_passes}
 
 -- What holds once the strong drives are summed by group.
 pub record Grouped (net_of : List ℕ) (contacts resistors : List (ℕ × ℕ)) (closed : List Bool) (ds : List Drive) (groups : List ℕ) (strong : List Level) : Type 0 where
@@ -67,7 +68,7 @@ module _ (net_of : List ℕ) (contacts resistors : List (ℕ × ℕ)) (closed : 
   loose_with = loose_group contacts closed groups g.groups_are net_of resistors ds strong g.pins_within g.strong_are
 
   label_here : (n : ℕ) → n < length groups → root_of groups n ≡ slice_index groups n
-  label_here n l = label_root groups g.groups_are.labels n l
+  label_here n l = label_root groups g.groups_are.classes.labels n l
 
   pub joined_within : (x y : ℕ) → joined_by resistors x y ≡ true → (x < length groups) × (y < length groups)
   joined_within x y h =
@@ -101,7 +102,7 @@ module _ (net_of : List ℕ) (contacts resistors : List (ℕ × ℕ)) (closed : 
             let mn : m < count = lt_of m count d.1 in
             let e : slice_index groups j ≡ slice_index groups m = sym (label_here j before.0) ∙ eqb-true (root_of groups j) (root_of groups m) b.1 ∙ label_here m mn in
             let free : is_loose groups strong m ≡ true = sym (loose_with j m e) ∙ before.1 in
-            let way = contact_passes contacts closed groups g.groups_are net_of resistors ds strong g.pins_within g.strong_are j m before.0 before.1 (group_walk contacts closed groups g.groups_are j m before.0 mn e) in
+            let way = contact_passes contacts closed groups g.groups_are net_of resistors ds strong g.pins_within g.strong_are j m before.0 before.1 (g.groups_are.classes.walks j m before.0 mn e) in
             (mn, free, walk_join step n j m before.2 way)
         | inr r ↦
             let b = bridge_of groups strong resistors j m r in

@@ -3,43 +3,12 @@ use Rattle.std.proofs.Common.{◌≡◌, ◌≢◌, ℕ, zero, suc, ◌+◌, ◌
 use Rattle.std.proofs.lemmas.Bool.Decides.{eqb_tells}
 use Rattle.std.proofs.lemmas.List.{length-map}
 use Rattle.std.proofs.lemmas.Option.{slice_get_within, get_or_from_slice_get}
-use Rattle.std.specs.Prelude.{◌==◌, if◌then◌else◌, slice_get, slice_index, slice_set, replicate}
-use Rattle.board_model.specs.Resolve.{contact_joins}
+use Rattle.std.specs.Prelude.{◌==◌, if◌then◌else◌, slice_get, slice_index, slice_set}
 use Rattle.board_model.proofs.Lists.{some_same, some_map, get_map_some, get_within, get_set_same, get_set_other}
 use Rattle.net_resolve.specs.Wired.{Wired}
-use Rattle.net_resolve.specs.Forest.{AreLabels, Joins, root_of}
 use Rattle.net_resolve.specs.Subcircuits.{SubcircuitView, IsCut, IsSubcircuit, AreSubcircuits, AreOwn, picked, labels_of}
-use Rattle.net_resolve.proofs.ForestLemmas.{label_root}
-use Rattle.net_resolve.proofs.ContactLemmas.{contact_is, joins_is}
 use Rattle.net_resolve.proofs.PickLemmas.{picked_key}
 use Rattle.net_resolve.proofs.SubcircuitLemmas.{net_there}
-
-pub get_replicate : {A : Type 0} (x : A) (n k : ℕ) → k < n → slice_get (replicate n x) k ≡ Some x
-get_replicate x zero k h = absurd (omega arith)
-get_replicate x (suc n) zero h = refl
-get_replicate x (suc n) (suc k) h = get_replicate x n k (omega arith)
-
-pub replicate_only : {A : Type 0} (x y : A) (n k : ℕ) → slice_get (replicate n x) k ≡ Some y → y ≡ x
-replicate_only x y zero k e = absurd cc
-replicate_only x y (suc n) zero e = sym (some_same e)
-replicate_only x y (suc n) (suc k) e = replicate_only x y n k e
-
--- labels that were made equal by all pairs
-module _ (pairs : List (ℕ × ℕ)) (old new : List ℕ) (long : length new ≡ length old) (before : AreLabels old) (after : AreLabels new)
-    (j : Joins (contact_joins pairs (replicate (length pairs) true)) old new)
-    (within : (k : ℕ) (c : ℕ × ℕ) → slice_get pairs k ≡ Some c → (c.0 < length old) × (c.1 < length old)) where
-  root : (x : ℕ) → x < length old → root_of new x ≡ slice_index new x
-  root x l = label_root new after x (omega (arith, long))
-
-  pub pairs_joined : (k : ℕ) (c : ℕ × ℕ) → slice_get pairs k ≡ Some c → slice_index new c.0 ≡ slice_index new c.1
-  pairs_joined k c e =
-      let at = within k c e in
-      let step = contact_is pairs (replicate (length pairs) true) k c c.0 c.1 e (get_replicate true (length pairs) k (slice_get_within pairs k c e)) (joins_is c) in
-      sym (root c.0 at.0) ∙ j.joined c.0 c.1 step ∙ root c.1 at.1
-
-  pub labels_kept : (x y : ℕ) → x < length old → y < length old → slice_index old x ≡ slice_index old y → slice_index new x ≡ slice_index new y
-  labels_kept x y lx ly e =
-      sym (root x lx) ∙ j.keeps x y lx ly (label_root old before x lx ∙ e ∙ sym (label_root old before y ly)) ∙ root y ly
 
 -- what is still to be added to the list of each key
 abbrev pub AreAdding : List ℕ → ℕ → List (List ℕ) → Type 0

@@ -1,6 +1,4 @@
-pub mod ForestLemmas
 pub mod SumLemmas
-pub mod ContactLemmas
 pub mod ValueLemmas
 pub mod ReachLemmas
 pub mod AreaLemmas

@@ -13,7 +13,7 @@ use Rattle.board_model.specs.Resolve.{contact_joins, has_strong, is_driven, pass
 use Rattle.board_model.proofs.WalkLemmas.{walk_sound, walk_complete}
 use Rattle.board_model.proofs.Lists.{some_same, get_within, get-below, length-below}
 use Rattle.net_resolve.specs.Subcircuits.{Lacks, AreOnce}
-use Rattle.net_resolve.proofs.ContactLemmas.{or_cases, or_left, or_right, and_both, and_first}
+use Rattle.union_find.proofs.PairLemmas.{or_cases, or_left, or_right, and_both, and_first}
 use Rattle.net_resolve.proofs.ReachLemmas.{both_ways, either_way}
 use Rattle.net_resolve.proofs.ValueLemmas.{any_value}
 use Rattle.net_resolve.proofs.ResolveLemmas.{two_values, AreStrong, values_any, strong_flat, strong_first, any_flat_some, any_flat_at}

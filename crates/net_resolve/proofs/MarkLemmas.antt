@@ -5,7 +5,7 @@ use Rattle.std.proofs.lemmas.Bool.Decides.{eqb_tells}
 use Rattle.std.proofs.lemmas.List.Folds.{list_any-append}
 use Rattle.std.proofs.lemmas.Map.Steps.{length-le_from_distinct_below}
 use Rattle.std.specs.List.{IsDistinct, AllByRecursion}
-use Rattle.std.specs.Prelude.{slice_get, slice_set, replicate}
+use Rattle.std.specs.Prelude.{slice_get, slice_set}
 use Rattle.sim_base.specs.declared.signal.Level.{Level}
 use Rattle.board_model.proofs.Lists.{get_set_same, get_set_other}
 use Rattle.net_resolve.specs.Marked.{has, with_mark, Moves, Noted}
@@ -184,11 +184,6 @@ low_more ns n room l low m h = elim (eqb_tells m n) [
   | inl e ↦ omega (arith, l, e.1)
   | inr f ↦ low m (sym (has_other ns n m f.1) ∙ h)
 ]
-
-pub replicate_get : {A : Type 0} (x : A) (count k : ℕ) → k < count → slice_get (replicate count x) k ≡ Some x
-replicate_get x zero k h = absurd (omega arith)
-replicate_get x (suc count) zero h = refl
-replicate_get x (suc count) (suc k) h = replicate_get x count k (omega arith)
 
 pub distinct_none : IsDistinct eqb []
 unfolding IsDistinct

@@ -1,24 +1,20 @@
 -- Groups are what closed contacts lead to, and areas what is reached over nets without a strong value.
-use Rattle.std.proofs.Common.{◌≡◌, ℕ, zero, suc, ◌<◌, ◌≤◌, List, [], ◌∷◌, length, Bool, true, false, not, refl, ap, sym, ◌∙◌, arith, ◌⊎◌, inl, inr, subst, Some, eq-eqb}
+use Rattle.std.proofs.Common.{◌≡◌, ℕ, zero, suc, ◌<◌, List, [], ◌∷◌, length, Bool, true, false, not, refl, ap, sym, ◌∙◌, arith, ◌⊎◌, inl, inr, Some, eq-eqb}
 use Rattle.std.proofs.lemmas.Bool.{eqb-true}
-use Rattle.std.proofs.lemmas.Bool.Decides.{nat_tests}
-use Rattle.std.proofs.lemmas.List.{get_or_past}
-use Rattle.std.proofs.lemmas.Option.{get_or_from_slice_get}
-use Rattle.std.specs.Prelude.{◌==◌, ◌&&◌, ◌||◌, slice_get, slice_index, nat_lt}
+use Rattle.std.specs.Prelude.{◌==◌, ◌&&◌, ◌||◌, slice_get, slice_index}
 use Rattle.std.specs.List.{zip, list_any}
 use Rattle.sim_base.specs.declared.signal.Drive.{Drive}
 use Rattle.sim_base.specs.declared.signal.Level.{Level}
 use Rattle.sim_base.specs.declared.signal.Level.TheVariants as levels
 use Rattle.sim_base.specs.Signal.{strong_of}
-use Rattle.board_model.specs.Walks.{Walk, here, further, below, leads}
+use Rattle.board_model.specs.Walks.{Walk, here, further, leads}
 use Rattle.board_model.specs.Nets.{joined_by}
 use Rattle.board_model.specs.Resolve.{contact_joins, has_strong, is_driven, passes, is_value, level_of_values}
-use Rattle.board_model.proofs.WalkLemmas.{walk_join, walk_back, walk_sound, walk_complete}
-use Rattle.board_model.proofs.Lists.{get-below, length-below, some_same}
-use Rattle.net_resolve.specs.Forest.{AreLabels, AreGroups, root_of, same_or}
+use Rattle.board_model.proofs.WalkLemmas.{walk_sound, walk_complete}
+use Rattle.board_model.proofs.Lists.{some_same}
+use Rattle.net_resolve.specs.Groups.{AreGroups}
 use Rattle.net_resolve.specs.Sums.{is_loose, is_z, sum_at, added, strong_level}
-use Rattle.net_resolve.proofs.ForestLemmas.{label_root, own_root}
-use Rattle.net_resolve.proofs.ContactLemmas.{or_cases, or_left, or_right, and_both, and_first, contact_swap, contact_bounds}
+use Rattle.union_find.proofs.PairLemmas.{or_cases, or_left, or_right, and_both, contact_bounds}
 use Rattle.net_resolve.proofs.ValueLemmas.{is_z_values, strong_added}
 
 -- tests that follow from each other are the same
@@ -34,26 +30,6 @@ either_way false = inr refl
 pub not_false : (b : Bool) → not b ≡ true → b ≡ false
 not_false true h = absurd cc
 not_false false h = refl
-
--- an index in a list
-below_index : (n x : ℕ) → x < n → slice_index (below n) x ≡ x
-below_index n x l = get_or_from_slice_get (below n) x x 0 (get-below n x l)
-
-lt_of : (a b : ℕ) → nat_lt a b ≡ true → a < b
-lt_of a b h = grind (arith, nat_tests)
-
-lt_or_ge : (a b : ℕ) → (a < b) ⊎ (b ≤ a)
-lt_or_ge a b = grind arith
-
-below_least : (n y : ℕ) → slice_index (below n) y ≤ y
-below_least n y = elim (lt_or_ge y n) [
-  | inl l ↦ omega (arith, below_index n y l)
-  | inr h ↦ omega (arith, get_or_past (below n) y 0 (omega (arith, length-below n, h)))
-]
-
--- each place alone is its own root
-alone_root : (n x : ℕ) → x < n → root_of (below n) x ≡ x
-alone_root n x l = own_root (below n) (below_least n) x (below_index n x l)
 
 -- an item that passes the test
 pub any_at : {A : Type 0} (test : A → Bool) (xs : List A) (k : ℕ) (x : A) → slice_get xs k ≡ Some x → test x ≡ true → list_any test xs ≡ true
@@ -82,54 +58,22 @@ module _ (contacts : List (ℕ × ℕ)) (closed : List Bool) (groups : List ℕ)
   contact_within : (x y : ℕ) → contact_joins contacts closed x y ≡ true → (x < length groups) × (y < length groups)
   contact_within = contact_bounds (length groups) contacts closed g.contacts_within
 
-  -- steps within groups of one place each are closed contacts
-  real_walk : (n m : ℕ) → Walk (same_or (below (length groups)) (contact_joins contacts closed)) n m → Walk (contact_joins contacts closed) n m
-  real_walk n _ here = here
-  real_walk n _ (further j m w s) =
-      let count = length (below (length groups)) in
-      elim (or_cases (nat_lt j count && nat_lt m count && (root_of (below (length groups)) j == root_of (below (length groups)) m)) (contact_joins contacts closed j m) s) [
-        | inl l ↦
-            let a = and_first (nat_lt j count && nat_lt m count) (root_of (below (length groups)) j == root_of (below (length groups)) m) l in
-            let b = and_first (nat_lt j count) (nat_lt m count) a.0 in
-            let jn : j < length groups = omega (arith, lt_of j count b.0, length-below (length groups)) in
-            let mn : m < length groups = omega (arith, lt_of m count b.1, length-below (length groups)) in
-            let e : j ≡ m = sym (alone_root (length groups) j jn) ∙ eqb-true (root_of (below (length groups)) j) (root_of (below (length groups)) m) a.1 ∙ alone_root (length groups) m mn in
-            subst (λ (z : ℕ). Walk (contact_joins contacts closed) n z) e (real_walk n j w)
-        | inr r ↦ further j m (real_walk n j w) r
-      ]
-
-  label_here : (n : ℕ) → n < length groups → root_of groups n ≡ slice_index groups n
-  label_here n l = label_root groups g.labels n l
-
-  to_label : (n : ℕ) → n < length groups → Walk (contact_joins contacts closed) n (slice_index groups n)
-  to_label n l =
-      let inside : n < length (below (length groups)) = omega (arith, length-below (length groups)) in
-      subst (λ (z : ℕ). Walk (contact_joins contacts closed) n z) (label_here n l) (real_walk n (root_of groups n) (g.joins.walks n inside))
-
   pub one_label : (x y : ℕ) → contact_joins contacts closed x y ≡ true → slice_index groups x ≡ slice_index groups y
-  one_label x y s =
-      let b = contact_within x y s in
-      sym (label_here x b.0) ∙ g.joins.joined x y s ∙ label_here y b.1
+  one_label = g.classes.same
 
   pub same_label : (n m : ℕ) → Walk (contact_joins contacts closed) n m → slice_index groups n ≡ slice_index groups m
   same_label n _ here = refl
   same_label n _ (further j m w s) = same_label n j w ∙ one_label j m s
 
-  pub group_walk : (n m : ℕ) → n < length groups → m < length groups → slice_index groups n ≡ slice_index groups m → Walk (contact_joins contacts closed) n m
-  group_walk n m ln lm e =
-      let step = contact_joins contacts closed in
-      let back = walk_back step (contact_swap contacts closed) m (slice_index groups m) (to_label m lm) in
-      walk_join step n (slice_index groups m) m (subst (λ (z : ℕ). Walk step n z) e (to_label n ln)) back
-
   pub one_is : (n m : ℕ) → n < length groups → m < length groups → (slice_index groups m == slice_index groups n) ≡ leads (length groups) (contact_joins contacts closed) n m
   one_is n m ln lm = both_ways (slice_index groups m == slice_index groups n) (leads (length groups) (contact_joins contacts closed) n m)
       (λ e. walk_complete (length groups) (contact_joins contacts closed) contact_within n m ln
-      (group_walk n m ln lm (sym (eqb-true (slice_index groups m) (slice_index groups n) e))))
+      (g.classes.walks n m ln lm (sym (eqb-true (slice_index groups m) (slice_index groups n) e))))
       (λ h. eq-eqb (slice_index groups m) (slice_index groups n)
       (sym (same_label n m (walk_sound (length groups) (contact_joins contacts closed) (length groups) n m h))))
 
   pub group_within : (n : ℕ) → n < length groups → slice_index groups n < length groups
-  group_within n l = omega (arith, g.labels.forest n)
+  group_within n l = omega (arith, g.classes.labels.forest n)
 
   -- the drives of the pins of these nets, and the sums of the strong ones by group
   module _ (net_of : List ℕ) (resistors : List (ℕ × ℕ)) (ds : List Drive) (strong : List Level)
@@ -164,10 +108,3 @@ module _ (contacts : List (ℕ × ℕ)) (closed : List Bool) (groups : List ℕ)
         further j m (contact_passes n j l loose w)
         (and_both (not (is_driven (length groups) net_of contacts resistors closed ds j)) (contact_joins contacts closed j m || joined_by resistors j m)
         (sym (loose_is j at.0) ∙ free) (or_left (contact_joins contacts closed j m) (joined_by resistors j m) s))
-
--- places that are alone are labels
-pub below_labels : (n : ℕ) → AreLabels (below n)
-below_labels n = record {
-  forest = below_least n;
-  flat = λ x l. let e : slice_index (below n) x ≡ x = below_index n x (omega (arith, length-below n)) in ap (slice_index (below n)) e;
-}

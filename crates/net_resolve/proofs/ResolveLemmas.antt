@@ -15,9 +15,9 @@ use Rattle.board_model.specs.Nets.{joins, joined_by}
 use Rattle.board_model.specs.Resolve.{contact_joins, has_strong, is_driven, passes, reaches, strong_values, collected, level_of, level_of_values, level_of_all, level_of_drives, resolve, is_value}
 use Rattle.board_model.proofs.WalkLemmas.{walk_sound, walk_complete}
 use Rattle.board_model.proofs.Lists.{some_same, get-below, length-below, get_map_some, same_lists}
-use Rattle.net_resolve.specs.Forest.{AreLabels, Joins}
+use Rattle.union_find.specs.Forest.{AreLabels, Joins}
 use Rattle.net_resolve.specs.Sums.{is_loose, sum_at, added, weak_level, over_adds, resistors_add, together, level_here}
-use Rattle.net_resolve.proofs.ContactLemmas.{or_cases, or_left, or_right, and_both, and_first, joins_cases, joins_is, joins_swap}
+use Rattle.union_find.proofs.PairLemmas.{or_cases, or_left, or_right, and_both, and_first, joins_cases, joins_is, joins_swap}
 use Rattle.net_resolve.proofs.ReachLemmas.{both_ways, either_way, any_at, any_some, one_label, strong_is}
 use Rattle.net_resolve.proofs.AreaLemmas.{Grouped, bridges_of, loose_here, passes_within, area_is}
 use Rattle.net_resolve.proofs.ValueLemmas.{values_together, any_value, weak_of, weak_added, weak_alone}

@@ -11,7 +11,7 @@ use Rattle.board_model.specs.Resolve.{contact_joins, level_of, resolve}
 use Rattle.board_model.proofs.Lists.{some_same, some_map, get_map_some, get_within, get-below}
 use Rattle.net_resolve.specs.Wired.{Wired}
 use Rattle.net_resolve.specs.Subcircuits.{Lacks, AreOnce, SubcircuitView, IsCut, IsSubcircuit, AreOwn, picked, labels_of, level_now}
-use Rattle.net_resolve.proofs.ContactLemmas.{joins_cases, joins_is, joins_swap, contact_of, contact_is, contact_bounds}
+use Rattle.union_find.proofs.PairLemmas.{joins_cases, joins_is, joins_swap, contact_of, contact_is, contact_bounds}
 use Rattle.net_resolve.proofs.ReachLemmas.{any_at, any_some}
 use Rattle.net_resolve.proofs.PickLemmas.{picked_key, picked_at, picked_once}
 use Rattle.net_resolve.proofs.LocalLemmas.{Sub, none, passed, taken, IsInner, inner_level}

@@ -1,4 +1,4 @@
-pub mod Forest
+pub mod Groups
 pub mod Sums
 pub mod Marked
 pub mod Circuit

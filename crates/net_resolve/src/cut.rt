@@ -1,17 +1,16 @@
 //! The nets of a board, cut into subcircuits.
 ghost use Rattle.std.specs.Prelude.{◌≡◌, ℕ, ◌<◌, ◌≤◌, ◌++◌, [], ◌∷◌, List, length, map, replicate, Some, slice_get, slice_index, slice_index_or, slice_set, IfOk, OnOk, vec_len};
 ghost use Rattle.board_model.specs.Fits.{IsWiring};
-ghost use Rattle.net_resolve.specs.Forest.{AreLabels};
+ghost use Rattle.union_find.specs.Forest.{AreLabels};
 ghost use Rattle.net_resolve.specs.Subcircuits.{IsCut, IsSubcircuit, AreSubcircuits, AreOnce, picked, labels_of, circuit_of};
 ghost use Rattle.net_resolve.specs.Sorted.{ArePicked, IsSorted};
 
-use crate::forest::put_alone;
-use crate::groups::join_labels;
-use crate::room::{all_flags, zeros};
+use crate::room::zeros;
 use crate::subcircuit::Subcircuit;
 use crate::whole::Whole;
 use sim_base::{List, OutOfMemory, Wiring};
 use std::alloc::{AllocError, Global};
+use union_find::{join_pairs, label_pairs};
 
 /// The number of each net's subcircuit, which is its first net, and the numbers of the nets, pins,
 /// contacts and resistors that each subcircuit has.
@@ -24,36 +23,17 @@ pub(crate) struct Sorted {
     resistors: List<List<usize>>,
 }
 
-/// Gives one label to the nets of one label, and to those that a pair names.
-fn join_pairs(alloc: Global, pairs: &[(u16, u16)], labels: &mut [u16]) -> Result<(), AllocError>
-    requires labels { AreLabels labels.old }
-    requires pairs { (k : ℕ) (c : ℕ × ℕ) → slice_get pairs.now k ≡ Some c → (c.0 < length labels.old) × (c.1 < length labels.old) }
-    ensures labels { OnOk result (AreLabels labels.new) }
-    ensures joined { OnOk result ((k : ℕ) (c : ℕ × ℕ) → slice_get pairs.now k ≡ Some c → slice_index labels.new c.0 ≡ slice_index labels.new c.1) }
-    ensures keeps { OnOk result ((x y : ℕ) → x < length labels.old → y < length labels.old → slice_index labels.old x ≡ slice_index labels.old y → slice_index labels.new x ≡ slice_index labels.new y) }
-{
-    let chosen = all_flags(alloc, pairs.len())?;
-    join_labels(pairs, &chosen, labels);
-    Ok(())
-}
-
 /// Labels each net; those that a contact or a resistor joins get the same label.
-fn label_nets(
-    alloc: Global,
-    contacts: &[(u16, u16)],
-    resistors: &[(u16, u16)],
-    labels: &mut [u16],
-) -> Result<(), AllocError>
+fn label_nets(contacts: &[(u16, u16)], resistors: &[(u16, u16)], labels: &mut [u16])
     requires few { length labels.old ≤ 65536 }
     requires contacts { (k : ℕ) (c : ℕ × ℕ) → slice_get contacts.now k ≡ Some c → (c.0 < length labels.old) × (c.1 < length labels.old) }
     requires resistors { (k : ℕ) (r : ℕ × ℕ) → slice_get resistors.now k ≡ Some r → (r.0 < length labels.old) × (r.1 < length labels.old) }
-    ensures labels { OnOk result (AreLabels labels.new) }
-    ensures contacts { OnOk result ((k : ℕ) (c : ℕ × ℕ) → slice_get contacts.now k ≡ Some c → slice_index labels.new c.0 ≡ slice_index labels.new c.1) }
-    ensures resistors { OnOk result ((k : ℕ) (r : ℕ × ℕ) → slice_get resistors.now k ≡ Some r → slice_index labels.new r.0 ≡ slice_index labels.new r.1) }
+    ensures labels { AreLabels labels.new }
+    ensures contacts { (k : ℕ) (c : ℕ × ℕ) → slice_get contacts.now k ≡ Some c → slice_index labels.new c.0 ≡ slice_index labels.new c.1 }
+    ensures resistors { (k : ℕ) (r : ℕ × ℕ) → slice_get resistors.now k ≡ Some r → slice_index labels.new r.0 ≡ slice_index labels.new r.1 }
 {
-    put_alone(labels);
-    join_pairs(alloc, contacts, labels)?;
-    join_pairs(alloc, resistors, labels)
+    label_pairs(contacts, labels);
+    join_pairs(resistors, labels);
 }
 
 /// So many empty lists.
@@ -147,11 +127,10 @@ pub(crate) fn sort(alloc: Global, wiring: &Wiring) -> Result<Sorted, OutOfMemory
 {
     let mut labels = zeros(alloc, wiring.nets as usize)?;
     label_nets(
-        alloc,
         wiring.contacts.as_slice(),
         wiring.resistors.as_slice(),
         labels.as_mut_slice(),
-    )?;
+    );
     sort_by(alloc, wiring, List::from_vec(labels))
 }
 

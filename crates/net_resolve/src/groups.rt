@@ -1,40 +1,9 @@
-//! Nets that closed contacts make one, and loose nets that resistors connect.
+//! Loose nets, and which of them resistors connect.
 ghost use Rattle.std.specs.Prelude.{◌≡◌, ℕ, ◌<◌, ◌&&◌, List, length, map, Some, slice_get, slice_index};
-ghost use Rattle.board_model.specs.Resolve.{contact_joins};
-ghost use Rattle.net_resolve.specs.Forest.{IsForest, AreLabels, Joins};
 ghost use Rattle.net_resolve.specs.Sums.{is_loose};
 
-use crate::forest::{flatten, join};
 use crate::sums::is_level_z;
 use sim_base::Level;
-
-/// Joins the trees of the pairs that are chosen.
-fn join_chosen(pairs: &[(u16, u16)], chosen: &[bool], parents: &mut [u16])
-    requires forest { IsForest parents.old }
-    requires pairs { (k : ℕ) (c : ℕ × ℕ) → slice_get pairs.now k ≡ Some c → (c.0 < length parents.old) × (c.1 < length parents.old) }
-    requires chosen { length chosen.now ≡ length pairs.now }
-    ensures forest { IsForest parents.new }
-    ensures joins { Joins (contact_joins pairs.now chosen.now) parents.old parents.new }
-{
-    for i in 0..pairs.len() {
-        if chosen[i] {
-            let (a, b) = pairs[i];
-            join(parents, a, b);
-        }
-    }
-}
-
-/// Gives one label to the places of one label, and to those that a chosen pair names.
-pub(crate) fn join_labels(pairs: &[(u16, u16)], chosen: &[bool], labels: &mut [u16])
-    requires labels { AreLabels labels.old }
-    requires pairs { (k : ℕ) (c : ℕ × ℕ) → slice_get pairs.now k ≡ Some c → (c.0 < length labels.old) × (c.1 < length labels.old) }
-    requires chosen { length chosen.now ≡ length pairs.now }
-    ensures labels { AreLabels labels.new }
-    ensures joins { Joins (contact_joins pairs.now chosen.now) labels.old labels.new }
-{
-    join_chosen(pairs, chosen, labels);
-    flatten(labels);
-}
 
 /// Whether a net's group has no strong value.
 pub(crate) fn is_net_loose(groups: &[u16], strong: &[Level], net: u16) -> bool

@@ -4,13 +4,14 @@ ghost use Rattle.std.specs.List.{zip};
 ghost use Rattle.board_model.specs.Walks.{below};
 ghost use Rattle.board_model.specs.Resolve.{contact_joins, resolve};
 ghost use Rattle.sim_base.specs.declared.signal.Level.{Level};
-ghost use Rattle.net_resolve.specs.Forest.{AreLabels, AreGroups, Joins};
+ghost use Rattle.union_find.specs.Forest.{AreLabels, Joins};
+ghost use Rattle.net_resolve.specs.Groups.{AreGroups};
 ghost use Rattle.net_resolve.specs.Sums.{sum_at, added, strong_level, weak_level, is_loose, resistors_add};
 
-use crate::forest::put_alone;
-use crate::groups::{join_labels, put_bridges};
+use crate::groups::put_bridges;
 use crate::sums::{add_resistors, add_strong, add_weak, put_levels};
 use sim_base::{Drive, Level};
+use union_find::{join_chosen, label_chosen};
 
 /// Starts each sum with nothing.
 fn clear(sums: &mut [Level])
@@ -28,8 +29,7 @@ pub(crate) fn group_nets(contacts: &[(u16, u16)], closed: &[bool], groups: &mut 
     requires few { length groups.old ≤ 65536 }
     ensures { AreGroups contacts.now closed.now groups.new }
 {
-    put_alone(groups);
-    join_labels(contacts, closed, groups);
+    label_chosen(contacts, closed, groups);
 }
 
 /// Sums the strong drives of each group.
@@ -62,7 +62,7 @@ fn find_areas(
     areas.copy_from_slice(groups);
     if !resistors.is_empty() {
         put_bridges(resistors, groups, strong, bridges);
-        join_labels(resistors, bridges, areas);
+        join_chosen(resistors, bridges, areas);
     }
 }
 

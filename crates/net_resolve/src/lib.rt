@@ -4,7 +4,6 @@
 #![tactic(auto)]
 
 mod cut;
-mod forest;
 mod groups;
 mod levels;
 mod marks;

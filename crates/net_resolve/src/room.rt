@@ -1,5 +1,5 @@
 //! Room that nets are made with.
-ghost use Rattle.std.specs.Prelude.{◌≡◌, length, replicate, IfOk, vec_len, true, false};
+ghost use Rattle.std.specs.Prelude.{◌≡◌, length, replicate, IfOk, vec_len, false};
 
 use sim_base::{Drive, Level};
 use std::alloc::{AllocError, Global};
@@ -26,14 +26,6 @@ pub(crate) fn no_flags(alloc: Global, count: usize) -> Result<Vec<bool>, AllocEr
     ensures len { IfOk result (λ v. vec_len v ≡ count) }
 {
     vec![in alloc; false; count]
-}
-
-/// So many flags, all set.
-pub(crate) fn all_flags(alloc: Global, count: usize) -> Result<Vec<bool>, AllocError>
-    ensures items { IfOk result (λ v. v.items ≡ replicate count true) }
-    ensures len { IfOk result (λ v. vec_len v ≡ count) }
-{
-    vec![in alloc; true; count]
 }
 
 pub(crate) fn zeros(alloc: Global, count: usize) -> Result<Vec<u16>, AllocError>

@@ -2,7 +2,7 @@
 ghost use Rattle.std.specs.Prelude.{◌≡◌, ℕ, ◌<◌, ◌≤◌, List, length, replicate, Some, slice_get, IfOk, vec_len};
 ghost use Rattle.board_model.specs.Resolve.{resolve};
 ghost use Rattle.net_resolve.specs.Wired.{Wired};
-ghost use Rattle.net_resolve.specs.Forest.{AreGroups};
+ghost use Rattle.net_resolve.specs.Groups.{AreGroups};
 
 use crate::levels::{group_nets, resolve_groups};
 use crate::room::{all_z, no_flags, zeros};
@@ -34,7 +34,7 @@ pub(crate) struct Whole {
 impl Model for Whole {
     ghost use Rattle.std.specs.Prelude.{◌≡◌, ℕ, ◌<◌, ◌≤◌, length, Some, slice_get, vec_len};
     ghost use Rattle.net_resolve.specs.Wired.{Wired};
-    ghost use Rattle.net_resolve.specs.Forest.{AreGroups};
+    ghost use Rattle.net_resolve.specs.Groups.{AreGroups};
 
     ghost Value = { Wired };
 

@@ -9,13 +9,13 @@ use Rattle.std.proofs.lemmas.List.Folds.{position_or_len_push}
 use Rattle.std.proofs.lemmas.List.Sums.{prefix_len-le-length}
 use Rattle.std.proofs.lemmas.Option.{get_or_from_slice_get}
 use Rattle.board_model.specs.Walks.{here, below, any_below}
-use Rattle.board_model.specs.Nets.{joins, joined_by}
+use Rattle.board_model.specs.Nets.{joined_by}
 use Rattle.board_model.proofs.WalkLemmas.{some_below, walk_join, walk_sound, walk_complete}
 use Rattle.board_model.proofs.Lists.{length-below, get-below}
 use Rattle.pin_nets.specs.Labels.{IsBelow}
 use Rattle.pin_nets.specs.Numbering.{is_one_net, is_first, first_pins, number_of_net, net_numbers, net_count}
-use Rattle.pin_nets.proofs.LabelLemmas.{joins_ends}
-use Rattle.pin_nets.proofs.NumberLemmas.{passing, passing_yes, passing_no, joined_some}
+use Rattle.union_find.proofs.PairLemmas.{joined_bounds}
+use Rattle.pin_nets.proofs.NumberLemmas.{passing, passing_yes, passing_no, pairs_below}
 
 pushed : (place len : ℕ) (passes : Bool) → place ≤ len → (place < len) ⊎ (passes ≡ true) → (if place == len then len + (if passes then 0 else 1) else place) < len + 1
 pushed place len passes most (inl less) = elim (cases_Bool (place == len)) [
@@ -48,14 +48,8 @@ found_below f t x fx tx (suc m) l =
     ]
 
 module _ (pairs : List (ℕ × ℕ)) (count : ℕ) (inside : All (IsBelow count) pairs) where
-  both_inside : (pair : ℕ × ℕ) (a b : ℕ) → joins pair a b ≡ true → (pair.0 < count) × (pair.1 < count) → (a < count) × (b < count)
-  both_inside pair a b h s = elim (joins_ends pair a b h) [
-    | inl e ↦ (subst (λ (x : ℕ). x < count) e.0 s.0, subst (λ (x : ℕ). x < count) e.1 s.1)
-    | inr e ↦ (subst (λ (x : ℕ). x < count) e.0 s.1, subst (λ (x : ℕ). x < count) e.1 s.0)
-  ]
-
   steps_inside : (a b : ℕ) → joined_by pairs a b ≡ true → (a < count) × (b < count)
-  steps_inside a b h = let s = joined_some pairs a b h in both_inside (get_or pairs s.0 (0, 0)) a b s.2 (inside s.0 (0, 0) s.1)
+  steps_inside = joined_bounds count pairs (pairs_below count pairs inside)
 
   one_joined : (a b c : ℕ) → a < count → is_one_net pairs count a b ≡ true → is_one_net pairs count b c ≡ true → is_one_net pairs count a c ≡ true
   one_joined a b c l h k =

@@ -1,4 +1,3 @@
 pub mod BoundLemmas
 pub mod FillLemmas
-pub mod LabelLemmas
 pub mod NumberLemmas

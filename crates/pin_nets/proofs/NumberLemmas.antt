@@ -1,19 +1,20 @@
 -- Labels that tell the nets of pairs give the numbers of the definition.
-use Rattle.std.proofs.Common.{◌≡◌, ◌≢◌, ℕ, zero, suc, ◌+◌, ◌<◌, ◌≤◌, List, [], ◌∷◌, ◌++◌, length, map, filter, Bool, true, false, get_or, set, refl, ap, sym, ◌∙◌, subst, arith, inl, inr, ◌⊎◌, eq-eqb, add-one, length-append}
-use Rattle.std.specs.Prelude.{◌==◌, if◌then◌else◌}
-use Rattle.std.specs.List.{position_or_len}
+use Rattle.std.proofs.Common.{◌≡◌, ◌≢◌, ℕ, zero, suc, ◌+◌, ◌<◌, ◌≤◌, List, [], ◌∷◌, ◌++◌, length, map, filter, Bool, true, false, get_or, set, Some, refl, ap, sym, ◌∙◌, subst, arith, inl, inr, ◌⊎◌, eq-eqb, add-one, length-append}
+use Rattle.std.specs.Prelude.{◌==◌, if◌then◌else◌, slice_get}
+use Rattle.std.specs.List.{All, position_or_len}
 use Rattle.std.proofs.lemmas.Bool.{eqb-true, eqb-false, cases_lt, cases_Bool}
 use Rattle.std.proofs.lemmas.List.{get_or-map, length-map, append-nil, map-append, ext_get_or}
 use Rattle.std.proofs.lemmas.List.Elements.{filter-append}
 use Rattle.std.proofs.lemmas.List.Folds.{position_or_len_push}
-use Rattle.std.proofs.lemmas.Option.{get_or_from_slice_get}
+use Rattle.std.proofs.lemmas.Option.{get_or_from_slice_get, slice_get_within}
 use Rattle.board_model.specs.Walks.{Walk, here, further, below, any_below}
-use Rattle.board_model.specs.Nets.{joins, joined_by}
+use Rattle.board_model.specs.Nets.{joined_by}
 use Rattle.board_model.proofs.WalkLemmas.{some_below, any_below_some, walk_sound, walk_complete}
-use Rattle.board_model.proofs.Lists.{length-below, get-below}
-use Rattle.pin_nets.specs.Labels.{AreLeast, Tell, is_own, owns, numbered}
+use Rattle.board_model.proofs.Lists.{length-below, get-below, get_within, some_same}
+use Rattle.union_find.specs.Forest.{AreLabels, AreClasses}
+use Rattle.union_find.proofs.PairLemmas.{joined_bounds}
+use Rattle.pin_nets.specs.Labels.{IsBelow, is_own, owns, numbered}
 use Rattle.pin_nets.specs.Numbering.{is_one_net, is_first, first_pins, number_of_net, net_numbers, net_count}
-use Rattle.pin_nets.proofs.LabelLemmas.{or_cases, joins_ends, alone}
 use Rattle.pin_nets.proofs.FillLemmas.{Filled, filled_none, filled_next}
 
 -- numbers below another that pass a test
@@ -95,30 +96,20 @@ found_at f t x fx tx none (suc m) l = elim (cases_lt x m) [
     ]
 
 -- a step joins the two pins of one of the pairs
-pub joined_some : (pairs : List (ℕ × ℕ)) (n m : ℕ) → joined_by pairs n m ≡ true → (k : ℕ) × (k < length pairs) × (joins (get_or pairs k (0, 0)) n m ≡ true)
-joined_some [] n m h = absurd cc
-joined_some (p ∷ pairs) n m h = elim (or_cases (joins p n m) (joined_by pairs n m) h) [
-  | inl a ↦ (0, omega arith, a)
-  | inr b ↦ let s = joined_some pairs n m b in (suc s.0, omega (arith, s.1), s.2)
-]
+pub pairs_below : (count : ℕ) (pairs : List (ℕ × ℕ)) → All (IsBelow count) pairs → (k : ℕ) (c : ℕ × ℕ) → slice_get pairs k ≡ Some c → (c.0 < count) × (c.1 < count)
+pairs_below count pairs inside k c e =
+    let l = slice_get_within pairs k c e in
+    subst (IsBelow count) (some_same (sym (get_within pairs k (0, 0) l) ∙ e)) (inside k (0, 0) l)
 
-module _ (pairs : List (ℕ × ℕ)) (labels : List ℕ) (tell : Tell pairs labels) where
+module _ (pairs : List (ℕ × ℕ)) (labels : List ℕ) (inside : All (IsBelow (length labels)) pairs) (classes : AreClasses (joined_by pairs) labels) where
   abbrev n : ℕ
   n = length labels
 
   abbrev label : ℕ → ℕ
   label p = get_or labels p 0
 
-  ends_same : (pair : ℕ × ℕ) (p q : ℕ) → joins pair p q ≡ true → (pair.0 < n) × (pair.1 < n) × (label pair.0 ≡ label pair.1) → (p < n) × (q < n) × (label p ≡ label q)
-  ends_same pair p q h s = elim (joins_ends pair p q h) [
-    | inl e ↦ (subst (λ (x : ℕ). x < n) e.0 s.0, subst (λ (x : ℕ). x < n) e.1 s.1, ap label (sym e.0) ∙ s.2 ∙ ap label e.1)
-    | inr e ↦ (subst (λ (x : ℕ). x < n) e.0 s.1, subst (λ (x : ℕ). x < n) e.1 s.0, ap label (sym e.0) ∙ sym s.2 ∙ ap label e.1)
-  ]
-
   step_same : (p q : ℕ) → joined_by pairs p q ≡ true → (p < n) × (q < n) × (label p ≡ label q)
-  step_same p q h =
-      let s = joined_some pairs p q h in
-      ends_same (get_or pairs s.0 (0, 0)) p q s.2 (tell.same s.0 (0, 0) s.1)
+  step_same p q h = let b = joined_bounds n pairs (pairs_below n pairs inside) p q h in (b.0, b.1, classes.same p q h)
 
   walk_same : (p q : ℕ) → Walk (joined_by pairs) p q → label p ≡ label q
   walk_same p _ here = refl
@@ -129,13 +120,13 @@ module _ (pairs : List (ℕ × ℕ)) (labels : List ℕ) (tell : Tell pairs labe
 
   leads_there : (p q : ℕ) → p < n → q < n → label p ≡ label q → is_one_net pairs n p q ≡ true
   leads_there p q hp hq e =
-      walk_complete n (joined_by pairs) (λ a b h. let s = step_same a b h in (s.0, s.1)) p q hp (tell.walks p q hp hq e)
+      walk_complete n (joined_by pairs) (λ a b h. let s = step_same a b h in (s.0, s.1)) p q hp (classes.walks p q hp hq e)
 
   label_in : (p : ℕ) → p < n → label p < n
-  label_in p h = let l = tell.least.least p h in omega arith
+  label_in p h = let l = classes.labels.forest p in omega arith
 
   own_label : (p : ℕ) → p < n → is_own labels (label p) ≡ true
-  own_label p h = eq-eqb (label (label p)) (label p) (tell.least.fixed p h)
+  own_label p h = eq-eqb (label (label p)) (label p) (classes.labels.flat p h)
 
   first_own : (p : ℕ) → p < n → is_first pairs n p ≡ is_own labels p
   first_own p h = elim (cases_Bool (label p == p)) [
@@ -146,15 +137,15 @@ module _ (pairs : List (ℕ × ℕ)) (labels : List ℕ) (tell : Tell pairs labe
               let s = some_below p (λ q. is_one_net pairs n q p) some in
               let same = leads_same s.0 p s.2 in
               let inside : s.0 < n = omega (arith, s.1) in
-              let least = tell.least.least s.0 inside in
+              let least = classes.labels.forest s.0 in
               absurd (omega (arith, s.1))
           | inr none ↦ rw (none, own) refl
         ]
     | inr other ↦
-        let l = tell.least.least p h in
+        let l = classes.labels.forest p in
         let ne = eqb-false (label p) p other in
         let less : label p < p = omega (arith, ne) in
-        let there = leads_there (label p) p (label_in p h) h (tell.least.fixed p h) in
+        let there = leads_there (label p) p (label_in p h) h (classes.labels.flat p h) in
         let some = any_below_some p (λ q. is_one_net pairs n q p) (label p) less there in
         rw (some, other) refl
   ]
@@ -170,7 +161,7 @@ module _ (pairs : List (ℕ × ℕ)) (labels : List ℕ) (tell : Tell pairs labe
   number_own : (p : ℕ) → p < n → number_of_net pairs n p ≡ owns labels (label p)
   unfolding owns
   number_own p h =
-      let there = leads_there (label p) p (label_in p h) h (tell.least.fixed p h) in
+      let there = leads_there (label p) p (label_in p h) h (classes.labels.flat p h) in
       ap (λ (l : List ℕ). position_or_len (λ q. is_one_net pairs n q p) l) firsts_own
       ∙ found_at (is_own labels) (λ q. is_one_net pairs n q p) (label p) (own_label p h) there
       (λ q (l : q < label p) own. before q l own (cases_Bool (is_one_net pairs n q p))) n (label_in p h)
@@ -244,21 +235,18 @@ numbered_own labels now pin nets state inside e =
       few = omega (arith, state.few);
     }
 
-pub numbered_other : (labels now : List ℕ) (pin nets : ℕ) → AreLeast labels → Numbered labels now pin nets → pin < length now → length now ≡ length labels → get_or now pin 0 ≢ pin →
+pub numbered_other : (labels now : List ℕ) (pin nets : ℕ) → AreLabels labels → Numbered labels now pin nets → pin < length now → length now ≡ length labels → get_or now pin 0 ≢ pin →
     Numbered labels (set now pin (get_or now (get_or now pin 0) 0)) (pin + 1) nets
 numbered_other labels now pin nets least state inside same ne =
     let here : get_or now pin 0 ≡ get_or labels pin 0 = state.filled.left pin (omega arith) in
     let within : pin < length labels = omega arith in
-    let most : get_or labels pin 0 ≤ pin = least.least pin within in
+    let most : get_or labels pin 0 ≤ pin = least.forest pin in
     let other : get_or labels pin 0 ≢ pin = λ (h : get_or labels pin 0 ≡ pin). ne (here ∙ h) in
     let less : get_or labels pin 0 < pin = omega arith in
     let value : get_or now (get_or now pin 0) 0 ≡ owns labels (get_or labels pin 0) =
-    ap (λ (x : ℕ). get_or now x 0) here ∙ state.filled.done (get_or labels pin 0) less ∙ ap (owns labels) (least.fixed pin within) in
+    ap (λ (x : ℕ). get_or now x 0) here ∙ state.filled.done (get_or labels pin 0) less ∙ ap (owns labels) (least.flat pin within) in
     record {
       filled = filled_next (λ p. owns labels (get_or labels p 0)) labels now pin _ state.filled inside value;
       count = state.count ∙ sym (owns_other labels pin other);
       few = omega (arith, state.few);
     }
-
-pub below_alone : (n : ℕ) → Tell [] (below n)
-below_alone n = alone (below n) (λ p (h : p < length (below n)). get_or-below n p (rw (sym (length-below n)) h))

@@ -2,7 +2,6 @@
 //! The numbers are exactly those of the definition by walks; want of memory is the one other answer.
 #![tactic(auto)]
 
-mod labels;
 mod numbers;
 
 pub use numbers::{NetNumbers, number_nets};

@@ -1,13 +1,14 @@
 //! The numbers of nets.
-ghost use Rattle.std.specs.Prelude.{◌≡◌, ◌<◌, ◌≤◌, length, IfOk, [], List, ℕ};
+ghost use Rattle.std.specs.Prelude.{◌≡◌, ◌<◌, ◌≤◌, length, IfOk, List, ℕ};
 ghost use Rattle.std.specs.List.{All};
 ghost use Rattle.board_model.specs.Walks.{below};
-ghost use Rattle.pin_nets.specs.Labels.{Tell, AreLeast, IsBelow, owns, numbered};
+ghost use Rattle.union_find.specs.Forest.{AreLabels};
+ghost use Rattle.pin_nets.specs.Labels.{IsBelow, owns, numbered};
 ghost use Rattle.pin_nets.specs.Numbering.{net_count, net_numbers};
 
-use crate::labels::join_all;
 use sim_base::{List, OutOfMemory};
 use std::alloc::Global;
+use union_find::label_pairs;
 
 /// How many nets there are, and the net of each pin.
 #[derive(Drop)]
@@ -28,7 +29,7 @@ fn own_labels(alloc: Global, count: u16) -> Result<List<u16>, OutOfMemory>
 
 fn number(labels: &mut [u16]) -> u16
     requires few { length labels.old ≤ 65535 }
-    requires least { AreLeast labels.old }
+    requires least { AreLabels labels.old }
     ensures numbers { labels.new ≡ numbered labels.old }
     ensures count { result ≡ owns labels.old (length labels.old) }
 {
@@ -47,12 +48,11 @@ fn number(labels: &mut [u16]) -> u16
 
 fn label_and_number(labels: &mut [u16], pairs: &[(u16, u16)]) -> u16
     requires few { length labels.old ≤ 65535 }
-    requires alone { Tell [] labels.old }
     requires below { All (IsBelow (length labels.old)) pairs.now }
     ensures numbers { labels.new ≡ net_numbers pairs.now (length labels.old) }
     ensures count { result ≡ net_count pairs.now (length labels.old) }
 {
-    join_all(labels, pairs);
+    label_pairs(pairs, labels);
     number(labels)
 }
 

@@ -20,12 +20,12 @@ pub sort_by-requires : goal.sort_by-requires
 sort_by-requires c =
     let it : IsCut (circuit_of c.args.wiring.now) c.label_nets.new.labels = record {
       long = omega (arith, c.label_nets.auto.labels, c.as_mut_slice.ensures.len, c.in_ok-labels.ensures);
-      below = c.in_ok-label_nets.ensures.labels.forest;
+      below = c.label_nets.ensures.labels.forest;
       pins_within = c.requires.pins;
       contacts_within = c.requires.contacts;
       resistors_within = c.requires.resistors;
-      contacts_joined = λ k d e. c.in_ok-label_nets.ensures.contacts k d (subst (λ (l : List (ℕ × ℕ)). slice_get l k ≡ Some d) (sym c.as_slice.ensures) e);
-      resistors_joined = λ k d e. c.in_ok-label_nets.ensures.resistors k d (subst (λ (l : List (ℕ × ℕ)). slice_get l k ≡ Some d) (sym c.as_slice-2.ensures) e);
+      contacts_joined = λ k d e. c.label_nets.ensures.contacts k d (subst (λ (l : List (ℕ × ℕ)). slice_get l k ≡ Some d) (sym c.as_slice.ensures) e);
+      resistors_joined = λ k d e. c.label_nets.ensures.resistors k d (subst (λ (l : List (ℕ × ℕ)). slice_get l k ≡ Some d) (sym c.as_slice-2.ensures) e);
     } in
     let items = c.in_ok-labels.labels.items in
     let lent = lent_whole c.in_ok-labels.labels.len items c.label_nets.new.labels (omega (arith, c.as_mut_slice.ensures.len, ap length c.as_mut_slice.ensures.value))

@@ -2,9 +2,9 @@ use Rattle.std.proofs.Common.{◌≡◌, sym, subst, length, map, ℕ, List}
 use Rattle.std.specs.Prelude.{◌&&◌}
 use Rattle.std.proofs.lemmas.Bool.{eqb-true}
 use Rattle.board_model.specs.Resolve.{contact_joins}
-use Rattle.net_resolve.specs.Forest.{Joins}
+use Rattle.union_find.specs.Forest.{Joins}
 use Rattle.net_resolve.specs.Sums.{is_loose}
-use Rattle.net_resolve.proofs.ContactLemmas.{joins_none}
+use Rattle.union_find.proofs.PairLemmas.{joins_none}
 use Rattle.net_resolve.proofs.levels.find_areas.Goals as goal
 
 pub returns-else-not-is_empty-clause-joins : goal.returns-else-not-is_empty-clause-joins

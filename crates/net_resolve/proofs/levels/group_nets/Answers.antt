@@ -1,7 +1,8 @@
-use Rattle.std.proofs.Common.{sym, subst, length}
-use Rattle.net_resolve.specs.Forest.{AreLabels}
-use Rattle.net_resolve.proofs.ReachLemmas.{below_labels}
+use Rattle.std.proofs.Common.{arith}
 use Rattle.net_resolve.proofs.levels.group_nets.Goals as goal
 
-pub join_labels-requires-clause-labels : goal.join_labels-requires-clause-labels
-join_labels-requires-clause-labels c = subst AreLabels (sym c.put_alone.ensures) (below_labels (length c.args.groups.now))
+pub returns : goal.returns
+returns c = record {
+  contacts_within = λ k p e. let at = c.requires.contacts k p e in (omega (arith, at.0, c.label_chosen.auto.labels), omega (arith, at.1, c.label_chosen.auto.labels));
+  classes = c.label_chosen.ensures;
+}

@@ -1,16 +1,22 @@
-use Rattle.std.proofs.Common.{ℕ, sym, ap, ◌∙◌, arith}
+use Rattle.std.proofs.Common.{ℕ, length, sym, ap, ◌∙◌, arith, subst}
+use Rattle.std.specs.List.{All}
+use Rattle.pin_nets.specs.Labels.{IsBelow}
 use Rattle.pin_nets.specs.Numbering.{net_numbers, net_count}
-use Rattle.pin_nets.proofs.NumberLemmas.{numbers_own, count_own}
+use Rattle.pin_nets.proofs.NumberLemmas.{numbers_own, count_own, pairs_below}
 use Rattle.pin_nets.proofs.numbers.label_and_number.Goals as goal
+
+pub label_pairs-requires-clause-pairs : goal.label_pairs-requires-clause-pairs
+label_pairs-requires-clause-pairs c = pairs_below (length c.args.labels.now) c.args.pairs.now c.requires.below
 
 pub returns : goal.returns
 returns c =
-    let labels = c.join_all.new.labels in
+    let labels = c.label_pairs.new.labels in
     let pairs = c.args.pairs.now in
+    let inside = subst (λ (n : ℕ). All (IsBelow n) pairs) (sym c.label_pairs.auto.labels) c.requires.below in
     record {
-      numbers = c.number.ensures.numbers ∙ sym (numbers_own pairs labels c.join_all.ensures) ∙ ap (λ (n : ℕ). net_numbers pairs n) c.join_all.auto.labels;
-      count = c.number.ensures.count ∙ sym (count_own pairs labels c.join_all.ensures) ∙ ap (λ (n : ℕ). net_count pairs n) c.join_all.auto.labels;
+      numbers = c.number.ensures.numbers ∙ sym (numbers_own pairs labels inside c.label_pairs.ensures) ∙ ap (λ (n : ℕ). net_numbers pairs n) c.label_pairs.auto.labels;
+      count = c.number.ensures.count ∙ sym (count_own pairs labels inside c.label_pairs.ensures) ∙ ap (λ (n : ℕ). net_count pairs n) c.label_pairs.auto.labels;
     }
 
 pub number-requires : goal.number-requires
-number-requires c = record { few = omega arith; least = c.join_all.ensures.least }
+number-requires c = record { few = omega (arith, c.requires.few, c.label_pairs.auto.labels); least = c.label_pairs.ensures.labels }

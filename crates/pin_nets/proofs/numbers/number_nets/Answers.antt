@@ -2,7 +2,6 @@ use Rattle.std.proofs.Common.{◌≡◌, ℕ, length, refl, ap, ◌∙◌, arith
 use Rattle.board_model.specs.Walks.{below}
 use Rattle.board_model.proofs.Lists.{length-below, lent_whole}
 use Rattle.pin_nets.specs.Numbering.{net_numbers, net_count}
-use Rattle.pin_nets.proofs.NumberLemmas.{below_alone}
 use Rattle.pin_nets.proofs.numbers.number_nets.Goals as goal
 
 pub label_and_number-nets-requires-clause-few : goal.label_and_number-nets-requires-clause-few
@@ -10,11 +9,6 @@ label_and_number-nets-requires-clause-few c =
     let own : c.as_mut_slice.result.now ≡ below c.args.count = c.as_mut_slice.ensures.value ∙ c.in_ok-labels.ensures in
     let len = length-below c.args.count in
     rw own (omega arith)
-
-pub label_and_number-nets-requires-clause-alone : goal.label_and_number-nets-requires-clause-alone
-label_and_number-nets-requires-clause-alone c =
-    let own : c.as_mut_slice.result.now ≡ below c.args.count = c.as_mut_slice.ensures.value ∙ c.in_ok-labels.ensures in
-    rw own (below_alone c.args.count)
 
 pub label_and_number-nets-requires-clause-below : goal.label_and_number-nets-requires-clause-below
 label_and_number-nets-requires-clause-below c =

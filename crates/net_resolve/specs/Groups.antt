@@ -1,0 +1,8 @@
+-- The groups of nets over closed contacts. No public clause cites this.
+use Rattle.std.specs.Prelude.{◌≡◌, ℕ, ◌<◌, List, length, Bool, slice_get, Some}
+use Rattle.board_model.specs.Resolve.{contact_joins}
+use Rattle.union_find.specs.Forest.{AreClasses}
+
+pub record AreGroups (contacts : List (ℕ × ℕ)) (closed : List Bool) (groups : List ℕ) : Type 0 where
+  pub contacts_within : (k : ℕ) (c : ℕ × ℕ) → slice_get contacts k ≡ Some c → (c.0 < length groups) × (c.1 < length groups)
+  pub classes : AreClasses (contact_joins contacts closed) groups

@@ -1,0 +1,3 @@
+pub mod ForestLemmas
+pub mod PairLemmas
+pub mod ClassLemmas
