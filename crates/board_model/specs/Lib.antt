@@ -4,3 +4,4 @@ pub mod Resolve
 pub mod Board
 pub mod Rows
 pub mod Fits
+pub mod Fresh

@@ -3,6 +3,10 @@ pub mod StepLemmas
 pub mod HandLemmas
 pub mod ScriptLemmas
 pub mod WakeLemmas
-pub mod CycleLemmas
-pub mod RunLemmas
+pub mod ShowLemmas
 pub mod GateLemmas
+pub mod TurnLemmas
+pub mod LagLemmas
+pub mod LegLemmas
+pub mod NextLemmas
+pub mod AloneLemmas

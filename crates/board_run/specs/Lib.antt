@@ -1,7 +1,7 @@
 pub mod BoardView
 pub mod Seen
-pub mod Woken
 pub mod Upcoming
-pub mod Runs
 pub mod Gate
 pub mod GateLaws
+pub mod Lagging
+pub mod Legs

@@ -1,21 +1,22 @@
-//! A board of parts, run cycle by cycle (profile): in each cycle all parts step on the same levels.
-//! A run hands out exactly the rows and bytes of the definition, whatever parts there are.
+//! A board of parts that is run from event to event (profile): a part is woken only in its active cycles.
+//! A run hands out exactly the rows and bytes of the board that is stepped cycle by cycle, whatever parts there are.
 //! Only `Board::new` takes memory; a run fails only where writing does.
 #![tactic(auto)]
 
+mod alone;
 mod board;
-mod cycle;
+mod engine;
 #[cfg(test)]
 mod gate;
 mod gather;
 mod hand;
-mod held;
+mod jump;
 mod reading;
-mod run;
 mod script;
+mod show;
 mod start;
 #[cfg(test)]
 mod tests;
-mod wake;
+mod turn;
 
 pub use board::{Board, RunEnd};

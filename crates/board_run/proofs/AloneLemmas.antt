@@ -1,0 +1,304 @@
+-- One part goes on by itself while the others are quiet: that is a leg of the board's way.
+use Rattle.std.proofs.Common.{◌≡◌, ◌≢◌, ℕ, zero, suc, ◌+◌, ◌-◌, ◌<◌, ◌≤◌, List, [], length, map, Bool, true, false, Option, None, Some, refl, ap, sym, ◌∙◌, arith, subst, get_or, inl, inr, length-set}
+use Rattle.std.specs.Prelude.{slice_get, slice_set, if◌then◌else◌}
+use Rattle.std.proofs.lemmas.Option.{slice_get_within}
+use Rattle.std.proofs.lemmas.List.{length-map}
+use Rattle.std.proofs.lemmas.Bool.Decides.{eqb_tells}
+use Rattle.sim_base.specs.declared.signal.Level.{Level}
+use Rattle.sim_base.specs.declared.wiring.Wiring.{Wiring}
+use Rattle.sim_base.specs.declared.wiring.Input.{Input}
+use Rattle.part_law.specs.Machine.{Machine, Laws, glide, dues, sent, IsQuiet, IsSame, IsFirstDue}
+use Rattle.part_law.proofs.MachineLemmas.{glide_valid, glide_drives, glide_contacts, glide_pins}
+use Rattle.board_model.specs.Board.{level_at, own_nets, input_at, states, bytes}
+use Rattle.board_model.specs.Rows.{Shown, shown_of, shown_before, rows}
+use Rattle.board_model.proofs.Lists.{some_same, get_within, get_map_some, some_map, get_set_same, get_set_other}
+use Rattle.board_laws.specs.Alike.{Alike}
+use Rattle.board_laws.specs.Stands.{Stands}
+use Rattle.board_laws.specs.Steady.{IsSteady}
+use Rattle.board_laws.proofs.StandsLaw.{stands_here, stands_shows, stands_holds, stands_valid}
+use Rattle.board_laws.proofs.SteadyLaw.{steady_states, steady_before, steady_rows, steady_cycles, steady_bytes, steady_pairs, quiet_dues}
+use Rattle.board_run.specs.Seen.{IsOf, shown_at}
+use Rattle.board_run.specs.Lagging.{glided, own_part}
+use Rattle.board_run.specs.Legs.{Kept, Lags, Leg, WentAlone, IsAlone}
+use Rattle.board_run.proofs.ShowLemmas.{shown_is}
+use Rattle.board_model.proofs.RoomLemmas.{SameRoom, fits_room, chips_room}
+use Rattle.board_run.proofs.LagLemmas.{lags_stand, stand_show, stand_are, lag_of, Ts}
+use Rattle.board_run.proofs.ShowLemmas.{still_of}
+use Rattle.board_run.specs.Upcoming.{AreBehind}
+use Rattle.board_run.proofs.NextLemmas.{quiet_until}
+use Rattle.board_run.proofs.TurnLemmas.{due_set}
+use Rattle.board_run.proofs.LegLemmas.{quiet_rest, stands_later, shown_later}
+
+one_more : (b : Bool) (x n : ℕ) → x ≤ n → x + (if b then 1 else 0) ≤ suc n
+one_more true x n h = omega arith
+one_more false x n h = omega arith
+
+module _ {S : Type 0} (m : Machine S) (laws : Laws m) where
+  glide_ports : (s : S) (a n : ℕ) → length (m.contacts (glide m s a n)) ≡ length (m.contacts s)
+  glide_ports s a zero = refl
+  glide_ports s a (suc n) = laws.keeps_contacts (glide m s a n) (a + n) _ None ∙ glide_ports s a n
+
+  glide_holds : (s : S) (a n : ℕ) → m.held (glide m s a n) ≡ m.held s
+  glide_holds s a zero = refl
+  glide_holds s a (suc n) = laws.holds_levels (glide m s a n) (a + n) _ None ∙ glide_holds s a n
+
+  -- it is due at most once a cycle
+  pub dues_most : (s : S) (a n : ℕ) → dues m s a n ≤ n
+  dues_most s a zero = omega arith
+  dues_most s a (suc n) = one_more (m.due (glide m s a n) (a + n)) (dues m s a n) n (dues_most s a n)
+
+module _ {S P : Type 0} (m : Machine S) (laws : Laws m) (w : Wiring) (state : P → S) (now wakes : P → ℕ) (inputs : List Input)
+    (t u : ℕ) (parts : List P) (kept : Kept) (lags : Lags m w state now wakes t parts kept) (fresh : kept.stale ≡ false) (after : 0 < t) (order : t ≤ u)
+    (who : ℕ) (p0 q0 : P) (here : slice_get parts who ≡ Some p0)
+    (quiet : (k : ℕ) (p : P) → k ≢ who → slice_get parts k ≡ Some p → IsQuiet m (state p) (now p) (u - now p))
+    (silent : (v k : ℕ) → t ≤ v → v < u → input_at inputs v k ≡ None)
+    (same : IsSame m (glided m state now wakes t p0) t (u - t))
+    (state_is : state q0 ≡ glide m (glided m state now wakes t p0) t (u - t)) (now_is : now q0 ≡ u)
+    (woken_is : wakes q0 ≡ wakes p0 + dues m (glided m state now wakes t p0) t (u - t)) where
+  abbrev Js : List S
+  Js = Ts m laws w state now wakes t parts
+
+  abbrev s0 : S
+  s0 = glided m state now wakes t p0
+
+  like : Alike (λ k p s. Stands m t (now p) (state p) s) parts Js
+  like = lags_stand m laws w state now wakes t parts kept lags
+
+  of_board : IsOf m w Js kept.seen
+  of_board = lag_of m laws w state now wakes parts Js kept.seen (stand_show m laws w state now wakes t parts Js like) (lags.fresh fresh)
+
+  part_of : (k : ℕ) (s : S) → slice_get Js k ≡ Some s → (p : P) × (slice_get parts k ≡ Some p) × (glided m state now wakes t p ≡ s)
+  part_of k s es = get_map_some (glided m state now wakes t) parts k s es
+
+  there : slice_get Js who ≡ Some s0
+  there = some_map (glided m state now wakes t) parts who p0 here
+
+  valid : (k : ℕ) (s : S) → slice_get Js k ≡ Some s → m.valid s t ≡ true
+  valid k s es = let p = part_of k s es in stands_valid m laws t (now p.0) (state p.0) s (like.each k p.0 s p.1 es)
+
+  calm : (k : ℕ) (s : S) → k ≢ who → slice_get Js k ≡ Some s → IsQuiet m s t (u - t)
+  calm k s other es =
+      let p = part_of k s es in
+      let st = like.each k p.0 s p.1 es in
+      quiet_rest m (state p.0) s (now p.0) t u st.not_later order st.is (quiet k p.0 other p.1)
+
+  steady : IsSteady m w inputs Js t (u - t)
+  steady = record {
+    same = λ k s es. elim (eqb_tells k who) [
+      | inl e ↦ subst (λ (x : S). IsSame m x t (u - t)) (some_same (sym there ∙ subst (λ (j : ℕ). slice_get Js j ≡ Some s) e.1 es)) same
+      | inr e ↦ record {
+        same_drives = λ j l. glide_drives m laws s t j (valid k s es) (λ i (h : i < j). calm k s e.1 es i (omega arith));
+        same_contacts = λ j l. glide_contacts m laws s t j (valid k s es) (λ i (h : i < j). calm k s e.1 es i (omega arith));
+      }
+    ];
+    held = λ k s es.
+        let p = part_of k s es in
+        let st = like.each k p.0 s p.1 es in
+        stands_holds m laws t (now p.0) (state p.0) s st ∙ lags.same fresh k p.0 p.1
+        ∙ ap (λ (n : ℕ). map (level_at kept.seen.levels) (own_nets w k n)) (ap length (stands_shows m laws t (now p.0) (state p.0) s st).drives)
+        ∙ ap (λ (ls : List Level). map (level_at ls) (own_nets w k (length (m.drives s)))) of_board.levels_are;
+    silent = λ j k l. silent (t + j) k (omega arith) (omega arith);
+  }
+
+  abbrev new : List P
+  new = slice_set parts who q0
+
+  inside : who < length parts
+  inside = slice_get_within parts who p0 here
+
+  -- each part stands for where its state glides to
+  stands_new : (k : ℕ) (z : P) (s : S) → slice_get new k ≡ Some z → slice_get Js k ≡ Some s → Stands m u (now z) (state z) (glide m s t (u - t))
+  stands_new k z s ez es = elim (eqb_tells k who) [
+    | inl e ↦
+        let z_is : q0 ≡ z = some_same (sym (get_set_same parts who q0 inside) ∙ subst (λ (j : ℕ). slice_get new j ≡ Some z) e.1 ez) in
+        let s_is : s0 ≡ s = some_same (sym there ∙ subst (λ (j : ℕ). slice_get Js j ≡ Some s) e.1 es) in
+        let end : t + (u - t) ≡ u = omega (arith, order) in
+        let v : m.valid (glide m s0 t (u - t)) u ≡ true = subst (λ (c : ℕ). m.valid (glide m s0 t (u - t)) c ≡ true) end (glide_valid m laws s0 t (u - t) (valid who s0 there)) in
+        let at : Stands m u u (glide m s0 t (u - t)) (glide m s0 t (u - t)) = stands_here m laws u (glide m s0 t (u - t)) v in
+        subst (λ (x : S). Stands m u (now z) (state z) (glide m x t (u - t))) s_is
+        (subst (λ (y : P). Stands m u (now y) (state y) (glide m s0 t (u - t))) z_is
+        (subst (λ (a : ℕ). Stands m u a (state q0) (glide m s0 t (u - t))) (sym now_is)
+        (subst (λ (x : S). Stands m u u x (glide m s0 t (u - t))) (sym state_is) at)))
+    | inr e ↦
+        let ez2 : slice_get parts k ≡ Some z = sym (get_set_other parts who k q0 e.1) ∙ ez in
+        stands_later m (state z) s (now z) t u order (like.each k z s ez2 es) (quiet k z e.1 ez2)
+  ]
+
+  new_long : length new ≡ length parts
+  new_long = length-set parts who q0
+
+  pub alone_stands : Alike (λ k z x. Stands m u (now z) (state z) x) new (states m w inputs Js t (u - t))
+  alone_stands =
+      let glides = steady_states m laws w inputs Js t (u - t) steady (u - t) (omega arith) in
+      record {
+        long = new_long ∙ like.long ∙ glides.long;
+        each = λ k z x ez ex.
+            let within : k < length Js = omega (arith, slice_get_within new k z ez, new_long, like.long) in
+            let s = get_or Js k s0 in
+            let es : slice_get Js k ≡ Some s = get_within Js k s0 within in
+            subst (λ (y : S). Stands m u (now z) (state z) y) (sym (glides.each k s x es ex)) (stands_new k z s ez es);
+      }
+
+  shown_same : shown_at t kept.seen ≡ Some (shown_of m w Js)
+  shown_same = shown_later t kept.seen after ∙ ap Some (shown_is m w Js kept.seen of_board)
+
+  pub alone_leg : (steps more : ℕ) → more ≡ steps + dues m s0 t (u - t) → Leg m w state now wakes inputs t u parts new kept.seen kept.seen steps more
+  alone_leg steps more counted = record {
+    order = order;
+    long = new_long;
+    states_are = stand_are m laws w state now wakes u new (states m w inputs Js t (u - t)) alone_stands;
+    before_is = ap (λ (o : Option Shown). shown_before m w inputs o Js t (u - t)) shown_same ∙ steady_before m laws w inputs Js t (u - t) steady (u - t) (omega arith)
+        ∙ sym shown_same ∙ shown_later t kept.seen after ∙ sym (shown_later u kept.seen (omega (arith, after, order)));
+    woken = λ k p z ep ez.
+        let es : slice_get Js k ≡ Some (glided m state now wakes t p) = some_map (glided m state now wakes t) parts k p ep in
+        let cycles = steady_cycles m laws w inputs Js t (u - t) steady (u - t) k (glided m state now wakes t p) (omega arith) es in
+        elim (eqb_tells k who) [
+          | inl e ↦
+              let z_is : q0 ≡ z = some_same (sym (get_set_same parts who q0 inside) ∙ subst (λ (j : ℕ). slice_get new j ≡ Some z) e.1 ez) in
+              let p_is : p0 ≡ p = some_same (sym here ∙ subst (λ (j : ℕ). slice_get parts j ≡ Some p) e.1 ep) in
+              ap wakes (sym z_is) ∙ woken_is ∙ ap (λ (x : P). wakes x + dues m (glided m state now wakes t x) t (u - t)) p_is ∙ ap (λ (n : ℕ). wakes p + n) (sym cycles)
+          | inr e ↦
+              let ez2 : slice_get parts k ≡ Some z = sym (get_set_other parts who k q0 e.1) ∙ ez in
+              let one = ap wakes (some_same (sym ez2 ∙ ep)) in
+              let none = quiet_dues m laws (glided m state now wakes t p) t (u - t) (calm k (glided m state now wakes t p) e.1 es) in
+              omega (arith, one, none, cycles)
+        ];
+    steps_are = counted ∙ ap (λ (n : ℕ). steps + n) (sym (steady_pairs m laws w inputs Js t (u - t) steady who s0 there valid calm (u - t) (omega arith)));
+  }
+
+  pub alone_rows : rows m w inputs (shown_at t kept.seen) Js t (u - t) ≡ []
+  alone_rows = ap (λ (o : Option Shown). rows m w inputs o Js t (u - t)) shown_same ∙ steady_rows m laws w inputs Js t (u - t) steady (u - t) (omega arith)
+
+  pub alone_bytes : bytes m w inputs Js t (u - t) ≡ sent m s0 t (u - t)
+  alone_bytes = steady_bytes m laws w inputs Js t (u - t) steady who s0 there valid calm (u - t) (omega arith)
+
+  -- a part after the stretch, with what it was
+  record After (k : ℕ) (p z : P) : Type 0 where
+    stands : Stands m u (now z) (state z) (glide m (glided m state now wakes t p) t (u - t))
+    pins : length (m.drives (state p)) ≡ length (m.drives (state z))
+    ports : length (m.contacts (state p)) ≡ length (m.contacts (state z))
+    held : m.held (state z) ≡ m.held (state p)
+    count : wakes z ≤ now z
+
+  was_counted : (k : ℕ) (p : P) → slice_get parts k ≡ Some p → wakes p ≤ now p
+  was_counted k p ep =
+      let room : k < length kept.dues = omega (arith, slice_get_within parts k p ep, lags.dues_long) in
+      (lags.may k p (get_or kept.dues k None) ep (get_within kept.dues k None room)).count
+
+  after_is : (k : ℕ) (p z : P) → slice_get parts k ≡ Some p → slice_get new k ≡ Some z → After k p z
+  after_is k p z ep ez =
+      let s = glided m state now wakes t p in
+      let es : slice_get Js k ≡ Some s = some_map (glided m state now wakes t) parts k p ep in
+      let st = stands_new k z s ez es in
+      let old = like.each k p s ep es in
+      let was = stands_shows m laws t (now p) (state p) s old in
+      let shows = stands_shows m laws u (now z) (state z) (glide m s t (u - t)) st in
+      record {
+        stands = st;
+        pins = ap length was.drives ∙ sym (glide_pins m laws s t (u - t)) ∙ sym (ap length shows.drives);
+        ports = ap length was.contacts ∙ sym (glide_ports m laws s t (u - t)) ∙ sym (ap length shows.contacts);
+        held = sym (stands_holds m laws u (now z) (state z) (glide m s t (u - t)) st) ∙ glide_holds m laws s t (u - t) ∙ stands_holds m laws t (now p) (state p) s old;
+        count = elim (eqb_tells k who) [
+          | inl e ↦
+              let z_is : q0 ≡ z = some_same (sym (get_set_same parts who q0 inside) ∙ subst (λ (j : ℕ). slice_get new j ≡ Some z) e.1 ez) in
+              let most = dues_most m laws s0 t (u - t) in
+              let c = was_counted who p0 here in
+              let l = (like.each who p0 s0 here there).not_later in
+              let h : wakes q0 ≤ now q0 = omega (arith, most, c, l, woken_is, now_is, order) in
+              subst (λ (y : P). wakes y ≤ now y) z_is h
+          | inr e ↦ was_counted k z (sym (get_set_other parts who k q0 e.1) ∙ ez)
+        ];
+      }
+
+  before : (k : ℕ) (z : P) → slice_get new k ≡ Some z → (p : P) × (slice_get parts k ≡ Some p)
+  before k z ez =
+      let within : k < length parts = omega (arith, slice_get_within new k z ez, new_long) in
+      (get_or parts k z, get_within parts k z within)
+
+  longer : length (map state parts) ≡ length (map state new)
+  longer = simp length-map (sym new_long)
+
+  same_room : (k : ℕ) (x y : S) → slice_get (map state parts) k ≡ Some x → slice_get (map state new) k ≡ Some y → SameRoom m k x y
+  same_room k x y ex ey =
+      let a = get_map_some state parts k x ex in
+      let b = get_map_some state new k y ey in
+      let h = after_is k a.0 b.0 a.1 b.1 in (
+        ap (λ (s : S). length (m.drives s)) (sym a.2) ∙ h.pins ∙ ap (λ (s : S). length (m.drives s)) b.2,
+        ap (λ (s : S). length (m.contacts s)) (sym a.2) ∙ h.ports ∙ ap (λ (s : S). length (m.contacts s)) b.2,
+      )
+
+  -- the invariant after it
+  pub alone_lags : (changed : Bool) (d : Option ℕ) → IsFirstDue m (state q0) (now q0) d → (changed ≡ false → m.drives (state q0) ≡ m.drives s0) → (changed ≡ false → m.contacts (state q0) ≡ m.contacts s0) →
+      Lags m w state now wakes u new (record { input = kept.input; stale = changed; dues = slice_set kept.dues who d; held = kept.held; seen = kept.seen; answers = kept.answers })
+  alone_lags changed d first drives contacts =
+      let room : who < length kept.dues = omega (arith, inside, lags.dues_long) in
+      let due = due_set m state now wakes parts kept.dues who q0 d inside room (λ k p e ep ee. (lags.may k p e ep ee).first) first in
+      let was = stands_shows m laws t (now p0) (state p0) s0 (like.each who p0 s0 here there) in
+      record {
+        few = subst (λ j. j ≤ 64) (sym new_long) lags.few;
+        may = λ k z e ez ee. let h = after_is k (before k z ez).0 z (before k z ez).1 ez in record { not_later = h.stands.not_later; count = h.count; quiet = h.stands.quiet; first = due k z e ez ee };
+        valid = λ k z ez. (after_is k (before k z ez).0 z (before k z ez).1 ez).stands.valid;
+        dues_long = length-set kept.dues who d ∙ lags.dues_long ∙ sym new_long;
+        answers_long = lags.answers_long ∙ sym new_long;
+        held_long = lags.held_long;
+        fits = fits_room m w (map state parts) (map state new) longer same_room lags.fits;
+        suits = lags.suits;
+        chips_long = lags.chips_long ∙ chips_room m w.chip (map state parts) (map state new) longer same_room;
+        fresh = λ none. still_of m w state parts new kept.seen new_long (λ k p z ep ez. elim (eqb_tells k who) [
+          | inl e ↦
+              let z_is : q0 ≡ z = some_same (sym (get_set_same parts who q0 inside) ∙ subst (λ (j : ℕ). slice_get new j ≡ Some z) e.1 ez) in
+              let p_is : p0 ≡ p = some_same (sym here ∙ subst (λ (j : ℕ). slice_get parts j ≡ Some p) e.1 ep) in (
+                ap (λ (y : P). m.drives (state y)) (sym z_is) ∙ drives none ∙ sym was.drives ∙ ap (λ (y : P). m.drives (state y)) p_is,
+                ap (λ (y : P). m.contacts (state y)) (sym z_is) ∙ contacts none ∙ sym was.contacts ∙ ap (λ (y : P). m.contacts (state y)) p_is,
+              )
+          | inr e ↦
+              let z_is : z ≡ p = some_same (sym ez ∙ get_set_other parts who k q0 e.1 ∙ ep) in
+              (ap (λ (y : P). m.drives (state y)) z_is, ap (λ (y : P). m.contacts (state y)) z_is)
+        ]) (lags.fresh fresh);
+        holds = λ k z ez later.
+            let x = before k z ez in
+            let h = after_is k x.0 z x.1 ez in
+            h.held ∙ lags.holds k x.0 x.1 after ∙ ap (λ (i : ℕ). own_part w k i kept.held) h.pins;
+        same = λ none k z ez.
+            let x = before k z ez in
+            let h = after_is k x.0 z x.1 ez in
+            h.held ∙ lags.same fresh k x.0 x.1 ∙ ap (λ (i : ℕ). map (level_at kept.seen.levels) (own_nets w k i)) h.pins;
+      }
+
+-- a script whose next value is not before the limit
+pub behind_between : (inputs : List Input) (i t u limit : ℕ) → t ≤ u → u ≤ limit → AreBehind inputs i t → AreBehind inputs i limit → AreBehind inputs i u
+behind_between inputs i t u limit from within first last = record {
+  within = first.within;
+  earlier = λ k x l e. let a = first.earlier k x l e in omega (arith, a, from);
+  later = λ k x l e. let a = last.later k x l e in omega (arith, a, within);
+}
+
+module _ {S P : Type 0} (m : Machine S) (laws : Laws m) (w : Wiring) (state : P → S) (now wakes : P → ℕ) (inputs : List Input) where
+  -- what a stretch of one part does
+  pub record Goes (t u : ℕ) (parts new : List P) (kept after : Kept) (steps more : ℕ) (bs : List ℕ) : Type 0 where
+    pub leg : Leg m w state now wakes inputs t u parts new kept.seen kept.seen steps more
+    pub lags : Lags m w state now wakes u new after
+    pub row_none : rows m w inputs (shown_at t kept.seen) (Ts m laws w state now wakes t parts) t (u - t) ≡ []
+    pub bytes_are : bytes m w inputs (Ts m laws w state now wakes t parts) t (u - t) ≡ bs
+
+  pub alone_goes : (t u limit : ℕ) (parts new : List P) (kept : Kept) (after : List (Option ℕ)) (changed : Bool) (steps more who : ℕ) (p q : P) (d : Option ℕ) →
+      Lags m w state now wakes t parts kept → kept.stale ≡ false → 0 < t → u ≤ limit → limit ≤ 160000000 → IsAlone inputs kept.dues kept.input who t limit →
+      WentAlone m state now wakes who t u parts new kept.dues after changed steps more p q d →
+      Goes t u parts new kept (record { input = kept.input; stale = changed; dues = after; held = kept.held; seen = kept.seen; answers = kept.answers }) steps more (sent m (glided m state now wakes t p) t (u - t))
+  alone_goes t u limit parts new kept after changed steps more who p q d lags fresh later within end alone went =
+      let further = went.further in
+      let order : t ≤ u = omega (arith, further) in
+      let last : u ≤ 160000000 = omega (arith, within, end) in
+      let quiet : (k : ℕ) (x : P) → k ≢ who → slice_get parts k ≡ Some x → IsQuiet m (state x) (now x) (u - now x) = λ k x other ex.
+      let inside : k < length kept.dues = omega (arith, slice_get_within parts k x ex, lags.dues_long) in
+      let ed : slice_get kept.dues k ≡ Some (get_or kept.dues k None) = get_within kept.dues k None inside in
+      quiet_until m state now wakes t u (get_or kept.dues k None) x order last (lags.may k x (get_or kept.dues k None) ex ed) (λ v e l. let far = alone.others k v other (ed ∙ ap Some e) in omega (arith, far, within)) in
+      let silent : (v k : ℕ) → t ≤ v → v < u → input_at inputs v k ≡ None = λ v k from before. alone.silent v k from (omega (arith, before, within)) in
+      let here : Goes t u parts (slice_set parts who q) kept (record { input = kept.input; stale = changed; dues = slice_set kept.dues who d; held = kept.held; seen = kept.seen; answers = kept.answers }) steps more (sent m (glided m state now wakes t p) t (u - t)) = record {
+        leg = alone_leg m laws w state now wakes inputs t u parts kept lags fresh later order who p q went.here quiet silent went.same went.state_is went.now_is went.woken_is steps more went.steps_are;
+        lags = alone_lags m laws w state now wakes inputs t u parts kept lags fresh later order who p q went.here quiet silent went.same went.state_is went.now_is went.woken_is changed d went.first went.drives went.contacts;
+        row_none = alone_rows m laws w state now wakes inputs t u parts kept lags fresh later order who p q went.here quiet silent went.same went.state_is went.now_is went.woken_is;
+        bytes_are = alone_bytes m laws w state now wakes inputs t u parts kept lags fresh later order who p q went.here quiet silent went.same went.state_is went.now_is went.woken_is;
+      } in
+      subst (λ (xs : List P). Goes t u parts xs kept (record { input = kept.input; stale = changed; dues = after; held = kept.held; seen = kept.seen; answers = kept.answers }) steps more (sent m (glided m state now wakes t p) t (u - t))) (sym went.new_is)
+      (subst (λ (ds : List (Option ℕ)). Goes t u parts (slice_set parts who q) kept (record { input = kept.input; stale = changed; dues = ds; held = kept.held; seen = kept.seen; answers = kept.answers }) steps more (sent m (glided m state now wakes t p) t (u - t))) (sym went.dues_are) here)

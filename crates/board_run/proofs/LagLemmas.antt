@@ -1,0 +1,237 @@
+-- A cycle in which the active parts are woken is a leg of the way.
+use Rattle.std.proofs.Common.{◌≡◌, ℕ, zero, suc, ◌+◌, ◌-◌, ◌<◌, ◌≤◌, List, length, map, take, drop, Bool, false, Option, None, Some, refl, ap, sym, ◌∙◌, arith, subst, get_or}
+use Rattle.std.specs.Prelude.{if◌then◌else◌, slice_get, slice_index}
+use Rattle.std.proofs.lemmas.Option.{slice_get_within}
+use Rattle.std.proofs.lemmas.List.{length-map}
+use Rattle.sim_base.specs.declared.signal.Level.{Level}
+use Rattle.sim_base.specs.declared.wiring.Wiring.{Wiring}
+use Rattle.sim_base.specs.declared.wiring.Input.{Input}
+use Rattle.part_law.specs.Machine.{Machine, Laws}
+use Rattle.board_model.specs.Board.{level_at, own_nets, levels_of, part_step, steps_from, board_step, states, bytes_of, bytes, options}
+use Rattle.board_model.specs.Rows.{Shown, shown_before, row_if, rows}
+use Rattle.board_model.specs.Fits.{Fits}
+use Rattle.board_model.proofs.Lists.{all_taken, take_whole, some_same, get_within, get_map_some, some_map, same_lists}
+use Rattle.board_laws.specs.Alike.{Alike, SameShow}
+use Rattle.board_laws.specs.Active.{sum_below, active_in, active_cycles, active_pairs}
+use Rattle.board_laws.specs.Stands.{Stands}
+use Rattle.board_laws.proofs.BesideLaw.{same_levels, same_shown, same_drives, same_row, same_chips}
+use Rattle.board_model.proofs.Steps.{length-steps_from}
+use Rattle.board_model.proofs.RoomLemmas.{SameRoom, fits_room, chips_room}
+use Rattle.board_laws.proofs.StandsLaw.{stands_shows, stands_holds}
+use Rattle.board_run.specs.Seen.{Seen, Suits, IsOf, shown, shown_at}
+use Rattle.board_run.specs.Upcoming.{AreBehind}
+use Rattle.board_run.specs.Lagging.{glided, Awaits, Turns, AreDue, own_part}
+use Rattle.board_run.specs.Legs.{Kept, Lags, Leg}
+use Rattle.board_run.proofs.ScriptLemmas.{values_now}
+use Rattle.board_run.proofs.ShowLemmas.{shown_is}
+use Rattle.board_run.proofs.WakeLemmas.{own_levels}
+use Rattle.board_run.proofs.ShowLemmas.{still_of, not_first}
+use Rattle.board_run.proofs.TurnLemmas.{turns_stand}
+
+sum_first : (x : ℕ) → x ≡ 0 + x
+sum_first x = omega arith
+
+module _ {S P : Type 0} (m : Machine S) (laws : Laws m) (w : Wiring) (state : P → S) (now wakes : P → ℕ) where
+  abbrev pub Ts : ℕ → List P → List S
+  Ts t parts = map (glided m state now wakes t) parts
+
+  -- each part stands for its state of the board
+  pub lags_stand : (t : ℕ) (parts : List P) (kept : Kept) → Lags m w state now wakes t parts kept → Alike (λ k p s. Stands m t (now p) (state p) s) parts (Ts t parts)
+  lags_stand t parts kept lags = record {
+    long = sym (simp length-map refl);
+    each = λ k p s ep es.
+        let r = get_map_some (glided m state now wakes t) parts k s es in
+        let p_is : r.0 ≡ p = some_same (sym r.1 ∙ ep) in
+        let inside : k < length kept.dues = omega (arith, slice_get_within parts k p ep, lags.dues_long) in
+        let may = lags.may k p (get_or kept.dues k None) ep (get_within kept.dues k None inside) in
+        record {
+          not_later = may.not_later;
+          valid = lags.valid k p ep;
+          quiet = may.quiet;
+          is = sym r.2 ∙ ap (glided m state now wakes t) p_is;
+        };
+  }
+
+  -- parts that stand for states show what those do
+  pub stand_show : (t : ℕ) (parts : List P) (ts : List S) → Alike (λ k p s. Stands m t (now p) (state p) s) parts ts → Alike (λ k a b. SameShow m m a b) (map state parts) ts
+  stand_show t parts ts like = record {
+    long = simp length-map like.long;
+    each = λ k a s ea es.
+        let r = get_map_some state parts k a ea in
+        subst (λ (x : S). SameShow m m x s) r.2 (stands_shows m laws t (now r.0) (state r.0) s (like.each k r.0 s r.1 es));
+  }
+
+  -- and they are where the parts glide to
+  pub stand_are : (t : ℕ) (parts : List P) (ts : List S) → Alike (λ k p s. Stands m t (now p) (state p) s) parts ts → Ts t parts ≡ ts
+  stand_are t parts ts like = same_lists (Ts t parts) ts (simp length-map like.long) (λ k x y ex ey.
+      let r = get_map_some (glided m state now wakes t) parts k x ex in
+      sym r.2 ∙ sym (like.each k r.0 y r.1 ey).is)
+
+  -- what was read of lagging parts is so of the board
+  pub lag_of : (parts : List P) (ts : List S) (seen : Seen) → Alike (λ k a b. SameShow m m a b) (map state parts) ts → IsOf m w (map state parts) seen → IsOf m w ts seen
+  lag_of parts ts seen like is = record {
+    drives_are = is.drives_are ∙ same_drives m m w (map state parts) ts like;
+    levels_are = is.levels_are ∙ same_levels m m w (map state parts) ts like;
+    chips_are = is.chips_are ∙ same_chips m m w (map state parts) ts like;
+  }
+
+  pub lag_row : (t : ℕ) (parts : List P) (ts : List S) (before : Option Shown) → Alike (λ k a b. SameShow m m a b) (map state parts) ts → row_if m w before (map state parts) t ≡ row_if m w before ts t
+  lag_row t parts ts before like =
+      let a = same_shown m m w (map state parts) ts like in
+      let b = same_row m m w (map state parts) ts t like in
+      cc
+
+  -- the parts are awaited at the board's states
+  pub lags_await : (inputs : List Input) (t i j : ℕ) (parts : List P) (kept : Kept) (seen : Seen) → Lags m w state now wakes t parts kept → Suits w seen → i ≤ j → AreBehind inputs i t → AreBehind inputs j (t + 1) →
+      Awaits m w state now (take (j - i) (drop i inputs)) inputs seen.levels seen.own kept.held t parts (Ts t parts)
+  lags_await inputs t i j parts kept seen lags suits on before after =
+      let like = lags_stand t parts kept lags in
+      record {
+        stands = like;
+        own_are = suits.own_are;
+        holds = λ k s es later.
+            let r = get_map_some (glided m state now wakes t) parts k s es in
+            let stands = like.each k r.0 s r.1 es in
+            stands_holds m laws t (now r.0) (state r.0) s stands ∙ lags.holds k r.0 r.1 later
+            ∙ ap (λ n. own_part w k n kept.held) (ap length (stands_shows m laws t (now r.0) (state r.0) s stands).drives);
+        values = λ k. values_now inputs i j t k on before after;
+      }
+
+  module _ (inputs : List Input) (t : ℕ) (old new : List P) (seen : Seen) (answers : List (Option ℕ)) (changed : Bool) (long : length new ≡ length old)
+      (is : IsOf m w (map state old) seen) (suits : Suits w seen) (like : Alike (λ k p s. Stands m t (now p) (state p) s) old (Ts t old))
+      (turns : Turns m w inputs state now wakes seen.levels t (Ts t old) (length old) old new answers changed) where
+    abbrev Us : List S
+    Us = map (λ r. r.0) (steps_from m w inputs seen.levels t 0 (Ts t old))
+
+    of_board : IsOf m w (Ts t old) seen
+    of_board = lag_of old (Ts t old) seen (stand_show t old (Ts t old) like) is
+
+    us_are : Us ≡ board_step m w inputs (Ts t old) t
+    us_are = ap (λ (ls : List Level). map (λ (r : S × Option ℕ). r.0) (steps_from m w inputs ls t 0 (Ts t old))) of_board.levels_are
+
+    stands_after : Alike (λ k q u. Stands m (t + 1) (now q) (state q) u) new Us
+    stands_after = turns_stand m laws w inputs state now wakes seen.levels t (Ts t old) old new answers changed (length old) (omega arith) long like.long turns
+
+    next_states : Ts (t + 1) new ≡ board_step m w inputs (Ts t old) t
+    next_states = stand_are (t + 1) new Us stands_after ∙ us_are
+
+    -- a part after its turn, with what it was
+    record Turned (k : ℕ) (p q : P) : Type 0 where
+      stands : Stands m (t + 1) (now q) (state q) (part_step m w inputs seen.levels t k (glided m state now wakes t p)).0
+      woken : wakes q ≡ wakes p + active_in m w inputs seen.levels t k (Some (glided m state now wakes t p))
+      count : wakes q ≤ now q
+      pins : length (m.drives (state p)) ≡ length (m.drives (state q))
+      contacts : length (m.contacts (state p)) ≡ length (m.contacts (state q))
+      held : m.held (state q) ≡ map (level_at seen.levels) (own_nets w k (length (m.drives (state q))))
+      still : changed ≡ false → (m.drives (state q) ≡ m.drives (state p)) × (m.contacts (state q) ≡ m.contacts (state p))
+
+    turned_from : (k : ℕ) (p q : P) → slice_get old k ≡ Some p → slice_get new k ≡ Some q → Turned k p q
+    turned_from k p q ep eq =
+        let s = glided m state now wakes t p in
+        let within : k < length old = slice_get_within old k p ep in
+        let es : slice_get (Ts t old) k ≡ Some s = some_map (glided m state now wakes t) old k p ep in
+        let d = turns.done k p q s within ep eq es in
+        let next = (part_step m w inputs seen.levels t k s).0 in
+        let was = stands_shows m laws t (now p) (state p) s (like.each k p s ep es) in
+        let shows = stands_shows m laws (t + 1) (now q) (state q) next d.0 in
+        let pins : length (m.drives (state q)) ≡ length (m.drives s) = ap length shows.drives ∙ laws.keeps_pins s t _ _ in
+        record {
+          stands = d.0;
+          woken = d.1;
+          count = d.2;
+          pins = ap length was.drives ∙ sym pins;
+          contacts = ap length was.contacts ∙ sym (laws.keeps_contacts s t _ _) ∙ sym (ap length shows.contacts);
+          held = sym (stands_holds m laws (t + 1) (now q) (state q) next d.0) ∙ laws.holds_levels s t _ _ ∙ ap (λ (n : ℕ). map (level_at seen.levels) (own_nets w k n)) (sym pins);
+          still = λ none. let still = turns.still none k s within es in (shows.drives ∙ still.drives ∙ sym was.drives, shows.contacts ∙ still.contacts ∙ sym was.contacts);
+        }
+
+    before : (k : ℕ) (q : P) → slice_get new k ≡ Some q → (p : P) × (slice_get old k ≡ Some p)
+    before k q eq =
+        let within : k < length old = omega (arith, slice_get_within new k q eq, long) in
+        (get_or old k q, get_within old k q within)
+
+    same_room : (k : ℕ) (x y : S) → slice_get (map state old) k ≡ Some x → slice_get (map state new) k ≡ Some y → SameRoom m k x y
+    same_room k x y ex ey =
+        let a = get_map_some state old k x ex in
+        let b = get_map_some state new k y ey in
+        let f = turned_from k a.0 b.0 a.1 b.1 in (
+          ap (λ (s : S). length (m.drives s)) (sym a.2) ∙ f.pins ∙ ap (λ (s : S). length (m.drives s)) b.2,
+          ap (λ (s : S). length (m.contacts s)) (sym a.2) ∙ f.contacts ∙ ap (λ (s : S). length (m.contacts s)) b.2,
+        )
+
+    -- the invariant at the next cycle
+    pub event_lags : (j : ℕ) (dues : List (Option ℕ)) → length old ≤ 64 → Fits m w (map state old) → length dues ≡ length old → length answers ≡ length old → AreDue m state now wakes new dues →
+        Lags m w state now wakes (t + 1) new (record { input = j; stale = changed; dues = dues; held = seen.own; seen = seen; answers = answers })
+    event_lags j dues few fits dues_long answers_long due =
+        let longer : length (map state old) ≡ length (map state new) = simp length-map (sym long) in
+        record {
+          few = subst (λ n. n ≤ 64) (sym long) few;
+          may = λ k q d eq ed.
+              let f = turned_from k (before k q eq).0 q (before k q eq).1 eq in
+              record { not_later = f.stands.not_later; count = f.count; quiet = f.stands.quiet; first = due k q d eq ed };
+          valid = λ k q eq. (turned_from k (before k q eq).0 q (before k q eq).1 eq).stands.valid;
+          dues_long = dues_long ∙ sym long;
+          answers_long = answers_long ∙ sym long;
+          held_long = ap length suits.own_are ∙ simp length-map refl;
+          fits = fits_room m w (map state old) (map state new) longer same_room fits;
+          suits = suits;
+          chips_long = ap length is.chips_are ∙ chips_room m w.chip (map state old) (map state new) longer same_room;
+          fresh = λ none. still_of m w state old new seen long (λ k p q ep eq. (turned_from k p q ep eq).still none) is;
+          holds = λ k q eq later.
+              (turned_from k (before k q eq).0 q (before k q eq).1 eq).held
+              ∙ sym (own_levels w seen.levels seen.own k (slice_index w.first_pin k) (length (m.drives (state q))) suits.own_are refl);
+          same = λ none k q eq. (turned_from k (before k q eq).0 q (before k q eq).1 eq).held;
+        }
+
+    -- and the leg
+    pub event_leg : (was : Seen) (steps more : ℕ) → more ≡ steps + sum_below (length old) (λ k. active_in m w inputs seen.levels t k (slice_get (Ts t old) k)) →
+        Leg m w state now wakes inputs t (t + 1) old new was seen steps more
+    unfolding states shown_before
+    event_leg was steps more counted =
+        let e : t + 1 - t ≡ suc zero = omega arith in
+        let f : t + 0 ≡ t = omega arith in
+        let ts = Ts t old in
+        record {
+          order = omega arith;
+          long = long;
+          states_are = next_states ∙ ap (board_step m w inputs ts) (sym f) ∙ sym (ap (states m w inputs ts t) e);
+          before_is = ap (shown_before m w inputs (shown_at t was) ts t) e ∙ ap Some (sym (shown_is m w ts seen of_board))
+              ∙ ap (λ (b : Bool). if b then None else Some (shown seen)) (sym (not_first t));
+          woken = λ k p q ep eq.
+              let es : slice_get ts k ≡ Some (glided m state now wakes t p) = some_map (glided m state now wakes t) old k p ep in
+              (turned_from k p q ep eq).woken
+              ∙ ap (λ (ls : List Level). wakes p + active_in m w inputs ls t k (Some (glided m state now wakes t p))) of_board.levels_are
+              ∙ ap (λ (o : Option S). wakes p + active_in m w inputs (levels_of m w ts) t k o) (sym es)
+              ∙ ap (λ (u : ℕ). wakes p + active_in m w inputs (levels_of m w ts) u k (slice_get ts k)) (sym f)
+              ∙ ap (λ (n : ℕ). wakes p + n) (sum_first _)
+              ∙ ap (λ (n : ℕ). wakes p + active_cycles m w inputs ts t n k) (sym e);
+          steps_are = counted
+              ∙ ap (λ (n : ℕ). steps + sum_below n (λ k. active_in m w inputs seen.levels t k (slice_get ts k))) like.long
+              ∙ ap (λ (ls : List Level). steps + sum_below (length ts) (λ k. active_in m w inputs ls t k (slice_get ts k))) of_board.levels_are
+              ∙ ap (λ (u : ℕ). steps + sum_below (length ts) (λ k. active_in m w inputs (levels_of m w ts) u k (slice_get ts k))) (sym f)
+              ∙ ap (λ (n : ℕ). steps + n) (sum_first _)
+              ∙ ap (λ (n : ℕ). steps + active_pairs m w inputs ts t n) (sym e);
+        }
+
+    -- the rows and bytes of the one cycle
+    pub event_rows : (was : Seen) → row_if m w (shown_at t was) (map state old) t ≡ rows m w inputs (shown_at t was) (Ts t old) t (t + 1 - t)
+    unfolding states shown_before rows
+    event_rows was =
+        let e : t + 1 - t ≡ suc zero = omega arith in
+        let f : t + 0 ≡ t = omega arith in
+        lag_row t old (Ts t old) (shown_at t was) (stand_show t old (Ts t old) like)
+        ∙ ap (row_if m w (shown_at t was) (Ts t old)) (sym f) ∙ ap (rows m w inputs (shown_at t was) (Ts t old) t) (sym e)
+
+    pub event_bytes : length answers ≡ length old → options answers ≡ bytes m w inputs (Ts t old) t (t + 1 - t)
+    unfolding states bytes
+    event_bytes answers_long =
+        let e : t + 1 - t ≡ suc zero = omega arith in
+        let f : t + 0 ≡ t = omega arith in
+        ap options answers_are
+        ∙ ap (λ (ls : List Level). options (map (λ (r : S × Option ℕ). r.1) (steps_from m w inputs ls t 0 (Ts t old)))) of_board.levels_are
+        ∙ ap (bytes_of m w inputs (Ts t old)) (sym f) ∙ ap (bytes m w inputs (Ts t old) t) (sym e)
+      where
+        answers_are : answers ≡ map (λ r. r.1) (steps_from m w inputs seen.levels t 0 (Ts t old))
+        answers_are =
+            let there : length (map (λ (r : S × Option ℕ). r.1) (steps_from m w inputs seen.levels t 0 (Ts t old))) ≡ length old = simp (length-map, length-steps_from) in
+            all_taken (length old) answers _ (omega arith) (turns.answered ∙ take_whole (length old) _ (omega (arith, there)))

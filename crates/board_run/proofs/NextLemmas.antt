@@ -1,0 +1,91 @@
+-- The next cycle in which something may happen.
+use Rattle.std.proofs.Common.{◌≡◌, ℕ, zero, suc, ◌+◌, ◌-◌, ◌<◌, ◌≤◌, List, [], ◌∷◌, length, true, false, Option, None, Some, refl, arith, subst, get_or, inl, inr, ◌⊎◌}
+use Rattle.std.specs.Prelude.{slice_get}
+use Rattle.std.proofs.lemmas.Option.{slice_get_within, slice_get-get_or}
+use Rattle.sim_base.specs.declared.wiring.Input.{Input}
+use Rattle.part_law.specs.Machine.{Machine, glide, IsQuiet, IsFirstDue}
+use Rattle.board_model.specs.Board.{input_at}
+use Rattle.event_queue.specs.First.{IsFirst}
+use Rattle.board_run.specs.Upcoming.{AreBehind, IsInOrder}
+use Rattle.board_run.specs.Lagging.{MayTurn, AreLate}
+use Rattle.board_run.specs.Legs.{Kept, Lags}
+use Rattle.sim_base.specs.declared.wiring.Wiring.{Wiring}
+use Rattle.board_run.proofs.ScriptLemmas.{others_leave}
+
+below_or : (u t : ℕ) → (u < t) ⊎ (t ≤ u)
+below_or u t = grind arith
+
+-- nothing is due before v, if the due cycle is not before it
+pub quiet_until : {S P : Type 0} (m : Machine S) (state : P → S) (now wakes : P → ℕ) (t v : ℕ) (d : Option ℕ) (p : P) → t ≤ v → v ≤ 160000000 → MayTurn m state now wakes t d p →
+    ((u : ℕ) → d ≡ Some u → t ≤ u → v ≤ u) → IsQuiet m (state p) (now p) (v - now p)
+quiet_until m state now wakes t v d p order end may late = go d may.first late
+  where
+    before : now p ≤ t
+    before = may.not_later
+
+    go : (d : Option ℕ) → IsFirstDue m (state p) (now p) d → ((u : ℕ) → d ≡ Some u → t ≤ u → v ≤ u) → IsQuiet m (state p) (now p) (v - now p)
+    go None first late = λ k (h : k < v - now p). first k (omega arith)
+    go (Some u) first late = elim (below_or u t) [
+      | inl less ↦
+          let a = first.0 in
+          let e : now p + (u - now p) ≡ u = omega (arith, a) in
+          let at : u - now p < t - now p = omega (arith, a) in
+          let no : m.due (glide m (state p) (now p) (u - now p)) u ≡ false = subst (λ (x : ℕ). m.due (glide m (state p) (now p) (u - now p)) x ≡ false) e (may.quiet (u - now p) at) in
+          absurd (let yes : m.due (glide m (state p) (now p) (u - now p)) u ≡ true = first.3 in cc)
+      | inr more ↦
+          let l : v ≤ u = late u refl more in
+          λ k (h : k < v - now p). first.2 k (omega arith)
+    ]
+
+-- the script says nothing before its next value
+pub silent_until : (inputs : List Input) (i t v : ℕ) (d : Input) → IsInOrder inputs → AreBehind inputs i t → (i < length inputs → v ≤ (get_or inputs i d).cycle) → (x k : ℕ) → t ≤ x → x < v → input_at inputs x k ≡ None
+silent_until inputs i t v d order behind next x k from before = others_leave inputs None x k (λ n y e. elim (below_or n i) [
+  | inl less ↦ let l : y.cycle < t = behind.earlier n y less e in (λ same. absurd (omega (arith, l, same)))
+  | inr more ↦
+      let inside : i < length inputs = omega (arith, slice_get_within inputs n y e) in
+      let a : v ≤ (get_or inputs i d).cycle = next inside in
+      let b : (get_or inputs i d).cycle ≤ y.cycle = order i n (get_or inputs i d) y more (slice_get-get_or inputs i d inside) e in
+      (λ same. absurd (omega (arith, a, b, same)))
+])
+
+pub behind_until : (inputs : List Input) (i t v : ℕ) (d : Input) → IsInOrder inputs → AreBehind inputs i t → t ≤ v → (i < length inputs → v ≤ (get_or inputs i d).cycle) → AreBehind inputs i v
+behind_until inputs i t v d order behind later next = record {
+  within = behind.within;
+  earlier = λ k x l e. let a : x.cycle < t = behind.earlier k x l e in omega (arith, a, later);
+  later = λ k x l e.
+      let inside : i < length inputs = omega (arith, slice_get_within inputs k x e) in
+      let a : v ≤ (get_or inputs i d).cycle = next inside in
+      let b : (get_or inputs i d).cycle ≤ x.cycle = order i k (get_or inputs i d) x l (slice_get-get_or inputs i d inside) e in
+      omega (arith, a, b);
+}
+
+some_there : {P : Type 0} (ps : List P) (k : ℕ) → k < length ps → (p : P) × (slice_get ps k ≡ Some p)
+some_there [] k h = absurd (omega arith)
+some_there (p ∷ ps) zero h = (p, refl)
+some_there (p ∷ ps) (suc k) h = some_there ps k (omega arith)
+
+due_late : {S P : Type 0} (m : Machine S) (state : P → S) (now wakes : P → ℕ) (t u : ℕ) (p : P) → MayTurn m state now wakes t (Some u) p → t ≤ u
+due_late m state now wakes t u p may = elim (below_or u t) [
+  | inl less ↦
+      let a = may.first.0 in
+      let e : now p + (u - now p) ≡ u = omega (arith, a) in
+      let at : u - now p < t - now p = omega (arith, a, less) in
+      let no : m.due (glide m (state p) (now p) (u - now p)) u ≡ false = subst (λ (x : ℕ). m.due (glide m (state p) (now p) (u - now p)) x ≡ false) e (may.quiet (u - now p) at) in
+      absurd (let yes : m.due (glide m (state p) (now p) (u - now p)) u ≡ true = may.first.3 in cc)
+  | inr more ↦ more
+]
+
+-- no part that lags behind was due before
+pub lags_late : {S P : Type 0} (m : Machine S) (w : Wiring) (state : P → S) (now wakes : P → ℕ) (t : ℕ) (parts : List P) (kept : Kept) → Lags m w state now wakes t parts kept → AreLate kept.dues t
+lags_late {P = P} m w state now wakes t parts kept lags k u ed =
+    let inside : k < length parts = omega (arith, slice_get_within kept.dues k (Some u) ed, lags.dues_long) in
+    let here = some_there parts k inside in
+    due_late m state now wakes t u here.0 (lags.may k here.0 (Some u) here.1 ed)
+
+-- the first due cycle is not after any
+pub first_least : (dues : List (Option ℕ)) (first : Option (ℕ × ℕ)) (x : ℕ) → IsFirst dues first → ((u i : ℕ) → first ≡ Some (u, i) → x ≤ u) → AreLate dues x
+first_least dues None x is least k u e = absurd (let none : Some u ≡ None = is k (Some u) e in cc)
+first_least dues (Some (v, i)) x is least k u e =
+    let a = least v i refl in
+    let b = (is.1 k u e).0 in
+    omega (arith, a, b)

@@ -1,0 +1,135 @@
+-- What a board shows, and how it is read.
+use Rattle.std.proofs.Common.{◌≡◌, ℕ, zero, suc, ◌+◌, ◌-◌, List, [], ◌∷◌, ◌++◌, length, map, Bool, true, false, not, Option, Some, refl, ap, sym, ◌∙◌, arith, append_assoc}
+use Rattle.std.specs.Prelude.{◌==◌, ◌||◌, ◌&&◌, if◌then◌else◌, replicate, slice_get}
+use Rattle.std.specs.List.{flat_map}
+use Rattle.std.proofs.lemmas.List.{length-map, append-nil}
+use Rattle.sim_base.specs.declared.signal.Level.{Level}
+use Rattle.sim_base.specs.declared.signal.Level.TheVariants as levels
+use Rattle.sim_base.specs.declared.signal.Drive.{Drive}
+use Rattle.sim_base.specs.declared.wiring.Wiring.{Wiring}
+use Rattle.sim_base.specs.declared.wiring.Input.{Input}
+use Rattle.sim_base.specs.Rows.{Row, AreFronts, Handed}
+use Rattle.part_law.specs.Machine.{Machine}
+use Rattle.board_model.specs.Resolve.{resolve}
+use Rattle.board_model.specs.Board.{drives_of, contacts_of, levels_of, level_at, bytes_of, states, bytes}
+use Rattle.board_model.specs.Rows.{Shown, same_level, same_drive, same_list, same_shown, chip_drives_of, shown_of, is_new, row_if, shown_before, rows}
+use Rattle.board_model.proofs.Lists.{get_map_some, flat_map_same}
+use Rattle.board_model.proofs.SameLemmas.{level_same, drive_same, list_same}
+use Rattle.board_run.specs.Seen.{Seen, IsOf, AreStill, shown, shown_at}
+use Rattle.board_run.specs.Upcoming.{AreBehind}
+use Rattle.board_run.proofs.HandLemmas.{appends_none}
+
+-- what is read shows what the parts show
+pub shown_is : {S : Type 0} (m : Machine S) (w : Wiring) (ss : List S) (seen : Seen) → IsOf m w ss seen → shown seen ≡ shown_of m w ss
+shown_is m w ss seen is = let a = is.levels_are in let b = is.chips_are in cc
+
+-- what is as it was read shows the same
+pub fresh_same : {S : Type 0} (m : Machine S) (w : Wiring) (ss : List S) (seen : Seen) → IsOf m w ss seen → true ≡ same_shown (shown seen) (shown_of m w ss)
+fresh_same m w ss seen is = sym (
+    ap (same_shown (shown seen)) (sym (shown_is m w ss seen is))
+    ∙ ap (λ (b : Bool). b && same_list same_drive seen.chip_drives seen.chip_drives) (list_same same_level level_same seen.levels)
+    ∙ list_same same_drive drive_same seen.chip_drives)
+
+-- whether a cycle has a row
+pub new_is : (t : ℕ) (seen : Seen) (now : Shown) (same : Bool) → same ≡ same_shown (shown seen) now → ((t == 0) || not same) ≡ is_new (shown_at t seen) now
+new_is t seen now same e = go (t == 0) refl
+  where
+    go : (b : Bool) → (t == 0) ≡ b → ((t == 0) || not same) ≡ is_new (shown_at t seen) now
+    go true f = rw f refl
+    go false f = rw f (ap not e)
+
+-- the row that is handed out
+pub row_is : {S : Type 0} (m : Machine S) (w : Wiring) (ss : List S) (t : ℕ) (old new : Seen) (there same : Bool) → there ≡ ((t == 0) || not same) → same ≡ same_shown (shown old) (shown_of m w ss) → IsOf m w ss new →
+    ◌≡◌ {A = List Row} (if there then record { cycle = t; levels = new.levels; drives = new.drives } ∷ [] else []) (row_if m w (shown_at t old) ss t)
+row_is m w ss t old new there same e f is =
+    let rows_of : Bool → List Level → List Drive → List Row = λ b l d. if b then record { cycle = t; levels = l; drives = d } ∷ [] else [] in
+    ap (λ (b : Bool). rows_of b new.levels new.drives) (e ∙ new_is t old (shown_of m w ss) same f)
+    ∙ ap (λ (l : List Level). rows_of (is_new (shown_at t old) (shown_of m w ss)) l new.drives) is.levels_are
+    ∙ ap (λ (d : List Drive). rows_of (is_new (shown_at t old) (shown_of m w ss)) (levels_of m w ss) d) is.drives_are
+
+-- levels that are all Z are those of pins on nets that are all Z
+pub own_first : (n : ℕ) (nets : List ℕ) → replicate (length nets) levels.Z ≡ map (level_at (replicate n levels.Z)) nets
+own_first n [] = refl
+own_first n (k ∷ nets) =
+    let a : level_at (replicate n levels.Z) k ≡ levels.Z = all_z n k in
+    let b : replicate (length nets) levels.Z ≡ map (level_at (replicate n levels.Z)) nets = own_first n nets in
+    cc
+  where
+    all_z : (n k : ℕ) → level_at (replicate n levels.Z) k ≡ levels.Z
+    all_z zero k = refl
+    all_z (suc n) zero = refl
+    all_z (suc n) (suc k) = all_z n k
+
+pub long_first : (n : ℕ) → length (replicate n levels.Z) ≡ n
+long_first zero = refl
+long_first (suc n) = ap suc (long_first n)
+
+-- parts that are still have the same drives and contacts
+still_same : {S P B : Type 0} (f : S → List B) (state : P → S) (old new : List P) → length new ≡ length old →
+    ((k : ℕ) (p q : P) → slice_get old k ≡ Some p → slice_get new k ≡ Some q → f (state q) ≡ f (state p)) → flat_map f (map state new) ≡ flat_map f (map state old)
+still_same f state old new long each = flat_map_same f (map state new) (map state old) (simp length-map long) (λ k x y ex ey.
+    let a = get_map_some state new k x ex in
+    let b = get_map_some state old k y ey in
+    ap f (sym a.2) ∙ each k b.0 a.0 b.1 a.1 ∙ ap f b.2)
+
+chips_same : {S P : Type 0} (m : Machine S) (state : P → S) (chips : List Bool) (old new : List P) → length new ≡ length old →
+    ((k : ℕ) (p q : P) → slice_get old k ≡ Some p → slice_get new k ≡ Some q → m.drives (state q) ≡ m.drives (state p)) → chip_drives_of m chips (map state new) ≡ chip_drives_of m chips (map state old)
+chips_same m state [] old new long each = refl
+chips_same m state (c ∷ chips) [] [] long each = refl
+chips_same m state (c ∷ chips) [] (q ∷ new) long each = absurd (omega arith)
+chips_same m state (c ∷ chips) (p ∷ old) [] long each = absurd (omega arith)
+chips_same m state (c ∷ chips) (p ∷ old) (q ∷ new) long each =
+    let a : m.drives (state q) ≡ m.drives (state p) = each 0 p q refl refl in
+    ap (λ (d : List Drive). (if c then d else []) ++ chip_drives_of m chips (map state new)) a
+    ∙ ap (λ (l : List Drive). (if c then m.drives (state p) else []) ++ l) (chips_same m state chips old new (omega arith) (λ k x y ex ey. each (suc k) x y ex ey))
+
+-- what was read of parts that stayed still is still so
+pub still_of : {S P : Type 0} (m : Machine S) (w : Wiring) (state : P → S) (old new : List P) (seen : Seen) → length new ≡ length old → AreStill m state old new → IsOf m w (map state old) seen → IsOf m w (map state new) seen
+still_of m w state old new seen long still is =
+    let d = still_same m.drives state old new long (λ k p q ep eq. (still k p q ep eq).0) in
+    let c = still_same m.contacts state old new long (λ k p q ep eq. (still k p q ep eq).1) in
+    record {
+      drives_are = is.drives_are ∙ sym d;
+      levels_are = is.levels_are
+          ∙ ap (λ (x : List Drive). resolve w.nets w.net_of w.contacts w.resistors (contacts_of m (map state old)) x) (sym d)
+          ∙ ap (λ (x : List Bool). resolve w.nets w.net_of w.contacts w.resistors x (drives_of m (map state new))) (sym c);
+      chips_are = is.chips_are ∙ sym (chips_same m state w.chip old new long (λ k p q ep eq. (still k p q ep eq).0));
+    }
+
+pub not_first : (t : ℕ) → (t + 1 == 0) ≡ false
+not_first t = grind arith
+
+module _ {S : Type 0} (m : Machine S) (w : Wiring) (inputs : List Input) (before : Option Shown) (ss : List S) (c : ℕ) where
+  -- what is shown first is the front of what is shown in all
+  pub fronts : (k j : ℕ) → AreFronts (rows m w inputs before ss c k) (bytes m w inputs ss c k) (rows m w inputs before ss c (k + j)) (bytes m w inputs ss c (k + j))
+  unfolding rows bytes
+  fronts k zero =
+      let e : k ≡ k + 0 = omega arith in
+      record {
+        more_rows = [];
+        more_bytes = [];
+        whole_rows = append-nil (rows m w inputs before ss c k) ∙ ap (rows m w inputs before ss c) e;
+        whole_bytes = append-nil (bytes m w inputs ss c k) ∙ ap (bytes m w inputs ss c) e;
+      }
+  fronts k (suc j) =
+      let e : suc (k + j) ≡ k + suc j = omega arith in
+      let f = fronts k j in
+      let row = row_if m w (shown_before m w inputs before ss c (k + j)) (states m w inputs ss c (k + j)) (c + (k + j)) in
+      let bs = bytes_of m w inputs (states m w inputs ss c (k + j)) (c + (k + j)) in
+      record {
+        more_rows = f.more_rows ++ row;
+        more_bytes = f.more_bytes ++ bs;
+        whole_rows = sym (append_assoc (rows m w inputs before ss c k) f.more_rows row) ∙ ap (λ (l : List Row). l ++ row) f.whole_rows ∙ ap (rows m w inputs before ss c) e;
+        whole_bytes = sym (append_assoc (bytes m w inputs ss c k) f.more_bytes bs) ∙ ap (λ (l : List ℕ). l ++ bs) f.whole_bytes ∙ ap (bytes m w inputs ss c) e;
+      }
+
+-- nothing is handed out before the first cycle
+pub none_handed : {S W : Type 0} (m : Machine S) (w : Wiring) (inputs : List Input) (before : Option Shown) (ss : List S) (c : ℕ) (whole : W → Bool) (faults : W → ℕ) (stands : W → List Row → List ℕ → Type 0) (a : W) →
+    whole a ≡ true → Handed whole faults stands a a (rows m w inputs before ss c (c - c)) (bytes m w inputs ss c (c - c))
+unfolding rows bytes
+none_handed m w inputs before ss c whole faults stands a is =
+    let e : c - c ≡ 0 = omega arith in
+    rw e (record { is_whole = is; no_fault = refl; appended = appends_none stands a })
+
+pub behind_start : (inputs : List Input) → AreBehind inputs 0 0
+behind_start inputs = record { within = omega arith; earlier = λ k x l e. absurd (omega arith); later = λ k x l e. omega arith }

@@ -1,0 +1,185 @@
+-- A part's turn is the step of the state that it stands for.
+use Rattle.std.proofs.Common.{◌≡◌, ◌≢◌, ℕ, ◌+◌, ◌-◌, ◌<◌, ◌≤◌, List, length, map, take, drop, Bool, true, false, Option, None, Some, refl, ap, sym, ◌∙◌, arith, subst, inl, inr, ◌⊎◌, get_or, add-one}
+use Rattle.std.specs.Prelude.{◌||◌, not, if◌then◌else◌, slice_get, slice_index, slice_set}
+use Rattle.std.specs.Option.{is_some}
+use Rattle.std.proofs.lemmas.Bool.Decides.{eqb_tells}
+use Rattle.sim_base.specs.declared.signal.Level.{Level}
+use Rattle.sim_base.specs.declared.wiring.Wiring.{Wiring}
+use Rattle.sim_base.specs.declared.wiring.Input.{Input}
+use Rattle.part_law.specs.Machine.{Machine, Laws, IsFirstDue}
+use Rattle.part_law.proofs.MachineLemmas.{not_due_now, due_now}
+use Rattle.board_model.specs.Board.{level_at, own_nets, input_at, part_step, steps_from}
+use Rattle.board_model.specs.Rows.{same_list, same_level}
+use Rattle.board_laws.specs.Alike.{Alike, SameShow}
+use Rattle.board_laws.specs.Active.{is_active, active_in, sum_below}
+use Rattle.board_laws.specs.Stands.{Stands}
+use Rattle.board_laws.proofs.StandsLaw.{stands_here, stands_shows, stands_valid, stands_sleeps, stands_silent}
+use Rattle.std.proofs.lemmas.Option.{slice_get_within}
+use Rattle.std.proofs.lemmas.List.{length-map}
+use Rattle.board_model.proofs.Lists.{some_same, lt_or_eq, get_set_same, get_set_other, get_within, get_map_some, take_set_more}
+use Rattle.board_model.proofs.Steps.{length-steps_from, get_step}
+use Rattle.board_run.proofs.StepLemmas.{get_answer}
+use Rattle.board_run.proofs.WakeLemmas.{or_none, own_of}
+use Rattle.board_run.specs.Lagging.{is_at, to_wake, own_part, glided, MayTurn, turned, Awaits, HadTurn, Turns, AreDue}
+
+zero_or_more : (t : ℕ) → (t ≡ 0) ⊎ (0 < t)
+zero_or_more t = grind arith
+
+-- it is due exactly where its due cycle is this one
+pub due_is : {S : Type 0} (m : Machine S) (r s : S) (a t : ℕ) (d : Option ℕ) → t < 160000000 → Stands m t a r s → IsFirstDue m r a d → is_at d t ≡ m.due s t
+due_is m r s a t d end h first = go d first
+  where
+    later : a ≤ t
+    later = h.not_later
+
+    go : (d : Option ℕ) → IsFirstDue m r a d → is_at d t ≡ m.due s t
+    go None f = sym (ap (λ x. m.due x t) h.is ∙ not_due_now m r a t None later end h.quiet f (λ e. cc))
+    go (Some u) f = elim (eqb_tells u t) [
+      | inl same ↦ same.0 ∙ sym (ap (λ x. m.due x t) h.is ∙ due_now m r a t (subst (λ (v : ℕ). IsFirstDue m r a (Some v)) same.1 f))
+      | inr other ↦ other.0 ∙ sym (ap (λ x. m.due x t) h.is ∙ not_due_now m r a t (Some u) later end h.quiet f (λ e. other.1 (cc)))
+    ]
+
+module _ {S P : Type 0} (m : Machine S) (laws : Laws m) (w : Wiring) (inputs : List Input) (state : P → S) (now wakes : P → ℕ) (ls : List Level) (t k : ℕ) where
+  -- whether it is woken is whether it is active
+  pub wake_is : (p : P) (s : S) (due input : Option ℕ) (own held : List Level) → t < 160000000 → MayTurn m state now wakes t due p → Stands m t (now p) (state p) s →
+      own ≡ map (level_at ls) (own_nets w k (length (m.drives s))) → (0 < t → held ≡ m.held s) → input ≡ input_at inputs t k → to_wake due t input own held ≡ is_active m w inputs ls t k s
+  wake_is p s due input own held end may stands is_own is_held is_input = elim (zero_or_more t) [
+    | inl first ↦
+        let d : m.due s t ≡ true = subst (λ (u : ℕ). m.due s u ≡ true) (sym first) (laws.begins_due s) in
+        let a : is_at due t ≡ true = due_is m (state p) s (now p) t due end stands may.first ∙ d in
+        ap (λ (b : Bool). b || (is_some input || not (same_list same_level own held))) a
+        ∙ sym (ap (λ (b : Bool). b || (is_some (input_at inputs t k) || not (same_list same_level (map (level_at ls) (own_nets w k (length (m.drives s)))) (m.held s)))) d)
+    | inr after ↦
+        ap (λ (b : Bool). b || (is_some input || not (same_list same_level own held))) (due_is m (state p) s (now p) t due end stands may.first)
+        ∙ ap (λ (i : Option ℕ). m.due s t || (is_some i || not (same_list same_level own held))) is_input
+        ∙ ap (λ (l : List Level). m.due s t || (is_some (input_at inputs t k) || not (same_list same_level l held))) is_own
+        ∙ ap (λ (l : List Level). m.due s t || (is_some (input_at inputs t k) || not (same_list same_level (map (level_at ls) (own_nets w k (length (m.drives s)))) l))) (is_held after)
+  ]
+
+  pub had_turn : (p q : P) (s : S) (due input byte : Option ℕ) (own held : List Level) (changed : Bool) → t < 160000000 → MayTurn m state now wakes t due p → Stands m t (now p) (state p) s →
+      own ≡ map (level_at ls) (own_nets w k (length (m.drives s))) → (0 < t → held ≡ m.held s) → input ≡ input_at inputs t k →
+      turned m state now wakes (to_wake due t input own held) t own input p q byte changed → HadTurn m w inputs state now wakes ls t k p q s byte changed
+  had_turn p q s due input byte own held changed end may stands is_own is_held is_input turn =
+      go (to_wake due t input own held) (wake_is p s due input own held end may stands is_own is_held is_input) turn
+    where
+      step_is : m.step (glided m state now wakes t p) t own input ≡ part_step m w inputs ls t k s
+      step_is =
+          ap (λ (x : S). m.step x t own input) (sym stands.is) ∙ ap (λ (l : List Level). m.step s t l input) is_own
+          ∙ ap (λ (i : Option ℕ). m.step s t (map (level_at ls) (own_nets w k (length (m.drives s)))) i) is_input
+
+      go : (b : Bool) → b ≡ is_active m w inputs ls t k s → turned m state now wakes b t own input p q byte changed → HadTurn m w inputs state now wakes ls t k p q s byte changed
+      go true e h =
+          let next = (part_step m w inputs ls t k s).0 in
+          let state_is : state q ≡ next = h.state_is ∙ ap (λ (r : S × Option ℕ). r.0) step_is in
+          let here : Stands m (t + 1) (t + 1) next next = stands_here m laws (t + 1) next (laws.keeps_valid s t _ _ (stands_valid m laws t (now p) (state p) s stands)) in
+          let c = may.count in
+          let l = may.not_later in
+          record {
+            stands = subst (λ (a : ℕ). Stands m (t + 1) a (state q) next) (sym h.now_is) (subst (λ (x : S). Stands m (t + 1) (t + 1) x next) (sym state_is) here);
+            woken = h.woken ∙ ap (λ (b : Bool). wakes p + (if b then 1 else 0)) e;
+            count = omega (arith, h.woken, h.now_is, c, l);
+            byte_is = h.byte_is ∙ ap (λ (r : S × Option ℕ). r.1) step_is;
+            still = λ none. record {
+              drives = ap m.drives (sym state_is) ∙ h.drives none ∙ ap m.drives (sym stands.is);
+              contacts = ap m.contacts (sym state_is) ∙ h.contacts none ∙ ap m.contacts (sym stands.is);
+            };
+          }
+      go false e h =
+          let asleep = sym e in
+          let next = (part_step m w inputs ls t k s).0 in
+          let sleeps : Stands m (t + 1) (now p) (state p) next = stands_sleeps m laws w inputs ls k t (now p) (state p) s stands asleep in
+          let a = stands_shows m laws t (now p) (state p) s stands in
+          let b = stands_shows m laws (t + 1) (now p) (state p) next sleeps in
+          record {
+            stands = subst (λ (x : P). Stands m (t + 1) (now x) (state x) next) (sym h.0) sleeps;
+            woken = ap wakes h.0 ∙ (let z : wakes p ≡ wakes p + 0 = omega arith in z) ∙ ap (λ (b : Bool). wakes p + (if b then 1 else 0)) e;
+            count = subst (λ (x : P). wakes x ≤ now x) (sym h.0) may.count;
+            byte_is = h.1 ∙ sym (stands_silent m laws w inputs ls k t (now p) (state p) s stands asleep);
+            still = λ none. record { drives = sym b.drives ∙ a.drives; contacts = sym b.contacts ∙ a.contacts };
+          }
+
+module _ {S P : Type 0} (m : Machine S) (laws : Laws m) (w : Wiring) (inputs : List Input) (state : P → S) (now wakes : P → ℕ) (ls : List Level) (t : ℕ) (ts : List S) where
+  pub turns_none : (ps : List P) (answers : List (Option ℕ)) → Turns m w inputs state now wakes ls t ts 0 ps ps answers false
+  turns_none ps answers = record { done = λ k p q s h. absurd (omega arith); answered = refl; still = λ none k s h. absurd (omega arith) }
+
+  -- one more turn
+  pub turns_more : (i : ℕ) (old new : List P) (answers : List (Option ℕ)) (changed more : Bool) (p q : P) (s : S) (byte : Option ℕ) →
+      Turns m w inputs state now wakes ls t ts i old new answers changed → slice_get old i ≡ Some p → slice_get ts i ≡ Some s → i < length new → i < length answers →
+      HadTurn m w inputs state now wakes ls t i p q s byte more → Turns m w inputs state now wakes ls t ts (i + 1) old (slice_set new i q) (slice_set answers i byte) (changed || more)
+  turns_more i old new answers changed more p q s byte turns ep es within room turn = record {
+    done = λ k a b u l ea eb eu. elim (lt_or_eq k i l) [
+      | inl less ↦
+          let other : k ≢ i = omega arith in
+          turns.done k a b u less ea (sym (get_set_other new i k q other) ∙ eb) eu
+      | inr same ↦
+          let a_is : p ≡ a = some_same (sym ep ∙ subst (λ (j : ℕ). slice_get old j ≡ Some a) same ea) in
+          let b_is : q ≡ b = some_same (sym (get_set_same new i q within) ∙ subst (λ (j : ℕ). slice_get (slice_set new i q) j ≡ Some b) same eb) in
+          let u_is : s ≡ u = some_same (sym es ∙ subst (λ (j : ℕ). slice_get ts j ≡ Some u) same eu) in
+          subst (λ (j : ℕ). Stands m (t + 1) (now b) (state b) (part_step m w inputs ls t j u).0 × (wakes b ≡ wakes a + active_in m w inputs ls t j (Some u)) × (wakes b ≤ now b)) (sym same)
+          (subst (λ (x : S). Stands m (t + 1) (now b) (state b) (part_step m w inputs ls t i x).0 × (wakes b ≡ wakes a + active_in m w inputs ls t i (Some x)) × (wakes b ≤ now b)) u_is
+          (subst (λ (x : P). Stands m (t + 1) (now b) (state b) (part_step m w inputs ls t i s).0 × (wakes b ≡ wakes x + active_in m w inputs ls t i (Some s)) × (wakes b ≤ now b)) a_is
+          (subst (λ (x : P). Stands m (t + 1) (now x) (state x) (part_step m w inputs ls t i s).0 × (wakes x ≡ wakes p + active_in m w inputs ls t i (Some s)) × (wakes x ≤ now x)) b_is (turn.stands, turn.woken, turn.count))))
+    ];
+    answered = take_set_more answers (map (λ r. r.1) (steps_from m w inputs ls t 0 ts)) i byte room (get_answer m w inputs ls t i ts s es ∙ ap Some (sym turn.byte_is)) turns.answered;
+    still = λ none k u l eu. let both = or_none changed more none in elim (lt_or_eq k i l) [
+      | inl less ↦ turns.still both.0 k u less eu
+      | inr same ↦
+          let u_is : s ≡ u = some_same (sym es ∙ subst (λ (j : ℕ). slice_get ts j ≡ Some u) same eu) in
+          subst (λ (j : ℕ). SameShow m m (part_step m w inputs ls t j u).0 u) (sym same)
+          (subst (λ (x : S). SameShow m m (part_step m w inputs ls t i x).0 x) u_is (turn.still both.1))
+    ];
+  }
+
+  -- after all turns the parts stand for the states after the cycle
+  pub turns_stand : (old new : List P) (answers : List (Option ℕ)) (changed : Bool) (n : ℕ) → length old ≤ n → length new ≡ length old → length old ≡ length ts →
+      Turns m w inputs state now wakes ls t ts n old new answers changed → Alike (λ k q u. Stands m (t + 1) (now q) (state q) u) new (map (λ r. r.0) (steps_from m w inputs ls t 0 ts))
+  turns_stand old new answers changed n all long same turns = record {
+    long = long ∙ same ∙ sym (simp length-map (length-steps_from m w inputs ls t 0 ts));
+    each = λ k q u eq eu.
+        let r = get_map_some (λ (r : S × Option ℕ). r.0) (steps_from m w inputs ls t 0 ts) k u eu in
+        let f = get_step m w inputs ls t k ts r.0 r.1 in
+        let within : k < length new = slice_get_within new k q eq in
+        let inside : k < length old = omega (arith, long) in
+        let p = get_or old k q in
+        let ep : slice_get old k ≡ Some p = get_within old k q inside in
+        let d = turns.done k p q f.0 (omega arith) ep eq f.1 in
+        let e : (part_step m w inputs ls t k f.0).0 ≡ u = ap (λ (r : S × Option ℕ). r.0) f.2 ∙ r.2 in
+        subst (λ (x : S). Stands m (t + 1) (now q) (state q) x) e d.0;
+  }
+
+-- the due cycles of all parts, where one was renewed
+pub due_set : {S P : Type 0} (m : Machine S) (state : P → S) (now wakes : P → ℕ) (parts : List P) (dues : List (Option ℕ)) (i : ℕ) (q : P) (d : Option ℕ) →
+    i < length parts → i < length dues → AreDue m state now wakes parts dues → IsFirstDue m (state q) (now q) d → AreDue m state now wakes (slice_set parts i q) (slice_set dues i d)
+due_set m state now wakes parts dues i q d hp hd are first k p e ep ee = elim (eqb_tells k i) [
+  | inl same ↦
+      let p_is : q ≡ p = some_same (sym (get_set_same parts i q hp) ∙ subst (λ (j : ℕ). slice_get (slice_set parts i q) j ≡ Some p) same.1 ep) in
+      let e_is : d ≡ e = some_same (sym (get_set_same dues i d hd) ∙ subst (λ (j : ℕ). slice_get (slice_set dues i d) j ≡ Some e) same.1 ee) in
+      subst (λ (x : _). IsFirstDue m (state x) (now x) e) p_is (subst (λ (x : Option ℕ). IsFirstDue m (state q) (now q) x) e_is first)
+  | inr other ↦ are k p e (sym (get_set_other parts i k q other.1) ∙ ep) (sym (get_set_other dues i k d other.1) ∙ ee)
+]
+
+-- a part's pins among those of all
+part_of : (w : Wiring) (held : List Level) (k first pins n : ℕ) → first ≡ slice_index w.first_pin k → pins ≡ n → take (first + pins - first) (drop first held) ≡ own_part w k n held
+part_of w held k first pins n e f =
+    let count : first + pins - first ≡ n = omega arith in
+    ap (λ (j : ℕ). take j (drop first held)) count ∙ ap (λ (j : ℕ). take n (drop j held)) e
+
+-- the turn of a part that is awaited
+pub awaited_turn : {S P : Type 0} (m : Machine S) (laws : Laws m) (w : Wiring) (given inputs : List Input) (state : P → S) (now wakes : P → ℕ) (ls own held : List Level) (t : ℕ) (parts : List P) (ts : List S) →
+    t < 160000000 → Awaits m w state now given inputs ls own held t parts ts → (k : ℕ) (p q : P) (s : S) (due input byte : Option ℕ) (first pins : ℕ) (changed : Bool) →
+    slice_get parts k ≡ Some p → slice_get ts k ≡ Some s → MayTurn m state now wakes t due p → first ≡ slice_index w.first_pin k → pins ≡ length (m.drives (state p)) → input ≡ input_at given t k →
+    turned m state now wakes (to_wake due t input (take (first + pins - first) (drop first own)) (take (first + pins - first) (drop first held))) t (take (first + pins - first) (drop first own)) input p q byte changed →
+    HadTurn m w inputs state now wakes ls t k p q s byte changed
+    × (active_in m w inputs ls t k (Some s) ≡ (if to_wake due t input (take (first + pins - first) (drop first own)) (take (first + pins - first) (drop first held)) then 1 else 0))
+awaited_turn m laws w given inputs state now wakes ls own held t parts ts end awaits k p q s due input byte first pins changed ep es may is_first is_pins is_input turn =
+    let stands = awaits.stands.each k p s ep es in
+    let n : pins ≡ length (m.drives s) = is_pins ∙ ap length (stands_shows m laws t (now p) (state p) s stands).drives in
+    let own_is = own_of w ls own k first pins (length (m.drives s)) awaits.own_are is_first n in
+    let held_is = λ (l : 0 < t). part_of w held k first pins (length (m.drives s)) is_first n ∙ sym (awaits.holds k s es l) in
+    let input_is = is_input ∙ awaits.values k in (
+      had_turn m laws w inputs state now wakes ls t k p q s due input byte _ _ changed end may stands own_is held_is input_is turn,
+      ap (λ (b : Bool). if b then 1 else 0) (sym (wake_is m laws w inputs state now wakes ls t k p s due input _ _ end may stands own_is held_is input_is)),
+    )
+
+pub count_more : (i a b d : ℕ) (f : ℕ → ℕ) (one : ℕ) → b ≡ a + sum_below i f → d ≡ b + one → f i ≡ one → d ≡ a + sum_below (i + 1) f
+count_more i a b d f one h e g = rw add-one (omega (arith, h, e, g))

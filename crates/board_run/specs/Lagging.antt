@@ -1,0 +1,80 @@
+-- Parts that lag behind their board, and their turn in a cycle. No public clause cites this.
+use Rattle.std.specs.Prelude.{◌≡◌, ℕ, ◌+◌, ◌-◌, ◌<◌, ◌≤◌, List, length, map, take, drop, Bool, true, false, not, ◌||◌, ◌==◌, Option, None, Some, slice_get, slice_index}
+use Rattle.std.specs.Option.{is_some}
+use Rattle.sim_base.specs.declared.signal.Level.{Level}
+use Rattle.sim_base.specs.declared.wiring.Wiring.{Wiring}
+use Rattle.sim_base.specs.declared.wiring.Input.{Input}
+use Rattle.part_law.specs.Machine.{Machine, glide, IsQuiet, IsFirstDue}
+use Rattle.board_model.specs.Board.{level_at, input_at, part_step, steps_from}
+use Rattle.board_model.specs.Rows.{same_list, same_level}
+use Rattle.board_laws.specs.Alike.{Alike, SameShow}
+use Rattle.board_laws.specs.Active.{active_in}
+use Rattle.board_laws.specs.Stands.{Stands}
+
+abbrev pub is_at : Option ℕ → ℕ → Bool
+is_at None t = false
+is_at (Some u) t = u == t
+
+-- whether a part is to be woken in cycle t: it is due, the script addresses it, or a level of its pins differs from the one that it holds
+abbrev pub to_wake : Option ℕ → ℕ → Option ℕ → List Level → List Level → Bool
+to_wake due t input own held = is_at due t || (is_some input || not (same_list same_level own held))
+
+-- none of these is before cycle t
+abbrev pub AreLate : List (Option ℕ) → ℕ → Type 0
+AreLate dues t = (k u : ℕ) → slice_get dues k ≡ Some (Some u) → t ≤ u
+
+-- the levels of part i's n pins among those of all pins
+abbrev pub own_part : Wiring → ℕ → ℕ → List Level → List Level
+own_part w i n own = take n (drop (slice_index w.first_pin i) own)
+
+module _ {S P : Type 0} (m : Machine S) (state : P → S) (now wakes : P → ℕ) where
+  -- where the part is at cycle t, if nothing comes
+  abbrev pub glided : ℕ → P → S
+  glided t p = glide m (state p) (now p) (t - now p)
+
+  -- it may be left behind up to cycle t, and this is its first due cycle
+  pub record MayTurn (t : ℕ) (due : Option ℕ) (p : P) : Type 0 where
+    pub not_later : now p ≤ t
+    pub count : wakes p ≤ now p
+    pub quiet : IsQuiet m (state p) (now p) (t - now p)
+    pub first : IsFirstDue m (state p) (now p) due
+
+  pub record Wakes (t : ℕ) (own : List Level) (input : Option ℕ) (p q : P) (byte : Option ℕ) (changed : Bool) : Type 0 where
+    pub state_is : state q ≡ (m.step (glided t p) t own input).0
+    pub byte_is : byte ≡ (m.step (glided t p) t own input).1
+    pub now_is : now q ≡ t + 1
+    pub woken : wakes q ≡ wakes p + 1
+    pub drives : changed ≡ false → m.drives (state q) ≡ m.drives (glided t p)
+    pub contacts : changed ≡ false → m.contacts (state q) ≡ m.contacts (glided t p)
+
+  -- a turn in cycle t: it is woken, or left as it is
+  abbrev pub turned : Bool → ℕ → List Level → Option ℕ → P → P → Option ℕ → Bool → Type 0
+  turned true t own input p q byte changed = Wakes t own input p q byte changed
+  turned false t own input p q byte changed = (q ≡ p) × (byte ≡ None)
+
+  -- each part of the list, with its due cycle
+  abbrev pub AreDue : List P → List (Option ℕ) → Type 0
+  AreDue parts dues = (k : ℕ) (p : P) (d : Option ℕ) → slice_get parts k ≡ Some p → slice_get dues k ≡ Some d → IsFirstDue m (state p) (now p) d
+
+-- The parts lag behind a board whose states at cycle t are ts, whose nets have the levels ls, so that pins have `own`; the script's
+-- values of the cycle are `given`; and `held` are the levels that the pins had in the cycle before.
+pub record Awaits {S P : Type 0} (m : Machine S) (w : Wiring) (state : P → S) (now : P → ℕ) (given inputs : List Input) (ls own held : List Level) (t : ℕ) (parts : List P) (ts : List S) : Type 0 where
+  pub stands : Alike (λ k p s. Stands m t (now p) (state p) s) parts ts
+  pub own_are : own ≡ map (level_at ls) w.net_of
+  pub holds : (k : ℕ) (s : S) → slice_get ts k ≡ Some s → 0 < t → m.held s ≡ own_part w k (length (m.drives s)) held
+  pub values : (k : ℕ) → input_at given t k ≡ input_at inputs t k
+
+-- part k, which stands for s, had its turn
+pub record HadTurn {S P : Type 0} (m : Machine S) (w : Wiring) (inputs : List Input) (state : P → S) (now wakes : P → ℕ) (ls : List Level) (t k : ℕ) (p q : P) (s : S) (byte : Option ℕ) (changed : Bool) : Type 0 where
+  pub stands : Stands m (t + 1) (now q) (state q) (part_step m w inputs ls t k s).0
+  pub woken : wakes q ≡ wakes p + active_in m w inputs ls t k (Some s)
+  pub count : wakes q ≤ now q
+  pub byte_is : byte ≡ (part_step m w inputs ls t k s).1
+  pub still : changed ≡ false → SameShow m m (part_step m w inputs ls t k s).0 s
+
+-- the parts before number i had their turn
+pub record Turns {S P : Type 0} (m : Machine S) (w : Wiring) (inputs : List Input) (state : P → S) (now wakes : P → ℕ) (ls : List Level) (t : ℕ) (ts : List S) (i : ℕ) (old new : List P) (answers : List (Option ℕ)) (changed : Bool) : Type 0 where
+  pub done : (k : ℕ) (p q : P) (s : S) → k < i → slice_get old k ≡ Some p → slice_get new k ≡ Some q → slice_get ts k ≡ Some s →
+      Stands m (t + 1) (now q) (state q) (part_step m w inputs ls t k s).0 × (wakes q ≡ wakes p + active_in m w inputs ls t k (Some s)) × (wakes q ≤ now q)
+  pub answered : take i answers ≡ take i (map (λ r. r.1) (steps_from m w inputs ls t 0 ts))
+  pub still : changed ≡ false → (k : ℕ) (s : S) → k < i → slice_get ts k ≡ Some s → SameShow m m (part_step m w inputs ls t k s).0 s

@@ -1,0 +1,79 @@
+-- A board on its way whose parts lag behind: what holds at a cycle, and what a leg of the way does. No public clause cites this.
+use Rattle.std.specs.Prelude.{◌≡◌, ◌≢◌, ℕ, ◌+◌, ◌-◌, ◌<◌, ◌≤◌, List, length, map, Bool, true, false, Option, None, Some, slice_get, slice_set}
+use Rattle.sim_base.specs.declared.signal.Level.{Level}
+use Rattle.sim_base.specs.declared.wiring.Wiring.{Wiring}
+use Rattle.sim_base.specs.declared.wiring.Input.{Input}
+use Rattle.part_law.specs.Machine.{Machine, glide, dues, IsSame, IsFirstDue}
+use Rattle.board_model.specs.Board.{level_at, own_nets, input_at, states}
+use Rattle.board_model.specs.Rows.{chip_drives_of, shown_before}
+use Rattle.board_model.specs.Fits.{Fits}
+use Rattle.board_laws.specs.Active.{active_cycles, active_pairs}
+use Rattle.board_run.specs.Upcoming.{AreBehind}
+use Rattle.board_run.specs.Seen.{Seen, Suits, IsOf, shown_at}
+use Rattle.board_run.specs.Lagging.{glided, MayTurn, own_part}
+
+-- what an engine keeps beside the parts
+pub record Kept : Type 0 where
+  -- where the script goes on
+  pub input : ℕ
+  -- whether a drive or a contact may have changed since the parts were read
+  pub stale : Bool
+  -- the first due cycle of each part
+  pub dues : List (Option ℕ)
+  -- the level of each pin in the cycle before
+  pub held : List Level
+  pub seen : Seen
+  pub answers : List (Option ℕ)
+
+-- each part stands at the cycle
+abbrev pub AreAt : {P : Type 0} → (P → ℕ) → ℕ → List P → Type 0
+AreAt {P = P} now t parts = (k : ℕ) (p : P) → slice_get parts k ≡ Some p → now p ≡ t
+
+module _ {S P : Type 0} (m : Machine S) (w : Wiring) (state : P → S) (now wakes : P → ℕ) where
+  -- The invariant of the engine at cycle t. The states of the board are `map (glided t) parts`.
+  pub record Lags (t : ℕ) (parts : List P) (kept : Kept) : Type 0 where
+    pub few : length parts ≤ 64
+    pub may : (k : ℕ) (p : P) (d : Option ℕ) → slice_get parts k ≡ Some p → slice_get kept.dues k ≡ Some d → MayTurn m state now wakes t d p
+    pub valid : (k : ℕ) (p : P) → slice_get parts k ≡ Some p → m.valid (state p) (now p) ≡ true
+    pub dues_long : length kept.dues ≡ length parts
+    pub answers_long : length kept.answers ≡ length parts
+    pub held_long : length kept.held ≡ length w.net_of
+    pub fits : Fits m w (map state parts)
+    pub suits : Suits w kept.seen
+    pub chips_long : length kept.seen.chip_drives ≡ length (chip_drives_of m w.chip (map state parts))
+    pub fresh : kept.stale ≡ false → IsOf m w (map state parts) kept.seen
+    pub holds : (k : ℕ) (p : P) → slice_get parts k ≡ Some p → 0 < t → m.held (state p) ≡ own_part w k (length (m.drives (state p))) kept.held
+    pub same : kept.stale ≡ false → (k : ℕ) (p : P) → slice_get parts k ≡ Some p → m.held (state p) ≡ map (level_at kept.seen.levels) (own_nets w k (length (m.drives (state p))))
+
+  -- From cycle t to cycle u the parts went on as the board does, and were woken where they are active.
+  pub record Leg (inputs : List Input) (t u : ℕ) (old new : List P) (seen after : Seen) (steps more : ℕ) : Type 0 where
+    pub order : t ≤ u
+    pub long : length new ≡ length old
+    pub states_are : map (glided m state now wakes u) new ≡ states m w inputs (map (glided m state now wakes t) old) t (u - t)
+    pub before_is : shown_before m w inputs (shown_at t seen) (map (glided m state now wakes t) old) t (u - t) ≡ shown_at u after
+    pub woken : (k : ℕ) (p q : P) → slice_get old k ≡ Some p → slice_get new k ≡ Some q → wakes q ≡ wakes p + active_cycles m w inputs (map (glided m state now wakes t) old) t (u - t) k
+    pub steps_are : more ≡ steps + active_pairs m w inputs (map (glided m state now wakes t) old) t (u - t)
+
+module _ {S P : Type 0} (m : Machine S) (state : P → S) (now wakes : P → ℕ) where
+  -- Part `who`, which was p, went on by itself from cycle t to cycle u and is q, due at d, and no other part did.
+  pub record WentAlone (who t u : ℕ) (old new : List P) (before after : List (Option ℕ)) (changed : Bool) (steps more : ℕ) (p q : P) (d : Option ℕ) : Type 0 where
+    pub here : slice_get old who ≡ Some p
+    pub new_is : new ≡ slice_set old who q
+    pub dues_are : after ≡ slice_set before who d
+    pub further : t < u
+    pub state_is : state q ≡ glide m (glided m state now wakes t p) t (u - t)
+    pub now_is : now q ≡ u
+    pub woken_is : wakes q ≡ wakes p + dues m (glided m state now wakes t p) t (u - t)
+    pub steps_are : more ≡ steps + dues m (glided m state now wakes t p) t (u - t)
+    pub same : IsSame m (glided m state now wakes t p) t (u - t)
+    pub first : IsFirstDue m (state q) (now q) d
+    pub drives : changed ≡ false → m.drives (state q) ≡ m.drives (glided m state now wakes t p)
+    pub contacts : changed ≡ false → m.contacts (state q) ≡ m.contacts (glided m state now wakes t p)
+
+-- up to this cycle no part but `who` is due and the script says nothing
+pub record IsAlone (inputs : List Input) (dues : List (Option ℕ)) (i who t limit : ℕ) : Type 0 where
+  pub here : who < length dues
+  pub further : t < limit
+  pub others : (k u : ℕ) → k ≢ who → slice_get dues k ≡ Some (Some u) → limit ≤ u
+  pub silent : (v k : ℕ) → t ≤ v → v < limit → input_at inputs v k ≡ None
+  pub behind : AreBehind inputs i limit

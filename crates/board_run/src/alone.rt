@@ -1,0 +1,83 @@
+//! One part goes on by itself, while no other is due.
+ghost use Rattle.std.specs.Prelude.{◌≡◌, ℕ, ◌+◌, ◌-◌, ◌<◌, ◌≤◌, Bool, true, false, List, [], length, Option, Some, None, slice_get};
+ghost use Rattle.std.specs.Option.{option_to_list};
+ghost use Rattle.part_law.specs.Machine.{glide, dues, sent, IsSame, IsFirstDue};
+ghost use Rattle.sim_base.specs.Causes.{Rose};
+ghost use Rattle.sim_base.specs.Rows.{Handed, StopsWithin};
+ghost use Rattle.board_run.specs.Lagging.{glided, MayTurn};
+ghost use Rattle.board_run.specs.Legs.{WentAlone};
+
+use crate::hand::hand_byte;
+use event_queue::DueTree;
+use part_law::{Part, Went};
+use sim_base::{Steps, Watcher, WriteEnd};
+use std::sync::ledger::Ledger;
+
+/// A part that was left behind goes on by itself from cycle t, up to the limit or its first wake that may show something.
+#[inline]
+fn go_alone<P: Part, L: Ledger>(
+    part: &mut P,
+    due: &mut Option<u32>,
+    t: u32,
+    limit: u32,
+    steps: &mut Steps<L>,
+) -> Went
+    requires order { t < limit }
+    requires end { limit ≤ 160000000 }
+    requires may { MayTurn P.machine P.state P.now P.wake_count t due.old part.old }
+    requires valid { P.machine.valid (P.state part.old) (P.now part.old) ≡ true }
+    ensures now { P.now part.new ≡ result.to }
+    ensures from { t < result.to }
+    ensures within { result.to ≤ limit }
+    ensures state { P.state part.new ≡ glide P.machine (glided P.machine P.state P.now P.wake_count t part.old) t (result.to - t) }
+    ensures wake_count { P.wake_count part.new ≡ P.wake_count part.old + dues P.machine (glided P.machine P.state P.now P.wake_count t part.old) t (result.to - t) }
+    ensures steps { steps.new ≡ steps.old + dues P.machine (glided P.machine P.state P.now P.wake_count t part.old) t (result.to - t) }
+    ensures same { IsSame P.machine (glided P.machine P.state P.now P.wake_count t part.old) t (result.to - t) }
+    ensures sent { sent P.machine (glided P.machine P.state P.now P.wake_count t part.old) t (result.to - t) ≡ option_to_list result.byte }
+    ensures drives { result.changed ≡ false → P.machine.drives (P.state part.new) ≡ P.machine.drives (glided P.machine P.state P.now P.wake_count t part.old) }
+    ensures contacts { result.changed ≡ false → P.machine.contacts (P.state part.new) ≡ P.machine.contacts (glided P.machine P.state P.now P.wake_count t part.old) }
+    ensures first { IsFirstDue P.machine (P.state part.new) (P.now part.new) due.new }
+{
+    part.settle(t);
+    let went = part.go_on(limit, steps);
+    *due = part.due();
+    went
+}
+
+/// Part `who` goes on by itself, and its byte is handed out: whether a drive or a contact may have
+/// changed, and where it stands. None where writing failed.
+pub(crate) fn stretch<P: Part, W: Watcher, L: Ledger>(
+    who: u8,
+    parts: &mut [P],
+    dues: &mut DueTree,
+    t: u32,
+    limit: u32,
+    out: &mut W,
+    steps: &mut Steps<L>,
+) -> Option<(bool, u32)>
+    requires order { t < limit }
+    requires end { limit ≤ 160000000 }
+    requires who { who < length parts.old }
+    requires dues { length dues.old ≡ length parts.old }
+    requires may { (k : ℕ) (p : _) (d : Option ℕ) → slice_get parts.old k ≡ Some p → slice_get dues.old k ≡ Some d → MayTurn P.machine P.state P.now P.wake_count t d p }
+    requires valid { (k : ℕ) (p : _) → slice_get parts.old k ≡ Some p → P.machine.valid (P.state p) (P.now p) ≡ true }
+    requires whole { W.whole out.old ≡ true }
+    ensures within { (x : Bool × ℕ) → result ≡ Some x → x.1 ≤ limit }
+    ensures went { (x : Bool × ℕ) → result ≡ Some x → (p q : _) × (d : Option ℕ)
+        × WentAlone P.machine P.state P.now P.wake_count who t x.1 parts.old parts.new dues.old dues.new x.0 steps.old steps.new p q d
+        × Handed W.whole W.faults W.stands out.old out.new [] (sent P.machine (glided P.machine P.state P.now P.wake_count t p) t (x.1 - t)) }
+    ensures last { (x : Bool × ℕ) → result ≡ Some x → W.last out.new ≡ W.last out.old }
+    ensures failed { result ≡ None → Rose (W.faults out.old) (W.faults out.new) × (u : ℕ) × (u ≤ limit) × (changed : Bool) × (p q : _) × (d : Option ℕ)
+        × WentAlone P.machine P.state P.now P.wake_count who t u parts.old parts.new dues.old dues.new changed steps.old steps.new p q d
+        × StopsWithin (W.stands out.old) (W.stopped out.new) [] (sent P.machine (glided P.machine P.state P.now P.wake_count t p) t (u - t)) }
+    ensures place { W.place out.new ≡ W.place out.old }
+{
+    let i = who as usize;
+    let mut due = dues.due(who);
+    let went = go_alone(&mut parts[i], &mut due, t, limit, steps);
+    dues.set(who, due);
+    match hand_byte(went.byte, out) {
+        WriteEnd::Ok => Some((went.changed, went.to)),
+        WriteEnd::Failed => None,
+    }
+}

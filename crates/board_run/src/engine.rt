@@ -1,0 +1,131 @@
+//! One cycle of a board in which only the active parts are woken.
+ghost use Rattle.std.specs.Prelude.{◌≡◌, ℕ, ◌+◌, ◌-◌, ◌<◌, ◌≤◌, List, [], length, map, true, false, Some, None, Option, slice_get};
+ghost use Rattle.std.specs.Option.{ForSome};
+ghost use Rattle.sim_base.specs.Causes.{Rose};
+ghost use Rattle.sim_base.specs.Rows.{Handed, StopsWithin};
+ghost use Rattle.sim_base.specs.declared.signal.Level.{Level};
+ghost use Rattle.sim_base.specs.declared.wiring.Input.{Input};
+ghost use Rattle.board_model.specs.Board.{bytes, options};
+ghost use Rattle.board_model.specs.Rows.{rows};
+ghost use Rattle.board_model.specs.Fits.{Fits};
+ghost use Rattle.board_laws.specs.Active.{sum_below, active_in};
+ghost use Rattle.board_run.specs.Seen.{shown_at, Suits};
+ghost use Rattle.board_run.specs.Upcoming.{AreBehind, IsInOrder};
+ghost use Rattle.board_run.specs.Lagging.{glided, MayTurn, Awaits, Turns, AreDue};
+ghost use Rattle.board_run.specs.Legs.{Lags, Leg};
+ghost use Rattle.board_run.specs.declared.show.Next.{Next};
+
+use crate::hand::hand_sent;
+use crate::reading::Reading;
+use crate::script::end_of_cycle;
+use crate::show::{Next, show_cycle};
+use crate::turn::{Woken, wake_active};
+use event_queue::DueTree;
+use part_law::Part;
+use sim_base::{Input, Level, Steps, Watcher, Wiring, WriteEnd};
+use std::sync::ledger::Ledger;
+
+/// Gives every part its turn on the levels that were read, and keeps these.
+#[inline]
+fn turn_read<P: Part, L: Ledger>(
+    parts: &mut [P],
+    dues: &mut DueTree,
+    wiring: &Wiring,
+    reading: &Reading,
+    held: &mut [Level],
+    given: &[Input],
+    answers: &mut [Option<u8>],
+    t: u32,
+    steps: &mut Steps<L>,
+) -> Woken
+    requires end { t < 160000000 }
+    requires few { length parts.old ≤ 64 }
+    requires fits { Fits P.machine wiring.now (map P.state parts.old) }
+    requires may { (k : ℕ) (p : _) (d : Option ℕ) → slice_get parts.old k ≡ Some p → slice_get dues.old k ≡ Some d → MayTurn P.machine P.state P.now P.wake_count t d p }
+    requires dues { length dues.old ≡ length parts.old }
+    requires own { length reading.now.own ≡ length wiring.now.net_of }
+    requires held { length held.old ≡ length wiring.now.net_of }
+    requires answers { length answers.old ≡ length parts.old }
+    ensures turns { (inputs : List Input) (ls : List Level) (ts : List P.State) → Awaits P.machine wiring.now P.state P.now given.now inputs ls reading.now.own held.old t parts.old ts
+        → Turns P.machine wiring.now inputs P.state P.now P.wake_count ls t ts (length parts.old) parts.old parts.new answers.new result.changed }
+    ensures due { AreDue P.machine P.state P.now P.wake_count parts.new dues.new }
+    ensures dues { length dues.new ≡ length dues.old }
+    ensures silent { result.sent ≡ false → options answers.new ≡ [] }
+    ensures steps { (inputs : List Input) (ls : List Level) (ts : List P.State) → Awaits P.machine wiring.now P.state P.now given.now inputs ls reading.now.own held.old t parts.old ts
+        → steps.new ≡ steps.old + sum_below (length parts.old) (λ k. active_in P.machine wiring.now inputs ls t k (slice_get ts k)) }
+    ensures held { held.new ≡ reading.now.own }
+{
+    let woken = wake_active(
+        parts,
+        dues,
+        wiring,
+        &reading.own,
+        held,
+        given,
+        answers,
+        t,
+        steps,
+    );
+    held.copy_from_slice(&reading.own);
+    woken
+}
+
+/// One cycle: its row, a wake of each part that is active, their bytes. None where writing failed.
+pub(crate) fn event<P: Part, W: Watcher, L: Ledger>(
+    next: Next,
+    parts: &mut [P],
+    dues: &mut DueTree,
+    wiring: &Wiring,
+    inputs: &[Input],
+    t: u32,
+    reading: &mut Reading,
+    held: &mut [Level],
+    answers: &mut [Option<u8>],
+    out: &mut W,
+    steps: &mut Steps<L>,
+) -> Option<Next>
+    requires end { t < 160000000 }
+    requires order { IsInOrder inputs.now }
+    requires behind { AreBehind inputs.now next.input t }
+    requires lags { Lags P.machine wiring.now P.state P.now P.wake_count t parts.old
+        (record { input = next.input; stale = next.stale; dues = dues.old; held = held.old; seen = reading.old; answers = answers.old }) }
+    requires whole { W.whole out.old ≡ true }
+    requires later { ForSome (W.last out.old) (λ u. u < t) }
+    ensures lags { (x : Next) → result ≡ Some x → Lags P.machine wiring.now P.state P.now P.wake_count (t + 1) parts.new
+        (record { input = x.input; stale = x.stale; dues = dues.new; held = held.new; seen = reading.new; answers = answers.new }) }
+    ensures behind { (x : Next) → result ≡ Some x → AreBehind inputs.now x.input (t + 1) }
+    ensures leg { Leg P.machine wiring.now P.state P.now P.wake_count inputs.now t (t + 1) parts.old parts.new reading.old reading.new steps.old steps.new }
+    ensures handed { (x : Next) → result ≡ Some x → Handed W.whole W.faults W.stands out.old out.new
+        (rows P.machine wiring.now inputs.now (shown_at t reading.old) (map (glided P.machine P.state P.now P.wake_count t) parts.old) t (t + 1 - t))
+        (bytes P.machine wiring.now inputs.now (map (glided P.machine P.state P.now P.wake_count t) parts.old) t (t + 1 - t)) }
+    ensures last { (x : Next) → result ≡ Some x → ForSome (W.last out.new) (λ u. u < t + 1) }
+    ensures failed { result ≡ None → Rose (W.faults out.old) (W.faults out.new)
+        × StopsWithin (W.stands out.old) (W.stopped out.new)
+        (rows P.machine wiring.now inputs.now (shown_at t reading.old) (map (glided P.machine P.state P.now P.wake_count t) parts.old) t (t + 1 - t))
+        (bytes P.machine wiring.now inputs.now (map (glided P.machine P.state P.now P.wake_count t) parts.old) t (t + 1 - t)) }
+    ensures place { W.place out.new ≡ W.place out.old }
+{
+    let shown = show_cycle(next.stale, parts, wiring, t, reading, out);
+    let end = end_of_cycle(inputs, next.input, t);
+    let woken = turn_read(
+        parts,
+        dues,
+        wiring,
+        reading,
+        held,
+        &inputs[next.input..end],
+        answers,
+        t,
+        steps,
+    );
+    match shown {
+        WriteEnd::Ok => match hand_sent(woken.sent, answers, out) {
+            WriteEnd::Ok => Some(Next {
+                input: end,
+                stale: woken.changed,
+            }),
+            WriteEnd::Failed => None,
+        },
+        WriteEnd::Failed => None,
+    }
+}

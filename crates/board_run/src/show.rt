@@ -1,0 +1,70 @@
+//! What a board shows in a cycle.
+ghost use Rattle.std.specs.Prelude.{◌≡◌, ℕ, ◌+◌, ◌<◌, ◌≤◌, [], length, map, true, false, Some, None};
+ghost use Rattle.std.specs.Option.{ForSome};
+ghost use Rattle.sim_base.specs.Causes.{Rose};
+ghost use Rattle.sim_base.specs.Rows.{Handed, Appends};
+ghost use Rattle.board_model.specs.Rows.{chip_drives_of, shown_of, same_shown, row_if};
+ghost use Rattle.board_model.specs.Fits.{Fits};
+ghost use Rattle.board_run.specs.Seen.{Suits, IsOf, shown, shown_at};
+
+use crate::hand::hand_row;
+use crate::reading::Reading;
+use part_law::Part;
+use sim_base::{Watcher, Wiring, WriteEnd};
+
+/// Where a board goes on: at which script value, and whether a drive or a contact may have changed
+/// since the parts were read.
+#[derive(Clone, Copy, Debug, PartialEq, Eq, Drop)]
+pub(crate) struct Next {
+    pub(crate) input: usize,
+    pub(crate) stale: bool,
+}
+
+/// Reads the parts where that is wanted, and tells whether rows show what they showed before.
+#[inline]
+fn refresh<P: Part>(stale: bool, parts: &[P], wiring: &Wiring, reading: &mut Reading) -> bool
+    requires fits { Fits P.machine wiring.now (map P.state parts.now) }
+    requires suits { Suits wiring.now reading.old }
+    requires chips { length reading.old.chip_drives ≡ length (chip_drives_of P.machine wiring.now.chip (map P.state parts.now)) }
+    requires fresh { stale ≡ false → IsOf P.machine wiring.now (map P.state parts.now) reading.old }
+    ensures suits { Suits wiring.now reading.new }
+    ensures of { IsOf P.machine wiring.now (map P.state parts.now) reading.new }
+    ensures same { result ≡ same_shown (shown reading.old) (shown_of P.machine wiring.now (map P.state parts.now)) }
+    ensures kept { stale ≡ false → reading.new ≡ reading.old }
+{
+    if stale {
+        reading.read(parts, wiring)
+    } else {
+        true
+    }
+}
+
+/// Hands out the row of a cycle, where it has one.
+#[inline]
+pub(crate) fn show_cycle<P: Part, W: Watcher>(
+    stale: bool,
+    parts: &[P],
+    wiring: &Wiring,
+    cycle: u32,
+    reading: &mut Reading,
+    out: &mut W,
+) -> WriteEnd
+    requires fits { Fits P.machine wiring.now (map P.state parts.now) }
+    requires suits { Suits wiring.now reading.old }
+    requires chips { length reading.old.chip_drives ≡ length (chip_drives_of P.machine wiring.now.chip (map P.state parts.now)) }
+    requires fresh { stale ≡ false → IsOf P.machine wiring.now (map P.state parts.now) reading.old }
+    requires whole { W.whole out.old ≡ true }
+    requires later { ForSome (W.last out.old) (λ u. u < cycle) }
+    ensures suits { Suits wiring.now reading.new }
+    ensures of { IsOf P.machine wiring.now (map P.state parts.now) reading.new }
+    ensures kept { stale ≡ false → reading.new ≡ reading.old }
+    ensures ok { result ≡ WriteEnd.Ok → Handed W.whole W.faults W.stands out.old out.new (row_if P.machine wiring.now (shown_at cycle reading.old) (map P.state parts.now) cycle) [] }
+    ensures last { result ≡ WriteEnd.Ok → ForSome (W.last out.new) (λ u. u < cycle + 1) }
+    ensures failed { result ≡ WriteEnd.Failed → Rose (W.faults out.old) (W.faults out.new)
+        × Appends (W.stands out.old) (W.stopped out.new) (row_if P.machine wiring.now (shown_at cycle reading.old) (map P.state parts.now) cycle) [] }
+    ensures place { W.place out.new ≡ W.place out.old }
+{
+    let same = refresh(stale, parts, wiring, reading);
+    let there = (cycle == 0) | !same;
+    hand_row(there, cycle, &reading.levels, &reading.drives, out)
+}

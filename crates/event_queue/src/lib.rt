@@ -1,0 +1,11 @@
+//! The due cycles of the parts of a board, of which the first is at hand (a tournament tree).
+//! `first` is exact: the least due cycle, with the least part that has it.
+//! Only `DueTree::new` takes memory; nothing else fails.
+#![tactic(auto)]
+
+mod due_tree;
+mod entry;
+#[cfg(test)]
+mod tests;
+
+pub use due_tree::DueTree;
