@@ -1,33 +1,23 @@
 //! Whole texts over calls that may do a part.
-ghost use Rattle.std.specs.Prelude.{◌≡◌, ◌≤◌, [], true, length};
+ghost use Rattle.std.specs.Prelude.{◌≡◌, ◌≤◌, [], true, length, IfSome};
 ghost use Rattle.std.specs.Io.KnownBytes.{Appends};
 
 use sim_base::ReadEnd;
 use std::io;
-use std::io::{Read, Write};
+use std::io::{ErrorKind, Read, Write};
 
-/// Reads to the end, or up to one chunk more than `limit` bytes.
-pub(crate) fn read_up_to<F: Read>(file: &mut F, limit: u32, into: &mut Vec<u8>) -> ReadEnd
+/// Reads to the end, or up to one byte more than `limit`.
+pub(crate) fn read_up_to<F: Read + Drop>(file: F, limit: u32, into: &mut Vec<u8>) -> ReadEnd
     requires { into.old.items ≡ [] }
     ensures short { result ≡ ReadEnd.Ok → length into.new.items ≤ limit }
+    ensures whole { result ≡ ReadEnd.Ok → IfSome (F.remaining file) (λ bytes. into.new.items ≡ bytes) }
 {
-    let mut chunk = [0u8; 8192];
-    for _ in 0..u64::MAX {
-        let count = match file.read(&mut chunk) {
-            Ok(count) => count,
-            Err(_) => return ReadEnd::Failed,
-        };
-        if count == 0 {
-            return ReadEnd::Ok;
-        }
-        if into.extend_from_slice(&chunk[..count]).is_err() {
-            return ReadEnd::OutOfMemory;
-        }
-        if into.len() > limit as usize {
-            return ReadEnd::TooLong;
-        }
+    match file.take(u64::from(limit) + 1).read_to_end(into) {
+        Ok(count) if count <= limit as usize => ReadEnd::Ok,
+        Ok(_) => ReadEnd::TooLong,
+        Err(error) if error.kind() == ErrorKind::OutOfMemory => ReadEnd::OutOfMemory,
+        Err(_) => ReadEnd::Failed,
     }
-    ReadEnd::Failed
 }
 
 /// Whether all bytes were written; else the system failed, and a first part may be.

@@ -75,7 +75,7 @@ fn read_whole<R: Runtime>(rt: &R, name: &str, limit: u32, into: &mut Vec<u8>) ->
     ensures { ReadFits result limit into.new.items }
 {
     let end = match File::open(rt, name) {
-        Ok(mut file) => read_up_to(&mut file, limit, into),
+        Ok(file) => read_up_to(file, limit, into),
         Err(error) if error.kind() == ErrorKind::NotFound => ReadEnd::Missing,
         Err(_) => ReadEnd::Failed,
     };
