@@ -17,7 +17,7 @@ import tempfile
 
 HERE = os.path.dirname(os.path.abspath(__file__))
 CRATE = os.path.join(HERE, "..", "..", "crates", "call_rows")
-FEATURES = ["--disable-" + feature for feature in ("multi-value", "bulk-memory", "reference-types")]
+FEATURES = ["--disable-" + feature for feature in ("multi-value", "reference-types")]
 TRAPS = {
     1: "unreachable", 2: "out of bounds memory access", 3: "integer divide by zero", 4: "integer overflow",
     5: "undefined table index", 6: "uninitialized table element", 7: "indirect call signature mismatch",
@@ -91,7 +91,10 @@ COMPARISONS = "eq ne lt_s lt_u gt_s gt_u le_s le_u ge_s ge_u".split()
 COMPUTATIONS = "clz ctz popcnt add sub mul div_s div_u rem_s rem_u and or xor shl shr_s shr_u rotl rotr".split()
 
 # The opcodes ("Binary Format", "Numeric Instructions").
-OPCODES = {"i32.wrap_i64": 0xA7, "i64.extend_i32_s": 0xAC, "i64.extend_i32_u": 0xAD}
+OPCODES = {
+    "i32.wrap_i64": 0xA7, "i64.extend_i32_s": 0xAC, "i64.extend_i32_u": 0xAD, "i32.extend8_s": 0xC0, "i32.extend16_s": 0xC1,
+    "i64.extend8_s": 0xC2, "i64.extend16_s": 0xC3, "i64.extend32_s": 0xC4,
+}
 for first, kind, names in (
     (0x45, "i32", ["eqz", *COMPARISONS]), (0x50, "i64", ["eqz", *COMPARISONS]),
     (0x67, "i32", COMPUTATIONS), (0x79, "i64", COMPUTATIONS),
@@ -111,7 +114,7 @@ def operations():
 def kinds(name):
     """The types of the operands and of the result."""
     kind, operation = name.split(".")
-    if operation.startswith(("wrap", "extend")):
+    if operation.startswith(("wrap_", "extend_")):
         return operation.split("_")[1], kind
     if re.fullmatch(r"eqz?|ne|(lt|gt|le|ge)_[su]", operation):
         return kind, "i32"

@@ -10,7 +10,7 @@ A row is `NAME: SOURCE` or `NAME @ PLACE: SOURCE`; lines that begin with a blank
 with the number of the refusal, or with `ok`; a `~` behind it says that wasm-validate answers otherwise, and the comment
 above says why. SOURCE is one of
 
-    (module ..)       text of WebAssembly, made binary by wat2wasm with the features of the first version
+    (module ..)       text of WebAssembly, made binary by wat2wasm with the features that are accepted
     clang WORDS       words for clang and wasm-ld, the source among them
     bytes             hexadecimal digits, "text", $word for a word of the table below, N*( .. ) for repetition, with # for
                       the four digits of its turn, [ .. ] for a part behind its size, and ^ before the byte at which
@@ -29,17 +29,17 @@ CRATE = os.path.join(HERE, "..", "..", "crates", "module_rows")
 
 NAMES = {
     60: "WasmMagic", 61: "WasmCut", 62: "WasmLeb", 63: "WasmSection", 64: "WasmType", 65: "WasmOpcode",
-    66: "WasmFloat", 67: "WasmUtf8", 68: "WasmCount", 69: "WasmLimit", 70: "ValidIndex", 71: "ValidType",
+    67: "WasmUtf8", 68: "WasmCount", 69: "WasmLimit", 70: "ValidIndex", 71: "ValidType",
     72: "ValidConst", 73: "ValidExport", 74: "ValidForm", 77: "ChipInit", 78: "ValidSegment", 79: "ValidLimit",
 }
 
 # Rules that are this project's own: wasm-validate knows none of them.
-OWN = {66, 69, 77, 78, 79}
+OWN = {69, 77, 78, 79}
 
 FEATURES = [
     "--disable-" + feature
     for feature in (
-        "mutable-globals saturating-float-to-int sign-extension simd multi-value bulk-memory reference-types".split()
+        "mutable-globals simd multi-value reference-types".split()
     )
 ]
 

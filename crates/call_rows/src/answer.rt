@@ -29,6 +29,8 @@ impl Display for Answer {
             Answer::Nothing => write!(f, "none"),
             Answer::Value(Value::I32(n)) => write!(f, "i32 {n}"),
             Answer::Value(Value::I64(n)) => write!(f, "i64 {n}"),
+            Answer::Value(Value::F32(n)) => write!(f, "f32 by bits {n}"),
+            Answer::Value(Value::F64(n)) => write!(f, "f64 by bits {n}"),
             Answer::Trap(trap) => write!(f, "trap {}", trap.number()),
             Answer::Byte(n) => write!(f, "byte {n}"),
             Answer::Pages(n) => write!(f, "{n} pages"),

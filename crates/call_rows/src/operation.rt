@@ -9,8 +9,9 @@ fn is_unary(op: u8, a: Value) -> bool
     ensures { result ≡ true → IsUnary op a }
 {
     match a {
-        Value::I32(_) => matches!(op, 0x45 | 0x67..=0x69 | 0xAC..=0xAD),
-        Value::I64(_) => matches!(op, 0x50 | 0x79..=0x7B | 0xA7),
+        Value::I32(_) => matches!(op, 0x45 | 0x67..=0x69 | 0xAC..=0xAD | 0xC0..=0xC1),
+        Value::I64(_) => matches!(op, 0x50 | 0x79..=0x7B | 0xA7 | 0xC2..=0xC4),
+        _ => false,
     }
 }
 

@@ -109,6 +109,7 @@ fn has_type(value: Value, kind: ValType) -> bool
     match value {
         Value::I32(n) => is_word(n, kind),
         Value::I64(_) => matches!(kind, ValType::I64),
+        _ => false,
     }
 }
 

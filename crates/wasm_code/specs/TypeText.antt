@@ -1,7 +1,7 @@
--- Types (WebAssembly core specification, "Binary Format", "Types"). Float types break by rule 66.
-use Rattle.std.specs.Prelude.{ℕ, Bool, true, false, ◌||◌, ◌==◌, if◌then◌else◌, Result, Ok, Err, Option, Some, None}
+-- Types (WebAssembly core specification, "Binary Format", "Types").
+use Rattle.std.specs.Prelude.{ℕ, Bool, true, false, ◌==◌, if◌then◌else◌, Result, Ok, Err, Option, Some, None}
 use Rattle.wasm_code.specs.declared.types.ValType.{ValType}
-use Rattle.wasm_code.specs.declared.types.ValType.TheVariants.{I32, I64}
+use Rattle.wasm_code.specs.declared.types.ValType.TheVariants.{I32, I64, F32, F64}
 use Rattle.wasm_code.specs.declared.types.BlockType.{BlockType}
 use Rattle.wasm_code.specs.declared.types.FuncType.{FuncType}
 use Rattle.wasm_code.specs.declared.types.GlobalType.{GlobalType}
@@ -11,15 +11,18 @@ use Rattle.wasm_text.specs.Leb.{u32}
 use Rattle.wasm_text.specs.Lists.{vec, vec_to}
 
 abbrev pub judge_val_type : ℕ → Result ValType ℕ
-judge_val_type b = if b == 0x7F then Ok I32 else if b == 0x7E then Ok I64 else if b == 0x7D || b == 0x7C then Err 66 else Err 64
+judge_val_type b = if b == 0x7F then Ok I32 else if b == 0x7E then Ok I64 else if b == 0x7D then Ok F32 else if b == 0x7C then Ok F64 else Err 64
 
 abbrev pub val_type : Form ValType
 val_type = byte judge_val_type
 
+-- a block of one result
+abbrev pub of_one : Result ValType ℕ → Result BlockType ℕ
+of_one (Ok t) = Ok (record { result = Some t })
+of_one (Err rule) = Err rule
+
 abbrev pub judge_block_type : ℕ → Result BlockType ℕ
-judge_block_type b =
-    if b == 0x40 then Ok (record { result = None }) else if b == 0x7F then Ok (record { result = Some I32 }) else if b == 0x7E then Ok (record { result = Some I64 })
-    else if b == 0x7D || b == 0x7C then Err 66 else Err 64
+judge_block_type b = if b == 0x40 then Ok (record { result = None }) else of_one (judge_val_type b)
 
 abbrev pub block_type : Form BlockType
 block_type = byte judge_block_type

@@ -9,6 +9,20 @@ pub struct MemArg {
     pub offset: u32,
 }
 
+/// An instruction of the table of float types. Loads, stores and operations have their opcode.
+#[derive(Clone, Copy, Debug, PartialEq, Eq)]
+pub enum FloatInstr {
+    Load(u8, MemArg),
+    Store(u8, MemArg),
+    /// A constant, as its bits.
+    F32Const(u32),
+    F64Const(u64),
+    Unary(u8),
+    Binary(u8),
+    /// A truncation that saturates, by its number behind `FC`.
+    Truncate(u8),
+}
+
 /// An instruction as a body has it, one for each opcode with its immediates. Loads, stores and
 /// operations on numbers have their opcode; `opcodes` has their types.
 #[derive(Drop)]
@@ -38,10 +52,13 @@ pub enum Instr {
     Store(u8, MemArg),
     MemorySize,
     MemoryGrow,
+    MemoryCopy,
+    MemoryFill,
     I32Const(u32),
     I64Const(u64),
-    /// An operation on one number.
+    /// An operation on one integer.
     Unary(u8),
-    /// An operation on two numbers.
+    /// An operation on two integers.
     Binary(u8),
+    Float(FloatInstr),
 }

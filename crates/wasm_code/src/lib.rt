@@ -11,8 +11,11 @@ mod type_text;
 mod types;
 
 pub use expr::Expr;
-pub use instr::{Instr, MemArg};
+pub use instr::{FloatInstr, Instr, MemArg};
 pub use labels::Labels;
-pub use opcodes::{binary_row, is_float, load_row, store_row, unary_row};
+pub use opcodes::{
+    binary_row, float_binary_row, float_load_row, float_store_row, float_unary_row, load_row,
+    store_row, truncate_row, unary_row,
+};
 pub use type_text::{read_global_type, read_limits, table_limits, tables};
 pub use types::{BlockType, FuncType, GlobalType, Limits, ValType};

@@ -20,7 +20,8 @@ impl FromByte for ValType {
         match byte {
             0x7F => Ok(ValType::I32),
             0x7E => Ok(ValType::I64),
-            0x7C | 0x7D => Err(66),
+            0x7D => Ok(ValType::F32),
+            0x7C => Ok(ValType::F64),
             _ => Err(64),
         }
     }
@@ -42,16 +43,14 @@ impl FromByte for BlockType {
     ghost judge = { judge_block_type };
 
     fn from_byte(byte: u8) -> Result<BlockType, u8> {
-        match byte {
-            0x40 => Ok(BlockType { result: None }),
-            0x7F => Ok(BlockType {
-                result: Some(ValType::I32),
+        if byte == 0x40 {
+            return Ok(BlockType { result: None });
+        }
+        match ValType::from_byte(byte) {
+            Ok(value) => Ok(BlockType {
+                result: Some(value),
             }),
-            0x7E => Ok(BlockType {
-                result: Some(ValType::I64),
-            }),
-            0x7C | 0x7D => Err(66),
-            _ => Err(64),
+            Err(number) => Err(number),
         }
     }
 }

@@ -1,11 +1,13 @@
 //! Types ("Types" of the core specification).
 use sim_base::List;
 
-/// A value type. Float types are no types of these modules.
+/// A value type.
 #[derive(Clone, Copy, Debug, PartialEq, Eq)]
 pub enum ValType {
     I32,
     I64,
+    F32,
+    F64,
 }
 
 /// The type of a block: no result, or one.

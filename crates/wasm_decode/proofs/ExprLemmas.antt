@@ -3,7 +3,7 @@ use Rattle.std.proofs.Common.{◌≡◌, ℕ, ◌<◌, List, [], ◌∷◌, ◌+
 use Rattle.std.specs.Prelude.{if◌then◌else◌, ◌==◌, nat_le, is_some}
 use Rattle.sim_base.specs.declared.fault.Fault.{Fault}
 use Rattle.wasm_text.specs.declared.reader.Reader.{Reader}
-use Rattle.wasm_text.specs.Form.{Form}
+use Rattle.wasm_text.specs.Form.{Form, give, choose}
 use Rattle.wasm_text.specs.Lists.{Run}
 use Rattle.wasm_text.specs.Reads.{Reads, Fails}
 use Rattle.wasm_text.proofs.Runs.{HasRun, begins, goes, run_fails, ends}
@@ -13,12 +13,14 @@ use Rattle.wasm_decode.proofs.InstrLemmas.{instr_proper}
 use Rattle.wasm_code.specs.declared.types.ValType.{ValType}
 use Rattle.wasm_code.specs.declared.instr.Instr.{Instr}
 use Rattle.wasm_code.specs.declared.instr.Instr.TheVariants as instrs
-use Rattle.wasm_code.specs.Opcodes.{from, is_float, load, unary}
+use Rattle.wasm_code.specs.declared.instr.FloatInstr.TheVariants as floats
+use Rattle.wasm_code.specs.declared.instr.MemArg.{MemArg}
+use Rattle.wasm_code.specs.Opcodes.{from, load, store, float_load, unary, binary, float_unary}
 use Rattle.wasm_code.specs.Code.{Block, Loop, If, IsNested}
 use Rattle.wasm_code.proofs.Nesting.{IsOpen, open_none, open_plain, open_more, open_less, open_parted, open_ends}
 use Rattle.wasm_decode.specs.declared.instructions.Shape.{Shape}
 use Rattle.wasm_decode.specs.declared.instructions.Shape.TheVariants as shapes
-use Rattle.wasm_decode.specs.InstrText.{is_opcode, Opened, else_may_come, judge_opcode, bare, block_of, index_of, access_of, memory_of, numeric_of, shape_of, behind, instr, InExpr, in_expr, expr}
+use Rattle.wasm_decode.specs.InstrText.{is_opcode, Opened, else_may_come, judge_opcode, bare, block_of, index_of, access_of, memory_of, numeric_of, memory_copy, memory_fill, prefixed_of, shape_of, behind, instr, InExpr, in_expr, expr}
 
 abbrev pub item : InExpr → Form Instr
 item s = instr s.opened
@@ -86,11 +88,16 @@ no_index op n = by (op == 0x0C) (op == 0x0D) (op == 0x10) (op == 0x20) (op == 0x
     by false false false false false false false = refl
 
 no_access : (op x y : ℕ) → is_else (access_of op x y) ≡ false
-no_access op x y = by (is_some (load op))
+no_access op x y = by (is_some (load op)) (is_some (store op)) (is_some (float_load op))
   where
-    by : (a : Bool) → is_else (if a then instrs.Load op (record { align = x; offset = y }) else instrs.Store op (record { align = x; offset = y })) ≡ false
-    by true = refl
-    by false = refl
+    at : MemArg
+    at = record { align = x; offset = y }
+
+    by : (a b c : Bool) → is_else (if a then instrs.Load op at else if b then instrs.Store op at else if c then instrs.Float (floats.Load op at) else instrs.Float (floats.Store op at)) ≡ false
+    by true b c = refl
+    by false true c = refl
+    by false false true = refl
+    by false false false = refl
 
 no_memory : (op : ℕ) → is_else (memory_of op) ≡ false
 no_memory op = by (op == 0x3F)
@@ -100,11 +107,21 @@ no_memory op = by (op == 0x3F)
     by false = refl
 
 no_number : (op : ℕ) → is_else (numeric_of op) ≡ false
-no_number op = by (is_some (unary op))
+no_number op = by (is_some (unary op)) (is_some (binary op)) (is_some (float_unary op))
   where
-    by : (a : Bool) → is_else (if a then instrs.Unary op else instrs.Binary op) ≡ false
-    by true = refl
-    by false = refl
+    by : (a b c : Bool) → is_else (if a then instrs.Unary op else if b then instrs.Binary op else if c then instrs.Float (floats.Unary op) else instrs.Float (floats.Binary op)) ≡ false
+    by true b c = refl
+    by false true c = refl
+    by false false true = refl
+    by false false false = refl
+
+no_prefixed : (n : ℕ) (bytes : List ℕ) (i : Instr) → (prefixed_of n).text bytes i → is_else i ≡ false
+no_prefixed n bytes i h = by (n == 10) (n == 11) h
+  where
+    by : (a b : Bool) → (choose a memory_copy (choose b memory_fill (give (instrs.Float (floats.Truncate n))))).text bytes i → is_else i ≡ false
+    by true b h = ap is_else h.5.5.1
+    by false true h = ap is_else h.5.1
+    by false false h = ap is_else h.1
 
 clash : (i j : Instr) → i ≡ j → is_else i ≡ true → is_else j ≡ false → ⊥
 clash i j e p q = let z : true ≡ false = sym p ∙ ap is_else e ∙ q in absurd cc
@@ -131,21 +148,23 @@ else_op shapes.Access op bytes i h p = absurd (clash i _ h.5.5.1 p (no_access op
 else_op shapes.Reserved op bytes i h p = absurd (clash i _ h.5.1 p (no_memory op))
 else_op shapes.Const32 op bytes i h p = absurd (clash i _ h.5.1 p refl)
 else_op shapes.Const64 op bytes i h p = absurd (clash i _ h.5.1 p refl)
+else_op shapes.Float32 op bytes i h p = absurd (clash i _ h.5.1 p refl)
+else_op shapes.Float64 op bytes i h p = absurd (clash i _ h.5.1 p refl)
+else_op shapes.Prefixed op bytes i h p = let z : true ≡ false = sym p ∙ no_prefixed h.2 h.1 i h.5 in absurd cc
 else_op shapes.Number op bytes i h p = absurd (clash i _ h.1 p (no_number op))
 
-abbrev verdict : Bool → Bool → Bool → Bool → Bool → ℕ → Result ℕ ℕ
-verdict f k c e m b = if f then Err 66 else if not k then Err 65 else if c then Err 69 else if e && not m then Err 65 else Ok b
+abbrev verdict : Bool → Bool → Bool → Bool → ℕ → Result ℕ ℕ
+verdict k c e m b = if not k then Err 65 else if c then Err 69 else if e && not m then Err 65 else Ok b
 
 judged_else : (o : Opened) (b op : ℕ) → judge_opcode o b ≡ Ok op → (b ≡ op) × ((b == 5) ≡ true → else_may_come o ≡ true)
-judged_else o b op h = by (is_float b) (is_opcode b) (from 0x02 0x04 b && nat_le 256 (length o)) (b == 5) (else_may_come o) h
+judged_else o b op h = by (is_opcode b) (from 0x02 0x04 b && nat_le 256 (length o)) (b == 5) (else_may_come o) h
   where
-    by : (f k c e m : Bool) → verdict f k c e m b ≡ Ok op → (b ≡ op) × (e ≡ true → m ≡ true)
-    by true k c e m h = absurd cc
-    by false false c e m h = absurd cc
-    by false true true e m h = absurd cc
-    by false true false true true h = (cc, λ z. refl)
-    by false true false true false h = absurd cc
-    by false true false false m h = (cc, λ z. absurd cc)
+    by : (k c e m : Bool) → verdict k c e m b ≡ Ok op → (b ≡ op) × (e ≡ true → m ≡ true)
+    by false c e m h = absurd cc
+    by true true e m h = absurd cc
+    by true false true true h = (cc, λ z. refl)
+    by true false true false h = absurd cc
+    by true false false m h = (cc, λ z. absurd cc)
 
 else_comes : (o : Opened) (bytes : List ℕ) (i : Instr) → (instr o).text bytes i → is_else i ≡ true → else_may_come o ≡ true
 else_comes o bytes i h p =

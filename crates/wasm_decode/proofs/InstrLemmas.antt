@@ -2,16 +2,19 @@
 use Rattle.std.proofs.Common.{◌≡◌, ℕ, List, Result, Ok, Err, sym, subst}
 use Rattle.sim_base.specs.declared.fault.Fault.{Fault}
 use Rattle.wasm_text.specs.declared.reader.Reader.{Reader}
-use Rattle.wasm_text.specs.Form.{Form, give, byte, judge_tag, ◌>>=◌}
+use Rattle.std.specs.Prelude.{◌%◌, ◌==◌, nat_lt, Bool, true, false}
+use Rattle.std.specs.Int.{w32, w64, from_le_bytes}
+use Rattle.wasm_text.specs.Form.{Form, give, byte, choose, judge_tag, ◌>>=◌}
 use Rattle.wasm_text.specs.Reads.{Reads, Fails, Decodes}
 use Rattle.wasm_text.proofs.Steps.{stops, then, then_reads, then_fails, given}
 use Rattle.wasm_text.specs.Proper.{Proper}
-use Rattle.wasm_text.proofs.Exact.{give_proper, byte_proper, then_proper, unsigned_proper, signed_proper, vec_to_proper}
-use Rattle.wasm_text.specs.Leb.{u32, signed}
-use Rattle.wasm_text.specs.Lists.{vec_to}
+use Rattle.wasm_text.proofs.Exact.{give_proper, byte_proper, then_proper, unsigned_proper, signed_proper, vec_to_proper, bytes_proper, choose_proper}
+use Rattle.wasm_text.specs.Leb.{u32, unsigned, signed}
+use Rattle.wasm_text.specs.Lists.{vec_to, bytes_of_length}
 use Rattle.wasm_code.specs.declared.types.BlockType.{BlockType}
 use Rattle.wasm_code.specs.declared.instr.Instr.{Instr}
 use Rattle.wasm_code.specs.declared.instr.Instr.TheVariants as instrs
+use Rattle.wasm_code.specs.declared.instr.FloatInstr.TheVariants as floats
 use Rattle.wasm_code.specs.TypeText.{block_type, judge_block_type, tag}
 use Rattle.wasm_decode.specs.declared.instructions.Shape.{Shape}
 use Rattle.wasm_decode.specs.declared.instructions.Shape.TheVariants as shapes
@@ -19,7 +22,7 @@ use Rattle.wasm_text.specs.Form.{any_byte}
 use Rattle.wasm_text.proofs.Steps.{judged_ends, judged_ok, judged_err}
 use Rattle.sim_base.specs.declared.fault.Fault.TheVariants as faults
 use Rattle.sim_base.specs.declared.fault.Place.TheVariants as places
-use Rattle.wasm_decode.specs.InstrText.{block_of, block, index_of, indexed, br_table, call_indirect, access_of, access, memory_of, reserved, const_32, const_64, shape_of, behind, immediates, judge_opcode, Opened, instr, bare, numeric_of}
+use Rattle.wasm_decode.specs.InstrText.{block_of, block, index_of, indexed, br_table, table_zero, call_indirect, access_of, access, memory_of, reserved, const_32, const_64, float_32, float_64, judge_prefixed, zeros_behind, prefix_number, memory_copy, memory_fill, prefixed_of, prefixed, shape_of, behind, immediates, judge_opcode, Opened, instr, bare, numeric_of}
 
 abbrev pub block_1 : (op : ℕ) (kind : BlockType) → Form Instr
 block_1 op kind = give (block_of op kind.result)
@@ -54,20 +57,20 @@ br_table_done old r1 r2 labels default v e h1 h2 = subst (λ (z : Instr). Reads 
 pub br_table_proper : Proper br_table
 br_table_proper = then_proper (vec_to 4096 u32) br_table_1 (vec_to_proper 4096 u32 (unsigned_proper 32 0 4294967295 62)) (λ labels. (then_proper u32 (br_table_2 labels) (unsigned_proper 32 0 4294967295 62) (λ default. (give_proper (instrs.BrTable labels default)))))
 
-abbrev pub call_indirect_2 : (kind : ℕ) (mark : Unit {0}) → Form Instr
-call_indirect_2 kind mark = give (instrs.CallIndirect kind)
+abbrev pub call_indirect_2 : (kind table : ℕ) → Form Instr
+call_indirect_2 kind table = give (instrs.CallIndirect kind)
 
 abbrev pub call_indirect_1 : (kind : ℕ) → Form Instr
-call_indirect_1 kind = (tag 0x00 65) >>= call_indirect_2 kind
+call_indirect_1 kind = table_zero >>= call_indirect_2 kind
 
-pub call_indirect_stops_2 : (old r1 : Reader) (kind : ℕ) (e : Fault) → Reads u32 old r1 kind → Fails (tag 0x00 65) r1 e → Fails call_indirect old e
-call_indirect_stops_2 old r1 kind e h1 f = then_fails u32 call_indirect_1 old r1 kind e h1 (stops (tag 0x00 65) (call_indirect_2 kind) r1 e f)
+pub call_indirect_stops_2 : (old r1 : Reader) (kind : ℕ) (e : Fault) → Reads u32 old r1 kind → Fails table_zero r1 e → Fails call_indirect old e
+call_indirect_stops_2 old r1 kind e h1 f = then_fails u32 call_indirect_1 old r1 kind e h1 (stops table_zero (call_indirect_2 kind) r1 e f)
 
-pub call_indirect_done : (old r1 r2 : Reader) (kind : ℕ) (mark : Unit {0}) (v : Instr) → v ≡ instrs.CallIndirect kind → Reads u32 old r1 kind → Reads (tag 0x00 65) r1 r2 mark → Reads call_indirect old r2 v
-call_indirect_done old r1 r2 kind mark v e h1 h2 = subst (λ (z : Instr). Reads call_indirect old r2 z) (sym e) (then_reads u32 call_indirect_1 old r1 r2 kind (instrs.CallIndirect kind) h1 (then_reads (tag 0x00 65) (call_indirect_2 kind) r1 r2 r2 mark (instrs.CallIndirect kind) h2 (given (instrs.CallIndirect kind) r2)))
+pub call_indirect_done : (old r1 r2 : Reader) (kind table : ℕ) (v : Instr) → v ≡ instrs.CallIndirect kind → Reads u32 old r1 kind → Reads table_zero r1 r2 table → Reads call_indirect old r2 v
+call_indirect_done old r1 r2 kind table v e h1 h2 = subst (λ (z : Instr). Reads call_indirect old r2 z) (sym e) (then_reads u32 call_indirect_1 old r1 r2 kind (instrs.CallIndirect kind) h1 (then_reads table_zero (call_indirect_2 kind) r1 r2 r2 table (instrs.CallIndirect kind) h2 (given (instrs.CallIndirect kind) r2)))
 
 pub call_indirect_proper : Proper call_indirect
-call_indirect_proper = then_proper u32 call_indirect_1 (unsigned_proper 32 0 4294967295 62) (λ kind. (then_proper (tag 0x00 65) (call_indirect_2 kind) (byte_proper 61 (judge_tag 0x00 65)) (λ mark. (give_proper (instrs.CallIndirect kind)))))
+call_indirect_proper = then_proper u32 call_indirect_1 (unsigned_proper 32 0 4294967295 62) (λ kind. (then_proper table_zero (call_indirect_2 kind) (unsigned_proper 32 0 0 65) (λ table. (give_proper (instrs.CallIndirect kind)))))
 
 abbrev pub access_2 : (op : ℕ) (align : ℕ) (offset : ℕ) → Form Instr
 access_2 op align offset = give (access_of op align offset)
@@ -111,6 +114,53 @@ const_64_done old r1 n v e h1 = subst (λ (z : Instr). Reads const_64 old r1 z) 
 pub const_64_proper : Proper const_64
 const_64_proper = then_proper (signed 64) const_64_1 (signed_proper 64) (λ n. (give_proper (instrs.I64Const n)))
 
+float_32_proper : Proper float_32
+float_32_proper = then_proper (bytes_of_length 4) _ (bytes_proper 4) (λ bytes. give_proper (instrs.Float (floats.F32Const (from_le_bytes w32 bytes))))
+
+float_64_proper : Proper float_64
+float_64_proper = then_proper (bytes_of_length 8) _ (bytes_proper 8) (λ bytes. give_proper (instrs.Float (floats.F64Const (from_le_bytes w64 bytes))))
+
+abbrev pub copy_2 : (to origin : Unit {0}) → Form Instr
+copy_2 to origin = give instrs.MemoryCopy
+
+abbrev pub copy_1 : (to : Unit {0}) → Form Instr
+copy_1 to = tag 0x00 65 >>= copy_2 to
+
+pub memory_copy_stops_2 : (old r1 : Reader) (to : Unit {0}) (e : Fault) → Reads (tag 0x00 65) old r1 to → Fails (tag 0x00 65) r1 e → Fails memory_copy old e
+memory_copy_stops_2 old r1 to e h1 f = then_fails (tag 0x00 65) copy_1 old r1 to e h1 (stops (tag 0x00 65) (copy_2 to) r1 e f)
+
+pub memory_copy_done : (old r1 r2 : Reader) (to origin : Unit {0}) → Reads (tag 0x00 65) old r1 to → Reads (tag 0x00 65) r1 r2 origin → Reads memory_copy old r2 instrs.MemoryCopy
+memory_copy_done old r1 r2 to origin h1 h2 = then_reads (tag 0x00 65) copy_1 old r1 r2 to instrs.MemoryCopy h1 (then_reads (tag 0x00 65) (copy_2 to) r1 r2 r2 origin instrs.MemoryCopy h2 (given instrs.MemoryCopy r2))
+
+abbrev pub number_2 : (b high : ℕ) → Form ℕ
+number_2 b high = give (b % 128)
+
+abbrev pub number_1 : (b : ℕ) → Form ℕ
+number_1 b = zeros_behind b >>= number_2 b
+
+pub number_stops_2 : (old r1 : Reader) (b : ℕ) (e : Fault) → Reads (byte judge_prefixed) old r1 b → Fails (zeros_behind b) r1 e → Fails prefix_number old e
+number_stops_2 old r1 b e h1 f = then_fails (byte judge_prefixed) number_1 old r1 b e h1 (stops (zeros_behind b) (number_2 b) r1 e f)
+
+pub number_done : (old r1 r2 : Reader) (b high n : ℕ) → n ≡ b % 128 → Reads (byte judge_prefixed) old r1 b → Reads (zeros_behind b) r1 r2 high → Reads prefix_number old r2 n
+number_done old r1 r2 b high n e h1 h2 = subst (λ (z : ℕ). Reads prefix_number old r2 z) (sym e) (then_reads (byte judge_prefixed) number_1 old r1 r2 b (b % 128) h1 (then_reads (zeros_behind b) (number_2 b) r1 r2 r2 high (b % 128) h2 (given (b % 128) r2)))
+
+pub prefixed_goes : (old mid new : Reader) (n : ℕ) (r : Result Instr Fault) → Reads prefix_number old mid n → Decodes (prefixed_of n) r mid new → Decodes prefixed r old new
+prefixed_goes old mid new n r h d = then prefix_number prefixed_of old mid new n r h d
+
+memory_copy_proper : Proper memory_copy
+memory_copy_proper = then_proper (tag 0x00 65) _ (byte_proper 61 (judge_tag 0x00 65)) (λ to. then_proper (tag 0x00 65) _ (byte_proper 61 (judge_tag 0x00 65)) (λ origin. give_proper instrs.MemoryCopy))
+
+memory_fill_proper : Proper memory_fill
+memory_fill_proper = then_proper (tag 0x00 65) _ (byte_proper 61 (judge_tag 0x00 65)) (λ mark. give_proper instrs.MemoryFill)
+
+prefix_number_proper : Proper prefix_number
+prefix_number_proper = then_proper (byte judge_prefixed) _ (byte_proper 61 judge_prefixed)
+    (λ b. then_proper (zeros_behind b) _ (choose_proper (nat_lt b 128) (give 0) (unsigned 25 0 0 65) (give_proper 0) (unsigned_proper 25 0 0 65)) (λ high. give_proper (b % 128)))
+
+prefixed_proper : Proper prefixed
+prefixed_proper = then_proper prefix_number prefixed_of prefix_number_proper
+    (λ n. choose_proper (n == 10) memory_copy _ memory_copy_proper (choose_proper (n == 11) memory_fill (give (instrs.Float (floats.Truncate n))) memory_fill_proper (give_proper (instrs.Float (floats.Truncate n)))))
+
 behind_proper : (s : Shape) (op : ℕ) → Proper (behind s op)
 behind_proper shapes.Bare op = give_proper (bare op)
 behind_proper shapes.Block op = block_proper op
@@ -121,6 +171,9 @@ behind_proper shapes.Access op = access_proper op
 behind_proper shapes.Reserved op = reserved_proper op
 behind_proper shapes.Const32 op = const_32_proper
 behind_proper shapes.Const64 op = const_64_proper
+behind_proper shapes.Float32 op = float_32_proper
+behind_proper shapes.Float64 op = float_64_proper
+behind_proper shapes.Prefixed op = prefixed_proper
 behind_proper shapes.Number op = give_proper (numeric_of op)
 
 pub instr_proper : (o : Opened) → Proper (instr o)

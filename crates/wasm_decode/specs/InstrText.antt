@@ -1,21 +1,32 @@
 -- Instructions and expressions (WebAssembly core specification, "Binary Format", "Instructions", "Expressions").
-use Rattle.std.specs.Prelude.{ℕ, List, [], ◌∷◌, length, Bool, true, false, not, ◌&&◌, ◌||◌, ◌==◌, nat_le, if◌then◌else◌, Result, Ok, Err, Option, is_some}
+use Rattle.std.specs.Int.{w32, w64, from_le_bytes}
+use Rattle.std.specs.Prelude.{ℕ, ◌%◌, nat_lt, List, [], ◌∷◌, length, Bool, true, false, not, ◌&&◌, ◌||◌, ◌==◌, nat_le, if◌then◌else◌, Result, Ok, Err, Option, is_some}
 use Rattle.wasm_code.specs.declared.types.ValType.{ValType}
 use Rattle.wasm_code.specs.declared.instr.Instr.{Instr}
 use Rattle.wasm_code.specs.declared.instr.Instr.TheVariants as instrs
-use Rattle.wasm_code.specs.Opcodes.{unary, binary, load, store, is_float, from}
-use Rattle.wasm_text.specs.Form.{Form, give, byte, ◌>>=◌}
-use Rattle.wasm_text.specs.Leb.{u32, signed}
-use Rattle.wasm_text.specs.Lists.{repeated, vec_to}
+use Rattle.wasm_code.specs.declared.instr.FloatInstr.TheVariants as floats
+use Rattle.wasm_code.specs.declared.instr.MemArg.{MemArg}
+use Rattle.wasm_code.specs.Opcodes.{unary, binary, load, store, float_load, float_store, float_unary, float_binary, truncate, from}
+use Rattle.wasm_text.specs.Form.{Form, give, byte, choose, ◌>>=◌}
+use Rattle.wasm_text.specs.Leb.{u32, unsigned, signed}
+use Rattle.wasm_text.specs.Lists.{repeated, vec_to, bytes_of_length}
 use Rattle.wasm_code.specs.TypeText.{block_type, tag}
 use Rattle.wasm_decode.specs.declared.instructions.Shape.{Shape}
 use Rattle.wasm_decode.specs.declared.instructions.Shape.TheVariants as shapes
 
--- an opcode of an instruction without float types
+-- opcodes of the table, by what they are applied to
+abbrev pub is_access : ℕ → Bool
+is_access op = is_some (load op) || is_some (store op) || is_some (float_load op) || is_some (float_store op)
+
+abbrev pub is_numeric : ℕ → Bool
+is_numeric op = is_some (unary op) || is_some (binary op) || is_some (float_unary op) || is_some (float_binary op)
+
+-- those of control, variables, the memory's size and constants; and the byte FC, behind which a number says the instruction
+abbrev pub is_other : ℕ → Bool
+is_other op = from 0x00 0x05 op || from 0x0B 0x11 op || op == 0x1A || op == 0x1B || from 0x20 0x24 op || from 0x3F 0x44 op || op == 0xFC
+
 abbrev pub is_opcode : ℕ → Bool
-is_opcode op =
-    from 0x00 0x05 op || from 0x0B 0x11 op || op == 0x1A || op == 0x1B || from 0x20 0x24 op || from 0x3F 0x42 op
-    || is_some (load op) || is_some (store op) || is_some (unary op) || is_some (binary op)
+is_opcode op = is_other op || is_access op || is_numeric op
 
 -- The blocks open at a place of an expression, from the innermost: for each, whether an else may stand there.
 abbrev pub Opened : Type 0
@@ -25,11 +36,10 @@ abbrev pub else_may_come : Opened → Bool
 else_may_come [] = false
 else_may_come (x ∷ opened) = x
 
--- 66 for a float instruction, 65 for no opcode and for an else of no if, 69 for a block in 256 others (profile).
+-- 65 for no opcode and for an else of no if, 69 for a block in 256 others (profile).
 abbrev pub judge_opcode : Opened → ℕ → Result ℕ ℕ
 judge_opcode opened op =
-    if is_float op then Err 66
-    else if not (is_opcode op) then Err 65
+    if not (is_opcode op) then Err 65
     else if from 0x02 0x04 op && nat_le 256 (length opened) then Err 69
     else if op == 0x05 && not (else_may_come opened) then Err 65
     else Ok op
@@ -74,16 +84,26 @@ br_table = do
   default ← u32
   give (instrs.BrTable labels default)
 
+-- a u32 that must be 0, with any spelling
+abbrev pub table_zero : Form ℕ
+table_zero = unsigned 32 0 0 65
+
 abbrev pub call_indirect : Form Instr
 call_indirect = do
   kind ← u32
-  mark ← tag 0x00 65
+  table ← table_zero
   give (instrs.CallIndirect kind)
 
 -- loads and stores
+abbrev pub access_at : ℕ → MemArg → Instr
+access_at op at =
+    if is_some (load op) then instrs.Load op at
+    else if is_some (store op) then instrs.Store op at
+    else if is_some (float_load op) then instrs.Float (floats.Load op at)
+    else instrs.Float (floats.Store op at)
+
 abbrev pub access_of : ℕ → ℕ → ℕ → Instr
-access_of op align offset =
-    if is_some (load op) then instrs.Load op (record { align = align; offset = offset }) else instrs.Store op (record { align = align; offset = offset })
+access_of op align offset = access_at op (record { align = align; offset = offset })
 
 abbrev pub access : ℕ → Form Instr
 access op = do
@@ -110,9 +130,65 @@ const_64 = do
   n ← signed 64
   give (instrs.I64Const n)
 
+-- floats, as their bits, the lowest byte first
+abbrev pub float_32 : Form Instr
+float_32 = do
+  bytes ← bytes_of_length 4
+  give (instrs.Float (floats.F32Const (from_le_bytes w32 bytes)))
+
+abbrev pub float_64 : Form Instr
+float_64 = do
+  bytes ← bytes_of_length 8
+  give (instrs.Float (floats.F64Const (from_le_bytes w64 bytes)))
+
 -- operations on numbers
 abbrev pub numeric_of : ℕ → Instr
-numeric_of op = if is_some (unary op) then instrs.Unary op else instrs.Binary op
+numeric_of op =
+    if is_some (unary op) then instrs.Unary op
+    else if is_some (binary op) then instrs.Binary op
+    else if is_some (float_unary op) then instrs.Float (floats.Unary op)
+    else instrs.Float (floats.Binary op)
+
+-- ---- behind FC
+
+-- numbers behind FC: those of truncations, 10 and 11
+abbrev pub is_prefixed : ℕ → Bool
+is_prefixed n = is_some (truncate n) || n == 10 || n == 11
+
+-- A u32 with any spelling: its value stands in the first byte's low seven bits, and what follows is zero; else 65.
+abbrev pub judge_prefixed : ℕ → Result ℕ ℕ
+judge_prefixed b = if is_prefixed (b % 128) then Ok b else Err 65
+
+abbrev pub zeros_behind : ℕ → Form ℕ
+zeros_behind b = choose (nat_lt b 128) (give 0) (unsigned 25 0 0 65)
+
+abbrev pub prefix_number : Form ℕ
+prefix_number = do
+  b ← byte judge_prefixed
+  high ← zeros_behind b
+  give (b % 128)
+
+-- with two reserved bytes, and with one
+abbrev pub memory_copy : Form Instr
+memory_copy = do
+  to ← tag 0x00 65
+  origin ← tag 0x00 65
+  give instrs.MemoryCopy
+
+abbrev pub memory_fill : Form Instr
+memory_fill = do
+  mark ← tag 0x00 65
+  give instrs.MemoryFill
+
+abbrev pub prefixed_of : ℕ → Form Instr
+prefixed_of n = choose (n == 10) memory_copy (choose (n == 11) memory_fill (give (instrs.Float (floats.Truncate n))))
+
+abbrev pub prefixed : Form Instr
+prefixed = do
+  n ← prefix_number
+  prefixed_of n
+
+-- ---- instructions
 
 -- what stands behind an opcode
 abbrev pub shape_of : ℕ → Shape
@@ -126,6 +202,9 @@ shape_of op =
     else if from 0x3F 0x40 op then shapes.Reserved
     else if op == 0x41 then shapes.Const32
     else if op == 0x42 then shapes.Const64
+    else if op == 0x43 then shapes.Float32
+    else if op == 0x44 then shapes.Float64
+    else if op == 0xFC then shapes.Prefixed
     else shapes.Number
 
 abbrev pub behind : Shape → ℕ → Form Instr
@@ -138,6 +217,9 @@ behind shapes.Access op = access op
 behind shapes.Reserved op = reserved op
 behind shapes.Const32 op = const_32
 behind shapes.Const64 op = const_64
+behind shapes.Float32 op = float_32
+behind shapes.Float64 op = float_64
+behind shapes.Prefixed op = prefixed
 behind shapes.Number op = give (numeric_of op)
 
 abbrev pub immediates : ℕ → Form Instr

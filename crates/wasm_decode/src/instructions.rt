@@ -1,15 +1,18 @@
 //! Instructions.
+ghost use Rattle.std.specs.Int.{w32, w64, from_le_bytes};
 ghost use Rattle.std.specs.Prelude.{◌≡◌, ◌≤◌, true, reverse, length, Ok, Err, ◌&&◌, ◌==◌, not, nat_le};
 ghost use Rattle.wasm_code.specs.Opcodes.{from};
-ghost use Rattle.wasm_decode.specs.InstrText.{else_may_come as may_come, is_opcode, judge_opcode, is_bare, bare as bare_instr, block_of, block as block_form, is_indexed, index_of, indexed as indexed_form, br_table as br_table_form, call_indirect as call_indirect_form, access_of, access as access_form, memory_of, reserved as reserved_form, const_32 as const_32_form, const_64 as const_64_form, shape_of, numeric_of, immediates as immediates_form, instr};
+ghost use Rattle.wasm_decode.specs.InstrText.{else_may_come as may_come, is_opcode, is_other, is_access, is_numeric, judge_opcode, is_bare, bare as bare_instr, block_of, block as block_form, is_indexed, index_of, indexed as indexed_form, br_table as br_table_form, call_indirect as call_indirect_form, access_at, access as access_form, memory_of, reserved as reserved_form, const_32 as const_32_form, const_64 as const_64_form, float_32 as float_32_form, float_64 as float_64_form, shape_of, numeric_of, immediates as immediates_form, instr};
 ghost use Rattle.wasm_text.specs.Reads.{Decodes};
 
+use crate::prefixed::prefixed;
 use sim_base::{Fault, List};
 use std::alloc::Global;
 use wasm_code::{
-    BlockType, Instr, Labels, MemArg, ValType, binary_row, is_float, load_row, store_row, unary_row,
+    BlockType, FloatInstr, Instr, Labels, MemArg, ValType, binary_row, float_binary_row,
+    float_load_row, float_store_row, float_unary_row, load_row, store_row, unary_row,
 };
-use wasm_text::{Reader, index, judged, list_to, refused, signed, tag};
+use wasm_text::{Reader, index, judged, list_to, refused, signed, tag, zero};
 
 /// At most so many labels of a `br_table` beside its default.
 const LABELS: u32 = 4096;
@@ -33,9 +36,6 @@ pub fn instruction(alloc: Global, reader: &mut Reader, opened: &[bool]) -> Resul
 fn judge(opened: &[bool], op: u8) -> Result<u8, u8>
     ensures { result ≡ judge_opcode (reverse opened.now) op }
 {
-    if is_float(op) {
-        return Err(66);
-    }
     if !is_known(op) {
         return Err(65);
     }
@@ -79,15 +79,31 @@ fn else_may_come(opened: &[bool]) -> bool
 fn is_known(op: u8) -> bool
     ensures { result ≡ is_opcode op }
 {
-    match op {
-        0x00..=0x05 | 0x0B..=0x11 | 0x1A | 0x1B | 0x20..=0x24 | 0x3F..=0x42 => true,
-        _ => {
-            load_row(op).is_some()
-                || store_row(op).is_some()
-                || unary_row(op).is_some()
-                || binary_row(op).is_some()
-        }
-    }
+    is_other(op) || is_access(op) || is_numeric(op)
+}
+
+fn is_other(op: u8) -> bool
+    ensures { result ≡ is_other op }
+{
+    matches!(op, 0x00..=0x05 | 0x0B..=0x11 | 0x1A | 0x1B | 0x20..=0x24 | 0x3F..=0x44 | 0xFC)
+}
+
+fn is_access(op: u8) -> bool
+    ensures { result ≡ is_access op }
+{
+    load_row(op).is_some()
+        || store_row(op).is_some()
+        || float_load_row(op).is_some()
+        || float_store_row(op).is_some()
+}
+
+fn is_numeric(op: u8) -> bool
+    ensures { result ≡ is_numeric op }
+{
+    unary_row(op).is_some()
+        || binary_row(op).is_some()
+        || float_unary_row(op).is_some()
+        || float_binary_row(op).is_some()
 }
 
 /// What stands behind an opcode.
@@ -102,6 +118,9 @@ pub enum Shape {
     Reserved,
     Const32,
     Const64,
+    Float32,
+    Float64,
+    Prefixed,
     Number,
 }
 
@@ -118,6 +137,9 @@ fn classify(op: u8) -> Shape
         0x3F | 0x40 => Shape::Reserved,
         0x41 => Shape::Const32,
         0x42 => Shape::Const64,
+        0x43 => Shape::Float32,
+        0x44 => Shape::Float64,
+        0xFC => Shape::Prefixed,
         _ => Shape::Number,
     }
 }
@@ -135,6 +157,9 @@ fn immediates(alloc: Global, reader: &mut Reader, op: u8) -> Result<Instr, Fault
         Shape::Reserved => reserved(reader, op),
         Shape::Const32 => const_32(reader),
         Shape::Const64 => const_64(reader),
+        Shape::Float32 => float_32(reader),
+        Shape::Float64 => float_64(reader),
+        Shape::Prefixed => prefixed(reader),
         Shape::Number => Ok(numeric(op)),
     }
 }
@@ -205,7 +230,7 @@ fn call_indirect(reader: &mut Reader) -> Result<Instr, Fault>
     ensures { Decodes call_indirect_form result reader.old reader.new }
 {
     let kind = index(reader)?;
-    tag(reader, 0x00, 65)?;
+    zero(reader, 32, 65)?;
     Ok(Instr::CallIndirect(kind))
 }
 
@@ -218,12 +243,16 @@ fn access(reader: &mut Reader, op: u8) -> Result<Instr, Fault>
 }
 
 fn access_instr(op: u8, at: MemArg) -> Instr
-    ensures { result ≡ access_of op at.align at.offset }
+    ensures { result ≡ access_at op at }
 {
     if load_row(op).is_some() {
         Instr::Load(op, at)
-    } else {
+    } else if store_row(op).is_some() {
         Instr::Store(op, at)
+    } else if float_load_row(op).is_some() {
+        Instr::Float(FloatInstr::Load(op, at))
+    } else {
+        Instr::Float(FloatInstr::Store(op, at))
     }
 }
 
@@ -262,7 +291,41 @@ fn numeric(op: u8) -> Instr
 {
     if unary_row(op).is_some() {
         Instr::Unary(op)
-    } else {
+    } else if binary_row(op).is_some() {
         Instr::Binary(op)
+    } else if float_unary_row(op).is_some() {
+        Instr::Float(FloatInstr::Unary(op))
+    } else {
+        Instr::Float(FloatInstr::Binary(op))
     }
+}
+
+fn float_32(reader: &mut Reader) -> Result<Instr, Fault>
+    ensures { Decodes float_32_form result reader.old reader.new }
+{
+    let bytes = reader.bytes(4)?;
+    Ok(Instr::Float(FloatInstr::F32Const(word(bytes))))
+}
+
+fn word(bytes: &[u8]) -> u32
+    requires { length bytes.now ≡ 4 }
+    ensures { result ≡ from_le_bytes w32 bytes.now }
+{
+    u32::from_le_bytes([bytes[0], bytes[1], bytes[2], bytes[3]])
+}
+
+fn float_64(reader: &mut Reader) -> Result<Instr, Fault>
+    ensures { Decodes float_64_form result reader.old reader.new }
+{
+    let bytes = reader.bytes(8)?;
+    Ok(Instr::Float(FloatInstr::F64Const(long(bytes))))
+}
+
+fn long(bytes: &[u8]) -> u64
+    requires { length bytes.now ≡ 8 }
+    ensures { result ≡ from_le_bytes w64 bytes.now }
+{
+    u64::from_le_bytes([
+        bytes[0], bytes[1], bytes[2], bytes[3], bytes[4], bytes[5], bytes[6], bytes[7],
+    ])
 }

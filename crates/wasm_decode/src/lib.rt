@@ -11,6 +11,7 @@ mod imports;
 mod instructions;
 mod items;
 mod module;
+mod prefixed;
 mod progress;
 mod sections;
 #[cfg(test)]
@@ -21,4 +22,6 @@ pub use module::{
     Body, DataSegment, ElementSegment, Export, Extern, GlobalDef, Import, ImportDesc, LocalRun,
     Module,
 };
-pub use wasm_code::{Expr, FuncType, GlobalType, Instr, Labels, Limits, MemArg, ValType};
+pub use wasm_code::{
+    Expr, FloatInstr, FuncType, GlobalType, Instr, Labels, Limits, MemArg, ValType,
+};

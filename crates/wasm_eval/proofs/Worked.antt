@@ -3,11 +3,12 @@ use Rattle.std.specs.Prelude.{◌≡◌, ℕ, List, [], ◌∷◌, Some, None, R
 use Rattle.wasm_num.specs.declared.trap.Trap.{Trap}
 use Rattle.wasm_num.specs.declared.trap.Trap.TheVariants as traps
 use Rattle.wasm_num.specs.declared.value.Value.{Value}
-use Rattle.wasm_num.specs.declared.value.Value.TheVariants.{I32, I64}
+use Rattle.wasm_num.specs.declared.value.Value.TheVariants.{I32, I64, F32}
 use Rattle.wasm_num.specs.Mem.{Mem, put}
 use Rattle.wasm_code.specs.declared.types.ValType.{ValType}
 use Rattle.wasm_code.specs.declared.types.ValType.TheVariants as types
 use Rattle.wasm_code.specs.declared.instr.Instr.TheVariants as instrs
+use Rattle.wasm_code.specs.declared.instr.FloatInstr.TheVariants as floats
 use Rattle.wasm_code.specs.Code.{Block, Loop, If, Code, Done, Then, In, Both}
 use Rattle.wasm_eval.specs.Eval.{Program, Func, State, Answer, End, Gives, Fails, Wrong, call}
 
@@ -718,3 +719,78 @@ division_by_zero_rows =
 
 division_by_zero_answers : answers division_by_zero [] no_memory division_by_zero_rows ≡ wanted division_by_zero_rows
 division_by_zero_answers = refl
+
+-- a memory that begins with eight bytes
+abbrev eight_bytes : Mem
+eight_bytes = record { bytes = 1 ∷ 2 ∷ 3 ∷ 4 ∷ 5 ∷ 6 ∷ 7 ∷ 8 ∷ replicate 192 0; limit = 1 }
+
+abbrev three_words : List ValType
+three_words = types.I32 ∷ types.I32 ∷ types.I32 ∷ []
+
+abbrev copies : Program
+copies = record {
+  types = record { params = three_words; results = [] } ∷ record { params = types.I32 ∷ []; results = types.I32 ∷ [] } ∷ [];
+  imports = [];
+  funcs =
+      function three_words [] []
+      (Then (instrs.LocalGet 0) (Then (instrs.LocalGet 1) (Then (instrs.LocalGet 2) (Then instrs.MemoryCopy Done)))) ∷
+      function three_words [] []
+      (Then (instrs.LocalGet 0) (Then (instrs.LocalGet 1) (Then (instrs.LocalGet 2) (Then instrs.MemoryFill Done)))) ∷
+      function (types.I32 ∷ []) (types.I32 ∷ []) []
+      (Then (instrs.LocalGet 0) (Then (instrs.Load 0x28 (record { align = 2; offset = 0 })) Done)) ∷
+      [];
+  table = [];
+}
+
+-- bytes 1, 1, 2, 3, and then fills; traps write nothing
+abbrev copies_rows : List Row
+copies_rows =
+    (0, I32 1 ∷ I32 0 ∷ I32 3 ∷ [], 4, Ok []) ∷
+    (2, I32 0 ∷ [], 2, Ok (I32 50462977 ∷ [])) ∷
+    (0, I32 0 ∷ I32 1 ∷ I32 3 ∷ [], 3, Err traps.Budget) ∷
+    (0, I32 200 ∷ I32 0 ∷ I32 0 ∷ [], 4, Ok []) ∷
+    (0, I32 0 ∷ I32 201 ∷ I32 0 ∷ [], 4, Err traps.MemoryBounds) ∷
+    (0, I32 137 ∷ I32 0 ∷ I32 64 ∷ [], 4, Err traps.MemoryBounds) ∷
+    (0, I32 136 ∷ I32 0 ∷ I32 64 ∷ [], 4, Err traps.Budget) ∷
+    (2, I32 136 ∷ [], 2, Ok (I32 0 ∷ [])) ∷
+    (0, I32 136 ∷ I32 0 ∷ I32 64 ∷ [], 5, Ok []) ∷
+    (2, I32 136 ∷ [], 2, Ok (I32 50462977 ∷ [])) ∷
+    (1, I32 0 ∷ I32 511 ∷ I32 64 ∷ [], 4, Err traps.Budget) ∷
+    (1, I32 0 ∷ I32 511 ∷ I32 64 ∷ [], 5, Ok []) ∷
+    (2, I32 60 ∷ [], 2, Ok (I32 4294967295 ∷ [])) ∷
+    (2, I32 61 ∷ [], 2, Ok (I32 16777215 ∷ [])) ∷
+    (1, I32 201 ∷ I32 0 ∷ I32 0 ∷ [], 4, Err traps.MemoryBounds) ∷
+    []
+
+copies_answers : answers copies [] eight_bytes copies_rows ≡ wanted copies_rows
+copies_answers = refl
+
+abbrev float_code : Program
+float_code = record {
+  types = record { params = []; results = [] } ∷ [];
+  imports = [];
+  funcs =
+      function [] [] []
+      (Then (instrs.Float (floats.F32Const 0)) (Then instrs.Drop Done)) ∷
+      function [] [] (types.I32 ∷ types.F64 ∷ [])
+      (Then (instrs.LocalGet 0) (Then instrs.Drop (Then (instrs.LocalGet 1) (Then instrs.Drop Done)))) ∷
+      function [] [] []
+      (Then (instrs.GlobalGet 0) (Then instrs.Drop Done)) ∷
+      function [] [] (types.F32 ∷ [])
+      (Then instrs.Nop Done) ∷
+      [];
+  table = [];
+}
+
+abbrev float_code_rows : List Row
+float_code_rows =
+    (0, [], 0, Err traps.Budget) ∷
+    (0, [], 1, Err traps.Float) ∷
+    (1, [], 2, Err traps.Budget) ∷
+    (1, [], 3, Err traps.Float) ∷
+    (2, [], 1, Err traps.Float) ∷
+    (3, [], 1, Ok []) ∷
+    []
+
+float_code_answers : answers float_code (F32 0 ∷ []) no_memory float_code_rows ≡ wanted float_code_rows
+float_code_answers = refl

@@ -2,7 +2,7 @@
 use Rattle.std.proofs.Common.{◌≡◌, ℕ, zero, suc, ◌*◌, ◌^◌, ◌%◌, List, [], ◌∷◌, ◌++◌, length, map, take, Option, Some, refl, sym, ap, subst, ◌∙◌, arith}
 use Rattle.std.specs.Prelude.{slice_get}
 use Rattle.wasm_num.specs.declared.value.Value.{Value}
-use Rattle.wasm_num.specs.declared.value.Value.TheVariants.{I32, I64}
+use Rattle.wasm_num.specs.declared.value.Value.TheVariants.{I32, I64, F32, F64}
 use Rattle.wasm_code.specs.declared.types.ValType.{ValType}
 use Rattle.wasm_code.specs.declared.types.ValType.TheVariants as types
 use Rattle.wasm_code.specs.declared.types.GlobalType.{GlobalType}
@@ -27,9 +27,21 @@ use Rattle.wasm_exec.specs.Ready.{IsReady, globals_in}
 
 pub one_slot : (v : Value) (t : ValType) → HasType v t → as_type t (slot v) ≡ v
 one_slot (I32 n) types.I32 h = let q : n % 2 ^ 32 ≡ n = omega arith in ap (λ (k : ℕ). I32 k) q
-one_slot (I64 n) types.I64 h = refl
 one_slot (I32 n) types.I64 h = absurd h
+one_slot (I32 n) types.F32 h = absurd h
+one_slot (I32 n) types.F64 h = absurd h
 one_slot (I64 n) types.I32 h = absurd h
+one_slot (I64 n) types.I64 h = refl
+one_slot (I64 n) types.F32 h = absurd h
+one_slot (I64 n) types.F64 h = absurd h
+one_slot (F32 n) types.I32 h = absurd h
+one_slot (F32 n) types.I64 h = absurd h
+one_slot (F32 n) types.F32 h = let q : n % 2 ^ 32 ≡ n = omega arith in ap (λ (k : ℕ). F32 k) q
+one_slot (F32 n) types.F64 h = absurd h
+one_slot (F64 n) types.I32 h = absurd h
+one_slot (F64 n) types.I64 h = absurd h
+one_slot (F64 n) types.F32 h = absurd h
+one_slot (F64 n) types.F64 h = refl
 
 -- values that were put into slots and taken out again
 pub as_slots : (vs : List Value) (ts : List ValType) → HasTypes vs ts → as_types ts (map slot vs) ≡ vs

@@ -55,6 +55,8 @@ fn is_of(kind: ValType, value: Value) -> bool
     match value {
         Value::I32(_) => matches!(kind, ValType::I32),
         Value::I64(_) => matches!(kind, ValType::I64),
+        Value::F32(_) => matches!(kind, ValType::F32),
+        Value::F64(_) => matches!(kind, ValType::F64),
     }
 }
 

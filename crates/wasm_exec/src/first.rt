@@ -1,18 +1,19 @@
 //! The memory and the globals as they are at first.
-ghost use Rattle.std.specs.Prelude.{◌≡◌, ◌++◌, ◌*◌, IfOk, OnOk, true, map, length};
+ghost use Rattle.std.specs.Prelude.{◌≡◌, ◌*◌, IfOk, true, map, length};
 ghost use Rattle.wasm_eval.specs.Values.{HasType, HasTypes};
 ghost use Rattle.wasm_run.specs.Machine.{slot};
 ghost use Rattle.wasm_run.specs.Loaded.{value_types};
-ghost use Rattle.wasm_validate.specs.Rules.{memories_of, imported_memories, is_constant, kinds_of, least_of};
+ghost use Rattle.wasm_validate.specs.Rules.{memories_of, is_constant, kinds_of, least_of};
 ghost use Rattle.wasm_exec.specs.Programs.{constant, constants, first_memory, with_segments, memory_at_first};
 ghost use Rattle.wasm_exec.specs.Whole.{AreConstant, MemoriesFit, SegmentsFit};
 
 use crate::table::offset;
 use sim_base::{List, OutOfMemory};
 use std::alloc::Global;
-use wasm_code::{Instr, Limits, ValType};
-use wasm_decode::{DataSegment, GlobalDef, Import, ImportDesc, Module};
+use wasm_code::{FloatInstr, Instr, Limits, ValType};
+use wasm_decode::{DataSegment, GlobalDef};
 use wasm_num::Memory;
+use wasm_validate::Space;
 
 /// The slot of an initial value, which is one constant of the type.
 fn constant(kind: ValType, code: &[Instr]) -> u64
@@ -23,6 +24,8 @@ fn constant(kind: ValType, code: &[Instr]) -> u64
     match code {
         [Instr::I32Const(n), ..] => u64::from(*n),
         [Instr::I64Const(n), ..] => *n,
+        [Instr::Float(FloatInstr::F32Const(n)), ..] => u64::from(*n),
+        [Instr::Float(FloatInstr::F64Const(n)), ..] => *n,
         _ => unreachable!(),
     }
 }
@@ -38,35 +41,6 @@ pub fn first_globals(alloc: Global, globals: &[GlobalDef]) -> Result<List<u64>, 
         slots.push(constant(global.kind.value, global.init.as_slice()))?;
     }
     Ok(slots)
-}
-
-fn add_memories(found: &mut Vec<Limits>, more: &[Limits]) -> Result<(), OutOfMemory>
-    ensures { OnOk result (found.new.items ≡ found.old.items ++ more.now) }
-{
-    for limits in more {
-        found.push(*limits)?;
-    }
-    Ok(())
-}
-
-fn imported_memories(alloc: Global, imports: &[Import]) -> Result<Vec<Limits>, OutOfMemory>
-    ensures { IfOk result (λ found. found.items ≡ imported_memories imports.now) }
-{
-    let mut found = Vec::new(alloc);
-    for import in imports {
-        if let ImportDesc::Memory(limits) = import.desc {
-            found.push(limits)?;
-        }
-    }
-    Ok(found)
-}
-
-fn memories(alloc: Global, module: &Module) -> Result<Vec<Limits>, OutOfMemory>
-    ensures { IfOk result (λ found. found.items ≡ memories_of module.now) }
-{
-    let mut found = imported_memories(alloc, module.imports.as_slice())?;
-    add_memories(&mut found, module.memories.as_slice())?;
-    Ok(found)
 }
 
 fn empty_memory(alloc: Global, limits: &[Limits]) -> Result<Memory, OutOfMemory>
@@ -92,13 +66,12 @@ fn put_segments(memory: &mut Memory, segments: &[DataSegment])
 }
 
 /// The memory of a module as it is at first.
-pub fn memory_of(alloc: Global, module: &Module) -> Result<Memory, OutOfMemory>
-    requires memories { MemoriesFit (memories_of module.now) }
-    requires segments { SegmentsFit (65536 * least_of (memories_of module.now)) module.now.segments }
-    ensures { IfOk result (λ memory. memory ≡ memory_at_first module.now) }
+pub fn memory_of(alloc: Global, space: &Space) -> Result<Memory, OutOfMemory>
+    requires memories { MemoriesFit (memories_of space.now.module.now) }
+    requires segments { SegmentsFit (65536 * least_of (memories_of space.now.module.now)) space.now.module.now.segments }
+    ensures { IfOk result (λ memory. memory ≡ memory_at_first space.now.module.now) }
 {
-    let limits = memories(alloc, module)?;
-    let mut memory = empty_memory(alloc, &limits)?;
-    put_segments(&mut memory, module.segments.as_slice());
+    let mut memory = empty_memory(alloc, &space.memories)?;
+    put_segments(&mut memory, space.module.segments.as_slice());
     Ok(memory)
 }

@@ -1,7 +1,7 @@
 //! Functions by the numbers of their types.
-ghost use Rattle.std.specs.Prelude.{◌≡◌, ◌++◌, ◌<◌, ◌≤◌, ℕ, IfOk, OnOk, Some, map, length, slice_get};
+ghost use Rattle.std.specs.Prelude.{◌≡◌, ◌<◌, ◌≤◌, ℕ, IfOk, Some, map, length, slice_get};
 ghost use Rattle.wasm_code.specs.declared.types.FuncType.{FuncType};
-ghost use Rattle.wasm_validate.specs.Rules.{functions_of, imported_functions};
+ghost use Rattle.wasm_validate.specs.Rules.{imported_functions};
 ghost use Rattle.wasm_exec.specs.Plans.{arity_at, arity_or};
 ghost use Rattle.wasm_exec.specs.Whole.{AllBelow};
 
@@ -9,7 +9,7 @@ use sim_base::{List, OutOfMemory};
 use std::alloc::Global;
 use wasm_code::{FuncType, ValType};
 use wasm_compile::TypeRow;
-use wasm_decode::{Import, ImportDesc, Module};
+use wasm_decode::{Import, ImportDesc};
 use wasm_run::Arity;
 
 /// No function that `decode` accepts has more parameters.
@@ -25,24 +25,6 @@ pub fn imported_numbers(alloc: Global, imports: &[Import]) -> Result<List<u32>, 
             found.push(number)?;
         }
     }
-    Ok(found)
-}
-
-fn add_numbers(found: &mut List<u32>, more: &[u32]) -> Result<(), OutOfMemory>
-    ensures { OnOk result (found.new ≡ found.old ++ more.now) }
-{
-    for number in more {
-        found.push(*number)?;
-    }
-    Ok(())
-}
-
-/// The numbers of the types of all functions.
-pub fn numbers(alloc: Global, module: &Module) -> Result<List<u32>, OutOfMemory>
-    ensures { IfOk result (λ found. found ≡ functions_of module.now) }
-{
-    let mut found = imported_numbers(alloc, module.imports.as_slice())?;
-    add_numbers(&mut found, module.functions.as_slice())?;
     Ok(found)
 }
 

@@ -7,12 +7,12 @@ ghost use Rattle.wasm_exec.specs.Whole.{IsWhole};
 ghost use Rattle.wasm_exec.specs.Ready.{IsReady, globals_in};
 
 use crate::first::{first_globals, memory_of};
-use crate::numbers::numbers;
 use crate::plans::plan_of;
 use sim_base::{List, OutOfMemory};
 use std::alloc::Global;
 use wasm_decode::Module;
 use wasm_run::{Plan, Store};
+use wasm_validate::spaces;
 
 /// How many calls may be nested.
 pub const CALLS: u32 = 256;
@@ -46,15 +46,15 @@ fn whole_parts(alloc: Global, module: &Module) -> Result<Parts, OutOfMemory>
     ensures memory { IfOk result (λ parts. parts.store.memory ≡ memory_at_first module.now) }
     ensures first { IfOk result (λ parts. globals_in module.now parts.store.globals ≡ first_globals module.now) }
 {
-    let numbers = numbers(alloc, module)?;
-    let planned = plan_of(alloc, module)?;
-    let memory = memory_of(alloc, module)?;
+    let space = spaces(alloc, module)?;
+    let planned = plan_of(alloc, &space)?;
+    let memory = memory_of(alloc, &space)?;
     let globals = first_globals(alloc, module.globals.as_slice())?;
     let slots = free_slots(alloc, planned.room)?;
     Ok(Parts {
         plan: planned.plan,
         room: planned.room,
-        numbers,
+        numbers: List::from_vec(space.functions),
         store: Store { memory, globals },
         slots,
     })

@@ -17,6 +17,8 @@ fn slot_of(value: Value) -> u64
     match value {
         Value::I32(n) => u64::from(n),
         Value::I64(n) => n,
+        Value::F32(n) => u64::from(n),
+        Value::F64(n) => n,
     }
 }
 
@@ -60,6 +62,8 @@ fn result_of(kind: Option<ValType>, slots: &[u64]) -> Option<Value>
     match kind {
         Some(ValType::I32) => Some(Value::I32((slots[0] % 0x1_0000_0000) as u32)),
         Some(ValType::I64) => Some(Value::I64(slots[0])),
+        Some(ValType::F32) => Some(Value::F32((slots[0] % 0x1_0000_0000) as u32)),
+        Some(ValType::F64) => Some(Value::F64(slots[0])),
         None => None,
     }
 }

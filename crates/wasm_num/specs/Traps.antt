@@ -1,7 +1,7 @@
 -- The numbers of traps.
 use Rattle.std.specs.Prelude.{ℕ}
 use Rattle.wasm_num.specs.declared.trap.Trap.{Trap}
-use Rattle.wasm_num.specs.declared.trap.Trap.TheVariants.{Unreachable, MemoryBounds, DivideByZero, Overflow, TableBounds, NoElement, TypeMismatch, Exhausted, Budget, HostAddress, HostString, HostPhase, HostLimit}
+use Rattle.wasm_num.specs.declared.trap.Trap.TheVariants.{Unreachable, MemoryBounds, DivideByZero, Overflow, TableBounds, NoElement, TypeMismatch, Exhausted, Budget, HostAddress, HostString, HostPhase, HostLimit, Float}
 
 abbrev pub number_of : Trap → ℕ
 number_of Unreachable = 1
@@ -17,3 +17,4 @@ number_of HostAddress = 10
 number_of HostString = 11
 number_of HostPhase = 12
 number_of HostLimit = 13
+number_of Float = 14

@@ -2,7 +2,7 @@
 ghost use Rattle.std.specs.Prelude.{◌≡◌, ◌+◌, ◌*◌, ◌≤◌, ◌<◌, IfOk, length, nat_le, min, replicate, take, drop, if◌then◌else◌, ◌-◌, ◌^◌, slice_set, Ok};
 ghost use Rattle.std.specs.Option.{option_map_or, ForSome};
 ghost use Rattle.std.specs.Int.{w8, w16, w32, w64};
-ghost use Rattle.wasm_num.specs.Mem.{Mem, size, grown, grow_answer, put, read, written, IsAccess, IsLoad, load, IsStore, stored, store_width, IsWhole};
+ghost use Rattle.wasm_num.specs.Mem.{Mem, size, grown, grow_answer, put, read, written, IsAccess, IsLoad, load, IsStore, stored, store_width, has, can_copy, copied, filled, IsDone, IsWhole};
 ghost use Rattle.wasm_num.specs.declared.value.Value.TheVariants.{I32, I64};
 
 use crate::bytes::{get8, get16, get32, get64, set8, set16, set32, set64};
@@ -255,6 +255,7 @@ impl Memory {
         match v {
             Value::I32(n) => self.store32(op, at, n),
             Value::I64(n) => self.store64(op, at, n),
+            _ => unreachable!(),
         }
     }
 
@@ -283,6 +284,65 @@ impl Memory {
             0x3D => self.write16(at, (n % 0x1_0000) as u16),
             _ => self.write32(at, (n % 0x1_0000_0000) as u32),
         }
+    }
+
+    /// Whether it has so many bytes from an address on.
+    #[inline(always)]
+    pub fn has(&self, at: u32, n: u32) -> bool
+        ensures { result ≡ has self.now at n }
+    {
+        self.is_inside(at as usize, n as usize)
+    }
+
+    /// Whether it has so many bytes from both addresses on.
+    #[inline(always)]
+    pub fn can_copy(&self, to: u32, from: u32, n: u32) -> bool
+        ensures { result ≡ can_copy self.now to from n }
+    {
+        self.has(to, n) && self.has(from, n)
+    }
+
+    /// Copies n bytes from one address to another, as they are before; the ranges may overlap. Trap: 2 MemoryBounds where
+    /// one of them passes the end, which leaves all as it is.
+    pub fn copy(&mut self, to: u32, from: u32, n: u32) -> Result<(), Trap>
+        ensures trap { IsDone result (can_copy self.old to from n) }
+        ensures after { self.new ≡ copied self.old to from n }
+    {
+        if !self.can_copy(to, from, n) {
+            return Err(Trap::MemoryBounds);
+        }
+        self.move_bytes(to as usize, from as usize, n as usize);
+        Ok(())
+    }
+
+    fn move_bytes(&mut self, to: usize, from: usize, n: usize)
+        requires to { to + n ≤ length self.old.bytes }
+        requires from { from + n ≤ length self.old.bytes }
+        ensures bytes { self.new.bytes ≡ put to (take n (drop from self.old.bytes)) self.old.bytes }
+        ensures limit { self.new.limit ≡ self.old.limit }
+    {
+        self.data.copy_within(from..from + n, to);
+    }
+
+    /// Puts a byte into n places from an address on. Trap: 2 MemoryBounds where they pass the end, which leaves all as it
+    /// is.
+    pub fn fill(&mut self, to: u32, value: u8, n: u32) -> Result<(), Trap>
+        ensures trap { IsDone result (has self.old to n) }
+        ensures after { self.new ≡ filled self.old to value n }
+    {
+        if !self.has(to, n) {
+            return Err(Trap::MemoryBounds);
+        }
+        self.put_bytes(to as usize, value, n as usize);
+        Ok(())
+    }
+
+    fn put_bytes(&mut self, to: usize, value: u8, n: usize)
+        requires { to + n ≤ length self.old.bytes }
+        ensures bytes { self.new.bytes ≡ put to (replicate n value) self.old.bytes }
+        ensures limit { self.new.limit ≡ self.old.limit }
+    {
+        self.data[to..to + n].fill(value);
     }
 
     /// Writes bytes from a place on, as a data segment does.

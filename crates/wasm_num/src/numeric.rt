@@ -14,6 +14,7 @@ pub fn unary(op: u8, a: Value) -> Value
     match a {
         Value::I32(a) => unary32(op, a),
         Value::I64(a) => unary64(op, a),
+        _ => unreachable!(),
     }
 }
 
@@ -30,24 +31,29 @@ pub fn binary(op: u8, a: Value, b: Value) -> Result<Value, Trap>
 }
 
 fn unary32(op: u8, a: u32) -> Value
-    requires { IsFrom 0x45 0x45 op ⊎ IsFrom 0x67 0x69 op ⊎ IsFrom 0xAC 0xAD op }
+    requires { IsFrom 0x45 0x45 op ⊎ IsFrom 0x67 0x69 op ⊎ IsFrom 0xAC 0xAD op ⊎ IsFrom 0xC0 0xC1 op }
     ensures { result ≡ unary32 op a }
 {
     match op {
         0x45 => Value::I32(u32::from(a == 0)),
         0xAC => Value::I64(int64::extend32_s(a)),
         0xAD => Value::I64(u64::from(a)),
+        0xC0 => Value::I32(int32::extend8_s((a % 0x100) as u8)),
+        0xC1 => Value::I32(int32::extend16_s((a % 0x1_0000) as u16)),
         _ => Value::I32(int32::count(op, a)),
     }
 }
 
 fn unary64(op: u8, a: u64) -> Value
-    requires { IsFrom 0x50 0x50 op ⊎ IsFrom 0x79 0x7B op ⊎ IsFrom 0xA7 0xA7 op }
+    requires { IsFrom 0x50 0x50 op ⊎ IsFrom 0x79 0x7B op ⊎ IsFrom 0xA7 0xA7 op ⊎ IsFrom 0xC2 0xC4 op }
     ensures { result ≡ unary64 op a }
 {
     match op {
         0x50 => Value::I32(u32::from(a == 0)),
         0xA7 => Value::I32(int32::wrap(a)),
+        0xC2 => Value::I64(int64::extend8_s((a % 0x100) as u8)),
+        0xC3 => Value::I64(int64::extend16_s((a % 0x1_0000) as u16)),
+        0xC4 => Value::I64(int64::extend32_s(int32::wrap(a))),
         _ => Value::I64(int64::count(op, a)),
     }
 }

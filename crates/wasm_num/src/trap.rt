@@ -2,7 +2,8 @@
 ghost use Rattle.std.specs.Prelude.{◌≡◌};
 ghost use Rattle.wasm_num.specs.Traps.{number_of};
 
-/// A trap: of an instruction, of a run's limits (`Exhausted`, `Budget`), or of a host call (from `HostAddress` on).
+/// A trap: of an instruction, of a run's limits (`Exhausted`, `Budget`), of a host call
+/// (`HostAddress` to `HostLimit`), or of code that would compute with floats (`Float`).
 #[derive(Clone, Copy, Debug, PartialEq, Eq)]
 pub enum Trap {
     Unreachable = 1,
@@ -18,6 +19,7 @@ pub enum Trap {
     HostString = 11,
     HostPhase = 12,
     HostLimit = 13,
+    Float = 14,
 }
 
 impl Trap {

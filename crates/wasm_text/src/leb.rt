@@ -33,6 +33,14 @@ pub fn count_exactly(reader: &mut Reader, wanted: usize) -> Result<u32, Fault>
     Ok(number as u32)
 }
 
+/// A number of so many bits that must be zero; `rule` where that is not left.
+pub fn zero(reader: &mut Reader, bits: u8, rule: u8) -> Result<u64, Fault>
+    requires { bits ≤ 32 }
+    ensures { Decodes (unsigned bits 0 0 rule) result reader.old reader.new }
+{
+    unsigned(reader, bits, 0, 0, rule)
+}
+
 /// An unsigned number of so many bits from least to greatest; `rule` where none is left.
 fn unsigned(
     reader: &mut Reader,

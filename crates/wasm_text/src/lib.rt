@@ -12,7 +12,7 @@ mod part;
 mod reader;
 
 pub use bytes::{FromByte, judged, tag};
-pub use leb::{count_exactly, count_to, index, signed};
+pub use leb::{count_exactly, count_to, index, signed, zero};
 pub use lists::{Decode, byte_list, list, list_to};
 pub use name::read_name;
 pub use part::close;

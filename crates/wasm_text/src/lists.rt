@@ -6,7 +6,7 @@ ghost use Rattle.wasm_text.specs.Lists.{items as items_form, vec, vec_to, byte_v
 ghost use Rattle.wasm_text.specs.Reads.{Decodes};
 
 use crate::leb::{count_to, index};
-use crate::reader::{Reader, refused};
+use crate::reader::Reader;
 use sim_base::{Fault, List};
 use std::alloc::Global;
 
@@ -39,14 +39,8 @@ pub fn byte_list(alloc: Global, reader: &mut Reader) -> Result<List<u8>, Fault>
 fn bytes_of_length(alloc: Global, reader: &mut Reader, count: u32) -> Result<List<u8>, Fault>
     ensures { Decodes (raw count) result reader.old reader.new }
 {
-    let count = count as usize;
-    if reader.rest.len() < count {
-        let cut = reader.at + reader.rest.len() as u32;
-        return Err(refused(61, cut));
-    }
-    let bytes = reader.rest[..count].to_vec(alloc)?;
-    reader.skip(count);
-    Ok(List::from_vec(bytes))
+    let bytes = reader.bytes(count)?;
+    Ok(List::from_vec(bytes.to_vec(alloc)?))
 }
 
 /// A vec of items.

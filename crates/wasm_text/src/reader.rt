@@ -25,8 +25,9 @@ pub struct Reader<'a> {
 
 impl<'a> Reader<'a> {
     ghost use Rattle.std.specs.Prelude.{Bool, true};
-    ghost use Rattle.wasm_text.specs.Reads.{Decodes, Took};
+    ghost use Rattle.wasm_text.specs.Reads.{Decodes, DecodesAs, Took};
     ghost use Rattle.wasm_text.specs.Form.{any_byte};
+    ghost use Rattle.wasm_text.specs.Lists.{bytes_of_length};
 
     /// A reader of at most so many bytes from here on.
     pub fn window(&self, size: u32) -> Reader<'a>
@@ -49,6 +50,19 @@ impl<'a> Reader<'a> {
     {
         self.at += count as u32;
         self.rest = &self.rest[count..];
+    }
+
+    /// So many bytes, whatever they are.
+    pub fn bytes(&mut self, count: u32) -> Result<&'a [u8], Fault>
+        ensures { DecodesAs (λ s. s.now) (bytes_of_length count) result self.old self.new }
+    {
+        let count = count as usize;
+        if self.rest.len() < count {
+            return Err(refused(61, self.at + self.rest.len() as u32));
+        }
+        let bytes = &self.rest[..count];
+        self.skip(count);
+        Ok(bytes)
     }
 
     /// Any byte.

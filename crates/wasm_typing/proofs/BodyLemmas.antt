@@ -9,6 +9,7 @@ use Rattle.wasm_code.specs.declared.types.ValType.{ValType}
 use Rattle.wasm_code.specs.declared.types.ValType.TheVariants.{I32}
 use Rattle.wasm_code.specs.declared.instr.Instr.{Instr}
 use Rattle.wasm_code.specs.declared.instr.Instr.TheVariants as instrs
+use Rattle.wasm_code.specs.declared.instr.FloatInstr.TheVariants as floats
 use Rattle.wasm_code.specs.Code.{IsNested, flat}
 use Rattle.wasm_typing.specs.Typing.{Context, IsBody, CanBegin, exists, all_below, labels_behind, room, IsShallow, Lacks, Exists, NumberAt, FailsAt, signature, given}
 use Rattle.wasm_typing.specs.Checking as checks
@@ -122,6 +123,15 @@ module _ (c : Context) where
   lacks_stops (instrs.Store op at) s e = lack (signature c (instrs.Store op at)) s.known s.missing s.around (no_given c.memories _ e)
   lacks_stops instrs.MemorySize s e = lack (signature c instrs.MemorySize) s.known s.missing s.around (no_given c.memories _ e)
   lacks_stops instrs.MemoryGrow s e = lack (signature c instrs.MemoryGrow) s.known s.missing s.around (no_given c.memories _ e)
+  lacks_stops instrs.MemoryCopy s e = lack (signature c instrs.MemoryCopy) s.known s.missing s.around (no_given c.memories _ e)
+  lacks_stops instrs.MemoryFill s e = lack (signature c instrs.MemoryFill) s.known s.missing s.around (no_given c.memories _ e)
+  lacks_stops (instrs.Float (floats.Load op at)) s e = lack (signature c (instrs.Float (floats.Load op at))) s.known s.missing s.around (no_given c.memories _ e)
+  lacks_stops (instrs.Float (floats.Store op at)) s e = lack (signature c (instrs.Float (floats.Store op at))) s.known s.missing s.around (no_given c.memories _ e)
+  lacks_stops (instrs.Float (floats.F32Const n)) s e = absurd cc
+  lacks_stops (instrs.Float (floats.F64Const n)) s e = absurd cc
+  lacks_stops (instrs.Float (floats.Unary op)) s e = absurd cc
+  lacks_stops (instrs.Float (floats.Binary op)) s e = absurd cc
+  lacks_stops (instrs.Float (floats.Truncate n)) s e = absurd cc
   lacks_stops (instrs.I32Const n) s e = absurd cc
   lacks_stops (instrs.I64Const n) s e = absurd cc
   lacks_stops (instrs.Unary op) s e = absurd cc

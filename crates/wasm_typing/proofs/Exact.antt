@@ -2,7 +2,7 @@
 use Rattle.std.proofs.Common.{◌≡◌, ℕ, ◌≤◌, List, [], ◌∷◌, ◌++◌, length, Option, Some, None, Bool, true, false, ◌&&◌, refl, sym, ap, subst, ◌∙◌, arith}
 use Rattle.std.specs.Prelude.{slice_get, option_to_list, option_map, option_and_then, if◌then◌else◌}
 use Rattle.wasm_code.specs.declared.types.ValType.{ValType}
-use Rattle.wasm_code.specs.declared.types.ValType.TheVariants.{I32, I64}
+use Rattle.wasm_code.specs.declared.types.ValType.TheVariants.{I32, I64, F32, F64}
 use Rattle.wasm_code.specs.declared.instr.Instr.{Instr}
 use Rattle.wasm_code.specs.declared.instr.Instr.TheVariants as instrs
 use Rattle.wasm_code.specs.Code.{Kind, Block, Loop, If, Code, Done, Then, In, Both, flat, head, is_plain, IsPlain}
@@ -49,12 +49,26 @@ Denotes (o ∷ os) m (t ∷ ts) = (is_type t o ≡ true) × Denotes os m ts
 type_refl : (t : ValType) → same_type t t ≡ true
 type_refl I32 = refl
 type_refl I64 = refl
+type_refl F32 = refl
+type_refl F64 = refl
 
 type_is : (t u : ValType) → same_type t u ≡ true → t ≡ u
 type_is I32 I32 e = refl
-type_is I64 I64 e = refl
 type_is I32 I64 e = absurd cc
+type_is I32 F32 e = absurd cc
+type_is I32 F64 e = absurd cc
 type_is I64 I32 e = absurd cc
+type_is I64 I64 e = refl
+type_is I64 F32 e = absurd cc
+type_is I64 F64 e = absurd cc
+type_is F32 I32 e = absurd cc
+type_is F32 I64 e = absurd cc
+type_is F32 F32 e = refl
+type_is F32 F64 e = absurd cc
+type_is F64 I32 e = absurd cc
+type_is F64 I64 e = absurd cc
+type_is F64 F32 e = absurd cc
+type_is F64 F64 e = refl
 
 types_refl : (ts : List ValType) → same_types ts ts ≡ true
 types_refl [] = refl

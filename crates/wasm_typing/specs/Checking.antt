@@ -1,7 +1,7 @@
 -- How the validator goes over flat code: known operands above missing ones, and the blocks around. No public clause cites it.
 use Rattle.std.specs.Prelude.{ℕ, ◌+◌, List, [], ◌∷◌, ◌++◌, Option, Some, None, slice_get, option_to_list, option_map, option_and_then, length, map, Bool, true, false, ◌&&◌, if◌then◌else◌}
 use Rattle.wasm_code.specs.declared.types.ValType.{ValType}
-use Rattle.wasm_code.specs.declared.types.ValType.TheVariants.{I32, I64}
+use Rattle.wasm_code.specs.declared.types.ValType.TheVariants.{I32, I64, F32, F64}
 use Rattle.wasm_code.specs.declared.instr.Instr.{Instr}
 use Rattle.wasm_code.specs.declared.instr.Instr.TheVariants as instrs
 use Rattle.wasm_typing.specs.Typing.{Context, signature}
@@ -13,8 +13,9 @@ Operand = Option ValType
 abbrev pub same_type : ValType → ValType → Bool
 same_type I32 I32 = true
 same_type I64 I64 = true
-same_type I32 I64 = false
-same_type I64 I32 = false
+same_type F32 F32 = true
+same_type F64 F64 = true
+same_type _ _ = false
 
 abbrev pub is_type : ValType → Operand → Bool
 is_type t None = true

@@ -1,12 +1,14 @@
 -- Typing (WebAssembly core specification, "Validation", "Instructions"). Operand lists begin at their top.
 use Rattle.std.specs.Prelude.{◌≡◌, ℕ, ◌+◌, ◌-◌, ◌^◌, ◌<◌, ◌≤◌, List, [], ◌∷◌, ◌++◌, Option, Some, None, Bool, true, false, nat_lt, nat_le, if◌then◌else◌, slice_get, option_to_list, option_map, option_and_then, length, reverse, take, ◌&&◌, ◌⊎◌, is_some}
 use Rattle.wasm_code.specs.declared.types.ValType.{ValType}
-use Rattle.wasm_code.specs.declared.types.ValType.TheVariants.{I32, I64}
+use Rattle.wasm_code.specs.declared.types.ValType.TheVariants.{I32, I64, F32, F64}
 use Rattle.wasm_code.specs.declared.types.FuncType.{FuncType}
 use Rattle.wasm_code.specs.declared.types.GlobalType.{GlobalType}
 use Rattle.wasm_code.specs.declared.instr.Instr.{Instr}
 use Rattle.wasm_code.specs.declared.instr.Instr.TheVariants as instrs
-use Rattle.wasm_code.specs.Opcodes.{unary, binary, load, store}
+use Rattle.wasm_code.specs.declared.instr.FloatInstr.{FloatInstr}
+use Rattle.wasm_code.specs.declared.instr.FloatInstr.TheVariants as floats
+use Rattle.wasm_code.specs.Opcodes.{unary, binary, load, store, float_load, float_store, float_unary, float_binary, truncate}
 use Rattle.wasm_code.specs.Code.{Kind, Block, Loop, If, Code, Done, Then, In, Both, flat, Beginning, Here, Inside, InsideElse, flat_beginning}
 
 -- What the module gives to a body ("Contexts"); functions and globals begin with the imported ones.
@@ -77,6 +79,16 @@ all_below n [] = true
 all_below n (x ∷ xs) = nat_lt x n && all_below n xs
 
 module _ (c : Context) where
+  -- those of the table of float types
+  abbrev pub float_signature : FloatInstr → Option Signature
+  float_signature (floats.Load op at) = given c.memories (option_and_then (λ row. access at.align row.1 (I32 ∷ [], row.0 ∷ [])) (float_load op))
+  float_signature (floats.Store op at) = given c.memories (option_and_then (λ row. access at.align row.1 (row.0 ∷ I32 ∷ [], [])) (float_store op))
+  float_signature (floats.F32Const n) = Some (gives F32)
+  float_signature (floats.F64Const n) = Some (gives F64)
+  float_signature (floats.Unary op) = option_map (λ row. (row.0 ∷ [], row.1 ∷ [])) (float_unary op)
+  float_signature (floats.Binary op) = option_map (λ row. (row.0 ∷ row.0 ∷ [], row.1 ∷ [])) (float_binary op)
+  float_signature (floats.Truncate n) = option_map (λ row. (row.0 ∷ [], row.1 ∷ [])) (truncate n)
+
   -- the operands and results of an instruction that has the same ones under all labels; none where it has no type here
   abbrev pub signature : Instr → Option Signature
   signature instrs.Nop = Some ([], [])
@@ -91,10 +103,13 @@ module _ (c : Context) where
   signature (instrs.Store op at) = given c.memories (option_and_then (λ row. access at.align row.1 (row.0 ∷ I32 ∷ [], [])) (store op))
   signature instrs.MemorySize = given c.memories (Some (gives I32))
   signature instrs.MemoryGrow = given c.memories (Some (I32 ∷ [], I32 ∷ []))
+  signature instrs.MemoryCopy = given c.memories (Some (I32 ∷ I32 ∷ I32 ∷ [], []))
+  signature instrs.MemoryFill = given c.memories (Some (I32 ∷ I32 ∷ I32 ∷ [], []))
   signature (instrs.I32Const n) = Some (gives I32)
   signature (instrs.I64Const n) = Some (gives I64)
   signature (instrs.Unary op) = option_map (λ row. (row.0 ∷ [], row.1 ∷ [])) (unary op)
   signature (instrs.Binary op) = option_map (λ row. (row.0 ∷ row.0 ∷ [], row.1 ∷ [])) (binary op)
+  signature (instrs.Float f) = float_signature f
   signature _ = None
 
   -- One instruction under the operands of the labels, from the innermost. Behind br, br_table, return and unreachable any operands
@@ -135,6 +150,11 @@ module _ (c : Context) where
   abbrev pub CanBegin : ℕ → List Instr → Type 0
   CanBegin room is = (b : Beginning) × (is ≡ flat_beginning b) × Begins room (c.returns ∷ []) b
 
+  abbrev pub float_exists : FloatInstr → Bool
+  float_exists (floats.Load op at) = nat_lt 0 c.memories
+  float_exists (floats.Store op at) = nat_lt 0 c.memories
+  float_exists _ = true
+
   -- whether the indexes and labels of an instruction exist, under so many labels
   abbrev pub exists : ℕ → Instr → Bool
   exists labels (instrs.Br l) = nat_lt l labels
@@ -151,6 +171,9 @@ module _ (c : Context) where
   exists labels (instrs.Store op at) = nat_lt 0 c.memories
   exists labels instrs.MemorySize = nat_lt 0 c.memories
   exists labels instrs.MemoryGrow = nat_lt 0 c.memories
+  exists labels instrs.MemoryCopy = nat_lt 0 c.memories
+  exists labels instrs.MemoryFill = nat_lt 0 c.memories
+  exists labels (instrs.Float f) = float_exists f
   exists labels _ = true
 
 -- how many labels there are behind these instructions, where there were so many before

@@ -9,7 +9,7 @@ use crate::context::BodyContext;
 use crate::steps::step;
 use sim_base::OutOfMemory;
 use std::alloc::Global;
-use wasm_code::Instr;
+use wasm_code::{FloatInstr, Instr};
 
 /// An instruction that fails, and the rule that it breaks.
 #[derive(Clone, Copy, Debug, PartialEq, Eq)]
@@ -62,6 +62,10 @@ pub fn exists(context: &BodyContext, labels: usize, instr: &Instr) -> bool
         Instr::Store(_, _) => context.memories > 0,
         Instr::MemorySize => context.memories > 0,
         Instr::MemoryGrow => context.memories > 0,
+        Instr::MemoryCopy => context.memories > 0,
+        Instr::MemoryFill => context.memories > 0,
+        Instr::Float(FloatInstr::Load(_, _)) => context.memories > 0,
+        Instr::Float(FloatInstr::Store(_, _)) => context.memories > 0,
         _ => true,
     }
 }

@@ -301,6 +301,15 @@ impl Checker {
             && take_type(&mut self.known, self.missing, ValType::I32)
     }
 
+    /// Takes two addresses, or an address and a value, and a count of bytes.
+    pub fn take_three(&mut self) -> bool
+        ensures { Follows result (stay (state_of self.old).around (turn (ValType.I32 ∷ ValType.I32 ∷ ValType.I32 ∷ []) [] (state_of self.old).known self.old.missing)) (state_of self.new) }
+    {
+        take_type(&mut self.known, self.missing, ValType::I32)
+            && take_type(&mut self.known, self.missing, ValType::I32)
+            && take_type(&mut self.known, self.missing, ValType::I32)
+    }
+
     pub fn call(&mut self, kind: &FuncType) -> Result<bool, OutOfMemory>
         ensures { IfOk result (λ yes. Follows yes (stay (state_of self.old).around (turn (reverse kind.now.params) (reverse kind.now.results) (state_of self.old).known self.old.missing)) (state_of self.new)) }
     {

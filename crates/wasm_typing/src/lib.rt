@@ -6,6 +6,7 @@
 mod body;
 mod checker;
 mod context;
+mod floats;
 mod open;
 mod operands;
 mod steps;

@@ -6,6 +6,7 @@ ghost use Rattle.wasm_typing.specs.Views.{state_of, Follows};
 
 use crate::checker::Checker;
 use crate::context::BodyContext;
+use crate::floats::float_step;
 use crate::open::Frame;
 use sim_base::OutOfMemory;
 use std::alloc::Global;
@@ -54,6 +55,7 @@ pub fn step(
         Instr::Store(op, at) => Ok(store(checker, context, *op, *at)),
         Instr::MemorySize => memory_size(checker, context),
         Instr::MemoryGrow => memory_grow(checker, context),
+        Instr::MemoryCopy | Instr::MemoryFill => Ok(memory_bulk(checker, context)),
         Instr::I32Const(_) => {
             checker.give(ValType::I32)?;
             Ok(true)
@@ -64,6 +66,7 @@ pub fn step(
         }
         Instr::Unary(op) => unary(checker, context, *op),
         Instr::Binary(op) => binary(checker, context, *op),
+        Instr::Float(float) => float_step(checker, context, *float),
     }
 }
 
@@ -148,7 +151,7 @@ fn global_set(checker: &mut Checker, context: &BodyContext, x: u32) -> bool
 }
 
 /// Whether an access of so many bytes may be aligned so.
-fn is_aligned(align: u32, width: u32) -> bool
+pub fn is_aligned(align: u32, width: u32) -> bool
     requires { width ≤ 8 }
     ensures { result ≡ nat_le (2 ^ align) width }
 {
@@ -217,6 +220,16 @@ fn memory_grow(checker: &mut Checker, context: &BodyContext) -> Result<bool, Out
         return Ok(false);
     }
     checker.one_to(ValType::I32, ValType::I32)
+}
+
+/// `memory.copy` and `memory.fill`, which have the same operands.
+fn memory_bulk(checker: &mut Checker, context: &BodyContext) -> bool
+    ensures { Follows result (step_form (context_of context.now) Instr.MemoryCopy (state_of checker.old)) (state_of checker.new) }
+{
+    if context.memories == 0 {
+        return false;
+    }
+    checker.take_three()
 }
 
 fn unary(checker: &mut Checker, context: &BodyContext, op: u8) -> Result<bool, OutOfMemory>

@@ -5,12 +5,13 @@ use Rattle.std.specs.Str.{bytes_eq}
 use Rattle.sim_base.specs.declared.fault.Refusal.{Refusal}
 use Rattle.sim_base.specs.declared.fault.Place.TheVariants as places
 use Rattle.wasm_code.specs.declared.types.ValType.{ValType}
-use Rattle.wasm_code.specs.declared.types.ValType.TheVariants.{I32, I64}
+use Rattle.wasm_code.specs.declared.types.ValType.TheVariants.{I32, I64, F32, F64}
 use Rattle.wasm_code.specs.declared.types.FuncType.{FuncType}
 use Rattle.wasm_code.specs.declared.types.GlobalType.{GlobalType}
 use Rattle.wasm_code.specs.declared.types.Limits.{Limits}
 use Rattle.wasm_code.specs.declared.instr.Instr.{Instr}
 use Rattle.wasm_code.specs.declared.instr.Instr.TheVariants as instrs
+use Rattle.wasm_code.specs.declared.instr.FloatInstr.TheVariants as floats
 use Rattle.wasm_decode.specs.declared.module.Extern.TheVariants as externs
 use Rattle.wasm_decode.specs.declared.module.Extern.{Extern}
 use Rattle.wasm_decode.specs.declared.module.ImportDesc.TheVariants as descs
@@ -136,6 +137,8 @@ desc_fits before (descs.Global g) = true
 abbrev pub is_constant_of : ValType → Instr → Bool
 is_constant_of I32 (instrs.I32Const n) = true
 is_constant_of I64 (instrs.I64Const n) = true
+is_constant_of F32 (instrs.Float (floats.F32Const n)) = true
+is_constant_of F64 (instrs.Float (floats.F64Const n)) = true
 is_constant_of t i = false
 
 abbrev pub is_end : Instr → Bool
@@ -222,7 +225,7 @@ module _ (m : Module) where
 
   -- ---- 70: indexes
 
-  -- An initial expression has the indexes of the module and no locals.
+  -- An initial expression has the indexes of the module and no locals, and is no label of its own.
   abbrev pub initial : Context
   initial = record {
     types = m.types;
@@ -254,7 +257,7 @@ module _ (m : Module) where
   function_exists i f = nat_lt f (length (functions_of m))
 
   abbrev pub global_exists : ℕ → GlobalDef → Bool
-  global_exists i g = all_exist g.init 1
+  global_exists i g = all_exist g.init 0
 
   abbrev pub extern_exists : Extern → ℕ → Bool
   extern_exists externs.Function n = nat_lt n (length (functions_of m))
@@ -266,10 +269,10 @@ module _ (m : Module) where
   export_exists i x = extern_exists x.kind x.index
 
   abbrev pub element_exists : ℕ → ElementSegment → Bool
-  element_exists i x = nat_lt 0 (length (tables_of m)) && all_exist x.offset 1 && all_below (length (functions_of m)) x.functions
+  element_exists i x = nat_lt 0 (length (tables_of m)) && all_exist x.offset 0 && all_below (length (functions_of m)) x.functions
 
   abbrev pub segment_exists : ℕ → DataSegment → Bool
-  segment_exists i x = nat_lt 0 (length (memories_of m)) && all_exist x.offset 1
+  segment_exists i x = nat_lt 0 (length (memories_of m)) && all_exist x.offset 0
 
   abbrev pub start_exists : Option Refusal
   start_exists = first_fault 70 8 function_exists 0 starts

@@ -50,11 +50,23 @@ fn failure(
 ) -> Result<Option<Failure>, OutOfMemory>
     ensures { IfOk result (λ f. MatchOption f (IsTyped space.now.module.now i body.now) (λ f. FailsAt (context_at space.now.module.now i body.now) body.now.code f.at f.number)) }
 {
-    let kind = kind_of(space, i);
-    let mut locals = params(alloc, kind)?;
-    add_locals(&mut locals, body.locals.as_slice())?;
-    let context = body_context(space, &locals, returns(kind));
+    let locals = locals(alloc, space, i, body)?;
+    let context = body_context(space, &locals, returns(kind_of(space, i)));
     failing(alloc, &context, body.code.as_slice())
+}
+
+/// The types of the locals of body number i, its parameters first.
+pub fn locals(
+    alloc: Global,
+    space: &Space,
+    i: usize,
+    body: &Body,
+) -> Result<Vec<ValType>, OutOfMemory>
+    ensures { IfOk result (λ v. v.items ≡ params_of (type_of_body space.now.module.now i) ++ declared body.now.locals) }
+{
+    let mut locals = params(alloc, kind_of(space, i))?;
+    add_locals(&mut locals, body.locals.as_slice())?;
+    Ok(locals)
 }
 
 fn body_context<'a>(

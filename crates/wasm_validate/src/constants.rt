@@ -6,7 +6,7 @@ ghost use Rattle.wasm_validate.specs.Rules.{constants as constants_form, names a
 use crate::rules::{Rule, first_fault, or_then};
 use crate::space::Space;
 use sim_base::{Refusal, Text};
-use wasm_code::{Instr, Limits, ValType};
+use wasm_code::{FloatInstr, Instr, Limits, ValType};
 use wasm_decode::{DataSegment, ElementSegment, Export, GlobalDef, Import, ImportDesc};
 
 /// The greatest number of pages that a memory may begin with, and of entries that a table may.
@@ -79,6 +79,8 @@ fn is_constant_of(wanted: ValType, instr: &Instr) -> bool
     match wanted {
         ValType::I32 => matches!(instr, Instr::I32Const(_)),
         ValType::I64 => matches!(instr, Instr::I64Const(_)),
+        ValType::F32 => matches!(instr, Instr::Float(FloatInstr::F32Const(_))),
+        ValType::F64 => matches!(instr, Instr::Float(FloatInstr::F64Const(_))),
     }
 }
 

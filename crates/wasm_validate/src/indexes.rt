@@ -169,12 +169,12 @@ fn initial<'a>(space: &'a Space) -> BodyContext<'a>
     }
 }
 
-/// Whether the indexes and labels of an initial expression exist.
+/// Whether the indexes and labels of an initial expression exist. It is no label of its own.
 fn all_exist(space: &Space, code: &[Instr]) -> bool
-    ensures { result ≡ all_form space.now.module.now code.now 1 }
+    ensures { result ≡ all_form space.now.module.now code.now 0 }
 {
     let context = initial(space);
-    let mut labels = 1;
+    let mut labels = 0;
     for instr in code {
         if !exists(&context, labels, instr) {
             return false;

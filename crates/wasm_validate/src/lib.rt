@@ -18,6 +18,9 @@ mod tests;
 mod valid;
 mod validating;
 
+pub use bodies::locals;
+pub use collecting::spaces;
 pub use import_text::{ImportKind, ImportText};
+pub use space::Space;
 pub use valid::Valid;
 pub use validating::validate;

@@ -32,3 +32,12 @@ returns-in-Bare c = shaped c.args.op c.classify.result shapes.Bare _ _ (Ok c.bar
 
 pub returns-in-Number : goal.returns-in-Number
 returns-in-Number c = shaped c.args.op c.classify.result shapes.Number _ _ (Ok c.numeric.result) c.classify.ensures c.in-Number.is (number_read c.args.op c.numeric.result _ c.numeric.ensures)
+
+pub returns-in-Float32 : goal.returns-in-Float32
+returns-in-Float32 c = shaped c.args.op c.classify.result shapes.Float32 _ _ c.float_32.result c.classify.ensures c.in-Float32.is c.float_32.ensures
+
+pub returns-in-Float64 : goal.returns-in-Float64
+returns-in-Float64 c = shaped c.args.op c.classify.result shapes.Float64 _ _ c.float_64.result c.classify.ensures c.in-Float64.is c.float_64.ensures
+
+pub returns-in-Prefixed : goal.returns-in-Prefixed
+returns-in-Prefixed c = shaped c.args.op c.classify.result shapes.Prefixed _ _ c.prefixed.result c.classify.ensures c.in-Prefixed.is c.prefixed.ensures
