@@ -3,7 +3,6 @@ pub mod ValueLemmas
 pub mod ReachLemmas
 pub mod AreaLemmas
 pub mod ResolveLemmas
-pub mod PlainLemmas
 pub mod PickLemmas
 pub mod LocalLemmas
 pub mod SubcircuitLemmas

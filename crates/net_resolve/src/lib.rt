@@ -8,7 +8,6 @@ mod groups;
 mod levels;
 mod marks;
 mod nets;
-mod plain;
 mod room;
 mod subcircuit;
 mod sums;
@@ -17,4 +16,3 @@ mod tests;
 mod whole;
 
 pub use nets::{Nets, has_valid_nets};
-pub use plain::plain_levels;

@@ -1,7 +1,8 @@
 //! Worked nets, and every combination of drives on three pins against the plain program of the definition.
 ghost use Rattle.std.specs.Prelude.{◌≡◌, length, IfOk};
 
-use crate::{Nets, has_valid_nets, plain_levels};
+use crate::{Nets, has_valid_nets};
+use plain_nets::plain_levels;
 use sim_base::{Drive, Level, List, OutOfMemory, Wiring};
 use std::alloc::{AllocError, Global};
 use std::process::Abort;

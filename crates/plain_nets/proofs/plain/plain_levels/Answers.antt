@@ -1,7 +1,7 @@
 use Rattle.std.proofs.Common.{◌≡◌, ◌∙◌, ap, arith, ℕ, map}
 use Rattle.board_model.specs.Walks.{below}
 use Rattle.board_model.specs.Resolve.{level_of, resolve}
-use Rattle.net_resolve.proofs.plain.plain_levels.Goals as goal
+use Rattle.plain_nets.proofs.plain.plain_levels.Goals as goal
 
 pub returns : goal.returns
 unfolding resolve

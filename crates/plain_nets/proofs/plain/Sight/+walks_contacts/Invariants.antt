@@ -2,7 +2,7 @@ use Rattle.std.proofs.Common.{◌≡◌, ◌-◌}
 use Rattle.std.specs.Prelude.{◌||◌, ◌&&◌}
 use Rattle.board_model.specs.Walks.{any_below, walk_within}
 use Rattle.board_model.specs.Resolve.{contact_joins}
-use Rattle.net_resolve.proofs.plain.Sight.+walks_contacts.Given as goal
+use Rattle.plain_nets.proofs.plain.Sight.+walks_contacts.Given as goal
 
 abbrev pub invariant-loop-j : goal.invariant-loop-j
 invariant-loop-j l = l.found ≡ (walk_within l.self.nets (contact_joins l.self.contacts.now l.self.closed.now) (l.k - 1) l.n l.m

@@ -1,4 +1,4 @@
-//! The levels of nets word for word by the definition: slow, for small boards, to test `Nets` against.
+//! Nets as the definition sees them.
 ghost use Rattle.std.specs.Prelude.{◌≡◌, ℕ, ◌<◌, ◌≤◌, ◌&&◌, ◌||◌, List, [], ◌∷◌, ◌++◌, length, map, filter, not, if◌then◌else◌, IfOk, OnOk, Some, slice_get};
 ghost use Rattle.std.specs.List.{list_any, flat_map, zip};
 ghost use Rattle.sim_base.specs.Signal.{value_of, strong_of, is_weak};
