@@ -1,0 +1,28 @@
+;; A state machine whose steps are called through a table: each state's function takes a letter, does a little work by a
+;; call, and answers the next state. Many turns of a fixed word.
+(module
+  (type $step (func (param i32) (result i32)))
+  (table 4 funcref)
+  (global $sum (mut i32) (i32.const 0))
+  (func $idle (type $step)
+    (call $note (i32.const 1))
+    (if (result i32) (i32.lt_u (local.get 0) (i32.const 2)) (then (i32.const 1)) (else (i32.const 0))))
+  (func $start (type $step)
+    (call $note (local.get 0))
+    (select (i32.const 2) (i32.const 3) (i32.eq (local.get 0) (i32.const 2))))
+  (func $data (type $step)
+    (call $note (i32.shl (local.get 0) (i32.const 3)))
+    (if (result i32) (i32.eqz (local.get 0)) (then (i32.const 3)) (else (i32.const 2))))
+  (func $stop (type $step)
+    (call $note (i32.const 7))
+    (i32.and (local.get 0) (i32.const 1)))
+  (func $note (param i32)
+    (global.set $sum (i32.add (i32.rotl (global.get $sum) (i32.const 5)) (local.get 0))))
+  (func (export "run") (result i32) (local $turn i32) (local $state i32)
+    (loop $turns
+      (local.set $state (call_indirect (type $step)
+        (i32.rem_u (i32.mul (local.get $turn) (i32.const 7)) (i32.const 5)) (local.get $state)))
+      (br_if $turns (i32.lt_u (local.tee $turn (i32.add (local.get $turn) (i32.const 1))) (i32.const 3000000))))
+    (global.get $sum))
+  (func (export "chipInit"))
+  (elem (i32.const 0) $idle $start $data $stop))
