@@ -26,12 +26,12 @@ use Rattle.outcome_model.specs.Promises.{IsOne}
 use Rattle.outcome_model.proofs.EndLemmas.{stops, on_after, begins_after}
 use Rattle.outcome_model.proofs.PromiseLemmas.{one_answer}
 use Rattle.cli_run.specs.Answer.{answer_texts, RunAnswer}
-use Rattle.cli_run.specs.Ran.{OpensNamed, Ran}
+use Rattle.cli_run.specs.Ran.{OpensNamed, Ran, named_text}
 use Rattle.cli_run.specs.Run.{run_texts}
 
 -- the texts of a run
 abbrev pub texts_for : Option (List ℕ) → List ℕ → List ℕ → Texts
-texts_for wave text bytes = record { serial = bytes; wave = option_map (λ (name : List ℕ). record { name = name; text = text }) wave; report = None }
+texts_for wave text bytes = record { serial = bytes; wave = option_map (named_text text) wave; report = None }
 
 -- a run whose wave is not wanted, by how its writing ends
 unwanted : (end : WriteEnd) (text bytes : List ℕ) (a b : Outside) → Writes end (texts false true text bytes) a b → Ran (end_of end) (record { serial = bytes; wave = None; report = None }) a b
@@ -85,11 +85,11 @@ wanted writes.Failed name text bytes a m b opens others w =
     rose (ports.Report, some, up) = absurd (cc)
     rose (ports.Complaint, some, up) = absurd (cc)
 
--- the writing behind the opening
-pub ran_texts : (wave : Option (List ℕ)) (end : WriteEnd) (text bytes : List ℕ) (a m b : Outside) → OpensNamed wave writes.Ok a m → Writes end (texts (is_some wave) true text bytes) m b →
-    Ran (end_of end) (texts_for wave text bytes) a b
-ran_texts None end text bytes a m b opens w = unwanted end text bytes a b (rw (← opens) w)
-ran_texts (Some name) end text bytes a m b opens w = wanted end name text bytes a m b opens.0 opens.1 w
+-- the writing behind the opening, where a name is held as an X
+pub ran_texts : {X : Type 0} (named : X → List ℕ) (wave : Option X) (end : WriteEnd) (text bytes : List ℕ) (a m b : Outside) → OpensNamed (option_map named wave) writes.Ok a m → Writes end (texts (is_some wave) true text bytes) m b →
+    Ran (end_of end) (texts_for (option_map named wave) text bytes) a b
+ran_texts named None end text bytes a m b opens w = unwanted end text bytes a b (rw (← opens) w)
+ran_texts named (Some x) end text bytes a m b opens w = wanted end (named x) text bytes a m b opens.0 opens.1 w
 
 -- where the wave could not be opened
 pub ran_unopened : (wave : Option (List ℕ)) (text bytes : List ℕ) (a b : Outside) → OpensNamed wave writes.Failed a b → Ran WriteFailed (texts_for wave text bytes) a b
@@ -117,9 +117,9 @@ pub said_both : (a m b : Outside) → SaidNothing a m → SaidNothing m b → Sa
 said_both a m b x y = (y.0 ∙ x.0, y.1 ∙ x.1)
 
 -- a wanted wave is open behind the opening
-pub opened_wave : (wave : Option (List ℕ)) (a b : Outside) → OpensNamed wave writes.Ok a b → is_some wave ≡ true → b.opened ports.Wave ≡ true
-opened_wave None a b opens some = absurd (cc)
-opened_wave (Some name) a b opens some = opens.0.0
+pub opened_wave : {X : Type 0} (named : X → List ℕ) (wave : Option X) (a b : Outside) → OpensNamed (option_map named wave) writes.Ok a b → is_some wave ≡ true → b.opened ports.Wave ≡ true
+opened_wave named None a b opens some = absurd (cc)
+opened_wave named (Some x) a b opens some = opens.0.0
 
 -- the texts of a run from cycle 0, by where the board stands
 pub from_start : (r : WriteEnd) (wave : Bool) (variables : List Variable) (v : BoardView AnyPart) (n : ℕ) (a b : Outside) → v.cycle ≡ 0 → v.before ≡ None →

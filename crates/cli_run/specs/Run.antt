@@ -4,11 +4,12 @@ use Rattle.std.specs.Option.{option_map}
 use Rattle.text_model.specs.Wave.{wave_text}
 use Rattle.board_model.specs.Board.{bytes}
 use Rattle.board_model.specs.Rows.{rows}
-use Rattle.outcome_model.specs.Stop.{Output, Texts}
+use Rattle.outcome_model.specs.Stop.{Texts}
 use Rattle.any_part.specs.AnyPart.{any}
 use Rattle.any_part.specs.Start.{starts}
 use Rattle.project_model.specs.Work.{Work}
 use Rattle.project_model.specs.Shown.{board_variables}
+use Rattle.cli_run.specs.Ran.{named_text}
 
 -- the wave of a project's first n cycles
 abbrev pub run_wave : Work → ℕ → List ℕ
@@ -19,10 +20,6 @@ run_wave work n =
 abbrev pub run_bytes : Work → ℕ → List ℕ
 run_bytes work n = bytes any work.plan.wiring work.plan.inputs (starts work.flash work.plan.parts) 0 n
 
--- the wave, in the file that is named for it
-abbrev pub named_wave : Work → ℕ → List ℕ → Output
-named_wave work n name = record { name = name; text = run_wave work n }
-
 -- the bytes on Serial, and the wave where a file is named for it
 abbrev pub run_texts : Work → ℕ → Option (List ℕ) → Texts
-run_texts work n vcd = record { serial = run_bytes work n; wave = option_map (named_wave work n) vcd; report = None }
+run_texts work n vcd = record { serial = run_bytes work n; wave = option_map (named_text (run_wave work n)) vcd; report = None }

@@ -14,7 +14,7 @@ ghost use Rattle.outcome_model.specs.Work.{SaidNothing};
 ghost use Rattle.cli_work.specs.Outcomes.{outcome_of};
 ghost use Rattle.cli_project.specs.Works.{work_of};
 ghost use Rattle.cli_run.specs.Answer.{RunAnswer};
-ghost use Rattle.cli_run.specs.Ran.{OpensNamed, Ran};
+ghost use Rattle.cli_run.specs.Ran.{OpensNamed, Ran, named_text};
 ghost use Rattle.cli_run.specs.Run.{run_texts};
 
 use crate::variables::make_variables;
@@ -104,7 +104,7 @@ fn write_run<B: Bench, L: Ledger>(
     requires end { n ≤ 160000000 }
     ensures ran { Ran (outcome_of result) (record {
       serial = bytes any board.old.wiring board.old.inputs (map state_of board.old.parts) 0 n;
-      wave = option_map (λ f. record { name = f.now; text = wave_text head.old.variables (rows any board.old.wiring board.old.inputs None (map state_of board.old.parts) 0 n) n }) wave.entry;
+      wave = option_map (named_text (wave_text head.old.variables (rows any board.old.wiring board.old.inputs None (map state_of board.old.parts) 0 n) n)) (option_map (λ f. f.now) wave.entry);
       report = None;
     }) (B.outside bench.old) (B.outside bench.new) }
     ensures silent { SaidNothing (B.outside bench.old) (B.outside bench.new) }

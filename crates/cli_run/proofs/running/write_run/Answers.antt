@@ -1,4 +1,4 @@
-use Rattle.std.proofs.Common.{ℕ, List, map, None}
+use Rattle.std.proofs.Common.{ℕ, List, map, None, Bor}
 use Rattle.sim_base.specs.declared.bench.WriteEnd.TheVariants as writes
 use Rattle.text_model.specs.Wave.{wave_text}
 use Rattle.board_model.specs.Board.{bytes}
@@ -13,4 +13,4 @@ returns-in-Failed-play-clause-ran g c =
     let v = c.args.board.now in
     let text : List ℕ = wave_text c.args.head.now.variables (rows any v.wiring v.inputs None (map state_of v.parts) 0 c.args.n) c.args.n in
     let sent : List ℕ = bytes any v.wiring v.inputs (map state_of v.parts) 0 c.args.n in
-    ran_texts c.args.wave writes.Failed text sent (outside c.args.bench.now) (outside c.open_wave.new.bench) (outside c.play.new.bench) c.in-Ok.ensures (rw (← c.is_some.ensures) c.in-Failed-play.ensures)
+    ran_texts (λ (f : Bor (List ℕ)). f.now) c.args.wave writes.Failed text sent (outside c.args.bench.now) (outside c.open_wave.new.bench) (outside c.play.new.bench) c.in-Ok.ensures (rw (← c.is_some.ensures) c.in-Failed-play.ensures)
