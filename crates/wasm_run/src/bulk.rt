@@ -31,6 +31,7 @@ fn top_three(slots: &[u64], sp: usize) -> Three
 }
 
 /// `memory.copy`, with so much fuel behind its unit.
+#[inline(never)]
 pub fn copy(slots: &[u64], pc: usize, sp: usize, store: &mut Store, left: u32) -> Turn
     requires place { pc < 2 ^ 32 }
     requires within { sp ≤ length slots.now }
@@ -54,6 +55,7 @@ pub fn copy(slots: &[u64], pc: usize, sp: usize, store: &mut Store, left: u32) -
 }
 
 /// `memory.fill`, with so much fuel behind its unit.
+#[inline(never)]
 pub fn fill(slots: &[u64], pc: usize, sp: usize, store: &mut Store, left: u32) -> Turn
     requires place { pc < 2 ^ 32 }
     requires within { sp ≤ length slots.now }
