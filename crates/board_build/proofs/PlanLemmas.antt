@@ -151,7 +151,7 @@ pub uno_counted : (kinds : List (Option PlanKind)) (u : Unit {0}) → one_uno ki
 uno_counted kinds u e = sym (numbers_count is_uno 1 kinds) ∙ one_number (numbers_from is_uno 1 kinds) u e
 
 -- the numbers in a wiring are those of nets
-from_all : {A : Type 0} (P : A → Type 0) (xs : List A) → All P xs → (k : ℕ) (x : A) → slice_get xs k ≡ Some x → P x
+pub from_all : {A : Type 0} (P : A → Type 0) (xs : List A) → All P xs → (k : ℕ) (x : A) → slice_get xs k ≡ Some x → P x
 from_all P xs all k x e = elim (cases_lt k (length xs)) [
   | inl l ↦ subst P (get_or_from_slice_get xs k x x e) (all k x l)
   | inr past ↦ let none = slice_get_past xs k past in absurd cc

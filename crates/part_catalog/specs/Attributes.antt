@@ -1,8 +1,7 @@
 -- The attributes that parts read (Wokwi documentation, the pages of the parts; the form of numbers is ours).
-use Rattle.std.specs.Prelude.{ℕ, ◌+◌, ◌*◌, false, List, [], ◌∷◌, length, drop, take, Bool, ◌&&◌, nat_le, nat_lt, Option, None, Some, if◌then◌else◌, codes}
-use Rattle.std.specs.List.{list_all, fold}
+use Rattle.std.specs.Prelude.{ℕ, false, List, [], ◌∷◌, drop, take, Bool, nat_le, Option, None, Some, if◌then◌else◌, codes}
 use Rattle.std.specs.Str.{bytes_eq}
-use Rattle.std.specs.Char.{digit_value}
+use Rattle.numerals.specs.Numerals.{numeral}
 use Rattle.part_catalog.specs.declared.kind.Kind.{Kind}
 use Rattle.part_catalog.specs.declared.kind.Kind.TheVariants as kinds
 use Rattle.part_catalog.specs.declared.settings.Settings.{Settings}
@@ -15,15 +14,13 @@ attribute_after found name (a ∷ attrs) = attribute_after (if bytes_eq a.0 name
 abbrev pub attribute : List ℕ → List (List ℕ × List ℕ) → Option (List ℕ)
 attribute name attrs = attribute_after None name attrs
 
--- the number that digits of a radix write
-abbrev pub value_of : ℕ → List ℕ → ℕ
-value_of radix digits = fold (λ n d. radix * n + digit_value d) 0 digits
+abbrev pub up_to : ℕ → Option ℕ → Option ℕ
+up_to greatest None = None
+up_to greatest (Some n) = if nat_le n greatest then Some n else None
 
 -- a number of 1 to so many digits of a radix, up to a greatest value
 abbrev pub number : ℕ → ℕ → ℕ → List ℕ → Option ℕ
-number radix longest greatest text =
-    if nat_le 1 (length text) && (nat_le (length text) longest && (list_all (λ d. nat_lt (digit_value d) radix) text && nat_le (value_of radix text) greatest))
-    then Some (value_of radix text) else None
+number radix longest greatest text = up_to greatest (numeral radix longest text)
 
 abbrev pub decimal_to : ℕ → List ℕ → Option ℕ
 decimal_to greatest text = number 10 5 greatest text

@@ -37,11 +37,15 @@ kind_in (x ∷ xs) text = if bytes_eq x.0 text then Some x.1 else kind_in xs tex
 abbrev pub is_ready : Kind → Bool
 is_ready kinds.ArduinoUno = true
 is_ready kinds.Led = true
+is_ready kinds.Pushbutton = true
+is_ready kinds.SlideSwitch = true
+is_ready kinds.DipSwitch8 = true
 is_ready kinds.Resistor = true
 is_ready kinds.Junction = true
 is_ready kinds.Text = true
 is_ready kinds.Vcc = true
 is_ready kinds.Gnd = true
+is_ready kinds.Potentiometer = true
 is_ready kind = false
 
 abbrev pub if_ready : Option Kind → Option Kind

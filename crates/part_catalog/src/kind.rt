@@ -41,11 +41,15 @@ fn is_built(kind: Kind) -> bool
         kind,
         Kind::ArduinoUno
             | Kind::Led
+            | Kind::Pushbutton
+            | Kind::SlideSwitch
+            | Kind::DipSwitch8
             | Kind::Resistor
             | Kind::Junction
             | Kind::Text
             | Kind::Vcc
             | Kind::Gnd
+            | Kind::Potentiometer
     )
 }
 

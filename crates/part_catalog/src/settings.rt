@@ -1,12 +1,10 @@
 //! What a part reads of its attributes.
-ghost use Rattle.std.specs.Prelude.{◌≡◌, ◌≤◌, List, ℕ, length, true, None};
-ghost use Rattle.std.specs.List.{list_all};
-ghost use Rattle.std.specs.Prelude.{nat_lt, codes};
-ghost use Rattle.std.specs.Char.{digit_value};
+ghost use Rattle.std.specs.Prelude.{◌≡◌, ◌≤◌, codes};
 ghost use Rattle.std.specs.Option.{option_map};
-ghost use Rattle.part_catalog.specs.Attributes.{attribute, value_of, number, address, which, both, read_or, decimal_to, settings_from, wired_kind, greatest_of};
+ghost use Rattle.part_catalog.specs.Attributes.{attribute, number, address, which, both, read_or, decimal_to, settings_from, wired_kind, greatest_of};
 
 use crate::kind::Kind;
+use numerals::read_numeral;
 use sim_base::{List, Text};
 
 /// What the attributes of a part set: a value at the start or an address, and a choice, which is 0
@@ -29,49 +27,14 @@ fn attribute_text<'a>(name: &str, attrs: &'a [(Text, Text)]) -> Option<&'a str>
     found
 }
 
-fn digit(b: u8) -> u8
-    ensures { result ≡ digit_value b }
-{
-    match b {
-        b'0'..=b'9' => b - b'0',
-        b'A'..=b'Z' => b - b'A' + 10,
-        b'a'..=b'z' => b - b'a' + 10,
-        _ => 36,
-    }
-}
-
-fn are_digits(radix: u8, text: &[u8]) -> bool
-    ensures { result ≡ list_all (λ d. nat_lt (digit_value d) radix) text.now }
-{
-    text.iter().all(|d| digit(*d) < radix)
-}
-
-fn value(radix: u8, digits: &[u8]) -> u32
-    requires digits { list_all (λ d. nat_lt (digit_value d) radix) digits.now ≡ true }
-    requires short { length digits.now ≤ 5 }
-    requires radix { radix ≤ 16 }
-    ensures { result ≡ value_of radix digits.now }
-{
-    let mut n: u32 = 0;
-    for d in digits {
-        n = u32::from(radix) * n + u32::from(digit(*d));
-    }
-    n
-}
-
 fn number(radix: u8, longest: usize, greatest: u16, text: &[u8]) -> Option<u16>
     requires radix { radix ≤ 16 }
     requires longest { longest ≤ 5 }
     ensures { result ≡ number radix longest greatest text.now }
 {
-    if text.is_empty() || text.len() > longest || !are_digits(radix, text) {
-        return None;
-    }
-    let n = value(radix, text);
-    if n <= u32::from(greatest) {
-        Some(n as u16)
-    } else {
-        None
+    match read_numeral(radix, longest, text) {
+        Some(n) if n <= u64::from(greatest) => Some(n as u16),
+        _ => None,
     }
 }
 

@@ -1,11 +1,12 @@
--- The LED as a machine: it shows whether current could flow, and drives nothing (Wokwi documentation, "wokwi-led"; when it
--- counts as lit is the profile's).
-use Rattle.std.specs.Prelude.{ℕ, ◌+◌, ◌==◌, List, [], ◌∷◌, Bool, true, false, not, ◌&&◌, None, if◌then◌else◌, slice_get, unwrap_or}
+-- The LED: it shows whether current could flow, and drives nothing (Wokwi documentation, "wokwi-led"; when it counts as lit
+-- is the profile's).
+use Rattle.std.proofs.Common.{refl, ap, arith}
+use Rattle.std.specs.Prelude.{◌≡◌, ◌≤◌, ℕ, ◌+◌, List, [], ◌∷◌, Bool, true, false, not, ◌&&◌, if◌then◌else◌, slice_get, unwrap_or}
 use Rattle.sim_base.specs.declared.signal.Drive.TheVariants as drives
 use Rattle.sim_base.specs.declared.signal.Level.{Level}
 use Rattle.sim_base.specs.declared.signal.Level.TheVariants as levels
 use Rattle.sim_base.specs.Signal.{reads}
-use Rattle.part_law.specs.Machine.{Machine}
+use Rattle.reactive_part.specs.Reaction.{Reaction, ReactionLaws}
 
 -- the level at a pin, Z where there is none
 abbrev pub level_at : List Level → ℕ → Level
@@ -19,30 +20,36 @@ is_low level = false
 abbrev pub is_lit : List Level → Bool
 is_lit ls = reads (level_at ls 0) && is_low (level_at ls 1)
 
--- in how many cycles it became lit, and the levels of its last step
+-- in how many cycles it became lit
 pub record LedState : Type 0 where
   pub count : ℕ
-  pub held : List Level
 
-abbrev pub unlit_led : LedState
-unlit_led = record { count = 0; held = levels.Z ∷ levels.Z ∷ [] }
+abbrev pub unlit : LedState
+unlit = record { count = 0 }
 
--- the state after a step on these levels
-abbrev pub led_after : LedState → List Level → LedState
-led_after s ls = record { count = if is_lit ls && not (is_lit s.held) then s.count + 1 else s.count; held = ls }
-
-abbrev pub led : Machine LedState
+abbrev pub led : Reaction LedState
 led = record {
-  step = λ s t ls input. (led_after s ls, None);
+  react = λ s before now input. record { count = if is_lit now && not (is_lit before) then s.count + 1 else s.count };
   drives = λ s. drives.Z ∷ drives.Z ∷ [];
   contacts = λ s. [];
-  held = λ s. s.held;
-  due = λ s t. t == 0;
-  valid = λ s t. true;
+  agrees = λ s ls. true;
+  counted = λ s. s.count;
 }
 
--- an LED on a board: before the step of `cycle`
-pub record LedAt : Type 0 where
-  pub led : LedState
-  pub cycle : ℕ
-  pub wakes : ℕ
+-- what is lit does not become lit
+not_again : (lit : Bool) (n : ℕ) → (if lit && not lit then n + 1 else n) ≡ n
+not_again true n = refl
+not_again false n = refl
+
+once_more : (rises : Bool) (n : ℕ) → (if rises then n + 1 else n) ≤ n + 1
+once_more true n = omega arith
+once_more false n = omega arith
+
+pub led_laws : ReactionLaws led
+led_laws = record {
+  still = λ s ls h. ap (λ (n : ℕ). record { count = n }) (not_again (is_lit ls) s.count);
+  agrees_then = λ s before now input. refl;
+  keeps_pins = λ s before now input. refl;
+  keeps_contacts = λ s before now input. refl;
+  counts_once = λ s before now input. once_more (is_lit now && not (is_lit before)) s.count;
+}

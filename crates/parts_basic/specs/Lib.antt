@@ -1,4 +1,2 @@
 pub mod Led
-pub mod Supply
-pub mod Plain
-pub mod BasicLaws
+pub mod Passive

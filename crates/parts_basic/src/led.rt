@@ -1,107 +1,65 @@
 //! The LED.
-ghost use Rattle.std.specs.Prelude.{◌≡◌, ◌&&◌, [], ◌∷◌, ◌+◌, ◌<◌, ◌≤◌};
-ghost use Rattle.sim_base.specs.Signal.{reads};
-ghost use Rattle.parts_basic.specs.Led.{is_lit, is_low, led_after, unlit_led};
+ghost use Rattle.std.specs.Prelude.{◌≡◌};
+ghost use Rattle.parts_basic.specs.Led.{is_lit, unlit};
 
-use part_catalog::Settings;
-use part_law::Part;
+use reactive_part::Behaviour;
 use sim_base::{Drive, Level, reads_one};
 use std::marker::Model;
 
-/// An LED, before the step of `cycle`. It is lit where A reads 1 and C is Low.
+/// An LED, which is lit where A reads 1 and C is Low.
 #[derive(Drop)]
 pub struct Led {
-    anode: Level,
-    cathode: Level,
     count: u32,
-    cycle: u32,
-    wakes: u32,
 }
 
 impl Model for Led {
-    ghost use Rattle.std.specs.Prelude.{[], ◌∷◌, ◌≤◌};
-    ghost use Rattle.parts_basic.specs.Led.{LedAt};
+    ghost use Rattle.parts_basic.specs.Led.{LedState};
 
-    ghost Value = { LedAt };
+    ghost Value = { LedState };
 
-    ghost view = { λ p. record { led = record { count = p.count; held = p.anode ∷ p.cathode ∷ [] }; cycle = p.cycle; wakes = p.wakes } };
-
-    ghost invariant = { λ p. record { counted : p.count ≤ p.wakes; end : p.cycle ≤ 160000000 } };
+    ghost view = { λ a. record { count = a.count } };
 }
 
-fn shines(anode: Level, cathode: Level) -> bool
-    ensures { result ≡ (reads anode && is_low cathode) }
+fn is_lit(levels: &[Level]) -> bool
+    ensures { result ≡ is_lit levels.now }
 {
-    reads_one(anode) && cathode == Level::Low
+    match levels {
+        [anode, cathode, ..] => reads_one(*anode) && *cathode == Level::Low,
+        _ => false,
+    }
 }
 
 impl Led {
-    /// An LED at cycle 0, which reads no attribute.
-    pub fn new(_settings: Settings) -> Self
-        ensures { result ≡ record { led = unlit_led; cycle = 0; wakes = 0 } }
+    /// An LED that was never lit.
+    pub fn new() -> Self
+        ensures { result ≡ unlit }
     {
-        Led {
-            anode: Level::Z,
-            cathode: Level::Z,
-            count: 0,
-            cycle: 0,
-            wakes: 0,
-        }
-    }
-
-    /// Whether it was lit in its last step.
-    pub fn lit(&self) -> bool
-        ensures { result ≡ is_lit self.now.led.held }
-    {
-        shines(self.anode, self.cathode)
+        Led { count: 0 }
     }
 
     /// In how many cycles it became lit.
     pub fn count(&self) -> u32
-        ensures { result ≡ self.now.led.count }
+        ensures { result ≡ self.now.count }
     {
         self.count
     }
 
-    fn take(&mut self, anode: Level, cathode: Level)
-        requires end { self.old.cycle < 160000000 }
-        requires count { self.old.wakes ≤ self.old.cycle }
-        ensures { self.new ≡ record { led = led_after self.old.led (anode ∷ cathode ∷ []); cycle = self.old.cycle + 1; wakes = self.old.wakes + 1 } }
+    /// Whether it is lit on the levels of its pins, A and C.
+    pub fn lit(levels: &[Level]) -> bool
+        ensures { result ≡ is_lit levels.now }
     {
-        let rises = shines(anode, cathode) && !shines(self.anode, self.cathode);
-        self.anode = anode;
-        self.cathode = cathode;
-        self.cycle += 1;
-        self.wakes += 1;
-        if rises {
-            self.count += 1;
-        }
-    }
-
-    fn pass_to(&mut self, to: u32)
-        requires { to ≤ 160000000 }
-        ensures { self.new ≡ record self.old { cycle = to } }
-    {
-        self.cycle = to;
+        is_lit(levels)
     }
 }
 
-impl Part for Led {
-    ghost use Rattle.std.specs.Prelude.{false};
-    ghost use Rattle.parts_basic.specs.Led.{LedState, led};
-    ghost use Rattle.parts_basic.specs.BasicLaws.{led_laws};
+impl Behaviour for Led {
+    ghost use Rattle.parts_basic.specs.Led.{LedState, led, led_laws};
 
-    ghost State = { LedState };
+    ghost Own = { LedState };
 
-    ghost machine = { led };
+    ghost reaction = { led };
 
-    ghost state = { λ p. p.led };
-
-    ghost now = { λ p. p.cycle };
-
-    ghost wake_count = { λ p. p.wakes };
-
-    ghost changes = { λ p. false };
+    ghost own = { λ a. a };
 
     fn pins(&self) -> u8 {
         2
@@ -119,33 +77,11 @@ impl Part for Led {
         false
     }
 
-    fn due(&self) -> Option<u32> {
-        if self.cycle == 0 { Some(0) } else { None }
-    }
-
-    fn woken(&self) -> u32 {
-        self.wakes
-    }
-
-    fn changed(&self) -> bool {
-        false
-    }
-
-    fn settle(&mut self, to: u32) {
-        self.pass_to(to);
-    }
-
-    fn wake(&mut self, levels: &[Level], _input: Option<u16>) -> Option<u8> {
-        match levels {
-            [anode, cathode] => self.take(*anode, *cathode),
-            _ => unreachable!(),
+    fn react(&mut self, before: &[Level], now: &[Level], _input: Option<u16>) -> bool {
+        if is_lit(now) && !is_lit(before) {
+            self.count += 1;
         }
-        None
-    }
-
-    fn wake_held(&mut self, _input: Option<u16>) -> Option<u8> {
-        self.take(self.anode, self.cathode);
-        None
+        false
     }
 
     ghost laws = { led_laws };

@@ -1,15 +1,14 @@
-//! The parts that a diagram needs first: the LED, the supplies, and parts without drives (Wokwi
-//! documentation, "wokwi-led", "wokwi-vcc", "wokwi-gnd", "wokwi-resistor", "wokwi-junction", "wokwi-text").
-//! Each part is exactly its machine in `specs/`. No call takes memory, and none fails.
+//! The parts that a diagram needs first, as behaviours: the LED, and parts whose drives and contacts
+//! depend on a set value alone: switches, the potentiometer, supplies, resistors, junctions and texts
+//! (Wokwi documentation, the pages of the parts). Each is exactly its kind in `specs/`.
+//! No call takes memory, and none fails.
 #![tactic(auto)]
 
 mod led;
-mod plain;
-mod supply;
+mod passive;
 
 pub use led::Led;
-pub use plain::Plain;
-pub use supply::Supply;
+pub use passive::Passive;
 
 #[cfg(test)]
 mod tests;

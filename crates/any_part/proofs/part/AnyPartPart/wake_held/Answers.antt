@@ -1,0 +1,7 @@
+use Rattle.any_part.proofs.part.AnyPartPart.wake_held.Goals as goal
+
+pub returns-in-Reactive-clause-drives : goal.returns-in-Reactive-clause-drives
+returns-in-Reactive-clause-drives c = rw c.in-Reactive.is c.wake_held-in-Reactive.ensures.drives
+
+pub returns-in-Reactive-clause-contacts : goal.returns-in-Reactive-clause-contacts
+returns-in-Reactive-clause-contacts c = rw c.in-Reactive.is c.wake_held-in-Reactive.ensures.contacts

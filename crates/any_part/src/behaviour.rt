@@ -1,0 +1,53 @@
+//! A behaviour of any kind.
+
+use parts_basic::{Led, Passive};
+use reactive_part::Behaviour;
+use sim_base::{Drive, Level};
+
+/// What a part that does nothing by itself does, of one of the kinds that there are.
+#[derive(Drop)]
+pub enum AnyBehaviour {
+    Led(Led),
+    Passive(Passive),
+}
+
+macro_rules! on_behaviour {
+    ($any:expr, $behaviour:ident => $call:expr) => {
+        match $any {
+            AnyBehaviour::Led($behaviour) => $call,
+            AnyBehaviour::Passive($behaviour) => $call,
+        }
+    };
+}
+
+impl Behaviour for AnyBehaviour {
+    ghost use Rattle.any_part.specs.AnyBehaviour.{AnyOwn, any_reaction, any_reaction_laws, own_of};
+
+    ghost Own = { AnyOwn };
+
+    ghost reaction = { any_reaction };
+
+    ghost own = { own_of };
+
+    fn pins(&self) -> u8 {
+        on_behaviour!(self, behaviour => behaviour.pins())
+    }
+
+    fn contacts(&self) -> u8 {
+        on_behaviour!(self, behaviour => behaviour.contacts())
+    }
+
+    fn drive(&self, pin: u8) -> Drive {
+        on_behaviour!(self, behaviour => behaviour.drive(pin))
+    }
+
+    fn contact(&self, i: u8) -> bool {
+        on_behaviour!(self, behaviour => behaviour.contact(i))
+    }
+
+    fn react(&mut self, before: &[Level], now: &[Level], input: Option<u16>) -> bool {
+        on_behaviour!(self, behaviour => behaviour.react(before, now, input))
+    }
+
+    ghost laws = { any_reaction_laws };
+}
