@@ -12,3 +12,4 @@ mod tests;
 
 pub use document_model::{Diagram, PartText, Wire};
 pub use documents::read_diagram;
+pub use parts::read_id;

@@ -34,8 +34,9 @@ fn is_id_text(id: &str) -> bool
     are_id_bytes(id.as_bytes())
 }
 
-/// An id as a name, which each id is.
-fn read_id(id: &str) -> Option<Name>
+/// The text as an id, which is a name too; None exactly where it is none: 1 to 64 ASCII letters,
+/// digits, `_` or `-`.
+pub fn read_id(id: &str) -> Option<Name>
     ensures { result ≡ (if is_id id.now then Some id.now else None) }
 {
     if is_id_text(id) { Name::read(id) } else { None }

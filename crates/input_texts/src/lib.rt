@@ -9,6 +9,7 @@ mod record;
 mod script;
 
 pub use hex::read_hex;
+pub use lines::{find, next_line};
 pub use script::{Script, ScriptRow};
 
 #[cfg(test)]

@@ -3,14 +3,15 @@ ghost use Rattle.std.specs.Prelude.{◌≡◌, ◌≢◌, ◌<◌, ℕ, ◌∷�
 ghost use Rattle.text_model.specs.Lines.{lines};
 ghost use Rattle.input_texts.specs.Ends.{without_cr};
 
-fn find_lf(bytes: &[u8]) -> Option<usize>
+/// The first place of a byte.
+pub fn find(bytes: &[u8], wanted: u8) -> Option<usize>
     ensures within { IfSome result (λ i. i < length bytes.now) }
-    ensures found { IfSome result (λ i. slice_index bytes.now i ≡ 10) }
-    ensures before { IfSome result (λ i. (k : ℕ) → k < i → slice_index bytes.now k ≢ 10) }
-    ensures none { IfNone result ((k : ℕ) → k < length bytes.now → slice_index bytes.now k ≢ 10) }
+    ensures found { IfSome result (λ i. slice_index bytes.now i ≡ wanted) }
+    ensures before { IfSome result (λ i. (k : ℕ) → k < i → slice_index bytes.now k ≢ wanted) }
+    ensures none { IfNone result ((k : ℕ) → k < length bytes.now → slice_index bytes.now k ≢ wanted) }
 {
     for (i, b) in bytes.iter().enumerate() {
-        if *b == b'\n' {
+        if *b == wanted {
             return Some(i);
         }
     }
@@ -34,7 +35,7 @@ pub fn next_line(bytes: &[u8]) -> (&[u8], &[u8])
     ensures line { lines bytes.now ≡ result.0.now ∷ lines result.1.now }
     ensures shorter { length result.1.now < length bytes.now }
 {
-    match find_lf(bytes) {
+    match find(bytes, b'\n') {
         Some(end) => (chomp(&bytes[..end]), &bytes[end + 1..]),
         None => (bytes, &bytes[bytes.len()..]),
     }

@@ -1,0 +1,3 @@
+mod IdLemmas
+mod RowLemmas
+mod WordLemmas

@@ -1,0 +1,12 @@
+//! The reader of scripts, which say what is done to the parts of a board, and when.
+//! It answers what its text stands for, or the first rule that is broken with its line
+//! (`specs/Script.antt`); want of memory is the one other answer.
+#![tactic(auto)]
+
+mod action;
+mod script;
+#[cfg(test)]
+mod tests;
+mod words;
+
+pub use script::read_script;
