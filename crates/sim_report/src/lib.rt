@@ -1,0 +1,12 @@
+//! The report, which has the final states of a run, one fact a line (`specs/Lines.antt`).
+//! A line is written whole by one write. No call takes memory; a write may fail.
+#![tactic(auto)]
+
+mod line;
+mod report;
+mod row;
+#[cfg(test)]
+mod tests;
+
+pub use report::write_report;
+pub use row::{ReportRow, UnoMode};
