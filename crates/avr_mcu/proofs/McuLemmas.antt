@@ -1,72 +1,301 @@
--- One cycle of the microcontroller, as the code does it.
-use Rattle.std.proofs.Common.{◌≡◌, ℕ, zero, suc, ◌+◌, ◌<◌, ◌≤◌, ◌∙◌, List, map, length, Bool, true, false, nat_lt, arith, ap, sym, refl, slice_get, Some}
-use Rattle.std.specs.Prelude.{if◌then◌else◌}
+-- One cycle of the microcontroller and cycles in which nothing is due, as the code does them.
+use Rattle.std.proofs.Common.{◌≡◌, ◌≢◌, ℕ, zero, suc, ◌+◌, ◌-◌, ◌<◌, ◌≤◌, ◌∙◌, List, [], map, length, Bool, true, false, ◌&&◌, ◌||◌, not, nat_lt, Option, None, Some, ◌⊎◌, inl, inr, arith, ap, sym, subst, refl, slice_get}
+use Rattle.std.specs.Prelude.{if◌then◌else◌, ◌==◌, slice_set, max, min}
 use Rattle.std.specs.List.{range_with_len}
 use Rattle.std.proofs.lemmas.Bool.Decides.{nat_tests}
 use Rattle.std.proofs.lemmas.Option.{slice_get-get_or}
 use Rattle.std.proofs.lemmas.List.FromFn.{length-map-range_with_len, get_or-map-range_with_len}
 use Rattle.sim_base.specs.declared.signal.Drive.{Drive}
 use Rattle.sim_base.specs.declared.signal.Drive.TheVariants as drives
-use Rattle.part_law.specs.Machine.{IsQuiet}
+use Rattle.sim_base.specs.declared.signal.Level.{Level}
+use Rattle.part_law.specs.Machine.{glide, idle, IsQuiet, IsFirstDue}
 use Rattle.avr_core.specs.CoreState.{Core}
 use Rattle.avr_core.specs.AvrStep.{avr_step, Did}
-use Rattle.avr_core.proofs.BusLemmas.{step_keeps}
-use Rattle.avr_ports.specs.Ports.{Ports, driving, drive_by}
-use Rattle.avr_ports.specs.PortLaws.{ports_still}
-use Rattle.avr_ports.specs.declared.pins.Driving.{Driving}
-use Rattle.avr_mcu.specs.Units.{UnitsAt, unit_bus, pins}
-use Rattle.avr_mcu.specs.Mcu.{Mcu, mcu, mcu_step, runs, starts, executed, core_acted, uno_drive, uno_drives}
+use Rattle.avr_core.proofs.BusLemmas.{step_leads, entered_leads}
+use Rattle.unit_law.specs.Bits.{with_bit}
+use Rattle.unit_law.specs.UnitMachine.{UnitMachine, least, steps, FirstDue}
+use Rattle.unit_law.specs.UnitMachine as unit
+use Rattle.unit_law.proofs.UnitLemmas.{step_none, step_last, quiet_requests}
+use Rattle.avr_mcu.specs.Units.{Units, UnitsAt, unit_bus, pins, request, units_step, plain, with_plain, with_register, after_read, data_at, touches}
+use Rattle.avr_mcu.specs.McuOf.{Mcu, McuAt, mcu, mcu_step, ready, enters, starts, entering, performed, bus_at, acted, core_acted, uno_drive, uno_drives}
+use Rattle.avr_mcu.specs.McuLawsOf.{or_false, drives_same, rests}
 use Rattle.avr_mcu.specs.McuState.{state_of}
 
--- the drive of one pin of the Uno
-pub drive_at : (u : Ports) (p : ℕ) (d : Drive) → p < 31 → d ≡ uno_drive u p → slice_get (uno_drives u) p ≡ Some d
-unfolding uno_drives
-drive_at u p d h e =
-    let l : p < length (map (uno_drive u) (range_with_len 0 31)) = omega (arith, length-map-range_with_len (uno_drive u) 0 31) in
-    let z : 0 + p ≡ p = omega arith in
-    slice_get-get_or (map (uno_drive u) (range_with_len 0 31)) p drives.Z l ∙ ap (λ (x : Drive). Some x) (get_or-map-range_with_len (uno_drive u) 0 31 p p drives.Z h z ∙ sym e)
+le_or : (a b : ℕ) → (a ≤ b) ⊎ (b ≤ a)
+le_or a b = grind arith
 
--- the drives rest on the registers of the ports that drive
-pub drives_same : (u v : Ports) → driving u ≡ driving v → uno_drives u ≡ uno_drives v
-unfolding uno_drives
-drives_same u v h =
-    ap (λ (d : Driving). map (λ (p : ℕ). if nat_lt p 20 then drive_by d p else if nat_lt p 22 then drives.Z else if nat_lt p 25 then drives.Low else if nat_lt p 30 then drives.High else drives.Z) (range_with_len 0 31)) h
+or_first : (a b : Bool) → a ≡ true → (a || b) ≡ true
+or_first true b h = refl
+or_first false b h = cc
 
--- what an instruction leaves alone
-pub held_kept : (flash : List ℕ) (core : Core) (units : UnitsAt) (d : Did UnitsAt) → d ≡ avr_step unit_bus flash core units → d.bus.held ≡ units.held
-held_kept flash core units d e =
-    ap (λ (x : Did UnitsAt). x.bus.held) e ∙ step_keeps unit_bus (λ (s : UnitsAt). s.held) (λ s a. refl) (λ s a x. refl) (λ s a k x. refl) flash core units
+or_second : (a b : Bool) → b ≡ true → (a || b) ≡ true
+or_second true b h = refl
+or_second false b h = h
 
-pub cycle_kept : (flash : List ℕ) (core : Core) (units : UnitsAt) (d : Did UnitsAt) → d ≡ avr_step unit_bus flash core units → d.bus.cycle ≡ units.cycle
-cycle_kept flash core units d e =
-    ap (λ (x : Did UnitsAt). x.bus.cycle) e ∙ step_keeps unit_bus (λ (s : UnitsAt). s.cycle) (λ s a. refl) (λ s a x. refl) (λ s a k x. refl) flash core units
+and_no : (b : Bool) → (b && false) ≡ false
+and_no true = refl
+and_no false = refl
 
--- an instruction starts
-pub act_is : (flash : List ℕ) (core : Core) (next : ℕ) (units : UnitsAt) (cycle : ℕ) (d : Did UnitsAt) → d ≡ avr_step unit_bus flash core units → units.cycle ≡ cycle → next ≤ cycle → runs core.mode ≡ true →
-    state_of flash d.core (cycle + d.cycles) d.bus.units d.bus.held ≡ core_acted (state_of flash core next units.units units.held) cycle
-act_is flash core next units cycle d e here l run =
-    let late : nat_lt cycle next ≡ false = grind (arith, nat_tests) in
-    let go : core_acted (state_of flash core next units.units units.held) cycle ≡ executed (state_of flash core next units.units units.held) cycle = rw late (rw run refl) in
-    let at : ℕ → UnitsAt = λ u. record { units = units.units; held = units.held; cycle = u } in
-    let by : Did UnitsAt → Mcu = λ x. state_of flash x.core (cycle + x.cycles) x.bus.units units.held in
-    ap (state_of flash d.core (cycle + d.cycles) d.bus.units) (held_kept flash core units d e)
-    ∙ ap by e ∙ ap (λ (u : ℕ). by (avr_step unit_bus flash core (at u))) here ∙ sym go
+or_two : (a b : Bool) → a ≡ false → b ≡ false → (a || b) ≡ false
+or_two true b h k = cc
+or_two false b h k = k
 
--- what the core does leaves the held levels alone
-acted_holds : (s : Mcu) (t : ℕ) → (core_acted s t).held ≡ s.held
-acted_holds s t = by (starts s t)
-  where
-    by : (b : Bool) → (if b then executed s t else s).held ≡ s.held
-    by true = refl
-    by false = refl
+module _ {D : Type 0} (m : UnitMachine D) (laws : unit.Laws m) where
+  -- the drive of one pin of the Uno
+  pub drive_at : (u : D) (p : ℕ) (d : Drive) → p < 31 → d ≡ uno_drive m u p → slice_get (uno_drives m u) p ≡ Some d
+  unfolding uno_drives
+  drive_at u p d h e =
+      let l : p < length (map (uno_drive m u) (range_with_len 0 31)) = omega (arith, length-map-range_with_len (uno_drive m u) 0 31) in
+      let z : 0 + p ≡ p = omega arith in
+      slice_get-get_or (map (uno_drive m u) (range_with_len 0 31)) p drives.Z l ∙ ap (λ (x : Drive). Some x) (get_or-map-range_with_len (uno_drive m u) 0 31 p p drives.Z h z ∙ sym e)
 
--- on the levels that are held a cycle is what the core does
-pub held_step : (s : Mcu) (t : ℕ) → core_acted s t ≡ mcu_step s t s.held
-held_step s t =
-    let a = core_acted s t in
-    sym (ap (mcu_step s t) (sym (acted_holds s t)) ∙ ap (λ (p : Ports). record a { units = record (a.units) { ports = p } }) (ports_still a.units.ports (pins a.held)))
+  -- What a call of the bus leads to: the same cycle and levels, and where nothing was touched the same of the pins.
+  pub record Leads (s x : UnitsAt D) : Type 0 where
+    pub cycle : x.cycle ≡ s.cycle
+    pub held : x.held ≡ s.held
+    pub steady : x.touched ≡ false → (s.touched ≡ false) × ((p : ℕ) → m.pad x.units.devices p ≡ m.pad s.units.devices p)
 
--- no cycle is quiet
-pub none_quiet : (s : Mcu) (t n : ℕ) → IsQuiet mcu s t n → n ≡ 0
-none_quiet s t zero quiet = refl
-none_quiet s t (suc n) quiet = let h : true ≡ false = quiet 0 (omega arith) in cc
+  leads_same : (s : UnitsAt D) → Leads s s
+  leads_same s = record { cycle = refl; held = refl; steady = λ h. (h, λ p. refl) }
+
+  leads_on : (s t u : UnitsAt D) → Leads s t → Leads t u → Leads s u
+  leads_on s t u f g = record {
+    cycle = g.cycle ∙ f.cycle;
+    held = g.held ∙ f.held;
+    steady = λ h. let k = g.steady h in let i = f.steady k.0 in (i.0, λ p. k.1 p ∙ i.1 p);
+  }
+
+  plain_devices : (u : Units D) (a x : ℕ) → (with_plain m u a x).devices ≡ u.devices
+  plain_devices u a x = by (a == 0x3E) (a == 0x4A) (a == 0x4B) (a == 0x53)
+    where
+      by : (b c d e : Bool) → (if b then record u { gpior0 = x } else if c then record u { gpior1 = x } else if d then record u { gpior2 = x } else if e then record u { smcr = x } else record u { ignored = slice_set u.ignored a true }).devices ≡ u.devices
+      by true c d e = refl
+      by false true d e = refl
+      by false false true e = refl
+      by false false false true = refl
+      by false false false false = refl
+
+  read_leads : (s : UnitsAt D) (a : ℕ) → Leads s ((unit_bus m).read s a)
+  read_leads s a = record { cycle = refl; held = refl; steady = λ h. (h, λ p. by (nat_lt a 0x0100 && m.has a) p) }
+    where
+      by : (b : Bool) (p : ℕ) → m.pad (if b then record (s.units) { devices = m.read s.units.devices s.cycle a } else s.units).devices p ≡ m.pad s.units.devices p
+      by true p = laws.reads_pad s.units.devices s.cycle a p
+      by false p = refl
+
+  write_leads : (s : UnitsAt D) (a x : ℕ) → Leads s ((unit_bus m).write s a x)
+  write_leads s a x = record { cycle = refl; held = refl; steady = λ h. let e = or_false s.touched (touches m a) h in (e.0, λ p. by (nat_lt a 0x0100) (m.has a) (nat_lt a 0x0900) p e.1) }
+    where
+      by : (b c d : Bool) (p : ℕ) → (if b then (if c then m.moves a else false) else false) ≡ false →
+          m.pad (if b then (if c then record (s.units) { devices = m.write s.units.devices s.cycle a x } else with_plain m s.units a x) else if d then record (s.units) { sram = slice_set s.units.sram (a - 0x0100) x } else s.units).devices p ≡ m.pad s.units.devices p
+      by true true d p h = laws.writes_pad s.units.devices s.cycle a x p h
+      by true false d p h = ap (λ (u : D). m.pad u p) (plain_devices s.units a x)
+      by false c true p h = refl
+      by false c false p h = refl
+
+  bits_lead : (s : UnitsAt D) (a k : ℕ) (x : Bool) → Leads s ((unit_bus m).write_bit s a k x)
+  bits_lead s a k x = record {
+    cycle = refl;
+    held = refl;
+    steady = λ h. let e = or_false s.touched (touches m a) h in
+        (e.0, λ p. by (nat_lt a 0x0100) (m.has a) (nat_lt a 0x0900) (with_bit (plain m s.units a) k x) (with_bit (data_at m s.units s.cycle [] a) k x) p e.1);
+  }
+    where
+      by : (b c d : Bool) (y z p : ℕ) → (if b then (if c then m.moves a else false) else false) ≡ false →
+          m.pad (if b then (if c then record (s.units) { devices = m.write_bit s.units.devices s.cycle a k x } else with_plain m s.units a y)
+          else if b then with_register m s.units s.cycle a z
+          else if d then record (s.units) { sram = slice_set s.units.sram (a - 0x0100) z } else s.units).devices p ≡ m.pad s.units.devices p
+      by true true d y z p h = laws.bits_pad s.units.devices s.cycle a k x p h
+      by true false d y z p h = ap (λ (u : D). m.pad u p) (plain_devices s.units a y)
+      by false c true y z p h = refl
+      by false c false y z p h = refl
+
+  -- an instruction or an entry leads there too
+  performed_leads : (b : Bool) (flash : List ℕ) (core : Core) (s : UnitsAt D) → Leads s (performed m b flash core s).bus
+  performed_leads false flash core s = step_leads (unit_bus m) Leads leads_same leads_on read_leads write_leads bits_lead flash core s
+  performed_leads true flash core s =
+      let v = request m s.units s.held in
+      let g = entered_leads (unit_bus m) Leads leads_same leads_on read_leads write_leads bits_lead v core s in
+      record { cycle = g.cycle; held = g.held; steady = λ h. let k = g.steady h in (k.0, λ p. laws.taken_pad _ v p ∙ k.1 p) }
+
+  pub did_leads : (b : Bool) (flash : List ℕ) (core : Core) (s : UnitsAt D) (d : Did (UnitsAt D)) → d ≡ performed m b flash core s → Leads s d.bus
+  did_leads b flash core s d e = subst (λ (x : Did (UnitsAt D)). Leads s x.bus) (sym e) (performed_leads b flash core s)
+
+  -- the core does something
+  pub act_is : (flash : List ℕ) (core : Core) (next : ℕ) (s : UnitsAt D) (cycle : ℕ) (b : Bool) (d : Did (UnitsAt D)) → d ≡ performed m b flash core (record s { touched = false }) →
+      s.cycle ≡ cycle → next ≤ cycle → b ≡ enters m (state_of flash core next s.units s.held) → ready core.mode b ≡ true →
+      state_of flash d.core (cycle + d.cycles) d.bus.units d.bus.held ≡ core_acted m (state_of flash core next s.units s.held) cycle
+  act_is flash core next s cycle b d e here l is go =
+      let x : Mcu D = state_of flash core next s.units s.held in
+      let late : nat_lt cycle next ≡ false = grind (arith, nat_tests) in
+      let run : ready core.mode (enters m x) ≡ true = ap (ready core.mode) (sym is) ∙ go in
+      let starts_is : starts m x cycle ≡ true = rw late run in
+      let at : ℕ → UnitsAt D = λ u. record { units = s.units; held = s.held; cycle = u; touched = false } in
+      let by : Did (UnitsAt D) → Mcu D = λ y. state_of flash y.core (cycle + y.cycles) y.bus.units s.held in
+      ap (state_of flash d.core (cycle + d.cycles) d.bus.units) (did_leads b flash core (at s.cycle) d e).held
+      ∙ ap by e ∙ ap (λ (u : ℕ). by (performed m b flash core (at u))) here
+      ∙ ap (λ (c : Bool). by (performed m c flash core (at cycle))) is
+      ∙ sym (ap (λ (c : Bool). if c then acted m x cycle else x) starts_is)
+
+  -- or not
+  pub act_not : (flash : List ℕ) (core : Core) (next : ℕ) (s : UnitsAt D) (cycle : ℕ) (b c : Bool) → b ≡ enters m (state_of flash core next s.units s.held) →
+      c ≡ ready core.mode b → (not (nat_lt cycle next) && c) ≡ false → state_of flash core next s.units s.held ≡ core_acted m (state_of flash core next s.units s.held) cycle
+  act_not flash core next s cycle b c is e h =
+      let x : Mcu D = state_of flash core next s.units s.held in
+      let none : starts m x cycle ≡ false = ap (λ (y : Bool). not (nat_lt cycle next) && y) (sym (e ∙ ap (ready core.mode) is)) ∙ h in
+      sym (ap (λ (y : Bool). if y then acted m x cycle else x) none)
+
+  -- what the core does leaves the held levels alone
+  acted_holds : (s : Mcu D) (t : ℕ) → (core_acted m s t).held ≡ s.held
+  acted_holds s t = by (starts m s t)
+    where
+      by : (b : Bool) → (if b then acted m s t else s).held ≡ s.held
+      by true = refl
+      by false = refl
+
+  -- on the levels that are held a cycle is what the core does, and then the units on those
+  pub held_woken : (s a : Mcu D) (t : ℕ) → a ≡ core_acted m s t → record a { units = units_step m a.units t a.held a.held } ≡ mcu_step m s t s.held
+  held_woken s a t e =
+      let b = core_acted m s t in
+      ap (λ (x : Mcu D). record x { units = units_step m x.units t x.held x.held }) e
+      ∙ ap (λ (l : List Level). record b { units = units_step m b.units t b.held l; held = l }) (acted_holds s t)
+
+  -- the drives after what the core does and a step of the units that change nothing of the pins
+  pub wake_drives : (old mid new : D) (b c : Bool) →
+      (b ≡ false → (p : ℕ) → m.pad mid p ≡ m.pad old p) → (c ≡ false → (p : ℕ) → m.pad new p ≡ m.pad mid p) →
+      (b || c) ≡ false → uno_drives m new ≡ uno_drives m old
+  wake_drives old mid new b c did stepped h =
+      let none = or_false b c h in
+      drives_same m new old (λ p. stepped none.1 p ∙ did none.0 p)
+
+  -- one cycle of the units without an event
+  pub rest_is : (s : UnitsAt D) (t d : ℕ) → s.cycle ≡ t → FirstDue m s.units.devices s.cycle d → t < d →
+      (unit.IsQuiet m s.units.devices s.cycle (t + 1 - s.cycle))
+      × (m.due s.units.devices t ≡ false)
+      × (steps m s.units.devices s.cycle (t + 1 - s.cycle) ≡ m.step s.units.devices t (pins s.held) (pins s.held))
+  rest_is s t d here first less =
+      let one : t + 1 - s.cycle ≡ 0 + 1 = omega (arith, here) in
+      let at : s.cycle + 0 ≡ t = omega (arith, here) in
+      let none : m.due s.units.devices t ≡ false =
+      ap (λ (x : D). m.due x t) (sym (step_none m s.units.devices s.cycle 0 refl)) ∙ ap (m.due (steps m s.units.devices s.cycle 0)) (sym at) ∙ first.quiet 0 (omega (arith, less, here)) in (
+        λ k (h : k < t + 1 - s.cycle). first.quiet k (omega (arith, h, less, here)),
+        none,
+        step_last m s.units.devices s.cycle 0 (t + 1 - s.cycle) one
+            ∙ ap (λ (x : D). m.step x (s.cycle + 0) [] []) (step_none m s.units.devices s.cycle 0 refl) ∙ ap (λ (x : ℕ). m.step s.units.devices x [] []) at
+            ∙ laws.deaf s.units.devices t [] (pins s.held) none,
+      )
+
+  -- the state after n cycles in which no unit has an event and the core does nothing
+  abbrev pub waited : Mcu D → ℕ → ℕ → Mcu D
+  waited s t n = record s { units = record (s.units) { devices = steps m s.units.devices t n } }
+
+  waited_more : (s : Mcu D) (t n : ℕ) → (mcu m).due (waited s t n) (t + n) ≡ false → idle (mcu m) (waited s t n) (t + n) ≡ waited s t (suc n)
+  waited_more s t n h =
+      let w = waited s t n in
+      let r = rests m w (t + n) h in
+      let d = steps m s.units.devices t n in
+      let e : suc n ≡ n + 1 = omega arith in
+      ap (λ (x : Mcu D). record x { units = units_step m x.units (t + n) x.held s.held; held = s.held }) r.0
+      ∙ ap (λ (x : D). record s { units = record (s.units) { devices = x } }) (laws.deaf d (t + n) (pins s.held) [] r.1 ∙ sym (step_last m s.units.devices t n (suc n) e))
+
+  -- it goes on like this as long as nothing is due
+  pub glide_waits : (s : Mcu D) (t n : ℕ) → IsQuiet (mcu m) s t n → (glide (mcu m) s t n ≡ waited s t n) × unit.IsQuiet m s.units.devices t n
+  glide_waits s t zero quiet = (ap (λ (x : D). record s { units = record (s.units) { devices = x } }) (sym (step_none m s.units.devices t 0 refl)), λ k (h : k < 0). absurd (omega arith))
+  glide_waits s t (suc n) quiet =
+      let before = glide_waits s t n (λ k (h : k < n). quiet k (omega arith)) in
+      let none : (mcu m).due (waited s t n) (t + n) ≡ false = ap (λ (x : Mcu D). (mcu m).due x (t + n)) (sym before.0) ∙ quiet n (omega arith) in (
+        ap (λ (x : Mcu D). idle (mcu m) x (t + n)) before.0 ∙ waited_more s t n none,
+        λ k (h : k < suc n). elim (last k n h) [
+          | inl less ↦ before.1 k less
+          | inr same ↦ subst (λ (j : ℕ). m.due (steps m s.units.devices t j) (t + j) ≡ false) (sym same) (rests m (waited s t n) (t + n) none).1
+        ],
+      )
+    where
+      last : (k n : ℕ) → k < suc n → (k < n) ⊎ (k ≡ n)
+      last k n h = grind (arith, h)
+
+  -- what is due there
+  waits_glide : (s : Mcu D) (t n : ℕ) → ((k : ℕ) → k < n → (mcu m).due (waited s t k) (t + k) ≡ false) → glide (mcu m) s t n ≡ waited s t n
+  waits_glide s t zero quiet = ap (λ (x : D). record s { units = record (s.units) { devices = x } }) (sym (step_none m s.units.devices t 0 refl))
+  waits_glide s t (suc n) quiet =
+      ap (λ (x : Mcu D). idle (mcu m) x (t + n)) (waits_glide s t n (λ k (h : k < n). quiet k (omega arith))) ∙ waited_more s t n (quiet n (omega arith))
+
+  pub waits_quiet : (s : Mcu D) (t n : ℕ) → ((k : ℕ) → k < n → (mcu m).due (waited s t k) (t + k) ≡ false) → IsQuiet (mcu m) s t n
+  waits_quiet s t n quiet k h = ap (λ (x : Mcu D). (mcu m).due x (t + k)) (waits_glide s t k (λ j (l : j < k). quiet j (omega (arith, l, h)))) ∙ quiet k h
+
+  waited_enters : (s : Mcu D) (t n : ℕ) → unit.IsQuiet m s.units.devices t n → enters m (waited s t n) ≡ enters m s
+  waited_enters s t n quiet =
+      ap (λ (x : ℕ). s.core.sreg.i && not s.core.just_enabled && nat_lt x 26) (ap least (quiet_requests m laws s.units.devices t n (pins s.held) quiet))
+
+  -- the first cycle in which it is due, by when the core can go on and by the units' first event
+  module _ (s : Mcu D) (t a e : ℕ) (r : Bool) (later : (t == 0) ≡ false) (is : r ≡ ready s.core.mode (enters m s)) (is_a : a ≡ (if r then max s.next t else 160000000))
+      (first : FirstDue m s.units.devices t e) where
+    no_start : (k : ℕ) → t + k < min a e → unit.IsQuiet m s.units.devices t k → (r : Bool) → r ≡ ready s.core.mode (enters m s) → a ≡ (if r then max s.next t else 160000000) → starts m (waited s t k) (t + k) ≡ false
+    no_start k less events true is is_a =
+        let l : nat_lt (t + k) s.next ≡ true = grind (arith, nat_tests, less, is_a) in
+        ap (λ (b : Bool). not b && ready s.core.mode (enters m (waited s t k))) l
+    no_start k less events false is is_a =
+        ap (λ (b : Bool). not (nat_lt (t + k) s.next) && ready s.core.mode b) (waited_enters s t k events)
+        ∙ ap (λ (b : Bool). not (nat_lt (t + k) s.next) && b) (sym is) ∙ and_no (not (nat_lt (t + k) s.next))
+
+    quiet_to : (k : ℕ) → t + k < min a e → (mcu m).due (waited s t k) (t + k) ≡ false
+    quiet_to k less =
+        let soon : t + k < e = grind (arith, less) in
+        let events : unit.IsQuiet m s.units.devices t k = λ j (h : j < k). first.quiet j (omega (arith, h, soon)) in
+        let none : m.due (steps m s.units.devices t k) (t + k) ≡ false = first.quiet k (omega (arith, soon)) in
+        let positive : (t + k == 0) ≡ false = grind (arith, nat_tests, later) in
+        or_two (t + k == 0) _ positive (or_two (starts m (waited s t k) (t + k)) _ (no_start k less events r is is_a) none)
+
+    from_is : (r : Bool) → a ≡ (if r then max s.next t else 160000000) → t ≤ min a e
+    from_is true is_a = grind (arith, is_a, first.later)
+    from_is false is_a = grind (arith, is_a, first.later, first.end)
+
+    by_ready : min a e < 160000000 → a ≤ e → (r : Bool) → r ≡ ready s.core.mode (enters m s) → a ≡ (if r then max s.next t else 160000000) → starts m (waited s t (min a e - t)) (min a e) ≡ true
+    by_ready l le true is is_a =
+        let late : nat_lt (min a e) s.next ≡ false = grind (arith, nat_tests, is_a, le) in
+        let events : unit.IsQuiet m s.units.devices t (min a e - t) = λ j (h : j < min a e - t). first.quiet j (grind (arith, h)) in
+        ap (λ (b : Bool). not b && ready s.core.mode (enters m (waited s t (min a e - t)))) late
+        ∙ ap (ready s.core.mode) (waited_enters s t (min a e - t) events) ∙ sym is
+    by_ready l le false is is_a = absurd (grind (arith, is_a, le, l))
+
+    event : min a e < 160000000 → (a ≤ e) ⊎ (e ≤ a) → (starts m (waited s t (min a e - t)) (min a e) || m.due (steps m s.units.devices t (min a e - t)) (min a e)) ≡ true
+    event l (inl le) = or_first _ _ (by_ready l le r is is_a)
+    event l (inr le) =
+        let u : min a e ≡ e = grind (arith, le) in
+        let i : e < 160000000 = omega (arith, u, l) in
+        or_second _ _ (subst (λ (x : ℕ). m.due (steps m s.units.devices t (x - t)) x ≡ true) (sym u) (first.event i))
+
+    pub due_some : (d : ℕ) → d ≡ min a e → d < 160000000 → IsFirstDue (mcu m) s t (Some d)
+    due_some d is_d less =
+        let l : min a e < 160000000 = omega (arith, is_d, less) in
+        let from : t ≤ min a e = from_is r is_a in
+        let quiet : (k : ℕ) → k < min a e - t → (mcu m).due (waited s t k) (t + k) ≡ false = λ k (i : k < min a e - t). quiet_to k (omega (arith, i, from)) in
+        subst (λ (x : ℕ). IsFirstDue (mcu m) s t (Some x)) (sym is_d) (
+          from,
+          l,
+          waits_quiet s t (min a e - t) quiet,
+          ap (λ (x : Mcu D). (mcu m).due x (min a e)) (waits_glide s t (min a e - t) quiet) ∙ or_second (min a e == 0) _ (event l (le_or a e)),
+        )
+
+    pub due_none : (d : ℕ) → d ≡ min a e → 160000000 ≤ d → IsFirstDue (mcu m) s t None
+    due_none d is_d more = waits_quiet s t (160000000 - t) (λ k (i : k < 160000000 - t). quiet_to k (omega (arith, i, is_d, more)))
+
+  -- one cycle of the units without an event, as the code does it
+  pub rest_turn : (s : UnitsAt D) (t d : ℕ) → s.cycle ≡ t → FirstDue m s.units.devices s.cycle d → t < d →
+      record s { units = record (s.units) { devices = steps m s.units.devices s.cycle (t + 1 - s.cycle) }; cycle = t + 1 } ≡ record s { units = units_step m s.units t s.held s.held; cycle = t + 1 }
+  rest_turn s t d here first less = ap (λ (x : D). record s { units = record (s.units) { devices = x }; cycle = t + 1 }) (rest_is s t d here first less).2
+
+  pub rest_pads : (s : UnitsAt D) (t d p : ℕ) → s.cycle ≡ t → FirstDue m s.units.devices s.cycle d → t < d → m.pad (m.step s.units.devices t (pins s.held) (pins s.held)) p ≡ m.pad s.units.devices p
+  rest_pads s t d p here first less = laws.keeps_pad s.units.devices t (pins s.held) p (rest_is s t d here first less).1
+
+  pub rest_silent : (s : UnitsAt D) (t d : ℕ) → s.cycle ≡ t → FirstDue m s.units.devices s.cycle d → t < d → None ≡ m.sends s.units.devices t
+  rest_silent s t d here first less = sym (laws.keeps_silent s.units.devices t (rest_is s t d here first less).1)
+
+  -- a requested vector that is entered is one
+  pub enters_some : (s : Mcu D) (b : Bool) → b ≡ enters m s → b ≡ true → request m s.units s.held < 26
+  enters_some s b is h =
+      let x : nat_lt (request m s.units s.held) 26 ≡ true = and_right _ _ (sym is ∙ h) in
+      grind (arith, nat_tests, x)
+    where
+      and_right : (a c : Bool) → (a && c) ≡ true → c ≡ true
+      and_right true c h = h
+      and_right false c h = cc

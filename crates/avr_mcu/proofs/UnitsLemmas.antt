@@ -1,58 +1,47 @@
--- The units as their struct shows them: the ports may lag behind, and the levels stand in two parts.
-use Rattle.std.proofs.Common.{◌≡◌, ℕ, ◌+◌, ◌-◌, ◌≤◌, ◌∙◌, List, ◌++◌, length, take, drop, replicate, Bool, false, arith, length-drop, ap, sym, subst}
-use Rattle.std.proofs.Math.Seq.{take-append_seam, take-length}
-use Rattle.std.proofs.lemmas.List.{take-append-drop, length-take-le}
+-- The units as their struct shows them.
+use Rattle.std.proofs.Common.{◌≡◌, ℕ, ◌+◌, ◌-◌, ◌<◌, ◌≤◌, ◌∙◌, List, length, take, replicate, Bool, true, false, arith, ap, sym, subst, refl}
+use Rattle.std.proofs.lemmas.List.{length-take-le}
 use Rattle.sim_base.specs.declared.signal.Level.{Level}
-use Rattle.sim_base.specs.declared.signal.Level.TheVariants as levels
-use Rattle.unit_law.specs.SeenUnit.{Seeing, moved, moves}
-use Rattle.avr_ports.specs.Ports.{Ports, ports, ports_step, register, reset as ports_reset}
-use Rattle.avr_ports.proofs.PortLemmas.{ports_rest}
-use Rattle.avr_mcu.specs.Units.{Units, UnitsAt, reset, pins, units_step}
+use Rattle.unit_law.specs.UnitMachine.{UnitMachine}
+use Rattle.avr_mcu.specs.Units.{UnitsAt, reset, pins}
 
--- units u of which the ports are p, with the levels of the other pins
-abbrev pub with_ports : Units → Seeing Ports → List Level → ℕ → UnitsAt
-with_ports u p others t = record { units = record u { ports = p.unit }; held = p.before ++ others; cycle = t }
+-- v is what the struct shows of its fields, and s what the caller knows
+module _ {D : Type 0} (m : UnitMachine D) (s v : UnitsAt D) (same : v ≡ s) where
+  -- what a call on the devices leaves
+  pub units_by : (f : UnitsAt D → D) (d : D) → d ≡ f v → record v { units = record (v.units) { devices = d } } ≡ record s { units = record (s.units) { devices = f s } }
+  units_by f d is =
+      ap (λ (x : D). record v { units = record (v.units) { devices = x } }) is
+      ∙ ap (λ (y : UnitsAt D). record y { units = record (y.units) { devices = f y } }) same
 
-front : (a b : List Level) → length a ≡ 20 → pins (a ++ b) ≡ a
-front a b h = subst (λ (n : ℕ). take n (a ++ b) ≡ a) h (take-append_seam a b)
+  -- and a write, which may touch
+  pub units_touched : (f : UnitsAt D → D) (d : D) (b : UnitsAt D → Bool) (x : Bool) → d ≡ f v → x ≡ b v →
+      record v { units = record (v.units) { devices = d }; touched = x } ≡ record s { units = record (s.units) { devices = f s }; touched = b s }
+  units_touched f d b x is told =
+      ap (λ (x : Bool). record v { units = record (v.units) { devices = d }; touched = x }) told
+      ∙ ap (λ (x : D). record v { units = record (v.units) { devices = x }; touched = b v }) is
+      ∙ ap (λ (y : UnitsAt D). record y { units = record (y.units) { devices = f y }; touched = b y }) same
 
-pub port_read : (u : Units) (p : Seeing Ports) (others : List Level) (t reg x : ℕ) (s : UnitsAt) → length p.before ≡ 20 → x ≡ register p.unit p.before reg → with_ports u p others t ≡ s → x ≡ register s.units.ports (pins s.held) reg
-port_read u p others t reg x s h e shown =
-    e ∙ ap (λ (l : List Level). register p.unit l reg) (sym (front p.before others h)) ∙ ap (λ (y : UnitsAt). register y.units.ports (pins y.held) reg) shown
+  -- and a step of many cycles or of one
+  pub units_at : (f : UnitsAt D → D) (d : D) (t : UnitsAt D → ℕ) → d ≡ f v →
+      record v { units = record (v.units) { devices = d }; cycle = t v } ≡ record s { units = record (s.units) { devices = f s }; cycle = t s }
+  units_at f d t is =
+      ap (λ (x : D). record v { units = record (v.units) { devices = x }; cycle = t v }) is
+      ∙ ap (λ (y : UnitsAt D). record y { units = record (y.units) { devices = f y }; cycle = t y }) same
 
-pub units_new : (p : Seeing Ports) (sram : List ℕ) (ignored : List Bool) →
-    p ≡ record { unit = ports_reset; before = replicate 20 levels.Z; seen = replicate 20 levels.Z; cycle = 0 } → sram ≡ replicate 2048 0 → ignored ≡ replicate 256 false →
-    with_ports (record reset { sram = sram; ignored = ignored }) p (replicate 11 levels.Z) 0 ≡ record { units = reset; held = replicate 31 levels.Z; cycle = 0 }
-units_new p sram ignored e f g =
-    let by : Seeing Ports → List ℕ → List Bool → UnitsAt = λ q s i. with_ports (record reset { sram = s; ignored = i }) q (replicate 11 levels.Z) 0 in
-    ap (λ (q : Seeing Ports). by q sram ignored) e
-    ∙ ap (λ (s : List ℕ). by (record { unit = ports_reset; before = replicate 20 levels.Z; seen = replicate 20 levels.Z; cycle = 0 }) s ignored) f
-    ∙ ap (by (record { unit = ports_reset; before = replicate 20 levels.Z; seen = replicate 20 levels.Z; cycle = 0 }) (replicate 2048 0)) g
+  pub units_held : (f : UnitsAt D → D) (d : D) (l : List Level) (k : List Level) (t : UnitsAt D → ℕ) → d ≡ f v → k ≡ l →
+      record v { units = record (v.units) { devices = d }; held = k; cycle = t v } ≡ record s { units = record (s.units) { devices = f s }; held = l; cycle = t s }
+  units_held f d l k t is e =
+      ap (λ (x : D). record v { units = record (v.units) { devices = x }; held = k; cycle = t v }) is
+      ∙ ap (λ (y : UnitsAt D). record y { units = record (y.units) { devices = f y }; held = k; cycle = t y }) same
+      ∙ ap (λ (j : List Level). record s { units = record (s.units) { devices = f s }; held = j; cycle = t s }) e
 
--- the ports after they caught up and did a cycle on new levels
-pub ports_heard : (p q r : Seeing Ports) (l : List Level) (t : ℕ) → p.seen ≡ p.before → p.cycle ≤ t →
-    q ≡ moves ports p (t - p.cycle) → r ≡ moved ports (record q { seen = l }) → r ≡ record { unit = ports_step p.unit p.before l; before = l; seen = l; cycle = t + 1 }
-ports_heard p q r l t same lags q_is r_is =
-    let e : p.cycle + (t - p.cycle) ≡ t = omega arith in
-    let rested : q ≡ record p { cycle = t } = q_is ∙ ports_rest p (t - p.cycle) same ∙ ap (λ (u : ℕ). record p { cycle = u }) e in
-    r_is ∙ ap (λ (x : Seeing Ports). moved ports (record x { seen = l })) rested
+-- after reset
+pub units_new : {D : Type 0} (m : UnitMachine D) (d : D) (sram : List ℕ) (ignored : List Bool) (held : List Level) → d ≡ m.reset → sram ≡ replicate 2048 0 → ignored ≡ replicate 256 false →
+    ◌≡◌ {A = UnitsAt D} (record { units = record { devices = d; sram = sram; gpior0 = 0; gpior1 = 0; gpior2 = 0; smcr = 0; ignored = ignored }; held = held; cycle = 0; touched = false }) (record { units = reset m; held = held; cycle = 0; touched = false })
+units_new {D} m d sram ignored held e f g =
+    let by : D → List ℕ → List Bool → UnitsAt D = λ x y z. record { units = record { devices = x; sram = y; gpior0 = 0; gpior1 = 0; gpior2 = 0; smcr = 0; ignored = z }; held = held; cycle = 0; touched = false } in
+    ap (λ (x : D). by x sram ignored) e ∙ ap (λ (y : List ℕ). by m.reset y ignored) f ∙ ap (by m.reset (replicate 2048 0)) g
 
-pub units_stepped : (u : Units) (p r : Seeing Ports) (others more l : List Level) (t : ℕ) → length p.before ≡ 20 →
-    r ≡ record { unit = ports_step p.unit p.before (take 20 l); before = take 20 l; seen = take 20 l; cycle = t + 1 } → more ≡ drop 20 l →
-    with_ports u r more (t + 1) ≡ record { units = units_step (record u { ports = p.unit }) t (p.before ++ others) l; held = l; cycle = t + 1 }
-units_stepped u p r others more l t h r_is more_is =
-    let by : List Level → List Level → UnitsAt = λ before held. record { units = record u { ports = ports_step p.unit before (take 20 l) }; held = held; cycle = t + 1 } in
-    ap (λ (x : Seeing Ports). with_ports u x more (t + 1)) r_is
-    ∙ ap (λ (x : List Level). by p.before (take 20 l ++ x)) more_is
-    ∙ ap (by p.before) (take-append-drop 20 l)
-    ∙ ap (λ (x : List Level). by x l) (sym (front p.before others h))
-
--- the levels of the other pins
-pub rest_of : (l : List Level) → take (length l - 20) (drop 20 l) ≡ drop 20 l
-rest_of l = ap (λ (n : ℕ). take n (drop 20 l)) (sym (length-drop 20 l)) ∙ take-length (drop 20 l)
-
-pub length-rest : (l : List Level) → length l ≡ 31 → length (drop 20 l) ≡ 11
-length-rest l h = omega (arith, length-drop 20 l)
-
+-- the first 20 of 31 levels
 pub length-front : (l : List Level) → length l ≡ 31 → length (take 20 l) ≡ 20
 length-front l h = let e : 20 ≤ length l = omega arith in length-take-le 20 l e

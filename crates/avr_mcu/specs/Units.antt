@@ -1,13 +1,13 @@
 -- The units of the microcontroller with SRAM and the plain registers, and how they answer on the data bus
 -- (ATmega328P data sheet, "SRAM Data Memory" and "Register Summary").
-use Rattle.std.specs.Prelude.{ℕ, ◌-◌, ◌==◌, nat_lt, Bool, true, false, if◌then◌else◌, List, [], replicate, take, slice_index, slice_set}
+use Rattle.std.specs.Prelude.{ℕ, ◌-◌, ◌==◌, ◌&&◌, ◌||◌, nat_lt, Bool, true, false, if◌then◌else◌, List, [], replicate, take, slice_index, slice_set}
 use Rattle.sim_base.specs.declared.signal.Level.{Level}
 use Rattle.unit_law.specs.Bits.{with_bit}
+use Rattle.unit_law.specs.UnitMachine.{UnitMachine, least}
 use Rattle.avr_core.specs.Bus.{Bus}
-use Rattle.avr_ports.specs.Ports.{Ports, ports, is_register, register, with_register, with_register_bit, reset as ports_reset}
 
-pub record Units : Type 0 where
-  pub ports : Ports
+pub record Units (D : Type 0) : Type 0 where
+  pub devices : D
   -- the 2,048 bytes from address 0x0100 on
   pub sram : List ℕ
   pub gpior0 : ℕ
@@ -18,56 +18,87 @@ pub record Units : Type 0 where
   pub ignored : List Bool
 
 -- the units before the step of a cycle, with the levels of the Uno's pins in the cycle before
-pub record UnitsAt : Type 0 where
-  pub units : Units
+pub record UnitsAt (D : Type 0) : Type 0 where
+  pub units : Units D
   pub held : List Level
   pub cycle : ℕ
-
-abbrev pub reset : Units
-reset = record { ports = ports_reset; sram = replicate 2048 0; gpior0 = 0; gpior1 = 0; gpior2 = 0; smcr = 0; ignored = replicate 256 false }
+  -- whether a register was written in the cycle that may change what a pin is asked for
+  pub touched : Bool
 
 -- the levels that units see: pins 0 to 13 and A0 to A5 come first
 abbrev pub pins : List Level → List Level
 pins l = take 20 l
 
--- Each unit steps once, on the levels of the cycle before and of this one.
-abbrev pub units_step : Units → ℕ → List Level → List Level → Units
-units_step u t before now = record u { ports = ports.step u.ports t (pins before) (pins now) }
+module _ {D : Type 0} (m : UnitMachine D) where
+  abbrev pub reset : Units D
+  reset = record { devices = m.reset; sram = replicate 2048 0; gpior0 = 0; gpior1 = 0; gpior2 = 0; smcr = 0; ignored = replicate 256 false }
 
--- What reading an address gives: 0 where there is no register, and above SRAM (profile).
-abbrev pub data_at : Units → List Level → ℕ → ℕ
-data_at u held a =
-    if is_register a then register u.ports (pins held) a
-    else if a == 0x3E then u.gpior0
-    else if a == 0x4A then u.gpior1
-    else if a == 0x4B then u.gpior2
-    else if a == 0x53 then u.smcr
-    else if nat_lt a 0x0100 then 0
-    else if nat_lt a 0x0900 then slice_index u.sram (a - 0x0100)
-    else 0
+  -- Each unit steps once, on the levels of the cycle before and of this one.
+  abbrev pub units_step : Units D → ℕ → List Level → List Level → Units D
+  units_step u t before now = record u { devices = m.step u.devices t (pins before) (pins now) }
 
--- What a write leaves; one to an address below 0x0100 without a register is noted (profile).
-abbrev pub with_data : Units → ℕ → ℕ → Units
-with_data u a x =
-    if is_register a then record u { ports = with_register u.ports a x }
-    else if a == 0x3E then record u { gpior0 = x }
-    else if a == 0x4A then record u { gpior1 = x }
-    else if a == 0x4B then record u { gpior2 = x }
-    else if a == 0x53 then record u { smcr = x }
-    else if nat_lt a 0x0100 then record u { ignored = slice_set u.ignored a true }
-    else if nat_lt a 0x0900 then record u { sram = slice_set u.sram (a - 0x0100) x }
-    else u
+  -- the least vector that is enabled and flagged, 26 where none is
+  abbrev pub request : Units D → List Level → ℕ
+  request u held = least (m.requests u.devices (pins held))
 
--- SBI and CBI: a unit's register has its own rule for a single bit.
-abbrev pub with_data_bit : Units → ℕ → ℕ → Bool → Units
-with_data_bit u a k x =
-    if is_register a then record u { ports = with_register_bit u.ports a k x }
-    else with_data u a (with_bit (data_at u [] a) k x)
+  -- A register that no device has keeps what is written, or is not there (profile).
+  abbrev pub plain : Units D → ℕ → ℕ
+  plain u a =
+      if a == 0x3E then u.gpior0
+      else if a == 0x4A then u.gpior1
+      else if a == 0x4B then u.gpior2
+      else if a == 0x53 then u.smcr
+      else 0
 
-abbrev pub unit_bus : Bus UnitsAt
-unit_bus = record {
-  answers = λ s a. data_at s.units s.held a;
-  read = λ s a. s;
-  write = λ s a x. record s { units = with_data s.units a x };
-  write_bit = λ s a k x. record s { units = with_data_bit s.units a k x };
-}
+  abbrev pub with_plain : Units D → ℕ → ℕ → Units D
+  with_plain u a x =
+      if a == 0x3E then record u { gpior0 = x }
+      else if a == 0x4A then record u { gpior1 = x }
+      else if a == 0x4B then record u { gpior2 = x }
+      else if a == 0x53 then record u { smcr = x }
+      else record u { ignored = slice_set u.ignored a true }
+
+  -- What reading an address gives: above SRAM 0 (profile).
+  abbrev pub register : Units D → ℕ → List Level → ℕ → ℕ
+  register u t held a = if m.has a then m.answers u.devices t (pins held) a else plain u a
+
+  abbrev pub data_at : Units D → ℕ → List Level → ℕ → ℕ
+  data_at u t held a =
+      if nat_lt a 0x0100 then register u t held a
+      else if nat_lt a 0x0900 then slice_index u.sram (a - 0x0100)
+      else 0
+
+  -- what reading an address leaves
+  abbrev pub after_read : Units D → ℕ → ℕ → Units D
+  after_read u t a = if nat_lt a 0x0100 && m.has a then record u { devices = m.read u.devices t a } else u
+
+  -- What a write leaves; one to an address below 0x0100 without a register is noted (profile).
+  abbrev pub with_register : Units D → ℕ → ℕ → ℕ → Units D
+  with_register u t a x = if m.has a then record u { devices = m.write u.devices t a x } else with_plain u a x
+
+  abbrev pub with_data : Units D → ℕ → ℕ → ℕ → Units D
+  with_data u t a x =
+      if nat_lt a 0x0100 then with_register u t a x
+      else if nat_lt a 0x0900 then record u { sram = slice_set u.sram (a - 0x0100) x }
+      else u
+
+  -- SBI and CBI: a unit's register has its own rule for a single bit.
+  abbrev pub with_register_bit : Units D → ℕ → ℕ → ℕ → Bool → Units D
+  with_register_bit u t a k x = if m.has a then record u { devices = m.write_bit u.devices t a k x } else with_plain u a (with_bit (plain u a) k x)
+
+  abbrev pub with_data_bit : Units D → ℕ → ℕ → ℕ → Bool → Units D
+  with_data_bit u t a k x =
+      if nat_lt a 0x0100 then with_register_bit u t a k x
+      else with_data u t a (with_bit (data_at u t [] a) k x)
+
+  -- whether a write may change what a pin is asked for
+  abbrev pub touches : ℕ → Bool
+  touches a = if nat_lt a 0x0100 then (if m.has a then m.moves a else false) else false
+
+  abbrev pub unit_bus : Bus (UnitsAt D)
+  unit_bus = record {
+    answers = λ s a. data_at s.units s.cycle s.held a;
+    read = λ s a. record s { units = after_read s.units s.cycle a };
+    write = λ s a x. record s { units = with_data s.units s.cycle a x; touched = s.touched || touches a };
+    write_bit = λ s a k x. record s { units = with_data_bit s.units s.cycle a k x; touched = s.touched || touches a };
+  }

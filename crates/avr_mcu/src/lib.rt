@@ -1,9 +1,11 @@
-//! The microcontroller ATmega328P of an Arduino Uno as a part of a board: core, SRAM, ports and plain
-//! registers (data sheet; AVR Instruction Set Manual).
-//! Each cycle is one step of the definition `Mcu`: the core acts, then each unit steps.
+//! The microcontroller ATmega328P of an Arduino Uno as a part of a board: core, units, SRAM and plain registers
+//! (data sheet; AVR Instruction Set Manual).
+//! Each cycle is one step of the definition `Mcu`: the core acts, then each unit steps. It is due where the core
+//! does something and where a unit has an event.
 //! Only `Mcu::new` takes memory, and may fail for want of it.
 #![tactic(auto)]
 
+mod devices;
 mod mcu;
 #[cfg(test)]
 mod tests;

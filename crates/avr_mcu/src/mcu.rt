@@ -1,10 +1,11 @@
 //! The microcontroller as a part.
-ghost use Rattle.std.specs.Prelude.{◌≡◌, ◌+◌, ◌<◌, ◌≤◌, List, ℕ, true, false, slice_index_or, slice_get, Some, IfOk};
-ghost use Rattle.avr_core.specs.AvrStep.{IsProgram, Did, avr_step};
-ghost use Rattle.avr_ports.specs.Ports.{driving};
-ghost use Rattle.avr_mcu.specs.Mcu.{mcu, start, runs, core_acted, uno_drive};
+ghost use Rattle.std.specs.Prelude.{◌≡◌, ◌+◌, ◌-◌, ◌<◌, ◌≤◌, List, ℕ, true, false, slice_index_or, slice_get, Some, IfOk, max, if◌then◌else◌, ◌&&◌, not, nat_lt};
+ghost use Rattle.avr_core.specs.AvrStep.{IsProgram, HasHalted, Did, avr_step};
+ghost use Rattle.avr_mcu.specs.Devices.{devices};
+ghost use Rattle.avr_mcu.specs.McuOf.{mcu, start, ready, enters, starts, entering, performed, core_acted, uno_drive};
 ghost use Rattle.avr_mcu.specs.McuState.{state_of};
-ghost use Rattle.avr_mcu.specs.Units.{unit_bus};
+ghost use Rattle.avr_mcu.specs.Units.{unit_bus, request, units_step};
+ghost use Rattle.part_law.specs.Machine.{IsFirstDue};
 
 use crate::units::Units;
 use avr_core::{Core, Mode, decode_all};
@@ -13,6 +14,7 @@ use part_law::Part;
 use sim_base::{Drive, Flash, Level, OutOfMemory};
 use std::alloc::Global;
 use std::marker::Model;
+use unit_law::VECTORS;
 
 /// The microcontroller, before the step of `cycle`.
 #[derive(Drop)]
@@ -30,9 +32,10 @@ pub struct Mcu {
 impl Model for Mcu {
     ghost use Rattle.std.specs.Prelude.{◌≡◌, ◌≤◌};
     ghost use Rattle.avr_core.specs.AvrStep.{IsProgram};
-    ghost use Rattle.avr_mcu.specs.Mcu.{McuAt};
+    ghost use Rattle.avr_mcu.specs.Devices.{Devices as State};
+    ghost use Rattle.avr_mcu.specs.McuOf.{McuAt};
 
-    ghost Value = { McuAt };
+    ghost Value = { McuAt State };
 
     ghost view = { λ m. record { mcu = record { flash = m.flash; core = m.core; next = m.next; units = m.units.units; held = m.units.held }; cycle = m.cycle; wakes = m.wakes; changed = m.changed } };
 
@@ -46,7 +49,7 @@ impl Model for Mcu {
 impl Mcu {
     /// The microcontroller after reset with this flash, at cycle 0.
     pub fn new(alloc: Global, flash: Flash) -> Result<Mcu, OutOfMemory>
-        ensures { IfOk result (λ m. m ≡ record { mcu = start flash; cycle = 0; wakes = 0; changed = true }) }
+        ensures { IfOk result (λ m. m ≡ record { mcu = start devices flash; cycle = 0; wakes = 0; changed = true }) }
     {
         let program = decode_all(alloc, &flash)?;
         let units = Units::new(alloc)?;
@@ -87,10 +90,10 @@ impl Mcu {
     #[inline]
     fn act(&mut self)
         requires { self.old.cycle < 160000000 }
-        ensures acted { self.new.mcu ≡ core_acted self.old.mcu self.old.cycle }
+        ensures acted { self.new.mcu ≡ core_acted devices self.old.mcu self.old.cycle }
         ensures cycle { self.new.cycle ≡ self.old.cycle }
         ensures wakes { self.new.wakes ≡ self.old.wakes }
-        ensures drives { self.new.changed ≡ false → driving self.new.mcu.units.ports ≡ driving self.old.mcu.units.ports }
+        ensures pads { self.new.changed ≡ false → (p : ℕ) → devices.pad self.new.mcu.units.devices p ≡ devices.pad self.old.mcu.units.devices p }
     {
         let (next, changed) = act_core(
             &mut self.core,
@@ -106,12 +109,13 @@ impl Mcu {
 }
 
 impl Part for Mcu {
-    ghost use Rattle.avr_mcu.specs.Mcu.{Mcu as State, mcu};
-    ghost use Rattle.avr_mcu.specs.McuLaws.{mcu_laws};
+    ghost use Rattle.avr_mcu.specs.Devices.{Devices as Units, devices, devices_laws};
+    ghost use Rattle.avr_mcu.specs.McuOf.{Mcu as State, mcu};
+    ghost use Rattle.avr_mcu.specs.McuLawsOf.{mcu_laws};
 
-    ghost State = { State };
+    ghost State = { State Units };
 
-    ghost machine = { mcu };
+    ghost machine = { mcu devices };
 
     ghost state = { λ m. m.mcu };
 
@@ -138,11 +142,7 @@ impl Part for Mcu {
     }
 
     fn due(&self) -> Option<u32> {
-        if self.cycle < 160_000_000 {
-            Some(self.cycle)
-        } else {
-            None
-        }
+        first_due(&self.core, &self.units, self.next, self.cycle)
     }
 
     fn woken(&self) -> u32 {
@@ -160,28 +160,31 @@ impl Part for Mcu {
 
     fn wake(&mut self, levels: &[Level], _input: Option<u16>) -> Option<u8> {
         self.act();
-        self.units.step(levels);
+        let moves = self.units.moves(levels);
+        let byte = self.units.step(levels);
         self.cycle += 1;
         self.wakes += 1;
-        None
+        self.changed = self.changed | moves;
+        byte
     }
 
     #[inline]
     fn wake_held(&mut self, _input: Option<u16>) -> Option<u8> {
         self.act();
-        self.units.skip(self.cycle + 1);
+        let (byte, moves) = tick(&mut self.units, self.cycle);
         self.cycle += 1;
         self.wakes += 1;
-        None
+        self.changed = self.changed | moves;
+        byte
     }
 
-    ghost laws = { mcu_laws };
+    ghost laws = { mcu_laws devices devices_laws };
 }
 
 // What the core does in a cycle: answers the cycle in which the next instruction starts, and whether a
 // drive may have changed.
 #[inline]
-fn act_core(
+pub(crate) fn act_core(
     core: &mut Core,
     program: &[Instr],
     flash: &Flash,
@@ -192,49 +195,152 @@ fn act_core(
     requires program { IsProgram flash.now program.now }
     requires here { units.old.cycle ≡ cycle }
     requires end { cycle < 160000000 }
-    ensures acted { state_of flash.now core.new result.0 units.new.units units.new.held ≡ core_acted (state_of flash.now core.old next units.old.units units.old.held) cycle }
+    ensures acted { state_of flash.now core.new result.0 units.new.units units.new.held ≡ core_acted devices (state_of flash.now core.old next units.old.units units.old.held) cycle }
     ensures here { units.new.cycle ≡ cycle }
-    ensures drives { result.1 ≡ false → driving units.new.units.ports ≡ driving units.old.units.ports }
+    ensures pads { result.1 ≡ false → (p : ℕ) → devices.pad units.new.units.devices p ≡ devices.pad units.old.units.devices p }
 {
-    if next <= cycle && is_running(core.mode()) {
-        let (cycles, changed) = execute(core, program, flash, units);
+    let enters = enters(core, units);
+    if starts(core.mode(), enters, next, cycle) {
+        let (cycles, changed) = perform(core, program, flash, units, enters);
         (cycle + cycles as u32, changed)
     } else {
         (next, false)
     }
 }
 
-// One instruction: answers its cycles, and whether a drive may have changed. A function of its own, so
+// Whether the core does something in the cycle.
+#[inline]
+fn starts(mode: Mode, enters: bool, next: u32, cycle: u32) -> bool
+    ensures value { result ≡ (not (nat_lt cycle next) && ready mode enters) }
+    ensures late { result ≡ true → next ≤ cycle }
+    ensures ready { result ≡ true → ready mode enters ≡ true }
+    ensures awake { result ≡ true → ¬ HasHalted mode }
+{
+    if next <= cycle {
+        is_ready(mode, enters)
+    } else {
+        false
+    }
+}
+
+// Whether an interrupt is entered where an instruction would start.
+#[inline]
+fn enters(core: &Core, units: &Units) -> bool
+    ensures { (flash : List ℕ) (next : ℕ) → result ≡ enters devices (state_of flash core.now next units.now.units units.now.held) }
+{
+    core.may_enter() & (units.request() < VECTORS)
+}
+
+#[inline]
+fn is_ready(mode: Mode, enters: bool) -> bool
+    ensures value { result ≡ ready mode enters }
+    ensures awake { result ≡ true → ¬ HasHalted mode }
+{
+    match mode {
+        Mode::Run => true,
+        Mode::Sleep => enters,
+        Mode::Halt(_) => false,
+    }
+}
+
+// An entry or an instruction: answers its cycles, and whether a drive may have changed. A function of its own, so
 // that a cycle in which none starts stays short.
 #[inline(never)]
-fn execute(core: &mut Core, program: &[Instr], flash: &Flash, units: &mut Units) -> (u8, bool)
+fn perform(
+    core: &mut Core,
+    program: &[Instr],
+    flash: &Flash,
+    units: &mut Units,
+    enters: bool,
+) -> (u8, bool)
     requires program { IsProgram flash.now program.now }
-    ensures did { record { core = core.new; bus = units.new; cycles = result.0 } ≡ avr_step unit_bus flash.now core.old units.old }
-    ensures drives { result.1 ≡ false → driving units.new.units.ports ≡ driving units.old.units.ports }
+    requires awake { ¬ HasHalted core.old.mode }
+    requires enters { enters ≡ true → request devices units.old.units units.old.held < 26 }
+    ensures did { record { core = core.new; bus = units.new; cycles = result.0 } ≡ performed devices enters flash.now core.old (record units.old { touched = false }) }
+    ensures pads { result.1 ≡ false → (p : ℕ) → devices.pad units.new.units.devices p ≡ devices.pad units.old.units.devices p }
 {
-    let before = units.driving();
-    let cycles = core.exec_decoded(program, flash, units);
-    (cycles, units.driving() != before)
+    units.begin();
+    let cycles = do_one(core, program, flash, units, enters);
+    (cycles, units.touched())
+}
+
+#[inline]
+fn do_one(core: &mut Core, program: &[Instr], flash: &Flash, units: &mut Units, enters: bool) -> u8
+    requires program { IsProgram flash.now program.now }
+    requires awake { ¬ HasHalted core.old.mode }
+    requires enters { enters ≡ true → request devices units.old.units units.old.held < 26 }
+    ensures { record { core = core.new; bus = units.new; cycles = result } ≡ performed devices enters flash.now core.old units.old }
+{
+    if enters {
+        enter(core, units)
+    } else {
+        core.exec_decoded(program, flash, units)
+    }
+}
+
+// Enters the least vector that is enabled and flagged.
+fn enter(core: &mut Core, units: &mut Units) -> u8
+    requires awake { ¬ HasHalted core.old.mode }
+    requires vector { request devices units.old.units units.old.held < 26 }
+    ensures { record { core = core.new; bus = units.new; cycles = result } ≡ entering devices core.old units.old }
+{
+    let vector = units.request();
+    let cycles = core.enter(units, vector);
+    units.taken(vector);
+    cycles
+}
+
+// One cycle of the units on the levels that they hold: the byte that leaves, and whether a drive may have changed.
+#[inline]
+fn tick(units: &mut Units, cycle: u32) -> (Option<u8>, bool)
+    requires here { units.old.cycle ≡ cycle }
+    requires end { cycle < 160000000 }
+    ensures byte { result.0 ≡ devices.sends units.old.units.devices cycle }
+    ensures state { units.new ≡ record units.old { units = units_step devices units.old.units cycle units.old.held units.old.held; cycle = cycle + 1 } }
+    ensures pads { result.1 ≡ false → (p : ℕ) → devices.pad units.new.units.devices p ≡ devices.pad units.old.units.devices p }
+{
+    if cycle < units.due() {
+        units.skip(cycle + 1);
+        (None, false)
+    } else {
+        (units.turn(), true)
+    }
+}
+
+// The first cycle from `cycle` on in which the microcontroller is due.
+fn first_due(core: &Core, units: &Units, next: u32, cycle: u32) -> Option<u32>
+    requires here { units.now.cycle ≡ cycle }
+    ensures { (flash : List ℕ) → IsFirstDue (mcu devices) (state_of flash core.now next units.now.units units.now.held) cycle result }
+{
+    if cycle == 0 {
+        return Some(0);
+    }
+    let starts = next_start(is_ready(core.mode(), enters(core, units)), next, cycle);
+    let due = starts.min(units.due());
+    if due < 160_000_000 { Some(due) } else { None }
+}
+
+// The cycle in which the core next does something, 160,000,000 where it does nothing any more.
+#[inline]
+fn next_start(ready: bool, next: u32, cycle: u32) -> u32
+    ensures { result ≡ (if ready then max next cycle else 160000000) }
+{
+    if ready {
+        if next < cycle { cycle } else { next }
+    } else {
+        160_000_000
+    }
 }
 
 // The drive of a pin of the Uno.
 fn uno_drive(units: &Units, pin: u8) -> Drive
     requires { pin < 31 }
-    ensures { result ≡ uno_drive units.now.units.ports pin }
+    ensures { result ≡ uno_drive devices units.now.units.devices pin }
 {
     match pin {
         0..=19 => units.drive(pin),
         22..=24 => Drive::Low,
         25..=29 => Drive::High,
         _ => Drive::Z,
-    }
-}
-
-fn is_running(mode: Mode) -> bool
-    ensures { result ≡ runs mode }
-{
-    match mode {
-        Mode::Run => true,
-        Mode::Sleep | Mode::Halt(_) => false,
     }
 }

@@ -1,15 +1,18 @@
 //! The units with SRAM and the plain registers: the data bus of the core.
-ghost use Rattle.std.specs.Prelude.{◌≡◌, ◌+◌, ◌-◌, ◌<◌, ◌≤◌, length, true, false, replicate, slice_index_or, IfOk, vec_len};
+ghost use Rattle.std.specs.Prelude.{◌||◌, ◌≡◌, ◌+◌, ◌-◌, ◌<◌, ◌≤◌, ℕ, List, length, true, false, replicate, slice_index_or, IfOk, vec_len, if◌then◌else◌};
+ghost use Rattle.sim_base.specs.declared.signal.Level.{Level};
 ghost use Rattle.sim_base.specs.declared.signal.Level.TheVariants as levels;
-ghost use Rattle.avr_ports.specs.Ports.{is_register, register, drive, driving};
-ghost use Rattle.avr_mcu.specs.Units.{UnitsAt, unit_bus, reset, pins, units_step, data_at, with_data, with_data_bit};
+ghost use Rattle.unit_law.specs.Pad.{driven};
+ghost use Rattle.unit_law.specs.UnitMachine.{steps, IsQuiet, FirstDue};
+ghost use Rattle.avr_mcu.specs.Devices.{devices};
+ghost use Rattle.avr_mcu.specs.Units.{UnitsAt, unit_bus, reset, pins, request, units_step, plain, with_plain, register, after_read, with_register, with_register_bit};
 
+use crate::devices::Devices;
 use avr_core::DataBus;
-use avr_ports::{Driving, Ports, has_register};
 use sim_base::{Drive, Level, OutOfMemory};
 use std::alloc::{AllocError, Global};
 use std::marker::Model;
-use unit_law::with_bit;
+use unit_law::{Group, may_move, wait, with_bit};
 
 /// General purpose I/O registers, which only keep what is written (data sheet, "Register Summary").
 const GPIOR0: u8 = 0x3E;
@@ -25,37 +28,45 @@ const SRAM: u16 = 0x0100;
 
 const SRAM_END: u16 = 0x0900;
 
-/// The units, before the step of `cycle`; the ports may stand at an earlier cycle, since cycles on
-/// levels that stay leave them alone.
+/// The pins of the Uno that a unit sees: 0 to 13, then A0 to A5.
+const SEEN: usize = 20;
+
+/// The units, before the step of `cycle`, with the levels of the Uno's pins in the cycle before. The devices may
+/// stand at an earlier cycle; `due` is the first in which one of them has an event, and `request` the least
+/// vector that is enabled and flagged.
 #[derive(Drop)]
 pub(crate) struct Units {
-    ports: Ports,
+    devices: Devices,
     sram: Vec<u8>,
     gpior0: u8,
     gpior1: u8,
     gpior2: u8,
     smcr: u8,
     ignored: Vec<bool>,
-    // the levels before of the pins that no unit sees: A4.2 to RESET
-    others: [Level; 11],
+    held: [Level; 31],
     cycle: u32,
+    due: u32,
+    request: u8,
+    touched: bool,
 }
 
 impl Model for Units {
-    ghost use Rattle.std.specs.Prelude.{◌≡◌, ◌≤◌, ◌++◌, length, vec_len};
-    ghost use Rattle.avr_mcu.specs.Units.{UnitsAt};
+    ghost use Rattle.std.specs.Prelude.{◌≡◌, ◌≤◌, length, vec_len};
+    ghost use Rattle.avr_mcu.specs.Devices.{Devices as State};
+    ghost use Rattle.avr_mcu.specs.Units.{UnitsAt, pins};
+    ghost use Rattle.unit_law.specs.UnitMachine.{least};
 
-    ghost Value = { UnitsAt };
+    ghost Value = { UnitsAt State };
 
-    ghost view = { λ u. record { units = record { ports = u.ports.unit; sram = u.sram.items; gpior0 = u.gpior0; gpior1 = u.gpior1; gpior2 = u.gpior2; smcr = u.smcr; ignored = u.ignored.items }; held = u.ports.before ++ u.others; cycle = u.cycle } };
+    ghost view = { λ u. record { units = record { devices = ⟦<Devices as Group>⟧.state u.devices u.cycle; sram = u.sram.items; gpior0 = u.gpior0; gpior1 = u.gpior1; gpior2 = u.gpior2; smcr = u.smcr; ignored = u.ignored.items }; held = u.held; cycle = u.cycle; touched = u.touched } };
 
     ghost invariant = { λ u. record {
       sram : vec_len u.sram ≡ 2048;
       ignored : vec_len u.ignored ≡ 256;
-      before : length u.ports.before ≡ 20;
-      seen : u.ports.seen ≡ u.ports.before;
-      others : length u.others ≡ 11;
-      lags : u.ports.cycle ≤ u.cycle;
+      held : length u.held ≡ 31;
+      stands : ⟦<Devices as Group>⟧.stands u.devices (pins u.held) u.cycle;
+      due : u.due ≡ ⟦<Devices as Group>⟧.until u.devices;
+      request : u.request ≡ least (⟦<Devices as Group>⟧.machine.requests (⟦<Devices as Group>⟧.state u.devices u.cycle) (pins u.held));
       end : u.cycle ≤ 160000000;
     } };
 }
@@ -63,38 +74,33 @@ impl Model for Units {
 impl Units {
     /// The units after reset, at cycle 0.
     pub(crate) fn new(alloc: Global) -> Result<Units, OutOfMemory>
-        ensures { IfOk result (λ u. u ≡ record { units = reset; held = replicate 31 levels.Z; cycle = 0 }) }
+        ensures { IfOk result (λ u. u ≡ record { units = reset devices; held = replicate 31 levels.Z; cycle = 0; touched = false }) }
     {
+        let devices = Devices::new();
+        let due = devices.due();
+        let request = devices.request();
         Ok(Units {
-            ports: Ports::new(),
+            devices,
             sram: zeros(alloc, 2048)?,
             gpior0: 0,
             gpior1: 0,
             gpior2: 0,
             smcr: 0,
             ignored: none_of(alloc, 256)?,
-            others: [Level::Z; 11],
+            held: [Level::Z; 31],
             cycle: 0,
+            due,
+            request,
+            touched: false,
         })
-    }
-
-    /// The registers on which the drives rest.
-    #[inline]
-    pub(crate) fn driving(&self) -> Driving
-        ensures { result ≡ driving self.now.units.ports }
-    {
-        self.ports.driving()
     }
 
     /// The drive of an Uno pin, 14 to 19 being A0 to A5.
     pub(crate) fn drive(&self, pin: u8) -> Drive
         requires { pin < 20 }
-        ensures { result ≡ drive self.now.units.ports pin }
+        ensures { result ≡ driven (devices.pad self.now.units.devices pin) }
     {
-        match self.ports.output(pin) {
-            Some(drive) => drive,
-            None => unreachable!(),
-        }
+        self.devices.pad(pin).drive()
     }
 
     /// Whether this address below 0x0100 was written though no register is there.
@@ -104,46 +110,128 @@ impl Units {
         self.ignored[addr as usize]
     }
 
-    /// Goes over cycles without an event.
+    /// The first cycle in which a unit has an event, or 160,000,000.
+    #[inline]
+    pub(crate) fn due(&self) -> u32
+        ensures { FirstDue devices self.now.units.devices self.now.cycle result }
+    {
+        self.due
+    }
+
+    /// The least vector that is enabled and flagged, or `VECTORS`.
+    #[inline]
+    pub(crate) fn request(&self) -> u8
+        ensures { result ≡ request devices self.now.units self.now.held }
+    {
+        self.request
+    }
+
+    /// Whether a register was written since `begin` that may change what a pin is asked for.
+    #[inline]
+    pub(crate) fn touched(&self) -> bool
+        ensures { result ≡ self.now.touched }
+    {
+        self.touched
+    }
+
+    /// Begins an instruction.
+    #[inline]
+    pub(crate) fn begin(&mut self)
+        ensures { self.new ≡ record self.old { touched = false } }
+    {
+        self.touched = false;
+    }
+
+    /// Clears what entering a vector clears.
+    pub(crate) fn taken(&mut self, vector: u8)
+        ensures { self.new ≡ record self.old { units = record (self.old.units) { devices = devices.taken self.old.units.devices vector } } }
+    {
+        self.devices.taken(self.cycle, &self.held[..SEEN], vector);
+        self.due = self.devices.due();
+        self.request = self.devices.request();
+    }
+
+    /// Goes on to a cycle, before which no unit has an event.
     #[inline]
     pub(crate) fn skip(&mut self, to: u32)
         requires forward { self.old.cycle ≤ to }
         requires end { to ≤ 160000000 }
-        ensures { self.new ≡ record self.old { cycle = to } }
+        requires quiet { IsQuiet devices self.old.units.devices self.old.cycle (to - self.old.cycle) }
+        ensures { self.new ≡ record self.old { units = record (self.old.units) { devices = steps devices self.old.units.devices self.old.cycle (to - self.old.cycle) }; cycle = to } }
     {
+        wait(&self.devices, self.cycle, to, &self.held[..SEEN]);
         self.cycle = to;
     }
 
-    /// One cycle on these levels of the Uno's 31 pins.
-    pub(crate) fn step(&mut self, levels: &[Level])
+    /// Whether a cycle on these levels may change what a pin is asked for.
+    pub(crate) fn moves(&self, levels: &[Level]) -> bool
+        requires { length levels.now ≡ 31 }
+        ensures { result ≡ false → (p : ℕ) → devices.pad (devices.step self.now.units.devices self.now.cycle (pins self.now.held) (pins levels.now)) p ≡ devices.pad self.now.units.devices p }
+    {
+        may_move(
+            &self.devices,
+            self.due,
+            self.cycle,
+            &self.held[..SEEN],
+            seen(levels),
+        )
+    }
+
+    /// One cycle on these levels of the Uno's 31 pins, and the byte that leaves.
+    pub(crate) fn step(&mut self, levels: &[Level]) -> Option<u8>
         requires levels { length levels.now ≡ 31 }
         requires end { self.old.cycle < 160000000 }
-        ensures { self.new ≡ record { units = units_step self.old.units self.old.cycle self.old.held levels.now; held = levels.now; cycle = self.old.cycle + 1 } }
+        ensures byte { result ≡ devices.sends self.old.units.devices self.old.cycle }
+        ensures state { self.new ≡ record self.old { units = units_step devices self.old.units self.old.cycle self.old.held levels.now; held = levels.now; cycle = self.old.cycle + 1 } }
     {
-        let _byte = self.ports.step_to(self.cycle);
-        self.ports.step_seeing(&levels[..20]);
-        self.others.copy_from_slice(&levels[20..]);
+        let byte = self
+            .devices
+            .step(self.cycle, &self.held[..SEEN], seen(levels));
+        self.held.copy_from_slice(levels);
+        self.due = self.devices.due();
+        self.request = self.devices.request();
         self.cycle += 1;
+        byte
+    }
+
+    /// One cycle on the levels that it holds, and the byte that leaves.
+    #[inline(never)]
+    pub(crate) fn turn(&mut self) -> Option<u8>
+        requires end { self.old.cycle < 160000000 }
+        ensures byte { result ≡ devices.sends self.old.units.devices self.old.cycle }
+        ensures state { self.new ≡ record self.old { units = units_step devices self.old.units self.old.cycle self.old.held self.old.held; cycle = self.old.cycle + 1 } }
+    {
+        let byte = self
+            .devices
+            .step(self.cycle, &self.held[..SEEN], &self.held[..SEEN]);
+        self.due = self.devices.due();
+        self.request = self.devices.request();
+        self.cycle += 1;
+        byte
     }
 }
 
 impl DataBus for Units {
-    ghost State = { UnitsAt };
+    ghost use Rattle.avr_mcu.specs.Devices.{Devices as State};
 
-    ghost bus = { unit_bus };
+    ghost State = { UnitsAt State };
+
+    ghost bus = { unit_bus devices };
 
     ghost state = { λ u. u };
 
+    #[inline]
     fn read(&mut self, addr: u16) -> u8 {
-        if addr >= SRAM_END {
-            0
-        } else if addr >= SRAM {
+        if addr < SRAM {
+            self.register(addr as u8)
+        } else if addr < SRAM_END {
             self.sram[(addr - SRAM) as usize]
         } else {
-            self.register(addr as u8)
+            0
         }
     }
 
+    #[inline]
     fn write(&mut self, addr: u16, value: u8) {
         if addr < SRAM {
             self.set_register(addr as u8, value);
@@ -165,12 +253,30 @@ impl DataBus for Units {
 impl Units {
     // What a register reads.
     fn register(&mut self, reg: u8) -> u8
-        ensures value { result ≡ data_at self.old.units self.old.held reg }
-        ensures state { self.new ≡ self.old }
+        ensures value { result ≡ register devices self.old.units self.old.cycle self.old.held reg }
+        ensures state { self.new ≡ record self.old { units = after_read devices self.old.units self.old.cycle reg } }
     {
-        if has_register(reg) {
-            return self.port_register(reg);
+        if Devices::has(reg) {
+            self.device_register(reg)
+        } else {
+            self.plain(reg)
         }
+    }
+
+    fn device_register(&mut self, reg: u8) -> u8
+        requires { devices.has reg ≡ true }
+        ensures value { result ≡ devices.answers self.old.units.devices self.old.cycle (pins self.old.held) reg }
+        ensures state { self.new ≡ record self.old { units = record (self.old.units) { devices = devices.read self.old.units.devices self.old.cycle reg } } }
+    {
+        let value = self.devices.read(self.cycle, &self.held[..SEEN], reg);
+        self.due = self.devices.due();
+        self.request = self.devices.request();
+        value
+    }
+
+    fn plain(&self, reg: u8) -> u8
+        ensures { result ≡ plain devices self.now.units reg }
+    {
         match reg {
             GPIOR0 => self.gpior0,
             GPIOR1 => self.gpior1,
@@ -180,21 +286,31 @@ impl Units {
         }
     }
 
-    fn port_register(&mut self, reg: u8) -> u8
-        requires { is_register reg ≡ true }
-        ensures value { result ≡ register self.old.units.ports (pins self.old.held) reg }
-        ensures state { self.new ≡ self.old }
-    {
-        self.ports.read(reg)
-    }
-
     // Writes a register, or notes that there is none.
     fn set_register(&mut self, reg: u8, value: u8)
-        ensures { self.new ≡ record self.old { units = with_data self.old.units reg value } }
+        ensures { self.new ≡ record self.old { units = with_register devices self.old.units self.old.cycle reg value; touched = self.old.touched || (if devices.has reg then devices.moves reg else false) } }
     {
-        if has_register(reg) {
-            return self.ports.write(reg, value);
+        if Devices::has(reg) {
+            self.set_device_register(reg, value);
+        } else {
+            self.set_plain(reg, value);
         }
+    }
+
+    fn set_device_register(&mut self, reg: u8, value: u8)
+        requires { devices.has reg ≡ true }
+        ensures { self.new ≡ record self.old { units = record (self.old.units) { devices = devices.write self.old.units.devices self.old.cycle reg value }; touched = self.old.touched || devices.moves reg } }
+    {
+        self.devices
+            .write(self.cycle, &self.held[..SEEN], reg, value);
+        self.due = self.devices.due();
+        self.request = self.devices.request();
+        self.touched = self.touched | Devices::moves(reg);
+    }
+
+    fn set_plain(&mut self, reg: u8, value: u8)
+        ensures { self.new ≡ record self.old { units = with_plain devices self.old.units reg value } }
+    {
         match reg {
             GPIOR0 => self.gpior0 = value,
             GPIOR1 => self.gpior1 = value,
@@ -207,14 +323,37 @@ impl Units {
     // Writes one bit of a register alone.
     fn set_register_bit(&mut self, reg: u8, bit: u8, value: bool)
         requires { bit < 8 }
-        ensures { self.new ≡ record self.old { units = with_data_bit self.old.units reg bit value } }
+        ensures { self.new ≡ record self.old { units = with_register_bit devices self.old.units self.old.cycle reg bit value; touched = self.old.touched || (if devices.has reg then devices.moves reg else false) } }
     {
-        if has_register(reg) {
-            return self.ports.write_bit(reg, bit, value);
+        if Devices::has(reg) {
+            self.set_device_bit(reg, bit, value);
+        } else {
+            let byte = with_bit(self.plain(reg), bit, value);
+            self.set_plain(reg, byte);
         }
-        let byte = with_bit(self.register(reg), bit, value);
-        self.set_register(reg, byte);
     }
+
+    fn set_device_bit(&mut self, reg: u8, bit: u8, value: bool)
+        requires register { devices.has reg ≡ true }
+        requires bit { bit < 8 }
+        ensures { self.new ≡ record self.old { units = record (self.old.units) { devices = devices.write_bit self.old.units.devices self.old.cycle reg bit value }; touched = self.old.touched || devices.moves reg } }
+    {
+        self.devices
+            .write_bit(self.cycle, &self.held[..SEEN], reg, bit, value);
+        self.due = self.devices.due();
+        self.request = self.devices.request();
+        self.touched = self.touched | Devices::moves(reg);
+    }
+}
+
+// The levels of the pins that units see.
+#[inline]
+fn seen(levels: &[Level]) -> &[Level]
+    requires { length levels.now ≡ 31 }
+    ensures value { result.now ≡ pins levels.now }
+    ensures length { length result.now ≡ 20 }
+{
+    &levels[..SEEN]
 }
 
 fn zeros(alloc: Global, count: usize) -> Result<Vec<u8>, AllocError>

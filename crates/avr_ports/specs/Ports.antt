@@ -1,13 +1,16 @@
 -- The ports of the ATmega328P, cycle by cycle (data sheet, "I/O-Ports" and "External Interrupts").
-use Rattle.std.specs.Prelude.{ℕ, ◌+◌, ◌-◌, ◌*◌, ◌/◌, ◌%◌, ◌^◌, ◌==◌, ◌&&◌, ◌||◌, not, nat_lt, Bool, false, if◌then◌else◌, List, slice_index_or, None, Some, bit_and, bit_xor}
+use Rattle.std.specs.Prelude.{ℕ, ◌+◌, ◌-◌, ◌*◌, ◌/◌, ◌%◌, ◌^◌, ◌==◌, ◌&&◌, ◌||◌, not, nat_lt, Bool, true, false, if◌then◌else◌, List, [], ◌∷◌, slice_index_or, None, Some, is_some, bit_and, bit_xor}
 use Rattle.sim_base.specs.Signal.{reads}
-use Rattle.sim_base.specs.declared.signal.Drive.{Drive}
-use Rattle.sim_base.specs.declared.signal.Drive.TheVariants as drives
 use Rattle.sim_base.specs.declared.signal.Level.{Level}
 use Rattle.sim_base.specs.declared.signal.Level.TheVariants as levels
-use Rattle.avr_ports.specs.declared.pins.Driving.{Driving}
+use Rattle.unit_law.specs.declared.pad.Pad.{Pad}
+use Rattle.unit_law.specs.Pad.{untouched}
 use Rattle.unit_law.specs.Bits.{is_set, one, with_bit}
-use Rattle.unit_law.specs.SeenUnit.{UnitMachine}
+use Rattle.unit_law.specs.UnitMachine.{UnitMachine, at_register}
+use Rattle.unit_law.specs.declared.request.Request.{Request}
+use Rattle.avr_ports.specs.Registers.{register_at}
+use Rattle.avr_ports.specs.declared.registers.Register.{Register}
+use Rattle.avr_ports.specs.declared.registers.Register.TheVariants.{PINB, DDRB, PORTB, PINC, DDRC, PORTC, PIND, DDRD, PORTD, PCIFR, EIFR, EIMSK, PCICR, EICRA, PCMSK0, PCMSK1, PCMSK2}
 
 -- the registers, as the firmware wrote them, and the flags INTF and PCIF
 pub record Ports : Type 0 where
@@ -67,26 +70,16 @@ pinc l = six l 14
 abbrev pub pind : List Level → ℕ
 pind l = six l 0 + 64 * one (on l 6) + 128 * one (on l 7)
 
--- A pin's drive (data sheet, "Ports as General Digital I/O", "Port Pin Configurations").
-abbrev pub pin_drive : ℕ → ℕ → ℕ → Drive
-pin_drive ddr port k =
-    if is_set ddr k then (if is_set port k then drives.High else drives.Low)
-    else if is_set port k then drives.PullHigh
-    else drives.Z
+-- DDRx and PORTx of a bit (data sheet, "Ports as General Digital I/O", "Configuring the Pin").
+abbrev pub bit_pad : ℕ → ℕ → ℕ → Pad
+bit_pad ddr port k = record untouched { ddr = is_set ddr k; port = is_set port k }
 
--- the registers on which the drives of the pins rest
-abbrev pub driving : Ports → Driving
-driving u = record { ddrb = u.ddrb; portb = u.portb; ddrc = u.ddrc; portc = u.portc; ddrd = u.ddrd; portd = u.portd }
-
-abbrev pub drive_by : Driving → ℕ → Drive
-drive_by d p =
-    if nat_lt p 8 then pin_drive d.ddrd d.portd p
-    else if nat_lt p 14 then pin_drive d.ddrb d.portb (p - 8)
-    else pin_drive d.ddrc d.portc (p - 14)
-
--- the drive of the Uno's pin p
-abbrev pub drive : Ports → ℕ → Drive
-drive u p = drive_by (driving u) p
+-- the same of the Uno's pin p
+abbrev pub port_pad : Ports → ℕ → Pad
+port_pad u p =
+    if nat_lt p 8 then bit_pad u.ddrd u.portd p
+    else if nat_lt p 14 then bit_pad u.ddrb u.portb (p - 8)
+    else bit_pad u.ddrc u.portc (p - 14)
 
 -- What an external interrupt is sensitive to (data sheet, "External Interrupts", "Interrupt Sense Control").
 abbrev pub isc0 : Ports → ℕ
@@ -126,17 +119,24 @@ changes_sensed u before now = record u {
 abbrev pub ports_step : Ports → List Level → List Level → Ports
 ports_step u before now = changes_sensed (edges_sensed u before now) before now
 
--- The vectors INT0, INT1 and PCINT0 to PCINT2 where they are enabled; at sense 0 the low level requests by itself.
-abbrev pub requests_int : Bool → Bool → ℕ → Bool → Bool
-requests_int enabled flag sense high = enabled && (flag || (sense == 0 && not high))
+-- Whether no edge is sensed, no change of a pin chosen and no external interrupt enabled: a change of levels is none then.
+abbrev pub is_deaf : Ports → Bool
+is_deaf u =
+    u.eicra % 16 == 0 && (u.pcmsk0 == 0 && (u.pcmsk1 == 0 && (u.pcmsk2 == 0 && (not (is_set u.eimsk 0) && not (is_set u.eimsk 1)))))
 
-abbrev pub flags : Ports → List Level → ℕ
-flags u l =
-    2 * one (requests_int (is_set u.eimsk 0) u.intf0 (isc0 u) (on l 2))
-    + 4 * one (requests_int (is_set u.eimsk 1) u.intf1 (isc1 u) (on l 3))
-    + 8 * one (is_set u.pcicr 0 && u.pcif0)
-    + 16 * one (is_set u.pcicr 1 && u.pcif1)
-    + 32 * one (is_set u.pcicr 2 && u.pcif2)
+-- An external interrupt; at sense 0 the low level requests by itself.
+abbrev pub requests_int : Bool → ℕ → Bool → Bool
+requests_int flag sense high = flag || (sense == 0 && not high)
+
+-- The vectors INT0, INT1 and PCINT0 to PCINT2 (data sheet, "Reset and Interrupt Vectors").
+abbrev pub requests : Ports → List Level → List Request
+requests u l =
+    record { vector = 1; enabled = is_set u.eimsk 0; flag = requests_int u.intf0 (isc0 u) (on l 2) }
+    ∷ record { vector = 2; enabled = is_set u.eimsk 1; flag = requests_int u.intf1 (isc1 u) (on l 3) }
+    ∷ record { vector = 3; enabled = is_set u.pcicr 0; flag = u.pcif0 }
+    ∷ record { vector = 4; enabled = is_set u.pcicr 1; flag = u.pcif1 }
+    ∷ record { vector = 5; enabled = is_set u.pcicr 2; flag = u.pcif2 }
+    ∷ []
 
 -- An entered vector's flag is cleared.
 abbrev pub taken : Ports → ℕ → Ports
@@ -148,78 +148,88 @@ taken u v =
     else if v == 5 then record u { pcif2 = false }
     else u
 
+-- What reading a register gives: PINx the levels of the cycle before, and else what it keeps.
+abbrev pub register : Ports → List Level → Register → ℕ
+register u before PINB = pinb before
+register u before DDRB = u.ddrb
+register u before PORTB = u.portb
+register u before PINC = pinc before
+register u before DDRC = u.ddrc
+register u before PORTC = u.portc
+register u before PIND = pind before
+register u before DDRD = u.ddrd
+register u before PORTD = u.portd
+register u before PCIFR = one u.pcif0 + 2 * one u.pcif1 + 4 * one u.pcif2
+register u before EIFR = one u.intf0 + 2 * one u.intf1
+register u before EIMSK = u.eimsk
+register u before PCICR = u.pcicr
+register u before EICRA = u.eicra
+register u before PCMSK0 = u.pcmsk0
+register u before PCMSK1 = u.pcmsk1
+register u before PCMSK2 = u.pcmsk2
+
+-- A write: a 1 in PINx toggles the bit of PORTx, a 1 in a flag register clears the flag, and sense 0 keeps no flag.
+abbrev pub with_register : Ports → Register → ℕ → Ports
+with_register u PINB x = record u { portb = bit_xor u.portb x }
+with_register u DDRB x = record u { ddrb = x }
+with_register u PORTB x = record u { portb = x }
+with_register u PINC x = record u { portc = bit_xor u.portc x }
+with_register u DDRC x = record u { ddrc = x }
+with_register u PORTC x = record u { portc = x }
+with_register u PIND x = record u { portd = bit_xor u.portd x }
+with_register u DDRD x = record u { ddrd = x }
+with_register u PORTD x = record u { portd = x }
+with_register u PCIFR x = record u { pcif0 = u.pcif0 && not (is_set x 0); pcif1 = u.pcif1 && not (is_set x 1); pcif2 = u.pcif2 && not (is_set x 2) }
+with_register u EIFR x = record u { intf0 = u.intf0 && not (is_set x 0); intf1 = u.intf1 && not (is_set x 1) }
+with_register u EIMSK x = record u { eimsk = x }
+with_register u PCICR x = record u { pcicr = x }
+with_register u EICRA x = record u { eicra = x; intf0 = u.intf0 && not (x % 4 == 0); intf1 = u.intf1 && not (x / 4 % 4 == 0) }
+with_register u PCMSK0 x = record u { pcmsk0 = x }
+with_register u PCMSK1 x = record u { pcmsk1 = x }
+with_register u PCMSK2 x = record u { pcmsk2 = x }
+
+-- registers of which a 1 acts and a 0 does nothing
+abbrev pub acts_by_ones : Register → Bool
+acts_by_ones PINB = true
+acts_by_ones PINC = true
+acts_by_ones PIND = true
+acts_by_ones PCIFR = true
+acts_by_ones EIFR = true
+acts_by_ones r = false
+
+-- registers of which a write may change what a pin is asked for
+abbrev pub drives : Register → Bool
+drives PINB = true
+drives DDRB = true
+drives PORTB = true
+drives PINC = true
+drives DDRC = true
+drives PORTC = true
+drives PIND = true
+drives DDRD = true
+drives PORTD = true
+drives r = false
+
+-- SBI (1) and CBI (0) write one bit alone.
+abbrev pub with_register_bit : Ports → Register → ℕ → Bool → Ports
+with_register_bit u r k x =
+    if acts_by_ones r then (if x then with_register u r (2 ^ k) else u)
+    else with_register u r (with_bit (register u [] r) k x)
+
 abbrev pub ports : UnitMachine Ports
 ports = record {
   step = λ u t before now. ports_step u before now;
   due = λ u t. false;
-  flags = flags;
-  output = λ u p. Some (drive u p);
+  hears = λ u before now. not (is_deaf u);
+  requests = requests;
+  pad = port_pad;
   sends = λ u t. None;
+  has = λ a. is_some (register_at a);
+  moves = λ a. at_register (register_at a) false drives;
+  answers = λ u t l a. at_register (register_at a) 0 (register u l);
+  read = λ u t a. u;
+  write = λ u t a x. at_register (register_at a) u (λ r. with_register u r x);
+  write_bit = λ u t a k x. at_register (register_at a) u (λ r. with_register_bit u r k x);
+  taken = taken;
+  reset = reset;
 }
-
--- the registers' data addresses
-abbrev pub is_register : ℕ → Bool
-is_register a =
-    (nat_lt 0x22 a && nat_lt a 0x2C) || (nat_lt 0x3A a && nat_lt a 0x3E) || a == 0x68 || a == 0x69 || (nat_lt 0x6A a && nat_lt a 0x6E)
-
--- PINB, PINC, PIND
-abbrev pub is_pins : ℕ → Bool
-is_pins a = a == 0x23 || a == 0x26 || a == 0x29
-
--- what reading gives: PINx the levels of the cycle before, and else what the register keeps
-abbrev pub kept : Ports → ℕ → ℕ
-kept u a =
-    if a == 0x24 then u.ddrb
-    else if a == 0x25 then u.portb
-    else if a == 0x27 then u.ddrc
-    else if a == 0x28 then u.portc
-    else if a == 0x2A then u.ddrd
-    else if a == 0x2B then u.portd
-    else if a == 0x3B then one u.pcif0 + 2 * one u.pcif1 + 4 * one u.pcif2
-    else if a == 0x3C then one u.intf0 + 2 * one u.intf1
-    else if a == 0x3D then u.eimsk
-    else if a == 0x68 then u.pcicr
-    else if a == 0x69 then u.eicra
-    else if a == 0x6B then u.pcmsk0
-    else if a == 0x6C then u.pcmsk1
-    else if a == 0x6D then u.pcmsk2
-    else 0
-
-abbrev pub register : Ports → List Level → ℕ → ℕ
-register u before a =
-    if a == 0x23 then pinb before
-    else if a == 0x26 then pinc before
-    else if a == 0x29 then pind before
-    else kept u a
-
--- A write: a 1 in PINx toggles the bit of PORTx, a 1 in a flag register clears the flag, and sense 0 keeps no flag.
-abbrev pub with_register : Ports → ℕ → ℕ → Ports
-with_register u a x =
-    if a == 0x23 then record u { portb = bit_xor u.portb x }
-    else if a == 0x24 then record u { ddrb = x }
-    else if a == 0x25 then record u { portb = x }
-    else if a == 0x26 then record u { portc = bit_xor u.portc x }
-    else if a == 0x27 then record u { ddrc = x }
-    else if a == 0x28 then record u { portc = x }
-    else if a == 0x29 then record u { portd = bit_xor u.portd x }
-    else if a == 0x2A then record u { ddrd = x }
-    else if a == 0x2B then record u { portd = x }
-    else if a == 0x3B then record u { pcif0 = u.pcif0 && not (is_set x 0); pcif1 = u.pcif1 && not (is_set x 1); pcif2 = u.pcif2 && not (is_set x 2) }
-    else if a == 0x3C then record u { intf0 = u.intf0 && not (is_set x 0); intf1 = u.intf1 && not (is_set x 1) }
-    else if a == 0x3D then record u { eimsk = x }
-    else if a == 0x68 then record u { pcicr = x }
-    else if a == 0x69 then record u { eicra = x; intf0 = u.intf0 && not (x % 4 == 0); intf1 = u.intf1 && not (x / 4 % 4 == 0) }
-    else if a == 0x6B then record u { pcmsk0 = x }
-    else if a == 0x6C then record u { pcmsk1 = x }
-    else if a == 0x6D then record u { pcmsk2 = x }
-    else u
-
--- registers of which a 1 acts and a 0 does nothing: PINB, PINC, PIND, PCIFR, EIFR
-abbrev pub acts_by_ones : ℕ → Bool
-acts_by_ones a = is_pins a || a == 0x3B || a == 0x3C
-
--- SBI (1) and CBI (0) write one bit alone.
-abbrev pub with_register_bit : Ports → ℕ → ℕ → Bool → Ports
-with_register_bit u a k x =
-    if acts_by_ones a then (if x then with_register u a (2 ^ k) else u)
-    else with_register u a (with_bit (kept u a) k x)

@@ -10,9 +10,5 @@ mod registers;
 #[cfg(test)]
 mod tests;
 
-pub use pins::Driving;
 pub use ports::Ports;
-pub use registers::{
-    DDRB, DDRC, DDRD, EICRA, EIFR, EIMSK, PCICR, PCIFR, PCMSK0, PCMSK1, PCMSK2, PINB, PINC, PIND,
-    PORTB, PORTC, PORTD, has_register,
-};
+pub use registers::{Register, register_at};

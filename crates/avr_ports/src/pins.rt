@@ -1,20 +1,9 @@
-//! What pins read and drive, and what the interrupts are sensitive to.
+//! What pins read and are asked for, and what the interrupts are sensitive to.
 ghost use Rattle.std.specs.Prelude.{◌≡◌, ◌+◌, ◌<◌, length};
-ghost use Rattle.avr_ports.specs.Ports.{on, six, pinb, pinc, pind, pin_drive, is_edge, is_change, requests_int};
+ghost use Rattle.avr_ports.specs.Ports.{on, six, pinb, pinc, pind, bit_pad, is_edge, is_change, requests_int};
 
-use sim_base::{Drive, Level, reads_one};
-use unit_law::{has_bit, one};
-
-/// The registers on which the drives of the pins rest: where they are the same, the drives are.
-#[derive(Clone, Copy, Debug, PartialEq, Eq)]
-pub struct Driving {
-    pub ddrb: u8,
-    pub portb: u8,
-    pub ddrc: u8,
-    pub portc: u8,
-    pub ddrd: u8,
-    pub portd: u8,
-}
+use sim_base::{Level, reads_one};
+use unit_law::{Pad, has_bit, one};
 
 // Whether a pin reads 1.
 pub(crate) fn on(levels: &[Level], pin: usize) -> bool
@@ -59,16 +48,15 @@ pub(crate) fn pind(levels: &[Level]) -> u8
     six(levels, 0) + 64 * one(on(levels, 6)) + 128 * one(on(levels, 7))
 }
 
-// The drive of a bit of a port.
-pub(crate) fn pin_drive(ddr: u8, port: u8, bit: u8) -> Drive
+// What a bit of a port asks of its pin.
+pub(crate) fn bit_pad(ddr: u8, port: u8, bit: u8) -> Pad
     requires { bit < 8 }
-    ensures { result ≡ pin_drive ddr port bit }
+    ensures { result ≡ bit_pad ddr port bit }
 {
-    match (has_bit(ddr, bit), has_bit(port, bit)) {
-        (true, true) => Drive::High,
-        (true, false) => Drive::Low,
-        (false, true) => Drive::PullHigh,
-        (false, false) => Drive::Z,
+    Pad {
+        ddr: has_bit(ddr, bit),
+        port: has_bit(port, bit),
+        ..Pad::untouched()
     }
 }
 
@@ -92,8 +80,8 @@ pub(crate) fn is_change(mask: u8, before: u8, now: u8) -> bool
 }
 
 // Whether an external interrupt requests its vector.
-pub(crate) fn requests_int(enabled: bool, flag: bool, sense: u8, high: bool) -> bool
-    ensures { result ≡ requests_int enabled flag sense high }
+pub(crate) fn requests_int(flag: bool, sense: u8, high: bool) -> bool
+    ensures { result ≡ requests_int flag sense high }
 {
-    enabled & (flag | ((sense == 0) & !high))
+    flag | ((sense == 0) & !high)
 }

@@ -56,7 +56,7 @@ pub fits : (resistors : List (ℕ × ℕ)) (s : Mcu) → Fits mcu (record uno_wi
 fits resistors s = record {
   parts = refl;
   chips = refl;
-  pins = sym (ap (λ (l : List Drive). length l) (append-nil (uno_drives s.units.ports)) ∙ length-uno_drives s.units.ports);
+  pins = sym (ap (λ (l : List Drive). length l) (append-nil (uno_drives s.units.devices)) ∙ length-uno_drives s.units.devices);
   contacts = refl;
   places = first;
 }

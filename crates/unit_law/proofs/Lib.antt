@@ -1,2 +1,1 @@
-pub mod SeenLemmas
 pub mod UnitLemmas

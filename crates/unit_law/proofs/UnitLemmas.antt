@@ -1,8 +1,15 @@
 -- Stretches of cycles, and a unit that lags behind by quiet ones.
-use Rattle.std.proofs.Common.{Some, None, false, zero, suc, ◌≡◌, ℕ, ◌+◌, ◌-◌, ◌<◌, ◌≤◌, ◌∙◌, List, [], arith, ap, sym, refl}
+use Rattle.std.proofs.Common.{◌⊎◌, inl, inr, Bool, true, Some, None, false, zero, suc, ◌≡◌, ℕ, ◌+◌, ◌-◌, ◌<◌, ◌≤◌, ◌∙◌, List, [], arith, ap, sym, refl}
 use Rattle.sim_base.specs.declared.signal.Level.{Level}
 use Rattle.unit_law.specs.UnitMachine.{UnitMachine, At, Laws, least, steps, IsQuiet, IsFirstDue, FirstDue}
 use Rattle.unit_law.specs.Late.{late_state, Lags, LateStands}
+
+le_or : (a b : ℕ) → (a ≤ b) ⊎ (b < a)
+le_or a b = grind arith
+
+clash : (b : Bool) → b ≡ true → b ≡ false → ⊥
+clash true h k = cc
+clash false h k = cc
 
 module _ {U : Type 0} (m : UnitMachine U) where
   -- no cycle, and the last one
@@ -40,6 +47,17 @@ module _ {U : Type 0} (m : UnitMachine U) where
 
   pub first_some : (s : U) (t d : ℕ) → IsFirstDue m s t (Some d) → FirstDue m s t d
   first_some s t d first = record { later = first.0; end = omega (arith, first.1); quiet = first.2; event = λ _. first.3 }
+
+  -- before its first event a unit is quiet, and no longer
+  pub quiet_within : (s : U) (t d u : ℕ) → FirstDue m s t d → t ≤ u → u ≤ 160000000 → IsQuiet m s t (u - t) → u ≤ d
+  quiet_within s t d u first on end quiet = elim (le_or u d) [
+    | inl le ↦ le
+    | inr less ↦
+        let e : t + (d - t) ≡ d = omega (arith, first.later) in
+        let no : m.due (steps m s t (d - t)) d ≡ false = ap (m.due (steps m s t (d - t))) (sym e) ∙ quiet (d - t) (omega (arith, less, first.later)) in
+        let yes_due : m.due (steps m s t (d - t)) d ≡ true = first.event (omega (arith, less, end)) in
+        absurd (clash (m.due (steps m s t (d - t)) d) yes_due no)
+  ]
 
   -- a unit at its own cycle
   pub late_here : (s : At U) (t : ℕ) (u : U) → s ≡ record { unit = u; cycle = t } → late_state m s t ≡ u

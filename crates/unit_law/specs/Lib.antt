@@ -5,4 +5,3 @@ pub mod Lagging
 pub mod Both
 pub mod BothLaws
 pub mod Late
-pub mod SeenUnit

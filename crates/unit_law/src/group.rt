@@ -2,7 +2,7 @@
 ghost use Rattle.std.specs.Prelude.{◌≡◌, ℕ, ◌+◌, ◌-◌, ◌<◌, ◌≤◌, List, true, false, length, replicate, None};
 ghost use Rattle.sim_base.specs.declared.signal.Level.{Level};
 ghost use Rattle.sim_base.specs.declared.signal.Level.TheVariants as levels;
-ghost use Rattle.unit_law.specs.UnitMachine.{UnitMachine, Laws, least, steps, FirstDue};
+ghost use Rattle.unit_law.specs.UnitMachine.{UnitMachine, Laws, least, steps, IsQuiet, FirstDue};
 
 use crate::pad::Pad;
 use sim_base::Level;
@@ -106,12 +106,13 @@ pub trait Group {
     ghost first: { (s : Self) (l : List Level) (t : ℕ) → stands s l t → FirstDue machine (state s t) t (until s) };
 }
 
-/// Goes on to a cycle, before which there is no event: nothing needs to be done.
+/// Goes on to a cycle over cycles without an event: nothing needs to be done.
 #[inline]
 pub fn wait<G: Group>(group: &G, cycle: u32, to: u32, levels: &[Level])
     requires here { G.stands group.now levels.now cycle }
     requires forward { cycle ≤ to }
-    requires soon { to ≤ G.until group.now }
+    requires end { to ≤ 160000000 }
+    requires quiet { IsQuiet G.machine (G.state group.now cycle) cycle (to - cycle) }
     ensures stands { G.stands group.now levels.now to }
     ensures state { G.state group.now to ≡ steps G.machine (G.state group.now cycle) cycle (to - cycle) }
     ensures requests { (l : List Level) → least (G.machine.requests (G.state group.now to) l) ≡ least (G.machine.requests (G.state group.now cycle) l) }

@@ -1,15 +1,33 @@
-use Rattle.std.proofs.Common.{◌∙◌, ap, sym, ◌-◌}
-use Rattle.part_law.specs.Machine.{glide}
-use Rattle.avr_mcu.specs.Units.{UnitsAt}
-use Rattle.avr_mcu.specs.Mcu.{McuAt, mcu}
+use Rattle.std.proofs.Common.{◌≡◌, ◌∙◌, ◌+◌, ◌-◌, ◌<◌, ◌≤◌, ◌||◌, ◌&&◌, not, nat_lt, ℕ, Bool, true, false, Option, List, take, length, refl, ap, sym, subst, arith}
+use Rattle.std.specs.Prelude.{◌==◌}
+use Rattle.std.proofs.lemmas.Bool.Decides.{nat_tests}
+use Rattle.part_law.specs.Machine.{IsFirstDue}
+use Rattle.unit_law.specs.UnitMachine.{steps, FirstDue}
+use Rattle.avr_core.specs.AvrStep.{Did}
+use Rattle.avr_mcu.specs.Devices.{Devices, devices, devices_laws}
+use Rattle.avr_mcu.specs.Units.{Units, UnitsAt, pins, request, units_step}
+use Rattle.avr_mcu.specs.McuOf.{Mcu, McuAt, mcu, ready, enters, performed, core_acted, uno_drive}
 use Rattle.avr_mcu.specs.McuState.{state_of}
-use Rattle.avr_mcu.proofs.McuLemmas.{none_quiet}
+use Rattle.avr_mcu.specs.McuLawsOf.{length-uno_drives}
+use Rattle.avr_mcu.proofs.McuLemmas.{drive_at, did_leads, act_is, act_not, held_woken, wake_drives, rest_is, rest_turn, rest_pads, rest_silent, waited, glide_waits, due_some, due_none, enters_some}
+use Rattle.unit_law.specs.UnitMachine as unit
+use Rattle.avr_mcu.specs.contracts.mcu.Mcu.{the_view}
 use Rattle.avr_mcu.proofs.mcu.McuPart.settle.Goals as goal
+
+pub skip-requires-clause-quiet : goal.skip-requires-clause-quiet
+skip-requires-clause-quiet c =
+    let i = c.self.inside in
+    let s = c.args.self.now in
+    let quiet = (glide_waits devices devices_laws s.mcu s.cycle (c.args.to - s.cycle) c.requires.quiet).1 in
+    subst (λ (t : ℕ). unit.IsQuiet devices i.units.units.devices t (c.args.to - t)) (sym c.self.invariant.same_cycle)
+    (subst (λ (x : McuAt Devices). unit.IsQuiet devices x.mcu.units.devices x.cycle (c.args.to - x.cycle)) (sym c.self.view_is) quiet)
 
 pub returns-clause-state : goal.returns-clause-state
 returns-clause-state c =
     let i = c.self.inside in
     let s = c.args.self.now in
-    ap (λ (x : UnitsAt). state_of i.flash i.core i.next x.units x.held) c.skip.ensures
-    ∙ ap (λ (x : McuAt). x.mcu) c.self.view_is
-    ∙ sym (ap (glide mcu s.mcu s.cycle) (none_quiet s.mcu s.cycle (c.args.to - s.cycle) c.requires.quiet))
+    let v = the_view i in
+    ap (λ (x : UnitsAt Devices). state_of i.flash i.core i.next x.units x.held) c.skip.ensures
+    ∙ ap (λ (t : ℕ). waited devices devices_laws v.mcu t (c.args.to - t)) c.self.invariant.same_cycle
+    ∙ ap (λ (x : McuAt Devices). waited devices devices_laws x.mcu x.cycle (c.args.to - x.cycle)) c.self.view_is
+    ∙ sym (glide_waits devices devices_laws s.mcu s.cycle (c.args.to - s.cycle) c.requires.quiet).0

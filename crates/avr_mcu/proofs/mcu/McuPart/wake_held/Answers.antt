@@ -1,19 +1,30 @@
-use Rattle.std.proofs.Common.{◌∙◌, ap, sym}
-use Rattle.avr_ports.specs.Ports.{driving}
-use Rattle.avr_mcu.specs.Units.{UnitsAt}
-use Rattle.avr_mcu.specs.Mcu.{McuAt}
+use Rattle.std.proofs.Common.{◌≡◌, ◌∙◌, ◌+◌, ◌-◌, ◌<◌, ◌≤◌, ◌||◌, ◌&&◌, not, nat_lt, ℕ, Bool, true, false, Option, List, take, length, refl, ap, sym, subst, arith}
+use Rattle.std.specs.Prelude.{◌==◌}
+use Rattle.std.proofs.lemmas.Bool.Decides.{nat_tests}
+use Rattle.part_law.specs.Machine.{IsFirstDue}
+use Rattle.unit_law.specs.UnitMachine.{steps, FirstDue}
+use Rattle.avr_core.specs.AvrStep.{Did}
+use Rattle.avr_mcu.specs.Devices.{Devices, devices, devices_laws}
+use Rattle.avr_mcu.specs.Units.{Units, UnitsAt, pins, request, units_step}
+use Rattle.avr_mcu.specs.McuOf.{Mcu, McuAt, mcu, ready, enters, performed, core_acted, uno_drive}
 use Rattle.avr_mcu.specs.McuState.{state_of}
-use Rattle.avr_mcu.proofs.McuLemmas.{drives_same, held_step}
+use Rattle.avr_mcu.specs.McuLawsOf.{length-uno_drives}
+use Rattle.avr_mcu.proofs.McuLemmas.{drive_at, did_leads, act_is, act_not, held_woken, wake_drives, rest_is, rest_turn, rest_pads, rest_silent, waited, glide_waits, due_some, due_none, enters_some}
+use Rattle.avr_mcu.specs.contracts.mcu.Mcu.{the_view}
 use Rattle.avr_mcu.proofs.mcu.McuPart.wake_held.Goals as goal
 
 pub returns-clause-state : goal.returns-clause-state
 returns-clause-state c =
     let i = c.self.inside in
-    ap (λ (x : UnitsAt). state_of i.flash i.core i.next x.units x.held) c.skip.ensures
-    ∙ ap (λ (x : McuAt). x.mcu) c.self.view_is ∙ c.act.ensures.acted ∙ held_step c.args.self.now.mcu c.args.self.now.cycle
+    let s = c.args.self.now in
+    let a = (the_view i).mcu in
+    ap (λ (x : UnitsAt Devices). state_of i.flash i.core i.next x.units x.held) c.tick-byte.ensures.state
+    ∙ ap (λ (t : ℕ). record a { units = units_step devices a.units t a.held a.held }) (ap (λ (x : McuAt Devices). x.cycle) c.self.view_is ∙ c.act.ensures.cycle)
+    ∙ held_woken devices devices_laws s.mcu a s.cycle (ap (λ (x : McuAt Devices). x.mcu) c.self.view_is ∙ c.act.ensures.acted)
 
 pub returns-clause-drives : goal.returns-clause-drives
-returns-clause-drives c = λ same.
-    drives_same c.skip.new.self.units.ports c.args.self.now.mcu.units.ports
-    (ap (λ (x : UnitsAt). driving x.units.ports) c.skip.ensures ∙ ap (λ (x : McuAt). driving x.mcu.units.ports) c.self.view_is
-    ∙ c.act.ensures.drives (sym (ap (λ (x : McuAt). x.changed) c.self.view_is) ∙ same))
+returns-clause-drives c =
+    let i = c.self.inside in
+    wake_drives devices devices_laws c.args.self.now.mcu.units.devices i.units.units.devices c.tick-byte.new.units.units.devices i.changed c.tick-byte.result.1
+    (λ h p. ap (λ (x : McuAt Devices). devices.pad x.mcu.units.devices p) c.self.view_is ∙ c.act.ensures.pads (sym (ap (λ (x : McuAt Devices). x.changed) c.self.view_is) ∙ h) p)
+    c.tick-byte.ensures.pads

@@ -1,33 +1,26 @@
-use Rattle.std.proofs.Common.{◌≡◌, ◌∙◌, ap, sym, ◌+◌, length, take, arith}
-use Rattle.unit_law.specs.SeenUnit.{Seeing}
-use Rattle.avr_ports.specs.Ports.{Ports}
-use Rattle.avr_mcu.specs.Units.{UnitsAt, units_step}
+use Rattle.std.proofs.Common.{◌≡◌, ◌∙◌, ◌+◌, ◌-◌, ◌<◌, ◌≤◌, ◌||◌, ℕ, Bool, true, false, List, take, length, refl, ap, sym, subst, arith}
+use Rattle.unit_law.specs.UnitMachine.{least, steps, IsQuiet}
+use Rattle.avr_mcu.specs.Devices.{Devices, devices, devices_laws}
+use Rattle.avr_mcu.specs.Units.{UnitsAt, pins}
 use Rattle.avr_mcu.specs.contracts.units.Units.{the_view}
-use Rattle.avr_mcu.proofs.UnitsLemmas.{ports_heard, units_stepped, rest_of, length-rest, length-front}
+use Rattle.avr_mcu.proofs.UnitsLemmas.{units_by, units_touched, units_at, units_held, units_new, length-front}
 use Rattle.avr_mcu.proofs.units.Units.step.Goals as goal
+
+pub returns-clause-state : goal.returns-clause-state
+returns-clause-state c =
+    let v = the_view c.self.inside in
+    units_held devices c.args.self.now v c.self.view_is (λ (y : UnitsAt Devices). devices.step y.units.devices y.cycle (pins y.held) (pins c.args.levels.now)) _ c.args.levels.now _ (λ (y : UnitsAt Devices). y.cycle + 1)
+    (c.step-byte.ensures.state ∙ ap (devices.step v.units.devices v.cycle (pins v.held)) c.seen.ensures.value) c.copy_from_slice.ensures.after
 
 pub invariant_of-self : goal.invariant_of-self
 invariant_of-self c =
-    let i = c.self.inside in
-    let l = c.args.levels.now in
-    let heard = ports_heard i.ports c.step_to-byte.new.self c.step_seeing.new.self (take 20 l) i.cycle c.self.invariant.seen c.self.invariant.lags c.step_to-byte.ensures.state c.step_seeing.ensures in
-    let at : c.step_seeing.new.self.cycle ≡ i.cycle + 1 = ap (λ (x : Seeing Ports). x.cycle) heard in
-    let here : i.cycle ≡ c.args.self.now.cycle = ap (λ (x : UnitsAt). x.cycle) c.self.view_is in
+    let e : pins c.copy_from_slice.new.self ≡ c.seen.result.now = ap pins c.copy_from_slice.ensures.after ∙ sym c.seen.ensures.value in
     record {
       sram = c.self.invariant.sram;
       ignored = c.self.invariant.ignored;
-      before = ap (λ (x : Seeing Ports). length x.before) heard ∙ length-front l c.requires.levels;
-      seen = ap (λ (x : Seeing Ports). x.seen) heard ∙ sym (ap (λ (x : Seeing Ports). x.before) heard);
-      others = ap length (c.copy_from_slice.ensures.after ∙ rest_of l) ∙ length-rest l c.requires.levels;
-      lags = omega arith;
-      end = omega arith;
+      held = ap length c.copy_from_slice.ensures.after ∙ c.requires.levels;
+      stands = rw e c.step-byte.ensures.stands;
+      due = c.due-self-inside.ensures;
+      request = rw e (c.request-self-inside.ensures c.seen.result.now (c.self.inside.cycle + 1) c.step-byte.ensures.stands);
+      end = omega (arith, c.requires.end);
     }
-
-pub returns : goal.returns
-returns c =
-    let i = c.self.inside in
-    let l = c.args.levels.now in
-    units_stepped (the_view i).units i.ports c.step_seeing.new.self i.others c.copy_from_slice.new.self l i.cycle c.self.invariant.before
-    (ports_heard i.ports c.step_to-byte.new.self c.step_seeing.new.self (take 20 l) i.cycle c.self.invariant.seen c.self.invariant.lags c.step_to-byte.ensures.state c.step_seeing.ensures)
-    (c.copy_from_slice.ensures.after ∙ rest_of l)
-    ∙ ap (λ (x : UnitsAt). record { units = units_step x.units x.cycle x.held l; held = l; cycle = x.cycle + 1 }) c.self.view_is
