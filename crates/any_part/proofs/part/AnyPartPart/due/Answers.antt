@@ -1,10 +1,16 @@
-use Rattle.std.proofs.Common.{inr}
+use Rattle.std.proofs.Common.{inl, inr}
+use Rattle.avr_mcu.specs.Mcu.{Mcu, mcu}
 use Rattle.reactive_part.specs.Reaction.{Reacting, reactive}
 use Rattle.any_part.specs.AnyBehaviour.{AnyOwn, any_reaction, own_of}
 use Rattle.any_part.specs.AnyPart.{any}
 use Rattle.any_part.proofs.EmbedLemmas.{first_in}
-use Rattle.any_part.proofs.Inside.{reactive_in}
+use Rattle.any_part.proofs.Inside.{uno_in, reactive_in}
 use Rattle.any_part.proofs.part.AnyPartPart.due.Goals as goal
+
+pub returns-in-Uno : goal.returns-in-Uno
+returns-in-Uno c =
+    let p = c.in-Uno.part in
+    rw c.in-Uno.is (first_in mcu any (λ (s : Mcu). inl s) uno_in p.mcu p.cycle _ c.due.ensures)
 
 pub returns-in-Reactive : goal.returns-in-Reactive
 returns-in-Reactive c =

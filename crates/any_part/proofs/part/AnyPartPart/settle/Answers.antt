@@ -1,10 +1,23 @@
-use Rattle.std.proofs.Common.{inr, sym, ◌-◌}
+use Rattle.std.proofs.Common.{inl, inr, sym, subst, ◌-◌}
+use Rattle.part_law.specs.Machine.{IsQuiet}
+use Rattle.avr_mcu.specs.Mcu.{Mcu, mcu}
 use Rattle.reactive_part.specs.Reaction.{Reacting, reactive}
 use Rattle.any_part.specs.AnyBehaviour.{AnyOwn, any_reaction, own_of}
-use Rattle.any_part.specs.AnyPart.{any}
-use Rattle.any_part.proofs.EmbedLemmas.{glide_in}
-use Rattle.any_part.proofs.Inside.{reactive_in}
+use Rattle.any_part.specs.declared.part.AnyPart.{AnyPart}
+use Rattle.any_part.specs.AnyPart.{any, state_of, cycle_of}
+use Rattle.any_part.proofs.EmbedLemmas.{glide_in, quiet_out}
+use Rattle.any_part.proofs.Inside.{uno_in, reactive_in}
 use Rattle.any_part.proofs.part.AnyPartPart.settle.Goals as goal
+
+pub settle-requires-clause-quiet : goal.settle-requires-clause-quiet
+settle-requires-clause-quiet c =
+    let p = c.in-Uno.part in
+    quiet_out mcu any (λ (s : Mcu). inl s) uno_in p.mcu p.cycle (c.args.to - p.cycle) (subst (λ (x : AnyPart). IsQuiet any (state_of x) (cycle_of x) (c.args.to - cycle_of x)) c.in-Uno.is c.requires.quiet)
+
+pub returns-in-Uno-clause-state : goal.returns-in-Uno-clause-state
+returns-in-Uno-clause-state c =
+    let p = c.in-Uno.part in
+    rw (c.in-Uno.is, c.settle.ensures.state) (sym (glide_in mcu any (λ (s : Mcu). inl s) uno_in p.mcu p.cycle (c.args.to - p.cycle)))
 
 pub returns-in-Reactive-clause-state : goal.returns-in-Reactive-clause-state
 returns-in-Reactive-clause-state c =
