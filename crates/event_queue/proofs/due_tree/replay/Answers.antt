@@ -1,6 +1,6 @@
-use Rattle.std.proofs.Common.{◌≡◌, ◌≤◌, ◌<◌, ◌∙◌, ◌/◌, ◌*◌, ◌+◌, ◌≢◌, ap, refl, sym, subst, length-set, arith, ℕ, ◌⊎◌, inl, inr}
+use Rattle.std.proofs.Common.{◌≤◌, ◌<◌, ◌∙◌, ◌/◌, refl, subst, length-set, arith, inl, inr}
 use Rattle.event_queue.specs.declared.entry.Entry.{Entry}
-use Rattle.event_queue.specs.Places.{at_place, IsNotAfter}
+use Rattle.event_queue.specs.Places.{IsNotAfter}
 use Rattle.event_queue.proofs.TreeLemmas.{played}
 use Rattle.event_queue.proofs.due_tree.replay.Goals as goal
 

@@ -1,4 +1,4 @@
-use Rattle.std.proofs.Common.{◌≡◌, ◌∙◌, ap, sym, subst, List, ℕ, Option, Some, None}
+use Rattle.std.proofs.Common.{◌∙◌, ap, sym, subst, List, ℕ, Option, Some, None}
 use Rattle.event_queue.specs.declared.entry.Entry.{Entry}
 use Rattle.event_queue.specs.First.{IsFirst}
 use Rattle.event_queue.specs.Places.{at_place}

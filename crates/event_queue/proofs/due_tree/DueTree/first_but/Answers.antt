@@ -1,4 +1,4 @@
-use Rattle.std.proofs.Common.{◌≡◌, ◌∙◌, ap, List, ℕ, Option, None}
+use Rattle.std.proofs.Common.{◌∙◌, ap, List, ℕ, Option, None}
 use Rattle.std.specs.Prelude.{slice_set}
 use Rattle.event_queue.proofs.TreeLemmas.{set_back}
 use Rattle.event_queue.proofs.due_tree.DueTree.first_but.Goals as goal

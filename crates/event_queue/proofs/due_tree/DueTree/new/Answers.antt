@@ -1,8 +1,8 @@
-use Rattle.std.proofs.Common.{◌≡◌, ◌∙◌, ◌≤◌, ◌<◌, ap, sym, subst, List, ℕ, Option, None, length, arith}
+use Rattle.std.proofs.Common.{ap, sym, subst, List, ℕ, Option, None, length, arith}
 use Rattle.std.specs.Prelude.{replicate}
 use Rattle.std.proofs.lemmas.List.{length-replicate}
 use Rattle.event_queue.specs.declared.entry.Entry.{Entry}
-use Rattle.event_queue.specs.Places.{IsBest, no_entry}
+use Rattle.event_queue.specs.Places.{IsBest}
 use Rattle.event_queue.proofs.TreeLemmas.{best_none}
 use Rattle.event_queue.proofs.due_tree.DueTree.new.Goals as goal
 

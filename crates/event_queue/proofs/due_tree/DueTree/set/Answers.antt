@@ -1,4 +1,4 @@
-use Rattle.std.proofs.Common.{◌≡◌, ◌≤◌, ◌∙◌, ap, length-set, subst, sym, List, ℕ, Option}
+use Rattle.std.proofs.Common.{◌≤◌, length-set, subst, sym, List, ℕ, Option}
 use Rattle.event_queue.specs.Places.{IsBest}
 use Rattle.event_queue.proofs.TreeLemmas.{leaf_set}
 use Rattle.event_queue.proofs.due_tree.DueTree.set.Goals as goal
