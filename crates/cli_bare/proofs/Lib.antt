@@ -1,3 +1,3 @@
 mod PlayLemmas
 mod BareLemmas
-mod AnswerLemmas
+pub mod AnswerLemmas

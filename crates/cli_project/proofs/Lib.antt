@@ -1,1 +1,1 @@
-mod ProjectLemmas
+pub mod ProjectLemmas

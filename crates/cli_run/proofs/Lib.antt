@@ -1,2 +1,2 @@
 mod VariableLemmas
-mod RunLemmas
+pub mod RunLemmas
