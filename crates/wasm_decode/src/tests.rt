@@ -114,10 +114,10 @@ fn the_break_of_each_module(rt: HostRuntime) -> Result<(), Fail> {
         (HEAD, "0605 017f00 05 0b", 65, 13),
         (HEAD, "0606 017f00 3f01 0b", 65, 14),
         (HEAD, "0607 017f00 110001 0b", 65, 15),
-        // float types and instructions
-        (HEAD, "0104 016001 7d", 66, 13),
-        (HEAD, "0605 017f00 43 0b", 66, 13),
-        (HEAD, "0606 017f00 027c 0b", 66, 14),
+        // float types and instructions are read, and break as others do
+        (HEAD, "0104 016001 7d", 61, 14),
+        (HEAD, "0605 017f00 43 0b", 61, 15),
+        (HEAD, "0607 017f00 027c 0b0b", 0, 17),
         // names
         (HEAD, "0705 0101 ff 00 00", 67, 12),
         (HEAD, "0705 0101 c3 00 00", 67, 12),
