@@ -23,7 +23,7 @@ fn are_digits(radix: u8, text: &[u8]) -> bool
 
 fn value(radix: u8, digits: &[u8]) -> u64
     requires digits { list_all (λ d. nat_lt (digit_value d) radix) digits.now ≡ true }
-    requires short { length digits.now ≤ 9 }
+    requires short { length digits.now ≤ 10 }
     requires radix { radix ≤ 16 }
     ensures value { result ≡ value_of radix digits.now }
     ensures small { result < 16 ^ length digits.now }
@@ -39,7 +39,7 @@ fn value(radix: u8, digits: &[u8]) -> u64
 /// is none.
 pub fn read_numeral(radix: u8, longest: usize, text: &[u8]) -> Option<u64>
     requires radix { radix ≤ 16 }
-    requires longest { longest ≤ 9 }
+    requires longest { longest ≤ 10 }
     ensures number { result ≡ numeral radix longest text.now }
     ensures small { IfSome result (λ n. n < 16 ^ longest) }
 {
