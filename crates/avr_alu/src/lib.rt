@@ -11,6 +11,3 @@ mod pairs;
 pub use bytes::{add, com, dec, inc, logic, neg, shift, sub};
 pub use flags::Flags;
 pub use pairs::{adiw, product, sbiw};
-
-#[cfg(test)]
-mod tests;

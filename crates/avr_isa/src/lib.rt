@@ -8,6 +8,3 @@ mod instr;
 
 pub use decoding::{decode, words};
 pub use instr::Instr;
-
-#[cfg(test)]
-mod tests;
