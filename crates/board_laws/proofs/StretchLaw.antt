@@ -9,7 +9,7 @@ use Rattle.sim_base.specs.declared.wiring.Wiring.{Wiring}
 use Rattle.sim_base.specs.declared.wiring.Input.{Input}
 use Rattle.sim_base.specs.Rows.{Row}
 use Rattle.part_law.specs.Machine.{Machine, Laws, glide, IsQuiet}
-use Rattle.part_law.proofs.MachineLemmas.{glide_valid, glide_drives, glide_contacts}
+use Rattle.part_law.proofs.MachineLemmas.{glide_valid, glide_drives, glide_contacts, glide_holds}
 use Rattle.board_model.specs.Board.{level_at, own_nets, levels_of, input_at, part_step, steps_from, options, bytes_of, states, bytes}
 use Rattle.board_model.specs.Rows.{same_list, same_level, same_drive, Shown, shown_of, is_new, row_if, row_of, shown_before, rows}
 use Rattle.board_model.proofs.Lists.{some_same, get_map_some, get_within}
@@ -39,10 +39,6 @@ sum_zero zero f none = refl
 sum_zero (suc n) f none = omega (arith, sum_zero n f (λ k (h : k < n). none k (omega arith)), none n (omega arith))
 
 module _ {S : Type 0} (m : Machine S) (laws : Laws m) (w : Wiring) (inputs : List Input) (ss : List S) (c n : ℕ) (stretch : IsStretch m w inputs ss c n) where
-  held_glides : (s : S) (t : ℕ) → m.held (glide m s c t) ≡ m.held s
-  held_glides s zero = refl
-  held_glides s (suc t) = laws.holds_levels (glide m s c t) (c + t) _ None ∙ held_glides s t
-
   AreGliding : ℕ → Type 0
   AreGliding t = Alike (λ k s u. u ≡ glide m s c t) ss (states m w inputs ss c t)
 
@@ -66,7 +62,7 @@ module _ {S : Type 0} (m : Machine S) (laws : Laws m) (w : Wiring) (inputs : Lis
   own_held t k s l e same =
       ap (λ (ds : List Drive). map (level_at (levels_of m w (states m w inputs ss c t))) (own_nets w k (length ds))) (sym (shows t k s l e).drives)
       ∙ ap (λ (ls : List Level). map (level_at ls) (own_nets w k (length (m.drives s)))) (sym same)
-      ∙ sym (stretch.held k s e) ∙ sym (held_glides s t)
+      ∙ sym (stretch.held k s e) ∙ sym (glide_holds m laws s c t)
 
   glide_step : (t k : ℕ) (s : S) → t < n → slice_get ss k ≡ Some s → levels_of m w ss ≡ levels_of m w (states m w inputs ss c t) →
       part_step m w inputs (levels_of m w (states m w inputs ss c t)) (c + t) k (glide m s c t) ≡ m.step (glide m s c t) (c + t) (m.held (glide m s c t)) None

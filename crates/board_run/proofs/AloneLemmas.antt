@@ -8,7 +8,7 @@ use Rattle.sim_base.specs.declared.signal.Level.{Level}
 use Rattle.sim_base.specs.declared.wiring.Wiring.{Wiring}
 use Rattle.sim_base.specs.declared.wiring.Input.{Input}
 use Rattle.part_law.specs.Machine.{Machine, Laws, glide, dues, sent, IsQuiet, IsSame, IsFirstDue}
-use Rattle.part_law.proofs.MachineLemmas.{glide_valid, glide_drives, glide_contacts, glide_pins}
+use Rattle.part_law.proofs.MachineLemmas.{glide_valid, glide_drives, glide_contacts, glide_pins, glide_holds}
 use Rattle.board_model.specs.Board.{level_at, own_nets, input_at, states, bytes}
 use Rattle.board_model.specs.Rows.{Shown, shown_of, shown_before, rows}
 use Rattle.board_model.proofs.Lists.{some_same, get_within, get_map_some, some_map, get_set_same, get_set_other}
@@ -37,10 +37,6 @@ module _ {S : Type 0} (m : Machine S) (laws : Laws m) where
   glide_ports : (s : S) (a n : ℕ) → length (m.contacts (glide m s a n)) ≡ length (m.contacts s)
   glide_ports s a zero = refl
   glide_ports s a (suc n) = laws.keeps_contacts (glide m s a n) (a + n) _ None ∙ glide_ports s a n
-
-  glide_holds : (s : S) (a n : ℕ) → m.held (glide m s a n) ≡ m.held s
-  glide_holds s a zero = refl
-  glide_holds s a (suc n) = laws.holds_levels (glide m s a n) (a + n) _ None ∙ glide_holds s a n
 
   -- it is due at most once a cycle
   pub dues_most : (s : S) (a n : ℕ) → dues m s a n ≤ n

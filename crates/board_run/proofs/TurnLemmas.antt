@@ -6,8 +6,8 @@ use Rattle.std.proofs.lemmas.Bool.Decides.{eqb_tells}
 use Rattle.sim_base.specs.declared.signal.Level.{Level}
 use Rattle.sim_base.specs.declared.wiring.Wiring.{Wiring}
 use Rattle.sim_base.specs.declared.wiring.Input.{Input}
-use Rattle.part_law.specs.Machine.{Machine, Laws, IsFirstDue}
-use Rattle.part_law.proofs.MachineLemmas.{not_due_now, due_now}
+use Rattle.part_law.specs.Machine.{Machine, Laws, IsFirstDue, MayWake}
+use Rattle.part_law.proofs.MachineLemmas.{not_due_now, due_now, glide_holds}
 use Rattle.board_model.specs.Board.{level_at, own_nets, input_at, part_step, steps_from}
 use Rattle.board_model.specs.Rows.{same_list, same_level}
 use Rattle.board_laws.specs.Alike.{Alike, SameShow}
@@ -17,6 +17,7 @@ use Rattle.board_laws.proofs.StandsLaw.{stands_here, stands_shows, stands_valid,
 use Rattle.std.proofs.lemmas.Option.{slice_get_within}
 use Rattle.std.proofs.lemmas.List.{length-map}
 use Rattle.board_model.proofs.Lists.{some_same, lt_or_eq, get_set_same, get_set_other, get_within, get_map_some, take_set_more}
+use Rattle.board_model.proofs.SameLemmas.{level_same, list_same}
 use Rattle.board_model.proofs.Steps.{length-steps_from, get_step}
 use Rattle.board_run.proofs.StepLemmas.{get_answer}
 use Rattle.board_run.proofs.WakeLemmas.{or_none, own_of}
@@ -38,6 +39,33 @@ due_is m r s a t d end h first = go d first
       | inl same ↦ same.0 ∙ sym (ap (λ x. m.due x t) h.is ∙ due_now m r a t (subst (λ (v : ℕ). IsFirstDue m r a (Some v)) same.1 f))
       | inr other ↦ other.0 ∙ sym (ap (λ x. m.due x t) h.is ∙ not_due_now m r a t (Some u) later end h.quiet f (λ e. other.1 (cc)))
     ]
+
+not_at : (d : Option ℕ) (t : ℕ) → d ≢ Some t → is_at d t ≡ false
+not_at None t h = refl
+not_at (Some u) t h = elim (eqb_tells u t) [
+  | inl same ↦ absurd (h (ap Some same.1))
+  | inr other ↦ other.0
+]
+
+-- a part that is to be woken may be woken
+pub may_wake : {S P : Type 0} (m : Machine S) (laws : Laws m) (state : P → S) (now wakes : P → ℕ) (t : ℕ) (p : P) (due input : Option ℕ) (own held : List Level) →
+    MayTurn m state now wakes t due p → (0 < t → m.held (state p) ≡ held) → to_wake due t input own held ≡ true → MayWake m (glided m state now wakes t p) t own input
+may_wake m laws state now wakes t p due input own held may holds wake asleep none same = elim (zero_or_more t) [
+  | inl first ↦
+      let d : m.due (glided m state now wakes t p) t ≡ true = subst (λ (u : ℕ). m.due (glided m state now wakes t p) u ≡ true) (sym first) (laws.begins_due _) in
+      absurd cc
+  | inr after ↦
+      let here : is_at due t ≡ false = not_at due t (λ e.
+      let d : m.due (glided m state now wakes t p) t ≡ true = due_now m (state p) (now p) t (subst (λ (o : Option ℕ). IsFirstDue m (state p) (now p) o) e may.first) in
+      cc) in
+      let levels : own ≡ held = sym same ∙ glide_holds m laws (state p) (now p) (t - now p) ∙ holds after in
+      let alike : same_list same_level own held ≡ true = ap (same_list same_level own) (sym levels) ∙ list_same same_level level_same own in
+      let asleep : to_wake due t input own held ≡ false =
+      ap (λ (b : Bool). b || (is_some input || not (same_list same_level own held))) here
+      ∙ ap (λ (i : Option ℕ). is_some i || not (same_list same_level own held)) none
+      ∙ ap not alike in
+      absurd cc
+]
 
 module _ {S P : Type 0} (m : Machine S) (laws : Laws m) (w : Wiring) (inputs : List Input) (state : P → S) (now wakes : P → ℕ) (ls : List Level) (t k : ℕ) where
   -- whether it is woken is whether it is active
@@ -159,7 +187,7 @@ due_set m state now wakes parts dues i q d hp hd are first k p e ep ee = elim (e
 ]
 
 -- a part's pins among those of all
-part_of : (w : Wiring) (held : List Level) (k first pins n : ℕ) → first ≡ slice_index w.first_pin k → pins ≡ n → take (first + pins - first) (drop first held) ≡ own_part w k n held
+pub part_of : (w : Wiring) (held : List Level) (k first pins n : ℕ) → first ≡ slice_index w.first_pin k → pins ≡ n → take (first + pins - first) (drop first held) ≡ own_part w k n held
 part_of w held k first pins n e f =
     let count : first + pins - first ≡ n = omega arith in
     ap (λ (j : ℕ). take j (drop first held)) count ∙ ap (λ (j : ℕ). take n (drop j held)) e

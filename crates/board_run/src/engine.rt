@@ -11,7 +11,7 @@ ghost use Rattle.board_model.specs.Fits.{Fits};
 ghost use Rattle.board_laws.specs.Active.{sum_below, active_in};
 ghost use Rattle.board_run.specs.Seen.{shown_at, Suits};
 ghost use Rattle.board_run.specs.Upcoming.{AreBehind, IsInOrder};
-ghost use Rattle.board_run.specs.Lagging.{glided, MayTurn, Awaits, Turns, AreDue};
+ghost use Rattle.board_run.specs.Lagging.{glided, own_part, MayTurn, Awaits, Turns, AreDue};
 ghost use Rattle.board_run.specs.Legs.{Lags, Leg};
 ghost use Rattle.board_run.specs.declared.show.Next.{Next};
 
@@ -45,6 +45,7 @@ fn turn_read<P: Part, L: Ledger>(
     requires dues { length dues.old ≡ length parts.old }
     requires own { length reading.now.own ≡ length wiring.now.net_of }
     requires held { length held.old ≡ length wiring.now.net_of }
+    requires holds { (k : ℕ) (p : _) → slice_get parts.old k ≡ Some p → 0 < t → P.machine.held (P.state p) ≡ own_part wiring.now k (length (P.machine.drives (P.state p))) held.old }
     requires answers { length answers.old ≡ length parts.old }
     ensures turns { (inputs : List Input) (ls : List Level) (ts : List P.State) → Awaits P.machine wiring.now P.state P.now given.now inputs ls reading.now.own held.old t parts.old ts
         → Turns P.machine wiring.now inputs P.state P.now P.wake_count ls t ts (length parts.old) parts.old parts.new answers.new result.changed }

@@ -1,12 +1,12 @@
 //! A cycle in which only the active parts are woken.
 ghost use Rattle.std.specs.Prelude.{◌≡◌, ℕ, ◌+◌, ◌<◌, ◌≤◌, List, [], length, map, not, ◌||◌, Some, Option, false, if◌then◌else◌, slice_get};
-ghost use Rattle.part_law.specs.Machine.{IsFirstDue};
+ghost use Rattle.part_law.specs.Machine.{IsFirstDue, MayWake};
 ghost use Rattle.sim_base.specs.declared.signal.Level.{Level};
 ghost use Rattle.sim_base.specs.declared.wiring.Input.{Input};
 ghost use Rattle.board_model.specs.Board.{options};
 ghost use Rattle.board_model.specs.Fits.{Fits};
 ghost use Rattle.board_laws.specs.Active.{sum_below, active_in};
-ghost use Rattle.board_run.specs.Lagging.{is_at, to_wake, MayTurn, Wakes, turned, Awaits, Turns, AreDue};
+ghost use Rattle.board_run.specs.Lagging.{is_at, to_wake, own_part, glided, MayTurn, Wakes, turned, Awaits, Turns, AreDue};
 
 use crate::gather::{are_same_levels, find_input};
 use event_queue::DueTree;
@@ -64,6 +64,7 @@ fn wake_late<P: Part, L: Ledger>(
     requires end { t < 160000000 }
     requires may { MayTurn P.machine P.state P.now P.wake_count t due.old part.old }
     requires pins { length own.now ≡ length (P.machine.drives (P.state part.old)) }
+    requires active { MayWake P.machine (glided P.machine P.state P.now P.wake_count t part.old) t own.now input }
     ensures wakes { Wakes P.machine P.state P.now P.wake_count t own.now input part.old part.new result.0 result.1 }
     ensures first { IsFirstDue P.machine (P.state part.new) (P.now part.new) due.new }
     ensures steps { steps.new ≡ steps.old + 1 }
@@ -90,6 +91,7 @@ fn take_turn<P: Part, L: Ledger>(
     requires may { MayTurn P.machine P.state P.now P.wake_count t due.old part.old }
     requires pins { length own.now ≡ length (P.machine.drives (P.state part.old)) }
     requires held { length own.now ≡ length held.now }
+    requires holds { 0 < t → P.machine.held (P.state part.old) ≡ held.now }
     ensures turn { turned P.machine P.state P.now P.wake_count (to_wake due.old t input own.now held.now) t own.now input part.old part.new result.0 result.1 }
     ensures first { IsFirstDue P.machine (P.state part.new) (P.now part.new) due.new }
     ensures steps { steps.new ≡ steps.old + (if to_wake due.old t input own.now held.now then 1 else 0) }
@@ -120,6 +122,7 @@ pub(crate) fn wake_active<P: Part, L: Ledger>(
     requires dues { length dues.old ≡ length parts.old }
     requires own { length own.now ≡ length wiring.now.net_of }
     requires held { length held.now ≡ length wiring.now.net_of }
+    requires holds { (k : ℕ) (p : _) → slice_get parts.old k ≡ Some p → 0 < t → P.machine.held (P.state p) ≡ own_part wiring.now k (length (P.machine.drives (P.state p))) held.now }
     requires answers { length answers.old ≡ length parts.old }
     ensures turns { (inputs : List Input) (ls : List Level) (ts : List P.State) → Awaits P.machine wiring.now P.state P.now given.now inputs ls own.now held.now t parts.old ts
         → Turns P.machine wiring.now inputs P.state P.now P.wake_count ls t ts (length parts.old) parts.old parts.new answers.new result.changed }

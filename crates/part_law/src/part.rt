@@ -1,6 +1,6 @@
 //! What a part is to an engine.
 ghost use Rattle.std.specs.Prelude.{◌≡◌, ℕ, ◌+◌, ◌-◌, ◌<◌, ◌≤◌, Bool, true, false, List, length, slice_get, Some};
-ghost use Rattle.part_law.specs.Machine.{Machine, Laws, glide, dues, sent, IsQuiet, IsFirstDue, IsSame};
+ghost use Rattle.part_law.specs.Machine.{Machine, Laws, glide, dues, sent, IsQuiet, IsFirstDue, IsSame, MayWake};
 ghost use Rattle.std.specs.Option.{option_to_list};
 
 use crate::going::below;
@@ -74,11 +74,13 @@ pub trait Part {
         ensures now { now self.new ≡ to }
         ensures wake_count { wake_count self.new ≡ wake_count self.old };
 
-    /// Does one step on these levels of its pins, and answers the byte that it emits.
+    /// Does one step on these levels of its pins, and answers the byte that it emits. A part is woken
+    /// only where it is due, or a script value comes, or a level differs from the one that it holds.
     fn wake(&mut self, levels: &[Level], input: Option<u16>) -> Option<u8>
         requires pins { length levels.now ≡ length (machine.drives (state self.old)) }
         requires end { now self.old < 160000000 }
         requires count { wake_count self.old ≤ now self.old }
+        requires may { MayWake machine (state self.old) (now self.old) levels.now input }
         ensures state { state self.new ≡ (machine.step (state self.old) (now self.old) levels.now input).0 }
         ensures byte { result ≡ (machine.step (state self.old) (now self.old) levels.now input).1 }
         ensures now { now self.new ≡ now self.old + 1 }
@@ -91,6 +93,7 @@ pub trait Part {
     fn wake_held(&mut self, input: Option<u16>) -> Option<u8>
         requires end { now self.old < 160000000 }
         requires count { wake_count self.old ≤ now self.old }
+        requires may { MayWake machine (state self.old) (now self.old) (machine.held (state self.old)) input }
         ensures state { state self.new ≡ (machine.step (state self.old) (now self.old) (machine.held (state self.old)) input).0 }
         ensures byte { result ≡ (machine.step (state self.old) (now self.old) (machine.held (state self.old)) input).1 }
         ensures now { now self.new ≡ now self.old + 1 }

@@ -25,8 +25,9 @@ fn an_led_is_lit_on_a_high_anode_and_a_low_cathode(rt: HostRuntime) {
     assert!(rt; !Led::lit(led.held()));
     assert_eq!(rt; led.due(), Some(0));
     for (anode, cathode, lit, count) in steps {
-        assert_eq!(rt; led.wake(&[anode, cathode], None), None);
-        assert_eq!(rt; led.wake_held(None), None);
+        // a script value, which says nothing to an LED, lets it be woken though nothing else happens
+        assert_eq!(rt; led.wake(&[anode, cathode], Some(0)), None);
+        assert_eq!(rt; led.wake_held(Some(0)), None);
         assert_eq!(rt;
             (Led::lit(led.held()), led.behaviour().count()),
             (lit, count)

@@ -7,7 +7,7 @@ use Rattle.sim_base.specs.declared.signal.Level.{Level}
 use Rattle.sim_base.specs.declared.wiring.Input.{Input}
 use Rattle.board_run.proofs.StepLemmas.{fits_pins}
 use Rattle.board_run.proofs.WakeLemmas.{silent_more}
-use Rattle.board_run.proofs.TurnLemmas.{awaited_turn, turns_more, due_set, count_more}
+use Rattle.board_run.proofs.TurnLemmas.{part_of, awaited_turn, turns_more, due_set, count_more}
 use Rattle.board_run.proofs.turn.wake_active.Goals as goal
 
 pub slice_bounds-take_turn-end : goal.slice_bounds-take_turn-end
@@ -32,6 +32,17 @@ take_turn-byte-requires-clause-may g c =
     let within : i < length c.loop-i.dues = omega (arith, inv.dues_long, c.requires.dues) in
     let due = sym (inv.rest i (omega arith)) ∙ c.due-due.ensures in
     c.requires.may i _ _ old due
+
+pub take_turn-byte-requires-clause-holds : goal.take_turn-byte-requires-clause-holds
+take_turn-byte-requires-clause-holds g c = λ later.
+    let p = g.P.Part in
+    let i = c.loop-i.i in
+    let inv = c.loop-i.invariant in
+    let old = done_next _ i c.args.parts.now c.loop-i.parts c.index-parts-i-in-loop-i.result inv.parts c.loop-i-test.true in
+    let other = done_next _ i c.args.parts.now c.loop-i.parts c.index-parts-i.result inv.parts c.loop-i-test.true in
+    let pins = c.pins-pins.ensures ∙ ap (λ (y : g.row.P.Denot). length (p.machine.drives (p.state y))) (some_same (sym other ∙ old)) in
+    let first = ap (λ (l : List ℕ). get_or l i 0) c.as_slice.ensures in
+    c.requires.holds i _ old later ∙ sym (part_of c.args.wiring.now c.args.held.now i _ _ _ first pins)
 
 pub loop-i-preserved : goal.loop-i-preserved
 loop-i-preserved g c =
