@@ -2,6 +2,7 @@
 ghost use Rattle.std.specs.Prelude.{◌≡◌, ◌<◌, ◌≤◌, ◌+◌, ◌*◌};
 ghost use Rattle.avr_isa.specs.Encoding.{HasOperands};
 ghost use Rattle.avr_core.specs.CoreState.{reset};
+ghost use Rattle.avr_core.specs.Registers.{sreg_byte};
 ghost use Rattle.avr_core.specs.AvrStep.{Did, acted, avr_step, entered, entry_cycles, may_enter, HasHalted};
 
 use crate::bus::DataBus;
@@ -47,10 +48,11 @@ impl Core {
         self.pc
     }
 
-    pub fn sreg(&self) -> Sreg
-        ensures { result ≡ self.now.sreg }
+    /// SREG as the byte at its data address.
+    pub fn sreg(&self) -> u8
+        ensures { result ≡ sreg_byte self.now.sreg }
     {
-        self.sreg
+        self.sreg.byte()
     }
 
     /// Whether an interrupt may be entered where the next instruction would start: I is set, and the

@@ -71,9 +71,9 @@ impl Probe {
     pub fn state_of(&mut self, mut core: Core, ram: Ram, cycles: u8) -> State {
         let mut state = State::new();
         state.pc = core.pc();
-        state.sreg = core.sreg().byte();
+        state.sreg = core.sreg();
         state.mode = core.mode();
-        state.waits = core.sreg().i && !core.may_enter();
+        state.waits = core.sreg() >= 0x80 && !core.may_enter();
         state.cycles = cycles;
         state.ram = ram;
         // STS 0x0100 + d, Rd
