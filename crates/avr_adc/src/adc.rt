@@ -80,8 +80,17 @@ impl Unit for Adc {
     }
 
     #[inline]
-    fn moves(reg: u8) -> bool {
+    fn moves(&self, reg: u8, value: u8) -> bool {
         let _ = reg;
+        let _ = value;
+        false
+    }
+
+    #[inline]
+    fn bit_moves(&self, reg: u8, bit: u8, value: bool) -> bool {
+        let _ = reg;
+        let _ = bit;
+        let _ = value;
         false
     }
 
@@ -139,6 +148,7 @@ impl Unit for Adc {
         }
     }
 
+    #[inline]
     fn pad(&self, pin: u8) -> Pad {
         let _ = pin;
         Pad::untouched()

@@ -44,7 +44,7 @@ fn the_first_conversion_takes_25_clocks_and_the_next_13(rt: HostRuntime) {
     adc.taken(21);
     assert_eq!(rt; adc.read(&levels(), ADCSRA), 0x8C);
     assert!(rt; !adc.hears(&levels(), &levels()));
-    assert!(rt; Adc::has(ADMUX) & !Adc::moves(ADMUX) & !adc.pad(14).pvoe);
+    assert!(rt; Adc::has(ADMUX) & !adc.moves(ADMUX, 0xFF) & !adc.pad(14).pvoe);
 }
 
 // Each from a fresh ADC: ADMUX, ADCSRA, the end, ADCL, ADCH.

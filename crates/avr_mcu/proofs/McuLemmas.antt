@@ -1,5 +1,5 @@
 -- One cycle of the microcontroller and cycles in which nothing is due, as the code does them.
-use Rattle.std.proofs.Common.{◌≡◌, ◌≢◌, ℕ, zero, suc, ◌+◌, ◌-◌, ◌<◌, ◌≤◌, ◌∙◌, List, [], map, length, Bool, true, false, ◌&&◌, ◌||◌, not, nat_lt, Option, None, Some, ◌⊎◌, inl, inr, arith, ap, sym, subst, refl, slice_get}
+use Rattle.std.proofs.Common.{◌≡◌, ℕ, zero, suc, ◌+◌, ◌-◌, ◌<◌, ◌≤◌, ◌∙◌, List, [], map, length, Bool, true, false, ◌&&◌, ◌||◌, not, nat_lt, None, Some, ◌⊎◌, inl, inr, arith, ap, sym, subst, refl, slice_get}
 use Rattle.std.specs.Prelude.{if◌then◌else◌, ◌==◌, slice_set, max, min}
 use Rattle.std.specs.List.{range_with_len}
 use Rattle.std.proofs.lemmas.Bool.Decides.{nat_tests}
@@ -10,14 +10,14 @@ use Rattle.sim_base.specs.declared.signal.Drive.TheVariants as drives
 use Rattle.sim_base.specs.declared.signal.Level.{Level}
 use Rattle.part_law.specs.Machine.{glide, idle, IsQuiet, IsFirstDue}
 use Rattle.avr_core.specs.CoreState.{Core}
-use Rattle.avr_core.specs.AvrStep.{avr_step, Did}
+use Rattle.avr_core.specs.AvrStep.{Did}
 use Rattle.avr_core.proofs.BusLemmas.{step_leads, entered_leads}
 use Rattle.unit_law.specs.Bits.{with_bit}
 use Rattle.unit_law.specs.UnitMachine.{UnitMachine, least, steps, FirstDue}
 use Rattle.unit_law.specs.UnitMachine as unit
 use Rattle.unit_law.proofs.UnitLemmas.{step_none, step_last, quiet_requests}
-use Rattle.avr_mcu.specs.Units.{Units, UnitsAt, unit_bus, pins, request, units_step, plain, with_plain, with_register, after_read, data_at, touches}
-use Rattle.avr_mcu.specs.McuOf.{Mcu, McuAt, mcu, mcu_step, ready, enters, starts, entering, performed, bus_at, acted, core_acted, uno_drive, uno_drives}
+use Rattle.avr_mcu.specs.Units.{Units, UnitsAt, unit_bus, pins, request, units_step, plain, with_plain, with_register, data_at, touches, bit_touches}
+use Rattle.avr_mcu.specs.McuOf.{Mcu, mcu, mcu_step, ready, enters, starts, performed, acted, core_acted, uno_drive, uno_drives}
 use Rattle.avr_mcu.specs.McuLawsOf.{or_false, drives_same, rests}
 use Rattle.avr_mcu.specs.McuState.{state_of}
 
@@ -83,9 +83,9 @@ module _ {D : Type 0} (m : UnitMachine D) (laws : unit.Laws m) where
       by false p = refl
 
   write_leads : (s : UnitsAt D) (a x : ℕ) → Leads s ((unit_bus m).write s a x)
-  write_leads s a x = record { cycle = refl; held = refl; steady = λ h. let e = or_false s.touched (touches m a) h in (e.0, λ p. by (nat_lt a 0x0100) (m.has a) (nat_lt a 0x0900) p e.1) }
+  write_leads s a x = record { cycle = refl; held = refl; steady = λ h. let e = or_false s.touched (touches m s.units a x) h in (e.0, λ p. by (nat_lt a 0x0100) (m.has a) (nat_lt a 0x0900) p e.1) }
     where
-      by : (b c d : Bool) (p : ℕ) → (if b then (if c then m.moves a else false) else false) ≡ false →
+      by : (b c d : Bool) (p : ℕ) → (if b then (if c then m.moves s.units.devices a x else false) else false) ≡ false →
           m.pad (if b then (if c then record (s.units) { devices = m.write s.units.devices s.cycle a x } else with_plain m s.units a x) else if d then record (s.units) { sram = slice_set s.units.sram (a - 0x0100) x } else s.units).devices p ≡ m.pad s.units.devices p
       by true true d p h = laws.writes_pad s.units.devices s.cycle a x p h
       by true false d p h = ap (λ (u : D). m.pad u p) (plain_devices s.units a x)
@@ -96,11 +96,11 @@ module _ {D : Type 0} (m : UnitMachine D) (laws : unit.Laws m) where
   bits_lead s a k x = record {
     cycle = refl;
     held = refl;
-    steady = λ h. let e = or_false s.touched (touches m a) h in
+    steady = λ h. let e = or_false s.touched (bit_touches m s.units a k x) h in
         (e.0, λ p. by (nat_lt a 0x0100) (m.has a) (nat_lt a 0x0900) (with_bit (plain m s.units a) k x) (with_bit (data_at m s.units s.cycle [] a) k x) p e.1);
   }
     where
-      by : (b c d : Bool) (y z p : ℕ) → (if b then (if c then m.moves a else false) else false) ≡ false →
+      by : (b c d : Bool) (y z p : ℕ) → (if b then (if c then m.bit_moves s.units.devices a k x else false) else false) ≡ false →
           m.pad (if b then (if c then record (s.units) { devices = m.write_bit s.units.devices s.cycle a k x } else with_plain m s.units a y)
           else if b then with_register m s.units s.cycle a z
           else if d then record (s.units) { sram = slice_set s.units.sram (a - 0x0100) z } else s.units).devices p ≡ m.pad s.units.devices p

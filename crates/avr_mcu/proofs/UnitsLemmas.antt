@@ -1,9 +1,11 @@
 -- The units as their struct shows them.
-use Rattle.std.proofs.Common.{◌≡◌, ℕ, ◌+◌, ◌-◌, ◌<◌, ◌≤◌, ◌∙◌, List, length, take, replicate, Bool, true, false, arith, ap, sym, subst, refl}
+use Rattle.std.proofs.Common.{◌≡◌, ℕ, ◌≤◌, ◌∙◌, List, length, take, replicate, Bool, true, false, ◌&&◌, ◌||◌, nat_lt, arith, ap, sym, refl}
+use Rattle.std.specs.Prelude.{if◌then◌else◌}
+use Rattle.std.proofs.lemmas.Bool.Decides.{nat_tests}
 use Rattle.std.proofs.lemmas.List.{length-take-le}
 use Rattle.sim_base.specs.declared.signal.Level.{Level}
 use Rattle.unit_law.specs.UnitMachine.{UnitMachine}
-use Rattle.avr_mcu.specs.Units.{UnitsAt, reset, pins}
+use Rattle.avr_mcu.specs.Units.{UnitsAt, unit_bus, reset, above, with_above, register, with_register}
 
 -- v is what the struct shows of its fields, and s what the caller knows
 module _ {D : Type 0} (m : UnitMachine D) (s v : UnitsAt D) (same : v ≡ s) where
@@ -34,6 +36,26 @@ module _ {D : Type 0} (m : UnitMachine D) (s v : UnitsAt D) (same : v ≡ s) whe
       ap (λ (x : D). record v { units = record (v.units) { devices = x }; held = k; cycle = t v }) is
       ∙ ap (λ (y : UnitsAt D). record y { units = record (y.units) { devices = f y }; held = k; cycle = t y }) same
       ∙ ap (λ (j : List Level). record s { units = record (s.units) { devices = f s }; held = j; cycle = t s }) e
+
+or_none : (b : Bool) → (b || false) ≡ b
+or_none true = refl
+or_none false = refl
+
+-- addresses from SRAM on, where no device is
+module _ {D : Type 0} (m : UnitMachine D) (s : UnitsAt D) (a : ℕ) (from : 0x0100 ≤ a) where
+  no_register : nat_lt a 0x0100 ≡ false
+  no_register = grind (arith, nat_tests, from)
+
+  pub above_answers : (x : ℕ) → x ≡ above s.units a → x ≡ (unit_bus m).answers s a
+  above_answers x is = is ∙ sym (ap (λ (b : Bool). if b then register m s.units s.cycle s.held a else above s.units a) no_register)
+
+  pub above_read : s ≡ (unit_bus m).read s a
+  above_read = sym (ap (λ (b : Bool). record s { units = if b && m.has a then record (s.units) { devices = m.read s.units.devices s.cycle a } else s.units }) no_register)
+
+  pub above_write : (x : ℕ) → record s { units = with_above s.units a x } ≡ (unit_bus m).write s a x
+  above_write x =
+      ap (λ (b : Bool). record s { units = with_above s.units a x; touched = b }) (sym (or_none s.touched))
+      ∙ sym (ap (λ (b : Bool). record s { units = if b then with_register m s.units s.cycle a x else with_above s.units a x; touched = s.touched || (if b then (if m.has a then m.moves s.units.devices a x else false) else false) }) no_register)
 
 -- after reset
 pub units_new : {D : Type 0} (m : UnitMachine D) (d : D) (sram : List ℕ) (ignored : List Bool) (held : List Level) → d ≡ m.reset → sram ≡ replicate 2048 0 → ignored ≡ replicate 256 false →

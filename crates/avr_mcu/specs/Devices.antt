@@ -1,13 +1,28 @@
 -- The units of the microcontroller: one more is one more `both`.
 use Rattle.unit_law.specs.UnitMachine.{UnitMachine, Laws}
+use Rattle.unit_law.specs.Both.{both, both_laws}
 use Rattle.avr_ports.specs.Ports.{Ports, ports}
 use Rattle.avr_ports.specs.PortLaws.{ports_laws}
+use Rattle.avr_timer8.specs.declared.registers.Which.TheVariants.{Zero, Two}
+use Rattle.avr_timer8.specs.Timer8.{Timer8, timer8}
+use Rattle.avr_timer8.specs.Timer8Laws.{timer8_laws}
+use Rattle.avr_timer16.specs.Timer16.{Timer16, timer16}
+use Rattle.avr_timer16.specs.Timer16Laws.{timer16_laws}
+use Rattle.avr_adc.specs.Adc.{Adc, adc}
+use Rattle.avr_adc.specs.AdcLaws.{adc_laws}
+use Rattle.avr_usart.specs.Usart.{Usart, usart}
+use Rattle.avr_usart.specs.UsartLaws.{usart_laws}
 
 abbrev pub Devices : Type 0
-Devices = Ports
+Devices = Ports × (Timer8 × (Timer16 × (Timer8 × (Adc × Usart))))
 
 abbrev pub devices : UnitMachine Devices
-devices = ports
+devices = both ports (both (timer8 Zero) (both timer16 (both (timer8 Two) (both adc usart))))
 
 pub devices_laws : Laws devices
-devices_laws = ports_laws
+devices_laws =
+    both_laws ports (both (timer8 Zero) (both timer16 (both (timer8 Two) (both adc usart)))) ports_laws
+    (both_laws (timer8 Zero) (both timer16 (both (timer8 Two) (both adc usart))) (timer8_laws Zero)
+    (both_laws timer16 (both (timer8 Two) (both adc usart)) timer16_laws
+    (both_laws (timer8 Two) (both adc usart) (timer8_laws Two)
+    (both_laws adc usart adc_laws usart_laws))))

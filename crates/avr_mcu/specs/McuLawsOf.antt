@@ -1,11 +1,10 @@
 -- The laws of a part hold of the microcontroller.
-use Rattle.std.proofs.Common.{◌≡◌, ◌∙◌, ℕ, Bool, true, false, ◌||◌, List, [], ◌∷◌, map, length, refl, sym, ap, None}
+use Rattle.std.proofs.Common.{◌≡◌, ◌∙◌, ℕ, Bool, true, false, ◌||◌, List, [], ◌∷◌, map, length, refl, sym, ap}
 use Rattle.std.specs.Prelude.{if◌then◌else◌, ◌==◌, nat_lt}
 use Rattle.std.specs.List.{range_with_len}
 use Rattle.std.proofs.lemmas.List.FromFn.{length-map-range_with_len}
-use Rattle.sim_base.specs.declared.signal.Drive.{Drive}
 use Rattle.sim_base.specs.declared.signal.Drive.TheVariants as drives
-use Rattle.part_law.specs.Machine.{Laws, idle}
+use Rattle.part_law.specs.Machine.{Laws}
 use Rattle.unit_law.specs.Pad.{driven}
 use Rattle.unit_law.specs.declared.pad.Pad.{Pad}
 use Rattle.unit_law.specs.UnitMachine.{UnitMachine}

@@ -22,12 +22,32 @@ pub record UnitsAt (D : Type 0) : Type 0 where
   pub units : Units D
   pub held : List Level
   pub cycle : ℕ
-  -- whether a register was written in the cycle that may change what a pin is asked for
+  -- whether a write in the cycle may have changed what a pin is asked for
   pub touched : Bool
 
 -- the levels that units see: pins 0 to 13 and A0 to A5 come first
 abbrev pub pins : List Level → List Level
 pins l = take 20 l
+
+-- the byte at an address from SRAM on
+abbrev pub above_in : List ℕ → ℕ → ℕ
+above_in sram a = if nat_lt a 0x0900 then slice_index sram (a - 0x0100) else 0
+
+-- SRAM, above which reading gives 0 and a write leaves all (profile)
+abbrev pub above : {D : Type 0} → Units D → ℕ → ℕ
+above u a = above_in u.sram a
+
+abbrev pub with_above : {D : Type 0} → Units D → ℕ → ℕ → Units D
+with_above u a x = if nat_lt a 0x0900 then record u { sram = slice_set u.sram (a - 0x0100) x } else u
+
+-- the registers that only keep what is written: GPIOR0, GPIOR1, GPIOR2 and SMCR
+abbrev pub plain_of : ℕ → ℕ → ℕ → ℕ → ℕ → ℕ
+plain_of a gpior0 gpior1 gpior2 smcr =
+    if a == 0x3E then gpior0
+    else if a == 0x4A then gpior1
+    else if a == 0x4B then gpior2
+    else if a == 0x53 then smcr
+    else 0
 
 module _ {D : Type 0} (m : UnitMachine D) where
   abbrev pub reset : Units D
@@ -43,12 +63,7 @@ module _ {D : Type 0} (m : UnitMachine D) where
 
   -- A register that no device has keeps what is written, or is not there (profile).
   abbrev pub plain : Units D → ℕ → ℕ
-  plain u a =
-      if a == 0x3E then u.gpior0
-      else if a == 0x4A then u.gpior1
-      else if a == 0x4B then u.gpior2
-      else if a == 0x53 then u.smcr
-      else 0
+  plain u a = plain_of a u.gpior0 u.gpior1 u.gpior2 u.smcr
 
   abbrev pub with_plain : Units D → ℕ → ℕ → Units D
   with_plain u a x =
@@ -65,8 +80,7 @@ module _ {D : Type 0} (m : UnitMachine D) where
   abbrev pub data_at : Units D → ℕ → List Level → ℕ → ℕ
   data_at u t held a =
       if nat_lt a 0x0100 then register u t held a
-      else if nat_lt a 0x0900 then slice_index u.sram (a - 0x0100)
-      else 0
+      else above u a
 
   -- what reading an address leaves
   abbrev pub after_read : Units D → ℕ → ℕ → Units D
@@ -79,8 +93,7 @@ module _ {D : Type 0} (m : UnitMachine D) where
   abbrev pub with_data : Units D → ℕ → ℕ → ℕ → Units D
   with_data u t a x =
       if nat_lt a 0x0100 then with_register u t a x
-      else if nat_lt a 0x0900 then record u { sram = slice_set u.sram (a - 0x0100) x }
-      else u
+      else with_above u a x
 
   -- SBI and CBI: a unit's register has its own rule for a single bit.
   abbrev pub with_register_bit : Units D → ℕ → ℕ → ℕ → Bool → Units D
@@ -92,13 +105,16 @@ module _ {D : Type 0} (m : UnitMachine D) where
       else with_data u t a (with_bit (data_at u t [] a) k x)
 
   -- whether a write may change what a pin is asked for
-  abbrev pub touches : ℕ → Bool
-  touches a = if nat_lt a 0x0100 then (if m.has a then m.moves a else false) else false
+  abbrev pub touches : Units D → ℕ → ℕ → Bool
+  touches u a x = if nat_lt a 0x0100 then (if m.has a then m.moves u.devices a x else false) else false
+
+  abbrev pub bit_touches : Units D → ℕ → ℕ → Bool → Bool
+  bit_touches u a k x = if nat_lt a 0x0100 then (if m.has a then m.bit_moves u.devices a k x else false) else false
 
   abbrev pub unit_bus : Bus (UnitsAt D)
   unit_bus = record {
     answers = λ s a. data_at s.units s.cycle s.held a;
     read = λ s a. record s { units = after_read s.units s.cycle a };
-    write = λ s a x. record s { units = with_data s.units s.cycle a x; touched = s.touched || touches a };
-    write_bit = λ s a k x. record s { units = with_data_bit s.units s.cycle a k x; touched = s.touched || touches a };
+    write = λ s a x. record s { units = with_data s.units s.cycle a x; touched = s.touched || touches s.units a x };
+    write_bit = λ s a k x. record s { units = with_data_bit s.units s.cycle a k x; touched = s.touched || bit_touches s.units a k x };
   }

@@ -6,6 +6,7 @@
 #![tactic(auto)]
 
 mod devices;
+mod follow;
 mod mcu;
 #[cfg(test)]
 mod tests;

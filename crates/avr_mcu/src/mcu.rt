@@ -1,5 +1,5 @@
 //! The microcontroller as a part.
-ghost use Rattle.std.specs.Prelude.{◌≡◌, ◌+◌, ◌-◌, ◌<◌, ◌≤◌, List, ℕ, true, false, slice_index_or, slice_get, Some, IfOk, max, if◌then◌else◌, ◌&&◌, not, nat_lt};
+ghost use Rattle.std.specs.Prelude.{◌≡◌, ◌+◌, ◌-◌, ◌<◌, ◌≤◌, List, ℕ, true, false, slice_index_or, slice_get, Some, None, IfOk, max, if◌then◌else◌, ◌&&◌, not, nat_lt};
 ghost use Rattle.avr_core.specs.AvrStep.{IsProgram, HasHalted, Did, avr_step};
 ghost use Rattle.avr_mcu.specs.Devices.{devices};
 ghost use Rattle.avr_mcu.specs.McuOf.{mcu, start, ready, enters, starts, entering, performed, core_acted, uno_drive};
@@ -7,13 +7,15 @@ ghost use Rattle.avr_mcu.specs.McuState.{state_of};
 ghost use Rattle.avr_mcu.specs.Units.{unit_bus, request, units_step};
 ghost use Rattle.part_law.specs.Machine.{IsFirstDue};
 
+use crate::follow::follow;
 use crate::units::Units;
 use avr_core::{Core, Mode, decode_all};
 use avr_isa::Instr;
-use part_law::Part;
-use sim_base::{Drive, Flash, Level, OutOfMemory};
+use part_law::{Part, Went};
+use sim_base::{Drive, Flash, Level, OutOfMemory, Steps};
 use std::alloc::Global;
 use std::marker::Model;
+use std::sync::ledger::Ledger;
 use unit_law::VECTORS;
 
 /// The microcontroller, before the step of `cycle`.
@@ -178,6 +180,28 @@ impl Part for Mcu {
         byte
     }
 
+    fn go_on<L: Ledger>(&mut self, limit: u32, steps: &mut Steps<L>) -> Went {
+        let went = follow(
+            &mut self.core,
+            &self.program,
+            &self.flash,
+            &mut self.units,
+            self.next,
+            self.cycle,
+            limit,
+            steps,
+        );
+        self.next = went.next;
+        self.cycle = went.here;
+        self.wakes += went.count;
+        self.changed = went.changed;
+        Went {
+            to: went.here,
+            changed: went.changed,
+            byte: went.byte,
+        }
+    }
+
     ghost laws = { mcu_laws devices devices_laws };
 }
 
@@ -243,9 +267,8 @@ fn is_ready(mode: Mode, enters: bool) -> bool
     }
 }
 
-// An entry or an instruction: answers its cycles, and whether a drive may have changed. A function of its own, so
-// that a cycle in which none starts stays short.
-#[inline(never)]
+// An entry or an instruction: answers its cycles, and whether a drive may have changed.
+#[inline]
 fn perform(
     core: &mut Core,
     program: &[Instr],
@@ -292,7 +315,7 @@ fn enter(core: &mut Core, units: &mut Units) -> u8
 
 // One cycle of the units on the levels that they hold: the byte that leaves, and whether a drive may have changed.
 #[inline]
-fn tick(units: &mut Units, cycle: u32) -> (Option<u8>, bool)
+pub(crate) fn tick(units: &mut Units, cycle: u32) -> (Option<u8>, bool)
     requires here { units.old.cycle ≡ cycle }
     requires end { cycle < 160000000 }
     ensures byte { result.0 ≡ devices.sends units.old.units.devices cycle }
@@ -307,16 +330,26 @@ fn tick(units: &mut Units, cycle: u32) -> (Option<u8>, bool)
     }
 }
 
-// The first cycle from `cycle` on in which the microcontroller is due.
+// The first cycle from `cycle` on in which the microcontroller is due, 160,000,000 where there is none.
+#[inline]
+pub(crate) fn next_due(core: &Core, units: &Units, next: u32, cycle: u32) -> u32
+    requires here { units.now.cycle ≡ cycle }
+    ensures soon { (flash : List ℕ) → result < 160000000 → IsFirstDue (mcu devices) (state_of flash core.now next units.now.units units.now.held) cycle (Some result) }
+    ensures never { (flash : List ℕ) → 160000000 ≤ result → IsFirstDue (mcu devices) (state_of flash core.now next units.now.units units.now.held) cycle None }
+{
+    if cycle == 0 {
+        return 0;
+    }
+    let starts = next_start(is_ready(core.mode(), enters(core, units)), next, cycle);
+    starts.min(units.due())
+}
+
+// The same, None where there is none.
 fn first_due(core: &Core, units: &Units, next: u32, cycle: u32) -> Option<u32>
     requires here { units.now.cycle ≡ cycle }
     ensures { (flash : List ℕ) → IsFirstDue (mcu devices) (state_of flash core.now next units.now.units units.now.held) cycle result }
 {
-    if cycle == 0 {
-        return Some(0);
-    }
-    let starts = next_start(is_ready(core.mode(), enters(core, units)), next, cycle);
-    let due = starts.min(units.due());
+    let due = next_due(core, units, next, cycle);
     if due < 160_000_000 { Some(due) } else { None }
 }
 

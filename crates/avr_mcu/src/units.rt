@@ -5,7 +5,7 @@ ghost use Rattle.sim_base.specs.declared.signal.Level.TheVariants as levels;
 ghost use Rattle.unit_law.specs.Pad.{driven};
 ghost use Rattle.unit_law.specs.UnitMachine.{steps, IsQuiet, FirstDue};
 ghost use Rattle.avr_mcu.specs.Devices.{devices};
-ghost use Rattle.avr_mcu.specs.Units.{UnitsAt, unit_bus, reset, pins, request, units_step, plain, with_plain, register, after_read, with_register, with_register_bit};
+ghost use Rattle.avr_mcu.specs.Units.{UnitsAt, unit_bus, reset, pins, request, units_step, above, above_in, with_above, plain, plain_of, with_plain, register, after_read, with_register, with_register_bit};
 
 use crate::devices::Devices;
 use avr_core::DataBus;
@@ -115,7 +115,7 @@ impl Units {
     pub(crate) fn due(&self) -> u32
         ensures { FirstDue devices self.now.units.devices self.now.cycle result }
     {
-        self.due
+        first_of(&self.devices, self.due, self.cycle, &self.held[..SEEN])
     }
 
     /// The least vector that is enabled and flagged, or `VECTORS`.
@@ -126,7 +126,7 @@ impl Units {
         self.request
     }
 
-    /// Whether a register was written since `begin` that may change what a pin is asked for.
+    /// Whether a write since `begin` may have changed what a pin is asked for.
     #[inline]
     pub(crate) fn touched(&self) -> bool
         ensures { result ≡ self.now.touched }
@@ -224,10 +224,8 @@ impl DataBus for Units {
     fn read(&mut self, addr: u16) -> u8 {
         if addr < SRAM {
             self.register(addr as u8)
-        } else if addr < SRAM_END {
-            self.sram[(addr - SRAM) as usize]
         } else {
-            0
+            self.above(addr)
         }
     }
 
@@ -235,8 +233,8 @@ impl DataBus for Units {
     fn write(&mut self, addr: u16, value: u8) {
         if addr < SRAM {
             self.set_register(addr as u8, value);
-        } else if addr < SRAM_END {
-            self.sram[(addr - SRAM) as usize] = value;
+        } else {
+            self.set_above(addr, value);
         }
     }
 
@@ -251,6 +249,25 @@ impl DataBus for Units {
 }
 
 impl Units {
+    // What an address from SRAM on reads.
+    #[inline]
+    fn above(&self, addr: u16) -> u8
+        requires { 0x0100 ≤ addr }
+        ensures { result ≡ above self.now.units addr }
+    {
+        sram_byte(&self.sram, addr)
+    }
+
+    #[inline]
+    fn set_above(&mut self, addr: u16, value: u8)
+        requires { 0x0100 ≤ addr }
+        ensures { self.new ≡ record self.old { units = with_above self.old.units addr value } }
+    {
+        if addr < SRAM_END {
+            self.sram[(addr - SRAM) as usize] = value;
+        }
+    }
+
     // What a register reads.
     fn register(&mut self, reg: u8) -> u8
         ensures value { result ≡ register devices self.old.units self.old.cycle self.old.held reg }
@@ -277,18 +294,12 @@ impl Units {
     fn plain(&self, reg: u8) -> u8
         ensures { result ≡ plain devices self.now.units reg }
     {
-        match reg {
-            GPIOR0 => self.gpior0,
-            GPIOR1 => self.gpior1,
-            GPIOR2 => self.gpior2,
-            SMCR => self.smcr,
-            _ => 0,
-        }
+        plain_of(reg, self.gpior0, self.gpior1, self.gpior2, self.smcr)
     }
 
     // Writes a register, or notes that there is none.
     fn set_register(&mut self, reg: u8, value: u8)
-        ensures { self.new ≡ record self.old { units = with_register devices self.old.units self.old.cycle reg value; touched = self.old.touched || (if devices.has reg then devices.moves reg else false) } }
+        ensures { self.new ≡ record self.old { units = with_register devices self.old.units self.old.cycle reg value; touched = self.old.touched || (if devices.has reg then devices.moves self.old.units.devices reg value else false) } }
     {
         if Devices::has(reg) {
             self.set_device_register(reg, value);
@@ -299,31 +310,36 @@ impl Units {
 
     fn set_device_register(&mut self, reg: u8, value: u8)
         requires { devices.has reg ≡ true }
-        ensures { self.new ≡ record self.old { units = record (self.old.units) { devices = devices.write self.old.units.devices self.old.cycle reg value }; touched = self.old.touched || devices.moves reg } }
+        ensures { self.new ≡ record self.old { units = record (self.old.units) { devices = devices.write self.old.units.devices self.old.cycle reg value }; touched = self.old.touched || devices.moves self.old.units.devices reg value } }
     {
-        self.devices
+        let moves = self
+            .devices
             .write(self.cycle, &self.held[..SEEN], reg, value);
         self.due = self.devices.due();
         self.request = self.devices.request();
-        self.touched = self.touched | Devices::moves(reg);
+        self.touched = self.touched | moves;
     }
 
     fn set_plain(&mut self, reg: u8, value: u8)
         ensures { self.new ≡ record self.old { units = with_plain devices self.old.units reg value } }
     {
-        match reg {
-            GPIOR0 => self.gpior0 = value,
-            GPIOR1 => self.gpior1 = value,
-            GPIOR2 => self.gpior2 = value,
-            SMCR => self.smcr = value,
-            _ => self.ignored[reg as usize] = true,
+        if reg == GPIOR0 {
+            self.gpior0 = value;
+        } else if reg == GPIOR1 {
+            self.gpior1 = value;
+        } else if reg == GPIOR2 {
+            self.gpior2 = value;
+        } else if reg == SMCR {
+            self.smcr = value;
+        } else {
+            self.ignored[reg as usize] = true;
         }
     }
 
     // Writes one bit of a register alone.
     fn set_register_bit(&mut self, reg: u8, bit: u8, value: bool)
         requires { bit < 8 }
-        ensures { self.new ≡ record self.old { units = with_register_bit devices self.old.units self.old.cycle reg bit value; touched = self.old.touched || (if devices.has reg then devices.moves reg else false) } }
+        ensures { self.new ≡ record self.old { units = with_register_bit devices self.old.units self.old.cycle reg bit value; touched = self.old.touched || (if devices.has reg then devices.bit_moves self.old.units.devices reg bit value else false) } }
     {
         if Devices::has(reg) {
             self.set_device_bit(reg, bit, value);
@@ -336,14 +352,56 @@ impl Units {
     fn set_device_bit(&mut self, reg: u8, bit: u8, value: bool)
         requires register { devices.has reg ≡ true }
         requires bit { bit < 8 }
-        ensures { self.new ≡ record self.old { units = record (self.old.units) { devices = devices.write_bit self.old.units.devices self.old.cycle reg bit value }; touched = self.old.touched || devices.moves reg } }
+        ensures { self.new ≡ record self.old { units = record (self.old.units) { devices = devices.write_bit self.old.units.devices self.old.cycle reg bit value }; touched = self.old.touched || devices.bit_moves self.old.units.devices reg bit value } }
     {
-        self.devices
+        let moves = self
+            .devices
             .write_bit(self.cycle, &self.held[..SEEN], reg, bit, value);
         self.due = self.devices.due();
         self.request = self.devices.request();
-        self.touched = self.touched | Devices::moves(reg);
+        self.touched = self.touched | moves;
     }
+}
+
+// What an address from SRAM on reads.
+#[inline]
+fn sram_byte(sram: &Vec<u8>, addr: u16) -> u8
+    requires length { vec_len sram.now ≡ 2048 }
+    requires from { 0x0100 ≤ addr }
+    ensures { result ≡ above_in sram.now.items addr }
+{
+    if addr < SRAM_END {
+        sram[(addr - SRAM) as usize]
+    } else {
+        0
+    }
+}
+
+// What a register that no device has reads.
+#[inline]
+fn plain_of(reg: u8, gpior0: u8, gpior1: u8, gpior2: u8, smcr: u8) -> u8
+    ensures { result ≡ plain_of reg gpior0 gpior1 gpior2 smcr }
+{
+    match reg {
+        GPIOR0 => gpior0,
+        GPIOR1 => gpior1,
+        GPIOR2 => gpior2,
+        SMCR => smcr,
+        _ => 0,
+    }
+}
+
+// The first cycle in which one of the units has an event, where they stand at a cycle.
+#[inline]
+fn first_of<G: Group>(group: &G, due: u32, cycle: u32, levels: &[Level]) -> u32
+    requires due { due ≡ G.until group.now }
+    requires here { G.stands group.now levels.now cycle }
+    ensures { FirstDue G.machine (G.state group.now cycle) cycle result }
+{
+    let _ = group;
+    let _ = cycle;
+    let _ = levels;
+    due
 }
 
 // The levels of the pins that units see.

@@ -1,7 +1,7 @@
 -- The ports have no event of their own: on levels that stay a cycle leaves them as they are.
 use Rattle.std.proofs.Common.{Option, None, Some, ◌≡◌, ℕ, ◌%◌, ◌∙◌, Bool, true, false, ◌&&◌, ◌||◌, not, List, [], refl, ap, sym, arith}
 use Rattle.std.specs.Prelude.{bit_and, bit_xor, if◌then◌else◌, ◌==◌, ◌^◌, min}
-use Rattle.std.specs.Int.Bits.{xor_self, and_zero_r}
+use Rattle.std.specs.Int.Bits.{xor_self, xor_zero_r, and_zero_r}
 use Rattle.std.proofs.lemmas.Bool.Decides.{nat_tests}
 use Rattle.sim_base.specs.declared.signal.Level.{Level}
 use Rattle.unit_law.specs.Bits.{is_set, with_bit}
@@ -9,7 +9,7 @@ use Rattle.unit_law.specs.UnitMachine.{Laws, least, at_register}
 use Rattle.avr_ports.specs.Registers.{register_at}
 use Rattle.avr_ports.specs.declared.registers.Register.{Register}
 use Rattle.avr_ports.specs.declared.registers.Register.TheVariants.{PINB, DDRB, PORTB, PINC, DDRC, PORTC, PIND, DDRD, PORTD, PCIFR, EIFR, EIMSK, PCICR, EICRA, PCMSK0, PCMSK1, PCMSK2}
-use Rattle.avr_ports.specs.Ports.{Ports, ports, port_pad, is_deaf, requests_int, register, with_register, with_register_bit, acts_by_ones, drives, taken, is_edge, is_change, isc0, isc1, on, pinb, pinc, pind, requests, edges_sensed, changes_sensed, ports_step}
+use Rattle.avr_ports.specs.Ports.{Ports, ports, port_pad, is_deaf, requests_int, register, with_register, with_register_bit, acts_by_ones, moves, bit_moves, taken, is_edge, is_change, isc0, isc1, on, pinb, pinc, pind, requests, edges_sensed, changes_sensed, ports_step}
 
 or_no : (a b : Bool) → b ≡ false → (a || b) ≡ a
 or_no true b h = refl
@@ -112,17 +112,20 @@ deaf_requests u before now h =
     by false true e f = cc
     by false false e f = refl
 
--- A write of a register that does not drive leaves what pins are asked for.
-register_pad : (u : Ports) (p x : ℕ) (r : Register) → drives r ≡ false → port_pad (with_register u r x) p ≡ port_pad u p
-register_pad u p x PINB h = cc
-register_pad u p x DDRB h = cc
-register_pad u p x PORTB h = cc
-register_pad u p x PINC h = cc
-register_pad u p x DDRC h = cc
-register_pad u p x PORTC h = cc
-register_pad u p x PIND h = cc
-register_pad u p x DDRD h = cc
-register_pad u p x PORTD h = cc
+same_value : (x y : ℕ) → not (x == y) ≡ false → x ≡ y
+same_value x y h = grind (arith, nat_tests)
+
+-- A write that moves nothing leaves what pins are asked for.
+register_pad : (u : Ports) (p x : ℕ) (r : Register) → moves u r x ≡ false → port_pad (with_register u r x) p ≡ port_pad u p
+register_pad u p x PINB h = ap (λ (y : ℕ). port_pad (record u { portb = y }) p) (ap (bit_xor u.portb) (same_value x 0 h) ∙ xor_zero_r _)
+register_pad u p x DDRB h = ap (λ (y : ℕ). port_pad (record u { ddrb = y }) p) (same_value x u.ddrb h)
+register_pad u p x PORTB h = ap (λ (y : ℕ). port_pad (record u { portb = y }) p) (same_value x u.portb h)
+register_pad u p x PINC h = ap (λ (y : ℕ). port_pad (record u { portc = y }) p) (ap (bit_xor u.portc) (same_value x 0 h) ∙ xor_zero_r _)
+register_pad u p x DDRC h = ap (λ (y : ℕ). port_pad (record u { ddrc = y }) p) (same_value x u.ddrc h)
+register_pad u p x PORTC h = ap (λ (y : ℕ). port_pad (record u { portc = y }) p) (same_value x u.portc h)
+register_pad u p x PIND h = ap (λ (y : ℕ). port_pad (record u { portd = y }) p) (ap (bit_xor u.portd) (same_value x 0 h) ∙ xor_zero_r _)
+register_pad u p x DDRD h = ap (λ (y : ℕ). port_pad (record u { ddrd = y }) p) (same_value x u.ddrd h)
+register_pad u p x PORTD h = ap (λ (y : ℕ). port_pad (record u { portd = y }) p) (same_value x u.portd h)
 register_pad u p x PCIFR h = refl
 register_pad u p x EIFR h = refl
 register_pad u p x EIMSK h = refl
@@ -132,18 +135,19 @@ register_pad u p x PCMSK0 h = refl
 register_pad u p x PCMSK1 h = refl
 register_pad u p x PCMSK2 h = refl
 
-register_bit_pad : (u : Ports) (p k : ℕ) (x : Bool) (r : Register) → drives r ≡ false → port_pad (with_register_bit u r k x) p ≡ port_pad u p
-register_bit_pad u p k x r h = by (acts_by_ones r) x
+register_bit_pad : (u : Ports) (p k : ℕ) (x : Bool) (r : Register) → bit_moves u r k x ≡ false → port_pad (with_register_bit u r k x) p ≡ port_pad u p
+register_bit_pad u p k x r h = by (acts_by_ones r) x h
   where
-    by : (b x : Bool) → port_pad (if b then (if x then with_register u r (2 ^ k) else u) else with_register u r (with_bit (register u [] r) k x)) p ≡ port_pad u p
-    by true true = register_pad u p (2 ^ k) r h
-    by true false = refl
-    by false x = register_pad u p (with_bit (register u [] r) k x) r h
+    by : (b x : Bool) → (if b then (if x then moves u r (2 ^ k) else false) else moves u r (with_bit (register u [] r) k x)) ≡ false →
+        port_pad (if b then (if x then with_register u r (2 ^ k) else u) else with_register u r (with_bit (register u [] r) k x)) p ≡ port_pad u p
+    by true true h = register_pad u p (2 ^ k) r h
+    by true false h = refl
+    by false x h = register_pad u p (with_bit (register u [] r) k x) r h
 
-at_pad : (u : Ports) (p : ℕ) (f : Register → Ports) (o : Option Register) → ((r : Register) → drives r ≡ false → port_pad (f r) p ≡ port_pad u p) →
-    at_register o false drives ≡ false → port_pad (at_register o u f) p ≡ port_pad u p
-at_pad u p f None by h = refl
-at_pad u p f (Some r) by h = by r h
+at_pad : (u : Ports) (p : ℕ) (f : Register → Ports) (moves : Register → Bool) (o : Option Register) → ((r : Register) → moves r ≡ false → port_pad (f r) p ≡ port_pad u p) →
+    at_register o false moves ≡ false → port_pad (at_register o u f) p ≡ port_pad u p
+at_pad u p f moves None by h = refl
+at_pad u p f moves (Some r) by h = by r h
 
 taken_keeps : (u : Ports) (v p : ℕ) → port_pad (taken u v) p ≡ port_pad u p
 taken_keeps u v p = by (v == 1) (v == 2) (v == 3) (v == 4) (v == 5)
@@ -166,7 +170,7 @@ ports_laws = record {
   unheard = λ s t b n d h. deaf_step s b n (heard (is_deaf s) h) ∙ sym (ports_still s n);
   unheard_requests = λ s b n h. deaf_requests s b n (heard (is_deaf s) h);
   reads_pad = λ s t a p. refl;
-  writes_pad = λ s t a x p h. at_pad s p (λ r. with_register s r x) (register_at a) (register_pad s p x) h;
-  bits_pad = λ s t a k x p h. at_pad s p (λ r. with_register_bit s r k x) (register_at a) (register_bit_pad s p k x) h;
+  writes_pad = λ s t a x p h. at_pad s p (λ r. with_register s r x) (λ r. moves s r x) (register_at a) (register_pad s p x) h;
+  bits_pad = λ s t a k x p h. at_pad s p (λ r. with_register_bit s r k x) (λ r. bit_moves s r k x) (register_at a) (register_bit_pad s p k x) h;
   taken_pad = λ s v p. taken_keeps s v p;
 }

@@ -1,11 +1,11 @@
 //! The ports with their interrupts.
 ghost use Rattle.std.specs.Prelude.{◌≡◌, ◌+◌, ◌-◌, ◌<◌, ◌≤◌, ℕ, [], length, true, false, not};
 ghost use Rattle.unit_law.specs.UnitMachine.{least, steps};
-ghost use Rattle.avr_ports.specs.Ports.{requests, acts_by_ones, register, with_register, with_register_bit, edges_sensed, changes_sensed, ports_step, is_deaf};
+ghost use Rattle.avr_ports.specs.Ports.{requests, acts_by_ones, register, with_register, with_register_bit, moves, bit_moves, edges_sensed, changes_sensed, ports_step, is_deaf};
 ghost use Rattle.avr_ports.specs.declared.registers.Register.TheVariants.{PCIFR, EIFR, EICRA};
 
 use crate::pins::{bit_pad, is_change, is_edge, on, pinb, pinc, pind, requests_int};
-use crate::registers::{Register, may_drive, named, register_at};
+use crate::registers::{Register, named, register_at};
 use sim_base::Level;
 use std::marker::Model;
 use unit_law::{Pad, Request, Unit, VECTORS, has_bit, least, mask, one, with_bit};
@@ -84,8 +84,19 @@ impl Unit for Ports {
     }
 
     #[inline]
-    fn moves(reg: u8) -> bool {
-        may_drive(reg)
+    fn moves(&self, reg: u8, value: u8) -> bool {
+        match register_at(reg) {
+            Some(register) => self.register_moves(register, value),
+            None => false,
+        }
+    }
+
+    #[inline]
+    fn bit_moves(&self, reg: u8, bit: u8, value: bool) -> bool {
+        match register_at(reg) {
+            Some(register) => self.register_bit_moves(register, bit, value),
+            None => false,
+        }
     }
 
     #[inline]
@@ -144,6 +155,7 @@ impl Unit for Ports {
         }
     }
 
+    #[inline]
     fn pad(&self, pin: u8) -> Pad {
         if pin < 8 {
             bit_pad(self.ddrd, self.portd, pin)
@@ -274,6 +286,50 @@ impl Ports {
             Register::PINB | Register::PINC | Register::PIND | Register::PCIFR | Register::EIFR =>
                 self.write_one(register, bit, value),
             _ => self.set_register(register, with_bit(self.kept(register), bit, value)),
+        }
+    }
+
+    // Whether writing a register changes what a pin is asked for; a 1 in PINx toggles PORTx.
+    #[inline]
+    fn register_moves(&self, register: Register, value: u8) -> bool
+        ensures { result ≡ moves self.now.unit register value }
+    {
+        match register {
+            Register::PINB | Register::PINC | Register::PIND => value != 0,
+            Register::DDRB => value != self.ddrb,
+            Register::PORTB => value != self.portb,
+            Register::DDRC => value != self.ddrc,
+            Register::PORTC => value != self.portc,
+            Register::DDRD => value != self.ddrd,
+            Register::PORTD => value != self.portd,
+            _ => false,
+        }
+    }
+
+    // Whether writing one bit alone does.
+    #[inline]
+    fn register_bit_moves(&self, register: Register, bit: u8, value: bool) -> bool
+        requires { bit < 8 }
+        ensures { result ≡ bit_moves self.now.unit register bit value }
+    {
+        match register {
+            Register::PINB | Register::PINC | Register::PIND | Register::PCIFR | Register::EIFR =>
+                self.one_moves(register, bit, value),
+            _ => self.register_moves(register, with_bit(self.kept(register), bit, value)),
+        }
+    }
+
+    // Whether writing a 1 into a register of which ones act does.
+    #[inline]
+    fn one_moves(&self, register: Register, bit: u8, value: bool) -> bool
+        requires register { acts_by_ones register ≡ true }
+        requires bit { bit < 8 }
+        ensures { result ≡ bit_moves self.now.unit register bit value }
+    {
+        if value {
+            self.register_moves(register, mask(bit))
+        } else {
+            false
         }
     }
 

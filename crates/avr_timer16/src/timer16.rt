@@ -71,7 +71,15 @@ impl Unit for Timer16 {
     }
 
     #[inline]
-    fn moves(reg: u8) -> bool {
+    fn moves(&self, reg: u8, value: u8) -> bool {
+        let _ = value;
+        moves_at(reg)
+    }
+
+    #[inline]
+    fn bit_moves(&self, reg: u8, bit: u8, value: bool) -> bool {
+        let _ = bit;
+        let _ = value;
         moves_at(reg)
     }
 
@@ -133,7 +141,11 @@ impl Unit for Timer16 {
         self.counter = all_entered(&self.counter, vector);
     }
 
+    #[inline]
     fn pad(&self, pin: u8) -> Pad {
+        if (pin != 9) & (pin != 10) {
+            return Pad::untouched();
+        }
         let mode = mode_of(self.tccra, self.tccrb);
         self.counter.pad(&mode, 9, 10, pin)
     }

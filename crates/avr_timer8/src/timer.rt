@@ -35,7 +35,15 @@ impl Unit for Timer0 {
     }
 
     #[inline]
-    fn moves(reg: u8) -> bool {
+    fn moves(&self, reg: u8, value: u8) -> bool {
+        let _ = value;
+        moves_at(Which::Zero, reg)
+    }
+
+    #[inline]
+    fn bit_moves(&self, reg: u8, bit: u8, value: bool) -> bool {
+        let _ = bit;
+        let _ = value;
         moves_at(Which::Zero, reg)
     }
 
@@ -85,6 +93,7 @@ impl Unit for Timer0 {
         self.timer.taken(Which::Zero, vector);
     }
 
+    #[inline]
     fn pad(&self, pin: u8) -> Pad {
         self.timer.pad(Which::Zero, pin)
     }
@@ -121,7 +130,15 @@ impl Unit for Timer2 {
     }
 
     #[inline]
-    fn moves(reg: u8) -> bool {
+    fn moves(&self, reg: u8, value: u8) -> bool {
+        let _ = value;
+        moves_at(Which::Two, reg)
+    }
+
+    #[inline]
+    fn bit_moves(&self, reg: u8, bit: u8, value: bool) -> bool {
+        let _ = bit;
+        let _ = value;
         moves_at(Which::Two, reg)
     }
 
@@ -171,6 +188,7 @@ impl Unit for Timer2 {
         self.timer.taken(Which::Two, vector);
     }
 
+    #[inline]
     fn pad(&self, pin: u8) -> Pad {
         self.timer.pad(Which::Two, pin)
     }

@@ -164,11 +164,17 @@ impl Timer8 {
         self.counter.enter(vector(which), entered);
     }
 
+    #[inline]
     pub(crate) fn pad(&self, which: Which, pin: u8) -> Pad
         ensures { result ≡ pad which self.now.unit pin }
     {
+        let oca = pin_a(which);
+        let ocb = pin_b(which);
+        if (pin != oca) & (pin != ocb) {
+            return Pad::untouched();
+        }
         let mode = mode_of(self.tccra, self.tccrb);
-        self.counter.pad(&mode, pin_a(which), pin_b(which), pin)
+        self.counter.pad(&mode, oca, ocb, pin)
     }
 
     fn timing(&self, which: Which) -> Timing

@@ -82,7 +82,7 @@ fn a_byte_is_received(rt: HostRuntime) {
     assert_eq!(rt; usart.due(), None);
     assert_eq!(rt; usart.read(&levels(false), UCSR0A), 0xB4);
     assert_eq!(rt; usart.request(&levels(false)), 18);
-    assert!(rt; Usart::has(UDR0) & Usart::moves(UDR0) & usart.pad(0).ddoe & !usart.pad(0).ddov);
+    assert!(rt; Usart::has(UDR0) & usart.moves(UDR0, 0) & usart.pad(0).ddoe & !usart.pad(0).ddov);
     assert_eq!(rt; usart.read(&levels(false), UDR0), 0);
     assert_eq!(rt; usart.read(&levels(false), UCSR0A), 0x20);
     assert_eq!(rt; usart.read(&levels(false), UBRR0H), 0);

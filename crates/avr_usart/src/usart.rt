@@ -72,7 +72,15 @@ impl Unit for Usart {
     }
 
     #[inline]
-    fn moves(reg: u8) -> bool {
+    fn moves(&self, reg: u8, value: u8) -> bool {
+        let _ = value;
+        moves(reg)
+    }
+
+    #[inline]
+    fn bit_moves(&self, reg: u8, bit: u8, value: bool) -> bool {
+        let _ = bit;
+        let _ = value;
         moves(reg)
     }
 

@@ -73,9 +73,9 @@ pub(crate) fn prescalers(rt: &HostRuntime) -> io::Result<()> {
 fn kept<U: Unit>(rt: &HostRuntime, unit: &mut U) -> io::Result<()> {
     for reg in 0x20..=0xFF_u8 {
         if U::has(reg) {
+            let moves = if unit.moves(reg, 0xFF) { "*" } else { "" };
             unit.write(reg, 0xFF);
             let value = unit.read(&LEVELS, reg);
-            let moves = if U::moves(reg) { "*" } else { "" };
             print!(rt; " {reg:02X}={value:02X}{moves}")?;
         }
     }

@@ -34,7 +34,8 @@ module _ {A B : Type 0} (m : UnitMachine A) (n : UnitMachine B) where
     pad = λ u p. joined (m.pad u.0 p) (n.pad u.1 p);
     sends = λ u t. first_of_two (m.sends u.0 t) (n.sends u.1 t);
     has = λ a. m.has a || n.has a;
-    moves = λ a. m.moves a || n.moves a;
+    moves = λ u a x. (if m.has a then m.moves u.0 a x else false) || (if n.has a then n.moves u.1 a x else false);
+    bit_moves = λ u a k x. (if m.has a then m.bit_moves u.0 a k x else false) || (if n.has a then n.bit_moves u.1 a k x else false);
     answers = λ u t l a. if m.has a then m.answers u.0 t l a else n.answers u.1 t l a;
     read = λ u t a. if m.has a then (m.read u.0 t a, u.1) else (u.0, n.read u.1 t a);
     write = λ u t a x. (if m.has a then m.write u.0 t a x else u.0, if n.has a then n.write u.1 t a x else u.1);
@@ -69,10 +70,10 @@ module _ {A B : Type 0} (m : UnitMachine A) (n : UnitMachine B) where
         ∙ ap (λ x. min x (least (n.requests s.1 l))) (p.unheard_requests s.0 l k e.0) ∙ ap (min (least (m.requests s.0 k))) (q.unheard_requests s.1 l k e.1)
         ∙ sym (least-append (m.requests s.0 k) (n.requests s.1 k));
     reads_pad = λ s t a i. by_first (m.has a) s t a i;
-    writes_pad = λ s t a x i h. let d = neither (m.moves a) (n.moves a) h in
-        pads _ _ _ _ (by_has A m.pad (m.has a) s.0 (m.write s.0 t a x) i (p.writes_pad s.0 t a x i d.0)) (by_has B n.pad (n.has a) s.1 (n.write s.1 t a x) i (q.writes_pad s.1 t a x i d.1));
-    bits_pad = λ s t a k x i h. let d = neither (m.moves a) (n.moves a) h in
-        pads _ _ _ _ (by_has A m.pad (m.has a) s.0 (m.write_bit s.0 t a k x) i (p.bits_pad s.0 t a k x i d.0)) (by_has B n.pad (n.has a) s.1 (n.write_bit s.1 t a k x) i (q.bits_pad s.1 t a k x i d.1));
+    writes_pad = λ s t a x i h. let d = neither (if m.has a then m.moves s.0 a x else false) (if n.has a then n.moves s.1 a x else false) h in
+        pads _ _ _ _ (by_has A m.pad (m.has a) (m.moves s.0 a x) s.0 (m.write s.0 t a x) i (p.writes_pad s.0 t a x i) d.0) (by_has B n.pad (n.has a) (n.moves s.1 a x) s.1 (n.write s.1 t a x) i (q.writes_pad s.1 t a x i) d.1);
+    bits_pad = λ s t a k x i h. let d = neither (if m.has a then m.bit_moves s.0 a k x else false) (if n.has a then n.bit_moves s.1 a k x else false) h in
+        pads _ _ _ _ (by_has A m.pad (m.has a) (m.bit_moves s.0 a k x) s.0 (m.write_bit s.0 t a k x) i (p.bits_pad s.0 t a k x i) d.0) (by_has B n.pad (n.has a) (n.bit_moves s.1 a k x) s.1 (n.write_bit s.1 t a k x) i (q.bits_pad s.1 t a k x i) d.1);
     taken_pad = λ s v i. pads _ _ _ _ (p.taken_pad s.0 v i) (q.taken_pad s.1 v i);
   }
     where
@@ -80,6 +81,6 @@ module _ {A B : Type 0} (m : UnitMachine A) (n : UnitMachine B) where
       by_first true s t a i = ap (λ x. joined x (n.pad s.1 i)) (p.reads_pad s.0 t a i)
       by_first false s t a i = ap (joined (m.pad s.0 i)) (q.reads_pad s.1 t a i)
 
-      by_has : (U : Type 0) (pad : U → ℕ → Pad) (b : Bool) (old new : U) (i : ℕ) → pad new i ≡ pad old i → pad (if b then new else old) i ≡ pad old i
-      by_has U pad true old new i h = h
-      by_has U pad false old new i h = refl
+      by_has : (U : Type 0) (pad : U → ℕ → Pad) (b moves : Bool) (old new : U) (i : ℕ) → (moves ≡ false → pad new i ≡ pad old i) → (if b then moves else false) ≡ false → pad (if b then new else old) i ≡ pad old i
+      by_has U pad true moves old new i law h = law h
+      by_has U pad false moves old new i law h = refl

@@ -30,8 +30,10 @@ pub record UnitMachine (U : Type 0) : Type 0 where
   pub sends : U → ℕ → Option ℕ
   -- whether a data address is one of its registers
   pub has : ℕ → Bool
-  -- whether a write of the register may change what it asks of a pin
-  pub moves : ℕ → Bool
+  -- whether a write of this value into the register may change what it asks of a pin
+  pub moves : U → ℕ → ℕ → Bool
+  -- the same of a write of one bit alone
+  pub bit_moves : U → ℕ → ℕ → Bool → Bool
   -- what reading the register in a cycle answers, on the levels of the cycle before
   pub answers : U → ℕ → List Level → ℕ → ℕ
   -- what reading the register leaves
@@ -89,6 +91,6 @@ module _ {U : Type 0} (m : UnitMachine U) where
     pub unheard : (s : U) (t : ℕ) (before now : List Level) → m.due s t ≡ false → m.hears s before now ≡ false → m.step s t before now ≡ m.step s t now now
     pub unheard_requests : (s : U) (before now : List Level) → m.hears s before now ≡ false → least (m.requests s before) ≡ least (m.requests s now)
     pub reads_pad : (s : U) (t a p : ℕ) → m.pad (m.read s t a) p ≡ m.pad s p
-    pub writes_pad : (s : U) (t a x p : ℕ) → m.moves a ≡ false → m.pad (m.write s t a x) p ≡ m.pad s p
-    pub bits_pad : (s : U) (t a k : ℕ) (x : Bool) (p : ℕ) → m.moves a ≡ false → m.pad (m.write_bit s t a k x) p ≡ m.pad s p
+    pub writes_pad : (s : U) (t a x p : ℕ) → m.moves s a x ≡ false → m.pad (m.write s t a x) p ≡ m.pad s p
+    pub bits_pad : (s : U) (t a k : ℕ) (x : Bool) (p : ℕ) → m.bit_moves s a k x ≡ false → m.pad (m.write_bit s t a k x) p ≡ m.pad s p
     pub taken_pad : (s : U) (v p : ℕ) → m.pad (m.taken s v) p ≡ m.pad s p

@@ -1,5 +1,5 @@
 //! Two groups of units as one.
-ghost use Rattle.std.specs.Prelude.{◌≡◌, ℕ, ◌+◌, ◌-◌, ◌<◌, ◌≤◌, List, true, length, if◌then◌else◌};
+ghost use Rattle.std.specs.Prelude.{◌≡◌, ℕ, ◌+◌, ◌-◌, ◌<◌, ◌≤◌, List, true, false, length, if◌then◌else◌};
 ghost use Rattle.sim_base.specs.declared.signal.Level.{Level};
 ghost use Rattle.unit_law.specs.Both.{first_of_two};
 
@@ -42,11 +42,6 @@ impl<A: Group, B: Group> Group for Both<A, B> {
     }
 
     #[inline]
-    fn moves(reg: u8) -> bool {
-        A::moves(reg) | B::moves(reg)
-    }
-
-    #[inline]
     fn hears(&self, before: &[Level], now: &[Level]) -> bool {
         self.first.hears(before, now) | self.second.hears(before, now)
     }
@@ -61,15 +56,17 @@ impl<A: Group, B: Group> Group for Both<A, B> {
     }
 
     #[inline]
-    fn write(&mut self, cycle: u32, levels: &[Level], reg: u8, value: u8) {
-        write_where(&mut self.first, cycle, levels, reg, value);
-        write_where(&mut self.second, cycle, levels, reg, value);
+    fn write(&mut self, cycle: u32, levels: &[Level], reg: u8, value: u8) -> bool {
+        let first = write_where(&mut self.first, cycle, levels, reg, value);
+        let second = write_where(&mut self.second, cycle, levels, reg, value);
+        first | second
     }
 
     #[inline]
-    fn write_bit(&mut self, cycle: u32, levels: &[Level], reg: u8, bit: u8, value: bool) {
-        write_bit_where(&mut self.first, cycle, levels, reg, bit, value);
-        write_bit_where(&mut self.second, cycle, levels, reg, bit, value);
+    fn write_bit(&mut self, cycle: u32, levels: &[Level], reg: u8, bit: u8, value: bool) -> bool {
+        let first = write_bit_where(&mut self.first, cycle, levels, reg, bit, value);
+        let second = write_bit_where(&mut self.second, cycle, levels, reg, bit, value);
+        first | second
     }
 
     fn step(&mut self, cycle: u32, before: &[Level], now: &[Level]) -> Option<u8> {
@@ -93,6 +90,7 @@ impl<A: Group, B: Group> Group for Both<A, B> {
         self.second.taken(cycle, levels, vector);
     }
 
+    #[inline]
     fn pad(&self, pin: u8) -> Pad {
         self.first.pad(pin).joined(self.second.pad(pin))
     }
@@ -113,20 +111,23 @@ fn first_of_two(first: Option<u8>, second: Option<u8>) -> Option<u8>
     }
 }
 
-// Writes a register where the group has it.
+// Writes a register where the group has it, and answers whether that may change what it asks of a pin.
 #[inline]
-fn write_where<G: Group>(group: &mut G, cycle: u32, levels: &[Level], reg: u8, value: u8)
+fn write_where<G: Group>(group: &mut G, cycle: u32, levels: &[Level], reg: u8, value: u8) -> bool
     requires levels { length levels.now ≡ 20 }
     requires here { G.stands group.old levels.now cycle }
+    ensures moves { result ≡ (if G.machine.has reg then G.machine.moves (G.state group.old cycle) reg value else false) }
     ensures state { G.state group.new cycle ≡ (if G.machine.has reg then G.machine.write (G.state group.old cycle) cycle reg value else G.state group.old cycle) }
     ensures stands { G.stands group.new levels.now cycle }
 {
     if G::has(reg) {
-        group.write(cycle, levels, reg, value);
+        group.write(cycle, levels, reg, value)
+    } else {
+        false
     }
 }
 
-// Writes one bit of a register where the group has it.
+// Writes one bit of a register where the group has it, with the same answer.
 #[inline]
 fn write_bit_where<G: Group>(
     group: &mut G,
@@ -135,14 +136,17 @@ fn write_bit_where<G: Group>(
     reg: u8,
     bit: u8,
     value: bool,
-)
+) -> bool
     requires bit { bit < 8 }
     requires levels { length levels.now ≡ 20 }
     requires here { G.stands group.old levels.now cycle }
+    ensures moves { result ≡ (if G.machine.has reg then G.machine.bit_moves (G.state group.old cycle) reg bit value else false) }
     ensures state { G.state group.new cycle ≡ (if G.machine.has reg then G.machine.write_bit (G.state group.old cycle) cycle reg bit value else G.state group.old cycle) }
     ensures stands { G.stands group.new levels.now cycle }
 {
     if G::has(reg) {
-        group.write_bit(cycle, levels, reg, bit, value);
+        group.write_bit(cycle, levels, reg, bit, value)
+    } else {
+        false
     }
 }

@@ -31,10 +31,6 @@ pub trait Group {
     fn has(reg: u8) -> bool
         ensures { result ≡ machine.has reg };
 
-    /// Whether a write of the register may change what they ask of a pin.
-    fn moves(reg: u8) -> bool
-        ensures { result ≡ machine.moves reg };
-
     /// Whether one of them takes notice of a change of the levels.
     fn hears(&self, before: &[Level], now: &[Level]) -> bool
         requires before { length before.now ≡ 20 }
@@ -50,20 +46,22 @@ pub trait Group {
         ensures state { state self.new cycle ≡ machine.read (state self.old cycle) cycle reg }
         ensures stands { stands self.new levels.now cycle };
 
-    /// Writes a register in a cycle.
-    fn write(&mut self, cycle: u32, levels: &[Level], reg: u8, value: u8)
+    /// Writes a register in a cycle, and answers whether that may change what they ask of a pin.
+    fn write(&mut self, cycle: u32, levels: &[Level], reg: u8, value: u8) -> bool
         requires register { machine.has reg ≡ true }
         requires levels { length levels.now ≡ 20 }
         requires here { stands self.old levels.now cycle }
+        ensures moves { result ≡ machine.moves (state self.old cycle) reg value }
         ensures state { state self.new cycle ≡ machine.write (state self.old cycle) cycle reg value }
         ensures stands { stands self.new levels.now cycle };
 
-    /// Writes one bit alone, as SBI and CBI do.
-    fn write_bit(&mut self, cycle: u32, levels: &[Level], reg: u8, bit: u8, value: bool)
+    /// Writes one bit alone, as SBI and CBI do, with the same answer.
+    fn write_bit(&mut self, cycle: u32, levels: &[Level], reg: u8, bit: u8, value: bool) -> bool
         requires register { machine.has reg ≡ true }
         requires bit { bit < 8 }
         requires levels { length levels.now ≡ 20 }
         requires here { stands self.old levels.now cycle }
+        ensures moves { result ≡ machine.bit_moves (state self.old cycle) reg bit value }
         ensures state { state self.new cycle ≡ machine.write_bit (state self.old cycle) cycle reg bit value }
         ensures stands { stands self.new levels.now cycle };
 

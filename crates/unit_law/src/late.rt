@@ -44,11 +44,6 @@ impl<U: Unit> Group for Late<U> {
     }
 
     #[inline]
-    fn moves(reg: u8) -> bool {
-        U::moves(reg)
-    }
-
-    #[inline]
     fn hears(&self, before: &[Level], now: &[Level]) -> bool {
         self.unit.hears(before, now)
     }
@@ -61,18 +56,22 @@ impl<U: Unit> Group for Late<U> {
         value
     }
 
-    fn write(&mut self, cycle: u32, levels: &[Level], reg: u8, value: u8) {
+    fn write(&mut self, cycle: u32, levels: &[Level], reg: u8, value: u8) -> bool {
         catch_up(&mut self.unit, self.due, cycle);
+        let moves = self.unit.moves(reg, value);
         self.unit.write(reg, value);
         self.due = first_due(&self.unit);
         self.request = self.unit.request(levels);
+        moves
     }
 
-    fn write_bit(&mut self, cycle: u32, levels: &[Level], reg: u8, bit: u8, value: bool) {
+    fn write_bit(&mut self, cycle: u32, levels: &[Level], reg: u8, bit: u8, value: bool) -> bool {
         catch_up(&mut self.unit, self.due, cycle);
+        let moves = self.unit.bit_moves(reg, bit, value);
         self.unit.write_bit(reg, bit, value);
         self.due = first_due(&self.unit);
         self.request = self.unit.request(levels);
+        moves
     }
 
     fn step(&mut self, cycle: u32, before: &[Level], now: &[Level]) -> Option<u8> {
@@ -103,6 +102,7 @@ impl<U: Unit> Group for Late<U> {
         self.request = self.unit.request(levels);
     }
 
+    #[inline]
     fn pad(&self, pin: u8) -> Pad {
         self.unit.pad(pin)
     }

@@ -22,9 +22,14 @@ pub trait Unit {
     fn has(reg: u8) -> bool
         ensures { result ≡ machine.has reg };
 
-    /// Whether a write of the register may change what it asks of a pin.
-    fn moves(reg: u8) -> bool
-        ensures { result ≡ machine.moves reg };
+    /// Whether a write of this value into the register may change what it asks of a pin.
+    fn moves(&self, reg: u8, value: u8) -> bool
+        ensures { result ≡ machine.moves (shows self.now).unit reg value };
+
+    /// The same of a write of one bit alone.
+    fn bit_moves(&self, reg: u8, bit: u8, value: bool) -> bool
+        requires { bit < 8 }
+        ensures { result ≡ machine.bit_moves (shows self.now).unit reg bit value };
 
     /// Whether it takes notice of a change of the levels.
     fn hears(&self, before: &[Level], now: &[Level]) -> bool

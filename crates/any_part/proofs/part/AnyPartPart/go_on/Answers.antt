@@ -35,6 +35,13 @@ returns-in-Uno-clause-same g c =
     let w = woke_in mcu any (λ (s : Mcu). inl s) uno_in p.mcu c.go_on.new.self.mcu p.cycle (c.go_on.result.to - p.cycle) _ c.go_on.result.byte (record { state = e.state; same = e.same; sent_is = e.sent; dues_are = refl }) in
     rw c.in-Uno.is (w.same)
 
+pub returns-in-Uno-clause-sent : goal.returns-in-Uno-clause-sent
+returns-in-Uno-clause-sent g c =
+    let p = c.in-Uno.part in
+    let e = c.go_on.ensures in
+    let w = woke_in mcu any (λ (s : Mcu). inl s) uno_in p.mcu c.go_on.new.self.mcu p.cycle (c.go_on.result.to - p.cycle) _ c.go_on.result.byte (record { state = e.state; same = e.same; sent_is = e.sent; dues_are = refl }) in
+    rw c.in-Uno.is (w.sent_is)
+
 pub returns-in-Reactive-clause-state : goal.returns-in-Reactive-clause-state
 returns-in-Reactive-clause-state g c =
     let p = c.in-Reactive.part in
@@ -62,6 +69,13 @@ returns-in-Reactive-clause-same g c =
     let e = c.go_on-in-Reactive.ensures in
     let w = woke_in (reactive any_reaction) any (λ (s : Reacting AnyOwn). inr s) reactive_in (record { own = own_of p.behaviour; held = p.held }) (record { own = own_of c.go_on-in-Reactive.new.self.behaviour; held = c.go_on-in-Reactive.new.self.held }) p.cycle (c.go_on-in-Reactive.result.to - p.cycle) _ c.go_on-in-Reactive.result.byte (record { state = e.state; same = e.same; sent_is = e.sent; dues_are = refl }) in
     rw c.in-Reactive.is (w.same)
+
+pub returns-in-Reactive-clause-sent : goal.returns-in-Reactive-clause-sent
+returns-in-Reactive-clause-sent g c =
+    let p = c.in-Reactive.part in
+    let e = c.go_on-in-Reactive.ensures in
+    let w = woke_in (reactive any_reaction) any (λ (s : Reacting AnyOwn). inr s) reactive_in (record { own = own_of p.behaviour; held = p.held }) (record { own = own_of c.go_on-in-Reactive.new.self.behaviour; held = c.go_on-in-Reactive.new.self.held }) p.cycle (c.go_on-in-Reactive.result.to - p.cycle) _ c.go_on-in-Reactive.result.byte (record { state = e.state; same = e.same; sent_is = e.sent; dues_are = refl }) in
+    rw c.in-Reactive.is (w.sent_is)
 
 pub returns-in-Reactive-clause-drives : goal.returns-in-Reactive-clause-drives
 returns-in-Reactive-clause-drives g c = rw c.in-Reactive.is c.go_on-in-Reactive.ensures.drives

@@ -1,12 +1,22 @@
-use Rattle.std.proofs.Common.{◌≡◌, ◌∙◌, ◌+◌, ◌-◌, ◌<◌, ◌≤◌, ◌||◌, ℕ, Bool, true, false, List, take, length, refl, ap, sym, subst, arith}
-use Rattle.unit_law.specs.UnitMachine.{least, steps, IsQuiet}
-use Rattle.avr_mcu.specs.Devices.{Devices, devices, devices_laws}
+use Rattle.std.proofs.Common.{◌||◌, Bool, ap}
+use Rattle.avr_mcu.specs.Devices.{Devices, devices}
 use Rattle.avr_mcu.specs.Units.{UnitsAt, pins}
 use Rattle.avr_mcu.specs.contracts.units.Units.{the_view}
-use Rattle.avr_mcu.proofs.UnitsLemmas.{units_by, units_touched, units_at, units_held, length-front}
+use Rattle.avr_mcu.proofs.UnitsLemmas.{units_touched}
 use Rattle.avr_mcu.proofs.units.Units.set_device_bit.Goals as goal
 
 pub returns : goal.returns
 returns c =
     units_touched devices c.args.self.now (the_view c.self.inside) c.self.view_is (λ (y : UnitsAt Devices). devices.write_bit y.units.devices y.cycle c.args.reg c.args.bit c.args.value) _
-    (λ (y : UnitsAt Devices). y.touched || devices.moves c.args.reg) _ c.write_bit.ensures.state (ap (λ (b : Bool). c.self.inside.touched || b) c.moves.ensures)
+    (λ (y : UnitsAt Devices). y.touched || devices.bit_moves y.units.devices c.args.reg c.args.bit c.args.value) _ c.write_bit-moves.ensures.state (ap (λ (b : Bool). c.self.inside.touched || b) c.write_bit-moves.ensures.moves)
+
+pub invariant_of-self : goal.invariant_of-self
+invariant_of-self c = record {
+  sram = c.self.invariant.sram;
+  ignored = c.self.invariant.ignored;
+  held = c.self.invariant.held;
+  stands = c.write_bit-moves.ensures.stands;
+  due = c.due-self-inside.ensures;
+  request = c.request-self-inside.ensures (pins c.self.inside.held) c.self.inside.cycle c.write_bit-moves.ensures.stands;
+  end = c.self.invariant.end;
+}

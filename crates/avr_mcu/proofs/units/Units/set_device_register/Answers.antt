@@ -1,12 +1,22 @@
-use Rattle.std.proofs.Common.{◌≡◌, ◌∙◌, ◌+◌, ◌-◌, ◌<◌, ◌≤◌, ◌||◌, ℕ, Bool, true, false, List, take, length, refl, ap, sym, subst, arith}
-use Rattle.unit_law.specs.UnitMachine.{least, steps, IsQuiet}
-use Rattle.avr_mcu.specs.Devices.{Devices, devices, devices_laws}
+use Rattle.std.proofs.Common.{◌||◌, Bool, ap}
+use Rattle.avr_mcu.specs.Devices.{Devices, devices}
 use Rattle.avr_mcu.specs.Units.{UnitsAt, pins}
 use Rattle.avr_mcu.specs.contracts.units.Units.{the_view}
-use Rattle.avr_mcu.proofs.UnitsLemmas.{units_by, units_touched, units_at, units_held, length-front}
+use Rattle.avr_mcu.proofs.UnitsLemmas.{units_touched}
 use Rattle.avr_mcu.proofs.units.Units.set_device_register.Goals as goal
 
 pub returns : goal.returns
 returns c =
     units_touched devices c.args.self.now (the_view c.self.inside) c.self.view_is (λ (y : UnitsAt Devices). devices.write y.units.devices y.cycle c.args.reg c.args.value) _
-    (λ (y : UnitsAt Devices). y.touched || devices.moves c.args.reg) _ c.write.ensures.state (ap (λ (b : Bool). c.self.inside.touched || b) c.moves.ensures)
+    (λ (y : UnitsAt Devices). y.touched || devices.moves y.units.devices c.args.reg c.args.value) _ c.write-moves.ensures.state (ap (λ (b : Bool). c.self.inside.touched || b) c.write-moves.ensures.moves)
+
+pub invariant_of-self : goal.invariant_of-self
+invariant_of-self c = record {
+  sram = c.self.invariant.sram;
+  ignored = c.self.invariant.ignored;
+  held = c.self.invariant.held;
+  stands = c.write-moves.ensures.stands;
+  due = c.due-self-inside.ensures;
+  request = c.request-self-inside.ensures (pins c.self.inside.held) c.self.inside.cycle c.write-moves.ensures.stands;
+  end = c.self.invariant.end;
+}

@@ -1,9 +1,8 @@
-use Rattle.std.proofs.Common.{◌≡◌, ◌∙◌, ◌+◌, ◌-◌, ◌<◌, ◌≤◌, ◌||◌, ℕ, Bool, true, false, List, take, length, refl, ap, sym, subst, arith}
-use Rattle.unit_law.specs.UnitMachine.{least, steps, IsQuiet}
-use Rattle.avr_mcu.specs.Devices.{Devices, devices, devices_laws}
+use Rattle.std.proofs.Common.{◌≡◌, ◌∙◌, ◌+◌, length, ap, sym, arith}
+use Rattle.avr_mcu.specs.Devices.{Devices, devices}
 use Rattle.avr_mcu.specs.Units.{UnitsAt, pins}
 use Rattle.avr_mcu.specs.contracts.units.Units.{the_view}
-use Rattle.avr_mcu.proofs.UnitsLemmas.{units_by, units_touched, units_at, units_held, units_new, length-front}
+use Rattle.avr_mcu.proofs.UnitsLemmas.{units_held}
 use Rattle.avr_mcu.proofs.units.Units.step.Goals as goal
 
 pub returns-clause-state : goal.returns-clause-state
