@@ -1,17 +1,19 @@
 #!/bin/sh
-# What other programs make of the same inputs: simavr moves the same pins of the examples in the same cycles, and wabt
-# answers the same to the modules of the gate. What cannot be asked is skipped, and said on standard error.
-# Debian's packages: gcc, simavr, libsimavr-dev; wabt, clang, lld. `--install` installs them first, which wants root.
+# What other programs make of the same inputs: simavr moves the same pins of the examples in the same cycles, uno.c, a
+# second reading of the data sheet, those of sketches with timers, interrupts and the ADC, and wabt answers the same to
+# the modules of the gate. What cannot be asked is skipped, and said on standard error.
+# Debian's packages: gcc, simavr, libsimavr-dev, gcc-avr; wabt, clang, lld. `--install` installs them first, which wants root.
 # PROGRAM is the program to try, ./mudflatjar if it is not set. Ends with 1 where one answers otherwise.
 here=$(cd "$(dirname "$0")" && pwd)
 program=${PROGRAM:-$here/../../mudflatjar}
 examples=$here/../../examples
+rows=$here/../../crates/sim_rows/data
 folder=$(mktemp -d) || exit 1
 trap 'rm -rf "$folder"' EXIT
 bad=0
 
 if [ "$1" = --install ]; then
-    apt-get install -y gcc libc6-dev simavr libsimavr-dev wabt clang lld sigrok-cli gtkwave >&2 || exit 1
+    apt-get install -y gcc libc6-dev simavr libsimavr-dev gcc-avr binutils-avr avr-libc wabt clang lld sigrok-cli gtkwave >&2 || exit 1
 fi
 have() { # TOOLS
     for tool in "$@"; do command -v "$tool" >/dev/null || return 1; done
@@ -44,8 +46,55 @@ if have cc && cc -O1 -o "$folder/pins" "$here/simavr_pins.c" -lsimavr 2>"$folder
     "$program" bare "$examples/sort/sort.hex" --us 100 | with_simavr sort 100 ""
     "$program" bare "$examples/pulse/pulse.hex" --us 200 | with_simavr pulse 200 ""
     "$program" run "$examples/counter" --us 30 --vcd - | with_simavr counter 30 "2 3" 12=3 2=high
+    "$program" bare "$examples/arduino-blink/arduino-blink.hex" --us 100 | with_simavr arduino-blink 100 ""
 else
     echo "simavr: skipped, no compiler for C or no libsimavr-dev" >&2
+fi
+
+# uno.c, which has timers, interrupts and the ADC as the data sheet tells them: whole waves of the gate's rows, and the
+# pins of the Arduino sketches over longer times
+row() { # NAME MICROSECONDS WORDS OF uno.c
+    name=$1 us=$2
+    shift 2
+    "$folder/uno" "$rows/$name.hex" "$((16 * us))" "$@" | cmp -s - "$rows/$name.vcd"
+    says $? "row $name on uno.c"
+}
+with_uno() { # NAME MICROSECONDS WORDS OF uno.c
+    name=$1 us=$2
+    shift 2
+    "$program" run "$examples/$name" --us "$us" --vcd - | pins >"$folder/ours"
+    "$folder/uno" "$examples/$name/$name.hex" "$((16 * us))" "$@" | pins >"$folder/theirs"
+    [ -s "$folder/ours" ] && cmp -s "$folder/ours" "$folder/theirs"
+    says $? "$name on uno.c, $(wc -l <"$folder/ours" | tr -d ' ') changes of pins"
+}
+if have cc && cc -O2 -o "$folder/uno" "$here/uno.c"; then
+    row ctc 2
+    row long 10000000
+    row vectors 100
+    row sleep 25
+    row halt 20
+    row flags 3
+    row modes 7
+    row kept 30
+    row left-out 150
+    row adc 240 14~700 15=high pot1.GND:z pot1.SIG:14 pot1.VCC:z
+    with_uno arduino-blink 2100000
+    with_uno fade 200000
+    with_uno pin-interrupt 30000 9=2
+    with_uno pot-blink 950000 14~100
+else
+    echo "uno.c: skipped, no compiler for C" >&2
+fi
+if have avr-gcc avr-objcopy; then
+    for source in "$rows"/*.S; do
+        name=$(basename "$source" .S)
+        avr-gcc -mmcu=atmega328p -nostdlib -o "$folder/row.elf" "$source" &&
+            avr-objcopy -O ihex "$folder/row.elf" "$folder/row.hex" &&
+            tr -d '\r' <"$folder/row.hex" | cmp -s - "$rows/$name.hex"
+        says $? "$name.hex from its source"
+    done
+else
+    echo "avr-gcc: skipped, it is not installed" >&2
 fi
 
 if have python3 wasm-validate wast2json spectest-interp clang wasm-ld; then
