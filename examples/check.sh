@@ -40,6 +40,27 @@ changes_of() { # PIN
         /^#/ { cycle = substr($0, 2) / 625 }
         /^[01xz]/ && cycle > 0 && substr($0, 2) == code { print cycle, pin, substr($0, 1, 1) }'
 }
+# MILLISECOND LEVEL of each change between 0 and 1 of an Uno's pin, the time to the nearest STEP of milliseconds
+at() { # PIN STEP
+    awk -v pin="$1" -v step="$2" '
+        $5 == "uno." pin { code = $4 }
+        /^#/ { ms = substr($0, 2) / 10000000 }
+        /^[01xz]/ && substr($0, 2) == code {
+            now = substr($0, 1, 1)
+            if (was ~ /[01]/ && now ~ /[01]/) print int(ms / step + 0.5) * step, now
+            was = now
+        }'
+}
+# the microseconds of each pulse of an Uno's pin that differs from the one before
+widths() { # PIN
+    awk -v pin="$1" '
+        $5 == "uno." pin { code = $4 }
+        /^#/ { us = substr($0, 2) / 10000 }
+        /^[01xz]/ && substr($0, 2) == code {
+            if (substr($0, 1, 1) == "1") rise = us
+            else if (rise != "") { width = us - rise; if (width != last) print width; last = width; rise = "" }
+        }'
+}
 same() { # NAME, EXPECTED; the text at hand on standard input
     if cmp -s - "$2"; then echo "$1: ok"; else echo "$1: differs from $2"; return 1; fi
 }
@@ -61,7 +82,7 @@ twin counter/expected/run.vcd counter.vcd
 pulses <"$rows/crc.vcd" | same "crc in the rows" "$here/crc/expected/pulses.txt" || bad=1
 pulses <"$rows/sort.vcd" | same "sort in the rows" "$here/sort/expected/pulses.txt" || bad=1
 counts <"$rows/counter-down.vcd" | same "counter downwards in the rows" "$here/counter/expected/counts-down.txt" || bad=1
-for name in blink counter pulse; do
+for name in blink counter pulse arduino-blink fade pin-interrupt pot-blink; do
     "$program" check "$here/$name" | same "$name as a project" "$here/$name/expected/check.txt" || bad=1
 done
 "$program" bare "$here/blink/blink.hex" --us 1 | same blink "$here/blink/expected/wave.vcd" || bad=1
@@ -73,6 +94,13 @@ wave "$here/counter" 30 | same counter "$here/counter/expected/run.vcd" || bad=1
 wave "$here/counter" 30 | counts | same "counter's LEDs" "$here/counter/expected/counts.txt" || bad=1
 
 wave "$here/pulse" 200 | changes_of 13 | same pulse "$here/pulse/expected/changes.txt" || bad=1
+
+# Arduino sketches; what is expected is what their text says
+wave "$here/arduino-blink" 2100000 | at 13 1 | same arduino-blink "$here/arduino-blink/expected/pin13.txt" || bad=1
+wave "$here/fade" 200000 | widths 9 | same fade "$here/fade/expected/pulses.txt" || bad=1
+wave "$here/pin-interrupt" 30000 | at 13 1 | same pin-interrupt "$here/pin-interrupt/expected/pin13.txt" || bad=1
+wave "$here/pot-blink" 950000 | at 13 10 | same pot-blink "$here/pot-blink/expected/pin13.txt" || bad=1
+"$here/arduino.sh" --check || bad=1
 
 # the counter with pin 2 on ground
 down=$(mktemp -d) || exit 1

@@ -1,0 +1,34 @@
+#!/bin/sh
+# Builds the HEX files of the Arduino sketches as the IDE does for an Uno, from Debian's packages arduino-core-avr, gcc-avr
+# and avr-libc. With --check it builds them in a folder of its own and compares them with those that are here.
+set -eu
+here=$(cd "$(dirname "$0")" && pwd)
+base=/usr/share/arduino/hardware/arduino/avr
+core=$base/cores/arduino
+if [ ! -d "$core" ] || ! command -v avr-g++ >/dev/null; then
+    echo "arduino-core-avr or gcc-avr is not installed: the HEX files stay as they are"
+    exit 0
+fi
+work=$(mktemp -d)
+trap 'rm -rf "$work"' EXIT
+common="-c -Os -w -ffunction-sections -fdata-sections -flto -mmcu=atmega328p -DF_CPU=16000000L -DARDUINO=10807 -DARDUINO_AVR_UNO -DARDUINO_ARCH_AVR -I$core -I$base/variants/standard"
+# gcc-avr 5.4 leaves DECIMAL_DIG out of its float.h for C++, and WString.cpp wants it
+cpp="avr-g++ $common -DDECIMAL_DIG=__DECIMAL_DIG__ -std=gnu++11 -fpermissive -fno-exceptions -fno-threadsafe-statics"
+
+for file in "$core"/*.c; do avr-gcc $common -std=gnu11 -fno-fat-lto-objects -o "$work/$(basename "$file").o" "$file"; done
+for file in "$core"/*.cpp; do $cpp -o "$work/$(basename "$file").o" "$file"; done
+avr-gcc -c -x assembler-with-cpp -flto -mmcu=atmega328p -o "$work/wiring_pulse.S.o" "$core/wiring_pulse.S"
+avr-gcc-ar rcs "$work/core.a" "$work"/*.o
+bad=0
+for name in arduino-blink fade pot-blink pin-interrupt; do
+    { echo '#include <Arduino.h>'; cat "$here/$name/$name.ino"; } >"$work/$name.cpp"
+    (cd "$work" && $cpp -o "$name.sketch" "$name.cpp")
+    avr-gcc -w -Os -flto -fuse-linker-plugin -Wl,--gc-sections -mmcu=atmega328p -o "$work/$name.elf" "$work/$name.sketch" "$work/core.a" -lm
+    avr-objcopy -O ihex -R .eeprom "$work/$name.elf" "$work/$name.hex"
+    if [ "${1:-}" = --check ]; then
+        cmp -s "$work/$name.hex" "$here/$name/$name.hex" && echo "$name.hex: ok" || { echo "$name.hex: differs"; bad=1; }
+    else
+        cp "$work/$name.hex" "$here/$name/$name.hex"
+    fi
+done
+exit $bad
