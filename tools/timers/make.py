@@ -56,9 +56,11 @@ def pin(kind, com, c, way, match, top, level):
         return (way == DOWN) != (com == 3)
     return level
 
-def events(size, kind, top, coms, start, icr, ocr, divisor, last):
+def events(size, kind, top, coms, start, icr, ocr, divisor, last, later=None):
     most = 0xFF if size == 8 else 0xFFFF
-    active, written = list(ocr), list(ocr)        # written while the timer stood in normal mode
+    active, written = list(ocr), list(later or ocr)   # ocr written while the timer stood in normal mode, later in this one
+    if kind in ("normal", "ctc"):
+        active = list(written)
     limit = active[0] if top == "OCRA" else icr if top == "ICR" else top
     level, out, tick = [False, False], [], 0
     run = counts(kind, limit, most, start)
@@ -77,6 +79,8 @@ def events(size, kind, top, coms, start, icr, ocr, divisor, last):
         overflow = {"normal": c == most, "ctc": c == most, "fast": c == limit}.get(kind, c == 0)
         flags |= overflow
         load = {"normal": False, "ctc": False, "fast": c == limit, "phase": c >= limit, "frequency": c == 0}[kind]
+        if load:
+            active = list(written)
         if cycle > last:
             return "".join(out)
         if flags or load:
@@ -113,6 +117,19 @@ def lines():
                 kind, top = mode16(wgm)
                 yield (f"timer 1, mode {wgm}, COM {coms[0]} {coms[1]}, TCNT {count}, ICR {icr}, OCR {a} {b}:"
                        + events(16, kind, top, coms, count, icr, (a, b), 1, 131200))
+    for wgm in range(8):
+        kind, top = mode8(wgm)
+        yield (f"timer 0, mode {wgm}, COM 2 3, OCR 4 1, then OCR 4 3:"
+               + events(8, kind, top, (2, 3), 0, 0, (4, 1), 1, 1030, (4, 3)))
+    for wgm in range(16):
+        kind, top = mode16(wgm)
+        yield (f"timer 1, mode {wgm}, COM 2 3, ICR 6, OCR 4 1, then OCR 4 3:"
+               + events(16, kind, top, (2, 3), 0, 6, (4, 1), 1, 131200, (4, 3)))
+    # worked out by hand: TOP 4 until it is met, and 2 from then on; phase correct PWM comes down by way of 3, above TOP
+    yield "timer 0, mode 7, TOP 4, then 2: 5:0/3/10 8:0/3/10 11:0/3/10 14:0/3/10"
+    yield "timer 0, mode 5, TOP 4, then 2: 1:1/1/00 5:3/2/10 6:2/0/10 7:1/2/10 9:1/1/10 11:1/2/10 13:1/1/10"
+    # TIFR0 and TCNT0 in the cycles 2, 5 and 8, the flags of cycle 2 cleared
+    yield "timer 0 up to 3 and back: 0501 0202 0701"
     # worked out by hand: a tick in each multiple of the divisor after the last reset, writes one cycle after an event
     yield ("timer 0 by 8: 8 16, by 64: 64 128, reset: 193 257, that of timer 2: 321, by 1: 322 323, TCNT written: 325 326, "
            "CS 4: 385 641, CS 5: 1153 2177, CS 6: none none, CS 7: none none, CS 0: none none")

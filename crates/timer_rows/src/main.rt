@@ -3,6 +3,7 @@
 //! tools/timers/make.py works out the same lines from the data sheet's text.
 #![tactic(auto)]
 
+mod buffers;
 mod modes;
 mod registers;
 mod watch;
@@ -13,6 +14,10 @@ fn main(rt: HostRuntime) -> io::Result<()> {
     modes::modes_of_timer_0(&rt)?;
     modes::modes_of_timer_2(&rt)?;
     modes::modes_of_timer_1(&rt)?;
+    buffers::buffers_of_timer_0(&rt)?;
+    buffers::buffers_of_timer_1(&rt)?;
+    buffers::new_tops(&rt)?;
+    buffers::up_to_three(&rt)?;
     registers::prescalers(&rt)?;
     registers::kept_bits(&rt)?;
     registers::high_bytes(&rt)?;

@@ -52,8 +52,8 @@ const WORDS: [(u16, u16, u16, u16); 17] = [
     (0x0400, 4, 4, 1),
 ];
 
-/// Timer 0 in every mode.
-pub(crate) fn modes_of_timer_0(rt: &HostRuntime) -> io::Result<()> {
+/// Prints the events of timer 0.
+pub(crate) fn events_of_timer_0(rt: &HostRuntime, timer: &mut Timer0, last: u32) -> io::Result<()> {
     let places = Places {
         tifr: TIFR0,
         low: TCNT0,
@@ -61,6 +61,23 @@ pub(crate) fn modes_of_timer_0(rt: &HostRuntime) -> io::Result<()> {
         oca: 6,
         ocb: 5,
     };
+    events(rt, timer, &places, last)
+}
+
+/// Prints the events of timer 1, over two of its longest periods.
+pub(crate) fn events_of_timer_1(rt: &HostRuntime, timer: &mut Timer16) -> io::Result<()> {
+    let places = Places {
+        tifr: TIFR1,
+        low: TCNT1L,
+        high: TCNT1H,
+        oca: 9,
+        ocb: 10,
+    };
+    events(rt, timer, &places, 131_200)
+}
+
+/// Timer 0 in every mode.
+pub(crate) fn modes_of_timer_0(rt: &HostRuntime) -> io::Result<()> {
     for wgm in 0..8_u8 {
         for (com_a, com_b) in COMS {
             for (count, a, b) in BYTES {
@@ -71,7 +88,7 @@ pub(crate) fn modes_of_timer_0(rt: &HostRuntime) -> io::Result<()> {
                 put(&mut timer, OCR0B, b);
                 put(&mut timer, TCCR0A, 64 * com_a + 16 * com_b + wgm % 4);
                 put(&mut timer, TCCR0B, 8 * (wgm / 4) + 1);
-                events(rt, &mut timer, &places, 1030)?;
+                events_of_timer_0(rt, &mut timer, 1030)?;
             }
         }
     }
@@ -118,13 +135,6 @@ fn mode_of_timer_1(rt: &HostRuntime, outputs: u8, wgm: u8, words: [u16; 4]) -> i
     requires outputs { outputs < 241 }
     requires wgm { wgm < 16 }
 {
-    let places = Places {
-        tifr: TIFR1,
-        low: TCNT1L,
-        high: TCNT1H,
-        oca: 9,
-        ocb: 10,
-    };
     let mut timer = Timer16::new();
     let [count, icr, a, b] = words;
     put_word(&mut timer, TCNT1H, TCNT1L, count);
@@ -133,7 +143,7 @@ fn mode_of_timer_1(rt: &HostRuntime, outputs: u8, wgm: u8, words: [u16; 4]) -> i
     put_word(&mut timer, OCR1BH, OCR1BL, b);
     put(&mut timer, TCCR1A, outputs + wgm % 4);
     put(&mut timer, TCCR1B, 8 * (wgm / 4) + 1);
-    events(rt, &mut timer, &places, 131_200)
+    events_of_timer_1(rt, &mut timer)
 }
 
 /// Writes a 16-bit register: the high byte first.

@@ -93,7 +93,7 @@ pub(crate) fn kept_bits(rt: &HostRuntime) -> io::Result<()> {
 }
 
 /// Prints the bytes of registers, read in this order.
-fn bytes<U: Unit>(rt: &HostRuntime, unit: &mut U, regs: [u8; 2]) -> io::Result<()> {
+pub(crate) fn bytes<U: Unit>(rt: &HostRuntime, unit: &mut U, regs: [u8; 2]) -> io::Result<()> {
     let [first, second] = regs;
     let a = get(unit, first);
     let b = get(unit, second);
