@@ -56,7 +56,8 @@ fi
 row() { # NAME MICROSECONDS WORDS OF uno.c
     name=$1 us=$2
     shift 2
-    "$folder/uno" "$rows/$name.hex" "$((16 * us))" "$@" | cmp -s - "$rows/$name.vcd"
+    "$folder/uno" "$rows/$name.hex" "$((16 * us))" "$@" serial="$folder/bytes" | cmp -s - "$rows/$name.vcd" &&
+        { [ ! -f "$rows/$name.bytes" ] || cmp -s "$folder/bytes" "$rows/$name.bytes"; }
     says $? "row $name on uno.c"
 }
 with_uno() { # NAME MICROSECONDS WORDS OF uno.c
@@ -78,6 +79,9 @@ if have cc && cc -O2 -o "$folder/uno" "$here/uno.c"; then
     row kept 30
     row left-out 150
     row adc 240 14~700 15=high pot1.GND:z pot1.SIG:14 pot1.VCC:z
+    row one-byte 86
+    row usart 1700 1=0
+    row usart-errors 110 8=0
     with_uno arduino-blink 2100000
     with_uno fade 200000
     with_uno pin-interrupt 30000 9=2
