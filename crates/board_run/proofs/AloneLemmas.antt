@@ -18,11 +18,12 @@ use Rattle.board_laws.specs.Steady.{IsSteady}
 use Rattle.board_laws.proofs.StandsLaw.{stands_here, stands_shows, stands_holds, stands_valid}
 use Rattle.board_laws.proofs.SteadyLaw.{steady_states, steady_before, steady_rows, steady_cycles, steady_bytes, steady_pairs, quiet_dues}
 use Rattle.board_run.specs.Seen.{IsOf, shown_at}
-use Rattle.board_run.specs.Lagging.{glided, own_part}
+use Rattle.board_run.specs.Lagging.{glided}
 use Rattle.board_run.specs.Legs.{Kept, Lags, Leg, WentAlone, IsAlone}
 use Rattle.board_run.proofs.ShowLemmas.{shown_is}
 use Rattle.board_model.proofs.RoomLemmas.{SameRoom, fits_room, chips_room}
 use Rattle.board_run.proofs.LagLemmas.{lags_stand, stand_show, stand_are, lag_of, Ts}
+use Rattle.board_run.proofs.ReadLemmas.{of_read, read_on}
 use Rattle.board_run.proofs.ShowLemmas.{still_of}
 use Rattle.board_run.specs.Upcoming.{AreBehind}
 use Rattle.board_run.proofs.NextLemmas.{quiet_until}
@@ -90,8 +91,8 @@ module _ {S P : Type 0} (m : Machine S) (laws : Laws m) (w : Wiring) (state : P 
     held = λ k s es.
         let p = part_of k s es in
         let st = like.each k p.0 s p.1 es in
-        stands_holds m laws t (now p.0) (state p.0) s st ∙ lags.same fresh k p.0 p.1
-        ∙ ap (λ (n : ℕ). map (level_at kept.seen.levels) (own_nets w k n)) (ap length (stands_shows m laws t (now p.0) (state p.0) s st).drives)
+        stands_holds m laws t (now p.0) (state p.0) s st ∙ lags.holds k p.0 p.1 after
+        ∙ ap (λ (n : ℕ). map (level_at kept.seen.circuit.levels) (own_nets w k n)) (ap length (stands_shows m laws t (now p.0) (state p.0) s st).drives)
         ∙ ap (λ (ls : List Level). map (level_at ls) (own_nets w k (length (m.drives s)))) of_board.levels_are;
     silent = λ j k l. silent (t + j) k (omega arith) (omega arith);
   }
@@ -225,40 +226,48 @@ module _ {S P : Type 0} (m : Machine S) (laws : Laws m) (w : Wiring) (state : P 
 
   -- the invariant after it
   pub alone_lags : (changed : Bool) (d : Option ℕ) → IsFirstDue m (state q0) (now q0) d → (changed ≡ false → m.drives (state q0) ≡ m.drives s0) → (changed ≡ false → m.contacts (state q0) ≡ m.contacts s0) →
-      Lags m w state now wakes u new (record { input = kept.input; stale = changed; dues = slice_set kept.dues who d; held = kept.held; seen = kept.seen; answers = kept.answers })
+      Lags m w state now wakes u new (record { input = kept.input; stale = changed; dues = slice_set kept.dues who d; moved = slice_set kept.moved who changed; seen = kept.seen; answers = kept.answers })
   alone_lags changed d first drives contacts =
       let room : who < length kept.dues = omega (arith, inside, lags.dues_long) in
       let due = due_set m state now wakes parts kept.dues who q0 d inside room (λ k p e ep ee. (lags.may k p e ep ee).first) first in
       let was = stands_shows m laws t (now p0) (state p0) s0 (like.each who p0 s0 here there) in
+      let space : who < length kept.moved = omega (arith, inside, lags.moved_long) in
+      let stays : (k : ℕ) (p z : P) → slice_get parts k ≡ Some p → slice_get new k ≡ Some z → (k ≡ who → changed ≡ false) → (m.drives (state z) ≡ m.drives (state p)) × (m.contacts (state z) ≡ m.contacts (state p)) = λ k p z ep ez none. elim (eqb_tells k who) [
+        | inl e ↦
+            let z_is : q0 ≡ z = some_same (sym (get_set_same parts who q0 inside) ∙ subst (λ (j : ℕ). slice_get new j ≡ Some z) e.1 ez) in
+            let p_is : p0 ≡ p = some_same (sym here ∙ subst (λ (j : ℕ). slice_get parts j ≡ Some p) e.1 ep) in (
+              ap (λ (y : P). m.drives (state y)) (sym z_is) ∙ drives (none e.1) ∙ sym was.drives ∙ ap (λ (y : P). m.drives (state y)) p_is,
+              ap (λ (y : P). m.contacts (state y)) (sym z_is) ∙ contacts (none e.1) ∙ sym was.contacts ∙ ap (λ (y : P). m.contacts (state y)) p_is,
+            )
+        | inr e ↦
+            let z_is : z ≡ p = some_same (sym ez ∙ get_set_other parts who k q0 e.1 ∙ ep) in
+            (ap (λ (y : P). m.drives (state y)) z_is, ap (λ (y : P). m.contacts (state y)) z_is)
+      ] in
       record {
         few = subst (λ j. j ≤ 64) (sym new_long) lags.few;
         may = λ k z e ez ee. let h = after_is k (before k z ez).0 z (before k z ez).1 ez in record { not_later = h.stands.not_later; count = h.count; quiet = h.stands.quiet; first = due k z e ez ee };
         valid = λ k z ez. (after_is k (before k z ez).0 z (before k z ez).1 ez).stands.valid;
         dues_long = length-set kept.dues who d ∙ lags.dues_long ∙ sym new_long;
         answers_long = lags.answers_long ∙ sym new_long;
-        held_long = lags.held_long;
+        moved_long = length-set kept.moved who changed ∙ lags.moved_long ∙ sym new_long;
         fits = fits_room m w (map state parts) (map state new) longer same_room lags.fits;
         suits = lags.suits;
         chips_long = lags.chips_long ∙ chips_room m w.chip (map state parts) (map state new) longer same_room;
-        fresh = λ none. still_of m w state parts new kept.seen new_long (λ k p z ep ez. elim (eqb_tells k who) [
-          | inl e ↦
-              let z_is : q0 ≡ z = some_same (sym (get_set_same parts who q0 inside) ∙ subst (λ (j : ℕ). slice_get new j ≡ Some z) e.1 ez) in
-              let p_is : p0 ≡ p = some_same (sym here ∙ subst (λ (j : ℕ). slice_get parts j ≡ Some p) e.1 ep) in (
-                ap (λ (y : P). m.drives (state y)) (sym z_is) ∙ drives none ∙ sym was.drives ∙ ap (λ (y : P). m.drives (state y)) p_is,
-                ap (λ (y : P). m.contacts (state y)) (sym z_is) ∙ contacts none ∙ sym was.contacts ∙ ap (λ (y : P). m.contacts (state y)) p_is,
-              )
-          | inr e ↦
-              let z_is : z ≡ p = some_same (sym ez ∙ get_set_other parts who k q0 e.1 ∙ ep) in
-              (ap (λ (y : P). m.drives (state y)) z_is, ap (λ (y : P). m.contacts (state y)) z_is)
-        ]) (lags.fresh fresh);
+        fresh = λ none. still_of m w state parts new kept.seen new_long (λ k p z ep ez. stays k p z ep ez (λ _. none)) (lags.fresh fresh);
+        unset = λ none k b eb. elim (eqb_tells k who) [
+          | inl e ↦ some_same (sym eb ∙ ap (slice_get (slice_set kept.moved who changed)) e.1 ∙ get_set_same kept.moved who changed space) ∙ none
+          | inr e ↦ lags.unset fresh k b (sym (get_set_other kept.moved who k changed e.1) ∙ eb)
+        ];
+        read = read_on m (map state parts) (map state new) (slice_set kept.moved who changed) kept.seen.circuit longer same_room (λ k x y ex ey none.
+            let a = get_map_some state parts k x ex in
+            let b = get_map_some state new k y ey in
+            let h = stays k a.0 b.0 a.1 b.1 (λ e. some_same (sym (get_set_same kept.moved who changed space) ∙ ap (slice_get (slice_set kept.moved who changed)) (sym e) ∙ none)) in
+            (ap m.drives (sym b.2) ∙ h.0 ∙ ap m.drives a.2, ap m.contacts (sym b.2) ∙ h.1 ∙ ap m.contacts a.2))
+            (of_read m (map state parts) (slice_set kept.moved who changed) kept.seen.circuit (lags.fresh fresh).drives_are (lags.fresh fresh).closed_are);
         holds = λ k z ez later.
             let x = before k z ez in
             let h = after_is k x.0 z x.1 ez in
-            h.held ∙ lags.holds k x.0 x.1 after ∙ ap (λ (i : ℕ). own_part w k i kept.held) h.pins;
-        same = λ none k z ez.
-            let x = before k z ez in
-            let h = after_is k x.0 z x.1 ez in
-            h.held ∙ lags.same fresh k x.0 x.1 ∙ ap (λ (i : ℕ). map (level_at kept.seen.levels) (own_nets w k i)) h.pins;
+            h.held ∙ lags.holds k x.0 x.1 after ∙ ap (λ (i : ℕ). map (level_at kept.seen.circuit.levels) (own_nets w k i)) h.pins;
       }
 
 -- a script whose next value is not before the limit
@@ -280,7 +289,7 @@ module _ {S P : Type 0} (m : Machine S) (laws : Laws m) (w : Wiring) (state : P 
   pub alone_goes : (t u limit : ℕ) (parts new : List P) (kept : Kept) (after : List (Option ℕ)) (changed : Bool) (steps more who : ℕ) (p q : P) (d : Option ℕ) →
       Lags m w state now wakes t parts kept → kept.stale ≡ false → 0 < t → u ≤ limit → limit ≤ 160000000 → IsAlone inputs kept.dues kept.input who t limit →
       WentAlone m state now wakes who t u parts new kept.dues after changed steps more p q d →
-      Goes t u parts new kept (record { input = kept.input; stale = changed; dues = after; held = kept.held; seen = kept.seen; answers = kept.answers }) steps more (sent m (glided m state now wakes t p) t (u - t))
+      Goes t u parts new kept (record { input = kept.input; stale = changed; dues = after; moved = slice_set kept.moved who changed; seen = kept.seen; answers = kept.answers }) steps more (sent m (glided m state now wakes t p) t (u - t))
   alone_goes t u limit parts new kept after changed steps more who p q d lags fresh later within end alone went =
       let further = went.further in
       let order : t ≤ u = omega (arith, further) in
@@ -290,11 +299,11 @@ module _ {S P : Type 0} (m : Machine S) (laws : Laws m) (w : Wiring) (state : P 
       let ed : slice_get kept.dues k ≡ Some (get_or kept.dues k None) = get_within kept.dues k None inside in
       quiet_until m state now wakes t u (get_or kept.dues k None) x order last (lags.may k x (get_or kept.dues k None) ex ed) (λ v e l. let far = alone.others k v other (ed ∙ ap Some e) in omega (arith, far, within)) in
       let silent : (v k : ℕ) → t ≤ v → v < u → input_at inputs v k ≡ None = λ v k from before. alone.silent v k from (omega (arith, before, within)) in
-      let here : Goes t u parts (slice_set parts who q) kept (record { input = kept.input; stale = changed; dues = slice_set kept.dues who d; held = kept.held; seen = kept.seen; answers = kept.answers }) steps more (sent m (glided m state now wakes t p) t (u - t)) = record {
+      let here : Goes t u parts (slice_set parts who q) kept (record { input = kept.input; stale = changed; dues = slice_set kept.dues who d; moved = slice_set kept.moved who changed; seen = kept.seen; answers = kept.answers }) steps more (sent m (glided m state now wakes t p) t (u - t)) = record {
         leg = alone_leg m laws w state now wakes inputs t u parts kept lags fresh later order who p q went.here quiet silent went.same went.state_is went.now_is went.woken_is steps more went.steps_are;
         lags = alone_lags m laws w state now wakes inputs t u parts kept lags fresh later order who p q went.here quiet silent went.same went.state_is went.now_is went.woken_is changed d went.first went.drives went.contacts;
         row_none = alone_rows m laws w state now wakes inputs t u parts kept lags fresh later order who p q went.here quiet silent went.same went.state_is went.now_is went.woken_is;
         bytes_are = alone_bytes m laws w state now wakes inputs t u parts kept lags fresh later order who p q went.here quiet silent went.same went.state_is went.now_is went.woken_is;
       } in
-      subst (λ (xs : List P). Goes t u parts xs kept (record { input = kept.input; stale = changed; dues = after; held = kept.held; seen = kept.seen; answers = kept.answers }) steps more (sent m (glided m state now wakes t p) t (u - t))) (sym went.new_is)
-      (subst (λ (ds : List (Option ℕ)). Goes t u parts (slice_set parts who q) kept (record { input = kept.input; stale = changed; dues = ds; held = kept.held; seen = kept.seen; answers = kept.answers }) steps more (sent m (glided m state now wakes t p) t (u - t))) (sym went.dues_are) here)
+      subst (λ (xs : List P). Goes t u parts xs kept (record { input = kept.input; stale = changed; dues = after; moved = slice_set kept.moved who changed; seen = kept.seen; answers = kept.answers }) steps more (sent m (glided m state now wakes t p) t (u - t))) (sym went.new_is)
+      (subst (λ (ds : List (Option ℕ)). Goes t u parts (slice_set parts who q) kept (record { input = kept.input; stale = changed; dues = ds; moved = slice_set kept.moved who changed; seen = kept.seen; answers = kept.answers }) steps more (sent m (glided m state now wakes t p) t (u - t))) (sym went.dues_are) here)

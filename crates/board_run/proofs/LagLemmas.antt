@@ -1,6 +1,6 @@
 -- A cycle in which the active parts are woken is a leg of the way.
-use Rattle.std.proofs.Common.{◌≡◌, ℕ, zero, suc, ◌+◌, ◌-◌, ◌<◌, ◌≤◌, List, length, map, take, drop, Bool, false, Option, None, Some, refl, ap, sym, ◌∙◌, arith, subst, get_or}
-use Rattle.std.specs.Prelude.{if◌then◌else◌, slice_get, slice_index}
+use Rattle.std.proofs.Common.{◌≡◌, ℕ, zero, suc, ◌+◌, ◌-◌, ◌<◌, ◌≤◌, List, length, map, take, drop, Bool, true, false, Option, None, Some, refl, ap, sym, ◌∙◌, arith, subst, get_or}
+use Rattle.std.specs.Prelude.{◌≢◌, not, if◌then◌else◌, slice_get, slice_index}
 use Rattle.std.proofs.lemmas.Option.{slice_get_within}
 use Rattle.std.proofs.lemmas.List.{length-map}
 use Rattle.sim_base.specs.declared.signal.Level.{Level}
@@ -8,17 +8,18 @@ use Rattle.sim_base.specs.declared.wiring.Wiring.{Wiring}
 use Rattle.sim_base.specs.declared.wiring.Input.{Input}
 use Rattle.part_law.specs.Machine.{Machine, Laws}
 use Rattle.board_model.specs.Board.{level_at, own_nets, levels_of, part_step, steps_from, board_step, states, bytes_of, bytes, options}
-use Rattle.board_model.specs.Rows.{Shown, shown_before, row_if, rows}
+use Rattle.board_model.specs.Rows.{Shown, same_list, same_level, shown_before, row_if, rows}
 use Rattle.board_model.specs.Fits.{Fits}
 use Rattle.board_model.proofs.Lists.{all_taken, take_whole, some_same, get_within, get_map_some, some_map, same_lists}
 use Rattle.board_laws.specs.Alike.{Alike, SameShow}
 use Rattle.board_laws.specs.Active.{sum_below, active_in, active_cycles, active_pairs}
 use Rattle.board_laws.specs.Stands.{Stands}
+use Rattle.board_laws.proofs.AlikeLemmas.{alike_weaker, flat_map_alike}
 use Rattle.board_laws.proofs.BesideLaw.{same_levels, same_shown, same_drives, same_row, same_chips}
 use Rattle.board_model.proofs.Steps.{length-steps_from}
 use Rattle.board_model.proofs.RoomLemmas.{SameRoom, fits_room, chips_room}
 use Rattle.board_laws.proofs.StandsLaw.{stands_shows, stands_holds}
-use Rattle.board_run.specs.Seen.{Seen, Suits, IsOf, shown, shown_at}
+use Rattle.board_run.specs.Seen.{Seen, Suits, IsOf, AreUnset, AreDiffering, levels_on, shown, shown_at}
 use Rattle.board_run.specs.Upcoming.{AreBehind}
 use Rattle.board_run.specs.Lagging.{glided, Awaits, Turns, AreDue, own_part}
 use Rattle.board_run.specs.Legs.{Kept, Lags, Leg}
@@ -26,7 +27,9 @@ use Rattle.board_run.proofs.ScriptLemmas.{values_now}
 use Rattle.board_run.proofs.ShowLemmas.{shown_is}
 use Rattle.board_run.proofs.WakeLemmas.{own_levels}
 use Rattle.board_run.proofs.ShowLemmas.{still_of, not_first}
+use Rattle.board_run.proofs.ReadLemmas.{of_read, read_on}
 use Rattle.board_run.proofs.TurnLemmas.{turns_stand}
+use Rattle.board_model.proofs.SameLemmas.{level_same, list_same}
 
 sum_first : (x : ℕ) → x ≡ 0 + x
 sum_first x = omega arith
@@ -71,6 +74,7 @@ module _ {S P : Type 0} (m : Machine S) (laws : Laws m) (w : Wiring) (state : P 
   pub lag_of : (parts : List P) (ts : List S) (seen : Seen) → Alike (λ k a b. SameShow m m a b) (map state parts) ts → IsOf m w (map state parts) seen → IsOf m w ts seen
   lag_of parts ts seen like is = record {
     drives_are = is.drives_are ∙ same_drives m m w (map state parts) ts like;
+    closed_are = is.closed_are ∙ flat_map_alike m.contacts m.contacts (map state parts) ts (alike_weaker (λ k a b. SameShow m m a b) (λ k a b. m.contacts a ≡ m.contacts b) (map state parts) ts like (λ k a b ea eb s. s.contacts));
     levels_are = is.levels_are ∙ same_levels m m w (map state parts) ts like;
     chips_are = is.chips_are ∙ same_chips m m w (map state parts) ts like;
   }
@@ -82,26 +86,40 @@ module _ {S P : Type 0} (m : Machine S) (laws : Laws m) (w : Wiring) (state : P 
       cc
 
   -- the parts are awaited at the board's states
-  pub lags_await : (inputs : List Input) (t i j : ℕ) (parts : List P) (kept : Kept) (seen : Seen) → Lags m w state now wakes t parts kept → Suits w seen → i ≤ j → AreBehind inputs i t → AreBehind inputs j (t + 1) →
-      Awaits m w state now (take (j - i) (drop i inputs)) inputs seen.levels seen.own kept.held t parts (Ts t parts)
-  lags_await inputs t i j parts kept seen lags suits on before after =
+  pub lags_await : (inputs : List Input) (t i j : ℕ) (parts : List P) (kept : Kept) (seen : Seen) (flags : List Bool) → Lags m w state now wakes t parts kept → Suits w seen →
+      AreDiffering m w kept.seen.circuit.levels seen.circuit.levels (map state parts) flags → i ≤ j → AreBehind inputs i t → AreBehind inputs j (t + 1) →
+      Awaits m w state now (take (j - i) (drop i inputs)) inputs seen.circuit.levels seen.own flags t parts (Ts t parts)
+  lags_await inputs t i j parts kept seen flags lags suits differ on before after =
       let like = lags_stand t parts kept lags in
       record {
         stands = like;
         own_are = suits.own_are;
-        holds = λ k s es later.
+        differ = λ k s b es eb later.
             let r = get_map_some (glided m state now wakes t) parts k s es in
             let stands = like.each k r.0 s r.1 es in
-            stands_holds m laws t (now r.0) (state r.0) s stands ∙ lags.holds k r.0 r.1 later
-            ∙ ap (λ n. own_part w k n kept.held) (ap length (stands_shows m laws t (now r.0) (state r.0) s stands).drives);
+            let pins = ap length (stands_shows m laws t (now r.0) (state r.0) s stands).drives in
+            let d = differ k (state r.0) b (some_map state parts k r.0 r.1) eb in
+            let held : m.held s ≡ levels_on m w kept.seen.circuit.levels k (state r.0) = stands_holds m laws t (now r.0) (state r.0) s stands ∙ lags.holds k r.0 r.1 later in
+            d ∙ ap (λ (n : ℕ). not (same_list same_level (map (level_at seen.circuit.levels) (own_nets w k n)) (levels_on m w kept.seen.circuit.levels k (state r.0)))) pins
+            ∙ ap (λ (l : List Level). not (same_list same_level (levels_on m w seen.circuit.levels k s) l)) (sym held);
         values = λ k. values_now inputs i j t k on before after;
       }
 
-  module _ (inputs : List Input) (t : ℕ) (old new : List P) (seen : Seen) (answers : List (Option ℕ)) (changed : Bool) (long : length new ≡ length old)
+  -- a part whose flag is set does not hold the levels of its pins
+  pub lags_differ : (t : ℕ) (parts : List P) (kept : Kept) (seen : Seen) (flags : List Bool) → Lags m w state now wakes t parts kept → Suits w seen → AreDiffering m w kept.seen.circuit.levels seen.circuit.levels (map state parts) flags →
+      (k : ℕ) (p : P) → slice_get parts k ≡ Some p → slice_get flags k ≡ Some true → 0 < t → m.held (state p) ≢ own_part w k (length (m.drives (state p))) seen.own
+  lags_differ t parts kept seen flags lags suits differ k p ep set later same =
+      let d = differ k (state p) true (some_map state parts k p ep) set in
+      let now_is : own_part w k (length (m.drives (state p))) seen.own ≡ levels_on m w seen.circuit.levels k (state p) = own_levels w seen.circuit.levels seen.own k (slice_index w.first_pin k) (length (m.drives (state p))) suits.own_are refl in
+      let alike : levels_on m w kept.seen.circuit.levels k (state p) ≡ levels_on m w seen.circuit.levels k (state p) = sym (lags.holds k p ep later) ∙ same ∙ now_is in
+      let e : true ≡ false = d ∙ ap (λ (l : List Level). not (same_list same_level (levels_on m w seen.circuit.levels k (state p)) l)) alike ∙ ap not (list_same same_level level_same (levels_on m w seen.circuit.levels k (state p))) in
+      cc
+
+  module _ (inputs : List Input) (t : ℕ) (old new : List P) (seen : Seen) (answers : List (Option ℕ)) (flags : List Bool) (long : length new ≡ length old)
       (is : IsOf m w (map state old) seen) (suits : Suits w seen) (like : Alike (λ k p s. Stands m t (now p) (state p) s) old (Ts t old))
-      (turns : Turns m w inputs state now wakes seen.levels t (Ts t old) (length old) old new answers changed) where
+      (turns : Turns m w inputs state now wakes seen.circuit.levels t (Ts t old) (length old) old new answers flags) where
     abbrev Us : List S
-    Us = map (λ r. r.0) (steps_from m w inputs seen.levels t 0 (Ts t old))
+    Us = map (λ r. r.0) (steps_from m w inputs seen.circuit.levels t 0 (Ts t old))
 
     of_board : IsOf m w (Ts t old) seen
     of_board = lag_of old (Ts t old) seen (stand_show t old (Ts t old) like) is
@@ -110,20 +128,20 @@ module _ {S P : Type 0} (m : Machine S) (laws : Laws m) (w : Wiring) (state : P 
     us_are = ap (λ (ls : List Level). map (λ (r : S × Option ℕ). r.0) (steps_from m w inputs ls t 0 (Ts t old))) of_board.levels_are
 
     stands_after : Alike (λ k q u. Stands m (t + 1) (now q) (state q) u) new Us
-    stands_after = turns_stand m laws w inputs state now wakes seen.levels t (Ts t old) old new answers changed (length old) (omega arith) long like.long turns
+    stands_after = turns_stand m laws w inputs state now wakes seen.circuit.levels t (Ts t old) old new answers flags (length old) (omega arith) long like.long turns
 
     next_states : Ts (t + 1) new ≡ board_step m w inputs (Ts t old) t
     next_states = stand_are (t + 1) new Us stands_after ∙ us_are
 
     -- a part after its turn, with what it was
     record Turned (k : ℕ) (p q : P) : Type 0 where
-      stands : Stands m (t + 1) (now q) (state q) (part_step m w inputs seen.levels t k (glided m state now wakes t p)).0
-      woken : wakes q ≡ wakes p + active_in m w inputs seen.levels t k (Some (glided m state now wakes t p))
+      stands : Stands m (t + 1) (now q) (state q) (part_step m w inputs seen.circuit.levels t k (glided m state now wakes t p)).0
+      woken : wakes q ≡ wakes p + active_in m w inputs seen.circuit.levels t k (Some (glided m state now wakes t p))
       count : wakes q ≤ now q
       pins : length (m.drives (state p)) ≡ length (m.drives (state q))
       contacts : length (m.contacts (state p)) ≡ length (m.contacts (state q))
-      held : m.held (state q) ≡ map (level_at seen.levels) (own_nets w k (length (m.drives (state q))))
-      still : changed ≡ false → (m.drives (state q) ≡ m.drives (state p)) × (m.contacts (state q) ≡ m.contacts (state p))
+      held : m.held (state q) ≡ map (level_at seen.circuit.levels) (own_nets w k (length (m.drives (state q))))
+      still : slice_get flags k ≡ Some false → (m.drives (state q) ≡ m.drives (state p)) × (m.contacts (state q) ≡ m.contacts (state p))
 
     turned_from : (k : ℕ) (p q : P) → slice_get old k ≡ Some p → slice_get new k ≡ Some q → Turned k p q
     turned_from k p q ep eq =
@@ -131,7 +149,7 @@ module _ {S P : Type 0} (m : Machine S) (laws : Laws m) (w : Wiring) (state : P 
         let within : k < length old = slice_get_within old k p ep in
         let es : slice_get (Ts t old) k ≡ Some s = some_map (glided m state now wakes t) old k p ep in
         let d = turns.done k p q s within ep eq es in
-        let next = (part_step m w inputs seen.levels t k s).0 in
+        let next = (part_step m w inputs seen.circuit.levels t k s).0 in
         let was = stands_shows m laws t (now p) (state p) s (like.each k p s ep es) in
         let shows = stands_shows m laws (t + 1) (now q) (state q) next d.0 in
         let pins : length (m.drives (state q)) ≡ length (m.drives s) = ap length shows.drives ∙ laws.keeps_pins s t _ _ in
@@ -141,8 +159,8 @@ module _ {S P : Type 0} (m : Machine S) (laws : Laws m) (w : Wiring) (state : P 
           count = d.2;
           pins = ap length was.drives ∙ sym pins;
           contacts = ap length was.contacts ∙ sym (laws.keeps_contacts s t _ _) ∙ sym (ap length shows.contacts);
-          held = sym (stands_holds m laws (t + 1) (now q) (state q) next d.0) ∙ laws.holds_levels s t _ _ ∙ ap (λ (n : ℕ). map (level_at seen.levels) (own_nets w k n)) (sym pins);
-          still = λ none. let still = turns.still none k s within es in (shows.drives ∙ still.drives ∙ sym was.drives, shows.contacts ∙ still.contacts ∙ sym was.contacts);
+          held = sym (stands_holds m laws (t + 1) (now q) (state q) next d.0) ∙ laws.holds_levels s t _ _ ∙ ap (λ (n : ℕ). map (level_at seen.circuit.levels) (own_nets w k n)) (sym pins);
+          still = λ none. let still = turns.still k s within es none in (shows.drives ∙ still.drives ∙ sym was.drives, shows.contacts ∙ still.contacts ∙ sym was.contacts);
         }
 
     before : (k : ℕ) (q : P) → slice_get new k ≡ Some q → (p : P) × (slice_get old k ≡ Some p)
@@ -160,9 +178,9 @@ module _ {S P : Type 0} (m : Machine S) (laws : Laws m) (w : Wiring) (state : P 
         )
 
     -- the invariant at the next cycle
-    pub event_lags : (j : ℕ) (dues : List (Option ℕ)) → length old ≤ 64 → Fits m w (map state old) → length dues ≡ length old → length answers ≡ length old → AreDue m state now wakes new dues →
-        Lags m w state now wakes (t + 1) new (record { input = j; stale = changed; dues = dues; held = seen.own; seen = seen; answers = answers })
-    event_lags j dues few fits dues_long answers_long due =
+    pub event_lags : (j : ℕ) (dues : List (Option ℕ)) (changed : Bool) → length old ≤ 64 → Fits m w (map state old) → length dues ≡ length old → length answers ≡ length old → length flags ≡ length old → AreDue m state now wakes new dues →
+        (changed ≡ false → AreUnset flags) → Lags m w state now wakes (t + 1) new (record { input = j; stale = changed; dues = dues; moved = flags; seen = seen; answers = answers })
+    event_lags j dues changed few fits dues_long answers_long flags_long due unset =
         let longer : length (map state old) ≡ length (map state new) = simp length-map (sym long) in
         record {
           few = subst (λ n. n ≤ 64) (sym long) few;
@@ -172,19 +190,25 @@ module _ {S P : Type 0} (m : Machine S) (laws : Laws m) (w : Wiring) (state : P 
           valid = λ k q eq. (turned_from k (before k q eq).0 q (before k q eq).1 eq).stands.valid;
           dues_long = dues_long ∙ sym long;
           answers_long = answers_long ∙ sym long;
-          held_long = ap length suits.own_are ∙ simp length-map refl;
+          moved_long = flags_long ∙ sym long;
           fits = fits_room m w (map state old) (map state new) longer same_room fits;
           suits = suits;
           chips_long = ap length is.chips_are ∙ chips_room m w.chip (map state old) (map state new) longer same_room;
-          fresh = λ none. still_of m w state old new seen long (λ k p q ep eq. (turned_from k p q ep eq).still none) is;
-          holds = λ k q eq later.
-              (turned_from k (before k q eq).0 q (before k q eq).1 eq).held
-              ∙ sym (own_levels w seen.levels seen.own k (slice_index w.first_pin k) (length (m.drives (state q))) suits.own_are refl);
-          same = λ none k q eq. (turned_from k (before k q eq).0 q (before k q eq).1 eq).held;
+          fresh = λ none. still_of m w state old new seen long (λ k p q ep eq.
+              let inside : k < length flags = omega (arith, slice_get_within old k p ep, flags_long) in
+              let flag = get_within flags k false inside in
+              (turned_from k p q ep eq).still (flag ∙ ap Some (unset none k (get_or flags k false) flag))) is;
+          unset = unset;
+          read = read_on m (map state old) (map state new) flags seen.circuit longer same_room (λ k x y ex ey none.
+              let a = get_map_some state old k x ex in
+              let b = get_map_some state new k y ey in
+              let f = (turned_from k a.0 b.0 a.1 b.1).still none in
+              (ap m.drives (sym b.2) ∙ f.0 ∙ ap m.drives a.2, ap m.contacts (sym b.2) ∙ f.1 ∙ ap m.contacts a.2)) (of_read m (map state old) flags seen.circuit is.drives_are is.closed_are);
+          holds = λ k q eq later. (turned_from k (before k q eq).0 q (before k q eq).1 eq).held;
         }
 
     -- and the leg
-    pub event_leg : (was : Seen) (steps more : ℕ) → more ≡ steps + sum_below (length old) (λ k. active_in m w inputs seen.levels t k (slice_get (Ts t old) k)) →
+    pub event_leg : (was : Seen) (steps more : ℕ) → more ≡ steps + sum_below (length old) (λ k. active_in m w inputs seen.circuit.levels t k (slice_get (Ts t old) k)) →
         Leg m w state now wakes inputs t (t + 1) old new was seen steps more
     unfolding states shown_before
     event_leg was steps more counted =
@@ -206,7 +230,7 @@ module _ {S P : Type 0} (m : Machine S) (laws : Laws m) (w : Wiring) (state : P 
               ∙ ap (λ (n : ℕ). wakes p + n) (sum_first _)
               ∙ ap (λ (n : ℕ). wakes p + active_cycles m w inputs ts t n k) (sym e);
           steps_are = counted
-              ∙ ap (λ (n : ℕ). steps + sum_below n (λ k. active_in m w inputs seen.levels t k (slice_get ts k))) like.long
+              ∙ ap (λ (n : ℕ). steps + sum_below n (λ k. active_in m w inputs seen.circuit.levels t k (slice_get ts k))) like.long
               ∙ ap (λ (ls : List Level). steps + sum_below (length ts) (λ k. active_in m w inputs ls t k (slice_get ts k))) of_board.levels_are
               ∙ ap (λ (u : ℕ). steps + sum_below (length ts) (λ k. active_in m w inputs (levels_of m w ts) u k (slice_get ts k))) (sym f)
               ∙ ap (λ (n : ℕ). steps + n) (sum_first _)
@@ -231,7 +255,7 @@ module _ {S P : Type 0} (m : Machine S) (laws : Laws m) (w : Wiring) (state : P 
         ∙ ap (λ (ls : List Level). options (map (λ (r : S × Option ℕ). r.1) (steps_from m w inputs ls t 0 (Ts t old)))) of_board.levels_are
         ∙ ap (bytes_of m w inputs (Ts t old)) (sym f) ∙ ap (bytes m w inputs (Ts t old) t) (sym e)
       where
-        answers_are : answers ≡ map (λ r. r.1) (steps_from m w inputs seen.levels t 0 (Ts t old))
+        answers_are : answers ≡ map (λ r. r.1) (steps_from m w inputs seen.circuit.levels t 0 (Ts t old))
         answers_are =
-            let there : length (map (λ (r : S × Option ℕ). r.1) (steps_from m w inputs seen.levels t 0 (Ts t old))) ≡ length old = simp (length-map, length-steps_from) in
+            let there : length (map (λ (r : S × Option ℕ). r.1) (steps_from m w inputs seen.circuit.levels t 0 (Ts t old))) ≡ length old = simp (length-map, length-steps_from) in
             all_taken (length old) answers _ (omega arith) (turns.answered ∙ take_whole (length old) _ (omega (arith, there)))

@@ -3,6 +3,7 @@ pub mod StepLemmas
 pub mod HandLemmas
 pub mod ScriptLemmas
 pub mod WakeLemmas
+pub mod ReadLemmas
 pub mod ShowLemmas
 pub mod GateLemmas
 pub mod TurnLemmas

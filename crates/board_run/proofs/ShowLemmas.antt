@@ -13,7 +13,7 @@ use Rattle.part_law.specs.Machine.{Machine}
 use Rattle.board_model.specs.Resolve.{resolve}
 use Rattle.board_model.specs.Board.{drives_of, contacts_of, levels_of, level_at, bytes_of, states, bytes}
 use Rattle.board_model.specs.Rows.{Shown, same_level, same_drive, same_list, same_shown, chip_drives_of, shown_of, is_new, row_if, shown_before, rows}
-use Rattle.board_model.proofs.Lists.{get_map_some, flat_map_same}
+use Rattle.board_model.proofs.Lists.{some_same, get_map_some, flat_map_same}
 use Rattle.board_model.proofs.SameLemmas.{level_same, drive_same, list_same}
 use Rattle.board_run.specs.Seen.{Seen, IsOf, AreStill, shown, shown_at}
 use Rattle.board_run.specs.Upcoming.{AreBehind}
@@ -27,7 +27,7 @@ shown_is m w ss seen is = let a = is.levels_are in let b = is.chips_are in cc
 pub fresh_same : {S : Type 0} (m : Machine S) (w : Wiring) (ss : List S) (seen : Seen) → IsOf m w ss seen → true ≡ same_shown (shown seen) (shown_of m w ss)
 fresh_same m w ss seen is = sym (
     ap (same_shown (shown seen)) (sym (shown_is m w ss seen is))
-    ∙ ap (λ (b : Bool). b && same_list same_drive seen.chip_drives seen.chip_drives) (list_same same_level level_same seen.levels)
+    ∙ ap (λ (b : Bool). b && same_list same_drive seen.chip_drives seen.chip_drives) (list_same same_level level_same seen.circuit.levels)
     ∙ list_same same_drive drive_same seen.chip_drives)
 
 -- whether a cycle has a row
@@ -40,11 +40,11 @@ new_is t seen now same e = go (t == 0) refl
 
 -- the row that is handed out
 pub row_is : {S : Type 0} (m : Machine S) (w : Wiring) (ss : List S) (t : ℕ) (old new : Seen) (there same : Bool) → there ≡ ((t == 0) || not same) → same ≡ same_shown (shown old) (shown_of m w ss) → IsOf m w ss new →
-    ◌≡◌ {A = List Row} (if there then record { cycle = t; levels = new.levels; drives = new.drives } ∷ [] else []) (row_if m w (shown_at t old) ss t)
+    ◌≡◌ {A = List Row} (if there then record { cycle = t; levels = new.circuit.levels; drives = new.circuit.drives } ∷ [] else []) (row_if m w (shown_at t old) ss t)
 row_is m w ss t old new there same e f is =
     let rows_of : Bool → List Level → List Drive → List Row = λ b l d. if b then record { cycle = t; levels = l; drives = d } ∷ [] else [] in
-    ap (λ (b : Bool). rows_of b new.levels new.drives) (e ∙ new_is t old (shown_of m w ss) same f)
-    ∙ ap (λ (l : List Level). rows_of (is_new (shown_at t old) (shown_of m w ss)) l new.drives) is.levels_are
+    ap (λ (b : Bool). rows_of b new.circuit.levels new.circuit.drives) (e ∙ new_is t old (shown_of m w ss) same f)
+    ∙ ap (λ (l : List Level). rows_of (is_new (shown_at t old) (shown_of m w ss)) l new.circuit.drives) is.levels_are
     ∙ ap (λ (d : List Drive). rows_of (is_new (shown_at t old) (shown_of m w ss)) (levels_of m w ss) d) is.drives_are
 
 -- levels that are all Z are those of pins on nets that are all Z
@@ -60,9 +60,15 @@ own_first n (k ∷ nets) =
     all_z (suc n) zero = refl
     all_z (suc n) (suc k) = all_z n k
 
-pub long_first : (n : ℕ) → length (replicate n levels.Z) ≡ n
-long_first zero = refl
-long_first (suc n) = ap suc (long_first n)
+pub long_all : {A : Type 0} (x : A) (n : ℕ) → length (replicate n x) ≡ n
+long_all x zero = refl
+long_all x (suc n) = ap suc (long_all x n)
+
+-- one of many that are the same
+pub get_all : (n k : ℕ) (x b : Bool) → slice_get (replicate n x) k ≡ Some b → b ≡ x
+get_all zero k x b e = absurd cc
+get_all (suc n) zero x b e = sym (some_same e)
+get_all (suc n) (suc k) x b e = get_all n k x b e
 
 -- parts that are still have the same drives and contacts
 still_same : {S P B : Type 0} (f : S → List B) (state : P → S) (old new : List P) → length new ≡ length old →
@@ -90,6 +96,7 @@ still_of m w state old new seen long still is =
     let c = still_same m.contacts state old new long (λ k p q ep eq. (still k p q ep eq).1) in
     record {
       drives_are = is.drives_are ∙ sym d;
+      closed_are = is.closed_are ∙ sym c;
       levels_are = is.levels_are
           ∙ ap (λ (x : List Drive). resolve w.nets w.net_of w.contacts w.resistors (contacts_of m (map state old)) x) (sym d)
           ∙ ap (λ (x : List Bool). resolve w.nets w.net_of w.contacts w.resistors x (drives_of m (map state new))) (sym c);

@@ -17,11 +17,11 @@ use Rattle.board_laws.proofs.StandsLaw.{stands_here, stands_shows, stands_valid,
 use Rattle.std.proofs.lemmas.Option.{slice_get_within}
 use Rattle.std.proofs.lemmas.List.{length-map}
 use Rattle.board_model.proofs.Lists.{some_same, lt_or_eq, get_set_same, get_set_other, get_within, get_map_some, take_set_more}
-use Rattle.board_model.proofs.SameLemmas.{level_same, list_same}
 use Rattle.board_model.proofs.Steps.{length-steps_from, get_step}
 use Rattle.board_run.proofs.StepLemmas.{get_answer}
-use Rattle.board_run.proofs.WakeLemmas.{or_none, own_of}
-use Rattle.board_run.specs.Lagging.{is_at, to_wake, own_part, glided, MayTurn, turned, Awaits, HadTurn, Turns, AreDue}
+use Rattle.board_run.proofs.WakeLemmas.{own_of}
+use Rattle.board_run.specs.Seen.{levels_on}
+use Rattle.board_run.specs.Lagging.{is_at, to_wake, glided, MayTurn, turned, Awaits, HadTurn, Turns, AreDue}
 
 zero_or_more : (t : ℕ) → (t ≡ 0) ⊎ (0 < t)
 zero_or_more t = grind arith
@@ -48,9 +48,9 @@ not_at (Some u) t h = elim (eqb_tells u t) [
 ]
 
 -- a part that is to be woken may be woken
-pub may_wake : {S P : Type 0} (m : Machine S) (laws : Laws m) (state : P → S) (now wakes : P → ℕ) (t : ℕ) (p : P) (due input : Option ℕ) (own held : List Level) →
-    MayTurn m state now wakes t due p → (0 < t → m.held (state p) ≡ held) → to_wake due t input own held ≡ true → MayWake m (glided m state now wakes t p) t own input
-may_wake m laws state now wakes t p due input own held may holds wake asleep none same = elim (zero_or_more t) [
+pub may_wake : {S P : Type 0} (m : Machine S) (laws : Laws m) (state : P → S) (now wakes : P → ℕ) (t : ℕ) (p : P) (due input : Option ℕ) (own : List Level) (differs : Bool) →
+    MayTurn m state now wakes t due p → (differs ≡ true → 0 < t → m.held (state p) ≢ own) → to_wake due t input differs ≡ true → MayWake m (glided m state now wakes t p) t own input
+may_wake m laws state now wakes t p due input own differs may other wake asleep none same = elim (zero_or_more t) [
   | inl first ↦
       let d : m.due (glided m state now wakes t p) t ≡ true = subst (λ (u : ℕ). m.due (glided m state now wakes t p) u ≡ true) (sym first) (laws.begins_due _) in
       absurd cc
@@ -58,37 +58,31 @@ may_wake m laws state now wakes t p due input own held may holds wake asleep non
       let here : is_at due t ≡ false = not_at due t (λ e.
       let d : m.due (glided m state now wakes t p) t ≡ true = due_now m (state p) (now p) t (subst (λ (o : Option ℕ). IsFirstDue m (state p) (now p) o) e may.first) in
       cc) in
-      let levels : own ≡ held = sym same ∙ glide_holds m laws (state p) (now p) (t - now p) ∙ holds after in
-      let alike : same_list same_level own held ≡ true = ap (same_list same_level own) (sym levels) ∙ list_same same_level level_same own in
-      let asleep : to_wake due t input own held ≡ false =
-      ap (λ (b : Bool). b || (is_some input || not (same_list same_level own held))) here
-      ∙ ap (λ (i : Option ℕ). is_some i || not (same_list same_level own held)) none
-      ∙ ap not alike in
-      absurd cc
+      let d : differs ≡ true = sym (ap (λ (b : Bool). b || (is_some input || differs)) here ∙ ap (λ (i : Option ℕ). is_some i || differs) none) ∙ wake in
+      absurd (other d after (sym (glide_holds m laws (state p) (now p) (t - now p)) ∙ same))
 ]
 
 module _ {S P : Type 0} (m : Machine S) (laws : Laws m) (w : Wiring) (inputs : List Input) (state : P → S) (now wakes : P → ℕ) (ls : List Level) (t k : ℕ) where
   -- whether it is woken is whether it is active
-  pub wake_is : (p : P) (s : S) (due input : Option ℕ) (own held : List Level) → t < 160000000 → MayTurn m state now wakes t due p → Stands m t (now p) (state p) s →
-      own ≡ map (level_at ls) (own_nets w k (length (m.drives s))) → (0 < t → held ≡ m.held s) → input ≡ input_at inputs t k → to_wake due t input own held ≡ is_active m w inputs ls t k s
-  wake_is p s due input own held end may stands is_own is_held is_input = elim (zero_or_more t) [
+  pub wake_is : (p : P) (s : S) (due input : Option ℕ) (differs : Bool) → t < 160000000 → MayTurn m state now wakes t due p → Stands m t (now p) (state p) s →
+      (0 < t → differs ≡ not (same_list same_level (levels_on m w ls k s) (m.held s))) → input ≡ input_at inputs t k → to_wake due t input differs ≡ is_active m w inputs ls t k s
+  wake_is p s due input differs end may stands is_differing is_input = elim (zero_or_more t) [
     | inl first ↦
         let d : m.due s t ≡ true = subst (λ (u : ℕ). m.due s u ≡ true) (sym first) (laws.begins_due s) in
         let a : is_at due t ≡ true = due_is m (state p) s (now p) t due end stands may.first ∙ d in
-        ap (λ (b : Bool). b || (is_some input || not (same_list same_level own held))) a
+        ap (λ (b : Bool). b || (is_some input || differs)) a
         ∙ sym (ap (λ (b : Bool). b || (is_some (input_at inputs t k) || not (same_list same_level (map (level_at ls) (own_nets w k (length (m.drives s)))) (m.held s)))) d)
     | inr after ↦
-        ap (λ (b : Bool). b || (is_some input || not (same_list same_level own held))) (due_is m (state p) s (now p) t due end stands may.first)
-        ∙ ap (λ (i : Option ℕ). m.due s t || (is_some i || not (same_list same_level own held))) is_input
-        ∙ ap (λ (l : List Level). m.due s t || (is_some (input_at inputs t k) || not (same_list same_level l held))) is_own
-        ∙ ap (λ (l : List Level). m.due s t || (is_some (input_at inputs t k) || not (same_list same_level (map (level_at ls) (own_nets w k (length (m.drives s)))) l))) (is_held after)
+        ap (λ (b : Bool). b || (is_some input || differs)) (due_is m (state p) s (now p) t due end stands may.first)
+        ∙ ap (λ (i : Option ℕ). m.due s t || (is_some i || differs)) is_input
+        ∙ ap (λ (b : Bool). m.due s t || (is_some (input_at inputs t k) || b)) (is_differing after)
   ]
 
-  pub had_turn : (p q : P) (s : S) (due input byte : Option ℕ) (own held : List Level) (changed : Bool) → t < 160000000 → MayTurn m state now wakes t due p → Stands m t (now p) (state p) s →
-      own ≡ map (level_at ls) (own_nets w k (length (m.drives s))) → (0 < t → held ≡ m.held s) → input ≡ input_at inputs t k →
-      turned m state now wakes (to_wake due t input own held) t own input p q byte changed → HadTurn m w inputs state now wakes ls t k p q s byte changed
-  had_turn p q s due input byte own held changed end may stands is_own is_held is_input turn =
-      go (to_wake due t input own held) (wake_is p s due input own held end may stands is_own is_held is_input) turn
+  pub had_turn : (p q : P) (s : S) (due input byte : Option ℕ) (own : List Level) (differs changed : Bool) → t < 160000000 → MayTurn m state now wakes t due p → Stands m t (now p) (state p) s →
+      own ≡ map (level_at ls) (own_nets w k (length (m.drives s))) → (0 < t → differs ≡ not (same_list same_level (levels_on m w ls k s) (m.held s))) → input ≡ input_at inputs t k →
+      turned m state now wakes (to_wake due t input differs) t own input p q byte changed → HadTurn m w inputs state now wakes ls t k p q s byte changed
+  had_turn p q s due input byte own differs changed end may stands is_own is_differing is_input turn =
+      go (to_wake due t input differs) (wake_is p s due input differs end may stands is_differing is_input) turn
     where
       step_is : m.step (glided m state now wakes t p) t own input ≡ part_step m w inputs ls t k s
       step_is =
@@ -127,14 +121,14 @@ module _ {S P : Type 0} (m : Machine S) (laws : Laws m) (w : Wiring) (inputs : L
           }
 
 module _ {S P : Type 0} (m : Machine S) (laws : Laws m) (w : Wiring) (inputs : List Input) (state : P → S) (now wakes : P → ℕ) (ls : List Level) (t : ℕ) (ts : List S) where
-  pub turns_none : (ps : List P) (answers : List (Option ℕ)) → Turns m w inputs state now wakes ls t ts 0 ps ps answers false
-  turns_none ps answers = record { done = λ k p q s h. absurd (omega arith); answered = refl; still = λ none k s h. absurd (omega arith) }
+  pub turns_none : (ps : List P) (answers : List (Option ℕ)) (flags : List Bool) → Turns m w inputs state now wakes ls t ts 0 ps ps answers flags
+  turns_none ps answers flags = record { done = λ k p q s h. absurd (omega arith); answered = refl; still = λ k s h. absurd (omega arith) }
 
   -- one more turn
-  pub turns_more : (i : ℕ) (old new : List P) (answers : List (Option ℕ)) (changed more : Bool) (p q : P) (s : S) (byte : Option ℕ) →
-      Turns m w inputs state now wakes ls t ts i old new answers changed → slice_get old i ≡ Some p → slice_get ts i ≡ Some s → i < length new → i < length answers →
-      HadTurn m w inputs state now wakes ls t i p q s byte more → Turns m w inputs state now wakes ls t ts (i + 1) old (slice_set new i q) (slice_set answers i byte) (changed || more)
-  turns_more i old new answers changed more p q s byte turns ep es within room turn = record {
+  pub turns_more : (i : ℕ) (old new : List P) (answers : List (Option ℕ)) (flags : List Bool) (more : Bool) (p q : P) (s : S) (byte : Option ℕ) →
+      Turns m w inputs state now wakes ls t ts i old new answers flags → slice_get old i ≡ Some p → slice_get ts i ≡ Some s → i < length new → i < length answers → i < length flags →
+      HadTurn m w inputs state now wakes ls t i p q s byte more → Turns m w inputs state now wakes ls t ts (i + 1) old (slice_set new i q) (slice_set answers i byte) (slice_set flags i more)
+  turns_more i old new answers flags more p q s byte turns ep es within room space turn = record {
     done = λ k a b u l ea eb eu. elim (lt_or_eq k i l) [
       | inl less ↦
           let other : k ≢ i = omega arith in
@@ -149,19 +143,22 @@ module _ {S P : Type 0} (m : Machine S) (laws : Laws m) (w : Wiring) (inputs : L
           (subst (λ (x : P). Stands m (t + 1) (now x) (state x) (part_step m w inputs ls t i s).0 × (wakes x ≡ wakes p + active_in m w inputs ls t i (Some s)) × (wakes x ≤ now x)) b_is (turn.stands, turn.woken, turn.count))))
     ];
     answered = take_set_more answers (map (λ r. r.1) (steps_from m w inputs ls t 0 ts)) i byte room (get_answer m w inputs ls t i ts s es ∙ ap Some (sym turn.byte_is)) turns.answered;
-    still = λ none k u l eu. let both = or_none changed more none in elim (lt_or_eq k i l) [
-      | inl less ↦ turns.still both.0 k u less eu
+    still = λ k u l eu ef. elim (lt_or_eq k i l) [
+      | inl less ↦
+          let other : k ≢ i = omega arith in
+          turns.still k u less eu (sym (get_set_other flags i k more other) ∙ ef)
       | inr same ↦
           let u_is : s ≡ u = some_same (sym es ∙ subst (λ (j : ℕ). slice_get ts j ≡ Some u) same eu) in
+          let none : more ≡ false = some_same (sym (get_set_same flags i more space) ∙ subst (λ (j : ℕ). slice_get (slice_set flags i more) j ≡ Some false) same ef) in
           subst (λ (j : ℕ). SameShow m m (part_step m w inputs ls t j u).0 u) (sym same)
-          (subst (λ (x : S). SameShow m m (part_step m w inputs ls t i x).0 x) u_is (turn.still both.1))
+          (subst (λ (x : S). SameShow m m (part_step m w inputs ls t i x).0 x) u_is (turn.still none))
     ];
   }
 
   -- after all turns the parts stand for the states after the cycle
-  pub turns_stand : (old new : List P) (answers : List (Option ℕ)) (changed : Bool) (n : ℕ) → length old ≤ n → length new ≡ length old → length old ≡ length ts →
-      Turns m w inputs state now wakes ls t ts n old new answers changed → Alike (λ k q u. Stands m (t + 1) (now q) (state q) u) new (map (λ r. r.0) (steps_from m w inputs ls t 0 ts))
-  turns_stand old new answers changed n all long same turns = record {
+  pub turns_stand : (old new : List P) (answers : List (Option ℕ)) (flags : List Bool) (n : ℕ) → length old ≤ n → length new ≡ length old → length old ≡ length ts →
+      Turns m w inputs state now wakes ls t ts n old new answers flags → Alike (λ k q u. Stands m (t + 1) (now q) (state q) u) new (map (λ r. r.0) (steps_from m w inputs ls t 0 ts))
+  turns_stand old new answers flags n all long same turns = record {
     long = long ∙ same ∙ sym (simp length-map (length-steps_from m w inputs ls t 0 ts));
     each = λ k q u eq eu.
         let r = get_map_some (λ (r : S × Option ℕ). r.0) (steps_from m w inputs ls t 0 ts) k u eu in
@@ -186,27 +183,21 @@ due_set m state now wakes parts dues i q d hp hd are first k p e ep ee = elim (e
   | inr other ↦ are k p e (sym (get_set_other parts i k q other.1) ∙ ep) (sym (get_set_other dues i k d other.1) ∙ ee)
 ]
 
--- a part's pins among those of all
-pub part_of : (w : Wiring) (held : List Level) (k first pins n : ℕ) → first ≡ slice_index w.first_pin k → pins ≡ n → take (first + pins - first) (drop first held) ≡ own_part w k n held
-part_of w held k first pins n e f =
-    let count : first + pins - first ≡ n = omega arith in
-    ap (λ (j : ℕ). take j (drop first held)) count ∙ ap (λ (j : ℕ). take n (drop j held)) e
-
 -- the turn of a part that is awaited
-pub awaited_turn : {S P : Type 0} (m : Machine S) (laws : Laws m) (w : Wiring) (given inputs : List Input) (state : P → S) (now wakes : P → ℕ) (ls own held : List Level) (t : ℕ) (parts : List P) (ts : List S) →
-    t < 160000000 → Awaits m w state now given inputs ls own held t parts ts → (k : ℕ) (p q : P) (s : S) (due input byte : Option ℕ) (first pins : ℕ) (changed : Bool) →
-    slice_get parts k ≡ Some p → slice_get ts k ≡ Some s → MayTurn m state now wakes t due p → first ≡ slice_index w.first_pin k → pins ≡ length (m.drives (state p)) → input ≡ input_at given t k →
-    turned m state now wakes (to_wake due t input (take (first + pins - first) (drop first own)) (take (first + pins - first) (drop first held))) t (take (first + pins - first) (drop first own)) input p q byte changed →
+pub awaited_turn : {S P : Type 0} (m : Machine S) (laws : Laws m) (w : Wiring) (given inputs : List Input) (state : P → S) (now wakes : P → ℕ) (ls own : List Level) (flags : List Bool) (t : ℕ) (parts : List P) (ts : List S) →
+    t < 160000000 → Awaits m w state now given inputs ls own flags t parts ts → (k : ℕ) (p q : P) (s : S) (due input byte : Option ℕ) (first pins : ℕ) (differs changed : Bool) →
+    slice_get parts k ≡ Some p → slice_get ts k ≡ Some s → slice_get flags k ≡ Some differs → MayTurn m state now wakes t due p → first ≡ slice_index w.first_pin k → pins ≡ length (m.drives (state p)) → input ≡ input_at given t k →
+    turned m state now wakes (to_wake due t input differs) t (take (first + pins - first) (drop first own)) input p q byte changed →
     HadTurn m w inputs state now wakes ls t k p q s byte changed
-    × (active_in m w inputs ls t k (Some s) ≡ (if to_wake due t input (take (first + pins - first) (drop first own)) (take (first + pins - first) (drop first held)) then 1 else 0))
-awaited_turn m laws w given inputs state now wakes ls own held t parts ts end awaits k p q s due input byte first pins changed ep es may is_first is_pins is_input turn =
+    × (active_in m w inputs ls t k (Some s) ≡ (if to_wake due t input differs then 1 else 0))
+awaited_turn m laws w given inputs state now wakes ls own flags t parts ts end awaits k p q s due input byte first pins differs changed ep es ef may is_first is_pins is_input turn =
     let stands = awaits.stands.each k p s ep es in
     let n : pins ≡ length (m.drives s) = is_pins ∙ ap length (stands_shows m laws t (now p) (state p) s stands).drives in
     let own_is = own_of w ls own k first pins (length (m.drives s)) awaits.own_are is_first n in
-    let held_is = λ (l : 0 < t). part_of w held k first pins (length (m.drives s)) is_first n ∙ sym (awaits.holds k s es l) in
+    let differ = λ (l : 0 < t). awaits.differ k s differs es ef l in
     let input_is = is_input ∙ awaits.values k in (
-      had_turn m laws w inputs state now wakes ls t k p q s due input byte _ _ changed end may stands own_is held_is input_is turn,
-      ap (λ (b : Bool). if b then 1 else 0) (sym (wake_is m laws w inputs state now wakes ls t k p s due input _ _ end may stands own_is held_is input_is)),
+      had_turn m laws w inputs state now wakes ls t k p q s due input byte _ differs changed end may stands own_is differ input_is turn,
+      ap (λ (b : Bool). if b then 1 else 0) (sym (wake_is m laws w inputs state now wakes ls t k p s due input differs end may stands differ input_is)),
     )
 
 pub count_more : (i a b d : ℕ) (f : ℕ → ℕ) (one : ℕ) → b ≡ a + sum_below i f → d ≡ b + one → f i ≡ one → d ≡ a + sum_below (i + 1) f

@@ -10,14 +10,15 @@ use Rattle.board_model.specs.Rows.{same_list, same_level}
 use Rattle.board_laws.specs.Alike.{Alike, SameShow}
 use Rattle.board_laws.specs.Active.{active_in}
 use Rattle.board_laws.specs.Stands.{Stands}
+use Rattle.board_run.specs.Seen.{levels_on}
 
 abbrev pub is_at : Option ℕ → ℕ → Bool
 is_at None t = false
 is_at (Some u) t = u == t
 
 -- whether a part is to be woken in cycle t: it is due, the script addresses it, or a level of its pins differs from the one that it holds
-abbrev pub to_wake : Option ℕ → ℕ → Option ℕ → List Level → List Level → Bool
-to_wake due t input own held = is_at due t || (is_some input || not (same_list same_level own held))
+abbrev pub to_wake : Option ℕ → ℕ → Option ℕ → Bool → Bool
+to_wake due t input differs = is_at due t || (is_some input || differs)
 
 -- none of these is before cycle t
 abbrev pub AreLate : List (Option ℕ) → ℕ → Type 0
@@ -57,11 +58,11 @@ module _ {S P : Type 0} (m : Machine S) (state : P → S) (now wakes : P → ℕ
   AreDue parts dues = (k : ℕ) (p : P) (d : Option ℕ) → slice_get parts k ≡ Some p → slice_get dues k ≡ Some d → IsFirstDue m (state p) (now p) d
 
 -- The parts lag behind a board whose states at cycle t are ts, whose nets have the levels ls, so that pins have `own`; the script's
--- values of the cycle are `given`; and `held` are the levels that the pins had in the cycle before.
-pub record Awaits {S P : Type 0} (m : Machine S) (w : Wiring) (state : P → S) (now : P → ℕ) (given inputs : List Input) (ls own held : List Level) (t : ℕ) (parts : List P) (ts : List S) : Type 0 where
+-- values of the cycle are `given`; and a part's flag says whether one of its levels is not the one that it holds.
+pub record Awaits {S P : Type 0} (m : Machine S) (w : Wiring) (state : P → S) (now : P → ℕ) (given inputs : List Input) (ls own : List Level) (flags : List Bool) (t : ℕ) (parts : List P) (ts : List S) : Type 0 where
   pub stands : Alike (λ k p s. Stands m t (now p) (state p) s) parts ts
   pub own_are : own ≡ map (level_at ls) w.net_of
-  pub holds : (k : ℕ) (s : S) → slice_get ts k ≡ Some s → 0 < t → m.held s ≡ own_part w k (length (m.drives s)) held
+  pub differ : (k : ℕ) (s : S) (b : Bool) → slice_get ts k ≡ Some s → slice_get flags k ≡ Some b → 0 < t → b ≡ not (same_list same_level (levels_on m w ls k s) (m.held s))
   pub values : (k : ℕ) → input_at given t k ≡ input_at inputs t k
 
 -- part k, which stands for s, had its turn
@@ -72,9 +73,9 @@ pub record HadTurn {S P : Type 0} (m : Machine S) (w : Wiring) (inputs : List In
   pub byte_is : byte ≡ (part_step m w inputs ls t k s).1
   pub still : changed ≡ false → SameShow m m (part_step m w inputs ls t k s).0 s
 
--- the parts before number i had their turn
-pub record Turns {S P : Type 0} (m : Machine S) (w : Wiring) (inputs : List Input) (state : P → S) (now wakes : P → ℕ) (ls : List Level) (t : ℕ) (ts : List S) (i : ℕ) (old new : List P) (answers : List (Option ℕ)) (changed : Bool) : Type 0 where
+-- the parts before number i had their turn, and a part's flag says whether it may show something else
+pub record Turns {S P : Type 0} (m : Machine S) (w : Wiring) (inputs : List Input) (state : P → S) (now wakes : P → ℕ) (ls : List Level) (t : ℕ) (ts : List S) (i : ℕ) (old new : List P) (answers : List (Option ℕ)) (flags : List Bool) : Type 0 where
   pub done : (k : ℕ) (p q : P) (s : S) → k < i → slice_get old k ≡ Some p → slice_get new k ≡ Some q → slice_get ts k ≡ Some s →
       Stands m (t + 1) (now q) (state q) (part_step m w inputs ls t k s).0 × (wakes q ≡ wakes p + active_in m w inputs ls t k (Some s)) × (wakes q ≤ now q)
   pub answered : take i answers ≡ take i (map (λ r. r.1) (steps_from m w inputs ls t 0 ts))
-  pub still : changed ≡ false → (k : ℕ) (s : S) → k < i → slice_get ts k ≡ Some s → SameShow m m (part_step m w inputs ls t k s).0 s
+  pub still : (k : ℕ) (s : S) → k < i → slice_get ts k ≡ Some s → slice_get flags k ≡ Some false → SameShow m m (part_step m w inputs ls t k s).0 s

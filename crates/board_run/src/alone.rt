@@ -1,5 +1,5 @@
 //! One part goes on by itself, while no other is due.
-ghost use Rattle.std.specs.Prelude.{◌≡◌, ℕ, ◌+◌, ◌-◌, ◌<◌, ◌≤◌, Bool, true, false, List, [], length, Option, Some, None, slice_get};
+ghost use Rattle.std.specs.Prelude.{◌≡◌, ℕ, ◌+◌, ◌-◌, ◌<◌, ◌≤◌, Bool, true, false, List, [], length, Option, Some, None, slice_get, slice_set};
 ghost use Rattle.std.specs.Option.{option_to_list};
 ghost use Rattle.part_law.specs.Machine.{glide, dues, sent, IsSame, IsFirstDue};
 ghost use Rattle.sim_base.specs.Causes.{Rose};
@@ -45,11 +45,12 @@ fn go_alone<P: Part, L: Ledger>(
 }
 
 /// Part `who` goes on by itself, and its byte is handed out: whether a drive or a contact may have
-/// changed, and where it stands. None where writing failed.
+/// changed, which its flag says too, and where it stands. None where writing failed.
 pub(crate) fn stretch<P: Part, W: Watcher, L: Ledger>(
     who: u8,
     parts: &mut [P],
     dues: &mut DueTree,
+    flags: &mut [bool],
     t: u32,
     limit: u32,
     out: &mut W,
@@ -59,6 +60,7 @@ pub(crate) fn stretch<P: Part, W: Watcher, L: Ledger>(
     requires end { limit ≤ 160000000 }
     requires who { who < length parts.old }
     requires dues { length dues.old ≡ length parts.old }
+    requires flags { length flags.old ≡ length parts.old }
     requires may { (k : ℕ) (p : _) (d : Option ℕ) → slice_get parts.old k ≡ Some p → slice_get dues.old k ≡ Some d → MayTurn P.machine P.state P.now P.wake_count t d p }
     requires valid { (k : ℕ) (p : _) → slice_get parts.old k ≡ Some p → P.machine.valid (P.state p) (P.now p) ≡ true }
     requires whole { W.whole out.old ≡ true }
@@ -66,6 +68,7 @@ pub(crate) fn stretch<P: Part, W: Watcher, L: Ledger>(
     ensures went { (x : Bool × ℕ) → result ≡ Some x → (p q : _) × (d : Option ℕ)
         × WentAlone P.machine P.state P.now P.wake_count who t x.1 parts.old parts.new dues.old dues.new x.0 steps.old steps.new p q d
         × Handed W.whole W.faults W.stands out.old out.new [] (sent P.machine (glided P.machine P.state P.now P.wake_count t p) t (x.1 - t)) }
+    ensures flags { (x : Bool × ℕ) → result ≡ Some x → flags.new ≡ slice_set flags.old who x.0 }
     ensures last { (x : Bool × ℕ) → result ≡ Some x → W.last out.new ≡ W.last out.old }
     ensures failed { result ≡ None → Rose (W.faults out.old) (W.faults out.new) × (u : ℕ) × (u ≤ limit) × (changed : Bool) × (p q : _) × (d : Option ℕ)
         × WentAlone P.machine P.state P.now P.wake_count who t u parts.old parts.new dues.old dues.new changed steps.old steps.new p q d
@@ -76,6 +79,7 @@ pub(crate) fn stretch<P: Part, W: Watcher, L: Ledger>(
     let mut due = dues.due(who);
     let went = go_alone(&mut parts[i], &mut due, t, limit, steps);
     dues.set(who, due);
+    flags[i] = went.changed;
     match hand_byte(went.byte, out) {
         WriteEnd::Ok => Some((went.changed, went.to)),
         WriteEnd::Failed => None,

@@ -1,5 +1,5 @@
 //! One cycle of a board in which only the active parts are woken.
-ghost use Rattle.std.specs.Prelude.{◌≡◌, ℕ, ◌+◌, ◌-◌, ◌<◌, ◌≤◌, List, [], length, map, true, false, Some, None, Option, slice_get};
+ghost use Rattle.std.specs.Prelude.{◌≡◌, ◌≢◌, ℕ, ◌+◌, ◌-◌, ◌<◌, ◌≤◌, List, [], length, map, true, false, Some, None, Option, slice_get};
 ghost use Rattle.std.specs.Option.{ForSome};
 ghost use Rattle.sim_base.specs.Causes.{Rose};
 ghost use Rattle.sim_base.specs.Rows.{Handed, StopsWithin};
@@ -9,7 +9,7 @@ ghost use Rattle.board_model.specs.Board.{bytes, options};
 ghost use Rattle.board_model.specs.Rows.{rows};
 ghost use Rattle.board_model.specs.Fits.{Fits};
 ghost use Rattle.board_laws.specs.Active.{sum_below, active_in};
-ghost use Rattle.board_run.specs.Seen.{shown_at, Suits};
+ghost use Rattle.board_run.specs.Seen.{shown_at, AreUnset};
 ghost use Rattle.board_run.specs.Upcoming.{AreBehind, IsInOrder};
 ghost use Rattle.board_run.specs.Lagging.{glided, own_part, MayTurn, Awaits, Turns, AreDue};
 ghost use Rattle.board_run.specs.Legs.{Lags, Leg};
@@ -22,17 +22,17 @@ use crate::show::{Next, show_cycle};
 use crate::turn::{Woken, wake_active};
 use event_queue::DueTree;
 use part_law::Part;
-use sim_base::{Input, Level, Steps, Watcher, Wiring, WriteEnd};
+use sim_base::{Input, Steps, Watcher, Wiring, WriteEnd};
 use std::sync::ledger::Ledger;
 
-/// Gives every part its turn on the levels that were read, and keeps these.
+/// Gives every part its turn on the levels that were read.
 #[inline]
 fn turn_read<P: Part, L: Ledger>(
     parts: &mut [P],
     dues: &mut DueTree,
     wiring: &Wiring,
     reading: &Reading,
-    held: &mut [Level],
+    flags: &mut [bool],
     given: &[Input],
     answers: &mut [Option<u8>],
     t: u32,
@@ -44,31 +44,30 @@ fn turn_read<P: Part, L: Ledger>(
     requires may { (k : ℕ) (p : _) (d : Option ℕ) → slice_get parts.old k ≡ Some p → slice_get dues.old k ≡ Some d → MayTurn P.machine P.state P.now P.wake_count t d p }
     requires dues { length dues.old ≡ length parts.old }
     requires own { length reading.now.own ≡ length wiring.now.net_of }
-    requires held { length held.old ≡ length wiring.now.net_of }
-    requires holds { (k : ℕ) (p : _) → slice_get parts.old k ≡ Some p → 0 < t → P.machine.held (P.state p) ≡ own_part wiring.now k (length (P.machine.drives (P.state p))) held.old }
+    requires flags { length flags.old ≡ length parts.old }
+    requires differ { (k : ℕ) (p : _) → slice_get parts.old k ≡ Some p → slice_get flags.old k ≡ Some true → 0 < t → P.machine.held (P.state p) ≢ own_part wiring.now k (length (P.machine.drives (P.state p))) reading.now.own }
     requires answers { length answers.old ≡ length parts.old }
-    ensures turns { (inputs : List Input) (ls : List Level) (ts : List P.State) → Awaits P.machine wiring.now P.state P.now given.now inputs ls reading.now.own held.old t parts.old ts
-        → Turns P.machine wiring.now inputs P.state P.now P.wake_count ls t ts (length parts.old) parts.old parts.new answers.new result.changed }
+    ensures turns { (inputs : List Input) (ls : List Level) (ts : List P.State) → Awaits P.machine wiring.now P.state P.now given.now inputs ls reading.now.own flags.old t parts.old ts
+        → Turns P.machine wiring.now inputs P.state P.now P.wake_count ls t ts (length parts.old) parts.old parts.new answers.new flags.new }
+    ensures unset { result.changed ≡ false → AreUnset flags.new }
+    ensures flags { length flags.new ≡ length flags.old }
     ensures due { AreDue P.machine P.state P.now P.wake_count parts.new dues.new }
     ensures dues { length dues.new ≡ length dues.old }
     ensures silent { result.sent ≡ false → options answers.new ≡ [] }
-    ensures steps { (inputs : List Input) (ls : List Level) (ts : List P.State) → Awaits P.machine wiring.now P.state P.now given.now inputs ls reading.now.own held.old t parts.old ts
+    ensures steps { (inputs : List Input) (ls : List Level) (ts : List P.State) → Awaits P.machine wiring.now P.state P.now given.now inputs ls reading.now.own flags.old t parts.old ts
         → steps.new ≡ steps.old + sum_below (length parts.old) (λ k. active_in P.machine wiring.now inputs ls t k (slice_get ts k)) }
-    ensures held { held.new ≡ reading.now.own }
 {
-    let woken = wake_active(
+    wake_active(
         parts,
         dues,
         wiring,
         &reading.own,
-        held,
+        flags,
         given,
         answers,
         t,
         steps,
-    );
-    held.copy_from_slice(&reading.own);
-    woken
+    )
 }
 
 /// One cycle: its row, a wake of each part that is active, their bytes. None where writing failed.
@@ -80,7 +79,7 @@ pub(crate) fn event<P: Part, W: Watcher, L: Ledger>(
     inputs: &[Input],
     t: u32,
     reading: &mut Reading,
-    held: &mut [Level],
+    flags: &mut [bool],
     answers: &mut [Option<u8>],
     out: &mut W,
     steps: &mut Steps<L>,
@@ -89,11 +88,11 @@ pub(crate) fn event<P: Part, W: Watcher, L: Ledger>(
     requires order { IsInOrder inputs.now }
     requires behind { AreBehind inputs.now next.input t }
     requires lags { Lags P.machine wiring.now P.state P.now P.wake_count t parts.old
-        (record { input = next.input; stale = next.stale; dues = dues.old; held = held.old; seen = reading.old; answers = answers.old }) }
+        (record { input = next.input; stale = next.stale; dues = dues.old; moved = flags.old; seen = reading.old; answers = answers.old }) }
     requires whole { W.whole out.old ≡ true }
     requires later { ForSome (W.last out.old) (λ u. u < t) }
     ensures lags { (x : Next) → result ≡ Some x → Lags P.machine wiring.now P.state P.now P.wake_count (t + 1) parts.new
-        (record { input = x.input; stale = x.stale; dues = dues.new; held = held.new; seen = reading.new; answers = answers.new }) }
+        (record { input = x.input; stale = x.stale; dues = dues.new; moved = flags.new; seen = reading.new; answers = answers.new }) }
     ensures behind { (x : Next) → result ≡ Some x → AreBehind inputs.now x.input (t + 1) }
     ensures leg { Leg P.machine wiring.now P.state P.now P.wake_count inputs.now t (t + 1) parts.old parts.new reading.old reading.new steps.old steps.new }
     ensures handed { (x : Next) → result ≡ Some x → Handed W.whole W.faults W.stands out.old out.new
@@ -106,14 +105,14 @@ pub(crate) fn event<P: Part, W: Watcher, L: Ledger>(
         (bytes P.machine wiring.now inputs.now (map (glided P.machine P.state P.now P.wake_count t) parts.old) t (t + 1 - t)) }
     ensures place { W.place out.new ≡ W.place out.old }
 {
-    let shown = show_cycle(next.stale, parts, wiring, t, reading, out);
+    let shown = show_cycle(next.stale, parts, flags, wiring, t, reading, out);
     let end = end_of_cycle(inputs, next.input, t);
     let woken = turn_read(
         parts,
         dues,
         wiring,
         reading,
-        held,
+        flags,
         &inputs[next.input..end],
         answers,
         t,

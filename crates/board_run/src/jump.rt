@@ -19,7 +19,7 @@ use crate::reading::Reading;
 use crate::show::Next;
 use event_queue::DueTree;
 use part_law::Part;
-use sim_base::{Input, Level, Steps, Watcher, Wiring};
+use sim_base::{Input, Steps, Watcher, Wiring};
 use std::sync::ledger::Ledger;
 
 /// The due cycle if it is before n, and else n.
@@ -139,7 +139,7 @@ fn event_and_jump<P: Part, W: Watcher, L: Ledger>(
     t: u32,
     n: u32,
     reading: &mut Reading,
-    held: &mut [Level],
+    flags: &mut [bool],
     answers: &mut [Option<u8>],
     out: &mut W,
     steps: &mut Steps<L>,
@@ -149,13 +149,13 @@ fn event_and_jump<P: Part, W: Watcher, L: Ledger>(
     requires order { IsInOrder inputs.now }
     requires behind { AreBehind inputs.now next.input t }
     requires lags { Lags P.machine wiring.now P.state P.now P.wake_count t parts.old
-        (record { input = next.input; stale = next.stale; dues = dues.old; held = held.old; seen = reading.old; answers = answers.old }) }
+        (record { input = next.input; stale = next.stale; dues = dues.old; moved = flags.old; seen = reading.old; answers = answers.old }) }
     requires whole { W.whole out.old ≡ true }
     requires later { ForSome (W.last out.old) (λ u. u < t) }
     ensures from { (x : Next × ℕ) → result ≡ Some x → t < x.1 }
     ensures within { (x : Next × ℕ) → result ≡ Some x → x.1 ≤ n }
     ensures lags { (x : Next × ℕ) → result ≡ Some x → Lags P.machine wiring.now P.state P.now P.wake_count x.1 parts.new
-        (record { input = x.0.input; stale = x.0.stale; dues = dues.new; held = held.new; seen = reading.new; answers = answers.new }) }
+        (record { input = x.0.input; stale = x.0.stale; dues = dues.new; moved = flags.new; seen = reading.new; answers = answers.new }) }
     ensures behind { (x : Next × ℕ) → result ≡ Some x → AreBehind inputs.now x.0.input x.1 }
     ensures leg { (x : Next × ℕ) → result ≡ Some x → Leg P.machine wiring.now P.state P.now P.wake_count inputs.now t x.1 parts.old parts.new reading.old reading.new steps.old steps.new }
     ensures handed { (x : Next × ℕ) → result ≡ Some x → Handed W.whole W.faults W.stands out.old out.new
@@ -170,7 +170,7 @@ fn event_and_jump<P: Part, W: Watcher, L: Ledger>(
     ensures place { W.place out.new ≡ W.place out.old }
 {
     match event(
-        next, parts, dues, wiring, inputs, t, reading, held, answers, out, steps,
+        next, parts, dues, wiring, inputs, t, reading, flags, answers, out, steps,
     ) {
         Some(after) => {
             let u = next_cycle(after.stale, dues, inputs, after.input, t + 1, n);
@@ -190,7 +190,7 @@ fn advance<P: Part, W: Watcher, L: Ledger>(
     t: u32,
     n: u32,
     reading: &mut Reading,
-    held: &mut [Level],
+    flags: &mut [bool],
     answers: &mut [Option<u8>],
     out: &mut W,
     steps: &mut Steps<L>,
@@ -200,13 +200,13 @@ fn advance<P: Part, W: Watcher, L: Ledger>(
     requires order { IsInOrder inputs.now }
     requires behind { AreBehind inputs.now next.input t }
     requires lags { Lags P.machine wiring.now P.state P.now P.wake_count t parts.old
-        (record { input = next.input; stale = next.stale; dues = dues.old; held = held.old; seen = reading.old; answers = answers.old }) }
+        (record { input = next.input; stale = next.stale; dues = dues.old; moved = flags.old; seen = reading.old; answers = answers.old }) }
     requires whole { W.whole out.old ≡ true }
     requires later { ForSome (W.last out.old) (λ u. u < t) }
     ensures from { (x : Next × ℕ) → result ≡ Some x → t < x.1 }
     ensures within { (x : Next × ℕ) → result ≡ Some x → x.1 ≤ n }
     ensures lags { (x : Next × ℕ) → result ≡ Some x → Lags P.machine wiring.now P.state P.now P.wake_count x.1 parts.new
-        (record { input = x.0.input; stale = x.0.stale; dues = dues.new; held = held.new; seen = reading.new; answers = answers.new }) }
+        (record { input = x.0.input; stale = x.0.stale; dues = dues.new; moved = flags.new; seen = reading.new; answers = answers.new }) }
     ensures behind { (x : Next × ℕ) → result ≡ Some x → AreBehind inputs.now x.0.input x.1 }
     ensures leg { (x : Next × ℕ) → result ≡ Some x → Leg P.machine wiring.now P.state P.now P.wake_count inputs.now t x.1 parts.old parts.new reading.old reading.new steps.old steps.new }
     ensures handed { (x : Next × ℕ) → result ≡ Some x → Handed W.whole W.faults W.stands out.old out.new
@@ -221,7 +221,7 @@ fn advance<P: Part, W: Watcher, L: Ledger>(
     ensures place { W.place out.new ≡ W.place out.old }
 {
     match find_alone(next, dues, inputs, t, n) {
-        Some((who, limit)) => match stretch(who, parts, dues, t, limit, out, steps) {
+        Some((who, limit)) => match stretch(who, parts, dues, flags, t, limit, out, steps) {
             Some((changed, u)) => Some((
                 Next {
                     input: next.input,
@@ -232,7 +232,7 @@ fn advance<P: Part, W: Watcher, L: Ledger>(
             None => None,
         },
         None => event_and_jump(
-            next, parts, dues, wiring, inputs, t, n, reading, held, answers, out, steps,
+            next, parts, dues, wiring, inputs, t, n, reading, flags, answers, out, steps,
         ),
     }
 }
@@ -247,7 +247,7 @@ fn run_legs<P: Part, W: Watcher, L: Ledger>(
     from: u32,
     n: u32,
     reading: &mut Reading,
-    held: &mut [Level],
+    flags: &mut [bool],
     answers: &mut [Option<u8>],
     out: &mut W,
     steps: &mut Steps<L>,
@@ -257,11 +257,11 @@ fn run_legs<P: Part, W: Watcher, L: Ledger>(
     requires order { IsInOrder inputs.now }
     requires behind { AreBehind inputs.now next.input from }
     requires lags { Lags P.machine wiring.now P.state P.now P.wake_count from parts.old
-        (record { input = next.input; stale = next.stale; dues = dues.old; held = held.old; seen = reading.old; answers = answers.old }) }
+        (record { input = next.input; stale = next.stale; dues = dues.old; moved = flags.old; seen = reading.old; answers = answers.old }) }
     requires whole { W.whole out.old ≡ true }
     requires later { ForSome (W.last out.old) (λ u. u < from) }
     ensures lags { (x : Next) → result ≡ Some x → Lags P.machine wiring.now P.state P.now P.wake_count n parts.new
-        (record { input = x.input; stale = x.stale; dues = dues.new; held = held.new; seen = reading.new; answers = answers.new }) }
+        (record { input = x.input; stale = x.stale; dues = dues.new; moved = flags.new; seen = reading.new; answers = answers.new }) }
     ensures behind { (x : Next) → result ≡ Some x → AreBehind inputs.now x.input n }
     ensures leg { (x : Next) → result ≡ Some x → Leg P.machine wiring.now P.state P.now P.wake_count inputs.now from n parts.old parts.new reading.old reading.new steps.old steps.new }
     ensures handed { (x : Next) → result ≡ Some x → Handed W.whole W.faults W.stands out.old out.new
@@ -279,7 +279,7 @@ fn run_legs<P: Part, W: Watcher, L: Ledger>(
     let mut t = from;
     while t < n {
         match advance(
-            at, parts, dues, wiring, inputs, t, n, reading, held, answers, out, steps,
+            at, parts, dues, wiring, inputs, t, n, reading, flags, answers, out, steps,
         ) {
             Some((after, u)) => {
                 at = after;
@@ -334,7 +334,7 @@ pub(crate) fn run_jumping<P: Part, W: Watcher, L: Ledger>(
     from: u32,
     n: u32,
     reading: &mut Reading,
-    held: &mut [Level],
+    flags: &mut [bool],
     answers: &mut [Option<u8>],
     out: &mut W,
     steps: &mut Steps<L>,
@@ -345,12 +345,12 @@ pub(crate) fn run_jumping<P: Part, W: Watcher, L: Ledger>(
     requires behind { AreBehind inputs.now next.input from }
     requires at { AreAt P.now from parts.old }
     requires lags { Lags P.machine wiring.now P.state P.now P.wake_count from parts.old
-        (record { input = next.input; stale = next.stale; dues = dues.old; held = held.old; seen = reading.old; answers = answers.old }) }
+        (record { input = next.input; stale = next.stale; dues = dues.old; moved = flags.old; seen = reading.old; answers = answers.old }) }
     requires whole { W.whole out.old ≡ true }
     requires later { ForSome (W.last out.old) (λ u. u < from) }
     ensures states { (x : Next) → result ≡ Some x → map P.state parts.new ≡ states P.machine wiring.now inputs.now (map P.state parts.old) from (n - from) }
     ensures lags { (x : Next) → result ≡ Some x → Lags P.machine wiring.now P.state P.now P.wake_count n parts.new
-        (record { input = x.input; stale = x.stale; dues = dues.new; held = held.new; seen = reading.new; answers = answers.new }) }
+        (record { input = x.input; stale = x.stale; dues = dues.new; moved = flags.new; seen = reading.new; answers = answers.new }) }
     ensures at { (x : Next) → result ≡ Some x → AreAt P.now n parts.new }
     ensures behind { (x : Next) → result ≡ Some x → AreBehind inputs.now x.input n }
     ensures before { (x : Next) → result ≡ Some x → shown_before P.machine wiring.now inputs.now (shown_at from reading.old) (map P.state parts.old) from (n - from) ≡ shown_at n reading.new }
@@ -371,7 +371,7 @@ pub(crate) fn run_jumping<P: Part, W: Watcher, L: Ledger>(
     ensures place { W.place out.new ≡ W.place out.old }
 {
     match run_legs(
-        next, parts, dues, wiring, inputs, from, n, reading, held, answers, out, steps,
+        next, parts, dues, wiring, inputs, from, n, reading, flags, answers, out, steps,
     ) {
         Some(after) => {
             settle_all(parts, dues, n);

@@ -11,6 +11,7 @@ mod gate;
 mod gather;
 mod hand;
 mod jump;
+mod moved;
 mod reading;
 mod script;
 mod show;

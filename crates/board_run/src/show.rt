@@ -5,7 +5,7 @@ ghost use Rattle.sim_base.specs.Causes.{Rose};
 ghost use Rattle.sim_base.specs.Rows.{Handed, Appends};
 ghost use Rattle.board_model.specs.Rows.{chip_drives_of, shown_of, same_shown, row_if};
 ghost use Rattle.board_model.specs.Fits.{Fits};
-ghost use Rattle.board_run.specs.Seen.{Suits, IsOf, shown, shown_at};
+ghost use Rattle.board_run.specs.Seen.{Suits, IsOf, AreRead, AreUnset, AreDiffering, shown, shown_at};
 
 use crate::hand::hand_row;
 use crate::reading::Reading;
@@ -20,30 +20,41 @@ pub(crate) struct Next {
     pub(crate) stale: bool,
 }
 
-/// Reads the parts where that is wanted, and tells whether rows show what they showed before.
+/// Reads the parts that moved, where one did, and tells whether rows show what they showed before.
 #[inline]
-fn refresh<P: Part>(stale: bool, parts: &[P], wiring: &Wiring, reading: &mut Reading) -> bool
+fn refresh<P: Part>(
+    stale: bool,
+    parts: &[P],
+    flags: &mut [bool],
+    wiring: &Wiring,
+    reading: &mut Reading,
+) -> bool
     requires fits { Fits P.machine wiring.now (map P.state parts.now) }
     requires suits { Suits wiring.now reading.old }
     requires chips { length reading.old.chip_drives ≡ length (chip_drives_of P.machine wiring.now.chip (map P.state parts.now)) }
     requires fresh { stale ≡ false → IsOf P.machine wiring.now (map P.state parts.now) reading.old }
+    requires flags { length flags.old ≡ length parts.now }
+    requires unset { stale ≡ false → AreUnset flags.old }
+    requires read { AreRead P.machine (map P.state parts.now) flags.old reading.old.circuit }
     ensures suits { Suits wiring.now reading.new }
     ensures of { IsOf P.machine wiring.now (map P.state parts.now) reading.new }
     ensures same { result ≡ same_shown (shown reading.old) (shown_of P.machine wiring.now (map P.state parts.now)) }
-    ensures kept { stale ≡ false → reading.new ≡ reading.old }
+    ensures differ { AreDiffering P.machine wiring.now reading.old.circuit.levels reading.new.circuit.levels (map P.state parts.now) flags.new }
 {
     if stale {
-        reading.read(parts, wiring)
+        reading.read(parts, flags, wiring)
     } else {
         true
     }
 }
 
-/// Hands out the row of a cycle, where it has one.
+/// Hands out the row of a cycle, where it has one. Then the flag of a part says whether one of its pins
+/// has another level than before.
 #[inline]
 pub(crate) fn show_cycle<P: Part, W: Watcher>(
     stale: bool,
     parts: &[P],
+    flags: &mut [bool],
     wiring: &Wiring,
     cycle: u32,
     reading: &mut Reading,
@@ -53,18 +64,27 @@ pub(crate) fn show_cycle<P: Part, W: Watcher>(
     requires suits { Suits wiring.now reading.old }
     requires chips { length reading.old.chip_drives ≡ length (chip_drives_of P.machine wiring.now.chip (map P.state parts.now)) }
     requires fresh { stale ≡ false → IsOf P.machine wiring.now (map P.state parts.now) reading.old }
+    requires flags { length flags.old ≡ length parts.now }
+    requires unset { stale ≡ false → AreUnset flags.old }
+    requires read { AreRead P.machine (map P.state parts.now) flags.old reading.old.circuit }
     requires whole { W.whole out.old ≡ true }
     requires later { ForSome (W.last out.old) (λ u. u < cycle) }
     ensures suits { Suits wiring.now reading.new }
     ensures of { IsOf P.machine wiring.now (map P.state parts.now) reading.new }
-    ensures kept { stale ≡ false → reading.new ≡ reading.old }
+    ensures differ { AreDiffering P.machine wiring.now reading.old.circuit.levels reading.new.circuit.levels (map P.state parts.now) flags.new }
     ensures ok { result ≡ WriteEnd.Ok → Handed W.whole W.faults W.stands out.old out.new (row_if P.machine wiring.now (shown_at cycle reading.old) (map P.state parts.now) cycle) [] }
     ensures last { result ≡ WriteEnd.Ok → ForSome (W.last out.new) (λ u. u < cycle + 1) }
     ensures failed { result ≡ WriteEnd.Failed → Rose (W.faults out.old) (W.faults out.new)
         × Appends (W.stands out.old) (W.stopped out.new) (row_if P.machine wiring.now (shown_at cycle reading.old) (map P.state parts.now) cycle) [] }
     ensures place { W.place out.new ≡ W.place out.old }
 {
-    let same = refresh(stale, parts, wiring, reading);
+    let same = refresh(stale, parts, flags, wiring, reading);
     let there = (cycle == 0) | !same;
-    hand_row(there, cycle, &reading.levels, &reading.drives, out)
+    hand_row(
+        there,
+        cycle,
+        reading.nets.levels(),
+        reading.nets.drives(),
+        out,
+    )
 }

@@ -1,5 +1,5 @@
 //! A cycle in which only the active parts are woken.
-ghost use Rattle.std.specs.Prelude.{◌≡◌, ℕ, ◌+◌, ◌<◌, ◌≤◌, List, [], length, map, not, ◌||◌, Some, Option, false, if◌then◌else◌, slice_get};
+ghost use Rattle.std.specs.Prelude.{◌≡◌, ◌≢◌, ℕ, ◌+◌, ◌<◌, ◌≤◌, List, [], length, map, Some, Option, true, false, if◌then◌else◌, slice_get};
 ghost use Rattle.part_law.specs.Machine.{IsFirstDue, MayWake};
 ghost use Rattle.sim_base.specs.declared.signal.Level.{Level};
 ghost use Rattle.sim_base.specs.declared.wiring.Input.{Input};
@@ -7,8 +7,9 @@ ghost use Rattle.board_model.specs.Board.{options};
 ghost use Rattle.board_model.specs.Fits.{Fits};
 ghost use Rattle.board_laws.specs.Active.{sum_below, active_in};
 ghost use Rattle.board_run.specs.Lagging.{is_at, to_wake, own_part, glided, MayTurn, Wakes, turned, Awaits, Turns, AreDue};
+ghost use Rattle.board_run.specs.Seen.{AreUnset};
 
-use crate::gather::{are_same_levels, find_input};
+use crate::gather::find_input;
 use event_queue::DueTree;
 use part_law::Part;
 use sim_base::{Input, Level, Steps, Wiring};
@@ -32,23 +33,12 @@ fn is_at(due: Option<u32>, t: u32) -> bool
     }
 }
 
-#[inline]
-fn is_any(due: bool, given: bool, same: bool) -> bool
-    ensures { result ≡ (due || (given || not same)) }
-{
-    due || given || !same
-}
-
 /// Whether a part is due, addressed by the script, or has a level on its pins that it does not hold.
 #[inline]
-fn is_to_wake(due: Option<u32>, t: u32, input: Option<u16>, own: &[Level], held: &[Level]) -> bool
-    requires { length own.now ≡ length held.now }
-    ensures { result ≡ to_wake due t input own.now held.now }
+fn is_to_wake(due: Option<u32>, t: u32, input: Option<u16>, differs: bool) -> bool
+    ensures { result ≡ to_wake due t input differs }
 {
-    let now = is_at(due, t);
-    let given = input.is_some();
-    let same = are_same_levels(own, held);
-    is_any(now, given, same)
+    is_at(due, t) || input.is_some() || differs
 }
 
 /// Wakes a part that was left behind; answers its byte, and whether a drive or a contact may have changed.
@@ -82,7 +72,7 @@ fn take_turn<P: Part, L: Ledger>(
     part: &mut P,
     due: &mut Option<u32>,
     own: &[Level],
-    held: &[Level],
+    differs: bool,
     input: Option<u16>,
     t: u32,
     steps: &mut Steps<L>,
@@ -90,13 +80,12 @@ fn take_turn<P: Part, L: Ledger>(
     requires end { t < 160000000 }
     requires may { MayTurn P.machine P.state P.now P.wake_count t due.old part.old }
     requires pins { length own.now ≡ length (P.machine.drives (P.state part.old)) }
-    requires held { length own.now ≡ length held.now }
-    requires holds { 0 < t → P.machine.held (P.state part.old) ≡ held.now }
-    ensures turn { turned P.machine P.state P.now P.wake_count (to_wake due.old t input own.now held.now) t own.now input part.old part.new result.0 result.1 }
+    requires differs { differs ≡ true → 0 < t → P.machine.held (P.state part.old) ≢ own.now }
+    ensures turn { turned P.machine P.state P.now P.wake_count (to_wake due.old t input differs) t own.now input part.old part.new result.0 result.1 }
     ensures first { IsFirstDue P.machine (P.state part.new) (P.now part.new) due.new }
-    ensures steps { steps.new ≡ steps.old + (if to_wake due.old t input own.now held.now then 1 else 0) }
+    ensures steps { steps.new ≡ steps.old + (if to_wake due.old t input differs then 1 else 0) }
 {
-    if is_to_wake(*due, t, input, own, held) {
+    if is_to_wake(*due, t, input, differs) {
         wake_late(part, due, own, input, t, steps)
     } else {
         (None, false)
@@ -104,12 +93,14 @@ fn take_turn<P: Part, L: Ledger>(
 }
 
 /// Gives every part its turn: those that are active are woken. It leaves the byte of each, if any, in answers.
+/// A part's flag says whether one of its pins has a level that it does not hold, and after its turn
+/// whether it may drive or connect something else.
 pub(crate) fn wake_active<P: Part, L: Ledger>(
     parts: &mut [P],
     dues: &mut DueTree,
     wiring: &Wiring,
     own: &[Level],
-    held: &[Level],
+    flags: &mut [bool],
     given: &[Input],
     answers: &mut [Option<u8>],
     t: u32,
@@ -121,15 +112,17 @@ pub(crate) fn wake_active<P: Part, L: Ledger>(
     requires may { (k : ℕ) (p : _) (d : Option ℕ) → slice_get parts.old k ≡ Some p → slice_get dues.old k ≡ Some d → MayTurn P.machine P.state P.now P.wake_count t d p }
     requires dues { length dues.old ≡ length parts.old }
     requires own { length own.now ≡ length wiring.now.net_of }
-    requires held { length held.now ≡ length wiring.now.net_of }
-    requires holds { (k : ℕ) (p : _) → slice_get parts.old k ≡ Some p → 0 < t → P.machine.held (P.state p) ≡ own_part wiring.now k (length (P.machine.drives (P.state p))) held.now }
+    requires flags { length flags.old ≡ length parts.old }
+    requires differ { (k : ℕ) (p : _) → slice_get parts.old k ≡ Some p → slice_get flags.old k ≡ Some true → 0 < t → P.machine.held (P.state p) ≢ own_part wiring.now k (length (P.machine.drives (P.state p))) own.now }
     requires answers { length answers.old ≡ length parts.old }
-    ensures turns { (inputs : List Input) (ls : List Level) (ts : List P.State) → Awaits P.machine wiring.now P.state P.now given.now inputs ls own.now held.now t parts.old ts
-        → Turns P.machine wiring.now inputs P.state P.now P.wake_count ls t ts (length parts.old) parts.old parts.new answers.new result.changed }
+    ensures turns { (inputs : List Input) (ls : List Level) (ts : List P.State) → Awaits P.machine wiring.now P.state P.now given.now inputs ls own.now flags.old t parts.old ts
+        → Turns P.machine wiring.now inputs P.state P.now P.wake_count ls t ts (length parts.old) parts.old parts.new answers.new flags.new }
+    ensures unset { result.changed ≡ false → AreUnset flags.new }
+    ensures flags { length flags.new ≡ length flags.old }
     ensures due { AreDue P.machine P.state P.now P.wake_count parts.new dues.new }
     ensures dues { length dues.new ≡ length dues.old }
     ensures silent { result.sent ≡ false → options answers.new ≡ [] }
-    ensures steps { (inputs : List Input) (ls : List Level) (ts : List P.State) → Awaits P.machine wiring.now P.state P.now given.now inputs ls own.now held.now t parts.old ts
+    ensures steps { (inputs : List Input) (ls : List Level) (ts : List P.State) → Awaits P.machine wiring.now P.state P.now given.now inputs ls own.now flags.old t parts.old ts
         → steps.new ≡ steps.old + sum_below (length parts.old) (λ k. active_in P.machine wiring.now inputs ls t k (slice_get ts k)) }
 {
     let mut changed = false;
@@ -143,13 +136,14 @@ pub(crate) fn wake_active<P: Part, L: Ledger>(
             &mut parts[i],
             &mut due,
             &own[first..first + pins],
-            &held[first..first + pins],
+            flags[i],
             input,
             t,
             steps,
         );
         dues.set(i as u8, due);
         answers[i] = byte;
+        flags[i] = touched;
         changed = changed | touched;
         sent = sent | byte.is_some();
     }

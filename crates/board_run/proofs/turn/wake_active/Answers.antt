@@ -1,13 +1,15 @@
-use Rattle.std.proofs.Common.{arith, ◌≡◌, ◌<◌, ◌+◌, ◌∙◌, ℕ, List, length, map, sym, ap, subst, get_or, refl, Option, length-set}
+use Rattle.std.proofs.Common.{arith, ◌≡◌, ◌<◌, ◌+◌, ◌∙◌, ℕ, List, length, map, sym, ap, subst, get_or, refl, Option, Some, false, length-set}
 use Rattle.std.specs.Prelude.{slice_get, slice_set}
+use Rattle.std.proofs.lemmas.Option.{slice_get_within}
 use Rattle.board_laws.specs.Active.{sum_below, active_in}
 use Rattle.board_model.proofs.Lists.{done_more, done_next, some_map, some_same, get_within, get_set_other}
 use Rattle.board_run.specs.Lagging.{Turns, Awaits, AreDue}
 use Rattle.sim_base.specs.declared.signal.Level.{Level}
 use Rattle.sim_base.specs.declared.wiring.Input.{Input}
 use Rattle.board_run.proofs.StepLemmas.{fits_pins}
-use Rattle.board_run.proofs.WakeLemmas.{silent_more}
-use Rattle.board_run.proofs.TurnLemmas.{part_of, awaited_turn, turns_more, due_set, count_more}
+use Rattle.board_run.proofs.WakeLemmas.{or_none, part_of, silent_more}
+use Rattle.board_run.proofs.ReadLemmas.{unset_more}
+use Rattle.board_run.proofs.TurnLemmas.{awaited_turn, turns_more, due_set, count_more}
 use Rattle.board_run.proofs.turn.wake_active.Goals as goal
 
 pub slice_bounds-take_turn-end : goal.slice_bounds-take_turn-end
@@ -16,13 +18,6 @@ slice_bounds-take_turn-end g c =
     let old = done_next _ c.loop-i.i c.args.parts.now c.loop-i.parts c.index-parts-i.result c.loop-i.invariant.parts c.loop-i-test.true in
     let room = fits_pins p.machine c.args.wiring.now (map p.state c.args.parts.now) c.requires.fits c.loop-i.i _ (some_map p.state c.args.parts.now c.loop-i.i _ old) in
     omega (arith, room, c.pins-pins.ensures, c.requires.own, ap (λ (l : List ℕ). get_or l c.loop-i.i 0) c.as_slice.ensures)
-
-pub slice_bounds-take_turn-end-in-loop-i : goal.slice_bounds-take_turn-end-in-loop-i
-slice_bounds-take_turn-end-in-loop-i g c =
-    let p = g.P.Part in
-    let old = done_next _ c.loop-i.i c.args.parts.now c.loop-i.parts c.index-parts-i.result c.loop-i.invariant.parts c.loop-i-test.true in
-    let room = fits_pins p.machine c.args.wiring.now (map p.state c.args.parts.now) c.requires.fits c.loop-i.i _ (some_map p.state c.args.parts.now c.loop-i.i _ old) in
-    omega (arith, room, c.pins-pins.ensures, c.requires.held, ap (λ (l : List ℕ). get_or l c.loop-i.i 0) c.as_slice.ensures)
 
 pub take_turn-byte-requires-clause-may : goal.take_turn-byte-requires-clause-may
 take_turn-byte-requires-clause-may g c =
@@ -33,8 +28,8 @@ take_turn-byte-requires-clause-may g c =
     let due = sym (inv.rest i (omega arith)) ∙ c.due-due.ensures in
     c.requires.may i _ _ old due
 
-pub take_turn-byte-requires-clause-holds : goal.take_turn-byte-requires-clause-holds
-take_turn-byte-requires-clause-holds g c = λ later.
+pub take_turn-byte-requires-clause-differs : goal.take_turn-byte-requires-clause-differs
+take_turn-byte-requires-clause-differs g c = λ set later same.
     let p = g.P.Part in
     let i = c.loop-i.i in
     let inv = c.loop-i.invariant in
@@ -42,7 +37,9 @@ take_turn-byte-requires-clause-holds g c = λ later.
     let other = done_next _ i c.args.parts.now c.loop-i.parts c.index-parts-i.result inv.parts c.loop-i-test.true in
     let pins = c.pins-pins.ensures ∙ ap (λ (y : g.row.P.Denot). length (p.machine.drives (p.state y))) (some_same (sym other ∙ old)) in
     let first = ap (λ (l : List ℕ). get_or l i 0) c.as_slice.ensures in
-    c.requires.holds i _ old later ∙ sym (part_of c.args.wiring.now c.args.held.now i _ _ _ first pins)
+    let inside : i < length c.loop-i.flags = omega (arith, inv.flags_long, c.requires.flags, c.loop-i-test.true) in
+    let flag = sym (inv.flags_rest i (omega arith)) ∙ get_within c.loop-i.flags i false inside ∙ ap Some set in
+    c.requires.differ i _ old flag later (same ∙ sym (part_of c.args.wiring.now c.args.own.now i _ _ _ first pins))
 
 pub loop-i-preserved : goal.loop-i-preserved
 loop-i-preserved g c =
@@ -65,11 +62,13 @@ loop-i-preserved g c =
     let room : i < length c.loop-i.answers = omega (arith, c.loop-i.auto.answers, c.requires.answers) in
     let within : i < length c.loop-i.parts = omega (arith, c.loop-i.auto.parts) in
     let state_at = λ (ts : List p.State). get_or ts i (p.state x) in
-    let turn = λ (inputs : List Input) (ls : List Level) (ts : List p.State) (awaits : Awaits m w p.state p.now c.args.given.now inputs ls c.args.own.now c.args.held.now t c.args.parts.now ts).
+    let space : i < length c.loop-i.flags = omega (arith, inv.flags_long, c.requires.flags, c.loop-i-test.true) in
+    let flag = sym (inv.flags_rest i (omega arith)) ∙ get_within c.loop-i.flags i false space in
+    let turn = λ (inputs : List Input) (ls : List Level) (ts : List p.State) (awaits : Awaits m w p.state p.now c.args.given.now inputs ls c.args.own.now c.args.flags.now t c.args.parts.now ts).
     let inside : i < length ts = omega (arith, awaits.stands.long, c.loop-i-test.true) in
-    awaited_turn m g.met.P.Part.laws w c.args.given.now inputs p.state p.now p.wake_count ls c.args.own.now c.args.held.now t c.args.parts.now ts c.requires.end awaits
-    i x y (state_at ts) _ c.find_input-input.result c.take_turn-byte.result.0 (get_or c.as_slice.result.now i 0) c.pins-pins.result c.take_turn-byte.result.1
-    old (get_within ts i (p.state x) inside) may first pins c.find_input-input.ensures e.turn in
+    awaited_turn m g.met.P.Part.laws w c.args.given.now inputs p.state p.now p.wake_count ls c.args.own.now c.args.flags.now t c.args.parts.now ts c.requires.end awaits
+    i x y (state_at ts) _ c.find_input-input.result c.take_turn-byte.result.0 (get_or c.as_slice.result.now i 0) c.pins-pins.result (get_or c.loop-i.flags i false) c.take_turn-byte.result.1
+    old (get_within ts i (p.state x) inside) flag may first pins c.find_input-input.ensures e.turn in
     record {
       parts = done_more _ i c.args.parts.now c.loop-i.parts x y inv.parts c.loop-i-test.true old refl;
       rest = λ k l. ap (λ (ds : List (Option ℕ)). slice_get ds k) c.set.ensures ∙ get_set_other c.loop-i.dues i k _ (omega arith) ∙ inv.rest k (omega arith);
@@ -77,8 +76,11 @@ loop-i-preserved g c =
       dues_long = ap length c.set.ensures ∙ length-set c.loop-i.dues i _ ∙ inv.dues_long;
       turns = λ inputs ls ts awaits.
           let inside : i < length ts = omega (arith, awaits.stands.long, c.loop-i-test.true) in
-          turns_more m g.met.P.Part.laws w inputs p.state p.now p.wake_count ls t ts i c.args.parts.now c.loop-i.parts c.loop-i.answers c.loop-i.changed c.take_turn-byte.result.1 x y (state_at ts) c.take_turn-byte.result.0
-          (inv.turns inputs ls ts awaits) old (get_within ts i (p.state x) inside) within room (turn inputs ls ts awaits).0;
+          turns_more m g.met.P.Part.laws w inputs p.state p.now p.wake_count ls t ts i c.args.parts.now c.loop-i.parts c.loop-i.answers c.loop-i.flags c.take_turn-byte.result.1 x y (state_at ts) c.take_turn-byte.result.0
+          (inv.turns inputs ls ts awaits) old (get_within ts i (p.state x) inside) within room space (turn inputs ls ts awaits).0;
+      flags_long = length-set c.loop-i.flags i _ ∙ inv.flags_long;
+      flags_rest = λ k l. get_set_other c.loop-i.flags i k _ (omega arith) ∙ inv.flags_rest k (omega arith);
+      unset = λ none. let both = or_none c.loop-i.changed c.take_turn-byte.result.1 none in unset_more c.loop-i.flags i c.take_turn-byte.result.1 space both.1 (inv.unset both.0);
       silent = λ none. silent_more c.loop-i.answers i c.take_turn-byte.result.0 c.loop-i.sent _ room c.is_some-sent.ensures none inv.silent;
       steps = λ inputs ls ts awaits.
           let inside : i < length ts = omega (arith, awaits.stands.long, c.loop-i-test.true) in
@@ -90,10 +92,15 @@ pub returns-clause-turns : goal.returns-clause-turns
 returns-clause-turns g c = λ inputs ls ts awaits.
     let p = g.P.Part in
     let e : c.loop-i.i ≡ length c.args.parts.now = omega (arith, c.loop-i.auto.parts) in
-    subst (λ (n : ℕ). Turns p.machine c.args.wiring.now inputs p.state p.now p.wake_count ls c.args.t ts n c.args.parts.now c.loop-i.parts c.loop-i.answers c.loop-i.changed) e (c.loop-i.invariant.turns inputs ls ts awaits)
+    subst (λ (n : ℕ). Turns p.machine c.args.wiring.now inputs p.state p.now p.wake_count ls c.args.t ts n c.args.parts.now c.loop-i.parts c.loop-i.answers c.loop-i.flags) e (c.loop-i.invariant.turns inputs ls ts awaits)
 
 pub returns-clause-steps : goal.returns-clause-steps
 returns-clause-steps g c = λ inputs ls ts awaits.
     let p = g.P.Part in
     let e : c.loop-i.i ≡ length c.args.parts.now = omega (arith, c.loop-i.auto.parts) in
     subst (λ (n : ℕ). c.loop-i.steps ≡ c.args.steps.now + sum_below n (λ k. active_in p.machine c.args.wiring.now inputs ls c.args.t k (slice_get ts k))) e (c.loop-i.invariant.steps inputs ls ts awaits)
+
+pub returns-clause-unset : goal.returns-clause-unset
+returns-clause-unset g c = λ none k b eb.
+    let within = slice_get_within c.loop-i.flags k b eb in
+    c.loop-i.invariant.unset none k b (omega (arith, within, c.loop-i.invariant.flags_long, c.requires.flags, c.loop-i.auto.parts, c.loop-i-test.false)) eb

@@ -1,4 +1,4 @@
-use Rattle.std.proofs.Common.{◌≡◌, ◌+◌, ◌≤◌, ℕ, List, [], length, take, false}
+use Rattle.std.proofs.Common.{◌≡◌, ◌+◌, ◌<◌, ◌≤◌, ℕ, List, [], length, take, Bool, Some, false}
 use Rattle.std.specs.Prelude.{slice_get}
 use Rattle.sim_base.specs.declared.signal.Level.{Level}
 use Rattle.sim_base.specs.declared.wiring.Input.{Input}
@@ -17,9 +17,12 @@ invariant-loop-i g l =
       rest : (k : ℕ) → l.i ≤ k → slice_get l.dues k ≡ slice_get l.fn.dues k;
       dues_long : length l.dues ≡ length l.fn.dues;
       due : AreDue p.machine p.state p.now p.wake_count l.parts l.dues;
-      turns : (inputs : List Input) (ls : List Level) (ts : List p.State) → Awaits p.machine l.wiring p.state p.now l.given inputs ls l.own l.held l.t l.fn.parts ts →
-          Turns p.machine l.wiring inputs p.state p.now p.wake_count ls l.t ts l.i l.fn.parts l.parts l.answers l.changed;
+      turns : (inputs : List Input) (ls : List Level) (ts : List p.State) → Awaits p.machine l.wiring p.state p.now l.given inputs ls l.own l.fn.flags l.t l.fn.parts ts →
+          Turns p.machine l.wiring inputs p.state p.now p.wake_count ls l.t ts l.i l.fn.parts l.parts l.answers l.flags;
+      flags_long : length l.flags ≡ length l.fn.flags;
+      flags_rest : (k : ℕ) → l.i ≤ k → slice_get l.flags k ≡ slice_get l.fn.flags k;
+      unset : l.changed ≡ false → (k : ℕ) (b : Bool) → k < l.i → slice_get l.flags k ≡ Some b → b ≡ false;
       silent : l.sent ≡ false → options (take l.i l.answers) ≡ [];
-      steps : (inputs : List Input) (ls : List Level) (ts : List p.State) → Awaits p.machine l.wiring p.state p.now l.given inputs ls l.own l.held l.t l.fn.parts ts →
+      steps : (inputs : List Input) (ls : List Level) (ts : List p.State) → Awaits p.machine l.wiring p.state p.now l.given inputs ls l.own l.fn.flags l.t l.fn.parts ts →
           l.steps ≡ l.fn.steps + sum_below l.i (λ k. active_in p.machine l.wiring inputs ls l.t k (slice_get ts k));
     }

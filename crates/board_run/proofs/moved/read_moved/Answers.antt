@@ -1,0 +1,101 @@
+use Rattle.std.proofs.Common.{◌≡◌, ◌+◌, ◌<◌, ◌≤◌, ◌∙◌, ap, sym, subst, arith, length, map, get_or, List, Bool, Some, false, refl}
+use Rattle.std.specs.Prelude.{slice_get}
+use Rattle.std.proofs.lemmas.List.{length-map}
+use Rattle.net_resolve.specs.Circuit.{Circuit}
+use Rattle.board_model.proofs.Lists.{some_map, some_same, get_within, flat_map_room}
+use Rattle.board_run.specs.Seen.{IsRead}
+use Rattle.board_run.proofs.GatherLemmas.{item_at}
+use Rattle.board_run.proofs.ReadLemmas.{gathered_more, gathered_end, still_read}
+use Rattle.board_run.proofs.moved.read_moved.Goals as goal
+
+pub read_part-requires-clause-pins : goal.read_part-requires-clause-pins
+read_part-requires-clause-pins g c =
+    let p = g.P.Part in
+    let i = c.loop-i.i in
+    let inv = c.loop-i.invariant in
+    let es = some_map p.state c.args.parts.now i _ (item_at c.args.parts.now i c.index-parts-i-in-loop-i-2.result c.loop-i-test.true c.index-parts-i-in-loop-i-2.is) in
+    let room = flat_map_room p.machine.drives (map p.state c.args.parts.now) i _ es in
+    omega (arith, room, inv.pins.place, c.requires.pins, ap (λ (x : Circuit). length x.net_of) inv.rest)
+
+pub read_part-requires-clause-contacts : goal.read_part-requires-clause-contacts
+read_part-requires-clause-contacts g c =
+    let p = g.P.Part in
+    let i = c.loop-i.i in
+    let inv = c.loop-i.invariant in
+    let es = some_map p.state c.args.parts.now i _ (item_at c.args.parts.now i c.index-parts-i-in-loop-i-2.result c.loop-i-test.true c.index-parts-i-in-loop-i-2.is) in
+    let room = flat_map_room p.machine.contacts (map p.state c.args.parts.now) i _ es in
+    omega (arith, room, inv.ports.place, c.requires.contacts, ap (λ (x : Circuit). length x.contacts) inv.rest)
+
+pub read_part-requires-clause-few : goal.read_part-requires-clause-few
+read_part-requires-clause-few g c =
+    let rest = c.loop-i.invariant.rest in
+    (omega (arith, c.requires.few.0, ap (λ (x : Circuit). length x.net_of) rest), omega (arith, c.requires.few.1, ap (λ (x : Circuit). length x.contacts) rest))
+
+pub read_part-requires-clause-drives_long : goal.read_part-requires-clause-drives_long
+read_part-requires-clause-drives_long g c =
+    let inv = c.loop-i.invariant in
+    omega (arith, inv.pins.long, c.requires.drives_long, ap (λ (x : Circuit). length x.net_of) inv.rest)
+
+pub read_part-requires-clause-closed_long : goal.read_part-requires-clause-closed_long
+read_part-requires-clause-closed_long g c =
+    let inv = c.loop-i.invariant in
+    omega (arith, inv.ports.long, c.requires.closed_long, ap (λ (x : Circuit). length x.contacts) inv.rest)
+
+pub read_part-requires-clause-read : goal.read_part-requires-clause-read
+read_part-requires-clause-read g c = λ none.
+    let p = g.P.Part in
+    let i = c.loop-i.i in
+    let inv = c.loop-i.invariant in
+    let es = some_map p.state c.args.parts.now i _ (item_at c.args.parts.now i c.index-parts-i-in-loop-i-2.result c.loop-i-test.true c.index-parts-i-in-loop-i-2.is) in
+    let inside : i < length c.args.moved.now = omega (arith, c.requires.moved, c.loop-i-test.true) in
+    let flag : slice_get c.args.moved.now i ≡ Some false = get_within c.args.moved.now i false inside ∙ ap Some none in
+    still_read p.machine (map p.state c.args.parts.now) i c.loop-i.pin c.loop-i.contact _ c.args.nets.now c.loop-i.nets inv.pins inv.ports (c.requires.read i _ es flag)
+
+pub overflow_add-pin : goal.overflow_add-pin
+overflow_add-pin g c =
+    let p = g.P.Part in
+    let i = c.loop-i.i in
+    let inv = c.loop-i.invariant in
+    let es = some_map p.state c.args.parts.now i _ (item_at c.args.parts.now i c.index-parts-i.result c.loop-i-test.true c.index-parts-i.is) in
+    let room = flat_map_room p.machine.drives (map p.state c.args.parts.now) i _ es in
+    omega (arith, room, inv.pins.place, c.requires.pins, c.requires.few.0, c.pins-pins.ensures)
+
+pub overflow_add-contact : goal.overflow_add-contact
+overflow_add-contact g c =
+    let p = g.P.Part in
+    let i = c.loop-i.i in
+    let inv = c.loop-i.invariant in
+    let es = some_map p.state c.args.parts.now i _ (item_at c.args.parts.now i c.index-parts-i-in-loop-i.result c.loop-i-test.true c.index-parts-i-in-loop-i.is) in
+    let room = flat_map_room p.machine.contacts (map p.state c.args.parts.now) i _ es in
+    omega (arith, room, inv.ports.place, c.requires.contacts, c.requires.few.1, c.contacts-contacts.ensures)
+
+pub loop-i-preserved : goal.loop-i-preserved
+loop-i-preserved g c =
+    let p = g.P.Part in
+    let i = c.loop-i.i in
+    let inv = c.loop-i.invariant in
+    let ss = map p.state c.args.parts.now in
+    let one = item_at c.args.parts.now i c.index-parts-i.result c.loop-i-test.true c.index-parts-i.is in
+    let two = item_at c.args.parts.now i c.index-parts-i-in-loop-i.result c.loop-i-test.true c.index-parts-i-in-loop-i.is in
+    let it = item_at c.args.parts.now i c.index-parts-i-in-loop-i-2.result c.loop-i-test.true c.index-parts-i-in-loop-i-2.is in
+    let es = some_map p.state c.args.parts.now i _ it in
+    let new = c.read_part.new.nets in
+    record {
+      pins = gathered_more p.machine.drives ss i c.loop-i.pin c.pins-pins.result c.args.nets.now.drives c.loop-i.nets.drives new.drives _ es
+          (c.pins-pins.ensures ∙ ap (λ (x : g.row.P.Denot). length (p.machine.drives (p.state x))) (some_same (sym one ∙ it))) inv.pins c.read_part.ensures.drives;
+      ports = gathered_more p.machine.contacts ss i c.loop-i.contact c.contacts-contacts.result c.args.nets.now.closed c.loop-i.nets.closed new.closed _ es
+          (c.contacts-contacts.ensures ∙ ap (λ (x : g.row.P.Denot). length (p.machine.contacts (p.state x))) (some_same (sym two ∙ it))) inv.ports c.read_part.ensures.closed;
+      rest = c.read_part.ensures.rest ∙ ap (λ (x : Circuit). record x { drives = new.drives; closed = new.closed }) inv.rest;
+    }
+
+pub returns-clause-drives : goal.returns-clause-drives
+returns-clause-drives g c =
+    let p = g.P.Part in
+    let end : length (map p.state c.args.parts.now) ≤ c.loop-i.i = (let l : length (map p.state c.args.parts.now) ≡ length c.args.parts.now = simp length-map refl in omega (arith, l, c.loop-i-test.false)) in
+    gathered_end p.machine.drives (map p.state c.args.parts.now) c.loop-i.i c.loop-i.pin c.args.nets.now.drives c.loop-i.nets.drives end c.loop-i.invariant.pins (c.requires.drives_long ∙ c.requires.pins)
+
+pub returns-clause-closed : goal.returns-clause-closed
+returns-clause-closed g c =
+    let p = g.P.Part in
+    let end : length (map p.state c.args.parts.now) ≤ c.loop-i.i = (let l : length (map p.state c.args.parts.now) ≡ length c.args.parts.now = simp length-map refl in omega (arith, l, c.loop-i-test.false)) in
+    gathered_end p.machine.contacts (map p.state c.args.parts.now) c.loop-i.i c.loop-i.contact c.args.nets.now.closed c.loop-i.nets.closed end c.loop-i.invariant.ports (c.requires.closed_long ∙ c.requires.contacts)

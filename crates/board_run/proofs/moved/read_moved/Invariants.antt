@@ -1,0 +1,13 @@
+use Rattle.std.proofs.Common.{◌≡◌, map}
+use Rattle.board_run.specs.Seen.{Gathered}
+use Rattle.board_run.proofs.moved.read_moved.Given as goal
+
+-- the parts before i were read
+abbrev pub invariant-loop-i : goal.invariant-loop-i
+invariant-loop-i g l =
+    let p = g.P.Part in
+    record {
+      pins : Gathered p.machine.drives (map p.state l.parts) l.i l.pin l.fn.nets.drives l.nets.drives;
+      ports : Gathered p.machine.contacts (map p.state l.parts) l.i l.contact l.fn.nets.closed l.nets.closed;
+      rest : l.nets ≡ record l.fn.nets { drives = l.nets.drives; closed = l.nets.closed };
+    }
