@@ -16,7 +16,7 @@ use Rattle.board_model.specs.Walks.{below}
 use Rattle.board_model.specs.Board.{levels_of, part_step, steps_from, options, states, bytes}
 use Rattle.board_model.specs.Rows.{Shown, shown_of, row_if, shown_before, rows}
 use Rattle.board_model.proofs.Lists.{some_same, some_map, get_within, get_set_same, get_set_other, same_lists, get-below, length-below}
-use Rattle.board_laws.specs.Orders.{IsOrder, move_part, move_parts, moved_in, states_in, bytes_in, shown_before_in, rows_in}
+use Rattle.board_laws.specs.Orders.{IsOrder, move_part, move_parts, moved_in, states_in, bytes_in, shown_before_in, rows_in, SameInOrders}
 use Rattle.board_model.proofs.Steps.{length-steps_from, get-steps_from, length-states}
 
 -- whether k is among these
@@ -154,3 +154,6 @@ module _ {S : Type 0} (m : Machine S) (w : Wiring) (inputs : List Input) (orders
       ap (λ (l : List Row). l ++ row_if m w (shown_before_in m w inputs orders before ss c n) (states_in m w inputs orders ss c n) (c + n)) (rows_in_orders before n first)
       ∙ ap (λ (b : Option Shown). rows m w inputs before ss c n ++ row_if m w b (states_in m w inputs orders ss c n) (c + n)) (shown_in_orders before n first)
       ∙ ap (λ (l : List S). rows m w inputs before ss c n ++ row_if m w (shown_before m w inputs before ss c n) l (c + n)) (states_in_orders n first)
+
+  pub in_orders : (before : Option Shown) (n : ℕ) → ((k : ℕ) → k < n → IsOrder (length ss) (orders k)) → SameInOrders m w inputs orders before ss c n
+  in_orders before n are = record { same_states = states_in_orders n are; same_rows = rows_in_orders before n are; same_bytes = bytes_in_orders n are }
