@@ -232,17 +232,6 @@ impl Nets {
         self.marks.clear();
     }
 
-    /// Finds the levels by what the pins drive and which contacts are closed.
-    pub fn resolve(&mut self, drives: &[Drive], closed: &[bool])
-        requires drives { length drives.now ≡ length self.old.net_of }
-        requires closed { length closed.now ≡ length self.old.contacts }
-        ensures { self.new ≡ record self.old { drives = drives.now; closed = closed.now; levels = resolve self.old.nets self.old.net_of self.old.contacts self.old.resistors closed.now drives.now; changed = self.new.changed } }
-    {
-        set_drives(self, drives);
-        set_contacts(self, closed);
-        self.resolve_marked();
-    }
-
     /// What each pin drives.
     pub fn drives(&self) -> &[Drive]
         ensures drives { result.now ≡ self.now.drives }
@@ -282,24 +271,6 @@ impl Nets {
         ensures nets { (n : ℕ) → has result.now n ≡ true → n < self.now.nets }
     {
         self.changed.marked()
-    }
-}
-
-fn set_drives(nets: &mut Nets, drives: &[Drive])
-    requires { length drives.now ≡ length nets.old.net_of }
-    ensures { nets.new ≡ record nets.old { drives = drives.now } }
-{
-    for pin in 0..nets.drives().len() {
-        nets.set_drive(pin, drives[pin]);
-    }
-}
-
-fn set_contacts(nets: &mut Nets, closed: &[bool])
-    requires { length closed.now ≡ length nets.old.contacts }
-    ensures { nets.new ≡ record nets.old { closed = closed.now } }
-{
-    for contact in 0..nets.closed().len() {
-        nets.set_contact(contact, closed[contact]);
     }
 }
 

@@ -45,6 +45,16 @@ fn wiring_of(alloc: Global, circuit: &Circuit) -> Result<Wiring, OutOfMemory>
     })
 }
 
+fn set_contacts(nets: &mut Nets, closed: &[bool])
+    requires { length closed.now ≡ length nets.old.contacts }
+    ensures pins { nets.new.net_of ≡ nets.old.net_of }
+    ensures contacts { nets.new.contacts ≡ nets.old.contacts }
+{
+    for contact in 0..closed.len() {
+        nets.set_contact(contact, closed[contact]);
+    }
+}
+
 /// The levels of nets 0 to 2 for these drives, which the plain program has too, though other levels
 /// were resolved before; the nets that are told to have changed are those whose levels differ.
 fn levels_of(
@@ -57,7 +67,11 @@ fn levels_of(
     assert!(rt; has_valid_nets(&wiring));
     assert!(rt; circuit.closed.len() == wiring.contacts.len());
     let mut nets = Nets::new(alloc, &wiring)?;
-    nets.resolve(&[drives[1], drives[0], drives[2]], circuit.closed);
+    set_contacts(&mut nets, circuit.closed);
+    nets.set_drive(0, drives[1]);
+    nets.set_drive(1, drives[0]);
+    nets.set_drive(2, drives[2]);
+    nets.resolve_marked();
     if circuit.closed.len() > 0 {
         nets.set_contact(0, !circuit.closed[0]);
         nets.resolve_marked();
