@@ -1,0 +1,89 @@
+-- A cycle without an event leaves the SPI as it is, unless SS falls.
+use Rattle.std.specs.Prelude.{◌≡◌, ℕ, ◌==◌, Bool, true, false, ◌&&◌, ◌||◌, not, if◌then◌else◌, List, Option, Some, None}
+use Rattle.std.proofs.Common.{refl, ap, sym, ◌∙◌}
+use Rattle.sim_base.specs.declared.signal.Level.{Level}
+use Rattle.unit_law.specs.Bits.{with_bit}
+use Rattle.unit_law.specs.Coming.{comes}
+use Rattle.unit_law.specs.UnitMachine.{Laws, at_register}
+use Rattle.avr_spi.specs.declared.registers.Register.{Register}
+use Rattle.avr_spi.specs.declared.registers.Register.TheVariants.{DDRB, SPCR, SPSR, SPDR}
+use Rattle.avr_spi.specs.declared.shifter.Transfer.{Transfer}
+use Rattle.avr_spi.specs.declared.shifter.Shifter.{Shifter}
+use Rattle.avr_spi.specs.Registers.{register_at, moves_pad}
+use Rattle.avr_spi.specs.Shifter.{shifted, acted, next_event}
+use Rattle.avr_spi.specs.Spi.{Spi, spi, spi_pad, requests, stepped, watches, is_selected, deselected, looked, with_register, after_read, kept, ss_low, miso}
+
+neither : (a b : Bool) → (a || b) ≡ false → (a ≡ false) × (b ≡ false)
+neither true b h = cc
+neither false b h = (refl, h)
+
+chosen : {A : Type 0} (b : Bool) (x y : A) → b ≡ false → (if b then x else y) ≡ y
+chosen true x y h = cc
+chosen false x y h = refl
+
+quiet_clock : (s : Shifter) (o : Option Transfer) (t : ℕ) (b : Bool) → comes (next_event o) t ≡ false → shifted s o t b ≡ s
+quiet_clock s None t b h = refl
+quiet_clock s (Some x) t b h = chosen (x.event == t) (acted s x x.phase t b) s h
+
+-- what SS does is of no effect where it is not looked at and does not fall
+unselected : (w before now looks : Bool) → looks ≡ false → (w && (now && not before)) ≡ false → (w && (now && (looks || not before))) ≡ false
+unselected w before now true h none = cc
+unselected w before now false h none = none
+
+unlooked : (u : Spi) (t : ℕ) → comes u.look t ≡ false → looked u t ≡ u
+unlooked u t h = ap (λ (o : Option ℕ). record u { look = o }) (chosen (comes u.look t) None u.look h)
+
+quiet_by : (u : Spi) (t : ℕ) (before now b : Bool) → comes (next_event u.shifter.transfer) t ≡ false → comes u.look t ≡ false →
+    (watches u && (now && not before)) ≡ false → stepped u t before now b ≡ u
+quiet_by u t before now b h k none =
+    chosen (is_selected u t before now) (deselected (looked u t)) (record (looked u t) { shifter = shifted u.shifter u.shifter.transfer t b }) (unselected (watches u) before now (comes u.look t) k none)
+    ∙ ap (λ (s : Shifter). record (looked u t) { shifter = s }) (quiet_clock u.shifter u.shifter.transfer t b h)
+    ∙ unlooked u t k
+
+no_fall : (w b : Bool) → (w && (b && not b)) ≡ false
+no_fall true true = refl
+no_fall true false = refl
+no_fall false b = refl
+
+pub quiet : (u : Spi) (t : ℕ) (l : List Level) → spi.due u t ≡ false → spi.step u t l l ≡ u
+quiet u t l h =
+    let d = neither (comes (next_event u.shifter.transfer) t) (comes u.look t) h in
+    quiet_by u t (ss_low l) (ss_low l) (miso l) d.0 d.1 (no_fall (watches u) (ss_low l))
+
+unheard : (u : Spi) (t : ℕ) (before now : List Level) → spi.due u t ≡ false → spi.hears u before now ≡ false → spi.step u t before now ≡ u
+unheard u t before now h none =
+    let d = neither (comes (next_event u.shifter.transfer) t) (comes u.look t) h in
+    quiet_by u t (ss_low before) (ss_low now) (miso now) d.0 d.1 none
+
+read_pad : (u : Spi) (o : Option Register) (p : ℕ) → spi_pad (at_register o u (after_read u)) p ≡ spi_pad u p
+read_pad u None p = refl
+read_pad u (Some DDRB) p = refl
+read_pad u (Some SPCR) p = refl
+read_pad u (Some SPSR) p = refl
+read_pad u (Some SPDR) p = refl
+
+write_pad : (u : Spi) (t : ℕ) (r : Register) (x p : ℕ) → moves_pad r ≡ false → spi_pad (with_register u t r x) p ≡ spi_pad u p
+write_pad u t SPCR x p h = cc
+write_pad u t SPDR x p h = cc
+write_pad u t SPSR x p h = refl
+write_pad u t DDRB x p h = refl
+
+at_pad : (u : Spi) (t : ℕ) (o : Option Register) (x : Register → ℕ) (p : ℕ) → at_register o false moves_pad ≡ false →
+    spi_pad (at_register o u (λ r. with_register u t r (x r))) p ≡ spi_pad u p
+at_pad u t None x p h = refl
+at_pad u t (Some r) x p h = write_pad u t r (x r) p h
+
+pub spi_laws : Laws spi
+spi_laws = record {
+  keeps_pad = λ s t l p h. ap (λ (u : Spi). spi_pad u p) (quiet s t l h);
+  keeps_requests = λ s t l h. ap requests (quiet s t l h);
+  keeps_hears = λ s t l before now h. ap (λ (u : Spi). spi.hears u before now) (quiet s t l h);
+  keeps_silent = λ s t h. refl;
+  deaf = λ s t l k h. quiet s t l h ∙ sym (quiet s t k h);
+  unheard = λ s t before now h none. unheard s t before now h none ∙ sym (quiet s t now h);
+  unheard_requests = λ s before now h. refl;
+  reads_pad = λ s t a p. read_pad s (register_at a) p;
+  writes_pad = λ s t a x p h. at_pad s t (register_at a) (λ r. x) p h;
+  bits_pad = λ s t a k x p h. at_pad s t (register_at a) (λ r. with_bit (kept s r) k x) p h;
+  taken_pad = λ s v p. refl;
+}
