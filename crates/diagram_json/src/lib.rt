@@ -7,8 +7,6 @@ mod connections;
 mod documents;
 mod parts;
 mod refusals;
-#[cfg(test)]
-mod tests;
 
 pub use document_model::{Diagram, PartText, Wire};
 pub use documents::read_diagram;

@@ -11,6 +11,3 @@ mod script;
 pub use hex::read_hex;
 pub use lines::{find, next_line};
 pub use script::{Script, ScriptRow};
-
-#[cfg(test)]
-mod tests;

@@ -10,6 +10,3 @@ mod settings;
 pub use kind::{Kind, kind_of};
 pub use pins::{contacts_of, joins, pin_count, pin_name, pin_number};
 pub use settings::{Settings, greatest_value, kind_with, settings_of};
-
-#[cfg(test)]
-mod tests;

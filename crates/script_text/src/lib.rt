@@ -5,8 +5,6 @@
 
 mod action;
 mod script;
-#[cfg(test)]
-mod tests;
 mod words;
 
 pub use script::read_script;

@@ -15,6 +15,3 @@ mod writer;
 pub use head::WaveHead;
 pub use variable::{Shown, Variable};
 pub use writer::WaveWriter;
-
-#[cfg(test)]
-mod tests;
