@@ -1,0 +1,3 @@
+pub mod HostNames
+pub mod Imports
+pub mod Reading
