@@ -1,0 +1,2 @@
+pub mod DocumentLemmas
+mod NameLemmas

@@ -1,0 +1,2 @@
+pub mod ChipJson
+pub mod Texts
