@@ -12,17 +12,20 @@ use Rattle.avr_adc.specs.Adc.{Adc, adc}
 use Rattle.avr_adc.specs.AdcLaws.{adc_laws}
 use Rattle.avr_usart.specs.Usart.{Usart, usart}
 use Rattle.avr_usart.specs.UsartLaws.{usart_laws}
+use Rattle.avr_spi.specs.Spi.{Spi, spi}
+use Rattle.avr_spi.specs.SpiLaws.{spi_laws}
 
 abbrev pub Devices : Type 0
-Devices = Ports × (Timer8 × (Timer16 × (Timer8 × (Adc × Usart))))
+Devices = Ports × (Timer8 × (Timer16 × (Timer8 × (Adc × (Usart × Spi)))))
 
 abbrev pub devices : UnitMachine Devices
-devices = both ports (both (timer8 Zero) (both timer16 (both (timer8 Two) (both adc usart))))
+devices = both ports (both (timer8 Zero) (both timer16 (both (timer8 Two) (both adc (both usart spi)))))
 
 pub devices_laws : Laws devices
 devices_laws =
-    both_laws ports (both (timer8 Zero) (both timer16 (both (timer8 Two) (both adc usart)))) ports_laws
-    (both_laws (timer8 Zero) (both timer16 (both (timer8 Two) (both adc usart))) (timer8_laws Zero)
-    (both_laws timer16 (both (timer8 Two) (both adc usart)) timer16_laws
-    (both_laws (timer8 Two) (both adc usart) (timer8_laws Two)
-    (both_laws adc usart adc_laws usart_laws))))
+    both_laws ports (both (timer8 Zero) (both timer16 (both (timer8 Two) (both adc (both usart spi))))) ports_laws
+    (both_laws (timer8 Zero) (both timer16 (both (timer8 Two) (both adc (both usart spi)))) (timer8_laws Zero)
+    (both_laws timer16 (both (timer8 Two) (both adc (both usart spi))) timer16_laws
+    (both_laws (timer8 Two) (both adc (both usart spi)) (timer8_laws Two)
+    (both_laws adc (both usart spi) adc_laws
+    (both_laws usart spi usart_laws spi_laws)))))
