@@ -2,13 +2,14 @@
 # Measures boards on which pins move, beside simavr (Debian's package) where it is there:
 # - pin.hex, which moves pin 13 5,320,000 times in 16,000,000 cycles: `bare` with its wave to /dev/null and to a file, simavr
 #   with that pin as a VCD (avr-gcc makes the firmware that asks for it);
-# - the same on a board of an Uno, a resistor and an LED, and beside them 61 LEDs that nothing happens to;
+# - the same on a board of an Uno and an LED, and beside them 62 LEDs that nothing happens to;
 # - tick.hex, asleep but for an interrupt of timer 0 each millisecond, 160,000,000 cycles (10 s);
 # - toggle.hex, asleep, whose pin 6 a timer moves every 262,144 cycles, with 63 LEDs on that pin, 10 s.
-# Prints seconds of processor time, the least of five runs in turn. The program runs in 64 MiB of address space.
+# Prints seconds of processor time, the least of five runs in turn. The program runs in 64 MiB of address space. PROGRAM=FILE
+# before the script measures another program.
 set -euo pipefail
 here=$(cd "$(dirname "$0")" && pwd)
-program=$here/../mudflatjar
+program=${PROGRAM:-$here/../mudflatjar}
 "$program" bare "$here/pin.hex" --us 1 >/dev/null
 folder=$(mktemp -d)
 trap 'rm -rf "$folder"' EXIT
@@ -24,7 +25,7 @@ board() { limited run "$1" --us "$2" --vcd /dev/null; }
 traced() { simavr pin.elf; }
 untraced() { simavr -m atmega328p -f 16000000 "$here/$1.hex"; }
 
-project() { # NAME PIN LEDS: an Uno with so many LEDs on the pin and the others on pin 2
+project() { # NAME FIRMWARE PIN N M: an Uno with N LEDs on the pin and M on pin 2
     mkdir "$1"
     cp "$here/$2.hex" "$1/firmware.hex"
     printf "[wokwi]\nversion = 1\nfirmware = 'firmware.hex'\n" >"$1/wokwi.toml"
