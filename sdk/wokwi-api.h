@@ -1,0 +1,96 @@
+// What a custom chip calls: the functions that the simulator gives to its module.
+//
+// The names and types are those that chips for Wokwi use, as far as the simulator has them, so that a chip of pins, watches,
+// timers and attributes is compiled as it stands. How each function is imported (its name, its parameters and its result),
+// and the offsets of the configurations, are the simulator's own: docs/CHIPS.md, "What a chip can call".
+//
+// Not here: analog pins, float attributes, UART, SPI and I2C.
+#ifndef WOKWI_API_H
+#define WOKWI_API_H
+
+#include <stdbool.h>
+#include <stdint.h>
+
+#ifdef __cplusplus
+extern "C" {
+#endif
+
+#define CHIP_IMPORT(name) __attribute__((import_module("env"), import_name(name)))
+#define CHIP_EXPORT(name) __attribute__((export_name(name)))
+
+// The function that the chip has: called once, before cycle 0. The functions that end in `_init` are called in it alone.
+CHIP_EXPORT("chipInit") void chip_init(void);
+
+// ---- pins
+
+// A pin by its position in the list of the chip's JSON file, from 0.
+typedef int32_t pin_t;
+
+#define NO_PIN ((pin_t)-1)
+
+enum pin_value {
+    LOW = 0,
+    HIGH = 1,
+};
+
+enum pin_mode {
+    INPUT = 0,
+    OUTPUT = 1,
+    INPUT_PULLUP = 2,
+    INPUT_PULLDOWN = 3,
+    ANALOG = 4,
+    // an output that begins with this value
+    OUTPUT_LOW = 16,
+    OUTPUT_HIGH = 17,
+};
+
+enum edge {
+    RISING = 1,
+    FALLING = 2,
+    BOTH = 3,
+};
+
+typedef struct {
+    void *user_data;
+    uint32_t edge;
+    void (*pin_change)(void *user_data, pin_t pin, uint32_t value);
+} pin_watch_config_t;
+
+// The pin with a name in a mode; NO_PIN where the chip's JSON file has no such name.
+CHIP_IMPORT("pinInit") pin_t pin_init(const char *name, uint32_t mode);
+CHIP_IMPORT("pinRead") uint32_t pin_read(pin_t pin);
+// A pin keeps its value in every mode, and drives it as an output.
+CHIP_IMPORT("pinWrite") void pin_write(pin_t pin, uint32_t value);
+CHIP_IMPORT("pinMode") void pin_mode(pin_t pin, uint32_t mode);
+// Calls back in the cycle of each edge; a pin has one watch, and the later one counts.
+CHIP_IMPORT("pinWatch") bool pin_watch(pin_t pin, const pin_watch_config_t *config);
+CHIP_IMPORT("pinWatchStop") void pin_watch_stop(pin_t pin);
+
+// ---- attributes: numbers that the diagram gives to a chip under `attrs`
+
+CHIP_IMPORT("attrInit") uint32_t attr_init(const char *name, uint32_t default_value);
+CHIP_IMPORT("attrRead") uint32_t attr_read(uint32_t attr);
+
+// ---- timers, at most 32
+
+typedef uint32_t timer_t;
+
+typedef struct {
+    void *user_data;
+    void (*callback)(void *user_data);
+    uint32_t reserved[8];
+} timer_config_t;
+
+CHIP_IMPORT("timerInit") timer_t timer_init(const timer_config_t *config);
+CHIP_IMPORT("timerStart") void timer_start(timer_t timer, uint32_t micros, bool repeat);
+// A cycle is 62.5 ns, and a delay is rounded up to whole cycles, one at least.
+CHIP_IMPORT("timerStartNanos") void timer_start_ns(timer_t timer, uint64_t nanos, bool repeat);
+CHIP_IMPORT("timerStop") void timer_stop(timer_t timer);
+// The time since cycle 0, rounded down.
+CHIP_IMPORT("getSimNanos") uint64_t get_sim_nanos(void);
+
+#ifdef __cplusplus
+}
+#endif
+
+#endif
