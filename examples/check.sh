@@ -82,7 +82,7 @@ twin counter/expected/run.vcd counter.vcd
 pulses <"$rows/crc.vcd" | same "crc in the rows" "$here/crc/expected/pulses.txt" || bad=1
 pulses <"$rows/sort.vcd" | same "sort in the rows" "$here/sort/expected/pulses.txt" || bad=1
 counts <"$rows/counter-down.vcd" | same "counter downwards in the rows" "$here/counter/expected/counts-down.txt" || bad=1
-for name in blink counter pulse arduino-blink fade pin-interrupt pot-blink; do
+for name in blink counter pulse arduino-blink fade pin-interrupt pot-blink serial-hello; do
     "$program" check "$here/$name" | same "$name as a project" "$here/$name/expected/check.txt" || bad=1
 done
 "$program" bare "$here/blink/blink.hex" --us 1 | same blink "$here/blink/expected/wave.vcd" || bad=1
@@ -100,6 +100,7 @@ wave "$here/arduino-blink" 2100000 | at 13 1 | same arduino-blink "$here/arduino
 wave "$here/fade" 200000 | widths 9 | same fade "$here/fade/expected/pulses.txt" || bad=1
 wave "$here/pin-interrupt" 30000 | at 13 1 | same pin-interrupt "$here/pin-interrupt/expected/pin13.txt" || bad=1
 wave "$here/pot-blink" 950000 | at 13 10 | same pot-blink "$here/pot-blink/expected/pin13.txt" || bad=1
+"$program" run "$here/serial-hello" --us 350000 | same "serial-hello's bytes" "$here/serial-hello/expected/serial.txt" || bad=1
 "$here/arduino.sh" --check || bad=1
 
 # the counter with pin 2 on ground

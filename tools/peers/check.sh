@@ -63,7 +63,8 @@ row() { # NAME MICROSECONDS WORDS OF uno.c
 with_uno() { # NAME MICROSECONDS WORDS OF uno.c
     name=$1 us=$2
     shift 2
-    "$program" run "$examples/$name" --us "$us" --vcd - | pins >"$folder/ours"
+    rm -f "$folder/ours"
+    "$program" run "$examples/$name" --us "$us" --vcd "$folder/wave" >/dev/null && pins <"$folder/wave" >"$folder/ours"
     "$folder/uno" "$examples/$name/$name.hex" "$((16 * us))" "$@" | pins >"$folder/theirs"
     [ -s "$folder/ours" ] && cmp -s "$folder/ours" "$folder/theirs"
     says $? "$name on uno.c, $(wc -l <"$folder/ours" | tr -d ' ') changes of pins"
@@ -86,6 +87,7 @@ if have cc && cc -O2 -o "$folder/uno" "$here/uno.c"; then
     with_uno fade 200000
     with_uno pin-interrupt 30000 9=2
     with_uno pot-blink 950000 14~100
+    with_uno serial-hello 350000
 else
     echo "uno.c: skipped, no compiler for C" >&2
 fi

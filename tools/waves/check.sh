@@ -59,6 +59,13 @@ wave() { # NAME WORDS
     fi
 }
 
+# what sigrok-cli's UART decoder finds on pin 1 is what was printed
+with_uart() { # NAME MICROSECONDS BAUD
+    "$program" run "$examples/$1" --us "$2" --vcd "$folder/wave" >"$folder/bytes" && [ -s "$folder/bytes" ] &&
+        sigrok-cli -I vcd:downsample=625 -i "$folder/wave" -P "uart:rx=uno.1:baudrate=$3" -B uart=rx | cmp -s - "$folder/bytes"
+    says $? "$1" "decoded by sigrok-cli at $3 baud"
+}
+
 have sigrok-cli || echo "sigrok-cli: skipped" >&2
 have vcd2fst fst2vcd || echo "vcd2fst: skipped" >&2
 
@@ -72,4 +79,5 @@ wave sort bare "$examples/sort/sort.hex" --us 100
 wave "blink with its LED" run "$examples/blink" --us 1 --vcd -
 wave counter run "$examples/counter" --us 30 --vcd -
 wave "63 LEDs" run "$folder/many" --us 10 --vcd -
+! have sigrok-cli || with_uart serial-hello 350000 9600
 exit $bad
