@@ -44,6 +44,16 @@ echo $? >status
 ends "an answer on standard output" 0 ""
 holds "the answer" out "$examples/blink/expected/check.txt"
 
+printf '%s\n' 'cycles 16' 'uno uno pc 0x0002 run' 'led led1 on lit 3' >expected.txt
+try run p --us 1 --report r.txt
+ends "a report in a file" 0 ""
+holds "the file of the report" r.txt expected.txt
+try run p --us 1 --report none/r.txt
+ends "a report in a folder that is not there" 6 "write failed"
+try run p --us 1 --script none.txt --report r.txt
+ends "a script that is not there" 4 "none.txt: missing"
+holds "the report of the run before" r.txt expected.txt
+
 # a file of more bytes than one read takes: records of data that repeat, before the last line
 {
     for n in 1 2 3 4 5 6 7 8 9 10; do sed '$d' "$examples/sort/sort.hex"; done

@@ -1,3 +1,2 @@
-mod PlayLemmas
-mod BareLemmas
 pub mod AnswerLemmas
+mod PlanLemmas

@@ -1,10 +1,13 @@
--- The board of one Uno without wires, and its wave (profile: the pins in the order of the editor's catalogue).
-use Rattle.std.specs.Prelude.{ℕ, ◌+◌, ◌∷◌, [], ◌++◌, List, map, false, codes, decimal, None}
+-- The board of one Uno named `uno`, without wires (profile: the pins in the order of the editor's catalogue).
+use Rattle.std.specs.Prelude.{ℕ, ◌+◌, ◌∷◌, [], ◌++◌, List, map, false, codes, None, Some}
 use Rattle.sim_base.specs.declared.wiring.Wiring.{Wiring}
-use Rattle.text_model.specs.Wave.{Variable, Net, wave_text}
 use Rattle.board_model.specs.Walks.{below}
-use Rattle.board_model.specs.Rows.{rows}
-use Rattle.avr_mcu.specs.Mcu.{mcu, start}
+use Rattle.part_catalog.specs.declared.kind.Kind.TheVariants as kinds
+use Rattle.board_build.specs.declared.plan.PlanKind.TheVariants as plans
+use Rattle.board_build.specs.declared.plan.PlanPart.{PlanPart}
+use Rattle.board_build.specs.declared.plan.Plan.{Plan}
+use Rattle.outcome_model.specs.Stop.{Texts}
+use Rattle.cli_board.specs.Run.{Outputs, run_texts}
 
 -- Pins 0 to 13 and A0 to A5 are nets of their own; A4.2 and A5.2 are joined with A4 and A5 inside the board; GND.1 to
 -- GND.3, 5V, 3.3V, VIN, IOREF, AREF and RESET follow.
@@ -18,16 +21,16 @@ uno_wiring = record {
   chip = false ∷ [];
 }
 
-abbrev pub digital_pin : ℕ → Variable
-digital_pin k = record { name = codes "uno." ++ decimal k; shows = Net k }
+abbrev pub uno_part : PlanPart
+uno_part = record { id = codes "uno"; kind = plans.Stock kinds.ArduinoUno; settings = record { number = 0; choice = 0 }; attrs = [] }
 
-abbrev pub analog_pin : ℕ → Variable
-analog_pin k = record { name = codes "uno.A" ++ decimal k; shows = Net (14 + k) }
+abbrev pub uno_plan : Plan
+uno_plan = record { parts = uno_part ∷ []; wiring = uno_wiring; inputs = [] }
 
--- the 20 digital pins 0 to 13 and A0 to A5, under the part's name `uno`
-abbrev pub uno_variables : List Variable
-uno_variables = map digital_pin (below 14) ++ map analog_pin (below 6)
+-- the wave on standard output, and nothing else
+abbrev pub bare_outputs : Outputs
+bare_outputs = record { serial = false; wave = Some (codes "-"); report = None }
 
--- the wave of a firmware's first n cycles
-abbrev pub bare_wave : List ℕ → ℕ → List ℕ
-bare_wave flash n = wave_text uno_variables (rows mcu uno_wiring [] None (start flash ∷ []) 0 n) n
+-- the wave of a firmware's first n cycles: of the 20 digital pins 0 to 13 and A0 to A5, under the name `uno`
+abbrev pub bare_run : List ℕ → ℕ → Texts
+bare_run flash n = run_texts bare_outputs (record { flash = flash; plan = uno_plan }) n

@@ -1,4 +1,4 @@
-//! The command `bare`: the wave of one Uno without wires, cycle by cycle.
+//! The command `bare`: the wave of one Uno without wires.
 //! `bare` ends as its answer says (`specs/Answer.antt`); memory runs out, if it does, before a port is
 //! opened.
 #![tactic(auto)]

@@ -1,12 +1,11 @@
-//! The board of one Uno without wires, and what its wave shows.
-ghost use Rattle.std.specs.Prelude.{◌≡◌, ◌+◌, ◌++◌, IfOk, map, decimal};
-ghost use Rattle.text_model.specs.Wave.{Net};
-ghost use Rattle.vcd_text.specs.Variables.{variable_of, variables_of};
-ghost use Rattle.cli_bare.specs.Bare.{uno_variables, uno_wiring};
+//! The plan of one Uno without wires.
+ghost use Rattle.std.specs.Prelude.{◌≡◌, IfOk, codes};
+ghost use Rattle.cli_bare.specs.Bare.{uno_wiring, uno_part, uno_plan};
 
-use sim_base::{List, OutOfMemory, Wiring};
+use board_build::{Plan, PlanKind, PlanPart};
+use part_catalog::{Kind, Settings};
+use sim_base::{List, Name, OutOfMemory, Wiring};
 use std::alloc::{AllocError, Global};
-use vcd_text::{Shown, Variable};
 
 /// The net of each pin: A4.2 and A5.2 are joined with A4 and A5.
 const NETS: [u16; 31] = [
@@ -20,8 +19,7 @@ fn list_of<T: Copy>(alloc: Global, items: &[T]) -> Result<List<T>, AllocError>
     Ok(List::from_vec(Vec::from_slice(alloc, items)?))
 }
 
-/// The Uno is the one part of the board.
-pub(crate) fn make_wiring(alloc: Global) -> Result<Wiring, OutOfMemory>
+fn make_wiring(alloc: Global) -> Result<Wiring, OutOfMemory>
     ensures { IfOk result (λ w. w ≡ uno_wiring) }
 {
     Ok(Wiring {
@@ -34,30 +32,38 @@ pub(crate) fn make_wiring(alloc: Global) -> Result<Wiring, OutOfMemory>
     })
 }
 
-pub(crate) fn make_variable(
-    alloc: Global,
-    prefix: &str,
-    number: u16,
-    net: u16,
-) -> Result<Variable, OutOfMemory>
-    ensures { IfOk result (λ v. variable_of v ≡ record { name = prefix.now ++ decimal number; shows = Net net }) }
+fn uno_id() -> Name
+    ensures { result ≡ codes "uno" }
 {
-    Ok(Variable {
-        name: format!(in alloc; "{prefix}{number}")?,
-        shows: Shown::Net(net),
-    })
+    match Name::read("uno") {
+        Some(id) => id,
+        None => unreachable!(),
+    }
 }
 
-/// Pins 0 to 13 and A0 to A5 of the part `uno`.
-pub(crate) fn make_variables(alloc: Global) -> Result<List<Variable>, OutOfMemory>
-    ensures { IfOk result (λ l. variables_of l ≡ uno_variables) }
+fn uno_part(alloc: Global) -> PlanPart
+    ensures { result ≡ uno_part }
 {
-    let mut variables = List::new(alloc);
-    for k in 0..14 {
-        variables.push(make_variable(alloc, "uno.", k, k)?)?;
+    PlanPart {
+        id: uno_id(),
+        kind: PlanKind::Stock(Kind::ArduinoUno),
+        settings: Settings {
+            number: 0,
+            choice: 0,
+        },
+        attrs: List::new(alloc),
     }
-    for k in 0..6 {
-        variables.push(make_variable(alloc, "uno.A", k, 14 + k)?)?;
-    }
-    Ok(variables)
+}
+
+/// The Uno is the one part of the board.
+pub(crate) fn make_plan(alloc: Global) -> Result<Plan, OutOfMemory>
+    ensures { IfOk result (λ p. p ≡ uno_plan) }
+{
+    let mut parts = List::new(alloc);
+    parts.push(uno_part(alloc))?;
+    Ok(Plan {
+        parts,
+        wiring: make_wiring(alloc)?,
+        inputs: List::new(alloc),
+    })
 }

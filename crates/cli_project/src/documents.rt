@@ -1,19 +1,65 @@
-//! The documents of a project, from their files.
-ghost use Rattle.std.specs.Prelude.{◌≡◌, ◌≤◌, IfOk, length, string_bytes};
+//! The documents of a project, each a kind of file.
+ghost use Rattle.std.specs.Prelude.{◌≡◌, IfOk, string_bytes};
 ghost use Rattle.sim_base.specs.Outside.{SamePorts};
-ghost use Rattle.document_model.specs.Diagram.{diagram_text};
-ghost use Rattle.document_model.specs.Project.{project_text};
 ghost use Rattle.outcome_model.specs.Stop.{file};
 ghost use Rattle.outcome_model.specs.Work.{Got};
-ghost use Rattle.cli_work.specs.Outcomes.{stop_of};
+ghost use Rattle.cli_work.specs.Documents.{IsRead};
+ghost use Rattle.cli_work.specs.Outcomes.{outcome_of};
 ghost use Rattle.project_model.specs.Work.{in_folder};
 
-use cli_work::{Stop, read_bytes};
+use cli_work::{Document, Outcome, read_document};
 use diagram_json::read_diagram;
 use document_model::{Diagram, Project};
+use input_texts::Script;
 use project_files::read_project;
+use script_text::read_script;
 use sim_base::{Bench, Fault};
 use std::alloc::{AllocError, Global};
+
+/// `wokwi.toml`. No board runs chips yet, so a project has none.
+pub(crate) struct ProjectFile;
+
+impl Document for ProjectFile {
+    ghost use Rattle.document_model.specs.Project.{project_text};
+
+    type Text = Project;
+
+    ghost reading = { project_text };
+
+    fn read(alloc: Global, bytes: &[u8]) -> Result<Project, Fault> {
+        read_project(alloc, bytes)
+    }
+}
+
+/// `diagram.json`.
+pub(crate) struct DiagramFile;
+
+impl Document for DiagramFile {
+    ghost use Rattle.document_model.specs.Diagram.{diagram_text};
+
+    type Text = Diagram;
+
+    ghost reading = { diagram_text };
+
+    fn read(alloc: Global, bytes: &[u8]) -> Result<Diagram, Fault> {
+        read_diagram(alloc, bytes)
+    }
+}
+
+/// A script, which says what is done to parts, and when.
+pub(crate) struct ScriptFile;
+
+impl Document for ScriptFile {
+    ghost use Rattle.script_text.specs.Script.{script_of};
+
+    type Text = Script;
+
+    ghost reading = { script_of };
+
+    fn read(alloc: Global, bytes: &[u8]) -> Result<Script, Fault> {
+        read_script(alloc, bytes)
+    }
+}
 
 /// The name of a file in a folder.
 pub(crate) fn name_in(alloc: Global, folder: &str, path: &str) -> Result<String, AllocError>
@@ -22,42 +68,19 @@ pub(crate) fn name_in(alloc: Global, folder: &str, path: &str) -> Result<String,
     format!(in alloc; "{folder}/{path}")
 }
 
-/// The project of a file `wokwi.toml`. No board runs chips yet, so it has none.
-pub(crate) fn project_from<B: Bench>(
+/// A file of a folder, read as one of its kind.
+pub(crate) fn read_in<D: Document, B: Bench>(
     alloc: Global,
-    name: &str,
+    folder: &str,
+    path: &str,
     bench: &mut B,
-) -> Result<Project, Stop>
-    ensures got { Got (λ p. p) (stop_of name.now) result (λ files. file files name.now project_text) (B.outside bench.old) (B.outside bench.new) }
+) -> Result<D::Text, Outcome>
+    ensures got { Got (λ d. d) outcome_of result (λ files. file files (in_folder folder.now path.now) D.reading) (B.outside bench.old) (B.outside bench.new) }
     ensures ports { SamePorts (B.outside bench.old) (B.outside bench.new) }
-    ensures chips { IfOk result (λ p. length p.chips ≡ 0) }
+    ensures read { IfOk result (IsRead D.reading) }
 {
-    match read_bytes(alloc, name, bench) {
-        Ok(bytes) => match read_project(alloc, &bytes) {
-            Ok(project) => Ok(project),
-            Err(Fault::Refused(refusal)) => Err(Stop::Refused(refusal)),
-            Err(Fault::OutOfMemory) => Err(Stop::OutOfMemory),
-        },
-        Err(stop) => Err(stop),
-    }
-}
-
-/// The diagram of a file `diagram.json`.
-pub(crate) fn diagram_from<B: Bench>(
-    alloc: Global,
-    name: &str,
-    bench: &mut B,
-) -> Result<Diagram, Stop>
-    ensures got { Got (λ d. d) (stop_of name.now) result (λ files. file files name.now diagram_text) (B.outside bench.old) (B.outside bench.new) }
-    ensures ports { SamePorts (B.outside bench.old) (B.outside bench.new) }
-    ensures parts { IfOk result (λ d. length d.parts ≤ 64) }
-{
-    match read_bytes(alloc, name, bench) {
-        Ok(bytes) => match read_diagram(alloc, &bytes) {
-            Ok(diagram) => Ok(diagram),
-            Err(Fault::Refused(refusal)) => Err(Stop::Refused(refusal)),
-            Err(Fault::OutOfMemory) => Err(Stop::OutOfMemory),
-        },
-        Err(stop) => Err(stop),
+    match name_in(alloc, folder, path) {
+        Ok(name) => read_document::<D, B>(alloc, name.as_str(), bench),
+        Err(_) => Err(Outcome::OutOfMemory),
     }
 }

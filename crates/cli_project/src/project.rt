@@ -1,19 +1,24 @@
-//! A project, from its folder.
-ghost use Rattle.std.specs.Prelude.{◌≡◌, ◌≤◌, [], IfOk, length, codes};
-ghost use Rattle.sim_base.specs.Outside.{SamePorts};
+//! A project, from its folder, with a script.
+ghost use Rattle.std.specs.Prelude.{◌≡◌, ◌⊎◌, ◌≤◌, [], IfOk, length};
+ghost use Rattle.std.specs.Option.{option_map};
+ghost use Rattle.sim_base.specs.Outside.{Outside, SamePorts, Files};
+ghost use Rattle.outcome_model.specs.Stop.{Refused};
+ghost use Rattle.outcome_model.specs.Outcome as ends;
 ghost use Rattle.outcome_model.specs.Work.{Got};
+ghost use Rattle.board_model.specs.Fits.{AreInputs};
 ghost use Rattle.board_build.specs.IsPlan.{IsPlan};
 ghost use Rattle.board_build.specs.Plan.{plan_of};
-ghost use Rattle.cli_work.specs.Outcomes.{outcome_of, stop_of};
-ghost use Rattle.project_model.specs.Work.{in_folder, project_in, firmware_in, board_in, rest_in, work_in};
-ghost use Rattle.cli_project.specs.Works.{work_of, MakesPlan};
+ghost use Rattle.cli_work.specs.Outcomes.{outcome_of};
+ghost use Rattle.project_model.specs.Work.{file_of_rule, by_rule, script_in, work_in};
+ghost use Rattle.cli_project.specs.Works.{IsRising, cycles_of, work_of};
 
-use crate::documents::{diagram_from, name_in, project_from};
+use crate::documents::{DiagramFile, ProjectFile, ScriptFile, name_in, read_in};
 use board_build::{Plan, build};
-use cli_work::{Outcome, Stop, read_flash, stopped};
+use cli_work::{HexFile, Outcome, Stop, read_document, stopped};
 use document_model::{Diagram, Project};
 use input_texts::Script;
-use sim_base::{Bench, Fault, Flash, List};
+use sim_base::refusals::SCRIPT_PART;
+use sim_base::{Bench, Fault, Flash, List, Refusal};
 use std::alloc::Global;
 
 /// The firmware and the plan of a project.
@@ -23,129 +28,78 @@ pub struct Work {
     pub plan: Plan,
 }
 
-/// The plan of a project and its diagram, without chips and script.
-fn plan_board(alloc: Global, project: &Project, diagram: &Diagram) -> Result<Plan, Stop>
-    requires chips { length project.now.chips ≡ 0 }
-    requires parts { length diagram.now.parts ≤ 64 }
-    ensures made { MakesPlan result (plan_of project.now diagram.now [] []) }
-    ensures plan { IfOk result (λ plan. IsPlan [] plan) }
-    ensures inputs { IfOk result (λ plan. plan.inputs ≡ []) }
+/// The end of the work by a rule of the board, with the file that the rule names; want of memory where
+/// that name has no room.
+fn refused_by_rule(alloc: Global, folder: &str, script: Option<&str>, refusal: Refusal) -> Outcome
+    ensures { (outcome_of result ≡ ends.Stopped (Refused (file_of_rule folder.now (option_map (λ s. s.now) script.entry) refusal) refusal)) ⊎ (outcome_of result ≡ ends.OutOfMemory) }
 {
-    let script: Script = List::new(alloc);
-    match build(alloc, project, diagram, &[], &script) {
-        Ok(plan) => Ok(plan),
-        Err(Fault::Refused(refusal)) => Err(Stop::Refused(refusal)),
-        Err(Fault::OutOfMemory) => Err(Stop::OutOfMemory),
+    match script {
+        Some(name) if refusal.number == SCRIPT_PART => {
+            stopped(alloc, name, Stop::Refused(refusal))
+        }
+        _ => match name_in(alloc, folder, "diagram.json") {
+            Ok(name) => stopped(alloc, name.as_str(), Stop::Refused(refusal)),
+            Err(_) => Outcome::OutOfMemory,
+        },
     }
 }
 
-/// The board of a file `diagram.json`.
-fn read_board<B: Bench>(
+/// The plan of a project, its diagram and its script, without chips.
+fn plan_board(
     alloc: Global,
-    project: &Project,
-    name: &str,
-    bench: &mut B,
-) -> Result<Plan, Stop>
-    requires chips { length project.now.chips ≡ 0 }
-    ensures got { Got (λ p. p) (stop_of name.now) result (board_in project.now name.now) (B.outside bench.old) (B.outside bench.new) }
-    ensures ports { SamePorts (B.outside bench.old) (B.outside bench.new) }
-    ensures plan { IfOk result (λ plan. IsPlan [] plan) }
-    ensures inputs { IfOk result (λ plan. plan.inputs ≡ []) }
-{
-    match diagram_from(alloc, name, bench) {
-        Ok(diagram) => plan_board(alloc, project, &diagram),
-        Err(stop) => Err(stop),
-    }
-}
-
-/// The board of a folder.
-fn read_diagram_of<B: Bench>(
-    alloc: Global,
-    project: &Project,
     folder: &str,
-    bench: &mut B,
+    script: Option<&str>,
+    project: &Project,
+    diagram: &Diagram,
+    rows: &Script,
 ) -> Result<Plan, Outcome>
     requires chips { length project.now.chips ≡ 0 }
-    ensures got { Got (λ p. p) outcome_of result (board_in project.now (in_folder folder.now (codes "diagram.json"))) (B.outside bench.old) (B.outside bench.new) }
-    ensures ports { SamePorts (B.outside bench.old) (B.outside bench.new) }
+    requires parts { length diagram.now.parts ≤ 64 }
+    requires rising { IsRising 0 (cycles_of rows.now) }
+    ensures got { (a : Outside) → Got (λ p. p) outcome_of result (λ (files : Files). by_rule folder.now (option_map (λ s. s.now) script.entry) (plan_of project.now diagram.now [] rows.now)) a a }
     ensures plan { IfOk result (λ plan. IsPlan [] plan) }
-    ensures inputs { IfOk result (λ plan. plan.inputs ≡ []) }
+    ensures inputs { IfOk result (λ plan. AreInputs (length plan.parts) plan.inputs) }
 {
-    let Ok(name) = name_in(alloc, folder, "diagram.json") else {
-        return Err(Outcome::OutOfMemory);
-    };
-    match read_board(alloc, project, name.as_str(), bench) {
+    match build(alloc, project, diagram, &[], rows) {
         Ok(plan) => Ok(plan),
-        Err(stop) => Err(stopped(alloc, name.as_str(), stop)),
+        Err(Fault::Refused(refusal)) => Err(refused_by_rule(alloc, folder, script, refusal)),
+        Err(Fault::OutOfMemory) => Err(Outcome::OutOfMemory),
     }
 }
 
-/// The firmware of a folder.
-fn read_firmware_of<B: Bench>(
+/// The lines of a script, none where no script is named.
+fn read_script_of<B: Bench>(
     alloc: Global,
-    project: &Project,
-    folder: &str,
+    script: Option<&str>,
     bench: &mut B,
-) -> Result<Flash, Outcome>
-    ensures got { Got (λ f. f) outcome_of result (firmware_in folder.now project.now) (B.outside bench.old) (B.outside bench.new) }
+) -> Result<Script, Outcome>
+    ensures got { Got (λ s. s) outcome_of result (script_in (option_map (λ s. s.now) script.entry)) (B.outside bench.old) (B.outside bench.new) }
     ensures ports { SamePorts (B.outside bench.old) (B.outside bench.new) }
+    ensures rising { IfOk result (λ rows. IsRising 0 (cycles_of rows)) }
 {
-    let Ok(name) = name_in(alloc, folder, project.firmware.as_str()) else {
-        return Err(Outcome::OutOfMemory);
-    };
-    match read_flash(alloc, name.as_str(), bench) {
-        Ok(flash) => Ok(flash),
-        Err(stop) => Err(stopped(alloc, name.as_str(), stop)),
+    match script {
+        Some(name) => read_document::<ScriptFile, B>(alloc, name, bench),
+        None => Ok(List::new(alloc)),
     }
 }
 
-/// The project file of a folder.
-fn read_project_of<B: Bench>(alloc: Global, folder: &str, bench: &mut B) -> Result<Project, Outcome>
-    ensures got { Got (λ p. p) outcome_of result (project_in folder.now) (B.outside bench.old) (B.outside bench.new) }
-    ensures ports { SamePorts (B.outside bench.old) (B.outside bench.new) }
-    ensures chips { IfOk result (λ p. length p.chips ≡ 0) }
-{
-    let Ok(name) = name_in(alloc, folder, "wokwi.toml") else {
-        return Err(Outcome::OutOfMemory);
-    };
-    match project_from(alloc, name.as_str(), bench) {
-        Ok(project) => Ok(project),
-        Err(stop) => Err(stopped(alloc, name.as_str(), stop)),
-    }
-}
-
-/// What follows the project file: the firmware, then the board.
-fn read_rest<B: Bench>(
+/// The work that a folder and a script hold: the project file, the firmware, the diagram and the
+/// script, read in this order, each checked before the next, and then the rules of the board.
+pub fn read_work<B: Bench>(
     alloc: Global,
-    project: &Project,
     folder: &str,
+    script: Option<&str>,
     bench: &mut B,
 ) -> Result<Work, Outcome>
-    requires chips { length project.now.chips ≡ 0 }
-    ensures got { Got work_of outcome_of result (rest_in folder.now project.now) (B.outside bench.old) (B.outside bench.new) }
+    ensures got { Got work_of outcome_of result (work_in folder.now (option_map (λ s. s.now) script.entry)) (B.outside bench.old) (B.outside bench.new) }
     ensures ports { SamePorts (B.outside bench.old) (B.outside bench.new) }
     ensures plan { IfOk result (λ w. IsPlan [] w.plan) }
-    ensures inputs { IfOk result (λ w. w.plan.inputs ≡ []) }
+    ensures inputs { IfOk result (λ w. AreInputs (length w.plan.parts) w.plan.inputs) }
 {
-    match read_firmware_of(alloc, project, folder, bench) {
-        Ok(flash) => match read_diagram_of(alloc, project, folder, bench) {
-            Ok(plan) => Ok(Work { flash, plan }),
-            Err(outcome) => Err(outcome),
-        },
-        Err(outcome) => Err(outcome),
-    }
-}
-
-/// The work that a folder holds: its project file, firmware and diagram, read in this order, each
-/// checked before the next, and then the rules of the board.
-pub fn read_work<B: Bench>(alloc: Global, folder: &str, bench: &mut B) -> Result<Work, Outcome>
-    ensures got { Got work_of outcome_of result (work_in folder.now) (B.outside bench.old) (B.outside bench.new) }
-    ensures ports { SamePorts (B.outside bench.old) (B.outside bench.new) }
-    ensures plan { IfOk result (λ w. IsPlan [] w.plan) }
-    ensures inputs { IfOk result (λ w. w.plan.inputs ≡ []) }
-{
-    match read_project_of(alloc, folder, bench) {
-        Ok(project) => read_rest(alloc, &project, folder, bench),
-        Err(outcome) => Err(outcome),
-    }
+    let project = read_in::<ProjectFile, B>(alloc, folder, "wokwi.toml", bench)?;
+    let flash = read_in::<HexFile, B>(alloc, folder, project.firmware.as_str(), bench)?;
+    let diagram = read_in::<DiagramFile, B>(alloc, folder, "diagram.json", bench)?;
+    let rows = read_script_of(alloc, script, bench)?;
+    let plan = plan_board(alloc, folder, script, &project, &diagram, &rows)?;
+    Ok(Work { flash, plan })
 }

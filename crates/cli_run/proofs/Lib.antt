@@ -1,2 +1,1 @@
-mod VariableLemmas
 pub mod RunLemmas

@@ -1,9 +1,8 @@
-//! The command `run`: the wave of a project, and the bytes that its Uno sends.
+//! The command `run`: a project's bytes, its wave and its report.
 //! `run` ends as its answer says (`specs/Answer.antt`); memory runs out, if it does, before a port is
 //! opened.
 #![tactic(auto)]
 
 mod running;
-mod variables;
 
 pub use running::run;

@@ -2,18 +2,26 @@
 use Rattle.std.specs.Prelude.{◌<◌, ◌≤◌}
 use Rattle.std.specs.Option.{option_map}
 use Rattle.words_model.specs.Request as asks
+use Rattle.cli_words.specs.declared.request.NamedFiles.{NamedFiles}
 use Rattle.cli_words.specs.declared.request.Request.{Request}
 use Rattle.cli_words.specs.declared.request.Request.TheVariants as requests
+
+abbrev pub named_by : NamedFiles → asks.NamedFiles
+named_by named = record {
+  script = option_map (λ f. f.now) named.script;
+  wave = option_map (λ f. f.now) named.wave;
+  report = option_map (λ f. f.now) named.report;
+}
 
 abbrev pub asked_of : Request → asks.Request
 asked_of (requests.Bare hex micros) = asks.Bare hex.now micros
 asked_of (requests.Check folder) = asks.Check folder.now
 asked_of (requests.Module file) = asks.Module file.now
-asked_of (requests.Run folder micros wave) = asks.Run folder.now micros (option_map (λ f. f.now) wave)
+asked_of (requests.Run folder micros named) = asks.Run folder.now micros (named_by named)
 
 -- the number of microseconds is one that words can give
 abbrev pub IsRunTime : Request → Type 0
 IsRunTime (requests.Bare hex micros) = (0 < micros) × (micros ≤ 10000000)
 IsRunTime (requests.Check folder) = Unit {0}
 IsRunTime (requests.Module file) = Unit {0}
-IsRunTime (requests.Run folder micros wave) = (0 < micros) × (micros ≤ 10000000)
+IsRunTime (requests.Run folder micros named) = (0 < micros) × (micros ≤ 10000000)

@@ -9,4 +9,4 @@ mod request;
 #[cfg(test)]
 mod tests;
 
-pub use request::{Request, read_words};
+pub use request::{NamedFiles, Request, read_words};

@@ -2,14 +2,22 @@
 ghost use Rattle.std.specs.Prelude.{◌≡◌, ◌≤◌, ◌<◌, map, string_bytes, IfOk, IfSome};
 ghost use Rattle.std.specs.Option.{option_map, option_and_then};
 ghost use Rattle.words_model.specs.Words.{Given, texts_of};
-ghost use Rattle.words_model.specs.Request.{request_of, asked_by, bare_syntax, bare_of, check_syntax, check_of, module_syntax, module_of, run_syntax, run_of, path_of, file_of, micros_of};
+ghost use Rattle.words_model.specs.Request.{request_of, asked_by, bare_syntax, bare_of, check_syntax, check_of, module_syntax, module_of, run_syntax, run_of, path_of, file_of, named_of, micros_of};
 ghost use Rattle.cli_words.specs.Commands.{AreOf};
-ghost use Rattle.cli_words.specs.Asked.{asked_of, IsRunTime};
+ghost use Rattle.cli_words.specs.Asked.{asked_of, named_by, IsRunTime};
 
 use crate::commands::{read_texts, text};
 use crate::number::read_number;
 use clap::ArgMatches;
 use std::alloc::{AllocError, Global};
+
+/// The files of a run that are named: its script, and those for its wave and its report.
+#[derive(Clone, Copy)]
+pub struct NamedFiles<'a> {
+    pub script: Option<&'a str>,
+    pub wave: Option<&'a str>,
+    pub report: Option<&'a str>,
+}
 
 /// What the words ask for; microseconds are 1 to 10,000,000.
 #[derive(Clone, Copy)]
@@ -20,9 +28,8 @@ pub enum Request<'a> {
     Check(&'a str),
     /// Whether the module of a file is accepted.
     Module(&'a str),
-    /// A run of the project of a folder for so many microseconds, with its wave in a file, if one is
-    /// named.
-    Run(&'a str, u32, Option<&'a str>),
+    /// A run of the project of a folder for so many microseconds, with the files that are named.
+    Run(&'a str, u32, NamedFiles<'a>),
 }
 
 /// A file or a folder, whose name is not empty.
@@ -119,26 +126,44 @@ fn read_module(alloc: Global, given: &[String]) -> Result<Option<Request<'_>>, A
     }
 }
 
-fn run<'a>(matches: &ArgMatches<'a>) -> Option<Request<'a>>
-    ensures asked { (given : Given) → AreOf given matches.now → option_map asked_of result ≡ run_of given }
-    ensures run_time { IfSome result IsRunTime }
+fn named<'a>(matches: &ArgMatches<'a>) -> Option<NamedFiles<'a>>
+    ensures { (given : Given) → AreOf given matches.now → option_map named_by result ≡ named_of given }
 {
     match (
-        path(matches, "folder"),
-        micros(matches),
+        file(matches, "script"),
         file(matches, "vcd"),
+        file(matches, "report"),
     ) {
-        (Some(folder), Some(micros), Some(wave)) => Some(Request::Run(folder, micros, wave)),
+        (Some(script), Some(wave), Some(report)) => Some(NamedFiles {
+            script,
+            wave,
+            report,
+        }),
         _ => None,
     }
 }
 
-/// `run FOLDER --us N [--vcd FILE]`
+fn run<'a>(matches: &ArgMatches<'a>) -> Option<Request<'a>>
+    ensures asked { (given : Given) → AreOf given matches.now → option_map asked_of result ≡ run_of given }
+    ensures run_time { IfSome result IsRunTime }
+{
+    match (path(matches, "folder"), micros(matches), named(matches)) {
+        (Some(folder), Some(micros), Some(named)) => Some(Request::Run(folder, micros, named)),
+        _ => None,
+    }
+}
+
+/// `run FOLDER --us N [--script FILE] [--vcd FILE] [--report FILE]`
 fn read_run(alloc: Global, given: &[String]) -> Result<Option<Request<'_>>, AllocError>
     ensures request { IfOk result (λ o. option_map asked_of o ≡ option_and_then run_of (texts_of run_syntax (map string_bytes given.entry.now))) }
     ensures run_time { IfOk result (λ o. IfSome o IsRunTime) }
 {
-    match read_texts(alloc, &["folder"], &["us", "vcd"], given)? {
+    match read_texts(
+        alloc,
+        &["folder"],
+        &["us", "script", "vcd", "report"],
+        given,
+    )? {
         Some(matches) => Ok(run(&matches)),
         None => Ok(None),
     }

@@ -2,8 +2,8 @@
 use crate::{Request, read_words};
 use std::alloc::{AllocError, Global};
 
-/// The file or folder and the run time that the words ask for, 0 where they ask for no run. A wave's
-/// file follows the folder behind a blank.
+/// The file or folder and the run time that the words ask for, 0 where they ask for no run. The files
+/// that are named for script, wave and report follow the folder, each behind a blank.
 fn asked(alloc: Global, words: &[&str]) -> Result<Option<(String, u32)>, AllocError> {
     let mut owned = Vec::new(alloc);
     for word in words {
@@ -15,21 +15,23 @@ fn asked(alloc: Global, words: &[&str]) -> Result<Option<(String, u32)>, AllocEr
             String::from_str(alloc, path)?,
             0,
         ))),
-        Some(Request::Run(folder, micros, None)) => Ok(Some((
-            String::from_str(alloc, folder)?,
-            micros,
-        ))),
-        Some(Request::Run(folder, micros, Some(wave))) => Ok(Some((
-            format!(in alloc; "{folder} {wave}")?,
-            micros,
-        ))),
+        Some(Request::Run(folder, micros, named)) => {
+            let mut text = String::from_str(alloc, folder)?;
+            for file in [named.script, named.wave, named.report] {
+                if let Some(name) = file {
+                    text.push_str(" ")?;
+                    text.push_str(name)?;
+                }
+            }
+            Ok(Some((text, micros)))
+        }
         None => Ok(None),
     }
 }
 
 #[test]
 fn options_stand_anywhere_and_end_with_two_hyphens(rt: HostRuntime) -> Result<(), AllocError> {
-    let rows: [(&[&str], &str, u32); 16] = [
+    let rows: [(&[&str], &str, u32); 17] = [
         (&["bare", "a.hex", "--us", "5"], "a.hex", 5),
         (&["bare", "--us", "0000000005", "a.hex"], "a.hex", 5),
         (&["bare", "--us=10000000", "x=y"], "x=y", 10_000_000),
@@ -50,6 +52,19 @@ fn options_stand_anywhere_and_end_with_two_hyphens(rt: HostRuntime) -> Result<()
         ),
         (&["run", "--us", "5", "--vcd", "-", "blink"], "blink -", 5),
         (&["run", "--vcd=-w", "--us=5", "--", "-b"], "-b -w", 5),
+        (
+            &[
+                "run",
+                "--report",
+                "-",
+                "p",
+                "--us=5",
+                "--script=s",
+                "--vcd=w",
+            ],
+            "p s w -",
+            5,
+        ),
     ];
     for (words, hex, micros) in rows {
         match asked(rt.alloc(), words)? {
@@ -65,7 +80,7 @@ fn options_stand_anywhere_and_end_with_two_hyphens(rt: HostRuntime) -> Result<()
 
 #[test]
 fn other_words_ask_for_nothing(rt: HostRuntime) -> Result<(), AllocError> {
-    let rows: [&[&str]; 38] = [
+    let rows: [&[&str]; 41] = [
         &[],
         &[""],
         &["bare"],
@@ -104,6 +119,9 @@ fn other_words_ask_for_nothing(rt: HostRuntime) -> Result<(), AllocError> {
         &["run", "blink", "--us=1", "--vcd="],
         &["run", "blink", "--us=1", "--vcd", "-w"],
         &["run", "blink", "--us=1", "--vcd=a", "--vcd=b"],
+        &["run", "blink", "--us=1", "--script="],
+        &["run", "blink", "--us=1", "--report"],
+        &["bare", "a", "--us=1", "--report=r"],
     ];
     for words in rows {
         let given = asked(rt.alloc(), words)?;

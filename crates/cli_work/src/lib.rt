@@ -10,5 +10,5 @@ mod writing;
 
 pub use complaint::tell;
 pub use outcome::{Outcome, Stop, status, stopped};
-pub use reading::{read_bytes, read_flash};
+pub use reading::{Document, HexFile, read_bytes, read_document};
 pub use writing::{write_next, write_parts, write_text};

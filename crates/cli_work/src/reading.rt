@@ -1,12 +1,14 @@
 //! Reading files.
-ghost use Rattle.std.specs.Prelude.{◌≡◌, ◌≤◌, ℕ, Ok, IfOk, length};
+ghost use Rattle.std.specs.Prelude.{◌≡◌, ◌≤◌, ℕ, List, Result, Ok, IfOk, length};
+ghost use Rattle.sim_base.specs.declared.fault.Refusal.{Refusal};
 ghost use Rattle.sim_base.specs.Outside.{Outside, SamePorts};
-ghost use Rattle.text_model.specs.Hex.{hex_image};
+ghost use Rattle.sim_base.specs.Reads.{Reads};
 ghost use Rattle.outcome_model.specs.Stop.{file};
 ghost use Rattle.outcome_model.specs.Work.{Got};
-ghost use Rattle.cli_work.specs.Outcomes.{stop_of};
+ghost use Rattle.cli_work.specs.Documents.{IsRead};
+ghost use Rattle.cli_work.specs.Outcomes.{outcome_of, stop_of};
 
-use crate::outcome::Stop;
+use crate::outcome::{Outcome, Stop, stopped};
 use input_texts::read_hex;
 use sim_base::refusals::FILE_TOO_LONG;
 use sim_base::{Bench, Fault, Flash, Place, ReadEnd, Refusal};
@@ -31,17 +33,57 @@ pub fn read_bytes<B: Bench>(alloc: Global, name: &str, bench: &mut B) -> Result<
     }
 }
 
-/// The flash image of a HEX file.
-pub fn read_flash<B: Bench>(alloc: Global, name: &str, bench: &mut B) -> Result<Flash, Stop>
-    ensures got { Got (λ f. f) (stop_of name.now) result (λ files. file files name.now hex_image) (B.outside bench.old) (B.outside bench.new) }
+/// A kind of file: what its bytes, at most 1,048,576, are read as.
+pub trait Document {
+    type Text;
+
+    ghost reading: { List ℕ → Result Self.Text Refusal };
+
+    fn read(alloc: Global, bytes: &[u8]) -> Result<Self::Text, Fault>
+        requires { length bytes.now ≤ 1048576 }
+        ensures { Reads (λ d. d) result (reading bytes.now) };
+}
+
+fn read_as<D: Document, B: Bench>(alloc: Global, name: &str, bench: &mut B) -> Result<D::Text, Stop>
+    ensures got { Got (λ d. d) (stop_of name.now) result (λ files. file files name.now D.reading) (B.outside bench.old) (B.outside bench.new) }
     ensures ports { SamePorts (B.outside bench.old) (B.outside bench.new) }
+    ensures read { IfOk result (IsRead D.reading) }
 {
-    match read_bytes(alloc, name, bench) {
-        Ok(bytes) => match read_hex(alloc, &bytes) {
-            Ok(flash) => Ok(flash),
-            Err(Fault::Refused(refusal)) => Err(Stop::Refused(refusal)),
-            Err(Fault::OutOfMemory) => Err(Stop::OutOfMemory),
-        },
-        Err(stop) => Err(stop),
+    let bytes = read_bytes(alloc, name, bench)?;
+    match D::read(alloc, &bytes) {
+        Ok(document) => Ok(document),
+        Err(Fault::Refused(refusal)) => Err(Stop::Refused(refusal)),
+        Err(Fault::OutOfMemory) => Err(Stop::OutOfMemory),
+    }
+}
+
+/// What a file of this kind is read as, or the end of the work by it.
+pub fn read_document<D: Document, B: Bench>(
+    alloc: Global,
+    name: &str,
+    bench: &mut B,
+) -> Result<D::Text, Outcome>
+    ensures got { Got (λ d. d) outcome_of result (λ files. file files name.now D.reading) (B.outside bench.old) (B.outside bench.new) }
+    ensures ports { SamePorts (B.outside bench.old) (B.outside bench.new) }
+    ensures read { IfOk result (IsRead D.reading) }
+{
+    match read_as::<D, B>(alloc, name, bench) {
+        Ok(document) => Ok(document),
+        Err(stop) => Err(stopped(alloc, name, stop)),
+    }
+}
+
+/// An Intel HEX file, read as the flash image.
+pub struct HexFile;
+
+impl Document for HexFile {
+    ghost use Rattle.text_model.specs.Hex.{hex_image};
+
+    type Text = Flash;
+
+    ghost reading = { hex_image };
+
+    fn read(alloc: Global, bytes: &[u8]) -> Result<Flash, Fault> {
+        read_hex(alloc, bytes)
     }
 }

@@ -30,6 +30,7 @@ pub fn write_parts<B: Bench>(bench: &mut B, port: Port, parts: &[&[u8]]) -> Writ
 pub fn write_next<B: Bench>(end: WriteEnd, bench: &mut B, port: Port, bytes: &[u8]) -> WriteEnd
     requires { (B.outside bench.old).opened port ≡ true }
     ensures next { (a : Outside) (text : List ℕ) → Wrote end port text a (B.outside bench.old) → Wrote result port (text ++ bytes.now) a (B.outside bench.new) }
+    ensures named { (B.outside bench.new).name port ≡ (B.outside bench.old).name port }
     ensures opened { (B.outside bench.new).opened port ≡ (B.outside bench.old).opened port }
     ensures others { SameOthers port (B.outside bench.old) (B.outside bench.new) }
 {

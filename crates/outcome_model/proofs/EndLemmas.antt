@@ -1,15 +1,16 @@
 -- From the steps of a call to what it does.
-use Rattle.std.proofs.Common.{◌≡◌, ◌≢◌, ℕ, List, [], true, refl, ap, ◌∙◌, Option, Some, None, Result, Ok, Err, inl, inr, IfSome}
+use Rattle.std.proofs.Common.{◌≡◌, ◌≢◌, ◌+◌, ℕ, List, [], true, refl, arith, ap, ◌∙◌, Option, Some, None, Result, Ok, Err, inl, inr, IfSome}
 use Rattle.std.specs.Option.{option_map}
 use Rattle.std.specs.FinMap.{remove}
 use Rattle.sim_base.specs.declared.bench.Port.{Port}
 use Rattle.sim_base.specs.declared.bench.Port.TheVariants as ports
 use Rattle.sim_base.specs.Causes.{Rose}
 use Rattle.sim_base.specs.Outside.{Outside, SameOthers, SamePorts, Files, IsKept, IsNamed, is_openable}
-use Rattle.outcome_model.specs.Stop.{Stop, Missing, Output, Texts, wave_alone, report_alone, ◌>>=◌}
+use Rattle.outcome_model.specs.Stop.{Stop, Missing, Refused, Output, Texts, report_alone, accepted, ◌>>=◌}
 use Rattle.outcome_model.specs.Work.{ReadStops, RanOn}
-use Rattle.outcome_model.specs.Outcome.{Outcome, Accepted, NoRequest, Stopped, ReadFailed, WriteFailed, OutOfMemory, IsOn, BeginsOn, Hold, Begin, OutputRose}
-use Rattle.outcome_model.specs.Happens.{Answer, Ends, EndsUnasked, Happens}
+use Rattle.outcome_model.specs.Outcome.{Outcome, Accepted, NoRequest, Stopped, ReadFailed, WriteFailed, OutOfMemory, IsOn, BeginsOn, Hold, Begin, OutputRose, status_of}
+use Rattle.outcome_model.specs.Promises.{CountsWakes}
+use Rattle.outcome_model.specs.Happens.{Answer, Ends, Counts, EndsUnasked, Happens}
 use Rattle.outcome_model.proofs.WriteLemmas.{grows_same, front_all}
 use Rattle.outcome_model.proofs.ReadLemmas.{if_some}
 
@@ -30,17 +31,45 @@ stopped_by answer reading is (ReadFailed n) a b s same = (
 stopped_by answer reading is WriteFailed a b s same = absurd s
 stopped_by answer reading is OutOfMemory a b s same = λ p ne. kept_port p a b same
 
+-- and then no wakes are counted
+pub stops_counts : {X : Type 0} (answer : Answer) (reading : Files → Result X Stop) (o : Outcome) (a b : Outside) (before after : ℕ) → ReadStops o reading a b → Counts answer o a before after
+stops_counts answer reading Accepted a b before after s = absurd s
+stops_counts answer reading NoRequest a b before after s = λ e. absurd (cc)
+stops_counts answer reading (Stopped t) a b before after s = λ e. absurd (cc)
+stops_counts answer reading (ReadFailed n) a b before after s = λ e. absurd (cc)
+stops_counts answer reading WriteFailed a b before after s = λ e. absurd (cc)
+stops_counts answer reading OutOfMemory a b before after s = λ e. absurd (cc)
+
 -- the same of a request whose texts are made of what was read
 pub stops : {X : Type 0} (answer : Answer) (reading : Files → Result X Stop) (texts : X → Result Texts Stop) → ((files : Files) (result : Result Texts Stop) → (reading files >>= texts) ≡ result → answer files result) →
     (o : Outcome) (a b : Outside) → ReadStops o reading a b → SamePorts a b → Ends answer o a b
 stops {X = X} answer reading texts is = stopped_by answer reading (λ files s e. is files (Err s) (ap (λ (x : Result X Stop). x >>= texts) e))
 
+-- a request whose texts are the acceptance alone counts no wakes
+pub accepted_counts : (answer : Answer) → ((files : Files) (t : Texts) → answer files (Ok t) → t ≡ accepted) → (o : Outcome) (a b : Outside) (n : ℕ) → Ends answer o a b → Counts answer o a n n
+accepted_counts answer only Accepted a b n ends = λ e. if_some a.files _ _ (λ (files : Files) (x : (t : Texts) × answer files (Ok t) × Hold t a b). (x.0, x.1, rw (only files x.0 x.1) (omega arith))) ends.1
+accepted_counts answer only NoRequest a b n ends = absurd ends
+accepted_counts answer only (Stopped s) a b n ends = λ e. absurd (cc)
+accepted_counts answer only (ReadFailed name) a b n ends = λ e. absurd (cc)
+accepted_counts answer only WriteFailed a b n ends = λ e. absurd (cc)
+accepted_counts answer only OutOfMemory a b n ends = λ e. absurd (cc)
+
+-- what counts wakes for a request counts them for what is asked
+pub counts_asked : {R : Type 0} (answers : R → Answer) (r : R) (o : Outcome) (a : Outside) (before after : ℕ) → Counts (answers r) o a before after → CountsWakes answers (status_of o) (Some r) a before after
+counts_asked answers r Accepted a before after counts = λ e files told. let x = rw told at (counts refl) in (r, x.0, refl, x.1, x.2)
+counts_asked answers r NoRequest a before after counts = λ e. absurd (cc)
+counts_asked answers r (Stopped (Refused n f)) a before after counts = λ e. absurd (cc)
+counts_asked answers r (Stopped (Missing n)) a before after counts = λ e. absurd (cc)
+counts_asked answers r (ReadFailed n) a before after counts = λ e. absurd (cc)
+counts_asked answers r WriteFailed a before after counts = λ e. absurd (cc)
+counts_asked answers r OutOfMemory a before after counts = λ e. absurd (cc)
+
 -- a text on one port alone
 abbrev pub alone : Port → Output → Texts
-alone ports.Wave out = wave_alone out
+alone ports.Wave out = record { serial = []; wave = Some out; report = None; wakes = 0 }
 alone ports.Report out = report_alone out
-alone ports.Serial out = record { serial = out.text; wave = None; report = None }
-alone ports.Complaint out = record { serial = []; wave = None; report = None }
+alone ports.Serial out = record { serial = out.text; wave = None; report = None; wakes = 0 }
+alone ports.Complaint out = record { serial = []; wave = None; report = None; wakes = 0 }
 
 -- what holds of a port that can be opened, and of all others
 at_ports : (P : Port → Type 0) (p : Port) → is_openable p ≡ true → P p → ((q : Port) → q ≢ p → P q) → (q : Port) → P q

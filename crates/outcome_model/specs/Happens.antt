@@ -1,5 +1,5 @@
 -- What a call of the program does, by its outcome and by what its request is answered with (profile).
-use Rattle.std.specs.Prelude.{◌≡◌, ℕ, Option, None, Some, Result, Ok, Err, IfSome}
+use Rattle.std.specs.Prelude.{◌≡◌, ◌+◌, ℕ, Option, None, Some, Result, Ok, Err, IfSome}
 use Rattle.std.specs.FinMap.{remove}
 use Rattle.sim_base.specs.Causes.{Rose}
 use Rattle.sim_base.specs.Outside.{Outside, Files}
@@ -19,6 +19,10 @@ Ends answer (Stopped s) a b = IfSome a.files (λ files. answer files (Err s)) ×
 Ends answer (ReadFailed name) a b = IfSome a.files (λ files. answer (remove files name) (Err (Missing name))) × Rose a.read_faults b.read_faults × IsSilent a b
 Ends answer WriteFailed a b = OutputRose a b × IfSome a.files (λ files. (t : Texts) × answer files (Ok t) × Begin t a b)
 Ends answer OutOfMemory a b = IsSilent a b
+
+-- Where all was written, a count of wakes rose by those that the texts cost.
+abbrev pub Counts : Answer → Outcome → Outside → ℕ → ℕ → Type 0
+Counts answer outcome a before after = outcome ≡ Accepted → IfSome a.files (λ files. (t : Texts) × answer files (Ok t) × (after ≡ before + t.wakes))
 
 -- What happens where nothing is asked for.
 abbrev pub EndsUnasked : Outcome → Outside → Outside → Type 0

@@ -1,5 +1,5 @@
 -- What a caller may rest on: the status and the ports, each promise by itself, where each request has its answer.
-use Rattle.std.specs.Prelude.{◌≡◌, ◌≢◌, ℕ, Option, Some, None, Result, Ok, Err, ◌⊎◌, IfSome}
+use Rattle.std.specs.Prelude.{◌≡◌, ◌≢◌, ◌+◌, ℕ, Option, Some, None, Result, Ok, Err, ◌⊎◌, IfSome}
 use Rattle.sim_base.specs.declared.bench.Port.{Port}
 use Rattle.sim_base.specs.Causes.{Rose}
 use Rattle.sim_base.specs.Outside.{Outside, Files}
@@ -64,3 +64,7 @@ ComplainsAlone status a b = status ≢ 0 → status ≢ 6 → IsSilent a b
 -- the status is one of these
 abbrev pub IsStatus : ℕ → Type 0
 IsStatus status = (status ≡ 0) ⊎ ((status ≡ 2) ⊎ ((status ≡ 3) ⊎ ((status ≡ 4) ⊎ ((status ≡ 5) ⊎ ((status ≡ 6) ⊎ (status ≡ 7))))))
+
+-- With status 0 the count of wakes rose by those that the texts cost: none where no board is run.
+abbrev pub CountsWakes : {R : Type 0} → (R → Answer) → ℕ → Option R → Outside → ℕ → ℕ → Type 0
+CountsWakes {R = R} answers status asked a before after = status ≡ 0 → (files : Files) → a.files ≡ Some files → (r : R) × (t : Texts) × (asked ≡ Some r) × (answers r files (Ok t)) × (after ≡ before + t.wakes)

@@ -20,18 +20,17 @@ pub record Output : Type 0 where
 abbrev pub printed : List ℕ → Output
 printed text = record { name = codes "-"; text = text }
 
--- the texts on the ports: what Serial gets, and what Wave and Report hold where they are opened
+-- The texts on the ports: what Serial gets, and what Wave and Report hold where they are opened. They cost so many wakes of
+-- parts.
 pub record Texts : Type 0 where
   pub serial : List ℕ
   pub wave : Option Output
   pub report : Option Output
+  pub wakes : ℕ
 
--- a text on Wave alone, and on Report alone
-abbrev pub wave_alone : Output → Texts
-wave_alone out = record { serial = []; wave = Some out; report = None }
-
+-- a text on Report alone
 abbrev pub report_alone : Output → Texts
-report_alone out = record { serial = []; wave = None; report = Some out }
+report_alone out = record { serial = []; wave = None; report = Some out; wakes = 0 }
 
 -- what is said of an input that keeps all rules
 abbrev pub accepted : Texts

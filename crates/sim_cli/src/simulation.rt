@@ -3,10 +3,11 @@ ghost use Rattle.std.specs.Prelude.{◌≡◌, map, string_bytes};
 ghost use Rattle.words_model.specs.Request.{request_of};
 ghost use Rattle.outcome_model.specs.Promises.{WordsAlone, HasCause, ComplainsAlone, IsStatus};
 ghost use Rattle.outcome_model.specs.Work.{SaidNothing};
-ghost use Rattle.sim_cli.specs.Promises.{Happens, Does, IsAnswered, IsComplete, HoldsAnswer, IsStopped, IsTrueStop, HoldsFront};
+ghost use Rattle.sim_cli.specs.Promises.{Happens, Counts, Does, IsAnswered, IsComplete, HoldsAnswer, IsStopped, IsTrueStop, HoldsFront, CountsWakes};
 ghost use Rattle.cli_work.specs.Outcomes.{outcome_of};
 
 use cli_bare::bare;
+use cli_board::Outputs;
 use cli_module::check_module;
 use cli_project::check;
 use cli_run::run;
@@ -17,6 +18,7 @@ use std::alloc::Global;
 use std::sync::ledger::Ledger;
 
 /// The work that the words ask for; Complaint is left alone.
+#[tactic(auto, using(crate::proofs::AnswerLemmas::check_counts, crate::proofs::AnswerLemmas::module_counts))]
 fn work<B: Bench, L: Ledger>(
     alloc: Global,
     words: &[String],
@@ -24,14 +26,20 @@ fn work<B: Bench, L: Ledger>(
     steps: &mut Steps<L>,
 ) -> Outcome
     ensures happens { Happens (outcome_of result) (request_of (map string_bytes words.now)) (B.outside bench.old) (B.outside bench.new) }
+    ensures counts { Counts (outcome_of result) (request_of (map string_bytes words.now)) (B.outside bench.old) steps.old steps.new }
     ensures silent { SaidNothing (B.outside bench.old) (B.outside bench.new) }
 {
     match read_words(alloc, words) {
         Ok(Some(Request::Bare(hex, micros))) => bare(alloc, hex, micros, bench, steps),
         Ok(Some(Request::Check(folder))) => check(alloc, folder, bench),
         Ok(Some(Request::Module(file))) => check_module(alloc, file, bench),
-        Ok(Some(Request::Run(folder, micros, wave))) => {
-            run(alloc, folder, micros, wave, bench, steps)
+        Ok(Some(Request::Run(folder, micros, named))) => {
+            let outputs = Outputs {
+                serial: true,
+                wave: named.wave,
+                report: named.report,
+            };
+            run(alloc, folder, micros, named.script, outputs, bench, steps)
         }
         Ok(None) => Outcome::NoRequest,
         Err(_) => Outcome::OutOfMemory,
@@ -60,6 +68,7 @@ pub fn simulate<B: Bench, L: Ledger>(
     ensures true_stop { IsTrueStop result (request_of (map string_bytes words.now)) (B.outside bench.old) }
     ensures cause { HasCause result (B.outside bench.old) (B.outside bench.new) }
     ensures front { HoldsFront result (request_of (map string_bytes words.now)) (B.outside bench.old) (B.outside bench.new) }
+    ensures steps { CountsWakes result (request_of (map string_bytes words.now)) (B.outside bench.old) steps.old steps.new }
     ensures silent { ComplainsAlone result (B.outside bench.old) (B.outside bench.new) }
 {
     let outcome = work(alloc, words, bench, steps);

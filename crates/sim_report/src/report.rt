@@ -13,6 +13,7 @@ use sim_base::{Bench, Port, WriteEnd};
 pub fn write_report<B: Bench>(row: &ReportRow, bench: &mut B) -> WriteEnd
     requires { (B.outside bench.old).opened Port.Report ≡ true }
     ensures wrote { Wrote result Port.Report (line_of row.now) (B.outside bench.old) (B.outside bench.new) }
+    ensures named { (B.outside bench.new).name Port.Report ≡ (B.outside bench.old).name Port.Report }
     ensures opened { (B.outside bench.new).opened Port.Report ≡ (B.outside bench.old).opened Port.Report }
     ensures others { SameOthers Port.Report (B.outside bench.old) (B.outside bench.new) }
 {

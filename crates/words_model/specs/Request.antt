@@ -18,15 +18,21 @@ number_within least greatest word =
     if list_all is_digit word && (nat_le 1 (length word) && (nat_le (length word) 10 && (nat_le least (value_of word) && nat_le (value_of word) greatest)))
     then Some (value_of word) else None
 
+-- the files of a run that are named, each or not: its script, and those for its wave and its report
+pub record NamedFiles : Type 0 where
+  pub script : Option Text
+  pub wave : Option Text
+  pub report : Option Text
+
 -- `Bare hex us`: the wave of so many microseconds of one Uno that runs the firmware of a HEX file.
 -- `Check folder`: whether a project is accepted.
 -- `Module file`: whether a chip's module is accepted.
--- `Run folder us wave`: a run of a project for so many microseconds, with its wave in a file where one is named.
+-- `Run folder us named`: a run of a project for so many microseconds, with the files that are named for it.
 pub data Request : Type 0 where
   Bare : Text → ℕ → Request
   Check : Text → Request
   Module : Text → Request
-  Run : Text → ℕ → Option Text → Request
+  Run : Text → ℕ → NamedFiles → Request
 
 -- a file name or a folder's is not empty
 abbrev pub path : Text → Option Text
@@ -68,13 +74,21 @@ module_syntax = record { words = codes "file" ∷ []; options = [] }
 abbrev pub module_of : Given → Option Request
 module_of given = option_map Module (path_of (codes "file") given)
 
--- `run FOLDER --us N`, with `--vcd FILE` or without
+-- `--script FILE`, `--vcd FILE` and `--report FILE`, each or not
+abbrev pub with_report : Option Text → Option Text → Option Text → NamedFiles
+with_report script wave report = record { script = script; wave = wave; report = report }
+
+abbrev pub named_of : Given → Option NamedFiles
+named_of given =
+    option_and_then (λ script. option_and_then (λ wave. option_map (with_report script wave) (file_of (codes "report") given)) (file_of (codes "vcd") given)) (file_of (codes "script") given)
+
+-- `run FOLDER --us N` with those files
 abbrev pub run_syntax : Syntax
-run_syntax = record { words = codes "folder" ∷ []; options = codes "us" ∷ codes "vcd" ∷ [] }
+run_syntax = record { words = codes "folder" ∷ []; options = codes "us" ∷ codes "script" ∷ codes "vcd" ∷ codes "report" ∷ [] }
 
 abbrev pub run_of : Given → Option Request
 run_of given =
-    option_and_then (λ folder. option_and_then (λ us. option_map (Run folder us) (file_of (codes "vcd") given)) (micros_of given)) (path_of (codes "folder") given)
+    option_and_then (λ folder. option_and_then (λ us. option_map (Run folder us) (named_of given)) (micros_of given)) (path_of (codes "folder") given)
 
 -- the request of a command with these words after it
 abbrev pub asked_by : Text → List Text → Option Request

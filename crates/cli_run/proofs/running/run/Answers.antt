@@ -1,26 +1,56 @@
 use Rattle.std.proofs.Common.{◌≡◌, ◌*◌, ℕ, List, Option, Ok, IfSome, Bor}
 use Rattle.std.specs.Option.{option_map}
-use Rattle.sim_base.specs.Outside.{Files}
+use Rattle.sim_base.specs.Outside.{Outside, Files}
+use Rattle.outcome_model.specs.Stop.{Texts}
 use Rattle.outcome_model.proofs.ReadLemmas.{if_some}
 use Rattle.project_model.specs.Work.{Work, work_in}
-use Rattle.cli_run.specs.Run.{run_texts}
-use Rattle.cli_run.specs.Answer.{RunAnswer}
+use Rattle.outcome_model.proofs.EndLemmas.{stops_counts}
 use Rattle.cli_work.specs.Outcomes.{outcome_of}
 use Rattle.cli_project.specs.Works.{work_of}
-use Rattle.cli_run.proofs.RunLemmas.{run_answer, run_stops, ran_ends}
+use Rattle.cli_board.specs.Outputs.{outputs_of}
+use Rattle.cli_board.specs.Run.{run_texts}
+use Rattle.cli_board.proofs.RanLemmas.{ran_ends, ran_said, ran_counts}
+use Rattle.cli_run.specs.Answer.{RunAnswer}
+use Rattle.cli_run.proofs.RunLemmas.{run_answer, run_stops}
 use Rattle.cli_run.proofs.running.run.Goals as goal
 
 pub returns-in-Ok-clause-ends : goal.returns-in-Ok-clause-ends
 returns-in-Ok-clause-ends g c =
-    let a = g.B.Bench.outside c.args.bench.now in
+    let a : Outside = g.B.Bench.outside c.args.bench.now in
     let folder : List ℕ = c.args.folder.now in
     let us : ℕ = c.args.micros in
-    let vcd : Option (List ℕ) = option_map (λ (f : Bor (List ℕ)). f.now) c.args.wave in
+    let script : Option (List ℕ) = option_map (λ (f : Bor (List ℕ)). f.now) c.args.script in
+    let out = outputs_of c.args.outputs in
     let work : Work = work_of c.in-Ok.work in
-    let is : IfSome a.files (λ (files : Files). RunAnswer folder us vcd files (Ok (run_texts work (16 * us) vcd))) =
-    if_some a.files _ _ (λ (files : Files) (e : work_in folder files ≡ Ok work). run_answer folder us vcd files work e) c.in-Ok.ensures.got.0 in
-    ran_ends (RunAnswer folder us vcd) (run_texts work (16 * us) vcd) a (g.B.Bench.outside c.read_work.new.bench) (g.B.Bench.outside c.run_work.new.bench) c.in-Ok.ensures.got.1 c.in-Ok.ensures.ports (outcome_of c.run_work.result) is c.run_work.ensures.ran
+    let texts : Texts = run_texts out work (16 * us) in
+    let is : IfSome a.files (λ (files : Files). RunAnswer folder us script out files (Ok texts)) =
+    if_some a.files _ _ (λ (files : Files) (e : work_in folder script files ≡ Ok work). run_answer folder us script out files work e) c.in-Ok.ensures.got.0 in
+    ran_ends (RunAnswer folder us script out) texts a (g.B.Bench.outside c.read_work.new.bench) (g.B.Bench.outside c.run_board.new.bench) c.in-Ok.ensures.got.1 c.in-Ok.ensures.ports (outcome_of c.run_board.result) is c.run_board.ensures.ran
+
+pub returns-in-Ok-clause-counts : goal.returns-in-Ok-clause-counts
+returns-in-Ok-clause-counts g c =
+    let a : Outside = g.B.Bench.outside c.args.bench.now in
+    let folder : List ℕ = c.args.folder.now in
+    let us : ℕ = c.args.micros in
+    let script : Option (List ℕ) = option_map (λ (f : Bor (List ℕ)). f.now) c.args.script in
+    let out = outputs_of c.args.outputs in
+    let work : Work = work_of c.in-Ok.work in
+    let texts : Texts = run_texts out work (16 * us) in
+    let is : IfSome a.files (λ (files : Files). RunAnswer folder us script out files (Ok texts)) =
+    if_some a.files _ _ (λ (files : Files) (e : work_in folder script files ≡ Ok work). run_answer folder us script out files work e) c.in-Ok.ensures.got.0 in
+    ran_counts (RunAnswer folder us script out) texts (outcome_of c.run_board.result) a c.args.steps.now c.run_board.new.steps is c.run_board.ensures.steps
+
+pub returns-in-Ok-clause-silent : goal.returns-in-Ok-clause-silent
+returns-in-Ok-clause-silent g c =
+    let script : Option (List ℕ) = option_map (λ (f : Bor (List ℕ)). f.now) c.args.script in
+    let out = outputs_of c.args.outputs in
+    ran_said (RunAnswer c.args.folder.now c.args.micros script out) (run_texts out (work_of c.in-Ok.work) (16 * c.args.micros)) (g.B.Bench.outside c.args.bench.now) (g.B.Bench.outside c.read_work.new.bench) (g.B.Bench.outside c.run_board.new.bench)
+    c.in-Ok.ensures.got.1 c.in-Ok.ensures.ports (outcome_of c.run_board.result) c.run_board.ensures.ran
 
 pub returns-in-Err-clause-ends : goal.returns-in-Err-clause-ends
 returns-in-Err-clause-ends g c =
-    run_stops c.args.folder.now c.args.micros (option_map (λ (f : Bor (List ℕ)). f.now) c.args.wave) (outcome_of c.in-Err.outcome) _ _ c.in-Err.ensures.got c.in-Err.ensures.ports
+    run_stops c.args.folder.now c.args.micros (option_map (λ (f : Bor (List ℕ)). f.now) c.args.script) (outputs_of c.args.outputs) (outcome_of c.in-Err.outcome) _ _ c.in-Err.ensures.got c.in-Err.ensures.ports
+
+pub returns-in-Err-clause-counts : goal.returns-in-Err-clause-counts
+returns-in-Err-clause-counts g c =
+    stops_counts (RunAnswer c.args.folder.now c.args.micros (option_map (λ (f : Bor (List ℕ)). f.now) c.args.script) (outputs_of c.args.outputs)) (work_in c.args.folder.now (option_map (λ (f : Bor (List ℕ)). f.now) c.args.script)) (outcome_of c.in-Err.outcome) (g.B.Bench.outside c.args.bench.now) (g.B.Bench.outside c.read_work.new.bench) c.args.steps.now c.args.steps.now c.in-Err.ensures.got

@@ -5,7 +5,7 @@ use Rattle.outcome_model.proofs.WriteLemmas.{complains, complains_since}
 use Rattle.outcome_model.proofs.EndLemmas.{told}
 use Rattle.outcome_model.proofs.PromiseLemmas.{words_alone, answered, complete, holds_answer, stopped, true_stop, has_cause, holds_front, complains_alone, is_status}
 use Rattle.sim_cli.specs.Answers.{Answers}
-use Rattle.sim_cli.proofs.AnswerLemmas.{one}
+use Rattle.sim_cli.proofs.AnswerLemmas.{one, counted}
 use Rattle.sim_cli.proofs.simulation.simulate.Goals as goal
 
 pub returns-clause-does : goal.returns-clause-does
@@ -104,3 +104,9 @@ returns-clause-silent g c =
 
 pub returns-clause-status : goal.returns-clause-status
 returns-clause-status g c = rw c.status.ensures (is_status (outcome_of c.work-outcome.result))
+
+pub returns-clause-steps : goal.returns-clause-steps
+returns-clause-steps g c =
+    let words = map string_bytes c.args.words.now in
+    rw c.status.ensures (counted (outcome_of c.work-outcome.result) (request_of words) (g.B.Bench.outside c.args.bench.now) (g.B.Bench.outside c.work-outcome.new.bench) c.args.steps.now c.work-outcome.new.steps
+    c.work-outcome.ensures.happens c.work-outcome.ensures.counts)

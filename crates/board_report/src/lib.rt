@@ -1,0 +1,8 @@
+//! The report of a board: a line for the cycles of its run, and the lines of each part in order, by how
+//! it stands (`specs/Report.antt`).
+//! No call takes memory; a write may fail, and nothing is written after one that did.
+#![tactic(auto)]
+
+mod report;
+
+pub use report::write_report_of;

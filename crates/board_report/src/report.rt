@@ -1,0 +1,153 @@
+//! The lines of a board's parts.
+ghost use Rattle.std.specs.Prelude.{◌≡◌, ◌++◌, ℕ, List, true, map};
+ghost use Rattle.sim_base.specs.Outside.{Outside, SameOthers};
+ghost use Rattle.outcome_model.specs.Work.{Wrote};
+ghost use Rattle.any_part.specs.AnyPart.{state_of};
+ghost use Rattle.any_part.specs.AnyBehaviour.{own_of};
+ghost use Rattle.sim_report.specs.Lines.{line_of};
+ghost use Rattle.board_report.specs.Report.{mode_of, is_input, ignored_row, uno_rows, own_rows, part_rows, text_of, report_text};
+
+use any_part::{AnyBehaviour, AnyPart};
+use avr_core::Mode;
+use avr_mcu::Mcu;
+use board_build::{PlanKind, PlanPart};
+use part_catalog::greatest_value;
+use parts_basic::Led;
+use sim_base::{Bench, Level, Name, Port, WriteEnd};
+use sim_report::{ReportRow, UnoMode, write_report};
+
+/// Writes a line where the writing so far has not failed.
+fn write_line<B: Bench>(end: WriteEnd, row: &ReportRow, bench: &mut B) -> WriteEnd
+    requires { (B.outside bench.old).opened Port.Report ≡ true }
+    ensures next { (a : Outside) (text : List ℕ) → Wrote end Port.Report text a (B.outside bench.old) → Wrote result Port.Report (text ++ line_of row.now) a (B.outside bench.new) }
+    ensures named { (B.outside bench.new).name Port.Report ≡ (B.outside bench.old).name Port.Report }
+    ensures opened { (B.outside bench.new).opened Port.Report ≡ true }
+    ensures others { SameOthers Port.Report (B.outside bench.old) (B.outside bench.new) }
+{
+    match end {
+        WriteEnd::Ok => write_report(row, bench),
+        WriteEnd::Failed => WriteEnd::Failed,
+    }
+}
+
+fn mode_of(mode: Mode) -> UnoMode
+    ensures { result ≡ mode_of mode }
+{
+    match mode {
+        Mode::Run => UnoMode::Run,
+        Mode::Sleep => UnoMode::Sleep,
+        Mode::Halt(word) => UnoMode::Halt(word),
+    }
+}
+
+/// The line of an address that was written though no register is there.
+fn write_ignored<B: Bench>(
+    end: WriteEnd,
+    id: &Name,
+    address: u8,
+    written: bool,
+    bench: &mut B,
+) -> WriteEnd
+    requires { (B.outside bench.old).opened Port.Report ≡ true }
+    ensures next { (a : Outside) (text : List ℕ) → Wrote end Port.Report text a (B.outside bench.old) → Wrote result Port.Report (text ++ text_of (ignored_row written id.now address)) a (B.outside bench.new) }
+    ensures named { (B.outside bench.new).name Port.Report ≡ (B.outside bench.old).name Port.Report }
+    ensures opened { (B.outside bench.new).opened Port.Report ≡ true }
+    ensures others { SameOthers Port.Report (B.outside bench.old) (B.outside bench.new) }
+{
+    if written {
+        write_line(end, &ReportRow::Ignored(id.copy(), address), bench)
+    } else {
+        end
+    }
+}
+
+/// Where the core of an Uno stands, and the addresses without a register that were written.
+fn write_uno<B: Bench>(end: WriteEnd, id: &Name, uno: &Mcu, bench: &mut B) -> WriteEnd
+    requires { (B.outside bench.old).opened Port.Report ≡ true }
+    ensures next { (a : Outside) (text : List ℕ) → Wrote end Port.Report text a (B.outside bench.old) → Wrote result Port.Report (text ++ text_of (uno_rows id.now uno.now.mcu)) a (B.outside bench.new) }
+    ensures named { (B.outside bench.new).name Port.Report ≡ (B.outside bench.old).name Port.Report }
+    ensures opened { (B.outside bench.new).opened Port.Report ≡ true }
+    ensures others { SameOthers Port.Report (B.outside bench.old) (B.outside bench.new) }
+{
+    let row = ReportRow::Uno(id.copy(), uno.pc(), mode_of(uno.mode()));
+    let mut end = write_line(end, &row, bench);
+    for address in 0..256_u16 {
+        let address = address as u8;
+        end = write_ignored(end, id, address, uno.ignored(address), bench);
+    }
+    end
+}
+
+fn is_input(kind: PlanKind) -> bool
+    ensures { result ≡ is_input kind }
+{
+    match kind {
+        PlanKind::Stock(kind) => greatest_value(kind).is_some(),
+        PlanKind::Chip(_) => false,
+    }
+}
+
+/// What a part that does nothing by itself shows, on the levels of its last step.
+fn write_own<B: Bench>(
+    end: WriteEnd,
+    part: &PlanPart,
+    held: &[Level],
+    own: &AnyBehaviour,
+    bench: &mut B,
+) -> WriteEnd
+    requires { (B.outside bench.old).opened Port.Report ≡ true }
+    ensures next { (a : Outside) (text : List ℕ) → Wrote end Port.Report text a (B.outside bench.old) → Wrote result Port.Report (text ++ text_of (own_rows part.now held.now (own_of own.now))) a (B.outside bench.new) }
+    ensures named { (B.outside bench.new).name Port.Report ≡ (B.outside bench.old).name Port.Report }
+    ensures opened { (B.outside bench.new).opened Port.Report ≡ true }
+    ensures others { SameOthers Port.Report (B.outside bench.old) (B.outside bench.new) }
+{
+    match own {
+        AnyBehaviour::Led(led) => {
+            let row = ReportRow::Led(part.id.copy(), Led::lit(held), led.count());
+            write_line(end, &row, bench)
+        }
+        AnyBehaviour::Passive(passive) => {
+            if is_input(part.kind) {
+                let row = ReportRow::Input(part.id.copy(), passive.value());
+                write_line(end, &row, bench)
+            } else {
+                end
+            }
+        }
+    }
+}
+
+fn write_part<B: Bench>(end: WriteEnd, part: &PlanPart, state: &AnyPart, bench: &mut B) -> WriteEnd
+    requires { (B.outside bench.old).opened Port.Report ≡ true }
+    ensures next { (a : Outside) (text : List ℕ) → Wrote end Port.Report text a (B.outside bench.old) → Wrote result Port.Report (text ++ text_of (part_rows part.now (state_of state.now))) a (B.outside bench.new) }
+    ensures named { (B.outside bench.new).name Port.Report ≡ (B.outside bench.old).name Port.Report }
+    ensures opened { (B.outside bench.new).opened Port.Report ≡ true }
+    ensures others { SameOthers Port.Report (B.outside bench.old) (B.outside bench.new) }
+{
+    match state {
+        AnyPart::Uno(uno) => write_uno(end, &part.id, uno, bench),
+        AnyPart::Reactive(reactive) => {
+            write_own(end, part, reactive.held(), reactive.behaviour(), bench)
+        }
+    }
+}
+
+/// Writes the report of a board after so many cycles on Report: all of it, or a first part where a
+/// write fails. The parts of the plan and those of the board stand in the same order.
+pub fn write_report_of<B: Bench>(
+    cycles: u32,
+    plan: &[PlanPart],
+    parts: &[AnyPart],
+    bench: &mut B,
+) -> WriteEnd
+    requires { (B.outside bench.old).opened Port.Report ≡ true }
+    ensures wrote { Wrote result Port.Report (report_text cycles plan.now (map state_of parts.now)) (B.outside bench.old) (B.outside bench.new) }
+    ensures named { (B.outside bench.new).name Port.Report ≡ (B.outside bench.old).name Port.Report }
+    ensures others { SameOthers Port.Report (B.outside bench.old) (B.outside bench.new) }
+{
+    let mut end = write_report(&ReportRow::Cycles(cycles), bench);
+    for i in 0..plan.len().min(parts.len()) {
+        end = write_part(end, &plan[i], &parts[i], bench);
+    }
+    end
+}

@@ -1,0 +1,4 @@
+mod PlayLemmas
+pub mod RanLemmas
+mod StageLemmas
+mod VariableLemmas

@@ -1,0 +1,36 @@
+-- What the run of a board leaves on the ports.
+use Rattle.std.specs.Prelude.{◌≡◌, ℕ, List, Bool, false, true, Option, None, Some}
+use Rattle.sim_base.specs.declared.bench.Port.{Port}
+use Rattle.sim_base.specs.declared.bench.Port.TheVariants as ports
+use Rattle.sim_base.specs.declared.bench.WriteEnd.{WriteEnd}
+use Rattle.sim_base.specs.declared.bench.WriteEnd.TheVariants as writes
+use Rattle.sim_base.specs.Outside.{Outside, SameOthers, Opens}
+use Rattle.outcome_model.specs.Stop.{Texts}
+use Rattle.outcome_model.specs.Outcome.{Outcome, Accepted, NoRequest, Stopped, ReadFailed, WriteFailed, OutOfMemory, IsFaultless, Hold, Begin, OutputRose}
+use Rattle.outcome_model.specs.Work.{Wrote, SaidNothing}
+
+-- a port is opened where a file is named for it, under that name
+abbrev pub OpensNamed : Port → Option (List ℕ) → WriteEnd → Outside → Outside → Type 0
+OpensNamed port None writes.Ok a b = b ≡ a
+OpensNamed port None writes.Failed a b = ⊥
+OpensNamed port (Some name) end a b = Opens end port name a b × SameOthers port a b
+
+-- a report was written where it is wanted
+abbrev pub Reports : Bool → List ℕ → WriteEnd → Outside → Outside → Type 0
+Reports false text writes.Ok a b = b ≡ a
+Reports false text writes.Failed a b = ⊥
+Reports true text end a b = Wrote end ports.Report text a b × (b.name ports.Report ≡ a.name ports.Report) × SameOthers ports.Report a b
+
+-- the writing of the texts of a run, each on its port, or of first parts of them
+abbrev pub Writes : WriteEnd → Texts → Outside → Outside → Type 0
+Writes writes.Ok texts a b = SaidNothing a b × IsFaultless a b × Hold texts a b
+Writes writes.Failed texts a b = SaidNothing a b × OutputRose a b × Begin texts a b
+
+-- the same by an outcome; where memory runs out nothing has happened
+abbrev pub Ran : Outcome → Texts → Outside → Outside → Type 0
+Ran Accepted texts a b = Writes writes.Ok texts a b
+Ran NoRequest texts a b = ⊥
+Ran (Stopped s) texts a b = ⊥
+Ran (ReadFailed name) texts a b = ⊥
+Ran WriteFailed texts a b = Writes writes.Failed texts a b
+Ran OutOfMemory texts a b = b ≡ a

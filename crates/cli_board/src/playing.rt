@@ -1,0 +1,130 @@
+//! A board that runs from cycle 0, and what it writes.
+ghost use Rattle.std.specs.Prelude.{◌≡◌, ◌≤◌, ◌<◌, ◌+◌, None, true, false, map, is_some};
+ghost use Rattle.std.specs.Option.{option_map};
+ghost use Rattle.sim_base.specs.Outside.{is_openable};
+ghost use Rattle.text_model.specs.Wave.{wave_text};
+ghost use Rattle.board_model.specs.Board.{bytes, states};
+ghost use Rattle.board_model.specs.Rows.{rows};
+ghost use Rattle.board_laws.specs.Active.{active_pairs};
+ghost use Rattle.vcd_text.specs.Ports.{texts, Writes as WritesTexts};
+ghost use Rattle.any_part.specs.AnyPart.{any, state_of};
+ghost use Rattle.board_report.specs.Report.{report_text};
+ghost use Rattle.cli_board.specs.Outputs.{outputs_of};
+ghost use Rattle.cli_board.specs.Ran.{OpensNamed, Reports, Writes};
+ghost use Rattle.cli_board.specs.Run.{texts_for};
+
+use any_part::AnyPart;
+use board_build::PlanPart;
+use board_report::write_report_of;
+use board_run::{Board, RunEnd};
+use sim_base::{Bench, Port, Steps, WriteEnd};
+use std::snapshot::Snapshot;
+use std::sync::ledger::Ledger;
+use vcd_text::{WaveHead, WaveWriter};
+
+/// Where the texts of a run go: its bytes on Serial or nowhere, its wave and its report each in a file,
+/// if one is named; `-` is standard output.
+#[derive(Clone, Copy)]
+pub struct Outputs<'a> {
+    pub serial: bool,
+    pub wave: Option<&'a str>,
+    pub report: Option<&'a str>,
+}
+
+/// Opens a port on a file, if one is named.
+fn open_named<B: Bench>(port: Port, name: Option<&str>, bench: &mut B) -> WriteEnd
+    requires { is_openable port ≡ true }
+    ensures { OpensNamed port (option_map (λ f. f.now) name.entry) result (B.outside bench.old) (B.outside bench.new) }
+{
+    match name {
+        Some(name) => bench.open_port(port, name),
+        None => WriteEnd::Ok,
+    }
+}
+
+/// Runs the board from cycle 0 up to cycle `n` and writes what is wanted of its wave and its bytes.
+fn play<B: Bench, L: Ledger>(
+    board: &mut Board<AnyPart>,
+    head: &mut WaveHead,
+    n: u32,
+    wave: bool,
+    serial: bool,
+    bench: &mut B,
+    steps: &mut Steps<L>,
+) -> WriteEnd
+    requires cycle { board.old.cycle ≡ 0 }
+    requires alive { board.old.given_up ≡ false }
+    requires before { board.old.before ≡ None }
+    requires some { 0 < n }
+    requires end { n ≤ 160000000 }
+    requires opened { wave ≡ true → (B.outside bench.old).opened Port.Wave ≡ true }
+    ensures wrote { WritesTexts result (texts wave serial (wave_text head.old.variables (rows any board.old.wiring board.old.inputs None (map state_of board.old.parts) 0 n) n) (bytes any board.old.wiring board.old.inputs (map state_of board.old.parts) 0 n)) (B.outside bench.old) (B.outside bench.new) }
+    ensures alive { result ≡ WriteEnd.Ok → board.new.given_up ≡ false }
+    ensures states { result ≡ WriteEnd.Ok → map state_of board.new.parts ≡ states any board.old.wiring board.old.inputs (map state_of board.old.parts) 0 n }
+    ensures steps { result ≡ WriteEnd.Ok → steps.new ≡ steps.old + active_pairs any board.old.wiring board.old.inputs (map state_of board.old.parts) 0 n }
+{
+    let start = Snapshot::of(&*bench);
+    let mut writer = WaveWriter::new(head, bench, &start, wave, serial);
+    match board.run(n, &mut writer, steps) {
+        RunEnd::Done => writer.end(n),
+        RunEnd::WriteFault => WriteEnd::Failed,
+    }
+}
+
+/// Writes the report of a board after `n` cycles, where it is wanted.
+fn report<B: Bench>(
+    wanted: bool,
+    n: u32,
+    plan: &[PlanPart],
+    board: &Board<AnyPart>,
+    bench: &mut B,
+) -> WriteEnd
+    requires alive { board.now.given_up ≡ false }
+    requires opened { wanted ≡ true → (B.outside bench.old).opened Port.Report ≡ true }
+    ensures { Reports wanted (report_text n plan.now (map state_of board.now.parts)) result (B.outside bench.old) (B.outside bench.new) }
+{
+    if wanted {
+        write_report_of(n, plan, board.parts().as_slice(), bench)
+    } else {
+        WriteEnd::Ok
+    }
+}
+
+/// Opens the outputs, runs the board from cycle 0 up to cycle `n`, and writes its texts: first the wave
+/// and the bytes while it runs, then the report.
+pub(crate) fn write_run<B: Bench, L: Ledger>(
+    board: &mut Board<AnyPart>,
+    head: &mut WaveHead,
+    plan: &[PlanPart],
+    n: u32,
+    outputs: Outputs,
+    bench: &mut B,
+    steps: &mut Steps<L>,
+) -> WriteEnd
+    requires cycle { board.old.cycle ≡ 0 }
+    requires alive { board.old.given_up ≡ false }
+    requires before { board.old.before ≡ None }
+    requires some { 0 < n }
+    requires end { n ≤ 160000000 }
+    ensures wrote { Writes result (texts_for (outputs_of outputs.entry)
+        (wave_text head.old.variables (rows any board.old.wiring board.old.inputs None (map state_of board.old.parts) 0 n) n)
+        (bytes any board.old.wiring board.old.inputs (map state_of board.old.parts) 0 n)
+        (report_text n plan.now (states any board.old.wiring board.old.inputs (map state_of board.old.parts) 0 n))
+        (active_pairs any board.old.wiring board.old.inputs (map state_of board.old.parts) 0 n)) (B.outside bench.old) (B.outside bench.new) }
+    ensures steps { result ≡ WriteEnd.Ok → steps.new ≡ steps.old + active_pairs any board.old.wiring board.old.inputs (map state_of board.old.parts) 0 n }
+{
+    match open_named(Port::Wave, outputs.wave, bench) {
+        WriteEnd::Ok => {}
+        WriteEnd::Failed => return WriteEnd::Failed,
+    }
+    match open_named(Port::Report, outputs.report, bench) {
+        WriteEnd::Ok => {}
+        WriteEnd::Failed => return WriteEnd::Failed,
+    }
+    let wave = outputs.wave.is_some();
+    match play(board, head, n, wave, outputs.serial, bench, steps) {
+        WriteEnd::Ok => {}
+        WriteEnd::Failed => return WriteEnd::Failed,
+    }
+    report(outputs.report.is_some(), n, plan, board, bench)
+}

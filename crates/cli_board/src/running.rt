@@ -1,0 +1,72 @@
+//! A board of a plan, from its start.
+ghost use Rattle.std.specs.Prelude.{◌≡◌, ◌≤◌, ◌<◌, ◌+◌, [], IfOk, length};
+ghost use Rattle.board_model.specs.Fits.{AreInputs};
+ghost use Rattle.board_build.specs.IsPlan.{IsPlan};
+ghost use Rattle.outcome_model.specs.Outcome as ends;
+ghost use Rattle.project_model.specs.Shown.{board_variables};
+ghost use Rattle.cli_work.specs.Outcomes.{outcome_of};
+ghost use Rattle.cli_board.specs.Outputs.{outputs_of};
+ghost use Rattle.cli_board.specs.Ran.{Ran};
+ghost use Rattle.cli_board.specs.Run.{run_texts, run_wakes};
+
+use crate::playing::{Outputs, write_run};
+use crate::variables::make_variables;
+use any_part::load;
+use board_build::Plan;
+use board_run::Board;
+use cli_work::Outcome;
+use sim_base::{Bench, Flash, OutOfMemory, Steps, WriteEnd};
+use std::alloc::Global;
+use std::sync::ledger::Ledger;
+use vcd_text::WaveHead;
+
+/// The head of the wave, with the room for its text.
+fn make_head(alloc: Global, plan: &Plan) -> Result<WaveHead, OutOfMemory>
+    requires { IsPlan [] plan.now }
+    ensures { IfOk result (λ h. h.variables ≡ board_variables plan.now) }
+{
+    let variables = make_variables(alloc, plan)?;
+    WaveHead::of(alloc, variables)
+}
+
+/// Takes all memory that the run of a plan for `n` cycles needs, at most 160,000,000, and runs it: the
+/// wave and the report are opened, then the wave and the bytes are written, and then the report.
+pub fn run_board<B: Bench, L: Ledger>(
+    alloc: Global,
+    flash: Flash,
+    plan: Plan,
+    n: u32,
+    outputs: Outputs,
+    bench: &mut B,
+    steps: &mut Steps<L>,
+) -> Outcome
+    requires plan { IsPlan [] plan }
+    requires inputs { AreInputs (length plan.parts) plan.inputs }
+    requires some { 0 < n }
+    requires end { n ≤ 160000000 }
+    ensures ran { Ran (outcome_of result) (run_texts (outputs_of outputs.entry) (record { flash = flash; plan = plan }) n) (B.outside bench.old) (B.outside bench.new) }
+    ensures steps { outcome_of result ≡ ends.Accepted → steps.new ≡ steps.old + run_wakes (record { flash = flash; plan = plan }) n }
+{
+    let Ok(mut head) = make_head(alloc, &plan) else {
+        return Outcome::OutOfMemory;
+    };
+    let Ok(parts) = load(alloc, &plan, flash) else {
+        return Outcome::OutOfMemory;
+    };
+    let planned = plan.parts;
+    let Ok(mut board) = Board::new(alloc, parts, plan.wiring, plan.inputs) else {
+        return Outcome::OutOfMemory;
+    };
+    match write_run(
+        &mut board,
+        &mut head,
+        planned.as_slice(),
+        n,
+        outputs,
+        bench,
+        steps,
+    ) {
+        WriteEnd::Ok => Outcome::Accepted,
+        WriteEnd::Failed => Outcome::WriteFailed,
+    }
+}
