@@ -12,11 +12,14 @@ above says why. SOURCE is one of
 
     (module ..)       text of WebAssembly, made binary by wat2wasm with the features that are accepted
     clang WORDS       words for clang and wasm-ld, the source among them
+    rust WORDS        words for rustc, the source among them; where no target wasm32 is there, the module that stands is
+                      left as it is, and the script says so. RUSTC names the compiler, else Debian's is taken
     bytes             hexadecimal digits, "text", $word for a word of the table below, N*( .. ) for repetition, with # for
                       the four digits of its turn, [ .. ] for a part behind its size, and ^ before the byte at which
                       the module breaks
 
-The expected answer is that of the row and never that of the program. Needs Debian's wabt, clang and lld.
+The expected answer is that of the row and never that of the program. Needs Debian's wabt, clang and lld; for Rust its rustc and
+libstd-rust-dev-wasm32.
 """
 import os
 import re
@@ -143,6 +146,24 @@ def from_c(words, folder):
         return file.read()
 
 
+def from_rust(words, folder):
+    """The module, or None where rustc has no target wasm32."""
+    rustc = os.environ.get("RUSTC", "/usr/bin/rustc")
+    made = os.path.join(folder, "made.wasm")
+    words = [rustc, "--target=wasm32-unknown-unknown", "--crate-type=cdylib", "-Clinker=wasm-ld", "-Cpanic=abort",
+             "-Cstrip=symbols", "-Clink-arg=--export-table", *words.split(), "-o", made]
+    try:
+        done = subprocess.run(words, cwd=HERE, capture_output=True, text=True)
+    except FileNotFoundError:
+        return None
+    if "can't find crate" in done.stderr:
+        return None
+    if done.returncode != 0:
+        sys.exit(" ".join(words) + "\n" + done.stderr)
+    with open(made, "rb") as file:
+        return file.read()
+
+
 def rows():
     """Each row of each table as name, place, source, and whether wasm-validate is to answer the same."""
     for table in sorted(name for name in os.listdir(HERE) if name.endswith(".rows")):
@@ -167,6 +188,8 @@ def made(source, folder):
         return from_text(source, folder), None
     if source.startswith("clang "):
         return from_c(source[6:], folder), None
+    if source.startswith("rust "):
+        return from_rust(source[5:], folder), None
     return assemble(tokens(source))
 
 
@@ -210,6 +233,10 @@ def main():
             file = name + ".wasm"
             if file in words:
                 sys.exit("twice: " + file)
+            if bytes_ is None:
+                print("not made anew, for want of a rustc for wasm32: " + file)
+                with open(os.path.join(data, file), "rb") as stands:
+                    bytes_ = stands.read()
             put_file(os.path.join(data, file), bytes_, check)
             words.append(file)
             lines.append(f"{file}: {expected(name, place, mark)}")
