@@ -14,8 +14,6 @@ mod module;
 mod prefixed;
 mod progress;
 mod sections;
-#[cfg(test)]
-mod tests;
 
 pub use decoding::decode;
 pub use module::{

@@ -8,8 +8,6 @@ pub mod int32;
 pub mod int64;
 mod memory;
 mod numeric;
-#[cfg(test)]
-mod tests;
 mod trap;
 mod value;
 

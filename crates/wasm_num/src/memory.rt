@@ -64,6 +64,7 @@ impl Memory {
     }
 
     /// How many pages it has.
+    #[inline(always)]
     pub fn size(&self) -> u32
         ensures { result ≡ size self.now }
     {
@@ -94,6 +95,7 @@ impl Memory {
     }
 
     /// All bytes.
+    #[inline(always)]
     pub fn as_slice(&self) -> &[u8]
         ensures { result.now ≡ self.now.bytes }
     {

@@ -13,8 +13,6 @@ mod indexes;
 mod init;
 mod rules;
 mod space;
-#[cfg(test)]
-mod tests;
 mod valid;
 mod validating;
 
