@@ -3,6 +3,7 @@ mod Lists
 mod Typed
 mod Operations
 mod Follows
+mod Folds
 mod Stacks
 mod StepLemmas
 mod CallLemmas
