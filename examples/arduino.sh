@@ -20,7 +20,7 @@ for file in "$core"/*.cpp; do $cpp -o "$work/$(basename "$file").o" "$file"; don
 avr-gcc -c -x assembler-with-cpp -flto -mmcu=atmega328p -o "$work/wiring_pulse.S.o" "$core/wiring_pulse.S"
 avr-gcc-ar rcs "$work/core.a" "$work"/*.o
 bad=0
-for name in arduino-blink fade pot-blink pin-interrupt serial-hello; do
+for name in arduino-blink fade pot-blink pin-interrupt button serial-hello pot-serial; do
     { echo '#include <Arduino.h>'; cat "$here/$name/$name.ino"; } >"$work/$name.cpp"
     (cd "$work" && $cpp -o "$name.sketch" "$name.cpp")
     avr-gcc -w -Os -flto -fuse-linker-plugin -Wl,--gc-sections -mmcu=atmega328p -o "$work/$name.elf" "$work/$name.sketch" "$work/core.a" -lm

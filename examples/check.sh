@@ -4,6 +4,8 @@
 here=$(cd "$(dirname "$0")" && pwd)
 program=${PROGRAM:-$here/../mudflatjar}
 bad=0
+down=$(mktemp -d) || exit 1
+trap 'rm -rf "$down"' EXIT
 
 # the value on pins 0 to 7 at each rise of pin 8
 pulses() {
@@ -82,7 +84,7 @@ twin counter/expected/run.vcd counter.vcd
 pulses <"$rows/crc.vcd" | same "crc in the rows" "$here/crc/expected/pulses.txt" || bad=1
 pulses <"$rows/sort.vcd" | same "sort in the rows" "$here/sort/expected/pulses.txt" || bad=1
 counts <"$rows/counter-down.vcd" | same "counter downwards in the rows" "$here/counter/expected/counts-down.txt" || bad=1
-for name in blink counter pulse arduino-blink fade pin-interrupt pot-blink serial-hello; do
+for name in blink counter pulse arduino-blink fade pin-interrupt pot-blink button serial-hello pot-serial; do
     "$program" check "$here/$name" | same "$name as a project" "$here/$name/expected/check.txt" || bad=1
 done
 "$program" bare "$here/blink/blink.hex" --us 1 | same blink "$here/blink/expected/wave.vcd" || bad=1
@@ -100,12 +102,25 @@ wave "$here/arduino-blink" 2100000 | at 13 1 | same arduino-blink "$here/arduino
 wave "$here/fade" 200000 | widths 9 | same fade "$here/fade/expected/pulses.txt" || bad=1
 wave "$here/pin-interrupt" 30000 | at 13 1 | same pin-interrupt "$here/pin-interrupt/expected/pin13.txt" || bad=1
 wave "$here/pot-blink" 950000 | at 13 10 | same pot-blink "$here/pot-blink/expected/pin13.txt" || bad=1
-"$program" run "$here/serial-hello" --us 350000 | same "serial-hello's bytes" "$here/serial-hello/expected/serial.txt" || bad=1
 "$here/arduino.sh" --check || bad=1
 
+# what is sent and what the report says, with a script where there is one
+scripted() { # NAME MICROSECONDS
+    set -- "$1" "$2" "$here/$1"
+    if [ -f "$3/script.txt" ]; then
+        "$program" run "$3" --us "$2" --script "$3/script.txt" --report "$down/report" >"$down/serial"
+    else
+        "$program" run "$3" --us "$2" --report "$down/report" >"$down/serial"
+    fi
+    same "$1's bytes" "$3/expected/serial.txt" <"$down/serial" || bad=1
+    same "$1's report" "$3/expected/report.txt" <"$down/report" || bad=1
+}
+scripted button 60000
+scripted serial-hello 350000
+scripted pot-serial 290000
+"$program" run "$here/button" --us 60000 --script "$here/button/script.txt" --vcd - | at 13 1 | same "button's LED" "$here/button/expected/pin13.txt" || bad=1
+
 # the counter with pin 2 on ground
-down=$(mktemp -d) || exit 1
-trap 'rm -rf "$down"' EXIT
 cp "$here/counter/wokwi.toml" "$here/counter/counter.hex" "$down"
 sed 's/"vcc1:VCC", "uno:2"/"gnd1:GND", "uno:2"/' "$here/counter/diagram.json" >"$down/diagram.json"
 wave "$down" 30 | counts | same "counter downwards" "$here/counter/expected/counts-down.txt" || bad=1

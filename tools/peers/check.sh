@@ -61,10 +61,11 @@ row() { # NAME MICROSECONDS WORDS OF uno.c
     says $? "row $name on uno.c"
 }
 with_uno() { # NAME MICROSECONDS WORDS OF uno.c
-    name=$1 us=$2
+    name=$1 us=$2 script=
     shift 2
     rm -f "$folder/ours"
-    "$program" run "$examples/$name" --us "$us" --vcd "$folder/wave" >/dev/null && pins <"$folder/wave" >"$folder/ours"
+    [ ! -f "$examples/$name/script.txt" ] || script="--script $examples/$name/script.txt"
+    "$program" run "$examples/$name" --us "$us" $script --vcd "$folder/wave" >/dev/null && pins <"$folder/wave" >"$folder/ours"
     "$folder/uno" "$examples/$name/$name.hex" "$((16 * us))" "$@" | pins >"$folder/theirs"
     [ -s "$folder/ours" ] && cmp -s "$folder/ours" "$folder/theirs"
     says $? "$name on uno.c, $(wc -l <"$folder/ours" | tr -d ' ') changes of pins"
@@ -88,6 +89,8 @@ if have cc && cc -O2 -o "$folder/uno" "$here/uno.c"; then
     with_uno pin-interrupt 30000 9=2
     with_uno pot-blink 950000 14~100
     with_uno serial-hello 350000
+    with_uno button 60000 @160000 2=low @320000 2=free @480000 2=low @720000 2=free
+    with_uno pot-serial 290000 14~300 @1440000 14~700 @3040000 14~1023
 else
     echo "uno.c: skipped, no compiler for C" >&2
 fi

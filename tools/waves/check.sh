@@ -79,5 +79,8 @@ wave sort bare "$examples/sort/sort.hex" --us 100
 wave "blink with its LED" run "$examples/blink" --us 1 --vcd -
 wave counter run "$examples/counter" --us 30 --vcd -
 wave "63 LEDs" run "$folder/many" --us 10 --vcd -
-! have sigrok-cli || with_uart serial-hello 350000 9600
+if have sigrok-cli; then
+    with_uart serial-hello 350000 9600
+    with_uart pot-serial 290000 115200
+fi
 exit $bad
