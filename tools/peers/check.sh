@@ -84,6 +84,7 @@ if have cc && cc -O2 -o "$folder/uno" "$here/uno.c"; then
     row one-byte 86
     row usart 1700 1=0
     row usart-errors 110 8=0
+    row spi 2500 11=12
     with_uno arduino-blink 2100000
     with_uno fade 200000
     with_uno pin-interrupt 30000 9=2
