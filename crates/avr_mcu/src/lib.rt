@@ -8,8 +8,6 @@
 mod devices;
 mod follow;
 mod mcu;
-#[cfg(test)]
-mod tests;
 mod units;
 
 pub use mcu::Mcu;
