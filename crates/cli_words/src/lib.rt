@@ -6,7 +6,5 @@
 mod commands;
 mod number;
 mod request;
-#[cfg(test)]
-mod tests;
 
 pub use request::{NamedFiles, Request, read_words};
