@@ -103,8 +103,8 @@ ends "a closed standard output" 6 "write failed"
 "$program" check p >&- 2>said
 echo $? >status
 ends "an answer on a closed standard output" 6 "write failed"
-# the reader ends after one line of a long wave; the program must not be killed by it
-{ "$program" bare long.hex --us 20000 2>said; echo $? >status; } | head -n 1 >/dev/null
+# the reader ends after one line of a wave that no pipe holds; the program must not be killed by it
+{ "$program" bare p/blink.hex --us 20000 2>said; echo $? >status; } | head -n 1 >/dev/null
 ends "a reader that ends" 6 "write failed"
 "$program" bare none.hex --us 1 >/dev/null 2>&-
 echo $? >status
