@@ -234,7 +234,7 @@ def main():
             if file in words:
                 sys.exit("twice: " + file)
             if bytes_ is None:
-                print("not made anew, for want of a rustc for wasm32: " + file)
+                print("not made anew, for want of a rustc for wasm32: " + file, file=sys.stderr)
                 with open(os.path.join(data, file), "rb") as stands:
                     bytes_ = stands.read()
             put_file(os.path.join(data, file), bytes_, check)
