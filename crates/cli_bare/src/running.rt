@@ -10,7 +10,7 @@ ghost use Rattle.cli_bare.specs.Bare.{bare_run};
 
 use crate::uno::make_plan;
 use cli_board::{Outputs, run_board};
-use cli_work::{HexFile, Outcome, read_document};
+use cli_work::{HexFile, WorkEnd, read_document};
 use sim_base::{Bench, Flash, Steps};
 use std::alloc::Global;
 use std::sync::ledger::Ledger;
@@ -22,14 +22,14 @@ fn run_bare<B: Bench, L: Ledger>(
     n: u32,
     bench: &mut B,
     steps: &mut Steps<L>,
-) -> Outcome
+) -> WorkEnd
     requires some { 0 < n }
     requires end { n ≤ 160000000 }
     ensures ran { Ran (outcome_of result) (bare_run flash n) (B.outside bench.old) (B.outside bench.new) }
     ensures steps { outcome_of result ≡ ends.Accepted → steps.new ≡ steps.old + (bare_run flash n).wakes }
 {
     let Ok(plan) = make_plan(alloc) else {
-        return Outcome::OutOfMemory;
+        return WorkEnd::OutOfMemory;
     };
     let outputs = Outputs {
         serial: false,
@@ -46,7 +46,7 @@ pub fn bare<B: Bench, L: Ledger>(
     micros: u32,
     bench: &mut B,
     steps: &mut Steps<L>,
-) -> Outcome
+) -> WorkEnd
     requires some { 0 < micros }
     requires end { micros ≤ 10000000 }
     ensures ends { Ends (BareAnswer hex.now micros) (outcome_of result) (B.outside bench.old) (B.outside bench.new) }

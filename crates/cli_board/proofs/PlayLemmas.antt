@@ -15,7 +15,7 @@ use Rattle.sim_base.specs.declared.wiring.Input.{Input}
 use Rattle.board_build.specs.declared.plan.PlanPart.{PlanPart}
 use Rattle.board_report.specs.Report.{report_text}
 use Rattle.project_model.specs.Work.{Work}
-use Rattle.project_model.specs.Shown.{board_variables}
+use Rattle.project_model.specs.Variables.{board_variables}
 use Rattle.cli_board.specs.Run.{Outputs, texts_for, run_texts}
 use Rattle.cli_board.specs.Ran as runs
 use Rattle.vcd_text.specs.Ports.{texts, Writes}

@@ -15,7 +15,7 @@ use Rattle.board_build.specs.declared.plan.Plan.{Plan}
 use Rattle.board_build.specs.Pins.{count_of}
 use Rattle.board_build.specs.IsPlan.{IsPlan, kinds_in}
 use Rattle.board_build.proofs.PinLemmas.{starts_at, starts_length}
-use Rattle.project_model.specs.Shown.{shown_names, pin_variable, pin_variables, part_variables}
+use Rattle.project_model.specs.Variables.{shown_names, pin_variable, pin_variables, part_variables}
 
 -- the pins that are shown are the first ones
 pub shown_first : (kind : Kind) → shown_names (plans.Stock kind) ≡ take (length (shown_names (plans.Stock kind))) (pin_names kind)

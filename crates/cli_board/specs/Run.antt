@@ -9,7 +9,7 @@ use Rattle.outcome_model.specs.Stop.{Output, Texts}
 use Rattle.any_part.specs.AnyPart.{any}
 use Rattle.any_part.specs.Start.{starts}
 use Rattle.project_model.specs.Work.{Work}
-use Rattle.project_model.specs.Shown.{board_variables}
+use Rattle.project_model.specs.Variables.{board_variables}
 use Rattle.board_report.specs.Report.{report_text}
 
 -- Where the texts of a run go: its bytes on Serial or nowhere, its wave and its report each in a file, if one is named.

@@ -3,7 +3,7 @@ ghost use Rattle.std.specs.Prelude.{◌≡◌, ◌≤◌, ◌<◌, ◌+◌, [], 
 ghost use Rattle.board_model.specs.Fits.{AreInputs};
 ghost use Rattle.board_build.specs.IsPlan.{IsPlan};
 ghost use Rattle.outcome_model.specs.Outcome as ends;
-ghost use Rattle.project_model.specs.Shown.{board_variables};
+ghost use Rattle.project_model.specs.Variables.{board_variables};
 ghost use Rattle.cli_work.specs.Outcomes.{outcome_of};
 ghost use Rattle.cli_board.specs.Outputs.{outputs_of};
 ghost use Rattle.cli_board.specs.Ran.{Ran};
@@ -14,7 +14,7 @@ use crate::variables::make_variables;
 use any_part::load;
 use board_build::Plan;
 use board_run::Board;
-use cli_work::Outcome;
+use cli_work::WorkEnd;
 use sim_base::{Bench, Flash, OutOfMemory, Steps, WriteEnd};
 use std::alloc::Global;
 use std::sync::ledger::Ledger;
@@ -39,7 +39,7 @@ pub fn run_board<B: Bench, L: Ledger>(
     outputs: Outputs,
     bench: &mut B,
     steps: &mut Steps<L>,
-) -> Outcome
+) -> WorkEnd
     requires plan { IsPlan [] plan }
     requires inputs { AreInputs (length plan.parts) plan.inputs }
     requires some { 0 < n }
@@ -48,14 +48,14 @@ pub fn run_board<B: Bench, L: Ledger>(
     ensures steps { outcome_of result ≡ ends.Accepted → steps.new ≡ steps.old + run_wakes (record { flash = flash; plan = plan }) n }
 {
     let Ok(mut head) = make_head(alloc, &plan) else {
-        return Outcome::OutOfMemory;
+        return WorkEnd::OutOfMemory;
     };
     let Ok(parts) = load(alloc, &plan, flash) else {
-        return Outcome::OutOfMemory;
+        return WorkEnd::OutOfMemory;
     };
     let planned = plan.parts;
     let Ok(mut board) = Board::new(alloc, parts, plan.wiring, plan.inputs) else {
-        return Outcome::OutOfMemory;
+        return WorkEnd::OutOfMemory;
     };
     match write_run(
         &mut board,
@@ -66,7 +66,7 @@ pub fn run_board<B: Bench, L: Ledger>(
         bench,
         steps,
     ) {
-        WriteEnd::Ok => Outcome::Accepted,
-        WriteEnd::Failed => Outcome::WriteFailed,
+        WriteEnd::Ok => WorkEnd::Accepted,
+        WriteEnd::Failed => WorkEnd::WriteFailed,
     }
 }

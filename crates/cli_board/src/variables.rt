@@ -4,13 +4,13 @@ ghost use Rattle.text_model.specs.Wave.{Net};
 ghost use Rattle.vcd_text.specs.Variables.{variable_of, variables_of};
 ghost use Rattle.part_catalog.specs.Pins.{pin_names};
 ghost use Rattle.board_build.specs.IsPlan.{IsPlan};
-ghost use Rattle.project_model.specs.Shown.{shown_names, pin_variables, board_variables};
+ghost use Rattle.project_model.specs.Variables.{shown_names, pin_variables, board_variables};
 
 use board_build::{Plan, PlanKind};
 use part_catalog::{Kind, pin_count, pin_name};
 use sim_base::{List, Name, OutOfMemory};
 use std::alloc::Global;
-use vcd_text::{Shown, Variable};
+use vcd_text::{Source, Variable};
 
 fn make_variable(alloc: Global, id: &Name, pin: &Name, net: u16) -> Result<Variable, OutOfMemory>
     ensures { IfOk result (λ v. variable_of v ≡ record { name = id.now ++ (codes "." ++ pin.now); shows = Net net }) }
@@ -19,7 +19,7 @@ fn make_variable(alloc: Global, id: &Name, pin: &Name, net: u16) -> Result<Varia
     let pin = pin.as_str();
     Ok(Variable {
         name: format!(in alloc; "{id}.{pin}")?,
-        shows: Shown::Net(net),
+        shows: Source::Net(net),
     })
 }
 

@@ -6,7 +6,7 @@ ghost use Rattle.cli_work.specs.Outcomes.{outcome_of};
 ghost use Rattle.cli_module.specs.Answer.{ModuleAnswer};
 ghost use Rattle.cli_module.specs.Judged.{IsJudged, IsFit, EndsAs};
 
-use cli_work::{Outcome, Stop, read_bytes, stopped, write_text};
+use cli_work::{WorkEnd, Stop, read_bytes, stopped, write_text};
 use sim_base::{Bench, Fault, Port};
 use std::alloc::Global;
 use wasm_decode::{Module, decode};
@@ -44,7 +44,7 @@ fn broken(fault: Fault) -> Stop
 }
 
 /// Reads and judges the module of a file, and writes `accepted` on Report, which is standard output.
-pub fn check_module<B: Bench>(alloc: Global, name: &str, bench: &mut B) -> Outcome
+pub fn check_module<B: Bench>(alloc: Global, name: &str, bench: &mut B) -> WorkEnd
     ensures ends { Ends (ModuleAnswer name.now) (outcome_of result) (B.outside bench.old) (B.outside bench.new) }
     ensures silent { SaidNothing (B.outside bench.old) (B.outside bench.new) }
 {

@@ -6,13 +6,13 @@ ghost use Rattle.cli_project.specs.Answer.{CheckAnswer};
 ghost use Rattle.cli_work.specs.Outcomes.{outcome_of};
 
 use crate::project::read_work;
-use cli_work::{Outcome, write_text};
+use cli_work::{WorkEnd, write_text};
 use sim_base::{Bench, Port};
 use std::alloc::Global;
 
 /// Reads and checks the project of a folder, and writes `accepted` on Report, which is standard
 /// output.
-pub fn check<B: Bench>(alloc: Global, folder: &str, bench: &mut B) -> Outcome
+pub fn check<B: Bench>(alloc: Global, folder: &str, bench: &mut B) -> WorkEnd
     ensures ends { Ends (CheckAnswer folder.now) (outcome_of result) (B.outside bench.old) (B.outside bench.new) }
     ensures silent { SaidNothing (B.outside bench.old) (B.outside bench.new) }
 {

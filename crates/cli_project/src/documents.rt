@@ -7,7 +7,7 @@ ghost use Rattle.cli_work.specs.Documents.{IsRead};
 ghost use Rattle.cli_work.specs.Outcomes.{outcome_of};
 ghost use Rattle.project_model.specs.Work.{in_folder};
 
-use cli_work::{Document, Outcome, read_document};
+use cli_work::{Document, WorkEnd, read_document};
 use diagram_json::read_diagram;
 use document_model::{Diagram, Project};
 use input_texts::Script;
@@ -74,13 +74,13 @@ pub(crate) fn read_in<D: Document, B: Bench>(
     folder: &str,
     path: &str,
     bench: &mut B,
-) -> Result<D::Text, Outcome>
+) -> Result<D::Text, WorkEnd>
     ensures got { Got (λ d. d) outcome_of result (λ files. file files (in_folder folder.now path.now) D.reading) (B.outside bench.old) (B.outside bench.new) }
     ensures ports { SamePorts (B.outside bench.old) (B.outside bench.new) }
     ensures read { IfOk result (IsRead D.reading) }
 {
     match name_in(alloc, folder, path) {
         Ok(name) => read_document::<D, B>(alloc, name.as_str(), bench),
-        Err(_) => Err(Outcome::OutOfMemory),
+        Err(_) => Err(WorkEnd::OutOfMemory),
     }
 }

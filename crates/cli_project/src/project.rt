@@ -14,7 +14,7 @@ ghost use Rattle.cli_project.specs.Works.{IsRising, cycles_of, work_of};
 
 use crate::documents::{DiagramFile, ProjectFile, ScriptFile, name_in, read_in};
 use board_build::{Plan, build};
-use cli_work::{HexFile, Outcome, Stop, read_document, stopped};
+use cli_work::{HexFile, WorkEnd, Stop, read_document, stopped};
 use document_model::{Diagram, Project};
 use input_texts::Script;
 use sim_base::refusals::SCRIPT_PART;
@@ -30,7 +30,7 @@ pub struct Work {
 
 /// The end of the work by a rule of the board, with the file that the rule names; want of memory where
 /// that name has no room.
-fn refused_by_rule(alloc: Global, folder: &str, script: Option<&str>, refusal: Refusal) -> Outcome
+fn refused_by_rule(alloc: Global, folder: &str, script: Option<&str>, refusal: Refusal) -> WorkEnd
     ensures { (outcome_of result ≡ ends.Stopped (Refused (file_of_rule folder.now (option_map (λ s. s.now) script.entry) refusal) refusal)) ⊎ (outcome_of result ≡ ends.OutOfMemory) }
 {
     match script {
@@ -39,7 +39,7 @@ fn refused_by_rule(alloc: Global, folder: &str, script: Option<&str>, refusal: R
         }
         _ => match name_in(alloc, folder, "diagram.json") {
             Ok(name) => stopped(alloc, name.as_str(), Stop::Refused(refusal)),
-            Err(_) => Outcome::OutOfMemory,
+            Err(_) => WorkEnd::OutOfMemory,
         },
     }
 }
@@ -52,7 +52,7 @@ fn plan_board(
     project: &Project,
     diagram: &Diagram,
     rows: &Script,
-) -> Result<Plan, Outcome>
+) -> Result<Plan, WorkEnd>
     requires chips { length project.now.chips ≡ 0 }
     requires parts { length diagram.now.parts ≤ 64 }
     requires rising { IsRising 0 (cycles_of rows.now) }
@@ -63,7 +63,7 @@ fn plan_board(
     match build(alloc, project, diagram, &[], rows) {
         Ok(plan) => Ok(plan),
         Err(Fault::Refused(refusal)) => Err(refused_by_rule(alloc, folder, script, refusal)),
-        Err(Fault::OutOfMemory) => Err(Outcome::OutOfMemory),
+        Err(Fault::OutOfMemory) => Err(WorkEnd::OutOfMemory),
     }
 }
 
@@ -72,7 +72,7 @@ fn read_script_of<B: Bench>(
     alloc: Global,
     script: Option<&str>,
     bench: &mut B,
-) -> Result<Script, Outcome>
+) -> Result<Script, WorkEnd>
     ensures got { Got (λ s. s) outcome_of result (script_in (option_map (λ s. s.now) script.entry)) (B.outside bench.old) (B.outside bench.new) }
     ensures ports { SamePorts (B.outside bench.old) (B.outside bench.new) }
     ensures rising { IfOk result (λ rows. IsRising 0 (cycles_of rows)) }
@@ -90,7 +90,7 @@ pub fn read_work<B: Bench>(
     folder: &str,
     script: Option<&str>,
     bench: &mut B,
-) -> Result<Work, Outcome>
+) -> Result<Work, WorkEnd>
     ensures got { Got work_of outcome_of result (work_in folder.now (option_map (λ s. s.now) script.entry)) (B.outside bench.old) (B.outside bench.new) }
     ensures ports { SamePorts (B.outside bench.old) (B.outside bench.new) }
     ensures plan { IfOk result (λ w. IsPlan [] w.plan) }

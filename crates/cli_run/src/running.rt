@@ -9,7 +9,7 @@ ghost use Rattle.cli_run.specs.Answer.{RunAnswer};
 
 use cli_board::{Outputs, run_board};
 use cli_project::read_work;
-use cli_work::Outcome;
+use cli_work::WorkEnd;
 use sim_base::{Bench, Steps};
 use std::alloc::Global;
 use std::sync::ledger::Ledger;
@@ -24,7 +24,7 @@ pub fn run<B: Bench, L: Ledger>(
     outputs: Outputs,
     bench: &mut B,
     steps: &mut Steps<L>,
-) -> Outcome
+) -> WorkEnd
     requires some { 0 < micros }
     requires end { micros ≤ 10000000 }
     ensures ends { Ends (RunAnswer folder.now micros (option_map (λ s. s.now) script.entry) (outputs_of outputs.entry)) (outcome_of result) (B.outside bench.old) (B.outside bench.new) }

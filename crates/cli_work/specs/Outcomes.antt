@@ -2,12 +2,12 @@
 use Rattle.std.specs.Prelude.{ℕ, List, string_bytes}
 use Rattle.outcome_model.specs.Stop.{Missing, Refused}
 use Rattle.outcome_model.specs.Outcome as ends
-use Rattle.cli_work.specs.declared.outcome.Outcome.{Outcome}
-use Rattle.cli_work.specs.declared.outcome.Outcome.TheVariants as outcomes
+use Rattle.cli_work.specs.declared.outcome.WorkEnd.{WorkEnd}
+use Rattle.cli_work.specs.declared.outcome.WorkEnd.TheVariants as outcomes
 use Rattle.cli_work.specs.declared.outcome.Stop.{Stop}
 use Rattle.cli_work.specs.declared.outcome.Stop.TheVariants as stops
 
-abbrev pub outcome_of : Outcome → ends.Outcome
+abbrev pub outcome_of : WorkEnd → ends.Outcome
 outcome_of outcomes.Accepted = ends.Accepted
 outcome_of outcomes.NoRequest = ends.NoRequest
 outcome_of (outcomes.Missing name) = ends.Stopped (Missing (string_bytes name))

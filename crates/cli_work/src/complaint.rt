@@ -7,7 +7,7 @@ ghost use Rattle.outcome_model.specs.Work.{Wrote};
 ghost use Rattle.outcome_model.specs.Outcome.{Accepted, Stopped, line_of, place_parts};
 ghost use Rattle.cli_work.specs.Outcomes.{outcome_of};
 
-use crate::outcome::Outcome;
+use crate::outcome::WorkEnd;
 use crate::writing::{write_next, write_parts};
 use itoa::Buffer;
 use sim_base::{Bench, Place, Port, Refusal, WriteEnd, refusal_name};
@@ -65,30 +65,30 @@ fn tell_refusal<B: Bench>(name: &str, refusal: Refusal, bench: &mut B) -> WriteE
 }
 
 /// Writes the line of an outcome, and nothing where all was accepted.
-pub fn tell<B: Bench>(outcome: &Outcome, bench: &mut B) -> WriteEnd
+pub fn tell<B: Bench>(outcome: &WorkEnd, bench: &mut B) -> WriteEnd
     ensures wrote { Wrote result Port.Complaint (line_of (outcome_of outcome.now)) (B.outside bench.old) (B.outside bench.new) }
     ensures others { SameOthers Port.Complaint (B.outside bench.old) (B.outside bench.new) }
     ensures quiet { outcome_of outcome.now ≡ Accepted → B.outside bench.new ≡ B.outside bench.old }
 {
     match outcome {
-        Outcome::Accepted => WriteEnd::Ok,
-        Outcome::NoRequest => write_parts(
+        WorkEnd::Accepted => WriteEnd::Ok,
+        WorkEnd::NoRequest => write_parts(
             bench,
             Port::Complaint,
             &[b"words not understood", b"\n"],
         ),
-        Outcome::Missing(name) => write_parts(
+        WorkEnd::Missing(name) => write_parts(
             bench,
             Port::Complaint,
             &[name.as_str().as_bytes(), b": missing", b"\n"],
         ),
-        Outcome::Refused(name, refusal) => tell_refusal(name.as_str(), *refusal, bench),
-        Outcome::ReadFailed(name) => write_parts(
+        WorkEnd::Refused(name, refusal) => tell_refusal(name.as_str(), *refusal, bench),
+        WorkEnd::ReadFailed(name) => write_parts(
             bench,
             Port::Complaint,
             &[name.as_str().as_bytes(), b": read failed", b"\n"],
         ),
-        Outcome::WriteFailed => write_parts(bench, Port::Complaint, &[b"write failed", b"\n"]),
-        Outcome::OutOfMemory => write_parts(bench, Port::Complaint, &[b"out of memory", b"\n"]),
+        WorkEnd::WriteFailed => write_parts(bench, Port::Complaint, &[b"write failed", b"\n"]),
+        WorkEnd::OutOfMemory => write_parts(bench, Port::Complaint, &[b"out of memory", b"\n"]),
     }
 }

@@ -9,7 +9,7 @@ use std::alloc::Global;
 
 /// The end of the work, with the file that it names.
 #[derive(Drop)]
-pub enum Outcome {
+pub enum WorkEnd {
     Accepted,
     NoRequest,
     Missing(String),
@@ -29,31 +29,31 @@ pub enum Stop {
 }
 
 /// The end of the work by a file of this name; want of memory where the name has no room.
-pub fn stopped(alloc: Global, name: &str, stop: Stop) -> Outcome
+pub fn stopped(alloc: Global, name: &str, stop: Stop) -> WorkEnd
     ensures { (outcome_of result ≡ stop_of name.now stop) ⊎ (outcome_of result ≡ ends.OutOfMemory) }
 {
     let Ok(name) = String::from_str(alloc, name) else {
-        return Outcome::OutOfMemory;
+        return WorkEnd::OutOfMemory;
     };
     match stop {
-        Stop::Missing => Outcome::Missing(name),
-        Stop::Refused(refusal) => Outcome::Refused(name, refusal),
-        Stop::ReadFailed => Outcome::ReadFailed(name),
-        Stop::OutOfMemory => Outcome::OutOfMemory,
+        Stop::Missing => WorkEnd::Missing(name),
+        Stop::Refused(refusal) => WorkEnd::Refused(name, refusal),
+        Stop::ReadFailed => WorkEnd::ReadFailed(name),
+        Stop::OutOfMemory => WorkEnd::OutOfMemory,
     }
 }
 
 /// The status with which the program ends.
-pub fn status(outcome: &Outcome) -> u8
+pub fn status(outcome: &WorkEnd) -> u8
     ensures { result ≡ status_of (outcome_of outcome.now) }
 {
     match outcome {
-        Outcome::Accepted => 0,
-        Outcome::NoRequest => 2,
-        Outcome::Refused(_, _) => 3,
-        Outcome::Missing(_) => 4,
-        Outcome::ReadFailed(_) => 5,
-        Outcome::WriteFailed => 6,
-        Outcome::OutOfMemory => 7,
+        WorkEnd::Accepted => 0,
+        WorkEnd::NoRequest => 2,
+        WorkEnd::Refused(_, _) => 3,
+        WorkEnd::Missing(_) => 4,
+        WorkEnd::ReadFailed(_) => 5,
+        WorkEnd::WriteFailed => 6,
+        WorkEnd::OutOfMemory => 7,
     }
 }

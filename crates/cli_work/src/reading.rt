@@ -8,7 +8,7 @@ ghost use Rattle.outcome_model.specs.Work.{Got};
 ghost use Rattle.cli_work.specs.Documents.{IsRead};
 ghost use Rattle.cli_work.specs.Outcomes.{outcome_of, stop_of};
 
-use crate::outcome::{Outcome, Stop, stopped};
+use crate::outcome::{WorkEnd, Stop, stopped};
 use input_texts::read_hex;
 use sim_base::refusals::FILE_TOO_LONG;
 use sim_base::{Bench, Fault, Flash, Place, ReadEnd, Refusal};
@@ -62,7 +62,7 @@ pub fn read_document<D: Document, B: Bench>(
     alloc: Global,
     name: &str,
     bench: &mut B,
-) -> Result<D::Text, Outcome>
+) -> Result<D::Text, WorkEnd>
     ensures got { Got (λ d. d) outcome_of result (λ files. file files name.now D.reading) (B.outside bench.old) (B.outside bench.new) }
     ensures ports { SamePorts (B.outside bench.old) (B.outside bench.new) }
     ensures read { IfOk result (IsRead D.reading) }

@@ -6,7 +6,7 @@ ghost use Rattle.outcome_model.specs.Stop.{printed};
 ghost use Rattle.outcome_model.specs.Work.{Wrote, RanOn};
 ghost use Rattle.cli_work.specs.Outcomes.{outcome_of};
 
-use crate::outcome::Outcome;
+use crate::outcome::WorkEnd;
 use sim_base::{Bench, Port, WriteEnd};
 
 /// Writes the parts one after the other, up to the first that fails.
@@ -41,16 +41,16 @@ pub fn write_next<B: Bench>(end: WriteEnd, bench: &mut B, port: Port, bytes: &[u
 }
 
 /// Opens a port on standard output and writes a text there.
-pub fn write_text<B: Bench>(bench: &mut B, port: Port, parts: &[&[u8]]) -> Outcome
+pub fn write_text<B: Bench>(bench: &mut B, port: Port, parts: &[&[u8]]) -> WorkEnd
     requires { is_openable port ≡ true }
     ensures ran { RanOn port (outcome_of result) (printed (concat (map (λ p. p.now) parts.now))) (B.outside bench.old) (B.outside bench.new) }
     ensures others { SameOthers port (B.outside bench.old) (B.outside bench.new) }
 {
     match bench.open_port(port, "-") {
         WriteEnd::Ok => match write_parts(bench, port, parts) {
-            WriteEnd::Ok => Outcome::Accepted,
-            WriteEnd::Failed => Outcome::WriteFailed,
+            WriteEnd::Ok => WorkEnd::Accepted,
+            WriteEnd::Failed => WorkEnd::WriteFailed,
         },
-        WriteEnd::Failed => Outcome::WriteFailed,
+        WriteEnd::Failed => WorkEnd::WriteFailed,
     }
 }

@@ -1,2 +1,2 @@
 pub mod Work
-pub mod Shown
+pub mod Variables

@@ -12,8 +12,6 @@ mod name;
 pub mod refusals;
 mod signal;
 mod steps;
-#[cfg(test)]
-mod tests;
 mod text;
 mod watcher;
 mod wiring;

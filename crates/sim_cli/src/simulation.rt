@@ -12,7 +12,7 @@ use cli_module::check_module;
 use cli_project::check;
 use cli_run::run;
 use cli_words::{Request, read_words};
-use cli_work::{Outcome, status, tell};
+use cli_work::{WorkEnd, status, tell};
 use sim_base::{Bench, Steps};
 use std::alloc::Global;
 use std::sync::ledger::Ledger;
@@ -24,7 +24,7 @@ fn work<B: Bench, L: Ledger>(
     words: &[String],
     bench: &mut B,
     steps: &mut Steps<L>,
-) -> Outcome
+) -> WorkEnd
     ensures happens { Happens (outcome_of result) (request_of (map string_bytes words.now)) (B.outside bench.old) (B.outside bench.new) }
     ensures counts { Counts (outcome_of result) (request_of (map string_bytes words.now)) (B.outside bench.old) steps.old steps.new }
     ensures silent { SaidNothing (B.outside bench.old) (B.outside bench.new) }
@@ -41,8 +41,8 @@ fn work<B: Bench, L: Ledger>(
             };
             run(alloc, folder, micros, named.script, outputs, bench, steps)
         }
-        Ok(None) => Outcome::NoRequest,
-        Err(_) => Outcome::OutOfMemory,
+        Ok(None) => WorkEnd::NoRequest,
+        Err(_) => WorkEnd::OutOfMemory,
     }
 }
 

@@ -9,14 +9,14 @@ use Rattle.sim_base.specs.Signal.{value_of, strong_of, is_weak, is_upper}
 use Rattle.sim_base.specs.Rows.{Row}
 
 -- What a variable shows: the level of a net, or what a pin drives strongly or weakly.
-pub data Shown : Type 0 where
-  Net : ℕ → Shown
-  Strong : ℕ → Shown
-  Weak : ℕ → Shown
+pub data Source : Type 0 where
+  Net : ℕ → Source
+  Strong : ℕ → Source
+  Weak : ℕ → Source
 
 pub record Variable : Type 0 where
   pub name : List ℕ
-  pub shows : Shown
+  pub shows : Source
 
 -- the characters `0`, `1`, `x` and `z`
 abbrev pub bit_value : Bool → ℕ
@@ -40,7 +40,7 @@ abbrev pub weak_value : Drive → ℕ
 weak_value d = if is_weak d then option_map_or bit_value (value_of d) 122 else 122
 
 -- what a variable has at these levels and drives; `z` where they lack its net or pin
-abbrev pub shown_value : List Level → List Drive → Shown → ℕ
+abbrev pub shown_value : List Level → List Drive → Source → ℕ
 shown_value levels drives (Net n) = option_map_or level_value (slice_get levels n) 122
 shown_value levels drives (Strong p) = option_map_or strong_value (slice_get drives p) 122
 shown_value levels drives (Weak p) = option_map_or weak_value (slice_get drives p) 122

@@ -8,7 +8,7 @@ use crate::row::str_of;
 use sim_base::{Bench, Drive, Level, List, MemBench, OutOfMemory, Port, Watcher, WriteEnd};
 use std::alloc::{AllocError, Global};
 use std::snapshot::Snapshot;
-use vcd_text::{Shown, Variable, WaveHead, WaveWriter};
+use vcd_text::{Source, Variable, WaveHead, WaveWriter};
 
 /// - `4 net Low Z pin High`: the row of a cycle, the levels by net and the drives by pin
 /// - `byte 85`: a byte
@@ -111,11 +111,11 @@ fn variables_of(alloc: Global, texts: &str) -> Result<List<Variable>, OutOfMemor
     Ok(variables)
 }
 
-fn shown(kind: &str, at: u16) -> Shown {
+fn shown(kind: &str, at: u16) -> Source {
     match kind {
-        "strong" => Shown::Strong(at),
-        "weak" => Shown::Weak(at),
-        _ => Shown::Net(at),
+        "strong" => Source::Strong(at),
+        "weak" => Source::Weak(at),
+        _ => Source::Net(at),
     }
 }
 

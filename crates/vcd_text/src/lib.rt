@@ -13,5 +13,5 @@ mod variable;
 mod writer;
 
 pub use head::WaveHead;
-pub use variable::{Shown, Variable};
+pub use variable::{Source, Variable};
 pub use writer::WaveWriter;

@@ -2,9 +2,9 @@
 ghost use Rattle.std.specs.Prelude.{◌≡◌, Bool, List, length, map, slice_get};
 ghost use Rattle.sim_base.specs.Signal.{is_weak, strong_of, value_of};
 ghost use Rattle.text_model.specs.Wave.{bit_value, level_value, strong_value, weak_value, shown_value};
-ghost use Rattle.vcd_text.specs.Variables.{shown_of, variable_of};
+ghost use Rattle.vcd_text.specs.Variables.{source_of, variable_of};
 
-use crate::variable::{Shown, Variable};
+use crate::variable::{Source, Variable};
 use sim_base::{Drive, Level, reads_one};
 
 fn bit(value: bool) -> u8
@@ -58,13 +58,13 @@ fn drive_at(drives: &[Drive], pin: u16) -> Option<Drive>
     drives.get(pin as usize).copied()
 }
 
-fn of_shown(shows: Shown, levels: &[Level], drives: &[Drive]) -> u8
-    ensures { result ≡ shown_value levels.now drives.now (shown_of shows) }
+fn of_source(shows: Source, levels: &[Level], drives: &[Drive]) -> u8
+    ensures { result ≡ shown_value levels.now drives.now (source_of shows) }
 {
     match shows {
-        Shown::Net(net) => level_at(levels, net).map_or(b'z', of_level),
-        Shown::Strong(pin) => drive_at(drives, pin).map_or(b'z', of_strong),
-        Shown::Weak(pin) => drive_at(drives, pin).map_or(b'z', of_weak),
+        Source::Net(net) => level_at(levels, net).map_or(b'z', of_level),
+        Source::Strong(pin) => drive_at(drives, pin).map_or(b'z', of_strong),
+        Source::Weak(pin) => drive_at(drives, pin).map_or(b'z', of_weak),
     }
 }
 
@@ -74,6 +74,6 @@ pub fn fill_values(variables: &[Variable], levels: &[Level], drives: &[Drive], n
     ensures { now.new ≡ map (λ v. shown_value levels.now drives.now v.shows) (map variable_of variables.now) }
 {
     for (i, variable) in variables.iter().enumerate() {
-        now[i] = of_shown(variable.shows, levels, drives);
+        now[i] = of_source(variable.shows, levels, drives);
     }
 }

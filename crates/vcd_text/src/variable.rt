@@ -3,7 +3,7 @@
 /// What a variable shows: the level of a net, or what a pin drives strongly (`out`) or weakly
 /// (`pull`). Nets and pins count from 0, all pins of part 0 before those of part 1.
 #[derive(Clone, Copy, Debug, PartialEq, Eq)]
-pub enum Shown {
+pub enum Source {
     Net(u16),
     Strong(u16),
     Weak(u16),
@@ -13,5 +13,5 @@ pub enum Shown {
 #[derive(Drop)]
 pub struct Variable {
     pub name: String,
-    pub shows: Shown,
+    pub shows: Source,
 }

@@ -1,7 +1,7 @@
 use Rattle.std.proofs.Common.{◌≡◌, ◌<◌, ◌≤◌, ◌++◌, ℕ, List, length, get_or, sym, arith}
 use Rattle.vcd_text.specs.Variables.{variables_of}
 use Rattle.board_build.specs.declared.plan.PlanPart.{PlanPart}
-use Rattle.project_model.specs.Shown.{shown_names, pin_variables}
+use Rattle.project_model.specs.Variables.{shown_names, pin_variables}
 use Rattle.cli_board.proofs.VariableLemmas.{part_fits, parts_more, parts_done, firsts_many}
 use Rattle.cli_board.proofs.variables.make_variables.Goals as goal
 

@@ -1,6 +1,6 @@
 use Rattle.std.proofs.Common.{◌≡◌, ◌*◌, ◌≤◌, ◌++◌, length, drop}
 use Rattle.vcd_text.specs.Variables.{variables_of}
-use Rattle.project_model.specs.Shown.{part_variables, board_variables}
+use Rattle.project_model.specs.Variables.{part_variables, board_variables}
 use Rattle.cli_board.proofs.variables.make_variables.Given as goal
 
 abbrev pub invariant-loop-i : goal.invariant-loop-i

@@ -3,7 +3,7 @@ use Rattle.std.proofs.lemmas.List.{map-append, length-append}
 use Rattle.text_model.specs.Wave.{Variable}
 use Rattle.vcd_text.specs.Variables.{variable_of, variables_of}
 use Rattle.board_build.specs.declared.plan.PlanKind.TheVariants as plans
-use Rattle.project_model.specs.Shown.{shown_names, pin_variable}
+use Rattle.project_model.specs.Variables.{shown_names, pin_variable}
 use Rattle.cli_board.proofs.VariableLemmas.{shown_name, pins_more, pins_done}
 use Rattle.cli_board.proofs.variables.push_pins.Goals as goal
 

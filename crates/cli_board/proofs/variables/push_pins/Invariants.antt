@@ -1,7 +1,7 @@
 use Rattle.std.proofs.Common.{◌≡◌, ◌+◌, ◌≤◌, ◌++◌, length, drop}
 use Rattle.vcd_text.specs.Variables.{variables_of}
 use Rattle.board_build.specs.declared.plan.PlanKind.TheVariants as plans
-use Rattle.project_model.specs.Shown.{shown_names, pin_variables}
+use Rattle.project_model.specs.Variables.{shown_names, pin_variables}
 use Rattle.cli_board.proofs.variables.push_pins.Given as goal
 
 abbrev pub invariant-loop-k : goal.invariant-loop-k
