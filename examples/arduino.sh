@@ -2,6 +2,7 @@
 # Builds the HEX files of the Arduino sketches as the IDE does for an Uno, from Debian's packages arduino-core-avr, gcc-avr
 # and avr-libc. With --check it builds them in a folder of its own and compares them with those that are here.
 set -eu
+check=${1:-}
 here=$(cd "$(dirname "$0")" && pwd)
 base=/usr/share/arduino/hardware/arduino/avr
 core=$base/cores/arduino
@@ -20,15 +21,23 @@ for file in "$core"/*.cpp; do $cpp -o "$work/$(basename "$file").o" "$file"; don
 avr-gcc -c -x assembler-with-cpp -flto -mmcu=atmega328p -o "$work/wiring_pulse.S.o" "$core/wiring_pulse.S"
 avr-gcc-ar rcs "$work/core.a" "$work"/*.o
 bad=0
-for name in arduino-blink fade pot-blink pin-interrupt button serial-hello pot-serial; do
-    { echo '#include <Arduino.h>'; cat "$here/$name/$name.ino"; } >"$work/$name.cpp"
-    (cd "$work" && $cpp -o "$name.sketch" "$name.cpp")
+sketch() { # NAME OF THE HEX FILE, SOURCE, FLAGS
+    name=$(basename "$1" .hex)
+    { echo '#include <Arduino.h>'; cat "$2"; } >"$work/$name.cpp"
+    (cd "$work" && $cpp ${3:-} -o "$name.sketch" "$name.cpp")
     avr-gcc -w -Os -flto -fuse-linker-plugin -Wl,--gc-sections -mmcu=atmega328p -o "$work/$name.elf" "$work/$name.sketch" "$work/core.a" -lm
     avr-objcopy -O ihex -R .eeprom "$work/$name.elf" "$work/$name.hex"
-    if [ "${1:-}" = --check ]; then
-        cmp -s "$work/$name.hex" "$here/$name/$name.hex" && echo "$name.hex: ok" || { echo "$name.hex: differs"; bad=1; }
+    if [ "$check" = --check ]; then
+        cmp -s "$work/$name.hex" "$1" && echo "$name.hex: ok" || { echo "$name.hex: differs"; bad=1; }
     else
-        cp "$work/$name.hex" "$here/$name/$name.hex"
+        cp "$work/$name.hex" "$1"
     fi
+}
+for name in arduino-blink fade pot-blink pin-interrupt button serial-hello pot-serial; do
+    sketch "$here/$name/$name.hex" "$here/$name/$name.ino"
+done
+# what bench/serial.sh measures
+for baud in 115200 2000000; do
+    sketch "$here/../bench/print-$baud.hex" "$here/../bench/print.ino" -DBAUD=$baud
 done
 exit $bad
