@@ -1,24 +1,15 @@
 -- The LED: it shows whether current could flow, and drives nothing (Wokwi documentation, "wokwi-led"; when it counts as lit
 -- is the profile's).
 use Rattle.std.proofs.Common.{refl, ap, arith}
-use Rattle.std.specs.Prelude.{◌≡◌, ◌≤◌, ℕ, ◌+◌, List, [], ◌∷◌, Bool, true, false, not, ◌&&◌, if◌then◌else◌, slice_get, unwrap_or}
+use Rattle.std.specs.Prelude.{◌≡◌, ◌≤◌, ℕ, ◌+◌, List, [], ◌∷◌, Bool, true, false, not, ◌&&◌, if◌then◌else◌}
 use Rattle.sim_base.specs.declared.signal.Drive.TheVariants as drives
 use Rattle.sim_base.specs.declared.signal.Level.{Level}
-use Rattle.sim_base.specs.declared.signal.Level.TheVariants as levels
-use Rattle.sim_base.specs.Signal.{reads}
+use Rattle.reactive_part.specs.Pins.{at_pin, is_low, reads_at}
 use Rattle.reactive_part.specs.Reaction.{Reaction, ReactionLaws}
-
--- the level at a pin, Z where there is none
-abbrev pub level_at : List Level → ℕ → Level
-level_at ls pin = unwrap_or (slice_get ls pin) levels.Z
-
-abbrev pub is_low : Level → Bool
-is_low levels.Low = true
-is_low level = false
 
 -- lit on these levels of A and C: A reads 1, and C is Low
 abbrev pub is_lit : List Level → Bool
-is_lit ls = reads (level_at ls 0) && is_low (level_at ls 1)
+is_lit ls = reads_at ls 0 && is_low (at_pin ls 1)
 
 -- in how many cycles it became lit
 pub record LedState : Type 0 where

@@ -2,7 +2,7 @@
 -- or resistor are in the wiring (Wokwi documentation, the pages of the parts).
 use Rattle.std.proofs.Common.{refl, sym, ◌∙◌, arith}
 use Rattle.std.proofs.lemmas.List.{length-replicate}
-use Rattle.std.specs.Prelude.{◌≡◌, ◌≤◌, ℕ, ◌/◌, ◌%◌, ◌^◌, ◌==◌, List, [], ◌∷◌, length, map, replicate, Bool, true, Option, None, Some, min, unwrap_or}
+use Rattle.std.specs.Prelude.{◌≡◌, ◌≤◌, ℕ, ◌==◌, List, [], ◌∷◌, length, map, replicate, Bool, true, Option, None, Some, min, unwrap_or}
 use Rattle.sim_base.specs.declared.signal.Drive.{Drive}
 use Rattle.sim_base.specs.declared.signal.Drive.TheVariants as drives
 use Rattle.sim_base.specs.declared.signal.Level.{Level}
@@ -11,6 +11,7 @@ use Rattle.part_catalog.specs.declared.kind.Kind.TheVariants as kinds
 use Rattle.part_catalog.specs.declared.settings.Settings.{Settings}
 use Rattle.part_catalog.specs.Pins.{pin_names, contacts_in}
 use Rattle.part_catalog.specs.Attributes.{greatest_of}
+use Rattle.reactive_part.specs.Pins.{bit}
 use Rattle.reactive_part.specs.Reaction.{Reaction, ReactionLaws}
 
 -- which part it is, and its value, which is 0 for a part that nothing sets
@@ -28,10 +29,6 @@ drives_at kinds.Vcc value = drives.High ∷ []
 drives_at kinds.Gnd value = drives.Low ∷ []
 drives_at kinds.Potentiometer value = drives.Z ∷ drives.Wiper value ∷ drives.Z ∷ []
 drives_at kind value = replicate (length (pin_names kind)) drives.Z
-
--- bit k of a number
-abbrev pub bit : ℕ → ℕ → Bool
-bit k n = n / 2 ^ k % 2 == 1
 
 -- which of its contacts are closed
 abbrev pub closed_at : Kind → ℕ → List Bool

@@ -1,6 +1,6 @@
 //! Parts whose drives and contacts depend on a set value alone.
 ghost use Rattle.std.specs.Prelude.{◌≡◌, ◌<◌};
-ghost use Rattle.parts_basic.specs.Passive.{bit, set_to, new_passive};
+ghost use Rattle.parts_basic.specs.Passive.{set_to, new_passive};
 
 use part_catalog::{Kind, Settings, greatest_value, pin_count};
 use reactive_part::Behaviour;

@@ -1,3 +1,4 @@
 pub mod Reaction
+pub mod Pins
 pub mod Either
 pub mod ReactiveAt

@@ -1,0 +1,3 @@
+pub mod Same
+pub mod Gate
+pub mod Shift595
