@@ -1,5 +1,5 @@
 -- What a board shows, and how it is read.
-use Rattle.std.proofs.Common.{◌≡◌, ℕ, zero, suc, ◌+◌, ◌-◌, List, [], ◌∷◌, ◌++◌, length, map, Bool, true, false, not, Option, Some, refl, ap, sym, ◌∙◌, arith, append_assoc}
+use Rattle.std.proofs.Common.{◌≡◌, ℕ, zero, suc, ◌+◌, ◌-◌, ◌<◌, List, [], ◌∷◌, ◌++◌, length, map, Bool, true, false, not, Option, None, Some, refl, ap, sym, ◌∙◌, arith, append_assoc}
 use Rattle.std.specs.Prelude.{◌==◌, ◌||◌, ◌&&◌, if◌then◌else◌, replicate, slice_get}
 use Rattle.std.specs.List.{flat_map}
 use Rattle.std.proofs.lemmas.List.{length-map, append-nil}
@@ -14,7 +14,7 @@ use Rattle.board_model.specs.Resolve.{resolve}
 use Rattle.board_model.specs.Board.{drives_of, contacts_of, levels_of, level_at, bytes_of, states, bytes}
 use Rattle.board_model.specs.Rows.{Shown, same_level, same_drive, same_list, same_shown, chip_drives_of, shown_of, is_new, row_if, shown_before, rows}
 use Rattle.board_model.proofs.Lists.{some_same, get_map_some, flat_map_same}
-use Rattle.board_model.proofs.SameLemmas.{level_same, drive_same, list_same}
+use Rattle.board_model.proofs.SameLemmas.{level_same, drive_same, list_same, and_left, levels_mean}
 use Rattle.board_run.specs.Seen.{Seen, IsOf, AreStill, shown, shown_at}
 use Rattle.board_run.specs.Upcoming.{AreBehind}
 use Rattle.board_run.proofs.HandLemmas.{appends_none}
@@ -37,6 +37,22 @@ new_is t seen now same e = go (t == 0) refl
     go : (b : Bool) → (t == 0) ≡ b → ((t == 0) || not same) ≡ is_new (shown_at t seen) now
     go true f = rw f refl
     go false f = rw f (ap not e)
+
+-- where the same is shown, levels are as before
+pub same_still : {S : Type 0} (m : Machine S) (w : Wiring) (ss : List S) (old new : Seen) (same : Bool) → same ≡ same_shown (shown old) (shown_of m w ss) → same ≡ true → IsOf m w ss new → old.circuit.levels ≡ new.circuit.levels
+same_still m w ss old new same e f is =
+    levels_mean old.circuit.levels (levels_of m w ss) (and_left _ _ (sym e ∙ f)) ∙ sym is.levels_are
+
+pub levels_shown : (t : ℕ) (seen : Seen) (s : Shown) → shown_at t seen ≡ Some s → s.levels ≡ seen.circuit.levels
+levels_shown t seen s e = go (t == 0) e
+  where
+    go : (b : Bool) → (if b then None else Some (shown seen)) ≡ Some s → s.levels ≡ seen.circuit.levels
+    go true f = absurd cc
+    go false f = ap (λ (x : Shown). x.levels) (sym (some_same f))
+
+-- after cycle 0 what was read was shown
+pub later_shown : (t u : ℕ) (seen : Seen) → u < t → shown_at t seen ≡ Some (shown seen)
+later_shown t u seen less = let e : (t == 0) ≡ false = grind (arith, less) in rw e refl
 
 -- the row that is handed out
 pub row_is : {S : Type 0} (m : Machine S) (w : Wiring) (ss : List S) (t : ℕ) (old new : Seen) (there same : Bool) → there ≡ ((t == 0) || not same) → same ≡ same_shown (shown old) (shown_of m w ss) → IsOf m w ss new →

@@ -4,6 +4,7 @@ ghost use Rattle.std.specs.Option.{option_to_list};
 ghost use Rattle.part_law.specs.Machine.{glide, dues, sent, IsSame, IsFirstDue};
 ghost use Rattle.sim_base.specs.Causes.{Rose};
 ghost use Rattle.sim_base.specs.Rows.{Handed, StopsWithin};
+ghost use Rattle.sim_base.specs.declared.signal.Level.{Level};
 ghost use Rattle.board_run.specs.Lagging.{glided, MayTurn};
 ghost use Rattle.board_run.specs.Legs.{WentAlone};
 
@@ -70,6 +71,7 @@ pub(crate) fn stretch<P: Part, W: Watcher, L: Ledger>(
         × Handed W.whole W.faults W.stands out.old out.new [] (sent P.machine (glided P.machine P.state P.now P.wake_count t p) t (x.1 - t)) }
     ensures flags { (x : Bool × ℕ) → result ≡ Some x → flags.new ≡ slice_set flags.old who x.0 }
     ensures last { (x : Bool × ℕ) → result ≡ Some x → W.last out.new ≡ W.last out.old }
+    ensures seen { (x : Bool × ℕ) → result ≡ Some x → (levels : List Level) → W.seen out.old levels → W.seen out.new levels }
     ensures failed { result ≡ None → Rose (W.faults out.old) (W.faults out.new) × (u : ℕ) × (u ≤ limit) × (changed : Bool) × (p q : _) × (d : Option ℕ)
         × WentAlone P.machine P.state P.now P.wake_count who t u parts.old parts.new dues.old dues.new changed steps.old steps.new p q d
         × StopsWithin (W.stands out.old) (W.stopped out.new) [] (sent P.machine (glided P.machine P.state P.now P.wake_count t p) t (u - t)) }

@@ -1,8 +1,7 @@
 //! One cycle of a board in which only the active parts are woken.
 ghost use Rattle.std.specs.Prelude.{◌≡◌, ◌≢◌, ℕ, ◌+◌, ◌-◌, ◌<◌, ◌≤◌, List, [], length, map, true, false, Some, None, Option, slice_get};
-ghost use Rattle.std.specs.Option.{ForSome};
 ghost use Rattle.sim_base.specs.Causes.{Rose};
-ghost use Rattle.sim_base.specs.Rows.{Handed, StopsWithin};
+ghost use Rattle.sim_base.specs.Rows.{Handed, StopsWithin, IsBehind};
 ghost use Rattle.sim_base.specs.declared.signal.Level.{Level};
 ghost use Rattle.sim_base.specs.declared.wiring.Input.{Input};
 ghost use Rattle.board_model.specs.Board.{bytes, options};
@@ -90,7 +89,7 @@ pub(crate) fn event<P: Part, W: Watcher, L: Ledger>(
     requires lags { Lags P.machine wiring.now P.state P.now P.wake_count t parts.old
         (record { input = next.input; stale = next.stale; dues = dues.old; moved = flags.old; seen = reading.old; answers = answers.old }) }
     requires whole { W.whole out.old ≡ true }
-    requires later { ForSome (W.last out.old) (λ u. u < t) }
+    requires later { IsBehind W.last W.seen out.old t reading.old.circuit.levels }
     ensures lags { (x : Next) → result ≡ Some x → Lags P.machine wiring.now P.state P.now P.wake_count (t + 1) parts.new
         (record { input = x.input; stale = x.stale; dues = dues.new; moved = flags.new; seen = reading.new; answers = answers.new }) }
     ensures behind { (x : Next) → result ≡ Some x → AreBehind inputs.now x.input (t + 1) }
@@ -98,7 +97,7 @@ pub(crate) fn event<P: Part, W: Watcher, L: Ledger>(
     ensures handed { (x : Next) → result ≡ Some x → Handed W.whole W.faults W.stands out.old out.new
         (rows P.machine wiring.now inputs.now (shown_at t reading.old) (map (glided P.machine P.state P.now P.wake_count t) parts.old) t (t + 1 - t))
         (bytes P.machine wiring.now inputs.now (map (glided P.machine P.state P.now P.wake_count t) parts.old) t (t + 1 - t)) }
-    ensures last { (x : Next) → result ≡ Some x → ForSome (W.last out.new) (λ u. u < t + 1) }
+    ensures last { (x : Next) → result ≡ Some x → IsBehind W.last W.seen out.new (t + 1) reading.new.circuit.levels }
     ensures failed { result ≡ None → Rose (W.faults out.old) (W.faults out.new)
         × StopsWithin (W.stands out.old) (W.stopped out.new)
         (rows P.machine wiring.now inputs.now (shown_at t reading.old) (map (glided P.machine P.state P.now P.wake_count t) parts.old) t (t + 1 - t))

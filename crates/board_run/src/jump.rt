@@ -1,8 +1,7 @@
 //! A board goes on from one cycle in which something may happen to the next.
 ghost use Rattle.std.specs.Prelude.{◌≡◌, ◌≢◌, ◌⊎◌, ℕ, ◌+◌, ◌-◌, ◌<◌, ◌≤◌, List, length, map, true, false, Some, None, Option, slice_get};
-ghost use Rattle.std.specs.Option.{ForSome};
 ghost use Rattle.sim_base.specs.Causes.{Rose};
-ghost use Rattle.sim_base.specs.Rows.{Handed, StopsWithin};
+ghost use Rattle.sim_base.specs.Rows.{Handed, StopsWithin, IsBehind};
 ghost use Rattle.board_model.specs.Board.{bytes, input_at, states};
 ghost use Rattle.board_model.specs.Rows.{rows, shown_before};
 ghost use Rattle.board_laws.specs.Active.{active_cycles, active_pairs};
@@ -151,7 +150,7 @@ fn event_and_jump<P: Part, W: Watcher, L: Ledger>(
     requires lags { Lags P.machine wiring.now P.state P.now P.wake_count t parts.old
         (record { input = next.input; stale = next.stale; dues = dues.old; moved = flags.old; seen = reading.old; answers = answers.old }) }
     requires whole { W.whole out.old ≡ true }
-    requires later { ForSome (W.last out.old) (λ u. u < t) }
+    requires later { IsBehind W.last W.seen out.old t reading.old.circuit.levels }
     ensures from { (x : Next × ℕ) → result ≡ Some x → t < x.1 }
     ensures within { (x : Next × ℕ) → result ≡ Some x → x.1 ≤ n }
     ensures lags { (x : Next × ℕ) → result ≡ Some x → Lags P.machine wiring.now P.state P.now P.wake_count x.1 parts.new
@@ -161,7 +160,7 @@ fn event_and_jump<P: Part, W: Watcher, L: Ledger>(
     ensures handed { (x : Next × ℕ) → result ≡ Some x → Handed W.whole W.faults W.stands out.old out.new
         (rows P.machine wiring.now inputs.now (shown_at t reading.old) (map (glided P.machine P.state P.now P.wake_count t) parts.old) t (x.1 - t))
         (bytes P.machine wiring.now inputs.now (map (glided P.machine P.state P.now P.wake_count t) parts.old) t (x.1 - t)) }
-    ensures last { (x : Next × ℕ) → result ≡ Some x → ForSome (W.last out.new) (λ u. u < x.1) }
+    ensures last { (x : Next × ℕ) → result ≡ Some x → IsBehind W.last W.seen out.new x.1 reading.new.circuit.levels }
     ensures failed { result ≡ None → Rose (W.faults out.old) (W.faults out.new)
         × StopsWithin (W.stands out.old) (W.stopped out.new)
         (rows P.machine wiring.now inputs.now (shown_at t reading.old) (map (glided P.machine P.state P.now P.wake_count t) parts.old) t (n - t))
@@ -202,7 +201,7 @@ fn advance<P: Part, W: Watcher, L: Ledger>(
     requires lags { Lags P.machine wiring.now P.state P.now P.wake_count t parts.old
         (record { input = next.input; stale = next.stale; dues = dues.old; moved = flags.old; seen = reading.old; answers = answers.old }) }
     requires whole { W.whole out.old ≡ true }
-    requires later { ForSome (W.last out.old) (λ u. u < t) }
+    requires later { IsBehind W.last W.seen out.old t reading.old.circuit.levels }
     ensures from { (x : Next × ℕ) → result ≡ Some x → t < x.1 }
     ensures within { (x : Next × ℕ) → result ≡ Some x → x.1 ≤ n }
     ensures lags { (x : Next × ℕ) → result ≡ Some x → Lags P.machine wiring.now P.state P.now P.wake_count x.1 parts.new
@@ -212,7 +211,7 @@ fn advance<P: Part, W: Watcher, L: Ledger>(
     ensures handed { (x : Next × ℕ) → result ≡ Some x → Handed W.whole W.faults W.stands out.old out.new
         (rows P.machine wiring.now inputs.now (shown_at t reading.old) (map (glided P.machine P.state P.now P.wake_count t) parts.old) t (x.1 - t))
         (bytes P.machine wiring.now inputs.now (map (glided P.machine P.state P.now P.wake_count t) parts.old) t (x.1 - t)) }
-    ensures last { (x : Next × ℕ) → result ≡ Some x → ForSome (W.last out.new) (λ u. u < x.1) }
+    ensures last { (x : Next × ℕ) → result ≡ Some x → IsBehind W.last W.seen out.new x.1 reading.new.circuit.levels }
     ensures failed { result ≡ None → Rose (W.faults out.old) (W.faults out.new)
         × StopsWithin (W.stands out.old) (W.stopped out.new)
         (rows P.machine wiring.now inputs.now (shown_at t reading.old) (map (glided P.machine P.state P.now P.wake_count t) parts.old) t (n - t))
@@ -259,7 +258,7 @@ fn run_legs<P: Part, W: Watcher, L: Ledger>(
     requires lags { Lags P.machine wiring.now P.state P.now P.wake_count from parts.old
         (record { input = next.input; stale = next.stale; dues = dues.old; moved = flags.old; seen = reading.old; answers = answers.old }) }
     requires whole { W.whole out.old ≡ true }
-    requires later { ForSome (W.last out.old) (λ u. u < from) }
+    requires later { IsBehind W.last W.seen out.old from reading.old.circuit.levels }
     ensures lags { (x : Next) → result ≡ Some x → Lags P.machine wiring.now P.state P.now P.wake_count n parts.new
         (record { input = x.input; stale = x.stale; dues = dues.new; moved = flags.new; seen = reading.new; answers = answers.new }) }
     ensures behind { (x : Next) → result ≡ Some x → AreBehind inputs.now x.input n }
@@ -267,7 +266,7 @@ fn run_legs<P: Part, W: Watcher, L: Ledger>(
     ensures handed { (x : Next) → result ≡ Some x → Handed W.whole W.faults W.stands out.old out.new
         (rows P.machine wiring.now inputs.now (shown_at from reading.old) (map (glided P.machine P.state P.now P.wake_count from) parts.old) from (n - from))
         (bytes P.machine wiring.now inputs.now (map (glided P.machine P.state P.now P.wake_count from) parts.old) from (n - from)) }
-    ensures last { (x : Next) → result ≡ Some x → ForSome (W.last out.new) (λ u. u < n) }
+    ensures last { (x : Next) → result ≡ Some x → IsBehind W.last W.seen out.new n reading.new.circuit.levels }
     ensures failed { result ≡ None → Rose (W.faults out.old) (W.faults out.new)
         × StopsWithin (W.stands out.old) (W.stopped out.new)
         (rows P.machine wiring.now inputs.now (shown_at from reading.old) (map (glided P.machine P.state P.now P.wake_count from) parts.old) from (n - from))
@@ -347,7 +346,7 @@ pub(crate) fn run_jumping<P: Part, W: Watcher, L: Ledger>(
     requires lags { Lags P.machine wiring.now P.state P.now P.wake_count from parts.old
         (record { input = next.input; stale = next.stale; dues = dues.old; moved = flags.old; seen = reading.old; answers = answers.old }) }
     requires whole { W.whole out.old ≡ true }
-    requires later { ForSome (W.last out.old) (λ u. u < from) }
+    requires later { IsBehind W.last W.seen out.old from reading.old.circuit.levels }
     ensures states { (x : Next) → result ≡ Some x → map P.state parts.new ≡ states P.machine wiring.now inputs.now (map P.state parts.old) from (n - from) }
     ensures lags { (x : Next) → result ≡ Some x → Lags P.machine wiring.now P.state P.now P.wake_count n parts.new
         (record { input = x.input; stale = x.stale; dues = dues.new; moved = flags.new; seen = reading.new; answers = answers.new }) }
@@ -360,7 +359,7 @@ pub(crate) fn run_jumping<P: Part, W: Watcher, L: Ledger>(
     ensures handed { (x : Next) → result ≡ Some x → Handed W.whole W.faults W.stands out.old out.new
         (rows P.machine wiring.now inputs.now (shown_at from reading.old) (map P.state parts.old) from (n - from))
         (bytes P.machine wiring.now inputs.now (map P.state parts.old) from (n - from)) }
-    ensures last { (x : Next) → result ≡ Some x → ForSome (W.last out.new) (λ u. u < n) }
+    ensures last { (x : Next) → result ≡ Some x → IsBehind W.last W.seen out.new n reading.new.circuit.levels }
     ensures failed { result ≡ None → Rose (W.faults out.old) (W.faults out.new)
         × StopsWithin (W.stands out.old) (W.stopped out.new)
         (rows P.machine wiring.now inputs.now (shown_at from reading.old) (map P.state parts.old) from (n - from))

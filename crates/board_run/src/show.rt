@@ -1,8 +1,7 @@
 //! What a board shows in a cycle.
 ghost use Rattle.std.specs.Prelude.{◌≡◌, ℕ, ◌+◌, ◌<◌, ◌≤◌, [], length, map, true, false, Some, None};
-ghost use Rattle.std.specs.Option.{ForSome};
 ghost use Rattle.sim_base.specs.Causes.{Rose};
-ghost use Rattle.sim_base.specs.Rows.{Handed, Appends};
+ghost use Rattle.sim_base.specs.Rows.{Handed, Appends, AreBut, IsBehind};
 ghost use Rattle.board_model.specs.Rows.{chip_drives_of, shown_of, same_shown, row_if};
 ghost use Rattle.board_model.specs.Fits.{Fits};
 ghost use Rattle.board_run.specs.Seen.{Suits, IsOf, AreRead, AreUnset, AreDiffering, shown, shown_at};
@@ -39,6 +38,7 @@ fn refresh<P: Part>(
     ensures suits { Suits wiring.now reading.new }
     ensures of { IsOf P.machine wiring.now (map P.state parts.now) reading.new }
     ensures same { result ≡ same_shown (shown reading.old) (shown_of P.machine wiring.now (map P.state parts.now)) }
+    ensures changed { result ≡ false → AreBut reading.new.circuit.changed reading.old.circuit.levels reading.new.circuit.levels }
     ensures differ { AreDiffering P.machine wiring.now reading.old.circuit.levels reading.new.circuit.levels (map P.state parts.now) flags.new }
 {
     if stale {
@@ -68,12 +68,12 @@ pub(crate) fn show_cycle<P: Part, W: Watcher>(
     requires unset { stale ≡ false → AreUnset flags.old }
     requires read { AreRead P.machine (map P.state parts.now) flags.old reading.old.circuit }
     requires whole { W.whole out.old ≡ true }
-    requires later { ForSome (W.last out.old) (λ u. u < cycle) }
+    requires behind { IsBehind W.last W.seen out.old cycle reading.old.circuit.levels }
     ensures suits { Suits wiring.now reading.new }
     ensures of { IsOf P.machine wiring.now (map P.state parts.now) reading.new }
     ensures differ { AreDiffering P.machine wiring.now reading.old.circuit.levels reading.new.circuit.levels (map P.state parts.now) flags.new }
     ensures ok { result ≡ WriteEnd.Ok → Handed W.whole W.faults W.stands out.old out.new (row_if P.machine wiring.now (shown_at cycle reading.old) (map P.state parts.now) cycle) [] }
-    ensures last { result ≡ WriteEnd.Ok → ForSome (W.last out.new) (λ u. u < cycle + 1) }
+    ensures behind { result ≡ WriteEnd.Ok → IsBehind W.last W.seen out.new (cycle + 1) reading.new.circuit.levels }
     ensures failed { result ≡ WriteEnd.Failed → Rose (W.faults out.old) (W.faults out.new)
         × Appends (W.stands out.old) (W.stopped out.new) (row_if P.machine wiring.now (shown_at cycle reading.old) (map P.state parts.now) cycle) [] }
     ensures place { W.place out.new ≡ W.place out.old }
@@ -85,6 +85,7 @@ pub(crate) fn show_cycle<P: Part, W: Watcher>(
         cycle,
         reading.nets.levels(),
         reading.nets.drives(),
+        reading.nets.changed(),
         out,
     )
 }

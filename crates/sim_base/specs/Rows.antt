@@ -1,5 +1,7 @@
 -- The rows of a run, and what a watcher that is handed rows and bytes stands for.
-use Rattle.std.specs.Prelude.{◌≡◌, ℕ, List, ◌++◌, Bool, true}
+use Rattle.std.specs.Prelude.{◌≡◌, ℕ, ◌<◌, eqb, List, ◌++◌, Bool, true, false, Option, slice_get}
+use Rattle.std.specs.List.{list_any}
+use Rattle.std.specs.Option.{ForSome}
 use Rattle.sim_base.specs.declared.signal.Level.{Level}
 use Rattle.sim_base.specs.declared.signal.Drive.{Drive}
 
@@ -8,6 +10,14 @@ pub record Row : Type 0 where
   pub cycle : ℕ
   pub levels : List Level
   pub drives : List Drive
+
+-- each net but those of a list has the level that it had before
+abbrev pub AreBut : List ℕ → List Level → List Level → Type 0
+AreBut changed before after = (n : ℕ) → list_any (eqb n) changed ≡ false → slice_get after n ≡ slice_get before n
+
+-- its last row, if there was one, was of a cycle before t and had these levels
+abbrev pub IsBehind : {W : Type 0} → (W → Option ℕ) → (W → List Level → Type 0) → W → ℕ → List Level → Type 0
+IsBehind last seen w t levels = ForSome (last w) (λ u. (u < t) × seen w levels)
 
 -- who stood for rows and bytes stands for them with these appended
 abbrev pub Appends : (List Row → List ℕ → Type 0) → (List Row → List ℕ → Type 0) → List Row → List ℕ → Type 0

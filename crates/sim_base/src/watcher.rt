@@ -2,7 +2,8 @@
 ghost use Rattle.std.specs.Prelude.{◌≡◌, ℕ, List, [], ◌∷◌, ◌<◌, Bool, true, false, Option, Some};
 ghost use Rattle.std.specs.Option.{ForSome};
 ghost use Rattle.sim_base.specs.Causes.{Rose};
-ghost use Rattle.sim_base.specs.Rows.{Row, Handed, Appends};
+ghost use Rattle.sim_base.specs.Rows.{Row, Handed, Appends, AreBut};
+ghost use Rattle.sim_base.specs.declared.signal.Level.{Level};
 
 use crate::bench::WriteEnd;
 use crate::signal::{Drive, Level};
@@ -20,6 +21,9 @@ pub trait Watcher {
     /// The cycle of its last row.
     ghost last: { Self → Option ℕ };
 
+    /// That its last row had these levels, as far as it looks at them.
+    ghost seen: { Self → List Level → Type 0 };
+
     ghost faults: { Self → ℕ };
 
     /// What no call changes, such as the name of a reference that it holds: by that name whoever
@@ -28,12 +32,15 @@ pub trait Watcher {
 
     ghost place: { Self → Place };
 
-    /// Is handed the levels by net and the drives by pin of a cycle after the last row's.
-    fn row(&mut self, t: u32, levels: &[Level], drives: &[Drive]) -> WriteEnd
+    /// Is handed the levels by net and the drives by pin of a cycle after the last row's, and is told
+    /// the nets: each of the others has the level that it had in the last row.
+    fn row(&mut self, t: u32, levels: &[Level], drives: &[Drive], changed: &[u16]) -> WriteEnd
         requires whole { whole self.old ≡ true }
         requires later { ForSome (last self.old) (λ u. u < t) }
+        requires changed { ForSome (last self.old) (λ u. (before : List Level) × seen self.old before × AreBut changed.now before levels.now) }
         ensures ok { result ≡ WriteEnd.Ok → Handed whole faults stands self.old self.new (record { cycle = t; levels = levels.now; drives = drives.now } ∷ []) [] }
         ensures last { result ≡ WriteEnd.Ok → last self.new ≡ Some t }
+        ensures seen { result ≡ WriteEnd.Ok → seen self.new levels.now }
         ensures failed { result ≡ WriteEnd.Failed → Rose (faults self.old) (faults self.new)
             × Appends (stands self.old) (stopped self.new) (record { cycle = t; levels = levels.now; drives = drives.now } ∷ []) [] }
         ensures broken { result ≡ WriteEnd.Failed → whole self.new ≡ false }
@@ -44,6 +51,7 @@ pub trait Watcher {
         requires { whole self.old ≡ true }
         ensures ok { result ≡ WriteEnd.Ok → Handed whole faults stands self.old self.new [] (b ∷ []) }
         ensures last { result ≡ WriteEnd.Ok → last self.new ≡ last self.old }
+        ensures seen { result ≡ WriteEnd.Ok → (levels : List Level) → seen self.old levels → seen self.new levels }
         ensures failed { result ≡ WriteEnd.Failed → Rose (faults self.old) (faults self.new)
             × Appends (stands self.old) (stopped self.new) [] (b ∷ []) }
         ensures broken { result ≡ WriteEnd.Failed → whole self.new ≡ false }

@@ -1,7 +1,8 @@
 //! Rows of waves: variables between commas, and behind each `|` what a run hands out. The answer is the wave with `¶`
 //! for each line feed (of more than 2,000 bytes the last 28), the bytes of the serial port, and how many changes and
 //! bytes a writer counts that writes neither.
-ghost use Rattle.std.specs.Prelude.{◌≡◌, true, None};
+ghost use Rattle.std.specs.Prelude.{◌≡◌, ◌≤◌, [], ◌∷◌, ◌++◌, if◌then◌else◌, length, slice_get, true, false, None, IfOk, OnOk};
+ghost use Rattle.sim_base.specs.Rows.{AreBut};
 ghost use Rattle.sim_base.specs.declared.bench.WriteEnd.{WriteEnd};
 
 use crate::row::str_of;
@@ -35,7 +36,7 @@ pub fn wave_answer(alloc: Global, text: &[u8]) -> Result<String, OutOfMemory> {
     let mut bench = MemBench::new(alloc);
     bench.room(Port::Wave, 20_000)?;
     bench.room(Port::Serial, 100)?;
-    write(&mut head, &mut bench, &events);
+    write(alloc, &mut head, &mut bench, &events);
     let counts = count(alloc, &mut head, &events);
     Ok(told(alloc, &bench, counts)?)
 }
@@ -119,23 +120,59 @@ fn shown(kind: &str, at: u16) -> Source {
     }
 }
 
+fn is_other(net: usize, before: &[Level], after: &[Level]) -> bool
+    ensures { result ≡ false → slice_get after.now net ≡ slice_get before.now net }
+{
+    before.get(net).copied() != after.get(net).copied()
+}
+
+fn note(other: bool, net: u16, nets: &mut Vec<u16>) -> Result<(), AllocError>
+    ensures { OnOk result (nets.new.items ≡ (if other then nets.old.items ++ net ∷ [] else nets.old.items)) }
+{
+    if other {
+        nets.push(net)?;
+    }
+    Ok(())
+}
+
+/// The nets whose level is another one than before.
+fn changed_nets(alloc: Global, before: &[Level], after: &[Level]) -> Result<Vec<u16>, AllocError>
+    requires before { length before.now ≤ 65535 }
+    requires after { length after.now ≤ 65535 }
+    ensures { IfOk result (λ v. AreBut v.items before.now after.now) }
+{
+    let mut nets = Vec::new(alloc);
+    for net in 0..before.len().max(after.len()) {
+        note(is_other(net, before, after), net as u16, &mut nets)?;
+    }
+    Ok(nets)
+}
+
 /// Hands out rows of rising cycles, and bytes.
-fn hand_out<W: Watcher>(out: &mut W, events: &[Event]) -> WriteEnd
+fn hand_out<W: Watcher>(alloc: Global, out: &mut W, events: &[Event]) -> WriteEnd
     requires whole { W.whole out.old ≡ true }
     requires first { W.last out.old ≡ None }
     ensures whole { result ≡ WriteEnd.Ok → W.whole out.new ≡ true }
     ensures place { W.place out.new ≡ W.place out.old }
 {
     let mut least: u32 = 0;
+    let mut before: &[Level] = &[];
     for event in events {
         match event {
             Event::Row(cycle, levels, drives) => {
                 let cycle = *cycle;
-                if cycle < least || cycle == u32::MAX {
+                let levels = levels.as_slice();
+                if cycle < least || cycle == u32::MAX || levels.len() > 65_535 {
                     return WriteEnd::Failed;
                 }
-                match out.row(cycle, levels.as_slice(), drives.as_slice()) {
-                    WriteEnd::Ok => least = cycle + 1,
+                let Ok(changed) = changed_nets(alloc, before, levels) else {
+                    return WriteEnd::Failed;
+                };
+                match out.row(cycle, levels, drives.as_slice(), &changed) {
+                    WriteEnd::Ok => {
+                        least = cycle + 1;
+                        before = levels;
+                    }
                     WriteEnd::Failed => return WriteEnd::Failed,
                 }
             }
@@ -150,13 +187,13 @@ fn hand_out<W: Watcher>(out: &mut W, events: &[Event]) -> WriteEnd
 }
 
 /// Writes all that is handed out.
-fn write(head: &mut WaveHead, bench: &mut MemBench, events: &[Event]) {
+fn write(alloc: Global, head: &mut WaveHead, bench: &mut MemBench, events: &[Event]) {
     if bench.open_port(Port::Wave, "wave.vcd") == WriteEnd::Failed {
         return;
     }
     let start = Snapshot::of(&*bench);
     let mut writer = WaveWriter::new(head, bench, &start, true, true);
-    if hand_out(&mut writer, events) == WriteEnd::Ok {
+    if hand_out(alloc, &mut writer, events) == WriteEnd::Ok {
         if let [.., Event::End(cycle)] = events {
             writer.end(*cycle);
         }
@@ -168,7 +205,7 @@ fn count(alloc: Global, head: &mut WaveHead, events: &[Event]) -> (u64, u64) {
     let mut bench = MemBench::new(alloc);
     let start = Snapshot::of(&bench);
     let mut writer = WaveWriter::new(head, &mut bench, &start, false, false);
-    match hand_out(&mut writer, events) {
+    match hand_out(alloc, &mut writer, events) {
         WriteEnd::Ok => writer.counts(),
         WriteEnd::Failed => (0, 0),
     }

@@ -78,13 +78,15 @@ impl<'a, B: Bench> Watcher for WaveWriter<'a, B> {
 
     ghost last = { last_of };
 
+    ghost seen = { λ w levels. Unit {0} };
+
     ghost faults = { faults_of B.outside };
 
     ghost Place = { Tied };
 
     ghost place = { place_of B.outside };
 
-    fn row(&mut self, t: u32, levels: &[Level], drives: &[Drive]) -> WriteEnd {
+    fn row(&mut self, t: u32, levels: &[Level], drives: &[Drive], _changed: &[u16]) -> WriteEnd {
         let changed = self.head.take_row(t, levels, drives);
         self.changes = counted(self.changes, self.wave, changed);
         self.last = Some(t);

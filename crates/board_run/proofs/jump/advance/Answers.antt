@@ -231,9 +231,10 @@ returns-in-Some-stretch-clause-last g c = λ y ey z ez.
     let u = c.in-Some-stretch.u in
     let s = c.in-Some-stretch.ensures in
     let far = (s.went (c.in-Some-stretch.changed, u) refl).3.further in
-    let before = c.requires.later z (sym (s.last (c.in-Some-stretch.changed, u) refl) ∙ ez) in
+    let behind = c.requires.later z (sym (s.last (c.in-Some-stretch.changed, u) refl) ∙ ez) in
+    let before = behind.0 in
     let at = ap (λ (z : Next × ℕ). z.1) (some_same ey) in
-    omega (arith, far, before, at)
+    (omega (arith, far, before, at), s.seen (c.in-Some-stretch.changed, u) refl c.args.reading.now.circuit.levels behind.1)
 
 pub returns-in-None-stretch-clause-failed : goal.returns-in-None-stretch-clause-failed
 returns-in-None-stretch-clause-failed g c = λ none.

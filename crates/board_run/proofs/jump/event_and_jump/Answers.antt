@@ -88,7 +88,8 @@ pub returns-in-Some-clause-last : goal.returns-in-Some-clause-last
 returns-in-Some-clause-last g c = λ x ex z ez.
     let at = ap (λ (y : Next × ℕ). y.1) (some_same ex) in
     let last = c.in-Some.ensures.last c.in-Some.after refl z ez in
-    omega (arith, at, last, c.next_cycle-u.ensures.from)
+    let before = last.0 in
+    (omega (arith, at, before, c.next_cycle-u.ensures.from), last.1)
 
 pub next_cycle-u-requires-clause-late : goal.next_cycle-u-requires-clause-late
 next_cycle-u-requires-clause-late g c =
