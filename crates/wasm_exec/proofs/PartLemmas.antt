@@ -12,14 +12,14 @@ use Rattle.wasm_decode.specs.declared.module.Module.{Module}
 use Rattle.wasm_validate.specs.Rules.{imported_globals, functions_of, tables_of, globals_of, kinds_of, least_of, offset_of}
 use Rattle.wasm_validate.specs.Validity.{IsValid}
 use Rattle.wasm_eval.specs.Values.{HasType, HasTypes}
-use Rattle.wasm_run.specs.declared.plan.Plan.{Plan}
+use Rattle.wasm_run.specs.declared.compiled.Compiled.{Compiled}
 use Rattle.wasm_run.specs.declared.store.Store.{Store}
 use Rattle.wasm_run.specs.Machine.{slot}
 use Rattle.wasm_run.specs.Loaded.{value_types}
 use Rattle.wasm_run.specs.Calling.{as_type, as_types}
 use Rattle.wasm_compile.specs.declared.open.TypeRow.{TypeRow}
 use Rattle.wasm_exec.specs.Programs.{constant, constants, no_entries, put_entries, with_elements, table_at_first}
-use Rattle.wasm_exec.specs.Plans.{PlanOf}
+use Rattle.wasm_exec.specs.Compiled.{CompiledOf}
 use Rattle.wasm_exec.specs.Whole.{ElementsBelow, IsWhole, AreBelow}
 use Rattle.wasm_exec.proofs.ListLemmas.{below_put}
 use Rattle.wasm_exec.proofs.ExistLemmas.{program_exists}
@@ -86,13 +86,13 @@ module _ (m : Module) (none : imported_globals m.imports ≡ []) (typed : HasTyp
   pub first_kept : (store : Store) → store.globals ≡ map slot (constants m.globals) → globals_in m store.globals ≡ constants m.globals
   first_kept store g = globals_kept m store.globals (constants m.globals) all_typed g
 
-  pub ready : (init : ℕ) (plan : Plan) (rows : List TypeRow) (room : ℕ) (store : Store) (slots : List ℕ) → IsValid m init → IsWhole m → PlanOf m plan rows room → store.globals ≡ map slot (constants m.globals) → length slots ≡ 256 * room → IsReady m plan room store slots
-  ready init plan rows room store slots valid whole p g l =
+  pub ready : (init : ℕ) (compiled : Compiled) (rows : List TypeRow) (room : ℕ) (store : Store) (slots : List ℕ) → IsValid m init → IsWhole m → CompiledOf m compiled rows room → store.globals ≡ map slot (constants m.globals) → length slots ≡ 256 * room → IsReady m compiled room store slots
+  ready init compiled rows room store slots valid whole p g l =
       let q = program_exists m whole.bodies whole.own whole.imported valid.typed in
       let kept = first_kept store g in
       record {
         rows = rows;
-        plan_is = p;
+        compiled_is = p;
         entries = first_below m whole.functions;
         program = q.0;
         program_is = q.1;

@@ -1,6 +1,6 @@
 pub mod Programs
 pub mod Whole
-pub mod Plans
+pub mod Compiled
 pub mod Adding
 pub mod Instances
 pub mod Slots

@@ -27,12 +27,12 @@ pub fn invoke<H: Host>(
     host: &mut H,
     budget: u32,
 ) -> Result<Option<Value>, Trap>
-    requires ready { IsReady module.now parts.old.plan parts.old.room parts.old.store parts.old.slots.items }
+    requires ready { IsReady module.now parts.old.compiled parts.old.room parts.old.store parts.old.slots.items }
     requires numbers { parts.old.numbers ≡ functions_of module.now }
     requires hosts { map (λ t. Some t) (H.imports host.old) ≡ map (slice_get module.now.types) (imported_functions module.now.imports) }
     requires typed { (t : FuncType) × (type_of module.now f ≡ Some t) × HasTypes args.now t.params }
     ensures ends { (p : Program) → IsProgram module.now p → EndsAs result (running module.now parts.new.store) (H.state host.new) (calls H.answers p 256 f args.now (state_of (running module.now parts.old.store) (H.state host.old) budget)) }
-    ensures ready { IsReady module.now parts.new.plan parts.new.room parts.new.store parts.new.slots.items }
+    ensures ready { IsReady module.now parts.new.compiled parts.new.room parts.new.store parts.new.slots.items }
     ensures numbers { parts.new.numbers ≡ functions_of module.now }
     ensures program { (p : Program) × IsProgram module.now p }
     ensures typed { (t : FuncType) → type_of module.now f ≡ Some t → GivesTypes t.results result }
@@ -40,7 +40,15 @@ pub fn invoke<H: Host>(
 {
     let slots = parts.slots.as_mut_slice();
     put_args(slots, args);
-    let ending = call(&parts.plan, f, slots, &mut parts.store, host, budget, CALLS);
+    let ending = call(
+        &parts.compiled,
+        f,
+        slots,
+        &mut parts.store,
+        host,
+        budget,
+        CALLS,
+    );
     answer(
         ending,
         result_type(module, parts.numbers.as_slice(), f),
@@ -93,9 +101,9 @@ fn is_asked(kind: &FuncType, args: &[Value], gives: bool) -> bool
 
 /// An entry of the table, where there is one.
 fn entry_at(parts: &Parts, entry: u32) -> Option<Option<Entry>>
-    ensures { result ≡ slice_get parts.now.plan.table entry }
+    ensures { result ≡ slice_get parts.now.compiled.table entry }
 {
-    parts.plan.table.as_slice().get(entry as usize).copied()
+    parts.compiled.table.as_slice().get(entry as usize).copied()
 }
 
 /// The function that an entry of the table calls. Traps: 5 TableBounds, 6 NoElement, 7 TypeMismatch.
@@ -106,7 +114,7 @@ pub fn entered(
     args: &[Value],
     gives: bool,
 ) -> Result<u32, Trap>
-    requires ready { IsReady module.now parts.now.plan parts.now.room parts.now.store parts.now.slots.items }
+    requires ready { IsReady module.now parts.now.compiled parts.now.room parts.now.store parts.now.slots.items }
     requires numbers { parts.now.numbers ≡ functions_of module.now }
     ensures { IsEntry module.now entry args.now gives result }
 {

@@ -34,7 +34,7 @@ impl Model for Instance {
 
     ghost view = { λ a. running a.valid.wasm a.parts.store };
 
-    ghost invariant = { λ a. IsReady a.valid.wasm a.parts.plan a.parts.room a.parts.store a.parts.slots.items × (a.parts.numbers ≡ functions_of a.valid.wasm) };
+    ghost invariant = { λ a. IsReady a.valid.wasm a.parts.compiled a.parts.room a.parts.store a.parts.slots.items × (a.parts.numbers ≡ functions_of a.valid.wasm) };
 }
 
 impl Instance {

@@ -5,12 +5,12 @@
 
 mod bodies;
 mod calling;
+mod compiling;
 mod first;
 mod instance;
 mod made;
 mod numbers;
 mod parts;
-mod plans;
 mod table;
 mod values;
 

@@ -2,7 +2,7 @@
 ghost use Rattle.std.specs.Prelude.{◌≡◌, ◌<◌, ◌≤◌, ℕ, IfOk, Some, map, length, slice_get};
 ghost use Rattle.wasm_code.specs.declared.types.FuncType.{FuncType};
 ghost use Rattle.wasm_validate.specs.Rules.{imported_functions};
-ghost use Rattle.wasm_exec.specs.Plans.{arity_at, arity_or};
+ghost use Rattle.wasm_exec.specs.Compiled.{arity_at, arity_or};
 ghost use Rattle.wasm_exec.specs.Whole.{AllBelow};
 
 use sim_base::{List, OutOfMemory};

@@ -6,21 +6,21 @@ ghost use Rattle.wasm_exec.specs.Programs.{first_globals, memory_at_first};
 ghost use Rattle.wasm_exec.specs.Whole.{IsWhole};
 ghost use Rattle.wasm_exec.specs.Ready.{IsReady, globals_in};
 
+use crate::compiling::compile;
 use crate::first::{first_globals, memory_of};
-use crate::plans::plan_of;
 use sim_base::{List, OutOfMemory};
 use std::alloc::Global;
 use wasm_decode::Module;
-use wasm_run::{Plan, Store};
+use wasm_run::{Compiled, Store};
 use wasm_validate::spaces;
 
 /// How many calls may be nested.
 pub const CALLS: u32 = 256;
 
-/// The plan and the room of a call; the numbers of functions' types; memory and globals; and the slots.
+/// The compiled module and the room of a call; the numbers of functions' types; memory and globals; and the slots.
 #[derive(Drop)]
 pub struct Parts {
-    pub plan: Plan,
+    pub compiled: Compiled,
     pub room: u32,
     pub numbers: List<u32>,
     pub store: Store,
@@ -41,19 +41,19 @@ fn whole_parts(alloc: Global, module: &Module) -> Result<Parts, OutOfMemory>
     requires valid { (init : ℕ) × IsValid module.now init }
     requires tables { imported_tables module.now.imports ≡ [] }
     requires globals { imported_globals module.now.imports ≡ [] }
-    ensures ready { IfOk result (λ parts. IsReady module.now parts.plan parts.room parts.store parts.slots.items) }
+    ensures ready { IfOk result (λ parts. IsReady module.now parts.compiled parts.room parts.store parts.slots.items) }
     ensures numbers { IfOk result (λ parts. parts.numbers ≡ functions_of module.now) }
     ensures memory { IfOk result (λ parts. parts.store.memory ≡ memory_at_first module.now) }
     ensures first { IfOk result (λ parts. globals_in module.now parts.store.globals ≡ first_globals module.now) }
 {
     let space = spaces(alloc, module)?;
-    let planned = plan_of(alloc, &space)?;
+    let made = compile(alloc, &space)?;
     let memory = memory_of(alloc, &space)?;
     let globals = first_globals(alloc, module.globals.as_slice())?;
-    let slots = free_slots(alloc, planned.room)?;
+    let slots = free_slots(alloc, made.room)?;
     Ok(Parts {
-        plan: planned.plan,
-        room: planned.room,
+        compiled: made.compiled,
+        room: made.room,
         numbers: List::from_vec(space.functions),
         store: Store { memory, globals },
         slots,
@@ -65,7 +65,7 @@ pub fn parts_of(alloc: Global, module: &Module) -> Result<Parts, OutOfMemory>
     requires valid { (init : ℕ) × IsValid module.now init }
     requires tables { imported_tables module.now.imports ≡ [] }
     requires globals { imported_globals module.now.imports ≡ [] }
-    ensures ready { IfOk result (λ parts. IsReady module.now parts.plan parts.room parts.store parts.slots.items) }
+    ensures ready { IfOk result (λ parts. IsReady module.now parts.compiled parts.room parts.store parts.slots.items) }
     ensures numbers { IfOk result (λ parts. parts.numbers ≡ functions_of module.now) }
     ensures memory { IfOk result (λ parts. parts.store.memory ≡ memory_at_first module.now) }
     ensures first { IfOk result (λ parts. globals_in module.now parts.store.globals ≡ first_globals module.now) }

@@ -3,7 +3,7 @@ ghost use Rattle.std.specs.Prelude.{◌≡◌, ◌+◌, ◌≤◌, [], IfOk, map
 ghost use Rattle.wasm_validate.specs.Rules.{offset_of, least_of, tables_of, imported_tables};
 ghost use Rattle.wasm_exec.specs.Programs.{put_entries, with_elements, table_at_first};
 ghost use Rattle.wasm_compile.specs.Emitting.{row_kind};
-ghost use Rattle.wasm_exec.specs.Plans.{entry_of, number_or};
+ghost use Rattle.wasm_exec.specs.Compiled.{entry_of, number_or};
 ghost use Rattle.wasm_exec.specs.Whole.{ElementsFit};
 
 use sim_base::{List, OutOfMemory};

@@ -1,5 +1,5 @@
 use Rattle.std.proofs.Common.{◌≡◌, map, take}
-use Rattle.wasm_exec.specs.Plans.{arity_at}
+use Rattle.wasm_exec.specs.Compiled.{arity_at}
 use Rattle.wasm_exec.proofs.numbers.arities_of.Given as goal
 
 abbrev pub invariant-loop-number : goal.invariant-loop-number

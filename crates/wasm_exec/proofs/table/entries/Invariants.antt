@@ -1,5 +1,5 @@
 use Rattle.std.proofs.Common.{◌≡◌, map, take}
-use Rattle.wasm_exec.specs.Plans.{entry_of}
+use Rattle.wasm_exec.specs.Compiled.{entry_of}
 use Rattle.wasm_exec.proofs.table.entries.Given as goal
 
 abbrev pub invariant-loop-function : goal.invariant-loop-function
