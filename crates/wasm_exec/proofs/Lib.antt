@@ -1,4 +1,4 @@
-mod ProgramLemmas
+pub mod ProgramLemmas
 mod LoadLemmas
 mod ListLemmas
 mod ExistLemmas

@@ -1,6 +1,6 @@
 -- A module has one program.
-use Rattle.std.proofs.Common.{◌≡◌, ℕ, ◌+◌, List, [], ◌∷◌, ◌++◌, map, Option, None, Some, refl, sym, ap, subst, ◌∙◌}
-use Rattle.std.specs.Prelude.{slice_get, IsTrue, option_to_list}
+use Rattle.std.proofs.Common.{◌≡◌, ℕ, ◌+◌, List, [], ◌∷◌, ◌++◌, map, Option, None, Some, refl, sym, ap, subst, ◌∙◌, append_assoc}
+use Rattle.std.specs.Prelude.{slice_get, IsTrue}
 use Rattle.wasm_code.specs.declared.types.FuncType.{FuncType}
 use Rattle.wasm_code.specs.declared.instr.Instr.{Instr}
 use Rattle.wasm_code.specs.declared.instr.Instr.TheVariants as instrs
@@ -11,57 +11,12 @@ use Rattle.wasm_validate.specs.Rules.{imported_functions}
 use Rattle.wasm_validate.specs.Validity.{declared}
 use Rattle.wasm_eval.specs.Eval.{Program, Func}
 use Rattle.wasm_exec.specs.Programs.{FuncsAre, IsProgram, table_at_first}
-use Rattle.wasm_typing.specs.Typing.{Context, Steps, Types}
 use Rattle.wasm_code.specs.declared.types.ValType.{ValType}
+use Rattle.wasm_exec.proofs.ProgramLemmas.{types_plain}
 use Rattle.wasm_program.specs.Nesting.{Tail, before, plain, tails, nested, first_code}
 use Rattle.wasm_program.specs.ProgramOf.{type_or, types_at, funcs_of, program_of}
 
--- typed code has no head of a block and no end among its instructions
-step_plain : (c : Context) (labels : List (List ValType)) (i : Instr) (ts us : List ValType) → Steps c labels i ts us → IsTrue (is_plain i)
-step_plain c labels instrs.Unreachable ts us k = refl
-step_plain c labels instrs.Nop ts us k = refl
-step_plain c labels (instrs.Block r) ts us k = absurd k
-step_plain c labels (instrs.Loop r) ts us k = absurd k
-step_plain c labels (instrs.If r) ts us k = absurd k
-step_plain c labels instrs.Else ts us k = absurd k
-step_plain c labels instrs.End ts us k = absurd k
-step_plain c labels (instrs.Br l) ts us k = refl
-step_plain c labels (instrs.BrIf l) ts us k = refl
-step_plain c labels (instrs.BrTable ls l) ts us k = refl
-step_plain c labels instrs.Return ts us k = refl
-step_plain c labels (instrs.Call f) ts us k = refl
-step_plain c labels (instrs.CallIndirect t) ts us k = refl
-step_plain c labels instrs.Drop ts us k = refl
-step_plain c labels instrs.Select ts us k = refl
-step_plain c labels (instrs.LocalGet x) ts us k = refl
-step_plain c labels (instrs.LocalSet x) ts us k = refl
-step_plain c labels (instrs.LocalTee x) ts us k = refl
-step_plain c labels (instrs.GlobalGet x) ts us k = refl
-step_plain c labels (instrs.GlobalSet x) ts us k = refl
-step_plain c labels (instrs.Load op m) ts us k = refl
-step_plain c labels (instrs.Store op m) ts us k = refl
-step_plain c labels instrs.MemorySize ts us k = refl
-step_plain c labels instrs.MemoryGrow ts us k = refl
-step_plain c labels instrs.MemoryCopy ts us k = refl
-step_plain c labels instrs.MemoryFill ts us k = refl
-step_plain c labels (instrs.Float f) ts us k = refl
-step_plain c labels (instrs.I32Const n) ts us k = refl
-step_plain c labels (instrs.I64Const n) ts us k = refl
-step_plain c labels (instrs.Unary op) ts us k = refl
-step_plain c labels (instrs.Binary op) ts us k = refl
-
-pub types_plain : (c : Context) (labels : List (List ValType)) (e : Code) (ts us : List ValType) → Types c labels e ts us → IsPlain e
-types_plain c labels Done ts us k = tt
-types_plain c labels (Then i e) ts us k = (step_plain c labels i ts k.0 k.1, types_plain c labels e k.0 us k.2)
-types_plain c labels (In b r a e) ts us k = (types_plain c _ a [] (option_to_list r) k.2, types_plain c labels e (option_to_list r ++ k.0) us k.4)
-types_plain c labels (Both r a b e) ts us k =
-    (types_plain c (option_to_list r ∷ labels) a [] (option_to_list r) k.2, types_plain c (option_to_list r ∷ labels) b [] (option_to_list r) k.3, types_plain c labels e (option_to_list r ++ k.0) us k.4)
-
--- a list of code behind which one ends, spelled before others
-append_assoc : {X : Type 0} (xs ys zs : List X) → (xs ++ ys) ++ zs ≡ xs ++ (ys ++ zs)
-append_assoc [] ys zs = refl
-append_assoc (x ∷ xs) ys zs = ap (λ ws. x ∷ ws) (append_assoc xs ys zs)
-
+-- code that is spelled before other instructions
 before_plain : (i : Instr) (ts : List Tail) → IsTrue (is_plain i) → before i ts ≡ plain i ts
 before_plain instrs.Unreachable ts h = refl
 before_plain instrs.Nop ts h = refl

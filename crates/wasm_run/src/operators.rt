@@ -1,0 +1,100 @@
+//! Operators on integers and accesses to memory, by their names in the table of opcodes.
+
+/// An operator on two integers of one width that never traps.
+#[derive(Clone, Copy, Debug, PartialEq, Eq)]
+pub enum Plain {
+    Eq,
+    Ne,
+    LtS,
+    LtU,
+    GtS,
+    GtU,
+    LeS,
+    LeU,
+    GeS,
+    GeU,
+    Add,
+    Sub,
+    Mul,
+    And,
+    Or,
+    Xor,
+    Shl,
+    ShrS,
+    ShrU,
+    Rotl,
+    Rotr,
+}
+
+/// An operator on two integers of one width that traps for some. Traps: 3 DivideByZero, 4 Overflow.
+#[derive(Clone, Copy, Debug, PartialEq, Eq)]
+pub enum Division {
+    DivS,
+    DivU,
+    RemS,
+    RemU,
+}
+
+/// An operator on two integers of one width.
+#[derive(Clone, Copy, Debug, PartialEq, Eq)]
+pub enum Binary {
+    Plain(Plain),
+    Division(Division),
+}
+
+/// An operator on an integer of 32 bits.
+#[derive(Clone, Copy, Debug, PartialEq, Eq)]
+pub enum Unary32 {
+    Eqz,
+    Clz,
+    Ctz,
+    Popcnt,
+    /// `i64.extend_i32_s` and `i64.extend_i32_u`.
+    ExtendS,
+    ExtendU,
+    Extend8S,
+    Extend16S,
+}
+
+/// An operator on an integer of 64 bits.
+#[derive(Clone, Copy, Debug, PartialEq, Eq)]
+pub enum Unary64 {
+    Eqz,
+    Clz,
+    Ctz,
+    Popcnt,
+    /// `i32.wrap_i64`.
+    Wrap,
+    Extend8S,
+    Extend16S,
+    Extend32S,
+}
+
+/// A load from memory.
+#[derive(Clone, Copy, Debug, PartialEq, Eq)]
+pub enum LoadOp {
+    I32Load,
+    I64Load,
+    I32Load8S,
+    I32Load8U,
+    I32Load16S,
+    I32Load16U,
+    I64Load8S,
+    I64Load8U,
+    I64Load16S,
+    I64Load16U,
+    I64Load32S,
+    I64Load32U,
+}
+
+/// A store to memory.
+#[derive(Clone, Copy, Debug, PartialEq, Eq)]
+pub enum StoreOp {
+    I32Store,
+    I64Store,
+    I32Store8,
+    I32Store16,
+    I64Store8,
+    I64Store16,
+    I64Store32,
+}
