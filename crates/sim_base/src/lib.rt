@@ -6,6 +6,7 @@
 mod bench;
 mod fault;
 mod flash;
+mod limits;
 mod list;
 mod mem_bench;
 mod name;
@@ -19,6 +20,7 @@ mod wiring;
 pub use bench::{Bench, Port, ReadEnd, WriteEnd};
 pub use fault::{Fault, OutOfMemory, Place, Refusal};
 pub use flash::Flash;
+pub use limits::MOST_CYCLES;
 pub use list::List;
 pub use mem_bench::MemBench;
 pub use name::Name;
