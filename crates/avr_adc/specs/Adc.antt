@@ -3,6 +3,7 @@ use Rattle.std.specs.Prelude.{ℕ, ◌+◌, ◌*◌, ◌/◌, ◌%◌, ◌==◌,
 use Rattle.sim_base.specs.declared.signal.Level.{Level}
 use Rattle.sim_base.specs.declared.signal.Level.TheVariants as levels
 use Rattle.unit_law.specs.Bits.{is_set, one, with_bit}
+use Rattle.unit_law.specs.Coming.{comes}
 use Rattle.unit_law.specs.Pad.{untouched}
 use Rattle.unit_law.specs.UnitMachine.{UnitMachine, at_register}
 use Rattle.unit_law.specs.declared.request.Request.{Request}
@@ -61,9 +62,9 @@ ended u c t l = record u {
   conversion = if is_free_running u then Some (begun t 13 u.adps u.admux) else None;
 }
 
-abbrev pub ends : Option Conversion → ℕ → Bool
-ends None t = false
-ends (Some c) t = c.end == t
+abbrev pub end_of : Option Conversion → Option ℕ
+end_of None = None
+end_of (Some c) = Some c.end
 
 abbrev pub stepped : Adc → Option Conversion → ℕ → List Level → Adc
 stepped u None t l = u
@@ -134,7 +135,7 @@ requests u = record { vector = 21; enabled = u.adie; flag = u.adif } ∷ []
 abbrev pub adc : UnitMachine Adc
 adc = record {
   step = λ u t before now. stepped u u.conversion t now;
-  due = λ u t. ends u.conversion t;
+  due = λ u t. comes (end_of u.conversion) t;
   hears = λ u before now. false;
   requests = λ u l. requests u;
   pad = λ u p. untouched;

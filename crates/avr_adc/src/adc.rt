@@ -1,13 +1,13 @@
 //! The ADC.
 ghost use Rattle.std.specs.Prelude.{◌≡◌, ℕ, ◌+◌, ◌-◌, ◌*◌, ◌/◌, ◌%◌, ◌<◌, ◌≤◌, length, None, if◌then◌else◌};
 ghost use Rattle.unit_law.specs.Bits.{with_bit};
-ghost use Rattle.avr_adc.specs.AdcLaws.{EndsLater, next_end};
-ghost use Rattle.avr_adc.specs.Adc.{divisor, begun, value_of, sampled, ended, stepped, control, register, after_read, started, controlled, with_control, with_register, kept};
+ghost use Rattle.unit_law.specs.Coming.{IsAhead};
+ghost use Rattle.avr_adc.specs.Adc.{divisor, end_of, begun, value_of, sampled, ended, stepped, control, register, after_read, started, controlled, with_control, with_register, kept};
 
 use crate::registers::{ADATE, ADEN, ADIE, ADIF, ADLAR, ADSC, Register, named, register_at};
 use sim_base::Level;
 use std::marker::Model;
-use unit_law::{Pad, Request, Unit, has_bit, least, one, with_bit};
+use unit_law::{Pad, Request, Unit, has_bit, least, one, or_end, with_bit, within_run};
 
 /// A conversion on the way: the cycle in whose step it ends, and its channel.
 #[derive(Clone, Copy, Debug, PartialEq, Eq)]
@@ -37,14 +37,14 @@ pub struct Adc {
 impl Model for Adc {
     ghost use Rattle.std.specs.Prelude.{◌≡◌, ◌<◌, ◌≤◌};
     ghost use Rattle.unit_law.specs.UnitMachine.{At};
-    ghost use Rattle.avr_adc.specs.Adc.{Adc as State};
-    ghost use Rattle.avr_adc.specs.AdcLaws.{EndsLater};
+    ghost use Rattle.unit_law.specs.Coming.{IsAhead};
+    ghost use Rattle.avr_adc.specs.Adc.{Adc as State, end_of};
 
     ghost Value = { At State };
 
     ghost view = { λ u. record { unit = record { admux = u.admux; adcsrb = u.adcsrb; aden = u.aden; adate = u.adate; adif = u.adif; adie = u.adie; adps = u.adps; result = u.result; locked = u.locked; first = u.first; conversion = u.conversion }; cycle = u.cycle } };
 
-    ghost invariant = { λ u. record { end : u.cycle ≤ 160000000; adps : u.adps < 8; result : u.result < 1024; later : EndsLater u.conversion u.cycle } };
+    ghost invariant = { λ u. record { end : u.cycle ≤ 160000000; adps : u.adps < 8; result : u.result < 1024; later : IsAhead (end_of u.conversion) u.cycle } };
 }
 
 impl Unit for Adc {
@@ -74,7 +74,7 @@ impl Unit for Adc {
         }
     }
 
-    #[inline]
+    #[inline(always)]
     fn has(reg: u8) -> bool {
         register_at(reg).is_some()
     }
@@ -130,7 +130,7 @@ impl Unit for Adc {
     }
 
     fn due(&self) -> Option<u32> {
-        next_end(self.conversion)
+        within_run(or_end(end_of(self.conversion)))
     }
 
     fn request(&self, levels: &[Level]) -> u8 {
@@ -248,7 +248,7 @@ impl Adc {
         requires levels { length levels.now ≡ 20 }
         requires end { self.old.cycle < 160000000 }
         ensures state { self.new ≡ record self.old { unit = stepped self.old.unit self.old.unit.conversion self.old.cycle levels.now } }
-        ensures later { EndsLater self.new.unit.conversion (self.old.cycle + 1) }
+        ensures later { IsAhead (end_of self.new.unit.conversion) (self.old.cycle + 1) }
     {
         if let Some(conversion) = self.conversion {
             if conversion.end == self.cycle {
@@ -261,7 +261,7 @@ impl Adc {
         requires levels { length levels.now ≡ 20 }
         requires end { self.old.cycle < 160000000 }
         ensures state { self.new ≡ record self.old { unit = ended self.old.unit conversion self.old.cycle levels.now } }
-        ensures later { EndsLater self.new.unit.conversion (self.old.cycle + 1) }
+        ensures later { IsAhead (end_of self.new.unit.conversion) (self.old.cycle + 1) }
     {
         if !self.locked {
             self.result = sampled(levels, conversion.channel);
@@ -348,11 +348,11 @@ fn sampled(levels: &[Level], channel: u8) -> u16
     }
 }
 
-fn next_end(conversion: Option<Conversion>) -> Option<u32>
-    ensures { result ≡ next_end conversion }
+fn end_of(conversion: Option<Conversion>) -> Option<u32>
+    ensures { result ≡ end_of conversion }
 {
     match conversion {
-        Some(conversion) if conversion.end < 160_000_000 => Some(conversion.end),
-        _ => None,
+        Some(conversion) => Some(conversion.end),
+        None => None,
     }
 }

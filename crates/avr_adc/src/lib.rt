@@ -5,8 +5,6 @@
 
 mod adc;
 mod registers;
-#[cfg(test)]
-mod tests;
 
 pub use adc::Adc;
 pub use registers::{ADCH, ADCL, ADCSRA, ADCSRB, ADMUX};

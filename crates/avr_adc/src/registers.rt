@@ -35,7 +35,7 @@ pub enum Register {
 }
 
 /// The register at a data address.
-#[inline]
+#[inline(always)]
 pub(crate) fn register_at(addr: u8) -> Option<Register>
     ensures { result ≡ register_at addr }
 {

@@ -78,7 +78,7 @@ impl Unit for Ports {
         }
     }
 
-    #[inline]
+    #[inline(always)]
     fn has(reg: u8) -> bool {
         register_at(reg).is_some()
     }

@@ -5,6 +5,7 @@ use Rattle.sim_base.specs.declared.signal.Level.{Level}
 use Rattle.unit_law.specs.Bits.{with_bit}
 use Rattle.unit_law.specs.Coming.{comes}
 use Rattle.unit_law.specs.UnitMachine.{Laws, at_register}
+use Rattle.unit_law.proofs.StillLemmas.{neither, chosen}
 use Rattle.avr_spi.specs.declared.registers.Register.{Register}
 use Rattle.avr_spi.specs.declared.registers.Register.TheVariants.{DDRB, SPCR, SPSR, SPDR}
 use Rattle.avr_spi.specs.declared.shifter.Transfer.{Transfer}
@@ -12,14 +13,6 @@ use Rattle.avr_spi.specs.declared.shifter.Shifter.{Shifter}
 use Rattle.avr_spi.specs.Registers.{register_at, moves_pad}
 use Rattle.avr_spi.specs.Shifter.{shifted, acted, next_event}
 use Rattle.avr_spi.specs.Spi.{Spi, spi, spi_pad, requests, stepped, watches, is_selected, deselected, looked, with_register, after_read, kept, ss_low, miso}
-
-neither : (a b : Bool) → (a || b) ≡ false → (a ≡ false) × (b ≡ false)
-neither true b h = cc
-neither false b h = (refl, h)
-
-chosen : {A : Type 0} (b : Bool) (x y : A) → b ≡ false → (if b then x else y) ≡ y
-chosen true x y h = cc
-chosen false x y h = refl
 
 quiet_clock : (s : Shifter) (o : Option Transfer) (t : ℕ) (b : Bool) → comes (next_event o) t ≡ false → shifted s o t b ≡ s
 quiet_clock s None t b h = refl

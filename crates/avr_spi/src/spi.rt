@@ -1,7 +1,7 @@
 //! The SPI.
 ghost use Rattle.std.specs.Prelude.{◌≡◌, ℕ, ◌+◌, ◌-◌, ◌*◌, ◌%◌, ◌<◌, ◌≤◌, length, None, Some, min, if◌then◌else◌};
 ghost use Rattle.unit_law.specs.Bits.{with_bit};
-ghost use Rattle.unit_law.specs.Coming.{comes, IsAhead, or_end, within_run};
+ghost use Rattle.unit_law.specs.Coming.{comes, IsAhead};
 ghost use Rattle.avr_spi.specs.Shifter.{Shifts};
 ghost use Rattle.avr_spi.specs.Spi.{is_master, watches, is_low, ss_low, miso, register, accessed, after_read, loaded, looking, controlled, with_register, kept, is_selected, deselected};
 
@@ -9,7 +9,7 @@ use crate::registers::{DDB2, MSTR, Register, SPE, SPI2X, SPIE, moves, named, reg
 use crate::shifter::{Shifter, begun};
 use sim_base::{Level, reads_one};
 use std::marker::Model;
-use unit_law::{Pad, Request, Unit, has_bit, least, one, with_bit};
+use unit_law::{Pad, Request, Unit, comes, has_bit, least, one, or_end, with_bit, within_run};
 
 /// The SPI, before the step of `cycle`: DDRB, SPCR and bits 5:0 of SPSR as they were written, WCOL, whether SPSR
 /// was read with a flag set, the cycle in which SS is looked at, and the shift register.
@@ -62,7 +62,7 @@ impl Unit for Spi {
         }
     }
 
-    #[inline]
+    #[inline(always)]
     fn has(reg: u8) -> bool {
         register_at(reg).is_some()
     }
@@ -303,15 +303,6 @@ fn miso(levels: &[Level]) -> bool
     reads_one(levels[12])
 }
 
-fn comes(event: Option<u32>, cycle: u32) -> bool
-    ensures { result ≡ comes event cycle }
-{
-    match event {
-        Some(at) => at == cycle,
-        None => false,
-    }
-}
-
 // The look at SS that is still to come behind a cycle.
 fn looked(look: Option<u32>, cycle: u32) -> Option<u32>
     requires { IsAhead look cycle }
@@ -321,24 +312,5 @@ fn looked(look: Option<u32>, cycle: u32) -> Option<u32>
     match look {
         Some(at) if at == cycle => None,
         other => other,
-    }
-}
-
-fn or_end(event: Option<u32>) -> u32
-    ensures { result ≡ or_end event }
-{
-    match event {
-        Some(cycle) => cycle,
-        None => 160_000_000,
-    }
-}
-
-fn within_run(cycle: u32) -> Option<u32>
-    ensures { result ≡ within_run cycle }
-{
-    if cycle < 160_000_000 {
-        Some(cycle)
-    } else {
-        None
     }
 }

@@ -65,7 +65,7 @@ impl Unit for Timer16 {
         }
     }
 
-    #[inline]
+    #[inline(always)]
     fn has(reg: u8) -> bool {
         register_at(reg).is_some()
     }

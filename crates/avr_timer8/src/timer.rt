@@ -29,7 +29,7 @@ impl Unit for Timer0 {
         }
     }
 
-    #[inline]
+    #[inline(always)]
     fn has(reg: u8) -> bool {
         register_at(Which::Zero, reg).is_some()
     }
@@ -124,7 +124,7 @@ impl Unit for Timer2 {
         }
     }
 
-    #[inline]
+    #[inline(always)]
     fn has(reg: u8) -> bool {
         register_at(Which::Two, reg).is_some()
     }

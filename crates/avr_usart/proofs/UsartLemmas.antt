@@ -1,9 +1,9 @@
 -- The first event is the end of a bit or a sample, whichever comes first.
-use Rattle.std.proofs.Common.{◌≡◌, ℕ, ◌+◌, ◌-◌, ◌≤◌, [], false, Option, None, Some, sym, subst}
+use Rattle.std.proofs.Common.{◌≡◌, ℕ, ◌-◌, ◌≤◌, [], false, Option, None, Some}
 use Rattle.std.specs.Prelude.{min}
 use Rattle.unit_law.specs.UnitMachine.{At, IsQuiet, IsFirstDue}
-use Rattle.unit_law.specs.Coming.{IsAhead, comes, or_end, within_run}
-use Rattle.unit_law.proofs.StillLemmas.{neither, still_ahead, before_both, at_both, ahead_both, none_due, first_is}
+use Rattle.unit_law.specs.Coming.{IsAhead, or_end, within_run}
+use Rattle.unit_law.proofs.StillLemmas.{neither, before_both, at_both, ahead_both, keeps_ahead, first_at}
 use Rattle.avr_usart.specs.declared.transmitter.Frame.{Frame}
 use Rattle.avr_usart.specs.declared.receiver.Reception.{Reception}
 use Rattle.avr_usart.specs.Transmitter.{bit_end, Sends}
@@ -35,20 +35,12 @@ module _ (v s : At Usart) (same : v ≡ s) where
   -- a quiet stretch ends no later than the bit on the way, and no later than the next sample
   module _ (to : ℕ) (le : s.cycle ≤ to) (still : IsQuiet usart s.unit s.cycle (to - s.cycle)) where
     pub skip_sends : Sends v.unit.transmitter.frame v.cycle → Sends v.unit.transmitter.frame to
-    skip_sends h =
-        let o = s.unit.transmitter.frame in
-        let here : Sends o s.cycle = subst (λ (x : At Usart). Sends x.unit.transmitter.frame x.cycle) same h in
-        subst (λ (x : At Usart). Sends x.unit.transmitter.frame to) (sym same)
-        (sends_at o s.cycle to here (still_ahead (bit_end o) s.cycle to le (sends_ahead o s.cycle here)
-        (λ k less. (neither (comes (bit_end o) (s.cycle + k)) (comes (next_sample s.unit.receiver.reception) (s.cycle + k)) (none_due usart stays s.unit s.cycle (to - s.cycle) still k less)).0)))
+    skip_sends h = sends_at v.unit.transmitter.frame v.cycle to h
+        (keeps_ahead usart stays v s same (λ u. bit_end u.transmitter.frame) (λ u t due. (neither _ _ due).0) to le still (sends_ahead v.unit.transmitter.frame v.cycle h))
 
     pub skip_receives : Receives v.unit.receiver.reception v.cycle → Receives v.unit.receiver.reception to
-    skip_receives h =
-        let o = s.unit.receiver.reception in
-        let here : Receives o s.cycle = subst (λ (x : At Usart). Receives x.unit.receiver.reception x.cycle) same h in
-        subst (λ (x : At Usart). Receives x.unit.receiver.reception to) (sym same)
-        (receives_at o s.cycle to here (still_ahead (next_sample o) s.cycle to le (receives_ahead o s.cycle here)
-        (λ k less. (neither (comes (bit_end s.unit.transmitter.frame) (s.cycle + k)) (comes (next_sample o) (s.cycle + k)) (none_due usart stays s.unit s.cycle (to - s.cycle) still k less)).1)))
+    skip_receives h = receives_at v.unit.receiver.reception v.cycle to h
+        (keeps_ahead usart stays v s same (λ u. next_sample u.receiver.reception) (λ u t due. (neither _ _ due).1) to le still (receives_ahead v.unit.receiver.reception v.cycle h))
 
   -- the answer of `due`
   pub first_by : (r : Option ℕ) → r ≡ within_run (min (or_end (bit_end v.unit.transmitter.frame)) (or_end (next_sample v.unit.receiver.reception))) →
@@ -56,8 +48,6 @@ module _ (v s : At Usart) (same : v ≡ s) where
   first_by r is end h k =
       let a = bit_end v.unit.transmitter.frame in
       let b = next_sample v.unit.receiver.reception in
-      subst (λ (x : At Usart). IsFirstDue usart x.unit x.cycle r) same
-      (subst (λ (x : Option ℕ). IsFirstDue usart v.unit v.cycle x) (sym is)
-      (first_is usart stays v.unit v.cycle (min (or_end a) (or_end b))
+      first_at usart stays v s same (min (or_end a) (or_end b)) r is
       (ahead_both a b v.cycle (sends_ahead v.unit.transmitter.frame v.cycle h) (receives_ahead v.unit.receiver.reception v.cycle k) end)
-      (before_both a b) (at_both a b)))
+      (before_both a b) (at_both a b)

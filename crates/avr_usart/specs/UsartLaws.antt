@@ -5,6 +5,7 @@ use Rattle.sim_base.specs.declared.signal.Level.{Level}
 use Rattle.unit_law.specs.Bits.{with_bit}
 use Rattle.unit_law.specs.Coming.{comes}
 use Rattle.unit_law.specs.UnitMachine.{Laws, at_register}
+use Rattle.unit_law.proofs.StillLemmas.{neither, chosen}
 use Rattle.avr_usart.specs.declared.format.Format.{Format}
 use Rattle.avr_usart.specs.declared.transmitter.Frame.{Frame}
 use Rattle.avr_usart.specs.declared.transmitter.Transmitter.{Transmitter}
@@ -16,14 +17,6 @@ use Rattle.avr_usart.specs.Registers.{register_at, moves_pad}
 use Rattle.avr_usart.specs.Transmitter.{transmitted, bit_over, emitted, is_last, bit_end}
 use Rattle.avr_usart.specs.Receiver.{received, sampled, heard, is_start, next_sample, listens}
 use Rattle.avr_usart.specs.Usart.{Usart, usart, usart_pad, requests, stepped, with_register, after_read, kept, rxd, rxen, format_of}
-
-pub neither : (a b : Bool) → (a || b) ≡ false → (a ≡ false) × (b ≡ false)
-neither true b h = cc
-neither false b h = (refl, h)
-
-chosen : {A : Type 0} (b : Bool) (x y : A) → b ≡ false → (if b then x else y) ≡ y
-chosen true x y h = cc
-chosen false x y h = refl
 
 quiet_line : (s : Transmitter) (o : Option Frame) (format : Format) (t : ℕ) → comes (bit_end o) t ≡ false → transmitted s o format t ≡ s
 quiet_line s None format t h = refl

@@ -1,7 +1,6 @@
 //! USART0.
 ghost use Rattle.std.specs.Prelude.{◌≡◌, ℕ, ◌+◌, ◌-◌, ◌*◌, ◌/◌, ◌%◌, ◌<◌, ◌≤◌, length, None, Some, min, if◌then◌else◌};
 ghost use Rattle.unit_law.specs.Bits.{with_bit};
-ghost use Rattle.unit_law.specs.Coming.{or_end, within_run};
 ghost use Rattle.avr_usart.specs.Format.{IsFormat};
 ghost use Rattle.avr_usart.specs.Transmitter.{Sends};
 ghost use Rattle.avr_usart.specs.Receiver.{Receives};
@@ -15,7 +14,7 @@ use crate::registers::{
 use crate::transmitter::Transmitter;
 use sim_base::{Level, reads_one};
 use std::marker::Model;
-use unit_law::{Pad, Request, Unit, has_bit, least, one, with_bit};
+use unit_law::{Pad, Request, Unit, has_bit, least, one, or_end, with_bit, within_run};
 
 /// USART0, before the step of `cycle`: bits 1 and 0 of UCSR0A, UCSR0B and UCSR0C as they were written, UBRR0, and
 /// both halves.
@@ -66,7 +65,7 @@ impl Unit for Usart {
         }
     }
 
-    #[inline]
+    #[inline(always)]
     fn has(reg: u8) -> bool {
         register_at(reg).is_some()
     }
@@ -269,23 +268,4 @@ fn rxd(levels: &[Level]) -> bool
     ensures { result ≡ rxd levels.now }
 {
     reads_one(levels[0])
-}
-
-fn or_end(event: Option<u32>) -> u32
-    ensures { result ≡ or_end event }
-{
-    match event {
-        Some(cycle) => cycle,
-        None => 160_000_000,
-    }
-}
-
-fn within_run(cycle: u32) -> Option<u32>
-    ensures { result ≡ within_run cycle }
-{
-    if cycle < 160_000_000 {
-        Some(cycle)
-    } else {
-        None
-    }
 }

@@ -6,7 +6,7 @@ use Rattle.std.proofs.lemmas.Bool.Decides.{nat_tests}
 use Rattle.unit_law.specs.UnitMachine.{UnitMachine, At, steps, IsQuiet, IsFirstDue}
 use Rattle.unit_law.specs.Coming.{comes, IsAhead, or_end, within_run}
 
-differs : (b : Bool) → b ≡ false → b ≡ true → ⊥
+pub differs : (b : Bool) → b ≡ false → b ≡ true → ⊥
 differs true h k = cc
 differs false h k = cc
 
@@ -34,6 +34,11 @@ or_right false b h = h
 pub neither : (a b : Bool) → (a || b) ≡ false → (a ≡ false) × (b ≡ false)
 neither true b h = cc
 neither false b h = (refl, h)
+
+-- a choice that is known
+pub chosen : {A : Type 0} (b : Bool) (x y : A) → b ≡ false → (if b then x else y) ≡ y
+chosen true x y h = cc
+chosen false x y h = refl
 
 -- no event comes before its cycle
 pub before_it : (o : Option ℕ) (k : ℕ) → k < or_end o → comes o k ≡ false
@@ -123,3 +128,20 @@ module _ {U : Type 0} (m : UnitMachine U) (stays : (s : U) (t : ℕ) → m.due s
   pub skipped : (v s : At U) (to : ℕ) → v ≡ s → IsQuiet m s.unit s.cycle (to - s.cycle) → record v { cycle = to } ≡ record { unit = steps m s.unit s.cycle (to - s.cycle); cycle = to }
   skipped v s to same quiet =
       ap (λ (x : At U). record x { cycle = to }) same ∙ ap (λ (u : U). record { unit = u; cycle = to }) (sym (still s.unit s.cycle (to - s.cycle) quiet))
+
+  -- v is what a struct shows of its fields, and s what the caller knows
+  module _ (v s : At U) (same : v ≡ s) where
+    -- over a quiet stretch an event of the unit stays ahead
+    pub keeps_ahead : (event : U → Option ℕ) → ((u : U) (t : ℕ) → m.due u t ≡ false → comes (event u) t ≡ false) →
+        (to : ℕ) → s.cycle ≤ to → IsQuiet m s.unit s.cycle (to - s.cycle) → IsAhead (event v.unit) v.cycle → IsAhead (event v.unit) to
+    keeps_ahead event is to le quiet h =
+        subst (λ (x : At U). IsAhead (event x.unit) to) (sym same)
+        (still_ahead (event s.unit) s.cycle to le (subst (λ (x : At U). IsAhead (event x.unit) x.cycle) same h)
+        (λ k less. is s.unit (s.cycle + k) (none_due s.unit s.cycle (to - s.cycle) quiet k less)))
+
+    -- the answer of `due`, where d is the cycle of the first event
+    pub first_at : (d : ℕ) (r : Option ℕ) → r ≡ within_run d → v.cycle ≤ d → ((k : ℕ) → k < d → m.due v.unit k ≡ false) →
+        (d < 160000000 → m.due v.unit d ≡ true) → IsFirstDue m s.unit s.cycle r
+    first_at d r is le none event =
+        subst (λ (x : At U). IsFirstDue m x.unit x.cycle r) same
+        (subst (λ (x : Option ℕ). IsFirstDue m v.unit v.cycle x) (sym is) (first_is v.unit v.cycle d le none event))

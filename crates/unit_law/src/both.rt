@@ -36,9 +36,10 @@ impl<A: Group, B: Group> Group for Both<A, B> {
         }
     }
 
-    #[inline]
+    // Each `has` is a set of constants: so put, they become one jump by the address, however many units there are.
+    #[inline(always)]
     fn has(reg: u8) -> bool {
-        A::has(reg) | B::has(reg)
+        A::has(reg) || B::has(reg)
     }
 
     #[inline]

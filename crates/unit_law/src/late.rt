@@ -38,7 +38,7 @@ impl<U: Unit> Group for Late<U> {
         Late { unit, due, request }
     }
 
-    #[inline]
+    #[inline(always)]
     fn has(reg: u8) -> bool {
         U::has(reg)
     }

@@ -6,16 +6,16 @@
 
 mod bits;
 mod both;
+mod coming;
 mod group;
 mod late;
 mod pad;
 mod request;
-#[cfg(test)]
-mod tests;
 mod unit;
 
 pub use bits::{has_bit, mask, one, with_bit};
 pub use both::Both;
+pub use coming::{comes, or_end, within_run};
 pub use group::{Group, may_move, wait};
 pub use late::Late;
 pub use pad::Pad;

@@ -1,0 +1,37 @@
+//! An event that is to come, named by its cycle: the end of a conversion, the last cycle of a bit, a sample.
+ghost use Rattle.std.specs.Prelude.{◌≡◌};
+ghost use Rattle.unit_law.specs.Coming.{comes, or_end, within_run};
+
+/// Whether it comes in this cycle.
+#[inline]
+pub fn comes(event: Option<u32>, cycle: u32) -> bool
+    ensures { result ≡ comes event cycle }
+{
+    match event {
+        Some(at) => at == cycle,
+        None => false,
+    }
+}
+
+/// Its cycle, or 160,000,000, the end of the longest run.
+#[inline]
+pub fn or_end(event: Option<u32>) -> u32
+    ensures { result ≡ or_end event }
+{
+    match event {
+        Some(cycle) => cycle,
+        None => 160_000_000,
+    }
+}
+
+/// A cycle, if it lies within the longest run.
+#[inline]
+pub fn within_run(cycle: u32) -> Option<u32>
+    ensures { result ≡ within_run cycle }
+{
+    if cycle < 160_000_000 {
+        Some(cycle)
+    } else {
+        None
+    }
+}
