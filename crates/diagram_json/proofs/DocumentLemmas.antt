@@ -11,7 +11,6 @@ use Rattle.serde_json.specs.View.{view, items_view}
 use Rattle.serde_json.specs.declared.value.Value.{Value}
 use Rattle.sim_base.specs.declared.fault.Refusal.{Refusal}
 use Rattle.sim_base.specs.declared.fault.Place.TheVariants as places
-use Rattle.sim_base.specs.Refusals.{JsonText}
 use Rattle.sim_base.specs.declared.fault.Fault.{Fault}
 use Rattle.sim_base.specs.declared.fault.Fault.TheVariants as faults
 use Rattle.sim_base.specs.Reads.{Reads}
@@ -22,11 +21,11 @@ use Rattle.sim_base.specs.Names.{is_name, is_name_byte}
 use Rattle.document_model.specs.Json.{elements, json_document}
 use Rattle.document_model.specs.Diagram.{is_id, is_id_byte}
 
-pub document_ok : (bytes : List ℕ) (d : Data) → IsUtf8 bytes → read bytes ≡ Some d → json_document JsonText bytes ≡ Ok d
-document_ok bytes d u e = rw (is_utf8-from_IsUtf8 bytes u, e) refl
+pub document_ok : (number : ℕ) (bytes : List ℕ) (d : Data) → IsUtf8 bytes → read bytes ≡ Some d → json_document number bytes ≡ Ok d
+document_ok number bytes d u e = rw (is_utf8-from_IsUtf8 bytes u, e) refl
 
-pub document_none : (bytes : List ℕ) → (IsUtf8 bytes → read bytes ≡ None) → json_document JsonText bytes ≡ Err (refusal JsonText places.Whole)
-document_none bytes f = elim (cases_Bool (is_utf8 bytes)) [
+pub document_none : (number : ℕ) (bytes : List ℕ) → (IsUtf8 bytes → read bytes ≡ None) → json_document number bytes ≡ Err (refusal number places.Whole)
+document_none number bytes f = elim (cases_Bool (is_utf8 bytes)) [
   | inl e ↦ rw (e, f (IsUtf8-from_is_utf8 bytes e)) refl
   | inr e ↦ rw e refl
 ]

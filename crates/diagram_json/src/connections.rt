@@ -62,10 +62,7 @@ fn read_connection(k: u32, value: &Value) -> Result<Option<Wire>, Fault>
     if is_outside_board(from) || is_outside_board(to) {
         return Ok(None);
     }
-    match connect(k, from, to) {
-        Ok(wire) => Ok(Some(wire)),
-        Err(fault) => Err(fault),
-    }
+    Ok(Some(connect(k, from, to)?))
 }
 
 fn keep(wires: &mut List<Wire>, wire: Option<Wire>) -> Result<(), OutOfMemory>
@@ -83,10 +80,7 @@ pub(crate) fn read_connections(alloc: Global, values: &[Value]) -> Result<List<W
 {
     let mut wires = List::new(alloc);
     for (i, value) in values.iter().enumerate() {
-        match read_connection(i as u32 + 1, value) {
-            Ok(wire) => keep(&mut wires, wire)?,
-            Err(fault) => return Err(fault),
-        }
+        keep(&mut wires, read_connection(i as u32 + 1, value)?)?;
     }
     Ok(wires)
 }

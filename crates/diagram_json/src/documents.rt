@@ -1,7 +1,6 @@
 //! A diagram as a JSON document.
 ghost use Rattle.std.specs.Prelude.{◌≡◌, ◌≤◌, map, length, IfOk, option_map};
 ghost use Rattle.sim_base.specs.Reads.{Reads};
-ghost use Rattle.sim_base.specs.Refusals.{JsonText};
 ghost use Rattle.serde_json.specs.View.{view};
 ghost use Rattle.document_model.specs.Json.{array_at, json_document};
 ghost use Rattle.document_model.specs.Diagram.{diagram_of, diagram_text, has_version_1, parts_of, wires_of};
@@ -11,18 +10,20 @@ use crate::parts::read_parts;
 use crate::refusals::{not_json, not_shaped, over_limit};
 use document_model::{Diagram, PartText, Wire};
 use serde_json::Value;
+use sim_base::refusals::JSON_TEXT;
 use sim_base::{Fault, List, Place};
 use std::alloc::Global;
 
-fn read_document(alloc: Global, bytes: &[u8]) -> Result<Value, Fault>
-    ensures { Reads view result (json_document JsonText bytes.now) }
+/// The document that a JSON text is. Refuses with this number, at Whole, a text that is none.
+pub fn read_json(alloc: Global, number: u8, bytes: &[u8]) -> Result<Value, Fault>
+    ensures { Reads view result (json_document number bytes.now) }
 {
     match Value::from_slice(alloc, bytes) {
         Ok(document) => Ok(document),
         Err(error) => if error.is_memory() {
             Err(Fault::OutOfMemory)
         } else {
-            Err(not_json())
+            Err(not_json(number))
         },
     }
 }
@@ -33,8 +34,9 @@ fn is_version_1(document: &Value) -> bool
     document.get("version").and_then(Value::as_u64) == Some(1)
 }
 
+/// The items of a member that is an array.
 #[tactic(auto, using(crate::proofs::DocumentLemmas::elements_view))]
-fn array_of<'a>(document: &'a Value, key: &str) -> Option<&'a [Value]>
+pub fn array_of<'a>(document: &'a Value, key: &str) -> Option<&'a [Value]>
     ensures { option_map (λ items. map view items.now) result ≡ array_at key.now (view document.now) }
 {
     let items = document.get(key).and_then(Value::as_array)?;
@@ -73,14 +75,9 @@ fn diagram(alloc: Global, document: &Value) -> Result<Diagram, Fault>
         Some(connections) => connections,
         None => return Err(not_shaped(Place::Whole)),
     };
-    let parts = match few_parts(alloc, items) {
-        Ok(parts) => parts,
-        Err(fault) => return Err(fault),
-    };
-    match few_wires(alloc, connections) {
-        Ok(wires) => Ok(Diagram { parts, wires }),
-        Err(fault) => Err(fault),
-    }
+    let parts = few_parts(alloc, items)?;
+    let wires = few_wires(alloc, connections)?;
+    Ok(Diagram { parts, wires })
 }
 
 /// The parts and wires of a diagram as Wokwi's editor writes it. Connections that lead to `$serialMonitor` and the
@@ -90,8 +87,6 @@ fn diagram(alloc: Global, document: &Value) -> Result<Diagram, Fault>
 pub fn read_diagram(alloc: Global, bytes: &[u8]) -> Result<Diagram, Fault>
     ensures { Reads (λ diagram. diagram) result (diagram_text bytes.now) }
 {
-    match read_document(alloc, bytes) {
-        Ok(document) => diagram(alloc, &document),
-        Err(fault) => Err(fault),
-    }
+    let document = read_json(alloc, JSON_TEXT, bytes)?;
+    diagram(alloc, &document)
 }

@@ -135,10 +135,7 @@ pub(crate) fn read_parts(alloc: Global, values: &[Value]) -> Result<List<PartTex
 {
     let mut parts = List::new(alloc);
     for (i, value) in values.iter().enumerate() {
-        match read_part(alloc, i as u32 + 1, value) {
-            Ok(part) => parts.push(part)?,
-            Err(fault) => return Err(fault),
-        }
+        parts.push(read_part(alloc, i as u32 + 1, value)?)?;
     }
     Ok(parts)
 }

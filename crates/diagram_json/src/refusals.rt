@@ -1,17 +1,16 @@
-//! The three refusals of a diagram.
+//! The refusals of a diagram, and that of a text that is no JSON.
 ghost use Rattle.std.specs.Prelude.{◌≡◌};
-ghost use Rattle.sim_base.specs.Refusals.{DiagramLimit, DiagramShape, JsonText};
+ghost use Rattle.sim_base.specs.Refusals.{DiagramLimit, DiagramShape};
 ghost use Rattle.document_model.specs.Reading.{refusal};
 
-use sim_base::refusals::{DIAGRAM_LIMIT, DIAGRAM_SHAPE, JSON_TEXT};
+use sim_base::refusals::{DIAGRAM_LIMIT, DIAGRAM_SHAPE};
 use sim_base::{Fault, Place, Refusal};
 
-/// 40 JsonText.
-pub(crate) fn not_json() -> Fault
-    ensures { result ≡ Fault.Refused (refusal JsonText Place.Whole) }
+pub(crate) fn not_json(number: u8) -> Fault
+    ensures { result ≡ Fault.Refused (refusal number Place.Whole) }
 {
     Fault::Refused(Refusal {
-        number: JSON_TEXT,
+        number,
         place: Place::Whole,
     })
 }
