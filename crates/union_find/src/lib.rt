@@ -5,7 +5,5 @@
 
 mod forest;
 mod labels;
-#[cfg(test)]
-mod tests;
 
 pub use labels::{join_chosen, join_pairs, label_chosen, label_pairs};
