@@ -2,8 +2,9 @@
 """Runs a command, as `tools/gate/times.py rt ci --anew`, and says at its end what the prover took in it.
 
 The toolchain prints no times. Each second the processor time (user and system) of the prover's processes below the
-command is read from /proc; the sums of each crate stand in a line: its proof, its tests, its wrong bodies, and what
-builds its program. What a process takes in its last second is not seen.
+command is read from /proc. The table, in the form of Markdown, has a row for each crate in processor seconds: its
+proof, its tests, its wrong bodies, what builds its program, and the sum; and one for all. What a process takes in its
+last second is not seen.
 """
 import collections
 import os
@@ -61,6 +62,18 @@ def look(root, seen):
                 seen[pid, start] = [(crate, kind_of(words, folder)), used]
 
 
+def table(sums):
+    """A row for each crate, in processor seconds, and one for all."""
+    def row(name, seconds):
+        cells = [f"{x:.0f}" if x else "-" for x in (*seconds, sum(seconds))]
+        print("| " + " | ".join([name, *cells]) + " |")
+
+    print("| crate | " + " | ".join(KINDS) + " | sum |\n|---" + "|---" * (len(KINDS) + 1) + "|")
+    for crate in sorted({crate for crate, _ in sums}):
+        row(f"`{crate}`", [sums[crate, kind] for kind in KINDS])
+    row("all", [sum(used for (_, of), used in sums.items() if of == kind) for kind in KINDS])
+
+
 def main():
     began = time.time()
     command = subprocess.Popen(sys.argv[1:])
@@ -71,12 +84,9 @@ def main():
     sums = collections.defaultdict(float)
     for key, used in seen.values():
         sums[key] += used
-    crates = sorted({crate for crate, _ in sums}, key=lambda c: -sum(sums[c, k] for k in KINDS))
-    print(f"{'seconds':20}" + "".join(f"{kind:>14}" for kind in KINDS))
-    for crate in crates:
-        print(f"{crate:20}" + "".join(f"{sums[crate, kind]:14.0f}" for kind in KINDS))
+    table(sums)
     whole = sum(sums.values()) / 60
-    print(f"{whole:.0f} processor minutes of the prover, in {(time.time() - began) / 60:.0f} minutes")
+    print(f"\n{whole:.0f} processor minutes of the prover, in {(time.time() - began) / 60:.0f} minutes")
     sys.exit(command.returncode)
 
 
