@@ -1,8 +1,8 @@
 -- The first event is the last cycle of the half period on the way.
-use Rattle.std.proofs.Common.{◌≡◌, ℕ, ◌-◌, ◌≤◌, [], false, Option, None, Some, sym, subst}
+use Rattle.std.proofs.Common.{◌≡◌, ℕ, ◌-◌, ◌≤◌, [], false, Option, None, Some}
 use Rattle.unit_law.specs.UnitMachine.{At, IsQuiet, IsFirstDue}
 use Rattle.unit_law.specs.Coming.{IsAhead, or_end, within_run}
-use Rattle.unit_law.proofs.StillLemmas.{still_ahead, before_it, at_it, ahead_of, none_due, first_is}
+use Rattle.unit_law.proofs.StillLemmas.{before_it, at_it, ahead_of, keeps_ahead, first_at}
 use Rattle.avr_twi.specs.declared.master.Action.{Action}
 use Rattle.avr_twi.specs.Master.{next_event, Acts}
 use Rattle.avr_twi.specs.Twi.{Twi, twi}
@@ -23,17 +23,11 @@ acts_at (Some a) t to h ahead = record { least = h.least; most = h.most; place =
 module _ (v s : At Twi) (same : v ≡ s) where
   -- a quiet stretch ends no later than the next event
   pub skip_acts : (to : ℕ) → s.cycle ≤ to → IsQuiet twi s.unit s.cycle (to - s.cycle) → Acts v.unit.master.action v.cycle → Acts v.unit.master.action to
-  skip_acts to le still h =
-      let o = s.unit.master.action in
-      let here : Acts o s.cycle = subst (λ (x : At Twi). Acts x.unit.master.action x.cycle) same h in
-      subst (λ (x : At Twi). Acts x.unit.master.action to) (sym same)
-      (acts_at o s.cycle to here (still_ahead (next_event o) s.cycle to le (acts_ahead o s.cycle here)
-      (none_due twi stays s.unit s.cycle (to - s.cycle) still)))
+  skip_acts to le still h = acts_at v.unit.master.action v.cycle to h
+      (keeps_ahead twi stays v s same (λ u. next_event u.master.action) (λ u t due. due) to le still (acts_ahead v.unit.master.action v.cycle h))
 
   -- the answer of `due`
   pub first_by : (r : Option ℕ) → r ≡ within_run (or_end (next_event v.unit.master.action)) → v.cycle ≤ 160000000 → Acts v.unit.master.action v.cycle → IsFirstDue twi s.unit s.cycle r
   first_by r is end h =
       let a = next_event v.unit.master.action in
-      subst (λ (x : At Twi). IsFirstDue twi x.unit x.cycle r) same
-      (subst (λ (x : Option ℕ). IsFirstDue twi v.unit v.cycle x) (sym is)
-      (first_is twi stays v.unit v.cycle (or_end a) (ahead_of a v.cycle (acts_ahead v.unit.master.action v.cycle h) end) (before_it a) (at_it a)))
+      first_at twi stays v s same (or_end a) r is (ahead_of a v.cycle (acts_ahead v.unit.master.action v.cycle h) end) (before_it a) (at_it a)

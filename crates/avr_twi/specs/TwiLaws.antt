@@ -1,10 +1,11 @@
 -- A cycle without an event leaves the TWI as it is.
-use Rattle.std.specs.Prelude.{◌≡◌, ℕ, ◌==◌, Bool, true, false, if◌then◌else◌, List, Option, Some, None}
+use Rattle.std.specs.Prelude.{◌≡◌, ℕ, ◌==◌, Bool, false, List, Option, Some, None}
 use Rattle.std.proofs.Common.{refl, ap, sym, ◌∙◌}
 use Rattle.sim_base.specs.declared.signal.Level.{Level}
 use Rattle.unit_law.specs.Bits.{with_bit}
 use Rattle.unit_law.specs.Coming.{comes}
 use Rattle.unit_law.specs.UnitMachine.{Laws, at_register}
+use Rattle.unit_law.proofs.StillLemmas.{chosen}
 use Rattle.avr_twi.specs.declared.registers.Register.{Register}
 use Rattle.avr_twi.specs.declared.registers.Register.TheVariants.{TWBR, TWSR, TWDR, TWCR}
 use Rattle.avr_twi.specs.declared.master.Action.{Action}
@@ -12,10 +13,6 @@ use Rattle.avr_twi.specs.declared.master.Master.{Master}
 use Rattle.avr_twi.specs.Registers.{register_at, moves_pad}
 use Rattle.avr_twi.specs.Master.{advanced, acted, next_event}
 use Rattle.avr_twi.specs.Twi.{Twi, twi, twi_pad, requests, half_period, with_register, kept, sda, scl}
-
-chosen : {A : Type 0} (b : Bool) (x y : A) → b ≡ false → (if b then x else y) ≡ y
-chosen true x y h = cc
-chosen false x y h = refl
 
 quiet_lines : (m : Master) (o : Option Action) (t : ℕ) (a b : Bool) (next : ℕ) → comes (next_event o) t ≡ false → advanced m o t a b next ≡ m
 quiet_lines m None t a b next h = refl

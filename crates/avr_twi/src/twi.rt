@@ -1,7 +1,6 @@
 //! The TWI.
 ghost use Rattle.std.specs.Prelude.{◌≡◌, ◌+◌, ◌*◌, ◌%◌, ◌<◌, ◌≤◌, length};
 ghost use Rattle.unit_law.specs.Bits.{with_bit};
-ghost use Rattle.unit_law.specs.Coming.{or_end, within_run};
 ghost use Rattle.avr_twi.specs.Master.{Acts};
 ghost use Rattle.avr_twi.specs.Twi.{prescaler, half_period, sda, scl, register, with_register, kept, open_drain};
 
@@ -9,7 +8,7 @@ use crate::master::Master;
 use crate::registers::{Register, TWEN, TWIE, TWINT, moves, named, register_at};
 use sim_base::{Level, reads_one};
 use std::marker::Model;
-use unit_law::{Pad, Request, Unit, has_bit, least, with_bit};
+use unit_law::{Pad, Request, Unit, has_bit, least, or_end, with_bit, within_run};
 
 /// The TWI, before the step of `cycle`: TWBR, bits 2:0 of TWSR as they were written, and the lines with what goes on on
 /// them.
@@ -53,7 +52,7 @@ impl Unit for Twi {
         }
     }
 
-    #[inline]
+    #[inline(always)]
     fn has(reg: u8) -> bool {
         register_at(reg).is_some()
     }
@@ -219,24 +218,5 @@ fn open_drain(released: bool) -> Pad
         ddov: !released,
         pvoe: true,
         ..Pad::untouched()
-    }
-}
-
-fn or_end(event: Option<u32>) -> u32
-    ensures { result ≡ or_end event }
-{
-    match event {
-        Some(cycle) => cycle,
-        None => 160_000_000,
-    }
-}
-
-fn within_run(cycle: u32) -> Option<u32>
-    ensures { result ≡ within_run cycle }
-{
-    if cycle < 160_000_000 {
-        Some(cycle)
-    } else {
-        None
     }
 }
