@@ -1,6 +1,7 @@
 -- What a writer stands for, one call further.
-use Rattle.std.proofs.Common.{◌≡◌, ◌+◌, ℕ, List, [], ◌∷◌, ◌++◌, Bool, true, false, not, ◌&&◌, ◌||◌, Option, None, Some, refl, ap, sym, ◌∙◌, arith}
+use Rattle.std.proofs.Common.{◌≡◌, ◌+◌, ◌≤◌, nat_le, ℕ, List, [], ◌∷◌, ◌++◌, Bool, true, false, not, ◌&&◌, ◌||◌, Option, None, Some, refl, ap, sym, ◌∙◌, arith}
 use Rattle.std.specs.Prelude.{IsSome}
+use Rattle.std.proofs.lemmas.Bool.Decides.{nat_tests}
 use Rattle.std.proofs.lemmas.List.{append_assoc, append-nil}
 use Rattle.sim_base.specs.declared.bench.Port.{Port}
 use Rattle.sim_base.specs.declared.bench.Port.TheVariants as ports
@@ -10,7 +11,7 @@ use Rattle.sim_base.specs.Causes.{Rose}
 use Rattle.sim_base.specs.Outside.{Outside, Grows, IsFront}
 use Rattle.sim_base.specs.Rows.{Row}
 use Rattle.text_model.specs.Wave.{Variable, values, head, initial_values, value_changes, change_count, later_text, begun_text, later_count, wave_count}
-use Rattle.vcd_text.specs.Heads.{HeadState, after_row, changed_by}
+use Rattle.vcd_text.specs.Heads.{HeadState, gathered, row_text, after_row, changed_by}
 use Rattle.vcd_text.specs.Ports.{texts, IsOn, BeginsOn, Leaves, BreaksOff, Writes}
 use Rattle.vcd_text.specs.Writers.{last_values, IsAfter, capped}
 
@@ -24,7 +25,7 @@ later_push vs before (r ∷ rows) row =
 
 -- the text of one row more
 pub begun_more : (s : HeadState) (rows : List Row) (row : Row) → IsAfter s rows →
-    begun_text s.variables (rows ++ row ∷ []) ≡ begun_text s.variables rows ++ (after_row s row).text
+    begun_text s.variables (rows ++ row ∷ []) ≡ begun_text s.variables rows ++ row_text s row
 unfolding begun_text later_text
 begun_more s [] row fresh = rw fresh (append-nil (head s.variables ++ initial_values row.cycle (values s.variables row)))
 begun_more s (r ∷ rows) row (begun, kept) =
@@ -52,6 +53,16 @@ pub count_push : (s : HeadState) (rows : List Row) (row : Row) → IsAfter s row
 unfolding wave_count later_count
 count_push s [] row fresh = rw fresh refl
 count_push s (r ∷ rows) row (begun, kept) = rw (begun, kept) (later_count_push s.variables (values s.variables r) rows row)
+
+le_true : (n m : ℕ) → n ≤ m → nat_le n m ≡ true
+le_true n m h = grind (arith, nat_tests, h)
+
+true_le : (n m : ℕ) → nat_le n m ≡ true → n ≤ m
+true_le n m h = grind (arith, nat_tests, h)
+
+and_true : (a b : Bool) → (a && b) ≡ true → (a && true) ≡ true
+and_true true b h = refl
+and_true false b h = cc
 
 pub capped_more : (n more count : ℕ) → count ≡ capped n → capped (count + more) ≡ capped (n + more)
 capped_more n more count e = omega arith
@@ -102,7 +113,7 @@ leaves_more wave serial t u bytes a m b p q = record {
   faults = λ port. q.faults port ∙ p.faults port;
 }
 
-whole_front : (t : List ℕ) → IsFront t t
+pub whole_front : (t : List ℕ) → IsFront t t
 whole_front t = record { rest = []; whole = append-nil t }
 
 front_on : (t u front : List ℕ) → IsFront front u → IsFront (t ++ front) (t ++ u)
@@ -161,9 +172,15 @@ sum_rose wave u m b q = risen wave q.rose.0 q.rose.1 q.rose.2
     risen wave ports.Complaint i r = cc
 
 -- a writer whose call answered Ok is whole as before
-pub whole_still : (w now wanted before still : Bool) → now ≡ true → still ≡ before → (w && (not wanted || before)) ≡ true → (now && (not wanted || still)) ≡ true
-whole_still true now wanted before still e f h = rw (e, f) h
-whole_still false now wanted before still e f h = cc
+pub whole_still : (w now wanted before still : Bool) (n m : ℕ) → now ≡ true → still ≡ before → m ≤ gathered → (w && ((not wanted || before) && nat_le n gathered)) ≡ true → (now && ((not wanted || still) && nat_le m gathered)) ≡ true
+whole_still true now wanted before still n m e f less h = rw (e, f, le_true m gathered less) (and_true (not wanted || before) (nat_le n gathered) h)
+whole_still false now wanted before still n m e f less h = cc
+
+-- a whole writer has room for a row
+pub whole_room : (w opened : Bool) (n : ℕ) → (w && (opened && nat_le n gathered)) ≡ true → n ≤ gathered
+whole_room true true n h = true_le n gathered h
+whole_room true false n h = cc
+whole_room false opened n h = cc
 
 -- the count of changes that are not written, one row more
 pub changed_more : (s : HeadState) (rows : List Row) (row : Row) (count more : ℕ) → IsAfter s rows → more ≡ changed_by s row → count ≡ capped (wave_count s.variables rows) → capped (count + more) ≡ capped (wave_count s.variables (rows ++ row ∷ []))
@@ -172,13 +189,20 @@ changed_more s rows row count more follows e f =
     ∙ ap (λ (n : ℕ). capped (wave_count s.variables rows + n)) e
     ∙ ap capped (sym (count_push s rows row follows))
 
--- the text of one row more, as the writer has it
-pub text_more : (s new : HeadState) (rows : List Row) (row : Row) (text : List ℕ) → new ≡ after_row s row → text ≡ new.text → IsAfter s rows →
-    begun_text new.variables (rows ++ row ∷ []) ≡ begun_text s.variables rows ++ text
-text_more s new rows row text e f follows =
-    ap (λ (t : HeadState). begun_text t.variables (rows ++ row ∷ [])) e
-    ∙ begun_more s rows row follows
-    ∙ ap (λ (l : List ℕ). begun_text s.variables rows ++ l) (sym (f ∙ ap (λ (t : HeadState). t.text) e))
+-- what has gone and what is kept are the text of one row more
+pub kept_more : (s h k : HeadState) (rows : List Row) (row : Row) (gone more : List ℕ) → h ≡ after_row s row → k ≡ record h { text = k.text } → more ++ k.text ≡ h.text → IsAfter s rows →
+    gone ++ s.text ≡ begun_text s.variables rows → (gone ++ more) ++ k.text ≡ begun_text k.variables (rows ++ row ∷ [])
+kept_more s h k rows row gone more e f split follows kept =
+    append_assoc gone more k.text
+    ∙ ap (λ (l : List ℕ). gone ++ l) (split ∙ ap (λ (x : HeadState). x.text) e)
+    ∙ sym (append_assoc gone s.text (row_text s row))
+    ∙ ap (λ (l : List ℕ). l ++ row_text s row) kept
+    ∙ sym (begun_more s rows row follows)
+    ∙ ap (λ (vs : List Variable). begun_text vs (rows ++ row ∷ [])) (sym (ap (λ (x : HeadState). x.variables) f ∙ ap (λ (x : HeadState). x.variables) e))
+
+-- the kept text comes behind rows as they were
+pub after_still : (s h k : HeadState) (rows : List Row) (row : Row) → h ≡ after_row s row → k ≡ record h { text = k.text } → IsAfter k (rows ++ row ∷ [])
+after_still s h k rows row e f = rw (f, e) (after_more s rows row)
 
 -- more of the wave is written, whatever the answer
 pub writes_more : (end : WriteEnd) (wave serial : Bool) (t u bytes : List ℕ) (a m b : Outside) → Leaves (texts wave serial t bytes) a m → Writes end (texts wave false u []) m b → Writes end (texts wave serial (t ++ u) bytes) a b

@@ -1,11 +1,11 @@
 -- What a writer stands for.
-use Rattle.std.specs.Prelude.{◌≡◌, ℕ, ◌+◌, ◌-◌, ◌^◌, min, List, [], ◌∷◌, length, Bool, true, false, not, ◌&&◌, ◌||◌, Option}
+use Rattle.std.specs.Prelude.{◌≡◌, ℕ, ◌+◌, ◌-◌, ◌^◌, min, List, [], ◌∷◌, ◌++◌, length, nat_le, Bool, true, false, not, ◌&&◌, ◌||◌, Option}
 use Rattle.sim_base.specs.declared.bench.Port.{Port}
 use Rattle.sim_base.specs.declared.bench.Port.TheVariants as ports
 use Rattle.sim_base.specs.Outside.{Outside}
 use Rattle.sim_base.specs.Rows.{Row}
 use Rattle.text_model.specs.Wave.{Variable, values, begun_text, wave_count}
-use Rattle.vcd_text.specs.Heads.{HeadState}
+use Rattle.vcd_text.specs.Heads.{HeadState, gathered}
 use Rattle.vcd_text.specs.Ports.{texts, Leaves, BreaksOff}
 use Rattle.vcd_text.specs.declared.writer.WaveWriter.{WaveWriter}
 
@@ -52,17 +52,20 @@ outside_of outside w = outside w.bench.now
 abbrev pub last_of : {B : Type 0} → WaveWriter B → Option ℕ
 last_of w = w.last
 
--- no call has failed, the wave has not ended, and a wanted Wave is open
+-- no call has failed, the wave has not ended, a wanted Wave is open, and there is room for a row
 abbrev pub is_whole : {B : Type 0} → (B → Outside) → WaveWriter B → Bool
-is_whole outside w = w.whole && (not w.wave || (outside w.bench.now).opened ports.Wave)
+is_whole outside w = w.whole && ((not w.wave || (outside w.bench.now).opened ports.Wave) && nat_le (length w.head.now.text) gathered)
 
 abbrev pub faults_of : {B : Type 0} → (B → Outside) → WaveWriter B → ℕ
 faults_of outside w = (outside w.bench.now).faults ports.Wave + (outside w.bench.now).faults ports.Serial
 
--- Since the outside was lent, a wanted Wave has got the text of the rows, but for the wave's last
--- line, and a wanted Serial the bytes, and nothing else has changed; what is not wanted is counted.
+-- Since the outside was lent, a wanted Wave has got a text that is, with what is kept, the text of the
+-- rows, but for the wave's last line; a wanted Serial has got the bytes, and nothing else has changed;
+-- what is not wanted is counted.
 pub record Stands {B : Type 0} (outside : B → Outside) (w : WaveWriter B) (rows : List Row) (bytes : List ℕ) : Type 0 where
-  pub leaves : Leaves (texts w.wave w.serial (begun_text w.head.now.variables rows) bytes) (outside w.start.now.value) (outside w.bench.now)
+  pub gone : List ℕ
+  pub kept : gone ++ w.head.now.text ≡ begun_text w.head.now.variables rows
+  pub leaves : Leaves (texts w.wave w.serial gone bytes) (outside w.start.now.value) (outside w.bench.now)
   pub follows : IsAfter w.head.now rows
   pub changed : w.wave ≡ false → w.changes ≡ capped (wave_count w.head.now.variables rows)
   pub sent : w.serial ≡ false → w.sent ≡ capped (length bytes)

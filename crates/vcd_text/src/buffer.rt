@@ -1,5 +1,5 @@
 //! A text of bounded length that is built without memory being taken.
-ghost use Rattle.std.specs.Prelude.{◌≡◌, ℕ, List, [], ◌++◌, ◌+◌, ◌≤◌, length, IfOk};
+ghost use Rattle.std.specs.Prelude.{◌≡◌, ℕ, List, [], ◌++◌, ◌+◌, ◌≤◌, take, length, IfOk};
 
 use sim_base::OutOfMemory;
 use std::alloc::Global;
@@ -37,6 +37,14 @@ impl Buffer {
         ensures { self.new ≡ record self.old { text = [] } }
     {
         self.bytes.clear();
+    }
+
+    /// Takes off what stands behind so many bytes.
+    pub fn truncate(&mut self, len: usize)
+        requires { len ≤ length self.old.text }
+        ensures { self.new ≡ record self.old { text = take len self.old.text } }
+    {
+        self.bytes.truncate(len);
     }
 
     pub fn push(&mut self, text: &[u8])

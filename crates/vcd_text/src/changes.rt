@@ -80,19 +80,19 @@ pub fn push_initial_values(cycle: u32, now: &[u8], out: &mut Buffer)
     out.push(b"$end\n");
 }
 
-/// The value changes of a cycle, in place of what the buffer had, and how many there are.
-pub fn put_value_changes(cycle: u32, before: &[u8], now: &[u8], out: &mut Buffer) -> u64
+/// The value changes of a cycle, and how many there are.
+pub fn push_value_changes(cycle: u32, before: &[u8], now: &[u8], out: &mut Buffer) -> u64
     requires same { length before.now ≡ length now.now }
     requires few { length now.now ≤ 8930 }
-    requires room { 42 + 4 * length now.now ≤ out.old.room }
-    ensures text { out.new ≡ record out.old { text = value_changes cycle before.now now.now } }
+    requires room { length out.old.text + 42 + 4 * length now.now ≤ out.old.room }
+    ensures text { out.new ≡ record out.old { text = out.old.text ++ value_changes cycle before.now now.now } }
     ensures count { result ≡ change_count before.now now.now }
 {
-    out.clear();
+    let start = out.text().len();
     push_time(cycle, out);
     let count = push_changes(before, now, out);
     if count == 0 {
-        out.clear();
+        out.truncate(start);
     }
     count
 }

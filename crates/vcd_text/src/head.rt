@@ -1,11 +1,11 @@
 //! The variables of a wave, and the text of one row after another.
-ghost use Rattle.std.specs.Prelude.{◌≡◌, ◌≤◌, length, IfOk, replicate, vec_len, false};
+ghost use Rattle.std.specs.Prelude.{◌≡◌, ◌≤◌, [], ◌++◌, length, IfOk, replicate, vec_len, true, false};
 ghost use Rattle.text_model.specs.Wave.{time_line};
 ghost use Rattle.vcd_text.specs.Variables.{variables_of};
-ghost use Rattle.vcd_text.specs.Heads.{after_row, changed_by};
+ghost use Rattle.vcd_text.specs.Heads.{gathered, after_row, changed_by};
 
 use crate::buffer::Buffer;
-use crate::changes::{push_initial_values, push_time, put_value_changes};
+use crate::changes::{push_initial_values, push_time, push_value_changes};
 use crate::declarations::head_text;
 use crate::value::fill_values;
 use crate::variable::Variable;
@@ -13,6 +13,9 @@ use sim_base::{Drive, Level, List, OutOfMemory};
 use std::alloc::{AllocError, Global};
 use std::marker::Model;
 use std::mem;
+
+/// How much text may be kept before a row, in bytes.
+const GATHERED: usize = 16_384;
 
 fn unknown(alloc: Global, count: usize) -> Result<Vec<u8>, AllocError>
     ensures items { IfOk result (λ v. v.items ≡ replicate count 122) }
@@ -22,7 +25,7 @@ fn unknown(alloc: Global, count: usize) -> Result<Vec<u8>, AllocError>
 }
 
 /// The variables of a wave and the text of its head, with the room for the values of the last row
-/// and for the text of any row.
+/// and for the text of rows, which is kept until it is much.
 #[derive(Drop)]
 pub struct WaveHead {
     variables: List<Variable>,
@@ -36,9 +39,9 @@ pub struct WaveHead {
 }
 
 impl Model for WaveHead {
-    ghost use Rattle.std.specs.Prelude.{◌≡◌, ◌≤◌, length, vec_len};
+    ghost use Rattle.std.specs.Prelude.{◌≡◌, ◌≤◌, ◌+◌, length, vec_len};
     ghost use Rattle.text_model.specs.Wave.{head};
-    ghost use Rattle.vcd_text.specs.Heads.{HeadState, text_room};
+    ghost use Rattle.vcd_text.specs.Heads.{HeadState, gathered, text_room};
 
     ghost Value = { HeadState };
 
@@ -51,7 +54,7 @@ impl Model for WaveHead {
         × (a.head_bytes.items ≡ head (variables_of a.variables))
         × (vec_len a.before ≡ length a.variables)
         × (vec_len a.current ≡ length a.variables)
-        × (text_room (variables_of a.variables) ≤ a.text.room) };
+        × (gathered + text_room (variables_of a.variables) ≤ a.text.room) };
 }
 
 impl WaveHead {
@@ -64,7 +67,10 @@ impl WaveHead {
         let before = unknown(alloc, variables.len())?;
         let current = unknown(alloc, variables.len())?;
         let head_bytes = head_text(alloc, variables.as_slice())?;
-        let text = Buffer::with_room(alloc, head_bytes.len() + 57 + 4 * variables.len())?;
+        let text = Buffer::with_room(
+            alloc,
+            GATHERED + head_bytes.len() + 57 + 4 * variables.len(),
+        )?;
         Ok(WaveHead {
             variables,
             head_bytes,
@@ -75,15 +81,24 @@ impl WaveHead {
         })
     }
 
-    /// Makes the next row the first one.
+    /// Makes the next row the first one, and keeps no text.
     pub(crate) fn restart(&mut self)
-        ensures { self.new ≡ record self.old { started = false } }
+        ensures { self.new ≡ record self.old { text = []; started = false } }
     {
+        self.text.clear();
         self.started = false;
     }
 
-    /// Makes the text of the next row, and answers how many values it changes.
+    /// Whether there was a row.
+    pub(crate) fn has_started(&self) -> bool
+        ensures { result ≡ self.now.started }
+    {
+        self.started
+    }
+
+    /// Makes the text of the next row behind what is kept, and answers how many values it changes.
     pub(crate) fn take_row(&mut self, cycle: u32, levels: &[Level], drives: &[Drive]) -> u64
+        requires { length self.old.text ≤ gathered }
         ensures text { self.new ≡ after_row self.old (record { cycle = cycle; levels = levels.now; drives = drives.now }) }
         ensures count { result ≡ changed_by self.old (record { cycle = cycle; levels = levels.now; drives = drives.now }) }
     {
@@ -94,9 +109,8 @@ impl WaveHead {
             self.current.as_mut_slice(),
         );
         let count = if self.started {
-            put_value_changes(cycle, &self.before, &self.current, &mut self.text)
+            push_value_changes(cycle, &self.before, &self.current, &mut self.text)
         } else {
-            self.text.clear();
             self.text.push(&self.head_bytes);
             push_initial_values(cycle, &self.current, &mut self.text);
             0
@@ -106,18 +120,32 @@ impl WaveHead {
         count
     }
 
-    /// Makes the text of the time at which the run ends.
+    /// Makes the text of the time at which the run ends behind what is kept.
     pub(crate) fn take_end(&mut self, cycle: u32)
-        ensures text { self.new.text ≡ time_line cycle }
-        ensures variables { self.new.variables ≡ self.old.variables }
+        requires { length self.old.text ≤ gathered }
+        ensures { self.new ≡ record self.old { text = self.old.text ++ time_line cycle } }
     {
-        self.text.clear();
         push_time(cycle, &mut self.text);
     }
 
+    /// The text that is kept.
     pub(crate) fn text(&self) -> &[u8]
         ensures { result.now ≡ self.now.text }
     {
         self.text.text()
+    }
+
+    /// Whether another row fits behind the text that is kept.
+    pub(crate) fn has_room(&self) -> bool
+        ensures { result ≡ true → length self.now.text ≤ gathered }
+    {
+        self.text.text().len() <= GATHERED
+    }
+
+    /// Keeps no text.
+    pub(crate) fn clear(&mut self)
+        ensures { self.new ≡ record self.old { text = [] } }
+    {
+        self.text.clear();
     }
 }

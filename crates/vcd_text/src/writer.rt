@@ -1,11 +1,12 @@
 //! Who writes the wave and the serial bytes while a run goes on.
-ghost use Rattle.std.specs.Prelude.{◌≡◌, ℕ, ◌+◌, List, [], ◌∷◌, Bool, true, false, Option, None, Some, if◌then◌else◌, length};
+ghost use Rattle.std.specs.Prelude.{◌≡◌, ℕ, ◌+◌, ◌≤◌, List, [], ◌∷◌, ◌++◌, Bool, true, false, Option, None, Some, if◌then◌else◌, length};
 ghost use Rattle.sim_base.specs.declared.bench.Port.{Port};
 ghost use Rattle.sim_base.specs.declared.bench.WriteEnd.{WriteEnd};
 ghost use Rattle.sim_base.specs.Causes.{Rose};
 ghost use Rattle.sim_base.specs.Outside.{Outside};
 ghost use Rattle.sim_base.specs.Rows.{Row};
 ghost use Rattle.text_model.specs.Wave.{wave_text, wave_count};
+ghost use Rattle.vcd_text.specs.Heads.{gathered};
 ghost use Rattle.vcd_text.specs.Ports.{texts, Writes};
 ghost use Rattle.vcd_text.specs.Writers.{Tied, texts_of, place_of, outside_of, last_of, is_whole, faults_of, Stands, HasStopped, capped};
 
@@ -14,7 +15,8 @@ use sim_base::{Bench, Drive, Level, Port, Watcher, WriteEnd};
 use std::snapshot::Snapshot;
 
 /// Writes the wave of the rows on Wave and the bytes on Serial, each where it is wanted, and counts
-/// what is not.
+/// what is not. Rows after the first are kept until they are much, or the wave ends; bytes are written
+/// as they come.
 #[derive(Drop)]
 pub struct WaveWriter<'a, B: Bench> {
     head: &'a mut WaveHead,
@@ -37,6 +39,22 @@ fn write_wave<B: Bench>(wanted: bool, text: &[u8], bench: &mut B) -> WriteEnd
         return WriteEnd::Ok;
     }
     bench.write(Port::Wave, text)
+}
+
+/// Writes the text that the head keeps, where it is the first, or is much, or is not wanted: then none
+/// is kept.
+fn pass_on<B: Bench>(first: bool, wanted: bool, head: &mut WaveHead, bench: &mut B) -> WriteEnd
+    requires { wanted ≡ true → (B.outside bench.old).opened Port.Wave ≡ true }
+    ensures rest { head.new ≡ record head.old { text = head.new.text } }
+    ensures room { length head.new.text ≤ gathered }
+    ensures gone { (gone : List ℕ) × (gone ++ head.new.text ≡ head.old.text) × Writes result (texts wanted false gone []) (B.outside bench.old) (B.outside bench.new) }
+{
+    if wanted && !first && head.has_room() {
+        return WriteEnd::Ok;
+    }
+    let end = write_wave(wanted, head.text(), bench);
+    head.clear();
+    end
 }
 
 fn write_serial<B: Bench>(wanted: bool, byte: u8, bench: &mut B) -> WriteEnd
@@ -87,10 +105,11 @@ impl<'a, B: Bench> Watcher for WaveWriter<'a, B> {
     ghost place = { place_of B.outside };
 
     fn row(&mut self, t: u32, levels: &[Level], drives: &[Drive], _changed: &[u16]) -> WriteEnd {
-        let changed = self.head.take_row(t, levels, drives);
-        self.changes = counted(self.changes, self.wave, changed);
+        let first = !self.head.has_started();
+        let more = self.head.take_row(t, levels, drives);
+        self.changes = counted(self.changes, self.wave, more);
         self.last = Some(t);
-        let end = write_wave(self.wave, self.head.text(), self.bench);
+        let end = pass_on(first, self.wave, self.head, self.bench);
         self.whole = is_ok(end);
         end
     }

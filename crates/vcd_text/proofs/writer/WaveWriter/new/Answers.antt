@@ -1,4 +1,4 @@
-use Rattle.std.proofs.Common.{ap, refl}
+use Rattle.std.proofs.Common.{ap, refl, []}
 use Rattle.text_model.specs.Wave.{begun_text, wave_count}
 use Rattle.vcd_text.specs.Heads.{HeadState}
 use Rattle.vcd_text.proofs.WriterLemmas.{leaves_nothing}
@@ -7,6 +7,8 @@ use Rattle.vcd_text.proofs.writer.WaveWriter.new.Goals as goal
 pub returns-clause-stands : goal.returns-clause-stands
 unfolding begun_text wave_count
 returns-clause-stands g c = record {
+  gone = [];
+  kept = ap (λ (s : HeadState). s.text) c.restart.ensures;
   leaves = rw c.requires.lent (leaves_nothing c.args.wave c.args.serial (g.B.Bench.outside c.args.bench.now));
   follows = ap (λ (s : HeadState). s.started) c.restart.ensures;
   changed = λ e. refl;
