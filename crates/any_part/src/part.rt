@@ -2,7 +2,7 @@
 
 use crate::behaviour::AnyBehaviour;
 use avr_mcu::Mcu;
-use part_law::{Part, Went};
+use part_law::{Part, Span, Went};
 use reactive_part::Reactive;
 use sim_base::{Drive, Level, Steps};
 use std::sync::ledger::Ledger;
@@ -25,7 +25,7 @@ macro_rules! on_part {
 }
 
 impl Part for AnyPart {
-    ghost use Rattle.any_part.specs.AnyPart.{AnyState, any, any_laws, state_of, cycle_of, wakes_of, changes_of};
+    ghost use Rattle.any_part.specs.AnyPart.{AnyState, any, any_laws, state_of, cycle_of, wakes_of, changes_of, moves_of};
 
     ghost State = { AnyState };
 
@@ -38,6 +38,8 @@ impl Part for AnyPart {
     ghost wake_count = { wakes_of };
 
     ghost changes = { changes_of };
+
+    ghost moves = { moves_of };
 
     fn pins(&self) -> u8 {
         on_part!(self, part => part.pins())
@@ -65,6 +67,10 @@ impl Part for AnyPart {
 
     fn changed(&self) -> bool {
         on_part!(self, part => part.changed())
+    }
+
+    fn moved(&self) -> Span {
+        on_part!(self, part => part.moved())
     }
 
     fn settle(&mut self, to: u32) {

@@ -3,12 +3,15 @@ use Rattle.std.proofs.Common.{◌≡◌, ℕ, zero, suc, ◌+◌, ◌-◌, ◌<�
 use Rattle.std.specs.Prelude.{if◌then◌else◌, ◌==◌, slice_set, max, min}
 use Rattle.std.specs.List.{range_with_len}
 use Rattle.std.proofs.lemmas.Bool.Decides.{nat_tests}
-use Rattle.std.proofs.lemmas.Option.{slice_get-get_or}
+use Rattle.std.proofs.lemmas.Option.{slice_get-get_or, slice_get_past}
 use Rattle.std.proofs.lemmas.List.FromFn.{length-map-range_with_len, get_or-map-range_with_len}
 use Rattle.sim_base.specs.declared.signal.Drive.{Drive}
 use Rattle.sim_base.specs.declared.signal.Drive.TheVariants as drives
 use Rattle.sim_base.specs.declared.signal.Level.{Level}
 use Rattle.part_law.specs.Machine.{glide, idle, IsQuiet, IsFirstDue}
+use Rattle.part_law.specs.declared.span.Span.{Span}
+use Rattle.part_law.specs.Spans.{IsIn, all_pins, no_pins}
+use Rattle.part_law.proofs.SpanLemmas.{none_in, not_joined}
 use Rattle.avr_core.specs.CoreState.{Core}
 use Rattle.avr_core.specs.AvrStep.{Did}
 use Rattle.avr_core.proofs.BusLemmas.{step_leads, entered_leads}
@@ -16,9 +19,10 @@ use Rattle.unit_law.specs.Bits.{with_bit}
 use Rattle.unit_law.specs.UnitMachine.{UnitMachine, least, steps, FirstDue}
 use Rattle.unit_law.specs.UnitMachine as unit
 use Rattle.unit_law.proofs.UnitLemmas.{step_none, step_last, quiet_requests}
-use Rattle.avr_mcu.specs.Units.{Units, UnitsAt, unit_bus, pins, request, units_step, plain, with_plain, with_register, data_at, touches, bit_touches}
+use Rattle.avr_mcu.specs.Units.{Units, UnitsAt, unit_bus, pins, request, units_step, plain, with_plain, with_register, data_at, touches, bit_touches, pins_of, touched_by}
+use Rattle.avr_mcu.proofs.ReachLemmas.{Reaches}
 use Rattle.avr_mcu.specs.McuOf.{Mcu, mcu, mcu_step, ready, enters, starts, performed, acted, core_acted, uno_drive, uno_drives}
-use Rattle.avr_mcu.specs.McuLawsOf.{or_false, drives_same, rests}
+use Rattle.avr_mcu.specs.McuLawsOf.{drive_same, drives_same, length-uno_drives, rests}
 use Rattle.avr_mcu.specs.McuState.{state_of}
 
 le_or : (a b : ℕ) → (a ≤ b) ⊎ (b ≤ a)
@@ -49,92 +53,111 @@ module _ {D : Type 0} (m : UnitMachine D) (laws : unit.Laws m) where
       let z : 0 + p ≡ p = omega arith in
       slice_get-get_or (map (uno_drive m u) (range_with_len 0 31)) p drives.Z l ∙ ap (λ (x : Drive). Some x) (get_or-map-range_with_len (uno_drive m u) 0 31 p p drives.Z h z ∙ sym e)
 
-  -- What a call of the bus leads to: the same cycle and levels, and where nothing was touched the same of the pins.
-  pub record Leads (s x : UnitsAt D) : Type 0 where
-    pub cycle : x.cycle ≡ s.cycle
-    pub held : x.held ≡ s.held
-    pub steady : x.touched ≡ false → (s.touched ≡ false) × ((p : ℕ) → m.pad x.units.devices p ≡ m.pad s.units.devices p)
-
-  leads_same : (s : UnitsAt D) → Leads s s
-  leads_same s = record { cycle = refl; held = refl; steady = λ h. (h, λ p. refl) }
-
-  leads_on : (s t u : UnitsAt D) → Leads s t → Leads t u → Leads s u
-  leads_on s t u f g = record {
-    cycle = g.cycle ∙ f.cycle;
-    held = g.held ∙ f.held;
-    steady = λ h. let k = g.steady h in let i = f.steady k.0 in (i.0, λ p. k.1 p ∙ i.1 p);
-  }
-
-  plain_devices : (u : Units D) (a x : ℕ) → (with_plain m u a x).devices ≡ u.devices
-  plain_devices u a x = by (a == 0x3E) (a == 0x4A) (a == 0x4B) (a == 0x53)
+  drive_get : (u v : D) (p : ℕ) → (p < 20 → m.pad u p ≡ m.pad v p) → slice_get (uno_drives m u) p ≡ slice_get (uno_drives m v) p
+  drive_get u v p h = elim (lt_or p 31) [
+    | inl less ↦ drive_at u p (uno_drive m u p) less refl ∙ sym (drive_at v p (uno_drive m u p) less (drive_same m u v p h))
+    | inr more ↦
+        let none : (w : D) → slice_get (uno_drives m w) p ≡ None = λ w. slice_get_past (uno_drives m w) p (omega (arith, length-uno_drives m w, more)) in
+        none u ∙ sym (none v)
+  ]
     where
-      by : (b c d e : Bool) → (if b then record u { gpior0 = x } else if c then record u { gpior1 = x } else if d then record u { gpior2 = x } else if e then record u { smcr = x } else record u { ignored = slice_set u.ignored a true }).devices ≡ u.devices
-      by true c d e = refl
-      by false true d e = refl
-      by false false true e = refl
-      by false false false true = refl
-      by false false false false = refl
+      lt_or : (a b : ℕ) → (a < b) ⊎ (b ≤ a)
+      lt_or a b = grind arith
 
-  read_leads : (s : UnitsAt D) (a : ℕ) → Leads s ((unit_bus m).read s a)
-  read_leads s a = record { cycle = refl; held = refl; steady = λ h. (h, λ p. by (nat_lt a 0x0100 && m.has a) p) }
-    where
-      by : (b : Bool) (p : ℕ) → m.pad (if b then record (s.units) { devices = m.read s.units.devices s.cycle a } else s.units).devices p ≡ m.pad s.units.devices p
-      by true p = laws.reads_pad s.units.devices s.cycle a p
-      by false p = refl
+  module _ (reach : Reaches m) where
+    -- What a call of the bus leads to: the same cycle and levels, and the same of the pins that were not touched.
+    pub record Leads (s x : UnitsAt D) : Type 0 where
+      pub cycle : x.cycle ≡ s.cycle
+      pub held : x.held ≡ s.held
+      pub steady : (p : ℕ) → p < 20 → ¬ IsIn x.touched p → (¬ IsIn s.touched p) × (m.pad x.units.devices p ≡ m.pad s.units.devices p)
 
-  write_leads : (s : UnitsAt D) (a x : ℕ) → Leads s ((unit_bus m).write s a x)
-  write_leads s a x = record { cycle = refl; held = refl; steady = λ h. let e = or_false s.touched (touches m s.units a x) h in (e.0, λ p. by (nat_lt a 0x0100) (m.has a) (nat_lt a 0x0900) p e.1) }
-    where
-      by : (b c d : Bool) (p : ℕ) → (if b then (if c then m.moves s.units.devices a x else false) else false) ≡ false →
-          m.pad (if b then (if c then record (s.units) { devices = m.write s.units.devices s.cycle a x } else with_plain m s.units a x) else if d then record (s.units) { sram = slice_set s.units.sram (a - 0x0100) x } else s.units).devices p ≡ m.pad s.units.devices p
-      by true true d p h = laws.writes_pad s.units.devices s.cycle a x p h
-      by true false d p h = ap (λ (u : D). m.pad u p) (plain_devices s.units a x)
-      by false c true p h = refl
-      by false c false p h = refl
+    leads_same : (s : UnitsAt D) → Leads s s
+    leads_same s = record { cycle = refl; held = refl; steady = λ p l out. (out, refl) }
 
-  bits_lead : (s : UnitsAt D) (a k : ℕ) (x : Bool) → Leads s ((unit_bus m).write_bit s a k x)
-  bits_lead s a k x = record {
-    cycle = refl;
-    held = refl;
-    steady = λ h. let e = or_false s.touched (bit_touches m s.units a k x) h in
-        (e.0, λ p. by (nat_lt a 0x0100) (m.has a) (nat_lt a 0x0900) (with_bit (plain m s.units a) k x) (with_bit (data_at m s.units s.cycle [] a) k x) p e.1);
-  }
-    where
-      by : (b c d : Bool) (y z p : ℕ) → (if b then (if c then m.bit_moves s.units.devices a k x else false) else false) ≡ false →
-          m.pad (if b then (if c then record (s.units) { devices = m.write_bit s.units.devices s.cycle a k x } else with_plain m s.units a y)
-          else if b then with_register m s.units s.cycle a z
-          else if d then record (s.units) { sram = slice_set s.units.sram (a - 0x0100) z } else s.units).devices p ≡ m.pad s.units.devices p
-      by true true d y z p h = laws.bits_pad s.units.devices s.cycle a k x p h
-      by true false d y z p h = ap (λ (u : D). m.pad u p) (plain_devices s.units a y)
-      by false c true y z p h = refl
-      by false c false y z p h = refl
+    leads_on : (s t u : UnitsAt D) → Leads s t → Leads t u → Leads s u
+    leads_on s t u f g = record {
+      cycle = g.cycle ∙ f.cycle;
+      held = g.held ∙ f.held;
+      steady = λ p l out. let k = g.steady p l out in let i = f.steady p l k.0 in (i.0, k.1 ∙ i.1);
+    }
 
-  -- an instruction or an entry leads there too
-  performed_leads : (b : Bool) (flash : List ℕ) (core : Core) (s : UnitsAt D) → Leads s (performed m b flash core s).bus
-  performed_leads false flash core s = step_leads (unit_bus m) Leads leads_same leads_on read_leads write_leads bits_lead flash core s
-  performed_leads true flash core s =
-      let v = request m s.units s.held in
-      let g = entered_leads (unit_bus m) Leads leads_same leads_on read_leads write_leads bits_lead v core s in
-      record { cycle = g.cycle; held = g.held; steady = λ h. let k = g.steady h in (k.0, λ p. laws.taken_pad _ v p ∙ k.1 p) }
+    plain_devices : (u : Units D) (a x : ℕ) → (with_plain m u a x).devices ≡ u.devices
+    plain_devices u a x = by (a == 0x3E) (a == 0x4A) (a == 0x4B) (a == 0x53)
+      where
+        by : (b c d e : Bool) → (if b then record u { gpior0 = x } else if c then record u { gpior1 = x } else if d then record u { gpior2 = x } else if e then record u { smcr = x } else record u { ignored = slice_set u.ignored a true }).devices ≡ u.devices
+        by true c d e = refl
+        by false true d e = refl
+        by false false true e = refl
+        by false false false true = refl
+        by false false false false = refl
 
-  pub did_leads : (b : Bool) (flash : List ℕ) (core : Core) (s : UnitsAt D) (d : Did (UnitsAt D)) → d ≡ performed m b flash core s → Leads s d.bus
-  did_leads b flash core s d e = subst (λ (x : Did (UnitsAt D)). Leads s x.bus) (sym e) (performed_leads b flash core s)
+    read_leads : (s : UnitsAt D) (a : ℕ) → Leads s ((unit_bus m).read s a)
+    read_leads s a = record { cycle = refl; held = refl; steady = λ p l out. (out, by (nat_lt a 0x0100 && m.has a) p) }
+      where
+        by : (b : Bool) (p : ℕ) → m.pad (if b then record (s.units) { devices = m.read s.units.devices s.cycle a } else s.units).devices p ≡ m.pad s.units.devices p
+        by true p = laws.reads_pad s.units.devices s.cycle a p
+        by false p = refl
 
-  -- the core does something
-  pub act_is : (flash : List ℕ) (core : Core) (next : ℕ) (s : UnitsAt D) (cycle : ℕ) (b : Bool) (d : Did (UnitsAt D)) → d ≡ performed m b flash core (record s { touched = false }) →
-      s.cycle ≡ cycle → next ≤ cycle → b ≡ enters m (state_of flash core next s.units s.held) → ready core.mode b ≡ true →
-      state_of flash d.core (cycle + d.cycles) d.bus.units d.bus.held ≡ core_acted m (state_of flash core next s.units s.held) cycle
-  act_is flash core next s cycle b d e here l is go =
-      let x : Mcu D = state_of flash core next s.units s.held in
-      let late : nat_lt cycle next ≡ false = grind (arith, nat_tests) in
-      let run : ready core.mode (enters m x) ≡ true = ap (ready core.mode) (sym is) ∙ go in
-      let starts_is : starts m x cycle ≡ true = rw late run in
-      let at : ℕ → UnitsAt D = λ u. record { units = s.units; held = s.held; cycle = u; touched = false } in
-      let by : Did (UnitsAt D) → Mcu D = λ y. state_of flash y.core (cycle + y.cycles) y.bus.units s.held in
-      ap (state_of flash d.core (cycle + d.cycles) d.bus.units) (did_leads b flash core (at s.cycle) d e).held
-      ∙ ap by e ∙ ap (λ (u : ℕ). by (performed m b flash core (at u))) here
-      ∙ ap (λ (c : Bool). by (performed m c flash core (at cycle))) is
-      ∙ sym (ap (λ (c : Bool). if c then acted m x cycle else x) starts_is)
+    -- a pin that was not touched was not before, and the write moves nothing or does not reach it
+    untouched : (t : Span) (moves : Bool) (a p : ℕ) → ¬ IsIn (touched_by t moves a) p → (¬ IsIn t p) × ((moves ≡ false) ⊎ (¬ IsIn (pins_of a) p))
+    untouched t true a p out = let both = not_joined t (pins_of a) p out in (both.0, inr both.1)
+    untouched t false a p out = (out, inl refl)
+
+    write_leads : (s : UnitsAt D) (a x : ℕ) → Leads s ((unit_bus m).write s a x)
+    write_leads s a x = record { cycle = refl; held = refl; steady = λ p l out. let e = untouched s.touched (touches m s.units a x) a p out in (e.0, by (nat_lt a 0x0100) (m.has a) (nat_lt a 0x0900) p l e.1) }
+      where
+        by : (b c d : Bool) (p : ℕ) → p < 20 → ((if b then (if c then m.moves s.units.devices a x else false) else false) ≡ false) ⊎ (¬ IsIn (pins_of a) p) →
+            m.pad (if b then (if c then record (s.units) { devices = m.write s.units.devices s.cycle a x } else with_plain m s.units a x) else if d then record (s.units) { sram = slice_set s.units.sram (a - 0x0100) x } else s.units).devices p ≡ m.pad s.units.devices p
+        by true true d p l (inl h) = laws.writes_pad s.units.devices s.cycle a x p h
+        by true true d p l (inr h) = reach.writes s.units.devices s.cycle a x p l h
+        by true false d p l h = ap (λ (u : D). m.pad u p) (plain_devices s.units a x)
+        by false c true p l h = refl
+        by false c false p l h = refl
+
+    bits_lead : (s : UnitsAt D) (a k : ℕ) (x : Bool) → Leads s ((unit_bus m).write_bit s a k x)
+    bits_lead s a k x = record {
+      cycle = refl;
+      held = refl;
+      steady = λ p l out. let e = untouched s.touched (bit_touches m s.units a k x) a p out in
+          (e.0, by (nat_lt a 0x0100) (m.has a) (nat_lt a 0x0900) (with_bit (plain m s.units a) k x) (with_bit (data_at m s.units s.cycle [] a) k x) p l e.1);
+    }
+      where
+        by : (b c d : Bool) (y z p : ℕ) → p < 20 → ((if b then (if c then m.bit_moves s.units.devices a k x else false) else false) ≡ false) ⊎ (¬ IsIn (pins_of a) p) →
+            m.pad (if b then (if c then record (s.units) { devices = m.write_bit s.units.devices s.cycle a k x } else with_plain m s.units a y)
+            else if b then with_register m s.units s.cycle a z
+            else if d then record (s.units) { sram = slice_set s.units.sram (a - 0x0100) z } else s.units).devices p ≡ m.pad s.units.devices p
+        by true true d y z p l (inl h) = laws.bits_pad s.units.devices s.cycle a k x p h
+        by true true d y z p l (inr h) = reach.bits s.units.devices s.cycle a k x p l h
+        by true false d y z p l h = ap (λ (u : D). m.pad u p) (plain_devices s.units a y)
+        by false c true y z p l h = refl
+        by false c false y z p l h = refl
+
+    -- an instruction or an entry leads there too
+    performed_leads : (b : Bool) (flash : List ℕ) (core : Core) (s : UnitsAt D) → Leads s (performed m b flash core s).bus
+    performed_leads false flash core s = step_leads (unit_bus m) Leads leads_same leads_on read_leads write_leads bits_lead flash core s
+    performed_leads true flash core s =
+        let v = request m s.units s.held in
+        let g = entered_leads (unit_bus m) Leads leads_same leads_on read_leads write_leads bits_lead v core s in
+        record { cycle = g.cycle; held = g.held; steady = λ p l out. let k = g.steady p l out in (k.0, laws.taken_pad _ v p ∙ k.1) }
+
+    pub did_leads : (b : Bool) (flash : List ℕ) (core : Core) (s : UnitsAt D) (d : Did (UnitsAt D)) → d ≡ performed m b flash core s → Leads s d.bus
+    did_leads b flash core s d e = subst (λ (x : Did (UnitsAt D)). Leads s x.bus) (sym e) (performed_leads b flash core s)
+
+    -- the core does something
+    pub act_is : (flash : List ℕ) (core : Core) (next : ℕ) (s : UnitsAt D) (cycle : ℕ) (b : Bool) (d : Did (UnitsAt D)) → d ≡ performed m b flash core (record s { touched = no_pins }) →
+        s.cycle ≡ cycle → next ≤ cycle → b ≡ enters m (state_of flash core next s.units s.held) → ready core.mode b ≡ true →
+        state_of flash d.core (cycle + d.cycles) d.bus.units d.bus.held ≡ core_acted m (state_of flash core next s.units s.held) cycle
+    act_is flash core next s cycle b d e here l is go =
+        let x : Mcu D = state_of flash core next s.units s.held in
+        let late : nat_lt cycle next ≡ false = grind (arith, nat_tests) in
+        let run : ready core.mode (enters m x) ≡ true = ap (ready core.mode) (sym is) ∙ go in
+        let starts_is : starts m x cycle ≡ true = rw late run in
+        let at : ℕ → UnitsAt D = λ u. record { units = s.units; held = s.held; cycle = u; touched = no_pins } in
+        let by : Did (UnitsAt D) → Mcu D = λ y. state_of flash y.core (cycle + y.cycles) y.bus.units s.held in
+        ap (state_of flash d.core (cycle + d.cycles) d.bus.units) (did_leads b flash core (at s.cycle) d e).held
+        ∙ ap by e ∙ ap (λ (u : ℕ). by (performed m b flash core (at u))) here
+        ∙ ap (λ (c : Bool). by (performed m c flash core (at cycle))) is
+        ∙ sym (ap (λ (c : Bool). if c then acted m x cycle else x) starts_is)
 
   -- or not
   pub act_not : (flash : List ℕ) (core : Core) (next : ℕ) (s : UnitsAt D) (cycle : ℕ) (b c : Bool) → b ≡ enters m (state_of flash core next s.units s.held) →
@@ -160,12 +183,21 @@ module _ {D : Type 0} (m : UnitMachine D) (laws : unit.Laws m) where
       ∙ ap (λ (l : List Level). record b { units = units_step m b.units t b.held l; held = l }) (acted_holds s t)
 
   -- the drives after what the core does and a step of the units that change nothing of the pins
-  pub wake_drives : (old mid new : D) (b c : Bool) →
-      (b ≡ false → (p : ℕ) → m.pad mid p ≡ m.pad old p) → (c ≡ false → (p : ℕ) → m.pad new p ≡ m.pad mid p) →
-      (b || c) ≡ false → uno_drives m new ≡ uno_drives m old
-  wake_drives old mid new b c did stepped h =
-      let none = or_false b c h in
-      drives_same m new old (λ p. stepped none.1 p ∙ did none.0 p)
+  pub wake_drives : (old mid new : D) (touched : Span) (moves : Bool) →
+      ((p : ℕ) → p < 20 → ¬ IsIn touched p → m.pad mid p ≡ m.pad old p) → (moves ≡ false → (p : ℕ) → m.pad new p ≡ m.pad mid p) →
+      (span : Span) → span ≡ (if moves then all_pins else touched) → nat_lt span.from span.to ≡ false → uno_drives m new ≡ uno_drives m old
+  wake_drives old mid new touched true did stepped span is none = absurd (let e : nat_lt span.from span.to ≡ true = ap (λ (x : Span). nat_lt x.from x.to) is in cc)
+  wake_drives old mid new touched false did stepped span is none =
+      drives_same m new old (λ p l. stepped refl p ∙ did p l (none_in touched p (sym (ap (λ (x : Span). nat_lt x.from x.to) is) ∙ none)))
+
+  -- one of them, where that may change others
+  pub wake_drive : (old mid new : D) (touched : Span) (moves : Bool) →
+      ((p : ℕ) → p < 20 → ¬ IsIn touched p → m.pad mid p ≡ m.pad old p) → (moves ≡ false → (p : ℕ) → m.pad new p ≡ m.pad mid p) →
+      (span : Span) → span ≡ (if moves then all_pins else touched) → (p : ℕ) → ¬ IsIn span p → slice_get (uno_drives m new) p ≡ slice_get (uno_drives m old) p
+  wake_drive old mid new touched true did stepped span is p out =
+      drive_get new old p (λ l. absurd (out (subst (λ (x : Span). IsIn x p) (sym is) (omega arith, omega (arith, l)))))
+  wake_drive old mid new touched false did stepped span is p out =
+      drive_get new old p (λ l. stepped refl p ∙ did p l (λ h. out (subst (λ (x : Span). IsIn x p) (sym is) h)))
 
   -- one cycle of the units without an event
   pub rest_is : (s : UnitsAt D) (t d : ℕ) → s.cycle ≡ t → FirstDue m s.units.devices s.cycle d → t < d →

@@ -5,7 +5,9 @@ use Rattle.std.proofs.lemmas.Bool.Decides.{nat_tests}
 use Rattle.std.proofs.lemmas.List.{length-take-le}
 use Rattle.sim_base.specs.declared.signal.Level.{Level}
 use Rattle.unit_law.specs.UnitMachine.{UnitMachine}
-use Rattle.avr_mcu.specs.Units.{UnitsAt, unit_bus, reset, above, with_above, register, with_register}
+use Rattle.part_law.specs.declared.span.Span.{Span}
+use Rattle.part_law.specs.Spans.{no_pins}
+use Rattle.avr_mcu.specs.Units.{UnitsAt, unit_bus, reset, above, with_above, register, with_register, touched_by}
 
 -- v is what the struct shows of its fields, and s what the caller knows
 module _ {D : Type 0} (m : UnitMachine D) (s v : UnitsAt D) (same : v ≡ s) where
@@ -16,10 +18,10 @@ module _ {D : Type 0} (m : UnitMachine D) (s v : UnitsAt D) (same : v ≡ s) whe
       ∙ ap (λ (y : UnitsAt D). record y { units = record (y.units) { devices = f y } }) same
 
   -- and a write, which may touch
-  pub units_touched : (f : UnitsAt D → D) (d : D) (b : UnitsAt D → Bool) (x : Bool) → d ≡ f v → x ≡ b v →
+  pub units_touched : (f : UnitsAt D → D) (d : D) (b : UnitsAt D → Span) (x : Span) → d ≡ f v → x ≡ b v →
       record v { units = record (v.units) { devices = d }; touched = x } ≡ record s { units = record (s.units) { devices = f s }; touched = b s }
   units_touched f d b x is told =
-      ap (λ (x : Bool). record v { units = record (v.units) { devices = d }; touched = x }) told
+      ap (λ (x : Span). record v { units = record (v.units) { devices = d }; touched = x }) told
       ∙ ap (λ (x : D). record v { units = record (v.units) { devices = x }; touched = b v }) is
       ∙ ap (λ (y : UnitsAt D). record y { units = record (y.units) { devices = f y }; touched = b y }) same
 
@@ -37,10 +39,6 @@ module _ {D : Type 0} (m : UnitMachine D) (s v : UnitsAt D) (same : v ≡ s) whe
       ∙ ap (λ (y : UnitsAt D). record y { units = record (y.units) { devices = f y }; held = k; cycle = t y }) same
       ∙ ap (λ (j : List Level). record s { units = record (s.units) { devices = f s }; held = j; cycle = t s }) e
 
-or_none : (b : Bool) → (b || false) ≡ b
-or_none true = refl
-or_none false = refl
-
 -- addresses from SRAM on, where no device is
 module _ {D : Type 0} (m : UnitMachine D) (s : UnitsAt D) (a : ℕ) (from : 0x0100 ≤ a) where
   no_register : nat_lt a 0x0100 ≡ false
@@ -54,15 +52,14 @@ module _ {D : Type 0} (m : UnitMachine D) (s : UnitsAt D) (a : ℕ) (from : 0x01
 
   pub above_write : (x : ℕ) → record s { units = with_above s.units a x } ≡ (unit_bus m).write s a x
   above_write x =
-      ap (λ (b : Bool). record s { units = with_above s.units a x; touched = b }) (sym (or_none s.touched))
-      ∙ sym (ap (λ (b : Bool). record s { units = if b then with_register m s.units s.cycle a x else with_above s.units a x; touched = s.touched || (if b then (if m.has a then m.moves s.units.devices a x else false) else false) }) no_register)
+      sym (ap (λ (b : Bool). record s { units = if b then with_register m s.units s.cycle a x else with_above s.units a x; touched = touched_by s.touched (if b then (if m.has a then m.moves s.units.devices a x else false) else false) a }) no_register)
 
 -- after reset
-pub units_new : {D : Type 0} (m : UnitMachine D) (d : D) (sram : List ℕ) (ignored : List Bool) (held : List Level) → d ≡ m.reset → sram ≡ replicate 2048 0 → ignored ≡ replicate 256 false →
-    ◌≡◌ {A = UnitsAt D} (record { units = record { devices = d; sram = sram; gpior0 = 0; gpior1 = 0; gpior2 = 0; smcr = 0; ignored = ignored }; held = held; cycle = 0; touched = false }) (record { units = reset m; held = held; cycle = 0; touched = false })
-units_new {D} m d sram ignored held e f g =
-    let by : D → List ℕ → List Bool → UnitsAt D = λ x y z. record { units = record { devices = x; sram = y; gpior0 = 0; gpior1 = 0; gpior2 = 0; smcr = 0; ignored = z }; held = held; cycle = 0; touched = false } in
-    ap (λ (x : D). by x sram ignored) e ∙ ap (λ (y : List ℕ). by m.reset y ignored) f ∙ ap (by m.reset (replicate 2048 0)) g
+pub units_new : {D : Type 0} (m : UnitMachine D) (d : D) (sram : List ℕ) (ignored : List Bool) (held : List Level) (touched : Span) → d ≡ m.reset → sram ≡ replicate 2048 0 → ignored ≡ replicate 256 false → touched ≡ no_pins →
+    ◌≡◌ {A = UnitsAt D} (record { units = record { devices = d; sram = sram; gpior0 = 0; gpior1 = 0; gpior2 = 0; smcr = 0; ignored = ignored }; held = held; cycle = 0; touched = touched }) (record { units = reset m; held = held; cycle = 0; touched = no_pins })
+units_new {D} m d sram ignored held touched e f g h =
+    let by : D → List ℕ → List Bool → Span → UnitsAt D = λ x y z t. record { units = record { devices = x; sram = y; gpior0 = 0; gpior1 = 0; gpior2 = 0; smcr = 0; ignored = z }; held = held; cycle = 0; touched = t } in
+    ap (λ (x : D). by x sram ignored touched) e ∙ ap (λ (y : List ℕ). by m.reset y ignored touched) f ∙ ap (λ (z : List Bool). by m.reset (replicate 2048 0) z touched) g ∙ ap (by m.reset (replicate 2048 0) (replicate 256 false)) h
 
 -- the first 20 of 31 levels
 pub length-front : (l : List Level) → length l ≡ 31 → length (take 20 l) ≡ 20

@@ -1,12 +1,13 @@
 -- The laws of a part hold of the microcontroller.
-use Rattle.std.proofs.Common.{◌≡◌, ◌∙◌, ℕ, Bool, true, false, ◌||◌, List, [], ◌∷◌, map, length, refl, sym, ap}
+use Rattle.std.proofs.Common.{◌≡◌, ◌<◌, ◌∙◌, ℕ, arith, Bool, true, false, ◌||◌, List, [], ◌∷◌, map, length, refl, sym, ap}
 use Rattle.std.specs.Prelude.{if◌then◌else◌, ◌==◌, nat_lt}
 use Rattle.std.specs.List.{range_with_len}
 use Rattle.std.proofs.lemmas.List.FromFn.{length-map-range_with_len}
+use Rattle.std.proofs.lemmas.Bool.Decides.{nat_tests}
+use Rattle.sim_base.specs.declared.signal.Drive.{Drive}
 use Rattle.sim_base.specs.declared.signal.Drive.TheVariants as drives
 use Rattle.part_law.specs.Machine.{Laws}
 use Rattle.unit_law.specs.Pad.{driven}
-use Rattle.unit_law.specs.declared.pad.Pad.{Pad}
 use Rattle.unit_law.specs.UnitMachine.{UnitMachine}
 use Rattle.unit_law.specs.UnitMachine as unit
 use Rattle.avr_mcu.specs.Units.{units_step, pins}
@@ -26,11 +27,21 @@ module _ {D : Type 0} (m : UnitMachine D) where
   unfolding uno_drives
   length-uno_drives u = length-map-range_with_len (uno_drive m u) 0 31
 
-  -- the drives rest on what the units ask of the pins
-  pub drives_same : (u v : D) → ((p : ℕ) → m.pad u p ≡ m.pad v p) → uno_drives m u ≡ uno_drives m v
+  -- the drive of a pin rests on what the units ask of it
+  pub drive_same : (u v : D) (p : ℕ) → (p < 20 → m.pad u p ≡ m.pad v p) → uno_drive m u p ≡ uno_drive m v p
+  drive_same u v p h = by (nat_lt p 20) refl
+    where
+      rest : Drive
+      rest = if nat_lt p 22 then drives.Z else if nat_lt p 25 then drives.Low else if nat_lt p 30 then drives.High else drives.Z
+
+      by : (b : Bool) → nat_lt p 20 ≡ b → (if b then driven (m.pad u p) else rest) ≡ (if b then driven (m.pad v p) else rest)
+      by true less = ap driven (h (grind (arith, nat_tests, less)))
+      by false more = refl
+
+  -- so do all of them
+  pub drives_same : (u v : D) → ((p : ℕ) → p < 20 → m.pad u p ≡ m.pad v p) → uno_drives m u ≡ uno_drives m v
   unfolding uno_drives
-  drives_same u v h = map_same (uno_drive m u) (uno_drive m v) (range_with_len 0 31) (λ p.
-      ap (λ (x : Pad). if nat_lt p 20 then driven x else if nat_lt p 22 then drives.Z else if nat_lt p 25 then drives.Low else if nat_lt p 30 then drives.High else drives.Z) (h p))
+  drives_same u v h = map_same (uno_drive m u) (uno_drive m v) (range_with_len 0 31) (λ p. drive_same u v p (h p))
 
   -- a cycle in which nothing is due
   pub rests : (s : Mcu D) (t : ℕ) → (mcu m).due s t ≡ false → (core_acted m s t ≡ s) × (m.due s.units.devices t ≡ false)
@@ -48,7 +59,7 @@ module _ {D : Type 0} (m : UnitMachine D) where
     keeps_valid = λ s t l i v. refl;
     glides_drives = λ s t v h. let r = rests s t h in
         ap (λ (x : Mcu D). uno_drives m (units_step m x.units t x.held s.held).devices) r.0
-        ∙ drives_same (m.step s.units.devices t (pins s.held) (pins s.held)) s.units.devices (λ p. laws.keeps_pad s.units.devices t (pins s.held) p r.1);
+        ∙ drives_same (m.step s.units.devices t (pins s.held) (pins s.held)) s.units.devices (λ p l. laws.keeps_pad s.units.devices t (pins s.held) p r.1);
     glides_contacts = λ s t v h. refl;
     glides_silent = λ s t v h. let r = rests s t h in ap (λ (x : Mcu D). m.sends x.units.devices t) r.0 ∙ laws.keeps_silent s.units.devices t r.1;
   }

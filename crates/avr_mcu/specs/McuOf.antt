@@ -7,6 +7,8 @@ use Rattle.sim_base.specs.declared.signal.Drive.TheVariants as drives
 use Rattle.sim_base.specs.declared.signal.Level.{Level}
 use Rattle.sim_base.specs.declared.signal.Level.TheVariants as levels
 use Rattle.part_law.specs.Machine.{Machine}
+use Rattle.part_law.specs.declared.span.Span.{Span}
+use Rattle.part_law.specs.Spans.{no_pins}
 use Rattle.avr_core.specs.CoreState.{Core, reset as core_reset}
 use Rattle.avr_core.specs.AvrStep.{Did, avr_step, entered, may_enter}
 use Rattle.avr_core.specs.declared.state.Mode.{Mode}
@@ -31,8 +33,8 @@ pub record McuAt (D : Type 0) : Type 0 where
   pub cycle : ℕ
   -- how often it was woken
   pub wakes : ℕ
-  -- whether its last wake may have changed a drive
-  pub changed : Bool
+  -- the pins whose drives its last wake may have changed
+  pub moved : Span
 
 -- whether the core does something where an instruction would start: asleep only to enter an interrupt
 abbrev pub ready : Mode → Bool → Bool
@@ -81,7 +83,7 @@ module _ {D : Type 0} (m : UnitMachine D) where
 
   -- the units as the core finds them in cycle t
   abbrev pub bus_at : Mcu D → ℕ → UnitsAt D
-  bus_at s t = record { units = s.units; held = s.held; cycle = t; touched = false }
+  bus_at s t = record { units = s.units; held = s.held; cycle = t; touched = no_pins }
 
   abbrev pub acted : Mcu D → ℕ → Mcu D
   acted s t =

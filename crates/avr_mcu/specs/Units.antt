@@ -2,6 +2,8 @@
 -- (ATmega328P data sheet, "SRAM Data Memory" and "Register Summary").
 use Rattle.std.specs.Prelude.{ℕ, ◌-◌, ◌==◌, ◌&&◌, ◌||◌, nat_lt, Bool, true, false, if◌then◌else◌, List, [], replicate, take, slice_index, slice_set}
 use Rattle.sim_base.specs.declared.signal.Level.{Level}
+use Rattle.part_law.specs.declared.span.Span.{Span}
+use Rattle.part_law.specs.Spans.{all_pins, join}
 use Rattle.unit_law.specs.Bits.{with_bit}
 use Rattle.unit_law.specs.UnitMachine.{UnitMachine, least}
 use Rattle.avr_core.specs.Bus.{Bus}
@@ -22,8 +24,21 @@ pub record UnitsAt (D : Type 0) : Type 0 where
   pub units : Units D
   pub held : List Level
   pub cycle : ℕ
-  -- whether a write in the cycle may have changed what a pin is asked for
-  pub touched : Bool
+  -- the pins of which a write in the cycle may have changed what they are asked for
+  pub touched : Span
+
+-- The pins that a write of a register may reach: PINx and PORTx reach those of their port, of which the Uno has 0 to 7
+-- for D, 8 to 13 for B and A0 to A5, numbered from 14, for C (data sheet, "I/O-Ports", "Register Description").
+abbrev pub pins_of : ℕ → Span
+pins_of a =
+    if a == 0x23 || a == 0x25 then record { from = 8; to = 14 }
+    else if a == 0x26 || a == 0x28 then record { from = 14; to = 20 }
+    else if a == 0x29 || a == 0x2B then record { from = 0; to = 8 }
+    else all_pins
+
+-- what was touched, after a write that may move a pin or not
+abbrev pub touched_by : Span → Bool → ℕ → Span
+touched_by touched moves a = if moves then join touched (pins_of a) else touched
 
 -- the levels that units see: pins 0 to 13 and A0 to A5 come first
 abbrev pub pins : List Level → List Level
@@ -115,6 +130,6 @@ module _ {D : Type 0} (m : UnitMachine D) where
   unit_bus = record {
     answers = λ s a. data_at s.units s.cycle s.held a;
     read = λ s a. record s { units = after_read s.units s.cycle a };
-    write = λ s a x. record s { units = with_data s.units s.cycle a x; touched = s.touched || touches s.units a x };
-    write_bit = λ s a k x. record s { units = with_data_bit s.units s.cycle a k x; touched = s.touched || bit_touches s.units a k x };
+    write = λ s a x. record s { units = with_data s.units s.cycle a x; touched = touched_by s.touched (touches s.units a x) a };
+    write_bit = λ s a k x. record s { units = with_data_bit s.units s.cycle a k x; touched = touched_by s.touched (bit_touches s.units a k x) a };
   }

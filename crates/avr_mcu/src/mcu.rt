@@ -6,12 +6,13 @@ ghost use Rattle.avr_mcu.specs.McuOf.{mcu, start, ready, enters, starts, enterin
 ghost use Rattle.avr_mcu.specs.McuState.{state_of};
 ghost use Rattle.avr_mcu.specs.Units.{unit_bus, request, units_step};
 ghost use Rattle.part_law.specs.Machine.{IsFirstDue};
+ghost use Rattle.part_law.specs.Spans.{IsIn, all_pins, no_pins};
 
 use crate::follow::follow;
 use crate::units::Units;
 use avr_core::{Core, Mode, decode_all};
 use avr_isa::Instr;
-use part_law::{Part, Went};
+use part_law::{Part, Span, Went};
 use sim_base::{Drive, Flash, Level, OutOfMemory, Steps};
 use std::alloc::Global;
 use std::marker::Model;
@@ -28,7 +29,7 @@ pub struct Mcu {
     units: Units,
     cycle: u32,
     wakes: u32,
-    changed: bool,
+    moved: Span,
 }
 
 impl Model for Mcu {
@@ -39,7 +40,7 @@ impl Model for Mcu {
 
     ghost Value = { McuAt State };
 
-    ghost view = { λ m. record { mcu = record { flash = m.flash; core = m.core; next = m.next; units = m.units.units; held = m.units.held }; cycle = m.cycle; wakes = m.wakes; changed = m.changed } };
+    ghost view = { λ m. record { mcu = record { flash = m.flash; core = m.core; next = m.next; units = m.units.units; held = m.units.held }; cycle = m.cycle; wakes = m.wakes; moved = m.moved } };
 
     ghost invariant = { λ m. record {
       same_cycle : m.units.cycle ≡ m.cycle;
@@ -51,7 +52,7 @@ impl Model for Mcu {
 impl Mcu {
     /// The microcontroller after reset with this flash, at cycle 0.
     pub fn new(alloc: Global, flash: Flash) -> Result<Mcu, OutOfMemory>
-        ensures { IfOk result (λ m. m ≡ record { mcu = start devices flash; cycle = 0; wakes = 0; changed = true }) }
+        ensures { IfOk result (λ m. m ≡ record { mcu = start devices flash; cycle = 0; wakes = 0; moved = all_pins }) }
     {
         let program = decode_all(alloc, &flash)?;
         let units = Units::new(alloc)?;
@@ -63,7 +64,7 @@ impl Mcu {
             units,
             cycle: 0,
             wakes: 0,
-            changed: true,
+            moved: Span::all(),
         })
     }
 
@@ -95,9 +96,9 @@ impl Mcu {
         ensures acted { self.new.mcu ≡ core_acted devices self.old.mcu self.old.cycle }
         ensures cycle { self.new.cycle ≡ self.old.cycle }
         ensures wakes { self.new.wakes ≡ self.old.wakes }
-        ensures pads { self.new.changed ≡ false → (p : ℕ) → devices.pad self.new.mcu.units.devices p ≡ devices.pad self.old.mcu.units.devices p }
+        ensures pads { (p : ℕ) → p < 20 → ¬ IsIn self.new.moved p → devices.pad self.new.mcu.units.devices p ≡ devices.pad self.old.mcu.units.devices p }
     {
-        let (next, changed) = act_core(
+        let (next, touched) = act_core(
             &mut self.core,
             &self.program,
             &self.flash,
@@ -106,11 +107,13 @@ impl Mcu {
             self.cycle,
         );
         self.next = next;
-        self.changed = changed;
+        self.moved = touched;
     }
 }
 
 impl Part for Mcu {
+    ghost use Rattle.std.specs.Prelude.{nat_lt};
+    ghost use Rattle.part_law.specs.Spans.{is_in};
     ghost use Rattle.avr_mcu.specs.Devices.{Devices as Units, devices, devices_laws};
     ghost use Rattle.avr_mcu.specs.McuOf.{Mcu as State, mcu};
     ghost use Rattle.avr_mcu.specs.McuLawsOf.{mcu_laws};
@@ -125,7 +128,9 @@ impl Part for Mcu {
 
     ghost wake_count = { λ m. m.wakes };
 
-    ghost changes = { λ m. m.changed };
+    ghost changes = { λ m. nat_lt m.moved.from m.moved.to };
+
+    ghost moves = { λ m p. is_in m.moved p };
 
     fn pins(&self) -> u8 {
         31
@@ -151,8 +156,14 @@ impl Part for Mcu {
         self.wakes
     }
 
+    #[inline]
     fn changed(&self) -> bool {
-        self.changed
+        self.moved.has_any()
+    }
+
+    #[inline]
+    fn moved(&self) -> Span {
+        self.moved
     }
 
     fn settle(&mut self, to: u32) {
@@ -166,7 +177,7 @@ impl Part for Mcu {
         let byte = self.units.step(levels);
         self.cycle += 1;
         self.wakes += 1;
-        self.changed = self.changed | moves;
+        self.moved = moved_by(self.moved, moves);
         byte
     }
 
@@ -176,7 +187,7 @@ impl Part for Mcu {
         let (byte, moves) = tick(&mut self.units, self.cycle);
         self.cycle += 1;
         self.wakes += 1;
-        self.changed = self.changed | moves;
+        self.moved = moved_by(self.moved, moves);
         byte
     }
 
@@ -194,10 +205,10 @@ impl Part for Mcu {
         self.next = went.next;
         self.cycle = went.here;
         self.wakes += went.count;
-        self.changed = went.changed;
+        self.moved = went.span;
         Went {
             to: went.here,
-            changed: went.changed,
+            changed: went.span.has_any(),
             byte: went.byte,
         }
     }
@@ -205,8 +216,8 @@ impl Part for Mcu {
     ghost laws = { mcu_laws devices devices_laws };
 }
 
-// What the core does in a cycle: answers the cycle in which the next instruction starts, and whether a
-// drive may have changed.
+// What the core does in a cycle: answers the cycle in which the next instruction starts, and the pins whose drives
+// may have changed.
 #[inline]
 pub(crate) fn act_core(
     core: &mut Core,
@@ -215,20 +226,20 @@ pub(crate) fn act_core(
     units: &mut Units,
     next: u32,
     cycle: u32,
-) -> (u32, bool)
+) -> (u32, Span)
     requires program { IsProgram flash.now program.now }
     requires here { units.old.cycle ≡ cycle }
     requires end { cycle < 160000000 }
     ensures acted { state_of flash.now core.new result.0 units.new.units units.new.held ≡ core_acted devices (state_of flash.now core.old next units.old.units units.old.held) cycle }
     ensures here { units.new.cycle ≡ cycle }
-    ensures pads { result.1 ≡ false → (p : ℕ) → devices.pad units.new.units.devices p ≡ devices.pad units.old.units.devices p }
+    ensures pads { (p : ℕ) → p < 20 → ¬ IsIn result.1 p → devices.pad units.new.units.devices p ≡ devices.pad units.old.units.devices p }
 {
     let enters = enters(core, units);
     if starts(core.mode(), enters, next, cycle) {
-        let (cycles, changed) = perform(core, program, flash, units, enters);
-        (cycle + cycles as u32, changed)
+        let (cycles, touched) = perform(core, program, flash, units, enters);
+        (cycle + cycles as u32, touched)
     } else {
-        (next, false)
+        (next, Span::none())
     }
 }
 
@@ -267,7 +278,7 @@ fn is_ready(mode: Mode, enters: bool) -> bool
     }
 }
 
-// An entry or an instruction: answers its cycles, and whether a drive may have changed.
+// An entry or an instruction: answers its cycles, and the pins whose drives may have changed.
 #[inline]
 fn perform(
     core: &mut Core,
@@ -275,12 +286,12 @@ fn perform(
     flash: &Flash,
     units: &mut Units,
     enters: bool,
-) -> (u8, bool)
+) -> (u8, Span)
     requires program { IsProgram flash.now program.now }
     requires awake { ¬ HasHalted core.old.mode }
     requires enters { enters ≡ true → request devices units.old.units units.old.held < 26 }
-    ensures did { record { core = core.new; bus = units.new; cycles = result.0 } ≡ performed devices enters flash.now core.old (record units.old { touched = false }) }
-    ensures pads { result.1 ≡ false → (p : ℕ) → devices.pad units.new.units.devices p ≡ devices.pad units.old.units.devices p }
+    ensures did { record { core = core.new; bus = units.new; cycles = result.0 } ≡ performed devices enters flash.now core.old (record units.old { touched = no_pins }) }
+    ensures pads { (p : ℕ) → p < 20 → ¬ IsIn result.1 p → devices.pad units.new.units.devices p ≡ devices.pad units.old.units.devices p }
 {
     units.begin();
     let cycles = do_one(core, program, flash, units, enters);
@@ -328,6 +339,14 @@ pub(crate) fn tick(units: &mut Units, cycle: u32) -> (Option<u8>, bool)
     } else {
         (units.turn(), true)
     }
+}
+
+// The pins whose drives may have changed, where what the core did may have changed these, and the units any or none.
+#[inline]
+pub(crate) fn moved_by(touched: Span, moves: bool) -> Span
+    ensures { result ≡ (if moves then all_pins else touched) }
+{
+    if moves { Span::all() } else { touched }
 }
 
 // The first cycle from `cycle` on in which the microcontroller is due, 160,000,000 where there is none.

@@ -1,14 +1,16 @@
 //! The units with SRAM and the plain registers: the data bus of the core.
-ghost use Rattle.std.specs.Prelude.{◌||◌, ◌≡◌, ◌+◌, ◌-◌, ◌<◌, ◌≤◌, ℕ, List, length, true, false, replicate, slice_index_or, IfOk, vec_len, if◌then◌else◌};
+ghost use Rattle.std.specs.Prelude.{◌≡◌, ◌+◌, ◌-◌, ◌<◌, ◌≤◌, ℕ, List, length, true, false, replicate, slice_index_or, IfOk, vec_len, if◌then◌else◌};
 ghost use Rattle.sim_base.specs.declared.signal.Level.{Level};
 ghost use Rattle.sim_base.specs.declared.signal.Level.TheVariants as levels;
 ghost use Rattle.unit_law.specs.Pad.{driven};
 ghost use Rattle.unit_law.specs.UnitMachine.{steps, IsQuiet, FirstDue};
 ghost use Rattle.avr_mcu.specs.Devices.{devices};
-ghost use Rattle.avr_mcu.specs.Units.{UnitsAt, unit_bus, reset, pins, request, units_step, above, above_in, with_above, plain, plain_of, with_plain, register, after_read, with_register, with_register_bit};
+ghost use Rattle.avr_mcu.specs.Units.{UnitsAt, unit_bus, reset, pins, request, units_step, above, above_in, with_above, plain, plain_of, with_plain, register, after_read, with_register, with_register_bit, pins_of, touched_by};
+ghost use Rattle.part_law.specs.Spans.{no_pins};
 
 use crate::devices::Devices;
 use avr_core::DataBus;
+use part_law::Span;
 use sim_base::{Drive, Level, OutOfMemory};
 use std::alloc::{AllocError, Global};
 use std::marker::Model;
@@ -22,6 +24,19 @@ const GPIOR1: u8 = 0x4A;
 const GPIOR2: u8 = 0x4B;
 /// Sleep mode control, which SLEEP reads.
 const SMCR: u8 = 0x53;
+
+/// The ports' input pins and data registers.
+const PINB: u8 = 0x23;
+
+const PORTB: u8 = 0x25;
+
+const PINC: u8 = 0x26;
+
+const PORTC: u8 = 0x28;
+
+const PIND: u8 = 0x29;
+
+const PORTD: u8 = 0x2B;
 
 /// Where SRAM begins in the data space, and where it has ended.
 const SRAM: u16 = 0x0100;
@@ -47,7 +62,7 @@ pub(crate) struct Units {
     cycle: u32,
     due: u32,
     request: u8,
-    touched: bool,
+    touched: Span,
 }
 
 impl Model for Units {
@@ -74,7 +89,7 @@ impl Model for Units {
 impl Units {
     /// The units after reset, at cycle 0.
     pub(crate) fn new(alloc: Global) -> Result<Units, OutOfMemory>
-        ensures { IfOk result (λ u. u ≡ record { units = reset devices; held = replicate 31 levels.Z; cycle = 0; touched = false }) }
+        ensures { IfOk result (λ u. u ≡ record { units = reset devices; held = replicate 31 levels.Z; cycle = 0; touched = no_pins }) }
     {
         let devices = Devices::new();
         let due = devices.due();
@@ -91,7 +106,7 @@ impl Units {
             cycle: 0,
             due,
             request,
-            touched: false,
+            touched: Span::none(),
         })
     }
 
@@ -126,9 +141,9 @@ impl Units {
         self.request
     }
 
-    /// Whether a write since `begin` may have changed what a pin is asked for.
+    /// The pins of which a write since `begin` may have changed what they are asked for.
     #[inline]
-    pub(crate) fn touched(&self) -> bool
+    pub(crate) fn touched(&self) -> Span
         ensures { result ≡ self.now.touched }
     {
         self.touched
@@ -137,9 +152,9 @@ impl Units {
     /// Begins an instruction.
     #[inline]
     pub(crate) fn begin(&mut self)
-        ensures { self.new ≡ record self.old { touched = false } }
+        ensures { self.new ≡ record self.old { touched = no_pins } }
     {
-        self.touched = false;
+        self.touched = Span::none();
     }
 
     /// Clears what entering a vector clears.
@@ -299,7 +314,7 @@ impl Units {
 
     // Writes a register, or notes that there is none.
     fn set_register(&mut self, reg: u8, value: u8)
-        ensures { self.new ≡ record self.old { units = with_register devices self.old.units self.old.cycle reg value; touched = self.old.touched || (if devices.has reg then devices.moves self.old.units.devices reg value else false) } }
+        ensures { self.new ≡ record self.old { units = with_register devices self.old.units self.old.cycle reg value; touched = touched_by self.old.touched (if devices.has reg then devices.moves self.old.units.devices reg value else false) reg } }
     {
         if Devices::has(reg) {
             self.set_device_register(reg, value);
@@ -310,14 +325,14 @@ impl Units {
 
     fn set_device_register(&mut self, reg: u8, value: u8)
         requires { devices.has reg ≡ true }
-        ensures { self.new ≡ record self.old { units = record (self.old.units) { devices = devices.write self.old.units.devices self.old.cycle reg value }; touched = self.old.touched || devices.moves self.old.units.devices reg value } }
+        ensures { self.new ≡ record self.old { units = record (self.old.units) { devices = devices.write self.old.units.devices self.old.cycle reg value }; touched = touched_by self.old.touched (devices.moves self.old.units.devices reg value) reg } }
     {
         let moves = self
             .devices
             .write(self.cycle, &self.held[..SEEN], reg, value);
         self.due = self.devices.due();
         self.request = self.devices.request();
-        self.touched = self.touched | moves;
+        self.touched = touched_by(self.touched, moves, reg);
     }
 
     fn set_plain(&mut self, reg: u8, value: u8)
@@ -339,7 +354,7 @@ impl Units {
     // Writes one bit of a register alone.
     fn set_register_bit(&mut self, reg: u8, bit: u8, value: bool)
         requires { bit < 8 }
-        ensures { self.new ≡ record self.old { units = with_register_bit devices self.old.units self.old.cycle reg bit value; touched = self.old.touched || (if devices.has reg then devices.bit_moves self.old.units.devices reg bit value else false) } }
+        ensures { self.new ≡ record self.old { units = with_register_bit devices self.old.units self.old.cycle reg bit value; touched = touched_by self.old.touched (if devices.has reg then devices.bit_moves self.old.units.devices reg bit value else false) reg } }
     {
         if Devices::has(reg) {
             self.set_device_bit(reg, bit, value);
@@ -352,14 +367,39 @@ impl Units {
     fn set_device_bit(&mut self, reg: u8, bit: u8, value: bool)
         requires register { devices.has reg ≡ true }
         requires bit { bit < 8 }
-        ensures { self.new ≡ record self.old { units = record (self.old.units) { devices = devices.write_bit self.old.units.devices self.old.cycle reg bit value }; touched = self.old.touched || devices.bit_moves self.old.units.devices reg bit value } }
+        ensures { self.new ≡ record self.old { units = record (self.old.units) { devices = devices.write_bit self.old.units.devices self.old.cycle reg bit value }; touched = touched_by self.old.touched (devices.bit_moves self.old.units.devices reg bit value) reg } }
     {
         let moves = self
             .devices
             .write_bit(self.cycle, &self.held[..SEEN], reg, bit, value);
         self.due = self.devices.due();
         self.request = self.devices.request();
-        self.touched = self.touched | moves;
+        self.touched = touched_by(self.touched, moves, reg);
+    }
+}
+
+// The pins that a write of a register may reach.
+#[inline]
+fn pins_of(reg: u8) -> Span
+    ensures { result ≡ pins_of reg }
+{
+    match reg {
+        PINB | PORTB => Span { from: 8, to: 14 },
+        PINC | PORTC => Span { from: 14, to: 20 },
+        PIND | PORTD => Span { from: 0, to: 8 },
+        _ => Span::all(),
+    }
+}
+
+// The pins that were touched, after a write that may move a pin or not.
+#[inline]
+fn touched_by(touched: Span, moves: bool, reg: u8) -> Span
+    ensures { result ≡ touched_by touched moves reg }
+{
+    if moves {
+        touched.joined(pins_of(reg))
+    } else {
+        touched
     }
 }
 

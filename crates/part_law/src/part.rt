@@ -1,9 +1,11 @@
 //! What a part is to an engine.
 ghost use Rattle.std.specs.Prelude.{◌≡◌, ℕ, ◌+◌, ◌-◌, ◌<◌, ◌≤◌, Bool, true, false, List, length, slice_get, Some};
 ghost use Rattle.part_law.specs.Machine.{Machine, Laws, glide, dues, sent, IsQuiet, IsFirstDue, IsSame, MayWake};
+ghost use Rattle.part_law.specs.Spans.{IsIn};
 ghost use Rattle.std.specs.Option.{option_to_list};
 
 use crate::going::below;
+use crate::span::Span;
 use sim_base::{Drive, Level, Steps};
 use std::sync::ledger::Ledger;
 
@@ -35,6 +37,9 @@ pub trait Part {
     /// Whether its last wake may have changed a drive or a contact.
     ghost changes: { Self → Bool };
 
+    /// Whether its last wake may have changed what a pin drives.
+    ghost moves: { Self → ℕ → Bool } = { λ _ _. true };
+
     /// How many pins it has; no call changes it.
     fn pins(&self) -> u8
         ensures { result ≡ length (machine.drives (state self.now)) };
@@ -65,6 +70,14 @@ pub trait Part {
     fn changed(&self) -> bool
         ensures { result ≡ changes self.now };
 
+    /// The pins whose drives the last wake may have changed, where it may have changed any. A part may
+    /// always tell all its pins.
+    fn moved(&self) -> Span
+        ensures { (pin : ℕ) → pin < 255 → moves self.now pin ≡ true → IsIn result pin }
+    {
+        Span::all()
+    }
+
     /// Goes on to cycle `to`, before which nothing is due: as many steps on the held levels.
     fn settle(&mut self, to: u32)
         requires later { now self.old ≤ to }
@@ -86,6 +99,7 @@ pub trait Part {
         ensures now { now self.new ≡ now self.old + 1 }
         ensures wake_count { wake_count self.new ≡ wake_count self.old + 1 }
         ensures drives { changes self.new ≡ false → machine.drives (state self.new) ≡ machine.drives (state self.old) }
+        ensures others { (pin : ℕ) → moves self.new pin ≡ false → slice_get (machine.drives (state self.new)) pin ≡ slice_get (machine.drives (state self.old)) pin }
         ensures contacts { changes self.new ≡ false → machine.contacts (state self.new) ≡ machine.contacts (state self.old) };
 
     /// Does one step on the levels that it holds, as `wake` does on those: for an engine that knows
@@ -99,6 +113,7 @@ pub trait Part {
         ensures now { now self.new ≡ now self.old + 1 }
         ensures wake_count { wake_count self.new ≡ wake_count self.old + 1 }
         ensures drives { changes self.new ≡ false → machine.drives (state self.new) ≡ machine.drives (state self.old) }
+        ensures others { (pin : ℕ) → moves self.new pin ≡ false → slice_get (machine.drives (state self.new)) pin ≡ slice_get (machine.drives (state self.old)) pin }
         ensures contacts { changes self.new ≡ false → machine.contacts (state self.new) ≡ machine.contacts (state self.old) };
 
     /// Goes on by itself on the levels that it holds, where no script value comes before cycle `limit`:
@@ -119,6 +134,7 @@ pub trait Part {
         ensures steps { steps.new ≡ steps.old + dues machine (state self.old) (now self.old) (result.to - now self.old) }
         ensures same { IsSame machine (state self.old) (now self.old) (result.to - now self.old) }
         ensures drives { result.changed ≡ false → machine.drives (state self.new) ≡ machine.drives (state self.old) }
+        ensures others { (pin : ℕ) → moves self.new pin ≡ false → slice_get (machine.drives (state self.new)) pin ≡ slice_get (machine.drives (state self.old)) pin }
         ensures contacts { result.changed ≡ false → machine.contacts (state self.new) ≡ machine.contacts (state self.old) }
         ensures sent { sent machine (state self.old) (now self.old) (result.to - now self.old) ≡ option_to_list result.byte }
     {

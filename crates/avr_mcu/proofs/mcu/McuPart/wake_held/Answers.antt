@@ -1,10 +1,12 @@
-use Rattle.std.proofs.Common.{◌∙◌, ℕ, ap, sym}
+use Rattle.std.proofs.Common.{◌∙◌, ℕ, ap, sym, subst}
 use Rattle.avr_mcu.specs.Devices.{Devices, devices, devices_laws}
 use Rattle.avr_mcu.specs.Units.{UnitsAt, units_step}
 use Rattle.avr_mcu.specs.McuOf.{McuAt}
 use Rattle.avr_mcu.specs.McuState.{state_of}
-use Rattle.avr_mcu.proofs.McuLemmas.{held_woken, wake_drives}
+use Rattle.avr_mcu.proofs.McuLemmas.{held_woken, wake_drives, wake_drive}
 use Rattle.avr_mcu.specs.contracts.mcu.Mcu.{the_view}
+use Rattle.part_law.specs.Spans.{IsIn}
+use Rattle.part_law.proofs.SpanLemmas.{not_in_span}
 use Rattle.avr_mcu.proofs.mcu.McuPart.wake_held.Goals as goal
 
 pub returns-clause-state : goal.returns-clause-state
@@ -19,6 +21,13 @@ returns-clause-state c =
 pub returns-clause-drives : goal.returns-clause-drives
 returns-clause-drives c =
     let i = c.self.inside in
-    wake_drives devices devices_laws c.args.self.now.mcu.units.devices i.units.units.devices c.tick-byte.new.units.units.devices i.changed c.tick-byte.result.1
-    (λ h p. ap (λ (x : McuAt Devices). devices.pad x.mcu.units.devices p) c.self.view_is ∙ c.act.ensures.pads (sym (ap (λ (x : McuAt Devices). x.changed) c.self.view_is) ∙ h) p)
-    c.tick-byte.ensures.pads
+    wake_drives devices devices_laws c.args.self.now.mcu.units.devices i.units.units.devices c.tick-byte.new.units.units.devices i.moved c.tick-byte.result.1
+    (λ p l out. ap (λ (x : McuAt Devices). devices.pad x.mcu.units.devices p) c.self.view_is ∙ c.act.ensures.pads p l (λ h. out (subst (λ (x : McuAt Devices). IsIn x.moved p) (sym c.self.view_is) h)))
+    c.tick-byte.ensures.pads _ c.moved_by-self-inside.ensures
+
+pub returns-clause-others : goal.returns-clause-others
+returns-clause-others c = λ pin out.
+    let i = c.self.inside in
+    wake_drive devices devices_laws c.args.self.now.mcu.units.devices i.units.units.devices c.tick-byte.new.units.units.devices i.moved c.tick-byte.result.1
+    (λ p l out. ap (λ (x : McuAt Devices). devices.pad x.mcu.units.devices p) c.self.view_is ∙ c.act.ensures.pads p l (λ h. out (subst (λ (x : McuAt Devices). IsIn x.moved p) (sym c.self.view_is) h)))
+    c.tick-byte.ensures.pads _ c.moved_by-self-inside.ensures pin (not_in_span _ pin out)

@@ -1,4 +1,5 @@
 use Rattle.std.proofs.Common.{◌≡◌, ◌∙◌, ◌+◌, ◌-◌, refl, arith, sym, ap}
+use Rattle.std.specs.Prelude.{slice_get}
 use Rattle.part_law.specs.Going.{Gone}
 use Rattle.part_law.proofs.GoingLemmas.{jumped, jumped_on, gone_to, neither, none_there, due_at, quiet_to}
 use Rattle.part_law.proofs.part.Part.go_on.Goals as goal
@@ -29,6 +30,7 @@ returns-then-changed-is_some g c =
       same = w.1.same;
       drives = λ e. woken.drives (sym c.changed-changed.ensures ∙ e) ∙ w.0.drives;
       contacts = λ e. woken.contacts (sym c.changed-changed.ensures ∙ e) ∙ w.0.contacts;
+      others = λ pin none. woken.others pin none ∙ ap (λ ds. slice_get ds pin) w.0.drives;
       sent = w.1.sent_is;
     }
 
@@ -76,5 +78,6 @@ returns g c =
       same = w.same;
       drives = λ e. ap p.machine.drives settled.state ∙ w.drives;
       contacts = λ e. ap p.machine.contacts settled.state ∙ w.contacts;
+      others = λ pin none. ap (λ ds. slice_get ds pin) (ap p.machine.drives settled.state ∙ w.drives);
       sent = w.silent;
     }
