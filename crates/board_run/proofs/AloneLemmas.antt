@@ -5,10 +5,11 @@ use Rattle.std.proofs.lemmas.Option.{slice_get_within}
 use Rattle.std.proofs.lemmas.List.{length-map}
 use Rattle.std.proofs.lemmas.Bool.Decides.{eqb_tells}
 use Rattle.sim_base.specs.declared.signal.Level.{Level}
+use Rattle.sim_base.specs.declared.signal.Drive.{Drive}
 use Rattle.sim_base.specs.declared.wiring.Wiring.{Wiring}
 use Rattle.sim_base.specs.declared.wiring.Input.{Input}
 use Rattle.part_law.specs.Machine.{Machine, Laws, glide, dues, sent, IsQuiet, IsSame, IsFirstDue}
-use Rattle.part_law.proofs.MachineLemmas.{glide_valid, glide_drives, glide_contacts, glide_pins, glide_holds}
+use Rattle.part_law.proofs.MachineLemmas.{glide_valid, glide_drives, glide_contacts, glide_pins, glide_ports, glide_holds}
 use Rattle.board_model.specs.Board.{level_at, own_nets, input_at, states, bytes}
 use Rattle.board_model.specs.Rows.{Shown, shown_of, shown_before, rows}
 use Rattle.board_model.proofs.Lists.{some_same, get_within, get_map_some, some_map, get_set_same, get_set_other}
@@ -17,13 +18,13 @@ use Rattle.board_laws.specs.Stands.{Stands}
 use Rattle.board_laws.specs.Steady.{IsSteady}
 use Rattle.board_laws.proofs.StandsLaw.{stands_here, stands_shows, stands_holds, stands_valid}
 use Rattle.board_laws.proofs.SteadyLaw.{steady_states, steady_before, steady_rows, steady_cycles, steady_bytes, steady_pairs, quiet_dues}
-use Rattle.board_run.specs.Seen.{IsOf, shown_at}
+use Rattle.board_run.specs.Seen.{IsOf, IsTold, retold, shown_at}
 use Rattle.board_run.specs.Lagging.{glided}
 use Rattle.board_run.specs.Legs.{Kept, Lags, Leg, WentAlone, IsAlone}
 use Rattle.board_run.proofs.ShowLemmas.{shown_is}
 use Rattle.board_model.proofs.RoomLemmas.{SameRoom, fits_room, chips_room}
 use Rattle.board_run.proofs.LagLemmas.{lags_stand, stand_show, stand_are, lag_of, Ts}
-use Rattle.board_run.proofs.ReadLemmas.{of_read, read_on}
+use Rattle.board_run.proofs.ReadLemmas.{retold_suits, retold_is}
 use Rattle.board_run.proofs.ShowLemmas.{still_of}
 use Rattle.board_run.specs.Upcoming.{AreBehind}
 use Rattle.board_run.proofs.NextLemmas.{quiet_until}
@@ -35,14 +36,18 @@ one_more true x n h = omega arith
 one_more false x n h = omega arith
 
 module _ {S : Type 0} (m : Machine S) (laws : Laws m) where
-  glide_ports : (s : S) (a n : ℕ) → length (m.contacts (glide m s a n)) ≡ length (m.contacts s)
-  glide_ports s a zero = refl
-  glide_ports s a (suc n) = laws.keeps_contacts (glide m s a n) (a + n) _ None ∙ glide_ports s a n
-
   -- it is due at most once a cycle
   pub dues_most : (s : S) (a n : ℕ) → dues m s a n ≤ n
   dues_most s a zero = omega arith
   dues_most s a (suc n) = one_more (m.due (glide m s a n) (a + n)) (dues m s a n) n (dues_most s a n)
+
+-- a part that went on has as many pins and contacts
+pub went_room : {S P : Type 0} (m : Machine S) (laws : Laws m) (state : P → S) (now wakes : P → ℕ) (t : ℕ) (p q : P) (n : ℕ) → state q ≡ glide m (glided m state now wakes t p) t n →
+    (length (m.drives (state q)) ≡ length (m.drives (state p))) × (length (m.contacts (state q)) ≡ length (m.contacts (state p)))
+went_room m laws state now wakes t p q n is = (
+  ap (λ s. length (m.drives s)) is ∙ glide_pins m laws (glided m state now wakes t p) t n ∙ glide_pins m laws (state p) (now p) (t - now p),
+  ap (λ s. length (m.contacts s)) is ∙ glide_ports m laws (glided m state now wakes t p) t n ∙ glide_ports m laws (state p) (now p) (t - now p),
+)
 
 module _ {S P : Type 0} (m : Machine S) (laws : Laws m) (w : Wiring) (state : P → S) (now wakes : P → ℕ) (inputs : List Input)
     (t u : ℕ) (parts : List P) (kept : Kept) (lags : Lags m w state now wakes t parts kept) (fresh : kept.stale ≡ false) (after : 0 < t) (order : t ≤ u)
@@ -139,8 +144,8 @@ module _ {S P : Type 0} (m : Machine S) (laws : Laws m) (w : Wiring) (state : P 
   shown_same : shown_at t kept.seen ≡ Some (shown_of m w Js)
   shown_same = shown_later t kept.seen after ∙ ap Some (shown_is m w Js kept.seen of_board)
 
-  pub alone_leg : (steps more : ℕ) → more ≡ steps + dues m s0 t (u - t) → Leg m w state now wakes inputs t u parts new kept.seen kept.seen steps more
-  alone_leg steps more counted = record {
+  pub alone_leg : (ds : List Drive) (cs : List Bool) (steps more : ℕ) → more ≡ steps + dues m s0 t (u - t) → Leg m w state now wakes inputs t u parts new kept.seen (retold kept.seen ds cs) steps more
+  alone_leg ds cs steps more counted = record {
     order = order;
     long = new_long;
     states_are = stand_are m laws w state now wakes u new (states m w inputs Js t (u - t)) alone_stands;
@@ -225,13 +230,12 @@ module _ {S P : Type 0} (m : Machine S) (laws : Laws m) (w : Wiring) (state : P 
       )
 
   -- the invariant after it
-  pub alone_lags : (changed : Bool) (d : Option ℕ) → IsFirstDue m (state q0) (now q0) d → (changed ≡ false → m.drives (state q0) ≡ m.drives s0) → (changed ≡ false → m.contacts (state q0) ≡ m.contacts s0) →
-      Lags m w state now wakes u new (record { input = kept.input; stale = changed; dues = slice_set kept.dues who d; moved = slice_set kept.moved who changed; seen = kept.seen; answers = kept.answers })
-  alone_lags changed d first drives contacts =
+  pub alone_lags : (changed : Bool) (d : Option ℕ) (ds : List Drive) (cs : List Bool) → IsTold m (map state new) (retold kept.seen ds cs).circuit → IsFirstDue m (state q0) (now q0) d → (changed ≡ false → m.drives (state q0) ≡ m.drives s0) → (changed ≡ false → m.contacts (state q0) ≡ m.contacts s0) →
+      Lags m w state now wakes u new (record { input = kept.input; stale = changed; dues = slice_set kept.dues who d; differ = kept.differ; seen = retold kept.seen ds cs; answers = kept.answers })
+  alone_lags changed d ds cs told first drives contacts =
       let room : who < length kept.dues = omega (arith, inside, lags.dues_long) in
       let due = due_set m state now wakes parts kept.dues who q0 d inside room (λ k p e ep ee. (lags.may k p e ep ee).first) first in
       let was = stands_shows m laws t (now p0) (state p0) s0 (like.each who p0 s0 here there) in
-      let space : who < length kept.moved = omega (arith, inside, lags.moved_long) in
       let stays : (k : ℕ) (p z : P) → slice_get parts k ≡ Some p → slice_get new k ≡ Some z → (k ≡ who → changed ≡ false) → (m.drives (state z) ≡ m.drives (state p)) × (m.contacts (state z) ≡ m.contacts (state p)) = λ k p z ep ez none. elim (eqb_tells k who) [
         | inl e ↦
             let z_is : q0 ≡ z = some_same (sym (get_set_same parts who q0 inside) ∙ subst (λ (j : ℕ). slice_get new j ≡ Some z) e.1 ez) in
@@ -249,21 +253,13 @@ module _ {S P : Type 0} (m : Machine S) (laws : Laws m) (w : Wiring) (state : P 
         valid = λ k z ez. (after_is k (before k z ez).0 z (before k z ez).1 ez).stands.valid;
         dues_long = length-set kept.dues who d ∙ lags.dues_long ∙ sym new_long;
         answers_long = lags.answers_long ∙ sym new_long;
-        moved_long = length-set kept.moved who changed ∙ lags.moved_long ∙ sym new_long;
+        differ_long = lags.differ_long ∙ sym new_long;
         fits = fits_room m w (map state parts) (map state new) longer same_room lags.fits;
-        suits = lags.suits;
+        suits = retold_suits m w (map state new) kept.seen ds cs (fits_room m w (map state parts) (map state new) longer same_room lags.fits) lags.suits told;
         chips_long = lags.chips_long ∙ chips_room m w.chip (map state parts) (map state new) longer same_room;
-        fresh = λ none. still_of m w state parts new kept.seen new_long (λ k p z ep ez. stays k p z ep ez (λ _. none)) (lags.fresh fresh);
-        unset = λ none k b eb. elim (eqb_tells k who) [
-          | inl e ↦ some_same (sym eb ∙ ap (slice_get (slice_set kept.moved who changed)) e.1 ∙ get_set_same kept.moved who changed space) ∙ none
-          | inr e ↦ lags.unset fresh k b (sym (get_set_other kept.moved who k changed e.1) ∙ eb)
-        ];
-        read = read_on m (map state parts) (map state new) (slice_set kept.moved who changed) kept.seen.circuit longer same_room (λ k x y ex ey none.
-            let a = get_map_some state parts k x ex in
-            let b = get_map_some state new k y ey in
-            let h = stays k a.0 b.0 a.1 b.1 (λ e. some_same (sym (get_set_same kept.moved who changed space) ∙ ap (slice_get (slice_set kept.moved who changed)) (sym e) ∙ none)) in
-            (ap m.drives (sym b.2) ∙ h.0 ∙ ap m.drives a.2, ap m.contacts (sym b.2) ∙ h.1 ∙ ap m.contacts a.2))
-            (of_read m (map state parts) (slice_set kept.moved who changed) kept.seen.circuit (lags.fresh fresh).drives_are (lags.fresh fresh).closed_are);
+        fresh = λ none. retold_is m w (map state new) kept.seen ds cs told (still_of m w state parts new kept.seen new_long (λ k p z ep ez. stays k p z ep ez (λ _. none)) (lags.fresh fresh));
+        unset = lags.unset;
+        told = told;
         holds = λ k z ez later.
             let x = before k z ez in
             let h = after_is k x.0 z x.1 ez in
@@ -281,16 +277,16 @@ behind_between inputs i t u limit from within first last = record {
 module _ {S P : Type 0} (m : Machine S) (laws : Laws m) (w : Wiring) (state : P → S) (now wakes : P → ℕ) (inputs : List Input) where
   -- what a stretch of one part does
   pub record Goes (t u : ℕ) (parts new : List P) (kept after : Kept) (steps more : ℕ) (bs : List ℕ) : Type 0 where
-    pub leg : Leg m w state now wakes inputs t u parts new kept.seen kept.seen steps more
+    pub leg : Leg m w state now wakes inputs t u parts new kept.seen after.seen steps more
     pub lags : Lags m w state now wakes u new after
     pub row_none : rows m w inputs (shown_at t kept.seen) (Ts m laws w state now wakes t parts) t (u - t) ≡ []
     pub bytes_are : bytes m w inputs (Ts m laws w state now wakes t parts) t (u - t) ≡ bs
 
-  pub alone_goes : (t u limit : ℕ) (parts new : List P) (kept : Kept) (after : List (Option ℕ)) (changed : Bool) (steps more who : ℕ) (p q : P) (d : Option ℕ) →
+  pub alone_goes : (t u limit : ℕ) (parts new : List P) (kept : Kept) (after : List (Option ℕ)) (changed : Bool) (steps more who : ℕ) (p q : P) (d : Option ℕ) (ds : List Drive) (cs : List Bool) → IsTold m (map state new) (retold kept.seen ds cs).circuit →
       Lags m w state now wakes t parts kept → kept.stale ≡ false → 0 < t → u ≤ limit → limit ≤ 160000000 → IsAlone inputs kept.dues kept.input who t limit →
       WentAlone m state now wakes who t u parts new kept.dues after changed steps more p q d →
-      Goes t u parts new kept (record { input = kept.input; stale = changed; dues = after; moved = slice_set kept.moved who changed; seen = kept.seen; answers = kept.answers }) steps more (sent m (glided m state now wakes t p) t (u - t))
-  alone_goes t u limit parts new kept after changed steps more who p q d lags fresh later within end alone went =
+      Goes t u parts new kept (record { input = kept.input; stale = changed; dues = after; differ = kept.differ; seen = retold kept.seen ds cs; answers = kept.answers }) steps more (sent m (glided m state now wakes t p) t (u - t))
+  alone_goes t u limit parts new kept after changed steps more who p q d ds cs told lags fresh later within end alone went =
       let further = went.further in
       let order : t ≤ u = omega (arith, further) in
       let last : u ≤ 160000000 = omega (arith, within, end) in
@@ -299,11 +295,11 @@ module _ {S P : Type 0} (m : Machine S) (laws : Laws m) (w : Wiring) (state : P 
       let ed : slice_get kept.dues k ≡ Some (get_or kept.dues k None) = get_within kept.dues k None inside in
       quiet_until m state now wakes t u (get_or kept.dues k None) x order last (lags.may k x (get_or kept.dues k None) ex ed) (λ v e l. let far = alone.others k v other (ed ∙ ap Some e) in omega (arith, far, within)) in
       let silent : (v k : ℕ) → t ≤ v → v < u → input_at inputs v k ≡ None = λ v k from before. alone.silent v k from (omega (arith, before, within)) in
-      let here : Goes t u parts (slice_set parts who q) kept (record { input = kept.input; stale = changed; dues = slice_set kept.dues who d; moved = slice_set kept.moved who changed; seen = kept.seen; answers = kept.answers }) steps more (sent m (glided m state now wakes t p) t (u - t)) = record {
-        leg = alone_leg m laws w state now wakes inputs t u parts kept lags fresh later order who p q went.here quiet silent went.same went.state_is went.now_is went.woken_is steps more went.steps_are;
-        lags = alone_lags m laws w state now wakes inputs t u parts kept lags fresh later order who p q went.here quiet silent went.same went.state_is went.now_is went.woken_is changed d went.first went.drives went.contacts;
+      let here : Goes t u parts (slice_set parts who q) kept (record { input = kept.input; stale = changed; dues = slice_set kept.dues who d; differ = kept.differ; seen = retold kept.seen ds cs; answers = kept.answers }) steps more (sent m (glided m state now wakes t p) t (u - t)) = record {
+        leg = alone_leg m laws w state now wakes inputs t u parts kept lags fresh later order who p q went.here quiet silent went.same went.state_is went.now_is went.woken_is ds cs steps more went.steps_are;
+        lags = alone_lags m laws w state now wakes inputs t u parts kept lags fresh later order who p q went.here quiet silent went.same went.state_is went.now_is went.woken_is changed d ds cs (subst (λ (xs : List P). IsTold m (map state xs) (retold kept.seen ds cs).circuit) went.new_is told) went.first went.drives went.contacts;
         row_none = alone_rows m laws w state now wakes inputs t u parts kept lags fresh later order who p q went.here quiet silent went.same went.state_is went.now_is went.woken_is;
         bytes_are = alone_bytes m laws w state now wakes inputs t u parts kept lags fresh later order who p q went.here quiet silent went.same went.state_is went.now_is went.woken_is;
       } in
-      subst (λ (xs : List P). Goes t u parts xs kept (record { input = kept.input; stale = changed; dues = after; moved = slice_set kept.moved who changed; seen = kept.seen; answers = kept.answers }) steps more (sent m (glided m state now wakes t p) t (u - t))) (sym went.new_is)
-      (subst (λ (ds : List (Option ℕ)). Goes t u parts (slice_set parts who q) kept (record { input = kept.input; stale = changed; dues = ds; moved = slice_set kept.moved who changed; seen = kept.seen; answers = kept.answers }) steps more (sent m (glided m state now wakes t p) t (u - t))) (sym went.dues_are) here)
+      subst (λ (xs : List P). Goes t u parts xs kept (record { input = kept.input; stale = changed; dues = after; differ = kept.differ; seen = retold kept.seen ds cs; answers = kept.answers }) steps more (sent m (glided m state now wakes t p) t (u - t))) (sym went.new_is)
+      (subst (λ (xs : List (Option ℕ)). Goes t u parts (slice_set parts who q) kept (record { input = kept.input; stale = changed; dues = xs; differ = kept.differ; seen = retold kept.seen ds cs; answers = kept.answers }) steps more (sent m (glided m state now wakes t p) t (u - t))) (sym went.dues_are) here)

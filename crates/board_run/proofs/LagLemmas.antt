@@ -4,6 +4,7 @@ use Rattle.std.specs.Prelude.{◌≢◌, not, if◌then◌else◌, slice_get, sl
 use Rattle.std.proofs.lemmas.Option.{slice_get_within}
 use Rattle.std.proofs.lemmas.List.{length-map}
 use Rattle.sim_base.specs.declared.signal.Level.{Level}
+use Rattle.sim_base.specs.declared.signal.Drive.{Drive}
 use Rattle.sim_base.specs.declared.wiring.Wiring.{Wiring}
 use Rattle.sim_base.specs.declared.wiring.Input.{Input}
 use Rattle.part_law.specs.Machine.{Machine, Laws}
@@ -19,7 +20,7 @@ use Rattle.board_laws.proofs.BesideLaw.{same_levels, same_shown, same_drives, sa
 use Rattle.board_model.proofs.Steps.{length-steps_from}
 use Rattle.board_model.proofs.RoomLemmas.{SameRoom, fits_room, chips_room}
 use Rattle.board_laws.proofs.StandsLaw.{stands_shows, stands_holds}
-use Rattle.board_run.specs.Seen.{Seen, Suits, IsOf, AreUnset, AreDiffering, levels_on, shown, shown_at}
+use Rattle.board_run.specs.Seen.{Seen, Suits, IsOf, IsTold, AreUnset, AreDiffering, retold, levels_on, shown, shown_at}
 use Rattle.board_run.specs.Upcoming.{AreBehind}
 use Rattle.board_run.specs.Lagging.{glided, Awaits, Turns, AreDue, own_part}
 use Rattle.board_run.specs.Legs.{Kept, Lags, Leg}
@@ -27,7 +28,7 @@ use Rattle.board_run.proofs.ScriptLemmas.{values_now}
 use Rattle.board_run.proofs.ShowLemmas.{shown_is}
 use Rattle.board_run.proofs.WakeLemmas.{own_levels}
 use Rattle.board_run.proofs.ShowLemmas.{still_of, not_first}
-use Rattle.board_run.proofs.ReadLemmas.{of_read, read_on}
+use Rattle.board_run.proofs.ReadLemmas.{retold_suits, retold_is}
 use Rattle.board_run.proofs.TurnLemmas.{turns_stand}
 use Rattle.board_model.proofs.SameLemmas.{level_same, list_same}
 
@@ -115,9 +116,9 @@ module _ {S P : Type 0} (m : Machine S) (laws : Laws m) (w : Wiring) (state : P 
       let e : true ≡ false = d ∙ ap (λ (l : List Level). not (same_list same_level (levels_on m w seen.circuit.levels k (state p)) l)) alike ∙ ap not (list_same same_level level_same (levels_on m w seen.circuit.levels k (state p))) in
       cc
 
-  module _ (inputs : List Input) (t : ℕ) (old new : List P) (seen : Seen) (answers : List (Option ℕ)) (flags : List Bool) (long : length new ≡ length old)
+  module _ (inputs : List Input) (t : ℕ) (old new : List P) (seen : Seen) (answers : List (Option ℕ)) (changed : Bool) (long : length new ≡ length old)
       (is : IsOf m w (map state old) seen) (suits : Suits w seen) (like : Alike (λ k p s. Stands m t (now p) (state p) s) old (Ts t old))
-      (turns : Turns m w inputs state now wakes seen.circuit.levels t (Ts t old) (length old) old new answers flags) where
+      (turns : Turns m w inputs state now wakes seen.circuit.levels t (Ts t old) (length old) old new answers changed) where
     abbrev Us : List S
     Us = map (λ r. r.0) (steps_from m w inputs seen.circuit.levels t 0 (Ts t old))
 
@@ -128,7 +129,7 @@ module _ {S P : Type 0} (m : Machine S) (laws : Laws m) (w : Wiring) (state : P 
     us_are = ap (λ (ls : List Level). map (λ (r : S × Option ℕ). r.0) (steps_from m w inputs ls t 0 (Ts t old))) of_board.levels_are
 
     stands_after : Alike (λ k q u. Stands m (t + 1) (now q) (state q) u) new Us
-    stands_after = turns_stand m laws w inputs state now wakes seen.circuit.levels t (Ts t old) old new answers flags (length old) (omega arith) long like.long turns
+    stands_after = turns_stand m laws w inputs state now wakes seen.circuit.levels t (Ts t old) old new answers changed (length old) (omega arith) long like.long turns
 
     next_states : Ts (t + 1) new ≡ board_step m w inputs (Ts t old) t
     next_states = stand_are (t + 1) new Us stands_after ∙ us_are
@@ -141,7 +142,7 @@ module _ {S P : Type 0} (m : Machine S) (laws : Laws m) (w : Wiring) (state : P 
       pins : length (m.drives (state p)) ≡ length (m.drives (state q))
       contacts : length (m.contacts (state p)) ≡ length (m.contacts (state q))
       held : m.held (state q) ≡ map (level_at seen.circuit.levels) (own_nets w k (length (m.drives (state q))))
-      still : slice_get flags k ≡ Some false → (m.drives (state q) ≡ m.drives (state p)) × (m.contacts (state q) ≡ m.contacts (state p))
+      still : changed ≡ false → (m.drives (state q) ≡ m.drives (state p)) × (m.contacts (state q) ≡ m.contacts (state p))
 
     turned_from : (k : ℕ) (p q : P) → slice_get old k ≡ Some p → slice_get new k ≡ Some q → Turned k p q
     turned_from k p q ep eq =
@@ -160,7 +161,7 @@ module _ {S P : Type 0} (m : Machine S) (laws : Laws m) (w : Wiring) (state : P 
           pins = ap length was.drives ∙ sym pins;
           contacts = ap length was.contacts ∙ sym (laws.keeps_contacts s t _ _) ∙ sym (ap length shows.contacts);
           held = sym (stands_holds m laws (t + 1) (now q) (state q) next d.0) ∙ laws.holds_levels s t _ _ ∙ ap (λ (n : ℕ). map (level_at seen.circuit.levels) (own_nets w k n)) (sym pins);
-          still = λ none. let still = turns.still k s within es none in (shows.drives ∙ still.drives ∙ sym was.drives, shows.contacts ∙ still.contacts ∙ sym was.contacts);
+          still = λ none. let still = turns.still none k s within es in (shows.drives ∙ still.drives ∙ sym was.drives, shows.contacts ∙ still.contacts ∙ sym was.contacts);
         }
 
     before : (k : ℕ) (q : P) → slice_get new k ≡ Some q → (p : P) × (slice_get old k ≡ Some p)
@@ -178,9 +179,9 @@ module _ {S P : Type 0} (m : Machine S) (laws : Laws m) (w : Wiring) (state : P 
         )
 
     -- the invariant at the next cycle
-    pub event_lags : (j : ℕ) (dues : List (Option ℕ)) (changed : Bool) → length old ≤ 64 → Fits m w (map state old) → length dues ≡ length old → length answers ≡ length old → length flags ≡ length old → AreDue m state now wakes new dues →
-        (changed ≡ false → AreUnset flags) → Lags m w state now wakes (t + 1) new (record { input = j; stale = changed; dues = dues; moved = flags; seen = seen; answers = answers })
-    event_lags j dues changed few fits dues_long answers_long flags_long due unset =
+    pub event_lags : (j : ℕ) (dues : List (Option ℕ)) (flags : List Bool) (ds : List Drive) (cs : List Bool) → length old ≤ 64 → Fits m w (map state old) → length dues ≡ length old → length answers ≡ length old → length flags ≡ length old → AreDue m state now wakes new dues →
+        AreUnset flags → IsTold m (map state new) (retold seen ds cs).circuit → Lags m w state now wakes (t + 1) new (record { input = j; stale = changed; dues = dues; differ = flags; seen = retold seen ds cs; answers = answers })
+    event_lags j dues flags ds cs few fits dues_long answers_long flags_long due unset told =
         let longer : length (map state old) ≡ length (map state new) = simp length-map (sym long) in
         record {
           few = subst (λ n. n ≤ 64) (sym long) few;
@@ -190,28 +191,21 @@ module _ {S P : Type 0} (m : Machine S) (laws : Laws m) (w : Wiring) (state : P 
           valid = λ k q eq. (turned_from k (before k q eq).0 q (before k q eq).1 eq).stands.valid;
           dues_long = dues_long ∙ sym long;
           answers_long = answers_long ∙ sym long;
-          moved_long = flags_long ∙ sym long;
+          differ_long = flags_long ∙ sym long;
           fits = fits_room m w (map state old) (map state new) longer same_room fits;
-          suits = suits;
+          suits = retold_suits m w (map state new) seen ds cs (fits_room m w (map state old) (map state new) longer same_room fits) suits told;
           chips_long = ap length is.chips_are ∙ chips_room m w.chip (map state old) (map state new) longer same_room;
-          fresh = λ none. still_of m w state old new seen long (λ k p q ep eq.
-              let inside : k < length flags = omega (arith, slice_get_within old k p ep, flags_long) in
-              let flag = get_within flags k false inside in
-              (turned_from k p q ep eq).still (flag ∙ ap Some (unset none k (get_or flags k false) flag))) is;
+          fresh = λ none. retold_is m w (map state new) seen ds cs told (still_of m w state old new seen long (λ k p q ep eq. (turned_from k p q ep eq).still none) is);
           unset = unset;
-          read = read_on m (map state old) (map state new) flags seen.circuit longer same_room (λ k x y ex ey none.
-              let a = get_map_some state old k x ex in
-              let b = get_map_some state new k y ey in
-              let f = (turned_from k a.0 b.0 a.1 b.1).still none in
-              (ap m.drives (sym b.2) ∙ f.0 ∙ ap m.drives a.2, ap m.contacts (sym b.2) ∙ f.1 ∙ ap m.contacts a.2)) (of_read m (map state old) flags seen.circuit is.drives_are is.closed_are);
+          told = told;
           holds = λ k q eq later. (turned_from k (before k q eq).0 q (before k q eq).1 eq).held;
         }
 
     -- and the leg
-    pub event_leg : (was : Seen) (steps more : ℕ) → more ≡ steps + sum_below (length old) (λ k. active_in m w inputs seen.circuit.levels t k (slice_get (Ts t old) k)) →
-        Leg m w state now wakes inputs t (t + 1) old new was seen steps more
+    pub event_leg : (was : Seen) (ds : List Drive) (cs : List Bool) (steps more : ℕ) → more ≡ steps + sum_below (length old) (λ k. active_in m w inputs seen.circuit.levels t k (slice_get (Ts t old) k)) →
+        Leg m w state now wakes inputs t (t + 1) old new was (retold seen ds cs) steps more
     unfolding states shown_before
-    event_leg was steps more counted =
+    event_leg was ds cs steps more counted =
         let e : t + 1 - t ≡ suc zero = omega arith in
         let f : t + 0 ≡ t = omega arith in
         let ts = Ts t old in

@@ -23,14 +23,13 @@ use Rattle.board_laws.proofs.StandsLaw.{stands_shows, stands_holds, stands_valid
 use Rattle.board_laws.proofs.StretchLaw.{stretch_rows, stretch_bytes, stretch_pairs}
 use Rattle.board_laws.proofs.SteadyLaw.{steady_states, steady_before, steady_cycles, quiet_dues}
 use Rattle.board_laws.proofs.Splits.{states_split, bytes_split, shown_split, rows_split, pairs_split, cycles_split}
-use Rattle.board_run.specs.Seen.{Seen, Suits, IsOf, shown, shown_at}
+use Rattle.board_run.specs.Seen.{Seen, Suits, IsOf, IsTold, AreUnset, shown, shown_at}
 use Rattle.board_run.specs.Lagging.{glided, AreDue}
 use Rattle.board_run.specs.Legs.{Kept, Lags, Leg}
 use Rattle.sim_base.specs.Rows.{StopsWithin, AreFronts, Handed}
-use Rattle.board_run.proofs.ReadLemmas.{read_on}
 use Rattle.board_run.proofs.NextLemmas.{quiet_until}
 use Rattle.board_run.proofs.HandLemmas.{stops_after, nothing_more}
-use Rattle.board_run.proofs.ShowLemmas.{fronts, still_of}
+use Rattle.board_run.proofs.ShowLemmas.{fronts, still_of, still_same}
 use Rattle.board_run.proofs.ShowLemmas.{shown_is}
 use Rattle.board_model.proofs.RoomLemmas.{SameRoom, fits_room, chips_room}
 use Rattle.board_run.proofs.LagLemmas.{lags_stand, stand_show, lag_of, Ts}
@@ -230,13 +229,13 @@ module _ {S P : Type 0} (m : Machine S) (laws : Laws m) (w : Wiring) (state : P 
       valid = lags.valid;
       dues_long = lags.dues_long;
       answers_long = lags.answers_long;
-      moved_long = lags.moved_long;
+      differ_long = lags.differ_long;
       fits = lags.fits;
       suits = lags.suits;
       chips_long = lags.chips_long;
       fresh = lags.fresh;
       unset = lags.unset;
-      read = lags.read;
+      told = lags.told;
       holds = λ k p ep later. lags.holds k p ep after;
     }
 
@@ -372,7 +371,7 @@ module _ {S P : Type 0} (m : Machine S) (laws : Laws m) (w : Wiring) (state : P 
   -- settled parts may go on from there
   pub settled_lags : (n : ℕ) (mid new : List P) (kept : Kept) (after : List (Option ℕ)) → Lags m w state now wakes n mid kept → length new ≡ length mid → length after ≡ length kept.dues →
       ((k : ℕ) (p q : P) → slice_get mid k ≡ Some p → slice_get new k ≡ Some q → (state q ≡ glided m state now wakes n p) × (now q ≡ n) × (wakes q ≡ wakes p)) →
-      AreDue m state now wakes new after → Lags m w state now wakes n new (record { input = kept.input; stale = kept.stale; dues = after; moved = kept.moved; seen = kept.seen; answers = kept.answers })
+      AreDue m state now wakes new after → Lags m w state now wakes n new (record { input = kept.input; stale = kept.stale; dues = after; differ = kept.differ; seen = kept.seen; answers = kept.answers })
   settled_lags n mid new kept after lags long dues_long settled due = record {
     few = subst (λ j. j ≤ 64) (sym long) lags.few;
     may = λ k q d eq ed.
@@ -393,17 +392,16 @@ module _ {S P : Type 0} (m : Machine S) (laws : Laws m) (w : Wiring) (state : P 
         subst (λ (a : ℕ). m.valid (state q) a ≡ true) (sym h.1) (ap (λ (s : S). m.valid s n) h.0 ∙ stands_valid m laws n (now x.0) (state x.0) (glided m state now wakes n x.0) (stands k x.0 x.1));
     dues_long = dues_long ∙ lags.dues_long ∙ sym long;
     answers_long = lags.answers_long ∙ sym long;
-    moved_long = lags.moved_long ∙ sym long;
+    differ_long = lags.differ_long ∙ sym long;
     fits = fits_room m w (map state mid) (map state new) longer same_room lags.fits;
     suits = lags.suits;
     chips_long = lags.chips_long ∙ chips_room m w.chip (map state mid) (map state new) longer same_room;
     fresh = λ none. still_of m w state mid new kept.seen long (λ k p q ep eq. still k p q ep eq) (lags.fresh none);
     unset = lags.unset;
-    read = read_on m (map state mid) (map state new) kept.moved kept.seen.circuit longer same_room (λ k x y ex ey none.
-        let a = get_map_some state mid k x ex in
-        let b = get_map_some state new k y ey in
-        let h = still k a.0 b.0 a.1 b.1 in
-        (ap m.drives (sym b.2) ∙ h.0 ∙ ap m.drives a.2, ap m.contacts (sym b.2) ∙ h.1 ∙ ap m.contacts a.2)) lags.read;
+    told = record {
+      drives_are = lags.told.drives_are ∙ sym (still_same m.drives state mid new long (λ k p q ep eq. (still k p q ep eq).0));
+      closed_are = lags.told.closed_are ∙ sym (still_same m.contacts state mid new long (λ k p q ep eq. (still k p q ep eq).1));
+    };
     holds = λ k q eq later.
         let x = before k q eq in
         held_is k x.0 q x.1 eq ∙ lags.holds k x.0 x.1 later ∙ ap (λ (i : ℕ). map (level_at kept.seen.circuit.levels) (own_nets w k i)) (sym (ap length (still k x.0 q x.1 eq).0));
@@ -445,9 +443,9 @@ module _ {S P : Type 0} (m : Machine S) (laws : Laws m) (w : Wiring) (state : P 
 
 -- a board at cycle 0 of which nothing was read
 pub lags_start : {S P : Type 0} (m : Machine S) (w : Wiring) (state : P → S) (now wakes : P → ℕ) (parts : List P) (kept : Kept) → kept.stale ≡ true → length parts ≤ 64 → AreFresh m state now wakes parts →
-    length kept.dues ≡ length parts → AreDue m state now wakes parts kept.dues → length kept.answers ≡ length parts → length kept.moved ≡ length parts → ((k : ℕ) (b : Bool) → slice_get kept.moved k ≡ Some b → b ≡ true) → Fits m w (map state parts) → Suits w kept.seen →
+    length kept.dues ≡ length parts → AreDue m state now wakes parts kept.dues → length kept.answers ≡ length parts → length kept.differ ≡ length parts → AreUnset kept.differ → IsTold m (map state parts) kept.seen.circuit → Fits m w (map state parts) → Suits w kept.seen →
     length kept.seen.chip_drives ≡ length (chip_drives_of m w.chip (map state parts)) → Lags m w state now wakes 0 parts kept
-lags_start m w state now wakes parts kept stale few new dues_long due answers_long moved_long all fits suits chips = record {
+lags_start m w state now wakes parts kept stale few new dues_long due answers_long differ_long unset told fits suits chips = record {
   few = few;
   may = λ k p d ep ed.
       let at = new.at_start k p ep in
@@ -456,12 +454,12 @@ lags_start m w state now wakes parts kept stale few new dues_long due answers_lo
   valid = λ k p ep. subst (λ (t : ℕ). m.valid (state p) t ≡ true) (sym (new.at_start k p ep)) (new.are_valid k p ep);
   dues_long = dues_long;
   answers_long = answers_long;
-  moved_long = moved_long;
+  differ_long = differ_long;
   fits = fits;
   suits = suits;
   chips_long = chips;
   fresh = λ none. absurd (let e : true ≡ false = sym stale ∙ none in cc);
-  unset = λ none. absurd (let e : true ≡ false = sym stale ∙ none in cc);
-  read = λ k s es none. absurd (let e : false ≡ true = all k false none in cc);
+  unset = unset;
+  told = told;
   holds = λ k p ep (later : 0 < 0). absurd (omega arith);
 }

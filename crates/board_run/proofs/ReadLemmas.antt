@@ -1,21 +1,24 @@
 -- What is read of parts part by part, each at its place.
 use Rattle.std.proofs.Common.{◌≡◌, ◌≢◌, ◌⊎◌, inl, inr, ℕ, zero, suc, ◌+◌, ◌-◌, ◌<◌, ◌≤◌, List, [], ◌∷◌, ◌++◌, length, map, take, drop, Bool, true, false, Some, refl, ap, sym, ◌∙◌, arith, subst, add-one, length-append, length-set, get_or}
-use Rattle.std.specs.Prelude.{◌==◌, not, slice_get, slice_set, slice_index}
+use Rattle.std.specs.Prelude.{◌==◌, min, not, slice_get, slice_set, slice_index}
 use Rattle.std.specs.List.{flat_map}
 use Rattle.std.proofs.lemmas.Option.{slice_get_within}
 use Rattle.std.proofs.lemmas.List.{length-map}
 use Rattle.sim_base.specs.declared.signal.Level.{Level}
+use Rattle.sim_base.specs.declared.signal.Drive.{Drive}
 use Rattle.sim_base.specs.declared.wiring.Wiring.{Wiring}
 use Rattle.part_law.specs.Machine.{Machine}
+use Rattle.part_law.specs.declared.span.Span.{Span}
+use Rattle.part_law.specs.Spans.{IsIn}
 use Rattle.board_model.specs.Board.{level_at, drives_of, contacts_of}
 use Rattle.board_model.specs.Rows.{same_list, same_level, same_drive}
 use Rattle.board_model.specs.Fits.{Fits}
-use Rattle.board_model.proofs.Lists.{some_same, lt_or_eq, get_set_same, get_set_other, get_within, take_whole, same_lists}
+use Rattle.board_model.proofs.Lists.{some_same, lt_or_eq, get_set_same, get_set_other, get_within, take_whole, some_map, same_lists}
 use Rattle.board_model.proofs.SameLemmas.{level_same, list_same, levels_mean, not_false}
 use Rattle.board_model.proofs.RoomLemmas.{SameRoom}
 use Rattle.net_resolve.specs.Circuit.{Circuit, AreChanged}
 use Rattle.net_resolve.specs.Marked.{has}
-use Rattle.board_run.specs.Seen.{Seen, IsOf, HasAt, Put, Gathered, IsRead, AreRead, AreUnset, ArePieces, AreDiffering, piece, levels_on}
+use Rattle.board_run.specs.Seen.{Seen, Suits, IsOf, retold, HasAt, Put, Gathered, IsTold, AreUnset, ArePieces, AreDiffering, piece, levels_on}
 use Rattle.board_run.proofs.WakeLemmas.{own_levels, map-take, map-drop}
 
 pub put_none : {A : Type 0} (at : ℕ) (items xs : List A) → Put at 0 items xs xs
@@ -39,6 +42,30 @@ put_more at n items old mid x put ex room = record {
 -- what is there already
 pub put_there : {A : Type 0} (at : ℕ) (items xs : List A) → HasAt at items xs → Put at (length items) items xs xs
 put_there at items xs has = record { long = refl; here = has; before = λ j h. refl; after = λ j h. refl }
+
+pub not_so : (b : Bool) → ¬ (b ≡ true) → b ≡ false
+not_so true h = absurd (h refl)
+not_so false h = refl
+
+-- the pins of a span were put, and the others were there
+pub span_put : {A : Type 0} (items old new : List A) (span : Span) (place n from to : ℕ) → n ≡ length items → n ≤ 255 → to ≡ min span.to n → from ≡ min span.from to → length new ≡ length old →
+    ((j : ℕ) → from ≤ j → j < to → slice_get new (place + j) ≡ slice_get items j) → ((x : ℕ) → (x < place + from) ⊎ (place + to ≤ x) → slice_get new x ≡ slice_get old x) →
+    ((j : ℕ) → j < length items → j < 255 → ¬ IsIn span j → slice_get old (place + j) ≡ slice_get items j) → Put place (length items) items old new
+span_put items old new span place n from to count few is_to is_from long told rest others = record {
+  long = long;
+  here = λ j h. elim (less_or j from) [
+    | inl before ↦ rest (place + j) (inl (omega (arith, before))) ∙ others j h (omega (arith, h, count, few)) (λ i. let a = i.0 in grind (arith, a, before, is_from, is_to))
+    | inr after ↦ elim (less_or j to) [
+      | inl inside ↦ told j after inside
+      | inr beyond ↦ rest (place + j) (inr (omega (arith, beyond))) ∙ others j h (omega (arith, h, count, few)) (λ i. let b = i.1 in grind (arith, b, beyond, is_to, h, count))
+    ]
+  ];
+  before = λ j h. rest j (inl (omega (arith, h)));
+  after = λ j h. rest j (inr (let l : to ≤ n = grind (arith, is_to) in omega (arith, h, count, l)));
+}
+  where
+    less_or : (j n : ℕ) → (j < n) ⊎ (n ≤ j)
+    less_or j n = grind arith
 
 get_left : {B : Type 0} (xs ys : List B) (j : ℕ) → j < length xs → slice_get (xs ++ ys) j ≡ slice_get xs j
 get_left [] ys j h = absurd (omega arith)
@@ -113,37 +140,141 @@ module _ {S B : Type 0} (f : S → List B) where
       let l = slice_get_within (flat_map f ss) k y ey in
       some_same (sym ex ∙ g.done k (omega (arith, l, whole, g.place)) ∙ ey))
 
+-- One part among all has other items, as many.
+module _ {S B : Type 0} (f : S → List B) where
+  flat_before : (ss : List S) (i : ℕ) (new : S) (x : ℕ) → x < length (flat_map f (take i ss)) → slice_get (flat_map f (slice_set ss i new)) x ≡ slice_get (flat_map f ss) x
+  flat_before [] zero new x h = absurd (omega arith)
+  flat_before [] (suc i) new x h = absurd (omega arith)
+  flat_before (y ∷ ss) zero new x h = absurd (omega arith)
+  flat_before (y ∷ ss) (suc i) new x h = elim (lt_ge f x (length (f y))) [
+    | inl less ↦ get_left (f y) (flat_map f (slice_set ss i new)) x less ∙ sym (get_left (f y) (flat_map f ss) x less)
+    | inr more ↦
+        let e : length (f y) + (x - length (f y)) ≡ x = omega arith in
+        let l = length-append (f y) (flat_map f (take i ss)) in
+        ap (slice_get (f y ++ flat_map f (slice_set ss i new))) (sym e) ∙ get_right (f y) (flat_map f (slice_set ss i new)) (x - length (f y))
+        ∙ flat_before ss i new (x - length (f y)) (omega (arith, l, h, more))
+        ∙ sym (get_right (f y) (flat_map f ss) (x - length (f y))) ∙ ap (slice_get (f y ++ flat_map f ss)) e
+  ]
+
+  flat_after : (ss : List S) (i : ℕ) (s new : S) (x : ℕ) → slice_get ss i ≡ Some s → length (f new) ≡ length (f s) → length (flat_map f (take i ss)) + length (f new) ≤ x →
+      slice_get (flat_map f (slice_set ss i new)) x ≡ slice_get (flat_map f ss) x
+  flat_after [] i s new x es long h = absurd cc
+  flat_after (y ∷ ss) zero s new x es long h =
+      let same : length (f y) ≡ length (f s) = ap (λ (z : S). length (f z)) (some_same es) in
+      let e : length (f new) + (x - length (f new)) ≡ x = omega (arith, h) in
+      let g : length (f y) + (x - length (f new)) ≡ x = omega (arith, h, same, long) in
+      ap (slice_get (f new ++ flat_map f ss)) (sym e) ∙ get_right (f new) (flat_map f ss) (x - length (f new))
+      ∙ sym (get_right (f y) (flat_map f ss) (x - length (f new))) ∙ ap (slice_get (f y ++ flat_map f ss)) g
+  flat_after (y ∷ ss) (suc i) s new x es long h =
+      let l = length-append (f y) (flat_map f (take i ss)) in
+      let e : length (f y) + (x - length (f y)) ≡ x = omega (arith, l, h) in
+      ap (slice_get (f y ++ flat_map f (slice_set ss i new))) (sym e) ∙ get_right (f y) (flat_map f (slice_set ss i new)) (x - length (f y))
+      ∙ flat_after ss i s new (x - length (f y)) es long (omega (arith, l, h))
+      ∙ sym (get_right (f y) (flat_map f ss) (x - length (f y))) ∙ ap (slice_get (f y ++ flat_map f ss)) e
+
+  flat_here : (ss : List S) (i : ℕ) (new : S) (j : ℕ) → i < length ss → j < length (f new) → slice_get (flat_map f (slice_set ss i new)) (length (flat_map f (take i ss)) + j) ≡ slice_get (f new) j
+  flat_here [] i new j within h = absurd (omega arith)
+  flat_here (y ∷ ss) zero new j within h =
+      let z : 0 + j ≡ j = omega arith in
+      ap (slice_get (f new ++ flat_map f ss)) z ∙ get_left (f new) (flat_map f ss) j h
+  flat_here (y ∷ ss) (suc i) new j within h =
+      let n = length (flat_map f (take i ss)) in
+      let l : length (f y ++ flat_map f (take i ss)) + j ≡ length (f y) + (n + j) = omega (arith, length-append (f y) (flat_map f (take i ss))) in
+      ap (slice_get (f y ++ flat_map f (slice_set ss i new))) l ∙ get_right (f y) (flat_map f (slice_set ss i new)) (n + j) ∙ flat_here ss i new j (omega arith) h
+
+  flat_long : (ss : List S) (i : ℕ) (s new : S) → slice_get ss i ≡ Some s → length (f new) ≡ length (f s) → length (flat_map f (slice_set ss i new)) ≡ length (flat_map f ss)
+  flat_long [] i s new es long = absurd cc
+  flat_long (y ∷ ss) zero s new es long =
+      let same : length (f y) ≡ length (f s) = ap (λ (z : S). length (f z)) (some_same es) in
+      omega (arith, length-append (f new) (flat_map f ss), length-append (f y) (flat_map f ss), same, long)
+  flat_long (y ∷ ss) (suc i) s new es long =
+      let rest = flat_long ss i s new es long in
+      omega (arith, length-append (f y) (flat_map f (slice_set ss i new)), length-append (f y) (flat_map f ss), rest)
+
+  -- what was put in place of them is what all parts have
+  pub put_is : (ss : List S) (i at : ℕ) (s new : S) (old xs : List B) → slice_get ss i ≡ Some s → length (f new) ≡ length (f s) → at ≡ length (flat_map f (take i ss)) → old ≡ flat_map f ss →
+      Put at (length (f new)) (f new) old xs → xs ≡ flat_map f (slice_set ss i new)
+  put_is ss i at s new old xs es long place is put =
+      let whole : length xs ≡ length (flat_map f (slice_set ss i new)) = put.long ∙ ap length is ∙ sym (flat_long ss i s new es long) in
+      same_lists xs (flat_map f (slice_set ss i new)) whole (λ x a b ea eb. some_same (sym ea ∙ here x ∙ eb))
+    where
+      here : (x : ℕ) → slice_get xs x ≡ slice_get (flat_map f (slice_set ss i new)) x
+      here x = elim (lt_ge f x at) [
+        | inl less ↦ put.before x less ∙ ap (λ l. slice_get l x) is ∙ sym (flat_before ss i new x (omega (arith, less, place)))
+        | inr from ↦ elim (lt_ge f x (at + length (f new))) [
+          | inl inside ↦
+              let e : at + (x - at) ≡ x = omega (arith, from) in
+              let g : length (flat_map f (take i ss)) + (x - at) ≡ x = omega (arith, from, place) in
+              let within : x - at < length (f new) = omega (arith, from, inside) in
+              ap (slice_get xs) (sym e) ∙ put.here (x - at) within ∙ sym (flat_here ss i new (x - at) (slice_get_within ss i s es) within) ∙ ap (slice_get (flat_map f (slice_set ss i new))) g
+          | inr beyond ↦ put.after x beyond ∙ ap (λ l. slice_get l x) is ∙ sym (flat_after ss i s new x es long (omega (arith, beyond, place)))
+        ]
+      ]
+
+map_set : {A B : Type 0} (f : A → B) (xs : List A) (i : ℕ) (y : A) → map f (slice_set xs i y) ≡ slice_set (map f xs) i (f y)
+map_set f [] i y = refl
+map_set f (x ∷ xs) zero y = refl
+map_set f (x ∷ xs) (suc i) y = ap (λ l. f x ∷ l) (map_set f xs i y)
+
+-- The nets are told what one part has.
+module _ {S P : Type 0} (m : Machine S) (state : P → S) (parts : List P) (i : ℕ) (p q : P) (c new : Circuit) (here : slice_get parts i ≡ Some p) (told : IsTold m (map state parts) c)
+    (pins : length (m.drives (state q)) ≡ length (m.drives (state p))) (ports : length (m.contacts (state q)) ≡ length (m.contacts (state p))) where
+  at : slice_get (map state parts) i ≡ Some (state p)
+  at = some_map state parts i p here
+
+  before_same : {B : Type 0} (f : S → List B) → length (flat_map f (take i (map state (slice_set parts i q)))) ≡ length (flat_map f (take i (map state parts)))
+  before_same f = ap (λ l. length (flat_map f (take i l))) (map_set state parts i q) ∙ ap (λ l. length (flat_map f l)) (take_set (map state parts) i (state q))
+    where
+      take_set : (xs : List S) (k : ℕ) (y : S) → take k (slice_set xs k y) ≡ take k xs
+      take_set [] zero y = refl
+      take_set [] (suc k) y = refl
+      take_set (x ∷ xs) zero y = refl
+      take_set (x ∷ xs) (suc k) y = ap (λ l. x ∷ l) (take_set xs k y)
+
+  pub told_more : (first : ℕ) → first ≡ length (drives_of m (take i (map state parts))) →
+      Put first (length (m.drives (state q))) (m.drives (state q)) c.drives new.drives →
+      Put (length (contacts_of m (take i (map state (slice_set parts i q))))) (length (m.contacts (state q))) (m.contacts (state q)) c.closed new.closed →
+      IsTold m (map state (slice_set parts i q)) new
+  told_more first place ds cs = record {
+    drives_are = put_is m.drives (map state parts) i first (state p) (state q) c.drives new.drives at pins place told.drives_are ds ∙ ap (drives_of m) (sym (map_set state parts i q));
+    closed_are = put_is m.contacts (map state parts) i _ (state p) (state q) c.closed new.closed at ports (before_same m.contacts) told.closed_are cs ∙ ap (contacts_of m) (sym (map_set state parts i q));
+  }
+
+  -- it has them already, where it is still
+  pub still_told : (first : ℕ) → first ≡ length (drives_of m (take i (map state parts))) → m.drives (state q) ≡ m.drives (state p) → m.contacts (state q) ≡ m.contacts (state p) →
+      HasAt first (m.drives (state q)) c.drives × HasAt (length (contacts_of m (take i (map state (slice_set parts i q))))) (m.contacts (state q)) c.closed
+  still_told first place ds cs = (
+    λ j h. ap (λ l. slice_get l (first + j)) told.drives_are ∙ ap (λ n. slice_get (drives_of m (map state parts)) (n + j)) place
+        ∙ flat_get m.drives (map state parts) i (state p) j at (subst (λ l. j < length l) ds h) ∙ ap (λ l. slice_get l j) (sym ds),
+    λ j h. ap (λ l. slice_get l (length (contacts_of m (take i (map state (slice_set parts i q)))) + j)) told.closed_are ∙ ap (λ n. slice_get (contacts_of m (map state parts)) (n + j)) (before_same m.contacts)
+        ∙ flat_get m.contacts (map state parts) i (state p) j at (subst (λ l. j < length l) cs h) ∙ ap (λ l. slice_get l j) (sym cs),
+  )
+
+  -- and else those of the pins that did not move
+  pub others_told : (first : ℕ) → first ≡ length (drives_of m (take i (map state parts))) → (moves : ℕ → Bool) → ((j : ℕ) → moves j ≡ false → slice_get (m.drives (state q)) j ≡ slice_get (m.drives (state p)) j) →
+      (j : ℕ) → j < length (m.drives (state q)) → moves j ≡ false → slice_get c.drives (first + j) ≡ slice_get (m.drives (state q)) j
+  others_told first place moves same j h none =
+      ap (λ l. slice_get l (first + j)) told.drives_are ∙ ap (λ n. slice_get (drives_of m (map state parts)) (n + j)) place
+      ∙ flat_get m.drives (map state parts) i (state p) j at (omega (arith, pins, h)) ∙ sym (same j none)
+
 module _ {S : Type 0} (m : Machine S) where
-  -- what is of all parts was read of each
-  pub of_read : (ss : List S) (flags : List Bool) (c : Circuit) → c.drives ≡ drives_of m ss → c.closed ≡ contacts_of m ss → AreRead m ss flags c
-  of_read ss flags c ds cs k s es none = record {
-    pins = λ j h. ap (λ l. slice_get l (length (drives_of m (take k ss)) + j)) ds ∙ flat_get m.drives ss k s j es h;
-    ports = λ j h. ap (λ l. slice_get l (length (contacts_of m (take k ss)) + j)) cs ∙ flat_get m.contacts ss k s j es h;
+  -- what suits a wiring does so after the nets were told
+  pub retold_suits : (w : Wiring) (ss : List S) (seen : Seen) (ds : List Drive) (cs : List Bool) → Fits m w ss → Suits w seen → IsTold m ss (retold seen ds cs).circuit → Suits w (retold seen ds cs)
+  retold_suits w ss seen ds cs fits suits told = record {
+    nets = suits.nets;
+    net_of = suits.net_of;
+    contacts = suits.contacts;
+    resistors = suits.resistors;
+    drives_long = ap length told.drives_are ∙ sym fits.pins;
+    closed_long = ap length told.closed_are ∙ sym fits.contacts;
+    levels_long = suits.levels_long;
+    chips_long = suits.chips_long;
+    own_are = suits.own_are;
   }
 
-  -- what was read of parts is so after those without a flag stayed still
-  pub read_on : (xs ys : List S) (flags : List Bool) (c : Circuit) → length xs ≡ length ys → ((k : ℕ) (x y : S) → slice_get xs k ≡ Some x → slice_get ys k ≡ Some y → SameRoom m k x y) →
-      ((k : ℕ) (x y : S) → slice_get xs k ≡ Some x → slice_get ys k ≡ Some y → slice_get flags k ≡ Some false → (m.drives y ≡ m.drives x) × (m.contacts y ≡ m.contacts x)) → AreRead m xs flags c → AreRead m ys flags c
-  read_on xs ys flags c long rooms still read k y ey none =
-      let within : k < length xs = omega (arith, slice_get_within ys k y ey, long) in
-      let x = get_or xs k y in
-      let ex : slice_get xs k ≡ Some x = get_within xs k y within in
-      let r = read k x ex none in
-      let same = still k x y ex ey none in
-      let pin : length (drives_of m (take k ys)) ≡ length (drives_of m (take k xs)) = sym (same_place m.drives xs ys long (λ i a b ea eb. (rooms i a b ea eb).0) k) in
-      let port : length (contacts_of m (take k ys)) ≡ length (contacts_of m (take k xs)) = sym (same_place m.contacts xs ys long (λ i a b ea eb. (rooms i a b ea eb).1) k) in
-      record {
-        pins = λ j h. ap (λ (n : ℕ). slice_get c.drives (n + j)) pin ∙ r.pins j (subst (λ l. j < length l) same.0 h) ∙ ap (λ l. slice_get l j) (sym same.0);
-        ports = λ j h. ap (λ (n : ℕ). slice_get c.closed (n + j)) port ∙ r.ports j (subst (λ l. j < length l) same.1 h) ∙ ap (λ l. slice_get l j) (sym same.1);
-      }
-
-  -- a part after those that were read has what it had
-  pub still_read : (ss : List S) (i pin contact : ℕ) (s : S) (old now : Circuit) → Gathered m.drives ss i pin old.drives now.drives → Gathered m.contacts ss i contact old.closed now.closed →
-      IsRead m (length (drives_of m (take i ss))) (length (contacts_of m (take i ss))) s old → IsRead m pin contact s now
-  still_read ss i pin contact s old now ds cs read = record {
-    pins = λ j h. ds.rest (pin + j) (omega arith) ∙ ap (λ (n : ℕ). slice_get old.drives (n + j)) ds.place ∙ read.pins j h;
-    ports = λ j h. cs.rest (contact + j) (omega arith) ∙ ap (λ (n : ℕ). slice_get old.closed (n + j)) cs.place ∙ read.ports j h;
-  }
+  -- what is of parts is so after the nets were told what those drive and connect
+  pub retold_is : (w : Wiring) (ss : List S) (seen : Seen) (ds : List Drive) (cs : List Bool) → IsTold m ss (retold seen ds cs).circuit → IsOf m w ss seen → IsOf m w ss (retold seen ds cs)
+  retold_is w ss seen ds cs told is = record { drives_are = told.drives_are; closed_are = told.closed_are; levels_are = is.levels_are; chips_are = is.chips_are }
 
   pub unset_pieces : (ss : List S) (after before : List Level) (flags : List Bool) → before ≡ after → AreUnset flags → ArePieces m ss after before flags
   unset_pieces ss after before flags same none k s b es eb =

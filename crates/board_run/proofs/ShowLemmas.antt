@@ -87,7 +87,7 @@ get_all (suc n) zero x b e = sym (some_same e)
 get_all (suc n) (suc k) x b e = get_all n k x b e
 
 -- parts that are still have the same drives and contacts
-still_same : {S P B : Type 0} (f : S → List B) (state : P → S) (old new : List P) → length new ≡ length old →
+pub still_same : {S P B : Type 0} (f : S → List B) (state : P → S) (old new : List P) → length new ≡ length old →
     ((k : ℕ) (p q : P) → slice_get old k ≡ Some p → slice_get new k ≡ Some q → f (state q) ≡ f (state p)) → flat_map f (map state new) ≡ flat_map f (map state old)
 still_same f state old new long each = flat_map_same f (map state new) (map state old) (simp length-map long) (λ k x y ex ey.
     let a = get_map_some state new k x ex in

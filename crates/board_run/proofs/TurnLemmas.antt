@@ -1,13 +1,13 @@
 -- A part's turn is the step of the state that it stands for.
-use Rattle.std.proofs.Common.{◌≡◌, ◌≢◌, ℕ, ◌+◌, ◌-◌, ◌<◌, ◌≤◌, List, length, map, take, drop, Bool, true, false, Option, None, Some, refl, ap, sym, ◌∙◌, arith, subst, inl, inr, ◌⊎◌, get_or, add-one}
+use Rattle.std.proofs.Common.{◌≡◌, ◌≢◌, ℕ, ◌+◌, ◌-◌, ◌<◌, ◌≤◌, List, length, map, take, drop, Bool, true, false, Option, None, Some, refl, ap, sym, ◌∙◌, arith, subst, inl, inr, ◌⊎◌, get_or, add-one, length-set}
 use Rattle.std.specs.Prelude.{◌||◌, not, if◌then◌else◌, slice_get, slice_index, slice_set}
 use Rattle.std.specs.Option.{is_some}
 use Rattle.std.proofs.lemmas.Bool.Decides.{eqb_tells}
 use Rattle.sim_base.specs.declared.signal.Level.{Level}
 use Rattle.sim_base.specs.declared.wiring.Wiring.{Wiring}
 use Rattle.sim_base.specs.declared.wiring.Input.{Input}
-use Rattle.part_law.specs.Machine.{Machine, Laws, IsFirstDue, MayWake}
-use Rattle.part_law.proofs.MachineLemmas.{not_due_now, due_now, glide_holds}
+use Rattle.part_law.specs.Machine.{Machine, Laws, IsQuiet, IsFirstDue, MayWake}
+use Rattle.part_law.proofs.MachineLemmas.{not_due_now, due_now, glide_holds, glide_pins, glide_ports, glide_drives, glide_contacts}
 use Rattle.board_model.specs.Board.{level_at, own_nets, input_at, part_step, steps_from}
 use Rattle.board_model.specs.Rows.{same_list, same_level}
 use Rattle.board_laws.specs.Alike.{Alike, SameShow}
@@ -19,7 +19,9 @@ use Rattle.std.proofs.lemmas.List.{length-map}
 use Rattle.board_model.proofs.Lists.{some_same, lt_or_eq, get_set_same, get_set_other, get_within, get_map_some, take_set_more}
 use Rattle.board_model.proofs.Steps.{length-steps_from, get_step}
 use Rattle.board_run.proofs.StepLemmas.{get_answer}
-use Rattle.board_run.proofs.WakeLemmas.{own_of}
+use Rattle.board_run.proofs.WakeLemmas.{own_of, or_none}
+use Rattle.board_model.specs.Fits.{Fits}
+use Rattle.board_model.proofs.RoomLemmas.{SameRoom, fits_room}
 use Rattle.board_run.specs.Seen.{levels_on}
 use Rattle.board_run.specs.Lagging.{is_at, to_wake, glided, MayTurn, turned, Awaits, HadTurn, Turns, AreDue}
 
@@ -121,14 +123,14 @@ module _ {S P : Type 0} (m : Machine S) (laws : Laws m) (w : Wiring) (inputs : L
           }
 
 module _ {S P : Type 0} (m : Machine S) (laws : Laws m) (w : Wiring) (inputs : List Input) (state : P → S) (now wakes : P → ℕ) (ls : List Level) (t : ℕ) (ts : List S) where
-  pub turns_none : (ps : List P) (answers : List (Option ℕ)) (flags : List Bool) → Turns m w inputs state now wakes ls t ts 0 ps ps answers flags
-  turns_none ps answers flags = record { done = λ k p q s h. absurd (omega arith); answered = refl; still = λ k s h. absurd (omega arith) }
+  pub turns_none : (ps : List P) (answers : List (Option ℕ)) (changed : Bool) → Turns m w inputs state now wakes ls t ts 0 ps ps answers changed
+  turns_none ps answers changed = record { done = λ k p q s h. absurd (omega arith); answered = refl; still = λ none k s h. absurd (omega arith) }
 
   -- one more turn
-  pub turns_more : (i : ℕ) (old new : List P) (answers : List (Option ℕ)) (flags : List Bool) (more : Bool) (p q : P) (s : S) (byte : Option ℕ) →
-      Turns m w inputs state now wakes ls t ts i old new answers flags → slice_get old i ≡ Some p → slice_get ts i ≡ Some s → i < length new → i < length answers → i < length flags →
-      HadTurn m w inputs state now wakes ls t i p q s byte more → Turns m w inputs state now wakes ls t ts (i + 1) old (slice_set new i q) (slice_set answers i byte) (slice_set flags i more)
-  turns_more i old new answers flags more p q s byte turns ep es within room space turn = record {
+  pub turns_more : (i : ℕ) (old new : List P) (answers : List (Option ℕ)) (changed more : Bool) (p q : P) (s : S) (byte : Option ℕ) →
+      Turns m w inputs state now wakes ls t ts i old new answers changed → slice_get old i ≡ Some p → slice_get ts i ≡ Some s → i < length new → i < length answers →
+      HadTurn m w inputs state now wakes ls t i p q s byte more → Turns m w inputs state now wakes ls t ts (i + 1) old (slice_set new i q) (slice_set answers i byte) (changed || more)
+  turns_more i old new answers changed more p q s byte turns ep es within room turn = record {
     done = λ k a b u l ea eb eu. elim (lt_or_eq k i l) [
       | inl less ↦
           let other : k ≢ i = omega arith in
@@ -143,22 +145,19 @@ module _ {S P : Type 0} (m : Machine S) (laws : Laws m) (w : Wiring) (inputs : L
           (subst (λ (x : P). Stands m (t + 1) (now x) (state x) (part_step m w inputs ls t i s).0 × (wakes x ≡ wakes p + active_in m w inputs ls t i (Some s)) × (wakes x ≤ now x)) b_is (turn.stands, turn.woken, turn.count))))
     ];
     answered = take_set_more answers (map (λ r. r.1) (steps_from m w inputs ls t 0 ts)) i byte room (get_answer m w inputs ls t i ts s es ∙ ap Some (sym turn.byte_is)) turns.answered;
-    still = λ k u l eu ef. elim (lt_or_eq k i l) [
-      | inl less ↦
-          let other : k ≢ i = omega arith in
-          turns.still k u less eu (sym (get_set_other flags i k more other) ∙ ef)
+    still = λ none k u l eu. let both = or_none changed more none in elim (lt_or_eq k i l) [
+      | inl less ↦ turns.still both.0 k u less eu
       | inr same ↦
           let u_is : s ≡ u = some_same (sym es ∙ subst (λ (j : ℕ). slice_get ts j ≡ Some u) same eu) in
-          let none : more ≡ false = some_same (sym (get_set_same flags i more space) ∙ subst (λ (j : ℕ). slice_get (slice_set flags i more) j ≡ Some false) same ef) in
           subst (λ (j : ℕ). SameShow m m (part_step m w inputs ls t j u).0 u) (sym same)
-          (subst (λ (x : S). SameShow m m (part_step m w inputs ls t i x).0 x) u_is (turn.still none))
+          (subst (λ (x : S). SameShow m m (part_step m w inputs ls t i x).0 x) u_is (turn.still both.1))
     ];
   }
 
   -- after all turns the parts stand for the states after the cycle
-  pub turns_stand : (old new : List P) (answers : List (Option ℕ)) (flags : List Bool) (n : ℕ) → length old ≤ n → length new ≡ length old → length old ≡ length ts →
-      Turns m w inputs state now wakes ls t ts n old new answers flags → Alike (λ k q u. Stands m (t + 1) (now q) (state q) u) new (map (λ r. r.0) (steps_from m w inputs ls t 0 ts))
-  turns_stand old new answers flags n all long same turns = record {
+  pub turns_stand : (old new : List P) (answers : List (Option ℕ)) (changed : Bool) (n : ℕ) → length old ≤ n → length new ≡ length old → length old ≡ length ts →
+      Turns m w inputs state now wakes ls t ts n old new answers changed → Alike (λ k q u. Stands m (t + 1) (now q) (state q) u) new (map (λ r. r.0) (steps_from m w inputs ls t 0 ts))
+  turns_stand old new answers changed n all long same turns = record {
     long = long ∙ same ∙ sym (simp length-map (length-steps_from m w inputs ls t 0 ts));
     each = λ k q u eq eu.
         let r = get_map_some (λ (r : S × Option ℕ). r.0) (steps_from m w inputs ls t 0 ts) k u eu in
@@ -171,6 +170,58 @@ module _ {S P : Type 0} (m : Machine S) (laws : Laws m) (w : Wiring) (inputs : L
         let e : (part_step m w inputs ls t k f.0).0 ≡ u = ap (λ (r : S × Option ℕ). r.0) f.2 ∙ r.2 in
         subst (λ (x : S). Stands m (t + 1) (now q) (state q) x) e d.0;
   }
+
+-- What a part drives and connects after its turn, beside what it did.
+module _ {S P : Type 0} (m : Machine S) (laws : Laws m) (state : P → S) (now wakes : P → ℕ) (t : ℕ) (p q : P) where
+  -- it has as many pins and contacts
+  pub turned_room : (b : Bool) (own : List Level) (input byte : Option ℕ) (changed : Bool) → turned m state now wakes b t own input p q byte changed →
+      (length (m.drives (state q)) ≡ length (m.drives (state p))) × (length (m.contacts (state q)) ≡ length (m.contacts (state p)))
+  turned_room true own input byte changed h = (
+    ap (λ (s : S). length (m.drives s)) h.state_is ∙ laws.keeps_pins _ t own input ∙ glide_pins m laws (state p) (now p) (t - now p),
+    ap (λ (s : S). length (m.contacts s)) h.state_is ∙ laws.keeps_contacts _ t own input ∙ glide_ports m laws (state p) (now p) (t - now p),
+  )
+  turned_room false own input byte changed h = (ap (λ (x : P). length (m.drives (state x))) h.0, ap (λ (x : P). length (m.contacts (state x))) h.0)
+
+  -- it drives and connects the same, where its wake says so
+  pub turned_still : (b : Bool) (own : List Level) (input byte : Option ℕ) (changed : Bool) → m.valid (state p) (now p) ≡ true → IsQuiet m (state p) (now p) (t - now p) → turned m state now wakes b t own input p q byte changed → changed ≡ false →
+      (m.drives (state q) ≡ m.drives (state p)) × (m.contacts (state q) ≡ m.contacts (state p))
+  turned_still true own input byte changed v quiet h none = (
+    h.drives none ∙ glide_drives m laws (state p) (now p) (t - now p) v quiet,
+    h.contacts none ∙ glide_contacts m laws (state p) (now p) (t - now p) v quiet,
+  )
+  turned_still false own input byte changed v quiet h none = (ap (λ (x : P). m.drives (state x)) h.0, ap (λ (x : P). m.contacts (state x)) h.0)
+
+  -- and so do the pins that did not move
+  pub turned_others : (moves : ℕ → Bool) → m.valid (state p) (now p) ≡ true → IsQuiet m (state p) (now p) (t - now p) →
+      ((j : ℕ) → moves j ≡ false → slice_get (m.drives (state q)) j ≡ slice_get (m.drives (glided m state now wakes t p)) j) → (j : ℕ) → moves j ≡ false → slice_get (m.drives (state q)) j ≡ slice_get (m.drives (state p)) j
+  turned_others moves v quiet same j none = same j none ∙ ap (λ l. slice_get l j) (glide_drives m laws (state p) (now p) (t - now p) v quiet)
+
+-- a part with as many pins and contacts in place of another
+pub fits_set : {S P : Type 0} (m : Machine S) (w : Wiring) (state : P → S) (parts : List P) (i : ℕ) (p q : P) → slice_get parts i ≡ Some p →
+    (length (m.drives (state q)) ≡ length (m.drives (state p))) × (length (m.contacts (state q)) ≡ length (m.contacts (state p))) → Fits m w (map state parts) → Fits m w (map state (slice_set parts i q))
+fits_set {S} {P} m w state parts i p q ep room fits = fits_room m w (map state parts) (map state (slice_set parts i q)) longer each fits
+  where
+    longer : length (map state parts) ≡ length (map state (slice_set parts i q))
+    longer = simp length-map (sym (length-set parts i q))
+
+    each : (k : ℕ) (x y : S) → slice_get (map state parts) k ≡ Some x → slice_get (map state (slice_set parts i q)) k ≡ Some y → SameRoom m k x y
+    each k x y ex ey =
+        let a = get_map_some state parts k x ex in
+        let b = get_map_some state (slice_set parts i q) k y ey in
+        elim (eqb_tells k i) [
+          | inl same ↦
+              let a_is : p ≡ a.0 = some_same (sym ep ∙ subst (λ (j : ℕ). slice_get parts j ≡ Some a.0) same.1 a.1) in
+              let b_is : q ≡ b.0 = some_same (sym (get_set_same parts i q (slice_get_within parts i p ep)) ∙ subst (λ (j : ℕ). slice_get (slice_set parts i q) j ≡ Some b.0) same.1 b.1) in
+              let x_is : state p ≡ x = ap state a_is ∙ a.2 in
+              let y_is : state q ≡ y = ap state b_is ∙ b.2 in (
+                ap (λ (s : S). length (m.drives s)) (sym x_is) ∙ sym room.0 ∙ ap (λ (s : S). length (m.drives s)) y_is,
+                ap (λ (s : S). length (m.contacts s)) (sym x_is) ∙ sym room.1 ∙ ap (λ (s : S). length (m.contacts s)) y_is,
+              )
+          | inr other ↦
+              let is : a.0 ≡ b.0 = some_same (sym a.1 ∙ sym (get_set_other parts i k q other.1) ∙ b.1) in
+              let x_is : x ≡ y = sym a.2 ∙ ap state is ∙ b.2 in
+              (ap (λ (s : S). length (m.drives s)) x_is, ap (λ (s : S). length (m.contacts s)) x_is)
+        ]
 
 -- the due cycles of all parts, where one was renewed
 pub due_set : {S P : Type 0} (m : Machine S) (state : P → S) (now wakes : P → ℕ) (parts : List P) (dues : List (Option ℕ)) (i : ℕ) (q : P) (d : Option ℕ) →

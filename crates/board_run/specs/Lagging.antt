@@ -73,9 +73,9 @@ pub record HadTurn {S P : Type 0} (m : Machine S) (w : Wiring) (inputs : List In
   pub byte_is : byte ≡ (part_step m w inputs ls t k s).1
   pub still : changed ≡ false → SameShow m m (part_step m w inputs ls t k s).0 s
 
--- the parts before number i had their turn, and a part's flag says whether it may show something else
-pub record Turns {S P : Type 0} (m : Machine S) (w : Wiring) (inputs : List Input) (state : P → S) (now wakes : P → ℕ) (ls : List Level) (t : ℕ) (ts : List S) (i : ℕ) (old new : List P) (answers : List (Option ℕ)) (flags : List Bool) : Type 0 where
+-- the parts before number i had their turn, and one may show something else or none does
+pub record Turns {S P : Type 0} (m : Machine S) (w : Wiring) (inputs : List Input) (state : P → S) (now wakes : P → ℕ) (ls : List Level) (t : ℕ) (ts : List S) (i : ℕ) (old new : List P) (answers : List (Option ℕ)) (changed : Bool) : Type 0 where
   pub done : (k : ℕ) (p q : P) (s : S) → k < i → slice_get old k ≡ Some p → slice_get new k ≡ Some q → slice_get ts k ≡ Some s →
       Stands m (t + 1) (now q) (state q) (part_step m w inputs ls t k s).0 × (wakes q ≡ wakes p + active_in m w inputs ls t k (Some s)) × (wakes q ≤ now q)
   pub answered : take i answers ≡ take i (map (λ r. r.1) (steps_from m w inputs ls t 0 ts))
-  pub still : (k : ℕ) (s : S) → k < i → slice_get ts k ≡ Some s → slice_get flags k ≡ Some false → SameShow m m (part_step m w inputs ls t k s).0 s
+  pub still : changed ≡ false → (k : ℕ) (s : S) → k < i → slice_get ts k ≡ Some s → SameShow m m (part_step m w inputs ls t k s).0 s

@@ -9,19 +9,19 @@ use Rattle.board_model.specs.Rows.{chip_drives_of, shown_before}
 use Rattle.board_model.specs.Fits.{Fits}
 use Rattle.board_laws.specs.Active.{active_cycles, active_pairs}
 use Rattle.board_run.specs.Upcoming.{AreBehind}
-use Rattle.board_run.specs.Seen.{Seen, Suits, IsOf, AreRead, AreUnset, levels_on, shown_at}
+use Rattle.board_run.specs.Seen.{Seen, Suits, IsOf, IsTold, AreUnset, levels_on, shown_at}
 use Rattle.board_run.specs.Lagging.{glided, MayTurn}
 
 -- what an engine keeps beside the parts
 pub record Kept : Type 0 where
   -- where the script goes on
   pub input : ℕ
-  -- whether a drive or a contact may have changed since the parts were read
+  -- whether a drive or a contact may have changed since the nets were resolved
   pub stale : Bool
   -- the first due cycle of each part
   pub dues : List (Option ℕ)
-  -- which parts may drive or connect something else than was read
-  pub moved : List Bool
+  -- which parts have a level on a pin that they do not hold; between cycles none
+  pub differ : List Bool
   pub seen : Seen
   pub answers : List (Option ℕ)
 
@@ -37,13 +37,13 @@ module _ {S P : Type 0} (m : Machine S) (w : Wiring) (state : P → S) (now wake
     pub valid : (k : ℕ) (p : P) → slice_get parts k ≡ Some p → m.valid (state p) (now p) ≡ true
     pub dues_long : length kept.dues ≡ length parts
     pub answers_long : length kept.answers ≡ length parts
-    pub moved_long : length kept.moved ≡ length parts
+    pub differ_long : length kept.differ ≡ length parts
     pub fits : Fits m w (map state parts)
     pub suits : Suits w kept.seen
     pub chips_long : length kept.seen.chip_drives ≡ length (chip_drives_of m w.chip (map state parts))
     pub fresh : kept.stale ≡ false → IsOf m w (map state parts) kept.seen
-    pub unset : kept.stale ≡ false → AreUnset kept.moved
-    pub read : AreRead m (map state parts) kept.moved kept.seen.circuit
+    pub unset : AreUnset kept.differ
+    pub told : IsTold m (map state parts) kept.seen.circuit
     pub holds : (k : ℕ) (p : P) → slice_get parts k ≡ Some p → 0 < t → m.held (state p) ≡ levels_on m w kept.seen.circuit.levels k (state p)
 
   -- From cycle t to cycle u the parts went on as the board does, and were woken where they are active.

@@ -8,7 +8,7 @@ ghost use Rattle.board_model.specs.Board.{bytes, options};
 ghost use Rattle.board_model.specs.Rows.{rows};
 ghost use Rattle.board_model.specs.Fits.{Fits};
 ghost use Rattle.board_laws.specs.Active.{sum_below, active_in};
-ghost use Rattle.board_run.specs.Seen.{shown_at, AreUnset};
+ghost use Rattle.board_run.specs.Seen.{Suits, IsTold, AreUnset, retold, shown_at};
 ghost use Rattle.board_run.specs.Upcoming.{AreBehind, IsInOrder};
 ghost use Rattle.board_run.specs.Lagging.{glided, own_part, MayTurn, Awaits, Turns, AreDue};
 ghost use Rattle.board_run.specs.Legs.{Lags, Leg};
@@ -30,7 +30,7 @@ fn turn_read<P: Part, L: Ledger>(
     parts: &mut [P],
     dues: &mut DueTree,
     wiring: &Wiring,
-    reading: &Reading,
+    reading: &mut Reading,
     flags: &mut [bool],
     given: &[Input],
     answers: &mut [Option<u8>],
@@ -41,19 +41,23 @@ fn turn_read<P: Part, L: Ledger>(
     requires few { length parts.old ≤ 64 }
     requires fits { Fits P.machine wiring.now (map P.state parts.old) }
     requires may { (k : ℕ) (p : _) (d : Option ℕ) → slice_get parts.old k ≡ Some p → slice_get dues.old k ≡ Some d → MayTurn P.machine P.state P.now P.wake_count t d p }
+    requires valid { (k : ℕ) (p : _) → slice_get parts.old k ≡ Some p → P.machine.valid (P.state p) (P.now p) ≡ true }
     requires dues { length dues.old ≡ length parts.old }
-    requires own { length reading.now.own ≡ length wiring.now.net_of }
+    requires suits { Suits wiring.now reading.old }
+    requires told { IsTold P.machine (map P.state parts.old) reading.old.circuit }
     requires flags { length flags.old ≡ length parts.old }
-    requires differ { (k : ℕ) (p : _) → slice_get parts.old k ≡ Some p → slice_get flags.old k ≡ Some true → 0 < t → P.machine.held (P.state p) ≢ own_part wiring.now k (length (P.machine.drives (P.state p))) reading.now.own }
+    requires differ { (k : ℕ) (p : _) → slice_get parts.old k ≡ Some p → slice_get flags.old k ≡ Some true → 0 < t → P.machine.held (P.state p) ≢ own_part wiring.now k (length (P.machine.drives (P.state p))) reading.old.own }
     requires answers { length answers.old ≡ length parts.old }
-    ensures turns { (inputs : List Input) (ls : List Level) (ts : List P.State) → Awaits P.machine wiring.now P.state P.now given.now inputs ls reading.now.own flags.old t parts.old ts
-        → Turns P.machine wiring.now inputs P.state P.now P.wake_count ls t ts (length parts.old) parts.old parts.new answers.new flags.new }
-    ensures unset { result.changed ≡ false → AreUnset flags.new }
+    ensures turns { (inputs : List Input) (ls : List Level) (ts : List P.State) → Awaits P.machine wiring.now P.state P.now given.now inputs ls reading.old.own flags.old t parts.old ts
+        → Turns P.machine wiring.now inputs P.state P.now P.wake_count ls t ts (length parts.old) parts.old parts.new answers.new result.changed }
+    ensures told { IsTold P.machine (map P.state parts.new) reading.new.circuit }
+    ensures rest { reading.new ≡ retold reading.old reading.new.circuit.drives reading.new.circuit.closed }
+    ensures unset { AreUnset flags.new }
     ensures flags { length flags.new ≡ length flags.old }
     ensures due { AreDue P.machine P.state P.now P.wake_count parts.new dues.new }
     ensures dues { length dues.new ≡ length dues.old }
     ensures silent { result.sent ≡ false → options answers.new ≡ [] }
-    ensures steps { (inputs : List Input) (ls : List Level) (ts : List P.State) → Awaits P.machine wiring.now P.state P.now given.now inputs ls reading.now.own flags.old t parts.old ts
+    ensures steps { (inputs : List Input) (ls : List Level) (ts : List P.State) → Awaits P.machine wiring.now P.state P.now given.now inputs ls reading.old.own flags.old t parts.old ts
         → steps.new ≡ steps.old + sum_below (length parts.old) (λ k. active_in P.machine wiring.now inputs ls t k (slice_get ts k)) }
 {
     wake_active(
@@ -65,6 +69,7 @@ fn turn_read<P: Part, L: Ledger>(
         given,
         answers,
         t,
+        &mut reading.nets,
         steps,
     )
 }
@@ -87,11 +92,11 @@ pub(crate) fn event<P: Part, W: Watcher, L: Ledger>(
     requires order { IsInOrder inputs.now }
     requires behind { AreBehind inputs.now next.input t }
     requires lags { Lags P.machine wiring.now P.state P.now P.wake_count t parts.old
-        (record { input = next.input; stale = next.stale; dues = dues.old; moved = flags.old; seen = reading.old; answers = answers.old }) }
+        (record { input = next.input; stale = next.stale; dues = dues.old; differ = flags.old; seen = reading.old; answers = answers.old }) }
     requires whole { W.whole out.old ≡ true }
     requires later { IsBehind W.last W.seen out.old t reading.old.circuit.levels }
     ensures lags { (x : Next) → result ≡ Some x → Lags P.machine wiring.now P.state P.now P.wake_count (t + 1) parts.new
-        (record { input = x.input; stale = x.stale; dues = dues.new; moved = flags.new; seen = reading.new; answers = answers.new }) }
+        (record { input = x.input; stale = x.stale; dues = dues.new; differ = flags.new; seen = reading.new; answers = answers.new }) }
     ensures behind { (x : Next) → result ≡ Some x → AreBehind inputs.now x.input (t + 1) }
     ensures leg { Leg P.machine wiring.now P.state P.now P.wake_count inputs.now t (t + 1) parts.old parts.new reading.old reading.new steps.old steps.new }
     ensures handed { (x : Next) → result ≡ Some x → Handed W.whole W.faults W.stands out.old out.new

@@ -11,11 +11,11 @@ mod gate;
 mod gather;
 mod hand;
 mod jump;
-mod moved;
 mod reading;
 mod script;
 mod show;
 mod start;
+mod tell;
 #[cfg(test)]
 mod tests;
 mod turn;

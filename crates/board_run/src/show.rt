@@ -4,7 +4,7 @@ ghost use Rattle.sim_base.specs.Causes.{Rose};
 ghost use Rattle.sim_base.specs.Rows.{Handed, Appends, AreBut, IsBehind};
 ghost use Rattle.board_model.specs.Rows.{chip_drives_of, shown_of, same_shown, row_if};
 ghost use Rattle.board_model.specs.Fits.{Fits};
-ghost use Rattle.board_run.specs.Seen.{Suits, IsOf, AreRead, AreUnset, AreDiffering, shown, shown_at};
+ghost use Rattle.board_run.specs.Seen.{Suits, IsOf, IsTold, AreUnset, AreDiffering, shown, shown_at};
 
 use crate::hand::hand_row;
 use crate::reading::Reading;
@@ -12,14 +12,14 @@ use part_law::Part;
 use sim_base::{Watcher, Wiring, WriteEnd};
 
 /// Where a board goes on: at which script value, and whether a drive or a contact may have changed
-/// since the parts were read.
+/// since the nets were resolved.
 #[derive(Clone, Copy, Debug, PartialEq, Eq, Drop)]
 pub(crate) struct Next {
     pub(crate) input: usize,
     pub(crate) stale: bool,
 }
 
-/// Reads the parts that moved, where one did, and tells whether rows show what they showed before.
+/// Reads what the parts show, where it may have changed, and tells whether rows show what they showed before.
 #[inline]
 fn refresh<P: Part>(
     stale: bool,
@@ -33,8 +33,8 @@ fn refresh<P: Part>(
     requires chips { length reading.old.chip_drives ≡ length (chip_drives_of P.machine wiring.now.chip (map P.state parts.now)) }
     requires fresh { stale ≡ false → IsOf P.machine wiring.now (map P.state parts.now) reading.old }
     requires flags { length flags.old ≡ length parts.now }
-    requires unset { stale ≡ false → AreUnset flags.old }
-    requires read { AreRead P.machine (map P.state parts.now) flags.old reading.old.circuit }
+    requires unset { AreUnset flags.old }
+    requires told { IsTold P.machine (map P.state parts.now) reading.old.circuit }
     ensures suits { Suits wiring.now reading.new }
     ensures of { IsOf P.machine wiring.now (map P.state parts.now) reading.new }
     ensures same { result ≡ same_shown (shown reading.old) (shown_of P.machine wiring.now (map P.state parts.now)) }
@@ -65,8 +65,8 @@ pub(crate) fn show_cycle<P: Part, W: Watcher>(
     requires chips { length reading.old.chip_drives ≡ length (chip_drives_of P.machine wiring.now.chip (map P.state parts.now)) }
     requires fresh { stale ≡ false → IsOf P.machine wiring.now (map P.state parts.now) reading.old }
     requires flags { length flags.old ≡ length parts.now }
-    requires unset { stale ≡ false → AreUnset flags.old }
-    requires read { AreRead P.machine (map P.state parts.now) flags.old reading.old.circuit }
+    requires unset { AreUnset flags.old }
+    requires told { IsTold P.machine (map P.state parts.now) reading.old.circuit }
     requires whole { W.whole out.old ≡ true }
     requires behind { IsBehind W.last W.seen out.old cycle reading.old.circuit.levels }
     ensures suits { Suits wiring.now reading.new }

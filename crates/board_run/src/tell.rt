@@ -1,21 +1,25 @@
-//! The nets are told what those parts drive and connect that moved.
-ghost use Rattle.std.specs.Prelude.{◌≡◌, ◌+◌, ◌^◌, ◌<◌, ◌≤◌, length, map, false};
+//! The nets are told what parts drive and connect.
+ghost use Rattle.std.specs.Prelude.{◌≡◌, ℕ, ◌+◌, ◌^◌, ◌<◌, ◌≤◌, length, map, take, true, false, Some, slice_get};
+ghost use Rattle.part_law.specs.Spans.{IsIn};
 ghost use Rattle.board_model.specs.Board.{drives_of, contacts_of};
-ghost use Rattle.board_run.specs.Seen.{Put, IsRead, AreRead};
+ghost use Rattle.board_run.specs.Seen.{HasAt, Put};
 
 use net_resolve::Nets;
-use part_law::Part;
+use part_law::{Part, Span};
 
-/// Sets what a part's pins drive, from a place on.
-fn set_pins<P: Part>(part: &P, at: usize, nets: &mut Nets)
+/// Sets what the pins of a span drive; the part's pins begin at a place.
+fn set_pins<P: Part>(part: &P, span: Span, at: usize, nets: &mut Nets)
     requires room { at + length (P.machine.drives (P.state part.now)) ≤ length nets.old.net_of }
     requires few { length nets.old.net_of < 2 ^ 63 }
     requires long { length nets.old.drives ≡ length nets.old.net_of }
+    requires others { (j : ℕ) → j < length (P.machine.drives (P.state part.now)) → j < 255 → ¬ IsIn span j
+        → slice_get nets.old.drives (at + j) ≡ slice_get (P.machine.drives (P.state part.now)) j }
     ensures put { Put at (length (P.machine.drives (P.state part.now))) (P.machine.drives (P.state part.now)) nets.old.drives nets.new.drives }
     ensures rest { nets.new ≡ record nets.old { drives = nets.new.drives } }
 {
-    let pins = part.pins();
-    for pin in 0..pins {
+    let to = span.to.min(part.pins());
+    let from = span.from.min(to);
+    for pin in from..to {
         let drive = part.drive(pin);
         nets.set_drive(at + pin as usize, drive);
     }
@@ -36,34 +40,29 @@ fn set_ports<P: Part>(part: &P, at: usize, nets: &mut Nets)
     }
 }
 
-/// Sets what a part drives and connects, if it moved.
+/// Sets all that a part drives and connects.
 #[inline]
-fn read_part<P: Part>(moved: bool, part: &P, pin: usize, contact: usize, nets: &mut Nets)
+fn tell_part<P: Part>(part: &P, pin: usize, contact: usize, nets: &mut Nets)
     requires pins { pin + length (P.machine.drives (P.state part.now)) ≤ length nets.old.net_of }
     requires contacts { contact + length (P.machine.contacts (P.state part.now)) ≤ length nets.old.contacts }
     requires few { (length nets.old.net_of < 2 ^ 63) × (length nets.old.contacts < 2 ^ 63) }
     requires drives_long { length nets.old.drives ≡ length nets.old.net_of }
     requires closed_long { length nets.old.closed ≡ length nets.old.contacts }
-    requires read { moved ≡ false → IsRead P.machine pin contact (P.state part.now) nets.old }
     ensures drives { Put pin (length (P.machine.drives (P.state part.now))) (P.machine.drives (P.state part.now)) nets.old.drives nets.new.drives }
     ensures closed { Put contact (length (P.machine.contacts (P.state part.now))) (P.machine.contacts (P.state part.now)) nets.old.closed nets.new.closed }
     ensures rest { nets.new ≡ record nets.old { drives = nets.new.drives; closed = nets.new.closed } }
 {
-    if moved {
-        set_pins(part, pin, nets);
-        set_ports(part, contact, nets);
-    }
+    set_pins(part, Span::all(), pin, nets);
+    set_ports(part, contact, nets);
 }
 
-/// Reads the parts that moved.
-pub(crate) fn read_moved<P: Part>(parts: &[P], moved: &[bool], nets: &mut Nets)
-    requires moved { length moved.now ≡ length parts.now }
+/// Tells what all parts drive and connect.
+pub(crate) fn tell_all<P: Part>(parts: &[P], nets: &mut Nets)
     requires pins { length nets.old.net_of ≡ length (drives_of P.machine (map P.state parts.now)) }
     requires contacts { length nets.old.contacts ≡ length (contacts_of P.machine (map P.state parts.now)) }
     requires few { (length nets.old.net_of < 2 ^ 63) × (length nets.old.contacts < 2 ^ 63) }
     requires drives_long { length nets.old.drives ≡ length nets.old.net_of }
     requires closed_long { length nets.old.closed ≡ length nets.old.contacts }
-    requires read { AreRead P.machine (map P.state parts.now) moved.now nets.old }
     ensures drives { nets.new.drives ≡ drives_of P.machine (map P.state parts.now) }
     ensures closed { nets.new.closed ≡ contacts_of P.machine (map P.state parts.now) }
     ensures rest { nets.new ≡ record nets.old { drives = nets.new.drives; closed = nets.new.closed } }
@@ -73,8 +72,64 @@ pub(crate) fn read_moved<P: Part>(parts: &[P], moved: &[bool], nets: &mut Nets)
     for i in 0..parts.len() {
         let pins = parts[i].pins() as usize;
         let contacts = parts[i].contacts() as usize;
-        read_part(moved[i], &parts[i], pin, contact, nets);
+        tell_part(&parts[i], pin, contact, nets);
         pin += pins;
         contact += contacts;
+    }
+}
+
+/// Where the contacts of part `i` begin.
+fn first_contact<P: Part>(parts: &[P], i: usize) -> usize
+    requires within { i ≤ length parts.now }
+    requires few { length (contacts_of P.machine (map P.state parts.now)) < 2 ^ 63 }
+    ensures { result ≡ length (contacts_of P.machine (take i (map P.state parts.now))) }
+{
+    let mut at = 0;
+    for k in 0..i {
+        at += parts[k].contacts() as usize;
+    }
+    at
+}
+
+/// Tells which contacts of part `i` are closed, where it has any.
+#[inline]
+fn tell_contacts<P: Part>(parts: &[P], i: usize, nets: &mut Nets)
+    requires within { i < length parts.now }
+    requires contacts { length nets.old.contacts ≡ length (contacts_of P.machine (map P.state parts.now)) }
+    requires few { length nets.old.contacts < 2 ^ 63 }
+    requires long { length nets.old.closed ≡ length nets.old.contacts }
+    ensures put { (p : _) → slice_get parts.now i ≡ Some p → Put (length (contacts_of P.machine (take i (map P.state parts.now))))
+        (length (P.machine.contacts (P.state p))) (P.machine.contacts (P.state p)) nets.old.closed nets.new.closed }
+    ensures rest { nets.new ≡ record nets.old { closed = nets.new.closed } }
+{
+    if parts[i].contacts() != 0 {
+        let contact = first_contact(parts, i);
+        set_ports(&parts[i], contact, nets);
+    }
+}
+
+/// Tells what part `i` drives and connects, whose pins begin at a place, where its last wake may have changed it.
+#[inline]
+pub(crate) fn tell<P: Part>(moved: bool, parts: &[P], i: usize, first: usize, nets: &mut Nets)
+    requires within { i < length parts.now }
+    requires first { first ≡ length (drives_of P.machine (take i (map P.state parts.now))) }
+    requires pins { length nets.old.net_of ≡ length (drives_of P.machine (map P.state parts.now)) }
+    requires contacts { length nets.old.contacts ≡ length (contacts_of P.machine (map P.state parts.now)) }
+    requires few { (length nets.old.net_of < 2 ^ 63) × (length nets.old.contacts < 2 ^ 63) }
+    requires drives_long { length nets.old.drives ≡ length nets.old.net_of }
+    requires closed_long { length nets.old.closed ≡ length nets.old.contacts }
+    requires still { (p : _) → slice_get parts.now i ≡ Some p → moved ≡ false → HasAt first (P.machine.drives (P.state p)) nets.old.drives
+        × HasAt (length (contacts_of P.machine (take i (map P.state parts.now)))) (P.machine.contacts (P.state p)) nets.old.closed }
+    requires others { (p : _) → slice_get parts.now i ≡ Some p → moved ≡ true → (j : ℕ) → j < length (P.machine.drives (P.state p)) → P.moves p j ≡ false
+        → slice_get nets.old.drives (first + j) ≡ slice_get (P.machine.drives (P.state p)) j }
+    ensures drives { (p : _) → slice_get parts.now i ≡ Some p → Put first (length (P.machine.drives (P.state p))) (P.machine.drives (P.state p)) nets.old.drives nets.new.drives }
+    ensures closed { (p : _) → slice_get parts.now i ≡ Some p → Put (length (contacts_of P.machine (take i (map P.state parts.now))))
+        (length (P.machine.contacts (P.state p))) (P.machine.contacts (P.state p)) nets.old.closed nets.new.closed }
+    ensures rest { nets.new ≡ record nets.old { drives = nets.new.drives; closed = nets.new.closed } }
+{
+    if moved {
+        let span = parts[i].moved();
+        set_pins(&parts[i], span, first, nets);
+        tell_contacts(parts, i, nets);
     }
 }

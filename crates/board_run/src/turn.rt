@@ -7,10 +7,12 @@ ghost use Rattle.board_model.specs.Board.{options};
 ghost use Rattle.board_model.specs.Fits.{Fits};
 ghost use Rattle.board_laws.specs.Active.{sum_below, active_in};
 ghost use Rattle.board_run.specs.Lagging.{is_at, to_wake, own_part, glided, MayTurn, Wakes, turned, Awaits, Turns, AreDue};
-ghost use Rattle.board_run.specs.Seen.{AreUnset};
+ghost use Rattle.board_run.specs.Seen.{AreUnset, IsTold};
 
 use crate::gather::find_input;
+use crate::tell::tell;
 use event_queue::DueTree;
+use net_resolve::Nets;
 use part_law::Part;
 use sim_base::{Input, Level, Steps, Wiring};
 use std::sync::ledger::Ledger;
@@ -57,6 +59,8 @@ fn wake_late<P: Part, L: Ledger>(
     requires active { MayWake P.machine (glided P.machine P.state P.now P.wake_count t part.old) t own.now input }
     ensures wakes { Wakes P.machine P.state P.now P.wake_count t own.now input part.old part.new result.0 result.1 }
     ensures first { IsFirstDue P.machine (P.state part.new) (P.now part.new) due.new }
+    ensures others { (pin : ℕ) → P.moves part.new pin ≡ false
+        → slice_get (P.machine.drives (P.state part.new)) pin ≡ slice_get (P.machine.drives (glided P.machine P.state P.now P.wake_count t part.old)) pin }
     ensures steps { steps.new ≡ steps.old + 1 }
 {
     part.settle(t);
@@ -83,6 +87,8 @@ fn take_turn<P: Part, L: Ledger>(
     requires differs { differs ≡ true → 0 < t → P.machine.held (P.state part.old) ≢ own.now }
     ensures turn { turned P.machine P.state P.now P.wake_count (to_wake due.old t input differs) t own.now input part.old part.new result.0 result.1 }
     ensures first { IsFirstDue P.machine (P.state part.new) (P.now part.new) due.new }
+    ensures others { result.1 ≡ true → (pin : ℕ) → P.moves part.new pin ≡ false
+        → slice_get (P.machine.drives (P.state part.new)) pin ≡ slice_get (P.machine.drives (glided P.machine P.state P.now P.wake_count t part.old)) pin }
     ensures steps { steps.new ≡ steps.old + (if to_wake due.old t input differs then 1 else 0) }
 {
     if is_to_wake(*due, t, input, differs) {
@@ -92,9 +98,9 @@ fn take_turn<P: Part, L: Ledger>(
     }
 }
 
-/// Gives every part its turn: those that are active are woken. It leaves the byte of each, if any, in answers.
-/// A part's flag says whether one of its pins has a level that it does not hold, and after its turn
-/// whether it may drive or connect something else.
+/// Gives every part its turn: those that are active are woken, and the nets are told what they drive and connect.
+/// It leaves the byte of each, if any, in answers. A part's flag says whether one of its pins has a level that it
+/// does not hold; after its turn it is off.
 pub(crate) fn wake_active<P: Part, L: Ledger>(
     parts: &mut [P],
     dues: &mut DueTree,
@@ -104,20 +110,26 @@ pub(crate) fn wake_active<P: Part, L: Ledger>(
     given: &[Input],
     answers: &mut [Option<u8>],
     t: u32,
+    nets: &mut Nets,
     steps: &mut Steps<L>,
 ) -> Woken
     requires end { t < 160000000 }
     requires few { length parts.old ≤ 64 }
     requires fits { Fits P.machine wiring.now (map P.state parts.old) }
     requires may { (k : ℕ) (p : _) (d : Option ℕ) → slice_get parts.old k ≡ Some p → slice_get dues.old k ≡ Some d → MayTurn P.machine P.state P.now P.wake_count t d p }
+    requires valid { (k : ℕ) (p : _) → slice_get parts.old k ≡ Some p → P.machine.valid (P.state p) (P.now p) ≡ true }
     requires dues { length dues.old ≡ length parts.old }
     requires own { length own.now ≡ length wiring.now.net_of }
     requires flags { length flags.old ≡ length parts.old }
     requires differ { (k : ℕ) (p : _) → slice_get parts.old k ≡ Some p → slice_get flags.old k ≡ Some true → 0 < t → P.machine.held (P.state p) ≢ own_part wiring.now k (length (P.machine.drives (P.state p))) own.now }
     requires answers { length answers.old ≡ length parts.old }
+    requires wired { (nets.old.net_of ≡ wiring.now.net_of) × (nets.old.contacts ≡ wiring.now.contacts) }
+    requires told { IsTold P.machine (map P.state parts.old) nets.old }
+    ensures told { IsTold P.machine (map P.state parts.new) nets.new }
+    ensures rest { nets.new ≡ record nets.old { drives = nets.new.drives; closed = nets.new.closed } }
     ensures turns { (inputs : List Input) (ls : List Level) (ts : List P.State) → Awaits P.machine wiring.now P.state P.now given.now inputs ls own.now flags.old t parts.old ts
-        → Turns P.machine wiring.now inputs P.state P.now P.wake_count ls t ts (length parts.old) parts.old parts.new answers.new flags.new }
-    ensures unset { result.changed ≡ false → AreUnset flags.new }
+        → Turns P.machine wiring.now inputs P.state P.now P.wake_count ls t ts (length parts.old) parts.old parts.new answers.new result.changed }
+    ensures unset { AreUnset flags.new }
     ensures flags { length flags.new ≡ length flags.old }
     ensures due { AreDue P.machine P.state P.now P.wake_count parts.new dues.new }
     ensures dues { length dues.new ≡ length dues.old }
@@ -125,6 +137,8 @@ pub(crate) fn wake_active<P: Part, L: Ledger>(
     ensures steps { (inputs : List Input) (ls : List Level) (ts : List P.State) → Awaits P.machine wiring.now P.state P.now given.now inputs ls own.now flags.old t parts.old ts
         → steps.new ≡ steps.old + sum_below (length parts.old) (λ k. active_in P.machine wiring.now inputs ls t k (slice_get ts k)) }
 {
+    let _net_of = wiring.net_of.as_slice(); // lists that are lent have lengths that numbers hold
+    let _contacts = wiring.contacts.as_slice();
     let mut changed = false;
     let mut sent = false;
     for i in 0..parts.len() {
@@ -143,7 +157,8 @@ pub(crate) fn wake_active<P: Part, L: Ledger>(
         );
         dues.set(i as u8, due);
         answers[i] = byte;
-        flags[i] = touched;
+        flags[i] = false;
+        tell(touched, parts, i, first, nets);
         changed = changed | touched;
         sent = sent | byte.is_some();
     }

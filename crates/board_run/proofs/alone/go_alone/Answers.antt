@@ -1,4 +1,5 @@
 use Rattle.std.proofs.Common.{◌≡◌, ◌+◌, ◌-◌, ◌∙◌, ℕ, ap, subst, arith, true}
+use Rattle.std.specs.Prelude.{slice_get}
 use Rattle.std.specs.Option.{option_to_list}
 use Rattle.part_law.specs.Machine.{glide, dues, sent, IsSame}
 use Rattle.part_law.proofs.MachineLemmas.{glide_valid}
@@ -75,3 +76,6 @@ returns-clause-sent g c =
     let before = c.requires.may.not_later in
     let r = c.go_on-went.result in
     subst (λ (z : p.State). sent m z t (r.to - t) ≡ option_to_list r.byte) c.settle.ensures.state (subst (λ (u : ℕ). sent m (p.state y) u (r.to - u) ≡ option_to_list r.byte) c.settle.ensures.now (c.go_on-went.ensures.sent))
+
+pub returns-clause-others : goal.returns-clause-others
+returns-clause-others g c = λ pin none. c.go_on-went.ensures.others pin none ∙ ap (λ s. slice_get (g.P.Part.machine.drives s) pin) c.settle.ensures.state

@@ -1,8 +1,15 @@
-use Rattle.std.proofs.Common.{◌≡◌, ◌-◌, ◌∙◌, sym, refl, subst, ℕ, Bool, List, [], get_or}
-use Rattle.std.specs.Prelude.{slice_set}
+use Rattle.std.proofs.Common.{◌≡◌, ◌+◌, ◌-◌, ◌<◌, ◌∙◌, ap, arith, sym, refl, subst, ℕ, Bool, false, List, [], length, map, take, get_or, Some, length-set}
+use Rattle.std.specs.Prelude.{slice_get, slice_set}
 use Rattle.sim_base.specs.Rows.{Handed, StopsWithin}
 use Rattle.part_law.specs.Machine.{sent}
-use Rattle.board_model.proofs.Lists.{some_same, get_within}
+use Rattle.board_model.specs.Board.{contacts_of}
+use Rattle.std.proofs.lemmas.List.{length-map}
+use Rattle.part_law.proofs.MachineLemmas.{glide_drives, glide_contacts}
+use Rattle.board_model.proofs.Lists.{some_same, get_within, get_set_same}
+use Rattle.board_run.specs.Seen.{HasAt}
+use Rattle.board_run.proofs.TurnLemmas.{fits_set, turned_others}
+use Rattle.board_run.proofs.AloneLemmas.{went_room}
+use Rattle.board_run.proofs.ReadLemmas.{told_more, still_told, others_told}
 use Rattle.board_run.specs.Lagging.{glided}
 use Rattle.board_run.specs.Legs.{WentAlone}
 use Rattle.board_run.proofs.HandLemmas.{one_byte, stops_whole}
@@ -79,3 +86,161 @@ returns-in-Failed-clause-failed g c = λ none.
       alone,
       subst (λ (bs : List ℕ). StopsWithin (o.stands c.args.out.now) (o.stopped c.hand_byte.new.out) [] bs) bytes (stops_whole (o.stands c.args.out.now) (o.stopped c.hand_byte.new.out) [] _ f.1),
     )
+
+pub tell-requires-clause-within : goal.tell-requires-clause-within
+tell-requires-clause-within g c =
+    let p = g.P.Part in
+    let m = p.machine in
+    let w = c.go_alone-went in
+    let who = c.args.who in
+    let t = c.args.t in
+    let parts = c.args.parts.now in
+    let x = get_or parts who c.index-parts-i.result in
+    let y = w.new.part in
+    let here = get_within parts who c.index-parts-i.result c.requires.who in
+    let may = c.requires.may who x _ here c.due-due.ensures in
+    let v = c.requires.valid who x here in
+    let room = went_room m g.met.P.Part.laws p.state p.now p.wake_count t x y (w.result.to - t) w.ensures.state in
+    let fits_new = fits_set m c.args.wiring.now p.state parts who x y here room c.requires.fits in
+    let new_is : slice_get (slice_set parts who y) who ≡ Some y = get_set_same parts who y c.requires.who in
+    let long : length (map p.state parts) ≡ length parts = simp length-map refl in
+    let long_new : length (map p.state (slice_set parts who y)) ≡ length parts = simp length-map (length-set parts who y) in
+    let place = ap (λ (l : List ℕ). get_or l who 0) c.as_slice.ensures ∙ c.requires.fits.places who (omega (arith, long, c.requires.who)) in
+    omega (arith, length-set parts who y, c.requires.who)
+
+pub tell-requires-clause-fits : goal.tell-requires-clause-fits
+tell-requires-clause-fits g c =
+    let p = g.P.Part in
+    let m = p.machine in
+    let w = c.go_alone-went in
+    let who = c.args.who in
+    let t = c.args.t in
+    let parts = c.args.parts.now in
+    let x = get_or parts who c.index-parts-i.result in
+    let y = w.new.part in
+    let here = get_within parts who c.index-parts-i.result c.requires.who in
+    let may = c.requires.may who x _ here c.due-due.ensures in
+    let v = c.requires.valid who x here in
+    let room = went_room m g.met.P.Part.laws p.state p.now p.wake_count t x y (w.result.to - t) w.ensures.state in
+    let fits_new = fits_set m c.args.wiring.now p.state parts who x y here room c.requires.fits in
+    let new_is : slice_get (slice_set parts who y) who ≡ Some y = get_set_same parts who y c.requires.who in
+    let long : length (map p.state parts) ≡ length parts = simp length-map refl in
+    let long_new : length (map p.state (slice_set parts who y)) ≡ length parts = simp length-map (length-set parts who y) in
+    let place = ap (λ (l : List ℕ). get_or l who 0) c.as_slice.ensures ∙ c.requires.fits.places who (omega (arith, long, c.requires.who)) in
+    fits_new
+
+pub tell-requires-clause-first : goal.tell-requires-clause-first
+tell-requires-clause-first g c =
+    let p = g.P.Part in
+    let m = p.machine in
+    let w = c.go_alone-went in
+    let who = c.args.who in
+    let t = c.args.t in
+    let parts = c.args.parts.now in
+    let x = get_or parts who c.index-parts-i.result in
+    let y = w.new.part in
+    let here = get_within parts who c.index-parts-i.result c.requires.who in
+    let may = c.requires.may who x _ here c.due-due.ensures in
+    let v = c.requires.valid who x here in
+    let room = went_room m g.met.P.Part.laws p.state p.now p.wake_count t x y (w.result.to - t) w.ensures.state in
+    let fits_new = fits_set m c.args.wiring.now p.state parts who x y here room c.requires.fits in
+    let new_is : slice_get (slice_set parts who y) who ≡ Some y = get_set_same parts who y c.requires.who in
+    let long : length (map p.state parts) ≡ length parts = simp length-map refl in
+    let long_new : length (map p.state (slice_set parts who y)) ≡ length parts = simp length-map (length-set parts who y) in
+    let place = ap (λ (l : List ℕ). get_or l who 0) c.as_slice.ensures ∙ c.requires.fits.places who (omega (arith, long, c.requires.who)) in
+    ap (λ (l : List ℕ). get_or l who 0) c.as_slice.ensures ∙ fits_new.places who (omega (arith, long_new, c.requires.who))
+
+pub tell-requires-clause-still : goal.tell-requires-clause-still
+tell-requires-clause-still g c =
+    let p = g.P.Part in
+    let m = p.machine in
+    let w = c.go_alone-went in
+    let who = c.args.who in
+    let t = c.args.t in
+    let parts = c.args.parts.now in
+    let x = get_or parts who c.index-parts-i.result in
+    let y = w.new.part in
+    let here = get_within parts who c.index-parts-i.result c.requires.who in
+    let may = c.requires.may who x _ here c.due-due.ensures in
+    let v = c.requires.valid who x here in
+    let room = went_room m g.met.P.Part.laws p.state p.now p.wake_count t x y (w.result.to - t) w.ensures.state in
+    let fits_new = fits_set m c.args.wiring.now p.state parts who x y here room c.requires.fits in
+    let new_is : slice_get (slice_set parts who y) who ≡ Some y = get_set_same parts who y c.requires.who in
+    let long : length (map p.state parts) ≡ length parts = simp length-map refl in
+    let long_new : length (map p.state (slice_set parts who y)) ≡ length parts = simp length-map (length-set parts who y) in
+    let place = ap (λ (l : List ℕ). get_or l who 0) c.as_slice.ensures ∙ c.requires.fits.places who (omega (arith, long, c.requires.who)) in
+    λ z ez none.
+    let z_is : y ≡ z = some_same (sym new_is ∙ ez) in
+    let ds = w.ensures.drives none ∙ glide_drives m g.met.P.Part.laws (p.state x) (p.now x) (t - p.now x) v may.quiet in
+    let cs = w.ensures.contacts none ∙ glide_contacts m g.met.P.Part.laws (p.state x) (p.now x) (t - p.now x) v may.quiet in
+    let told = still_told m p.state parts who x y c.args.reading.now.circuit c.args.reading.now.circuit here c.requires.told room.0 room.1 _ place ds cs in (
+      subst (λ (u : g.row.P.Denot). HasAt (get_or c.as_slice.result.now who 0) (m.drives (p.state u)) c.args.reading.now.circuit.drives) z_is told.0,
+      subst (λ (u : g.row.P.Denot). HasAt (length (contacts_of m (take who (map p.state (slice_set parts who y))))) (m.contacts (p.state u)) c.args.reading.now.circuit.closed) z_is told.1,
+    )
+
+pub tell-requires-clause-others : goal.tell-requires-clause-others
+tell-requires-clause-others g c =
+    let p = g.P.Part in
+    let m = p.machine in
+    let w = c.go_alone-went in
+    let who = c.args.who in
+    let t = c.args.t in
+    let parts = c.args.parts.now in
+    let x = get_or parts who c.index-parts-i.result in
+    let y = w.new.part in
+    let here = get_within parts who c.index-parts-i.result c.requires.who in
+    let may = c.requires.may who x _ here c.due-due.ensures in
+    let v = c.requires.valid who x here in
+    let room = went_room m g.met.P.Part.laws p.state p.now p.wake_count t x y (w.result.to - t) w.ensures.state in
+    let fits_new = fits_set m c.args.wiring.now p.state parts who x y here room c.requires.fits in
+    let new_is : slice_get (slice_set parts who y) who ≡ Some y = get_set_same parts who y c.requires.who in
+    let long : length (map p.state parts) ≡ length parts = simp length-map refl in
+    let long_new : length (map p.state (slice_set parts who y)) ≡ length parts = simp length-map (length-set parts who y) in
+    let place = ap (λ (l : List ℕ). get_or l who 0) c.as_slice.ensures ∙ c.requires.fits.places who (omega (arith, long, c.requires.who)) in
+    λ z ez some j within none.
+    let z_is : y ≡ z = some_same (sym new_is ∙ ez) in
+    let same = turned_others m g.met.P.Part.laws p.state p.now p.wake_count t x y (p.moves y) v may.quiet w.ensures.others in
+    subst (λ (u : g.row.P.Denot). j < length (m.drives (p.state u)) → p.moves u j ≡ false → slice_get c.args.reading.now.circuit.drives (get_or c.as_slice.result.now who 0 + j) ≡ slice_get (m.drives (p.state u)) j) z_is
+    (others_told m p.state parts who x y c.args.reading.now.circuit c.args.reading.now.circuit here c.requires.told room.0 room.1 _ place (p.moves y) same j) within none
+
+pub returns-in-Ok-clause-told : goal.returns-in-Ok-clause-told
+returns-in-Ok-clause-told g c =
+    let p = g.P.Part in
+    let m = p.machine in
+    let w = c.go_alone-went in
+    let who = c.args.who in
+    let t = c.args.t in
+    let parts = c.args.parts.now in
+    let x = get_or parts who c.index-parts-i.result in
+    let y = w.new.part in
+    let here = get_within parts who c.index-parts-i.result c.requires.who in
+    let may = c.requires.may who x _ here c.due-due.ensures in
+    let v = c.requires.valid who x here in
+    let room = went_room m g.met.P.Part.laws p.state p.now p.wake_count t x y (w.result.to - t) w.ensures.state in
+    let fits_new = fits_set m c.args.wiring.now p.state parts who x y here room c.requires.fits in
+    let new_is : slice_get (slice_set parts who y) who ≡ Some y = get_set_same parts who y c.requires.who in
+    let long : length (map p.state parts) ≡ length parts = simp length-map refl in
+    let long_new : length (map p.state (slice_set parts who y)) ≡ length parts = simp length-map (length-set parts who y) in
+    let place = ap (λ (l : List ℕ). get_or l who 0) c.as_slice.ensures ∙ c.requires.fits.places who (omega (arith, long, c.requires.who)) in
+    told_more m p.state parts who x y c.args.reading.now.circuit c.tell.new.self.circuit here c.requires.told room.0 room.1 _ place (c.tell.ensures.drives y new_is) (c.tell.ensures.closed y new_is)
+
+pub returns-in-Failed-clause-told : goal.returns-in-Failed-clause-told
+returns-in-Failed-clause-told g c =
+    let p = g.P.Part in
+    let m = p.machine in
+    let w = c.go_alone-went in
+    let who = c.args.who in
+    let t = c.args.t in
+    let parts = c.args.parts.now in
+    let x = get_or parts who c.index-parts-i.result in
+    let y = w.new.part in
+    let here = get_within parts who c.index-parts-i.result c.requires.who in
+    let may = c.requires.may who x _ here c.due-due.ensures in
+    let v = c.requires.valid who x here in
+    let room = went_room m g.met.P.Part.laws p.state p.now p.wake_count t x y (w.result.to - t) w.ensures.state in
+    let fits_new = fits_set m c.args.wiring.now p.state parts who x y here room c.requires.fits in
+    let new_is : slice_get (slice_set parts who y) who ≡ Some y = get_set_same parts who y c.requires.who in
+    let long : length (map p.state parts) ≡ length parts = simp length-map refl in
+    let long_new : length (map p.state (slice_set parts who y)) ≡ length parts = simp length-map (length-set parts who y) in
+    let place = ap (λ (l : List ℕ). get_or l who 0) c.as_slice.ensures ∙ c.requires.fits.places who (omega (arith, long, c.requires.who)) in
+    told_more m p.state parts who x y c.args.reading.now.circuit c.tell.new.self.circuit here c.requires.told room.0 room.1 _ place (c.tell.ensures.drives y new_is) (c.tell.ensures.closed y new_is)

@@ -6,7 +6,7 @@ use Rattle.part_law.specs.Machine.{sent}
 use Rattle.board_model.specs.Board.{bytes}
 use Rattle.board_model.specs.Rows.{rows}
 use Rattle.board_model.proofs.Lists.{some_same}
-use Rattle.board_run.specs.Seen.{shown_at}
+use Rattle.board_run.specs.Seen.{Seen, IsTold, retold, shown_at}
 use Rattle.board_run.specs.Lagging.{glided}
 use Rattle.board_run.specs.Legs.{Kept, Lags, Leg, IsAlone}
 use Rattle.board_run.specs.declared.show.Next.{Next}
@@ -19,7 +19,7 @@ use Rattle.board_run.proofs.jump.advance.Goals as goal
 pub find_alone-requires-clause-late : goal.find_alone-requires-clause-late
 find_alone-requires-clause-late g c =
     let p = g.P.Part in
-    lags_late p.machine c.args.wiring.now p.state p.now p.wake_count c.args.t c.args.parts.now (record { input = c.args.next.input; stale = c.args.next.stale; dues = c.args.dues.now; moved = c.args.flags.now; seen = c.args.reading.now; answers = c.args.answers.now }) c.requires.lags
+    lags_late p.machine c.args.wiring.now p.state p.now p.wake_count c.args.t c.args.parts.now (record { input = c.args.next.input; stale = c.args.next.stale; dues = c.args.dues.now; differ = c.args.flags.now; seen = c.args.reading.now; answers = c.args.answers.now }) c.requires.lags
 
 pub stretch-requires-clause-end : goal.stretch-requires-clause-end
 stretch-requires-clause-end g c =
@@ -46,7 +46,7 @@ stretch-requires-clause-valid g c =
 pub event_and_jump-requires-clause-lags : goal.event_and_jump-requires-clause-lags
 event_and_jump-requires-clause-lags g c =
     let p = g.P.Part in
-    subst (λ (ds : List (Option ℕ)). Lags p.machine c.args.wiring.now p.state p.now p.wake_count c.args.t c.args.parts.now (record { input = c.args.next.input; stale = c.args.next.stale; dues = ds; moved = c.args.flags.now; seen = c.args.reading.now; answers = c.args.answers.now })) (sym c.find_alone.ensures.same) c.requires.lags
+    subst (λ (ds : List (Option ℕ)). Lags p.machine c.args.wiring.now p.state p.now p.wake_count c.args.t c.args.parts.now (record { input = c.args.next.input; stale = c.args.next.stale; dues = ds; differ = c.args.flags.now; seen = c.args.reading.now; answers = c.args.answers.now })) (sym c.find_alone.ensures.same) c.requires.lags
 
 pub returns-in-Some-stretch-clause-from : goal.returns-in-Some-stretch-clause-from
 returns-in-Some-stretch-clause-from g c = λ y ey.
@@ -59,8 +59,8 @@ returns-in-Some-stretch-clause-from g c = λ y ey.
     let limit = c.in-Some.limit in
     let found = c.in-Some.ensures in
     let same = c.find_alone.ensures.same in
-    let kept : Kept = record { input = c.args.next.input; stale = c.args.next.stale; dues = c.find_alone.new.dues; moved = c.args.flags.now; seen = c.args.reading.now; answers = c.args.answers.now } in
-    let lags : Lags m w p.state p.now p.wake_count t old kept = subst (λ (ds : List (Option ℕ)). Lags m w p.state p.now p.wake_count t old (record { input = c.args.next.input; stale = c.args.next.stale; dues = ds; moved = c.args.flags.now; seen = c.args.reading.now; answers = c.args.answers.now })) (sym same) c.requires.lags in
+    let kept : Kept = record { input = c.args.next.input; stale = c.args.next.stale; dues = c.find_alone.new.dues; differ = c.args.flags.now; seen = c.args.reading.now; answers = c.args.answers.now } in
+    let lags : Lags m w p.state p.now p.wake_count t old kept = subst (λ (ds : List (Option ℕ)). Lags m w p.state p.now p.wake_count t old (record { input = c.args.next.input; stale = c.args.next.stale; dues = ds; differ = c.args.flags.now; seen = c.args.reading.now; answers = c.args.answers.now })) (sym same) c.requires.lags in
     let alone : IsAlone c.args.inputs.now c.find_alone.new.dues c.args.next.input who t limit = subst (λ (ds : List (Option ℕ)). IsAlone c.args.inputs.now ds c.args.next.input who t limit) (sym same) (found.alone (who, limit) refl) in
     let most = found.within (who, limit) refl in
     let end : limit ≤ 160000000 = omega (arith, most, c.requires.end) in
@@ -87,8 +87,8 @@ returns-in-Some-stretch-clause-within g c = λ y ey.
     let limit = c.in-Some.limit in
     let found = c.in-Some.ensures in
     let same = c.find_alone.ensures.same in
-    let kept : Kept = record { input = c.args.next.input; stale = c.args.next.stale; dues = c.find_alone.new.dues; moved = c.args.flags.now; seen = c.args.reading.now; answers = c.args.answers.now } in
-    let lags : Lags m w p.state p.now p.wake_count t old kept = subst (λ (ds : List (Option ℕ)). Lags m w p.state p.now p.wake_count t old (record { input = c.args.next.input; stale = c.args.next.stale; dues = ds; moved = c.args.flags.now; seen = c.args.reading.now; answers = c.args.answers.now })) (sym same) c.requires.lags in
+    let kept : Kept = record { input = c.args.next.input; stale = c.args.next.stale; dues = c.find_alone.new.dues; differ = c.args.flags.now; seen = c.args.reading.now; answers = c.args.answers.now } in
+    let lags : Lags m w p.state p.now p.wake_count t old kept = subst (λ (ds : List (Option ℕ)). Lags m w p.state p.now p.wake_count t old (record { input = c.args.next.input; stale = c.args.next.stale; dues = ds; differ = c.args.flags.now; seen = c.args.reading.now; answers = c.args.answers.now })) (sym same) c.requires.lags in
     let alone : IsAlone c.args.inputs.now c.find_alone.new.dues c.args.next.input who t limit = subst (λ (ds : List (Option ℕ)). IsAlone c.args.inputs.now ds c.args.next.input who t limit) (sym same) (found.alone (who, limit) refl) in
     let most = found.within (who, limit) refl in
     let end : limit ≤ 160000000 = omega (arith, most, c.requires.end) in
@@ -116,8 +116,8 @@ returns-in-Some-stretch-clause-lags g c = λ y ey.
     let limit = c.in-Some.limit in
     let found = c.in-Some.ensures in
     let same = c.find_alone.ensures.same in
-    let kept : Kept = record { input = c.args.next.input; stale = c.args.next.stale; dues = c.find_alone.new.dues; moved = c.args.flags.now; seen = c.args.reading.now; answers = c.args.answers.now } in
-    let lags : Lags m w p.state p.now p.wake_count t old kept = subst (λ (ds : List (Option ℕ)). Lags m w p.state p.now p.wake_count t old (record { input = c.args.next.input; stale = c.args.next.stale; dues = ds; moved = c.args.flags.now; seen = c.args.reading.now; answers = c.args.answers.now })) (sym same) c.requires.lags in
+    let kept : Kept = record { input = c.args.next.input; stale = c.args.next.stale; dues = c.find_alone.new.dues; differ = c.args.flags.now; seen = c.args.reading.now; answers = c.args.answers.now } in
+    let lags : Lags m w p.state p.now p.wake_count t old kept = subst (λ (ds : List (Option ℕ)). Lags m w p.state p.now p.wake_count t old (record { input = c.args.next.input; stale = c.args.next.stale; dues = ds; differ = c.args.flags.now; seen = c.args.reading.now; answers = c.args.answers.now })) (sym same) c.requires.lags in
     let alone : IsAlone c.args.inputs.now c.find_alone.new.dues c.args.next.input who t limit = subst (λ (ds : List (Option ℕ)). IsAlone c.args.inputs.now ds c.args.next.input who t limit) (sym same) (found.alone (who, limit) refl) in
     let most = found.within (who, limit) refl in
     let end : limit ≤ 160000000 = omega (arith, most, c.requires.end) in
@@ -131,9 +131,10 @@ returns-in-Some-stretch-clause-lags g c = λ y ey.
     let went = s.went (changed, u) refl in
     let far = went.3.further in
     let x : Next × ℕ = (record { input = c.args.next.input; stale = changed }, u) in
-    let goes = alone_goes m g.met.P.Part.laws w p.state p.now p.wake_count c.args.inputs.now t u limit old new.parts kept new.dues changed c.args.steps.now new.steps who went.0 went.1 went.2 lags fresh later within end alone went.3 in
-    subst (λ (z : Next × ℕ). Lags m w p.state p.now p.wake_count z.1 new.parts (record { input = z.0.input; stale = z.0.stale; dues = new.dues; moved = new.flags; seen = c.args.reading.now; answers = c.args.answers.now })) (some_same ey)
-    (subst (λ (fs : List Bool). Lags m w p.state p.now p.wake_count u new.parts (record { input = c.args.next.input; stale = changed; dues = new.dues; moved = fs; seen = c.args.reading.now; answers = c.args.answers.now })) (sym (s.flags (changed, u) refl)) goes.lags)
+    let told : IsTold m (map p.state new.parts) (retold c.args.reading.now new.reading.circuit.drives new.reading.circuit.closed).circuit = record { drives_are = c.stretch.ensures.told.drives_are; closed_are = c.stretch.ensures.told.closed_are } in
+    let goes = alone_goes m g.met.P.Part.laws w p.state p.now p.wake_count c.args.inputs.now t u limit old new.parts kept new.dues changed c.args.steps.now new.steps who went.0 went.1 went.2 new.reading.circuit.drives new.reading.circuit.closed told lags fresh later within end alone went.3 in
+    subst (λ (z : Next × ℕ). Lags m w p.state p.now p.wake_count z.1 new.parts (record { input = z.0.input; stale = z.0.stale; dues = new.dues; differ = c.args.flags.now; seen = new.reading; answers = c.args.answers.now })) (some_same ey)
+    (subst (λ (v : Seen). Lags m w p.state p.now p.wake_count u new.parts (record { input = c.args.next.input; stale = changed; dues = new.dues; differ = c.args.flags.now; seen = v; answers = c.args.answers.now })) (sym c.stretch.ensures.rest) goes.lags)
 
 pub returns-in-Some-stretch-clause-behind : goal.returns-in-Some-stretch-clause-behind
 returns-in-Some-stretch-clause-behind g c = λ y ey.
@@ -146,8 +147,8 @@ returns-in-Some-stretch-clause-behind g c = λ y ey.
     let limit = c.in-Some.limit in
     let found = c.in-Some.ensures in
     let same = c.find_alone.ensures.same in
-    let kept : Kept = record { input = c.args.next.input; stale = c.args.next.stale; dues = c.find_alone.new.dues; moved = c.args.flags.now; seen = c.args.reading.now; answers = c.args.answers.now } in
-    let lags : Lags m w p.state p.now p.wake_count t old kept = subst (λ (ds : List (Option ℕ)). Lags m w p.state p.now p.wake_count t old (record { input = c.args.next.input; stale = c.args.next.stale; dues = ds; moved = c.args.flags.now; seen = c.args.reading.now; answers = c.args.answers.now })) (sym same) c.requires.lags in
+    let kept : Kept = record { input = c.args.next.input; stale = c.args.next.stale; dues = c.find_alone.new.dues; differ = c.args.flags.now; seen = c.args.reading.now; answers = c.args.answers.now } in
+    let lags : Lags m w p.state p.now p.wake_count t old kept = subst (λ (ds : List (Option ℕ)). Lags m w p.state p.now p.wake_count t old (record { input = c.args.next.input; stale = c.args.next.stale; dues = ds; differ = c.args.flags.now; seen = c.args.reading.now; answers = c.args.answers.now })) (sym same) c.requires.lags in
     let alone : IsAlone c.args.inputs.now c.find_alone.new.dues c.args.next.input who t limit = subst (λ (ds : List (Option ℕ)). IsAlone c.args.inputs.now ds c.args.next.input who t limit) (sym same) (found.alone (who, limit) refl) in
     let most = found.within (who, limit) refl in
     let end : limit ≤ 160000000 = omega (arith, most, c.requires.end) in
@@ -175,8 +176,8 @@ returns-in-Some-stretch-clause-leg g c = λ y ey.
     let limit = c.in-Some.limit in
     let found = c.in-Some.ensures in
     let same = c.find_alone.ensures.same in
-    let kept : Kept = record { input = c.args.next.input; stale = c.args.next.stale; dues = c.find_alone.new.dues; moved = c.args.flags.now; seen = c.args.reading.now; answers = c.args.answers.now } in
-    let lags : Lags m w p.state p.now p.wake_count t old kept = subst (λ (ds : List (Option ℕ)). Lags m w p.state p.now p.wake_count t old (record { input = c.args.next.input; stale = c.args.next.stale; dues = ds; moved = c.args.flags.now; seen = c.args.reading.now; answers = c.args.answers.now })) (sym same) c.requires.lags in
+    let kept : Kept = record { input = c.args.next.input; stale = c.args.next.stale; dues = c.find_alone.new.dues; differ = c.args.flags.now; seen = c.args.reading.now; answers = c.args.answers.now } in
+    let lags : Lags m w p.state p.now p.wake_count t old kept = subst (λ (ds : List (Option ℕ)). Lags m w p.state p.now p.wake_count t old (record { input = c.args.next.input; stale = c.args.next.stale; dues = ds; differ = c.args.flags.now; seen = c.args.reading.now; answers = c.args.answers.now })) (sym same) c.requires.lags in
     let alone : IsAlone c.args.inputs.now c.find_alone.new.dues c.args.next.input who t limit = subst (λ (ds : List (Option ℕ)). IsAlone c.args.inputs.now ds c.args.next.input who t limit) (sym same) (found.alone (who, limit) refl) in
     let most = found.within (who, limit) refl in
     let end : limit ≤ 160000000 = omega (arith, most, c.requires.end) in
@@ -190,8 +191,10 @@ returns-in-Some-stretch-clause-leg g c = λ y ey.
     let went = s.went (changed, u) refl in
     let far = went.3.further in
     let x : Next × ℕ = (record { input = c.args.next.input; stale = changed }, u) in
-    let goes = alone_goes m g.met.P.Part.laws w p.state p.now p.wake_count c.args.inputs.now t u limit old new.parts kept new.dues changed c.args.steps.now new.steps who went.0 went.1 went.2 lags fresh later within end alone went.3 in
-    subst (λ (z : Next × ℕ). Leg m w p.state p.now p.wake_count c.args.inputs.now t z.1 old new.parts c.args.reading.now c.args.reading.now c.args.steps.now new.steps) (some_same ey) goes.leg
+    let told : IsTold m (map p.state new.parts) (retold c.args.reading.now new.reading.circuit.drives new.reading.circuit.closed).circuit = record { drives_are = c.stretch.ensures.told.drives_are; closed_are = c.stretch.ensures.told.closed_are } in
+    let goes = alone_goes m g.met.P.Part.laws w p.state p.now p.wake_count c.args.inputs.now t u limit old new.parts kept new.dues changed c.args.steps.now new.steps who went.0 went.1 went.2 new.reading.circuit.drives new.reading.circuit.closed told lags fresh later within end alone went.3 in
+    subst (λ (z : Next × ℕ). Leg m w p.state p.now p.wake_count c.args.inputs.now t z.1 old new.parts c.args.reading.now new.reading c.args.steps.now new.steps) (some_same ey)
+    (subst (λ (v : Seen). Leg m w p.state p.now p.wake_count c.args.inputs.now t u old new.parts c.args.reading.now v c.args.steps.now new.steps) (sym c.stretch.ensures.rest) goes.leg)
 
 pub returns-in-Some-stretch-clause-handed : goal.returns-in-Some-stretch-clause-handed
 returns-in-Some-stretch-clause-handed g c = λ y ey.
@@ -204,8 +207,8 @@ returns-in-Some-stretch-clause-handed g c = λ y ey.
     let limit = c.in-Some.limit in
     let found = c.in-Some.ensures in
     let same = c.find_alone.ensures.same in
-    let kept : Kept = record { input = c.args.next.input; stale = c.args.next.stale; dues = c.find_alone.new.dues; moved = c.args.flags.now; seen = c.args.reading.now; answers = c.args.answers.now } in
-    let lags : Lags m w p.state p.now p.wake_count t old kept = subst (λ (ds : List (Option ℕ)). Lags m w p.state p.now p.wake_count t old (record { input = c.args.next.input; stale = c.args.next.stale; dues = ds; moved = c.args.flags.now; seen = c.args.reading.now; answers = c.args.answers.now })) (sym same) c.requires.lags in
+    let kept : Kept = record { input = c.args.next.input; stale = c.args.next.stale; dues = c.find_alone.new.dues; differ = c.args.flags.now; seen = c.args.reading.now; answers = c.args.answers.now } in
+    let lags : Lags m w p.state p.now p.wake_count t old kept = subst (λ (ds : List (Option ℕ)). Lags m w p.state p.now p.wake_count t old (record { input = c.args.next.input; stale = c.args.next.stale; dues = ds; differ = c.args.flags.now; seen = c.args.reading.now; answers = c.args.answers.now })) (sym same) c.requires.lags in
     let alone : IsAlone c.args.inputs.now c.find_alone.new.dues c.args.next.input who t limit = subst (λ (ds : List (Option ℕ)). IsAlone c.args.inputs.now ds c.args.next.input who t limit) (sym same) (found.alone (who, limit) refl) in
     let most = found.within (who, limit) refl in
     let end : limit ≤ 160000000 = omega (arith, most, c.requires.end) in
@@ -219,7 +222,8 @@ returns-in-Some-stretch-clause-handed g c = λ y ey.
     let went = s.went (changed, u) refl in
     let far = went.3.further in
     let x : Next × ℕ = (record { input = c.args.next.input; stale = changed }, u) in
-    let goes = alone_goes m g.met.P.Part.laws w p.state p.now p.wake_count c.args.inputs.now t u limit old new.parts kept new.dues changed c.args.steps.now new.steps who went.0 went.1 went.2 lags fresh later within end alone went.3 in
+    let told : IsTold m (map p.state new.parts) (retold c.args.reading.now new.reading.circuit.drives new.reading.circuit.closed).circuit = record { drives_are = c.stretch.ensures.told.drives_are; closed_are = c.stretch.ensures.told.closed_are } in
+    let goes = alone_goes m g.met.P.Part.laws w p.state p.now p.wake_count c.args.inputs.now t u limit old new.parts kept new.dues changed c.args.steps.now new.steps who went.0 went.1 went.2 new.reading.circuit.drives new.reading.circuit.closed told lags fresh later within end alone went.3 in
     let o = g.W.Watcher in
     let ss = map (glided m p.state p.now p.wake_count t) old in
     subst (λ (z : Next × ℕ). Handed o.whole o.faults o.stands c.args.out.now new.out (rows m w c.args.inputs.now (shown_at t c.args.reading.now) ss t (z.1 - t)) (bytes m w c.args.inputs.now ss t (z.1 - t))) (some_same ey)
@@ -234,7 +238,7 @@ returns-in-Some-stretch-clause-last g c = λ y ey z ez.
     let behind = c.requires.later z (sym (s.last (c.in-Some-stretch.changed, u) refl) ∙ ez) in
     let before = behind.0 in
     let at = ap (λ (z : Next × ℕ). z.1) (some_same ey) in
-    (omega (arith, far, before, at), s.seen (c.in-Some-stretch.changed, u) refl c.args.reading.now.circuit.levels behind.1)
+    (omega (arith, far, before, at), subst (λ (v : Seen). g.W.Watcher.seen c.stretch.new.out v.circuit.levels) (sym c.stretch.ensures.rest) (s.seen (c.in-Some-stretch.changed, u) refl c.args.reading.now.circuit.levels behind.1))
 
 pub returns-in-None-stretch-clause-failed : goal.returns-in-None-stretch-clause-failed
 returns-in-None-stretch-clause-failed g c = λ none.
@@ -247,8 +251,8 @@ returns-in-None-stretch-clause-failed g c = λ none.
     let limit = c.in-Some.limit in
     let found = c.in-Some.ensures in
     let same = c.find_alone.ensures.same in
-    let kept : Kept = record { input = c.args.next.input; stale = c.args.next.stale; dues = c.find_alone.new.dues; moved = c.args.flags.now; seen = c.args.reading.now; answers = c.args.answers.now } in
-    let lags : Lags m w p.state p.now p.wake_count t old kept = subst (λ (ds : List (Option ℕ)). Lags m w p.state p.now p.wake_count t old (record { input = c.args.next.input; stale = c.args.next.stale; dues = ds; moved = c.args.flags.now; seen = c.args.reading.now; answers = c.args.answers.now })) (sym same) c.requires.lags in
+    let kept : Kept = record { input = c.args.next.input; stale = c.args.next.stale; dues = c.find_alone.new.dues; differ = c.args.flags.now; seen = c.args.reading.now; answers = c.args.answers.now } in
+    let lags : Lags m w p.state p.now p.wake_count t old kept = subst (λ (ds : List (Option ℕ)). Lags m w p.state p.now p.wake_count t old (record { input = c.args.next.input; stale = c.args.next.stale; dues = ds; differ = c.args.flags.now; seen = c.args.reading.now; answers = c.args.answers.now })) (sym same) c.requires.lags in
     let alone : IsAlone c.args.inputs.now c.find_alone.new.dues c.args.next.input who t limit = subst (λ (ds : List (Option ℕ)). IsAlone c.args.inputs.now ds c.args.next.input who t limit) (sym same) (found.alone (who, limit) refl) in
     let most = found.within (who, limit) refl in
     let end : limit ≤ 160000000 = omega (arith, most, c.requires.end) in
@@ -261,7 +265,8 @@ returns-in-None-stretch-clause-failed g c = λ none.
     let went = f.7 in
     let far = went.further in
     let less : u ≤ c.args.n = omega (arith, within, most) in
-    let goes = alone_goes m g.met.P.Part.laws w p.state p.now p.wake_count c.args.inputs.now t u limit old new.parts kept new.dues f.3 c.args.steps.now new.steps who f.4 f.5 f.6 lags fresh later within end alone went in
+    let told : IsTold m (map p.state new.parts) (retold c.args.reading.now new.reading.circuit.drives new.reading.circuit.closed).circuit = record { drives_are = c.stretch.ensures.told.drives_are; closed_are = c.stretch.ensures.told.closed_are } in
+    let goes = alone_goes m g.met.P.Part.laws w p.state p.now p.wake_count c.args.inputs.now t u limit old new.parts kept new.dues f.3 c.args.steps.now new.steps who f.4 f.5 f.6 new.reading.circuit.drives new.reading.circuit.closed told lags fresh later within end alone went in
     let o = g.W.Watcher in
     let order : t ≤ u = omega (arith, far) in
     let ss = map (glided m p.state p.now p.wake_count t) old in
@@ -283,8 +288,8 @@ returns-in-None-stretch-clause-stopped g c = λ none.
     let limit = c.in-Some.limit in
     let found = c.in-Some.ensures in
     let same = c.find_alone.ensures.same in
-    let kept : Kept = record { input = c.args.next.input; stale = c.args.next.stale; dues = c.find_alone.new.dues; moved = c.args.flags.now; seen = c.args.reading.now; answers = c.args.answers.now } in
-    let lags : Lags m w p.state p.now p.wake_count t old kept = subst (λ (ds : List (Option ℕ)). Lags m w p.state p.now p.wake_count t old (record { input = c.args.next.input; stale = c.args.next.stale; dues = ds; moved = c.args.flags.now; seen = c.args.reading.now; answers = c.args.answers.now })) (sym same) c.requires.lags in
+    let kept : Kept = record { input = c.args.next.input; stale = c.args.next.stale; dues = c.find_alone.new.dues; differ = c.args.flags.now; seen = c.args.reading.now; answers = c.args.answers.now } in
+    let lags : Lags m w p.state p.now p.wake_count t old kept = subst (λ (ds : List (Option ℕ)). Lags m w p.state p.now p.wake_count t old (record { input = c.args.next.input; stale = c.args.next.stale; dues = ds; differ = c.args.flags.now; seen = c.args.reading.now; answers = c.args.answers.now })) (sym same) c.requires.lags in
     let alone : IsAlone c.args.inputs.now c.find_alone.new.dues c.args.next.input who t limit = subst (λ (ds : List (Option ℕ)). IsAlone c.args.inputs.now ds c.args.next.input who t limit) (sym same) (found.alone (who, limit) refl) in
     let most = found.within (who, limit) refl in
     let end : limit ≤ 160000000 = omega (arith, most, c.requires.end) in
@@ -297,5 +302,6 @@ returns-in-None-stretch-clause-stopped g c = λ none.
     let went = f.7 in
     let far = went.further in
     let less : u ≤ c.args.n = omega (arith, within, most) in
-    let goes = alone_goes m g.met.P.Part.laws w p.state p.now p.wake_count c.args.inputs.now t u limit old new.parts kept new.dues f.3 c.args.steps.now new.steps who f.4 f.5 f.6 lags fresh later within end alone went in
-    (u, less, goes.leg)
+    let told : IsTold m (map p.state new.parts) (retold c.args.reading.now new.reading.circuit.drives new.reading.circuit.closed).circuit = record { drives_are = c.stretch.ensures.told.drives_are; closed_are = c.stretch.ensures.told.closed_are } in
+    let goes = alone_goes m g.met.P.Part.laws w p.state p.now p.wake_count c.args.inputs.now t u limit old new.parts kept new.dues f.3 c.args.steps.now new.steps who f.4 f.5 f.6 new.reading.circuit.drives new.reading.circuit.closed told lags fresh later within end alone went in
+    (u, less, subst (λ (v : Seen). Leg m w p.state p.now p.wake_count c.args.inputs.now t u old new.parts c.args.reading.now v c.args.steps.now new.steps) (sym c.stretch.ensures.rest) goes.leg)

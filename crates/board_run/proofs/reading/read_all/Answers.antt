@@ -8,13 +8,6 @@ use Rattle.board_run.specs.Seen.{ArePieces}
 use Rattle.board_run.proofs.ReadLemmas.{none_changed, pieces_differ}
 use Rattle.board_run.proofs.reading.read_all.Goals as goal
 
-pub read_moved-requires-clause-few : goal.read_moved-requires-clause-few
-read_moved-requires-clause-few g c =
-    let suits = c.requires.suits in (
-      omega (arith, c.as_slice-net_of.type_inv.0, c.as_slice-net_of.type_inv.1, ap length c.as_slice-net_of.ensures, ap length suits.net_of),
-      omega (arith, c.as_slice-contacts.type_inv.0, c.as_slice-contacts.type_inv.1, ap length c.as_slice-contacts.ensures, ap length suits.contacts),
-    )
-
 pub returns-clause-same : goal.returns-clause-same
 returns-clause-same g c =
     let p = g.P.Part in
@@ -23,20 +16,18 @@ returns-clause-same g c =
     let ss = map p.state c.args.parts.now in
     let suits = c.requires.suits in
     let old = c.args.nets.now in
-    let r = c.read_moved.new.nets in
     let new = c.resolve_marked.new.self in
-    let rest = c.read_moved.ensures.rest in
-    let a : r.nets ≡ w.nets = ap (λ (x : Circuit). x.nets) rest ∙ suits.nets in
-    let b : r.net_of ≡ w.net_of = ap (λ (x : Circuit). x.net_of) rest ∙ suits.net_of in
-    let d : r.contacts ≡ w.contacts = ap (λ (x : Circuit). x.contacts) rest ∙ suits.contacts in
-    let e : r.resistors ≡ w.resistors = ap (λ (x : Circuit). x.resistors) rest ∙ suits.resistors in
-    let ds = c.read_moved.ensures.drives in
-    let cs = c.read_moved.ensures.closed in
+    let a : old.nets ≡ w.nets = suits.nets in
+    let b : old.net_of ≡ w.net_of = suits.net_of in
+    let d : old.contacts ≡ w.contacts = suits.contacts in
+    let e : old.resistors ≡ w.resistors = suits.resistors in
+    let ds = c.requires.told.drives_are in
+    let cs = c.requires.told.closed_are in
     let resolved = ap (λ (x : Circuit). x.levels) c.resolve_marked.ensures.levels in
     let levels : new.levels ≡ levels_of m w ss = cc in
     let nets : new.nets ≡ w.nets = ap (λ (x : Circuit). x.nets) c.resolve_marked.ensures.levels ∙ a in
     let long : length old.levels ≡ length new.levels = suits.levels_long ∙ sym nets ∙ sym c.levels.ensures.nets ∙ ap length c.levels.ensures.levels in
-    let are : AreChanged old.levels new.levels new.changed = subst (λ (ls : List Level). AreChanged ls new.levels new.changed) (ap (λ (x : Circuit). x.levels) rest) c.resolve_marked.ensures.changed in
+    let are : AreChanged old.levels new.levels new.changed = c.resolve_marked.ensures.changed in
     let none = none_changed old.levels new.levels new.changed c.is_empty-same_levels.result long are (c.is_empty-same_levels.ensures ∙ ap (λ (ns : List ℕ). length ns == 0) c.changed.ensures.changed) in
     ap (λ (x : Bool). x && c.keep_chips-same_drives.result) none
     ∙ ap (λ (l : List Level). same_list same_level old.levels l && c.keep_chips-same_drives.result) levels

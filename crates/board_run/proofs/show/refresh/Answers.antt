@@ -7,4 +7,4 @@ pub returns-else-stale-clause-same : goal.returns-else-stale-clause-same
 returns-else-stale-clause-same g c = fresh_same g.P.Part.machine c.args.wiring.now (map g.P.Part.state c.args.parts.now) c.args.reading.now (c.requires.fresh c.if-stale.false)
 
 pub returns-else-stale-clause-differ : goal.returns-else-stale-clause-differ
-returns-else-stale-clause-differ g c = unset_differ g.P.Part.machine c.args.wiring.now (map g.P.Part.state c.args.parts.now) c.args.reading.now.circuit.levels c.args.flags.now (c.requires.unset c.if-stale.false)
+returns-else-stale-clause-differ g c = unset_differ g.P.Part.machine c.args.wiring.now (map g.P.Part.state c.args.parts.now) c.args.reading.now.circuit.levels c.args.flags.now c.requires.unset

@@ -1,22 +1,41 @@
-use Rattle.std.proofs.Common.{◌<◌, ◌+◌, ◌∙◌, ap, sym, subst, arith, length, List}
-use Rattle.std.specs.Prelude.{slice_set}
+use Rattle.std.proofs.Common.{◌≡◌, ◌≢◌, ◌<◌, ◌≤◌, ◌+◌, ◌∙◌, ◌⊎◌, inl, inr, ℕ, ap, sym, subst, arith, length, List, length-set}
+use Rattle.std.specs.Prelude.{min, slice_get, slice_set}
 use Rattle.sim_base.specs.declared.signal.Drive.{Drive}
 use Rattle.net_resolve.specs.Circuit.{Circuit}
-use Rattle.board_run.specs.Seen.{Put}
-use Rattle.board_run.proofs.ReadLemmas.{put_more}
-use Rattle.board_run.proofs.moved.set_pins.Goals as goal
+use Rattle.board_model.proofs.Lists.{lt_or_eq, get_set_same, get_set_other}
+use Rattle.board_run.proofs.ReadLemmas.{span_put}
+use Rattle.board_run.proofs.tell.set_pins.Goals as goal
 
 pub overflow_add-at : goal.overflow_add-at
-overflow_add-at g c = omega (arith, c.requires.room, c.requires.few, c.pins-pins.ensures)
+overflow_add-at g c = omega (arith, c.requires.room, c.requires.few, c.pins.ensures)
 
 pub loop-pin-preserved : goal.loop-pin-preserved
 loop-pin-preserved g c =
-    let p = g.P.Part in
-    let ds = p.machine.drives (p.state c.args.part.now) in
+    let ds = c.loop-pin.nets.drives in
+    let pin = c.loop-pin.pin in
     let i = c.loop-pin.invariant in
-    let room : c.args.at + c.loop-pin.pin < length c.loop-pin.nets.drives = omega (arith, i.put.long, c.requires.room, c.requires.long, c.pins-pins.ensures) in
+    let room : c.args.at + pin < length ds = omega (arith, i.long, c.requires.room, c.requires.long, c.pins.ensures) in
     let new = ap (λ (x : Circuit). x.drives) c.set_drive.ensures in
     record {
-      put = subst (λ (xs : List Drive). Put c.args.at (c.loop-pin.pin + 1) ds c.args.nets.now.drives xs) (sym new) (put_more c.args.at c.loop-pin.pin ds c.args.nets.now.drives c.loop-pin.nets.drives c.drive-drive.result i.put c.drive-drive.ensures room);
-      rest = c.set_drive.ensures ∙ ap (λ (x : Circuit). record x { drives = slice_set c.loop-pin.nets.drives (c.args.at + c.loop-pin.pin) c.drive-drive.result }) i.rest ∙ ap (λ (xs : List Drive). record c.args.nets.now { drives = xs }) (sym new);
+      long = ap length new ∙ length-set ds (c.args.at + pin) c.drive-drive.result ∙ i.long;
+      told = λ j from h. elim (lt_or_eq j pin h) [
+        | inl less ↦ (let other : c.args.at + j ≢ c.args.at + pin = omega arith in ap (λ (l : List Drive). slice_get l (c.args.at + j)) new ∙ get_set_other ds (c.args.at + pin) (c.args.at + j) c.drive-drive.result other ∙ i.told j from less)
+        | inr same ↦ ap (λ (l : List Drive). slice_get l (c.args.at + j)) new ∙ ap (λ (k : ℕ). slice_get (slice_set ds (c.args.at + pin) c.drive-drive.result) (c.args.at + k)) same
+            ∙ get_set_same ds (c.args.at + pin) c.drive-drive.result room ∙ sym c.drive-drive.ensures ∙ ap (slice_get (g.P.Part.machine.drives (g.P.Part.state c.args.part.now))) (sym same)
+      ];
+      rest = λ x h. elim h [
+        | inl less ↦ (let other : x ≢ c.args.at + pin = omega (arith, less) in ap (λ (l : List Drive). slice_get l x) new ∙ get_set_other ds (c.args.at + pin) x c.drive-drive.result other ∙ i.rest x (inl less))
+        | inr more ↦ (let other : x ≢ c.args.at + pin = omega (arith, more) in ap (λ (l : List Drive). slice_get l x) new ∙ get_set_other ds (c.args.at + pin) x c.drive-drive.result other ∙ i.rest x (inr (omega (arith, more))))
+      ];
+      others = c.set_drive.ensures ∙ ap (λ (x : Circuit). record x { drives = slice_set ds (c.args.at + pin) c.drive-drive.result }) i.others ∙ ap (λ (xs : List Drive). record c.args.nets.now { drives = xs }) (sym new);
     }
+
+pub returns-clause-put : goal.returns-clause-put
+returns-clause-put g c =
+    let i = c.loop-pin.invariant in
+    let order : c.min-from.result ≤ c.min-to.result = grind (arith, c.min-from.ensures) in
+    let last = c.loop-pin.auto.pin-end order in
+    let end : c.loop-pin.pin ≡ c.min-to.result = omega (arith, last, c.loop-pin-test.false) in
+    span_put (g.P.Part.machine.drives (g.P.Part.state c.args.part.now)) c.args.nets.now.drives c.loop-pin.nets.drives c.args.span c.args.at c.pins.result c.min-from.result c.min-to.result
+    c.pins.ensures (let few = c.pins.type_inv in omega (arith, few)) c.min-to.ensures c.min-from.ensures i.long (λ j from h. i.told j from (omega (arith, end, h)))
+    (λ x h. elim h [ inl l ↦ i.rest x (inl l) | inr r ↦ i.rest x (inr (omega (arith, r, end))) ]) c.requires.others

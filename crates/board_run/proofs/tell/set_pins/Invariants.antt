@@ -1,9 +1,12 @@
-use Rattle.std.proofs.Common.{◌≡◌}
-use Rattle.board_run.specs.Seen.{Put}
-use Rattle.board_run.proofs.moved.set_pins.Given as goal
+use Rattle.std.proofs.Common.{◌≡◌, ◌+◌, ◌<◌, ◌≤◌, ◌⊎◌, ℕ, length, min}
+use Rattle.std.specs.Prelude.{slice_get}
+use Rattle.board_run.proofs.tell.set_pins.Given as goal
 
+-- the pins of the span before this one were told
 abbrev pub invariant-loop-pin : goal.invariant-loop-pin
 invariant-loop-pin g l = record {
-  put : Put l.at l.pin (g.P.Part.machine.drives (g.P.Part.state l.part)) l.fn.nets.drives l.nets.drives;
-  rest : l.nets ≡ record l.fn.nets { drives = l.nets.drives };
+  long : length l.nets.drives ≡ length l.fn.nets.drives;
+  told : (j : ℕ) → l.from ≤ j → j < l.pin → slice_get l.nets.drives (l.at + j) ≡ slice_get (g.P.Part.machine.drives (g.P.Part.state l.part)) j;
+  rest : (x : ℕ) → (x < l.at + l.from) ⊎ (l.at + l.pin ≤ x) → slice_get l.nets.drives x ≡ slice_get l.fn.nets.drives x;
+  others : l.nets ≡ record l.fn.nets { drives = l.nets.drives };
 }

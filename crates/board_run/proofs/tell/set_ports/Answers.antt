@@ -3,7 +3,7 @@ use Rattle.std.specs.Prelude.{slice_set}
 use Rattle.net_resolve.specs.Circuit.{Circuit}
 use Rattle.board_run.specs.Seen.{Put}
 use Rattle.board_run.proofs.ReadLemmas.{put_more}
-use Rattle.board_run.proofs.moved.set_ports.Goals as goal
+use Rattle.board_run.proofs.tell.set_ports.Goals as goal
 
 pub overflow_add-at : goal.overflow_add-at
 overflow_add-at g c = omega (arith, c.requires.room, c.requires.few, c.contacts-contacts.ensures)

@@ -1,6 +1,6 @@
 use Rattle.std.proofs.Common.{◌≡◌}
 use Rattle.board_run.specs.Seen.{Put}
-use Rattle.board_run.proofs.moved.set_ports.Given as goal
+use Rattle.board_run.proofs.tell.set_ports.Given as goal
 
 abbrev pub invariant-loop-i : goal.invariant-loop-i
 invariant-loop-i g l = record {

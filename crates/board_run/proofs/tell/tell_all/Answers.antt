@@ -3,13 +3,12 @@ use Rattle.std.specs.Prelude.{slice_get}
 use Rattle.std.proofs.lemmas.List.{length-map}
 use Rattle.net_resolve.specs.Circuit.{Circuit}
 use Rattle.board_model.proofs.Lists.{some_map, some_same, get_within, flat_map_room}
-use Rattle.board_run.specs.Seen.{IsRead}
 use Rattle.board_run.proofs.GatherLemmas.{item_at}
-use Rattle.board_run.proofs.ReadLemmas.{gathered_more, gathered_end, still_read}
-use Rattle.board_run.proofs.moved.read_moved.Goals as goal
+use Rattle.board_run.proofs.ReadLemmas.{gathered_more, gathered_end}
+use Rattle.board_run.proofs.tell.tell_all.Goals as goal
 
-pub read_part-requires-clause-pins : goal.read_part-requires-clause-pins
-read_part-requires-clause-pins g c =
+pub tell_part-requires-clause-pins : goal.tell_part-requires-clause-pins
+tell_part-requires-clause-pins g c =
     let p = g.P.Part in
     let i = c.loop-i.i in
     let inv = c.loop-i.invariant in
@@ -17,8 +16,8 @@ read_part-requires-clause-pins g c =
     let room = flat_map_room p.machine.drives (map p.state c.args.parts.now) i _ es in
     omega (arith, room, inv.pins.place, c.requires.pins, ap (λ (x : Circuit). length x.net_of) inv.rest)
 
-pub read_part-requires-clause-contacts : goal.read_part-requires-clause-contacts
-read_part-requires-clause-contacts g c =
+pub tell_part-requires-clause-contacts : goal.tell_part-requires-clause-contacts
+tell_part-requires-clause-contacts g c =
     let p = g.P.Part in
     let i = c.loop-i.i in
     let inv = c.loop-i.invariant in
@@ -26,30 +25,20 @@ read_part-requires-clause-contacts g c =
     let room = flat_map_room p.machine.contacts (map p.state c.args.parts.now) i _ es in
     omega (arith, room, inv.ports.place, c.requires.contacts, ap (λ (x : Circuit). length x.contacts) inv.rest)
 
-pub read_part-requires-clause-few : goal.read_part-requires-clause-few
-read_part-requires-clause-few g c =
+pub tell_part-requires-clause-few : goal.tell_part-requires-clause-few
+tell_part-requires-clause-few g c =
     let rest = c.loop-i.invariant.rest in
     (omega (arith, c.requires.few.0, ap (λ (x : Circuit). length x.net_of) rest), omega (arith, c.requires.few.1, ap (λ (x : Circuit). length x.contacts) rest))
 
-pub read_part-requires-clause-drives_long : goal.read_part-requires-clause-drives_long
-read_part-requires-clause-drives_long g c =
+pub tell_part-requires-clause-drives_long : goal.tell_part-requires-clause-drives_long
+tell_part-requires-clause-drives_long g c =
     let inv = c.loop-i.invariant in
     omega (arith, inv.pins.long, c.requires.drives_long, ap (λ (x : Circuit). length x.net_of) inv.rest)
 
-pub read_part-requires-clause-closed_long : goal.read_part-requires-clause-closed_long
-read_part-requires-clause-closed_long g c =
+pub tell_part-requires-clause-closed_long : goal.tell_part-requires-clause-closed_long
+tell_part-requires-clause-closed_long g c =
     let inv = c.loop-i.invariant in
     omega (arith, inv.ports.long, c.requires.closed_long, ap (λ (x : Circuit). length x.contacts) inv.rest)
-
-pub read_part-requires-clause-read : goal.read_part-requires-clause-read
-read_part-requires-clause-read g c = λ none.
-    let p = g.P.Part in
-    let i = c.loop-i.i in
-    let inv = c.loop-i.invariant in
-    let es = some_map p.state c.args.parts.now i _ (item_at c.args.parts.now i c.index-parts-i-in-loop-i-2.result c.loop-i-test.true c.index-parts-i-in-loop-i-2.is) in
-    let inside : i < length c.args.moved.now = omega (arith, c.requires.moved, c.loop-i-test.true) in
-    let flag : slice_get c.args.moved.now i ≡ Some false = get_within c.args.moved.now i false inside ∙ ap Some none in
-    still_read p.machine (map p.state c.args.parts.now) i c.loop-i.pin c.loop-i.contact _ c.args.nets.now c.loop-i.nets inv.pins inv.ports (c.requires.read i _ es flag)
 
 pub overflow_add-pin : goal.overflow_add-pin
 overflow_add-pin g c =
@@ -79,13 +68,13 @@ loop-i-preserved g c =
     let two = item_at c.args.parts.now i c.index-parts-i-in-loop-i.result c.loop-i-test.true c.index-parts-i-in-loop-i.is in
     let it = item_at c.args.parts.now i c.index-parts-i-in-loop-i-2.result c.loop-i-test.true c.index-parts-i-in-loop-i-2.is in
     let es = some_map p.state c.args.parts.now i _ it in
-    let new = c.read_part.new.nets in
+    let new = c.tell_part.new.nets in
     record {
       pins = gathered_more p.machine.drives ss i c.loop-i.pin c.pins-pins.result c.args.nets.now.drives c.loop-i.nets.drives new.drives _ es
-          (c.pins-pins.ensures ∙ ap (λ (x : g.row.P.Denot). length (p.machine.drives (p.state x))) (some_same (sym one ∙ it))) inv.pins c.read_part.ensures.drives;
+          (c.pins-pins.ensures ∙ ap (λ (x : g.row.P.Denot). length (p.machine.drives (p.state x))) (some_same (sym one ∙ it))) inv.pins c.tell_part.ensures.drives;
       ports = gathered_more p.machine.contacts ss i c.loop-i.contact c.contacts-contacts.result c.args.nets.now.closed c.loop-i.nets.closed new.closed _ es
-          (c.contacts-contacts.ensures ∙ ap (λ (x : g.row.P.Denot). length (p.machine.contacts (p.state x))) (some_same (sym two ∙ it))) inv.ports c.read_part.ensures.closed;
-      rest = c.read_part.ensures.rest ∙ ap (λ (x : Circuit). record x { drives = new.drives; closed = new.closed }) inv.rest;
+          (c.contacts-contacts.ensures ∙ ap (λ (x : g.row.P.Denot). length (p.machine.contacts (p.state x))) (some_same (sym two ∙ it))) inv.ports c.tell_part.ensures.closed;
+      rest = c.tell_part.ensures.rest ∙ ap (λ (x : Circuit). record x { drives = new.drives; closed = new.closed }) inv.rest;
     }
 
 pub returns-clause-drives : goal.returns-clause-drives

@@ -1,6 +1,6 @@
 use Rattle.std.proofs.Common.{◌≡◌, map}
 use Rattle.board_run.specs.Seen.{Gathered}
-use Rattle.board_run.proofs.moved.read_moved.Given as goal
+use Rattle.board_run.proofs.tell.tell_all.Given as goal
 
 -- the parts before i were read
 abbrev pub invariant-loop-i : goal.invariant-loop-i
