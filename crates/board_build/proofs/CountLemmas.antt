@@ -3,6 +3,7 @@ use Rattle.std.proofs.Common.{◌≡◌, ◌+◌, ◌-◌, ◌<◌, ◌≤◌, �
 use Rattle.std.proofs.lemmas.List.{drop_more, drop_all}
 use Rattle.sim_base.specs.declared.fault.Refusal.{Refusal}
 use Rattle.sim_base.specs.declared.fault.Place.TheVariants as places
+use Rattle.sim_base.specs.Refusals.{BoardCount}
 use Rattle.document_model.specs.Reading.{refusal}
 use Rattle.board_build.specs.Parts.{numbers_from, one_of}
 
@@ -10,7 +11,7 @@ use Rattle.board_build.specs.Parts.{numbers_from, one_of}
 abbrev pub judged : Bool → List ℕ → Result (Unit {0}) Refusal
 judged false ns = one_of ns
 judged true [] = Ok tt
-judged true (n ∷ ns) = Err (refusal 45 (places.Part n))
+judged true (n ∷ ns) = Err (refusal BoardCount (places.Part n))
 
 -- the numbers from place i on, where the item there passes, where it does not, and at the end
 pub numbers_yes : {A : Type 0} (test : A → Bool) (xs : List A) (i : ℕ) (d : A) → i < length xs → test (get_or xs i d) ≡ true →

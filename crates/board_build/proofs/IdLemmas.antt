@@ -9,6 +9,7 @@ use Rattle.std.proofs.lemmas.Iterator.Adapters.{position_from-zero}
 use Rattle.indexmap.specs.IndexSet.{keys, insert_key}
 use Rattle.sim_base.specs.declared.fault.Refusal.{Refusal}
 use Rattle.sim_base.specs.declared.fault.Place.TheVariants as places
+use Rattle.sim_base.specs.Refusals.{IdRepeated}
 use Rattle.document_model.specs.declared.diagram.PartText.{PartText}
 use Rattle.document_model.specs.Reading.{refusal}
 use Rattle.board_build.specs.Parts.{ids_from, place_of}
@@ -51,7 +52,7 @@ added k id old new e h absent =
     ap (map (λ (x : Bor (List ℕ)). x.now)) last ∙ map-append (λ (x : Bor (List ℕ)). x.now) old (k ∷ []) ∙ ap (λ (b : List ℕ). map (λ (x : Bor (List ℕ)). x.now) old ++ b ∷ []) e
 
 pub ids_repeated : (seen : List (List ℕ)) (parts : List PartText) (i : ℕ) (part : PartText) (all : Result (List (List ℕ)) Refusal) → i < length parts → part ≡ get_or parts i part →
-    list_any (bytes_eq part.id) seen ≡ true → ids_from seen (i + 1) (drop i parts) ≡ all → all ≡ Err (refusal 43 (places.Part (i + 1)))
+    list_any (bytes_eq part.id) seen ≡ true → ids_from seen (i + 1) (drop i parts) ≡ all → all ≡ Err (refusal IdRepeated (places.Part (i + 1)))
 unfolding ids_from
 ids_repeated seen parts i part all l is repeated so_far = sym so_far ∙ ap (ids_from seen (i + 1)) (item_at parts i part l is) ∙ rw repeated refl
 

@@ -37,6 +37,7 @@ use Rattle.board_build.specs.declared.plan.PlanPart.{PlanPart}
 use Rattle.board_build.specs.declared.plan.Plan.{Plan}
 use Rattle.part_catalog.specs.declared.settings.Settings.{Settings}
 use Rattle.sim_base.specs.declared.fault.Place.TheVariants as places
+use Rattle.sim_base.specs.Refusals.{AttrValue, ScriptPart}
 use Rattle.board_build.specs.Parts.{ids_from, chip_place, is_chip_type, chosen, kind_of_part, numbers_from, is_uno, one_of, one_uno, found_chip, settings_in, planned, part_in_plan, is_chip, few_chips, takes, input_for, input_of, place_of}
 use Rattle.board_build.specs.Pins.{count_of, starts_from, wire_on_board, contacts_inside, resistors_in, pairs_inside, pairs_at}
 use Rattle.board_build.specs.Plan.{nets_of_pairs, joined, wiring_of, plan_in, plan_of}
@@ -53,7 +54,7 @@ found_some (Some kind) k found e = let same : kind ≡ found = cc in ap (λ (x :
 kept_kind : (k : ℕ) (x : PlanKind × PartText) (part : PlanPart) → part_in_plan k x ≡ Ok part → Some part.kind ≡ Some x.0
 kept_kind k x part e = kept (settings_in x.0 x.1.attrs) e
   where
-    kept : (o : Option Settings) → ok_or (option_map (planned x.0 x.1) o) (refusal 47 (places.Part k)) ≡ Ok part → Some part.kind ≡ Some x.0
+    kept : (o : Option Settings) → ok_or (option_map (planned x.0 x.1) o) (refusal AttrValue (places.Part k)) ≡ Ok part → Some part.kind ≡ Some x.0
     kept None e = absurd cc
     kept (Some settings) e = let same : planned x.0 x.1 settings ≡ part = cc in ap (λ (p : PlanPart). Some p.kind) (sym same)
 
@@ -193,7 +194,7 @@ input_fits : (ids : List (List ℕ)) (kinds : List PlanKind) (row : ScriptRow) (
 input_fits ids kinds row input e = at (place_of ids row.part) e
   where
     taken : (part : ℕ) (o : Option PlanKind) → slice_get kinds part ≡ o →
-        (if takes row.press row.value o then Ok (record { cycle = row.cycle; part = part; value = row.value }) else Err (refusal 83 (places.Line row.line))) ≡ Ok input →
+        (if takes row.press row.value o then Ok (record { cycle = row.cycle; part = part; value = row.value }) else Err (refusal ScriptPart (places.Line row.line))) ≡ Ok input →
         (input.part < length kinds) × (input.cycle ≡ row.cycle)
     taken part None is e = absurd cc
     taken part (Some kind) is e = elim (cases_Bool (takes row.press row.value (Some kind))) [

@@ -5,6 +5,7 @@ use Rattle.std.specs.Str.{bytes_eq}
 use Rattle.sim_base.specs.declared.fault.Refusal.{Refusal}
 use Rattle.sim_base.specs.declared.fault.Place.TheVariants as places
 use Rattle.sim_base.specs.declared.wiring.Input.{Input}
+use Rattle.sim_base.specs.Refusals.{TypeUnknown, IdRepeated, BoardCount, ChipMissing, AttrValue, BoardLimit, ScriptPart}
 use Rattle.part_catalog.specs.declared.kind.Kind.{Kind}
 use Rattle.part_catalog.specs.declared.kind.Kind.TheVariants as kinds
 use Rattle.part_catalog.specs.declared.settings.Settings.{Settings}
@@ -30,7 +31,7 @@ abbrev pub chosen : List ChipFile → ℕ → PartText → Option Kind → Resul
 chosen chips k part (Some kind) = Ok (Some (plans.Stock (wired_kind kind part.attrs)))
 chosen chips k part None =
     if is_chip_type part.kind then Ok (option_map plans.Chip (chip_place chips (drop 5 part.kind)))
-    else Err (refusal 42 (places.Part k))
+    else Err (refusal TypeUnknown (places.Part k))
 
 abbrev pub kind_of_part : List ChipFile → ℕ → PartText → Result (Option PlanKind) Refusal
 kind_of_part chips k part = chosen chips k part (named_kind part.kind)
@@ -39,7 +40,7 @@ kind_of_part chips k part = chosen chips k part (named_kind part.kind)
 unfoldable pub ids_from : List (List ℕ) → ℕ → List PartText → Result (List (List ℕ)) Refusal
 ids_from seen k [] = Ok seen
 ids_from seen k (part ∷ parts) =
-    if list_any (bytes_eq part.id) seen then Err (refusal 43 (places.Part k))
+    if list_any (bytes_eq part.id) seen then Err (refusal IdRepeated (places.Part k))
     else ids_from (seen ++ part.id ∷ []) (suc k) parts
 
 -- the numbers of the items that pass a test, which count from k
@@ -53,16 +54,16 @@ is_uno kind = false
 
 -- 45: one of the parts is an Uno, and no second one
 abbrev pub one_of : List ℕ → Result (Unit {0}) Refusal
-one_of [] = Err (refusal 45 places.Whole)
+one_of [] = Err (refusal BoardCount places.Whole)
 one_of (first ∷ []) = Ok tt
-one_of (first ∷ second ∷ rest) = Err (refusal 45 (places.Part second))
+one_of (first ∷ second ∷ rest) = Err (refusal BoardCount (places.Part second))
 
 abbrev pub one_uno : List (Option PlanKind) → Result (Unit {0}) Refusal
 one_uno kinds = one_of (numbers_from is_uno 1 kinds)
 
 -- 46: the project has the chip of each part that is one
 abbrev pub found_chip : ℕ → Option PlanKind → Result PlanKind Refusal
-found_chip k kind = ok_or kind (refusal 46 (places.Part k))
+found_chip k kind = ok_or kind (refusal ChipMissing (places.Part k))
 
 -- 47: each attribute that a part reads has its form; a chip's attributes have any
 abbrev pub settings_in : PlanKind → List (List ℕ × List ℕ) → Option Settings
@@ -73,7 +74,7 @@ abbrev pub planned : PlanKind → PartText → Settings → PlanPart
 planned kind part settings = record { id = part.id; kind = kind; settings = settings; attrs = part.attrs }
 
 abbrev pub part_in_plan : ℕ → PlanKind × PartText → Result PlanPart Refusal
-part_in_plan k x = ok_or (option_map (planned x.0 x.1) (settings_in x.0 x.1.attrs)) (refusal 47 (places.Part k))
+part_in_plan k x = ok_or (option_map (planned x.0 x.1) (settings_in x.0 x.1.attrs)) (refusal AttrValue (places.Part k))
 
 abbrev pub is_chip : Option PlanKind → Bool
 is_chip (Some (plans.Chip chip)) = true
@@ -82,7 +83,7 @@ is_chip kind = false
 -- 49: at most 8 parts are chips
 abbrev pub no_ninth : Option ℕ → Result (Unit {0}) Refusal
 no_ninth None = Ok tt
-no_ninth (Some part) = Err (refusal 49 (places.Part part))
+no_ninth (Some part) = Err (refusal BoardLimit (places.Part part))
 
 abbrev pub few_chips : List (Option PlanKind) → Result (Unit {0}) Refusal
 few_chips kinds = no_ninth (slice_get (numbers_from is_chip 1 kinds) 8)
@@ -103,10 +104,10 @@ takes press value (Some (plans.Stock kind)) = is_within value (greatest_of kind)
 
 -- 83: a line of a script names a part that takes what it gives
 abbrev pub input_for : List PlanKind → ScriptRow → Option ℕ → Result Input Refusal
-input_for kinds row None = Err (refusal 83 (places.Line row.line))
+input_for kinds row None = Err (refusal ScriptPart (places.Line row.line))
 input_for kinds row (Some part) =
     if takes row.press row.value (slice_get kinds part) then Ok (record { cycle = row.cycle; part = part; value = row.value })
-    else Err (refusal 83 (places.Line row.line))
+    else Err (refusal ScriptPart (places.Line row.line))
 
 abbrev pub place_of : List (List ℕ) → List ℕ → Option ℕ
 place_of ids id = position_from (bytes_eq id) 0 ids

@@ -4,6 +4,7 @@ use Rattle.std.specs.List.{position_from}
 use Rattle.std.specs.Str.{bytes_eq}
 use Rattle.sim_base.specs.declared.fault.Refusal.{Refusal}
 use Rattle.sim_base.specs.declared.fault.Place.TheVariants as places
+use Rattle.sim_base.specs.Refusals.{PinUnknown}
 use Rattle.part_catalog.specs.declared.kind.Kind.TheVariants as kinds
 use Rattle.part_catalog.specs.Pins.{pin_names, number_of, joins_of, contacts_in}
 use Rattle.document_model.specs.declared.diagram.Wire.{Wire}
@@ -58,8 +59,8 @@ module _ (pins : List (List (Option (List ℕ)))) where
   -- 44: both ends of a wire are pins of parts
   abbrev pub wire_on_board : List (Option PlanKind) → List (List ℕ) → Wire → Result (ℕ × ℕ) Refusal
   wire_on_board kinds ids wire = do
-    from ← ok_or (end_on_board kinds ids wire.from) (refusal 44 (places.Connection wire.number))
-    to ← ok_or (end_on_board kinds ids wire.to) (refusal 44 (places.Connection wire.number))
+    from ← ok_or (end_on_board kinds ids wire.from) (refusal PinUnknown (places.Connection wire.number))
+    to ← ok_or (end_on_board kinds ids wire.to) (refusal PinUnknown (places.Connection wire.number))
     Ok (from, to)
 
 -- pairs of pins of one part, which begin at a pin of the board

@@ -40,30 +40,12 @@ fn plan_in(
         kinds: found,
         firsts: firsts.as_slice(),
     };
-    let wires = match wires_on_board(alloc, &board, diagram.wires.as_slice()) {
-        Ok(wires) => wires,
-        Err(fault) => return Err(fault),
-    };
-    match one_uno(found) {
-        Ok(()) => {}
-        Err(fault) => return Err(fault),
-    }
-    let kinds = match found_chips(alloc, found) {
-        Ok(kinds) => kinds,
-        Err(fault) => return Err(fault),
-    };
-    let parts = match parts_in_plan(alloc, kinds.as_slice(), diagram.parts.as_slice()) {
-        Ok(parts) => parts,
-        Err(fault) => return Err(fault),
-    };
-    match few_chips(found) {
-        Ok(()) => {}
-        Err(fault) => return Err(fault),
-    }
-    let inputs = match inputs_of(alloc, ids, kinds.as_slice(), script.as_slice()) {
-        Ok(inputs) => inputs,
-        Err(fault) => return Err(fault),
-    };
+    let wires = wires_on_board(alloc, &board, diagram.wires.as_slice())?;
+    one_uno(found)?;
+    let kinds = found_chips(alloc, found)?;
+    let parts = parts_in_plan(alloc, kinds.as_slice(), diagram.parts.as_slice())?;
+    few_chips(found)?;
+    let inputs = inputs_of(alloc, ids, kinds.as_slice(), script.as_slice())?;
     Ok(Plan {
         parts,
         wiring: wiring(alloc, wires, firsts, count, found)?,
@@ -92,13 +74,7 @@ pub fn build(
     ensures cycles { IfOk result (λ plan. map (λ i. i.cycle) plan.inputs ≡ map (λ row. row.cycle) script.now) }
 {
     let parts = diagram.parts.as_slice();
-    let found = match kinds_of_parts(alloc, project.chips.as_slice(), parts) {
-        Ok(found) => found,
-        Err(fault) => return Err(fault),
-    };
-    let ids = match ids_of_parts(alloc, parts) {
-        Ok(ids) => ids,
-        Err(fault) => return Err(fault),
-    };
+    let found = kinds_of_parts(alloc, project.chips.as_slice(), parts)?;
+    let ids = ids_of_parts(alloc, parts)?;
     plan_in(alloc, diagram, pins, script, found.as_slice(), &ids)
 }

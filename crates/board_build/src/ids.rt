@@ -9,6 +9,7 @@ ghost use Rattle.board_build.specs.Ids.{ids_in};
 use crate::refusals::refused;
 use document_model::PartText;
 use indexmap::IndexSet;
+use sim_base::refusals::ID_REPEATED;
 use sim_base::{Fault, Name, Place};
 use std::alloc::Global;
 
@@ -20,7 +21,7 @@ pub(crate) fn ids_of_parts(alloc: Global, parts: &[PartText]) -> Result<IndexSet
     let mut ids = IndexSet::new(alloc);
     for (i, part) in parts.iter().enumerate() {
         if !ids.insert(part.id.bytes())? {
-            return Err(refused(43, Place::Part(i as u32 + 1)));
+            return Err(refused(ID_REPEATED, Place::Part(i as u32 + 1)));
         }
     }
     Ok(ids)

@@ -11,6 +11,7 @@ use crate::refusals::refused;
 use indexmap::IndexSet;
 use input_texts::ScriptRow;
 use part_catalog::{Kind, greatest_value};
+use sim_base::refusals::SCRIPT_PART;
 use sim_base::{Fault, Input, List, Place};
 use std::alloc::Global;
 
@@ -43,7 +44,7 @@ fn input_of(ids: &IndexSet<&[u8]>, kinds: &[PlanKind], row: &ScriptRow) -> Resul
 {
     let part = match place_of(ids, &row.part) {
         Some(part) => part,
-        None => return Err(refused(83, Place::Line(row.line))),
+        None => return Err(refused(SCRIPT_PART, Place::Line(row.line))),
     };
     match taken(row.press, row.value, kinds.get(part).copied()) {
         Some(value) => Ok(Input {
@@ -51,7 +52,7 @@ fn input_of(ids: &IndexSet<&[u8]>, kinds: &[PlanKind], row: &ScriptRow) -> Resul
             part: part as u8,
             value,
         }),
-        None => Err(refused(83, Place::Line(row.line))),
+        None => Err(refused(SCRIPT_PART, Place::Line(row.line))),
     }
 }
 
@@ -67,10 +68,7 @@ pub(crate) fn inputs_of(
 {
     let mut inputs = List::new(alloc);
     for row in rows {
-        match input_of(ids, kinds, row) {
-            Ok(input) => inputs.push(input)?,
-            Err(fault) => return Err(fault),
-        }
+        inputs.push(input_of(ids, kinds, row)?)?;
     }
     Ok(inputs)
 }

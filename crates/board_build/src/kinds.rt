@@ -8,6 +8,7 @@ use crate::plan::PlanKind;
 use crate::refusals::refused;
 use document_model::{ChipFile, PartText};
 use part_catalog::{Kind, kind_of, kind_with};
+use sim_base::refusals::{BOARD_COUNT, BOARD_LIMIT, CHIP_MISSING, TYPE_UNKNOWN};
 use sim_base::{Fault, List, Place};
 use std::alloc::Global;
 
@@ -36,7 +37,7 @@ fn kind_of_part(chips: &[ChipFile], k: u32, part: &PartText) -> Result<Option<Pl
             Some(chip) => Ok(Some(PlanKind::Chip(chip))),
             None => Ok(None),
         },
-        None => Err(refused(42, Place::Part(k))),
+        None => Err(refused(TYPE_UNKNOWN, Place::Part(k))),
     }
 }
 
@@ -52,10 +53,7 @@ pub(crate) fn kinds_of_parts(
 {
     let mut kinds = List::new(alloc);
     for (i, part) in parts.iter().enumerate() {
-        match kind_of_part(chips, i as u32 + 1, part) {
-            Ok(kind) => kinds.push(kind)?,
-            Err(fault) => return Err(fault),
-        }
+        kinds.push(kind_of_part(chips, i as u32 + 1, part)?)?;
     }
     Ok(kinds)
 }
@@ -75,7 +73,7 @@ pub(crate) fn one_uno(kinds: &[Option<PlanKind>]) -> Result<(), Fault>
     for (i, kind) in kinds.iter().enumerate() {
         if is_uno(*kind) {
             if found {
-                return Err(refused(45, Place::Part(i as u32 + 1)));
+                return Err(refused(BOARD_COUNT, Place::Part(i as u32 + 1)));
             }
             found = true;
         }
@@ -83,7 +81,7 @@ pub(crate) fn one_uno(kinds: &[Option<PlanKind>]) -> Result<(), Fault>
     if found {
         Ok(())
     } else {
-        Err(refused(45, Place::Whole))
+        Err(refused(BOARD_COUNT, Place::Whole))
     }
 }
 
@@ -92,7 +90,7 @@ fn found_chip(k: u32, kind: Option<PlanKind>) -> Result<PlanKind, Fault>
 {
     match kind {
         Some(kind) => Ok(kind),
-        None => Err(refused(46, Place::Part(k))),
+        None => Err(refused(CHIP_MISSING, Place::Part(k))),
     }
 }
 
@@ -106,10 +104,7 @@ pub(crate) fn found_chips(
 {
     let mut found = List::new(alloc);
     for (i, kind) in kinds.iter().enumerate() {
-        match found_chip(i as u32 + 1, *kind) {
-            Ok(kind) => found.push(kind)?,
-            Err(fault) => return Err(fault),
-        }
+        found.push(found_chip(i as u32 + 1, *kind)?)?;
     }
     Ok(found)
 }
@@ -129,7 +124,7 @@ pub(crate) fn few_chips(kinds: &[Option<PlanKind>]) -> Result<(), Fault>
     for (i, kind) in kinds.iter().enumerate() {
         if is_chip(*kind) {
             if chips == 8 {
-                return Err(refused(49, Place::Part(i as u32 + 1)));
+                return Err(refused(BOARD_LIMIT, Place::Part(i as u32 + 1)));
             }
             chips += 1;
         }

@@ -11,8 +11,6 @@ mod parts;
 mod pins;
 mod plan;
 mod refusals;
-#[cfg(test)]
-mod tests;
 mod wiring;
 
 pub use board::build;

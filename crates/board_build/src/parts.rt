@@ -9,6 +9,7 @@ use crate::plan::{PlanKind, PlanPart};
 use crate::refusals::refused;
 use document_model::PartText;
 use part_catalog::{Settings, settings_of};
+use sim_base::refusals::ATTR_VALUE;
 use sim_base::{Fault, List, OutOfMemory, Place, Text};
 use std::alloc::Global;
 
@@ -41,7 +42,7 @@ fn part_in_plan(alloc: Global, k: u32, kind: PlanKind, part: &PartText) -> Resul
 {
     let settings = match settings_in(kind, &part.attrs) {
         Some(settings) => settings,
-        None => return Err(refused(47, Place::Part(k))),
+        None => return Err(refused(ATTR_VALUE, Place::Part(k))),
     };
     let attrs = copied(alloc, part.attrs.as_slice())?;
     Ok(PlanPart {
@@ -64,10 +65,7 @@ pub(crate) fn parts_in_plan(
 {
     let mut planned = List::new(alloc);
     for (i, part) in parts.iter().enumerate() {
-        match part_in_plan(alloc, i as u32 + 1, kinds[i], part) {
-            Ok(part) => planned.push(part)?,
-            Err(fault) => return Err(fault),
-        }
+        planned.push(part_in_plan(alloc, i as u32 + 1, kinds[i], part)?)?;
     }
     Ok(planned)
 }

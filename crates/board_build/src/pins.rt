@@ -12,6 +12,7 @@ use crate::refusals::refused;
 use document_model::{ChipPins, Wire};
 use indexmap::IndexSet;
 use part_catalog::{pin_count, pin_number};
+use sim_base::refusals::PIN_UNKNOWN;
 use sim_base::{Fault, List, Name, OutOfMemory, Place};
 use std::alloc::Global;
 
@@ -124,11 +125,11 @@ fn wire_on_board(board: &Board, wire: &Wire) -> Result<(u16, u16), Fault>
 {
     let from = match end_on_board(board, &wire.from.0, &wire.from.1) {
         Some(pin) => pin,
-        None => return Err(refused(44, Place::Connection(wire.number))),
+        None => return Err(refused(PIN_UNKNOWN, Place::Connection(wire.number))),
     };
     let to = match end_on_board(board, &wire.to.0, &wire.to.1) {
         Some(pin) => pin,
-        None => return Err(refused(44, Place::Connection(wire.number))),
+        None => return Err(refused(PIN_UNKNOWN, Place::Connection(wire.number))),
     };
     Ok((from, to))
 }
@@ -143,10 +144,7 @@ pub(crate) fn wires_on_board(
 {
     let mut pairs = List::new(alloc);
     for wire in wires {
-        match wire_on_board(board, wire) {
-            Ok(pair) => pairs.push(pair)?,
-            Err(fault) => return Err(fault),
-        }
+        pairs.push(wire_on_board(board, wire)?)?;
     }
     Ok(pairs)
 }

@@ -1,3 +1,4 @@
+use Rattle.std.proofs.lemmas.Result.{err_from_is_err_and}
 use Rattle.std.proofs.Common.{◌≡◌, ◌∙◌, ap, sym, subst, Err, length, List, ℕ, arith, Ok}
 use Rattle.sim_base.specs.declared.wiring.Input.{Input}
 use Rattle.sim_base.specs.Reads.{Reads}
@@ -18,35 +19,36 @@ use Rattle.board_build.proofs.board.plan_in.Goals as goal
 pub parts_in_plan-requires-clause-same : goal.parts_in_plan-requires-clause-same
 parts_in_plan-requires-clause-same c =
     ap (λ (l : List PlanKind). length l) c.as_slice-3.ensures
-    ∙ each_length found_chip 1 c.args.found.now c.in-Ok-found_chips.kinds c.in-Ok-found_chips.ensures
+    ∙ each_length found_chip 1 c.args.found.now c.in_ok-kinds.kinds c.in_ok-kinds.ensures
     ∙ c.requires.parts
     ∙ sym (ap (λ (l : List PartText). length l) c.as_slice-4.ensures)
 
 pub inputs_of-requires : goal.inputs_of-requires
 inputs_of-requires c =
-    let many = each_length found_chip 1 c.args.found.now c.in-Ok-found_chips.kinds c.in-Ok-found_chips.ensures in
+    let many = each_length found_chip 1 c.args.found.now c.in_ok-kinds.kinds c.in_ok-kinds.ensures in
     rw c.as_slice-5.ensures (omega (arith, many, c.requires.parts, c.requires.few_parts))
 
-pub returns-in-Err-inputs_of : goal.returns-in-Err-inputs_of
-returns-in-Err-inputs_of c =
+pub returns-in_err-inputs : goal.returns-in_err-inputs
+returns-in_err-inputs c =
+    let q = err_from_is_err_and c.from_residual-in_err-inputs.result c.from_residual-in_err-inputs.ensures.1 in
     let ids = ids_in c.args.ids.now in
     let found = c.args.found.now in
-    let wire : each_from (λ k. wire_on_board c.args.pins.now found ids) 1 c.args.diagram.now.wires ≡ Ok c.in-Ok.wires = rw (sym c.as_slice-2.ensures) c.in-Ok.ensures in
-    let more : each_from part_in_plan 1 (zip c.in-Ok-found_chips.kinds c.args.diagram.now.parts) ≡ Ok c.in-Ok-parts_in_plan.parts =
-    rw (sym c.as_slice-3.ensures, sym c.as_slice-4.ensures) c.in-Ok-parts_in_plan.ensures in
-    let h : Reads (λ (x : List Input). x) (Err c.in-Err-inputs_of.fault) (each_from (λ k. input_of ids c.in-Ok-found_chips.kinds) 1 c.args.script.now) =
-    rw (sym c.as_slice-5.ensures, sym c.as_slice-6.ensures) c.in-Err-inputs_of.ensures in
-    refused_last c.args.diagram.now c.args.pins.now c.args.script.now found ids c.in-Ok.wires c.in-Ok-one_uno.field-0 c.in-Ok-few_chips.field-0 c.in-Ok-found_chips.kinds c.in-Ok-parts_in_plan.parts
-    c.in-Err-inputs_of.fault wire c.in-Ok-one_uno.ensures c.in-Ok-found_chips.ensures more c.in-Ok-few_chips.ensures h
+    let wire : each_from (λ k. wire_on_board c.args.pins.now found ids) 1 c.args.diagram.now.wires ≡ Ok c.in_ok-wires.wires = rw (sym c.as_slice-2.ensures) c.in_ok-wires.ensures in
+    let more : each_from part_in_plan 1 (zip c.in_ok-kinds.kinds c.args.diagram.now.parts) ≡ Ok c.in_ok-parts.parts =
+    rw (sym c.as_slice-3.ensures, sym c.as_slice-4.ensures) c.in_ok-parts.ensures in
+    let h : Reads (λ (x : List Input). x) (Err c.in_err-inputs.field-0.0) (each_from (λ k. input_of ids c.in_ok-kinds.kinds) 1 c.args.script.now) =
+    rw (sym c.as_slice-5.ensures, sym c.as_slice-6.ensures) c.in_err-inputs.ensures in
+    rw (q.1, q.2) (refused_last c.args.diagram.now c.args.pins.now c.args.script.now found ids c.in_ok-wires.wires c.in_ok-one_uno.field-0 c.in_ok-few_chips.field-0 c.in_ok-kinds.kinds c.in_ok-parts.parts
+    c.in_err-inputs.field-0.0 wire c.in_ok-one_uno.ensures c.in_ok-kinds.ensures more c.in_ok-few_chips.ensures h)
 
 pub wiring-requires-clause-same : goal.wiring-requires-clause-same
 wiring-requires-clause-same c = ap (λ (l : List ℕ). length l) c.in_ok-firsts.ensures.starts ∙ starts_length c.args.pins.now 0 c.args.found.now
 
 pub wiring-requires-clause-joined : goal.wiring-requires-clause-joined
 wiring-requires-clause-joined c =
-    let wire = subst (λ (ws : List Wire). each_from (λ k. wire_on_board c.args.pins.now c.args.found.now (ids_in c.args.ids.now)) 1 ws ≡ Ok c.in-Ok.wires) c.as_slice-2.ensures c.in-Ok.ensures in
+    let wire = subst (λ (ws : List Wire). each_from (λ k. wire_on_board c.args.pins.now c.args.found.now (ids_in c.args.ids.now)) 1 ws ≡ Ok c.in_ok-wires.wires) c.as_slice-2.ensures c.in_ok-wires.ensures in
     rw (c.in_ok-firsts.ensures.starts, c.in_ok-firsts.ensures.total)
-    (joined_below c.args.pins.now c.args.found.now c.in-Ok-found_chips.kinds (ids_in c.args.ids.now) c.args.diagram.now.wires c.in-Ok.wires c.in-Ok-found_chips.ensures wire)
+    (joined_below c.args.pins.now c.args.found.now c.in_ok-kinds.kinds (ids_in c.args.ids.now) c.args.diagram.now.wires c.in_ok-wires.wires c.in_ok-kinds.ensures wire)
 
 pub wiring-requires-clause-contacts : goal.wiring-requires-clause-contacts
 wiring-requires-clause-contacts c =
@@ -60,11 +62,11 @@ pub returns : goal.returns
 returns c =
     let ids = ids_in c.args.ids.now in
     let found = c.args.found.now in
-    let wire : each_from (λ k. wire_on_board c.args.pins.now found ids) 1 c.args.diagram.now.wires ≡ Ok c.in-Ok.wires = rw (sym c.as_slice-2.ensures) c.in-Ok.ensures in
-    let more : each_from part_in_plan 1 (zip c.in-Ok-found_chips.kinds c.args.diagram.now.parts) ≡ Ok c.in-Ok-parts_in_plan.parts =
-    rw (sym c.as_slice-3.ensures, sym c.as_slice-4.ensures) c.in-Ok-parts_in_plan.ensures in
-    let input : each_from (λ k. input_of ids c.in-Ok-found_chips.kinds) 1 c.args.script.now ≡ Ok c.in-Ok-inputs_of.inputs =
-    rw (sym c.as_slice-5.ensures, sym c.as_slice-6.ensures) c.in-Ok-inputs_of.ensures in
-    let all = read_all c.args.diagram.now c.args.pins.now c.args.script.now found ids c.in-Ok.wires c.in-Ok-one_uno.field-0 c.in-Ok-few_chips.field-0 c.in-Ok-found_chips.kinds c.in-Ok-parts_in_plan.parts
-    c.in-Ok-inputs_of.inputs wire c.in-Ok-one_uno.ensures c.in-Ok-found_chips.ensures more c.in-Ok-few_chips.ensures input in
+    let wire : each_from (λ k. wire_on_board c.args.pins.now found ids) 1 c.args.diagram.now.wires ≡ Ok c.in_ok-wires.wires = rw (sym c.as_slice-2.ensures) c.in_ok-wires.ensures in
+    let more : each_from part_in_plan 1 (zip c.in_ok-kinds.kinds c.args.diagram.now.parts) ≡ Ok c.in_ok-parts.parts =
+    rw (sym c.as_slice-3.ensures, sym c.as_slice-4.ensures) c.in_ok-parts.ensures in
+    let input : each_from (λ k. input_of ids c.in_ok-kinds.kinds) 1 c.args.script.now ≡ Ok c.in_ok-inputs.inputs =
+    rw (sym c.as_slice-5.ensures, sym c.as_slice-6.ensures) c.in_ok-inputs.ensures in
+    let all = read_all c.args.diagram.now c.args.pins.now c.args.script.now found ids c.in_ok-wires.wires c.in_ok-one_uno.field-0 c.in_ok-few_chips.field-0 c.in_ok-kinds.kinds c.in_ok-parts.parts
+    c.in_ok-inputs.inputs wire c.in_ok-one_uno.ensures c.in_ok-kinds.ensures more c.in_ok-few_chips.ensures input in
     rw (c.in_ok-wiring.ensures, c.in_ok-firsts.ensures.starts, c.in_ok-firsts.ensures.total, c.parts.view_is) all
