@@ -4,6 +4,7 @@ use avr_ports::Ports;
 use avr_spi::Spi;
 use avr_timer8::{Timer0, Timer2};
 use avr_timer16::Timer16;
+use avr_twi::Twi;
 use avr_usart::Usart;
 use std::io;
 use unit_law::Unit;
@@ -17,7 +18,8 @@ pub(crate) fn fresh_units(rt: &HostRuntime) -> io::Result<()> {
     all_stand::<Ports>(rt, "ports")?;
     all_stand::<Adc>(rt, "ADC")?;
     all_stand::<Usart>(rt, "USART")?;
-    all_stand::<Spi>(rt, "SPI")
+    all_stand::<Spi>(rt, "SPI")?;
+    all_stand::<Twi>(rt, "TWI")
 }
 
 fn all_stand<U: Unit + Drop>(rt: &HostRuntime, name: &str) -> io::Result<()> {

@@ -12,7 +12,13 @@ use row::row_difference;
 use std::{fs, io};
 
 fn main(rt: HostRuntime) -> io::Result<()> {
-    for name in ["ports.rows", "adc.rows", "usart.rows", "spi.rows"] {
+    for name in [
+        "ports.rows",
+        "adc.rows",
+        "usart.rows",
+        "spi.rows",
+        "twi.rows",
+    ] {
         play(&rt, name)?;
     }
     fresh::fresh_units(&rt)

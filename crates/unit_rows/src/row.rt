@@ -5,6 +5,7 @@ use avr_ports::Ports;
 use avr_spi::Spi;
 use avr_timer8::{Timer0, Timer2};
 use avr_timer16::Timer16;
+use avr_twi::Twi;
 use avr_usart::Usart;
 
 /// The first word of a row that is none, or that comes out otherwise.
@@ -18,6 +19,7 @@ pub(crate) fn row_difference(line: &str) -> Option<&str> {
         "timer0" => played::<Timer0>(words),
         "timer1" => played::<Timer16>(words),
         "timer2" => played::<Timer2>(words),
+        "twi" => played::<Twi>(words),
         "usart" => played::<Usart>(words),
         _ => Some(unit),
     }
