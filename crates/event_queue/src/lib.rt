@@ -5,7 +5,5 @@
 
 mod due_tree;
 mod entry;
-#[cfg(test)]
-mod tests;
 
 pub use due_tree::DueTree;

@@ -11,8 +11,6 @@ mod nets;
 mod room;
 mod subcircuit;
 mod sums;
-#[cfg(test)]
-mod tests;
 mod whole;
 
 pub use nets::{Nets, has_valid_nets};
