@@ -1,3 +1,4 @@
 pub mod CallerLemmas
+mod ChainLemmas
 mod WaveLemmas
 mod WriterLemmas

@@ -1,4 +1,5 @@
 pub mod Buffers
+pub mod Chains
 pub mod Heads
 pub mod Ports
 pub mod Variables

@@ -1,10 +1,12 @@
 -- What a writer stands for.
-use Rattle.std.specs.Prelude.{◌≡◌, ℕ, ◌+◌, ◌-◌, ◌^◌, min, List, [], ◌∷◌, ◌++◌, length, nat_le, Bool, true, false, not, ◌&&◌, ◌||◌, Option}
+use Rattle.std.specs.Prelude.{◌≡◌, ℕ, ◌+◌, ◌-◌, ◌^◌, min, List, [], ◌∷◌, ◌++◌, length, nat_le, Bool, true, false, not, ◌&&◌, ◌||◌, if◌then◌else◌, Option, None, Some}
 use Rattle.sim_base.specs.declared.bench.Port.{Port}
 use Rattle.sim_base.specs.declared.bench.Port.TheVariants as ports
 use Rattle.sim_base.specs.Outside.{Outside}
 use Rattle.sim_base.specs.Rows.{Row}
 use Rattle.text_model.specs.Wave.{Variable, values, begun_text, wave_count}
+use Rattle.sim_base.specs.declared.signal.Level.{Level}
+use Rattle.vcd_text.specs.Chains.{HasSeen}
 use Rattle.vcd_text.specs.Heads.{HeadState, gathered}
 use Rattle.vcd_text.specs.Ports.{texts, Leaves, BreaksOff}
 use Rattle.vcd_text.specs.declared.writer.WaveWriter.{WaveWriter}
@@ -50,7 +52,11 @@ abbrev pub outside_of : {B : Type 0} → (B → Outside) → WaveWriter B → Ou
 outside_of outside w = outside w.bench.now
 
 abbrev pub last_of : {B : Type 0} → WaveWriter B → Option ℕ
-last_of w = w.last
+last_of w = if w.head.now.started then Some w.last else None
+
+-- the values that it has of nets are those of these levels
+abbrev pub has_seen : {B : Type 0} → WaveWriter B → List Level → Type 0
+has_seen w levels = HasSeen w.head.now.variables w.head.now.values levels
 
 -- no call has failed, the wave has not ended, a wanted Wave is open, and there is room for a row
 abbrev pub is_whole : {B : Type 0} → (B → Outside) → WaveWriter B → Bool

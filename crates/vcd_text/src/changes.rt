@@ -17,7 +17,7 @@ fn push_value(i: usize, value: u8, out: &mut Buffer)
     out.push(b"\n");
 }
 
-fn push_change(i: usize, before: u8, now: u8, out: &mut Buffer) -> u64
+pub(crate) fn push_change(i: usize, before: u8, now: u8, out: &mut Buffer) -> u64
     requires few { i < 8930 }
     requires room { length out.old.text + 4 ≤ out.old.room }
     ensures text { out.new ≡ record out.old { text = out.old.text ++ (if before == now then [] else value_line i now) } }
@@ -78,6 +78,16 @@ pub fn push_initial_values(cycle: u32, now: &[u8], out: &mut Buffer)
     out.push(b"$dumpvars\n");
     push_values(now, out);
     out.push(b"$end\n");
+}
+
+/// The head of a wave and the initial values.
+pub(crate) fn push_first(cycle: u32, head: &[u8], now: &[u8], out: &mut Buffer)
+    requires few { length now.now ≤ 8930 }
+    requires room { length out.old.text + length head.now + 57 + 4 * length now.now ≤ out.old.room }
+    ensures { out.new ≡ record out.old { text = out.old.text ++ (head.now ++ initial_values cycle now.now) } }
+{
+    out.push(head);
+    push_initial_values(cycle, now, out);
 }
 
 /// The value changes of a cycle, and how many there are.

@@ -1,12 +1,18 @@
 //! The variables of a wave, and the text of one row after another.
-ghost use Rattle.std.specs.Prelude.{◌≡◌, ◌≤◌, [], ◌++◌, length, IfOk, replicate, vec_len, true, false};
+ghost use Rattle.std.specs.Prelude.{◌≡◌, ◌≢◌, ℕ, ◌<◌, ◌≤◌, List, [], ◌++◌, Some, slice_get, slice_index, length, IfOk, replicate, vec_len, true, false};
 ghost use Rattle.text_model.specs.Wave.{time_line};
 ghost use Rattle.vcd_text.specs.Variables.{variables_of};
 ghost use Rattle.vcd_text.specs.Heads.{gathered, after_row, changed_by};
+ghost use Rattle.text_model.specs.Wave.{Net};
+ghost use Rattle.vcd_text.specs.Chains.{HasSeen, AreNets, sources, values_at};
+ghost use Rattle.sim_base.specs.Rows.{AreBut};
+ghost use Rattle.sim_base.specs.declared.signal.Level.{Level};
 
 use crate::buffer::Buffer;
-use crate::changes::{push_initial_values, push_time, push_value_changes};
+use crate::chains::{count_nets, link_all};
+use crate::changes::{push_first, push_time, push_value_changes};
 use crate::declarations::head_text;
+use crate::follow::push_net_changes;
 use crate::value::fill_values;
 use crate::variable::Variable;
 use sim_base::{Drive, Level, List, OutOfMemory};
@@ -24,12 +30,23 @@ fn unknown(alloc: Global, count: usize) -> Result<Vec<u8>, AllocError>
     vec![in alloc; b'z'; count]
 }
 
+fn numbers(alloc: Global, number: u16, count: usize) -> Result<Vec<u16>, AllocError>
+    ensures { IfOk result (λ v. v.items ≡ replicate count number) }
+{
+    vec![in alloc; number; count]
+}
+
 /// The variables of a wave and the text of its head, with the room for the values of the last row
 /// and for the text of rows, which is kept until it is much.
 #[derive(Drop)]
 pub struct WaveHead {
     variables: List<Variable>,
     head_bytes: Vec<u8>,
+    /// The first variable that shows each net, and behind each variable the next that shows its net.
+    first: Vec<u16>,
+    next: Vec<u16>,
+    /// Whether a variable shows a pin.
+    shows_pins: bool,
     /// The values of the last row.
     before: Vec<u8>,
     /// Room for those of the row at hand.
@@ -39,9 +56,10 @@ pub struct WaveHead {
 }
 
 impl Model for WaveHead {
-    ghost use Rattle.std.specs.Prelude.{◌≡◌, ◌≤◌, ◌+◌, length, vec_len};
+    ghost use Rattle.std.specs.Prelude.{◌≡◌, ◌≤◌, ◌+◌, length, vec_len, false};
     ghost use Rattle.text_model.specs.Wave.{head};
     ghost use Rattle.vcd_text.specs.Heads.{HeadState, gathered, text_room};
+    ghost use Rattle.vcd_text.specs.Chains.{sources, AreChains, AreNets};
 
     ghost Value = { HeadState };
 
@@ -54,7 +72,9 @@ impl Model for WaveHead {
         × (a.head_bytes.items ≡ head (variables_of a.variables))
         × (vec_len a.before ≡ length a.variables)
         × (vec_len a.current ≡ length a.variables)
-        × (gathered + text_room (variables_of a.variables) ≤ a.text.room) };
+        × (gathered + text_room (variables_of a.variables) ≤ a.text.room)
+        × AreChains (sources (variables_of a.variables)) a.first.items a.next.items
+        × (a.shows_pins ≡ false → AreNets (sources (variables_of a.variables))) };
 }
 
 impl WaveHead {
@@ -67,6 +87,13 @@ impl WaveHead {
         let before = unknown(alloc, variables.len())?;
         let current = unknown(alloc, variables.len())?;
         let head_bytes = head_text(alloc, variables.as_slice())?;
+        let mut first = numbers(
+            alloc,
+            variables.len() as u16,
+            count_nets(variables.as_slice()),
+        )?;
+        let mut next = numbers(alloc, 0, variables.len())?;
+        let shows_pins = link_all(variables.as_slice(), &mut first, &mut next);
         let text = Buffer::with_room(
             alloc,
             GATHERED + head_bytes.len() + 57 + 4 * variables.len(),
@@ -74,6 +101,9 @@ impl WaveHead {
         Ok(WaveHead {
             variables,
             head_bytes,
+            first,
+            next,
+            shows_pins,
             before,
             current,
             text,
@@ -96,9 +126,39 @@ impl WaveHead {
         self.started
     }
 
-    /// Makes the text of the next row behind what is kept, and answers how many values it changes.
-    pub(crate) fn take_row(&mut self, cycle: u32, levels: &[Level], drives: &[Drive]) -> u64
-        requires { length self.old.text ≤ gathered }
+    /// Whether no variable shows a pin.
+    fn shows_nets_alone(&self) -> bool
+        ensures { result ≡ true → AreNets (sources self.now.variables) }
+    {
+        !self.shows_pins
+    }
+
+    /// Makes the text of the next row, looking at the variables of a net alone.
+    fn take_net(&mut self, cycle: u32, net: u16, levels: &[Level], drives: &[Drive]) -> u64
+        requires room { length self.old.text ≤ gathered }
+        requires started { self.old.started ≡ true }
+        requires others { (k : ℕ) → k < length self.old.variables → slice_get (sources self.old.variables) k ≢ Some (Net net)
+            → slice_index self.old.values k ≡ slice_index (values_at levels.now drives.now self.old.variables) k }
+        ensures text { self.new ≡ after_row self.old (record { cycle = cycle; levels = levels.now; drives = drives.now }) }
+        ensures count { result ≡ changed_by self.old (record { cycle = cycle; levels = levels.now; drives = drives.now }) }
+    {
+        push_net_changes(
+            cycle,
+            net,
+            self.variables.as_slice(),
+            &self.first,
+            &self.next,
+            levels,
+            drives,
+            &mut self.before,
+            &mut self.text,
+        )
+    }
+
+    /// Makes the text of a row behind another, looking at all variables.
+    fn take_changes(&mut self, cycle: u32, levels: &[Level], drives: &[Drive]) -> u64
+        requires room { length self.old.text ≤ gathered }
+        requires started { self.old.started ≡ true }
         ensures text { self.new ≡ after_row self.old (record { cycle = cycle; levels = levels.now; drives = drives.now }) }
         ensures count { result ≡ changed_by self.old (record { cycle = cycle; levels = levels.now; drives = drives.now }) }
     {
@@ -108,16 +168,52 @@ impl WaveHead {
             drives,
             self.current.as_mut_slice(),
         );
-        let count = if self.started {
-            push_value_changes(cycle, &self.before, &self.current, &mut self.text)
-        } else {
-            self.text.push(&self.head_bytes);
-            push_initial_values(cycle, &self.current, &mut self.text);
-            0
-        };
-        self.started = true;
+        let count = push_value_changes(cycle, &self.before, &self.current, &mut self.text);
         mem::swap(&mut self.before, &mut self.current);
         count
+    }
+
+    /// Makes the text of the first row.
+    fn take_first(&mut self, cycle: u32, levels: &[Level], drives: &[Drive])
+        requires room { length self.old.text ≤ gathered }
+        requires fresh { self.old.started ≡ false }
+        ensures { self.new ≡ after_row self.old (record { cycle = cycle; levels = levels.now; drives = drives.now }) }
+    {
+        fill_values(
+            self.variables.as_slice(),
+            levels,
+            drives,
+            self.current.as_mut_slice(),
+        );
+        push_first(cycle, &self.head_bytes, &self.current, &mut self.text);
+        self.started = true;
+        mem::swap(&mut self.before, &mut self.current);
+    }
+
+    /// Makes the text of the next row behind what is kept, and answers how many values it changes.
+    /// Where one net is told and no variable shows a pin, it looks at the variables of that net alone.
+    pub(crate) fn take_row(
+        &mut self,
+        cycle: u32,
+        levels: &[Level],
+        drives: &[Drive],
+        changed: &[u16],
+    ) -> u64
+        requires room { length self.old.text ≤ gathered }
+        requires told { self.old.started ≡ true → (before : List Level) × HasSeen self.old.variables self.old.values before × AreBut changed.now before levels.now }
+        ensures text { self.new ≡ after_row self.old (record { cycle = cycle; levels = levels.now; drives = drives.now }) }
+        ensures count { result ≡ changed_by self.old (record { cycle = cycle; levels = levels.now; drives = drives.now }) }
+    {
+        if self.has_started() {
+            if changed.len() == 1 && self.shows_nets_alone() {
+                self.take_net(cycle, changed[0], levels, drives)
+            } else {
+                self.take_changes(cycle, levels, drives)
+            }
+        } else {
+            self.take_first(cycle, levels, drives);
+            0
+        }
     }
 
     /// Makes the text of the time at which the run ends behind what is kept.

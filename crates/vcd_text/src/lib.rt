@@ -5,8 +5,10 @@
 #![tactic(auto)]
 
 mod buffer;
+mod chains;
 mod changes;
 mod declarations;
+mod follow;
 mod head;
 mod value;
 mod variable;

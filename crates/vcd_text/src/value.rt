@@ -58,7 +58,7 @@ fn drive_at(drives: &[Drive], pin: u16) -> Option<Drive>
     drives.get(pin as usize).copied()
 }
 
-fn of_source(shows: Source, levels: &[Level], drives: &[Drive]) -> u8
+pub(crate) fn of_source(shows: Source, levels: &[Level], drives: &[Drive]) -> u8
     ensures { result ≡ shown_value levels.now drives.now (source_of shows) }
 {
     match shows {

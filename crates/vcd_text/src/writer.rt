@@ -8,7 +8,7 @@ ghost use Rattle.sim_base.specs.Rows.{Row};
 ghost use Rattle.text_model.specs.Wave.{wave_text, wave_count};
 ghost use Rattle.vcd_text.specs.Heads.{gathered};
 ghost use Rattle.vcd_text.specs.Ports.{texts, Writes};
-ghost use Rattle.vcd_text.specs.Writers.{Tied, texts_of, place_of, outside_of, last_of, is_whole, faults_of, Stands, HasStopped, capped};
+ghost use Rattle.vcd_text.specs.Writers.{Tied, texts_of, place_of, outside_of, last_of, has_seen, is_whole, faults_of, Stands, HasStopped, capped};
 
 use crate::head::WaveHead;
 use sim_base::{Bench, Drive, Level, Port, Watcher, WriteEnd};
@@ -26,7 +26,7 @@ pub struct WaveWriter<'a, B: Bench> {
     wave: bool,
     serial: bool,
     whole: bool,
-    last: Option<u32>,
+    last: u32,
     changes: u64,
     sent: u64,
 }
@@ -96,7 +96,7 @@ impl<'a, B: Bench> Watcher for WaveWriter<'a, B> {
 
     ghost last = { last_of };
 
-    ghost seen = { λ w levels. Unit {0} };
+    ghost seen = { has_seen };
 
     ghost faults = { faults_of B.outside };
 
@@ -104,11 +104,11 @@ impl<'a, B: Bench> Watcher for WaveWriter<'a, B> {
 
     ghost place = { place_of B.outside };
 
-    fn row(&mut self, t: u32, levels: &[Level], drives: &[Drive], _changed: &[u16]) -> WriteEnd {
+    fn row(&mut self, t: u32, levels: &[Level], drives: &[Drive], changed: &[u16]) -> WriteEnd {
         let first = !self.head.has_started();
-        let more = self.head.take_row(t, levels, drives);
+        let more = self.head.take_row(t, levels, drives, changed);
         self.changes = counted(self.changes, self.wave, more);
-        self.last = Some(t);
+        self.last = t;
         let end = pass_on(first, self.wave, self.head, self.bench);
         self.whole = is_ok(end);
         end
@@ -147,7 +147,7 @@ impl<'a, B: Bench> WaveWriter<'a, B> {
             wave,
             serial,
             whole: true,
-            last: None,
+            last: 0,
             changes: 0,
             sent: 0,
         }

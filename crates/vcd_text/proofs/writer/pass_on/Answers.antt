@@ -1,7 +1,6 @@
-use Rattle.std.proofs.Common.{◌≡◌, ◌∙◌, [], ◌++◌, sym, ap, refl, List, ℕ}
+use Rattle.std.proofs.Common.{◌∙◌, ◌++◌, ap, List, ℕ}
 use Rattle.std.proofs.lemmas.List.{append-nil}
 use Rattle.vcd_text.specs.Heads.{HeadState}
-use Rattle.vcd_text.proofs.WriterLemmas.{leaves_nothing}
 use Rattle.vcd_text.proofs.writer.pass_on.Goals as goal
 
 pub returns-clause-gone : goal.returns-clause-gone

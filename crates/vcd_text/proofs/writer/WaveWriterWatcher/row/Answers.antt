@@ -1,4 +1,4 @@
-use Rattle.std.proofs.Common.{[], ◌∷◌, ◌++◌, length, false, arith}
+use Rattle.std.proofs.Common.{[], ◌∷◌, ◌++◌, length, false, arith, refl}
 use Rattle.std.proofs.lemmas.List.{append-nil}
 use Rattle.sim_base.specs.declared.bench.Port.TheVariants as ports
 use Rattle.sim_base.specs.Rows.{Row}
@@ -6,12 +6,23 @@ use Rattle.text_model.specs.Wave.{begun_text}
 use Rattle.vcd_text.specs.Ports.{texts, Leaves, BreaksOff}
 use Rattle.vcd_text.proofs.WriterLemmas.{leaves_more, breaks_off, sum_rose, after_still, whole_still, whole_room, changed_more, kept_more, whole_front}
 use Rattle.vcd_text.proofs.CallerLemmas.{breaks_within}
+use Rattle.vcd_text.proofs.ChainLemmas.{seen_after}
 use Rattle.vcd_text.proofs.writer.WaveWriterWatcher.row.Goals as goal
 
-pub take_row-more-requires : goal.take_row-more-requires
-take_row-more-requires g c =
+pub take_row-more-requires-clause-room : goal.take_row-more-requires-clause-room
+take_row-more-requires-clause-room g c =
     let w = c.args.self.now in
     whole_room w.whole _ (length w.head.now.text) c.requires.whole
+
+pub take_row-more-requires-clause-told : goal.take_row-more-requires-clause-told
+take_row-more-requires-clause-told g c = λ on.
+    let w = c.args.self.now in
+    c.requires.changed w.last (rw on refl)
+
+pub returns-clause-seen : goal.returns-clause-seen
+returns-clause-seen g c = λ e.
+    let row : Row = record { cycle = c.args.t; levels = c.args.levels.now; drives = c.args.drives.now } in
+    seen_after c.args.self.now.head.now c.take_row-more.new.self c.pass_on-end.new.head row c.take_row-more.ensures.text c.pass_on-end.ensures.rest
 
 pub returns-clause-ok : goal.returns-clause-ok
 returns-clause-ok g c = λ e.

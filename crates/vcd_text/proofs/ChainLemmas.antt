@@ -1,0 +1,129 @@
+-- Variables that are linked by the nets that they show.
+use Rattle.std.proofs.Common.{◌≡◌, ◌≢◌, ℕ, zero, suc, ◌+◌, ◌<◌, List, [], ◌∷◌, length, get_or, refl, ap, sym, ◌∙◌, arith, inl, inr, subst, Option, Some, Bool, true, false, ◌||◌}
+use Rattle.std.specs.Prelude.{slice_get, slice_index, slice_set}
+use Rattle.std.proofs.lemmas.Bool.Decides.{eqb_tells}
+use Rattle.std.proofs.lemmas.List.{get_or-set_same, get_or-set_other, length-set, length-map}
+use Rattle.std.proofs.lemmas.Option.{slice_get_within, slice_get-map, slice_get-get_or}
+use Rattle.std.specs.Option.{option_map}
+use Rattle.text_model.specs.Wave.{Source, Net, Variable, level_value, shown_value}
+use Rattle.vcd_text.specs.declared.variable.Variable as declared
+use Rattle.vcd_text.specs.Variables.{source_of, variable_of, variables_of}
+use Rattle.std.specs.Option.{option_map_or}
+use Rattle.sim_base.specs.declared.signal.Level.{Level}
+use Rattle.sim_base.specs.declared.signal.Drive.{Drive}
+use Rattle.sim_base.specs.Rows.{Row, AreBut}
+use Rattle.vcd_text.specs.Heads.{HeadState, after_row}
+use Rattle.vcd_text.specs.Chains.{sources, values_at, IsNext, AreLinked, AreNets, HasSeen}
+
+pub some_is : {A : Type 0} {x y : A} → Some x ≡ Some y → x ≡ y
+some_is e = cc
+
+-- what a variable shows
+pub shown_here : (vs : List declared.Variable) (k : ℕ) (d : declared.Variable) → k < length vs → slice_get (sources (variables_of vs)) k ≡ Some (source_of (get_or vs k d).shows)
+shown_here vs k d less =
+    slice_get-map (λ (v : Variable). v.shows) (variables_of vs) k
+    ∙ ap (option_map (λ (v : Variable). v.shows)) (slice_get-map variable_of vs k ∙ ap (option_map variable_of) (slice_get-get_or vs k d less))
+
+pub shown_long : (vs : List declared.Variable) → length (sources (variables_of vs)) ≡ length vs
+shown_long vs = length-map (variables_of vs) (λ (v : Variable). v.shows) ∙ length-map vs variable_of
+
+pub shown_within : (vs : List declared.Variable) (k : ℕ) (s : Source) → slice_get (sources (variables_of vs)) k ≡ Some s → k < length vs
+shown_within vs k s e = let w = slice_get_within (sources (variables_of vs)) k s e in omega (arith, w, shown_long vs)
+
+-- of two flags that are off
+pub both_off : (a b : Bool) → (a || b) ≡ false → (a ≡ false) × (b ≡ false)
+both_off true b h = absurd cc
+both_off false b h = (refl, h)
+
+-- one place before where nothing shows the net
+earlier : (all : List Source) (net i at : ℕ) (s : Source) → slice_get all i ≡ Some s → s ≢ Net net → IsNext all net (i + 1) at → IsNext all net i at
+earlier all net i at s e other n = record {
+  order = let h = n.order in omega (arith, h);
+  within = n.within;
+  none = λ k from less same. elim (eqb_tells k i) [
+    | inl here ↦ other (some_is (sym e ∙ ap (slice_get all) (sym here.1) ∙ same))
+    | inr far ↦ let apart = far.1 in n.none k (omega (arith, from, apart)) less same
+  ];
+  here = n.here;
+}
+
+pub linked_pin : (all : List Source) (first next : List ℕ) (i : ℕ) (s : Source) → slice_get all i ≡ Some s → ((n : ℕ) → s ≢ Net n) → AreLinked all first next (i + 1) → AreLinked all first next i
+linked_pin all first next i s e pin linked = record {
+  firsts = λ n less. earlier all n i (slice_index first n) s e (pin n) (linked.firsts n less);
+  nexts = λ k n from at. elim (eqb_tells k i) [
+    | inl here ↦ absurd (pin n (some_is (sym e ∙ ap (slice_get all) (sym here.1) ∙ at)))
+    | inr far ↦ let apart = far.1 in linked.nexts k n (omega (arith, from, apart)) at
+  ];
+}
+
+pub linked_net : (all : List Source) (first next : List ℕ) (i net : ℕ) → slice_get all i ≡ Some (Net net) → net < length first → i < length next → AreLinked all first next (i + 1) →
+    AreLinked all (slice_set first net i) (slice_set next i (slice_index first net)) i
+linked_net all first next i net e here room linked = record {
+  firsts = λ n less. elim (eqb_tells n net) [
+    | inl same ↦ subst (λ (m : ℕ). IsNext all m i (slice_index (slice_set first net i) m)) (sym same.1) (subst (λ (at : ℕ). IsNext all net i at) (sym (get_or-set_same first net i 0 here)) first_here)
+    | inr far ↦ subst (λ (at : ℕ). IsNext all n i at) (sym (get_or-set_other first net n i 0 far.1))
+        (earlier all n i (slice_index first n) (Net net) e (λ (same : Net net ≡ Net n). far.1 (sym (net_is net n same))) (linked.firsts n (omega (arith, less, length-set first net i))))
+  ];
+  nexts = λ k n from at. elim (eqb_tells k i) [
+    | inl same ↦
+        let n_is : n ≡ net = net_is n net (some_is (sym at ∙ ap (slice_get all) same.1 ∙ e)) in
+        subst (λ (j : ℕ). IsNext all n (j + 1) (slice_index (slice_set next i (slice_index first net)) j)) (sym same.1)
+        (subst (λ (m : ℕ). IsNext all n (i + 1) m) (sym (get_or-set_same next i (slice_index first net) 0 room))
+        (subst (λ (m : ℕ). IsNext all m (i + 1) (slice_index first net)) (sym n_is) (linked.firsts net here)))
+    | inr far ↦
+        let apart = far.1 in
+        subst (λ (m : ℕ). IsNext all n (k + 1) m) (sym (get_or-set_other next i k (slice_index first net) 0 far.1)) (linked.nexts k n (omega (arith, from, apart)) at)
+  ];
+}
+  where
+    net_is : (a b : ℕ) → Net a ≡ Net b → a ≡ b
+    net_is a b same = cc
+
+    first_here : IsNext all net i i
+    first_here = record {
+      order = omega arith;
+      within = let w = slice_get_within all i (Net net) e in omega (arith, w);
+      none = λ k from less same. omega (arith, from, less);
+      here = λ less. e;
+    }
+
+-- behind the last variable nothing is linked
+pub linked_none : (all : List Source) (first next : List ℕ) (i : ℕ) → i ≡ length all → ((n : ℕ) → n < length first → slice_index first n ≡ i) → AreLinked all first next i
+linked_none all first next i end blank = record {
+  firsts = λ n less. subst (λ (at : ℕ). IsNext all n i at) (sym (blank n less)) (record {
+    order = omega arith;
+    within = omega (arith, end);
+    none = λ k from less same. omega (arith, from, less);
+    here = λ less. absurd (omega (arith, less, end));
+  });
+  nexts = λ k n from at. let w = slice_get_within all k (Net n) at in absurd (omega (arith, from, w, end));
+}
+
+-- what a variable of a net has
+pub value_here : (vs : List Variable) (levels : List Level) (drives : List Drive) (k n : ℕ) → slice_get (sources vs) k ≡ Some (Net n) → get_or (values_at levels drives vs) k 0 ≡ option_map_or level_value (slice_get levels n) 122
+value_here [] levels drives k n e = absurd cc
+value_here (v ∷ vs) levels drives zero n e = let s : v.shows ≡ Net n = some_is e in ap (shown_value levels drives) s
+value_here (v ∷ vs) levels drives (suc k) n e = value_here vs levels drives k n e
+
+-- where one net is told, the variables of others have the values that they had
+pub others_still : (vs : List Variable) (values : List ℕ) (before after : List Level) (drives : List Drive) (changed : List ℕ) → length changed ≡ 1 → AreNets (sources vs) → HasSeen vs values before → AreBut changed before after →
+    (k : ℕ) → k < length vs → slice_get (sources vs) k ≢ Some (Net (get_or changed 0 0)) → get_or values k 0 ≡ get_or (values_at after drives vs) k 0
+others_still vs values before after drives [] one nets seen but k less other = absurd (omega (arith, one))
+others_still vs values before after drives (x ∷ y ∷ more) one nets seen but k less other = absurd (omega (arith, one))
+others_still vs values before after drives (x ∷ []) one nets seen but k less other =
+    let within : k < length (sources vs) = omega (arith, less, length-map vs (λ (v : Variable). v.shows)) in
+    let at : slice_get (sources vs) k ≡ Some (get_or (sources vs) k (Net 0)) = slice_get-get_or (sources vs) k (Net 0) within in
+    let net = nets k (get_or (sources vs) k (Net 0)) at in
+    let here : slice_get (sources vs) k ≡ Some (Net net.0) = at ∙ ap (λ (s : Source). Some s) net.1 in
+    let level : slice_get after net.0 ≡ slice_get before net.0 = but net.0 (elim (eqb_tells net.0 x) [
+      | inl same ↦ absurd (other (here ∙ ap (λ (m : ℕ). Some (Net m)) same.1))
+      | inr far ↦ rw far.0 refl
+    ]) in
+    seen k net.0 here ∙ ap (λ (o : Option Level). option_map_or level_value o 122) (sym level) ∙ sym (value_here vs after drives k net.0 here)
+
+-- after a row the values are those of its levels
+pub seen_after : (s h k : HeadState) (row : Row) → h ≡ after_row s row → k ≡ record h { text = k.text } → HasSeen k.variables k.values row.levels
+seen_after s h k row e f = λ i n here.
+    let variables : k.variables ≡ s.variables = ap (λ (x : HeadState). x.variables) f ∙ ap (λ (x : HeadState). x.variables) e in
+    let values : k.values ≡ values_at row.levels row.drives s.variables = ap (λ (x : HeadState). x.values) f ∙ ap (λ (x : HeadState). x.values) e in
+    ap (λ (l : List ℕ). get_or l i 0) values ∙ value_here s.variables row.levels row.drives i n (subst (λ (vs : List Variable). slice_get (sources vs) i ≡ Some (Net n)) variables here)

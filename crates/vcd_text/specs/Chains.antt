@@ -1,0 +1,41 @@
+-- The variables by the nets that they show. No public clause cites this.
+use Rattle.std.specs.Prelude.{◌≡◌, ◌≢◌, ℕ, ◌+◌, ◌<◌, ◌≤◌, List, length, map, Some, slice_get, slice_index}
+use Rattle.sim_base.specs.declared.signal.Level.{Level}
+use Rattle.sim_base.specs.declared.signal.Drive.{Drive}
+use Rattle.std.specs.Option.{option_map_or}
+use Rattle.text_model.specs.Wave.{Source, Net, Variable, level_value, shown_value}
+
+abbrev pub sources : List Variable → List Source
+sources = map (λ v. v.shows)
+
+-- what each variable has at these levels and drives
+abbrev pub values_at : List Level → List Drive → List Variable → List ℕ
+values_at levels drives = map (λ v. shown_value levels drives v.shows)
+
+abbrev pub IsNet : Source → Type 0
+IsNet s = (n : ℕ) × s ≡ Net n
+
+-- from a place on, the first variable that shows the net is at this one, or none does
+pub record IsNext (shows : List Source) (net from at : ℕ) : Type 0 where
+  pub order : from ≤ at
+  pub within : at ≤ length shows
+  pub none : (k : ℕ) → from ≤ k → k < at → slice_get shows k ≢ Some (Net net)
+  pub here : at < length shows → slice_get shows at ≡ Some (Net net)
+
+-- of the variables from number i on the first that shows a net, for each net, and behind each the next
+pub record AreLinked (shows : List Source) (first next : List ℕ) (i : ℕ) : Type 0 where
+  pub firsts : (n : ℕ) → n < length first → IsNext shows n i (slice_index first n)
+  pub nexts : (k n : ℕ) → i ≤ k → slice_get shows k ≡ Some (Net n) → IsNext shows n (k + 1) (slice_index next k)
+
+-- the same of all variables
+pub record AreChains (shows : List Source) (first next : List ℕ) : Type 0 where
+  pub long : length next ≡ length shows
+  pub nets : (k n : ℕ) → slice_get shows k ≡ Some (Net n) → n < length first
+  pub linked : AreLinked shows first next 0
+
+abbrev pub AreNets : List Source → Type 0
+AreNets shows = (k : ℕ) (s : Source) → slice_get shows k ≡ Some s → IsNet s
+
+-- the values of the variables that show nets are those of these levels
+abbrev pub HasSeen : List Variable → List ℕ → List Level → Type 0
+HasSeen variables values levels = (k n : ℕ) → slice_get (sources variables) k ≡ Some (Net n) → slice_index values k ≡ option_map_or level_value (slice_get levels n) 122

@@ -1,0 +1,77 @@
+//! The value changes of one net.
+ghost use Rattle.std.specs.Prelude.{◌≡◌, ◌≢◌, ℕ, ◌+◌, ◌*◌, ◌<◌, ◌≤◌, ◌++◌, length, Some, slice_get, slice_index};
+ghost use Rattle.text_model.specs.Wave.{Net, changes, change_count, value_changes};
+ghost use Rattle.vcd_text.specs.Variables.{variables_of};
+ghost use Rattle.vcd_text.specs.Chains.{sources, values_at, AreChains};
+
+use crate::buffer::Buffer;
+use crate::chains::first_of;
+use crate::changes::{push_change, push_time};
+use crate::value::of_source;
+use crate::variable::Variable;
+use sim_base::{Drive, Level};
+
+/// Puts the values of the variables that show a net in place of those of the last row, and writes the
+/// lines of those that are not what they were; answers how many these are.
+fn push_chain(
+    net: u16,
+    variables: &[Variable],
+    first: &[u16],
+    next: &[u16],
+    levels: &[Level],
+    drives: &[Drive],
+    values: &mut [u8],
+    out: &mut Buffer,
+) -> u64
+    requires few { length variables.now ≤ 8930 }
+    requires long { length values.old ≡ length variables.now }
+    requires chains { AreChains (sources (variables_of variables.now)) first.now next.now }
+    requires others { (k : ℕ) → k < length variables.now → slice_get (sources (variables_of variables.now)) k ≢ Some (Net net)
+        → slice_index values.old k ≡ slice_index (values_at levels.now drives.now (variables_of variables.now)) k }
+    requires room { length out.old.text + 4 * length variables.now ≤ out.old.room }
+    ensures values { values.new ≡ values_at levels.now drives.now (variables_of variables.now) }
+    ensures text { out.new ≡ record out.old { text = out.old.text ++ changes 0 values.old (values_at levels.now drives.now (variables_of variables.now)) } }
+    ensures count { result ≡ change_count values.old (values_at levels.now drives.now (variables_of variables.now)) }
+{
+    let mut count = 0;
+    let mut i = first_of(net, first, variables.len());
+    while i < variables.len() {
+        let value = of_source(variables[i].shows, levels, drives);
+        let more = push_change(i, values[i], value, out);
+        count += more;
+        values[i] = value;
+        i = next[i] as usize;
+    }
+    count
+}
+
+/// The value changes of a cycle in which no net but this one has another level, and how many there are.
+pub(crate) fn push_net_changes(
+    cycle: u32,
+    net: u16,
+    variables: &[Variable],
+    first: &[u16],
+    next: &[u16],
+    levels: &[Level],
+    drives: &[Drive],
+    values: &mut [u8],
+    out: &mut Buffer,
+) -> u64
+    requires few { length variables.now ≤ 8930 }
+    requires long { length values.old ≡ length variables.now }
+    requires chains { AreChains (sources (variables_of variables.now)) first.now next.now }
+    requires others { (k : ℕ) → k < length variables.now → slice_get (sources (variables_of variables.now)) k ≢ Some (Net net)
+        → slice_index values.old k ≡ slice_index (values_at levels.now drives.now (variables_of variables.now)) k }
+    requires room { length out.old.text + 42 + 4 * length variables.now ≤ out.old.room }
+    ensures values { values.new ≡ values_at levels.now drives.now (variables_of variables.now) }
+    ensures text { out.new ≡ record out.old { text = out.old.text ++ value_changes cycle values.old (values_at levels.now drives.now (variables_of variables.now)) } }
+    ensures count { result ≡ change_count values.old (values_at levels.now drives.now (variables_of variables.now)) }
+{
+    let start = out.text().len();
+    push_time(cycle, out);
+    let count = push_chain(net, variables, first, next, levels, drives, values, out);
+    if count == 0 {
+        out.truncate(start);
+    }
+    count
+}
