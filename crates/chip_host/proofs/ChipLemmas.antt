@@ -1,0 +1,37 @@
+-- A chip's wake, and the drive of a pin.
+use Rattle.std.proofs.Common.{◌≡◌, ◌<◌, ℕ, ◌+◌, List, length, map, Some, sym, ap, ◌∙◌, arith}
+use Rattle.std.specs.Prelude.{slice_get}
+use Rattle.std.specs.List.{range_with_len}
+use Rattle.std.proofs.lemmas.Option.{slice_get-get_or}
+use Rattle.std.proofs.lemmas.List.FromFn.{get_or-map-range_with_len}
+use Rattle.sim_base.specs.declared.signal.Drive.{Drive}
+use Rattle.sim_base.specs.declared.signal.Drive.TheVariants as drives
+use Rattle.sim_base.specs.declared.signal.Level.{Level}
+use Rattle.chip_host.specs.Chip.{Chip, ChipAt, chip, chip_drive, chip_step, seeing, timers_first, turned, watch_turns}
+use Rattle.chip_host.specs.ChipLaws.{Fixed, timer_turns_fixed, drive_count}
+
+pub drive_at : (s : Chip) (p : ℕ) (d : Drive) → p < length (chip.drives s) → d ≡ chip_drive s p → slice_get (chip.drives s) p ≡ Some d
+drive_at s p d h e =
+    let l : p < length s.given.names = omega (arith, drive_count s) in
+    let z : 0 + p ≡ p = omega arith in
+    slice_get-get_or (map (chip_drive s) (range_with_len 0 (length s.given.names))) p drives.Z h ∙ ap (λ (x : Drive). Some x) (get_or-map-range_with_len (chip_drive s) 0 (length s.given.names) p p drives.Z l z ∙ sym e)
+
+abbrev waking : ChipAt → List Level → ChipAt
+waking a ls = record { chip = seeing a.chip ls; cycle = a.cycle; wakes = a.wakes; before = a.chip.held }
+
+pub turned_step : (a : ChipAt) (ls : List Level) → (turned (waking a ls)).chip ≡ chip_step a.chip a.cycle ls
+turned_step a ls =
+    let fired : Chip = timers_first (seeing a.chip ls) a.cycle in
+    ap (λ (f : Fixed). watch_turns fired a.cycle a.chip.held (length f.given.names)) (timer_turns_fixed (seeing a.chip ls) a.cycle (length a.chip.inventory.timers))
+
+abbrev keeping : ChipAt → ChipAt
+keeping a = record { chip = a.chip; cycle = a.cycle; wakes = a.wakes; before = a.chip.held }
+
+abbrev seen : ChipAt → List Level → ChipAt
+seen a ls = record { chip = seeing a.chip ls; cycle = a.cycle; wakes = a.wakes; before = a.before }
+
+pub wakes_as : (a b c d : ChipAt) (ls : List Level) → b ≡ keeping a → c ≡ seen b ls → d ≡ turned c → d.chip ≡ chip_step a.chip a.cycle ls
+wakes_as a b c d ls p q r = ap (λ (x : ChipAt). x.chip) (r ∙ ap turned (q ∙ ap (λ (x : ChipAt). seen x ls) p)) ∙ turned_step a ls
+
+pub wakes_held : (a b d : ChipAt) → b ≡ keeping a → d ≡ turned b → d.chip ≡ chip_step a.chip a.cycle a.chip.held
+wakes_held a b d p r = ap (λ (x : ChipAt). x.chip) (r ∙ ap turned p) ∙ turned_step a a.chip.held

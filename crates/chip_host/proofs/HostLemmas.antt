@@ -1,0 +1,18 @@
+-- The types of imported functions.
+use Rattle.std.proofs.Common.{◌≡◌, ◌<◌, ℕ, zero, suc, List, [], ◌∷◌, length, map, Some, sym, ap, ◌∙◌, arith}
+use Rattle.std.specs.Prelude.{slice_get, option_map}
+use Rattle.std.proofs.lemmas.Option.{slice_get-map}
+use Rattle.wasm_code.specs.declared.types.FuncType.{FuncType}
+use Rattle.chip_abi.specs.declared.host_name.HostName.{HostName}
+use Rattle.chip_abi.specs.HostNames.{type_of_name}
+
+pub import_below : (table : List HostName) (i : ℕ) (t : FuncType) → slice_get (map type_of_name table) i ≡ Some t → i < length table
+import_below [] i t h = absurd cc
+import_below (x ∷ xs) zero t h = omega arith
+import_below (x ∷ xs) (suc i) t h = let r = import_below xs i t h in omega (arith, r)
+
+-- the type of an imported function is that of its name
+pub import_type : (table : List HostName) (i : ℕ) (t : FuncType) (name : HostName) → slice_get (map type_of_name table) i ≡ Some t → slice_get table i ≡ Some name → t ≡ type_of_name name
+import_type table i t name h n =
+    let e : Some t ≡ Some (type_of_name name) = sym h ∙ slice_get-map type_of_name table i ∙ ap (option_map type_of_name) n in
+    cc

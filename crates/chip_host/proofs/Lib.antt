@@ -1,0 +1,5 @@
+mod HostLemmas
+mod CallLemmas
+mod DueLemmas
+mod ChipLemmas
+mod SetupLemmas

@@ -1,0 +1,207 @@
+-- A chip as a machine: in a cycle each due timer calls back by its id, and then each watch whose edge came, by its pin (profile).
+use Rattle.std.specs.Prelude.{ℕ, zero, suc, ◌+◌, ◌==◌, ◌&&◌, ◌||◌, List, [], ◌∷◌, length, map, replicate, slice_get, slice_set, Bool, true, false, if◌then◌else◌, Option, None, Some, option_map}
+use Rattle.std.specs.List.{range_with_len}
+use Rattle.sim_base.specs.declared.signal.Drive.{Drive}
+use Rattle.sim_base.specs.declared.signal.Drive.TheVariants as drives
+use Rattle.sim_base.specs.declared.signal.Level.{Level}
+use Rattle.sim_base.specs.declared.signal.Level.TheVariants as levels
+use Rattle.sim_base.specs.Signal.{reads}
+use Rattle.part_law.specs.Machine.{Machine}
+use Rattle.wasm_num.specs.declared.value.Value.{Value}
+use Rattle.wasm_num.specs.declared.value.Value.TheVariants.{I32}
+use Rattle.wasm_decode.specs.declared.module.Module.{Module}
+use Rattle.wasm_eval.specs.Eval.{State, End, Gives, Fails, Wrong, call}
+use Rattle.wasm_exec.specs.Programs.{memory_at_first, first_globals}
+use Rattle.wasm_exec.specs.Instances.{Running, state_of}
+use Rattle.wasm_exec.specs.Slots.{slot_call}
+use Rattle.wasm_program.specs.ProgramOf.{program_of}
+use Rattle.chip_host.specs.declared.watch.Watch.{Watch}
+use Rattle.chip_host.specs.declared.timer.Timer.{Timer}
+use Rattle.chip_host.specs.declared.timer.Delay.{Delay}
+use Rattle.chip_host.specs.declared.death.Death.{Death}
+use Rattle.chip_host.specs.Inventory.{Inventory, Given, HostState, drive_of, pin_at, watch_at}
+use Rattle.chip_host.specs.HostCall.{answers, cycles_of, level_of, one_if}
+
+pub record Chip : Type 0 where
+  pub running : Running
+  pub given : Given
+  -- the fuel of each call
+  pub budget : ℕ
+  -- the levels of the last step
+  pub held : List Level
+  pub inventory : Inventory
+  -- the trap that ended it, and its cycle
+  pub dead : Option Death
+
+-- a chip on a board: before the step of `cycle`
+pub record ChipAt : Type 0 where
+  pub chip : Chip
+  pub cycle : ℕ
+  pub wakes : ℕ
+  -- the levels of the step before the last one
+  pub before : List Level
+
+-- the chip that an instance and a host make
+abbrev pub chip_from : Running → HostState → ℕ → Option Death → Chip
+chip_from r h budget dead = record { running = r; given = h.moment.given; budget = budget; held = h.moment.levels; inventory = h.inventory; dead = dead }
+
+abbrev pub is_live_by : Option Death → Bool
+is_live_by None = true
+is_live_by (Some d) = false
+
+abbrev pub is_live : Chip → Bool
+is_live s = is_live_by s.dead
+
+-- ---- calls into the module
+
+abbrev pub host_of : Chip → Bool → ℕ → HostState
+host_of s init t = record { moment = record { given = s.given; init = init; now = t; levels = s.held }; inventory = s.inventory }
+
+abbrev pub after : Chip → State HostState → Option Death → Chip
+after s e dead = record {
+  running = record { wasm = s.running.wasm; memory = e.memory; globals = e.globals };
+  given = s.given;
+  budget = s.budget;
+  held = s.held;
+  inventory = e.host.inventory;
+  dead = dead;
+}
+
+-- what an evaluation leaves: a trap ends the chip
+abbrev pub ended : Chip → ℕ → End HostState → Chip
+ended s t (Gives vs e) = after s e s.dead
+ended s t (Fails trap e) = after s e (Some (record { trap = trap; cycle = t }))
+ended s t Wrong = s
+
+-- a callback by its place in the table, with the full budget; 0 is none
+unfoldable pub called : Chip → ℕ → ℕ → List Value → Chip
+called s t zero args = s
+called s t (suc n) args = ended s t (slot_call (call answers (program_of s.running.wasm) 256) (program_of s.running.wasm) (suc n) args false (state_of s.running (host_of s false t) s.budget))
+
+-- a function without parameters, at time 0 while the chip is set up
+unfoldable pub set_up : Chip → ℕ → Chip
+set_up s f = ended s 0 (call answers (program_of s.running.wasm) 256 f [] (state_of s.running (host_of s true 0) s.budget))
+
+-- ---- turns
+
+abbrev pub is_at : ℕ → Option ℕ → Bool
+is_at t None = false
+is_at t (Some u) = u == t
+
+abbrev pub timer_due : ℕ → Option Timer → Bool
+timer_due t None = false
+timer_due t (Some x) = is_at t x.due
+
+-- a repeating timer is started again before its callback, another is stopped before it
+abbrev pub again : ℕ → Timer → Timer
+again t x = record x { due = option_map (λ (d : Delay). t + cycles_of d) x.again }
+
+abbrev pub with_timer : Chip → ℕ → Timer → Chip
+with_timer s id x = record s { inventory = record s.inventory { timers = slice_set s.inventory.timers id x } }
+
+abbrev pub fired : Chip → ℕ → ℕ → Option Timer → Chip
+fired s t id None = s
+fired s t id (Some x) = called (with_timer s id (again t x)) t x.callback (I32 x.user ∷ [])
+
+-- the turn of a timer: it calls back where it is due at its turn
+abbrev pub timer_turn : Chip → ℕ → ℕ → Chip
+timer_turn s t id = if is_live s && timer_due t (slice_get s.inventory.timers id) then fired s t id (slice_get s.inventory.timers id) else s
+
+-- the turns of the first n timers
+abbrev pub timer_turns : Chip → ℕ → ℕ → Chip
+timer_turns s t zero = s
+timer_turns s t (suc n) = timer_turn (timer_turns s t n) t n
+
+-- 1 rising, 2 falling, 3 both, any other none
+abbrev pub is_edge : ℕ → Bool → Bool → Bool
+is_edge edge false true = edge == 1 || edge == 3
+is_edge edge true false = edge == 2 || edge == 3
+is_edge edge true true = false
+is_edge edge false false = false
+
+abbrev pub watch_fires : Option Watch → Bool → Bool → Bool
+watch_fires None before now = false
+watch_fires (Some w) before now = is_edge w.edge before now
+
+abbrev pub reading : List Level → ℕ → Bool
+reading ls i = reads (level_of ls i)
+
+abbrev pub watched : Chip → ℕ → ℕ → Option Watch → Chip
+watched s t i None = s
+watched s t i (Some w) = called s t w.callback (I32 w.user ∷ I32 i ∷ I32 (one_if (reading s.held i)) ∷ [])
+
+-- the turn of a pin's watch: it calls back where the reading against that of the cycle before is its edge at its turn
+abbrev pub watch_turn : Chip → ℕ → List Level → ℕ → Chip
+watch_turn s t before i = if is_live s && watch_fires (watch_at s.inventory i) (reading before i) (reading s.held i) then watched s t i (watch_at s.inventory i) else s
+
+abbrev pub watch_turns : Chip → ℕ → List Level → ℕ → Chip
+watch_turns s t before zero = s
+watch_turns s t before (suc n) = watch_turn (watch_turns s t before n) t before n
+
+abbrev pub seeing : Chip → List Level → Chip
+seeing s ls = record s { held = ls }
+
+abbrev pub timers_first : Chip → ℕ → Chip
+timers_first s t = timer_turns s t (length s.inventory.timers)
+
+abbrev pub chip_step : Chip → ℕ → List Level → Chip
+chip_step s t ls = watch_turns (timers_first (seeing s ls) t) t s.held (length s.given.names)
+
+-- a chip behind all turns of its cycle
+abbrev pub turned : ChipAt → ChipAt
+turned a =
+    let fired = timers_first a.chip a.cycle in
+    record { chip = watch_turns fired a.cycle a.before (length fired.given.names); cycle = a.cycle + 1; wakes = a.wakes + 1; before = a.before }
+
+-- ---- what it shows
+
+abbrev pub chip_drive : Chip → ℕ → Drive
+chip_drive s i = if is_live s then drive_of (pin_at s.inventory i) else drives.Z
+
+abbrev pub any_due : ℕ → List Timer → Bool
+any_due t [] = false
+any_due t (x ∷ xs) = is_at t x.due || any_due t xs
+
+abbrev pub chip : Machine Chip
+chip = record {
+  step = λ s t ls input. (chip_step s t ls, None);
+  drives = λ s. map (chip_drive s) (range_with_len 0 (length s.given.names));
+  contacts = λ s. [];
+  held = λ s. s.held;
+  due = λ s t. t == 0 || (is_live s && any_due t s.inventory.timers);
+  valid = λ s t. true;
+}
+
+-- ---- the start
+
+abbrev pub no_pins : {X : Type 0} → ℕ → List (Option X)
+no_pins n = replicate n None
+
+-- a host before anything ran
+abbrev pub first_host : Given → HostState
+first_host given = record {
+  moment = record { given = given; init = true; now = 0; levels = replicate (length given.names) levels.Z };
+  inventory = record { pins = no_pins (length given.names); watches = no_pins (length given.names); timers = []; attributes = [] };
+}
+
+-- before anything ran
+abbrev pub made : Module → Given → ℕ → Chip
+made m given budget = record {
+  running = record { wasm = m; memory = memory_at_first m; globals = first_globals m };
+  given = given;
+  budget = budget;
+  held = replicate (length given.names) levels.Z;
+  inventory = record { pins = no_pins (length given.names); watches = no_pins (length given.names); timers = []; attributes = [] };
+  dead = None;
+}
+
+abbrev pub then_set_up : Chip → ℕ → Chip
+then_set_up s f = if is_live s then set_up s f else s
+
+abbrev pub started : Option ℕ → Chip → Chip
+started None s = s
+started (Some f) s = set_up s f
+
+-- after the start function and chipInit
+abbrev pub start_state : Module → ℕ → Given → ℕ → Chip
+start_state m init given budget = then_set_up (started m.start (made m given budget)) init

@@ -1,0 +1,158 @@
+-- The laws of a chip's machine.
+use Rattle.std.proofs.Common.{◌≡◌, ℕ, zero, suc, List, [], ◌∷◌, length, Bool, true, false, ◌&&◌, ◌||◌, Option, None, Some, refl, sym, ap, ◌∙◌}
+use Rattle.std.specs.Prelude.{◌==◌, if◌then◌else◌, slice_get}
+use Rattle.std.proofs.lemmas.List.FromFn.{length-map-range_with_len}
+use Rattle.sim_base.specs.declared.signal.Level.{Level}
+use Rattle.wasm_num.specs.declared.value.Value.{Value}
+use Rattle.wasm_decode.specs.declared.module.Module.{Module}
+use Rattle.wasm_eval.specs.Eval.{End, Gives, Fails, Wrong}
+use Rattle.part_law.specs.Machine.{Laws, idle}
+use Rattle.chip_host.specs.declared.watch.Watch.{Watch}
+use Rattle.chip_host.specs.declared.timer.Timer.{Timer}
+use Rattle.chip_host.specs.Inventory.{Given, HostState, watch_at}
+use Rattle.chip_host.specs.Chip.{Chip, chip, chip_step, chip_drive, is_live, ended, called, set_up, made, started, start_state, is_at, timer_due, again, with_timer, fired, timer_turn, timer_turns, is_edge, watch_fires, reading, watched, watch_turn, watch_turns, seeing, timers_first, any_due}
+
+-- ---- what no turn changes
+
+pub record Fixed : Type 0 where
+  pub given : Given
+  pub budget : ℕ
+  pub held : List Level
+
+abbrev pub fixed_of : Chip → Fixed
+fixed_of s = record { given = s.given; budget = s.budget; held = s.held }
+
+ended_fixed : (s : Chip) (t : ℕ) (e : End HostState) → fixed_of (ended s t e) ≡ fixed_of s
+ended_fixed s t (Gives vs e) = refl
+ended_fixed s t (Fails trap e) = refl
+ended_fixed s t Wrong = refl
+
+if_fixed : (b : Bool) (x y s : Chip) → fixed_of x ≡ fixed_of s → fixed_of y ≡ fixed_of s → fixed_of (if b then x else y) ≡ fixed_of s
+if_fixed true x y s p q = p
+if_fixed false x y s p q = q
+
+pub called_fixed : (s : Chip) (t slot : ℕ) (args : List Value) → fixed_of (called s t slot args) ≡ fixed_of s
+unfolding called
+called_fixed s t zero args = refl
+called_fixed s t (suc n) args = ended_fixed s t _
+
+fired_fixed : (s : Chip) (t id : ℕ) (o : Option Timer) → fixed_of (fired s t id o) ≡ fixed_of s
+fired_fixed s t id None = refl
+fired_fixed s t id (Some x) = called_fixed (with_timer s id (again t x)) t x.callback _
+
+watched_fixed : (s : Chip) (t i : ℕ) (o : Option Watch) → fixed_of (watched s t i o) ≡ fixed_of s
+watched_fixed s t i None = refl
+watched_fixed s t i (Some w) = called_fixed s t w.callback _
+
+pub timer_turns_fixed : (s : Chip) (t n : ℕ) → fixed_of (timer_turns s t n) ≡ fixed_of s
+timer_turns_fixed s t zero = refl
+timer_turns_fixed s t (suc n) =
+    let r = timer_turns s t n in
+    if_fixed (is_live r && timer_due t (slice_get r.inventory.timers n)) (fired r t n (slice_get r.inventory.timers n)) r s (fired_fixed r t n (slice_get r.inventory.timers n) ∙ timer_turns_fixed s t n) (timer_turns_fixed s t n)
+
+pub watch_turns_fixed : (s : Chip) (t : ℕ) (before : List Level) (n : ℕ) → fixed_of (watch_turns s t before n) ≡ fixed_of s
+watch_turns_fixed s t before zero = refl
+watch_turns_fixed s t before (suc n) =
+    let r = watch_turns s t before n in
+    if_fixed (is_live r && watch_fires (watch_at r.inventory n) (reading before n) (reading r.held n)) (watched r t n (watch_at r.inventory n)) r s (watched_fixed r t n (watch_at r.inventory n) ∙ watch_turns_fixed s t before n) (watch_turns_fixed s t before n)
+
+pub step_fixed : (s : Chip) (t : ℕ) (ls : List Level) → fixed_of (chip_step s t ls) ≡ record { given = s.given; budget = s.budget; held = ls }
+step_fixed s t ls = watch_turns_fixed (timers_first (seeing s ls) t) t s.held (length s.given.names) ∙ timer_turns_fixed (seeing s ls) t (length s.inventory.timers)
+
+-- ---- cycles in which nothing comes
+
+if_false : (b : Bool) (x y : Chip) → b ≡ false → (if b then x else y) ≡ y
+if_false true x y e = absurd cc
+if_false false x y e = refl
+
+or_first : (a b : Bool) → (a || b) ≡ false → a ≡ false
+or_first true b e = absurd cc
+or_first false b e = refl
+
+or_second : (a b : Bool) → (a || b) ≡ false → b ≡ false
+or_second true b e = absurd cc
+or_second false b e = e
+
+none_due : (t : ℕ) (xs : List Timer) (i : ℕ) → any_due t xs ≡ false → timer_due t (slice_get xs i) ≡ false
+none_due t [] i e = refl
+none_due t (x ∷ xs) zero e = or_first (is_at t x.due) (any_due t xs) e
+none_due t (x ∷ xs) (suc i) e = none_due t xs i (or_second (is_at t x.due) (any_due t xs) e)
+
+and_false : (a b c : Bool) → (a && b) ≡ false → (b ≡ false → c ≡ false) → (a && c) ≡ false
+and_false true b c e k = k e
+and_false false b c e k = refl
+
+no_and : (a b : Bool) → b ≡ false → (a && b) ≡ false
+no_and true b e = e
+no_and false b e = refl
+
+no_edge : (e : ℕ) (b : Bool) → is_edge e b b ≡ false
+no_edge e true = refl
+no_edge e false = refl
+
+no_fires : (o : Option Watch) (b : Bool) → watch_fires o b b ≡ false
+no_fires None b = refl
+no_fires (Some w) b = no_edge w.edge b
+
+timers_rest : (s : Chip) (t n : ℕ) → (is_live s && any_due t s.inventory.timers) ≡ false → timer_turns s t n ≡ s
+timers_rest s t zero h = refl
+timers_rest s t (suc n) h =
+    let one : timer_turn s t n ≡ s = if_false _ _ s (and_false (is_live s) (any_due t s.inventory.timers) (timer_due t (slice_get s.inventory.timers n)) h (none_due t s.inventory.timers n)) in
+    ap (λ (r : Chip). timer_turn r t n) (timers_rest s t n h) ∙ one
+
+watches_rest : (s : Chip) (t n : ℕ) → watch_turns s t s.held n ≡ s
+watches_rest s t zero = refl
+watches_rest s t (suc n) =
+    let one : watch_turn s t s.held n ≡ s = if_false _ _ s (no_and (is_live s) _ (no_fires (watch_at s.inventory n) (reading s.held n))) in
+    ap (λ (r : Chip). watch_turn r t s.held n) (watches_rest s t n) ∙ one
+
+-- a cycle in which no timer is due, on held levels, changes nothing
+pub chip_still : (s : Chip) (t : ℕ) → chip.due s t ≡ false → idle chip s t ≡ s
+chip_still s t h =
+    let timers : timers_first s t ≡ s = timers_rest s t (length s.inventory.timers) (or_second (t == 0) (is_live s && any_due t s.inventory.timers) h) in
+    ap (λ (r : Chip). watch_turns r t s.held (length s.given.names)) timers ∙ watches_rest s t (length s.given.names)
+
+dead_timers : (s : Chip) (t n : ℕ) → is_live s ≡ false → timer_turns s t n ≡ s
+dead_timers s t n e = timers_rest s t n (ap (λ (b : Bool). b && any_due t s.inventory.timers) e)
+
+dead_watches : (s : Chip) (t : ℕ) (before : List Level) (n : ℕ) → is_live s ≡ false → watch_turns s t before n ≡ s
+dead_watches s t before zero e = refl
+dead_watches s t before (suc n) e =
+    let one : watch_turn s t before n ≡ s = if_false _ _ s (ap (λ (b : Bool). b && watch_fires (watch_at s.inventory n) (reading before n) (reading s.held n)) e) in
+    ap (λ (r : Chip). watch_turn r t before n) (dead_watches s t before n e) ∙ one
+
+-- a dead chip's step changes nothing but the held levels
+pub dead_still : (s : Chip) (t : ℕ) (ls : List Level) → is_live s ≡ false → chip_step s t ls ≡ seeing s ls
+dead_still s t ls e =
+    ap (λ (r : Chip). watch_turns r t s.held (length s.given.names)) (dead_timers (seeing s ls) t (length s.inventory.timers) e) ∙ dead_watches (seeing s ls) t s.held (length s.given.names) e
+
+-- as many drives as pins
+pub drive_count : (s : Chip) → length (chip.drives s) ≡ length s.given.names
+drive_count s = length-map-range_with_len (chip_drive s) 0 (length s.given.names)
+
+set_up_fixed : (s : Chip) (f : ℕ) → fixed_of (set_up s f) ≡ fixed_of s
+unfolding set_up
+set_up_fixed s f = ended_fixed s 0 _
+
+started_fixed : (o : Option ℕ) (s : Chip) → fixed_of (started o s) ≡ fixed_of s
+started_fixed None s = refl
+started_fixed (Some f) s = set_up_fixed s f
+
+-- what a chip is given stands for good from its start
+pub start_given : (m : Module) (init : ℕ) (given : Given) (budget : ℕ) → (start_state m init given budget).given ≡ given
+start_given m init given budget =
+    let first = made m given budget in
+    let s = started m.start first in
+    ap (λ (f : Fixed). f.given) (if_fixed (is_live s) (set_up s init) s first (set_up_fixed s init ∙ started_fixed m.start first) (started_fixed m.start first))
+
+pub chip_laws : Laws chip
+chip_laws = record {
+  holds_levels = λ s t ls input. ap (λ (f : Fixed). f.held) (step_fixed s t ls);
+  begins_due = λ s. refl;
+  keeps_pins = λ s t ls input. drive_count (chip_step s t ls) ∙ ap (λ (f : Fixed). length f.given.names) (step_fixed s t ls) ∙ sym (drive_count s);
+  keeps_contacts = λ s t ls input. refl;
+  keeps_valid = λ s t ls input h. refl;
+  glides_drives = λ s t v h. ap chip.drives (chip_still s t h);
+  glides_contacts = λ s t v h. refl;
+  glides_silent = λ s t v h. refl;
+}

@@ -1,0 +1,515 @@
+//! The host that a chip's module imports from.
+ghost use Rattle.std.specs.Prelude.{◌≡◌, ◌<◌, ◌≤◌, ◌==◌, ◌+◌, [], ◌∷◌, not, length, map, IfOk, IfSome, Some, slice_get, slice_set, option_to_list, replicate, None, false};
+ghost use Rattle.std.specs.List.{position_from};
+ghost use Rattle.wasm_code.specs.declared.types.ValType.TheVariants as types;
+ghost use Rattle.wasm_eval.specs.Values.{HasTypes};
+ghost use Rattle.chip_host.specs.Inventory.{HostState, left, pin_at, watch_at, with_mode, drive_of};
+ghost use Rattle.chip_abi.specs.HostNames.{type_of_name};
+ghost use Rattle.chip_abi.specs.Reading.{word_at};
+ghost use Rattle.chip_host.specs.FirstDue.{first_due};
+ghost use Rattle.sim_base.specs.declared.signal.Level.TheVariants as levels;
+ghost use Rattle.chip_host.specs.Chip.{first_host};
+ghost use Rattle.chip_host.specs.HostCall.{has_name, kept, set_pin, pin_init, read_pin, write_pin, watch_pin, watch_from, timer_init, timer_from, start_timer, stop_timer, mode_pin, unwatch, started, level_of, attr_init, read_attribute, host_does, host_at};
+
+use crate::attributes::attr_value;
+use crate::pin::{Pin, drive_of, with_mode};
+use crate::timer::{Delay, Timer, first_due, started, stopped};
+use crate::watch::Watch;
+use chip_abi::{HostName, ImportMap, read_string, read_word};
+use sim_base::{Drive, Level, List, Name, OutOfMemory, Text, reads_one};
+use std::alloc::Global;
+use std::marker::Model;
+use wasm_eval::Host;
+use wasm_num::{Memory, Trap, Value};
+
+/// What a module imports from, in a cycle; `init` tells whether the chip is being set up.
+#[derive(Drop)]
+pub struct ChipHost {
+    map: ImportMap,
+    names: List<Option<Name>>,
+    attrs: List<(Text, Text)>,
+    init: bool,
+    cycle: u32,
+    levels: Vec<Level>,
+    pins: Vec<Option<Pin>>,
+    watches: Vec<Option<Watch>>,
+    timers: Vec<Timer>,
+    attributes: Vec<u32>,
+}
+
+impl Model for ChipHost {
+    ghost use Rattle.std.specs.Prelude.{◌≡◌, ◌≤◌, length};
+    ghost use Rattle.std.specs.Vec.{vec_capacity};
+    ghost use Rattle.chip_host.specs.Inventory.{HostState};
+
+    ghost Value = { HostState };
+
+    ghost view = { λ c. record {
+      moment = record { given = record { table = c.map; names = c.names; attrs = c.attrs }; init = c.init; now = c.cycle; levels = c.levels.items };
+      inventory = record { pins = c.pins.items; watches = c.watches.items; timers = c.timers.items; attributes = c.attributes.items };
+    } };
+
+    ghost invariant = { λ c. record {
+      few : length c.names ≤ 64;
+      levels : length c.levels.items ≡ length c.names;
+      pins : length c.pins.items ≡ length c.names;
+      watches : length c.watches.items ≡ length c.names;
+      timer_room : 32 ≤ vec_capacity c.timers;
+      attribute_room : 64 ≤ vec_capacity c.attributes;
+      end : c.cycle ≤ 160000000;
+    } };
+}
+
+fn has_name(text: &[u8], name: &Option<Name>) -> bool
+    ensures { result ≡ has_name text.now name.now }
+{
+    match name {
+        Some(name) => text == name.bytes(),
+        None => false,
+    }
+}
+
+fn named_pin(names: &[Option<Name>], text: &[u8]) -> Option<u32>
+    requires { length names.now ≤ 64 }
+    ensures place { result ≡ position_from (has_name text.now) 0 names.now }
+    ensures within { IfSome result (λ i. i < length names.now) }
+{
+    for i in 0..names.len() {
+        if has_name(text, &names[i]) {
+            return Some(i as u32);
+        }
+    }
+    None
+}
+
+fn kept(pin: Option<Pin>) -> bool
+    ensures { result ≡ kept pin }
+{
+    match pin {
+        Some(pin) => pin.high,
+        None => false,
+    }
+}
+
+fn read_watch(memory: &Memory, addr: u32) -> Result<Watch, Trap>
+    ensures { result ≡ watch_from (word_at memory.now (addr + 0)) (word_at memory.now (addr + 4)) (word_at memory.now (addr + 8)) }
+{
+    let user = read_word(memory, addr, 0)?;
+    let edge = read_word(memory, addr, 4)?;
+    let callback = read_word(memory, addr, 8)?;
+    Ok(Watch {
+        user,
+        edge,
+        callback,
+    })
+}
+
+fn read_timer(memory: &Memory, addr: u32) -> Result<Timer, Trap>
+    ensures { result ≡ timer_from (word_at memory.now (addr + 0)) (word_at memory.now (addr + 4)) }
+{
+    let user = read_word(memory, addr, 0)?;
+    let callback = read_word(memory, addr, 4)?;
+    Ok(Timer {
+        user,
+        callback,
+        due: None,
+        again: None,
+    })
+}
+
+impl ChipHost {
+    /// A pin that `pinInit` gave.
+    fn pin(&self, i: u32) -> Option<Pin>
+        ensures pin { result ≡ pin_at self.now.inventory i }
+        ensures within { IfSome result (λ p. i < length self.now.inventory.pins) }
+    {
+        match self.pins.as_slice().get(i as usize) {
+            Some(pin) => *pin,
+            None => None,
+        }
+    }
+
+    fn set_pin(&mut self, i: u32, pin: Pin)
+        requires { i < length self.old.inventory.pins }
+        ensures { self.new ≡ left self.old (set_pin self.old.inventory i pin) }
+    {
+        self.pins[i as usize] = Some(pin);
+    }
+
+    fn level(&self, i: u32) -> Level
+        ensures { result ≡ level_of self.now.moment.levels i }
+    {
+        match self.levels.as_slice().get(i as usize) {
+            Some(level) => *level,
+            None => Level::Z,
+        }
+    }
+
+    fn pin_init(&mut self, addr: u32, mode: u32, memory: &Memory) -> Result<Option<Value>, Trap>
+        ensures answer { result ≡ (pin_init self.old.moment addr mode memory.now self.old.inventory).answer }
+        ensures after { self.new ≡ left self.old (pin_init self.old.moment addr mode memory.now self.old.inventory).inventory }
+        ensures gives { IfOk result (λ v. HasTypes (option_to_list v) (types.I32 ∷ [])) }
+    {
+        if !self.init {
+            return Err(Trap::HostPhase);
+        }
+        match read_string(memory, addr) {
+            Ok(text) => match named_pin(self.names.as_slice(), text) {
+                Some(i) => {
+                    let pin = with_mode(mode, kept(self.pin(i)));
+                    self.set_pin(i, pin);
+                    Ok(Some(Value::I32(i)))
+                }
+                None => Ok(Some(Value::I32(u32::MAX))),
+            },
+            Err(trap) => Err(trap),
+        }
+    }
+
+    fn pin_read(&self, i: u32) -> Result<Option<Value>, Trap>
+        ensures answer { result ≡ (read_pin (pin_at self.now.inventory i) (level_of self.now.moment.levels i) self.now.inventory).answer }
+        ensures after { self.now.inventory ≡ (read_pin (pin_at self.now.inventory i) (level_of self.now.moment.levels i) self.now.inventory).inventory }
+        ensures gives { IfOk result (λ v. HasTypes (option_to_list v) (types.I32 ∷ [])) }
+    {
+        match self.pin(i) {
+            Some(_) => Ok(Some(Value::I32(u32::from(reads_one(self.level(i)))))),
+            None => Ok(Some(Value::I32(0))),
+        }
+    }
+
+    fn pin_write(&mut self, i: u32, high: bool) -> Result<Option<Value>, Trap>
+        ensures answer { result ≡ (write_pin (pin_at self.old.inventory i) i high self.old.inventory).answer }
+        ensures after { self.new ≡ left self.old (write_pin (pin_at self.old.inventory i) i high self.old.inventory).inventory }
+        ensures gives { IfOk result (λ v. HasTypes (option_to_list v) []) }
+    {
+        if let Some(pin) = self.pin(i) {
+            self.set_pin(
+                i,
+                Pin {
+                    mode: pin.mode,
+                    high,
+                },
+            );
+        }
+        Ok(None)
+    }
+
+    fn pin_watch(&mut self, i: u32, addr: u32, memory: &Memory) -> Result<Option<Value>, Trap>
+        ensures answer { result ≡ (watch_pin (pin_at self.old.inventory i) i addr memory.now self.old.inventory).answer }
+        ensures after { self.new ≡ left self.old (watch_pin (pin_at self.old.inventory i) i addr memory.now self.old.inventory).inventory }
+        ensures gives { IfOk result (λ v. HasTypes (option_to_list v) (types.I32 ∷ [])) }
+    {
+        match self.pin(i) {
+            None => Ok(Some(Value::I32(0))),
+            Some(_) => match read_watch(memory, addr) {
+                Err(trap) => Err(trap),
+                Ok(watch) => {
+                    self.watches[i as usize] = Some(watch);
+                    Ok(Some(Value::I32(1)))
+                }
+            },
+        }
+    }
+
+    fn timer_init(&mut self, addr: u32, memory: &Memory) -> Result<Option<Value>, Trap>
+        ensures answer { result ≡ (timer_init self.old.moment addr memory.now self.old.inventory).answer }
+        ensures after { self.new ≡ left self.old (timer_init self.old.moment addr memory.now self.old.inventory).inventory }
+        ensures gives { IfOk result (λ v. HasTypes (option_to_list v) (types.I32 ∷ [])) }
+    {
+        if !self.init {
+            return Err(Trap::HostPhase);
+        }
+        let id = self.timers.len();
+        if id >= 32 {
+            return Err(Trap::HostLimit);
+        }
+        match read_timer(memory, addr) {
+            Err(trap) => Err(trap),
+            Ok(timer) => {
+                match self.timers.push(timer) {
+                    Ok(()) => Ok(Some(Value::I32(id as u32))),
+                    Err(_) => unreachable!(),
+                }
+            }
+        }
+    }
+
+    fn timer_start(&mut self, id: u32, delay: Delay, again: bool) -> Result<Option<Value>, Trap>
+        ensures answer { result ≡ (start_timer (slice_get self.old.inventory.timers id) id self.old.moment.now delay again self.old.inventory).answer }
+        ensures after { self.new ≡ left self.old (start_timer (slice_get self.old.inventory.timers id) id self.old.moment.now delay again self.old.inventory).inventory }
+        ensures gives { IfOk result (λ v. HasTypes (option_to_list v) []) }
+    {
+        let now = self.cycle;
+        if (id as usize) < self.timers.len() {
+            self.timers[id as usize] = started(now, delay, again, self.timers[id as usize]);
+        }
+        Ok(None)
+    }
+}
+
+impl ChipHost {
+    fn timer_stop(&mut self, id: u32) -> Result<Option<Value>, Trap>
+        ensures answer { result ≡ (stop_timer (slice_get self.old.inventory.timers id) id self.old.inventory).answer }
+        ensures after { self.new ≡ left self.old (stop_timer (slice_get self.old.inventory.timers id) id self.old.inventory).inventory }
+        ensures gives { IfOk result (λ v. HasTypes (option_to_list v) []) }
+    {
+        if (id as usize) < self.timers.len() {
+            self.timers[id as usize] = stopped(self.timers[id as usize]);
+        }
+        Ok(None)
+    }
+
+    fn pin_mode(&mut self, i: u32, mode: u32) -> Result<Option<Value>, Trap>
+        ensures answer { result ≡ (mode_pin (pin_at self.old.inventory i) i mode self.old.inventory).answer }
+        ensures after { self.new ≡ left self.old (mode_pin (pin_at self.old.inventory i) i mode self.old.inventory).inventory }
+        ensures gives { IfOk result (λ v. HasTypes (option_to_list v) []) }
+    {
+        if let Some(pin) = self.pin(i) {
+            self.set_pin(i, with_mode(mode, pin.high));
+        }
+        Ok(None)
+    }
+
+    fn pin_watch_stop(&mut self, i: u32) -> Result<Option<Value>, Trap>
+        ensures answer { result ≡ (unwatch (slice_get self.old.inventory.watches i) i self.old.inventory).answer }
+        ensures after { self.new ≡ left self.old (unwatch (slice_get self.old.inventory.watches i) i self.old.inventory).inventory }
+        ensures gives { IfOk result (λ v. HasTypes (option_to_list v) []) }
+    {
+        if (i as usize) < self.watches.len() {
+            self.watches[i as usize] = None;
+        }
+        Ok(None)
+    }
+
+    fn attr_init(&mut self, addr: u32, default: u32, memory: &Memory) -> Result<Option<Value>, Trap>
+        ensures answer { result ≡ (attr_init self.old.moment addr default memory.now self.old.inventory).answer }
+        ensures after { self.new ≡ left self.old (attr_init self.old.moment addr default memory.now self.old.inventory).inventory }
+        ensures gives { IfOk result (λ v. HasTypes (option_to_list v) (types.I32 ∷ [])) }
+    {
+        if !self.init {
+            return Err(Trap::HostPhase);
+        }
+        let id = self.attributes.len();
+        if id >= 64 {
+            return Err(Trap::HostLimit);
+        }
+        match read_string(memory, addr) {
+            Err(trap) => Err(trap),
+            Ok(name) => {
+                let value = attr_value(name, default, self.attrs.as_slice());
+                match self.attributes.push(value) {
+                    Ok(()) => Ok(Some(Value::I32(id as u32))),
+                    Err(_) => unreachable!(),
+                }
+            }
+        }
+    }
+
+    fn attr_read(&self, id: u32) -> Result<Option<Value>, Trap>
+        ensures answer { result ≡ (read_attribute id self.now.inventory).answer }
+        ensures after { self.now.inventory ≡ (read_attribute id self.now.inventory).inventory }
+        ensures gives { IfOk result (λ v. HasTypes (option_to_list v) (types.I32 ∷ [])) }
+    {
+        match self.attributes.as_slice().get(id as usize) {
+            Some(value) => Ok(Some(Value::I32(*value))),
+            None => Ok(Some(Value::I32(0))),
+        }
+    }
+
+    /// ChipHost a function of the host.
+    fn does(
+        &mut self,
+        name: HostName,
+        args: &[Value],
+        memory: &Memory,
+    ) -> Result<Option<Value>, Trap>
+        requires { HasTypes args.now (type_of_name name).params }
+        ensures answer { result ≡ (host_does name args.now self.old.moment memory.now self.old.inventory).answer }
+        ensures after { self.new ≡ left self.old (host_does name args.now self.old.moment memory.now self.old.inventory).inventory }
+        ensures gives { IfOk result (λ v. HasTypes (option_to_list v) (type_of_name name).results) }
+    {
+        match (name, args) {
+            (HostName::PinInit, [Value::I32(addr), Value::I32(mode)]) => {
+                self.pin_init(*addr, *mode, memory)
+            }
+            (HostName::PinRead, [Value::I32(i)]) => self.pin_read(*i),
+            (HostName::PinWrite, [Value::I32(i), Value::I32(value)]) => {
+                self.pin_write(*i, *value != 0)
+            }
+            (HostName::PinWatch, [Value::I32(i), Value::I32(addr)]) => {
+                self.pin_watch(*i, *addr, memory)
+            }
+            (HostName::AttrInit, [Value::I32(addr), Value::I32(default)]) => {
+                self.attr_init(*addr, *default, memory)
+            }
+            (HostName::AttrRead, [Value::I32(id)]) => self.attr_read(*id),
+            (HostName::TimerInit, [Value::I32(addr)]) => self.timer_init(*addr, memory),
+            (HostName::TimerStart, [Value::I32(id), Value::I32(x), Value::I32(again)]) => {
+                self.timer_start(*id, Delay::Micros(*x), *again != 0)
+            }
+            (HostName::GetSimNanos, []) => Ok(Some(Value::I64(125 * u64::from(self.cycle) / 2))),
+            (HostName::PinMode, [Value::I32(i), Value::I32(mode)]) => self.pin_mode(*i, *mode),
+            (HostName::PinWatchStop, [Value::I32(i)]) => self.pin_watch_stop(*i),
+            (HostName::TimerStartNanos, [Value::I32(id), Value::I64(x), Value::I32(again)]) => {
+                self.timer_start(*id, Delay::Nanos(*x), *again != 0)
+            }
+            (HostName::TimerStop, [Value::I32(id)]) => self.timer_stop(*id),
+            _ => Err(Trap::Unreachable),
+        }
+    }
+}
+
+pub fn levels_z(alloc: Global, count: usize) -> Result<Vec<Level>, OutOfMemory>
+    ensures { IfOk result (λ v. v.items ≡ replicate count levels.Z) }
+{
+    Ok(vec![in alloc; Level::Z; count]?)
+}
+
+fn no_pins(alloc: Global, count: usize) -> Result<Vec<Option<Pin>>, OutOfMemory>
+    ensures { IfOk result (λ v. v.items ≡ replicate count None) }
+{
+    Ok(vec![in alloc; None; count]?)
+}
+
+fn no_watches(alloc: Global, count: usize) -> Result<Vec<Option<Watch>>, OutOfMemory>
+    ensures { IfOk result (λ v. v.items ≡ replicate count None) }
+{
+    Ok(vec![in alloc; None; count]?)
+}
+
+impl ChipHost {
+    /// What a chip that is being set up imports from.
+    pub fn new(
+        alloc: Global,
+        map: ImportMap,
+        names: List<Option<Name>>,
+        attrs: List<(Text, Text)>,
+    ) -> Result<ChipHost, OutOfMemory>
+        requires { length names ≤ 64 }
+        ensures { IfOk result (λ c. c ≡ first_host (record { table = map; names = names; attrs = attrs })) }
+    {
+        let count = names.len();
+        Ok(ChipHost {
+            map,
+            names,
+            attrs,
+            init: true,
+            cycle: 0,
+            levels: levels_z(alloc, count)?,
+            pins: no_pins(alloc, count)?,
+            watches: no_watches(alloc, count)?,
+            timers: Vec::with_capacity(alloc, 32)?,
+            attributes: Vec::with_capacity(alloc, 64)?,
+        })
+    }
+
+    /// The chip is set up.
+    pub fn end_set_up(&mut self)
+        ensures { self.new ≡ record self.old { moment = record self.old.moment { init = false } } }
+    {
+        self.init = false;
+    }
+
+    pub fn cycle(&self) -> u32
+        ensures value { result ≡ self.now.moment.now }
+        ensures end { result ≤ 160000000 }
+    {
+        self.cycle
+    }
+
+    /// Goes to a cycle.
+    pub fn pass_to(&mut self, to: u32)
+        requires { to ≤ 160000000 }
+        ensures { self.new ≡ record self.old { moment = record self.old.moment { now = to } } }
+    {
+        self.cycle = to;
+    }
+
+    pub fn levels(&self) -> &[Level]
+        ensures { result.now ≡ self.now.moment.levels }
+    {
+        self.levels.as_slice()
+    }
+
+    /// Takes these levels of its pins.
+    pub fn see(&mut self, levels: &[Level])
+        requires { length levels.now ≡ length self.old.moment.given.names }
+        ensures { self.new ≡ record self.old { moment = record self.old.moment { levels = levels.now } } }
+    {
+        self.levels.copy_from_slice(levels);
+    }
+
+    /// The first cycle from one on, and below the end, at which a timer is due.
+    pub fn first_due(&self, from: u32) -> Option<u32>
+        ensures { result ≡ first_due from self.now.inventory.timers }
+    {
+        first_due(self.timers.as_slice(), from)
+    }
+
+    pub fn pin_count(&self) -> usize
+        ensures count { result ≡ length self.now.moment.given.names }
+        ensures few { result ≤ 64 }
+    {
+        self.names.len()
+    }
+
+    pub fn timer_count(&self) -> usize
+        ensures { result ≡ length self.now.inventory.timers }
+    {
+        self.timers.len()
+    }
+
+    pub fn timer(&self, id: usize) -> Option<Timer>
+        ensures { result ≡ slice_get self.now.inventory.timers id }
+    {
+        self.timers.as_slice().get(id).copied()
+    }
+
+    /// Puts another timer in the place of one.
+    pub fn set_timer(&mut self, id: usize, timer: Timer)
+        requires { id < length self.old.inventory.timers }
+        ensures { self.new ≡ left self.old (record self.old.inventory { timers = slice_set self.old.inventory.timers id timer }) }
+    {
+        self.timers[id] = timer;
+    }
+
+    pub fn watch(&self, i: usize) -> Option<Watch>
+        ensures { result ≡ watch_at self.now.inventory i }
+    {
+        match self.watches.as_slice().get(i) {
+            Some(watch) => *watch,
+            None => None,
+        }
+    }
+
+    pub fn drive(&self, i: u8) -> Drive
+        ensures { result ≡ drive_of (pin_at self.now.inventory i) }
+    {
+        drive_of(self.pin(u32::from(i)))
+    }
+}
+
+impl Host for ChipHost {
+    ghost use Rattle.std.specs.Prelude.{map};
+    ghost use Rattle.chip_host.specs.Inventory.{HostState};
+    ghost use Rattle.chip_abi.specs.HostNames.{type_of_name};
+    ghost use Rattle.chip_host.specs.HostCall.{answers};
+
+    ghost State = { HostState };
+
+    ghost state = { λ c. c };
+
+    ghost imports = { λ c. map type_of_name c.moment.given.table };
+
+    ghost answers = { answers };
+
+    fn call(
+        &mut self,
+        import: u32,
+        args: &[Value],
+        memory: &mut Memory,
+    ) -> Result<Option<Value>, Trap> {
+        let name = self.map.name(import);
+        self.does(name, args, memory)
+    }
+}

@@ -1,0 +1,16 @@
+//! A chip: a module that runs as a part of a board, called where a timer is due or a watched pin changes.
+//! Each call leaves what the definition (`specs/Chip.antt`) leaves; a trap ends the chip.
+//! Only `Chip::new` takes memory.
+#![tactic(auto)]
+
+mod attributes;
+mod calls;
+mod chip;
+mod death;
+mod host;
+mod pin;
+mod timer;
+mod watch;
+
+pub use chip::Chip;
+pub use death::Death;

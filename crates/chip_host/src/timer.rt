@@ -1,0 +1,121 @@
+//! Timers.
+ghost use Rattle.std.specs.Prelude.{◌≡◌, ◌+◌, None};
+ghost use Rattle.chip_host.specs.HostCall.{cycles_of, started};
+ghost use Rattle.chip_host.specs.Chip.{again, is_at};
+ghost use Rattle.chip_host.specs.FirstDue.{due_from, earlier, first_due};
+
+/// A delay, as it was asked.
+#[derive(Clone, Copy, Debug, PartialEq, Eq)]
+pub enum Delay {
+    Micros(u32),
+    Nanos(u64),
+}
+
+/// A timer: the cycle in which it is due, and the delay after which it is due again.
+#[derive(Clone, Copy, Debug, PartialEq, Eq)]
+pub struct Timer {
+    pub user: u32,
+    pub callback: u32,
+    pub due: Option<u64>,
+    pub again: Option<Delay>,
+}
+
+/// The cycle that a delay ends with when it begins in this one.
+fn end_of(from: u32, delay: Delay) -> u64
+    ensures { result ≡ from + cycles_of delay }
+{
+    match delay {
+        Delay::Micros(x) => {
+            let cycles = 16 * u64::from(x);
+            u64::from(from) + (if cycles == 0 { 1 } else { cycles })
+        }
+        Delay::Nanos(x) => {
+            let cycles = ((2 * u128::from(x) + 124) / 125) as u64;
+            u64::from(from) + (if cycles == 0 { 1 } else { cycles })
+        }
+    }
+}
+
+/// A timer that is started, and perhaps again and again.
+pub(crate) fn started(now: u32, delay: Delay, again: bool, timer: Timer) -> Timer
+    ensures { result ≡ started now delay again timer }
+{
+    Timer {
+        user: timer.user,
+        callback: timer.callback,
+        due: Some(end_of(now, delay)),
+        again: if again { Some(delay) } else { None },
+    }
+}
+
+/// A timer that is stopped.
+pub(crate) fn stopped(timer: Timer) -> Timer
+    ensures { result ≡ record timer { due = None } }
+{
+    Timer {
+        user: timer.user,
+        callback: timer.callback,
+        due: None,
+        again: timer.again,
+    }
+}
+
+/// A timer that is due, before its callback.
+pub(crate) fn again(now: u32, timer: Timer) -> Timer
+    ensures { result ≡ again now timer }
+{
+    Timer {
+        user: timer.user,
+        callback: timer.callback,
+        due: match timer.again {
+            Some(delay) => Some(end_of(now, delay)),
+            None => None,
+        },
+        again: timer.again,
+    }
+}
+
+/// Whether a timer is due in this cycle.
+pub(crate) fn is_at(now: u32, due: Option<u64>) -> bool
+    ensures { result ≡ is_at now due }
+{
+    match due {
+        Some(cycle) => cycle == u64::from(now),
+        None => false,
+    }
+}
+
+fn due_from(from: u32, due: Option<u64>) -> Option<u32>
+    ensures { result ≡ due_from from due }
+{
+    match due {
+        Some(cycle) => {
+            if u64::from(from) <= cycle && cycle < 160_000_000 {
+                Some(cycle as u32)
+            } else {
+                None
+            }
+        }
+        None => None,
+    }
+}
+
+fn earlier(a: Option<u32>, b: Option<u32>) -> Option<u32>
+    ensures { result ≡ earlier a b }
+{
+    match (a, b) {
+        (None, b) => b,
+        (Some(a), None) => Some(a),
+        (Some(a), Some(b)) => Some(a.min(b)),
+    }
+}
+
+/// The first cycle from one on, and below the end, at which a timer is due.
+pub(crate) fn first_due(timers: &[Timer], from: u32) -> Option<u32>
+    ensures { result ≡ first_due from timers.now }
+{
+    match timers {
+        [] => None,
+        [timer, rest @ ..] => earlier(due_from(from, timer.due), first_due(rest, from)),
+    }
+}
