@@ -14,18 +14,21 @@ use Rattle.avr_usart.specs.Usart.{Usart, usart}
 use Rattle.avr_usart.specs.UsartLaws.{usart_laws}
 use Rattle.avr_spi.specs.Spi.{Spi, spi}
 use Rattle.avr_spi.specs.SpiLaws.{spi_laws}
+use Rattle.avr_twi.specs.Twi.{Twi, twi}
+use Rattle.avr_twi.specs.TwiLaws.{twi_laws}
 
 abbrev pub Devices : Type 0
-Devices = Ports × (Timer8 × (Timer16 × (Timer8 × (Adc × (Usart × Spi)))))
+Devices = Ports × (Timer8 × (Timer16 × (Timer8 × (Adc × (Usart × (Spi × Twi))))))
 
 abbrev pub devices : UnitMachine Devices
-devices = both ports (both (timer8 Zero) (both timer16 (both (timer8 Two) (both adc (both usart spi)))))
+devices = both ports (both (timer8 Zero) (both timer16 (both (timer8 Two) (both adc (both usart (both spi twi))))))
 
 pub devices_laws : Laws devices
 devices_laws =
-    both_laws ports (both (timer8 Zero) (both timer16 (both (timer8 Two) (both adc (both usart spi))))) ports_laws
-    (both_laws (timer8 Zero) (both timer16 (both (timer8 Two) (both adc (both usart spi)))) (timer8_laws Zero)
-    (both_laws timer16 (both (timer8 Two) (both adc (both usart spi))) timer16_laws
-    (both_laws (timer8 Two) (both adc (both usart spi)) (timer8_laws Two)
-    (both_laws adc (both usart spi) adc_laws
-    (both_laws usart spi usart_laws spi_laws)))))
+    both_laws ports (both (timer8 Zero) (both timer16 (both (timer8 Two) (both adc (both usart (both spi twi)))))) ports_laws
+    (both_laws (timer8 Zero) (both timer16 (both (timer8 Two) (both adc (both usart (both spi twi))))) (timer8_laws Zero)
+    (both_laws timer16 (both (timer8 Two) (both adc (both usart (both spi twi)))) timer16_laws
+    (both_laws (timer8 Two) (both adc (both usart (both spi twi))) (timer8_laws Two)
+    (both_laws adc (both usart (both spi twi)) adc_laws
+    (both_laws usart (both spi twi) usart_laws
+    (both_laws spi twi spi_laws twi_laws))))))

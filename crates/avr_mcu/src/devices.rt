@@ -4,6 +4,7 @@ use avr_ports::Ports;
 use avr_spi::Spi;
 use avr_timer8::{Timer0, Timer2};
 use avr_timer16::Timer16;
+use avr_twi::Twi;
 use avr_usart::Usart;
 use unit_law::{Both, Late};
 
@@ -12,6 +13,9 @@ pub(crate) type Devices = Both<
     Late<Ports>,
     Both<
         Late<Timer0>,
-        Both<Late<Timer16>, Both<Late<Timer2>, Both<Late<Adc>, Both<Late<Usart>, Late<Spi>>>>>,
+        Both<
+            Late<Timer16>,
+            Both<Late<Timer2>, Both<Late<Adc>, Both<Late<Usart>, Both<Late<Spi>, Late<Twi>>>>>,
+        >,
     >,
 >;
