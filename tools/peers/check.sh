@@ -1,6 +1,6 @@
 #!/bin/sh
 # What other programs make of the same inputs: simavr moves the same pins of the examples in the same cycles, uno.c, a
-# second reading of the data sheet, those of sketches with timers, interrupts and the ADC, and wabt answers the same to
+# second reading of the data sheet, those of sketches with timers, interrupts, ADC, Serial, SPI and Wire, and wabt answers the same to
 # the modules of the gate. What cannot be asked is skipped, and said on standard error.
 # Debian's packages: gcc, simavr, libsimavr-dev, gcc-avr; wabt, clang, lld. `--install` installs them first, which wants root.
 # PROGRAM is the program to try, ./mudflatjar if it is not set. Ends with 1 where one answers otherwise.
@@ -88,11 +88,17 @@ if have cc && cc -O2 -o "$folder/uno" "$here/uno.c"; then
     row usart 1700 1=0
     row usart-errors 110 8=0
     row spi 2500 11=12
+    row spi-given-up 100 11=12 9=10
+    row twi-start 3
+    row twi 1300 2-18 3-19
+    row twi-bus 1500 2-18 3-19
     with_uno arduino-blink 2100000
     with_uno fade 200000
     with_uno pin-interrupt 30000 9=2
     with_uno pot-blink 950000 14~100
     with_uno serial-hello 350000
+    with_uno i2c-scanner 20000
+    with_uno spi-loopback 5000 11=12
     with_uno button 60000 @160000 2=low @320000 2=free @480000 2=low @720000 2=free
     with_uno pot-serial 290000 14~300 @1440000 14~700 @3040000 14~1023
 else
@@ -103,6 +109,13 @@ if have avr-gcc avr-objcopy; then
         name=$(basename "$source" .S)
         avr-gcc -mmcu=atmega328p -nostdlib -o "$folder/row.elf" "$source" &&
             avr-objcopy -O ihex "$folder/row.elf" "$folder/row.hex" &&
+            tr -d '\r' <"$folder/row.hex" | cmp -s - "$rows/$name.hex"
+        says $? "$name.hex from its source"
+    done
+    for source in "$rows"/*.c; do
+        name=$(basename "$source" .c)
+        avr-gcc -mmcu=atmega328p -Os -o "$folder/row.elf" "$source" &&
+            avr-objcopy -O ihex -j .text "$folder/row.elf" "$folder/row.hex" &&
             tr -d '\r' <"$folder/row.hex" | cmp -s - "$rows/$name.hex"
         says $? "$name.hex from its source"
     done
