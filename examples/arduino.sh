@@ -12,7 +12,7 @@ if [ ! -d "$core" ] || ! command -v avr-g++ >/dev/null; then
 fi
 work=$(mktemp -d)
 trap 'rm -rf "$work"' EXIT
-common="-c -Os -w -ffunction-sections -fdata-sections -flto -mmcu=atmega328p -DF_CPU=16000000L -DARDUINO=10807 -DARDUINO_AVR_UNO -DARDUINO_ARCH_AVR -I$core -I$base/variants/standard"
+common="-c -Os -w -ffunction-sections -fdata-sections -flto -mmcu=atmega328p -DF_CPU=16000000L -DARDUINO=10807 -DARDUINO_AVR_UNO -DARDUINO_ARCH_AVR -I$core -I$base/variants/standard -I$base/libraries/SPI/src -I$base/libraries/Wire/src"
 # gcc-avr 5.4 leaves DECIMAL_DIG out of its float.h for C++, and WString.cpp wants it
 cpp="avr-g++ $common -DDECIMAL_DIG=__DECIMAL_DIG__ -std=gnu++11 -fpermissive -fno-exceptions -fno-threadsafe-statics"
 
@@ -20,12 +20,17 @@ for file in "$core"/*.c; do avr-gcc $common -std=gnu11 -fno-fat-lto-objects -o "
 for file in "$core"/*.cpp; do $cpp -o "$work/$(basename "$file").o" "$file"; done
 avr-gcc -c -x assembler-with-cpp -flto -mmcu=atmega328p -o "$work/wiring_pulse.S.o" "$core/wiring_pulse.S"
 avr-gcc-ar rcs "$work/core.a" "$work"/*.o
+# of the libraries only what a sketch uses is linked
+mkdir "$work/libraries"
+for file in "$base"/libraries/SPI/src/*.cpp "$base"/libraries/Wire/src/*.cpp; do $cpp -o "$work/libraries/$(basename "$file").o" "$file"; done
+avr-gcc $common -std=gnu11 -fno-fat-lto-objects -o "$work/libraries/twi.c.o" "$base/libraries/Wire/src/utility/twi.c"
+avr-gcc-ar rcs "$work/libraries.a" "$work/libraries"/*.o
 bad=0
 sketch() { # NAME OF THE HEX FILE, SOURCE, FLAGS
     name=$(basename "$1" .hex)
     { echo '#include <Arduino.h>'; cat "$2"; } >"$work/$name.cpp"
     (cd "$work" && $cpp ${3:-} -o "$name.sketch" "$name.cpp")
-    avr-gcc -w -Os -flto -fuse-linker-plugin -Wl,--gc-sections -mmcu=atmega328p -o "$work/$name.elf" "$work/$name.sketch" "$work/core.a" -lm
+    avr-gcc -w -Os -flto -fuse-linker-plugin -Wl,--gc-sections -mmcu=atmega328p -o "$work/$name.elf" "$work/$name.sketch" "$work/libraries.a" "$work/core.a" -lm
     avr-objcopy -O ihex -R .eeprom "$work/$name.elf" "$work/$name.hex"
     if [ "$check" = --check ]; then
         cmp -s "$work/$name.hex" "$1" && echo "$name.hex: ok" || { echo "$name.hex: differs"; bad=1; }
@@ -33,7 +38,7 @@ sketch() { # NAME OF THE HEX FILE, SOURCE, FLAGS
         cp "$work/$name.hex" "$1"
     fi
 }
-for name in arduino-blink fade pot-blink pin-interrupt button serial-hello pot-serial; do
+for name in arduino-blink fade pot-blink pin-interrupt button serial-hello pot-serial i2c-scanner spi-loopback; do
     sketch "$here/$name/$name.hex" "$here/$name/$name.ino"
 done
 # what bench/serial.sh measures

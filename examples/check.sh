@@ -84,7 +84,7 @@ twin counter/expected/run.vcd counter.vcd
 pulses <"$rows/crc.vcd" | same "crc in the rows" "$here/crc/expected/pulses.txt" || bad=1
 pulses <"$rows/sort.vcd" | same "sort in the rows" "$here/sort/expected/pulses.txt" || bad=1
 counts <"$rows/counter-down.vcd" | same "counter downwards in the rows" "$here/counter/expected/counts-down.txt" || bad=1
-for name in blink counter pulse arduino-blink fade pin-interrupt pot-blink button serial-hello pot-serial; do
+for name in blink counter pulse arduino-blink fade pin-interrupt pot-blink button serial-hello pot-serial i2c-scanner spi-loopback; do
     "$program" check "$here/$name" | same "$name as a project" "$here/$name/expected/check.txt" || bad=1
 done
 "$program" bare "$here/blink/blink.hex" --us 1 | same blink "$here/blink/expected/wave.vcd" || bad=1
@@ -118,6 +118,8 @@ scripted() { # NAME MICROSECONDS
 scripted button 60000
 scripted serial-hello 350000
 scripted pot-serial 290000
+scripted i2c-scanner 20000
+scripted spi-loopback 5000
 "$program" run "$here/button" --us 60000 --script "$here/button/script.txt" --vcd - | at 13 1 | same "button's LED" "$here/button/expected/pin13.txt" || bad=1
 
 # the counter with pin 2 on ground

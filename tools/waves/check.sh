@@ -1,6 +1,7 @@
 #!/bin/sh
 # Writes the waves of the examples, and that of a board with more variables than there are characters to name them, and
-# says whether sigrok-cli and vcd2fst read each to its end and find in it what stands there. A tool that is missing is
+# says whether sigrok-cli and vcd2fst read each to its end and find in it what stands there, and whether sigrok-cli's decoders
+# of UART, I2C and SPI find what was sent. A tool that is missing is
 # skipped (Debian's packages sigrok-cli and gtkwave have them). Ends with 1 where a wave is not written or read otherwise.
 here=$(cd "$(dirname "$0")" && pwd)
 program=${PROGRAM:-$here/../../mudflatjar}
@@ -66,6 +67,29 @@ with_uart() { # NAME MICROSECONDS BAUD
     says $? "$1" "decoded by sigrok-cli at $3 baud"
 }
 
+# what a decoder finds in a wave first is the text on standard input
+decoded() { # WAVE NAME WHAT DECODER ANNOTATIONS
+    cat >"$folder/sent"
+    [ -s "$folder/sent" ] && sigrok-cli -I vcd:downsample=625 -i "$1" -P "$4" -A "$5" | sed 's/^[^ ]*: //' >"$folder/found" &&
+        head -n "$(wc -l <"$folder/sent")" "$folder/found" | cmp -s - "$folder/sent"
+    says $? "$2" "$3 decoded by sigrok-cli"
+}
+i2c() { # WAVE NAME WHAT
+    decoded "$1" "$2" "$3" i2c:scl=uno.A5:sda=uno.A4 i2c=start:repeat-start:stop:ack:nack:address-write:address-read:data-write:data-read
+}
+spi() { # WAVE NAME LINE
+    decoded "$1" "$2" "$3" spi:clk=uno.13:mosi=uno.11:miso=uno.12:cs=uno.10 "spi=$3-data"
+}
+# each address of the bus from 1 to 126 is called, and no one answers
+calls() {
+    for address in $(seq 1 126); do printf 'Start\nWrite\nAddress write: %02X\nNACK\nStop\n' "$address"; done
+}
+# what the master and the slave of crates/sim_rows/data/twi.c send, up to the first STOP
+bytes() {
+    printf '%s\n' Start Write "Address write: 52" ACK "Data write: 35" ACK "Data write: CA" NACK "Data write: 0F" ACK
+    printf '%s\n' "Start repeat" Read "Address read: 52" ACK "Data read: 96" ACK "Data read: 69" NACK Stop
+}
+
 have sigrok-cli || echo "sigrok-cli: skipped" >&2
 have vcd2fst fst2vcd || echo "vcd2fst: skipped" >&2
 
@@ -82,5 +106,13 @@ wave "63 LEDs" run "$folder/many" --us 10 --vcd -
 if have sigrok-cli; then
     with_uart serial-hello 350000 9600
     with_uart pot-serial 290000 115200
+    "$program" run "$examples/i2c-scanner" --us 20000 --vcd "$folder/wave" >"$folder/bytes"
+    calls | i2c "$folder/wave" i2c-scanner "the calls"
+    # this wave is compared with the program's own by the gate
+    bytes | i2c "$here/../../crates/sim_rows/data/twi.vcd" "a slave on the bus" "bytes out and in"
+    "$program" run "$examples/spi-loopback" --us 5000 --vcd "$folder/wave" >"$folder/bytes"
+    for line in mosi miso; do
+        printf '%s\n' 4D 75 64 00 FF A5 | spi "$folder/wave" spi-loopback "$line"
+    done
 fi
 exit $bad
