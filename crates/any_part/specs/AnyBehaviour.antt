@@ -5,18 +5,38 @@ use Rattle.reactive_part.specs.Reaction.{Reaction, ReactionLaws}
 use Rattle.reactive_part.specs.Either.{either, either_laws}
 use Rattle.parts_basic.specs.Led.{LedState, led, led_laws}
 use Rattle.parts_basic.specs.Passive.{PassiveState, passive, passive_laws}
+use Rattle.parts_logic.specs.Gate.{GateState, gate, gate_laws}
+use Rattle.parts_logic.specs.Shift595.{ShiftState, shift595, shift595_laws}
 use Rattle.any_part.specs.declared.behaviour.AnyBehaviour.{AnyBehaviour}
 use Rattle.any_part.specs.declared.behaviour.AnyBehaviour.TheVariants as behaviours
 
 abbrev pub AnyOwn : Type 0
-AnyOwn = LedState ⊎ PassiveState
+AnyOwn = LedState ⊎ (PassiveState ⊎ (GateState ⊎ ShiftState))
 
 abbrev pub any_reaction : Reaction AnyOwn
-any_reaction = either led passive
+any_reaction = either led (either passive (either gate shift595))
 
 pub any_reaction_laws : ReactionLaws any_reaction
-any_reaction_laws = either_laws led passive led_laws passive_laws
+any_reaction_laws =
+    either_laws led (either passive (either gate shift595)) led_laws
+    (either_laws passive (either gate shift595) passive_laws
+    (either_laws gate shift595 gate_laws shift595_laws))
+
+-- where each kind stands in the sum
+abbrev pub a_led : LedState → AnyOwn
+a_led s = inl s
+
+abbrev pub a_passive : PassiveState → AnyOwn
+a_passive s = inr (inl s)
+
+abbrev pub a_gate : GateState → AnyOwn
+a_gate s = inr (inr (inl s))
+
+abbrev pub a_shift595 : ShiftState → AnyOwn
+a_shift595 s = inr (inr (inr s))
 
 abbrev pub own_of : AnyBehaviour → AnyOwn
-own_of (behaviours.Led b) = inl b
-own_of (behaviours.Passive b) = inr b
+own_of (behaviours.Led b) = a_led b
+own_of (behaviours.Passive b) = a_passive b
+own_of (behaviours.Gate b) = a_gate b
+own_of (behaviours.Shift595 b) = a_shift595 b

@@ -1,6 +1,7 @@
 //! A behaviour of any kind.
 
 use parts_basic::{Led, Passive};
+use parts_logic::{Gate, Shift595};
 use reactive_part::Behaviour;
 use sim_base::{Drive, Level};
 
@@ -9,6 +10,8 @@ use sim_base::{Drive, Level};
 pub enum AnyBehaviour {
     Led(Led),
     Passive(Passive),
+    Gate(Gate),
+    Shift595(Shift595),
 }
 
 macro_rules! on_behaviour {
@@ -16,6 +19,8 @@ macro_rules! on_behaviour {
         match $any {
             AnyBehaviour::Led($behaviour) => $call,
             AnyBehaviour::Passive($behaviour) => $call,
+            AnyBehaviour::Gate($behaviour) => $call,
+            AnyBehaviour::Shift595($behaviour) => $call,
         }
     };
 }

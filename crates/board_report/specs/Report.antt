@@ -44,7 +44,9 @@ is_input (plans.Chip chip) = false
 -- what a part that does nothing by itself shows; an LED by the levels of its last step
 abbrev pub own_rows : PlanPart → List Level → AnyOwn → List ReportRow
 own_rows part held (inl led) = lines.Led part.id (is_lit held) led.count ∷ []
-own_rows part held (inr passive) = if is_input part.kind then lines.Input part.id passive.value ∷ [] else []
+own_rows part held (inr (inl passive)) = if is_input part.kind then lines.Input part.id passive.value ∷ [] else []
+own_rows part held (inr (inr (inl gate))) = []
+own_rows part held (inr (inr (inr shift))) = lines.Shift part.id shift.stages shift.storage ∷ []
 
 abbrev pub part_rows : PlanPart → AnyState → List ReportRow
 part_rows part (inl uno) = uno_rows part.id uno

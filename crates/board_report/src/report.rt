@@ -114,6 +114,15 @@ fn write_own<B: Bench>(
                 end
             }
         }
+        AnyBehaviour::Gate(_) => end,
+        AnyBehaviour::Shift595(shift) => {
+            let (stages, storage) = shift.registers();
+            write_line(
+                end,
+                &ReportRow::Shift(part.id.copy(), stages, storage),
+                bench,
+            )
+        }
     }
 }
 

@@ -46,6 +46,15 @@ is_ready kinds.Text = true
 is_ready kinds.Vcc = true
 is_ready kinds.Gnd = true
 is_ready kinds.Potentiometer = true
+is_ready kinds.GateNot = true
+is_ready kinds.GateBuffer = true
+is_ready kinds.GateAnd2 = true
+is_ready kinds.GateOr2 = true
+is_ready kinds.GateNand2 = true
+is_ready kinds.GateNor2 = true
+is_ready kinds.GateXor2 = true
+is_ready kinds.GateXnor2 = true
+is_ready kinds.ShiftRegister595 = true
 is_ready kind = false
 
 abbrev pub if_ready : Option Kind → Option Kind

@@ -50,6 +50,15 @@ fn is_built(kind: Kind) -> bool
             | Kind::Vcc
             | Kind::Gnd
             | Kind::Potentiometer
+            | Kind::GateNot
+            | Kind::GateBuffer
+            | Kind::GateAnd2
+            | Kind::GateOr2
+            | Kind::GateNand2
+            | Kind::GateNor2
+            | Kind::GateXor2
+            | Kind::GateXnor2
+            | Kind::ShiftRegister595
     )
 }
 

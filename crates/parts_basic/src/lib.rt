@@ -10,5 +10,3 @@ mod passive;
 pub use led::Led;
 pub use passive::Passive;
 
-#[cfg(test)]
-mod tests;

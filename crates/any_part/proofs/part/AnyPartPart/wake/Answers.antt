@@ -5,3 +5,9 @@ returns-in-Reactive-clause-drives c = rw c.in-Reactive.is c.wake-in-Reactive.ens
 
 pub returns-in-Reactive-clause-contacts : goal.returns-in-Reactive-clause-contacts
 returns-in-Reactive-clause-contacts c = rw c.in-Reactive.is c.wake-in-Reactive.ensures.contacts
+
+pub wake-requires-in-Reactive-clause-pins : goal.wake-requires-in-Reactive-clause-pins
+wake-requires-in-Reactive-clause-pins c = rw c.in-Reactive.is at c.requires.pins
+
+pub returns-in-Uno-clause-others : goal.returns-in-Uno-clause-others
+returns-in-Uno-clause-others c = rw c.in-Uno.is c.wake.ensures.others

@@ -1,0 +1,4 @@
+use Rattle.any_part.proofs.part.AnyPartPart.moved.Goals as goal
+
+pub returns-in-Reactive : goal.returns-in-Reactive
+returns-in-Reactive c = rw c.in-Reactive.is c.moved-in-Reactive.ensures
