@@ -23,16 +23,18 @@ pulses() {
             rise = 0
         }'
 }
-# the number on the LEDs bit2, bit1 and bit0, as it is after each change of one of them
-counts() {
-    awk '
-        /^\$var/ && $5 ~ /^bit[012]\.A$/ { bit[$4] = substr($5, 4, 1) }
-        /^[01xz]/ && substr($0, 2) in bit { level[bit[substr($0, 2)]] = substr($0, 1, 1); change = 1 }
+# the number on the LEDs NAME0, NAME1 and so on, as it is after each change of one of them
+lights() { # NAME
+    awk -v name="$1" '
+        /^\$var/ && $5 ~ "^" name "[0-7]\\.A$" { led[$4] = substr($5, length(name) + 1, 1) }
+        /^[01xz]/ && substr($0, 2) in led { level[led[substr($0, 2)]] = substr($0, 1, 1); change = 1 }
         /^#/ { show() }
         END { show() }
-        function show() {
-            if (change && (level[2] level[1] level[0]) !~ /[xz]/) print 4 * level[2] + 2 * level[1] + level[0]
+        function show(  k, number, all) {
+            if (!change) return
             change = 0
+            for (k in level) { number += (level[k] == "1") * 2 ^ k; all = all level[k] }
+            if (all !~ /[xz]/) print number
         }'
 }
 # CYCLE PIN VALUE for each change of a pin of the Uno
@@ -83,8 +85,8 @@ twin counter/diagram.json counter.json
 twin counter/expected/run.vcd counter.vcd
 pulses <"$rows/crc.vcd" | same "crc in the rows" "$here/crc/expected/pulses.txt" || bad=1
 pulses <"$rows/sort.vcd" | same "sort in the rows" "$here/sort/expected/pulses.txt" || bad=1
-counts <"$rows/counter-down.vcd" | same "counter downwards in the rows" "$here/counter/expected/counts-down.txt" || bad=1
-for name in blink counter pulse arduino-blink fade pin-interrupt pot-blink button serial-hello pot-serial i2c-scanner spi-loopback; do
+lights bit <"$rows/counter-down.vcd" | same "counter downwards in the rows" "$here/counter/expected/counts-down.txt" || bad=1
+for name in blink counter pulse arduino-blink fade pin-interrupt pot-blink button serial-hello pot-serial i2c-scanner spi-loopback shift-out spi-shift latch; do
     "$program" check "$here/$name" | same "$name as a project" "$here/$name/expected/check.txt" || bad=1
 done
 "$program" bare "$here/blink/blink.hex" --us 1 | same blink "$here/blink/expected/wave.vcd" || bad=1
@@ -93,7 +95,7 @@ done
 
 wave "$here/blink" 1 | same "blink with its LED" "$here/blink/expected/run.vcd" || bad=1
 wave "$here/counter" 30 | same counter "$here/counter/expected/run.vcd" || bad=1
-wave "$here/counter" 30 | counts | same "counter's LEDs" "$here/counter/expected/counts.txt" || bad=1
+wave "$here/counter" 30 | lights bit | same "counter's LEDs" "$here/counter/expected/counts.txt" || bad=1
 
 wave "$here/pulse" 200 | changes_of 13 | same pulse "$here/pulse/expected/changes.txt" || bad=1
 
@@ -101,6 +103,9 @@ wave "$here/pulse" 200 | changes_of 13 | same pulse "$here/pulse/expected/change
 wave "$here/arduino-blink" 2100000 | at 13 1 | same arduino-blink "$here/arduino-blink/expected/pin13.txt" || bad=1
 wave "$here/fade" 200000 | widths 9 | same fade "$here/fade/expected/pulses.txt" || bad=1
 wave "$here/pin-interrupt" 30000 | at 13 1 | same pin-interrupt "$here/pin-interrupt/expected/pin13.txt" || bad=1
+for name in shift-out spi-shift; do
+    wave "$here/$name" 100000 | lights led | same "$name's LEDs" "$here/$name/expected/leds.txt" || bad=1
+done
 wave "$here/pot-blink" 950000 | at 13 10 | same pot-blink "$here/pot-blink/expected/pin13.txt" || bad=1
 "$here/arduino.sh" --check || bad=1
 
@@ -120,10 +125,15 @@ scripted serial-hello 350000
 scripted pot-serial 290000
 scripted i2c-scanner 20000
 scripted spi-loopback 5000
+scripted shift-out 100000
+scripted spi-shift 100000
+scripted latch 20000
 "$program" run "$here/button" --us 60000 --script "$here/button/script.txt" --vcd - | at 13 1 | same "button's LED" "$here/button/expected/pin13.txt" || bad=1
+
+"$program" run "$here/latch" --us 20000 --script "$here/latch/script.txt" --vcd - | at 2 1 | same "latch's pin 2" "$here/latch/expected/pin2.txt" || bad=1
 
 # the counter with pin 2 on ground
 cp "$here/counter/wokwi.toml" "$here/counter/counter.hex" "$down"
 sed 's/"vcc1:VCC", "uno:2"/"gnd1:GND", "uno:2"/' "$here/counter/diagram.json" >"$down/diagram.json"
-wave "$down" 30 | counts | same "counter downwards" "$here/counter/expected/counts-down.txt" || bad=1
+wave "$down" 30 | lights bit | same "counter downwards" "$here/counter/expected/counts-down.txt" || bad=1
 exit $bad

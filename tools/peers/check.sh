@@ -1,7 +1,8 @@
 #!/bin/sh
 # What other programs make of the same inputs: simavr moves the same pins of the examples in the same cycles, uno.c, a
-# second reading of the data sheet, those of sketches with timers, interrupts, ADC, Serial, SPI and Wire, and wabt answers the same to
-# the modules of the gate. What cannot be asked is skipped, and said on standard error.
+# second reading of the data sheet, those of sketches with timers, interrupts, ADC, Serial, SPI and Wire, board.c, a second
+# reading of parts and nets, has the same waves of boards, and wabt answers the same to the modules of the gate. What cannot
+# be asked is skipped, and said on standard error.
 # Debian's packages: gcc, simavr, libsimavr-dev, gcc-avr; wabt, clang, lld. `--install` installs them first, which wants root.
 # PROGRAM is the program to try, ./mudflatjar if it is not set. Ends with 1 where one answers otherwise.
 here=$(cd "$(dirname "$0")" && pwd)
@@ -103,6 +104,40 @@ if have cc && cc -O2 -o "$folder/uno" "$here/uno.c"; then
     with_uno pot-serial 290000 14~300 @1440000 14~700 @3040000 14~1023
 else
     echo "uno.c: skipped, no compiler for C" >&2
+fi
+
+# board.c, a second reading of nets, gates and the 74HC595: whole waves of the gate's rows and of examples, and what the report
+# says of their parts; the Uno drives what it does on uno.c
+board_row() { # NAME MICROSECONDS DIAGRAM WORDS OF board.c
+    name=$1 us=$2 diagram=$3
+    shift 3
+    : >"$folder/pins.vcd"
+    [ ! -f "$rows/$name.hex" ] || "$folder/uno" "$rows/$name.hex" "$((16 * us))" >"$folder/pins.vcd"
+    "$folder/board" "$rows/$diagram" "$((16 * us))" uno="$folder/pins.vcd" "$@" | cmp -s - "$rows/$name.vcd"
+    says $? "row $name on board.c"
+}
+with_board() { # NAME MICROSECONDS WORDS OF uno.c, which tell what its pins read
+    name=$1 us=$2 script= words=
+    shift 2
+    if [ -f "$examples/$name/script.txt" ]; then
+        script="--script $examples/$name/script.txt" words=script=$examples/$name/script.txt
+    fi
+    for word in "$@"; do case $word in @*) ;; *) words="$words input=${word%=*}" ;; esac; done
+    "$program" run "$examples/$name" --us "$us" $script --vcd "$folder/wave" --report "$folder/report" >/dev/null
+    "$folder/uno" "$examples/$name/$name.hex" "$((16 * us))" "$@" >"$folder/pins.vcd"
+    "$folder/board" "$examples/$name/diagram.json" "$((16 * us))" uno="$folder/pins.vcd" $words report="$folder/parts" | cmp -s - "$folder/wave" &&
+        grep -v '^cycles \|^uno ' "$folder/report" | cmp -s - "$folder/parts"
+    says $? "$name on board.c"
+}
+if [ -x "$folder/uno" ] && cc -O2 -o "$folder/board" "$here/board.c"; then
+    board_row ring 1 ring.json
+    board_row gates 5 gates.json script="$rows/gates.script"
+    board_row lamps 2 lamps.json script="$rows/lamps.script"
+    board_row shift 20 chain.json
+    board_row shift-spi 50 chain.json
+    with_board shift-out 100000
+    with_board spi-shift 100000
+    with_board latch 20000 2=low @80002 2=high @192001 2=low
 fi
 if have avr-gcc avr-objcopy; then
     for source in "$rows"/*.S; do
