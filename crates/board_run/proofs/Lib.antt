@@ -5,7 +5,6 @@ pub mod ScriptLemmas
 pub mod WakeLemmas
 pub mod ReadLemmas
 pub mod ShowLemmas
-pub mod GateLemmas
 pub mod TurnLemmas
 pub mod LagLemmas
 pub mod LegLemmas

@@ -6,8 +6,6 @@
 mod alone;
 mod board;
 mod engine;
-#[cfg(test)]
-mod gate;
 mod gather;
 mod hand;
 mod jump;
@@ -16,8 +14,6 @@ mod script;
 mod show;
 mod start;
 mod tell;
-#[cfg(test)]
-mod tests;
 mod turn;
 
 pub use board::{Board, RunEnd};
