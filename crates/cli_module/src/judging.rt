@@ -6,7 +6,7 @@ ghost use Rattle.cli_work.specs.Outcomes.{outcome_of};
 ghost use Rattle.cli_module.specs.Answer.{ModuleAnswer};
 ghost use Rattle.cli_module.specs.Judged.{IsJudged, IsFit, EndsAs};
 
-use cli_work::{WorkEnd, Stop, read_bytes, stopped, write_text};
+use cli_work::{Stop, WorkEnd, read_bytes, stopped, write_text};
 use sim_base::{Bench, Fault, Port};
 use std::alloc::Global;
 use wasm_decode::{Module, decode};

@@ -14,7 +14,7 @@ ghost use Rattle.cli_project.specs.Works.{IsRising, cycles_of, work_of};
 
 use crate::documents::{DiagramFile, ProjectFile, ScriptFile, name_in, read_in};
 use board_build::{Plan, build};
-use cli_work::{HexFile, WorkEnd, Stop, read_document, stopped};
+use cli_work::{HexFile, Stop, WorkEnd, read_document, stopped};
 use document_model::{Diagram, Project};
 use input_texts::Script;
 use sim_base::refusals::SCRIPT_PART;

@@ -9,6 +9,6 @@ mod reading;
 mod writing;
 
 pub use complaint::tell;
-pub use outcome::{WorkEnd, Stop, status, stopped};
+pub use outcome::{Stop, WorkEnd, status, stopped};
 pub use reading::{Document, HexFile, read_bytes, read_document};
 pub use writing::{write_next, write_parts, write_text};

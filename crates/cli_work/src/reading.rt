@@ -8,7 +8,7 @@ ghost use Rattle.outcome_model.specs.Work.{Got};
 ghost use Rattle.cli_work.specs.Documents.{IsRead};
 ghost use Rattle.cli_work.specs.Outcomes.{outcome_of, stop_of};
 
-use crate::outcome::{WorkEnd, Stop, stopped};
+use crate::outcome::{Stop, WorkEnd, stopped};
 use input_texts::read_hex;
 use sim_base::refusals::FILE_TOO_LONG;
 use sim_base::{Bench, Fault, Flash, Place, ReadEnd, Refusal};
