@@ -114,5 +114,10 @@ if have sigrok-cli; then
     for line in mosi miso; do
         printf '%s\n' 4D 75 64 00 FF A5 | spi "$folder/wave" spi-loopback "$line"
     done
+    # a light that runs over eight LEDs; STCP of the 74HC595 is low while a byte goes out
+    "$program" run "$examples/spi-shift" --us 50000 --vcd "$folder/wave" >"$folder/bytes"
+    printf '%s\n' 01 02 04 08 10 | spi "$folder/wave" spi-shift mosi
+    "$program" run "$examples/shift-out" --us 50000 --vcd "$folder/wave" >"$folder/bytes"
+    printf '%s\n' 01 02 04 08 10 | decoded "$folder/wave" shift-out mosi spi:clk=uno.12:mosi=uno.11:cs=uno.8 spi=mosi-data
 fi
 exit $bad
