@@ -9,4 +9,3 @@ mod passive;
 
 pub use led::Led;
 pub use passive::Passive;
-
