@@ -7,7 +7,7 @@ use Rattle.sim_base.specs.Outside.{Outside, SamePorts, Files}
 use Rattle.sim_base.specs.Refusals.{FileTooLong}
 use Rattle.outcome_model.specs.Stop.{Stop, Missing, Refused, accepted, file, read_from, JudgedAs, JudgedWithin, JudgedFrom}
 use Rattle.outcome_model.specs.Outcome.{Outcome, OutOfMemory}
-use Rattle.outcome_model.specs.Work.{ReadStops}
+use Rattle.outcome_model.specs.Work.{IsFile, ReadStops}
 use Rattle.outcome_model.proofs.ReadLemmas.{if_some}
 use Rattle.sim_base.specs.declared.fault.Fault.{Fault}
 use Rattle.sim_base.specs.declared.fault.Fault.TheVariants as faults
@@ -54,9 +54,9 @@ judged_from None name bytes x e j = absurd (cc)
 judged_from (Some at) name bytes x e j = judged_within (nat_lt 1048576 (length at)) name at bytes x e j
 
 -- where the file can't be read
-pub module_stops : (name : List ℕ) (o : Outcome) (a b : Outside) → ReadStops o (λ (files : Files). file files name whole) a b → SamePorts a b → Ends (ModuleAnswer name) o a b
+pub module_stops : (name : List ℕ) (o : Outcome) (a b : Outside) → ReadStops o (IsFile name whole) a b → SamePorts a b → Ends (ModuleAnswer name) o a b
 unfolding ModuleAnswer
-module_stops name = stopped_by (ModuleAnswer name) (λ (files : Files). file files name whole) (λ files s e. stop_from (get files name) name s e)
+module_stops name = stopped_by (ModuleAnswer name) (IsFile name whole) (λ files s e. stop_from (get files name) name s e)
 
 -- where the bytes are judged
 pub module_accepted : (name bytes : List ℕ) (told : Option Files) → IfSome told (λ (files : Files). file files name whole ≡ Ok bytes) → Judges bytes (Ok tt) → IfSome told (λ (files : Files). ModuleAnswer name files (Ok accepted))

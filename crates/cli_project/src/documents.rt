@@ -1,8 +1,7 @@
 //! The documents of a project, each a kind of file.
 ghost use Rattle.std.specs.Prelude.{◌≡◌, IfOk, string_bytes};
 ghost use Rattle.sim_base.specs.Outside.{SamePorts};
-ghost use Rattle.outcome_model.specs.Stop.{file};
-ghost use Rattle.outcome_model.specs.Work.{Got};
+ghost use Rattle.outcome_model.specs.Work.{Got, IsFile};
 ghost use Rattle.cli_work.specs.Documents.{IsRead};
 ghost use Rattle.cli_work.specs.Outcomes.{outcome_of};
 ghost use Rattle.project_model.specs.Work.{in_folder};
@@ -75,7 +74,7 @@ pub(crate) fn read_in<D: Document, B: Bench>(
     path: &str,
     bench: &mut B,
 ) -> Result<D::Text, WorkEnd>
-    ensures got { Got (λ d. d) outcome_of result (λ files. file files (in_folder folder.now path.now) D.reading) (B.outside bench.old) (B.outside bench.new) }
+    ensures got { Got (λ d. d) outcome_of result (IsFile (in_folder folder.now path.now) D.reading) (B.outside bench.old) (B.outside bench.new) }
     ensures ports { SamePorts (B.outside bench.old) (B.outside bench.new) }
     ensures read { IfOk result (IsRead D.reading) }
 {

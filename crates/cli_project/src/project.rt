@@ -1,15 +1,14 @@
 //! A project, from its folder, with a script.
 ghost use Rattle.std.specs.Prelude.{◌≡◌, ◌⊎◌, ◌≤◌, [], IfOk, length};
 ghost use Rattle.std.specs.Option.{option_map};
-ghost use Rattle.sim_base.specs.Outside.{Outside, SamePorts, Files};
+ghost use Rattle.sim_base.specs.Outside.{Outside, SamePorts};
 ghost use Rattle.outcome_model.specs.Stop.{Refused};
 ghost use Rattle.outcome_model.specs.Outcome as ends;
 ghost use Rattle.outcome_model.specs.Work.{Got};
 ghost use Rattle.board_model.specs.Fits.{AreInputs};
 ghost use Rattle.board_build.specs.IsPlan.{IsPlan};
-ghost use Rattle.board_build.specs.Plan.{plan_of};
 ghost use Rattle.cli_work.specs.Outcomes.{outcome_of};
-ghost use Rattle.project_model.specs.Work.{file_of_rule, by_rule, script_in, work_in};
+ghost use Rattle.project_model.specs.Work.{file_of_rule, ScriptIn, PlanIn, BehindDiagram, BehindFirmware, BehindProject, WorkIn};
 ghost use Rattle.cli_project.specs.Works.{IsRising, cycles_of, work_of};
 
 use crate::documents::{DiagramFile, ProjectFile, ScriptFile, name_in, read_in};
@@ -56,7 +55,7 @@ fn plan_board(
     requires chips { length project.now.chips ≡ 0 }
     requires parts { length diagram.now.parts ≤ 64 }
     requires rising { IsRising 0 (cycles_of rows.now) }
-    ensures got { (a : Outside) → Got (λ p. p) outcome_of result (λ (files : Files). by_rule folder.now (option_map (λ s. s.now) script.entry) (plan_of project.now diagram.now [] rows.now)) a a }
+    ensures got { (a : Outside) → Got (λ p. p) outcome_of result (PlanIn folder.now (option_map (λ s. s.now) script.entry) project.now diagram.now rows.now) a a }
     ensures plan { IfOk result (λ plan. IsPlan [] plan) }
     ensures inputs { IfOk result (λ plan. AreInputs (length plan.parts) plan.inputs) }
 {
@@ -73,7 +72,7 @@ fn read_script_of<B: Bench>(
     script: Option<&str>,
     bench: &mut B,
 ) -> Result<Script, WorkEnd>
-    ensures got { Got (λ s. s) outcome_of result (script_in (option_map (λ s. s.now) script.entry)) (B.outside bench.old) (B.outside bench.new) }
+    ensures got { Got (λ s. s) outcome_of result (ScriptIn (option_map (λ s. s.now) script.entry)) (B.outside bench.old) (B.outside bench.new) }
     ensures ports { SamePorts (B.outside bench.old) (B.outside bench.new) }
     ensures rising { IfOk result (λ rows. IsRising 0 (cycles_of rows)) }
 {
@@ -81,6 +80,65 @@ fn read_script_of<B: Bench>(
         Some(name) => read_document::<ScriptFile, B>(alloc, name, bench),
         None => Ok(List::new(alloc)),
     }
+}
+
+/// The script, and then the rules of the board.
+fn read_behind_diagram<B: Bench>(
+    alloc: Global,
+    folder: &str,
+    script: Option<&str>,
+    project: &Project,
+    flash: Flash,
+    diagram: &Diagram,
+    bench: &mut B,
+) -> Result<Work, WorkEnd>
+    requires chips { length project.now.chips ≡ 0 }
+    requires parts { length diagram.now.parts ≤ 64 }
+    ensures got { Got work_of outcome_of result (BehindDiagram folder.now (option_map (λ s. s.now) script.entry) project.now flash diagram.now) (B.outside bench.old) (B.outside bench.new) }
+    ensures ports { SamePorts (B.outside bench.old) (B.outside bench.new) }
+    ensures plan { IfOk result (λ w. IsPlan [] w.plan) }
+    ensures inputs { IfOk result (λ w. AreInputs (length w.plan.parts) w.plan.inputs) }
+{
+    let rows = read_script_of(alloc, script, bench)?;
+    let plan = plan_board(alloc, folder, script, project, diagram, &rows)?;
+    Ok(Work { flash, plan })
+}
+
+/// The diagram, and what comes behind it.
+fn read_behind_firmware<B: Bench>(
+    alloc: Global,
+    folder: &str,
+    script: Option<&str>,
+    project: &Project,
+    flash: Flash,
+    bench: &mut B,
+) -> Result<Work, WorkEnd>
+    requires chips { length project.now.chips ≡ 0 }
+    ensures got { Got work_of outcome_of result (BehindFirmware folder.now (option_map (λ s. s.now) script.entry) project.now flash) (B.outside bench.old) (B.outside bench.new) }
+    ensures ports { SamePorts (B.outside bench.old) (B.outside bench.new) }
+    ensures plan { IfOk result (λ w. IsPlan [] w.plan) }
+    ensures inputs { IfOk result (λ w. AreInputs (length w.plan.parts) w.plan.inputs) }
+{
+    let diagram = read_in::<DiagramFile, B>(alloc, folder, "diagram.json", bench)?;
+    read_behind_diagram(alloc, folder, script, project, flash, &diagram, bench)
+}
+
+/// The firmware, and what comes behind it.
+fn read_behind_project<B: Bench>(
+    alloc: Global,
+    folder: &str,
+    script: Option<&str>,
+    project: &Project,
+    bench: &mut B,
+) -> Result<Work, WorkEnd>
+    requires chips { length project.now.chips ≡ 0 }
+    ensures got { Got work_of outcome_of result (BehindProject folder.now (option_map (λ s. s.now) script.entry) project.now) (B.outside bench.old) (B.outside bench.new) }
+    ensures ports { SamePorts (B.outside bench.old) (B.outside bench.new) }
+    ensures plan { IfOk result (λ w. IsPlan [] w.plan) }
+    ensures inputs { IfOk result (λ w. AreInputs (length w.plan.parts) w.plan.inputs) }
+{
+    let flash = read_in::<HexFile, B>(alloc, folder, project.firmware.as_str(), bench)?;
+    read_behind_firmware(alloc, folder, script, project, flash, bench)
 }
 
 /// The work that a folder and a script hold: the project file, the firmware, the diagram and the
@@ -91,15 +149,11 @@ pub fn read_work<B: Bench>(
     script: Option<&str>,
     bench: &mut B,
 ) -> Result<Work, WorkEnd>
-    ensures got { Got work_of outcome_of result (work_in folder.now (option_map (λ s. s.now) script.entry)) (B.outside bench.old) (B.outside bench.new) }
+    ensures got { Got work_of outcome_of result (WorkIn folder.now (option_map (λ s. s.now) script.entry)) (B.outside bench.old) (B.outside bench.new) }
     ensures ports { SamePorts (B.outside bench.old) (B.outside bench.new) }
     ensures plan { IfOk result (λ w. IsPlan [] w.plan) }
     ensures inputs { IfOk result (λ w. AreInputs (length w.plan.parts) w.plan.inputs) }
 {
     let project = read_in::<ProjectFile, B>(alloc, folder, "wokwi.toml", bench)?;
-    let flash = read_in::<HexFile, B>(alloc, folder, project.firmware.as_str(), bench)?;
-    let diagram = read_in::<DiagramFile, B>(alloc, folder, "diagram.json", bench)?;
-    let rows = read_script_of(alloc, script, bench)?;
-    let plan = plan_board(alloc, folder, script, &project, &diagram, &rows)?;
-    Ok(Work { flash, plan })
+    read_behind_project(alloc, folder, script, &project, bench)
 }

@@ -3,8 +3,7 @@ ghost use Rattle.std.specs.Prelude.{◌≡◌, ◌≤◌, ℕ, List, Result, Ok,
 ghost use Rattle.sim_base.specs.declared.fault.Refusal.{Refusal};
 ghost use Rattle.sim_base.specs.Outside.{Outside, SamePorts};
 ghost use Rattle.sim_base.specs.Reads.{Reads};
-ghost use Rattle.outcome_model.specs.Stop.{file};
-ghost use Rattle.outcome_model.specs.Work.{Got};
+ghost use Rattle.outcome_model.specs.Work.{Got, IsFile};
 ghost use Rattle.cli_work.specs.Documents.{IsRead};
 ghost use Rattle.cli_work.specs.Outcomes.{outcome_of, stop_of};
 
@@ -16,7 +15,7 @@ use std::alloc::Global;
 
 /// The bytes of a file of at most 1,048,576 bytes.
 pub fn read_bytes<B: Bench>(alloc: Global, name: &str, bench: &mut B) -> Result<Vec<u8>, Stop>
-    ensures got { Got (λ v. v.items) (stop_of name.now) result (λ files. file files name.now (λ bytes. Ok bytes)) (B.outside bench.old) (B.outside bench.new) }
+    ensures got { Got (λ v. v.items) (stop_of name.now) result (IsFile name.now (λ bytes. Ok bytes)) (B.outside bench.old) (B.outside bench.new) }
     ensures ports { SamePorts (B.outside bench.old) (B.outside bench.new) }
     ensures short { IfOk result (λ v. length v.items ≤ 1048576) }
 {
@@ -45,7 +44,7 @@ pub trait Document {
 }
 
 fn read_as<D: Document, B: Bench>(alloc: Global, name: &str, bench: &mut B) -> Result<D::Text, Stop>
-    ensures got { Got (λ d. d) (stop_of name.now) result (λ files. file files name.now D.reading) (B.outside bench.old) (B.outside bench.new) }
+    ensures got { Got (λ d. d) (stop_of name.now) result (IsFile name.now D.reading) (B.outside bench.old) (B.outside bench.new) }
     ensures ports { SamePorts (B.outside bench.old) (B.outside bench.new) }
     ensures read { IfOk result (IsRead D.reading) }
 {
@@ -63,7 +62,7 @@ pub fn read_document<D: Document, B: Bench>(
     name: &str,
     bench: &mut B,
 ) -> Result<D::Text, WorkEnd>
-    ensures got { Got (λ d. d) outcome_of result (λ files. file files name.now D.reading) (B.outside bench.old) (B.outside bench.new) }
+    ensures got { Got (λ d. d) outcome_of result (IsFile name.now D.reading) (B.outside bench.old) (B.outside bench.new) }
     ensures ports { SamePorts (B.outside bench.old) (B.outside bench.new) }
     ensures read { IfOk result (IsRead D.reading) }
 {

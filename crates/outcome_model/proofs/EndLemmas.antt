@@ -1,30 +1,30 @@
 -- From the steps of a call to what it does.
-use Rattle.std.proofs.Common.{◌≡◌, ◌≢◌, ◌+◌, ℕ, List, [], true, refl, arith, ap, ◌∙◌, Option, Some, None, Result, Ok, Err, inl, inr, IfSome}
+use Rattle.std.proofs.Common.{◌≡◌, ◌≢◌, ℕ, List, [], true, refl, arith, ap, sym, ◌∙◌, Option, Some, None, Result, Ok, Err, inl, inr, IfSome}
 use Rattle.std.specs.Option.{option_map}
 use Rattle.std.specs.FinMap.{remove}
 use Rattle.sim_base.specs.declared.bench.Port.{Port}
 use Rattle.sim_base.specs.declared.bench.Port.TheVariants as ports
 use Rattle.sim_base.specs.Causes.{Rose}
 use Rattle.sim_base.specs.Outside.{Outside, SameOthers, SamePorts, Files, IsKept, IsNamed, is_openable}
-use Rattle.outcome_model.specs.Stop.{Stop, Missing, Refused, Output, Texts, report_alone, accepted, ◌>>=◌}
-use Rattle.outcome_model.specs.Work.{ReadStops, RanOn}
+use Rattle.outcome_model.specs.Stop.{Stop, Missing, Refused, Output, Texts, report_alone, accepted}
+use Rattle.outcome_model.specs.Work.{Reading, Is, ReadStops, RanOn, IsOneReading}
 use Rattle.outcome_model.specs.Outcome.{Outcome, Accepted, NoRequest, Stopped, ReadFailed, WriteFailed, OutOfMemory, IsOn, BeginsOn, Hold, Begin, OutputRose, status_of}
-use Rattle.outcome_model.specs.Promises.{CountsWakes}
-use Rattle.outcome_model.specs.Happens.{Answer, Ends, Counts, EndsUnasked, Happens}
+use Rattle.outcome_model.specs.Promises.{IsOne, CountsWakes}
+use Rattle.outcome_model.specs.Happens.{Answer, AnswerOf, Ends, Counts, EndsUnasked, Happens}
 use Rattle.outcome_model.proofs.WriteLemmas.{grows_same, front_all}
-use Rattle.outcome_model.proofs.ReadLemmas.{if_some}
+use Rattle.outcome_model.proofs.ReadLemmas.{if_some, one_function, one_both}
 
 kept_port : (p : Port) (a b : Outside) → SamePorts a b → IsKept p a b
 kept_port p a b same = (same.written p, same.name p)
 
 -- where a file that a request reads ends the work
-pub stopped_by : {X : Type 0} (answer : Answer) (reading : Files → Result X Stop) → ((files : Files) (s : Stop) → reading files ≡ Err s → answer files (Err s)) →
+pub stopped_by : {X : Type 0} (answer : Answer) (reading : Reading X) → ((files : Files) (s : Stop) → reading files (Err s) → answer files (Err s)) →
     (o : Outcome) (a b : Outside) → ReadStops o reading a b → SamePorts a b → Ends answer o a b
 stopped_by answer reading is Accepted a b s same = absurd s
 stopped_by answer reading is NoRequest a b s same = absurd s
-stopped_by answer reading is (Stopped t) a b s same = (if_some a.files _ _ (λ (files : Files) (e : reading files ≡ Err t). is files t e) s, λ p ne. kept_port p a b same)
+stopped_by answer reading is (Stopped t) a b s same = (if_some a.files _ _ (λ (files : Files) (e : reading files (Err t)). is files t e) s, λ p ne. kept_port p a b same)
 stopped_by answer reading is (ReadFailed n) a b s same = (
-  if_some a.files _ _ (λ (files : Files) (e : reading (remove files n) ≡ Err (Missing n)). is (remove files n) (Missing n) e) s.0,
+  if_some a.files _ _ (λ (files : Files) (e : reading (remove files n) (Err (Missing n))). is (remove files n) (Missing n) e) s.0,
   s.1,
   λ p ne. kept_port p a b same,
 )
@@ -32,7 +32,7 @@ stopped_by answer reading is WriteFailed a b s same = absurd s
 stopped_by answer reading is OutOfMemory a b s same = λ p ne. kept_port p a b same
 
 -- and then no wakes are counted
-pub stops_counts : {X : Type 0} (answer : Answer) (reading : Files → Result X Stop) (o : Outcome) (a b : Outside) (before after : ℕ) → ReadStops o reading a b → Counts answer o a before after
+pub stops_counts : {X : Type 0} (answer : Answer) (reading : Reading X) (o : Outcome) (a b : Outside) (before after : ℕ) → ReadStops o reading a b → Counts answer o a before after
 stops_counts answer reading Accepted a b before after s = absurd s
 stops_counts answer reading NoRequest a b before after s = λ e. absurd (cc)
 stops_counts answer reading (Stopped t) a b before after s = λ e. absurd (cc)
@@ -40,10 +40,22 @@ stops_counts answer reading (ReadFailed n) a b before after s = λ e. absurd (cc
 stops_counts answer reading WriteFailed a b before after s = λ e. absurd (cc)
 stops_counts answer reading OutOfMemory a b before after s = λ e. absurd (cc)
 
--- the same of a request whose texts are made of what was read
-pub stops : {X : Type 0} (answer : Answer) (reading : Files → Result X Stop) (texts : X → Result Texts Stop) → ((files : Files) (result : Result Texts Stop) → (reading files >>= texts) ≡ result → answer files result) →
-    (o : Outcome) (a b : Outside) → ReadStops o reading a b → SamePorts a b → Ends answer o a b
-stops {X = X} answer reading texts is = stopped_by answer reading (λ files s e. is files (Err s) (ap (λ (x : Result X Stop). x >>= texts) e))
+-- the same of a request that is answered by the texts of what is read
+module _ {X : Type 0} (reading : Reading X) (texts : X → Texts) where
+  pub answered : (told : Option Files) (x : X) → IfSome told (λ files. reading files (Ok x)) → IfSome told (λ files. AnswerOf reading texts files (Ok (texts x)))
+  answered told x is = if_some told _ _ (λ (files : Files) (e : reading files (Ok x)). (Ok x, e, refl)) is
+
+  pub answer_stops : (o : Outcome) (a b : Outside) → ReadStops o reading a b → SamePorts a b → Ends (AnswerOf reading texts) o a b
+  answer_stops = stopped_by (AnswerOf reading texts) reading (λ files s e. (Err s, e, refl))
+
+  pub only_texts : (t : Texts) → ((x : X) → texts x ≡ t) → (files : Files) (u : Texts) → AnswerOf reading texts files (Ok u) → u ≡ t
+  only_texts t same files u (Ok x, e, g) = let is : texts x ≡ u = cc in sym is ∙ same x
+  only_texts t same files u (Err s, e, g) = let bad : ◌≡◌ {A = Result Texts Stop} (Err s) (Ok u) = g in absurd (cc)
+
+  pub one_answer : IsOneReading reading → IsOne (AnswerOf reading texts)
+  one_answer one =
+      let both = one_both reading (λ x. Is (λ (files : Files). Ok (texts x))) one (λ x. one_function (λ (files : Files). Ok (texts x))) in
+      record { one_sided = both.one_sided; one_status = both.one_status }
 
 -- a request whose texts are the acceptance alone counts no wakes
 pub accepted_counts : (answer : Answer) → ((files : Files) (t : Texts) → answer files (Ok t) → t ≡ accepted) → (o : Outcome) (a b : Outside) (n : ℕ) → Ends answer o a b → Counts answer o a n n

@@ -1,5 +1,5 @@
 -- What follows from what a call does.
-use Rattle.std.proofs.Common.{◌≡◌, ℕ, refl, sym, ◌∙◌, Option, Some, None, Result, Ok, Err, inl, inr, ◌⊎◌, IfSome, subst, ap, arith}
+use Rattle.std.proofs.Common.{◌≡◌, ℕ, refl, sym, ◌∙◌, Option, Some, None, Ok, Err, inl, inr, ◌⊎◌, IfSome, subst, arith}
 use Rattle.sim_base.specs.declared.bench.Port.TheVariants as ports
 use Rattle.sim_base.specs.Causes.{Rose}
 use Rattle.sim_base.specs.Outside.{Outside, Files}
@@ -152,13 +152,6 @@ module _ {R : Type 0} (answers : R → Answer) (a b : Outside) where
   complains_alone WriteFailed asked h zero six = absurd (six refl)
   complains_alone OutOfMemory None h zero six = h
   complains_alone OutOfMemory (Some r) h zero six = h
-
--- an answer that is a function of the files
-pub one_answer : (reading : Files → Result Texts Stop) → IsOne (λ files result. reading files ≡ result)
-one_answer reading = record {
-  one_sided = λ files t s good fails. (let bad : Ok t ≡ Err s = sym good ∙ fails in absurd (cc));
-  one_status = λ files t s e f. (let same : Err t ≡ Err s = sym e ∙ f in let it : t ≡ s = cc in ap (λ (y : Stop). status_of (Stopped y)) it);
-}
 
 pub is_status : (o : Outcome) → IsStatus (status_of o)
 is_status Accepted = inl refl

@@ -1,5 +1,5 @@
 -- Reading files, one after the other.
-use Rattle.std.proofs.Common.{◌≡◌, ◌⊎◌, ◌∙◌, ℕ, List, refl, ap, Option, Some, None, Result, Ok, Err, inl, inr, IfSome, Bool, true, false, cond, sym, is_eq, nat_cmp}
+use Rattle.std.proofs.Common.{◌≡◌, ◌⊎◌, ◌∙◌, ℕ, List, refl, ap, Option, Some, None, Result, Ok, Err, inl, inr, IfSome, Bool, true, false, cond, sym, subst, is_eq, nat_cmp}
 use Rattle.std.proofs.lemmas.Slice.Eq.{bytes_eq-Decides}
 use Rattle.std.proofs.lemmas.Map.Text.{is_eq-slice_cmp}
 use Rattle.std.specs.FinMap.{get, remove, get-remove}
@@ -7,9 +7,9 @@ use Rattle.std.specs.Cmp.Lexicographic.{nat_list_cmp_total, slice_cmp}
 use Rattle.std.specs.Cmp.{eq_by_cmp_equiv}
 use Rattle.sim_base.specs.declared.fault.Refusal.{Refusal}
 use Rattle.sim_base.specs.Outside.{Outside, SamePorts, Files}
-use Rattle.outcome_model.specs.Stop.{Stop, Missing, file, read_from, refused_in, ◌>>=◌}
-use Rattle.outcome_model.specs.Outcome.{Outcome, Accepted, NoRequest, Stopped, ReadFailed, WriteFailed, OutOfMemory}
-use Rattle.outcome_model.specs.Work.{ReadStops, IsSteady}
+use Rattle.outcome_model.specs.Stop.{Stop, Missing, file, read_from}
+use Rattle.outcome_model.specs.Outcome.{Outcome, Accepted, NoRequest, Stopped, ReadFailed, WriteFailed, OutOfMemory, status_of}
+use Rattle.outcome_model.specs.Work.{Reading, Is, IsFile, Then, ReadStops, Got, IsSteady, IsOneReading}
 
 pub if_some : {X : Type 0} (o : Option X) (P Q : X → Type 0) → ((x : X) → P x → Q x) → IfSome o P → IfSome o Q
 if_some None P Q f h = tt
@@ -27,45 +27,49 @@ pub not_there : {X : Type 0} (files : Files) (name : List ℕ) (reading : List �
 not_there files name reading = rw (gone files name) refl
 
 -- where the name of the file has no room, memory is wanting
-pub named_stop : {X : Type 0} (reading : Files → Result X Stop) (o said : Outcome) (a b : Outside) → ReadStops o reading a b → (said ≡ o) ⊎ (said ≡ OutOfMemory) → ReadStops said reading a b
+pub named_stop : {X : Type 0} (reading : Reading X) (o said : Outcome) (a b : Outside) → ReadStops o reading a b → (said ≡ o) ⊎ (said ≡ OutOfMemory) → ReadStops said reading a b
 named_stop reading o said a b s (inl same) = rw same s
 named_stop reading o said a b s (inr memory) = rw memory tt
 
--- of two readings, the first ends the work
-pub first_stops : {X Y : Type 0} (first : Files → Result X Stop) (next : X → Files → Result Y Stop) (o : Outcome) (a b : Outside) → ReadStops o first a b → ReadStops o (λ files. first files >>= λ x. next x files) a b
-first_stops first next Accepted a b s = absurd s
-first_stops first next NoRequest a b s = absurd s
-first_stops {X = X} first next (Stopped t) a b s = if_some a.files _ _ (λ (files : Files) (e : first files ≡ Err t). ap (λ (r : Result X Stop). r >>= λ x. next x files) e) s
-first_stops {X = X} first next (ReadFailed n) a b s = (
-  if_some a.files _ _ (λ (files : Files) (e : first (remove files n) ≡ Err (Missing n)). ap (λ (r : Result X Stop). r >>= λ x. next x (remove files n)) e) s.0,
-  s.1,
-)
-first_stops first next WriteFailed a b s = absurd s
-first_stops first next OutOfMemory a b s = tt
+-- One reading and then another, which begins where the first has left what is outside.
+module _ {X Y : Type 0} (first : Reading X) (next : X → Reading Y) where
+  -- the first ends the work
+  pub first_stops : (o : Outcome) (a b : Outside) → ReadStops o first a b → ReadStops o (Then first next) a b
+  first_stops Accepted a b s = absurd s
+  first_stops NoRequest a b s = absurd s
+  first_stops (Stopped t) a b s = if_some a.files _ _ (λ (files : Files) (e : first files (Err t)). (Err t, e, refl)) s
+  first_stops (ReadFailed n) a b s = (if_some a.files _ _ (λ (files : Files) (e : first (remove files n) (Err (Missing n))). (Err (Missing n), e, refl)) s.0, s.1)
+  first_stops WriteFailed a b s = absurd s
+  first_stops OutOfMemory a b s = tt
 
--- of two readings, the second ends the work
-pub second_stops : {X Y : Type 0} (first : Files → Result X Stop) (next : X → Files → Result Y Stop) → IsSteady first → (x : X) (o : Outcome) (a m b : Outside) →
-    IfSome a.files (λ files. first files ≡ Ok x) → m.read_faults ≡ a.read_faults → SamePorts a m → ReadStops o (next x) m b → ReadStops o (λ files. first files >>= λ x. next x files) a b
-second_stops first next steady x Accepted a m b is reads same s = absurd s
-second_stops first next steady x NoRequest a m b is reads same s = absurd s
-second_stops {X = X} first next steady x (Stopped t) a m b is reads same s = both a.files (rw same.files at s) is
-  where
-    both : (told : Option Files) → IfSome told (λ files. next x files ≡ Err t) → IfSome told (λ files. first files ≡ Ok x) → IfSome told (λ files. (first files >>= λ x. next x files) ≡ Err t)
-    both None e f = tt
-    both (Some files) e f = ap (λ (r : Result X Stop). r >>= λ x. next x files) f ∙ e
-second_stops {X = X} first next steady x (ReadFailed n) a m b is reads same s = (both a.files (rw same.files at s.0) is, rw (← reads) s.1)
-  where
-    both : (told : Option Files) → IfSome told (λ files. next x (remove files n) ≡ Err (Missing n)) → IfSome told (λ files. first files ≡ Ok x) → IfSome told (λ files. (first (remove files n) >>= λ x. next x (remove files n)) ≡ Err (Missing n))
-    both None e f = tt
-    both (Some files) e f = elim (steady files n x f) [
-      | inl there ↦ ap (λ (r : Result X Stop). r >>= λ x. next x (remove files n)) there ∙ e
-      | inr missing ↦ ap (λ (r : Result X Stop). r >>= λ x. next x (remove files n)) missing
+  module _ (steady : IsSteady first) (x : X) where
+    missing_behind : (files : Files) (n : List ℕ) → first files (Ok x) → next x (remove files n) (Err (Missing n)) → Then first next (remove files n) (Err (Missing n))
+    missing_behind files n f e = elim (steady files n x f) [
+      | inl there ↦ (Ok x, there, e)
+      | inr missing ↦ (Err (Missing n), missing, refl)
     ]
-second_stops first next steady x WriteFailed a m b is reads same s = absurd s
-second_stops first next steady x OutOfMemory a m b is reads same s = tt
+
+    both : (told : Option Files) (P : Files → Type 0) (Q : Files → Type 0) → ((files : Files) → first files (Ok x) → P files → Q files) → IfSome told (λ files. first files (Ok x)) → IfSome told P → IfSome told Q
+    both None P Q f is s = tt
+    both (Some files) P Q f is s = f files is s
+
+    -- the second ends the work
+    second_stops : (o : Outcome) (a m b : Outside) → IfSome a.files (λ files. first files (Ok x)) → m.read_faults ≡ a.read_faults → SamePorts a m → ReadStops o (next x) m b → ReadStops o (Then first next) a b
+    second_stops Accepted a m b is reads same s = absurd s
+    second_stops NoRequest a m b is reads same s = absurd s
+    second_stops (Stopped t) a m b is reads same s = both a.files (λ files. next x files (Err t)) _ (λ files f e. (Ok x, f, e)) is (rw same.files at s)
+    second_stops (ReadFailed n) a m b is reads same s = (both a.files (λ files. next x (remove files n) (Err (Missing n))) _ (λ files f e. missing_behind files n f e) is (rw same.files at s.0), rw (← reads) s.1)
+    second_stops WriteFailed a m b is reads same s = absurd s
+    second_stops OutOfMemory a m b is reads same s = tt
+
+    -- what the second gives, both give
+    pub got_both : {V E : Type 0} (view : V → Y) (out : E → Outcome) (r : Result V E) (a m b : Outside) → SamePorts a m → IfSome a.files (λ files. first files (Ok x)) × (m.read_faults ≡ a.read_faults) → Got view out r (next x) m b →
+        Got view out r (Then first next) a b
+    got_both view out (Ok v) a m b same got g = (both a.files (λ files. next x files (Ok (view v))) _ (λ files f e. (Ok x, f, e)) got.0 (rw same.files at g.0), g.1 ∙ got.1)
+    got_both view out (Err e) a m b same got g = second_stops (out e) a m b got.0 got.1 same g
 
 -- one file is read alike where another is not there
-pub steady_file : {X : Type 0} (name : List ℕ) (reading : List ℕ → Result X Refusal) → IsSteady (λ files. file files name reading)
+pub steady_file : {X : Type 0} (name : List ℕ) (reading : List ℕ → Result X Refusal) → IsSteady (IsFile name reading)
 steady_file name reading files n x e = go (is_eq (slice_cmp nat_cmp name n)) refl
   where
     go : (b : Bool) → is_eq (slice_cmp nat_cmp name n) ≡ b → (file (remove files n) name reading ≡ Ok x) ⊎ (file (remove files n) name reading ≡ Err (Missing n))
@@ -75,19 +79,52 @@ steady_file name reading files n x e = go (is_eq (slice_cmp nat_cmp name n)) ref
     go false other = inl (ap (read_from name 1048576 reading) (get-remove nat_list_cmp_total files n name ∙ ap (λ (b : Bool). cond b None (get files name)) other) ∙ e)
 
 -- and so are two, one after the other
-pub steady_both : {X Y : Type 0} (first : Files → Result X Stop) (next : X → Files → Result Y Stop) → IsSteady first → ((x : X) → IsSteady (next x)) → IsSteady (λ files. first files >>= λ x. next x files)
-steady_both {X = X} {Y = Y} first next one two files n y e = go (first files) refl
-  where
-    after_first : (x : X) → first files ≡ Ok x → next x files ≡ Ok y → ((first (remove files n) >>= λ x. next x (remove files n)) ≡ Ok y) ⊎ ((first (remove files n) >>= λ x. next x (remove files n)) ≡ Err (Missing n))
-    after_first x f g = elim (one files n x f) [
-      | inl there ↦ rw there (two x files n y g)
-      | inr missing ↦ inr (rw missing refl)
-    ]
+pub steady_both : {X Y : Type 0} (first : Reading X) (next : X → Reading Y) → IsSteady first → ((x : X) → IsSteady (next x)) → IsSteady (Then first next)
+steady_both first next one two files n y (Err s, f, g) = let bad : Err s ≡ Ok y = g in absurd (cc)
+steady_both {Y = Y} first next one two files n y (Ok x, f, g) = elim (one files n x f) [
+  | inl there ↦ elim (two x files n y g) [
+    | inl here ↦ inl (Ok x, there, here)
+    | inr missing ↦ inr (Ok x, there, missing)
+  ]
+  | inr missing ↦ inr (Err (Missing n), missing, refl)
+]
 
-    go : (r : Result X Stop) → first files ≡ r → ((first (remove files n) >>= λ x. next x (remove files n)) ≡ Ok y) ⊎ ((first (remove files n) >>= λ x. next x (remove files n)) ≡ Err (Missing n))
-    go (Ok x) f = after_first x f (ap (λ (r : Result X Stop). r >>= λ x. next x files) (sym f) ∙ e)
-    go (Err t) f = let bad : Err t ≡ Ok y = ap (λ (r : Result X Stop). r >>= λ x. next x files) (sym f) ∙ e in absurd (cc)
+-- what asks no file
+pub steady_rule : {X : Type 0} (result : Result X Stop) → IsSteady (Is (λ (files : Files). result))
+steady_rule result files n x e = inl e
 
--- what is asked of the files' meaning alone needs no file
-pub steady_refusal : {X : Type 0} (name : List ℕ) (result : Result X Refusal) → IsSteady (λ files. refused_in name result)
-steady_refusal name result files n x e = inl e
+-- A function of the files gives one thing.
+pub one_function : {X : Type 0} (reading : Files → Result X Stop) → IsOneReading (Is reading)
+one_function {X = X} reading = record {
+  one_sided = λ files x s good fails. (let bad : ◌≡◌ {A = Result X Stop} (Ok x) (Err s) = sym good ∙ fails in absurd (cc));
+  one_given = λ files x y e f. (let same : ◌≡◌ {A = Result X Stop} (Ok x) (Ok y) = sym e ∙ f in cc);
+  one_status = λ files t s e f. (let same : ◌≡◌ {A = Result X Stop} (Err t) (Err s) = sym e ∙ f in let it : t ≡ s = cc in ap (λ (y : Stop). status_of (Stopped y)) it);
+}
+
+pub one_file : {X : Type 0} (name : List ℕ) (reading : List ℕ → Result X Refusal) → IsOneReading (IsFile name reading)
+one_file name reading = one_function (λ (files : Files). file files name reading)
+
+-- And so do two readings, one after the other, that each do.
+module _ {X Y : Type 0} (first : Reading X) (next : X → Reading Y) (one : IsOneReading first) (two : (x : X) → IsOneReading (next x)) where
+  both_sided : (files : Files) (y : Y) (s : Stop) → Then first next files (Ok y) → Then first next files (Err s) → ⊥
+  both_sided files y s (Ok x, e, g) (Ok z, f, h) = (two x).one_sided files y s g (subst (λ (w : X). next w files (Err s)) (one.one_given files z x f e) h)
+  both_sided files y s (Ok x, e, g) (Err t, f, h) = one.one_sided files x t e f
+  both_sided files y s (Err t, e, g) q = let bad : ◌≡◌ {A = Result Y Stop} (Err t) (Ok y) = g in absurd (cc)
+
+  both_given : (files : Files) (y z : Y) → Then first next files (Ok y) → Then first next files (Ok z) → y ≡ z
+  both_given files y z (Ok x, e, g) (Ok w, f, h) = (two x).one_given files y z g (subst (λ (v : X). next v files (Ok z)) (one.one_given files w x f e) h)
+  both_given files y z (Ok x, e, g) (Err t, f, h) = let bad : ◌≡◌ {A = Result Y Stop} (Err t) (Ok z) = h in absurd (cc)
+  both_given files y z (Err t, e, g) q = let bad : ◌≡◌ {A = Result Y Stop} (Err t) (Ok y) = g in absurd (cc)
+
+  one_stop : (t s : Stop) → ◌≡◌ {A = Result Y Stop} (Err t) (Err s) → t ≡ s
+  one_stop t s e = cc
+
+  both_status : (files : Files) (t s : Stop) → Then first next files (Err t) → Then first next files (Err s) → status_of (Stopped t) ≡ status_of (Stopped s)
+  both_status files t s (Ok x, e, g) (Ok z, f, h) = (two x).one_status files t s g (subst (λ (w : X). next w files (Err s)) (one.one_given files z x f e) h)
+  both_status files t s (Ok x, e, g) (Err u, f, h) = absurd (one.one_sided files x u e f)
+  both_status files t s (Err u, e, g) (Ok z, f, h) = absurd (one.one_sided files z u f e)
+  both_status files t s (Err u, e, g) (Err v, f, h) =
+      sym (ap (λ (y : Stop). status_of (Stopped y)) (one_stop u t g)) ∙ one.one_status files u v e f ∙ ap (λ (y : Stop). status_of (Stopped y)) (one_stop v s h)
+
+  pub one_both : IsOneReading (Then first next)
+  one_both = record { one_sided = both_sided; one_given = both_given; one_status = both_status }

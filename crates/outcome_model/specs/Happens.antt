@@ -1,14 +1,19 @@
 -- What a call of the program does, by its outcome and by what its request is answered with (profile).
-use Rattle.std.specs.Prelude.{◌≡◌, ◌+◌, ℕ, Option, None, Some, Result, Ok, Err, IfSome}
+use Rattle.std.specs.Prelude.{◌≡◌, ◌+◌, ℕ, Option, None, Some, Ok, Err, IfSome}
 use Rattle.std.specs.FinMap.{remove}
 use Rattle.sim_base.specs.Causes.{Rose}
-use Rattle.sim_base.specs.Outside.{Outside, Files}
-use Rattle.outcome_model.specs.Stop.{Stop, Missing, Texts}
+use Rattle.sim_base.specs.Outside.{Outside}
+use Rattle.outcome_model.specs.Stop.{Missing, Texts}
+use Rattle.outcome_model.specs.Work.{Reading, Is, Then}
 use Rattle.outcome_model.specs.Outcome.{Outcome, Accepted, NoRequest, Stopped, ReadFailed, WriteFailed, OutOfMemory, status_of, line_of, Complains, IsSilent, IsFaultless, Hold, Begin, OutputRose}
 
 -- What the answer to a request over told files may be: its texts, or the first event in the order of the work.
 abbrev pub Answer : Type 1
-Answer = Files → Result Texts Stop → Type 0
+Answer = Reading Texts
+
+-- the texts of what is read
+abbrev pub AnswerOf : {X : Type 0} → Reading X → (X → Texts) → Answer
+AnswerOf reading texts = Then reading (λ x. Is (λ files. Ok (texts x)))
 
 -- What happens to a request with this answer, but for Complaint. A read that failed names a file before which nothing is
 -- wrong: were that file not there, its absence would be the first event.

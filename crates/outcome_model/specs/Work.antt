@@ -1,32 +1,54 @@
 -- What the steps of a call do: writing on a port, reading a file.
 use Rattle.std.specs.Prelude.{◌≡◌, ◌⊎◌, List, ℕ, Result, Ok, Err, Some, IfSome}
 use Rattle.std.specs.FinMap.{remove}
+use Rattle.sim_base.specs.declared.fault.Refusal.{Refusal}
 use Rattle.sim_base.specs.declared.bench.Port.{Port}
 use Rattle.sim_base.specs.declared.bench.Port.TheVariants as ports
 use Rattle.sim_base.specs.declared.bench.WriteEnd.{WriteEnd}
 use Rattle.sim_base.specs.declared.bench.WriteEnd.TheVariants as writes
 use Rattle.sim_base.specs.Causes.{Rose}
 use Rattle.sim_base.specs.Outside.{Outside, Files, Grows, IsFront, IsKept}
-use Rattle.outcome_model.specs.Stop.{Stop, Missing, Output}
-use Rattle.outcome_model.specs.Outcome.{Outcome, Accepted, NoRequest, Stopped, ReadFailed, WriteFailed, OutOfMemory, IsOn, BeginsOn}
+use Rattle.outcome_model.specs.Stop.{Stop, Missing, Output, file}
+use Rattle.outcome_model.specs.Outcome.{Outcome, Accepted, NoRequest, Stopped, ReadFailed, WriteFailed, OutOfMemory, status_of, IsOn, BeginsOn}
 
 -- a text was written on a port, or a first part of it where a write failed
 abbrev pub Wrote : WriteEnd → Port → List ℕ → Outside → Outside → Type 0
 Wrote writes.Ok p text a b = Grows (a.written p) (b.written p) text × (b.faults p ≡ a.faults p)
 Wrote writes.Failed p text a b = ((front : List ℕ) × IsFront front text × Grows (a.written p) (b.written p) front) × Rose (a.faults p) (b.faults p)
 
+-- What reading files gives, or the first event that ends the work: a relation, since a module is judged by one.
+abbrev pub Reading : Type 0 → Type 1
+Reading X = Files → Result X Stop → Type 0
+
+-- a reading that is a function of the files
+abbrev pub Is : {X : Type 0} → (Files → Result X Stop) → Reading X
+Is reading files result = reading files ≡ result
+
+-- one file of at most 1,048,576 bytes
+abbrev pub IsFile : {X : Type 0} → List ℕ → (List ℕ → Result X Refusal) → Reading X
+IsFile name reading files result = file files name reading ≡ result
+
+-- what comes behind a reading
+abbrev pub Behind : {X Y : Type 0} → Result X Stop → (X → Reading Y) → Reading Y
+Behind (Ok x) next files result = next x files result
+Behind (Err stop) next files result = Err stop ≡ result
+
+-- one reading and, where nothing ends the work, the next: each file is read and checked before the next one
+abbrev pub Then : {X Y : Type 0} → Reading X → (X → Reading Y) → Reading Y
+Then {X = X} first next files result = (x : Result X Stop) × first files x × Behind x next files result
+
 -- the cause of an outcome that ends the reading of a file
-abbrev pub ReadStops : {X : Type 0} → Outcome → (Files → Result X Stop) → Outside → Outside → Type 0
+abbrev pub ReadStops : {X : Type 0} → Outcome → Reading X → Outside → Outside → Type 0
 ReadStops Accepted reading a b = ⊥
 ReadStops NoRequest reading a b = ⊥
-ReadStops (Stopped s) reading a b = IfSome a.files (λ files. reading files ≡ Err s)
-ReadStops (ReadFailed name) reading a b = IfSome a.files (λ files. reading (remove files name) ≡ Err (Missing name)) × Rose a.read_faults b.read_faults
+ReadStops (Stopped s) reading a b = IfSome a.files (λ files. reading files (Err s))
+ReadStops (ReadFailed name) reading a b = IfSome a.files (λ files. reading (remove files name) (Err (Missing name))) × Rose a.read_faults b.read_faults
 ReadStops WriteFailed reading a b = ⊥
 ReadStops OutOfMemory reading a b = Unit {0}
 
 -- what reading a file gives
-abbrev pub Got : {V E X : Type 0} → (V → X) → (E → Outcome) → Result V E → (Files → Result X Stop) → Outside → Outside → Type 0
-Got view outcome (Ok x) reading a b = IfSome a.files (λ files. reading files ≡ Ok (view x)) × (b.read_faults ≡ a.read_faults)
+abbrev pub Got : {V E X : Type 0} → (V → X) → (E → Outcome) → Result V E → Reading X → Outside → Outside → Type 0
+Got view outcome (Ok x) reading a b = IfSome a.files (λ files. reading files (Ok (view x))) × (b.read_faults ≡ a.read_faults)
 Got view outcome (Err e) reading a b = ReadStops (outcome e) reading a b
 
 abbrev pub SaidNothing : Outside → Outside → Type 0
@@ -41,7 +63,13 @@ RanOn p (ReadFailed name) out a b = ⊥
 RanOn p WriteFailed out a b = Rose (a.faults p) (b.faults p) × BeginsOn (Some out) p a b
 RanOn p OutOfMemory out a b = IsKept p a b × (b.faults p ≡ a.faults p)
 
--- A reading of files answers alike where a file that it does not read is not there; where one that it reads is not there,
+-- A reading of files gives the same where a file that it does not read is not there; where one that it reads is not there,
 -- that is the first event.
-abbrev pub IsSteady : {X : Type 0} → (Files → Result X Stop) → Type 0
-IsSteady {X = X} reading = (files : Files) (name : List ℕ) (x : X) → reading files ≡ Ok x → (reading (remove files name) ≡ Ok x) ⊎ (reading (remove files name) ≡ Err (Missing name))
+abbrev pub IsSteady : {X : Type 0} → Reading X → Type 0
+IsSteady {X = X} reading = (files : Files) (name : List ℕ) (x : X) → reading files (Ok x) → reading (remove files name) (Ok x) ⊎ reading (remove files name) (Err (Missing name))
+
+-- A reading gives one thing or a stop, and not both; what it gives is one, and its stops have one status.
+pub record IsOneReading {X : Type 0} (reading : Reading X) : Type 0 where
+  pub one_sided : (files : Files) (x : X) (s : Stop) → reading files (Ok x) → reading files (Err s) → ⊥
+  pub one_given : (files : Files) (x y : X) → reading files (Ok x) → reading files (Ok y) → x ≡ y
+  pub one_status : (files : Files) (t s : Stop) → reading files (Err t) → reading files (Err s) → status_of (Stopped t) ≡ status_of (Stopped s)

@@ -1,8 +1,7 @@
-use Rattle.std.proofs.Common.{◌≡◌, ◌*◌, ℕ, List, Ok, IfSome}
-use Rattle.sim_base.specs.Outside.{Outside, Files}
+use Rattle.std.proofs.Common.{◌*◌, ℕ, List, Ok, IfSome}
+use Rattle.sim_base.specs.Outside.{Outside}
 use Rattle.text_model.specs.Hex.{hex_image}
-use Rattle.outcome_model.specs.Stop.{file}
-use Rattle.outcome_model.proofs.ReadLemmas.{if_some}
+use Rattle.outcome_model.specs.Work.{IsFile}
 use Rattle.outcome_model.proofs.EndLemmas.{stops_counts}
 use Rattle.cli_work.specs.Outcomes.{outcome_of}
 use Rattle.cli_board.proofs.RanLemmas.{ran_ends, ran_said, ran_counts}
@@ -17,7 +16,7 @@ returns-in-Ok-clause-ends g c =
     let hex : List ℕ = c.args.hex.now in
     let us : ℕ = c.args.micros in
     let is : IfSome a.files (λ files. BareAnswer hex us files (Ok (bare_run c.in-Ok.flash (16 * us)))) =
-    if_some a.files _ _ (λ (files : Files) (e : file files hex hex_image ≡ Ok c.in-Ok.flash). bare_answer hex us files c.in-Ok.flash e) c.in-Ok.ensures.got.0 in
+    bare_answer hex us a.files c.in-Ok.flash c.in-Ok.ensures.got.0 in
     ran_ends (BareAnswer hex us) (bare_run c.in-Ok.flash (16 * us)) a (g.B.Bench.outside c.read_document.new.bench) (g.B.Bench.outside c.run_bare.new.bench) c.in-Ok.ensures.got.1 c.in-Ok.ensures.ports (outcome_of c.run_bare.result) is c.run_bare.ensures.ran
 
 pub returns-in-Ok-clause-counts : goal.returns-in-Ok-clause-counts
@@ -26,7 +25,7 @@ returns-in-Ok-clause-counts g c =
     let hex : List ℕ = c.args.hex.now in
     let us : ℕ = c.args.micros in
     let is : IfSome a.files (λ files. BareAnswer hex us files (Ok (bare_run c.in-Ok.flash (16 * us)))) =
-    if_some a.files _ _ (λ (files : Files) (e : file files hex hex_image ≡ Ok c.in-Ok.flash). bare_answer hex us files c.in-Ok.flash e) c.in-Ok.ensures.got.0 in
+    bare_answer hex us a.files c.in-Ok.flash c.in-Ok.ensures.got.0 in
     ran_counts (BareAnswer hex us) (bare_run c.in-Ok.flash (16 * us)) (outcome_of c.run_bare.result) a c.args.steps.now c.run_bare.new.steps is c.run_bare.ensures.steps
 
 pub returns-in-Ok-clause-silent : goal.returns-in-Ok-clause-silent
@@ -39,4 +38,4 @@ returns-in-Err-clause-ends g c = bare_stops c.args.hex.now c.args.micros (outcom
 
 pub returns-in-Err-clause-counts : goal.returns-in-Err-clause-counts
 returns-in-Err-clause-counts g c =
-    stops_counts (BareAnswer c.args.hex.now c.args.micros) (λ (files : Files). file files c.args.hex.now hex_image) (outcome_of c.in-Err.outcome) (g.B.Bench.outside c.args.bench.now) (g.B.Bench.outside c.read_document.new.bench) c.args.steps.now c.args.steps.now c.in-Err.ensures.got
+    stops_counts (BareAnswer c.args.hex.now c.args.micros) (IsFile c.args.hex.now hex_image) (outcome_of c.in-Err.outcome) (g.B.Bench.outside c.args.bench.now) (g.B.Bench.outside c.read_document.new.bench) c.args.steps.now c.args.steps.now c.in-Err.ensures.got

@@ -1,8 +1,5 @@
-use Rattle.std.proofs.Common.{◌≡◌, ℕ, List, None, Ok, IfSome, codes, refl}
+use Rattle.std.proofs.Common.{ℕ, List, Ok, IfSome, codes, refl}
 use Rattle.sim_base.specs.declared.bench.Port.TheVariants as ports
-use Rattle.sim_base.specs.Outside.{Files}
-use Rattle.outcome_model.proofs.ReadLemmas.{if_some}
-use Rattle.project_model.specs.Work.{work_in}
 use Rattle.outcome_model.specs.Stop.{accepted, printed}
 use Rattle.outcome_model.proofs.EndLemmas.{alone_ran}
 use Rattle.cli_project.specs.Answer.{CheckAnswer}
@@ -16,7 +13,7 @@ returns-in-Ok-clause-ends g c =
     let a = g.B.Bench.outside c.args.bench.now in
     let folder : List ℕ = c.args.folder.now in
     let is : IfSome a.files (λ files. CheckAnswer folder files (Ok accepted)) =
-    if_some a.files _ _ (λ (files : Files) (e : work_in folder None files ≡ Ok (work_of c.in-Ok.field-0)). check_answer folder files (work_of c.in-Ok.field-0) e) c.in-Ok.ensures.got.0 in
+    check_answer folder a.files (work_of c.in-Ok.field-0) c.in-Ok.ensures.got.0 in
     alone_ran (CheckAnswer folder) a (g.B.Bench.outside c.read_work.new.bench) (g.B.Bench.outside c.write_text.new.bench) c.in-Ok.ensures.got.1 c.in-Ok.ensures.ports ports.Report refl (outcome_of c.write_text.result) (printed (codes "accepted\n")) is c.write_text.ensures.ran c.write_text.ensures.others
 
 pub returns-clause-ends : goal.returns-clause-ends

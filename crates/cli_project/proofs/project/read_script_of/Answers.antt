@@ -1,4 +1,3 @@
-use Rattle.std.proofs.Common.{IfOk}
 use Rattle.cli_project.proofs.InputLemmas.{rising_read}
 use Rattle.cli_project.proofs.project.read_script_of.Goals as goal
 

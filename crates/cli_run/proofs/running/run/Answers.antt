@@ -1,9 +1,8 @@
-use Rattle.std.proofs.Common.{◌≡◌, ◌*◌, ℕ, List, Option, Ok, IfSome, Bor}
+use Rattle.std.proofs.Common.{◌*◌, ℕ, List, Option, Ok, IfSome, Bor}
 use Rattle.std.specs.Option.{option_map}
 use Rattle.sim_base.specs.Outside.{Outside, Files}
 use Rattle.outcome_model.specs.Stop.{Texts}
-use Rattle.outcome_model.proofs.ReadLemmas.{if_some}
-use Rattle.project_model.specs.Work.{Work, work_in}
+use Rattle.project_model.specs.Work.{Work, WorkIn}
 use Rattle.outcome_model.proofs.EndLemmas.{stops_counts}
 use Rattle.cli_work.specs.Outcomes.{outcome_of}
 use Rattle.cli_project.specs.Works.{work_of}
@@ -24,7 +23,7 @@ returns-in-Ok-clause-ends g c =
     let work : Work = work_of c.in-Ok.work in
     let texts : Texts = run_texts out work (16 * us) in
     let is : IfSome a.files (λ (files : Files). RunAnswer folder us script out files (Ok texts)) =
-    if_some a.files _ _ (λ (files : Files) (e : work_in folder script files ≡ Ok work). run_answer folder us script out files work e) c.in-Ok.ensures.got.0 in
+    run_answer folder us script out a.files work c.in-Ok.ensures.got.0 in
     ran_ends (RunAnswer folder us script out) texts a (g.B.Bench.outside c.read_work.new.bench) (g.B.Bench.outside c.run_board.new.bench) c.in-Ok.ensures.got.1 c.in-Ok.ensures.ports (outcome_of c.run_board.result) is c.run_board.ensures.ran
 
 pub returns-in-Ok-clause-counts : goal.returns-in-Ok-clause-counts
@@ -37,7 +36,7 @@ returns-in-Ok-clause-counts g c =
     let work : Work = work_of c.in-Ok.work in
     let texts : Texts = run_texts out work (16 * us) in
     let is : IfSome a.files (λ (files : Files). RunAnswer folder us script out files (Ok texts)) =
-    if_some a.files _ _ (λ (files : Files) (e : work_in folder script files ≡ Ok work). run_answer folder us script out files work e) c.in-Ok.ensures.got.0 in
+    run_answer folder us script out a.files work c.in-Ok.ensures.got.0 in
     ran_counts (RunAnswer folder us script out) texts (outcome_of c.run_board.result) a c.args.steps.now c.run_board.new.steps is c.run_board.ensures.steps
 
 pub returns-in-Ok-clause-silent : goal.returns-in-Ok-clause-silent
@@ -53,4 +52,4 @@ returns-in-Err-clause-ends g c =
 
 pub returns-in-Err-clause-counts : goal.returns-in-Err-clause-counts
 returns-in-Err-clause-counts g c =
-    stops_counts (RunAnswer c.args.folder.now c.args.micros (option_map (λ (f : Bor (List ℕ)). f.now) c.args.script) (outputs_of c.args.outputs)) (work_in c.args.folder.now (option_map (λ (f : Bor (List ℕ)). f.now) c.args.script)) (outcome_of c.in-Err.outcome) (g.B.Bench.outside c.args.bench.now) (g.B.Bench.outside c.read_work.new.bench) c.args.steps.now c.args.steps.now c.in-Err.ensures.got
+    stops_counts (RunAnswer c.args.folder.now c.args.micros (option_map (λ (f : Bor (List ℕ)). f.now) c.args.script) (outputs_of c.args.outputs)) (WorkIn c.args.folder.now (option_map (λ (f : Bor (List ℕ)). f.now) c.args.script)) (outcome_of c.in-Err.outcome) (g.B.Bench.outside c.args.bench.now) (g.B.Bench.outside c.read_work.new.bench) c.args.steps.now c.args.steps.now c.in-Err.ensures.got
