@@ -5,7 +5,7 @@ ghost use Rattle.unit_law.specs.Coming.{IsAhead};
 ghost use Rattle.avr_adc.specs.Adc.{divisor, end_of, begun, value_of, sampled, ended, stepped, control, register, after_read, started, controlled, with_control, with_register, kept};
 
 use crate::registers::{ADATE, ADEN, ADIE, ADIF, ADLAR, ADSC, Register, named, register_at};
-use sim_base::Level;
+use sim_base::{Level, MOST_CYCLES};
 use std::marker::Model;
 use unit_law::{Pad, Request, Unit, has_bit, least, one, or_end, with_bit, within_run};
 
@@ -39,12 +39,13 @@ impl Model for Adc {
     ghost use Rattle.unit_law.specs.UnitMachine.{At};
     ghost use Rattle.unit_law.specs.Coming.{IsAhead};
     ghost use Rattle.avr_adc.specs.Adc.{Adc as State, end_of};
+    ghost use Rattle.sim_base.specs.declared.limits.TheConstants.{MOST_CYCLES};
 
     ghost Value = { At State };
 
     ghost view = { λ u. record { unit = record { admux = u.admux; adcsrb = u.adcsrb; aden = u.aden; adate = u.adate; adif = u.adif; adie = u.adie; adps = u.adps; result = u.result; locked = u.locked; first = u.first; conversion = u.conversion }; cycle = u.cycle } };
 
-    ghost invariant = { λ u. record { end : u.cycle ≤ 160000000; adps : u.adps < 8; result : u.result < 1024; later : IsAhead (end_of u.conversion) u.cycle } };
+    ghost invariant = { λ u. record { end : u.cycle ≤ MOST_CYCLES; adps : u.adps < 8; result : u.result < 1024; later : IsAhead (end_of u.conversion) u.cycle } };
 }
 
 impl Unit for Adc {
@@ -246,7 +247,7 @@ impl Adc {
     // The step of its cycle.
     fn end_here(&mut self, levels: &[Level])
         requires levels { length levels.now ≡ 20 }
-        requires end { self.old.cycle < 160000000 }
+        requires end { self.old.cycle < MOST_CYCLES }
         ensures state { self.new ≡ record self.old { unit = stepped self.old.unit self.old.unit.conversion self.old.cycle levels.now } }
         ensures later { IsAhead (end_of self.new.unit.conversion) (self.old.cycle + 1) }
     {
@@ -259,7 +260,7 @@ impl Adc {
 
     fn end(&mut self, conversion: Conversion, levels: &[Level])
         requires levels { length levels.now ≡ 20 }
-        requires end { self.old.cycle < 160000000 }
+        requires end { self.old.cycle < MOST_CYCLES }
         ensures state { self.new ≡ record self.old { unit = ended self.old.unit conversion self.old.cycle levels.now } }
         ensures later { IsAhead (end_of self.new.unit.conversion) (self.old.cycle + 1) }
     {
@@ -298,7 +299,7 @@ fn high_byte(value: u16, left: bool) -> u8
 }
 
 fn begun(cycle: u32, clocks: u32, adps: u8, admux: u8) -> Conversion
-    requires cycle { cycle ≤ 160000000 }
+    requires cycle { cycle ≤ MOST_CYCLES }
     requires clocks { clocks ≤ 25 }
     ensures value { result ≡ begun cycle clocks adps admux }
     ensures later { 0 < clocks → cycle < result.end }

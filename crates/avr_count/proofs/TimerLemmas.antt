@@ -2,6 +2,7 @@
 use Rattle.std.proofs.Common.{◌≡◌, ℕ, zero, suc, ◌+◌, ◌-◌, ◌∙◌, [], List, Bool, true, false, Option, None, Some, ap, sym, subst, refl}
 use Rattle.std.specs.Prelude.{◌==◌, if◌then◌else◌}
 use Rattle.sim_base.specs.declared.signal.Level.{Level}
+use Rattle.sim_base.specs.declared.limits.TheConstants.{MOST_CYCLES}
 use Rattle.unit_law.specs.UnitMachine.{UnitMachine, At, steps, IsQuiet, IsFirstDue}
 use Rattle.avr_count.specs.declared.channel.Channel.{Channel}
 use Rattle.avr_count.specs.declared.counter.Counter.{Counter}
@@ -54,7 +55,7 @@ module _ {U : Type 0} (m : UnitMachine U) (is : TimerOf m) where
   quiet_is u t n still j less = due_is u t j (t + j) ∙ still j less
 
   pub first_is : (u : U) (t : ℕ) (r : Option ℕ) → IsNext (is.timing u) (is.get u) t r → IsFirstDue m u t r
-  first_is u t None h = quiet_is u t (160000000 - t) h
+  first_is u t None h = quiet_is u t (MOST_CYCLES - t) h
   first_is u t (Some d) h = (h.0, h.1, quiet_is u t (d - t) h.2, due_is u t (d - t) d ∙ h.3)
 
 -- Two counters with the same latches ask the same of a pin.

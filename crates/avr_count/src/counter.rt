@@ -10,6 +10,7 @@ use crate::channel::{Channel, compare_pad, loads};
 use crate::mode::{Kind, Mode, Top, is_icr, is_phase};
 use crate::timing::Timing;
 use crate::wheel::{ahead, behind, forward, lesser};
+use sim_base::MOST_CYCLES;
 use unit_law::Pad;
 
 /// TCNTn, whether it goes down, the channels, ICRn with ICFn, and TOVn. A timer without ICRn leaves those two 0.
@@ -228,7 +229,7 @@ impl Counter {
         requires holds { Holds timing.now.mode.greatest self.old }
         requires begun { Begun timing.now from }
         requires forward { from ≤ to }
-        requires end { to ≤ 160000000 }
+        requires end { to ≤ MOST_CYCLES }
         requires still { IsStill timing.now self.old from (to - from) }
         ensures state { self.new ≡ counter_steps timing.now self.old from (to - from) }
         ensures holds { Holds timing.now.mode.greatest self.new }
@@ -254,7 +255,7 @@ impl Counter {
         requires mode { IsMode timing.now.mode }
         requires holds { Holds timing.now.mode.greatest self.now }
         requires begun { Begun timing.now cycle }
-        requires end { cycle ≤ 160000000 }
+        requires end { cycle ≤ MOST_CYCLES }
         requires divisor { timing.now.divisor ≤ 1024 }
         ensures { IsNext timing.now self.now cycle result }
     {
@@ -262,7 +263,7 @@ impl Counter {
             return None;
         }
         let next = timing.tick_after(cycle, self.wait(&timing.mode));
-        if next < 160_000_000 { Some(next) } else { None }
+        if next < MOST_CYCLES { Some(next) } else { None }
     }
 
     fn place(&self, mode: &Mode, ticks: u16) -> u16

@@ -8,6 +8,7 @@ use Rattle.std.proofs.lemmas.List.FromFn.{length-map-range_with_len, get_or-map-
 use Rattle.sim_base.specs.declared.signal.Drive.{Drive}
 use Rattle.sim_base.specs.declared.signal.Drive.TheVariants as drives
 use Rattle.sim_base.specs.declared.signal.Level.{Level}
+use Rattle.sim_base.specs.declared.limits.TheConstants.{MOST_CYCLES}
 use Rattle.part_law.specs.Machine.{glide, idle, IsQuiet, IsFirstDue}
 use Rattle.part_law.specs.declared.span.Span.{Span}
 use Rattle.part_law.specs.Spans.{IsIn, all_pins, no_pins}
@@ -259,9 +260,9 @@ module _ {D : Type 0} (m : UnitMachine D) (laws : unit.Laws m) where
       ap (λ (x : ℕ). s.core.sreg.i && not s.core.just_enabled && nat_lt x 26) (ap least (quiet_requests m laws s.units.devices t n (pins s.held) quiet))
 
   -- the first cycle in which it is due, by when the core can go on and by the units' first event
-  module _ (s : Mcu D) (t a e : ℕ) (r : Bool) (later : (t == 0) ≡ false) (is : r ≡ ready s.core.mode (enters m s)) (is_a : a ≡ (if r then max s.next t else 160000000))
+  module _ (s : Mcu D) (t a e : ℕ) (r : Bool) (later : (t == 0) ≡ false) (is : r ≡ ready s.core.mode (enters m s)) (is_a : a ≡ (if r then max s.next t else MOST_CYCLES))
       (first : FirstDue m s.units.devices t e) where
-    no_start : (k : ℕ) → t + k < min a e → unit.IsQuiet m s.units.devices t k → (r : Bool) → r ≡ ready s.core.mode (enters m s) → a ≡ (if r then max s.next t else 160000000) → starts m (waited s t k) (t + k) ≡ false
+    no_start : (k : ℕ) → t + k < min a e → unit.IsQuiet m s.units.devices t k → (r : Bool) → r ≡ ready s.core.mode (enters m s) → a ≡ (if r then max s.next t else MOST_CYCLES) → starts m (waited s t k) (t + k) ≡ false
     no_start k less events true is is_a =
         let l : nat_lt (t + k) s.next ≡ true = grind (arith, nat_tests, less, is_a) in
         ap (λ (b : Bool). not b && ready s.core.mode (enters m (waited s t k))) l
@@ -277,11 +278,11 @@ module _ {D : Type 0} (m : UnitMachine D) (laws : unit.Laws m) where
         let positive : (t + k == 0) ≡ false = grind (arith, nat_tests, later) in
         or_two (t + k == 0) _ positive (or_two (starts m (waited s t k) (t + k)) _ (no_start k less events r is is_a) none)
 
-    from_is : (r : Bool) → a ≡ (if r then max s.next t else 160000000) → t ≤ min a e
+    from_is : (r : Bool) → a ≡ (if r then max s.next t else MOST_CYCLES) → t ≤ min a e
     from_is true is_a = grind (arith, is_a, first.later)
     from_is false is_a = grind (arith, is_a, first.later, first.end)
 
-    by_ready : min a e < 160000000 → a ≤ e → (r : Bool) → r ≡ ready s.core.mode (enters m s) → a ≡ (if r then max s.next t else 160000000) → starts m (waited s t (min a e - t)) (min a e) ≡ true
+    by_ready : min a e < MOST_CYCLES → a ≤ e → (r : Bool) → r ≡ ready s.core.mode (enters m s) → a ≡ (if r then max s.next t else MOST_CYCLES) → starts m (waited s t (min a e - t)) (min a e) ≡ true
     by_ready l le true is is_a =
         let late : nat_lt (min a e) s.next ≡ false = grind (arith, nat_tests, is_a, le) in
         let events : unit.IsQuiet m s.units.devices t (min a e - t) = λ j (h : j < min a e - t). first.quiet j (grind (arith, h)) in
@@ -289,16 +290,16 @@ module _ {D : Type 0} (m : UnitMachine D) (laws : unit.Laws m) where
         ∙ ap (ready s.core.mode) (waited_enters s t (min a e - t) events) ∙ sym is
     by_ready l le false is is_a = absurd (grind (arith, is_a, le, l))
 
-    event : min a e < 160000000 → (a ≤ e) ⊎ (e ≤ a) → (starts m (waited s t (min a e - t)) (min a e) || m.due (steps m s.units.devices t (min a e - t)) (min a e)) ≡ true
+    event : min a e < MOST_CYCLES → (a ≤ e) ⊎ (e ≤ a) → (starts m (waited s t (min a e - t)) (min a e) || m.due (steps m s.units.devices t (min a e - t)) (min a e)) ≡ true
     event l (inl le) = or_first _ _ (by_ready l le r is is_a)
     event l (inr le) =
         let u : min a e ≡ e = grind (arith, le) in
-        let i : e < 160000000 = omega (arith, u, l) in
+        let i : e < MOST_CYCLES = omega (arith, u, l) in
         or_second _ _ (subst (λ (x : ℕ). m.due (steps m s.units.devices t (x - t)) x ≡ true) (sym u) (first.event i))
 
-    pub due_some : (d : ℕ) → d ≡ min a e → d < 160000000 → IsFirstDue (mcu m) s t (Some d)
+    pub due_some : (d : ℕ) → d ≡ min a e → d < MOST_CYCLES → IsFirstDue (mcu m) s t (Some d)
     due_some d is_d less =
-        let l : min a e < 160000000 = omega (arith, is_d, less) in
+        let l : min a e < MOST_CYCLES = omega (arith, is_d, less) in
         let from : t ≤ min a e = from_is r is_a in
         let quiet : (k : ℕ) → k < min a e - t → (mcu m).due (waited s t k) (t + k) ≡ false = λ k (i : k < min a e - t). quiet_to k (omega (arith, i, from)) in
         subst (λ (x : ℕ). IsFirstDue (mcu m) s t (Some x)) (sym is_d) (
@@ -308,8 +309,8 @@ module _ {D : Type 0} (m : UnitMachine D) (laws : unit.Laws m) where
           ap (λ (x : Mcu D). (mcu m).due x (min a e)) (waits_glide s t (min a e - t) quiet) ∙ or_second (min a e == 0) _ (event l (le_or a e)),
         )
 
-    pub due_none : (d : ℕ) → d ≡ min a e → 160000000 ≤ d → IsFirstDue (mcu m) s t None
-    due_none d is_d more = waits_quiet s t (160000000 - t) (λ k (i : k < 160000000 - t). quiet_to k (omega (arith, i, is_d, more)))
+    pub due_none : (d : ℕ) → d ≡ min a e → MOST_CYCLES ≤ d → IsFirstDue (mcu m) s t None
+    due_none d is_d more = waits_quiet s t (MOST_CYCLES - t) (λ k (i : k < MOST_CYCLES - t). quiet_to k (omega (arith, i, is_d, more)))
 
   -- one cycle of the units without an event, as the code does it
   pub rest_turn : (s : UnitsAt D) (t d : ℕ) → s.cycle ≡ t → FirstDue m s.units.devices s.cycle d → t < d →

@@ -13,7 +13,7 @@ use crate::units::Units;
 use avr_core::{Core, Mode, decode_all};
 use avr_isa::Instr;
 use part_law::{Part, Span, Went};
-use sim_base::{Drive, Flash, Level, OutOfMemory, Steps};
+use sim_base::{Drive, Flash, Level, MOST_CYCLES, OutOfMemory, Steps};
 use std::alloc::Global;
 use std::marker::Model;
 use std::sync::ledger::Ledger;
@@ -37,6 +37,7 @@ impl Model for Mcu {
     ghost use Rattle.avr_core.specs.AvrStep.{IsProgram};
     ghost use Rattle.avr_mcu.specs.Devices.{Devices as State};
     ghost use Rattle.avr_mcu.specs.McuOf.{McuAt};
+    ghost use Rattle.sim_base.specs.declared.limits.TheConstants.{MOST_CYCLES};
 
     ghost Value = { McuAt State };
 
@@ -44,7 +45,7 @@ impl Model for Mcu {
 
     ghost invariant = { λ m. record {
       same_cycle : m.units.cycle ≡ m.cycle;
-      end : m.cycle ≤ 160000000;
+      end : m.cycle ≤ MOST_CYCLES;
       program : IsProgram m.flash m.program.items;
     } };
 }
@@ -92,7 +93,7 @@ impl Mcu {
     // What the core does in the cycle; the units step after it.
     #[inline]
     fn act(&mut self)
-        requires { self.old.cycle < 160000000 }
+        requires { self.old.cycle < MOST_CYCLES }
         ensures acted { self.new.mcu ≡ core_acted devices self.old.mcu self.old.cycle }
         ensures cycle { self.new.cycle ≡ self.old.cycle }
         ensures wakes { self.new.wakes ≡ self.old.wakes }
@@ -229,7 +230,7 @@ pub(crate) fn act_core(
 ) -> (u32, Span)
     requires program { IsProgram flash.now program.now }
     requires here { units.old.cycle ≡ cycle }
-    requires end { cycle < 160000000 }
+    requires end { cycle < MOST_CYCLES }
     ensures acted { state_of flash.now core.new result.0 units.new.units units.new.held ≡ core_acted devices (state_of flash.now core.old next units.old.units units.old.held) cycle }
     ensures here { units.new.cycle ≡ cycle }
     ensures pads { (p : ℕ) → p < 20 → ¬ IsIn result.1 p → devices.pad units.new.units.devices p ≡ devices.pad units.old.units.devices p }
@@ -328,7 +329,7 @@ fn enter(core: &mut Core, units: &mut Units) -> u8
 #[inline]
 pub(crate) fn tick(units: &mut Units, cycle: u32) -> (Option<u8>, bool)
     requires here { units.old.cycle ≡ cycle }
-    requires end { cycle < 160000000 }
+    requires end { cycle < MOST_CYCLES }
     ensures byte { result.0 ≡ devices.sends units.old.units.devices cycle }
     ensures state { units.new ≡ record units.old { units = units_step devices units.old.units cycle units.old.held units.old.held; cycle = cycle + 1 } }
     ensures pads { result.1 ≡ false → (p : ℕ) → devices.pad units.new.units.devices p ≡ devices.pad units.old.units.devices p }
@@ -349,12 +350,12 @@ pub(crate) fn moved_by(touched: Span, moves: bool) -> Span
     if moves { Span::all() } else { touched }
 }
 
-// The first cycle from `cycle` on in which the microcontroller is due, 160,000,000 where there is none.
+// The first cycle from `cycle` on in which the microcontroller is due, `MOST_CYCLES` where there is none.
 #[inline]
 pub(crate) fn next_due(core: &Core, units: &Units, next: u32, cycle: u32) -> u32
     requires here { units.now.cycle ≡ cycle }
-    ensures soon { (flash : List ℕ) → result < 160000000 → IsFirstDue (mcu devices) (state_of flash core.now next units.now.units units.now.held) cycle (Some result) }
-    ensures never { (flash : List ℕ) → 160000000 ≤ result → IsFirstDue (mcu devices) (state_of flash core.now next units.now.units units.now.held) cycle None }
+    ensures soon { (flash : List ℕ) → result < MOST_CYCLES → IsFirstDue (mcu devices) (state_of flash core.now next units.now.units units.now.held) cycle (Some result) }
+    ensures never { (flash : List ℕ) → MOST_CYCLES ≤ result → IsFirstDue (mcu devices) (state_of flash core.now next units.now.units units.now.held) cycle None }
 {
     if cycle == 0 {
         return 0;
@@ -369,18 +370,18 @@ fn first_due(core: &Core, units: &Units, next: u32, cycle: u32) -> Option<u32>
     ensures { (flash : List ℕ) → IsFirstDue (mcu devices) (state_of flash core.now next units.now.units units.now.held) cycle result }
 {
     let due = next_due(core, units, next, cycle);
-    if due < 160_000_000 { Some(due) } else { None }
+    if due < MOST_CYCLES { Some(due) } else { None }
 }
 
-// The cycle in which the core next does something, 160,000,000 where it does nothing any more.
+// The cycle in which the core next does something, `MOST_CYCLES` where it does nothing any more.
 #[inline]
 fn next_start(ready: bool, next: u32, cycle: u32) -> u32
-    ensures { result ≡ (if ready then max next cycle else 160000000) }
+    ensures { result ≡ (if ready then max next cycle else MOST_CYCLES) }
 {
     if ready {
         if next < cycle { cycle } else { next }
     } else {
-        160_000_000
+        MOST_CYCLES
     }
 }
 

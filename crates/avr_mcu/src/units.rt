@@ -11,7 +11,7 @@ ghost use Rattle.part_law.specs.Spans.{no_pins};
 use crate::devices::Devices;
 use avr_core::DataBus;
 use part_law::Span;
-use sim_base::{Drive, Level, OutOfMemory};
+use sim_base::{Drive, Level, MOST_CYCLES, OutOfMemory};
 use std::alloc::{AllocError, Global};
 use std::marker::Model;
 use unit_law::{Group, may_move, wait, with_bit};
@@ -70,6 +70,7 @@ impl Model for Units {
     ghost use Rattle.avr_mcu.specs.Devices.{Devices as State};
     ghost use Rattle.avr_mcu.specs.Units.{UnitsAt, pins};
     ghost use Rattle.unit_law.specs.UnitMachine.{least};
+    ghost use Rattle.sim_base.specs.declared.limits.TheConstants.{MOST_CYCLES};
 
     ghost Value = { UnitsAt State };
 
@@ -82,7 +83,7 @@ impl Model for Units {
       stands : ⟦<Devices as Group>⟧.stands u.devices (pins u.held) u.cycle;
       due : u.due ≡ ⟦<Devices as Group>⟧.until u.devices;
       request : u.request ≡ least (⟦<Devices as Group>⟧.machine.requests (⟦<Devices as Group>⟧.state u.devices u.cycle) (pins u.held));
-      end : u.cycle ≤ 160000000;
+      end : u.cycle ≤ MOST_CYCLES;
     } };
 }
 
@@ -125,7 +126,7 @@ impl Units {
         self.ignored[addr as usize]
     }
 
-    /// The first cycle in which a unit has an event, or 160,000,000.
+    /// The first cycle in which a unit has an event, or `MOST_CYCLES`.
     #[inline]
     pub(crate) fn due(&self) -> u32
         ensures { FirstDue devices self.now.units.devices self.now.cycle result }
@@ -170,7 +171,7 @@ impl Units {
     #[inline]
     pub(crate) fn skip(&mut self, to: u32)
         requires forward { self.old.cycle ≤ to }
-        requires end { to ≤ 160000000 }
+        requires end { to ≤ MOST_CYCLES }
         requires quiet { IsQuiet devices self.old.units.devices self.old.cycle (to - self.old.cycle) }
         ensures { self.new ≡ record self.old { units = record (self.old.units) { devices = steps devices self.old.units.devices self.old.cycle (to - self.old.cycle) }; cycle = to } }
     {
@@ -195,7 +196,7 @@ impl Units {
     /// One cycle on these levels of the Uno's 31 pins, and the byte that leaves.
     pub(crate) fn step(&mut self, levels: &[Level]) -> Option<u8>
         requires levels { length levels.now ≡ 31 }
-        requires end { self.old.cycle < 160000000 }
+        requires end { self.old.cycle < MOST_CYCLES }
         ensures byte { result ≡ devices.sends self.old.units.devices self.old.cycle }
         ensures state { self.new ≡ record self.old { units = units_step devices self.old.units self.old.cycle self.old.held levels.now; held = levels.now; cycle = self.old.cycle + 1 } }
     {
@@ -212,7 +213,7 @@ impl Units {
     /// One cycle on the levels that it holds, and the byte that leaves.
     #[inline(never)]
     pub(crate) fn turn(&mut self) -> Option<u8>
-        requires end { self.old.cycle < 160000000 }
+        requires end { self.old.cycle < MOST_CYCLES }
         ensures byte { result ≡ devices.sends self.old.units.devices self.old.cycle }
         ensures state { self.new ≡ record self.old { units = units_step devices self.old.units self.old.cycle self.old.held self.old.held; cycle = self.old.cycle + 1 } }
     {

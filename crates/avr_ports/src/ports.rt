@@ -6,7 +6,7 @@ ghost use Rattle.avr_ports.specs.declared.registers.Register.TheVariants.{PCIFR,
 
 use crate::pins::{bit_pad, is_change, is_edge, on, pinb, pinc, pind, requests_int};
 use crate::registers::{Register, named, register_at};
-use sim_base::Level;
+use sim_base::{Level, MOST_CYCLES};
 use std::marker::Model;
 use unit_law::{Pad, Request, Unit, VECTORS, has_bit, least, mask, one, with_bit};
 
@@ -37,12 +37,13 @@ impl Model for Ports {
     ghost use Rattle.std.specs.Prelude.{◌≤◌};
     ghost use Rattle.unit_law.specs.UnitMachine.{At};
     ghost use Rattle.avr_ports.specs.Ports.{Ports as State};
+    ghost use Rattle.sim_base.specs.declared.limits.TheConstants.{MOST_CYCLES};
 
     ghost Value = { At State };
 
     ghost view = { λ p. record { unit = record { ddrb = p.ddrb; portb = p.portb; ddrc = p.ddrc; portc = p.portc; ddrd = p.ddrd; portd = p.portd; eicra = p.eicra; eimsk = p.eimsk; intf0 = p.intf0; intf1 = p.intf1; pcicr = p.pcicr; pcmsk0 = p.pcmsk0; pcmsk1 = p.pcmsk1; pcmsk2 = p.pcmsk2; pcif0 = p.pcif0; pcif1 = p.pcif1; pcif2 = p.pcif2 }; cycle = p.cycle } };
 
-    ghost invariant = { λ p. p.cycle ≤ 160000000 };
+    ghost invariant = { λ p. p.cycle ≤ MOST_CYCLES };
 }
 
 impl Unit for Ports {

@@ -1,6 +1,7 @@
 -- The first event is that of the transfer or a look at SS, whichever comes first.
 use Rattle.std.proofs.Common.{◌≡◌, ℕ, ◌-◌, ◌≤◌, [], false, Option, None, Some}
 use Rattle.std.specs.Prelude.{min}
+use Rattle.sim_base.specs.declared.limits.TheConstants.{MOST_CYCLES}
 use Rattle.unit_law.specs.UnitMachine.{At, IsQuiet, IsFirstDue}
 use Rattle.unit_law.specs.Coming.{IsAhead, or_end, within_run}
 use Rattle.unit_law.proofs.StillLemmas.{neither, before_both, at_both, ahead_both, keeps_ahead, first_at}
@@ -33,7 +34,7 @@ module _ (v s : At Spi) (same : v ≡ s) where
 
   -- the answer of `due`
   pub first_by : (r : Option ℕ) → r ≡ within_run (min (or_end (next_event v.unit.shifter.transfer)) (or_end v.unit.look)) →
-      v.cycle ≤ 160000000 → Shifts v.unit.shifter.transfer v.cycle → IsAhead v.unit.look v.cycle → IsFirstDue spi s.unit s.cycle r
+      v.cycle ≤ MOST_CYCLES → Shifts v.unit.shifter.transfer v.cycle → IsAhead v.unit.look v.cycle → IsFirstDue spi s.unit s.cycle r
   first_by r is end h k =
       let a = next_event v.unit.shifter.transfer in
       let b = v.unit.look in

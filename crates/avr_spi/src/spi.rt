@@ -7,7 +7,7 @@ ghost use Rattle.avr_spi.specs.Spi.{is_master, watches, is_low, ss_low, miso, re
 
 use crate::registers::{DDB2, MSTR, Register, SPE, SPI2X, SPIE, moves, named, register_at};
 use crate::shifter::{Shifter, begun};
-use sim_base::{Level, reads_one};
+use sim_base::{Level, MOST_CYCLES, reads_one};
 use std::marker::Model;
 use unit_law::{Pad, Request, Unit, comes, has_bit, least, one, or_end, with_bit, within_run};
 
@@ -31,12 +31,13 @@ impl Model for Spi {
     ghost use Rattle.unit_law.specs.Coming.{IsAhead};
     ghost use Rattle.avr_spi.specs.Shifter.{Shifts};
     ghost use Rattle.avr_spi.specs.Spi.{Spi as State};
+    ghost use Rattle.sim_base.specs.declared.limits.TheConstants.{MOST_CYCLES};
 
     ghost Value = { At State };
 
     ghost view = { λ u. record { unit = record { ddrb = u.ddrb; spcr = u.spcr; spsr = u.spsr; wcol = u.wcol; seen = u.seen; look = u.look; shifter = u.shifter }; cycle = u.cycle } };
 
-    ghost invariant = { λ u. record { end : u.cycle ≤ 160000000; spsr : u.spsr < 64; looks : IsAhead u.look u.cycle; shifts : Shifts u.shifter.transfer u.cycle } };
+    ghost invariant = { λ u. record { end : u.cycle ≤ MOST_CYCLES; spsr : u.spsr < 64; looks : IsAhead u.look u.cycle; shifts : Shifts u.shifter.transfer u.cycle } };
 }
 
 impl Unit for Spi {

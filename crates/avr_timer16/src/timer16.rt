@@ -6,7 +6,7 @@ ghost use Rattle.avr_timer16.specs.Timer16.{wgm, row_of, kind_of, mode_of, divis
 
 use crate::registers::{ICF1, ICIE1, PSRSYNC, Register, moves_at, named, register_at};
 use avr_count::{Counter, Kind, Mode, Row, Timing, Top, mode_by};
-use sim_base::Level;
+use sim_base::{Level, MOST_CYCLES};
 use std::marker::Model;
 use unit_law::{Pad, Request, Unit, has_bit, least, one, with_bit};
 
@@ -32,12 +32,13 @@ impl Model for Timer16 {
     ghost use Rattle.unit_law.specs.UnitMachine.{At};
     ghost use Rattle.avr_count.specs.Counted.{Holds};
     ghost use Rattle.avr_timer16.specs.Timer16.{Timer16 as State};
+    ghost use Rattle.sim_base.specs.declared.limits.TheConstants.{MOST_CYCLES};
 
     ghost Value = { At State };
 
     ghost view = { λ u. record { unit = record { tccra = u.tccra; tccrb = u.tccrb; timsk = u.timsk; tifr = u.tifr; gtccr = u.gtccr; temp = u.temp; counter = u.counter; reset = u.reset; written = u.written }; cycle = u.cycle } };
 
-    ghost invariant = { λ u. record { reset : u.reset ≤ u.cycle; written : u.written ≤ u.cycle; end : u.cycle ≤ 160000000; tifr : u.tifr < 217; holds : Holds 65535 u.counter } };
+    ghost invariant = { λ u. record { reset : u.reset ≤ u.cycle; written : u.written ≤ u.cycle; end : u.cycle ≤ MOST_CYCLES; tifr : u.tifr < 217; holds : Holds 65535 u.counter } };
 }
 
 impl Unit for Timer16 {

@@ -7,6 +7,7 @@ ghost use Rattle.avr_timer8.specs.Timer8.{wgm, row_of, kind_of, mode_of, divisor
 
 use crate::registers::{PSRASY, PSRSYNC, Register, WGMn2, Which};
 use avr_count::{Counter, Kind, Mode, Row, Timing, Top, mode_by};
+use sim_base::MOST_CYCLES;
 use std::marker::Model;
 use unit_law::{Pad, has_bit, least, one, with_bit};
 
@@ -30,12 +31,13 @@ impl Model for Timer8 {
     ghost use Rattle.unit_law.specs.UnitMachine.{At};
     ghost use Rattle.avr_count.specs.Counted.{Holds};
     ghost use Rattle.avr_timer8.specs.Timer8.{Timer8 as State};
+    ghost use Rattle.sim_base.specs.declared.limits.TheConstants.{MOST_CYCLES};
 
     ghost Value = { At State };
 
     ghost view = { λ u. record { unit = record { tccra = u.tccra; tccrb = u.tccrb; timsk = u.timsk; tifr = u.tifr; gtccr = u.gtccr; counter = u.counter; reset = u.reset; written = u.written }; cycle = u.cycle } };
 
-    ghost invariant = { λ u. record { reset : u.reset ≤ u.cycle; written : u.written ≤ u.cycle; end : u.cycle ≤ 160000000; tifr : u.tifr < 249; holds : Holds 255 u.counter } };
+    ghost invariant = { λ u. record { reset : u.reset ≤ u.cycle; written : u.written ≤ u.cycle; end : u.cycle ≤ MOST_CYCLES; tifr : u.tifr < 249; holds : Holds 255 u.counter } };
 }
 
 impl Timer8 {
@@ -128,7 +130,7 @@ impl Timer8 {
 
     pub(crate) fn skip(&mut self, which: Which, to: u32)
         requires forward { self.old.cycle ≤ to }
-        requires end { to ≤ 160000000 }
+        requires end { to ≤ MOST_CYCLES }
         requires quiet { IsQuiet (timer8 which) self.old.unit self.old.cycle (to - self.old.cycle) }
         ensures { self.new ≡ record { unit = steps (timer8 which) self.old.unit self.old.cycle (to - self.old.cycle); cycle = to } }
     {
@@ -138,7 +140,7 @@ impl Timer8 {
     }
 
     pub(crate) fn step(&mut self, which: Which)
-        requires { self.old.cycle < 160000000 }
+        requires { self.old.cycle < MOST_CYCLES }
         ensures { self.new ≡ record { unit = (timer8 which).step self.old.unit self.old.cycle [] []; cycle = self.old.cycle + 1 } }
     {
         let timing = self.timing(which);

@@ -8,6 +8,7 @@ ghost use Rattle.avr_twi.specs.Master.{place_of, sda_of, scl_of, going, ended, l
 use crate::packet::{Kind, Packet, wanted};
 use crate::registers::{TWEA, TWEN, TWINT, TWSTA, TWSTO};
 use crate::status::Status;
+use sim_base::MOST_CYCLES;
 use unit_law::{has_bit, with_bit};
 
 /// Half a period of SCL in an action (data sheet, "2-wire Serial Interface Characteristics"): a START lets SDA go, waits
@@ -86,7 +87,7 @@ impl Master {
 
     // A half period begins behind a cycle.
     fn go(&mut self, stage: Stage, half: u16, cycle: u32)
-        requires cycle { cycle ≤ 160000000 }
+        requires cycle { cycle ≤ MOST_CYCLES }
         requires least { 1 ≤ half }
         requires most { half ≤ 16328 }
         requires place { place_of stage ≤ 8 }
@@ -115,7 +116,7 @@ impl Master {
 
     /// Steps over a cycle, in which the lines read this; `half` is half a period by TWBR and TWPS.
     pub(crate) fn step(&mut self, cycle: u32, sda: bool, scl: bool, half: u16)
-        requires cycle { cycle < 160000000 }
+        requires cycle { cycle < MOST_CYCLES }
         requires least { 1 ≤ half }
         requires most { half ≤ 16328 }
         requires stands { Acts self.old.action cycle }
@@ -130,7 +131,7 @@ impl Master {
     }
 
     fn act(&mut self, action: Action, cycle: u32, sda: bool, scl: bool, half: u16)
-        requires cycle { cycle < 160000000 }
+        requires cycle { cycle < MOST_CYCLES }
         requires least { 1 ≤ half }
         requires most { half ≤ 16328 }
         requires stands { IsActionAt action cycle }
@@ -164,7 +165,7 @@ impl Master {
     }
 
     fn end_bit(&mut self, packet: Packet, half: u16, cycle: u32, sda: bool)
-        requires cycle { cycle < 160000000 }
+        requires cycle { cycle < MOST_CYCLES }
         requires least { 1 ≤ half }
         requires most { half ≤ 16328 }
         requires place { packet.place ≤ 8 }
@@ -200,7 +201,7 @@ impl Master {
     }
 
     fn stop(&mut self, then_start: bool, half: u16, cycle: u32)
-        requires cycle { cycle < 160000000 }
+        requires cycle { cycle < MOST_CYCLES }
         requires least { 1 ≤ half }
         requires most { half ≤ 16328 }
         ensures state { self.new ≡ stopped self.old then_start half cycle }
@@ -216,7 +217,7 @@ impl Master {
 
     /// TWCR is written in a cycle.
     pub(crate) fn control(&mut self, value: u8, half: u16, cycle: u32)
-        requires cycle { cycle ≤ 160000000 }
+        requires cycle { cycle ≤ MOST_CYCLES }
         requires least { 1 ≤ half }
         requires most { half ≤ 16328 }
         requires stands { Acts self.old.action cycle }
@@ -235,7 +236,7 @@ impl Master {
 
     // What TWCR and the status ask for begins.
     fn begin(&mut self, half: u16, cycle: u32)
-        requires cycle { cycle ≤ 160000000 }
+        requires cycle { cycle ≤ MOST_CYCLES }
         requires least { 1 ≤ half }
         requires most { half ≤ 16328 }
         requires idle { self.old.action ≡ None }

@@ -6,7 +6,7 @@ ghost use Rattle.avr_twi.specs.Twi.{prescaler, half_period, sda, scl, register, 
 
 use crate::master::Master;
 use crate::registers::{Register, TWEN, TWIE, TWINT, moves, named, register_at};
-use sim_base::{Level, reads_one};
+use sim_base::{Level, MOST_CYCLES, reads_one};
 use std::marker::Model;
 use unit_law::{Pad, Request, Unit, has_bit, least, or_end, with_bit, within_run};
 
@@ -25,12 +25,13 @@ impl Model for Twi {
     ghost use Rattle.unit_law.specs.UnitMachine.{At};
     ghost use Rattle.avr_twi.specs.Master.{Acts};
     ghost use Rattle.avr_twi.specs.Twi.{Twi as State};
+    ghost use Rattle.sim_base.specs.declared.limits.TheConstants.{MOST_CYCLES};
 
     ghost Value = { At State };
 
     ghost view = { λ u. record { unit = record { twbr = u.twbr; twsr = u.twsr; master = u.master }; cycle = u.cycle } };
 
-    ghost invariant = { λ u. record { end : u.cycle ≤ 160000000; twsr : u.twsr < 8; acts : Acts u.master.action u.cycle } };
+    ghost invariant = { λ u. record { end : u.cycle ≤ MOST_CYCLES; twsr : u.twsr < 8; acts : Acts u.master.action u.cycle } };
 }
 
 impl Unit for Twi {

@@ -1,6 +1,7 @@
 -- The first event is the end of a bit or a sample, whichever comes first.
 use Rattle.std.proofs.Common.{◌≡◌, ℕ, ◌-◌, ◌≤◌, [], false, Option, None, Some}
 use Rattle.std.specs.Prelude.{min}
+use Rattle.sim_base.specs.declared.limits.TheConstants.{MOST_CYCLES}
 use Rattle.unit_law.specs.UnitMachine.{At, IsQuiet, IsFirstDue}
 use Rattle.unit_law.specs.Coming.{IsAhead, or_end, within_run}
 use Rattle.unit_law.proofs.StillLemmas.{neither, before_both, at_both, ahead_both, keeps_ahead, first_at}
@@ -44,7 +45,7 @@ module _ (v s : At Usart) (same : v ≡ s) where
 
   -- the answer of `due`
   pub first_by : (r : Option ℕ) → r ≡ within_run (min (or_end (bit_end v.unit.transmitter.frame)) (or_end (next_sample v.unit.receiver.reception))) →
-      v.cycle ≤ 160000000 → Sends v.unit.transmitter.frame v.cycle → Receives v.unit.receiver.reception v.cycle → IsFirstDue usart s.unit s.cycle r
+      v.cycle ≤ MOST_CYCLES → Sends v.unit.transmitter.frame v.cycle → Receives v.unit.receiver.reception v.cycle → IsFirstDue usart s.unit s.cycle r
   first_by r is end h k =
       let a = bit_end v.unit.transmitter.frame in
       let b = next_sample v.unit.receiver.reception in

@@ -4,6 +4,7 @@ ghost use Rattle.avr_usart.specs.Format.{IsFormat, frame_bits};
 ghost use Rattle.avr_usart.specs.Transmitter.{silent, begun, loaded, frame_over, is_last, bit_over, transmitted, emitted, bit_end, line, txd, IsFrameAt, Sends};
 
 use crate::format::Format;
+use sim_base::MOST_CYCLES;
 use unit_law::Pad;
 
 /// A frame on the way: which of its bits is sent, and the last cycle of that bit.
@@ -34,7 +35,7 @@ fn data_of(size: u8, byte: u8) -> u8
 
 fn begun(format: Format, cycle: u32, byte: u8) -> Frame
     requires format { IsFormat format }
-    requires cycle { cycle ≤ 160000000 }
+    requires cycle { cycle ≤ MOST_CYCLES }
     ensures value { result ≡ begun format cycle byte }
     ensures stands { IsFrameAt result (cycle + 1) }
 {
@@ -58,7 +59,7 @@ impl Frame {
     // The next bit, from the last cycle of this one.
     fn next(&self, cycle: u32) -> Frame
         requires stands { IsFrameAt self.now cycle }
-        requires cycle { cycle < 160000000 }
+        requires cycle { cycle < MOST_CYCLES }
         ensures { result ≡ record self.now { place = self.now.place + 1; end = cycle + self.now.format.bit } }
     {
         Frame {
@@ -84,7 +85,7 @@ impl Transmitter {
     /// Takes a byte that is written to UDR0 in a cycle.
     pub(crate) fn load(&mut self, txen: bool, format: Format, cycle: u32, byte: u8)
         requires format { IsFormat format }
-        requires cycle { cycle ≤ 160000000 }
+        requires cycle { cycle ≤ MOST_CYCLES }
         requires stands { Sends self.old.frame cycle }
         ensures state { self.new ≡ loaded self.old self.old.frame txen format cycle byte }
         ensures stands { Sends self.new.frame cycle }
@@ -102,7 +103,7 @@ impl Transmitter {
     /// Steps over a cycle, and answers the byte whose frame has its last cycle there.
     pub(crate) fn step(&mut self, format: Format, cycle: u32) -> Option<u8>
         requires format { IsFormat format }
-        requires cycle { cycle < 160000000 }
+        requires cycle { cycle < MOST_CYCLES }
         requires stands { Sends self.old.frame cycle }
         ensures byte { result ≡ emitted self.old.frame cycle }
         ensures state { self.new ≡ transmitted self.old self.old.frame format cycle }
@@ -116,7 +117,7 @@ impl Transmitter {
 
     fn end_bit(&mut self, frame: Frame, format: Format, cycle: u32) -> Option<u8>
         requires format { IsFormat format }
-        requires cycle { cycle < 160000000 }
+        requires cycle { cycle < MOST_CYCLES }
         requires stands { IsFrameAt frame cycle }
         requires here { frame.end ≡ cycle }
         ensures byte { result ≡ (if is_last frame then Some frame.byte else None) }
@@ -133,7 +134,7 @@ impl Transmitter {
 
     fn end_frame(&mut self, format: Format, cycle: u32)
         requires format { IsFormat format }
-        requires cycle { cycle < 160000000 }
+        requires cycle { cycle < MOST_CYCLES }
         ensures state { self.new ≡ frame_over self.old self.old.buffer format cycle }
         ensures stands { Sends self.new.frame (cycle + 1) }
     {

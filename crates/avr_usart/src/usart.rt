@@ -12,7 +12,7 @@ use crate::registers::{
     RXCIE0, RXEN0, Register, TXC0, TXCIE0, TXEN0, U2X0, UDRIE0, moves, named, register_at,
 };
 use crate::transmitter::Transmitter;
-use sim_base::{Level, reads_one};
+use sim_base::{Level, MOST_CYCLES, reads_one};
 use std::marker::Model;
 use unit_law::{Pad, Request, Unit, has_bit, least, one, or_end, with_bit, within_run};
 
@@ -35,12 +35,13 @@ impl Model for Usart {
     ghost use Rattle.avr_usart.specs.Transmitter.{Sends};
     ghost use Rattle.avr_usart.specs.Receiver.{Receives};
     ghost use Rattle.avr_usart.specs.Usart.{Usart as State};
+    ghost use Rattle.sim_base.specs.declared.limits.TheConstants.{MOST_CYCLES};
 
     ghost Value = { At State };
 
     ghost view = { λ u. record { unit = record { ucsra = u.ucsra; ucsrb = u.ucsrb; ucsrc = u.ucsrc; ubrr = u.ubrr; transmitter = u.transmitter; receiver = u.receiver }; cycle = u.cycle } };
 
-    ghost invariant = { λ u. record { end : u.cycle ≤ 160000000; ucsra : u.ucsra < 4; ubrr : u.ubrr < 4096; sends : Sends u.transmitter.frame u.cycle; receives : Receives u.receiver.reception u.cycle } };
+    ghost invariant = { λ u. record { end : u.cycle ≤ MOST_CYCLES; ucsra : u.ucsra < 4; ubrr : u.ubrr < 4096; sends : Sends u.transmitter.frame u.cycle; receives : Receives u.receiver.reception u.cycle } };
 }
 
 impl Unit for Usart {

@@ -8,6 +8,7 @@ use Rattle.sim_base.specs.declared.signal.Level.{Level}
 use Rattle.sim_base.specs.declared.signal.Drive.{Drive}
 use Rattle.sim_base.specs.declared.wiring.Wiring.{Wiring}
 use Rattle.sim_base.specs.declared.wiring.Input.{Input}
+use Rattle.sim_base.specs.declared.limits.TheConstants.{MOST_CYCLES}
 use Rattle.part_law.specs.Machine.{Machine, Laws, glide, dues, sent, IsQuiet, IsSame, IsFirstDue}
 use Rattle.part_law.proofs.MachineLemmas.{glide_valid, glide_drives, glide_contacts, glide_pins, glide_ports, glide_holds}
 use Rattle.board_model.specs.Board.{level_at, own_nets, input_at, states, bytes}
@@ -283,13 +284,13 @@ module _ {S P : Type 0} (m : Machine S) (laws : Laws m) (w : Wiring) (state : P 
     pub bytes_are : bytes m w inputs (Ts m laws w state now wakes t parts) t (u - t) ≡ bs
 
   pub alone_goes : (t u limit : ℕ) (parts new : List P) (kept : Kept) (after : List (Option ℕ)) (changed : Bool) (steps more who : ℕ) (p q : P) (d : Option ℕ) (ds : List Drive) (cs : List Bool) → IsTold m (map state new) (retold kept.seen ds cs).circuit →
-      Lags m w state now wakes t parts kept → kept.stale ≡ false → 0 < t → u ≤ limit → limit ≤ 160000000 → IsAlone inputs kept.dues kept.input who t limit →
+      Lags m w state now wakes t parts kept → kept.stale ≡ false → 0 < t → u ≤ limit → limit ≤ MOST_CYCLES → IsAlone inputs kept.dues kept.input who t limit →
       WentAlone m state now wakes who t u parts new kept.dues after changed steps more p q d →
       Goes t u parts new kept (record { input = kept.input; stale = changed; dues = after; differ = kept.differ; seen = retold kept.seen ds cs; answers = kept.answers }) steps more (sent m (glided m state now wakes t p) t (u - t))
   alone_goes t u limit parts new kept after changed steps more who p q d ds cs told lags fresh later within end alone went =
       let further = went.further in
       let order : t ≤ u = omega (arith, further) in
-      let last : u ≤ 160000000 = omega (arith, within, end) in
+      let last : u ≤ MOST_CYCLES = omega (arith, within, end) in
       let quiet : (k : ℕ) (x : P) → k ≢ who → slice_get parts k ≡ Some x → IsQuiet m (state x) (now x) (u - now x) = λ k x other ex.
       let inside : k < length kept.dues = omega (arith, slice_get_within parts k x ex, lags.dues_long) in
       let ed : slice_get kept.dues k ≡ Some (get_or kept.dues k None) = get_within kept.dues k None inside in

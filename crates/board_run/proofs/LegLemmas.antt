@@ -27,6 +27,7 @@ use Rattle.board_run.specs.Seen.{Seen, Suits, IsOf, IsTold, AreUnset, shown, sho
 use Rattle.board_run.specs.Lagging.{glided, AreDue}
 use Rattle.board_run.specs.Legs.{Kept, Lags, Leg}
 use Rattle.sim_base.specs.Rows.{StopsWithin, AreFronts, Handed}
+use Rattle.sim_base.specs.declared.limits.TheConstants.{MOST_CYCLES}
 use Rattle.board_run.proofs.NextLemmas.{quiet_until}
 use Rattle.board_run.proofs.HandLemmas.{stops_after, nothing_more}
 use Rattle.board_run.proofs.ShowLemmas.{fronts, still_of, still_same}
@@ -271,7 +272,7 @@ module _ {S P : Type 0} (m : Machine S) (laws : Laws m) (w : Wiring) (state : P 
     pub byte_none : bytes m w inputs (Ts m laws w state now wakes t parts) t (u - t) ≡ []
     pub lags : Lags m w state now wakes u parts kept
 
-  pub jumps_to : (t u : ℕ) (parts : List P) (kept : Kept) (steps : ℕ) → Lags m w state now wakes t parts kept → 0 < t → t ≤ u → u ≤ 160000000 → (kept.stale ≡ true → u ≡ t) →
+  pub jumps_to : (t u : ℕ) (parts : List P) (kept : Kept) (steps : ℕ) → Lags m w state now wakes t parts kept → 0 < t → t ≤ u → u ≤ MOST_CYCLES → (kept.stale ≡ true → u ≡ t) →
       ((k x : ℕ) → slice_get kept.dues k ≡ Some (Some x) → u ≤ x) → ((v k : ℕ) → t ≤ v → v < u → input_at inputs v k ≡ None) → Jumps t u parts kept steps
   unfolding rows bytes
   jumps_to t u parts kept steps lags after order end stays due silent = go kept.stale refl

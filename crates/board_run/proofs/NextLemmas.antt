@@ -10,13 +10,14 @@ use Rattle.board_run.specs.Upcoming.{AreBehind, IsInOrder}
 use Rattle.board_run.specs.Lagging.{MayTurn, AreLate}
 use Rattle.board_run.specs.Legs.{Kept, Lags}
 use Rattle.sim_base.specs.declared.wiring.Wiring.{Wiring}
+use Rattle.sim_base.specs.declared.limits.TheConstants.{MOST_CYCLES}
 use Rattle.board_run.proofs.ScriptLemmas.{others_leave}
 
 below_or : (u t : ℕ) → (u < t) ⊎ (t ≤ u)
 below_or u t = grind arith
 
 -- nothing is due before v, if the due cycle is not before it
-pub quiet_until : {S P : Type 0} (m : Machine S) (state : P → S) (now wakes : P → ℕ) (t v : ℕ) (d : Option ℕ) (p : P) → t ≤ v → v ≤ 160000000 → MayTurn m state now wakes t d p →
+pub quiet_until : {S P : Type 0} (m : Machine S) (state : P → S) (now wakes : P → ℕ) (t v : ℕ) (d : Option ℕ) (p : P) → t ≤ v → v ≤ MOST_CYCLES → MayTurn m state now wakes t d p →
     ((u : ℕ) → d ≡ Some u → t ≤ u → v ≤ u) → IsQuiet m (state p) (now p) (v - now p)
 quiet_until m state now wakes t v d p order end may late = go d may.first late
   where

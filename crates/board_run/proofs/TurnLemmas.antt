@@ -16,6 +16,7 @@ use Rattle.board_laws.specs.Stands.{Stands}
 use Rattle.board_laws.proofs.StandsLaw.{stands_here, stands_shows, stands_valid, stands_sleeps, stands_silent}
 use Rattle.std.proofs.lemmas.Option.{slice_get_within}
 use Rattle.std.proofs.lemmas.List.{length-map}
+use Rattle.sim_base.specs.declared.limits.TheConstants.{MOST_CYCLES}
 use Rattle.board_model.proofs.Lists.{some_same, lt_or_eq, get_set_same, get_set_other, get_within, get_map_some, take_set_more}
 use Rattle.board_model.proofs.Steps.{length-steps_from, get_step}
 use Rattle.board_run.proofs.StepLemmas.{get_answer}
@@ -29,7 +30,7 @@ zero_or_more : (t : ℕ) → (t ≡ 0) ⊎ (0 < t)
 zero_or_more t = grind arith
 
 -- it is due exactly where its due cycle is this one
-pub due_is : {S : Type 0} (m : Machine S) (r s : S) (a t : ℕ) (d : Option ℕ) → t < 160000000 → Stands m t a r s → IsFirstDue m r a d → is_at d t ≡ m.due s t
+pub due_is : {S : Type 0} (m : Machine S) (r s : S) (a t : ℕ) (d : Option ℕ) → t < MOST_CYCLES → Stands m t a r s → IsFirstDue m r a d → is_at d t ≡ m.due s t
 due_is m r s a t d end h first = go d first
   where
     later : a ≤ t
@@ -66,7 +67,7 @@ may_wake m laws state now wakes t p due input own differs may other wake asleep 
 
 module _ {S P : Type 0} (m : Machine S) (laws : Laws m) (w : Wiring) (inputs : List Input) (state : P → S) (now wakes : P → ℕ) (ls : List Level) (t k : ℕ) where
   -- whether it is woken is whether it is active
-  pub wake_is : (p : P) (s : S) (due input : Option ℕ) (differs : Bool) → t < 160000000 → MayTurn m state now wakes t due p → Stands m t (now p) (state p) s →
+  pub wake_is : (p : P) (s : S) (due input : Option ℕ) (differs : Bool) → t < MOST_CYCLES → MayTurn m state now wakes t due p → Stands m t (now p) (state p) s →
       (0 < t → differs ≡ not (same_list same_level (levels_on m w ls k s) (m.held s))) → input ≡ input_at inputs t k → to_wake due t input differs ≡ is_active m w inputs ls t k s
   wake_is p s due input differs end may stands is_differing is_input = elim (zero_or_more t) [
     | inl first ↦
@@ -80,7 +81,7 @@ module _ {S P : Type 0} (m : Machine S) (laws : Laws m) (w : Wiring) (inputs : L
         ∙ ap (λ (b : Bool). m.due s t || (is_some (input_at inputs t k) || b)) (is_differing after)
   ]
 
-  pub had_turn : (p q : P) (s : S) (due input byte : Option ℕ) (own : List Level) (differs changed : Bool) → t < 160000000 → MayTurn m state now wakes t due p → Stands m t (now p) (state p) s →
+  pub had_turn : (p q : P) (s : S) (due input byte : Option ℕ) (own : List Level) (differs changed : Bool) → t < MOST_CYCLES → MayTurn m state now wakes t due p → Stands m t (now p) (state p) s →
       own ≡ map (level_at ls) (own_nets w k (length (m.drives s))) → (0 < t → differs ≡ not (same_list same_level (levels_on m w ls k s) (m.held s))) → input ≡ input_at inputs t k →
       turned m state now wakes (to_wake due t input differs) t own input p q byte changed → HadTurn m w inputs state now wakes ls t k p q s byte changed
   had_turn p q s due input byte own differs changed end may stands is_own is_differing is_input turn =
@@ -236,7 +237,7 @@ due_set m state now wakes parts dues i q d hp hd are first k p e ep ee = elim (e
 
 -- the turn of a part that is awaited
 pub awaited_turn : {S P : Type 0} (m : Machine S) (laws : Laws m) (w : Wiring) (given inputs : List Input) (state : P → S) (now wakes : P → ℕ) (ls own : List Level) (flags : List Bool) (t : ℕ) (parts : List P) (ts : List S) →
-    t < 160000000 → Awaits m w state now given inputs ls own flags t parts ts → (k : ℕ) (p q : P) (s : S) (due input byte : Option ℕ) (first pins : ℕ) (differs changed : Bool) →
+    t < MOST_CYCLES → Awaits m w state now given inputs ls own flags t parts ts → (k : ℕ) (p q : P) (s : S) (due input byte : Option ℕ) (first pins : ℕ) (differs changed : Bool) →
     slice_get parts k ≡ Some p → slice_get ts k ≡ Some s → slice_get flags k ≡ Some differs → MayTurn m state now wakes t due p → first ≡ slice_index w.first_pin k → pins ≡ length (m.drives (state p)) → input ≡ input_at given t k →
     turned m state now wakes (to_wake due t input differs) t (take (first + pins - first) (drop first own)) input p q byte changed →
     HadTurn m w inputs state now wakes ls t k p q s byte changed

@@ -14,7 +14,7 @@ use crate::hand::hand_byte;
 use crate::reading::Reading;
 use event_queue::DueTree;
 use part_law::{Part, Went};
-use sim_base::{Steps, Watcher, Wiring, WriteEnd};
+use sim_base::{MOST_CYCLES, Steps, Watcher, Wiring, WriteEnd};
 use std::sync::ledger::Ledger;
 
 /// A part that was left behind goes on by itself from cycle t, up to the limit or its first wake that may show something.
@@ -27,7 +27,7 @@ fn go_alone<P: Part, L: Ledger>(
     steps: &mut Steps<L>,
 ) -> Went
     requires order { t < limit }
-    requires end { limit ≤ 160000000 }
+    requires end { limit ≤ MOST_CYCLES }
     requires may { MayTurn P.machine P.state P.now P.wake_count t due.old part.old }
     requires valid { P.machine.valid (P.state part.old) (P.now part.old) ≡ true }
     ensures now { P.now part.new ≡ result.to }
@@ -64,7 +64,7 @@ pub(crate) fn stretch<P: Part, W: Watcher, L: Ledger>(
     steps: &mut Steps<L>,
 ) -> Option<(bool, u32)>
     requires order { t < limit }
-    requires end { limit ≤ 160000000 }
+    requires end { limit ≤ MOST_CYCLES }
     requires who { who < length parts.old }
     requires dues { length dues.old ≡ length parts.old }
     requires fits { Fits P.machine wiring.now (map P.state parts.old) }

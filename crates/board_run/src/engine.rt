@@ -21,7 +21,7 @@ use crate::show::{Next, show_cycle};
 use crate::turn::{Woken, wake_active};
 use event_queue::DueTree;
 use part_law::Part;
-use sim_base::{Input, Steps, Watcher, Wiring, WriteEnd};
+use sim_base::{Input, MOST_CYCLES, Steps, Watcher, Wiring, WriteEnd};
 use std::sync::ledger::Ledger;
 
 /// Gives every part its turn on the levels that were read.
@@ -37,7 +37,7 @@ fn turn_read<P: Part, L: Ledger>(
     t: u32,
     steps: &mut Steps<L>,
 ) -> Woken
-    requires end { t < 160000000 }
+    requires end { t < MOST_CYCLES }
     requires few { length parts.old ≤ 64 }
     requires fits { Fits P.machine wiring.now (map P.state parts.old) }
     requires may { (k : ℕ) (p : _) (d : Option ℕ) → slice_get parts.old k ≡ Some p → slice_get dues.old k ≡ Some d → MayTurn P.machine P.state P.now P.wake_count t d p }
@@ -88,7 +88,7 @@ pub(crate) fn event<P: Part, W: Watcher, L: Ledger>(
     out: &mut W,
     steps: &mut Steps<L>,
 ) -> Option<Next>
-    requires end { t < 160000000 }
+    requires end { t < MOST_CYCLES }
     requires order { IsInOrder inputs.now }
     requires behind { AreBehind inputs.now next.input t }
     requires lags { Lags P.machine wiring.now P.state P.now P.wake_count t parts.old

@@ -18,7 +18,7 @@ use crate::reading::Reading;
 use crate::show::Next;
 use event_queue::DueTree;
 use part_law::Part;
-use sim_base::{Input, Steps, Watcher, Wiring};
+use sim_base::{Input, MOST_CYCLES, Steps, Watcher, Wiring};
 use std::sync::ledger::Ledger;
 
 /// The due cycle if it is before n, and else n.
@@ -144,7 +144,7 @@ fn event_and_jump<P: Part, W: Watcher, L: Ledger>(
     steps: &mut Steps<L>,
 ) -> Option<(Next, u32)>
     requires before { t < n }
-    requires end { n ≤ 160000000 }
+    requires end { n ≤ MOST_CYCLES }
     requires order { IsInOrder inputs.now }
     requires behind { AreBehind inputs.now next.input t }
     requires lags { Lags P.machine wiring.now P.state P.now P.wake_count t parts.old
@@ -195,7 +195,7 @@ fn advance<P: Part, W: Watcher, L: Ledger>(
     steps: &mut Steps<L>,
 ) -> Option<(Next, u32)>
     requires before { t < n }
-    requires end { n ≤ 160000000 }
+    requires end { n ≤ MOST_CYCLES }
     requires order { IsInOrder inputs.now }
     requires behind { AreBehind inputs.now next.input t }
     requires lags { Lags P.machine wiring.now P.state P.now P.wake_count t parts.old
@@ -254,7 +254,7 @@ fn run_legs<P: Part, W: Watcher, L: Ledger>(
     steps: &mut Steps<L>,
 ) -> Option<Next>
     requires before { from < n }
-    requires end { n ≤ 160000000 }
+    requires end { n ≤ MOST_CYCLES }
     requires order { IsInOrder inputs.now }
     requires behind { AreBehind inputs.now next.input from }
     requires lags { Lags P.machine wiring.now P.state P.now P.wake_count from parts.old
@@ -295,7 +295,7 @@ fn run_legs<P: Part, W: Watcher, L: Ledger>(
 /// Brings a part to the cycle, and asks it when it is due.
 #[inline]
 fn settle_one<P: Part>(part: &mut P, n: u32) -> Option<u32>
-    requires end { n ≤ 160000000 }
+    requires end { n ≤ MOST_CYCLES }
     requires later { P.now part.old ≤ n }
     requires quiet { IsQuiet P.machine (P.state part.old) (P.now part.old) (n - P.now part.old) }
     ensures state { P.state part.new ≡ glided P.machine P.state P.now P.wake_count n part.old }
@@ -309,7 +309,7 @@ fn settle_one<P: Part>(part: &mut P, n: u32) -> Option<u32>
 
 /// Brings every part to the cycle, and asks it when it is due.
 fn settle_all<P: Part>(parts: &mut [P], dues: &mut DueTree, n: u32)
-    requires end { n ≤ 160000000 }
+    requires end { n ≤ MOST_CYCLES }
     requires few { length parts.old ≤ 64 }
     requires dues { length dues.old ≡ length parts.old }
     requires later { (k : ℕ) (p : _) → slice_get parts.old k ≡ Some p → P.now p ≤ n }
@@ -341,7 +341,7 @@ pub(crate) fn run_jumping<P: Part, W: Watcher, L: Ledger>(
     steps: &mut Steps<L>,
 ) -> Option<Next>
     requires before { from < n }
-    requires end { n ≤ 160000000 }
+    requires end { n ≤ MOST_CYCLES }
     requires order { IsInOrder inputs.now }
     requires behind { AreBehind inputs.now next.input from }
     requires at { AreAt P.now from parts.old }

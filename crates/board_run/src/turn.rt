@@ -14,7 +14,7 @@ use crate::tell::tell;
 use event_queue::DueTree;
 use net_resolve::Nets;
 use part_law::Part;
-use sim_base::{Input, Level, Steps, Wiring};
+use sim_base::{Input, Level, MOST_CYCLES, Steps, Wiring};
 use std::sync::ledger::Ledger;
 
 /// Whether a drive or a contact may have changed where parts were woken, and whether one sent a byte.
@@ -53,7 +53,7 @@ fn wake_late<P: Part, L: Ledger>(
     t: u32,
     steps: &mut Steps<L>,
 ) -> (Option<u8>, bool)
-    requires end { t < 160000000 }
+    requires end { t < MOST_CYCLES }
     requires may { MayTurn P.machine P.state P.now P.wake_count t due.old part.old }
     requires pins { length own.now ≡ length (P.machine.drives (P.state part.old)) }
     requires active { MayWake P.machine (glided P.machine P.state P.now P.wake_count t part.old) t own.now input }
@@ -81,7 +81,7 @@ fn take_turn<P: Part, L: Ledger>(
     t: u32,
     steps: &mut Steps<L>,
 ) -> (Option<u8>, bool)
-    requires end { t < 160000000 }
+    requires end { t < MOST_CYCLES }
     requires may { MayTurn P.machine P.state P.now P.wake_count t due.old part.old }
     requires pins { length own.now ≡ length (P.machine.drives (P.state part.old)) }
     requires differs { differs ≡ true → 0 < t → P.machine.held (P.state part.old) ≢ own.now }
@@ -113,7 +113,7 @@ pub(crate) fn wake_active<P: Part, L: Ledger>(
     nets: &mut Nets,
     steps: &mut Steps<L>,
 ) -> Woken
-    requires end { t < 160000000 }
+    requires end { t < MOST_CYCLES }
     requires few { length parts.old ≤ 64 }
     requires fits { Fits P.machine wiring.now (map P.state parts.old) }
     requires may { (k : ℕ) (p : _) (d : Option ℕ) → slice_get parts.old k ≡ Some p → slice_get dues.old k ≡ Some d → MayTurn P.machine P.state P.now P.wake_count t d p }

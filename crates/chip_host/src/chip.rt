@@ -12,7 +12,7 @@ use crate::timer::{again, is_at};
 use crate::watch::{is_edge, reading};
 use chip_abi::ImportMap;
 use part_law::Part;
-use sim_base::{Drive, Level, List, Name, OutOfMemory, Text};
+use sim_base::{Drive, Level, List, MOST_CYCLES, Name, OutOfMemory, Text};
 use std::alloc::Global;
 use std::marker::Model;
 use wasm_exec::Instance;
@@ -35,6 +35,7 @@ impl Model for Chip {
     ghost use Rattle.wasm_validate.specs.Rules.{imported_functions};
     ghost use Rattle.chip_abi.specs.HostNames.{type_of_name};
     ghost use Rattle.chip_host.specs.Chip.{ChipAt, chip_from};
+    ghost use Rattle.sim_base.specs.declared.limits.TheConstants.{MOST_CYCLES};
 
     ghost Value = { ChipAt };
 
@@ -45,7 +46,7 @@ impl Model for Chip {
       set : p.host.moment.init ≡ false;
       before : length p.before.items ≡ length p.host.moment.given.names;
       levels : length p.host.moment.levels ≡ length p.host.moment.given.names;
-      end : p.host.moment.now ≤ 160000000;
+      end : p.host.moment.now ≤ MOST_CYCLES;
     } };
 }
 
@@ -170,7 +171,7 @@ impl Chip {
 
     fn next_due(&self) -> Option<u32>
         ensures due { result ≡ next_due self.now.chip self.now.cycle }
-        ensures end { self.now.cycle ≤ 160000000 }
+        ensures end { self.now.cycle ≤ MOST_CYCLES }
     {
         let cycle = self.host.cycle();
         if cycle == 0 {
@@ -198,7 +199,7 @@ impl Chip {
 
     /// All turns of its cycle.
     fn take_turns(&mut self)
-        requires end { self.old.cycle < 160000000 }
+        requires end { self.old.cycle < MOST_CYCLES }
         requires count { self.old.wakes ≤ self.old.cycle }
         ensures { self.new ≡ turned self.old }
     {
@@ -210,7 +211,7 @@ impl Chip {
     }
 
     fn pass_to(&mut self, to: u32)
-        requires { to ≤ 160000000 }
+        requires { to ≤ MOST_CYCLES }
         ensures { self.new ≡ record self.old { cycle = to } }
     {
         self.host.pass_to(to);

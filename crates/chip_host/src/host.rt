@@ -16,7 +16,7 @@ use crate::pin::{Pin, drive_of, with_mode};
 use crate::timer::{Delay, Timer, first_due, started, stopped};
 use crate::watch::Watch;
 use chip_abi::{HostName, ImportMap, read_string, read_word};
-use sim_base::{Drive, Level, List, Name, OutOfMemory, Text, reads_one};
+use sim_base::{Drive, Level, List, MOST_CYCLES, Name, OutOfMemory, Text, reads_one};
 use std::alloc::Global;
 use std::marker::Model;
 use wasm_eval::Host;
@@ -41,6 +41,7 @@ impl Model for ChipHost {
     ghost use Rattle.std.specs.Prelude.{◌≡◌, ◌≤◌, length};
     ghost use Rattle.std.specs.Vec.{vec_capacity};
     ghost use Rattle.chip_host.specs.Inventory.{HostState};
+    ghost use Rattle.sim_base.specs.declared.limits.TheConstants.{MOST_CYCLES};
 
     ghost Value = { HostState };
 
@@ -56,7 +57,7 @@ impl Model for ChipHost {
       watches : length c.watches.items ≡ length c.names;
       timer_room : 32 ≤ vec_capacity c.timers;
       attribute_room : 64 ≤ vec_capacity c.attributes;
-      end : c.cycle ≤ 160000000;
+      end : c.cycle ≤ MOST_CYCLES;
     } };
 }
 
@@ -412,14 +413,14 @@ impl ChipHost {
 
     pub fn cycle(&self) -> u32
         ensures value { result ≡ self.now.moment.now }
-        ensures end { result ≤ 160000000 }
+        ensures end { result ≤ MOST_CYCLES }
     {
         self.cycle
     }
 
     /// Goes to a cycle.
     pub fn pass_to(&mut self, to: u32)
-        requires { to ≤ 160000000 }
+        requires { to ≤ MOST_CYCLES }
         ensures { self.new ≡ record self.old { moment = record self.old.moment { now = to } } }
     {
         self.cycle = to;

@@ -4,6 +4,8 @@ ghost use Rattle.chip_host.specs.HostCall.{cycles_of, started};
 ghost use Rattle.chip_host.specs.Chip.{again, is_at};
 ghost use Rattle.chip_host.specs.FirstDue.{due_from, earlier, first_due};
 
+use sim_base::MOST_CYCLES;
+
 /// A delay, as it was asked.
 #[derive(Clone, Copy, Debug, PartialEq, Eq)]
 pub enum Delay {
@@ -90,7 +92,7 @@ fn due_from(from: u32, due: Option<u64>) -> Option<u32>
 {
     match due {
         Some(cycle) => {
-            if u64::from(from) <= cycle && cycle < 160_000_000 {
+            if u64::from(from) <= cycle && cycle < MOST_CYCLES {
                 Some(cycle as u32)
             } else {
                 None

@@ -11,7 +11,7 @@ ghost use Rattle.cli_bare.specs.Bare.{bare_run};
 use crate::uno::make_plan;
 use cli_board::{Outputs, run_board};
 use cli_work::{HexFile, WorkEnd, read_document};
-use sim_base::{Bench, Flash, Steps};
+use sim_base::{Bench, Flash, MOST_CYCLES, Steps};
 use std::alloc::Global;
 use std::sync::ledger::Ledger;
 
@@ -24,7 +24,7 @@ fn run_bare<B: Bench, L: Ledger>(
     steps: &mut Steps<L>,
 ) -> WorkEnd
     requires some { 0 < n }
-    requires end { n ≤ 160000000 }
+    requires end { n ≤ MOST_CYCLES }
     ensures ran { Ran (outcome_of result) (bare_run flash n) (B.outside bench.old) (B.outside bench.new) }
     ensures steps { outcome_of result ≡ ends.Accepted → steps.new ≡ steps.old + (bare_run flash n).wakes }
 {

@@ -17,7 +17,7 @@ use any_part::AnyPart;
 use board_build::PlanPart;
 use board_report::write_report_of;
 use board_run::{Board, RunEnd};
-use sim_base::{Bench, Port, Steps, WriteEnd};
+use sim_base::{Bench, MOST_CYCLES, Port, Steps, WriteEnd};
 use std::snapshot::Snapshot;
 use std::sync::ledger::Ledger;
 use vcd_text::{WaveHead, WaveWriter};
@@ -56,7 +56,7 @@ fn play<B: Bench, L: Ledger>(
     requires alive { board.old.given_up ≡ false }
     requires before { board.old.before ≡ None }
     requires some { 0 < n }
-    requires end { n ≤ 160000000 }
+    requires end { n ≤ MOST_CYCLES }
     requires opened { wave ≡ true → (B.outside bench.old).opened Port.Wave ≡ true }
     ensures wrote { WritesTexts result (texts wave serial (wave_text head.old.variables (rows any board.old.wiring board.old.inputs None (map state_of board.old.parts) 0 n) n) (bytes any board.old.wiring board.old.inputs (map state_of board.old.parts) 0 n)) (B.outside bench.old) (B.outside bench.new) }
     ensures alive { result ≡ WriteEnd.Ok → board.new.given_up ≡ false }
@@ -105,7 +105,7 @@ pub(crate) fn write_run<B: Bench, L: Ledger>(
     requires alive { board.old.given_up ≡ false }
     requires before { board.old.before ≡ None }
     requires some { 0 < n }
-    requires end { n ≤ 160000000 }
+    requires end { n ≤ MOST_CYCLES }
     ensures wrote { Writes result (texts_for (outputs_of outputs.entry)
         (wave_text head.old.variables (rows any board.old.wiring board.old.inputs None (map state_of board.old.parts) 0 n) n)
         (bytes any board.old.wiring board.old.inputs (map state_of board.old.parts) 0 n)

@@ -15,7 +15,7 @@ use any_part::load;
 use board_build::Plan;
 use board_run::Board;
 use cli_work::WorkEnd;
-use sim_base::{Bench, Flash, OutOfMemory, Steps, WriteEnd};
+use sim_base::{Bench, Flash, MOST_CYCLES, OutOfMemory, Steps, WriteEnd};
 use std::alloc::Global;
 use std::sync::ledger::Ledger;
 use vcd_text::WaveHead;
@@ -29,7 +29,7 @@ fn make_head(alloc: Global, plan: &Plan) -> Result<WaveHead, OutOfMemory>
     WaveHead::of(alloc, variables)
 }
 
-/// Takes all memory that the run of a plan for `n` cycles needs, at most 160,000,000, and runs it: the
+/// Takes all memory that the run of a plan for `n` cycles needs, at most `MOST_CYCLES`, and runs it: the
 /// wave and the report are opened, then the wave and the bytes are written, and then the report.
 pub fn run_board<B: Bench, L: Ledger>(
     alloc: Global,
@@ -43,7 +43,7 @@ pub fn run_board<B: Bench, L: Ledger>(
     requires plan { IsPlan [] plan }
     requires inputs { AreInputs (length plan.parts) plan.inputs }
     requires some { 0 < n }
-    requires end { n ≤ 160000000 }
+    requires end { n ≤ MOST_CYCLES }
     ensures ran { Ran (outcome_of result) (run_texts (outputs_of outputs.entry) (record { flash = flash; plan = plan }) n) (B.outside bench.old) (B.outside bench.new) }
     ensures steps { outcome_of result ≡ ends.Accepted → steps.new ≡ steps.old + run_wakes (record { flash = flash; plan = plan }) n }
 {

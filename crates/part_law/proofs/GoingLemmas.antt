@@ -2,6 +2,7 @@
 use Rattle.std.proofs.Common.{◌≡◌, ℕ, zero, suc, ◌+◌, ◌-◌, ◌<◌, ◌≤◌, List, ◌++◌, Bool, ◌||◌, true, false, Option, None, Some, refl, ap, sym, ◌∙◌, arith, subst, ◌⊎◌, inl, inr}
 use Rattle.std.specs.Prelude.{if◌then◌else◌}
 use Rattle.std.specs.Option.{option_to_list, is_some}
+use Rattle.sim_base.specs.declared.limits.TheConstants.{MOST_CYCLES}
 use Rattle.part_law.specs.Machine.{Machine, Laws, idle, idle_byte, glide, dues, IsQuiet, IsFirstDue, IsSame}
 use Rattle.part_law.specs.Going.{Gone, Woke}
 use Rattle.part_law.proofs.MachineLemmas.{glide_valid}
@@ -136,7 +137,7 @@ module _ {S : Type 0} (m : Machine S) where
       (f.0, h.1, f.2, f.3)
 
   -- and else nothing is due before the limit
-  pub quiet_to : (s : S) (t limit : ℕ) (d : Option ℕ) → limit ≤ 160000000 → IsFirstDue m s t d → ((u : ℕ) → d ≡ Some u → limit ≤ u) → IsQuiet m s t (limit - t)
+  pub quiet_to : (s : S) (t limit : ℕ) (d : Option ℕ) → limit ≤ MOST_CYCLES → IsFirstDue m s t d → ((u : ℕ) → d ≡ Some u → limit ≤ u) → IsQuiet m s t (limit - t)
   quiet_to s t limit None end first late = λ k (h : k < limit - t). first k (omega arith)
   quiet_to s t limit (Some u) end first late =
       let l : limit ≤ u = late u refl in

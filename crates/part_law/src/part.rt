@@ -6,7 +6,7 @@ ghost use Rattle.std.specs.Option.{option_to_list};
 
 use crate::going::below;
 use crate::span::Span;
-use sim_base::{Drive, Level, Steps};
+use sim_base::{Drive, Level, MOST_CYCLES, Steps};
 use std::sync::ledger::Ledger;
 
 /// Where `Part::go_on` stopped, and what its last wake showed.
@@ -81,7 +81,7 @@ pub trait Part {
     /// Goes on to cycle `to`, before which nothing is due: as many steps on the held levels.
     fn settle(&mut self, to: u32)
         requires later { now self.old ≤ to }
-        requires end { to ≤ 160000000 }
+        requires end { to ≤ MOST_CYCLES }
         requires quiet { IsQuiet machine (state self.old) (now self.old) (to - now self.old) }
         ensures state { state self.new ≡ glide machine (state self.old) (now self.old) (to - now self.old) }
         ensures now { now self.new ≡ to }
@@ -91,7 +91,7 @@ pub trait Part {
     /// only where it is due, or a script value comes, or a level differs from the one that it holds.
     fn wake(&mut self, levels: &[Level], input: Option<u16>) -> Option<u8>
         requires pins { length levels.now ≡ length (machine.drives (state self.old)) }
-        requires end { now self.old < 160000000 }
+        requires end { now self.old < MOST_CYCLES }
         requires count { wake_count self.old ≤ now self.old }
         requires may { MayWake machine (state self.old) (now self.old) levels.now input }
         ensures state { state self.new ≡ (machine.step (state self.old) (now self.old) levels.now input).0 }
@@ -105,7 +105,7 @@ pub trait Part {
     /// Does one step on the levels that it holds, as `wake` does on those: for an engine that knows
     /// that no level changed since the last wake.
     fn wake_held(&mut self, input: Option<u16>) -> Option<u8>
-        requires end { now self.old < 160000000 }
+        requires end { now self.old < MOST_CYCLES }
         requires count { wake_count self.old ≤ now self.old }
         requires may { MayWake machine (state self.old) (now self.old) (machine.held (state self.old)) input }
         ensures state { state self.new ≡ (machine.step (state self.old) (now self.old) (machine.held (state self.old)) input).0 }
@@ -122,7 +122,7 @@ pub trait Part {
     /// stop earlier, but goes on by one cycle at least.
     fn go_on<L: Ledger>(&mut self, limit: u32, steps: &mut Steps<L>) -> Went
         requires later { now self.old ≤ limit }
-        requires end { limit ≤ 160000000 }
+        requires end { limit ≤ MOST_CYCLES }
         requires count { wake_count self.old ≤ now self.old }
         requires valid { machine.valid (state self.old) (now self.old) ≡ true }
         ensures to { now self.new ≡ result.to }

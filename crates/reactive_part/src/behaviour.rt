@@ -2,7 +2,7 @@
 ghost use Rattle.std.specs.Prelude.{◌≡◌, ℕ, ◌<◌, ◌≤◌, false, length, slice_get, Some};
 ghost use Rattle.reactive_part.specs.Reaction.{Reaction, ReactionLaws};
 
-use sim_base::{Drive, Level};
+use sim_base::{Drive, Level, MOST_CYCLES};
 
 /// A part that does nothing by itself, but for the levels of its pins, which `Reactive` holds.
 pub trait Behaviour {
@@ -35,7 +35,7 @@ pub trait Behaviour {
     fn react(&mut self, before: &[Level], now: &[Level], input: Option<u16>) -> bool
         requires before { length before.now ≡ length (reaction.drives (own self.old)) }
         requires pins { length now.now ≡ length (reaction.drives (own self.old)) }
-        requires counted { reaction.counted (own self.old) < 160000000 }
+        requires counted { reaction.counted (own self.old) < MOST_CYCLES }
         ensures own { own self.new ≡ reaction.react (own self.old) before.now now.now input }
         ensures drives { result ≡ false → reaction.drives (own self.new) ≡ reaction.drives (own self.old) }
         ensures contacts { result ≡ false → reaction.contacts (own self.new) ≡ reaction.contacts (own self.old) };

@@ -5,7 +5,7 @@ ghost use Rattle.reactive_part.specs.Reaction.{at_start, reactive};
 
 use crate::behaviour::Behaviour;
 use part_law::Part;
-use sim_base::{Drive, Level};
+use sim_base::{Drive, Level, MOST_CYCLES};
 use std::marker::Model;
 
 /// A part that does nothing by itself, before the step of `cycle`, with the levels of its last step.
@@ -22,13 +22,14 @@ pub struct Reactive<B: Behaviour> {
 impl<B: Behaviour> Model for Reactive<B> {
     ghost use Rattle.std.specs.Prelude.{◌≤◌, ◌≡◌, ◌==◌, ◌||◌, length, take, true};
     ghost use Rattle.reactive_part.specs.ReactiveAt.{ReactiveAt};
+    ghost use Rattle.sim_base.specs.declared.limits.TheConstants.{MOST_CYCLES};
 
     ghost Value = { ReactiveAt B };
 
     ghost view = { λ p. record { behaviour = p.behaviour; held = take p.pins p.held; cycle = p.cycle; wakes = p.wakes; changed = p.changed } };
 
     ghost invariant = { λ p. record {
-      end : p.cycle ≤ 160000000;
+      end : p.cycle ≤ MOST_CYCLES;
       few : p.pins ≤ 32;
       pins : p.pins ≡ length (B.reaction.drives (B.own p.behaviour));
       counted : B.reaction.counted (B.own p.behaviour) ≤ p.wakes;

@@ -18,42 +18,61 @@ pub record Variable : Type 0 where
   pub name : List ℕ
   pub shows : Source
 
--- the characters `0`, `1`, `x` and `z`
+-- the characters of the four values: `0`, `1`, `x` and `z`
+abbrev pub char_0 : ℕ
+char_0 = 48
+
+abbrev pub char_1 : ℕ
+char_1 = 49
+
+abbrev pub char_x : ℕ
+char_x = 120
+
+abbrev pub char_z : ℕ
+char_z = 122
+
 abbrev pub bit_value : Bool → ℕ
-bit_value false = 48
-bit_value true = 49
+bit_value false = char_0
+bit_value true = char_1
 
 -- a wiper alone on its net is shown as an input reads it
 abbrev pub level_value : Level → ℕ
-level_value levels.Low = 48
-level_value levels.High = 49
-level_value levels.X = 120
-level_value levels.Z = 122
+level_value levels.Low = char_0
+level_value levels.High = char_1
+level_value levels.X = char_x
+level_value levels.Z = char_z
 level_value (levels.Wiped w) = bit_value (is_upper w)
 
 -- the value while the pin drives strongly, else `z`
 abbrev pub strong_value : Drive → ℕ
-strong_value d = option_map_or bit_value (strong_of d) 122
+strong_value d = option_map_or bit_value (strong_of d) char_z
 
 -- the value while the pin drives weakly, else `z`
 abbrev pub weak_value : Drive → ℕ
-weak_value d = if is_weak d then option_map_or bit_value (value_of d) 122 else 122
+weak_value d = if is_weak d then option_map_or bit_value (value_of d) char_z else char_z
 
 -- what a variable has at these levels and drives; `z` where they lack its net or pin
 abbrev pub shown_value : List Level → List Drive → Source → ℕ
-shown_value levels drives (Net n) = option_map_or level_value (slice_get levels n) 122
-shown_value levels drives (Strong p) = option_map_or strong_value (slice_get drives p) 122
-shown_value levels drives (Weak p) = option_map_or weak_value (slice_get drives p) 122
+shown_value levels drives (Net n) = option_map_or level_value (slice_get levels n) char_z
+shown_value levels drives (Strong p) = option_map_or strong_value (slice_get drives p) char_z
+shown_value levels drives (Weak p) = option_map_or weak_value (slice_get drives p) char_z
 
 -- the values of all variables in a row
 abbrev pub values : List Variable → Row → List ℕ
 values variables row = map (λ v. shown_value row.levels row.drives v.shows) variables
 
+-- printable characters are those from `!` to `~`: the first, and how many there are
+abbrev pub first_printable : ℕ
+first_printable = 33
+
+abbrev pub printable : ℕ
+printable = 94
+
 -- The identifier code of variable i: one printable character for the first 94, then two.
 abbrev pub id_of : ℕ → List ℕ
 id_of i =
-    if nat_lt i 94 then (33 + i) ∷ []
-    else (33 + (i - 94) / 94) ∷ (33 + (i - 94) % 94) ∷ []
+    if nat_lt i printable then (first_printable + i) ∷ []
+    else (first_printable + (i - printable) / printable) ∷ (first_printable + (i - printable) % printable) ∷ []
 
 -- the declaration of variable i
 abbrev pub declaration : ℕ → Variable → List ℕ

@@ -9,6 +9,7 @@ use avr_timer16::{
     ICR1H, ICR1L, OCR1AH, OCR1AL, OCR1BH, OCR1BL, TCCR1A, TCCR1B, TCNT1H, TCNT1L, TIFR1, TIMSK1,
     Timer16,
 };
+use sim_base::MOST_CYCLES;
 use std::io;
 use unit_law::Unit;
 
@@ -183,6 +184,6 @@ fn stands() -> bool {
     if timer.due().is_some() {
         return false;
     }
-    timer.skip(160_000_000);
+    timer.skip(MOST_CYCLES);
     timer.due().is_none()
 }

@@ -3,6 +3,7 @@ use Rattle.std.proofs.Common.{◌≡◌, ℕ, zero, suc, ◌+◌, ◌-◌, ◌<�
 use Rattle.std.specs.Prelude.{◌==◌, ◌||◌, nat_lt, min, if◌then◌else◌}
 use Rattle.std.proofs.Math.Nat.{min-eq_left, min-eq_right, min-le_left, min-le_right}
 use Rattle.std.proofs.lemmas.Bool.Decides.{nat_tests}
+use Rattle.sim_base.specs.declared.limits.TheConstants.{MOST_CYCLES}
 use Rattle.unit_law.specs.UnitMachine.{UnitMachine, At, steps, IsQuiet, IsFirstDue}
 use Rattle.unit_law.specs.Coming.{comes, IsAhead, or_end, within_run}
 
@@ -45,11 +46,11 @@ pub before_it : (o : Option ℕ) (k : ℕ) → k < or_end o → comes o k ≡ fa
 before_it None k h = refl
 before_it (Some d) k h = not_yet d k h
 
-pub at_it : (o : Option ℕ) → or_end o < 160000000 → comes o (or_end o) ≡ true
+pub at_it : (o : Option ℕ) → or_end o < MOST_CYCLES → comes o (or_end o) ≡ true
 at_it None h = absurd (omega (arith, h))
 at_it (Some d) h = is_there d
 
-pub ahead_of : (o : Option ℕ) (t : ℕ) → IsAhead o t → t ≤ 160000000 → t ≤ or_end o
+pub ahead_of : (o : Option ℕ) (t : ℕ) → IsAhead o t → t ≤ MOST_CYCLES → t ≤ or_end o
 ahead_of None t h end = end
 ahead_of (Some d) t h end = h
 
@@ -70,18 +71,18 @@ before_both a b k h =
     let right : min (or_end a) (or_end b) ≤ or_end b = min-le_right _ _ in
     or_none _ _ (before_it a k (omega (arith, h, left))) (before_it b k (omega (arith, h, right)))
 
-pub at_both : (a b : Option ℕ) → min (or_end a) (or_end b) < 160000000 → (comes a (min (or_end a) (or_end b)) || comes b (min (or_end a) (or_end b))) ≡ true
+pub at_both : (a b : Option ℕ) → min (or_end a) (or_end b) < MOST_CYCLES → (comes a (min (or_end a) (or_end b)) || comes b (min (or_end a) (or_end b))) ≡ true
 at_both a b h = elim (le_or (or_end a) (or_end b)) [
   | inl less ↦
       let e : min (or_end a) (or_end b) ≡ or_end a = min-eq_left less in
-      or_left _ _ (subst (λ (x : ℕ). comes a x ≡ true) (sym e) (at_it a (subst (λ (x : ℕ). x < 160000000) e h)))
+      or_left _ _ (subst (λ (x : ℕ). comes a x ≡ true) (sym e) (at_it a (subst (λ (x : ℕ). x < MOST_CYCLES) e h)))
   | inr more ↦
       let le : or_end b ≤ or_end a = omega (arith, more) in
       let e : min (or_end a) (or_end b) ≡ or_end b = min-eq_right le in
-      or_right _ _ (subst (λ (x : ℕ). comes b x ≡ true) (sym e) (at_it b (subst (λ (x : ℕ). x < 160000000) e h)))
+      or_right _ _ (subst (λ (x : ℕ). comes b x ≡ true) (sym e) (at_it b (subst (λ (x : ℕ). x < MOST_CYCLES) e h)))
 ]
 
-pub ahead_both : (a b : Option ℕ) (t : ℕ) → IsAhead a t → IsAhead b t → t ≤ 160000000 → t ≤ min (or_end a) (or_end b)
+pub ahead_both : (a b : Option ℕ) (t : ℕ) → IsAhead a t → IsAhead b t → t ≤ MOST_CYCLES → t ≤ min (or_end a) (or_end b)
 ahead_both a b t h k end =
     let x : t ≤ or_end a = ahead_of a t h end in
     let y : t ≤ or_end b = ahead_of b t k end in
@@ -112,17 +113,17 @@ module _ {U : Type 0} (m : UnitMachine U) (stays : (s : U) (t : ℕ) → m.due s
   none_due s t n h k less = subst (λ (x : U). m.due x (t + k) ≡ false) (still s t k (λ j lesser. h j (omega (arith, less, lesser)))) (h k less)
 
   -- the answer of `due`
-  pub first_is : (s : U) (t d : ℕ) → t ≤ d → ((k : ℕ) → k < d → m.due s k ≡ false) → (d < 160000000 → m.due s d ≡ true) → IsFirstDue m s t (within_run d)
-  first_is s t d le none event = by (nat_lt d 160000000) refl
+  pub first_is : (s : U) (t d : ℕ) → t ≤ d → ((k : ℕ) → k < d → m.due s k ≡ false) → (d < MOST_CYCLES → m.due s d ≡ true) → IsFirstDue m s t (within_run d)
+  first_is s t d le none event = by (nat_lt d MOST_CYCLES) refl
     where
-      by : (b : Bool) → nat_lt d 160000000 ≡ b → IsFirstDue m s t (if b then Some d else None)
+      by : (b : Bool) → nat_lt d MOST_CYCLES ≡ b → IsFirstDue m s t (if b then Some d else None)
       by true soon =
-          let less : d < 160000000 = grind (arith, nat_tests, soon) in
+          let less : d < MOST_CYCLES = grind (arith, nat_tests, soon) in
           let quiet : (k : ℕ) → k < d - t → m.due s (t + k) ≡ false = λ k below. none (t + k) (omega (arith, below, le)) in
           (le, less, rests s t (d - t) quiet, subst (λ (x : U). m.due x d ≡ true) (sym (stands s t (d - t) quiet)) (event less))
       by false late =
-          let most : 160000000 ≤ d = grind (arith, nat_tests, late) in
-          rests s t (160000000 - t) (λ k below. none (t + k) (omega (arith, below, most)))
+          let most : MOST_CYCLES ≤ d = grind (arith, nat_tests, late) in
+          rests s t (MOST_CYCLES - t) (λ k below. none (t + k) (omega (arith, below, most)))
 
   -- what `skip` leaves
   pub skipped : (v s : At U) (to : ℕ) → v ≡ s → IsQuiet m s.unit s.cycle (to - s.cycle) → record v { cycle = to } ≡ record { unit = steps m s.unit s.cycle (to - s.cycle); cycle = to }
@@ -141,7 +142,7 @@ module _ {U : Type 0} (m : UnitMachine U) (stays : (s : U) (t : ℕ) → m.due s
 
     -- the answer of `due`, where d is the cycle of the first event
     pub first_at : (d : ℕ) (r : Option ℕ) → r ≡ within_run d → v.cycle ≤ d → ((k : ℕ) → k < d → m.due v.unit k ≡ false) →
-        (d < 160000000 → m.due v.unit d ≡ true) → IsFirstDue m s.unit s.cycle r
+        (d < MOST_CYCLES → m.due v.unit d ≡ true) → IsFirstDue m s.unit s.cycle r
     first_at d r is le none event =
         subst (λ (x : At U). IsFirstDue m x.unit x.cycle r) same
         (subst (λ (x : Option ℕ). IsFirstDue m v.unit v.cycle x) (sym is) (first_is v.unit v.cycle d le none event))

@@ -1,6 +1,7 @@
 -- Stretches of cycles, and a unit that lags behind by quiet ones.
 use Rattle.std.proofs.Common.{◌⊎◌, inl, inr, Bool, true, Some, None, false, zero, suc, ◌≡◌, ℕ, ◌+◌, ◌-◌, ◌<◌, ◌≤◌, ◌∙◌, List, [], arith, ap, sym, refl}
 use Rattle.sim_base.specs.declared.signal.Level.{Level}
+use Rattle.sim_base.specs.declared.limits.TheConstants.{MOST_CYCLES}
 use Rattle.unit_law.specs.UnitMachine.{UnitMachine, At, Laws, least, steps, IsQuiet, IsFirstDue, FirstDue}
 use Rattle.unit_law.specs.Late.{late_state, Lags, LateStands}
 
@@ -42,14 +43,14 @@ module _ {U : Type 0} (m : UnitMachine U) where
       laws.keeps_hears (steps m s t n) (t + n) [] before now (quiet n (omega arith)) ∙ quiet_hears laws s t n before now (λ k (h : k < n). quiet k (omega arith))
 
   -- the first event as a number
-  pub first_none : (s : U) (t : ℕ) → t ≤ 160000000 → IsFirstDue m s t None → FirstDue m s t 160000000
-  first_none s t end quiet = record { later = end; end = omega arith; quiet = quiet; event = λ (h : 160000000 < 160000000). absurd (omega arith) }
+  pub first_none : (s : U) (t : ℕ) → t ≤ MOST_CYCLES → IsFirstDue m s t None → FirstDue m s t MOST_CYCLES
+  first_none s t end quiet = record { later = end; end = omega arith; quiet = quiet; event = λ (h : MOST_CYCLES < MOST_CYCLES). absurd (omega arith) }
 
   pub first_some : (s : U) (t d : ℕ) → IsFirstDue m s t (Some d) → FirstDue m s t d
   first_some s t d first = record { later = first.0; end = omega (arith, first.1); quiet = first.2; event = λ _. first.3 }
 
   -- before its first event a unit is quiet, and no longer
-  pub quiet_within : (s : U) (t d u : ℕ) → FirstDue m s t d → t ≤ u → u ≤ 160000000 → IsQuiet m s t (u - t) → u ≤ d
+  pub quiet_within : (s : U) (t d u : ℕ) → FirstDue m s t d → t ≤ u → u ≤ MOST_CYCLES → IsQuiet m s t (u - t) → u ≤ d
   quiet_within s t d u first on end quiet = elim (le_or u d) [
     | inl le ↦ le
     | inr less ↦

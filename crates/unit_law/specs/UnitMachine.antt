@@ -2,6 +2,7 @@
 -- clocked by clkIO).
 use Rattle.std.specs.Prelude.{◌≡◌, ℕ, zero, suc, ◌+◌, ◌-◌, ◌<◌, ◌≤◌, ◌&&◌, min, List, [], ◌∷◌, Bool, true, false, if◌then◌else◌, Option, None, Some}
 use Rattle.sim_base.specs.declared.signal.Level.{Level}
+use Rattle.sim_base.specs.declared.limits.TheConstants.{MOST_CYCLES}
 use Rattle.unit_law.specs.declared.request.Request.{Request}
 use Rattle.unit_law.specs.declared.pad.Pad.{Pad}
 
@@ -70,15 +71,15 @@ module _ {U : Type 0} (m : UnitMachine U) where
 
   -- the first cycle from t on with an event, none where it lies behind the longest run
   abbrev pub IsFirstDue : U → ℕ → Option ℕ → Type 0
-  IsFirstDue s t None = IsQuiet s t (160000000 - t)
-  IsFirstDue s t (Some u) = (t ≤ u) × (u < 160000000) × IsQuiet s t (u - t) × (m.due (steps s t (u - t)) u ≡ true)
+  IsFirstDue s t None = IsQuiet s t (MOST_CYCLES - t)
+  IsFirstDue s t (Some u) = (t ≤ u) × (u < MOST_CYCLES) × IsQuiet s t (u - t) × (m.due (steps s t (u - t)) u ≡ true)
 
   -- d is the first cycle from t on with an event, or the end of the longest run, 160,000,000, where none has one
   pub record FirstDue (s : U) (t d : ℕ) : Type 0 where
     pub later : t ≤ d
-    pub end : d ≤ 160000000
+    pub end : d ≤ MOST_CYCLES
     pub quiet : IsQuiet s t (d - t)
-    pub event : d < 160000000 → m.due (steps s t (d - t)) d ≡ true
+    pub event : d < MOST_CYCLES → m.due (steps s t (d - t)) d ≡ true
 
   -- What every unit owes. A cycle without an event asks nothing else of a pin, requests nothing else, sends nothing,
   -- and does the same on all levels that stay; a change of which it takes no notice is none to it.

@@ -5,7 +5,7 @@ ghost use Rattle.sim_base.specs.declared.signal.Level.TheVariants as levels;
 ghost use Rattle.unit_law.specs.UnitMachine.{UnitMachine, Laws, least, steps, IsQuiet, FirstDue};
 
 use crate::pad::Pad;
-use sim_base::Level;
+use sim_base::{Level, MOST_CYCLES};
 
 /// Any number of units as one machine, which an owner asks at its own cycle, and which holds the levels of the
 /// cycle before: `state` is what they show at a cycle, and `stands` says that they may be asked there.
@@ -70,13 +70,13 @@ pub trait Group {
     fn step(&mut self, cycle: u32, before: &[Level], now: &[Level]) -> Option<u8>
         requires before { length before.now ≡ 20 }
         requires levels { length now.now ≡ 20 }
-        requires end { cycle < 160000000 }
+        requires end { cycle < MOST_CYCLES }
         requires here { stands self.old before.now cycle }
         ensures byte { result ≡ machine.sends (state self.old cycle) cycle }
         ensures state { state self.new (cycle + 1) ≡ machine.step (state self.old cycle) cycle before.now now.now }
         ensures stands { stands self.new now.now (cycle + 1) };
 
-    /// The first cycle with an event, or 160,000,000.
+    /// The first cycle with an event, or `MOST_CYCLES`.
     fn due(&self) -> u32
         ensures { result ≡ until self.now };
 
@@ -109,7 +109,7 @@ pub trait Group {
 pub fn wait<G: Group>(group: &G, cycle: u32, to: u32, levels: &[Level])
     requires here { G.stands group.now levels.now cycle }
     requires forward { cycle ≤ to }
-    requires end { to ≤ 160000000 }
+    requires end { to ≤ MOST_CYCLES }
     requires quiet { IsQuiet G.machine (G.state group.now cycle) cycle (to - cycle) }
     ensures stands { G.stands group.now levels.now to }
     ensures state { G.state group.now to ≡ steps G.machine (G.state group.now cycle) cycle (to - cycle) }

@@ -7,7 +7,7 @@ ghost use Rattle.unit_law.specs.Late.{LateStands, late_state, Lags};
 use crate::group::Group;
 use crate::pad::Pad;
 use crate::unit::Unit;
-use sim_base::Level;
+use sim_base::{Level, MOST_CYCLES};
 
 /// A unit that stands at its own cycle, until it is asked or has an event. Its first cycle with an event and
 /// what it requests are kept, and found anew only where the unit was touched.
@@ -124,14 +124,14 @@ fn catch_up<U: Unit>(unit: &mut U, due: u32, cycle: u32)
     unit.skip(cycle);
 }
 
-// The first cycle with an event, or 160,000,000.
+// The first cycle with an event, or `MOST_CYCLES`.
 #[inline]
 fn first_due<U: Unit>(unit: &U) -> u32
-    requires end { (U.shows unit.now).cycle ≤ 160000000 }
+    requires end { (U.shows unit.now).cycle ≤ MOST_CYCLES }
     ensures { FirstDue U.machine (U.shows unit.now).unit (U.shows unit.now).cycle result }
 {
     match unit.due() {
         Some(cycle) => cycle,
-        None => 160_000_000,
+        None => MOST_CYCLES,
     }
 }

@@ -3,7 +3,7 @@ ghost use Rattle.std.specs.Prelude.{◌≡◌, ℕ, ◌+◌, ◌-◌, ◌<◌, �
 ghost use Rattle.unit_law.specs.UnitMachine.{UnitMachine, At, Laws, least, steps, IsQuiet, IsFirstDue};
 
 use crate::pad::Pad;
-use sim_base::Level;
+use sim_base::{Level, MOST_CYCLES};
 
 /// A hardware unit, before the step of its cycle. Levels are those of the Uno's pins 0 to 13 and A0 to A5;
 /// who owns the unit keeps them and hands them in. `shows` is the unit as single cycles of `machine` leave it.
@@ -58,7 +58,7 @@ pub trait Unit {
     /// Goes to cycle `to`, over cycles without an event.
     fn skip(&mut self, to: u32)
         requires forward { (shows self.old).cycle ≤ to }
-        requires end { to ≤ 160000000 }
+        requires end { to ≤ MOST_CYCLES }
         requires quiet { IsQuiet machine (shows self.old).unit (shows self.old).cycle (to - (shows self.old).cycle) }
         ensures { shows self.new ≡ record { unit = steps machine (shows self.old).unit (shows self.old).cycle (to - (shows self.old).cycle); cycle = to } };
 
@@ -66,7 +66,7 @@ pub trait Unit {
     fn step(&mut self, before: &[Level], now: &[Level]) -> Option<u8>
         requires before { length before.now ≡ 20 }
         requires levels { length now.now ≡ 20 }
-        requires end { (shows self.old).cycle < 160000000 }
+        requires end { (shows self.old).cycle < MOST_CYCLES }
         ensures byte { result ≡ machine.sends (shows self.old).unit (shows self.old).cycle }
         ensures state { shows self.new ≡ record { unit = machine.step (shows self.old).unit (shows self.old).cycle before.now now.now; cycle = (shows self.old).cycle + 1 } };
 

@@ -6,6 +6,7 @@ use avr_timer8::{Timer0, Timer2};
 use avr_timer16::Timer16;
 use avr_twi::Twi;
 use avr_usart::Usart;
+use sim_base::MOST_CYCLES;
 use std::io;
 use unit_law::Unit;
 
@@ -37,6 +38,6 @@ fn stands<U: Unit + Drop>() -> bool {
     if unit.due().is_some() {
         return false;
     }
-    unit.skip(160_000_000);
+    unit.skip(MOST_CYCLES);
     unit.due().is_none()
 }

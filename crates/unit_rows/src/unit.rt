@@ -13,7 +13,7 @@
 ghost use Rattle.std.specs.Prelude.{◌≡◌, ℕ, Some, true};
 
 use crate::levels::{Turn, pin_of};
-use sim_base::Drive;
+use sim_base::{Drive, MOST_CYCLES};
 use unit_law::{Pad, Unit, VECTORS};
 
 /// Plays the words on a new unit, and answers the first one that is none or comes out otherwise.
@@ -58,7 +58,7 @@ fn goes_to<U: Unit>(unit: &mut U, turn: &mut Turn, value: &str) -> bool
     let Ok(to) = value.parse::<u32>() else {
         return false;
     };
-    while turn.cycle < to && turn.cycle < 160_000_000 {
+    while turn.cycle < to && turn.cycle < MOST_CYCLES {
         if unit.step(&turn.before, &turn.now).is_some() {
             turn.pass();
             return false;

@@ -2,6 +2,7 @@ use Rattle.std.proofs.Common.{◌-◌, ◌<◌, ◌≤◌, ◌∙◌, ap, sym, r
 use Rattle.std.specs.Prelude.{slice_get}
 use Rattle.board_run.specs.Upcoming.{AreBehind}
 use Rattle.sim_base.specs.Rows.{Row, Handed, StopsWithin}
+use Rattle.sim_base.specs.declared.limits.TheConstants.{MOST_CYCLES}
 use Rattle.part_law.specs.Machine.{sent}
 use Rattle.board_model.specs.Board.{bytes}
 use Rattle.board_model.specs.Rows.{rows}
@@ -63,7 +64,7 @@ returns-in-Some-stretch-clause-from g c = λ y ey.
     let lags : Lags m w p.state p.now p.wake_count t old kept = subst (λ (ds : List (Option ℕ)). Lags m w p.state p.now p.wake_count t old (record { input = c.args.next.input; stale = c.args.next.stale; dues = ds; differ = c.args.flags.now; seen = c.args.reading.now; answers = c.args.answers.now })) (sym same) c.requires.lags in
     let alone : IsAlone c.args.inputs.now c.find_alone.new.dues c.args.next.input who t limit = subst (λ (ds : List (Option ℕ)). IsAlone c.args.inputs.now ds c.args.next.input who t limit) (sym same) (found.alone (who, limit) refl) in
     let most = found.within (who, limit) refl in
-    let end : limit ≤ 160000000 = omega (arith, most, c.requires.end) in
+    let end : limit ≤ MOST_CYCLES = omega (arith, most, c.requires.end) in
     let fresh = found.fresh (who, limit) refl in
     let later = found.after (who, limit) refl in
     let new = c.stretch.new in
@@ -91,7 +92,7 @@ returns-in-Some-stretch-clause-within g c = λ y ey.
     let lags : Lags m w p.state p.now p.wake_count t old kept = subst (λ (ds : List (Option ℕ)). Lags m w p.state p.now p.wake_count t old (record { input = c.args.next.input; stale = c.args.next.stale; dues = ds; differ = c.args.flags.now; seen = c.args.reading.now; answers = c.args.answers.now })) (sym same) c.requires.lags in
     let alone : IsAlone c.args.inputs.now c.find_alone.new.dues c.args.next.input who t limit = subst (λ (ds : List (Option ℕ)). IsAlone c.args.inputs.now ds c.args.next.input who t limit) (sym same) (found.alone (who, limit) refl) in
     let most = found.within (who, limit) refl in
-    let end : limit ≤ 160000000 = omega (arith, most, c.requires.end) in
+    let end : limit ≤ MOST_CYCLES = omega (arith, most, c.requires.end) in
     let fresh = found.fresh (who, limit) refl in
     let later = found.after (who, limit) refl in
     let new = c.stretch.new in
@@ -120,7 +121,7 @@ returns-in-Some-stretch-clause-lags g c = λ y ey.
     let lags : Lags m w p.state p.now p.wake_count t old kept = subst (λ (ds : List (Option ℕ)). Lags m w p.state p.now p.wake_count t old (record { input = c.args.next.input; stale = c.args.next.stale; dues = ds; differ = c.args.flags.now; seen = c.args.reading.now; answers = c.args.answers.now })) (sym same) c.requires.lags in
     let alone : IsAlone c.args.inputs.now c.find_alone.new.dues c.args.next.input who t limit = subst (λ (ds : List (Option ℕ)). IsAlone c.args.inputs.now ds c.args.next.input who t limit) (sym same) (found.alone (who, limit) refl) in
     let most = found.within (who, limit) refl in
-    let end : limit ≤ 160000000 = omega (arith, most, c.requires.end) in
+    let end : limit ≤ MOST_CYCLES = omega (arith, most, c.requires.end) in
     let fresh = found.fresh (who, limit) refl in
     let later = found.after (who, limit) refl in
     let new = c.stretch.new in
@@ -151,7 +152,7 @@ returns-in-Some-stretch-clause-behind g c = λ y ey.
     let lags : Lags m w p.state p.now p.wake_count t old kept = subst (λ (ds : List (Option ℕ)). Lags m w p.state p.now p.wake_count t old (record { input = c.args.next.input; stale = c.args.next.stale; dues = ds; differ = c.args.flags.now; seen = c.args.reading.now; answers = c.args.answers.now })) (sym same) c.requires.lags in
     let alone : IsAlone c.args.inputs.now c.find_alone.new.dues c.args.next.input who t limit = subst (λ (ds : List (Option ℕ)). IsAlone c.args.inputs.now ds c.args.next.input who t limit) (sym same) (found.alone (who, limit) refl) in
     let most = found.within (who, limit) refl in
-    let end : limit ≤ 160000000 = omega (arith, most, c.requires.end) in
+    let end : limit ≤ MOST_CYCLES = omega (arith, most, c.requires.end) in
     let fresh = found.fresh (who, limit) refl in
     let later = found.after (who, limit) refl in
     let new = c.stretch.new in
@@ -180,7 +181,7 @@ returns-in-Some-stretch-clause-leg g c = λ y ey.
     let lags : Lags m w p.state p.now p.wake_count t old kept = subst (λ (ds : List (Option ℕ)). Lags m w p.state p.now p.wake_count t old (record { input = c.args.next.input; stale = c.args.next.stale; dues = ds; differ = c.args.flags.now; seen = c.args.reading.now; answers = c.args.answers.now })) (sym same) c.requires.lags in
     let alone : IsAlone c.args.inputs.now c.find_alone.new.dues c.args.next.input who t limit = subst (λ (ds : List (Option ℕ)). IsAlone c.args.inputs.now ds c.args.next.input who t limit) (sym same) (found.alone (who, limit) refl) in
     let most = found.within (who, limit) refl in
-    let end : limit ≤ 160000000 = omega (arith, most, c.requires.end) in
+    let end : limit ≤ MOST_CYCLES = omega (arith, most, c.requires.end) in
     let fresh = found.fresh (who, limit) refl in
     let later = found.after (who, limit) refl in
     let new = c.stretch.new in
@@ -211,7 +212,7 @@ returns-in-Some-stretch-clause-handed g c = λ y ey.
     let lags : Lags m w p.state p.now p.wake_count t old kept = subst (λ (ds : List (Option ℕ)). Lags m w p.state p.now p.wake_count t old (record { input = c.args.next.input; stale = c.args.next.stale; dues = ds; differ = c.args.flags.now; seen = c.args.reading.now; answers = c.args.answers.now })) (sym same) c.requires.lags in
     let alone : IsAlone c.args.inputs.now c.find_alone.new.dues c.args.next.input who t limit = subst (λ (ds : List (Option ℕ)). IsAlone c.args.inputs.now ds c.args.next.input who t limit) (sym same) (found.alone (who, limit) refl) in
     let most = found.within (who, limit) refl in
-    let end : limit ≤ 160000000 = omega (arith, most, c.requires.end) in
+    let end : limit ≤ MOST_CYCLES = omega (arith, most, c.requires.end) in
     let fresh = found.fresh (who, limit) refl in
     let later = found.after (who, limit) refl in
     let new = c.stretch.new in
@@ -255,7 +256,7 @@ returns-in-None-stretch-clause-failed g c = λ none.
     let lags : Lags m w p.state p.now p.wake_count t old kept = subst (λ (ds : List (Option ℕ)). Lags m w p.state p.now p.wake_count t old (record { input = c.args.next.input; stale = c.args.next.stale; dues = ds; differ = c.args.flags.now; seen = c.args.reading.now; answers = c.args.answers.now })) (sym same) c.requires.lags in
     let alone : IsAlone c.args.inputs.now c.find_alone.new.dues c.args.next.input who t limit = subst (λ (ds : List (Option ℕ)). IsAlone c.args.inputs.now ds c.args.next.input who t limit) (sym same) (found.alone (who, limit) refl) in
     let most = found.within (who, limit) refl in
-    let end : limit ≤ 160000000 = omega (arith, most, c.requires.end) in
+    let end : limit ≤ MOST_CYCLES = omega (arith, most, c.requires.end) in
     let fresh = found.fresh (who, limit) refl in
     let later = found.after (who, limit) refl in
     let new = c.stretch.new in
@@ -292,7 +293,7 @@ returns-in-None-stretch-clause-stopped g c = λ none.
     let lags : Lags m w p.state p.now p.wake_count t old kept = subst (λ (ds : List (Option ℕ)). Lags m w p.state p.now p.wake_count t old (record { input = c.args.next.input; stale = c.args.next.stale; dues = ds; differ = c.args.flags.now; seen = c.args.reading.now; answers = c.args.answers.now })) (sym same) c.requires.lags in
     let alone : IsAlone c.args.inputs.now c.find_alone.new.dues c.args.next.input who t limit = subst (λ (ds : List (Option ℕ)). IsAlone c.args.inputs.now ds c.args.next.input who t limit) (sym same) (found.alone (who, limit) refl) in
     let most = found.within (who, limit) refl in
-    let end : limit ≤ 160000000 = omega (arith, most, c.requires.end) in
+    let end : limit ≤ MOST_CYCLES = omega (arith, most, c.requires.end) in
     let fresh = found.fresh (who, limit) refl in
     let later = found.after (who, limit) refl in
     let new = c.stretch.new in

@@ -1,5 +1,6 @@
 use Rattle.std.proofs.Common.{◌+◌, ◌-◌, ◌≡◌, ◌<◌, ◌≤◌, ◌++◌, ◌∙◌, ap, sym, refl, subst, arith, map, List, ℕ}
 use Rattle.sim_base.specs.Rows.{Row, Handed}
+use Rattle.sim_base.specs.declared.limits.TheConstants.{MOST_CYCLES}
 use Rattle.board_model.specs.Board.{bytes}
 use Rattle.board_model.specs.Rows.{rows}
 use Rattle.board_model.proofs.Lists.{some_same}
@@ -27,7 +28,7 @@ returns-in-Some-clause-lags g c = λ x ex.
     let u = c.next_cycle-u.result in
     let nc = c.next_cycle-u.ensures in
     let kept : Kept = record { input = n.input; stale = n.stale; dues = e.dues; differ = e.flags; seen = e.reading; answers = e.answers } in
-    let end : u ≤ 160000000 = omega (arith, nc.within, c.requires.end) in
+    let end : u ≤ MOST_CYCLES = omega (arith, nc.within, c.requires.end) in
     let later : 0 < t + 1 = omega arith in
     let j = jumps_to m laws w p.state p.now p.wake_count inputs (t + 1) u e.parts kept e.steps (c.in-Some.ensures.lags n refl) later nc.from end nc.stale nc.due nc.silent in
     let leg = c.event.ensures.leg in
@@ -47,7 +48,7 @@ returns-in-Some-clause-leg g c = λ x ex.
     let u = c.next_cycle-u.result in
     let nc = c.next_cycle-u.ensures in
     let kept : Kept = record { input = n.input; stale = n.stale; dues = e.dues; differ = e.flags; seen = e.reading; answers = e.answers } in
-    let end : u ≤ 160000000 = omega (arith, nc.within, c.requires.end) in
+    let end : u ≤ MOST_CYCLES = omega (arith, nc.within, c.requires.end) in
     let later : 0 < t + 1 = omega arith in
     let j = jumps_to m laws w p.state p.now p.wake_count inputs (t + 1) u e.parts kept e.steps (c.in-Some.ensures.lags n refl) later nc.from end nc.stale nc.due nc.silent in
     let leg = c.event.ensures.leg in
@@ -68,7 +69,7 @@ returns-in-Some-clause-handed g c = λ x ex.
     let u = c.next_cycle-u.result in
     let nc = c.next_cycle-u.ensures in
     let kept : Kept = record { input = n.input; stale = n.stale; dues = e.dues; differ = e.flags; seen = e.reading; answers = e.answers } in
-    let end : u ≤ 160000000 = omega (arith, nc.within, c.requires.end) in
+    let end : u ≤ MOST_CYCLES = omega (arith, nc.within, c.requires.end) in
     let later : 0 < t + 1 = omega arith in
     let j = jumps_to m laws w p.state p.now p.wake_count inputs (t + 1) u e.parts kept e.steps (c.in-Some.ensures.lags n refl) later nc.from end nc.stale nc.due nc.silent in
     let leg = c.event.ensures.leg in
