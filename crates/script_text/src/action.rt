@@ -122,7 +122,7 @@ pub fn read_line(line: &[u8], last: u32, count: usize) -> Line
     }
     match read_action(line) {
         None => Line::Faulty(SCRIPT_LINE),
-        Some(action) if action.cycle < u64::from(last) || action.cycle > MOST_CYCLES => {
+        Some(action) if action.cycle < u64::from(last) || action.cycle > u64::from(MOST_CYCLES) => {
             Line::Faulty(SCRIPT_ORDER)
         }
         Some(_) if count >= 4096 => Line::Faulty(SCRIPT_LIMIT),
