@@ -92,7 +92,7 @@ fn due_from(from: u32, due: Option<u64>) -> Option<u32>
 {
     match due {
         Some(cycle) => {
-            if u64::from(from) <= cycle && cycle < MOST_CYCLES {
+            if u64::from(from) <= cycle && cycle < u64::from(MOST_CYCLES) {
                 Some(cycle as u32)
             } else {
                 None
