@@ -1,0 +1,44 @@
+-- Bytes are accepted as one module, or refused, and not both.
+use Rattle.std.proofs.Common.{◌≡◌, ◌∙◌, ℕ, List, Result, Ok, Err, Option, Some, inl, inr, subst, sym, ap}
+use Rattle.sim_base.specs.declared.fault.Refusal.{Refusal}
+use Rattle.sim_base.specs.declared.fault.Fault.{Fault}
+use Rattle.sim_base.specs.declared.fault.Fault.TheVariants as faults
+use Rattle.wasm_decode.specs.declared.module.Module.{Module}
+use Rattle.wasm_decode.specs.ModuleText.{IsBroken}
+use Rattle.wasm_validate.specs.Rules.{chip_init}
+use Rattle.wasm_validate.specs.Validity.{IsValid}
+use Rattle.chip_abi.specs.declared.host_name.HostName.{HostName}
+use Rattle.chip_abi.specs.Imports.{imports_of}
+use Rattle.chip_module.specs.Binary.{Binary, IsBinary, IsReading, Judges}
+
+known_or_not : (names : List HostName) (r : Refusal) (found : Result (List HostName) Refusal) → found ≡ Ok names → found ≡ Err r → ⊥
+known_or_not names r found good bad = absurd cc
+
+pub not_both : (bytes : List ℕ) (b : Binary) (r : Refusal) → Judges bytes (Ok b) → Judges bytes (Err r) → ⊥
+not_both bytes b r good (inl broken) = broken.0 b.wasm good.text
+not_both bytes b r good (inr (inl invalid)) = invalid.breaks.2 b.init (subst (λ (m : Module). IsValid m b.init) (invalid.only b.wasm good.text) good.valid)
+not_both bytes b r good (inr (inr foreign)) = known_or_not b.table r (imports_of b.wasm) good.imports (ap imports_of (foreign.only b.wasm good.text) ∙ foreign.imports)
+
+same_init : (m n : ℕ) → ◌≡◌ {A = Option ℕ} (Some m) (Some n) → m ≡ n
+same_init m n e = cc
+
+same_table : (x y : List HostName) → ◌≡◌ {A = Result (List HostName) Refusal} (Ok x) (Ok y) → x ≡ y
+same_table x y e = cc
+
+pub one_binary : (bytes : List ℕ) (b c : Binary) → IsBinary bytes b → IsBinary bytes c → b ≡ c
+one_binary bytes b c x y =
+    let wasm : b.wasm ≡ c.wasm = y.only b.wasm x.text in
+    let init : b.init ≡ c.init = same_init b.init c.init (sym x.valid.has_init ∙ ap chip_init wasm ∙ y.valid.has_init) in
+    let table : b.table ≡ c.table = same_table b.table c.table (sym x.imports ∙ ap imports_of wasm ∙ y.imports) in
+    ap (λ (m : Module). record { wasm = m; init = b.init; table = b.table }) wasm
+    ∙ ap (λ (n : ℕ). record { wasm = c.wasm; init = n; table = b.table }) init
+    ∙ ap (λ (t : List HostName). record { wasm = c.wasm; init = c.init; table = t }) table
+
+-- what the decoder refuses is no module
+pub broken_reading : (bytes : List ℕ) (e : Fault) → IsBroken bytes e → IsReading bytes (Err e)
+broken_reading bytes (faults.Refused r) b = inl b
+broken_reading bytes faults.OutOfMemory b = tt
+
+-- what was read once is not refused
+pub read_again : (bytes : List ℕ) (b : Binary) (e : Fault) (r : Refusal) → IsBinary bytes b → e ≡ faults.Refused r → IsReading bytes (Err e) → ⊥
+read_again bytes b e r good is bad = not_both bytes b r good (subst (λ (f : Fault). IsReading bytes (Err f)) is bad)
