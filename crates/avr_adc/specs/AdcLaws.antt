@@ -15,6 +15,8 @@ quiet u (Some c) t l h = chosen (c.end == t) (ended u c t l) u h
 pub adc_laws : Laws adc
 adc_laws = record {
   keeps_pad = λ s t l p h. refl;
+  event_pad = λ s t l p h. refl;
+  keeps_event_moves = λ s t l h. refl;
   keeps_requests = λ s t l h. ap requests (quiet s s.conversion t l h);
   keeps_hears = λ s t l before now h. refl;
   keeps_silent = λ s t h. refl;

@@ -81,29 +81,26 @@ impl Unit for Adc {
     }
 
     #[inline]
-    fn moves(&self, reg: u8, value: u8) -> bool {
-        let _ = reg;
-        let _ = value;
+    fn moves(&self, _reg: u8, _value: u8) -> bool {
         false
     }
 
     #[inline]
-    fn bit_moves(&self, reg: u8, bit: u8, value: bool) -> bool {
-        let _ = reg;
-        let _ = bit;
-        let _ = value;
+    fn bit_moves(&self, _reg: u8, _bit: u8, _value: bool) -> bool {
         false
     }
 
     #[inline]
-    fn hears(&self, before: &[Level], now: &[Level]) -> bool {
-        let _ = before;
-        let _ = now;
+    fn hears(&self, _before: &[Level], _now: &[Level]) -> bool {
         false
     }
 
-    fn read(&mut self, levels: &[Level], reg: u8) -> u8 {
-        let _ = levels;
+    #[inline]
+    fn event_moves(&self) -> bool {
+        false
+    }
+
+    fn read(&mut self, _levels: &[Level], reg: u8) -> u8 {
         let register = named(reg);
         let value = self.register(register);
         self.lock(register);
@@ -123,8 +120,7 @@ impl Unit for Adc {
         self.cycle = to;
     }
 
-    fn step(&mut self, before: &[Level], now: &[Level]) -> Option<u8> {
-        let _ = before;
+    fn step(&mut self, _before: &[Level], now: &[Level]) -> Option<u8> {
         self.end_here(now);
         self.cycle += 1;
         None
@@ -134,8 +130,7 @@ impl Unit for Adc {
         within_run(or_end(end_of(self.conversion)))
     }
 
-    fn request(&self, levels: &[Level]) -> u8 {
-        let _ = levels;
+    fn request(&self, _levels: &[Level]) -> u8 {
         least(&[Request {
             vector: 21,
             enabled: self.adie,
@@ -150,8 +145,7 @@ impl Unit for Adc {
     }
 
     #[inline]
-    fn pad(&self, pin: u8) -> Pad {
-        let _ = pin;
+    fn pad(&self, _pin: u8) -> Pad {
         Pad::untouched()
     }
 

@@ -4,12 +4,17 @@ use Rattle.std.specs.Prelude.{◌==◌, if◌then◌else◌}
 use Rattle.sim_base.specs.declared.signal.Level.{Level}
 use Rattle.sim_base.specs.declared.limits.TheConstants.{MOST_CYCLES}
 use Rattle.unit_law.specs.UnitMachine.{UnitMachine, At, steps, IsQuiet, IsFirstDue}
+use Rattle.unit_law.specs.Pad.{untouched, valued}
+use Rattle.unit_law.specs.declared.pad.Pad.{Pad}
+use Rattle.unit_law.proofs.StillLemmas.{neither}
 use Rattle.avr_count.specs.declared.channel.Channel.{Channel}
 use Rattle.avr_count.specs.declared.counter.Counter.{Counter}
 use Rattle.avr_count.specs.declared.mode.Mode.{Mode}
 use Rattle.avr_count.specs.declared.timing.Timing.{Timing}
 use Rattle.avr_count.specs.Timing.{counter_step, counter_due, counter_steps, IsStill, IsNext}
-use Rattle.avr_count.specs.Outputs.{compare_pads}
+use Rattle.avr_count.specs.declared.mode.Kind.{Kind}
+use Rattle.avr_count.specs.declared.mode.Com.{Com}
+use Rattle.avr_count.specs.Outputs.{has_pin, has_pins, compare_pad, compare_pads}
 use Rattle.avr_count.specs.Flags.{requests_from, entered}
 use Rattle.avr_count.proofs.TimingLemmas.{Keeps}
 
@@ -67,6 +72,22 @@ pub pads_by : (oca ocb : ℕ) (m : Mode) (x c : Counter) (pin : ℕ) → Latches
 pads_by oca ocb m x c pin h =
     ap (λ (l : Bool). compare_pads oca ocb m (record x { a = record (x.a) { latch = l } }) pin) h.a
     ∙ ap (λ (l : Bool). compare_pads oca ocb m (record c { b = record (c.b) { latch = l } }) pin) h.b
+
+choose_pad : (s t : Bool) (x y z w u : Pad) → x ≡ z → y ≡ w → (if s then x else if t then y else u) ≡ (if s then z else if t then w else u)
+choose_pad s t x y z w u e f = ap (λ (p : Pad). if s then p else if t then y else u) e ∙ ap (λ (p : Pad). if s then z else if t then p else u) f
+
+no_pin : (k : Kind) (how : Com) (a b : Bool) → has_pin k how ≡ false → compare_pad k how a ≡ compare_pad k how b
+no_pin k how a b h = by (has_pin k how) h
+  where
+    by : (t : Bool) → t ≡ false → (if t then valued a else untouched) ≡ (if t then valued b else untouched)
+    by true e = cc
+    by false e = refl
+
+-- a timer whose channels leave their pins alone asks the same whatever its counter is
+pub no_pins : (oca ocb : ℕ) (m : Mode) (x c : Counter) (pin : ℕ) → has_pins m ≡ false → compare_pads oca ocb m x pin ≡ compare_pads oca ocb m c pin
+no_pins oca ocb m x c pin h =
+    let d = neither (has_pin m.kind m.com_a) (has_pin m.kind m.com_b) h in
+    choose_pad (pin == oca) (pin == ocb) _ _ _ _ untouched (no_pin m.kind m.com_a x.a.latch c.a.latch d.0) (no_pin m.kind m.com_b x.b.latch c.b.latch d.1)
 
 pub keeps_latches : (s x : Counter) → Keeps s x → Latches x s
 keeps_latches s x h = record { a = ap (λ (ch : Channel). ch.latch) h.a; b = ap (λ (ch : Channel). ch.latch) h.b }

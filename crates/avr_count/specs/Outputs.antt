@@ -1,5 +1,5 @@
 -- A compare channel's register and pin (data sheet, "Output Compare Unit", "Compare Match Output Unit").
-use Rattle.std.specs.Prelude.{ℕ, ◌==◌, Bool, true, false, not, if◌then◌else◌}
+use Rattle.std.specs.Prelude.{ℕ, ◌==◌, ◌||◌, Bool, true, false, not, if◌then◌else◌}
 use Rattle.unit_law.specs.Pad.{untouched, valued}
 use Rattle.unit_law.specs.declared.pad.Pad.{Pad}
 use Rattle.avr_count.specs.declared.mode.Kind.{Kind}
@@ -23,6 +23,10 @@ has_pin kind Set = true
 
 abbrev pub compare_pad : Kind → Com → Bool → Pad
 compare_pad kind how latch = if has_pin kind how then valued latch else untouched
+
+-- whether one of the channels has its pin
+abbrev pub has_pins : Mode → Bool
+has_pins m = has_pin m.kind m.com_a || has_pin m.kind m.com_b
 
 -- what the timer with OCnA and OCnB on these Uno pins asks of a pin
 abbrev pub compare_pads : ℕ → ℕ → Mode → Counter → ℕ → Pad

@@ -1,9 +1,9 @@
 //! A compare channel (data sheet, "Output Compare Unit", "Compare Match Output Unit").
 ghost use Rattle.std.specs.Prelude.{◌≡◌, not};
 ghost use Rattle.avr_count.specs.Count.{still, loads, plain_act, fast_act, phase_act, pin_act, compared};
-ghost use Rattle.avr_count.specs.Outputs.{ocr_written, has_pin, compare_pad};
+ghost use Rattle.avr_count.specs.Outputs.{ocr_written, has_pin, has_pins, compare_pad};
 
-use crate::mode::{Com, Kind, is_buffered};
+use crate::mode::{Com, Kind, Mode, is_buffered};
 use unit_law::Pad;
 
 /// OCRnx as it was written and as it is compared, OCFnx, and the compare latch OCnx.
@@ -130,6 +130,13 @@ fn has_pin(kind: Kind, how: Com) -> bool
         Com::Toggle => !is_buffered(kind),
         Com::Clear | Com::Set => true,
     }
+}
+
+/// Whether one of the channels has its pin.
+pub fn has_pins(mode: &Mode) -> bool
+    ensures { result ≡ has_pins mode.now }
+{
+    has_pin(mode.kind, mode.com_a) | has_pin(mode.kind, mode.com_b)
 }
 
 /// What a channel asks of its pin.

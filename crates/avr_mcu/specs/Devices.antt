@@ -21,14 +21,23 @@ abbrev pub Devices : Type 0
 Devices = Ports × (Timer8 × (Timer16 × (Timer8 × (Adc × (Usart × (Spi × Twi))))))
 
 abbrev pub devices : UnitMachine Devices
-devices = both ports (both (timer8 Zero) (both timer16 (both (timer8 Two) (both adc (both usart (both spi twi))))))
+devices =
+    both ports
+    (both (timer8 Zero)
+    (both timer16
+    (both (timer8 Two)
+    (both adc
+    (both usart
+    (both spi
+    twi))))))
 
 pub devices_laws : Laws devices
 devices_laws =
-    both_laws ports (both (timer8 Zero) (both timer16 (both (timer8 Two) (both adc (both usart (both spi twi)))))) ports_laws
-    (both_laws (timer8 Zero) (both timer16 (both (timer8 Two) (both adc (both usart (both spi twi))))) (timer8_laws Zero)
-    (both_laws timer16 (both (timer8 Two) (both adc (both usart (both spi twi)))) timer16_laws
-    (both_laws (timer8 Two) (both adc (both usart (both spi twi))) (timer8_laws Two)
-    (both_laws adc (both usart (both spi twi)) adc_laws
-    (both_laws usart (both spi twi) usart_laws
-    (both_laws spi twi spi_laws twi_laws))))))
+    both_laws _ _ ports_laws
+    (both_laws _ _ (timer8_laws Zero)
+    (both_laws _ _ timer16_laws
+    (both_laws _ _ (timer8_laws Two)
+    (both_laws _ _ adc_laws
+    (both_laws _ _ usart_laws
+    (both_laws _ _ spi_laws
+    twi_laws))))))

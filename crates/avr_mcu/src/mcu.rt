@@ -219,7 +219,7 @@ impl Part for Mcu {
 
 // What the core does in a cycle: answers the cycle in which the next instruction starts, and the pins whose drives
 // may have changed.
-#[inline]
+#[inline(always)]
 pub(crate) fn act_core(
     core: &mut Core,
     program: &[Instr],
@@ -338,7 +338,8 @@ pub(crate) fn tick(units: &mut Units, cycle: u32) -> (Option<u8>, bool)
         units.skip(cycle + 1);
         (None, false)
     } else {
-        (units.turn(), true)
+        let moves = units.event_moves();
+        (units.turn(), moves)
     }
 }
 

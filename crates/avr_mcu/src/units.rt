@@ -193,6 +193,14 @@ impl Units {
         )
     }
 
+    /// Whether an event of its cycle may change what a pin is asked for.
+    #[inline]
+    pub(crate) fn event_moves(&self) -> bool
+        ensures { result ≡ false → (p : ℕ) → devices.pad (devices.step self.now.units.devices self.now.cycle (pins self.now.held) (pins self.now.held)) p ≡ devices.pad self.now.units.devices p }
+    {
+        self.devices.event_moves(self.cycle)
+    }
+
     /// One cycle on these levels of the Uno's 31 pins, and the byte that leaves.
     pub(crate) fn step(&mut self, levels: &[Level]) -> Option<u8>
         requires levels { length levels.now ≡ 31 }

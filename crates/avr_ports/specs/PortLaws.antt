@@ -163,6 +163,8 @@ taken_keeps u v p = by (v == 1) (v == 2) (v == 3) (v == 4) (v == 5)
 pub ports_laws : Laws ports
 ports_laws = record {
   keeps_pad = λ s t l p h. ap (λ (u : Ports). port_pad u p) (ports_still s l);
+  event_pad = λ s t l p h. ap (λ (u : Ports). port_pad u p) (ports_still s l);
+  keeps_event_moves = λ s t l h. refl;
   keeps_requests = λ s t l h. ap (λ (u : Ports). requests u l) (ports_still s l);
   keeps_hears = λ s t l b n h. ap (λ (u : Ports). not (is_deaf u)) (ports_still s l);
   keeps_silent = λ s t h. refl;

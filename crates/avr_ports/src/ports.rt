@@ -84,6 +84,11 @@ impl Unit for Ports {
         register_at(reg).is_some()
     }
 
+    #[inline(always)]
+    fn reading_keeps(_reg: u8) -> bool {
+        true
+    }
+
     #[inline]
     fn moves(&self, reg: u8, value: u8) -> bool {
         match register_at(reg) {
@@ -103,6 +108,11 @@ impl Unit for Ports {
     #[inline]
     fn hears(&self, _before: &[Level], _now: &[Level]) -> bool {
         !self.is_deaf()
+    }
+
+    #[inline]
+    fn event_moves(&self) -> bool {
+        false
     }
 
     #[inline]

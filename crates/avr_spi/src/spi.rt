@@ -69,15 +69,12 @@ impl Unit for Spi {
     }
 
     #[inline]
-    fn moves(&self, reg: u8, value: u8) -> bool {
-        let _ = value;
+    fn moves(&self, reg: u8, _value: u8) -> bool {
         moves(reg)
     }
 
     #[inline]
-    fn bit_moves(&self, reg: u8, bit: u8, value: bool) -> bool {
-        let _ = bit;
-        let _ = value;
+    fn bit_moves(&self, reg: u8, _bit: u8, _value: bool) -> bool {
         moves(reg)
     }
 
@@ -86,8 +83,12 @@ impl Unit for Spi {
         self.watches() & (ss_low(now) & !ss_low(before))
     }
 
-    fn read(&mut self, levels: &[Level], reg: u8) -> u8 {
-        let _ = levels;
+    #[inline]
+    fn event_moves(&self) -> bool {
+        true
+    }
+
+    fn read(&mut self, _levels: &[Level], reg: u8) -> u8 {
         let register = named(reg);
         let value = self.register(register);
         self.note(register);
@@ -123,8 +124,7 @@ impl Unit for Spi {
         within_run(or_end(self.shifter.next_event()).min(or_end(self.look)))
     }
 
-    fn request(&self, levels: &[Level]) -> u8 {
-        let _ = levels;
+    fn request(&self, _levels: &[Level]) -> u8 {
         least(&[Request {
             vector: 17,
             enabled: has_bit(self.spcr, SPIE),

@@ -14,7 +14,7 @@ use Rattle.avr_count.specs.declared.timing.Timing.{Timing}
 use Rattle.avr_count.specs.Modes.{row, mode_by}
 use Rattle.avr_count.specs.Count.{cleared}
 use Rattle.avr_count.specs.Timing.{counter_step, counter_due}
-use Rattle.avr_count.specs.Outputs.{ocr_written, compare_pads}
+use Rattle.avr_count.specs.Outputs.{ocr_written, has_pins, compare_pads}
 use Rattle.avr_count.specs.Flags.{flag_bits, with_flags, requests_from, entered}
 use Rattle.avr_timer16.specs.declared.registers.Register.{Register}
 use Rattle.avr_timer16.specs.declared.registers.Register.TheVariants.{TIFR1, GTCCR, TIMSK1, TCCR1A, TCCR1B, TCNT1L, TCNT1H, ICR1L, ICR1H, OCR1AL, OCR1AH, OCR1BL, OCR1BH}
@@ -160,6 +160,7 @@ timer16 = record {
   hears = λ u before now. false;
   requests = λ u l. requests u;
   pad = pad;
+  event_moves = λ u. has_pins (mode_of u.tccra u.tccrb);
   sends = λ u t. None;
   has = λ a. is_some (register_at a);
   moves = λ u a x. at_register (register_at a) false moves_pad;

@@ -7,7 +7,7 @@ use Rattle.avr_count.specs.declared.counter.Counter.{Counter}
 use Rattle.avr_count.specs.Timing.{counter_step}
 use Rattle.avr_count.specs.Flags.{requests_from, entered}
 use Rattle.avr_count.proofs.TimingLemmas.{Keeps, quiet_keeps}
-use Rattle.avr_count.proofs.TimerLemmas.{Latches, pads_by, keeps_latches, latches_if, entered_latches, requests_by}
+use Rattle.avr_count.proofs.TimerLemmas.{Latches, no_pins, pads_by, keeps_latches, latches_if, entered_latches, requests_by}
 use Rattle.avr_timer16.specs.declared.registers.Register.{Register}
 use Rattle.avr_timer16.specs.declared.registers.Register.TheVariants.{TIFR1, GTCCR, TIMSK1, TCCR1A, TCCR1B, TCNT1L, TCNT1H, ICR1L, ICR1H, OCR1AL, OCR1AH, OCR1BL, OCR1BH}
 use Rattle.avr_timer16.specs.Registers.{register_at, moves_pad}
@@ -66,6 +66,8 @@ quiet u t h = quiet_keeps (timing u) u.counter t h
 pub timer16_laws : Laws timer16
 timer16_laws = record {
   keeps_pad = λ s t l p h. pads_by 9 10 (mode_of s.tccra s.tccrb) (counter_step (timing s) s.counter t) s.counter p (keeps_latches s.counter _ (quiet s t h));
+  event_pad = λ s t l p h. no_pins 9 10 (mode_of s.tccra s.tccrb) (counter_step (timing s) s.counter t) s.counter p h;
+  keeps_event_moves = λ s t l h. refl;
   keeps_requests = λ s t l h. requests_kept s (counter_step (timing s) s.counter t) (quiet s t h);
   keeps_hears = λ s t l before now h. refl;
   keeps_silent = λ s t h. refl;

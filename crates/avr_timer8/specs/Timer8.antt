@@ -14,7 +14,7 @@ use Rattle.avr_count.specs.declared.timing.Timing.{Timing}
 use Rattle.avr_count.specs.Modes.{row, mode_by}
 use Rattle.avr_count.specs.Count.{cleared}
 use Rattle.avr_count.specs.Timing.{counter_step, counter_due}
-use Rattle.avr_count.specs.Outputs.{ocr_written, compare_pads}
+use Rattle.avr_count.specs.Outputs.{ocr_written, has_pins, compare_pads}
 use Rattle.avr_count.specs.Flags.{flag_bits, with_flags, requests_from, entered}
 use Rattle.avr_timer8.specs.declared.registers.Register.{Register}
 use Rattle.avr_timer8.specs.declared.registers.Register.TheVariants.{TIFRn, GTCCR, TCCRnA, TCCRnB, TCNTn, OCRnA, OCRnB, TIMSKn}
@@ -136,6 +136,7 @@ timer8 w = record {
   hears = λ u before now. false;
   requests = λ u l. requests w u;
   pad = pad w;
+  event_moves = λ u. has_pins (mode_of u.tccra u.tccrb);
   sends = λ u t. None;
   has = λ a. is_some (register_at w a);
   moves = λ u a x. at_register (register_at w a) false moves_pad;

@@ -5,7 +5,7 @@ use Rattle.unit_law.specs.UnitMachine.{Laws, at_register}
 use Rattle.unit_law.specs.Bits.{with_bit}
 use Rattle.avr_count.specs.Timing.{counter_step}
 use Rattle.avr_count.proofs.TimingLemmas.{Keeps, quiet_keeps}
-use Rattle.avr_count.proofs.TimerLemmas.{pads_by, keeps_latches, entered_latches, requests_by}
+use Rattle.avr_count.proofs.TimerLemmas.{no_pins, pads_by, keeps_latches, entered_latches, requests_by}
 use Rattle.avr_timer8.specs.declared.registers.Register.{Register}
 use Rattle.avr_timer8.specs.declared.registers.Register.TheVariants.{TIFRn, GTCCR, TCCRnA, TCCRnB, TCNTn, OCRnA, OCRnB, TIMSKn}
 use Rattle.avr_timer8.specs.declared.registers.Which.{Which}
@@ -33,6 +33,8 @@ quiet w u t h = quiet_keeps (timing w u) u.counter t h
 pub timer8_laws : (w : Which) → Laws (timer8 w)
 timer8_laws w = record {
   keeps_pad = λ s t l p h. pads_by (pin_a w) (pin_b w) (mode_of s.tccra s.tccrb) (counter_step (timing w s) s.counter t) s.counter p (keeps_latches s.counter _ (quiet w s t h));
+  event_pad = λ s t l p h. no_pins (pin_a w) (pin_b w) (mode_of s.tccra s.tccrb) (counter_step (timing w s) s.counter t) s.counter p h;
+  keeps_event_moves = λ s t l h. refl;
   keeps_requests = λ s t l h. requests_by (vector w) s.timsk s.counter (counter_step (timing w s) s.counter t) (quiet w s t h);
   keeps_hears = λ s t l before now h. refl;
   keeps_silent = λ s t h. refl;

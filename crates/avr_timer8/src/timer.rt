@@ -34,28 +34,32 @@ impl Unit for Timer0 {
         register_at(Which::Zero, reg).is_some()
     }
 
+    #[inline(always)]
+    fn reading_keeps(_reg: u8) -> bool {
+        true
+    }
+
     #[inline]
-    fn moves(&self, reg: u8, value: u8) -> bool {
-        let _ = value;
+    fn moves(&self, reg: u8, _value: u8) -> bool {
         moves_at(Which::Zero, reg)
     }
 
     #[inline]
-    fn bit_moves(&self, reg: u8, bit: u8, value: bool) -> bool {
-        let _ = bit;
-        let _ = value;
+    fn bit_moves(&self, reg: u8, _bit: u8, _value: bool) -> bool {
         moves_at(Which::Zero, reg)
     }
 
     #[inline]
-    fn hears(&self, before: &[Level], now: &[Level]) -> bool {
-        let _ = before;
-        let _ = now;
+    fn hears(&self, _before: &[Level], _now: &[Level]) -> bool {
         false
     }
 
-    fn read(&mut self, levels: &[Level], reg: u8) -> u8 {
-        let _ = levels;
+    #[inline]
+    fn event_moves(&self) -> bool {
+        self.timer.event_moves()
+    }
+
+    fn read(&mut self, _levels: &[Level], reg: u8) -> u8 {
         self.timer.register(named(Which::Zero, reg))
     }
 
@@ -73,9 +77,7 @@ impl Unit for Timer0 {
         self.timer.skip(Which::Zero, to);
     }
 
-    fn step(&mut self, before: &[Level], now: &[Level]) -> Option<u8> {
-        let _ = before;
-        let _ = now;
+    fn step(&mut self, _before: &[Level], _now: &[Level]) -> Option<u8> {
         self.timer.step(Which::Zero);
         None
     }
@@ -84,8 +86,7 @@ impl Unit for Timer0 {
         self.timer.due(Which::Zero)
     }
 
-    fn request(&self, levels: &[Level]) -> u8 {
-        let _ = levels;
+    fn request(&self, _levels: &[Level]) -> u8 {
         self.timer.request(Which::Zero)
     }
 
@@ -129,28 +130,32 @@ impl Unit for Timer2 {
         register_at(Which::Two, reg).is_some()
     }
 
+    #[inline(always)]
+    fn reading_keeps(_reg: u8) -> bool {
+        true
+    }
+
     #[inline]
-    fn moves(&self, reg: u8, value: u8) -> bool {
-        let _ = value;
+    fn moves(&self, reg: u8, _value: u8) -> bool {
         moves_at(Which::Two, reg)
     }
 
     #[inline]
-    fn bit_moves(&self, reg: u8, bit: u8, value: bool) -> bool {
-        let _ = bit;
-        let _ = value;
+    fn bit_moves(&self, reg: u8, _bit: u8, _value: bool) -> bool {
         moves_at(Which::Two, reg)
     }
 
     #[inline]
-    fn hears(&self, before: &[Level], now: &[Level]) -> bool {
-        let _ = before;
-        let _ = now;
+    fn hears(&self, _before: &[Level], _now: &[Level]) -> bool {
         false
     }
 
-    fn read(&mut self, levels: &[Level], reg: u8) -> u8 {
-        let _ = levels;
+    #[inline]
+    fn event_moves(&self) -> bool {
+        self.timer.event_moves()
+    }
+
+    fn read(&mut self, _levels: &[Level], reg: u8) -> u8 {
         self.timer.register(named(Which::Two, reg))
     }
 
@@ -168,9 +173,7 @@ impl Unit for Timer2 {
         self.timer.skip(Which::Two, to);
     }
 
-    fn step(&mut self, before: &[Level], now: &[Level]) -> Option<u8> {
-        let _ = before;
-        let _ = now;
+    fn step(&mut self, _before: &[Level], _now: &[Level]) -> Option<u8> {
         self.timer.step(Which::Two);
         None
     }
@@ -179,8 +182,7 @@ impl Unit for Timer2 {
         self.timer.due(Which::Two)
     }
 
-    fn request(&self, levels: &[Level]) -> u8 {
-        let _ = levels;
+    fn request(&self, _levels: &[Level]) -> u8 {
         self.timer.request(Which::Two)
     }
 

@@ -84,6 +84,7 @@ twi = record {
   hears = λ u before now. false;
   requests = λ u l. requests u;
   pad = twi_pad;
+  event_moves = λ u. true;
   sends = λ u t. None;
   has = λ a. is_some (register_at a);
   moves = λ u a x. at_register (register_at a) false moves_pad;

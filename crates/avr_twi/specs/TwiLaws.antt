@@ -35,6 +35,8 @@ at_pad u t (Some r) x p h = write_pad u t r (x r) p h
 pub twi_laws : Laws twi
 twi_laws = record {
   keeps_pad = λ s t l p h. ap (λ (u : Twi). twi_pad u p) (quiet s t l l h);
+  event_pad = λ s t l p h. cc;
+  keeps_event_moves = λ s t l h. refl;
   keeps_requests = λ s t l h. ap requests (quiet s t l l h);
   keeps_hears = λ s t l before now h. refl;
   keeps_silent = λ s t h. refl;

@@ -58,28 +58,32 @@ impl Unit for Twi {
         register_at(reg).is_some()
     }
 
+    #[inline(always)]
+    fn reading_keeps(_reg: u8) -> bool {
+        true
+    }
+
     #[inline]
-    fn moves(&self, reg: u8, value: u8) -> bool {
-        let _ = value;
+    fn moves(&self, reg: u8, _value: u8) -> bool {
         moves(reg)
     }
 
     #[inline]
-    fn bit_moves(&self, reg: u8, bit: u8, value: bool) -> bool {
-        let _ = bit;
-        let _ = value;
+    fn bit_moves(&self, reg: u8, _bit: u8, _value: bool) -> bool {
         moves(reg)
     }
 
     #[inline]
-    fn hears(&self, before: &[Level], now: &[Level]) -> bool {
-        let _ = before;
-        let _ = now;
+    fn hears(&self, _before: &[Level], _now: &[Level]) -> bool {
         false
     }
 
-    fn read(&mut self, levels: &[Level], reg: u8) -> u8 {
-        let _ = levels;
+    #[inline]
+    fn event_moves(&self) -> bool {
+        true
+    }
+
+    fn read(&mut self, _levels: &[Level], reg: u8) -> u8 {
         self.register(named(reg))
     }
 
@@ -96,8 +100,7 @@ impl Unit for Twi {
         self.cycle = to;
     }
 
-    fn step(&mut self, before: &[Level], now: &[Level]) -> Option<u8> {
-        let _ = before;
+    fn step(&mut self, _before: &[Level], now: &[Level]) -> Option<u8> {
         let half = self.half_period();
         self.master.step(self.cycle, sda(now), scl(now), half);
         self.cycle += 1;
@@ -108,8 +111,7 @@ impl Unit for Twi {
         within_run(or_end(self.master.next_event()))
     }
 
-    fn request(&self, levels: &[Level]) -> u8 {
-        let _ = levels;
+    fn request(&self, _levels: &[Level]) -> u8 {
         least(&[Request {
             vector: 24,
             enabled: has_bit(self.master.twcr, TWIE),
@@ -117,9 +119,7 @@ impl Unit for Twi {
         }])
     }
 
-    fn taken(&mut self, vector: u8) {
-        let _ = vector;
-    }
+    fn taken(&mut self, _vector: u8) {}
 
     fn pad(&self, pin: u8) -> Pad {
         if has_bit(self.master.twcr, TWEN) {

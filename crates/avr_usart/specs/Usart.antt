@@ -16,7 +16,7 @@ use Rattle.avr_usart.specs.declared.registers.Register.{Register}
 use Rattle.avr_usart.specs.declared.registers.Register.TheVariants.{UCSR0A, UCSR0B, UCSR0C, UBRR0L, UBRR0H, UDR0}
 use Rattle.avr_usart.specs.Registers.{register_at, moves_pad}
 use Rattle.avr_usart.specs.Format.{format_by}
-use Rattle.avr_usart.specs.Transmitter.{silent, loaded, transmitted, emitted, bit_end, txd}
+use Rattle.avr_usart.specs.Transmitter.{silent, loaded, transmitted, emitted, bit_end, txd, changes_line}
 use Rattle.avr_usart.specs.Receiver.{holds_any, oldest, deaf, after_taking, received, next_sample, listens}
 
 -- UCSR0A's bits 1 and 0, UCSR0B and UCSR0C as they were written, the 12 bits of UBRR0, and both halves.
@@ -117,6 +117,7 @@ usart = record {
   hears = λ u before now. listens u.receiver.reception (rxen u) && (rxd before && not (rxd now));
   requests = λ u l. requests u;
   pad = usart_pad;
+  event_moves = λ u. changes_line u.transmitter.frame;
   sends = λ u t. emitted u.transmitter.frame t;
   has = λ a. is_some (register_at a);
   moves = λ u a x. at_register (register_at a) false moves_pad;

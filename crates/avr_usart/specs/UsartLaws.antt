@@ -1,5 +1,5 @@
 -- A cycle without an event leaves the USART as it is, unless RXD falls.
-use Rattle.std.specs.Prelude.{◌≡◌, ℕ, Bool, true, false, ◌&&◌, ◌||◌, not, if◌then◌else◌, List, Option, Some, None, ◌==◌}
+use Rattle.std.specs.Prelude.{◌≡◌, ℕ, Bool, true, false, ◌&&◌, ◌||◌, not, if◌then◌else◌, List, Option, Some, None, ◌==◌, ◌+◌, is_some}
 use Rattle.std.proofs.Common.{refl, ap, sym, ◌∙◌}
 use Rattle.sim_base.specs.declared.signal.Level.{Level}
 use Rattle.unit_law.specs.Bits.{with_bit}
@@ -13,10 +13,13 @@ use Rattle.avr_usart.specs.declared.receiver.Reception.{Reception}
 use Rattle.avr_usart.specs.declared.receiver.Receiver.{Receiver}
 use Rattle.avr_usart.specs.declared.registers.Register.{Register}
 use Rattle.avr_usart.specs.declared.registers.Register.TheVariants.{UCSR0A, UCSR0B, UCSR0C, UBRR0L, UBRR0H, UDR0}
+use Rattle.unit_law.specs.Pad.{untouched}
+use Rattle.unit_law.specs.declared.pad.Pad.{Pad}
+use Rattle.avr_usart.specs.Format.{frame_bit}
 use Rattle.avr_usart.specs.Registers.{register_at, moves_pad}
-use Rattle.avr_usart.specs.Transmitter.{transmitted, bit_over, emitted, is_last, bit_end}
+use Rattle.avr_usart.specs.Transmitter.{transmitted, bit_over, frame_over, emitted, is_last, bit_end, line, txd, differ, changes_line}
 use Rattle.avr_usart.specs.Receiver.{received, sampled, heard, is_start, next_sample, listens}
-use Rattle.avr_usart.specs.Usart.{Usart, usart, usart_pad, requests, stepped, with_register, after_read, kept, rxd, rxen, format_of}
+use Rattle.avr_usart.specs.Usart.{Usart, usart, usart_pad, requests, stepped, with_register, after_read, kept, rxd, rxen, txen, format_of}
 
 quiet_line : (s : Transmitter) (o : Option Frame) (format : Format) (t : ℕ) → comes (bit_end o) t ≡ false → transmitted s o format t ≡ s
 quiet_line s None format t h = refl
@@ -57,6 +60,35 @@ unheard u t before now h none =
     let d = neither (comes (bit_end u.transmitter.frame) t) (comes (next_sample u.receiver.reception) t) h in
     quiet_by u t (rxd before) (rxd now) d.0 d.1 none
 
+same_bit : (a b : Bool) → differ a b ≡ false → b ≡ a
+same_bit true true h = refl
+same_bit true false h = cc
+same_bit false true h = cc
+same_bit false false h = refl
+
+abbrev shown : Option Frame → Bool → Pad
+shown o txen =
+    let on = txen || is_some o in
+    record untouched { ddoe = on; ddov = on; pvoe = on; pvov = on && line o }
+
+-- a bit that is followed by the same leaves TXD as it is
+txd_kept : (s : Transmitter) (o : Option Frame) (format : Format) (t : ℕ) (txen : Bool) → s.frame ≡ o → changes_line o ≡ false → txd (transmitted s o format t) txen ≡ txd s txen
+txd_kept s None format t txen e h = refl
+txd_kept s (Some f) format t txen e h = by (f.end == t)
+  where
+    d : (is_last f ≡ false) × (differ (frame_bit f.format f.byte f.place) (frame_bit f.format f.byte (f.place + 1)) ≡ false)
+    d = neither (is_last f) (differ (frame_bit f.format f.byte f.place) (frame_bit f.format f.byte (f.place + 1))) h
+
+    next : Frame
+    next = record f { place = f.place + 1; end = t + f.format.bit }
+
+    by : (b : Bool) → txd (if b then bit_over s f format t else s) txen ≡ txd s txen
+    by false = refl
+    by true =
+        ap (λ (x : Transmitter). txd x txen) (chosen (is_last f) (frame_over s s.buffer format t) (record s { frame = Some next }) d.0)
+        ∙ ap (λ (b : Bool). record untouched { ddoe = txen || true; ddov = txen || true; pvoe = txen || true; pvov = (txen || true) && b }) (same_bit _ _ d.1)
+        ∙ ap (λ (x : Option Frame). shown x txen) (sym e)
+
 read_pad : (u : Usart) (o : Option Register) (p : ℕ) → usart_pad (at_register o u (after_read u)) p ≡ usart_pad u p
 read_pad u None p = refl
 read_pad u (Some UDR0) p = refl
@@ -82,6 +114,8 @@ at_pad u t (Some r) x p h = write_pad u t r (x r) p h
 pub usart_laws : Laws usart
 usart_laws = record {
   keeps_pad = λ s t l p h. ap (λ (u : Usart). usart_pad u p) (quiet s t l h);
+  event_pad = λ s t l p h. ap (λ (d : Pad). if p == 0 then record untouched { ddoe = rxen s } else if p == 1 then d else untouched) (txd_kept s.transmitter s.transmitter.frame (format_of s) t (txen s) refl h);
+  keeps_event_moves = λ s t l h. ap (λ (u : Usart). changes_line u.transmitter.frame) (quiet s t l h);
   keeps_requests = λ s t l h. ap requests (quiet s t l h);
   keeps_hears = λ s t l before now h. ap (λ (u : Usart). usart.hears u before now) (quiet s t l h);
   keeps_silent = λ s t h. no_byte s.transmitter.frame t (neither (comes (bit_end s.transmitter.frame) t) (comes (next_sample s.receiver.reception) t) h).0;

@@ -9,7 +9,7 @@ ghost use Rattle.avr_usart.specs.Usart.{rxen, txen, format_of, rxd, status, regi
 use crate::format::Format;
 use crate::receiver::Receiver;
 use crate::registers::{
-    RXCIE0, RXEN0, Register, TXC0, TXCIE0, TXEN0, U2X0, UDRIE0, moves, named, register_at,
+    RXCIE0, RXEN0, Register, TXC0, TXCIE0, TXEN0, U2X0, UCSR0A, UDRIE0, moves, named, register_at,
 };
 use crate::transmitter::Transmitter;
 use sim_base::{Level, MOST_CYCLES, reads_one};
@@ -71,16 +71,18 @@ impl Unit for Usart {
         register_at(reg).is_some()
     }
 
+    #[inline(always)]
+    fn reading_keeps(reg: u8) -> bool {
+        reg == UCSR0A
+    }
+
     #[inline]
-    fn moves(&self, reg: u8, value: u8) -> bool {
-        let _ = value;
+    fn moves(&self, reg: u8, _value: u8) -> bool {
         moves(reg)
     }
 
     #[inline]
-    fn bit_moves(&self, reg: u8, bit: u8, value: bool) -> bool {
-        let _ = bit;
-        let _ = value;
+    fn bit_moves(&self, reg: u8, _bit: u8, _value: bool) -> bool {
         moves(reg)
     }
 
@@ -89,8 +91,11 @@ impl Unit for Usart {
         self.receiver.listens(self.rxen()) & (rxd(before) & !rxd(now))
     }
 
-    fn read(&mut self, levels: &[Level], reg: u8) -> u8 {
-        let _ = levels;
+    fn event_moves(&self) -> bool {
+        self.transmitter.changes_line(self.cycle)
+    }
+
+    fn read(&mut self, _levels: &[Level], reg: u8) -> u8 {
         let register = named(reg);
         let value = self.register(register);
         self.take(register);
@@ -125,8 +130,7 @@ impl Unit for Usart {
         within_run(or_end(self.transmitter.bit_end()).min(or_end(self.receiver.next_sample())))
     }
 
-    fn request(&self, levels: &[Level]) -> u8 {
-        let _ = levels;
+    fn request(&self, _levels: &[Level]) -> u8 {
         least(&[
             Request {
                 vector: 18,

@@ -1,8 +1,9 @@
 -- Stretches of cycles, and a unit that lags behind by quiet ones.
-use Rattle.std.proofs.Common.{◌⊎◌, inl, inr, Bool, true, Some, None, false, zero, suc, ◌≡◌, ℕ, ◌+◌, ◌-◌, ◌<◌, ◌≤◌, ◌∙◌, List, [], arith, ap, sym, refl}
+use Rattle.std.proofs.Common.{◌⊎◌, inl, inr, Bool, true, Some, None, false, zero, suc, ◌≡◌, ℕ, ◌+◌, ◌-◌, ◌<◌, ◌≤◌, ◌∙◌, List, [], arith, ap, sym, subst, refl}
 use Rattle.sim_base.specs.declared.signal.Level.{Level}
 use Rattle.sim_base.specs.declared.limits.TheConstants.{MOST_CYCLES}
 use Rattle.unit_law.specs.UnitMachine.{UnitMachine, At, Laws, least, steps, IsQuiet, IsFirstDue, FirstDue}
+use Rattle.unit_law.specs.Lagging.{lag_first}
 use Rattle.unit_law.specs.Late.{late_state, Lags, LateStands}
 
 le_or : (a b : ℕ) → (a ≤ b) ⊎ (b < a)
@@ -28,6 +29,12 @@ module _ {U : Type 0} (m : UnitMachine U) where
   quiet_pad laws s t zero p quiet = refl
   quiet_pad laws s t (suc n) p quiet =
       laws.keeps_pad (steps m s t n) (t + n) [] p (quiet n (omega arith)) ∙ quiet_pad laws s t n p (λ k (h : k < n). quiet k (omega arith))
+
+  pub quiet_event_moves : Laws m → (s : U) (t n : ℕ) → IsQuiet m s t n → m.event_moves (steps m s t n) ≡ m.event_moves s
+  unfolding steps
+  quiet_event_moves laws s t zero quiet = refl
+  quiet_event_moves laws s t (suc n) quiet =
+      laws.keeps_event_moves (steps m s t n) (t + n) [] (quiet n (omega arith)) ∙ quiet_event_moves laws s t n (λ k (h : k < n). quiet k (omega arith))
 
   pub quiet_requests : Laws m → (s : U) (t n : ℕ) (l : List Level) → IsQuiet m s t n → m.requests (steps m s t n) l ≡ m.requests s l
   unfolding steps
@@ -68,6 +75,15 @@ module _ {U : Type 0} (m : UnitMachine U) where
   pub late_quiet : (s : At U) (due t : ℕ) → Lags m s due t → IsQuiet m s.unit s.cycle (t - s.cycle)
   late_quiet s due t h k less = h.first.quiet k (omega (arith, h.lags, h.soon))
 
+  -- a unit that has gone on to the cycle in which it is asked keeps its first event and what it requests
+  pub late_kept : Laws m → (s v : At U) (due request : ℕ) (l : List Level) (t : ℕ) → LateStands m s due request l t →
+      v ≡ record { unit = late_state m s t; cycle = t } → LateStands m v due request l t
+  late_kept laws s v due request l t h is =
+      subst (λ (x : At U). LateStands m x due request l t) (sym is) (record {
+        late = record { lags = omega arith; soon = h.late.soon; first = lag_first m s.unit s.cycle t due h.late.lags h.late.soon h.late.first };
+        requests = h.requests ∙ sym (ap least (quiet_requests laws s.unit s.cycle (t - s.cycle) l (late_quiet s due t h.late)));
+      })
+
   -- one more cycle without an event
   late_next : (s : At U) (t : ℕ) → s.cycle ≤ t → late_state m s (t + 1) ≡ m.step (late_state m s t) t [] []
   late_next s t le =
@@ -87,6 +103,14 @@ module _ {U : Type 0} (m : UnitMachine U) where
       let d = late_due s due t h less in
       late_next s t h.lags ∙ laws.deaf (late_state m s t) t [] now d
       ∙ sym (laws.unheard (late_state m s t) t before now d (quiet_hears laws s.unit s.cycle (t - s.cycle) before now (late_quiet s due t h) ∙ none))
+
+  -- a cycle moves no pin where it has no event, and where no event does
+  pub rest_pad : Laws m → (s : At U) (due t : ℕ) (l : List Level) (p : ℕ) → Lags m s due t → t < due → m.pad (m.step (late_state m s t) t l l) p ≡ m.pad (late_state m s t) p
+  rest_pad laws s due t l p h less = laws.keeps_pad (late_state m s t) t l p (late_due s due t h less)
+
+  pub event_pad : Laws m → (s : At U) (due t : ℕ) (l : List Level) (p : ℕ) → Lags m s due t → m.event_moves s.unit ≡ false → m.pad (m.step (late_state m s t) t l l) p ≡ m.pad (late_state m s t) p
+  event_pad laws s due t l p h none =
+      laws.event_pad (late_state m s t) t l p (quiet_event_moves laws s.unit s.cycle (t - s.cycle) (late_quiet s due t h) ∙ none)
 
   pub rest_silent : Laws m → (s : At U) (due t : ℕ) → Lags m s due t → t < due → None ≡ m.sends (late_state m s t) t
   rest_silent laws s due t h less = sym (laws.keeps_silent (late_state m s t) t (late_due s due t h less))

@@ -32,6 +32,7 @@ module _ {A B : Type 0} (m : UnitMachine A) (n : UnitMachine B) where
     hears = λ u before now. m.hears u.0 before now || n.hears u.1 before now;
     requests = λ u l. m.requests u.0 l ++ n.requests u.1 l;
     pad = λ u p. joined (m.pad u.0 p) (n.pad u.1 p);
+    event_moves = λ u. m.event_moves u.0 || n.event_moves u.1;
     sends = λ u t. first_of_two (m.sends u.0 t) (n.sends u.1 t);
     has = λ a. m.has a || n.has a;
     moves = λ u a x. (if m.has a then m.moves u.0 a x else false) || (if n.has a then n.moves u.1 a x else false);
@@ -44,17 +45,21 @@ module _ {A B : Type 0} (m : UnitMachine A) (n : UnitMachine B) where
     reset = (m.reset, n.reset);
   }
 
-  neither : (a b : Bool) → (a || b) ≡ false → (a ≡ false) × (b ≡ false)
+  pub neither : (a b : Bool) → (a || b) ≡ false → (a ≡ false) × (b ≡ false)
   neither true b h = cc
   neither false b h = (refl, h)
 
-  pads : (a c : Pad) (b d : Pad) → a ≡ c → b ≡ d → joined a b ≡ joined c d
+  pub pads : (a c : Pad) (b d : Pad) → a ≡ c → b ≡ d → joined a b ≡ joined c d
   pads a c b d e f = ap (λ x. joined x b) e ∙ ap (joined c) f
 
   pub both_laws : Laws m → Laws n → Laws both
   both_laws p q = record {
     keeps_pad = λ s t l i h. let d = neither (m.due s.0 t) (n.due s.1 t) h in
         pads _ _ _ _ (p.keeps_pad s.0 t l i d.0) (q.keeps_pad s.1 t l i d.1);
+    event_pad = λ s t l i h. let d = neither (m.event_moves s.0) (n.event_moves s.1) h in
+        pads _ _ _ _ (p.event_pad s.0 t l i d.0) (q.event_pad s.1 t l i d.1);
+    keeps_event_moves = λ s t l h. let d = neither (m.due s.0 t) (n.due s.1 t) h in
+        ap (λ x. x || n.event_moves (n.step s.1 t l l)) (p.keeps_event_moves s.0 t l d.0) ∙ ap (λ x. m.event_moves s.0 || x) (q.keeps_event_moves s.1 t l d.1);
     keeps_requests = λ s t l h. let d = neither (m.due s.0 t) (n.due s.1 t) h in
         ap (λ x. x ++ n.requests (n.step s.1 t l l) l) (p.keeps_requests s.0 t l d.0) ∙ ap (λ x. m.requests s.0 l ++ x) (q.keeps_requests s.1 t l d.1);
     keeps_hears = λ s t l k o h. let d = neither (m.due s.0 t) (n.due s.1 t) h in

@@ -27,6 +27,8 @@ pub record UnitMachine (U : Type 0) : Type 0 where
   pub requests : U → List Level → List Request
   -- what it asks of an Uno pin
   pub pad : U → ℕ → Pad
+  -- whether an event of its own may change that
+  pub event_moves : U → Bool
   -- the byte that leaves in the cycle
   pub sends : U → ℕ → Option ℕ
   -- whether a data address is one of its registers
@@ -85,6 +87,8 @@ module _ {U : Type 0} (m : UnitMachine U) where
   -- and does the same on all levels that stay; a change of which it takes no notice is none to it.
   pub record Laws : Type 0 where
     pub keeps_pad : (s : U) (t : ℕ) (l : List Level) (p : ℕ) → m.due s t ≡ false → m.pad (m.step s t l l) p ≡ m.pad s p
+    pub event_pad : (s : U) (t : ℕ) (l : List Level) (p : ℕ) → m.event_moves s ≡ false → m.pad (m.step s t l l) p ≡ m.pad s p
+    pub keeps_event_moves : (s : U) (t : ℕ) (l : List Level) → m.due s t ≡ false → m.event_moves (m.step s t l l) ≡ m.event_moves s
     pub keeps_requests : (s : U) (t : ℕ) (l : List Level) → m.due s t ≡ false → m.requests (m.step s t l l) l ≡ m.requests s l
     pub keeps_hears : (s : U) (t : ℕ) (l before now : List Level) → m.due s t ≡ false → m.hears (m.step s t l l) before now ≡ m.hears s before now
     pub keeps_silent : (s : U) (t : ℕ) → m.due s t ≡ false → m.sends s t ≡ None

@@ -48,6 +48,11 @@ impl<A: Group, B: Group> Group for Both<A, B> {
     }
 
     #[inline]
+    fn event_moves(&self, cycle: u32) -> bool {
+        self.first.event_moves(cycle) | self.second.event_moves(cycle)
+    }
+
+    #[inline]
     fn read(&mut self, cycle: u32, levels: &[Level], reg: u8) -> u8 {
         if A::has(reg) {
             self.first.read(cycle, levels, reg)

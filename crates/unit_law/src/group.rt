@@ -37,6 +37,10 @@ pub trait Group {
         requires levels { length now.now ≡ 20 }
         ensures { (l : List Level) (t : ℕ) → stands self.now l t → result ≡ machine.hears (state self.now t) before.now now.now };
 
+    /// Whether an event of this cycle may change what they ask of a pin.
+    fn event_moves(&self, cycle: u32) -> bool
+        ensures { (l : List Level) → stands self.now l cycle → result ≡ false → (p : ℕ) → machine.pad (machine.step (state self.now cycle) cycle l l) p ≡ machine.pad (state self.now cycle) p };
+
     /// Reads a register in a cycle.
     fn read(&mut self, cycle: u32, levels: &[Level], reg: u8) -> u8
         requires register { machine.has reg ≡ true }

@@ -48,11 +48,18 @@ impl<U: Unit> Group for Late<U> {
         self.unit.hears(before, now)
     }
 
+    #[inline]
+    fn event_moves(&self, cycle: u32) -> bool {
+        (self.due <= cycle) & self.unit.event_moves()
+    }
+
     fn read(&mut self, cycle: u32, levels: &[Level], reg: u8) -> u8 {
         catch_up(&mut self.unit, self.due, cycle);
         let value = self.unit.read(levels, reg);
-        self.due = first_due(&self.unit);
-        self.request = self.unit.request(levels);
+        if !U::reading_keeps(reg) {
+            self.due = first_due(&self.unit);
+            self.request = self.unit.request(levels);
+        }
         value
     }
 

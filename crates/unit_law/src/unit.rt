@@ -37,6 +37,19 @@ pub trait Unit {
         requires levels { length now.now ≡ 20 }
         ensures { result ≡ machine.hears (shows self.now).unit before.now now.now };
 
+    /// Whether an event of its own may change what it asks of a pin.
+    fn event_moves(&self) -> bool
+        ensures { result ≡ machine.event_moves (shows self.now).unit };
+
+    /// Whether a read of the register leaves the unit as it is.
+    #[inline(always)]
+    fn reading_keeps(reg: u8) -> bool
+        ensures { result ≡ true → (u : State) (t : ℕ) → machine.read u t reg ≡ u }
+    {
+        let _ = reg;
+        false
+    }
+
     /// Reads a register, on the levels of the cycle before.
     fn read(&mut self, levels: &[Level], reg: u8) -> u8
         requires register { machine.has reg ≡ true }
