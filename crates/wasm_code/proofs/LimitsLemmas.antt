@@ -1,6 +1,7 @@
 -- Reading limits.
 use Rattle.std.proofs.Common.{◌≡◌, ℕ, Option, Some, None, Bool, true, false, subst}
 use Rattle.sim_base.specs.declared.fault.Fault.{Fault}
+use Rattle.sim_base.specs.Refusals.{WasmCut, WasmLeb}
 use Rattle.wasm_text.specs.declared.reader.Reader.{Reader}
 use Rattle.wasm_text.specs.Form.{Form, give, flag, judge_flag, ◌>>=◌}
 use Rattle.wasm_text.specs.Proper.{Proper}
@@ -39,11 +40,11 @@ limited old mid near new b n m h q k j =
     then_reads flag with_flag old mid new true (record { least = n; greatest = Some m }) h' (then_reads u32 (with_least true) mid near new n (record { least = n; greatest = Some m }) k (then_reads (greatest_if true) (with_both n) near new new (Some m) (record { least = n; greatest = Some m }) (then_reads u32 (λ (x : ℕ). give (Some x)) near new new m (Some m) j (given (Some m) new)) (given _ new)))
 
 u32_proper : Proper u32
-u32_proper = unsigned_proper 32 0 4294967295 62
+u32_proper = unsigned_proper 32 0 4294967295 WasmLeb
 
 greatest_proper : (b : Bool) → Proper (greatest_if b)
 greatest_proper false = give_proper None
 greatest_proper true = then_proper u32 (λ (n : ℕ). give (Some n)) u32_proper (λ n. give_proper (Some n))
 
 pub limits_proper : Proper limits
-limits_proper = then_proper flag with_flag (byte_proper 61 judge_flag) (λ b. then_proper u32 (with_least b) u32_proper (λ n. then_proper (greatest_if b) (with_both n) (greatest_proper b) (λ g. give_proper (record { least = n; greatest = g }))))
+limits_proper = then_proper flag with_flag (byte_proper WasmCut judge_flag) (λ b. then_proper u32 (with_least b) u32_proper (λ n. then_proper (greatest_if b) (with_both n) (greatest_proper b) (λ g. give_proper (record { least = n; greatest = g }))))

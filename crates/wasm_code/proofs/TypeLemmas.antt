@@ -1,6 +1,7 @@
 -- Reading types.
 use Rattle.std.proofs.Common.{◌≡◌, ℕ, List, Bool, Result, sym, subst}
 use Rattle.sim_base.specs.declared.fault.Fault.{Fault}
+use Rattle.sim_base.specs.Refusals.{WasmCut, WasmType}
 use Rattle.wasm_text.specs.declared.reader.Reader.{Reader}
 use Rattle.wasm_text.specs.Form.{Form, give, flag, judge_tag, ◌>>=◌}
 use Rattle.wasm_text.specs.Reads.{Reads, Fails, Decodes}
@@ -30,7 +31,7 @@ pub global_type_done : (old r1 r2 : Reader) (value : ValType) (changeable : Bool
 global_type_done old r1 r2 value changeable v e h1 h2 = subst (λ (z : GlobalType). Reads global_type old r2 z) (sym e) (then_reads val_type global_type_1 old r1 r2 value (record { value = value; changeable = changeable }) h1 (then_reads flag (global_type_2 value) r1 r2 r2 changeable (record { value = value; changeable = changeable }) h2 (given (record { value = value; changeable = changeable }) r2)))
 
 pub global_type_proper : Proper global_type
-global_type_proper = then_proper val_type global_type_1 (byte_proper 61 judge_val_type) (λ value. (then_proper flag (global_type_2 value) (byte_proper 61 judge_flag) (λ changeable. (give_proper (record { value = value; changeable = changeable })))))
+global_type_proper = then_proper val_type global_type_1 (byte_proper WasmCut judge_val_type) (λ value. (then_proper flag (global_type_2 value) (byte_proper WasmCut judge_flag) (λ changeable. (give_proper (record { value = value; changeable = changeable })))))
 
 abbrev pub func_type_3 : (mark : Unit {0}) (params : List ValType) (results : List ValType) → Form FuncType
 func_type_3 mark params results = give (record { params = params; results = results })
@@ -41,26 +42,26 @@ func_type_2 mark params = (vec val_type) >>= func_type_3 mark params
 abbrev pub func_type_1 : (mark : Unit {0}) → Form FuncType
 func_type_1 mark = (vec_to 16 val_type) >>= func_type_2 mark
 
-pub func_type_stops_2 : (old r1 : Reader) (mark : Unit {0}) (e : Fault) → Reads (tag 0x60 64) old r1 mark → Fails (vec_to 16 val_type) r1 e → Fails func_type old e
-func_type_stops_2 old r1 mark e h1 f = then_fails (tag 0x60 64) func_type_1 old r1 mark e h1 (stops (vec_to 16 val_type) (func_type_2 mark) r1 e f)
+pub func_type_stops_2 : (old r1 : Reader) (mark : Unit {0}) (e : Fault) → Reads (tag 0x60 WasmType) old r1 mark → Fails (vec_to 16 val_type) r1 e → Fails func_type old e
+func_type_stops_2 old r1 mark e h1 f = then_fails (tag 0x60 WasmType) func_type_1 old r1 mark e h1 (stops (vec_to 16 val_type) (func_type_2 mark) r1 e f)
 
-pub func_type_stops_3 : (old r1 r2 : Reader) (mark : Unit {0}) (params : List ValType) (e : Fault) → Reads (tag 0x60 64) old r1 mark → Reads (vec_to 16 val_type) r1 r2 params → Fails (vec val_type) r2 e → Fails func_type old e
-func_type_stops_3 old r1 r2 mark params e h1 h2 f = then_fails (tag 0x60 64) func_type_1 old r1 mark e h1 (then_fails (vec_to 16 val_type) (func_type_2 mark) r1 r2 params e h2 (stops (vec val_type) (func_type_3 mark params) r2 e f))
+pub func_type_stops_3 : (old r1 r2 : Reader) (mark : Unit {0}) (params : List ValType) (e : Fault) → Reads (tag 0x60 WasmType) old r1 mark → Reads (vec_to 16 val_type) r1 r2 params → Fails (vec val_type) r2 e → Fails func_type old e
+func_type_stops_3 old r1 r2 mark params e h1 h2 f = then_fails (tag 0x60 WasmType) func_type_1 old r1 mark e h1 (then_fails (vec_to 16 val_type) (func_type_2 mark) r1 r2 params e h2 (stops (vec val_type) (func_type_3 mark params) r2 e f))
 
-pub func_type_done : (old r1 r2 r3 : Reader) (mark : Unit {0}) (params : List ValType) (results : List ValType) (v : FuncType) → v ≡ record { params = params; results = results } → Reads (tag 0x60 64) old r1 mark → Reads (vec_to 16 val_type) r1 r2 params → Reads (vec val_type) r2 r3 results → Reads func_type old r3 v
-func_type_done old r1 r2 r3 mark params results v e h1 h2 h3 = subst (λ (z : FuncType). Reads func_type old r3 z) (sym e) (then_reads (tag 0x60 64) func_type_1 old r1 r3 mark (record { params = params; results = results }) h1 (then_reads (vec_to 16 val_type) (func_type_2 mark) r1 r2 r3 params (record { params = params; results = results }) h2 (then_reads (vec val_type) (func_type_3 mark params) r2 r3 r3 results (record { params = params; results = results }) h3 (given (record { params = params; results = results }) r3))))
+pub func_type_done : (old r1 r2 r3 : Reader) (mark : Unit {0}) (params : List ValType) (results : List ValType) (v : FuncType) → v ≡ record { params = params; results = results } → Reads (tag 0x60 WasmType) old r1 mark → Reads (vec_to 16 val_type) r1 r2 params → Reads (vec val_type) r2 r3 results → Reads func_type old r3 v
+func_type_done old r1 r2 r3 mark params results v e h1 h2 h3 = subst (λ (z : FuncType). Reads func_type old r3 z) (sym e) (then_reads (tag 0x60 WasmType) func_type_1 old r1 r3 mark (record { params = params; results = results }) h1 (then_reads (vec_to 16 val_type) (func_type_2 mark) r1 r2 r3 params (record { params = params; results = results }) h2 (then_reads (vec val_type) (func_type_3 mark params) r2 r3 r3 results (record { params = params; results = results }) h3 (given (record { params = params; results = results }) r3))))
 
 pub func_type_proper : Proper func_type
-func_type_proper = then_proper (tag 0x60 64) func_type_1 (byte_proper 61 (judge_tag 0x60 64)) (λ mark. (then_proper (vec_to 16 val_type) (func_type_2 mark) (vec_to_proper 16 val_type (byte_proper 61 judge_val_type)) (λ params. (then_proper (vec val_type) (func_type_3 mark params) (vec_proper val_type (byte_proper 61 judge_val_type)) (λ results. (give_proper (record { params = params; results = results })))))))
+func_type_proper = then_proper (tag 0x60 WasmType) func_type_1 (byte_proper WasmCut (judge_tag 0x60 WasmType)) (λ mark. (then_proper (vec_to 16 val_type) (func_type_2 mark) (vec_to_proper 16 val_type (byte_proper WasmCut judge_val_type)) (λ params. (then_proper (vec val_type) (func_type_3 mark params) (vec_proper val_type (byte_proper WasmCut judge_val_type)) (λ results. (give_proper (record { params = params; results = results })))))))
 
 abbrev pub table_type_1 : (mark : Unit {0}) → Form Limits
 table_type_1 mark = limits
 
-pub table_type_goes : (old r1 new : Reader) (mark : Unit {0}) (r : Result Limits Fault) → Reads (tag 0x70 64) old r1 mark → Decodes limits r r1 new → Decodes table_type r old new
-table_type_goes old r1 new mark r h1 d = then (tag 0x70 64) table_type_1 old r1 new mark r h1 d
+pub table_type_goes : (old r1 new : Reader) (mark : Unit {0}) (r : Result Limits Fault) → Reads (tag 0x70 WasmType) old r1 mark → Decodes limits r r1 new → Decodes table_type r old new
+table_type_goes old r1 new mark r h1 d = then (tag 0x70 WasmType) table_type_1 old r1 new mark r h1 d
 
 pub table_type_proper : Proper table_type
-table_type_proper = then_proper (tag 0x70 64) table_type_1 (byte_proper 61 (judge_tag 0x70 64)) (λ mark. limits_proper)
+table_type_proper = then_proper (tag 0x70 WasmType) table_type_1 (byte_proper WasmCut (judge_tag 0x70 WasmType)) (λ mark. limits_proper)
 
 abbrev pub tables_1 : (count : ℕ) → Form (List Limits)
 tables_1 count = items table_type count

@@ -1,5 +1,6 @@
 -- Types (WebAssembly core specification, "Binary Format", "Types").
 use Rattle.std.specs.Prelude.{ℕ, Bool, true, false, ◌==◌, if◌then◌else◌, Result, Ok, Err, Option, Some, None}
+use Rattle.sim_base.specs.Refusals.{WasmType}
 use Rattle.wasm_code.specs.declared.types.ValType.{ValType}
 use Rattle.wasm_code.specs.declared.types.ValType.TheVariants.{I32, I64, F32, F64}
 use Rattle.wasm_code.specs.declared.types.BlockType.{BlockType}
@@ -11,7 +12,7 @@ use Rattle.wasm_text.specs.Leb.{u32}
 use Rattle.wasm_text.specs.Lists.{vec, vec_to}
 
 abbrev pub judge_val_type : ℕ → Result ValType ℕ
-judge_val_type b = if b == 0x7F then Ok I32 else if b == 0x7E then Ok I64 else if b == 0x7D then Ok F32 else if b == 0x7C then Ok F64 else Err 64
+judge_val_type b = if b == 0x7F then Ok I32 else if b == 0x7E then Ok I64 else if b == 0x7D then Ok F32 else if b == 0x7C then Ok F64 else Err WasmType
 
 abbrev pub val_type : Form ValType
 val_type = byte judge_val_type
@@ -33,7 +34,7 @@ tag wanted rule = byte (judge_tag wanted rule)
 -- a type has at most 16 parameters (profile)
 abbrev pub func_type : Form FuncType
 func_type = do
-  mark ← tag 0x60 64
+  mark ← tag 0x60 WasmType
   params ← vec_to 16 val_type
   results ← vec val_type
   give (record { params = params; results = results })
@@ -53,7 +54,7 @@ limits = do
 
 abbrev pub table_type : Form Limits
 table_type = do
-  mark ← tag 0x70 64
+  mark ← tag 0x70 WasmType
   limits
 
 abbrev pub global_type : Form GlobalType

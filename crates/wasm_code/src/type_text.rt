@@ -4,6 +4,7 @@ ghost use Rattle.wasm_text.specs.Reads.{Decodes};
 ghost use Rattle.wasm_text.specs.Lists.{vec, items};
 
 use crate::types::{BlockType, FuncType, GlobalType, Limits, ValType};
+use sim_base::refusals::WASM_TYPE;
 use sim_base::{Fault, List};
 use std::alloc::Global;
 use wasm_text::{Decode, FromByte, Reader, index, judged, list, list_to, tag};
@@ -22,7 +23,7 @@ impl FromByte for ValType {
             0x7E => Ok(ValType::I64),
             0x7D => Ok(ValType::F32),
             0x7C => Ok(ValType::F64),
-            _ => Err(64),
+            _ => Err(WASM_TYPE),
         }
     }
 }
@@ -61,7 +62,7 @@ impl Decode for FuncType {
     ghost form = { func_type };
 
     fn decode(alloc: Global, reader: &mut Reader) -> Result<FuncType, Fault> {
-        tag(reader, 0x60, 64)?;
+        tag(reader, 0x60, WASM_TYPE)?;
         let params = list_to(alloc, reader, PARAMS)?;
         let results = list(alloc, reader)?;
         Ok(FuncType { params, results })
@@ -100,7 +101,7 @@ pub fn read_limits(reader: &mut Reader) -> Result<Limits, Fault>
 pub fn table_limits(reader: &mut Reader) -> Result<Limits, Fault>
     ensures { Decodes table_type result reader.old reader.new }
 {
-    tag(reader, 0x70, 64)?;
+    tag(reader, 0x70, WASM_TYPE)?;
     read_limits(reader)
 }
 

@@ -2,6 +2,7 @@
 use Rattle.std.proofs.Common.{◌≡◌, ℕ, ◌<◌, List, [], ◌∷◌, ◌++◌, length, Option, Bool, true, false, not, ◌&&◌, Result, Ok, Err, refl, sym, ap, subst, ◌∙◌, arith, append_assoc, length-append}
 use Rattle.std.specs.Prelude.{if◌then◌else◌, ◌==◌, nat_le, is_some}
 use Rattle.sim_base.specs.declared.fault.Fault.{Fault}
+use Rattle.sim_base.specs.Refusals.{WasmOpcode, WasmLimit}
 use Rattle.wasm_text.specs.declared.reader.Reader.{Reader}
 use Rattle.wasm_text.specs.Form.{Form, give, choose}
 use Rattle.wasm_text.specs.Lists.{Run}
@@ -154,7 +155,7 @@ else_op shapes.Prefixed op bytes i h p = let z : true ≡ false = sym p ∙ no_p
 else_op shapes.Number op bytes i h p = absurd (clash i _ h.1 p (no_number op))
 
 abbrev verdict : Bool → Bool → Bool → Bool → ℕ → Result ℕ ℕ
-verdict k c e m b = if not k then Err 65 else if c then Err 69 else if e && not m then Err 65 else Ok b
+verdict k c e m b = if not k then Err WasmOpcode else if c then Err WasmLimit else if e && not m then Err WasmOpcode else Ok b
 
 judged_else : (o : Opened) (b op : ℕ) → judge_opcode o b ≡ Ok op → (b ≡ op) × ((b == 5) ≡ true → else_may_come o ≡ true)
 judged_else o b op h = by (is_opcode b) (from 0x02 0x04 b && nat_le 256 (length o)) (b == 5) (else_may_come o) h

@@ -22,6 +22,7 @@ use Rattle.wasm_text.specs.Form.{any_byte}
 use Rattle.wasm_text.proofs.Steps.{judged_ends, judged_ok, judged_err}
 use Rattle.sim_base.specs.declared.fault.Fault.TheVariants as faults
 use Rattle.sim_base.specs.declared.fault.Place.TheVariants as places
+use Rattle.sim_base.specs.Refusals.{WasmCut, WasmLeb, WasmOpcode}
 use Rattle.wasm_decode.specs.InstrText.{block_of, block, index_of, indexed, br_table, table_zero, call_indirect, access_of, access, memory_of, reserved, const_32, const_64, float_32, float_64, judge_prefixed, zeros_behind, prefix_number, memory_copy, memory_fill, prefixed_of, prefixed, shape_of, behind, immediates, judge_opcode, Opened, instr, bare, numeric_of}
 
 abbrev pub block_1 : (op : ℕ) (kind : BlockType) → Form Instr
@@ -31,7 +32,7 @@ pub block_done : (op : ℕ) (old r1 : Reader) (kind : BlockType) (v : Instr) →
 block_done op old r1 kind v e h1 = subst (λ (z : Instr). Reads (block op) old r1 z) (sym e) (then_reads block_type (block_1 op) old r1 r1 kind (block_of op kind.result) h1 (given (block_of op kind.result) r1))
 
 pub block_proper : (op : ℕ) → Proper (block op)
-block_proper op = then_proper block_type (block_1 op) (byte_proper 61 judge_block_type) (λ kind. (give_proper (block_of op kind.result)))
+block_proper op = then_proper block_type (block_1 op) (byte_proper WasmCut judge_block_type) (λ kind. (give_proper (block_of op kind.result)))
 
 abbrev pub indexed_1 : (op : ℕ) (n : ℕ) → Form Instr
 indexed_1 op n = give (index_of op n)
@@ -40,7 +41,7 @@ pub indexed_done : (op : ℕ) (old r1 : Reader) (n : ℕ) (v : Instr) → v ≡ 
 indexed_done op old r1 n v e h1 = subst (λ (z : Instr). Reads (indexed op) old r1 z) (sym e) (then_reads u32 (indexed_1 op) old r1 r1 n (index_of op n) h1 (given (index_of op n) r1))
 
 pub indexed_proper : (op : ℕ) → Proper (indexed op)
-indexed_proper op = then_proper u32 (indexed_1 op) (unsigned_proper 32 0 4294967295 62) (λ n. (give_proper (index_of op n)))
+indexed_proper op = then_proper u32 (indexed_1 op) (unsigned_proper 32 0 4294967295 WasmLeb) (λ n. (give_proper (index_of op n)))
 
 abbrev pub br_table_2 : (labels : List ℕ) (default : ℕ) → Form Instr
 br_table_2 labels default = give (instrs.BrTable labels default)
@@ -55,7 +56,7 @@ pub br_table_done : (old r1 r2 : Reader) (labels : List ℕ) (default : ℕ) (v 
 br_table_done old r1 r2 labels default v e h1 h2 = subst (λ (z : Instr). Reads br_table old r2 z) (sym e) (then_reads (vec_to 4096 u32) br_table_1 old r1 r2 labels (instrs.BrTable labels default) h1 (then_reads u32 (br_table_2 labels) r1 r2 r2 default (instrs.BrTable labels default) h2 (given (instrs.BrTable labels default) r2)))
 
 pub br_table_proper : Proper br_table
-br_table_proper = then_proper (vec_to 4096 u32) br_table_1 (vec_to_proper 4096 u32 (unsigned_proper 32 0 4294967295 62)) (λ labels. (then_proper u32 (br_table_2 labels) (unsigned_proper 32 0 4294967295 62) (λ default. (give_proper (instrs.BrTable labels default)))))
+br_table_proper = then_proper (vec_to 4096 u32) br_table_1 (vec_to_proper 4096 u32 (unsigned_proper 32 0 4294967295 WasmLeb)) (λ labels. (then_proper u32 (br_table_2 labels) (unsigned_proper 32 0 4294967295 WasmLeb) (λ default. (give_proper (instrs.BrTable labels default)))))
 
 abbrev pub call_indirect_2 : (kind table : ℕ) → Form Instr
 call_indirect_2 kind table = give (instrs.CallIndirect kind)
@@ -70,7 +71,7 @@ pub call_indirect_done : (old r1 r2 : Reader) (kind table : ℕ) (v : Instr) →
 call_indirect_done old r1 r2 kind table v e h1 h2 = subst (λ (z : Instr). Reads call_indirect old r2 z) (sym e) (then_reads u32 call_indirect_1 old r1 r2 kind (instrs.CallIndirect kind) h1 (then_reads table_zero (call_indirect_2 kind) r1 r2 r2 table (instrs.CallIndirect kind) h2 (given (instrs.CallIndirect kind) r2)))
 
 pub call_indirect_proper : Proper call_indirect
-call_indirect_proper = then_proper u32 call_indirect_1 (unsigned_proper 32 0 4294967295 62) (λ kind. (then_proper table_zero (call_indirect_2 kind) (unsigned_proper 32 0 0 65) (λ table. (give_proper (instrs.CallIndirect kind)))))
+call_indirect_proper = then_proper u32 call_indirect_1 (unsigned_proper 32 0 4294967295 WasmLeb) (λ kind. (then_proper table_zero (call_indirect_2 kind) (unsigned_proper 32 0 0 WasmOpcode) (λ table. (give_proper (instrs.CallIndirect kind)))))
 
 abbrev pub access_2 : (op : ℕ) (align : ℕ) (offset : ℕ) → Form Instr
 access_2 op align offset = give (access_of op align offset)
@@ -85,16 +86,16 @@ pub access_done : (op : ℕ) (old r1 r2 : Reader) (align : ℕ) (offset : ℕ) (
 access_done op old r1 r2 align offset v e h1 h2 = subst (λ (z : Instr). Reads (access op) old r2 z) (sym e) (then_reads u32 (access_1 op) old r1 r2 align (access_of op align offset) h1 (then_reads u32 (access_2 op align) r1 r2 r2 offset (access_of op align offset) h2 (given (access_of op align offset) r2)))
 
 pub access_proper : (op : ℕ) → Proper (access op)
-access_proper op = then_proper u32 (access_1 op) (unsigned_proper 32 0 4294967295 62) (λ align. (then_proper u32 (access_2 op align) (unsigned_proper 32 0 4294967295 62) (λ offset. (give_proper (access_of op align offset)))))
+access_proper op = then_proper u32 (access_1 op) (unsigned_proper 32 0 4294967295 WasmLeb) (λ align. (then_proper u32 (access_2 op align) (unsigned_proper 32 0 4294967295 WasmLeb) (λ offset. (give_proper (access_of op align offset)))))
 
 abbrev pub reserved_1 : (op : ℕ) (mark : Unit {0}) → Form Instr
 reserved_1 op mark = give (memory_of op)
 
-pub reserved_done : (op : ℕ) (old r1 : Reader) (mark : Unit {0}) (v : Instr) → v ≡ memory_of op → Reads (tag 0x00 65) old r1 mark → Reads (reserved op) old r1 v
-reserved_done op old r1 mark v e h1 = subst (λ (z : Instr). Reads (reserved op) old r1 z) (sym e) (then_reads (tag 0x00 65) (reserved_1 op) old r1 r1 mark (memory_of op) h1 (given (memory_of op) r1))
+pub reserved_done : (op : ℕ) (old r1 : Reader) (mark : Unit {0}) (v : Instr) → v ≡ memory_of op → Reads (tag 0x00 WasmOpcode) old r1 mark → Reads (reserved op) old r1 v
+reserved_done op old r1 mark v e h1 = subst (λ (z : Instr). Reads (reserved op) old r1 z) (sym e) (then_reads (tag 0x00 WasmOpcode) (reserved_1 op) old r1 r1 mark (memory_of op) h1 (given (memory_of op) r1))
 
 pub reserved_proper : (op : ℕ) → Proper (reserved op)
-reserved_proper op = then_proper (tag 0x00 65) (reserved_1 op) (byte_proper 61 (judge_tag 0x00 65)) (λ mark. (give_proper (memory_of op)))
+reserved_proper op = then_proper (tag 0x00 WasmOpcode) (reserved_1 op) (byte_proper WasmCut (judge_tag 0x00 WasmOpcode)) (λ mark. (give_proper (memory_of op)))
 
 abbrev pub const_32_1 : (n : ℕ) → Form Instr
 const_32_1 n = give (instrs.I32Const n)
@@ -124,13 +125,13 @@ abbrev pub copy_2 : (to origin : Unit {0}) → Form Instr
 copy_2 to origin = give instrs.MemoryCopy
 
 abbrev pub copy_1 : (to : Unit {0}) → Form Instr
-copy_1 to = tag 0x00 65 >>= copy_2 to
+copy_1 to = tag 0x00 WasmOpcode >>= copy_2 to
 
-pub memory_copy_stops_2 : (old r1 : Reader) (to : Unit {0}) (e : Fault) → Reads (tag 0x00 65) old r1 to → Fails (tag 0x00 65) r1 e → Fails memory_copy old e
-memory_copy_stops_2 old r1 to e h1 f = then_fails (tag 0x00 65) copy_1 old r1 to e h1 (stops (tag 0x00 65) (copy_2 to) r1 e f)
+pub memory_copy_stops_2 : (old r1 : Reader) (to : Unit {0}) (e : Fault) → Reads (tag 0x00 WasmOpcode) old r1 to → Fails (tag 0x00 WasmOpcode) r1 e → Fails memory_copy old e
+memory_copy_stops_2 old r1 to e h1 f = then_fails (tag 0x00 WasmOpcode) copy_1 old r1 to e h1 (stops (tag 0x00 WasmOpcode) (copy_2 to) r1 e f)
 
-pub memory_copy_done : (old r1 r2 : Reader) (to origin : Unit {0}) → Reads (tag 0x00 65) old r1 to → Reads (tag 0x00 65) r1 r2 origin → Reads memory_copy old r2 instrs.MemoryCopy
-memory_copy_done old r1 r2 to origin h1 h2 = then_reads (tag 0x00 65) copy_1 old r1 r2 to instrs.MemoryCopy h1 (then_reads (tag 0x00 65) (copy_2 to) r1 r2 r2 origin instrs.MemoryCopy h2 (given instrs.MemoryCopy r2))
+pub memory_copy_done : (old r1 r2 : Reader) (to origin : Unit {0}) → Reads (tag 0x00 WasmOpcode) old r1 to → Reads (tag 0x00 WasmOpcode) r1 r2 origin → Reads memory_copy old r2 instrs.MemoryCopy
+memory_copy_done old r1 r2 to origin h1 h2 = then_reads (tag 0x00 WasmOpcode) copy_1 old r1 r2 to instrs.MemoryCopy h1 (then_reads (tag 0x00 WasmOpcode) (copy_2 to) r1 r2 r2 origin instrs.MemoryCopy h2 (given instrs.MemoryCopy r2))
 
 abbrev pub number_2 : (b high : ℕ) → Form ℕ
 number_2 b high = give (b % 128)
@@ -148,14 +149,14 @@ pub prefixed_goes : (old mid new : Reader) (n : ℕ) (r : Result Instr Fault) �
 prefixed_goes old mid new n r h d = then prefix_number prefixed_of old mid new n r h d
 
 memory_copy_proper : Proper memory_copy
-memory_copy_proper = then_proper (tag 0x00 65) _ (byte_proper 61 (judge_tag 0x00 65)) (λ to. then_proper (tag 0x00 65) _ (byte_proper 61 (judge_tag 0x00 65)) (λ origin. give_proper instrs.MemoryCopy))
+memory_copy_proper = then_proper (tag 0x00 WasmOpcode) _ (byte_proper WasmCut (judge_tag 0x00 WasmOpcode)) (λ to. then_proper (tag 0x00 WasmOpcode) _ (byte_proper WasmCut (judge_tag 0x00 WasmOpcode)) (λ origin. give_proper instrs.MemoryCopy))
 
 memory_fill_proper : Proper memory_fill
-memory_fill_proper = then_proper (tag 0x00 65) _ (byte_proper 61 (judge_tag 0x00 65)) (λ mark. give_proper instrs.MemoryFill)
+memory_fill_proper = then_proper (tag 0x00 WasmOpcode) _ (byte_proper WasmCut (judge_tag 0x00 WasmOpcode)) (λ mark. give_proper instrs.MemoryFill)
 
 prefix_number_proper : Proper prefix_number
-prefix_number_proper = then_proper (byte judge_prefixed) _ (byte_proper 61 judge_prefixed)
-    (λ b. then_proper (zeros_behind b) _ (choose_proper (nat_lt b 128) (give 0) (unsigned 25 0 0 65) (give_proper 0) (unsigned_proper 25 0 0 65)) (λ high. give_proper (b % 128)))
+prefix_number_proper = then_proper (byte judge_prefixed) _ (byte_proper WasmCut judge_prefixed)
+    (λ b. then_proper (zeros_behind b) _ (choose_proper (nat_lt b 128) (give 0) (unsigned 25 0 0 WasmOpcode) (give_proper 0) (unsigned_proper 25 0 0 WasmOpcode)) (λ high. give_proper (b % 128)))
 
 prefixed_proper : Proper prefixed
 prefixed_proper = then_proper prefix_number prefixed_of prefix_number_proper
@@ -177,7 +178,7 @@ behind_proper shapes.Prefixed op = prefixed_proper
 behind_proper shapes.Number op = give_proper (numeric_of op)
 
 pub instr_proper : (o : Opened) → Proper (instr o)
-instr_proper o = then_proper (byte (judge_opcode o)) immediates (byte_proper 61 (judge_opcode o)) (λ op. behind_proper (shape_of op) op)
+instr_proper o = then_proper (byte (judge_opcode o)) immediates (byte_proper WasmCut (judge_opcode o)) (λ op. behind_proper (shape_of op) op)
 
 -- what stands behind an opcode of a shape
 pub by_shape : (op : ℕ) (s : Shape) (old new : Reader) (r : Result Instr Fault) → s ≡ shape_of op → Decodes (behind s op) r old new → Decodes (immediates op) r old new

@@ -1,6 +1,7 @@
 -- Reading items.
 use Rattle.std.proofs.Common.{◌≡◌, ℕ, List, [], ◌∷◌, length, false, Result, sym, subst}
 use Rattle.sim_base.specs.declared.fault.Fault.{Fault}
+use Rattle.sim_base.specs.Refusals.{WasmCut, WasmLeb, WasmType, WasmCount, WasmLimit}
 use Rattle.wasm_text.specs.declared.reader.Reader.{Reader}
 use Rattle.wasm_text.specs.Form.{Form, give, byte, judge_tag, ◌>>=◌}
 use Rattle.wasm_text.specs.Reads.{Reads, Fails, Decodes}
@@ -36,10 +37,10 @@ use Rattle.wasm_decode.proofs.ExprLemmas.{expr_proper}
 use Rattle.wasm_decode.specs.ItemText.{more_left, room_of, InImports, in_imports, InLocals, in_locals, judge_extern, judge_import, import_desc, import_item, imports, imports_of, global, export, element, segment, local_run, locals_of, body, bodies, body_of, rest_of, is_none_left}
 
 u32_proper : Proper u32
-u32_proper = unsigned_proper 32 0 4294967295 62
+u32_proper = unsigned_proper 32 0 4294967295 WasmLeb
 
 pub name_proper : Proper name
-name_proper = then_proper u32 name_of_length u32_proper (λ n. repeated_proper (λ (s : InName). byte (judge_in_name s)) in_name (λ s. is_zero s.left) (λ s. byte_proper 61 (judge_in_name s)) (record { left = n; tails = [] }))
+name_proper = then_proper u32 name_of_length u32_proper (λ n. repeated_proper (λ (s : InName). byte (judge_in_name s)) in_name (λ s. is_zero s.left) (λ s. byte_proper WasmCut (judge_in_name s)) (record { left = n; tails = [] }))
 
 abbrev pub import_function_1 : (n : ℕ) → Form ImportDesc
 import_function_1 n = give (descs.Function n)
@@ -108,7 +109,7 @@ pub import_done : (functions : ℕ) (old r1 r2 r3 r4 : Reader) (from : List ℕ)
 import_done functions old r1 r2 r3 r4 from item kind desc v e h1 h2 h3 h4 = subst (λ (z : Import). Reads (import_item functions) old r4 z) (sym e) (then_reads name (import_1 functions) old r1 r4 from (record { «module» = from; name = item; desc = desc }) h1 (then_reads name (import_2 functions from) r1 r2 r4 item (record { «module» = from; name = item; desc = desc }) h2 (then_reads (byte (judge_import functions)) (import_3 functions from item) r2 r3 r4 kind (record { «module» = from; name = item; desc = desc }) h3 (then_reads (import_desc kind) (import_4 functions from item kind) r3 r4 r4 desc (record { «module» = from; name = item; desc = desc }) h4 (given (record { «module» = from; name = item; desc = desc }) r4)))))
 
 pub import_proper : (functions : ℕ) → Proper (import_item functions)
-import_proper functions = then_proper name (import_1 functions) name_proper (λ from. (then_proper name (import_2 functions from) name_proper (λ item. (then_proper (byte (judge_import functions)) (import_3 functions from item) (byte_proper 61 (judge_import functions)) (λ kind. (then_proper (import_desc kind) (import_4 functions from item kind) (desc_proper kind) (λ desc. (give_proper (record { «module» = from; name = item; desc = desc })))))))))
+import_proper functions = then_proper name (import_1 functions) name_proper (λ from. (then_proper name (import_2 functions from) name_proper (λ item. (then_proper (byte (judge_import functions)) (import_3 functions from item) (byte_proper WasmCut (judge_import functions)) (λ kind. (then_proper (import_desc kind) (import_4 functions from item kind) (desc_proper kind) (λ desc. (give_proper (record { «module» = from; name = item; desc = desc })))))))))
 
 abbrev pub imports_1 : (count : ℕ) → Form (List Import)
 imports_1 count = (imports_of count)
@@ -153,7 +154,7 @@ pub export_done : (old r1 r2 r3 : Reader) (item : List ℕ) (kind : Extern) (ind
 export_done old r1 r2 r3 item kind index v e h1 h2 h3 = subst (λ (z : Export). Reads export old r3 z) (sym e) (then_reads name export_1 old r1 r3 item (record { name = item; kind = kind; index = index }) h1 (then_reads (byte judge_extern) (export_2 item) r1 r2 r3 kind (record { name = item; kind = kind; index = index }) h2 (then_reads u32 (export_3 item kind) r2 r3 r3 index (record { name = item; kind = kind; index = index }) h3 (given (record { name = item; kind = kind; index = index }) r3))))
 
 pub export_proper : Proper export
-export_proper = then_proper name export_1 name_proper (λ item. (then_proper (byte judge_extern) (export_2 item) (byte_proper 61 judge_extern) (λ kind. (then_proper u32 (export_3 item kind) u32_proper (λ index. (give_proper (record { name = item; kind = kind; index = index })))))))
+export_proper = then_proper name export_1 name_proper (λ item. (then_proper (byte judge_extern) (export_2 item) (byte_proper WasmCut judge_extern) (λ kind. (then_proper u32 (export_3 item kind) u32_proper (λ index. (give_proper (record { name = item; kind = kind; index = index })))))))
 
 abbrev pub element_3 : (mark : Unit {0}) (offset : List Instr) (functions : List ℕ) → Form ElementSegment
 element_3 mark offset functions = give (record { offset = offset; functions = functions })
@@ -164,17 +165,17 @@ element_2 mark offset = (vec u32) >>= element_3 mark offset
 abbrev pub element_1 : (mark : Unit {0}) → Form ElementSegment
 element_1 mark = expr >>= element_2 mark
 
-pub element_stops_2 : (old r1 : Reader) (mark : Unit {0}) (e : Fault) → Reads (tag 0x00 64) old r1 mark → Fails expr r1 e → Fails element old e
-element_stops_2 old r1 mark e h1 f = then_fails (tag 0x00 64) element_1 old r1 mark e h1 (stops expr (element_2 mark) r1 e f)
+pub element_stops_2 : (old r1 : Reader) (mark : Unit {0}) (e : Fault) → Reads (tag 0x00 WasmType) old r1 mark → Fails expr r1 e → Fails element old e
+element_stops_2 old r1 mark e h1 f = then_fails (tag 0x00 WasmType) element_1 old r1 mark e h1 (stops expr (element_2 mark) r1 e f)
 
-pub element_stops_3 : (old r1 r2 : Reader) (mark : Unit {0}) (offset : List Instr) (e : Fault) → Reads (tag 0x00 64) old r1 mark → Reads expr r1 r2 offset → Fails (vec u32) r2 e → Fails element old e
-element_stops_3 old r1 r2 mark offset e h1 h2 f = then_fails (tag 0x00 64) element_1 old r1 mark e h1 (then_fails expr (element_2 mark) r1 r2 offset e h2 (stops (vec u32) (element_3 mark offset) r2 e f))
+pub element_stops_3 : (old r1 r2 : Reader) (mark : Unit {0}) (offset : List Instr) (e : Fault) → Reads (tag 0x00 WasmType) old r1 mark → Reads expr r1 r2 offset → Fails (vec u32) r2 e → Fails element old e
+element_stops_3 old r1 r2 mark offset e h1 h2 f = then_fails (tag 0x00 WasmType) element_1 old r1 mark e h1 (then_fails expr (element_2 mark) r1 r2 offset e h2 (stops (vec u32) (element_3 mark offset) r2 e f))
 
-pub element_done : (old r1 r2 r3 : Reader) (mark : Unit {0}) (offset : List Instr) (functions : List ℕ) (v : ElementSegment) → v ≡ record { offset = offset; functions = functions } → Reads (tag 0x00 64) old r1 mark → Reads expr r1 r2 offset → Reads (vec u32) r2 r3 functions → Reads element old r3 v
-element_done old r1 r2 r3 mark offset functions v e h1 h2 h3 = subst (λ (z : ElementSegment). Reads element old r3 z) (sym e) (then_reads (tag 0x00 64) element_1 old r1 r3 mark (record { offset = offset; functions = functions }) h1 (then_reads expr (element_2 mark) r1 r2 r3 offset (record { offset = offset; functions = functions }) h2 (then_reads (vec u32) (element_3 mark offset) r2 r3 r3 functions (record { offset = offset; functions = functions }) h3 (given (record { offset = offset; functions = functions }) r3))))
+pub element_done : (old r1 r2 r3 : Reader) (mark : Unit {0}) (offset : List Instr) (functions : List ℕ) (v : ElementSegment) → v ≡ record { offset = offset; functions = functions } → Reads (tag 0x00 WasmType) old r1 mark → Reads expr r1 r2 offset → Reads (vec u32) r2 r3 functions → Reads element old r3 v
+element_done old r1 r2 r3 mark offset functions v e h1 h2 h3 = subst (λ (z : ElementSegment). Reads element old r3 z) (sym e) (then_reads (tag 0x00 WasmType) element_1 old r1 r3 mark (record { offset = offset; functions = functions }) h1 (then_reads expr (element_2 mark) r1 r2 r3 offset (record { offset = offset; functions = functions }) h2 (then_reads (vec u32) (element_3 mark offset) r2 r3 r3 functions (record { offset = offset; functions = functions }) h3 (given (record { offset = offset; functions = functions }) r3))))
 
 pub element_proper : Proper element
-element_proper = then_proper (tag 0x00 64) element_1 (byte_proper 61 (judge_tag 0x00 64)) (λ mark. (then_proper expr (element_2 mark) expr_proper (λ offset. (then_proper (vec u32) (element_3 mark offset) (vec_proper u32 u32_proper) (λ functions. (give_proper (record { offset = offset; functions = functions })))))))
+element_proper = then_proper (tag 0x00 WasmType) element_1 (byte_proper WasmCut (judge_tag 0x00 WasmType)) (λ mark. (then_proper expr (element_2 mark) expr_proper (λ offset. (then_proper (vec u32) (element_3 mark offset) (vec_proper u32 u32_proper) (λ functions. (give_proper (record { offset = offset; functions = functions })))))))
 
 abbrev pub segment_3 : (mark : Unit {0}) (offset : List Instr) (bytes : List ℕ) → Form DataSegment
 segment_3 mark offset bytes = give (record { offset = offset; bytes = bytes })
@@ -185,17 +186,17 @@ segment_2 mark offset = byte_vec >>= segment_3 mark offset
 abbrev pub segment_1 : (mark : Unit {0}) → Form DataSegment
 segment_1 mark = expr >>= segment_2 mark
 
-pub segment_stops_2 : (old r1 : Reader) (mark : Unit {0}) (e : Fault) → Reads (tag 0x00 64) old r1 mark → Fails expr r1 e → Fails segment old e
-segment_stops_2 old r1 mark e h1 f = then_fails (tag 0x00 64) segment_1 old r1 mark e h1 (stops expr (segment_2 mark) r1 e f)
+pub segment_stops_2 : (old r1 : Reader) (mark : Unit {0}) (e : Fault) → Reads (tag 0x00 WasmType) old r1 mark → Fails expr r1 e → Fails segment old e
+segment_stops_2 old r1 mark e h1 f = then_fails (tag 0x00 WasmType) segment_1 old r1 mark e h1 (stops expr (segment_2 mark) r1 e f)
 
-pub segment_stops_3 : (old r1 r2 : Reader) (mark : Unit {0}) (offset : List Instr) (e : Fault) → Reads (tag 0x00 64) old r1 mark → Reads expr r1 r2 offset → Fails byte_vec r2 e → Fails segment old e
-segment_stops_3 old r1 r2 mark offset e h1 h2 f = then_fails (tag 0x00 64) segment_1 old r1 mark e h1 (then_fails expr (segment_2 mark) r1 r2 offset e h2 (stops byte_vec (segment_3 mark offset) r2 e f))
+pub segment_stops_3 : (old r1 r2 : Reader) (mark : Unit {0}) (offset : List Instr) (e : Fault) → Reads (tag 0x00 WasmType) old r1 mark → Reads expr r1 r2 offset → Fails byte_vec r2 e → Fails segment old e
+segment_stops_3 old r1 r2 mark offset e h1 h2 f = then_fails (tag 0x00 WasmType) segment_1 old r1 mark e h1 (then_fails expr (segment_2 mark) r1 r2 offset e h2 (stops byte_vec (segment_3 mark offset) r2 e f))
 
-pub segment_done : (old r1 r2 r3 : Reader) (mark : Unit {0}) (offset : List Instr) (bytes : List ℕ) (v : DataSegment) → v ≡ record { offset = offset; bytes = bytes } → Reads (tag 0x00 64) old r1 mark → Reads expr r1 r2 offset → Reads byte_vec r2 r3 bytes → Reads segment old r3 v
-segment_done old r1 r2 r3 mark offset bytes v e h1 h2 h3 = subst (λ (z : DataSegment). Reads segment old r3 z) (sym e) (then_reads (tag 0x00 64) segment_1 old r1 r3 mark (record { offset = offset; bytes = bytes }) h1 (then_reads expr (segment_2 mark) r1 r2 r3 offset (record { offset = offset; bytes = bytes }) h2 (then_reads byte_vec (segment_3 mark offset) r2 r3 r3 bytes (record { offset = offset; bytes = bytes }) h3 (given (record { offset = offset; bytes = bytes }) r3))))
+pub segment_done : (old r1 r2 r3 : Reader) (mark : Unit {0}) (offset : List Instr) (bytes : List ℕ) (v : DataSegment) → v ≡ record { offset = offset; bytes = bytes } → Reads (tag 0x00 WasmType) old r1 mark → Reads expr r1 r2 offset → Reads byte_vec r2 r3 bytes → Reads segment old r3 v
+segment_done old r1 r2 r3 mark offset bytes v e h1 h2 h3 = subst (λ (z : DataSegment). Reads segment old r3 z) (sym e) (then_reads (tag 0x00 WasmType) segment_1 old r1 r3 mark (record { offset = offset; bytes = bytes }) h1 (then_reads expr (segment_2 mark) r1 r2 r3 offset (record { offset = offset; bytes = bytes }) h2 (then_reads byte_vec (segment_3 mark offset) r2 r3 r3 bytes (record { offset = offset; bytes = bytes }) h3 (given (record { offset = offset; bytes = bytes }) r3))))
 
 pub segment_proper : Proper segment
-segment_proper = then_proper (tag 0x00 64) segment_1 (byte_proper 61 (judge_tag 0x00 64)) (λ mark. (then_proper expr (segment_2 mark) expr_proper (λ offset. (then_proper byte_vec (segment_3 mark offset) byte_vec_proper (λ bytes. (give_proper (record { offset = offset; bytes = bytes })))))))
+segment_proper = then_proper (tag 0x00 WasmType) segment_1 (byte_proper WasmCut (judge_tag 0x00 WasmType)) (λ mark. (then_proper expr (segment_2 mark) expr_proper (λ offset. (then_proper byte_vec (segment_3 mark offset) byte_vec_proper (λ bytes. (give_proper (record { offset = offset; bytes = bytes })))))))
 
 abbrev pub local_run_2 : (room : ℕ) (count : ℕ) (value : ValType) → Form LocalRun
 local_run_2 room count value = give (record { count = count; value = value })
@@ -210,7 +211,7 @@ pub local_run_done : (room : ℕ) (old r1 r2 : Reader) (count : ℕ) (value : Va
 local_run_done room old r1 r2 count value v e h1 h2 = subst (λ (z : LocalRun). Reads (local_run room) old r2 z) (sym e) (then_reads (at_most room) (local_run_1 room) old r1 r2 count (record { count = count; value = value }) h1 (then_reads val_type (local_run_2 room count) r1 r2 r2 value (record { count = count; value = value }) h2 (given (record { count = count; value = value }) r2)))
 
 pub local_run_proper : (room : ℕ) → Proper (local_run room)
-local_run_proper room = then_proper (at_most room) (local_run_1 room) (unsigned_proper 32 0 room 69) (λ count. (then_proper val_type (local_run_2 room count) (byte_proper 61 judge_val_type) (λ value. (give_proper (record { count = count; value = value })))))
+local_run_proper room = then_proper (at_most room) (local_run_1 room) (unsigned_proper 32 0 room WasmLimit) (λ count. (then_proper val_type (local_run_2 room count) (byte_proper WasmCut judge_val_type) (λ value. (give_proper (record { count = count; value = value })))))
 
 abbrev pub body_3 : (room : ℕ) (count : ℕ) (locals : List LocalRun) (code : List Instr) → Form Body
 body_3 room count locals code = give (record { locals = locals; code = code })
@@ -244,4 +245,4 @@ pub bodies_goes : (types : List FuncType) (functions : List ℕ) (old r1 new : R
 bodies_goes types functions old r1 new count r h1 d = then (exactly (length functions)) (bodies_1 types functions) old r1 new count r h1 d
 
 pub bodies_proper : (types : List FuncType) (functions : List ℕ) → Proper (bodies types functions)
-bodies_proper types functions = then_proper (exactly (length functions)) (bodies_1 types functions) (unsigned_proper 32 (length functions) (length functions) 68) (λ count. (repeated_proper (body_of types) rest_of is_none_left (body_of_proper types) functions))
+bodies_proper types functions = then_proper (exactly (length functions)) (bodies_1 types functions) (unsigned_proper 32 (length functions) (length functions) WasmCount) (λ count. (repeated_proper (body_of types) rest_of is_none_left (body_of_proper types) functions))

@@ -5,6 +5,7 @@ use Rattle.sim_base.specs.declared.fault.Fault.{Fault}
 use Rattle.sim_base.specs.declared.fault.Fault.TheVariants as faults
 use Rattle.sim_base.specs.declared.fault.Refusal.{Refusal}
 use Rattle.sim_base.specs.declared.fault.Place.TheVariants as places
+use Rattle.sim_base.specs.Refusals.{WasmMagic, WasmCount}
 use Rattle.wasm_text.specs.declared.reader.Reader.{Reader}
 use Rattle.wasm_text.specs.Form.{byte_or, judge_tag}
 use Rattle.wasm_text.specs.Proper.{Proper}
@@ -22,7 +23,7 @@ use Rattle.wasm_decode.proofs.SectionLemmas.{section_proper, section_some}
 
 these_proper : (bytes : List ℕ) → Proper (these_bytes bytes)
 these_proper [] = give_proper tt
-these_proper (b ∷ bytes) = then_proper (byte_or 60 (judge_tag b 60)) (λ (x : Unit {0}). these_bytes bytes) (byte_proper 60 (judge_tag b 60)) (λ x. these_proper bytes)
+these_proper (b ∷ bytes) = then_proper (byte_or WasmMagic (judge_tag b WasmMagic)) (λ (x : Unit {0}). these_bytes bytes) (byte_proper WasmMagic (judge_tag b WasmMagic)) (λ x. these_proper bytes)
 
 magic_proper : Proper magic
 magic_proper = these_proper (0x00 ∷ 0x61 ∷ 0x73 ∷ 0x6D ∷ 0x01 ∷ 0x00 ∷ 0x00 ∷ 0x00 ∷ [])
@@ -123,12 +124,12 @@ section_breaks old mid t (faults.Refused r) h lt f =
     let n : mid.at + f.0 ≡ old.at + (length g.front + f.0) = omega (arith, g.took.place) in
     (length g.front + f.0, f.1 ∙ ap (λ (k : ℕ). places.Byte k) n, (g.front, mid.rest.now, h.0, t, f.0, g.took.parts, g.run, refl, next_in t mid.rest.now f.0 r.number lt f.2))
 
-pub bodies_missing : (old mid : Reader) (t : Progress) (e : Fault) → SectionRun old mid t → length mid.rest.now ≤ 0 → wants_bodies t ≡ true → e ≡ faults.Refused (record { number = 68; place = places.Byte mid.at }) → SectionsFail old e
+pub bodies_missing : (old mid : Reader) (t : Progress) (e : Fault) → SectionRun old mid t → length mid.rest.now ≤ 0 → wants_bodies t ≡ true → e ≡ faults.Refused (record { number = WasmCount; place = places.Byte mid.at }) → SectionsFail old e
 bodies_missing old mid t e h z w is =
     let g = h.1 in
     let n : mid.at ≡ old.at + (length g.front + 0) = omega (arith, g.took.place) in
     let c : mid.rest.now ≡ [] = is_nil mid.rest.now (omega arith) in
-    let b : NextBreaks t mid.rest.now 0 68 = subst (λ (y : List ℕ). NextBreaks t y 0 68) (sym c) (w, refl, refl) in
+    let b : NextBreaks t mid.rest.now 0 WasmCount = subst (λ (y : List ℕ). NextBreaks t y 0 WasmCount) (sym c) (w, refl, refl) in
     subst (λ (y : Fault). SectionsFail old y) (sym is) (length g.front + 0, ap (λ (k : ℕ). places.Byte k) n, (g.front, mid.rest.now, h.0, t, 0, g.took.parts, g.run, refl, b))
 
 pub sections_end : (old mid : Reader) (t : Progress) → SectionRun old mid t → length mid.rest.now ≤ 0 → wants_bodies t ≡ false → SectionsRead (Ok t) old
@@ -140,15 +141,15 @@ sections_end old mid t h z w =
 
 -- ---- the magic
 
-these_next : (first : ℕ) (bytes : List ℕ) (old mid new : Reader) (r : Result (Unit {0}) Fault) → Reads (byte_or 60 (judge_tag first 60)) old mid tt → Decodes (these_bytes bytes) r mid new → Decodes (these_bytes (first ∷ bytes)) r old new
-these_next first bytes old mid new r h d = then (byte_or 60 (judge_tag first 60)) (λ (x : Unit {0}). these_bytes bytes) old mid new tt r h d
+these_next : (first : ℕ) (bytes : List ℕ) (old mid new : Reader) (r : Result (Unit {0}) Fault) → Reads (byte_or WasmMagic (judge_tag first WasmMagic)) old mid tt → Decodes (these_bytes bytes) r mid new → Decodes (these_bytes (first ∷ bytes)) r old new
+these_next first bytes old mid new r h d = then (byte_or WasmMagic (judge_tag first WasmMagic)) (λ (x : Unit {0}). these_bytes bytes) old mid new tt r h d
 
 take_whole : (bytes : List ℕ) (n : ℕ) → n ≡ length bytes → take n bytes ≡ bytes
 take_whole [] n e = let z : n ≡ 0 = omega arith in ap (λ (k : ℕ). take k []) z
 take_whole (b ∷ bytes) zero e = absurd (omega arith)
 take_whole (b ∷ bytes) (suc n) e = ap (λ (z : List ℕ). b ∷ z) (take_whole bytes n (omega arith))
 
-pub these_rest : (bytes : List ℕ) (old mid new : Reader) (r : Result (Unit {0}) Fault) → 0 < length bytes → Reads (byte_or 60 (judge_tag (slice_index bytes 0) 60)) old mid tt → Decodes (these_bytes (take (length bytes - 1) (drop 1 bytes))) r mid new → Decodes (these_bytes bytes) r old new
+pub these_rest : (bytes : List ℕ) (old mid new : Reader) (r : Result (Unit {0}) Fault) → 0 < length bytes → Reads (byte_or WasmMagic (judge_tag (slice_index bytes 0) WasmMagic)) old mid tt → Decodes (these_bytes (take (length bytes - 1) (drop 1 bytes))) r mid new → Decodes (these_bytes bytes) r old new
 these_rest [] old mid new r lt h d = absurd (omega arith)
 these_rest (b ∷ bytes) old mid new r lt h d =
     let n : length (b ∷ bytes) - 1 ≡ length bytes = omega arith in

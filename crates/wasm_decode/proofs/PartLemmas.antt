@@ -3,6 +3,7 @@ use Rattle.std.proofs.Common.{◌≡◌, ℕ, ◌+◌, ◌<◌, ◌≤◌, List,
 use Rattle.sim_base.specs.declared.fault.Fault.{Fault}
 use Rattle.sim_base.specs.declared.fault.Fault.TheVariants as faults
 use Rattle.sim_base.specs.declared.fault.Place.TheVariants as places
+use Rattle.sim_base.specs.Refusals.{WasmCut}
 use Rattle.wasm_text.specs.declared.reader.Reader.{Reader}
 use Rattle.wasm_text.specs.Leb.{u32}
 use Rattle.wasm_text.specs.Names.{name}
@@ -18,7 +19,7 @@ module _ (old mid inner : Reader) (size : ℕ) (h : Reads u32 old mid size) (res
       let n : inner.at + f.0 ≡ old.at + (length h.0 + f.0) = omega (arith, at_is, h.2.place) in
       (length h.0 + f.0, f.1 ∙ ap (λ (k : ℕ). places.Byte k) n, inr (h.0, mid.rest.now, size, f.0, h.2.parts, h.1, refl, inl (subst (λ (y : List ℕ). name.breaks y f.0 r.number) rest_is f.2)))
 
-  pub custom_cut : (after : Reader) (x : List ℕ) (e : Fault) → Reads name inner after x → length mid.rest.now < size → e ≡ faults.Refused (record { number = 61; place = places.Byte (mid.at + length mid.rest.now) }) → Fails custom old e
+  pub custom_cut : (after : Reader) (x : List ℕ) (e : Fault) → Reads name inner after x → length mid.rest.now < size → e ≡ faults.Refused (record { number = WasmCut; place = places.Byte (mid.at + length mid.rest.now) }) → Fails custom old e
   custom_cut after x e r lt is =
       let n : mid.at + length mid.rest.now ≡ old.at + (length h.0 + length mid.rest.now) = omega (arith, h.2.place) in
       subst (λ (y : Fault). Fails custom old y) (sym is)

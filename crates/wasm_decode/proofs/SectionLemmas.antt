@@ -2,6 +2,7 @@
 use Rattle.std.proofs.Common.{◌≡◌, ℕ, ◌-◌, ◌<◌, List, [], ◌∷◌, ◌++◌, length, take, false, refl, sym, ap, subst, ◌∙◌, arith, ⊎_elim, append_assoc, length-append}
 use Rattle.std.specs.Prelude.{◌==◌}
 use Rattle.sim_base.specs.declared.fault.Fault.{Fault}
+use Rattle.sim_base.specs.Refusals.{WasmCut, WasmLeb}
 use Rattle.wasm_text.specs.declared.reader.Reader.{Reader}
 use Rattle.wasm_text.specs.Form.{Form, give, byte, ◌>>=◌}
 use Rattle.wasm_text.specs.Leb.{u32}
@@ -25,7 +26,7 @@ use Rattle.wasm_decode.specs.SectionText.{judge_id, custom, IsCustom, CustomBrea
 use Rattle.wasm_decode.proofs.ItemLemmas.{name_proper, imports_proper, global_proper, export_proper, element_proper, segment_proper, bodies_proper}
 
 u32_proper : Proper u32
-u32_proper = unsigned_proper 32 0 4294967295 62
+u32_proper = unsigned_proper 32 0 4294967295 WasmLeb
 
 take_front : (a r : List ℕ) → take (length a) (a ++ r) ≡ a
 take_front [] r = refl
@@ -96,7 +97,7 @@ content_proper m id =
 pub section_proper : (s : Progress) → Proper (section s)
 unfolding section
 section_proper s =
-    then_proper (byte (judge_id s)) (section_of s.module) (byte_proper 61 (judge_id s))
+    then_proper (byte (judge_id s)) (section_of s.module) (byte_proper WasmCut (judge_id s))
     (λ id. choose_proper (id == 0) custom (sized false (content s.module id)) custom_proper (sized_proper false (content s.module id) (content_proper s.module id)))
 
 -- a section takes a byte at least

@@ -1,6 +1,7 @@
 -- Instructions and expressions (WebAssembly core specification, "Binary Format", "Instructions", "Expressions").
 use Rattle.std.specs.Int.{w32, w64, from_le_bytes}
 use Rattle.std.specs.Prelude.{ℕ, ◌%◌, nat_lt, List, [], ◌∷◌, length, Bool, true, false, not, ◌&&◌, ◌||◌, ◌==◌, nat_le, if◌then◌else◌, Result, Ok, Err, Option, is_some}
+use Rattle.sim_base.specs.Refusals.{WasmOpcode, WasmLimit}
 use Rattle.wasm_code.specs.declared.types.ValType.{ValType}
 use Rattle.wasm_code.specs.declared.instr.Instr.{Instr}
 use Rattle.wasm_code.specs.declared.instr.Instr.TheVariants as instrs
@@ -39,9 +40,9 @@ else_may_come (x ∷ opened) = x
 -- 65 for no opcode and for an else of no if, 69 for a block in 256 others (profile).
 abbrev pub judge_opcode : Opened → ℕ → Result ℕ ℕ
 judge_opcode opened op =
-    if not (is_opcode op) then Err 65
-    else if from 0x02 0x04 op && nat_le 256 (length opened) then Err 69
-    else if op == 0x05 && not (else_may_come opened) then Err 65
+    if not (is_opcode op) then Err WasmOpcode
+    else if from 0x02 0x04 op && nat_le 256 (length opened) then Err WasmLimit
+    else if op == 0x05 && not (else_may_come opened) then Err WasmOpcode
     else Ok op
 
 -- instructions with nothing behind their opcode, but for operations on numbers
@@ -86,7 +87,7 @@ br_table = do
 
 -- a u32 that must be 0, with any spelling
 abbrev pub table_zero : Form ℕ
-table_zero = unsigned 32 0 0 65
+table_zero = unsigned 32 0 0 WasmOpcode
 
 abbrev pub call_indirect : Form Instr
 call_indirect = do
@@ -117,7 +118,7 @@ memory_of op = if op == 0x3F then instrs.MemorySize else instrs.MemoryGrow
 
 abbrev pub reserved : ℕ → Form Instr
 reserved op = do
-  mark ← tag 0x00 65
+  mark ← tag 0x00 WasmOpcode
   give (memory_of op)
 
 abbrev pub const_32 : Form Instr
@@ -157,10 +158,10 @@ is_prefixed n = is_some (truncate n) || n == 10 || n == 11
 
 -- A u32 with any spelling: its value stands in the first byte's low seven bits, and what follows is zero; else 65.
 abbrev pub judge_prefixed : ℕ → Result ℕ ℕ
-judge_prefixed b = if is_prefixed (b % 128) then Ok b else Err 65
+judge_prefixed b = if is_prefixed (b % 128) then Ok b else Err WasmOpcode
 
 abbrev pub zeros_behind : ℕ → Form ℕ
-zeros_behind b = choose (nat_lt b 128) (give 0) (unsigned 25 0 0 65)
+zeros_behind b = choose (nat_lt b 128) (give 0) (unsigned 25 0 0 WasmOpcode)
 
 abbrev pub prefix_number : Form ℕ
 prefix_number = do
@@ -171,13 +172,13 @@ prefix_number = do
 -- with two reserved bytes, and with one
 abbrev pub memory_copy : Form Instr
 memory_copy = do
-  to ← tag 0x00 65
-  origin ← tag 0x00 65
+  to ← tag 0x00 WasmOpcode
+  origin ← tag 0x00 WasmOpcode
   give instrs.MemoryCopy
 
 abbrev pub memory_fill : Form Instr
 memory_fill = do
-  mark ← tag 0x00 65
+  mark ← tag 0x00 WasmOpcode
   give instrs.MemoryFill
 
 abbrev pub prefixed_of : ℕ → Form Instr

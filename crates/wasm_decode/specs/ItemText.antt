@@ -1,5 +1,6 @@
 -- The items of the sections (WebAssembly core specification, "Binary Format", "Modules").
 use Rattle.std.specs.Prelude.{ℕ, ◌+◌, ◌-◌, List, [], ◌∷◌, length, Bool, true, false, nat_lt, ◌==◌, ◌&&◌, if◌then◌else◌, Result, Ok, Err, Option, Some, None, slice_get}
+use Rattle.sim_base.specs.Refusals.{WasmType, WasmLimit}
 use Rattle.wasm_code.specs.declared.types.FuncType.{FuncType}
 use Rattle.wasm_text.specs.Form.{Form, give, byte, ◌>>=◌}
 use Rattle.wasm_text.specs.Leb.{u32, at_most, exactly}
@@ -22,11 +23,11 @@ use Rattle.wasm_decode.specs.declared.module.DataSegment.{DataSegment}
 abbrev pub judge_extern : ℕ → Result Extern ℕ
 judge_extern b =
     if b == 0 then Ok externs.Function else if b == 1 then Ok externs.Table else if b == 2 then Ok externs.Memory
-    else if b == 3 then Ok externs.Global else Err 64
+    else if b == 3 then Ok externs.Global else Err WasmType
 
 -- What an import is, where so many functions were imported before: a module has at most 4,096 functions (profile).
 abbrev pub judge_import : ℕ → ℕ → Result Extern ℕ
-judge_import functions b = if b == 0 && nat_lt 4095 functions then Err 69 else judge_extern b
+judge_import functions b = if b == 0 && nat_lt 4095 functions then Err WasmLimit else judge_extern b
 
 abbrev pub import_desc : Extern → Form ImportDesc
 import_desc externs.Function = do
@@ -88,14 +89,14 @@ export = do
 
 abbrev pub element : Form ElementSegment
 element = do
-  mark ← tag 0x00 64
+  mark ← tag 0x00 WasmType
   offset ← expr
   functions ← vec u32
   give (record { offset = offset; functions = functions })
 
 abbrev pub segment : Form DataSegment
 segment = do
-  mark ← tag 0x00 64
+  mark ← tag 0x00 WasmType
   offset ← expr
   bytes ← byte_vec
   give (record { offset = offset; bytes = bytes })

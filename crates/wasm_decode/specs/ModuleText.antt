@@ -3,6 +3,7 @@ use Rattle.std.specs.Prelude.{◌≡◌, ℕ, ◌+◌, List, [], ◌∷◌, ◌+
 use Rattle.sim_base.specs.declared.fault.Fault.{Fault}
 use Rattle.sim_base.specs.declared.fault.Fault.TheVariants as faults
 use Rattle.sim_base.specs.declared.fault.Place.TheVariants as places
+use Rattle.sim_base.specs.Refusals.{WasmMagic, WasmCount}
 use Rattle.wasm_text.specs.Form.{Form, give, byte_or, judge_tag, ◌>>=◌}
 use Rattle.wasm_text.specs.Lists.{Run}
 use Rattle.wasm_decode.specs.SectionText.{wants_bodies, section, with_section}
@@ -13,7 +14,7 @@ use Rattle.wasm_decode.specs.declared.progress.Section.{Section}
 abbrev pub these_bytes : List ℕ → Form (Unit {0})
 these_bytes [] = give tt
 these_bytes (b ∷ bytes) = do
-  x ← byte_or 60 (judge_tag b 60)
+  x ← byte_or WasmMagic (judge_tag b WasmMagic)
   these_bytes bytes
 
 -- the magic and the version; each other byte, and the end among them, is 60
@@ -40,7 +41,7 @@ ModuleText bytes m =
 
 -- behind some sections: at the end where bodies are missing (68), or in the next section
 abbrev pub NextBreaks : Progress → List ℕ → ℕ → ℕ → Type 0
-NextBreaks s [] i number = (wants_bodies s ≡ true) × (i ≡ 0) × (number ≡ 68)
+NextBreaks s [] i number = (wants_bodies s ≡ true) × (i ≡ 0) × (number ≡ WasmCount)
 NextBreaks s (b ∷ bytes) i number = (section s).breaks (b ∷ bytes) i number
 
 abbrev pub SectionsBreak : List ℕ → ℕ → ℕ → Type 0

@@ -1,5 +1,6 @@
 -- Sections (WebAssembly core specification, "Binary Format", "Sections" to "Data Section", "Custom Section").
 use Rattle.std.specs.Prelude.{◌≡◌, ℕ, ◌+◌, ◌-◌, ◌<◌, List, ◌++◌, length, take, ◌⊎◌, Bool, false, not, ◌&&◌, ◌||◌, nat_le, nat_lt, ◌==◌, if◌then◌else◌, Result, Ok, Err, Some}
+use Rattle.sim_base.specs.Refusals.{WasmCut, WasmSection, WasmCount}
 use Rattle.wasm_text.specs.Form.{Form, give, byte, choose, ◌>>=◌}
 use Rattle.wasm_text.specs.Leb.{u32}
 use Rattle.wasm_text.specs.Lists.{vec, vec_to, sized}
@@ -19,8 +20,8 @@ wants_bodies s = not (is_none_left s.module.functions) && nat_lt s.last 10
 abbrev pub judge_id : Progress → ℕ → Result ℕ ℕ
 judge_id s b =
     if b == 0 then Ok 0
-    else if nat_lt 11 b || nat_le b s.last then Err 63
-    else if b == 11 && wants_bodies s then Err 68
+    else if nat_lt 11 b || nat_le b s.last then Err WasmSection
+    else if b == 11 && wants_bodies s then Err WasmCount
     else Ok b
 
 -- a custom section: a size, and in so many bytes a name and any bytes
@@ -34,7 +35,7 @@ CustomBreaks bytes i number =
     u32.breaks bytes i number
     ⊎ ((a b : List ℕ) × (size j : ℕ) × (bytes ≡ a ++ b) × u32.text a size × (i ≡ length a + j)
     × (name.breaks (take size b) j number
-    ⊎ ((c d n : List ℕ) × (take size b ≡ c ++ d) × name.text c n × (length b < size) × (j ≡ length b) × (number ≡ 61))))
+    ⊎ ((c d n : List ℕ) × (take size b ≡ c ++ d) × name.text c n × (length b < size) × (j ≡ length b) × (number ≡ WasmCut))))
 
 abbrev pub custom : Form Section
 custom = record { text = IsCustom; breaks = CustomBreaks }

@@ -4,11 +4,13 @@ ghost use Rattle.wasm_decode.specs.ModuleText.{IsDecoded, magic as magic_form, t
 ghost use Rattle.wasm_decode.specs.SectionViews.{SectionsRead};
 ghost use Rattle.wasm_text.specs.Form.{byte_or, judge_tag};
 ghost use Rattle.wasm_text.specs.Reads.{Decodes};
+ghost use Rattle.sim_base.specs.Refusals.{WasmMagic};
 
 use crate::module::Module;
 use crate::progress::Progress;
 use crate::sections::section;
 use sim_base::Fault;
+use sim_base::refusals::{WASM_COUNT, WASM_MAGIC};
 use std::alloc::Global;
 use wasm_text::{Reader, refused};
 
@@ -46,13 +48,13 @@ fn these_bytes(reader: &mut Reader, bytes: &[u8]) -> Result<(), Fault>
 }
 
 fn magic_byte(reader: &mut Reader, wanted: u8) -> Result<(), Fault>
-    ensures { Decodes (byte_or 60 (judge_tag wanted 60)) result reader.old reader.new }
+    ensures { Decodes (byte_or WasmMagic (judge_tag wanted WasmMagic)) result reader.old reader.new }
 {
     if reader.rest.len() == 0 {
-        return Err(refused(60, reader.at));
+        return Err(refused(WASM_MAGIC, reader.at));
     }
     if reader.rest[0] != wanted {
-        return Err(refused(60, reader.at));
+        return Err(refused(WASM_MAGIC, reader.at));
     }
     reader.skip(1);
     Ok(())
@@ -68,7 +70,7 @@ fn sections(alloc: Global, reader: &mut Reader) -> Result<Progress, Fault>
         progress.put(section);
     }
     if progress.wants_bodies() {
-        return Err(refused(68, reader.at));
+        return Err(refused(WASM_COUNT, reader.at));
     }
     Ok(progress)
 }

@@ -5,6 +5,7 @@ ghost use Rattle.wasm_text.specs.Form.{byte};
 ghost use Rattle.wasm_text.specs.Reads.{Decodes};
 
 use crate::module::{Extern, Import, ImportDesc};
+use sim_base::refusals::{WASM_LIMIT, WASM_TYPE};
 use sim_base::{Fault, List};
 use std::alloc::Global;
 use wasm_code::{read_global_type, read_limits, table_limits};
@@ -24,7 +25,7 @@ impl FromByte for Extern {
             1 => Ok(Extern::Table),
             2 => Ok(Extern::Memory),
             3 => Ok(Extern::Global),
-            _ => Err(64),
+            _ => Err(WASM_TYPE),
         }
     }
 }
@@ -79,7 +80,7 @@ fn judge(functions: u32, byte: u8) -> Result<Extern, u8>
     ensures { result ≡ judge_import functions byte }
 {
     if byte == 0 && functions >= FUNCTIONS {
-        return Err(69);
+        return Err(WASM_LIMIT);
     }
     Extern::from_byte(byte)
 }

@@ -6,6 +6,7 @@ ghost use Rattle.wasm_decode.specs.InstrText.{else_may_come as may_come, is_opco
 ghost use Rattle.wasm_text.specs.Reads.{Decodes};
 
 use crate::prefixed::prefixed;
+use sim_base::refusals::{WASM_LIMIT, WASM_OPCODE};
 use sim_base::{Fault, List};
 use std::alloc::Global;
 use wasm_code::{
@@ -37,13 +38,13 @@ fn judge(opened: &[bool], op: u8) -> Result<u8, u8>
     ensures { result ≡ judge_opcode (reverse opened.now) op }
 {
     if !is_known(op) {
-        return Err(65);
+        return Err(WASM_OPCODE);
     }
     if is_crowded(opened, op) {
-        return Err(69);
+        return Err(WASM_LIMIT);
     }
     if is_stray_else(opened, op) {
-        return Err(65);
+        return Err(WASM_OPCODE);
     }
     Ok(op)
 }
@@ -230,7 +231,7 @@ fn call_indirect(reader: &mut Reader) -> Result<Instr, Fault>
     ensures { Decodes call_indirect_form result reader.old reader.new }
 {
     let kind = index(reader)?;
-    zero(reader, 32, 65)?;
+    zero(reader, 32, WASM_OPCODE)?;
     Ok(Instr::CallIndirect(kind))
 }
 
@@ -259,7 +260,7 @@ fn access_instr(op: u8, at: MemArg) -> Instr
 fn reserved(reader: &mut Reader, op: u8) -> Result<Instr, Fault>
     ensures { Decodes (reserved_form op) result reader.old reader.new }
 {
-    tag(reader, 0x00, 65)?;
+    tag(reader, 0x00, WASM_OPCODE)?;
     Ok(memory_instr(op))
 }
 

@@ -2,6 +2,7 @@
 use crate::expressions::read_expr;
 use crate::module::{DataSegment, ElementSegment, Export, GlobalDef};
 use sim_base::Fault;
+use sim_base::refusals::WASM_TYPE;
 use std::alloc::Global;
 use wasm_code::read_global_type;
 use wasm_text::{Decode, Reader, byte_list, index, judged, list, read_name, tag};
@@ -37,7 +38,7 @@ impl Decode for ElementSegment {
     ghost form = { element };
 
     fn decode(alloc: Global, reader: &mut Reader) -> Result<ElementSegment, Fault> {
-        tag(reader, 0x00, 64)?;
+        tag(reader, 0x00, WASM_TYPE)?;
         let offset = read_expr(alloc, reader)?;
         let functions = list(alloc, reader)?;
         Ok(ElementSegment { offset, functions })
@@ -50,7 +51,7 @@ impl Decode for DataSegment {
     ghost form = { segment };
 
     fn decode(alloc: Global, reader: &mut Reader) -> Result<DataSegment, Fault> {
-        tag(reader, 0x00, 64)?;
+        tag(reader, 0x00, WASM_TYPE)?;
         let offset = read_expr(alloc, reader)?;
         let bytes = byte_list(alloc, reader)?;
         Ok(DataSegment { offset, bytes })

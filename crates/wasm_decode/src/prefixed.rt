@@ -5,6 +5,7 @@ ghost use Rattle.wasm_text.specs.Form.{byte as byte_form};
 ghost use Rattle.wasm_text.specs.Reads.{Decodes};
 
 use sim_base::Fault;
+use sim_base::refusals::WASM_OPCODE;
 use wasm_code::{FloatInstr, Instr, truncate_row};
 use wasm_text::{Reader, refused, tag, zero};
 
@@ -42,7 +43,7 @@ fn first_byte(reader: &mut Reader) -> Result<u8, Fault>
     let place = reader.at;
     let byte = reader.byte()?;
     if !is_prefixed(byte % 128) {
-        return Err(refused(65, place));
+        return Err(refused(WASM_OPCODE, place));
     }
     Ok(byte)
 }
@@ -59,20 +60,20 @@ fn zeros_behind(reader: &mut Reader, byte: u8) -> Result<u64, Fault>
     if byte < 128 {
         return Ok(0);
     }
-    zero(reader, 25, 65)
+    zero(reader, 25, WASM_OPCODE)
 }
 
 fn memory_copy(reader: &mut Reader) -> Result<Instr, Fault>
     ensures { Decodes copy_form result reader.old reader.new }
 {
-    tag(reader, 0x00, 65)?;
-    tag(reader, 0x00, 65)?;
+    tag(reader, 0x00, WASM_OPCODE)?;
+    tag(reader, 0x00, WASM_OPCODE)?;
     Ok(Instr::MemoryCopy)
 }
 
 fn memory_fill(reader: &mut Reader) -> Result<Instr, Fault>
     ensures { Decodes fill_form result reader.old reader.new }
 {
-    tag(reader, 0x00, 65)?;
+    tag(reader, 0x00, WASM_OPCODE)?;
     Ok(Instr::MemoryFill)
 }

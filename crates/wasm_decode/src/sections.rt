@@ -10,6 +10,7 @@ use crate::imports::{FUNCTIONS, imported, imports};
 use crate::module::Module;
 use crate::progress::{Progress, Section};
 use sim_base::Fault;
+use sim_base::refusals::{WASM_COUNT, WASM_CUT, WASM_SECTION};
 use std::alloc::Global;
 use wasm_code::tables;
 use wasm_text::{Reader, close, index, list, list_to, read_name, refused};
@@ -40,10 +41,10 @@ fn judge(progress: &Progress, byte: u8) -> Result<u8, u8>
         return Ok(0);
     }
     if byte > 11 || byte <= progress.last {
-        return Err(63);
+        return Err(WASM_SECTION);
     }
     if byte == 11 && progress.wants_bodies() {
-        return Err(68);
+        return Err(WASM_COUNT);
     }
     Ok(byte)
 }
@@ -67,7 +68,7 @@ fn custom(alloc: Global, reader: &mut Reader) -> Result<Section, Fault>
     let size = size as usize;
     if reader.rest.len() < size {
         let cut = reader.at + reader.rest.len() as u32;
-        return Err(refused(61, cut));
+        return Err(refused(WASM_CUT, cut));
     }
     reader.skip(size);
     Ok(Section::Custom)

@@ -1,10 +1,10 @@
 pub mod ProgramLemmas
 mod LoadLemmas
-mod ListLemmas
+pub mod ListLemmas
 mod ExistLemmas
 mod BodyLemmas
 mod NumberLemmas
 mod PartLemmas
 mod InvokeLemmas
 mod SlotLemmas
-mod ValidLemmas
+pub mod ValidLemmas

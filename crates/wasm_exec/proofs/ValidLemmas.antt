@@ -5,6 +5,7 @@ use Rattle.std.specs.Option.{ForSome}
 use Rattle.std.proofs.lemmas.Bool.{and_parts, ltb-true, leb-true}
 use Rattle.sim_base.specs.declared.fault.Refusal.{Refusal}
 use Rattle.sim_base.specs.declared.fault.Place.TheVariants as places
+use Rattle.sim_base.specs.Refusals.{ValidIndex, ValidConst, ValidForm, ValidSegment, ValidLimit}
 use Rattle.wasm_code.specs.declared.types.Limits.{Limits}
 use Rattle.wasm_decode.specs.declared.module.Import.{Import}
 use Rattle.wasm_decode.specs.declared.module.ImportDesc.{ImportDesc}
@@ -14,19 +15,19 @@ use Rattle.wasm_typing.specs.Typing.{all_below}
 use Rattle.wasm_validate.specs.Validity.{IsValid}
 use Rattle.wasm_exec.specs.Whole.{AllBelow, ElementsBelow, MemoryFits, MemoriesFit, IsWhole}
 use Rattle.wasm_exec.proofs.ListLemmas.{get_split}
-use Rattle.wasm_validate.specs.Rules.{capped, first_fault, or_then, imported_functions, functions_of, imported_memories, memories_of, tables_of, least_of, offset_of, is_from, fits, memory_fits, has_few_results, import_fits, desc_fits, table_fits, memory_form, forms, import_exists, desc_exists, type_exists, global_exists, export_exists, start_exists, element_exists, indexes, global_constant, constants, names, element_inside, segment_inside, insides, import_small, desc_small, table_small, memory_small, sizes, outside}
+use Rattle.wasm_validate.specs.Rules.{capped, first_fault, or_then, imported_functions, functions_of, imported_memories, memories_of, tables_of, least_of, offset_of, is_from, fits, memory_fits, has_few_results, import_fits, desc_fits, table_fits, memory_form, start_form, forms, import_exists, desc_exists, type_exists, global_exists, export_exists, start_exists, element_exists, indexes, global_constant, constants, names, element_inside, segment_inside, insides, import_small, desc_small, table_small, memory_small, sizes, outside}
 
 -- ---- rules over lists
 
-both_none : (a b : Option Refusal) → or_then a b ≡ None → (a ≡ None) × (b ≡ None)
+pub both_none : (a b : Option Refusal) → or_then a b ≡ None → (a ≡ None) × (b ≡ None)
 both_none None b e = (refl, e)
 both_none (Some r) b e = absurd cc
 
-goes_on : {X : Type 0} (b : Bool) (rest : Option X) (r : X) → (if b then rest else Some r) ≡ None → (b ≡ true) × (rest ≡ None)
+pub goes_on : {X : Type 0} (b : Bool) (rest : Option X) (r : X) → (if b then rest else Some r) ≡ None → (b ≡ true) × (rest ≡ None)
 goes_on true rest r e = (refl, e)
 goes_on false rest r e = absurd cc
 
-kept : {X : Type 0} (number section : ℕ) (keeps : ℕ → X → Bool) (n : ℕ) (xs : List X) → first_fault number section keeps n xs ≡ None → (i : ℕ) (x : X) → slice_get xs i ≡ Some x → (k : ℕ) × (keeps k x ≡ true)
+pub kept : {X : Type 0} (number section : ℕ) (keeps : ℕ → X → Bool) (n : ℕ) (xs : List X) → first_fault number section keeps n xs ≡ None → (i : ℕ) (x : X) → slice_get xs i ≡ Some x → (k : ℕ) × (keeps k x ≡ true)
 kept number section keeps n [] e i x g = absurd cc
 kept number section keeps n (y ∷ xs) e zero x g =
     let q : x ≡ y = cc in
@@ -37,20 +38,22 @@ kept number section keeps n (y ∷ xs) e (suc i) x g =
 -- ---- the rules of a module
 
 -- the rules outside bodies, each by itself
-record Keeps (m : Module) : Type 0 where
-  few : first_fault 74 1 (has_few_results) 0 m.types ≡ None
-  imports_fit : first_fault 74 2 (import_fits m) 0 m.imports ≡ None
-  memories_fit : first_fault 74 5 (memory_form m) 0 m.memories ≡ None
-  imports_exist : first_fault 70 2 (import_exists m) 0 m.imports ≡ None
-  types_exist : first_fault 70 3 (type_exists m) 0 m.functions ≡ None
-  elements_exist : first_fault 70 9 (element_exists m) 0 m.elements ≡ None
-  constant : first_fault 72 6 global_constant 0 m.globals ≡ None
-  elements_inside : first_fault 78 9 (element_inside m) 0 m.elements ≡ None
-  segments_inside : first_fault 78 11 (segment_inside m) 0 m.segments ≡ None
-  imports_small : first_fault 79 2 import_small 0 m.imports ≡ None
-  memories_small : first_fault 79 5 memory_small 0 m.memories ≡ None
+pub record Keeps (m : Module) : Type 0 where
+  pub few : first_fault ValidForm 1 (has_few_results) 0 m.types ≡ None
+  pub imports_fit : first_fault ValidForm 2 (import_fits m) 0 m.imports ≡ None
+  pub memories_fit : first_fault ValidForm 5 (memory_form m) 0 m.memories ≡ None
+  pub start_fits : start_form m ≡ None
+  pub imports_exist : first_fault ValidIndex 2 (import_exists m) 0 m.imports ≡ None
+  pub types_exist : first_fault ValidIndex 3 (type_exists m) 0 m.functions ≡ None
+  pub start_there : start_exists m ≡ None
+  pub elements_exist : first_fault ValidIndex 9 (element_exists m) 0 m.elements ≡ None
+  pub constant : first_fault ValidConst 6 global_constant 0 m.globals ≡ None
+  pub elements_inside : first_fault ValidSegment 9 (element_inside m) 0 m.elements ≡ None
+  pub segments_inside : first_fault ValidSegment 11 (segment_inside m) 0 m.segments ≡ None
+  pub imports_small : first_fault ValidLimit 2 import_small 0 m.imports ≡ None
+  pub memories_small : first_fault ValidLimit 5 memory_small 0 m.memories ≡ None
 
-keeps_of : (m : Module) → outside m ≡ None → Keeps m
+pub keeps_of : (m : Module) → outside m ≡ None → Keeps m
 unfolding outside
 keeps_of m e =
     let o = both_none (forms m) _ e in
@@ -58,26 +61,28 @@ keeps_of m e =
     let c = both_none (constants m) _ i.1 in
     let n = both_none (names m) _ c.1 in
     let s = both_none (insides m) (sizes m) n.1 in
-    let f1 = both_none (first_fault 74 1 has_few_results 0 m.types) _ o.0 in
-    let f2 = both_none (first_fault 74 2 (import_fits m) 0 m.imports) _ f1.1 in
-    let f4 = both_none (first_fault 74 4 (table_fits m) 0 m.tables) _ f2.1 in
-    let f5 = both_none (first_fault 74 5 (memory_form m) 0 m.memories) _ f4.1 in
-    let i2 = both_none (first_fault 70 2 (import_exists m) 0 m.imports) _ i.0 in
-    let i3 = both_none (first_fault 70 3 (type_exists m) 0 m.functions) _ i2.1 in
-    let i6 = both_none (first_fault 70 6 (global_exists m) 0 m.globals) _ i3.1 in
-    let i7 = both_none (first_fault 70 7 (export_exists m) 0 m.exports) _ i6.1 in
+    let f1 = both_none (first_fault ValidForm 1 has_few_results 0 m.types) _ o.0 in
+    let f2 = both_none (first_fault ValidForm 2 (import_fits m) 0 m.imports) _ f1.1 in
+    let f4 = both_none (first_fault ValidForm 4 (table_fits m) 0 m.tables) _ f2.1 in
+    let f5 = both_none (first_fault ValidForm 5 (memory_form m) 0 m.memories) _ f4.1 in
+    let i2 = both_none (first_fault ValidIndex 2 (import_exists m) 0 m.imports) _ i.0 in
+    let i3 = both_none (first_fault ValidIndex 3 (type_exists m) 0 m.functions) _ i2.1 in
+    let i6 = both_none (first_fault ValidIndex 6 (global_exists m) 0 m.globals) _ i3.1 in
+    let i7 = both_none (first_fault ValidIndex 7 (export_exists m) 0 m.exports) _ i6.1 in
     let i8 = both_none (start_exists m) _ i7.1 in
-    let i9 = both_none (first_fault 70 9 (element_exists m) 0 m.elements) _ i8.1 in
-    let c6 = both_none (first_fault 72 6 global_constant 0 m.globals) _ c.0 in
-    let s9 = both_none (first_fault 78 9 (element_inside m) 0 m.elements) _ s.0 in
-    let z2 = both_none (first_fault 79 2 import_small 0 m.imports) _ s.1 in
-    let z4 = both_none (first_fault 79 4 table_small 0 m.tables) _ z2.1 in
+    let i9 = both_none (first_fault ValidIndex 9 (element_exists m) 0 m.elements) _ i8.1 in
+    let c6 = both_none (first_fault ValidConst 6 global_constant 0 m.globals) _ c.0 in
+    let s9 = both_none (first_fault ValidSegment 9 (element_inside m) 0 m.elements) _ s.0 in
+    let z2 = both_none (first_fault ValidLimit 2 import_small 0 m.imports) _ s.1 in
+    let z4 = both_none (first_fault ValidLimit 4 table_small 0 m.tables) _ z2.1 in
     record {
       few = f1.0;
       imports_fit = f2.0;
       memories_fit = f5.0;
+      start_fits = f5.1;
       imports_exist = i2.0;
       types_exist = i3.0;
+      start_there = i8.0;
       elements_exist = i9.0;
       constant = c6.0;
       elements_inside = s9.0;
@@ -89,7 +94,7 @@ keeps_of m e =
 -- ---- what is imported
 
 -- the type of an imported function is that of an import
-function_import : (is : List Import) (i k : ℕ) → slice_get (imported_functions is) i ≡ Some k → (j : ℕ) × (x : Import) × (slice_get is j ≡ Some x) × (x.desc ≡ descs.Function k)
+pub function_import : (is : List Import) (i k : ℕ) → slice_get (imported_functions is) i ≡ Some k → (j : ℕ) × (x : Import) × (slice_get is j ≡ Some x) × (x.desc ≡ descs.Function k)
 function_import [] i k e = absurd cc
 function_import (x ∷ is) i k e = by (λ j. function_import is j k) x.desc refl i e
   where
@@ -140,25 +145,25 @@ module _ (m : Module) (k : Keeps m) where
   imported_below : AllBelow (length m.types) (imported_functions m.imports)
   imported_below i n e =
       let x = function_import m.imports i n e in
-      let r = kept 70 2 (import_exists m) 0 m.imports k.imports_exist x.0 x.1 x.2 in
+      let r = kept ValidIndex 2 (import_exists m) 0 m.imports k.imports_exist x.0 x.1 x.2 in
       ltb-true n (length m.types) (subst (λ (d : ImportDesc). desc_exists m d ≡ true) x.3 r.1)
 
   functions_below : ElementsBelow (length (functions_of m)) m.elements
   functions_below i s e =
-      let r = kept 70 9 (element_exists m) 0 m.elements k.elements_exist i s e in
+      let r = kept ValidIndex 9 (element_exists m) 0 m.elements k.elements_exist i s e in
       below_all (length (functions_of m)) s.functions (and_parts _ (all_below (length (functions_of m)) s.functions) r.1).1
 
   memory_imported : (l : Limits) → slice_get (imported_memories m.imports) 0 ≡ Some l → MemoryFits l
   memory_imported l e =
       let x = memory_import m.imports 0 l e in
-      let f = kept 74 2 (import_fits m) 0 m.imports k.imports_fit x.0 x.1 x.2 in
-      let s = kept 79 2 import_small 0 m.imports k.imports_small x.0 x.1 x.2 in
+      let f = kept ValidForm 2 (import_fits m) 0 m.imports k.imports_fit x.0 x.1 x.2 in
+      let s = kept ValidLimit 2 import_small 0 m.imports k.imports_small x.0 x.1 x.2 in
       memory_ok l (and_parts (memory_fits l) _ (subst (λ (d : ImportDesc). desc_fits (take f.0 m.imports) d ≡ true) x.3 f.1)).0 (subst (λ (d : ImportDesc). desc_small d ≡ true) x.3 s.1)
 
   memory_own : (i : ℕ) (l : Limits) → slice_get m.memories i ≡ Some l → MemoryFits l
   memory_own i l e =
-      let f = kept 74 5 (memory_form m) 0 m.memories k.memories_fit i l e in
-      let s = kept 79 5 memory_small 0 m.memories k.memories_small i l e in
+      let f = kept ValidForm 5 (memory_form m) 0 m.memories k.memories_fit i l e in
+      let s = kept ValidLimit 5 memory_small 0 m.memories k.memories_small i l e in
       memory_ok l (and_parts (memory_fits l) (f.0 == 0) (and_parts (memory_fits l && f.0 == 0) _ f.1).0).0 s.1
 
   memory_first : MemoriesFit (memories_of m)
@@ -171,14 +176,14 @@ module _ (m : Module) (k : Keeps m) where
   whole : length m.functions ≡ length m.bodies → IsWhole m
   whole n = record {
     bodies = n;
-    single = λ i t e. leb-true (length t.results) 1 (kept 74 1 has_few_results 0 m.types k.few i t e).1;
-    own = λ i j e. ltb-true j (length m.types) (kept 70 3 (type_exists m) 0 m.functions k.types_exist i j e).1;
+    single = λ i t e. leb-true (length t.results) 1 (kept ValidForm 1 has_few_results 0 m.types k.few i t e).1;
+    own = λ i j e. ltb-true j (length m.types) (kept ValidIndex 3 (type_exists m) 0 m.functions k.types_exist i j e).1;
     imported = imported_below;
-    constant = λ i g e. (kept 72 6 global_constant 0 m.globals k.constant i g e).1;
-    elements = λ i s e. leb-true (offset_of s.offset + length s.functions) (least_of (tables_of m)) (kept 78 9 (element_inside m) 0 m.elements k.elements_inside i s e).1;
+    constant = λ i g e. (kept ValidConst 6 global_constant 0 m.globals k.constant i g e).1;
+    elements = λ i s e. leb-true (offset_of s.offset + length s.functions) (least_of (tables_of m)) (kept ValidSegment 9 (element_inside m) 0 m.elements k.elements_inside i s e).1;
     functions = functions_below;
     memories = memory_first;
-    segments = λ i s e. leb-true (offset_of s.offset + length s.bytes) (65536 * least_of (memories_of m)) (kept 78 11 (segment_inside m) 0 m.segments k.segments_inside i s e).1;
+    segments = λ i s e. leb-true (offset_of s.offset + length s.bytes) (65536 * least_of (memories_of m)) (kept ValidSegment 11 (segment_inside m) 0 m.segments k.segments_inside i s e).1;
   }
 
 pub whole_of : (m : Module) (init : ℕ) → IsValid m init → length m.functions ≡ length m.bodies → IsWhole m

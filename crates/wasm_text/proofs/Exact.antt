@@ -1,6 +1,7 @@
 -- Forms are proper: no text begins another, a text has one value, and bytes that begin with a text do not break.
 use Rattle.std.proofs.Common.{◌≡◌, ℕ, zero, suc, ◌+◌, ◌-◌, ◌*◌, ◌^◌, ◌<◌, ◌≤◌, List, [], ◌∷◌, ◌++◌, length, Result, Ok, Err, Bool, true, false, refl, sym, ap, subst, ◌∙◌, arith, ◌⊎◌, append_assoc, ⊎_elim, length-append}
 use Rattle.std.specs.Prelude.{take}
+use Rattle.sim_base.specs.Refusals.{WasmLeb, WasmLimit}
 use Rattle.wasm_text.specs.Form.{Form, give, byte_or, ByteBreaks, ◌>>=◌, choose}
 use Rattle.wasm_text.specs.Leb.{IsUnsigned, ByteIsFaulty, high_least, high_greatest, BreaksUnsigned, unsigned, u32, at_most, IsSigned, IsUnlikeSign, BreaksSigned, signed}
 use Rattle.wasm_text.specs.Lists.{Run, repeated, is_zero, items, vec, vec_to, bytes_of_length, byte_vec, sized}
@@ -190,10 +191,10 @@ pub items_proper : {X : Type 0} (p : Form X) (n : ℕ) → Proper p → Proper (
 items_proper p n h = repeated_proper (λ (left : ℕ). p) (λ left x. left - 1) is_zero (λ s. h) n
 
 pub vec_proper : {X : Type 0} (p : Form X) → Proper p → Proper (vec p)
-vec_proper p h = then_proper u32 (items p) (unsigned_proper 32 0 4294967295 62) (λ n. items_proper p n h)
+vec_proper p h = then_proper u32 (items p) (unsigned_proper 32 0 4294967295 WasmLeb) (λ n. items_proper p n h)
 
 pub vec_to_proper : {X : Type 0} (greatest : ℕ) (p : Form X) → Proper p → Proper (vec_to greatest p)
-vec_to_proper greatest p h = then_proper (at_most greatest) (items p) (unsigned_proper 32 0 greatest 69) (λ n. items_proper p n h)
+vec_to_proper greatest p h = then_proper (at_most greatest) (items p) (unsigned_proper 32 0 greatest WasmLimit) (λ n. items_proper p n h)
 
 pub choose_proper : {X : Type 0} (b : Bool) (p q : Form X) → Proper p → Proper q → Proper (choose b p q)
 choose_proper true p q h k = h
@@ -210,7 +211,7 @@ module _ {X : Type 0} (wanted : Bool) (p : Form X) (pp : Proper p) where
     excludes = λ a r x i k h b.
         let e : a ++ r ≡ h.0 ++ (h.1 ++ r) = ap (λ (z : List ℕ). z ++ r) h.2 ∙ append_assoc h.0 h.1 r in
         ⊎_elim
-        (λ f. (unsigned_proper 32 0 4294967295 62).excludes h.0 (h.1 ++ r) (length h.1) i k h.3 (subst (λ (z : List ℕ). u32.breaks z i k) e f))
+        (λ f. (unsigned_proper 32 0 4294967295 WasmLeb).excludes h.0 (h.1 ++ r) (length h.1) i k h.3 (subst (λ (z : List ℕ). u32.breaks z i k) e f))
         (λ f.
         let e' : f.0 ++ f.1 ≡ h.0 ++ (h.1 ++ r) = sym f.4 ∙ e in
         let q = unsigned_one 32 f.0 h.0 f.1 (h.1 ++ r) f.2 (length h.1) f.5.0 h.3.0 e' in
@@ -245,4 +246,4 @@ bytes_proper n = record {
 }
 
 pub byte_vec_proper : Proper byte_vec
-byte_vec_proper = then_proper u32 bytes_of_length (unsigned_proper 32 0 4294967295 62) bytes_proper
+byte_vec_proper = then_proper u32 bytes_of_length (unsigned_proper 32 0 4294967295 WasmLeb) bytes_proper

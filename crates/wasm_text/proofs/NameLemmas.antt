@@ -10,6 +10,7 @@ use Rattle.std.specs.Char.{IsScalar, InScalarRange}
 use Rattle.sim_base.specs.declared.fault.Fault.{Fault}
 use Rattle.sim_base.specs.declared.fault.Fault.TheVariants as faults
 use Rattle.sim_base.specs.declared.fault.Place.TheVariants as places
+use Rattle.sim_base.specs.Refusals.{WasmUtf8}
 use Rattle.wasm_text.specs.declared.reader.Reader.{Reader}
 use Rattle.wasm_text.specs.Form.{any_byte, byte}
 use Rattle.wasm_text.specs.Reads.{Reads, Fails}
@@ -37,7 +38,7 @@ tail_stays zero l g left b lt p q = absurd (omega arith)
 tail_stays (suc n) l g left b lt p q =
     let e : suc n - 1 ≡ n = omega arith in
     let x : Result ℕ ℕ = Ok b in
-    let y : Result ℕ ℕ = Err 67 in
+    let y : Result ℕ ℕ = Err WasmUtf8 in
     (ap (λ t. if t then x else y) (within_is l g b p q), ap (λ k. spans k 128 191) e ∙ spans_any n)
 
 abbrev pub NameRun : Reader → Reader → ℕ → List ℕ → InName → Type 0
@@ -47,10 +48,10 @@ pub name_cut : (old mid : Reader) (count : ℕ) (bytes : List ℕ) (s : InName) 
 name_cut old mid count bytes s e h lt f =
     run_fails (λ (s : InName). byte (judge_in_name s)) in_name (λ s. is_zero s.left) old mid (record { left = count; tails = [] }) bytes s e h (not_zero s.left lt) (judged_ends (judge_in_name s) mid e f)
 
-pub name_faulty : (old mid new : Reader) (count : ℕ) (bytes : List ℕ) (s : InName) (b : ℕ) (e : Fault) → NameRun old mid count bytes s → 0 < s.left → Reads any_byte mid new b → judge_in_name s b ≡ Err 67 → e ≡ faults.Refused (record { number = 67; place = places.Byte mid.at }) → Fails (name_of_length count) old e
+pub name_faulty : (old mid new : Reader) (count : ℕ) (bytes : List ℕ) (s : InName) (b : ℕ) (e : Fault) → NameRun old mid count bytes s → 0 < s.left → Reads any_byte mid new b → judge_in_name s b ≡ Err WasmUtf8 → e ≡ faults.Refused (record { number = WasmUtf8; place = places.Byte mid.at }) → Fails (name_of_length count) old e
 name_faulty old mid new count bytes s b e h lt r j is =
-    let f = judged_err (judge_in_name s) mid new b 67 r j in
-    subst (λ x. Fails (name_of_length count) old x) (sym is) (run_fails (λ (s : InName). byte (judge_in_name s)) in_name (λ s. is_zero s.left) old mid (record { left = count; tails = [] }) bytes s (faults.Refused (record { number = 67; place = places.Byte mid.at })) h (not_zero s.left lt) f)
+    let f = judged_err (judge_in_name s) mid new b WasmUtf8 r j in
+    subst (λ x. Fails (name_of_length count) old x) (sym is) (run_fails (λ (s : InName). byte (judge_in_name s)) in_name (λ s. is_zero s.left) old mid (record { left = count; tails = [] }) bytes s (faults.Refused (record { number = WasmUtf8; place = places.Byte mid.at })) h (not_zero s.left lt) f)
 
 pub name_goes : (old mid new : Reader) (count : ℕ) (bytes more : List ℕ) (left m : ℕ) (tails after : List Span) (b : ℕ) → NameRun old mid count bytes (record { left = left; tails = tails }) → 0 < left → Reads any_byte mid new b → judge_in_name (record { left = left; tails = tails }) b ≡ Ok b → after ≡ tails_after tails b → m ≡ left - 1 → more ≡ bytes ++ b ∷ [] → NameRun old new count more (record { left = m; tails = after })
 name_goes old mid new count bytes more left m tails after b h lt r j ea em eb =

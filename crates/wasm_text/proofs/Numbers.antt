@@ -4,6 +4,7 @@ use Rattle.std.proofs.lemmas.Nat.{pow-add, shr_high, shr_le}
 use Rattle.sim_base.specs.declared.fault.Fault.{Fault}
 use Rattle.sim_base.specs.declared.fault.Fault.TheVariants as faults
 use Rattle.sim_base.specs.declared.fault.Place.TheVariants as places
+use Rattle.sim_base.specs.Refusals.{WasmLeb}
 use Rattle.wasm_text.specs.declared.reader.Reader.{Reader}
 use Rattle.wasm_text.specs.Reads.{Took, Reads, Fails}
 use Rattle.wasm_text.specs.Leb.{IsUnsigned, BreaksUnsigned, ByteIsFaulty, high_least, high_greatest, unsigned, IsSigned, BreaksSigned, IsUnlikeSign, signed}
@@ -60,10 +61,10 @@ pub signed_fails : (bits b : ℕ) (old mid : Reader) (e : Fault) → 128 ≤ b �
 signed_fails bits b old mid e hb hw t h =
     fails_on (signed (bits - 7)) (signed bits) old mid (b ∷ []) e t (λ j k br. let q : suc j ≡ length (b ∷ []) + j = omega arith in subst (λ (i : ℕ). BreaksSigned bits (b ∷ mid.rest.now) i k) q (hb, hw, br)) h
 
-pub signed_faulty : (bits b : ℕ) (old mid : Reader) → Took old mid (b ∷ []) → (128 ≤ b) × (bits ≤ 7) ⊎ IsUnlikeSign bits b → Fails (signed bits) old (faults.Refused (record { number = 62; place = places.Byte old.at }))
+pub signed_faulty : (bits b : ℕ) (old mid : Reader) → Took old mid (b ∷ []) → (128 ≤ b) × (bits ≤ 7) ⊎ IsUnlikeSign bits b → Fails (signed bits) old (faults.Refused (record { number = WasmLeb; place = places.Byte old.at }))
 signed_faulty bits b old mid t f =
     let z : old.at ≡ old.at + 0 = omega arith in
-    (0, ap (λ (n : ℕ). places.Byte n) z, subst (λ y. BreaksSigned bits y 0 62) (sym t.parts) (refl, f))
+    (0, ap (λ (n : ℕ). places.Byte n) z, subst (λ y. BreaksSigned bits y 0 WasmLeb) (sym t.parts) (refl, f))
 
 pub signed_last : (bits b n : ℕ) (old new : Reader) → Took old new (b ∷ []) → IsSigned bits (b ∷ []) n → Reads (signed bits) old new n
 signed_last bits b n old new t h = (b ∷ [], h, t)

@@ -3,6 +3,7 @@ use Rattle.std.proofs.Common.{◌≡◌, ℕ, ◌+◌, List, [], ◌∷◌, ◌+
 use Rattle.sim_base.specs.declared.fault.Fault.{Fault}
 use Rattle.sim_base.specs.declared.fault.Fault.TheVariants as faults
 use Rattle.sim_base.specs.declared.fault.Place.TheVariants as places
+use Rattle.sim_base.specs.Refusals.{WasmCut}
 use Rattle.wasm_text.specs.declared.reader.Reader.{Reader}
 use Rattle.wasm_text.specs.Form.{Form, give, any_byte, byte, ByteBreaks, ◌>>=◌}
 use Rattle.wasm_text.specs.Reads.{Took, Reads, Fails, Decodes}
@@ -60,7 +61,7 @@ given x r = ([], (refl, refl), took_none r)
 -- a byte that was read and judged
 module _ {X : Type 0} (judge : ℕ → Result X ℕ) where
   pub judged_ends : (old : Reader) (e : Fault) → Fails any_byte old e → Fails (byte judge) old e
-  judged_ends old e h = fails_as any_byte (byte judge) old e (λ j k b. subst (λ bytes. ByteBreaks 61 judge bytes j k) (sym b.0) (b.1, b.2)) h
+  judged_ends old e h = fails_as any_byte (byte judge) old e (λ j k b. subst (λ bytes. ByteBreaks WasmCut judge bytes j k) (sym b.0) (b.1, b.2)) h
 
   pub judged_ok : (old new : Reader) (b : ℕ) (x : X) → Reads any_byte old new b → judge b ≡ Ok x → Reads (byte judge) old new x
   judged_ok old new b x h e = (h.0, (b, h.1, e), h.2)
@@ -68,7 +69,7 @@ module _ {X : Type 0} (judge : ℕ → Result X ℕ) where
   pub judged_err : (old new : Reader) (b k : ℕ) → Reads any_byte old new b → judge b ≡ Err k → Fails (byte judge) old (faults.Refused (record { number = k; place = places.Byte old.at }))
   judged_err old new b k h e =
       let z : old.at ≡ old.at + 0 = omega arith in
-      (0, ap (λ (n : ℕ). places.Byte n) z, subst (λ y. ByteBreaks 61 judge y 0 k) (sym (h.2.parts ∙ ap (λ (t : List ℕ). t ++ new.rest.now) h.1)) (refl, e))
+      (0, ap (λ (n : ℕ). places.Byte n) z, subst (λ y. ByteBreaks WasmCut judge y 0 k) (sym (h.2.parts ∙ ap (λ (t : List ℕ). t ++ new.rest.now) h.1)) (refl, e))
 
 pub took_byte : (old new : Reader) (b : ℕ) → Reads any_byte old new b → Took old new (b ∷ [])
 took_byte old new b h = subst (λ (y : List ℕ). Took old new y) h.1 h.2

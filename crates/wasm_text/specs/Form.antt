@@ -1,6 +1,7 @@
 -- Forms of text (WebAssembly core specification, "Binary Format", "Grammar"): which bytes spell which value, and where and by
 -- which rule bytes break that no text of the form begins.
 use Rattle.std.specs.Prelude.{◌≡◌, ℕ, ◌+◌, List, [], ◌∷◌, ◌++◌, length, ◌⊎◌, Bool, true, false, if◌then◌else◌, ◌==◌, Result, Ok, Err}
+use Rattle.sim_base.specs.Refusals.{WasmCut, WasmType}
 
 pub record Form (X : Type 0) : Type 1 where
   -- the whole text and its value
@@ -14,7 +15,7 @@ give x = record { text = λ bytes y. (bytes ≡ []) × (y ≡ x); breaks = λ by
 
 -- any byte; it breaks where the bytes end, cut (61)
 abbrev pub any_byte : Form ℕ
-any_byte = record { text = λ bytes b. bytes ≡ b ∷ []; breaks = λ bytes i number. (bytes ≡ []) × (i ≡ 0) × (number ≡ 61) }
+any_byte = record { text = λ bytes b. bytes ≡ b ∷ []; breaks = λ bytes i number. (bytes ≡ []) × (i ≡ 0) × (number ≡ WasmCut) }
 
 abbrev pub ByteBreaks : {X : Type 0} → ℕ → (ℕ → Result X ℕ) → List ℕ → ℕ → ℕ → Type 0
 ByteBreaks cut judge [] i number = (i ≡ 0) × (number ≡ cut)
@@ -29,7 +30,7 @@ byte_or cut judge = record {
 
 -- A judged byte; where the bytes end it is cut (61).
 abbrev pub byte : {X : Type 0} → (ℕ → Result X ℕ) → Form X
-byte judge = byte_or 61 judge
+byte judge = byte_or WasmCut judge
 
 -- A part, and behind it what its value asks for. It breaks in the part or behind it.
 infixl 10 ◌>>=◌
@@ -50,7 +51,7 @@ judge_tag wanted rule b = if b == wanted then Ok tt else Err rule
 
 -- a byte that is 00 or 01; else 64
 abbrev pub judge_flag : ℕ → Result Bool ℕ
-judge_flag b = if b == 0 then Ok false else if b == 1 then Ok true else Err 64
+judge_flag b = if b == 0 then Ok false else if b == 1 then Ok true else Err WasmType
 
 abbrev pub flag : Form Bool
 flag = byte judge_flag

@@ -1,5 +1,6 @@
 -- Vectors and parts with a size (WebAssembly core specification, "Vectors", "Sections", "Code Section").
 use Rattle.std.specs.Prelude.{◌≡◌, ℕ, zero, suc, ◌+◌, ◌-◌, ◌<◌, List, [], ◌∷◌, ◌++◌, length, take, ◌⊎◌, Bool, true, false}
+use Rattle.sim_base.specs.Refusals.{WasmCut, WasmSection}
 use Rattle.wasm_text.specs.Form.{Form, ◌>>=◌}
 use Rattle.wasm_text.specs.Leb.{u32, at_most}
 
@@ -41,7 +42,7 @@ vec_to greatest form = at_most greatest >>= items form
 abbrev pub bytes_of_length : ℕ → Form (List ℕ)
 bytes_of_length n = record {
   text = λ bytes xs. (bytes ≡ xs) × (length xs ≡ n);
-  breaks = λ bytes i number. (length bytes < n) × (i ≡ length bytes) × (number ≡ 61);
+  breaks = λ bytes i number. (length bytes < n) × (i ≡ length bytes) × (number ≡ WasmCut);
 }
 
 -- vec(byte)
@@ -55,8 +56,8 @@ IsSized form bytes x = (a b : List ℕ) × (bytes ≡ a ++ b) × u32.text a (len
 -- The number where the content is complete before the end that its size gives: 63. Where the bytes end there too and more is
 -- wanted behind the part, 61.
 abbrev pub short_number : Bool → List ℕ → ℕ
-short_number true [] = 61
-short_number wanted rest = 63
+short_number true [] = WasmCut
+short_number wanted rest = WasmSection
 
 -- in the content, of which no more is seen than the size gives, or where the content is complete before that
 abbrev pub ContentBreaks : {X : Type 0} → Bool → Form X → ℕ → List ℕ → ℕ → ℕ → Type 0

@@ -1,5 +1,6 @@
 -- Names (WebAssembly core specification, "Names"; The Unicode Standard, "Well-Formed UTF-8 Byte Sequences").
 use Rattle.std.specs.Prelude.{ℕ, ◌-◌, List, [], ◌∷◌, length, Bool, ◌&&◌, ◌==◌, nat_lt, nat_le, if◌then◌else◌, Result, Ok, Err, Option, Some, None, unwrap_or}
+use Rattle.sim_base.specs.Refusals.{WasmUtf8}
 use Rattle.wasm_text.specs.Form.{Form, byte, ◌>>=◌}
 use Rattle.wasm_text.specs.Leb.{u32}
 use Rattle.wasm_text.specs.Lists.{repeated, is_zero}
@@ -33,12 +34,12 @@ pub record InName : Type 0 where
   pub tails : List Span
 
 abbrev pub judge_lead : ℕ → ℕ → Option (List Span) → Result ℕ ℕ
-judge_lead left b None = Err 67
-judge_lead left b (Some tails) = if nat_lt (length tails) left then Ok b else Err 67
+judge_lead left b None = Err WasmUtf8
+judge_lead left b (Some tails) = if nat_lt (length tails) left then Ok b else Err WasmUtf8
 
 abbrev pub judge_tail : ℕ → ℕ → List Span → Result ℕ ℕ
 judge_tail left b [] = judge_lead left b (tails_of b)
-judge_tail left b (span ∷ tails) = if within span.0 span.1 b then Ok b else Err 67
+judge_tail left b (span ∷ tails) = if within span.0 span.1 b then Ok b else Err WasmUtf8
 
 -- A first byte has room for its character, and another one is as the first asks; else 67.
 abbrev pub judge_in_name : InName → ℕ → Result ℕ ℕ

@@ -5,6 +5,7 @@ ghost use Rattle.wasm_text.specs.Reads.{Decodes};
 
 use crate::reader::{Reader, refused};
 use sim_base::Fault;
+use sim_base::refusals::WASM_TYPE;
 
 /// A value that one byte spells.
 pub trait FromByte: Sized {
@@ -24,7 +25,7 @@ impl FromByte for bool {
         match byte {
             0 => Ok(false),
             1 => Ok(true),
-            _ => Err(64),
+            _ => Err(WASM_TYPE),
         }
     }
 }

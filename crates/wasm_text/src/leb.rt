@@ -2,17 +2,19 @@
 ghost use Rattle.std.specs.Prelude.{◌≡◌, ◌+◌, ◌-◌, ◌^◌, zero, [], ◌∷◌, ◌/◌, ◌<◌, ◌≤◌, IfOk, IfErr, Ok, Err, MatchResult};
 ghost use Rattle.sim_base.specs.declared.fault.Fault.TheVariants as faults;
 ghost use Rattle.sim_base.specs.declared.fault.Place.TheVariants as places;
+ghost use Rattle.sim_base.specs.Refusals.{WasmLeb};
 ghost use Rattle.wasm_text.specs.Reads.{Decodes};
 ghost use Rattle.wasm_text.specs.Leb.{IsUnsigned, ByteIsFaulty, IsSigned, IsUnlikeSign, unsigned, signed as signed_form, u32 as any_u32, at_most, exactly, high_least, high_greatest};
 
 use crate::reader::{Reader, refused};
 use sim_base::Fault;
+use sim_base::refusals::{WASM_COUNT, WASM_LEB, WASM_LIMIT};
 
 /// A u32 index or size.
 pub fn index(reader: &mut Reader) -> Result<u32, Fault>
     ensures { Decodes any_u32 result reader.old reader.new }
 {
-    let number = unsigned(reader, 32, 0, 0xFFFF_FFFF, 62)?;
+    let number = unsigned(reader, 32, 0, 0xFFFF_FFFF, WASM_LEB)?;
     Ok(number as u32)
 }
 
@@ -20,7 +22,7 @@ pub fn index(reader: &mut Reader) -> Result<u32, Fault>
 pub fn count_to(reader: &mut Reader, greatest: u32) -> Result<u32, Fault>
     ensures { Decodes (at_most greatest) result reader.old reader.new }
 {
-    let number = unsigned(reader, 32, 0, u64::from(greatest), 69)?;
+    let number = unsigned(reader, 32, 0, u64::from(greatest), WASM_LIMIT)?;
     Ok(number as u32)
 }
 
@@ -29,7 +31,7 @@ pub fn count_exactly(reader: &mut Reader, wanted: usize) -> Result<u32, Fault>
     requires { wanted < 2 ^ 63 }
     ensures { Decodes (exactly wanted) result reader.old reader.new }
 {
-    let number = unsigned(reader, 32, wanted as u64, wanted as u64, 68)?;
+    let number = unsigned(reader, 32, wanted as u64, wanted as u64, WASM_COUNT)?;
     Ok(number as u32)
 }
 
@@ -60,7 +62,7 @@ fn unsigned(
         return last(byte, bits, least, greatest, rule, place);
     }
     if bits <= 7 {
-        return Err(refused(62, place));
+        return Err(refused(WASM_LEB, place));
     }
     let low = byte - 128;
     if greatest < low {
@@ -83,7 +85,7 @@ fn last(byte: u64, bits: u8, least: u64, greatest: u64, rule: u8, place: u32) ->
 {
     let limit = 1u64 << bits;
     if limit <= byte {
-        return Err(refused(62, place));
+        return Err(refused(WASM_LEB, place));
     }
     if byte < least || greatest < byte {
         return Err(refused(rule, place));
@@ -104,7 +106,7 @@ pub fn signed(reader: &mut Reader, bits: u8) -> Result<u64, Fault>
         return last_signed(byte, bits, place);
     }
     if bits <= 7 {
-        return Err(refused(62, place));
+        return Err(refused(WASM_LEB, place));
     }
     let high = signed(reader, bits - 7)?;
     Ok(byte - 128 + 128 * high)
@@ -116,12 +118,12 @@ fn last_signed(byte: u64, bits: u8, place: u32) -> Result<u64, Fault>
     requires few { bits ≤ 64 }
     ensures ok { IfOk result (λ n. IsSigned bits (byte ∷ []) n) }
     ensures fits { IfOk result (λ n. n < 2 ^ bits) }
-    ensures err { IfErr result (λ e. (e ≡ faults.Refused (record { number = 62; place = places.Byte place })) × IsUnlikeSign bits byte) }
+    ensures err { IfErr result (λ e. (e ≡ faults.Refused (record { number = WasmLeb; place = places.Byte place })) × IsUnlikeSign bits byte) }
 {
     let ones = all_ones(bits);
     let below = if byte < 64 { byte } else { 127 - byte };
     if below > ones / 2 {
-        return Err(refused(62, place));
+        return Err(refused(WASM_LEB, place));
     }
     Ok(if byte < 64 { byte } else { ones - below })
 }

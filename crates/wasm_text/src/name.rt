@@ -3,9 +3,11 @@ ghost use Rattle.std.specs.Prelude.{◌≡◌, MatchOption, Ok, Err, length};
 ghost use Rattle.wasm_text.specs.Names.{name, name_of_length, judge_in_name, tails_after, tails_of};
 ghost use Rattle.wasm_text.specs.Reads.{Decodes, DecodesAs};
 ghost use Rattle.wasm_text.specs.NameViews.{spans_of};
+ghost use Rattle.sim_base.specs.Refusals.{WasmUtf8};
 
 use crate::leb::index;
 use crate::reader::{Reader, refused};
+use sim_base::refusals::WASM_UTF8;
 use sim_base::{Fault, Text};
 use std::alloc::Global;
 
@@ -41,7 +43,7 @@ fn name_bytes(alloc: Global, reader: &mut Reader, count: u32) -> Result<Vec<u8>,
         let byte = reader.byte()?;
         match next_tails(tails, count - i, byte) {
             Some(next) => tails = next,
-            None => return Err(refused(67, place)),
+            None => return Err(refused(WASM_UTF8, place)),
         }
         bytes.push(byte)?;
     }
@@ -51,7 +53,7 @@ fn name_bytes(alloc: Global, reader: &mut Reader, count: u32) -> Result<Vec<u8>,
 /// What is wanted behind this byte; none where it may not stand there.
 fn next_tails(tails: Tails, left: u32, byte: u8) -> Option<Tails>
     ensures { MatchOption result
-        (judge_in_name (record { left = left; tails = spans_of tails }) byte ≡ Err 67)
+        (judge_in_name (record { left = left; tails = spans_of tails }) byte ≡ Err WasmUtf8)
         (λ next. (judge_in_name (record { left = left; tails = spans_of tails }) byte ≡ Ok byte) × (spans_of next ≡ tails_after (spans_of tails) byte)) }
 {
     if tails.count == 0 {

@@ -7,6 +7,7 @@ ghost use Rattle.wasm_text.specs.Reads.{Took};
 
 use crate::reader::{Reader, refused};
 use sim_base::Fault;
+use sim_base::refusals::{WASM_CUT, WASM_SECTION};
 
 /// Passes over a part of that size whose content ended where `inner` stands.
 /// Refuses with 63 where that is before the end that the size gives, and with 61 where the bytes end
@@ -30,7 +31,7 @@ fn short(wanted: bool, rest: &[u8]) -> u8
     ensures { result ≡ short_number wanted rest.now }
 {
     match rest {
-        [] if wanted => 61,
-        _ => 63,
+        [] if wanted => WASM_CUT,
+        _ => WASM_SECTION,
     }
 }

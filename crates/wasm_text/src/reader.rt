@@ -3,6 +3,7 @@ ghost use Rattle.std.specs.Prelude.{◌≡◌, ◌+◌, ◌^◌, ◌<◌, ◌≤
 ghost use Rattle.sim_base.specs.declared.fault.Fault.TheVariants as faults;
 ghost use Rattle.sim_base.specs.declared.fault.Place.TheVariants as places;
 
+use sim_base::refusals::WASM_CUT;
 use sim_base::{Fault, Place, Refusal};
 
 /// A refusal by a rule at a byte.
@@ -58,7 +59,7 @@ impl<'a> Reader<'a> {
     {
         let count = count as usize;
         if self.rest.len() < count {
-            return Err(refused(61, self.at + self.rest.len() as u32));
+            return Err(refused(WASM_CUT, self.at + self.rest.len() as u32));
         }
         let bytes = &self.rest[..count];
         self.skip(count);
@@ -70,7 +71,7 @@ impl<'a> Reader<'a> {
         ensures { Decodes any_byte result self.old self.new }
     {
         match self.rest {
-            [] => Err(refused(61, self.at)),
+            [] => Err(refused(WASM_CUT, self.at)),
             [byte, rest @ ..] => {
                 let byte = *byte;
                 self.rest = rest;

@@ -5,6 +5,7 @@ use Rattle.std.proofs.lemmas.Nat.{pow-add}
 use Rattle.std.proofs.lemmas.Bool.{leb-true}
 use Rattle.std.proofs.lemmas.Bool.Decides.{leb_tells}
 use Rattle.std.proofs.lemmas.Option.{slice_get_past, slice_get-get_or}
+use Rattle.sim_base.specs.Refusals.{ValidIndex, ValidType, ValidLimit}
 use Rattle.wasm_code.specs.declared.types.ValType.{ValType}
 use Rattle.wasm_code.specs.declared.types.ValType.TheVariants.{I32}
 use Rattle.wasm_code.specs.declared.instr.Instr.{Instr}
@@ -241,7 +242,7 @@ module _ (c : Context) (code : List Instr) where
     exists_is : (n : ℕ) (b : Bool) → n ≡ length s.around → exists c n x ≡ b → exists c (labels_behind (take i code) 1) x ≡ b
     exists_is n b e q = subst (λ (k : ℕ). exists c k x ≡ b) (e ∙ h.labels) q
 
-    pub fails_70 : IsNested code → (n : ℕ) → n ≡ length s.around → exists c n x ≡ false → FailsAt c code i 70
+    pub fails_70 : IsNested code → (n : ℕ) → n ≡ length s.around → exists c n x ≡ false → FailsAt c code i ValidIndex
     fails_70 nest n e q =
         let z = stopped (lacks_stops c x s (subst (λ (k : ℕ). exists c k x ≡ false) e q)) in
         record {
@@ -252,7 +253,7 @@ module _ (c : Context) (code : List Instr) where
           breaks = inl (refl, (x, here, exists_is n false e q));
         }
 
-    pub fails_71 : IsNested code → (n : ℕ) → n ≡ length s.around → exists c n x ≡ true → step c x s ≡ None → FailsAt c code i 71
+    pub fails_71 : IsNested code → (n : ℕ) → n ≡ length s.around → exists c n x ≡ true → step c x s ≡ None → FailsAt c code i ValidType
     fails_71 nest n e q st =
         let z = stopped st in
         record {
@@ -283,7 +284,7 @@ module _ (c : Context) (code : List Instr) where
       let r : run c code (start c) ≡ Some t = ap (λ (y : List Instr). run c y (start c)) (sym (take_all code i le)) ∙ h in
       whole_few code t (body_sound c code t n r) r short
 
-  pub fails_79 : (i : ℕ) (s t : State) (h : At i s) (x : Instr) (lt : i < length code) (is : x ≡ get_or code i x) → IsNested code → length c.returns ≤ 1 → (n : ℕ) → n ≡ length s.around → exists c n x ≡ true → step c x s ≡ Some t → nat_le (total t) 1024 ≡ false → FailsAt c code i 79
+  pub fails_79 : (i : ℕ) (s t : State) (h : At i s) (x : Instr) (lt : i < length code) (is : x ≡ get_or code i x) → IsNested code → length c.returns ≤ 1 → (n : ℕ) → n ≡ length s.around → exists c n x ≡ true → step c x s ≡ Some t → nat_le (total t) 1024 ≡ false → FailsAt c code i ValidLimit
   fails_79 i s t h x lt is nest short n e q st few =
       let r : run c (take (i + 1) code) (start c) ≡ Some t = ap (λ (y : List Instr). run c y (start c)) (split i s h x lt is) ∙ run_append c (take i code) (x ∷ []) (start c) s h.ran ∙ run_next c x [] s t st ∙ run_none c t in
       let many : room < total t = ⊎_elim (λ p. absurd (let z : true ≡ false = sym p.0 ∙ few in cc)) (λ p. p.1) (leb_tells (total t) 1024) in

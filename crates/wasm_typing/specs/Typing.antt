@@ -1,5 +1,6 @@
 -- Typing (WebAssembly core specification, "Validation", "Instructions"). Operand lists begin at their top.
 use Rattle.std.specs.Prelude.{◌≡◌, ℕ, ◌+◌, ◌-◌, ◌^◌, ◌<◌, ◌≤◌, List, [], ◌∷◌, ◌++◌, Option, Some, None, Bool, true, false, nat_lt, nat_le, if◌then◌else◌, slice_get, option_to_list, option_map, option_and_then, length, reverse, take, ◌&&◌, ◌⊎◌, is_some}
+use Rattle.sim_base.specs.Refusals.{ValidIndex, ValidType, ValidLimit}
 use Rattle.wasm_code.specs.declared.types.ValType.{ValType}
 use Rattle.wasm_code.specs.declared.types.ValType.TheVariants.{I32, I64, F32, F64}
 use Rattle.wasm_code.specs.declared.types.FuncType.{FuncType}
@@ -200,9 +201,9 @@ module _ (c : Context) (code : List Instr) where
   -- The number where an instruction fails: 70 for an index or label, 79 where only the operands are too many, else 71.
   abbrev pub NumberAt : ℕ → ℕ → Type 0
   NumberAt i number =
-      (number ≡ 70) × Lacks i
-      ⊎ (number ≡ 79) × Exists i × ((n : ℕ) × CanBegin c n (take (i + 1) code))
-      ⊎ (number ≡ 71) × Exists i × ((n : ℕ) → CanBegin c n (take (i + 1) code) → ⊥)
+      (number ≡ ValidIndex) × Lacks i
+      ⊎ (number ≡ ValidLimit) × Exists i × ((n : ℕ) × CanBegin c n (take (i + 1) code))
+      ⊎ (number ≡ ValidType) × Exists i × ((n : ℕ) → CanBegin c n (take (i + 1) code) → ⊥)
 
   -- At most so many operands stand at each place of the body.
   abbrev pub IsShallow : Type 0

@@ -8,6 +8,7 @@ use crate::checker::Checker;
 use crate::context::BodyContext;
 use crate::steps::step;
 use sim_base::OutOfMemory;
+use sim_base::refusals::{VALID_INDEX, VALID_LIMIT, VALID_TYPE};
 use std::alloc::Global;
 use wasm_code::{FloatInstr, Instr};
 
@@ -30,13 +31,22 @@ pub fn failing(
     let mut checker = Checker::new(alloc, context.returns)?;
     for (i, instr) in code.iter().enumerate() {
         if !exists(context, checker.around.len(), instr) {
-            return Ok(Some(Failure { at: i, number: 70 }));
+            return Ok(Some(Failure {
+                at: i,
+                number: VALID_INDEX,
+            }));
         }
         if !step(&mut checker, alloc, context, instr)? {
-            return Ok(Some(Failure { at: i, number: 71 }));
+            return Ok(Some(Failure {
+                at: i,
+                number: VALID_TYPE,
+            }));
         }
         if !checker.is_within() {
-            return Ok(Some(Failure { at: i, number: 79 }));
+            return Ok(Some(Failure {
+                at: i,
+                number: VALID_LIMIT,
+            }));
         }
     }
     Ok(None)

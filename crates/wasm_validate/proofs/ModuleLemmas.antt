@@ -4,6 +4,7 @@ use Rattle.sim_base.specs.declared.fault.Refusal.{Refusal}
 use Rattle.sim_base.specs.declared.fault.Place.{Place}
 use Rattle.sim_base.specs.declared.fault.Place.TheVariants as places
 use Rattle.sim_base.specs.declared.fault.Fault.TheVariants as faults
+use Rattle.sim_base.specs.Refusals.{ChipInit}
 use Rattle.wasm_code.specs.declared.types.ValType.{ValType}
 use Rattle.wasm_decode.specs.declared.module.Body.{Body}
 use Rattle.wasm_decode.specs.declared.module.Module.{Module}
@@ -89,8 +90,8 @@ module _ (m : Module) where
   pub body_breaks : (r : Refusal) → outside m ≡ None → BodyFails m 0 m.bodies r → IsRefused m (faults.Refused r)
   body_breaks r o b = refused r (inr (inl (o, b)))
 
-  pub without_init : outside m ≡ None → AllTyped m 0 m.bodies → chip_init m ≡ None → IsRefused m (faults.Refused (record { number = 77; place = places.Whole }))
-  without_init o t n = refused (record { number = 77; place = places.Whole }) (inr (inr (o, t, n, refl)))
+  pub without_init : outside m ≡ None → AllTyped m 0 m.bodies → chip_init m ≡ None → IsRefused m (faults.Refused (record { number = ChipInit; place = places.Whole }))
+  without_init o t n = refused (record { number = ChipInit; place = places.Whole }) (inr (inr (o, t, n, refl)))
 
 pub number_is : (x n i : ℕ) → x ≡ n → capped (min (x + i) 18446744073709551615) ≡ capped (n + i)
 number_is x n i e = omega (arith, e)

@@ -4,6 +4,7 @@ use Rattle.std.specs.Prelude.{ℕ, ◌+◌, ◌*◌, List, [], ◌∷◌, ◌++�
 use Rattle.std.specs.Str.{bytes_eq}
 use Rattle.sim_base.specs.declared.fault.Refusal.{Refusal}
 use Rattle.sim_base.specs.declared.fault.Place.TheVariants as places
+use Rattle.sim_base.specs.Refusals.{ValidIndex, ValidConst, ValidExport, ValidForm, ValidSegment, ValidLimit}
 use Rattle.wasm_code.specs.declared.types.ValType.{ValType}
 use Rattle.wasm_code.specs.declared.types.ValType.TheVariants.{I32, I64, F32, F64}
 use Rattle.wasm_code.specs.declared.types.FuncType.{FuncType}
@@ -213,14 +214,14 @@ module _ (m : Module) where
   starts = option_to_list m.start
 
   abbrev pub start_form : Option Refusal
-  start_form = first_fault 74 8 start_fits 0 starts
+  start_form = first_fault ValidForm 8 start_fits 0 starts
 
   abbrev pub forms : Option Refusal
   forms =
-      or_then (first_fault 74 1 has_few_results 0 m.types)
-      (or_then (first_fault 74 2 import_fits 0 m.imports)
-      (or_then (first_fault 74 4 table_fits 0 m.tables)
-      (or_then (first_fault 74 5 memory_form 0 m.memories)
+      or_then (first_fault ValidForm 1 has_few_results 0 m.types)
+      (or_then (first_fault ValidForm 2 import_fits 0 m.imports)
+      (or_then (first_fault ValidForm 4 table_fits 0 m.tables)
+      (or_then (first_fault ValidForm 5 memory_form 0 m.memories)
       start_form)))
 
   -- ---- 70: indexes
@@ -275,25 +276,25 @@ module _ (m : Module) where
   segment_exists i x = nat_lt 0 (length (memories_of m)) && all_exist x.offset 0
 
   abbrev pub start_exists : Option Refusal
-  start_exists = first_fault 70 8 function_exists 0 starts
+  start_exists = first_fault ValidIndex 8 function_exists 0 starts
 
   abbrev pub indexes : Option Refusal
   indexes =
-      or_then (first_fault 70 2 import_exists 0 m.imports)
-      (or_then (first_fault 70 3 type_exists 0 m.functions)
-      (or_then (first_fault 70 6 global_exists 0 m.globals)
-      (or_then (first_fault 70 7 export_exists 0 m.exports)
+      or_then (first_fault ValidIndex 2 import_exists 0 m.imports)
+      (or_then (first_fault ValidIndex 3 type_exists 0 m.functions)
+      (or_then (first_fault ValidIndex 6 global_exists 0 m.globals)
+      (or_then (first_fault ValidIndex 7 export_exists 0 m.exports)
       (or_then start_exists
-      (or_then (first_fault 70 9 element_exists 0 m.elements)
-      (first_fault 70 11 segment_exists 0 m.segments))))))
+      (or_then (first_fault ValidIndex 9 element_exists 0 m.elements)
+      (first_fault ValidIndex 11 segment_exists 0 m.segments))))))
 
   -- ---- 72: initial expressions
 
   abbrev pub constants : Option Refusal
   constants =
-      or_then (first_fault 72 6 global_constant 0 m.globals)
-      (or_then (first_fault 72 9 element_constant 0 m.elements)
-      (first_fault 72 11 segment_constant 0 m.segments))
+      or_then (first_fault ValidConst 6 global_constant 0 m.globals)
+      (or_then (first_fault ValidConst 9 element_constant 0 m.elements)
+      (first_fault ValidConst 11 segment_constant 0 m.segments))
 
   -- ---- 73: export names
 
@@ -301,7 +302,7 @@ module _ (m : Module) where
   export_is_new i x = all_differ (take i m.exports) x.name
 
   abbrev pub names : Option Refusal
-  names = first_fault 73 7 export_is_new 0 m.exports
+  names = first_fault ValidExport 7 export_is_new 0 m.exports
 
   -- ---- 78: segments
 
@@ -313,16 +314,16 @@ module _ (m : Module) where
 
   abbrev pub insides : Option Refusal
   insides =
-      or_then (first_fault 78 9 element_inside 0 m.elements)
-      (first_fault 78 11 segment_inside 0 m.segments)
+      or_then (first_fault ValidSegment 9 element_inside 0 m.elements)
+      (first_fault ValidSegment 11 segment_inside 0 m.segments)
 
   -- ---- 79: limits of the profile
 
   abbrev pub sizes : Option Refusal
   sizes =
-      or_then (first_fault 79 2 import_small 0 m.imports)
-      (or_then (first_fault 79 4 table_small 0 m.tables)
-      (first_fault 79 5 memory_small 0 m.memories))
+      or_then (first_fault ValidLimit 2 import_small 0 m.imports)
+      (or_then (first_fault ValidLimit 4 table_small 0 m.tables)
+      (first_fault ValidLimit 5 memory_small 0 m.memories))
 
   -- the first rule outside bodies that fails, and where
   unfoldable pub outside : Option Refusal

@@ -4,6 +4,7 @@ use Rattle.sim_base.specs.declared.fault.Fault.{Fault}
 use Rattle.sim_base.specs.declared.fault.Fault.TheVariants as faults
 use Rattle.sim_base.specs.declared.fault.Refusal.{Refusal}
 use Rattle.sim_base.specs.declared.fault.Place.TheVariants as places
+use Rattle.sim_base.specs.Refusals.{ChipInit}
 use Rattle.wasm_code.specs.declared.types.ValType.{ValType}
 use Rattle.wasm_code.specs.declared.types.FuncType.{FuncType}
 use Rattle.wasm_decode.specs.declared.module.LocalRun.{LocalRun}
@@ -79,7 +80,7 @@ module _ (m : Module) where
   Breaks r =
       (outside m ≡ Some r)
       ⊎ (outside m ≡ None) × BodyFails 0 m.bodies r
-      ⊎ (outside m ≡ None) × AllTyped 0 m.bodies × (chip_init m ≡ None) × (r ≡ record { number = 77; place = places.Whole })
+      ⊎ (outside m ≡ None) × AllTyped 0 m.bodies × (chip_init m ≡ None) × (r ≡ record { number = ChipInit; place = places.Whole })
 
 -- what is imported, in order
 abbrev pub kind_of : ImportDesc → ImportKind

@@ -5,6 +5,7 @@ ghost use Rattle.wasm_validate.specs.Rules.{constants as constants_form, names a
 
 use crate::rules::{Rule, first_fault, or_then};
 use crate::space::Space;
+use sim_base::refusals::{VALID_CONST, VALID_EXPORT, VALID_LIMIT, VALID_SEGMENT};
 use sim_base::{Refusal, Text};
 use wasm_code::{FloatInstr, Instr, Limits, ValType};
 use wasm_decode::{DataSegment, ElementSegment, Export, GlobalDef, Import, ImportDesc};
@@ -22,10 +23,20 @@ pub fn constants(space: &Space) -> Option<Refusal>
 {
     let known = space.module;
     or_then(
-        first_fault::<GlobalDef, Constant>(&Constant, known.globals.as_slice(), 72, 6),
+        first_fault::<GlobalDef, Constant>(&Constant, known.globals.as_slice(), VALID_CONST, 6),
         or_then(
-            first_fault::<ElementSegment, Constant>(&Constant, known.elements.as_slice(), 72, 9),
-            first_fault::<DataSegment, Constant>(&Constant, known.segments.as_slice(), 72, 11),
+            first_fault::<ElementSegment, Constant>(
+                &Constant,
+                known.elements.as_slice(),
+                VALID_CONST,
+                9,
+            ),
+            first_fault::<DataSegment, Constant>(
+                &Constant,
+                known.segments.as_slice(),
+                VALID_CONST,
+                11,
+            ),
         ),
     )
 }
@@ -94,7 +105,7 @@ pub fn names<'s, 'm>(space: &'s Space<'m>) -> Option<Refusal>
     ensures { result ≡ names_form space.now.module.now }
 {
     let rule = NewName { space };
-    first_fault::<Export, NewName>(&rule, space.module.exports.as_slice(), 73, 7)
+    first_fault::<Export, NewName>(&rule, space.module.exports.as_slice(), VALID_EXPORT, 7)
 }
 
 /// No earlier export has the name.
@@ -141,8 +152,18 @@ pub fn insides<'s, 'm>(space: &'s Space<'m>) -> Option<Refusal>
 {
     let rule = Inside { space };
     or_then(
-        first_fault::<ElementSegment, Inside>(&rule, space.module.elements.as_slice(), 78, 9),
-        first_fault::<DataSegment, Inside>(&rule, space.module.segments.as_slice(), 78, 11),
+        first_fault::<ElementSegment, Inside>(
+            &rule,
+            space.module.elements.as_slice(),
+            VALID_SEGMENT,
+            9,
+        ),
+        first_fault::<DataSegment, Inside>(
+            &rule,
+            space.module.segments.as_slice(),
+            VALID_SEGMENT,
+            11,
+        ),
     )
 }
 
@@ -211,10 +232,15 @@ pub fn sizes(space: &Space) -> Option<Refusal>
 {
     let known = space.module;
     or_then(
-        first_fault::<Import, SmallImport>(&SmallImport, known.imports.as_slice(), 79, 2),
+        first_fault::<Import, SmallImport>(&SmallImport, known.imports.as_slice(), VALID_LIMIT, 2),
         or_then(
-            first_fault::<Limits, SmallTable>(&SmallTable, known.tables.as_slice(), 79, 4),
-            first_fault::<Limits, SmallMemory>(&SmallMemory, known.memories.as_slice(), 79, 5),
+            first_fault::<Limits, SmallTable>(&SmallTable, known.tables.as_slice(), VALID_LIMIT, 4),
+            first_fault::<Limits, SmallMemory>(
+                &SmallMemory,
+                known.memories.as_slice(),
+                VALID_LIMIT,
+                5,
+            ),
         ),
     )
 }

@@ -5,6 +5,7 @@ ghost use Rattle.wasm_validate.specs.Rules.{forms as forms_form, fits as fits_fo
 use crate::rules::{Rule, first_fault, or_then, refused};
 use crate::space::Space;
 use sim_base::Refusal;
+use sim_base::refusals::VALID_FORM;
 use wasm_code::{FuncType, Limits};
 use wasm_decode::{Import, ImportDesc};
 
@@ -19,13 +20,13 @@ pub fn forms<'s, 'm>(space: &'s Space<'m>) -> Option<Refusal>
     let memories = MemoryForm { space };
     let known = space.module;
     or_then(
-        first_fault(&TypeForm, known.types.as_slice(), 74, 1),
+        first_fault(&TypeForm, known.types.as_slice(), VALID_FORM, 1),
         or_then(
-            first_fault(&imports, known.imports.as_slice(), 74, 2),
+            first_fault(&imports, known.imports.as_slice(), VALID_FORM, 2),
             or_then(
-                first_fault(&tables, known.tables.as_slice(), 74, 4),
+                first_fault(&tables, known.tables.as_slice(), VALID_FORM, 4),
                 or_then(
-                    first_fault(&memories, known.memories.as_slice(), 74, 5),
+                    first_fault(&memories, known.memories.as_slice(), VALID_FORM, 5),
                     start(space),
                 ),
             ),
@@ -162,7 +163,7 @@ fn start(space: &Space) -> Option<Refusal>
             if is_plain_function(space, f, true) {
                 None
             } else {
-                Some(refused(74, 8, 0))
+                Some(refused(VALID_FORM, 8, 0))
             }
         }
         None => None,

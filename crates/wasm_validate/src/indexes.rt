@@ -7,6 +7,7 @@ ghost use Rattle.wasm_typing.specs.Contexts.{context_of};
 use crate::rules::{Rule, first_fault, or_then, refused};
 use crate::space::Space;
 use sim_base::Refusal;
+use sim_base::refusals::VALID_INDEX;
 use wasm_code::Instr;
 use wasm_decode::{DataSegment, ElementSegment, Export, Extern, GlobalDef, Import, ImportDesc};
 use wasm_typing::{BodyContext, are_below, exists};
@@ -17,26 +18,26 @@ pub fn indexes<'s, 'm>(space: &'s Space<'m>) -> Option<Refusal>
     let rule = Exists { space };
     let known = space.module;
     or_then(
-        first_fault::<Import, Exists>(&rule, known.imports.as_slice(), 70, 2),
+        first_fault::<Import, Exists>(&rule, known.imports.as_slice(), VALID_INDEX, 2),
         or_then(
-            first_fault::<u32, Exists>(&rule, known.functions.as_slice(), 70, 3),
+            first_fault::<u32, Exists>(&rule, known.functions.as_slice(), VALID_INDEX, 3),
             or_then(
-                first_fault::<GlobalDef, Exists>(&rule, known.globals.as_slice(), 70, 6),
+                first_fault::<GlobalDef, Exists>(&rule, known.globals.as_slice(), VALID_INDEX, 6),
                 or_then(
-                    first_fault::<Export, Exists>(&rule, known.exports.as_slice(), 70, 7),
+                    first_fault::<Export, Exists>(&rule, known.exports.as_slice(), VALID_INDEX, 7),
                     or_then(
                         start(space),
                         or_then(
                             first_fault::<ElementSegment, Exists>(
                                 &rule,
                                 known.elements.as_slice(),
-                                70,
+                                VALID_INDEX,
                                 9,
                             ),
                             first_fault::<DataSegment, Exists>(
                                 &rule,
                                 known.segments.as_slice(),
-                                70,
+                                VALID_INDEX,
                                 11,
                             ),
                         ),
@@ -147,7 +148,7 @@ fn start(space: &Space) -> Option<Refusal>
             if (f as usize) < space.functions.len() {
                 None
             } else {
-                Some(refused(70, 8, 0))
+                Some(refused(VALID_INDEX, 8, 0))
             }
         }
         None => None,

@@ -14,6 +14,7 @@ use crate::init::chip_init;
 use crate::rules::or_then;
 use crate::space::Space;
 use crate::valid::Valid;
+use sim_base::refusals::CHIP_INIT;
 use sim_base::{Fault, Place, Refusal};
 use std::alloc::Global;
 use wasm_decode::Module;
@@ -49,7 +50,7 @@ fn verdict_in(alloc: Global, space: &Space) -> Result<u32, Fault>
     match chip_init(space) {
         Some(init) => Ok(init),
         None => Err(Fault::Refused(Refusal {
-            number: 77,
+            number: CHIP_INIT,
             place: Place::Whole,
         })),
     }
