@@ -19,7 +19,7 @@ pub if_always : {X : Type 0} (o : Option X) (P : X → Type 0) → ((x : X) → 
 if_always None P f = tt
 if_always (Some x) P f = f x
 
-gone : (files : Files) (name : List ℕ) → get (remove files name) name ≡ None
+pub gone : (files : Files) (name : List ℕ) → get (remove files name) name ≡ None
 gone files name = get-remove nat_list_cmp_total files name name ∙ ap (λ (b : Bool). cond b None (get files name)) ((eq_by_cmp_equiv nat_list_cmp_total).refl name)
 
 -- were the file not there, that would be the first event

@@ -1,18 +1,18 @@
 -- Each request has one answer, and those that run no board count no wakes.
-use Rattle.std.proofs.Common.{◌≡◌, ◌∙◌, ℕ, List, Option, None, Some, Ok, refl}
-use Rattle.sim_base.specs.Outside.{Outside, Files}
+use Rattle.std.proofs.Common.{ℕ, List, Option, None, Some}
+use Rattle.sim_base.specs.Outside.{Outside}
 use Rattle.outcome_model.specs.Outcome.{Outcome, Accepted, NoRequest, Stopped, ReadFailed, WriteFailed, OutOfMemory, status_of}
 use Rattle.outcome_model.specs.Happens.{Ends}
 use Rattle.outcome_model.specs.Happens as outcomes
 use Rattle.outcome_model.proofs.EndLemmas.{accepted_counts, counts_asked}
 use Rattle.cli_project.specs.Answer.{CheckAnswer}
 use Rattle.cli_project.proofs.ProjectLemmas.{one_check, check_only}
-use Rattle.outcome_model.specs.Stop.{Missing, Refused, Texts, accepted}
+use Rattle.outcome_model.specs.Stop.{Missing, Refused}
 use Rattle.cli_module.specs.Answer.{ModuleAnswer}
 use Rattle.words_model.specs.Request.{Request, Bare, Check, Module, Run}
 use Rattle.outcome_model.specs.Promises.{IsOne}
 use Rattle.cli_bare.proofs.AnswerLemmas.{one_bare}
-use Rattle.cli_module.proofs.AnswerLemmas.{one_module}
+use Rattle.cli_module.proofs.AnswerLemmas.{one_module, module_only}
 use Rattle.cli_run.proofs.RunLemmas.{one_run}
 use Rattle.sim_cli.specs.Answers.{Answers, outputs_to}
 use Rattle.sim_cli.specs.Promises.{Happens, Counts, CountsWakes}
@@ -22,10 +22,6 @@ one (Bare hex us) = one_bare hex us
 one (Check folder) = one_check folder
 one (Module name) = one_module name
 one (Run folder us named) = one_run folder us named.script (outputs_to named)
-
-module_only : (name : List ℕ) (files : Files) (t : Texts) → ModuleAnswer name files (Ok t) → t ≡ accepted
-unfolding ModuleAnswer
-module_only name files t x = x.0
 
 pub check_counts : (folder : List ℕ) (o : Outcome) (a b : Outside) (n : ℕ) → Ends (CheckAnswer folder) o a b → outcomes.Counts (CheckAnswer folder) o a n n
 check_counts folder o a b n ends = accepted_counts (CheckAnswer folder) (check_only folder) o a b n ends

@@ -1,2 +1,0 @@
-//! When a chip's module is accepted, as definitions: its bytes are decoded, and then validated.
-#![tactic(auto)]
