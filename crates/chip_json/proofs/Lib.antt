@@ -1,2 +1,1 @@
-pub mod DocumentLemmas
 mod NameLemmas

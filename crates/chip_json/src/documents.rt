@@ -1,40 +1,18 @@
 //! A chip's file of pins as a JSON document.
-ghost use Rattle.std.specs.Prelude.{◌≡◌, codes, map, option_map, IfOk};
+ghost use Rattle.std.specs.Prelude.{◌≡◌, map, option_map, IfOk};
 ghost use Rattle.sim_base.specs.Reads.{Reads};
-ghost use Rattle.sim_base.specs.Refusals.{ChipText};
 ghost use Rattle.serde_json.specs.View.{view};
-ghost use Rattle.document_model.specs.Json.{array_at, json_document};
 ghost use Rattle.chip_json.specs.ChipJson.{chip_of, chip_text, pins_from, strings_of};
 ghost use Rattle.chip_json.specs.Texts.{texts_in};
 
 use crate::names::{have_good_names, pins_of};
 use crate::refusals::refused;
+use diagram_json::{array_of, read_json};
 use document_model::ChipPins;
 use serde_json::Value;
 use sim_base::refusals::{CHIP_LIMIT, CHIP_PIN_NAME, CHIP_SHAPE, CHIP_TEXT};
 use sim_base::{Fault, OutOfMemory};
 use std::alloc::Global;
-
-fn read_document(alloc: Global, bytes: &[u8]) -> Result<Value, Fault>
-    ensures { Reads view result (json_document ChipText bytes.now) }
-{
-    match Value::from_slice(alloc, bytes) {
-        Ok(document) => Ok(document),
-        Err(error) => if error.is_memory() {
-            Err(Fault::OutOfMemory)
-        } else {
-            Err(refused(CHIP_TEXT))
-        },
-    }
-}
-
-#[tactic(auto, using(crate::proofs::DocumentLemmas::elements_view))]
-fn pins_in(document: &Value) -> Option<&[Value]>
-    ensures { option_map (λ items. map view items.now) result ≡ array_at (codes "pins") (view document.now) }
-{
-    let items = document.get("pins").and_then(Value::as_array)?;
-    Some(items.as_slice())
-}
 
 /// The items of an array that are all strings.
 fn texts_of(alloc: Global, items: &[Value]) -> Result<Option<Vec<&str>>, OutOfMemory>
@@ -68,7 +46,7 @@ fn chip(alloc: Global, document: &Value) -> Result<ChipPins, Fault>
     if document.get("name").and_then(Value::as_str).is_none() {
         return Err(refused(CHIP_SHAPE));
     }
-    let items = match pins_in(document) {
+    let items = match array_of(document, "pins") {
         Some(items) => items,
         None => return Err(refused(CHIP_SHAPE)),
     };
@@ -83,8 +61,6 @@ fn chip(alloc: Global, document: &Value) -> Result<ChipPins, Fault>
 pub fn read_chip_json(alloc: Global, bytes: &[u8]) -> Result<ChipPins, Fault>
     ensures { Reads (λ pins. pins) result (chip_text bytes.now) }
 {
-    match read_document(alloc, bytes) {
-        Ok(document) => chip(alloc, &document),
-        Err(fault) => Err(fault),
-    }
+    let document = read_json(alloc, CHIP_TEXT, bytes)?;
+    chip(alloc, &document)
 }

@@ -83,10 +83,7 @@ pub(crate) fn read_items(alloc: Global, values: &[Value]) -> Result<List<ChipFil
 {
     let mut chips = List::new(alloc);
     for (i, value) in values.iter().enumerate() {
-        match read_chip(alloc, chips.as_slice(), i as u32 + 1, value) {
-            Ok(chip) => chips.push(chip)?,
-            Err(fault) => return Err(fault),
-        }
+        chips.push(read_chip(alloc, chips.as_slice(), i as u32 + 1, value)?)?;
     }
     Ok(chips)
 }

@@ -1,6 +1,6 @@
 //! The project file, `wokwi.toml`: its firmware and its chips.
 //! The reader answers what the text stands for, or the first rule that is broken with its place
-//! (`document_model`, Project); want of memory is the one other answer.
+//! (`document_model`, Project); out of memory is the one other answer.
 #![tactic(auto)]
 
 mod chips;

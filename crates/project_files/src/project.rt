@@ -51,14 +51,9 @@ fn read_firmware(alloc: Global, document: &Value) -> Result<Text, Fault>
 fn project(alloc: Global, document: &Value) -> Result<Project, Fault>
     ensures { Reads (λ project. project) result (project_of (view document.now)) }
 {
-    let firmware = match read_firmware(alloc, document) {
-        Ok(firmware) => firmware,
-        Err(fault) => return Err(fault),
-    };
-    match read_chips(alloc, document) {
-        Ok(chips) => Ok(Project { firmware, chips }),
-        Err(fault) => Err(fault),
-    }
+    let firmware = read_firmware(alloc, document)?;
+    let chips = read_chips(alloc, document)?;
+    Ok(Project { firmware, chips })
 }
 
 /// The project of a `wokwi.toml`. Keys that no rule names are passed over.
@@ -67,8 +62,6 @@ fn project(alloc: Global, document: &Value) -> Result<Project, Fault>
 pub fn read_project(alloc: Global, bytes: &[u8]) -> Result<Project, Fault>
     ensures { Reads (λ project. project) result (project_text bytes.now) }
 {
-    match read_document(alloc, bytes) {
-        Ok(document) => project(alloc, &document),
-        Err(fault) => Err(fault),
-    }
+    let document = read_document(alloc, bytes)?;
+    project(alloc, &document)
 }

@@ -5,6 +5,7 @@
 
 mod base;
 mod catalogue;
+mod chip;
 mod diagram;
 mod hex;
 mod project;
@@ -15,6 +16,7 @@ mod wave;
 
 use base::base_answer;
 use catalogue::catalogue_answer;
+use chip::chip_answer;
 use diagram::diagram_answer;
 use hex::hex_answer;
 use project::project_answer;
@@ -60,6 +62,7 @@ fn made(alloc: Global, name: &str, text: &str, wanted: &str) -> Result<String, O
     match name {
         "hex.rows" => hex_answer(alloc, &bytes, wanted),
         "diagrams.rows" => diagram_answer(alloc, &bytes),
+        "chips.rows" => chip_answer(alloc, &bytes),
         "projects.rows" => project_answer(alloc, &bytes),
         "scripts.rows" => script_answer(alloc, &bytes),
         "waves.rows" => wave_answer(alloc, &bytes),
