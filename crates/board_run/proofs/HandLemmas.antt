@@ -1,5 +1,5 @@
 -- A watcher is handed one part after another.
-use Rattle.std.proofs.Common.{◌≡◌, ℕ, zero, suc, ◌+◌, ◌<◌, List, [], ◌∷◌, ◌++◌, ◌∙◌, Option, None, Some, refl, ap, sym, subst, append_assoc, take, drop, length, add-one, Bool}
+use Rattle.std.proofs.Common.{◌≡◌, ℕ, zero, suc, ◌+◌, ◌<◌, List, [], ◌∷◌, ◌++◌, ◌∙◌, Option, None, Some, refl, ap, sym, subst, append_assoc, take, drop, length, add-one, Bool, true}
 use Rattle.std.specs.Prelude.{slice_get}
 use Rattle.std.specs.Option.{option_to_list}
 use Rattle.sim_base.specs.Rows.{Row, Appends, StopsWithin, AreFronts, Handed}
@@ -124,3 +124,11 @@ bytes_stop whole faults stands stopped a b c xs i x h p e =
 pub one_byte : (b : Option ℕ) → options (b ∷ []) ≡ option_to_list b
 one_byte None = refl
 one_byte (Some x) = refl
+
+-- a watcher that was handed nothing
+pub handed_nothing : {W : Type 0} (whole : W → Bool) (faults : W → ℕ) (stands : W → List Row → List ℕ → Type 0) (w : W) → whole w ≡ true → Handed whole faults stands w w [] []
+handed_nothing whole faults stands w is = record {
+  is_whole = is;
+  no_fault = refl;
+  appended = appends_none stands w;
+}

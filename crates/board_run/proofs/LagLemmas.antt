@@ -1,6 +1,6 @@
 -- A cycle in which the active parts are woken is a leg of the way.
 use Rattle.std.proofs.Common.{◌≡◌, ℕ, zero, suc, ◌+◌, ◌-◌, ◌<◌, ◌≤◌, List, length, map, take, drop, Bool, true, false, Option, None, Some, refl, ap, sym, ◌∙◌, arith, subst, get_or}
-use Rattle.std.specs.Prelude.{◌≢◌, not, if◌then◌else◌, slice_get, slice_index}
+use Rattle.std.specs.Prelude.{◌≢◌, not, if◌then◌else◌, slice_get}
 use Rattle.std.proofs.lemmas.Option.{slice_get_within}
 use Rattle.std.proofs.lemmas.List.{length-map}
 use Rattle.sim_base.specs.declared.signal.Level.{Level}
@@ -11,7 +11,7 @@ use Rattle.part_law.specs.Machine.{Machine, Laws}
 use Rattle.board_model.specs.Board.{level_at, own_nets, levels_of, part_step, steps_from, board_step, states, bytes_of, bytes, options}
 use Rattle.board_model.specs.Rows.{Shown, same_list, same_level, shown_before, row_if, rows}
 use Rattle.board_model.specs.Fits.{Fits}
-use Rattle.board_model.proofs.Lists.{all_taken, take_whole, some_same, get_within, get_map_some, some_map, same_lists}
+use Rattle.board_model.proofs.Lists.{some_same, get_within, get_map_some, some_map, same_lists}
 use Rattle.board_laws.specs.Alike.{Alike, SameShow}
 use Rattle.board_laws.specs.Active.{sum_below, active_in, active_cycles, active_pairs}
 use Rattle.board_laws.specs.Stands.{Stands}
@@ -20,13 +20,14 @@ use Rattle.board_laws.proofs.BesideLaw.{same_levels, same_shown, same_drives, sa
 use Rattle.board_model.proofs.Steps.{length-steps_from}
 use Rattle.board_model.proofs.RoomLemmas.{SameRoom, fits_room, chips_room}
 use Rattle.board_laws.proofs.StandsLaw.{stands_shows, stands_holds}
-use Rattle.board_run.specs.Seen.{Seen, Suits, IsOf, IsTold, AreUnset, AreDiffering, retold, levels_on, shown, shown_at}
+use Rattle.board_run.specs.Seen.{Seen, Suits, IsOf, IsTold, AreDiffering, retold, levels_on, shown, shown_at}
 use Rattle.board_run.specs.Upcoming.{AreBehind}
-use Rattle.board_run.specs.Lagging.{glided, Awaits, Turns, AreDue, own_part}
+use Rattle.board_run.specs.Lagging.{glided, Awaits, Turns, AreDue}
 use Rattle.board_run.specs.Legs.{Kept, Lags, Leg}
 use Rattle.board_run.proofs.ScriptLemmas.{values_now}
 use Rattle.board_run.proofs.ShowLemmas.{shown_is}
-use Rattle.board_run.proofs.WakeLemmas.{own_levels}
+use Rattle.board_run.specs.declared.part_set.PartSet.{PartSet}
+use Rattle.board_run.specs.Parts.{has_part, AreNone}
 use Rattle.board_run.proofs.ShowLemmas.{still_of, not_first}
 use Rattle.board_run.proofs.ReadLemmas.{retold_suits, retold_is}
 use Rattle.board_run.proofs.TurnLemmas.{turns_stand}
@@ -87,33 +88,31 @@ module _ {S P : Type 0} (m : Machine S) (laws : Laws m) (w : Wiring) (state : P 
       cc
 
   -- the parts are awaited at the board's states
-  pub lags_await : (inputs : List Input) (t i j : ℕ) (parts : List P) (kept : Kept) (seen : Seen) (flags : List Bool) → Lags m w state now wakes t parts kept → Suits w seen →
-      AreDiffering m w kept.seen.circuit.levels seen.circuit.levels (map state parts) flags → i ≤ j → AreBehind inputs i t → AreBehind inputs j (t + 1) →
-      Awaits m w state now (take (j - i) (drop i inputs)) inputs seen.circuit.levels seen.own flags t parts (Ts t parts)
-  lags_await inputs t i j parts kept seen flags lags suits differ on before after =
+  pub lags_await : (inputs : List Input) (t i j : ℕ) (parts : List P) (kept : Kept) (seen : Seen) (set : PartSet) → Lags m w state now wakes t parts kept →
+      AreDiffering m w kept.seen.circuit.levels seen.circuit.levels (map state parts) set → i ≤ j → AreBehind inputs i t → AreBehind inputs j (t + 1) →
+      Awaits m w state now (take (j - i) (drop i inputs)) inputs seen.circuit.levels set t parts (Ts t parts)
+  lags_await inputs t i j parts kept seen set lags differ on before after =
       let like = lags_stand t parts kept lags in
       record {
         stands = like;
-        own_are = suits.own_are;
-        differ = λ k s b es eb later.
+        differs = λ k s es later.
             let r = get_map_some (glided m state now wakes t) parts k s es in
             let stands = like.each k r.0 s r.1 es in
             let pins = ap length (stands_shows m laws t (now r.0) (state r.0) s stands).drives in
-            let d = differ k (state r.0) b (some_map state parts k r.0 r.1) eb in
+            let d = differ k (state r.0) (some_map state parts k r.0 r.1) in
             let held : m.held s ≡ levels_on m w kept.seen.circuit.levels k (state r.0) = stands_holds m laws t (now r.0) (state r.0) s stands ∙ lags.holds k r.0 r.1 later in
             d ∙ ap (λ (n : ℕ). not (same_list same_level (map (level_at seen.circuit.levels) (own_nets w k n)) (levels_on m w kept.seen.circuit.levels k (state r.0)))) pins
             ∙ ap (λ (l : List Level). not (same_list same_level (levels_on m w seen.circuit.levels k s) l)) (sym held);
         values = λ k. values_now inputs i j t k on before after;
       }
 
-  -- a part whose flag is set does not hold the levels of its pins
-  pub lags_differ : (t : ℕ) (parts : List P) (kept : Kept) (seen : Seen) (flags : List Bool) → Lags m w state now wakes t parts kept → Suits w seen → AreDiffering m w kept.seen.circuit.levels seen.circuit.levels (map state parts) flags →
-      (k : ℕ) (p : P) → slice_get parts k ≡ Some p → slice_get flags k ≡ Some true → 0 < t → m.held (state p) ≢ own_part w k (length (m.drives (state p))) seen.own
-  lags_differ t parts kept seen flags lags suits differ k p ep set later same =
-      let d = differ k (state p) true (some_map state parts k p ep) set in
-      let now_is : own_part w k (length (m.drives (state p))) seen.own ≡ levels_on m w seen.circuit.levels k (state p) = own_levels w seen.circuit.levels seen.own k (slice_index w.first_pin k) (length (m.drives (state p))) suits.own_are refl in
-      let alike : levels_on m w kept.seen.circuit.levels k (state p) ≡ levels_on m w seen.circuit.levels k (state p) = sym (lags.holds k p ep later) ∙ same ∙ now_is in
-      let e : true ≡ false = d ∙ ap (λ (l : List Level). not (same_list same_level (levels_on m w seen.circuit.levels k (state p)) l)) alike ∙ ap not (list_same same_level level_same (levels_on m w seen.circuit.levels k (state p))) in
+  -- a part that is among those that differ does not hold the levels of its pins
+  pub lags_differ : (t : ℕ) (parts : List P) (kept : Kept) (seen : Seen) (set : PartSet) → Lags m w state now wakes t parts kept → AreDiffering m w kept.seen.circuit.levels seen.circuit.levels (map state parts) set →
+      (k : ℕ) (p : P) → slice_get parts k ≡ Some p → has_part set k ≡ true → 0 < t → m.held (state p) ≢ levels_on m w seen.circuit.levels k (state p)
+  lags_differ t parts kept seen set lags differ k p ep is later same =
+      let d = differ k (state p) (some_map state parts k p ep) in
+      let alike : levels_on m w kept.seen.circuit.levels k (state p) ≡ levels_on m w seen.circuit.levels k (state p) = sym (lags.holds k p ep later) ∙ same in
+      let e : true ≡ false = sym is ∙ d ∙ ap (λ (l : List Level). not (same_list same_level (levels_on m w seen.circuit.levels k (state p)) l)) alike ∙ ap not (list_same same_level level_same (levels_on m w seen.circuit.levels k (state p))) in
       cc
 
   module _ (inputs : List Input) (t : ℕ) (old new : List P) (seen : Seen) (answers : List (Option ℕ)) (changed : Bool) (long : length new ≡ length old)
@@ -179,9 +178,9 @@ module _ {S P : Type 0} (m : Machine S) (laws : Laws m) (w : Wiring) (state : P 
         )
 
     -- the invariant at the next cycle
-    pub event_lags : (j : ℕ) (dues : List (Option ℕ)) (flags : List Bool) (ds : List Drive) (cs : List Bool) → length old ≤ 64 → Fits m w (map state old) → length dues ≡ length old → length answers ≡ length old → length flags ≡ length old → AreDue m state now wakes new dues →
-        AreUnset flags → IsTold m (map state new) (retold seen ds cs).circuit → Lags m w state now wakes (t + 1) new (record { input = j; stale = changed; dues = dues; differ = flags; seen = retold seen ds cs; answers = answers })
-    event_lags j dues flags ds cs few fits dues_long answers_long flags_long due unset told =
+    pub event_lags : (j : ℕ) (dues after : List (Option ℕ)) (own : List Level) (ds : List Drive) (cs : List Bool) → length old ≤ 64 → Fits m w (map state old) → length dues ≡ length old → length after ≡ length old → length own ≡ length w.net_of → AreDue m state now wakes new dues →
+        AreNone after → IsTold m (map state new) (retold seen ds cs).circuit → Lags m w state now wakes (t + 1) new (record { input = j; stale = changed; dues = dues; own = own; seen = retold seen ds cs; answers = after })
+    event_lags j dues after own ds cs few fits dues_long answers_long own_long due silent told =
         let longer : length (map state old) ≡ length (map state new) = simp length-map (sym long) in
         record {
           few = subst (λ n. n ≤ 64) (sym long) few;
@@ -191,12 +190,12 @@ module _ {S P : Type 0} (m : Machine S) (laws : Laws m) (w : Wiring) (state : P 
           valid = λ k q eq. (turned_from k (before k q eq).0 q (before k q eq).1 eq).stands.valid;
           dues_long = dues_long ∙ sym long;
           answers_long = answers_long ∙ sym long;
-          differ_long = flags_long ∙ sym long;
+          own_long = own_long;
+          silent = silent;
           fits = fits_room m w (map state old) (map state new) longer same_room fits;
           suits = retold_suits m w (map state new) seen ds cs (fits_room m w (map state old) (map state new) longer same_room fits) suits told;
           chips_long = ap length is.chips_are ∙ chips_room m w.chip (map state old) (map state new) longer same_room;
           fresh = λ none. retold_is m w (map state new) seen ds cs told (still_of m w state old new seen long (λ k p q ep eq. (turned_from k p q ep eq).still none) is);
-          unset = unset;
           told = told;
           holds = λ k q eq later. (turned_from k (before k q eq).0 q (before k q eq).1 eq).held;
         }
@@ -252,4 +251,4 @@ module _ {S P : Type 0} (m : Machine S) (laws : Laws m) (w : Wiring) (state : P 
         answers_are : answers ≡ map (λ r. r.1) (steps_from m w inputs seen.circuit.levels t 0 (Ts t old))
         answers_are =
             let there : length (map (λ (r : S × Option ℕ). r.1) (steps_from m w inputs seen.circuit.levels t 0 (Ts t old))) ≡ length old = simp (length-map, length-steps_from) in
-            all_taken (length old) answers _ (omega arith) (turns.answered ∙ take_whole (length old) _ (omega (arith, there)))
+            same_lists answers _ (answers_long ∙ sym there) (λ k x y ex ey. some_same (sym ex ∙ turns.answered k (omega (arith, slice_get_within answers k x ex, answers_long)) ∙ ey))

@@ -23,7 +23,8 @@ use Rattle.board_laws.proofs.StandsLaw.{stands_shows, stands_holds, stands_valid
 use Rattle.board_laws.proofs.StretchLaw.{stretch_rows, stretch_bytes, stretch_pairs}
 use Rattle.board_laws.proofs.SteadyLaw.{steady_states, steady_before, steady_cycles, quiet_dues}
 use Rattle.board_laws.proofs.Splits.{states_split, bytes_split, shown_split, rows_split, pairs_split, cycles_split}
-use Rattle.board_run.specs.Seen.{Seen, Suits, IsOf, IsTold, AreUnset, shown, shown_at}
+use Rattle.board_run.specs.Parts.{AreNone}
+use Rattle.board_run.specs.Seen.{Seen, Suits, IsOf, IsTold, shown, shown_at}
 use Rattle.board_run.specs.Lagging.{glided, AreDue}
 use Rattle.board_run.specs.Legs.{Kept, Lags, Leg}
 use Rattle.sim_base.specs.Rows.{StopsWithin, AreFronts, Handed}
@@ -230,12 +231,12 @@ module _ {S P : Type 0} (m : Machine S) (laws : Laws m) (w : Wiring) (state : P 
       valid = lags.valid;
       dues_long = lags.dues_long;
       answers_long = lags.answers_long;
-      differ_long = lags.differ_long;
+      own_long = lags.own_long;
+      silent = lags.silent;
       fits = lags.fits;
       suits = lags.suits;
       chips_long = lags.chips_long;
       fresh = lags.fresh;
-      unset = lags.unset;
       told = lags.told;
       holds = λ k p ep later. lags.holds k p ep after;
     }
@@ -372,7 +373,7 @@ module _ {S P : Type 0} (m : Machine S) (laws : Laws m) (w : Wiring) (state : P 
   -- settled parts may go on from there
   pub settled_lags : (n : ℕ) (mid new : List P) (kept : Kept) (after : List (Option ℕ)) → Lags m w state now wakes n mid kept → length new ≡ length mid → length after ≡ length kept.dues →
       ((k : ℕ) (p q : P) → slice_get mid k ≡ Some p → slice_get new k ≡ Some q → (state q ≡ glided m state now wakes n p) × (now q ≡ n) × (wakes q ≡ wakes p)) →
-      AreDue m state now wakes new after → Lags m w state now wakes n new (record { input = kept.input; stale = kept.stale; dues = after; differ = kept.differ; seen = kept.seen; answers = kept.answers })
+      AreDue m state now wakes new after → Lags m w state now wakes n new (record { input = kept.input; stale = kept.stale; dues = after; own = kept.own; seen = kept.seen; answers = kept.answers })
   settled_lags n mid new kept after lags long dues_long settled due = record {
     few = subst (λ j. j ≤ 64) (sym long) lags.few;
     may = λ k q d eq ed.
@@ -393,12 +394,12 @@ module _ {S P : Type 0} (m : Machine S) (laws : Laws m) (w : Wiring) (state : P 
         subst (λ (a : ℕ). m.valid (state q) a ≡ true) (sym h.1) (ap (λ (s : S). m.valid s n) h.0 ∙ stands_valid m laws n (now x.0) (state x.0) (glided m state now wakes n x.0) (stands k x.0 x.1));
     dues_long = dues_long ∙ lags.dues_long ∙ sym long;
     answers_long = lags.answers_long ∙ sym long;
-    differ_long = lags.differ_long ∙ sym long;
+    own_long = lags.own_long;
+    silent = lags.silent;
     fits = fits_room m w (map state mid) (map state new) longer same_room lags.fits;
     suits = lags.suits;
     chips_long = lags.chips_long ∙ chips_room m w.chip (map state mid) (map state new) longer same_room;
     fresh = λ none. still_of m w state mid new kept.seen long (λ k p q ep eq. still k p q ep eq) (lags.fresh none);
-    unset = lags.unset;
     told = record {
       drives_are = lags.told.drives_are ∙ sym (still_same m.drives state mid new long (λ k p q ep eq. (still k p q ep eq).0));
       closed_are = lags.told.closed_are ∙ sym (still_same m.contacts state mid new long (λ k p q ep eq. (still k p q ep eq).1));
@@ -444,9 +445,9 @@ module _ {S P : Type 0} (m : Machine S) (laws : Laws m) (w : Wiring) (state : P 
 
 -- a board at cycle 0 of which nothing was read
 pub lags_start : {S P : Type 0} (m : Machine S) (w : Wiring) (state : P → S) (now wakes : P → ℕ) (parts : List P) (kept : Kept) → kept.stale ≡ true → length parts ≤ 64 → AreFresh m state now wakes parts →
-    length kept.dues ≡ length parts → AreDue m state now wakes parts kept.dues → length kept.answers ≡ length parts → length kept.differ ≡ length parts → AreUnset kept.differ → IsTold m (map state parts) kept.seen.circuit → Fits m w (map state parts) → Suits w kept.seen →
+    length kept.dues ≡ length parts → AreDue m state now wakes parts kept.dues → length kept.answers ≡ length parts → length kept.own ≡ length w.net_of → AreNone kept.answers → IsTold m (map state parts) kept.seen.circuit → Fits m w (map state parts) → Suits w kept.seen →
     length kept.seen.chip_drives ≡ length (chip_drives_of m w.chip (map state parts)) → Lags m w state now wakes 0 parts kept
-lags_start m w state now wakes parts kept stale few new dues_long due answers_long differ_long unset told fits suits chips = record {
+lags_start m w state now wakes parts kept stale few new dues_long due answers_long own_long silent told fits suits chips = record {
   few = few;
   may = λ k p d ep ed.
       let at = new.at_start k p ep in
@@ -455,12 +456,12 @@ lags_start m w state now wakes parts kept stale few new dues_long due answers_lo
   valid = λ k p ep. subst (λ (t : ℕ). m.valid (state p) t ≡ true) (sym (new.at_start k p ep)) (new.are_valid k p ep);
   dues_long = dues_long;
   answers_long = answers_long;
-  differ_long = differ_long;
+  own_long = own_long;
+  silent = silent;
   fits = fits;
   suits = suits;
   chips_long = chips;
   fresh = λ none. absurd (let e : true ≡ false = sym stale ∙ none in cc);
-  unset = unset;
   told = told;
   holds = λ k p ep (later : 0 < 0). absurd (omega arith);
 }

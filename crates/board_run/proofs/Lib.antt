@@ -5,6 +5,7 @@ pub mod ScriptLemmas
 pub mod WakeLemmas
 pub mod ReadLemmas
 pub mod ShowLemmas
+pub mod PartLemmas
 pub mod TurnLemmas
 pub mod LagLemmas
 pub mod LegLemmas

@@ -65,7 +65,7 @@ some_there [] k h = absurd (omega arith)
 some_there (p ∷ ps) zero h = (p, refl)
 some_there (p ∷ ps) (suc k) h = some_there ps k (omega arith)
 
-due_late : {S P : Type 0} (m : Machine S) (state : P → S) (now wakes : P → ℕ) (t u : ℕ) (p : P) → MayTurn m state now wakes t (Some u) p → t ≤ u
+pub due_late : {S P : Type 0} (m : Machine S) (state : P → S) (now wakes : P → ℕ) (t u : ℕ) (p : P) → MayTurn m state now wakes t (Some u) p → t ≤ u
 due_late m state now wakes t u p may = elim (below_or u t) [
   | inl less ↦
       let a = may.first.0 in

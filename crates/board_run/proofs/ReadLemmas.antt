@@ -1,25 +1,24 @@
 -- What is read of parts part by part, each at its place.
-use Rattle.std.proofs.Common.{◌≡◌, ◌≢◌, ◌⊎◌, inl, inr, ℕ, zero, suc, ◌+◌, ◌-◌, ◌<◌, ◌≤◌, List, [], ◌∷◌, ◌++◌, length, map, take, drop, Bool, true, false, Some, refl, ap, sym, ◌∙◌, arith, subst, add-one, length-append, length-set, get_or}
-use Rattle.std.specs.Prelude.{◌==◌, min, not, slice_get, slice_set, slice_index}
+use Rattle.std.proofs.Common.{◌≡◌, ◌≢◌, ◌⊎◌, inl, inr, ℕ, zero, suc, ◌+◌, ◌-◌, ◌<◌, ◌≤◌, List, [], ◌∷◌, ◌++◌, length, map, take, Bool, true, false, Some, refl, ap, sym, ◌∙◌, arith, subst, add-one, length-append, length-set}
+use Rattle.std.specs.Prelude.{◌==◌, min, not, slice_get, slice_set}
 use Rattle.std.specs.List.{flat_map}
 use Rattle.std.proofs.lemmas.Option.{slice_get_within}
-use Rattle.std.proofs.lemmas.List.{length-map}
 use Rattle.sim_base.specs.declared.signal.Level.{Level}
 use Rattle.sim_base.specs.declared.signal.Drive.{Drive}
 use Rattle.sim_base.specs.declared.wiring.Wiring.{Wiring}
 use Rattle.part_law.specs.Machine.{Machine}
 use Rattle.part_law.specs.declared.span.Span.{Span}
 use Rattle.part_law.specs.Spans.{IsIn}
-use Rattle.board_model.specs.Board.{level_at, drives_of, contacts_of}
-use Rattle.board_model.specs.Rows.{same_list, same_level, same_drive}
+use Rattle.board_model.specs.Board.{drives_of, contacts_of}
+use Rattle.board_model.specs.Rows.{same_list, same_level}
 use Rattle.board_model.specs.Fits.{Fits}
-use Rattle.board_model.proofs.Lists.{some_same, lt_or_eq, get_set_same, get_set_other, get_within, take_whole, some_map, same_lists}
-use Rattle.board_model.proofs.SameLemmas.{level_same, list_same, levels_mean, not_false}
-use Rattle.board_model.proofs.RoomLemmas.{SameRoom}
+use Rattle.board_model.proofs.Lists.{some_same, lt_or_eq, get_set_same, get_set_other, take_whole, some_map, same_lists}
+use Rattle.board_model.proofs.SameLemmas.{level_same, list_same, levels_mean}
 use Rattle.net_resolve.specs.Circuit.{Circuit, AreChanged}
 use Rattle.net_resolve.specs.Marked.{has}
-use Rattle.board_run.specs.Seen.{Seen, Suits, IsOf, retold, HasAt, Put, Gathered, IsTold, AreUnset, ArePieces, AreDiffering, piece, levels_on}
-use Rattle.board_run.proofs.WakeLemmas.{own_levels, map-take, map-drop}
+use Rattle.board_run.specs.Seen.{Seen, Suits, IsOf, retold, HasAt, Put, Gathered, IsTold, AreDiffering, levels_on}
+use Rattle.board_run.specs.declared.part_set.PartSet.{PartSet}
+use Rattle.board_run.specs.Parts.{has_part}
 
 pub put_none : {A : Type 0} (at : ℕ) (items xs : List A) → Put at 0 items xs xs
 put_none at items xs = record { long = refl; here = λ j (h : j < 0). absurd (omega arith); before = λ j h. refl; after = λ j h. refl }
@@ -269,65 +268,17 @@ module _ {S : Type 0} (m : Machine S) where
     closed_long = ap length told.closed_are ∙ sym fits.contacts;
     levels_long = suits.levels_long;
     chips_long = suits.chips_long;
-    own_are = suits.own_are;
+    on_long = suits.on_long;
+    on_are = suits.on_are;
   }
 
   -- what is of parts is so after the nets were told what those drive and connect
   pub retold_is : (w : Wiring) (ss : List S) (seen : Seen) (ds : List Drive) (cs : List Bool) → IsTold m ss (retold seen ds cs).circuit → IsOf m w ss seen → IsOf m w ss (retold seen ds cs)
   retold_is w ss seen ds cs told is = record { drives_are = told.drives_are; closed_are = told.closed_are; levels_are = is.levels_are; chips_are = is.chips_are }
 
-  pub unset_pieces : (ss : List S) (after before : List Level) (flags : List Bool) → before ≡ after → AreUnset flags → ArePieces m ss after before flags
-  unset_pieces ss after before flags same none k s b es eb =
-      let at = length (drives_of m (take k ss)) in
-      let n = length (m.drives s) in
-      none k b eb ∙ sym (ap (λ (l : List Level). not (same_list same_level (piece at n after) (piece at n l))) same ∙ ap not (list_same same_level level_same (piece at n after)))
-
-  -- the flag of one more part
-  pub differ_more : (levels : List Level) (nets : List ℕ) (own : List Level) (ss : List S) (i at n : ℕ) (flags : List Bool) (same : Bool) (s : S) → slice_get ss i ≡ Some s → i < length flags →
-      at ≡ length (drives_of m (take i ss)) → n ≡ length (m.drives s) → same ≡ same_list same_level (map (level_at levels) (take (at + n - at) (drop at nets))) (take (at + n - at) (drop at own)) →
-      ((k : ℕ) (z : S) (b : Bool) → k < i → slice_get ss k ≡ Some z → slice_get flags k ≡ Some b →
-      b ≡ not (same_list same_level (piece (length (drives_of m (take k ss))) (length (m.drives z)) (map (level_at levels) nets)) (piece (length (drives_of m (take k ss))) (length (m.drives z)) own))) →
-      (k : ℕ) (z : S) (b : Bool) → k < i + 1 → slice_get ss k ≡ Some z → slice_get (slice_set flags i (not same)) k ≡ Some b →
-      b ≡ not (same_list same_level (piece (length (drives_of m (take k ss))) (length (m.drives z)) (map (level_at levels) nets)) (piece (length (drives_of m (take k ss))) (length (m.drives z)) own))
-  differ_more levels nets own ss i at n flags same s es room place count is before k z b l ez eb = elim (lt_or_eq k i l) [
-    | inl less ↦
-        let other : k ≢ i = omega arith in
-        before k z b less ez (sym (get_set_other flags i k (not same) other) ∙ eb)
-    | inr here ↦
-        let z_is : s ≡ z = some_same (sym es ∙ subst (λ (j : ℕ). slice_get ss j ≡ Some z) here ez) in
-        let b_is : not same ≡ b = some_same (sym (get_set_same flags i (not same) room) ∙ subst (λ (j : ℕ). slice_get (slice_set flags i (not same)) j ≡ Some b) here eb) in
-        let e : at + n - at ≡ n = omega arith in
-        let now : map (level_at levels) (take (at + n - at) (drop at nets)) ≡ piece at n (map (level_at levels) nets) =
-        ap (λ (j : ℕ). map (level_at levels) (take j (drop at nets))) e ∙ map-take (level_at levels) n (drop at nets) ∙ ap (take n) (map-drop (level_at levels) at nets) in
-        let old : take (at + n - at) (drop at own) ≡ piece at n own = ap (λ (j : ℕ). take j (drop at own)) e in
-        let flag : ℕ → ℕ → Bool = λ a c. not (same_list same_level (piece a c (map (level_at levels) nets)) (piece a c own)) in
-        sym b_is ∙ ap not (is ∙ ap (λ (x : List Level). same_list same_level x (take (at + n - at) (drop at own))) now ∙ ap (same_list same_level (piece at n (map (level_at levels) nets))) old)
-        ∙ ap (λ (a : ℕ). flag a n) place ∙ ap (flag (length (drives_of m (take i ss)))) (count ∙ ap (λ (x : S). length (m.drives x)) z_is)
-        ∙ ap (λ (j : ℕ). flag (length (drives_of m (take j ss))) (length (m.drives z))) (sym here)
-  ]
-
-  -- flags by the levels of all pins are so by the levels of nets
-  pub pieces_differ : (w : Wiring) (ss : List S) (before after own : List Level) (flags : List Bool) → Fits m w ss → own ≡ map (level_at before) w.net_of → ArePieces m ss (map (level_at after) w.net_of) own flags → AreDiffering m w before after ss flags
-  pieces_differ w ss before after own flags fits is pieces k s b es eb =
-      let at = length (drives_of m (take k ss)) in
-      let n = length (m.drives s) in
-      let place : at ≡ slice_index w.first_pin k = sym (fits.places k (slice_get_within ss k s es)) in
-      let now : piece at n (map (level_at after) w.net_of) ≡ levels_on m w after k s = own_levels w after (map (level_at after) w.net_of) k at n refl place in
-      let old : piece at n own ≡ levels_on m w before k s = own_levels w before own k at n is place in
-      pieces k s b es eb ∙ ap (λ (l : List Level). not (same_list same_level l (piece at n own))) now ∙ ap (λ (l : List Level). not (same_list same_level (levels_on m w after k s) l)) old
-
   -- where no level changed no part has another one
-  pub unset_differ : (w : Wiring) (ss : List S) (ls : List Level) (flags : List Bool) → AreUnset flags → AreDiffering m w ls ls ss flags
-  unset_differ w ss ls flags none k s b es eb = none k b eb ∙ sym (ap not (list_same same_level level_same (levels_on m w ls k s)))
-
--- one more flag is not set
-pub unset_more : (flags : List Bool) (i : ℕ) (x : Bool) → i < length flags → x ≡ false → ((k : ℕ) (b : Bool) → k < i → slice_get flags k ≡ Some b → b ≡ false) → (k : ℕ) (b : Bool) → k < i + 1 → slice_get (slice_set flags i x) k ≡ Some b → b ≡ false
-unset_more flags i x room none before k b l eb = elim (lt_or_eq k i l) [
-  | inl less ↦
-      let other : k ≢ i = omega arith in
-      before k b less (sym (get_set_other flags i k x other) ∙ eb)
-  | inr here ↦ some_same (sym (sym (get_set_same flags i x room) ∙ subst (λ (j : ℕ). slice_get (slice_set flags i x) j ≡ Some b) here eb)) ∙ none
-]
+  pub none_differ : (w : Wiring) (ss : List S) (ls : List Level) (set : PartSet) → ((k : ℕ) → has_part set k ≡ false) → AreDiffering m w ls ls ss set
+  none_differ w ss ls set none k s es = none k ∙ sym (ap not (list_same same_level level_same (levels_on m w ls k s)))
 
 here : (n : ℕ) (ns : List ℕ) → has (n ∷ ns) n ≡ true
 here n ns = grind arith

@@ -4,14 +4,13 @@ use Rattle.std.specs.Prelude.{◌==◌, ◌||◌, ◌&&◌, if◌then◌else◌,
 use Rattle.std.specs.List.{flat_map}
 use Rattle.std.proofs.lemmas.List.{length-map, append-nil}
 use Rattle.sim_base.specs.declared.signal.Level.{Level}
-use Rattle.sim_base.specs.declared.signal.Level.TheVariants as levels
 use Rattle.sim_base.specs.declared.signal.Drive.{Drive}
 use Rattle.sim_base.specs.declared.wiring.Wiring.{Wiring}
 use Rattle.sim_base.specs.declared.wiring.Input.{Input}
 use Rattle.sim_base.specs.Rows.{Row, AreFronts, Handed}
 use Rattle.part_law.specs.Machine.{Machine}
 use Rattle.board_model.specs.Resolve.{resolve}
-use Rattle.board_model.specs.Board.{drives_of, contacts_of, levels_of, level_at, bytes_of, states, bytes}
+use Rattle.board_model.specs.Board.{drives_of, contacts_of, levels_of, bytes_of, states, bytes}
 use Rattle.board_model.specs.Rows.{Shown, same_level, same_drive, same_list, same_shown, chip_drives_of, shown_of, is_new, row_if, shown_before, rows}
 use Rattle.board_model.proofs.Lists.{some_same, get_map_some, flat_map_same}
 use Rattle.board_model.proofs.SameLemmas.{level_same, drive_same, list_same, and_left, levels_mean}
@@ -63,25 +62,13 @@ row_is m w ss t old new there same e f is =
     ∙ ap (λ (l : List Level). rows_of (is_new (shown_at t old) (shown_of m w ss)) l new.circuit.drives) is.levels_are
     ∙ ap (λ (d : List Drive). rows_of (is_new (shown_at t old) (shown_of m w ss)) (levels_of m w ss) d) is.drives_are
 
--- levels that are all Z are those of pins on nets that are all Z
-pub own_first : (n : ℕ) (nets : List ℕ) → replicate (length nets) levels.Z ≡ map (level_at (replicate n levels.Z)) nets
-own_first n [] = refl
-own_first n (k ∷ nets) =
-    let a : level_at (replicate n levels.Z) k ≡ levels.Z = all_z n k in
-    let b : replicate (length nets) levels.Z ≡ map (level_at (replicate n levels.Z)) nets = own_first n nets in
-    cc
-  where
-    all_z : (n k : ℕ) → level_at (replicate n levels.Z) k ≡ levels.Z
-    all_z zero k = refl
-    all_z (suc n) zero = refl
-    all_z (suc n) (suc k) = all_z n k
-
+-- many that are the same
 pub long_all : {A : Type 0} (x : A) (n : ℕ) → length (replicate n x) ≡ n
 long_all x zero = refl
 long_all x (suc n) = ap suc (long_all x n)
 
 -- one of many that are the same
-pub get_all : (n k : ℕ) (x b : Bool) → slice_get (replicate n x) k ≡ Some b → b ≡ x
+pub get_all : {A : Type 0} (n k : ℕ) (x b : A) → slice_get (replicate n x) k ≡ Some b → b ≡ x
 get_all zero k x b e = absurd cc
 get_all (suc n) zero x b e = sym (some_same e)
 get_all (suc n) (suc k) x b e = get_all n k x b e

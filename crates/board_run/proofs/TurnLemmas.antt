@@ -1,5 +1,5 @@
 -- A part's turn is the step of the state that it stands for.
-use Rattle.std.proofs.Common.{◌≡◌, ◌≢◌, ℕ, ◌+◌, ◌-◌, ◌<◌, ◌≤◌, List, length, map, take, drop, Bool, true, false, Option, None, Some, refl, ap, sym, ◌∙◌, arith, subst, inl, inr, ◌⊎◌, get_or, add-one, length-set}
+use Rattle.std.proofs.Common.{◌≡◌, ◌≢◌, ℕ, ◌+◌, ◌-◌, ◌<◌, ◌≤◌, List, length, map, take, drop, Bool, true, false, Option, None, Some, refl, ap, sym, ◌∙◌, arith, subst, zero, suc, [], ◌∷◌, inl, inr, ◌⊎◌, get_or, add-one, length-set}
 use Rattle.std.specs.Prelude.{◌||◌, not, if◌then◌else◌, slice_get, slice_index, slice_set}
 use Rattle.std.specs.Option.{is_some}
 use Rattle.std.proofs.lemmas.Bool.Decides.{eqb_tells}
@@ -17,14 +17,25 @@ use Rattle.board_laws.proofs.StandsLaw.{stands_here, stands_shows, stands_valid,
 use Rattle.std.proofs.lemmas.Option.{slice_get_within}
 use Rattle.std.proofs.lemmas.List.{length-map}
 use Rattle.sim_base.specs.declared.limits.TheConstants.{MOST_CYCLES}
-use Rattle.board_model.proofs.Lists.{some_same, lt_or_eq, get_set_same, get_set_other, get_within, get_map_some, take_set_more}
+use Rattle.board_model.proofs.Lists.{some_same, lt_or_eq, get_set_same, get_set_other, get_within, get_map_some}
 use Rattle.board_model.proofs.Steps.{length-steps_from, get_step}
 use Rattle.board_run.proofs.StepLemmas.{get_answer}
-use Rattle.board_run.proofs.WakeLemmas.{own_of, or_none}
+use Rattle.board_run.proofs.WakeLemmas.{or_none}
+use Rattle.board_run.proofs.NextLemmas.{due_late}
+use Rattle.board_run.specs.declared.part_set.PartSet.{PartSet}
+use Rattle.board_run.specs.Parts.{has_part}
 use Rattle.board_model.specs.Fits.{Fits}
 use Rattle.board_model.proofs.RoomLemmas.{SameRoom, fits_room}
 use Rattle.board_run.specs.Seen.{levels_on}
-use Rattle.board_run.specs.Lagging.{is_at, to_wake, glided, MayTurn, turned, Awaits, HadTurn, Turns, AreDue}
+use Rattle.board_run.specs.Lagging.{is_at, to_wake, glided, AreLate, MayTurn, turned, Awaits, HadTurn, Turns, AreDue}
+
+pub less_or : (j n : ℕ) → (j < n) ⊎ (n ≤ j)
+less_or j n = grind arith
+
+pub some_there : {A : Type 0} (xs : List A) (k : ℕ) → k < length xs → (a : A) × (slice_get xs k ≡ Some a)
+some_there [] k h = absurd (omega arith)
+some_there (x ∷ xs) zero h = (x, refl)
+some_there (x ∷ xs) (suc k) h = some_there xs k (omega arith)
 
 zero_or_more : (t : ℕ) → (t ≡ 0) ⊎ (0 < t)
 zero_or_more t = grind arith
@@ -125,7 +136,7 @@ module _ {S P : Type 0} (m : Machine S) (laws : Laws m) (w : Wiring) (inputs : L
 
 module _ {S P : Type 0} (m : Machine S) (laws : Laws m) (w : Wiring) (inputs : List Input) (state : P → S) (now wakes : P → ℕ) (ls : List Level) (t : ℕ) (ts : List S) where
   pub turns_none : (ps : List P) (answers : List (Option ℕ)) (changed : Bool) → Turns m w inputs state now wakes ls t ts 0 ps ps answers changed
-  turns_none ps answers changed = record { done = λ k p q s h. absurd (omega arith); answered = refl; still = λ none k s h. absurd (omega arith) }
+  turns_none ps answers changed = record { done = λ k p q s h. absurd (omega arith); answered = λ k h. absurd (omega arith); still = λ none k s h. absurd (omega arith) }
 
   -- one more turn
   pub turns_more : (i : ℕ) (old new : List P) (answers : List (Option ℕ)) (changed more : Bool) (p q : P) (s : S) (byte : Option ℕ) →
@@ -145,13 +156,48 @@ module _ {S P : Type 0} (m : Machine S) (laws : Laws m) (w : Wiring) (inputs : L
           (subst (λ (x : P). Stands m (t + 1) (now b) (state b) (part_step m w inputs ls t i s).0 × (wakes b ≡ wakes x + active_in m w inputs ls t i (Some s)) × (wakes b ≤ now b)) a_is
           (subst (λ (x : P). Stands m (t + 1) (now x) (state x) (part_step m w inputs ls t i s).0 × (wakes x ≡ wakes p + active_in m w inputs ls t i (Some s)) × (wakes x ≤ now x)) b_is (turn.stands, turn.woken, turn.count))))
     ];
-    answered = take_set_more answers (map (λ r. r.1) (steps_from m w inputs ls t 0 ts)) i byte room (get_answer m w inputs ls t i ts s es ∙ ap Some (sym turn.byte_is)) turns.answered;
+    answered = λ k l. elim (lt_or_eq k i l) [
+      | inl less ↦ get_set_other answers i k byte (omega arith) ∙ turns.answered k less
+      | inr same ↦
+          subst (λ (j : ℕ). slice_get (slice_set answers i byte) j ≡ slice_get (map (λ r. r.1) (steps_from m w inputs ls t 0 ts)) j) (sym same)
+          (get_set_same answers i byte room ∙ ap Some turn.byte_is ∙ sym (get_answer m w inputs ls t i ts s es))
+    ];
     still = λ none k u l eu. let both = or_none changed more none in elim (lt_or_eq k i l) [
       | inl less ↦ turns.still both.0 k u less eu
       | inr same ↦
           let u_is : s ≡ u = some_same (sym es ∙ subst (λ (j : ℕ). slice_get ts j ≡ Some u) same eu) in
           subst (λ (j : ℕ). SameShow m m (part_step m w inputs ls t j u).0 u) (sym same)
           (subst (λ (x : S). SameShow m m (part_step m w inputs ls t i x).0 x) u_is (turn.still both.1))
+    ];
+  }
+
+  -- parts that are passed over
+  pub turns_skip : (i j : ℕ) (old new : List P) (answers : List (Option ℕ)) (changed : Bool) → Turns m w inputs state now wakes ls t ts i old new answers changed → length old ≡ length ts → j ≤ length old → length old ≤ length answers →
+      ((k : ℕ) → i ≤ k → slice_get new k ≡ slice_get old k) → ((k : ℕ) (a : Option ℕ) → i ≤ k → slice_get answers k ≡ Some a → a ≡ None) →
+      ((k : ℕ) (p : P) (s : S) → i ≤ k → k < j → slice_get old k ≡ Some p → slice_get ts k ≡ Some s → HadTurn m w inputs state now wakes ls t k p p s None false) →
+      Turns m w inputs state now wakes ls t ts j old new answers changed
+  turns_skip i j old new answers changed turns like inside room rest quiet pass = record {
+    done = λ k p q s l ep eq es. elim (less_or k i) [
+      | inl less ↦ turns.done k p q s less ep eq es
+      | inr more ↦
+          let q_is : p ≡ q = some_same (sym ep ∙ sym (rest k more) ∙ eq) in
+          let h = pass k p s more l ep es in
+          subst (λ (x : P). Stands m (t + 1) (now x) (state x) (part_step m w inputs ls t k s).0 × (wakes x ≡ wakes p + active_in m w inputs ls t k (Some s)) × (wakes x ≤ now x)) q_is (h.stands, h.woken, h.count)
+    ];
+    answered = λ k l. elim (less_or k i) [
+      | inl less ↦ turns.answered k less
+      | inr more ↦
+          let within : k < length answers = omega (arith, l, inside, room) in
+          let p = some_there old k (omega (arith, l, inside)) in
+          let s = some_there ts k (omega (arith, l, inside, like)) in
+          let a = some_there answers k within in
+          a.1 ∙ ap Some (quiet k a.0 more a.1 ∙ (pass k p.0 s.0 more l p.1 s.1).byte_is) ∙ sym (get_answer m w inputs ls t k ts s.0 s.1)
+    ];
+    still = λ none k s l es. elim (less_or k i) [
+      | inl less ↦ turns.still none k s less es
+      | inr more ↦
+          let p = some_there old k (omega (arith, l, inside)) in
+          (pass k p.0 s more l p.1 es).still refl
     ];
   }
 
@@ -235,22 +281,90 @@ due_set m state now wakes parts dues i q d hp hd are first k p e ep ee = elim (e
   | inr other ↦ are k p e (sym (get_set_other parts i k q other.1) ∙ ep) (sym (get_set_other dues i k d other.1) ∙ ee)
 ]
 
--- the turn of a part that is awaited
-pub awaited_turn : {S P : Type 0} (m : Machine S) (laws : Laws m) (w : Wiring) (given inputs : List Input) (state : P → S) (now wakes : P → ℕ) (ls own : List Level) (flags : List Bool) (t : ℕ) (parts : List P) (ts : List S) →
-    t < MOST_CYCLES → Awaits m w state now given inputs ls own flags t parts ts → (k : ℕ) (p q : P) (s : S) (due input byte : Option ℕ) (first pins : ℕ) (differs changed : Bool) →
-    slice_get parts k ≡ Some p → slice_get ts k ≡ Some s → slice_get flags k ≡ Some differs → MayTurn m state now wakes t due p → first ≡ slice_index w.first_pin k → pins ≡ length (m.drives (state p)) → input ≡ input_at given t k →
-    turned m state now wakes (to_wake due t input differs) t (take (first + pins - first) (drop first own)) input p q byte changed →
-    HadTurn m w inputs state now wakes ls t k p q s byte changed
-    × (active_in m w inputs ls t k (Some s) ≡ (if to_wake due t input differs then 1 else 0))
-awaited_turn m laws w given inputs state now wakes ls own flags t parts ts end awaits k p q s due input byte first pins differs changed ep es ef may is_first is_pins is_input turn =
-    let stands = awaits.stands.each k p s ep es in
-    let n : pins ≡ length (m.drives s) = is_pins ∙ ap length (stands_shows m laws t (now p) (state p) s stands).drives in
-    let own_is = own_of w ls own k first pins (length (m.drives s)) awaits.own_are is_first n in
-    let differ = λ (l : 0 < t). awaits.differ k s differs es ef l in
-    let input_is = is_input ∙ awaits.values k in (
-      had_turn m laws w inputs state now wakes ls t k p q s due input byte _ differs changed end may stands own_is differ input_is turn,
-      ap (λ (b : Bool). if b then 1 else 0) (sym (wake_is m laws w inputs state now wakes ls t k p s due input differs end may stands differ input_is)),
-    )
+-- what a part that is awaited has
+module _ {S P : Type 0} (m : Machine S) (laws : Laws m) (w : Wiring) (given inputs : List Input) (state : P → S) (now wakes : P → ℕ) (ls : List Level) (differ : PartSet) (t : ℕ) (parts : List P) (ts : List S)
+    (end : t < MOST_CYCLES) (awaits : Awaits m w state now given inputs ls differ t parts ts) where
+  -- its turn
+  pub awaited_turn : (k : ℕ) (p q : P) (s : S) (due input byte : Option ℕ) (first pins : ℕ) (differs changed : Bool) → slice_get parts k ≡ Some p → slice_get ts k ≡ Some s → differs ≡ has_part differ k →
+      MayTurn m state now wakes t due p → first ≡ slice_index w.first_pin k → pins ≡ length (m.drives (state p)) → input ≡ input_at given t k →
+      turned m state now wakes (to_wake due t input differs) t (map (level_at ls) (take (first + pins - first) (drop first w.net_of))) input p q byte changed →
+      HadTurn m w inputs state now wakes ls t k p q s byte changed
+      × (active_in m w inputs ls t k (Some s) ≡ (if to_wake due t input differs then 1 else 0))
+  awaited_turn k p q s due input byte first pins differs changed ep es ed may is_first is_pins is_input turn =
+      let stands = awaits.stands.each k p s ep es in
+      let n : pins ≡ length (m.drives s) = is_pins ∙ ap length (stands_shows m laws t (now p) (state p) s stands).drives in
+      let count : first + pins - first ≡ length (m.drives s) = omega (arith, n) in
+      let own_is = ap (λ (j : ℕ). map (level_at ls) (take j (drop first w.net_of))) count ∙ ap (λ (j : ℕ). map (level_at ls) (take (length (m.drives s)) (drop j w.net_of))) is_first in
+      let differs_is = λ (l : 0 < t). ed ∙ awaits.differs k s es l in
+      let input_is = is_input ∙ awaits.values k in (
+        had_turn m laws w inputs state now wakes ls t k p q s due input byte _ differs changed end may stands own_is differs_is input_is turn,
+        ap (λ (b : Bool). if b then 1 else 0) (sym (wake_is m laws w inputs state now wakes ls t k p s due input differs end may stands differs_is input_is)),
+      )
+
+  -- and that it is passed over, where it is not due and nothing comes
+  pub awaited_rest : (k : ℕ) (p : P) (s : S) (due : Option ℕ) → slice_get parts k ≡ Some p → slice_get ts k ≡ Some s → has_part differ k ≡ false → MayTurn m state now wakes t due p → due ≢ Some t → input_at given t k ≡ None →
+      HadTurn m w inputs state now wakes ls t k p p s None false × (active_in m w inputs ls t k (Some s) ≡ 0)
+  awaited_rest k p s due ep es none may other silent =
+      let stands = awaits.stands.each k p s ep es in
+      let own = map (level_at ls) (own_nets w k (length (m.drives s))) in
+      let differs_is = λ (l : 0 < t). sym none ∙ awaits.differs k s es l in
+      let input_is = sym silent ∙ awaits.values k in
+      let asleep : to_wake due t None false ≡ false = ap (λ (b : Bool). b || (false || false)) (not_at due t other) in
+      let turn : turned m state now wakes (to_wake due t None false) t own None p p None false = subst (λ (b : Bool). turned m state now wakes b t own None p p None false) (sym asleep) (refl, refl) in (
+        had_turn m laws w inputs state now wakes ls t k p p s due None None own false false end may stands refl differs_is input_is turn,
+        ap (λ (b : Bool). if b then 1 else 0) (sym (wake_is m laws w inputs state now wakes ls t k p s due None false end may stands differs_is input_is) ∙ asleep),
+      )
+
+-- a due cycle that is not this one comes later
+pub later_due : {S P : Type 0} (m : Machine S) (state : P → S) (now wakes : P → ℕ) (t u : ℕ) (p : P) → MayTurn m state now wakes t (Some u) p → is_at (Some u) t ≡ false → t < u
+later_due m state now wakes t u p may none =
+    let late = due_late m state now wakes t u p may in
+    elim (eqb_tells u t) [
+      | inl same ↦ absurd (let wrong : true ≡ false = sym same.0 ∙ none in cc)
+      | inr other ↦ apart t u late (λ e. other.1 (sym e))
+    ]
+  where
+    apart : (t u : ℕ) → t ≤ u → t ≢ u → t < u
+    apart t u h e = grind arith
+
+-- no part that lags behind was due before
+pub dues_late : {S P : Type 0} (m : Machine S) (state : P → S) (now wakes : P → ℕ) (t : ℕ) (parts : List P) (dues : List (Option ℕ)) → length dues ≡ length parts →
+    ((k : ℕ) (p : P) (d : Option ℕ) → slice_get parts k ≡ Some p → slice_get dues k ≡ Some d → MayTurn m state now wakes t d p) → AreLate dues t
+dues_late m state now wakes t parts dues long may k u ed =
+    let p = some_there parts k (omega (arith, slice_get_within dues k (Some u) ed, long)) in
+    due_late m state now wakes t u p.0 (may k p.0 (Some u) p.1 ed)
+
+-- where one part's due cycle was renewed, and comes later
+pub late_set : (dues : List (Option ℕ)) (i t : ℕ) (d : Option ℕ) → i < length dues → AreLate dues t → ((u : ℕ) → d ≡ Some u → t < u) → AreLate (slice_set dues i d) t
+late_set dues i t d within late later k u ed = elim (eqb_tells k i) [
+  | inl same ↦
+      let l = later u (some_same (sym (get_set_same dues i d within) ∙ ap (slice_get (slice_set dues i d)) (sym same.1) ∙ ed)) in
+      omega (arith, l)
+  | inr other ↦ late k u (sym (get_set_other dues i k d other.1) ∙ ed)
+]
+
+pub passed_set : (dues : List (Option ℕ)) (i t : ℕ) (d : Option ℕ) → i < length dues → ((k : ℕ) → k < i → slice_get dues k ≢ Some (Some t)) → ((u : ℕ) → d ≡ Some u → t < u) →
+    (k : ℕ) → k < i + 1 → slice_get (slice_set dues i d) k ≢ Some (Some t)
+passed_set dues i t d within passed later k l e = elim (lt_or_eq k i l) [
+  | inl less ↦ passed k less (sym (get_set_other dues i k d (omega (arith, less))) ∙ e)
+  | inr same ↦
+      let h = later t (some_same (sym (get_set_same dues i d within) ∙ ap (slice_get (slice_set dues i d)) (sym same) ∙ e)) in
+      absurd (omega (arith, h))
+]
+
+sum_none : (i n : ℕ) (f : ℕ → ℕ) → ((k : ℕ) → i ≤ k → k < i + n → f k ≡ 0) → sum_below (i + n) f ≡ sum_below i f
+sum_none i zero f none = let e : i + zero ≡ i = omega arith in ap (λ (j : ℕ). sum_below j f) e
+sum_none i (suc n) f none =
+    let e : i + suc n ≡ suc (i + n) = omega arith in
+    let z = none (i + n) (omega arith) (omega arith) in
+    let r = sum_none i n f (λ k l h. none k l (omega (arith, h))) in
+    ap (λ (j : ℕ). sum_below j f) e ∙ omega (arith, z, r)
+
+-- parts that are passed over count nothing
+pub sum_skip : (i j : ℕ) (f : ℕ → ℕ) → i ≤ j → ((k : ℕ) → i ≤ k → k < j → f k ≡ 0) → sum_below j f ≡ sum_below i f
+sum_skip i j f least none =
+    let e : i + (j - i) ≡ j = omega arith in
+    ap (λ (n : ℕ). sum_below n f) (sym e) ∙ sum_none i (j - i) f (λ k l h. none k l (omega (arith, h, e)))
 
 pub count_more : (i a b d : ℕ) (f : ℕ → ℕ) (one : ℕ) → b ≡ a + sum_below i f → d ≡ b + one → f i ≡ one → d ≡ a + sum_below (i + 1) f
 count_more i a b d f one h e g = rw add-one (omega (arith, h, e, g))

@@ -1,15 +1,17 @@
 -- Parts that lag behind their board, and their turn in a cycle. No public clause cites this.
-use Rattle.std.specs.Prelude.{◌≡◌, ℕ, ◌+◌, ◌-◌, ◌<◌, ◌≤◌, List, length, map, take, drop, Bool, true, false, not, ◌||◌, ◌==◌, Option, None, Some, slice_get, slice_index}
+use Rattle.std.specs.Prelude.{◌≡◌, ℕ, ◌+◌, ◌-◌, ◌<◌, ◌≤◌, List, map, Bool, true, false, not, ◌||◌, ◌==◌, Option, None, Some, slice_get}
 use Rattle.std.specs.Option.{is_some}
 use Rattle.sim_base.specs.declared.signal.Level.{Level}
 use Rattle.sim_base.specs.declared.wiring.Wiring.{Wiring}
 use Rattle.sim_base.specs.declared.wiring.Input.{Input}
 use Rattle.part_law.specs.Machine.{Machine, glide, IsQuiet, IsFirstDue}
-use Rattle.board_model.specs.Board.{level_at, input_at, part_step, steps_from}
+use Rattle.board_model.specs.Board.{input_at, part_step, steps_from}
 use Rattle.board_model.specs.Rows.{same_list, same_level}
 use Rattle.board_laws.specs.Alike.{Alike, SameShow}
 use Rattle.board_laws.specs.Active.{active_in}
 use Rattle.board_laws.specs.Stands.{Stands}
+use Rattle.board_run.specs.declared.part_set.PartSet.{PartSet}
+use Rattle.board_run.specs.Parts.{has_part}
 use Rattle.board_run.specs.Seen.{levels_on}
 
 abbrev pub is_at : Option ℕ → ℕ → Bool
@@ -23,10 +25,6 @@ to_wake due t input differs = is_at due t || (is_some input || differs)
 -- none of these is before cycle t
 abbrev pub AreLate : List (Option ℕ) → ℕ → Type 0
 AreLate dues t = (k u : ℕ) → slice_get dues k ≡ Some (Some u) → t ≤ u
-
--- the levels of part i's n pins among those of all pins
-abbrev pub own_part : Wiring → ℕ → ℕ → List Level → List Level
-own_part w i n own = take n (drop (slice_index w.first_pin i) own)
 
 module _ {S P : Type 0} (m : Machine S) (state : P → S) (now wakes : P → ℕ) where
   -- where the part is at cycle t, if nothing comes
@@ -57,12 +55,11 @@ module _ {S P : Type 0} (m : Machine S) (state : P → S) (now wakes : P → ℕ
   abbrev pub AreDue : List P → List (Option ℕ) → Type 0
   AreDue parts dues = (k : ℕ) (p : P) (d : Option ℕ) → slice_get parts k ≡ Some p → slice_get dues k ≡ Some d → IsFirstDue m (state p) (now p) d
 
--- The parts lag behind a board whose states at cycle t are ts, whose nets have the levels ls, so that pins have `own`; the script's
--- values of the cycle are `given`; and a part's flag says whether one of its levels is not the one that it holds.
-pub record Awaits {S P : Type 0} (m : Machine S) (w : Wiring) (state : P → S) (now : P → ℕ) (given inputs : List Input) (ls own : List Level) (flags : List Bool) (t : ℕ) (parts : List P) (ts : List S) : Type 0 where
+-- The parts lag behind a board whose states at cycle t are ts and whose nets have the levels ls; the script's values of the
+-- cycle are `given`; and those parts differ one of whose levels is not the one that it holds.
+pub record Awaits {S P : Type 0} (m : Machine S) (w : Wiring) (state : P → S) (now : P → ℕ) (given inputs : List Input) (ls : List Level) (differ : PartSet) (t : ℕ) (parts : List P) (ts : List S) : Type 0 where
   pub stands : Alike (λ k p s. Stands m t (now p) (state p) s) parts ts
-  pub own_are : own ≡ map (level_at ls) w.net_of
-  pub differ : (k : ℕ) (s : S) (b : Bool) → slice_get ts k ≡ Some s → slice_get flags k ≡ Some b → 0 < t → b ≡ not (same_list same_level (levels_on m w ls k s) (m.held s))
+  pub differs : (k : ℕ) (s : S) → slice_get ts k ≡ Some s → 0 < t → has_part differ k ≡ not (same_list same_level (levels_on m w ls k s) (m.held s))
   pub values : (k : ℕ) → input_at given t k ≡ input_at inputs t k
 
 -- part k, which stands for s, had its turn
@@ -77,5 +74,5 @@ pub record HadTurn {S P : Type 0} (m : Machine S) (w : Wiring) (inputs : List In
 pub record Turns {S P : Type 0} (m : Machine S) (w : Wiring) (inputs : List Input) (state : P → S) (now wakes : P → ℕ) (ls : List Level) (t : ℕ) (ts : List S) (i : ℕ) (old new : List P) (answers : List (Option ℕ)) (changed : Bool) : Type 0 where
   pub done : (k : ℕ) (p q : P) (s : S) → k < i → slice_get old k ≡ Some p → slice_get new k ≡ Some q → slice_get ts k ≡ Some s →
       Stands m (t + 1) (now q) (state q) (part_step m w inputs ls t k s).0 × (wakes q ≡ wakes p + active_in m w inputs ls t k (Some s)) × (wakes q ≤ now q)
-  pub answered : take i answers ≡ take i (map (λ r. r.1) (steps_from m w inputs ls t 0 ts))
+  pub answered : (k : ℕ) → k < i → slice_get answers k ≡ slice_get (map (λ r. r.1) (steps_from m w inputs ls t 0 ts)) k
   pub still : changed ≡ false → (k : ℕ) (s : S) → k < i → slice_get ts k ≡ Some s → SameShow m m (part_step m w inputs ls t k s).0 s

@@ -4,12 +4,13 @@ use Rattle.sim_base.specs.declared.signal.Level.{Level}
 use Rattle.sim_base.specs.declared.wiring.Wiring.{Wiring}
 use Rattle.sim_base.specs.declared.wiring.Input.{Input}
 use Rattle.part_law.specs.Machine.{Machine, glide, dues, IsSame, IsFirstDue}
-use Rattle.board_model.specs.Board.{level_at, own_nets, input_at, states}
+use Rattle.board_model.specs.Board.{input_at, states}
 use Rattle.board_model.specs.Rows.{chip_drives_of, shown_before}
 use Rattle.board_model.specs.Fits.{Fits}
 use Rattle.board_laws.specs.Active.{active_cycles, active_pairs}
 use Rattle.board_run.specs.Upcoming.{AreBehind}
-use Rattle.board_run.specs.Seen.{Seen, Suits, IsOf, IsTold, AreUnset, levels_on, shown_at}
+use Rattle.board_run.specs.Seen.{Seen, Suits, IsOf, IsTold, levels_on, shown_at}
+use Rattle.board_run.specs.Parts.{AreNone}
 use Rattle.board_run.specs.Lagging.{glided, MayTurn}
 
 -- what an engine keeps beside the parts
@@ -20,8 +21,8 @@ pub record Kept : Type 0 where
   pub stale : Bool
   -- the first due cycle of each part
   pub dues : List (Option ℕ)
-  -- which parts have a level on a pin that they do not hold; between cycles none
-  pub differ : List Bool
+  -- room for the levels of the pins of a part
+  pub own : List Level
   pub seen : Seen
   pub answers : List (Option ℕ)
 
@@ -37,12 +38,12 @@ module _ {S P : Type 0} (m : Machine S) (w : Wiring) (state : P → S) (now wake
     pub valid : (k : ℕ) (p : P) → slice_get parts k ≡ Some p → m.valid (state p) (now p) ≡ true
     pub dues_long : length kept.dues ≡ length parts
     pub answers_long : length kept.answers ≡ length parts
-    pub differ_long : length kept.differ ≡ length parts
+    pub own_long : length kept.own ≡ length w.net_of
+    pub silent : AreNone kept.answers
     pub fits : Fits m w (map state parts)
     pub suits : Suits w kept.seen
     pub chips_long : length kept.seen.chip_drives ≡ length (chip_drives_of m w.chip (map state parts))
     pub fresh : kept.stale ≡ false → IsOf m w (map state parts) kept.seen
-    pub unset : AreUnset kept.differ
     pub told : IsTold m (map state parts) kept.seen.circuit
     pub holds : (k : ℕ) (p : P) → slice_get parts k ≡ Some p → 0 < t → m.held (state p) ≡ levels_on m w kept.seen.circuit.levels k (state p)
 

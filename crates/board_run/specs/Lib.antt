@@ -1,3 +1,4 @@
+pub mod Parts
 pub mod BoardView
 pub mod Seen
 pub mod Upcoming

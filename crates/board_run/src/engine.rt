@@ -8,30 +8,33 @@ ghost use Rattle.board_model.specs.Board.{bytes, options};
 ghost use Rattle.board_model.specs.Rows.{rows};
 ghost use Rattle.board_model.specs.Fits.{Fits};
 ghost use Rattle.board_laws.specs.Active.{sum_below, active_in};
-ghost use Rattle.board_run.specs.Seen.{Suits, IsTold, AreUnset, retold, shown_at};
+ghost use Rattle.board_run.specs.Seen.{Suits, IsTold, levels_on, retold, shown_at};
+ghost use Rattle.board_run.specs.Parts.{has_part, AreNone};
 ghost use Rattle.board_run.specs.Upcoming.{AreBehind, IsInOrder};
-ghost use Rattle.board_run.specs.Lagging.{glided, own_part, MayTurn, Awaits, Turns, AreDue};
+ghost use Rattle.board_run.specs.Lagging.{glided, MayTurn, Awaits, Turns, AreDue};
 ghost use Rattle.board_run.specs.Legs.{Lags, Leg};
 ghost use Rattle.board_run.specs.declared.show.Next.{Next};
 
 use crate::hand::hand_sent;
+use crate::part_set::PartSet;
 use crate::reading::Reading;
 use crate::script::end_of_cycle;
 use crate::show::{Next, show_cycle};
 use crate::turn::{Woken, wake_active};
 use event_queue::DueTree;
 use part_law::Part;
-use sim_base::{Input, MOST_CYCLES, Steps, Watcher, Wiring, WriteEnd};
+use sim_base::{Input, Level, MOST_CYCLES, Steps, Watcher, Wiring, WriteEnd};
 use std::sync::ledger::Ledger;
 
-/// Gives every part its turn on the levels that were read.
+/// Gives the parts that may be active their turn on the levels that were read.
 #[inline]
 fn turn_read<P: Part, L: Ledger>(
     parts: &mut [P],
     dues: &mut DueTree,
     wiring: &Wiring,
     reading: &mut Reading,
-    flags: &mut [bool],
+    differ: PartSet,
+    own: &mut [Level],
     given: &[Input],
     answers: &mut [Option<u8>],
     t: u32,
@@ -45,27 +48,27 @@ fn turn_read<P: Part, L: Ledger>(
     requires dues { length dues.old ≡ length parts.old }
     requires suits { Suits wiring.now reading.old }
     requires told { IsTold P.machine (map P.state parts.old) reading.old.circuit }
-    requires flags { length flags.old ≡ length parts.old }
-    requires differ { (k : ℕ) (p : _) → slice_get parts.old k ≡ Some p → slice_get flags.old k ≡ Some true → 0 < t → P.machine.held (P.state p) ≢ own_part wiring.now k (length (P.machine.drives (P.state p))) reading.old.own }
+    requires own { length own.old ≡ length wiring.now.net_of }
+    requires differ { (k : ℕ) (p : _) → slice_get parts.old k ≡ Some p → has_part differ k ≡ true → 0 < t
+        → P.machine.held (P.state p) ≢ levels_on P.machine wiring.now reading.old.circuit.levels k (P.state p) }
     requires answers { length answers.old ≡ length parts.old }
-    ensures turns { (inputs : List Input) (ls : List Level) (ts : List P.State) → Awaits P.machine wiring.now P.state P.now given.now inputs ls reading.old.own flags.old t parts.old ts
-        → Turns P.machine wiring.now inputs P.state P.now P.wake_count ls t ts (length parts.old) parts.old parts.new answers.new result.changed }
+    requires none { AreNone answers.old }
+    ensures turns { (inputs : List Input) (ts : List P.State) → Awaits P.machine wiring.now P.state P.now given.now inputs reading.old.circuit.levels differ t parts.old ts
+        → Turns P.machine wiring.now inputs P.state P.now P.wake_count reading.old.circuit.levels t ts (length parts.old) parts.old parts.new answers.new result.changed }
     ensures told { IsTold P.machine (map P.state parts.new) reading.new.circuit }
     ensures rest { reading.new ≡ retold reading.old reading.new.circuit.drives reading.new.circuit.closed }
-    ensures unset { AreUnset flags.new }
-    ensures flags { length flags.new ≡ length flags.old }
     ensures due { AreDue P.machine P.state P.now P.wake_count parts.new dues.new }
     ensures dues { length dues.new ≡ length dues.old }
-    ensures silent { result.sent ≡ false → options answers.new ≡ [] }
-    ensures steps { (inputs : List Input) (ls : List Level) (ts : List P.State) → Awaits P.machine wiring.now P.state P.now given.now inputs ls reading.old.own flags.old t parts.old ts
-        → steps.new ≡ steps.old + sum_below (length parts.old) (λ k. active_in P.machine wiring.now inputs ls t k (slice_get ts k)) }
+    ensures silent { result.sent ≡ false → AreNone answers.new }
+    ensures steps { (inputs : List Input) (ts : List P.State) → Awaits P.machine wiring.now P.state P.now given.now inputs reading.old.circuit.levels differ t parts.old ts
+        → steps.new ≡ steps.old + sum_below (length parts.old) (λ k. active_in P.machine wiring.now inputs reading.old.circuit.levels t k (slice_get ts k)) }
 {
     wake_active(
         parts,
         dues,
         wiring,
-        &reading.own,
-        flags,
+        differ,
+        own,
         given,
         answers,
         t,
@@ -83,7 +86,7 @@ pub(crate) fn event<P: Part, W: Watcher, L: Ledger>(
     inputs: &[Input],
     t: u32,
     reading: &mut Reading,
-    flags: &mut [bool],
+    own: &mut [Level],
     answers: &mut [Option<u8>],
     out: &mut W,
     steps: &mut Steps<L>,
@@ -92,11 +95,11 @@ pub(crate) fn event<P: Part, W: Watcher, L: Ledger>(
     requires order { IsInOrder inputs.now }
     requires behind { AreBehind inputs.now next.input t }
     requires lags { Lags P.machine wiring.now P.state P.now P.wake_count t parts.old
-        (record { input = next.input; stale = next.stale; dues = dues.old; differ = flags.old; seen = reading.old; answers = answers.old }) }
+        (record { input = next.input; stale = next.stale; dues = dues.old; own = own.old; seen = reading.old; answers = answers.old }) }
     requires whole { W.whole out.old ≡ true }
     requires later { IsBehind W.last W.seen out.old t reading.old.circuit.levels }
     ensures lags { (x : Next) → result ≡ Some x → Lags P.machine wiring.now P.state P.now P.wake_count (t + 1) parts.new
-        (record { input = x.input; stale = x.stale; dues = dues.new; differ = flags.new; seen = reading.new; answers = answers.new }) }
+        (record { input = x.input; stale = x.stale; dues = dues.new; own = own.new; seen = reading.new; answers = answers.new }) }
     ensures behind { (x : Next) → result ≡ Some x → AreBehind inputs.now x.input (t + 1) }
     ensures leg { Leg P.machine wiring.now P.state P.now P.wake_count inputs.now t (t + 1) parts.old parts.new reading.old reading.new steps.old steps.new }
     ensures handed { (x : Next) → result ≡ Some x → Handed W.whole W.faults W.stands out.old out.new
@@ -109,14 +112,15 @@ pub(crate) fn event<P: Part, W: Watcher, L: Ledger>(
         (bytes P.machine wiring.now inputs.now (map (glided P.machine P.state P.now P.wake_count t) parts.old) t (t + 1 - t)) }
     ensures place { W.place out.new ≡ W.place out.old }
 {
-    let shown = show_cycle(next.stale, parts, flags, wiring, t, reading, out);
+    let (shown, differ) = show_cycle(next.stale, parts, wiring, t, reading, out);
     let end = end_of_cycle(inputs, next.input, t);
     let woken = turn_read(
         parts,
         dues,
         wiring,
         reading,
-        flags,
+        differ,
+        own,
         &inputs[next.input..end],
         answers,
         t,

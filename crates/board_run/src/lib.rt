@@ -9,6 +9,7 @@ mod engine;
 mod gather;
 mod hand;
 mod jump;
+mod part_set;
 mod reading;
 mod script;
 mod show;

@@ -1,15 +1,16 @@
 //! A cycle in which only the active parts are woken.
-ghost use Rattle.std.specs.Prelude.{◌≡◌, ◌≢◌, ℕ, ◌+◌, ◌<◌, ◌≤◌, List, [], length, map, Some, Option, true, false, if◌then◌else◌, slice_get};
+ghost use Rattle.std.specs.Prelude.{◌≡◌, ◌≢◌, ℕ, ◌+◌, ◌<◌, ◌≤◌, List, length, map, Some, None, Option, true, false, if◌then◌else◌, slice_get};
 ghost use Rattle.part_law.specs.Machine.{IsFirstDue, MayWake};
-ghost use Rattle.sim_base.specs.declared.signal.Level.{Level};
 ghost use Rattle.sim_base.specs.declared.wiring.Input.{Input};
-ghost use Rattle.board_model.specs.Board.{options};
+ghost use Rattle.board_model.specs.Board.{level_at, input_at};
 ghost use Rattle.board_model.specs.Fits.{Fits};
 ghost use Rattle.board_laws.specs.Active.{sum_below, active_in};
-ghost use Rattle.board_run.specs.Lagging.{is_at, to_wake, own_part, glided, MayTurn, Wakes, turned, Awaits, Turns, AreDue};
-ghost use Rattle.board_run.specs.Seen.{AreUnset, IsTold};
+ghost use Rattle.board_run.specs.Lagging.{is_at, to_wake, glided, AreLate, MayTurn, Wakes, turned, Awaits, Turns, AreDue};
+ghost use Rattle.board_run.specs.Parts.{has_part, AreNone};
+ghost use Rattle.board_run.specs.Seen.{IsTold, levels_on};
 
-use crate::gather::find_input;
+use crate::gather::{find_input, put_levels};
+use crate::part_set::PartSet;
 use crate::tell::tell;
 use event_queue::DueTree;
 use net_resolve::Nets;
@@ -70,12 +71,14 @@ fn wake_late<P: Part, L: Ledger>(
     (byte, part.changed())
 }
 
-/// A part's turn in a cycle: it is woken where it is active.
+/// A part's turn in a cycle: where it is active it is woken on the levels of its pins' nets, for which there is room.
 #[inline]
 fn take_turn<P: Part, L: Ledger>(
     part: &mut P,
     due: &mut Option<u32>,
-    own: &[Level],
+    levels: &[Level],
+    nets: &[u16],
+    own: &mut [Level],
     differs: bool,
     input: Option<u16>,
     t: u32,
@@ -83,30 +86,76 @@ fn take_turn<P: Part, L: Ledger>(
 ) -> (Option<u8>, bool)
     requires end { t < MOST_CYCLES }
     requires may { MayTurn P.machine P.state P.now P.wake_count t due.old part.old }
-    requires pins { length own.now ≡ length (P.machine.drives (P.state part.old)) }
-    requires differs { differs ≡ true → 0 < t → P.machine.held (P.state part.old) ≢ own.now }
-    ensures turn { turned P.machine P.state P.now P.wake_count (to_wake due.old t input differs) t own.now input part.old part.new result.0 result.1 }
+    requires pins { length nets.now ≡ length (P.machine.drives (P.state part.old)) }
+    requires room { length own.old ≡ length nets.now }
+    requires differs { differs ≡ true → 0 < t → P.machine.held (P.state part.old) ≢ map (level_at levels.now) nets.now }
+    ensures turn { turned P.machine P.state P.now P.wake_count (to_wake due.old t input differs) t (map (level_at levels.now) nets.now) input part.old part.new result.0 result.1 }
     ensures first { IsFirstDue P.machine (P.state part.new) (P.now part.new) due.new }
+    ensures later { (u : ℕ) → due.new ≡ Some u → t < u }
     ensures others { result.1 ≡ true → (pin : ℕ) → P.moves part.new pin ≡ false
         → slice_get (P.machine.drives (P.state part.new)) pin ≡ slice_get (P.machine.drives (glided P.machine P.state P.now P.wake_count t part.old)) pin }
     ensures steps { steps.new ≡ steps.old + (if to_wake due.old t input differs then 1 else 0) }
 {
     if is_to_wake(*due, t, input, differs) {
+        put_levels(levels, nets, own);
         wake_late(part, due, own, input, t, steps)
     } else {
         (None, false)
     }
 }
 
-/// Gives every part its turn: those that are active are woken, and the nets are told what they drive and connect.
-/// It leaves the byte of each, if any, in answers. A part's flag says whether one of its pins has a level that it
-/// does not hold; after its turn it is off.
+/// These parts and those that the script addresses.
+fn with_given(parts: PartSet, given: &[Input]) -> PartSet
+    ensures { (t k : ℕ) → k < 64 → has_part result k ≡ false → (has_part parts k ≡ false) × (input_at given.now t k ≡ None) }
+{
+    let mut set = parts;
+    for input in given {
+        if input.part < 64 {
+            set = set.with(input.part as usize);
+        }
+    }
+    set
+}
+
+/// The least part that is due in cycle t, or the end where none is.
+#[inline]
+fn first_at(dues: &DueTree, t: u32, end: usize) -> usize
+    requires end { end ≡ length dues.now }
+    requires late { AreLate dues.now t }
+    ensures within { result ≤ end }
+    ensures due { result < end → slice_get dues.now result ≡ Some (Some t) }
+    ensures passed { (k : ℕ) → k < result → slice_get dues.now k ≢ Some (Some t) }
+{
+    match dues.first() {
+        Some((u, who)) if u == t => who as usize,
+        _ => end,
+    }
+}
+
+/// The next part from a number on that is among these or due in cycle t, or the end where none is.
+#[inline]
+fn next_part(parts: PartSet, dues: &DueTree, t: u32, from: usize, end: usize) -> usize
+    requires order { from ≤ end }
+    requires few { end ≤ 64 }
+    requires end { end ≡ length dues.now }
+    requires late { AreLate dues.now t }
+    requires before { (k : ℕ) → k < from → slice_get dues.now k ≢ Some (Some t) }
+    ensures from { from ≤ result }
+    ensures within { result ≤ end }
+    ensures passed { (k : ℕ) → from ≤ k → k < result → (has_part parts k ≡ false) × (slice_get dues.now k ≢ Some (Some t)) }
+{
+    let due = first_at(dues, t, end);
+    parts.next(from, due)
+}
+
+/// Gives each part its turn that is due, addressed by the script, or on a net whose level changed: where it is active
+/// it is woken, and the nets are told what it drives and connects. It leaves the bytes that come in answers.
 pub(crate) fn wake_active<P: Part, L: Ledger>(
     parts: &mut [P],
     dues: &mut DueTree,
     wiring: &Wiring,
-    own: &[Level],
-    flags: &mut [bool],
+    differ: PartSet,
+    own: &mut [Level],
     given: &[Input],
     answers: &mut [Option<u8>],
     t: u32,
@@ -119,29 +168,31 @@ pub(crate) fn wake_active<P: Part, L: Ledger>(
     requires may { (k : ℕ) (p : _) (d : Option ℕ) → slice_get parts.old k ≡ Some p → slice_get dues.old k ≡ Some d → MayTurn P.machine P.state P.now P.wake_count t d p }
     requires valid { (k : ℕ) (p : _) → slice_get parts.old k ≡ Some p → P.machine.valid (P.state p) (P.now p) ≡ true }
     requires dues { length dues.old ≡ length parts.old }
-    requires own { length own.now ≡ length wiring.now.net_of }
-    requires flags { length flags.old ≡ length parts.old }
-    requires differ { (k : ℕ) (p : _) → slice_get parts.old k ≡ Some p → slice_get flags.old k ≡ Some true → 0 < t → P.machine.held (P.state p) ≢ own_part wiring.now k (length (P.machine.drives (P.state p))) own.now }
+    requires own { length own.old ≡ length wiring.now.net_of }
+    requires differ { (k : ℕ) (p : _) → slice_get parts.old k ≡ Some p → has_part differ k ≡ true → 0 < t
+        → P.machine.held (P.state p) ≢ levels_on P.machine wiring.now nets.old.levels k (P.state p) }
     requires answers { length answers.old ≡ length parts.old }
+    requires none { AreNone answers.old }
     requires wired { (nets.old.net_of ≡ wiring.now.net_of) × (nets.old.contacts ≡ wiring.now.contacts) }
     requires told { IsTold P.machine (map P.state parts.old) nets.old }
     ensures told { IsTold P.machine (map P.state parts.new) nets.new }
     ensures rest { nets.new ≡ record nets.old { drives = nets.new.drives; closed = nets.new.closed } }
-    ensures turns { (inputs : List Input) (ls : List Level) (ts : List P.State) → Awaits P.machine wiring.now P.state P.now given.now inputs ls own.now flags.old t parts.old ts
-        → Turns P.machine wiring.now inputs P.state P.now P.wake_count ls t ts (length parts.old) parts.old parts.new answers.new result.changed }
-    ensures unset { AreUnset flags.new }
-    ensures flags { length flags.new ≡ length flags.old }
+    ensures turns { (inputs : List Input) (ts : List P.State) → Awaits P.machine wiring.now P.state P.now given.now inputs nets.old.levels differ t parts.old ts
+        → Turns P.machine wiring.now inputs P.state P.now P.wake_count nets.old.levels t ts (length parts.old) parts.old parts.new answers.new result.changed }
     ensures due { AreDue P.machine P.state P.now P.wake_count parts.new dues.new }
     ensures dues { length dues.new ≡ length dues.old }
-    ensures silent { result.sent ≡ false → options answers.new ≡ [] }
-    ensures steps { (inputs : List Input) (ls : List Level) (ts : List P.State) → Awaits P.machine wiring.now P.state P.now given.now inputs ls own.now flags.old t parts.old ts
-        → steps.new ≡ steps.old + sum_below (length parts.old) (λ k. active_in P.machine wiring.now inputs ls t k (slice_get ts k)) }
+    ensures silent { result.sent ≡ false → AreNone answers.new }
+    ensures steps { (inputs : List Input) (ts : List P.State) → Awaits P.machine wiring.now P.state P.now given.now inputs nets.old.levels differ t parts.old ts
+        → steps.new ≡ steps.old + sum_below (length parts.old) (λ k. active_in P.machine wiring.now inputs nets.old.levels t k (slice_get ts k)) }
 {
-    let _net_of = wiring.net_of.as_slice(); // lists that are lent have lengths that numbers hold
-    let _contacts = wiring.contacts.as_slice();
+    let net_of = wiring.net_of.as_slice();
+    let _contacts = wiring.contacts.as_slice(); // lists that are lent have lengths that numbers hold
+    let marked = with_given(differ, given);
     let mut changed = false;
     let mut sent = false;
-    for i in 0..parts.len() {
+    let count = parts.len();
+    let mut i = next_part(marked, dues, t, 0, count);
+    while i < count {
         let first = wiring.first_pin.as_slice()[i] as usize;
         let pins = parts[i].pins() as usize;
         let input = find_input(given, t, i);
@@ -149,18 +200,20 @@ pub(crate) fn wake_active<P: Part, L: Ledger>(
         let (byte, touched) = take_turn(
             &mut parts[i],
             &mut due,
-            &own[first..first + pins],
-            flags[i],
+            nets.levels(),
+            &net_of[first..first + pins],
+            &mut own[first..first + pins],
+            differ.has(i),
             input,
             t,
             steps,
         );
         dues.set(i as u8, due);
         answers[i] = byte;
-        flags[i] = false;
         tell(touched, parts, i, first, nets);
         changed = changed | touched;
         sent = sent | byte.is_some();
+        i = next_part(marked, dues, t, i + 1, count);
     }
     Woken { changed, sent }
 }

@@ -1,11 +1,13 @@
-use Rattle.std.proofs.Common.{◌≡◌, ◌∙◌, sym, ap, subst, arith, length, map, List, ℕ, Bool}
-use Rattle.std.specs.Prelude.{◌&&◌, ◌==◌}
+use Rattle.std.proofs.Common.{get_or, ◌≡◌, ◌∙◌, refl, sym, ap, arith, length, map, List, ℕ, Bool}
+use Rattle.std.specs.Prelude.{◌&&◌, ◌==◌, eqb, slice_get}
 use Rattle.sim_base.specs.declared.signal.Level.{Level}
-use Rattle.board_model.specs.Board.{level_at, levels_of}
+use Rattle.board_model.specs.Board.{levels_of}
 use Rattle.board_model.specs.Rows.{same_list, same_level, same_drive, chip_drives_of}
 use Rattle.net_resolve.specs.Circuit.{Circuit, AreChanged}
-use Rattle.board_run.specs.Seen.{ArePieces}
-use Rattle.board_run.proofs.ReadLemmas.{none_changed, pieces_differ}
+use Rattle.std.specs.List.{list_any}
+use Rattle.board_run.specs.Parts.{has_part}
+use Rattle.board_run.proofs.ReadLemmas.{none_changed}
+use Rattle.board_run.proofs.PartLemmas.{any_true, eqb_self, differ_is}
 use Rattle.board_run.proofs.reading.read_all.Goals as goal
 
 pub returns-clause-same : goal.returns-clause-same
@@ -26,7 +28,7 @@ returns-clause-same g c =
     let resolved = ap (λ (x : Circuit). x.levels) c.resolve_marked.ensures.levels in
     let levels : new.levels ≡ levels_of m w ss = cc in
     let nets : new.nets ≡ w.nets = ap (λ (x : Circuit). x.nets) c.resolve_marked.ensures.levels ∙ a in
-    let long : length old.levels ≡ length new.levels = suits.levels_long ∙ sym nets ∙ sym c.levels.ensures.nets ∙ ap length c.levels.ensures.levels in
+    let long : length old.levels ≡ length new.levels = suits.levels_long ∙ sym nets ∙ sym c.levels-levels.ensures.nets ∙ ap length c.levels-levels.ensures.levels in
     let are : AreChanged old.levels new.levels new.changed = c.resolve_marked.ensures.changed in
     let none = none_changed old.levels new.levels new.changed c.is_empty-same_levels.result long are (c.is_empty-same_levels.ensures ∙ ap (λ (ns : List ℕ). length ns == 0) c.changed.ensures.changed) in
     ap (λ (x : Bool). x && c.keep_chips-same_drives.result) none
@@ -39,8 +41,35 @@ returns-clause-differ g c =
     let m = p.machine in
     let w = c.args.wiring.now in
     let ss = map p.state c.args.parts.now in
+    let suits = c.requires.suits in
     let new = c.resolve_marked.new.self in
-    let pieces : ArePieces m ss (map (level_at new.levels) w.net_of) c.args.own.now c.keep_levels.new.flags =
-    subst (λ (ls : List Level). ArePieces m ss (map (level_at ls) w.net_of) c.args.own.now c.keep_levels.new.flags) c.levels.ensures.levels
-    (subst (λ (ns : List ℕ). ArePieces m ss (map (level_at c.levels.result.now) ns) c.args.own.now c.keep_levels.new.flags) c.as_slice-net_of.ensures c.keep_levels.ensures.differ) in
-    pieces_differ m w ss c.args.nets.now.levels new.levels c.args.own.now c.keep_levels.new.flags c.requires.fits c.requires.suits.own_are pieces
+    let nets : new.nets ≡ w.nets = ap (λ (x : Circuit). x.nets) c.resolve_marked.ensures.levels ∙ suits.nets in
+    let later : length new.levels ≡ w.nets = sym (ap length c.levels-levels.ensures.levels) ∙ c.levels-levels.ensures.nets ∙ nets in
+    λ k s es. c.parts_on-differ.ensures k ∙ ap (list_any (λ (n : ℕ). has_part (get_or c.args.on.now n (record { bits = 0 })) k)) c.changed-2.ensures.changed ∙ differ_is m w ss c.requires.fits c.args.nets.now.levels new.levels new.changed c.args.on.now suits.levels_long later suits.on_long suits.on_are
+    c.resolve_marked.ensures.changed (λ j n en. let there = c.changed-2.ensures.nets n (any_true (eqb n) c.changed-2.result.now j n (ap (λ (ns : List ℕ). slice_get ns j) c.changed-2.ensures.changed ∙ en) (eqb_self n n refl)) in omega (arith, there, nets)) (record { bits = 0 }) k s es
+
+pub parts_on-differ-requires : goal.parts_on-differ-requires
+parts_on-differ-requires g c = λ j n en.
+    let suits = c.requires.suits in
+    let nets = ap (λ (x : Circuit). x.nets) c.resolve_marked.ensures.levels ∙ suits.nets in
+    let there = c.changed-2.ensures.nets n (any_true (eqb n) c.changed-2.result.now j n en (eqb_self n n refl)) in
+    omega (arith, there, nets, suits.on_long)
+
+pub returns-clause-suits : goal.returns-clause-suits
+returns-clause-suits g c =
+    let suits = c.requires.suits in
+    let r = c.resolve_marked.ensures.levels in
+    let new = c.resolve_marked.new.self in
+    let nets : new.nets ≡ c.args.wiring.now.nets = ap (λ (x : Circuit). x.nets) r ∙ suits.nets in
+    record {
+      nets = nets;
+      net_of = ap (λ (x : Circuit). x.net_of) r ∙ suits.net_of;
+      contacts = ap (λ (x : Circuit). x.contacts) r ∙ suits.contacts;
+      resistors = ap (λ (x : Circuit). x.resistors) r ∙ suits.resistors;
+      drives_long = ap (λ (x : Circuit). length x.drives) r ∙ suits.drives_long;
+      closed_long = ap (λ (x : Circuit). length x.closed) r ∙ suits.closed_long;
+      levels_long = sym (ap length c.levels-levels.ensures.levels) ∙ c.levels-levels.ensures.nets ∙ nets;
+      chips_long = omega (arith, c.keep_chips-same_drives.auto, suits.chips_long);
+      on_long = suits.on_long;
+      on_are = suits.on_are;
+    }

@@ -5,9 +5,9 @@ use Rattle.board_run.specs.Seen.{Seen}
 use Rattle.board_run.proofs.ShowLemmas.{same_still}
 use Rattle.board_run.proofs.show.show_cycle.Goals as goal
 
-pub hand_row-requires-clause-still : goal.hand_row-requires-clause-still
-hand_row-requires-clause-still g c = λ none x ex.
+pub hand_row-end-requires-clause-still : goal.hand_row-end-requires-clause-still
+hand_row-end-requires-clause-still g c = λ none x ex.
     let r = c.refresh-same in
     let p = g.P.Part in
-    let still = same_still p.machine c.args.wiring.now _ c.args.reading.now r.new.reading r.result r.ensures.same (not_false r.result (or_right _ _ none)) r.ensures.of in
+    let still = same_still p.machine c.args.wiring.now _ c.args.reading.now r.new.reading r.result.0 r.ensures.same (not_false r.result.0 (or_right _ _ none)) r.ensures.of in
     subst (λ (ls : List Level). g.W.Watcher.seen c.args.out.now ls) (still ∙ ap (λ (x : Seen). x.circuit.levels) (sym c.reading.view_is) ∙ sym c.levels.ensures.levels) (c.requires.behind x ex).1

@@ -1,4 +1,4 @@
-use Rattle.std.proofs.Common.{◌<◌, ◌∙◌, arith, length, map, ap}
+use Rattle.std.proofs.Common.{◌<◌, arith, length, map}
 use Rattle.board_model.proofs.Lists.{some_map, flat_map_room}
 use Rattle.board_run.proofs.GatherLemmas.{item_at}
 use Rattle.board_run.proofs.ReadLemmas.{place_more}

@@ -1,5 +1,5 @@
-use Rattle.std.proofs.Common.{◌≡◌, ◌≢◌, ◌<◌, ◌≤◌, ◌+◌, ◌∙◌, ◌⊎◌, inl, inr, ℕ, ap, sym, subst, arith, length, List, length-set}
-use Rattle.std.specs.Prelude.{min, slice_get, slice_set}
+use Rattle.std.proofs.Common.{◌≡◌, ◌≢◌, ◌<◌, ◌≤◌, ◌+◌, ◌∙◌, inl, inr, ℕ, ap, sym, arith, length, List, length-set}
+use Rattle.std.specs.Prelude.{slice_get, slice_set}
 use Rattle.sim_base.specs.declared.signal.Drive.{Drive}
 use Rattle.net_resolve.specs.Circuit.{Circuit}
 use Rattle.board_model.proofs.Lists.{lt_or_eq, get_set_same, get_set_other}

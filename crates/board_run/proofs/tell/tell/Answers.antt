@@ -1,4 +1,4 @@
-use Rattle.std.proofs.Common.{◌≡◌, ◌≤◌, ◌∙◌, arith, length, map, ap, sym, subst, List, true}
+use Rattle.std.proofs.Common.{◌≡◌, ◌∙◌, arith, length, map, ap, sym, subst, List, true}
 use Rattle.sim_base.specs.declared.signal.Drive.{Drive}
 use Rattle.net_resolve.specs.Circuit.{Circuit}
 use Rattle.board_model.proofs.Lists.{some_same, some_map, flat_map_room}

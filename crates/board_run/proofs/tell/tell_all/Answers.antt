@@ -1,8 +1,7 @@
-use Rattle.std.proofs.Common.{◌≡◌, ◌+◌, ◌<◌, ◌≤◌, ◌∙◌, ap, sym, subst, arith, length, map, get_or, List, Bool, Some, false, refl}
-use Rattle.std.specs.Prelude.{slice_get}
+use Rattle.std.proofs.Common.{◌≡◌, ◌≤◌, ◌∙◌, ap, sym, arith, length, map, refl}
 use Rattle.std.proofs.lemmas.List.{length-map}
 use Rattle.net_resolve.specs.Circuit.{Circuit}
-use Rattle.board_model.proofs.Lists.{some_map, some_same, get_within, flat_map_room}
+use Rattle.board_model.proofs.Lists.{some_map, some_same, flat_map_room}
 use Rattle.board_run.proofs.GatherLemmas.{item_at}
 use Rattle.board_run.proofs.ReadLemmas.{gathered_more, gathered_end}
 use Rattle.board_run.proofs.tell.tell_all.Goals as goal

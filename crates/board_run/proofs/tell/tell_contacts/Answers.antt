@@ -1,9 +1,6 @@
-use Rattle.std.proofs.Common.{◌≡◌, ◌≤◌, ◌∙◌, arith, length, map, ap, sym, subst, take, List}
-use Rattle.board_model.specs.Board.{contacts_of}
-use Rattle.board_model.proofs.Lists.{some_same, some_map, flat_map_room, get_within}
+use Rattle.std.proofs.Common.{arith, map}
+use Rattle.board_model.proofs.Lists.{some_map, flat_map_room}
 use Rattle.board_run.proofs.GatherLemmas.{item_at}
-use Rattle.board_run.proofs.ReadLemmas.{put_none}
-use Rattle.board_run.specs.Seen.{Put}
 use Rattle.board_run.proofs.tell.tell_contacts.Goals as goal
 
 pub set_ports-requires-clause-room : goal.set_ports-requires-clause-room

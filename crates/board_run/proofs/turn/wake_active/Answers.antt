@@ -1,122 +1,234 @@
-use Rattle.std.proofs.Common.{arith, ◌≡◌, ◌<◌, ◌+◌, ◌∙◌, ℕ, List, length, map, take, sym, ap, subst, get_or, refl, Option, Some, false, length-set}
-use Rattle.std.specs.Prelude.{slice_get, slice_set}
-use Rattle.std.proofs.lemmas.Option.{slice_get_within}
-use Rattle.board_laws.specs.Active.{sum_below, active_in}
-use Rattle.board_model.proofs.Lists.{done_more, done_next, some_map, some_same, get_within, get_set_same, get_set_other}
-use Rattle.board_run.specs.Lagging.{Turns, Awaits, AreDue}
+use Rattle.std.proofs.Common.{arith, ◌≡◌, ◌≢◌, ◌<◌, ◌≤◌, ◌+◌, ◌-◌, ◌∙◌, ℕ, List, length, map, take, drop, sym, ap, subst, get_or, refl, Option, Some, false, inl, inr, length-set}
+use Rattle.std.specs.Prelude.{◌||◌, slice_get, slice_set}
+use Rattle.std.proofs.lemmas.List.{length-map}
 use Rattle.sim_base.specs.declared.signal.Level.{Level}
 use Rattle.sim_base.specs.declared.wiring.Input.{Input}
-use Rattle.board_run.proofs.StepLemmas.{fits_pins}
-use Rattle.board_run.proofs.WakeLemmas.{or_none, part_of, silent_more}
-use Rattle.board_model.specs.Board.{contacts_of}
+use Rattle.board_laws.specs.Active.{sum_below, active_in}
+use Rattle.board_model.specs.Board.{contacts_of, level_at}
+use Rattle.board_model.proofs.Lists.{some_map, some_same, get_within, get_set_same, get_set_other}
 use Rattle.net_resolve.specs.Circuit.{Circuit}
-use Rattle.std.proofs.lemmas.List.{length-map}
+use Rattle.board_run.specs.Lagging.{to_wake, turned, Turns, Awaits, AreDue, AreLate}
 use Rattle.board_run.specs.Seen.{HasAt}
-use Rattle.board_run.proofs.ReadLemmas.{unset_more, told_more, still_told, others_told}
-use Rattle.board_run.proofs.TurnLemmas.{awaited_turn, turns_more, due_set, count_more, turned_room, turned_still, turned_others, fits_set}
+use Rattle.board_run.proofs.StepLemmas.{fits_pins}
+use Rattle.board_run.proofs.WakeLemmas.{silent_more}
+use Rattle.board_run.proofs.ReadLemmas.{told_more, still_told, others_told}
+use Rattle.board_run.proofs.TurnLemmas.{some_there, awaited_turn, awaited_rest, turns_none, turns_more, turns_skip, less_or, due_set, dues_late, late_set, passed_set, count_more, sum_skip, turned_room, turned_still, turned_others, fits_set}
 use Rattle.board_run.proofs.turn.wake_active.Goals as goal
 
-pub slice_bounds-take_turn-end : goal.slice_bounds-take_turn-end
-slice_bounds-take_turn-end g c =
+pub loop-i-init : goal.loop-i-init
+loop-i-init g c =
     let p = g.P.Part in
-    let old = done_next _ c.loop-i.i c.args.parts.now c.loop-i.parts c.index-parts-i.result c.loop-i.invariant.parts c.loop-i-test.true in
-    let room = fits_pins p.machine c.args.wiring.now (map p.state c.args.parts.now) c.requires.fits c.loop-i.i _ (some_map p.state c.args.parts.now c.loop-i.i _ old) in
-    omega (arith, room, c.pins-pins.ensures, c.requires.own, ap (λ (l : List ℕ). get_or l c.loop-i.i 0) c.as_slice.ensures)
-
-pub take_turn-byte-requires-clause-may : goal.take_turn-byte-requires-clause-may
-take_turn-byte-requires-clause-may g c =
-    let i = c.loop-i.i in
-    let inv = c.loop-i.invariant in
-    let old = done_next _ i c.args.parts.now c.loop-i.parts c.index-parts-i-in-loop-i.result inv.parts c.loop-i-test.true in
-    let within : i < length c.loop-i.dues = omega (arith, inv.dues_long, c.requires.dues) in
-    let due = sym (inv.rest i (omega arith)) ∙ c.due-due.ensures in
-    c.requires.may i _ _ old due
-
-pub take_turn-byte-requires-clause-differs : goal.take_turn-byte-requires-clause-differs
-take_turn-byte-requires-clause-differs g c = λ set later same.
-    let p = g.P.Part in
-    let i = c.loop-i.i in
-    let inv = c.loop-i.invariant in
-    let old = done_next _ i c.args.parts.now c.loop-i.parts c.index-parts-i-in-loop-i.result inv.parts c.loop-i-test.true in
-    let other = done_next _ i c.args.parts.now c.loop-i.parts c.index-parts-i.result inv.parts c.loop-i-test.true in
-    let pins = c.pins-pins.ensures ∙ ap (λ (y : g.row.P.Denot). length (p.machine.drives (p.state y))) (some_same (sym other ∙ old)) in
-    let first = ap (λ (l : List ℕ). get_or l i 0) c.as_slice.ensures in
-    let inside : i < length c.loop-i.flags = omega (arith, inv.flags_long, c.requires.flags, c.loop-i-test.true) in
-    let flag = sym (inv.flags_rest i (omega arith)) ∙ get_within c.loop-i.flags i false inside ∙ ap Some set in
-    c.requires.differ i _ old flag later (same ∙ sym (part_of c.args.wiring.now c.args.own.now i _ _ _ first pins))
+    let m = p.machine in
+    let laws = g.met.P.Part.laws in
+    let w = c.args.wiring.now in
+    let ls = c.args.nets.now.levels in
+    let j = c.next_part-i.result in
+    let e = c.next_part-i.ensures in
+    let inside : j ≤ length c.args.parts.now = omega (arith, e.within) in
+    let pass = λ (inputs : List Input) (ts : List p.State) (awaits : Awaits m w p.state p.now c.args.given.now inputs ls c.args.differ c.args.t c.args.parts.now ts) (k : ℕ) (x : _) (s : p.State) (l : 0 ≤ k) (h : k < j)
+    (ex : slice_get c.args.parts.now k ≡ Some x) (es : slice_get ts k ≡ Some s).
+    let d = some_there c.args.dues.now k (omega (arith, h, inside, c.requires.dues)) in
+    let few : k < 64 = omega (arith, h, inside, c.requires.few) in
+    let none = c.with_given-marked.ensures c.args.t k few (e.passed k l h).0 in
+    awaited_rest m laws w c.args.given.now inputs p.state p.now p.wake_count ls c.args.differ c.args.t c.args.parts.now ts c.requires.end awaits k x s d.0 ex es none.0 (c.requires.may k x d.0 ex d.1)
+    (λ same. (e.passed k l h).1 (d.1 ∙ ap Some same)) none.1 in
+    record {
+      within = inside;
+      rest_parts = λ k l. refl;
+      rest = λ k l. refl;
+      dues_long = refl;
+      due = λ k x d ex ed. (c.requires.may k x d ex ed).first;
+      late = dues_late m p.state p.now p.wake_count c.args.t c.args.parts.now c.args.dues.now c.requires.dues c.requires.may;
+      passed = λ k l. (e.passed k (omega arith) l).1;
+      turns = λ inputs ts awaits. turns_skip m laws w inputs p.state p.now p.wake_count ls c.args.t ts 0 j c.args.parts.now c.args.parts.now c.args.answers.now false
+          (turns_none m laws w inputs p.state p.now p.wake_count ls c.args.t ts c.args.parts.now c.args.answers.now false) awaits.stands.long inside (omega (arith, c.requires.answers)) (λ k l. refl) (λ k a l ea. c.requires.none k a ea)
+          (λ k x s l h ex es. (pass inputs ts awaits k x s l h ex es).0);
+      fits = c.requires.fits;
+      told = c.requires.told;
+      nets_rest = refl;
+      quiet = λ k a l ea. c.requires.none k a ea;
+      silent = λ none. c.requires.none;
+      steps = λ inputs ts awaits.
+          let f = λ (k : ℕ). active_in m w inputs ls c.args.t k (slice_get ts k) in
+          let zero_sum : sum_below j f ≡ 0 = sum_skip 0 j f (omega arith) (λ k l h.
+          let x = some_there c.args.parts.now k (omega (arith, h, inside)) in
+          let s = some_there ts k (omega (arith, h, inside, awaits.stands.long)) in
+          ap (active_in m w inputs ls c.args.t k) s.1 ∙ (pass inputs ts awaits k x.0 s.0 l h x.1 s.1).1) in
+          omega (arith, zero_sum);
+    }
 
 pub loop-i-preserved : goal.loop-i-preserved
 loop-i-preserved g c =
     let p = g.P.Part in
     let m = p.machine in
+    let laws = g.met.P.Part.laws in
     let w = c.args.wiring.now in
+    let ls = c.args.nets.now.levels in
     let i = c.loop-i.i in
     let t = c.args.t in
     let inv = c.loop-i.invariant in
     let x = get_or c.loop-i.parts i c.index-parts-i-in-loop-i.result in
     let e = c.take_turn-byte.ensures in
     let y = c.take_turn-byte.new.part in
-    let old = done_next _ i c.args.parts.now c.loop-i.parts c.index-parts-i-in-loop-i.result inv.parts c.loop-i-test.true in
-    let other = done_next _ i c.args.parts.now c.loop-i.parts c.index-parts-i.result inv.parts c.loop-i-test.true in
-    let pins = c.pins-pins.ensures ∙ ap (λ (y : g.row.P.Denot). length (m.drives (p.state y))) (some_same (sym other ∙ old)) in
+    let byte = c.take_turn-byte.result.0 in
+    let within : i < length c.loop-i.parts = omega (arith, c.loop-i.auto.parts, c.loop-i-test.true) in
+    let here_is : slice_get c.loop-i.parts i ≡ Some x = get_within c.loop-i.parts i _ within in
+    let other : slice_get c.loop-i.parts i ≡ Some (get_or c.loop-i.parts i c.index-parts-i.result) = get_within c.loop-i.parts i c.index-parts-i.result within in
+    let old = sym (inv.rest_parts i (omega arith)) ∙ here_is in
+    let pins = c.pins-pins.ensures ∙ ap (λ (y : g.row.P.Denot). length (m.drives (p.state y))) (some_same (sym other ∙ here_is)) in
+    let at = get_or c.as_slice.result.now i 0 in
+    let levels_are : c.levels.result.now ≡ ls = c.levels.ensures.levels ∙ ap (λ (z : Circuit). z.levels) inv.nets_rest in
     let first = ap (λ (l : List ℕ). get_or l i 0) c.as_slice.ensures in
-    let here : i < length c.loop-i.dues = omega (arith, inv.dues_long, c.requires.dues) in
+    let here : i < length c.loop-i.dues = omega (arith, inv.dues_long, c.requires.dues, within, c.loop-i.auto.parts) in
     let due = sym (inv.rest i (omega arith)) ∙ c.due-due.ensures in
     let may = c.requires.may i x _ old due in
-    let room : i < length c.loop-i.answers = omega (arith, c.loop-i.auto.answers, c.requires.answers) in
-    let within : i < length c.loop-i.parts = omega (arith, c.loop-i.auto.parts) in
-    let state_at = λ (ts : List p.State). get_or ts i (p.state x) in
-    let space : i < length c.loop-i.flags = omega (arith, inv.flags_long, c.requires.flags, c.loop-i-test.true) in
-    let flag = sym (inv.flags_rest i (omega arith)) ∙ get_within c.loop-i.flags i false space in
-    let here_is : slice_get c.loop-i.parts i ≡ Some x = get_within c.loop-i.parts i _ within in
+    let room : i < length c.loop-i.answers = omega (arith, c.loop-i.auto.answers, c.requires.answers, within, c.loop-i.auto.parts) in
     let new_is : slice_get (slice_set c.loop-i.parts i y) i ≡ Some y = get_set_same c.loop-i.parts i y within in
-    let room_is = turned_room m g.met.P.Part.laws p.state p.now p.wake_count t x y _ _ _ _ _ e.turn in
+    let room_is = turned_room m laws p.state p.now p.wake_count t x y _ _ _ _ _ e.turn in
     let fits_new = fits_set m w p.state c.loop-i.parts i x y here_is room_is inv.fits in
     let inside_is : i < length (map p.state c.loop-i.parts) = (let l : length (map p.state c.loop-i.parts) ≡ length c.loop-i.parts = simp length-map refl in omega (arith, l, within)) in
     let place = ap (λ (l : List ℕ). get_or l i 0) c.as_slice.ensures ∙ inv.fits.places i inside_is in
-    let turn = λ (inputs : List Input) (ls : List Level) (ts : List p.State) (awaits : Awaits m w p.state p.now c.args.given.now inputs ls c.args.own.now c.args.flags.now t c.args.parts.now ts).
-    let inside : i < length ts = omega (arith, awaits.stands.long, c.loop-i-test.true) in
-    awaited_turn m g.met.P.Part.laws w c.args.given.now inputs p.state p.now p.wake_count ls c.args.own.now c.args.flags.now t c.args.parts.now ts c.requires.end awaits
-    i x y (state_at ts) _ c.find_input-input.result c.take_turn-byte.result.0 (get_or c.as_slice.result.now i 0) c.pins-pins.result (get_or c.loop-i.flags i false) c.take_turn-byte.result.1
-    old (get_within ts i (p.state x) inside) flag may first pins c.find_input-input.ensures e.turn in
+    let ps = slice_set c.loop-i.parts i y in
+    let ds = slice_set c.loop-i.dues i c.take_turn-byte.new.due in
+    let bs = slice_set c.loop-i.answers i byte in
+    let changed = c.loop-i.changed || c.take_turn-byte.result.1 in
+    let j = c.next_part-i-in-loop-i.result in
+    let n = c.next_part-i-in-loop-i.ensures in
+    let inside : j ≤ length c.args.parts.now = omega (arith, n.within) in
+    let rest_parts = λ (k : ℕ) (l : i + 1 ≤ k). get_set_other c.loop-i.parts i k y (omega (arith, l)) ∙ inv.rest_parts k (omega (arith, l)) in
+    let rest = λ (k : ℕ) (l : i + 1 ≤ k). get_set_other c.loop-i.dues i k c.take_turn-byte.new.due (omega (arith, l)) ∙ inv.rest k (omega (arith, l)) in
+    let quiet = λ (k : ℕ) (a : Option ℕ) (l : i + 1 ≤ k) (ea : slice_get bs k ≡ Some a). inv.quiet k a (omega (arith, l)) (sym (get_set_other c.loop-i.answers i k byte (omega (arith, l))) ∙ ea) in
+    let pass = λ (inputs : List Input) (ts : List p.State) (awaits : Awaits m w p.state p.now c.args.given.now inputs ls c.args.differ t c.args.parts.now ts) (k : ℕ) (z : _) (s : p.State) (l : i + 1 ≤ k) (h : k < j)
+    (ez : slice_get c.args.parts.now k ≡ Some z) (es : slice_get ts k ≡ Some s).
+    let d = some_there c.args.dues.now k (omega (arith, h, inside, c.requires.dues)) in
+    let few : k < 64 = omega (arith, h, inside, c.requires.few) in
+    let none = c.with_given-marked.ensures t k few (n.passed k l h).0 in
+    let now_is : slice_get c.set.new.self k ≡ Some d.0 = ap (λ (q : List (Option ℕ)). slice_get q k) c.set.ensures ∙ rest k l ∙ d.1 in
+    awaited_rest m laws w c.args.given.now inputs p.state p.now p.wake_count ls c.args.differ t c.args.parts.now ts c.requires.end awaits k z s d.0 ez es none.0 (c.requires.may k z d.0 ez d.1)
+    (λ same. (n.passed k l h).1 (now_is ∙ ap Some same)) none.1 in
+    let turn = λ (inputs : List Input) (ts : List p.State) (awaits : Awaits m w p.state p.now c.args.given.now inputs ls c.args.differ t c.args.parts.now ts).
+    let s = some_there ts i (omega (arith, awaits.stands.long, within, c.loop-i.auto.parts)) in
+    awaited_turn m laws w c.args.given.now inputs p.state p.now p.wake_count ls c.args.differ t c.args.parts.now ts c.requires.end awaits
+    i x y s.0 _ c.find_input-input.result byte (get_or c.as_slice.result.now i 0) c.pins-pins.result c.has.result c.take_turn-byte.result.1
+    old s.1 c.has.ensures may first pins c.find_input-input.ensures (subst (λ (ns : List ℕ). turned m p.state p.now p.wake_count (to_wake c.due-due.result t c.find_input-input.result c.has.result) t (map (level_at ls) (take (at + c.pins-pins.result - at) (drop at ns))) c.find_input-input.result x y byte c.take_turn-byte.result.1) c.as_slice-net_of.ensures
+    (subst (λ (l : List Level). turned m p.state p.now p.wake_count (to_wake c.due-due.result t c.find_input-input.result c.has.result) t (map (level_at l) (take (at + c.pins-pins.result - at) (drop at c.as_slice-net_of.result.now))) c.find_input-input.result x y byte c.take_turn-byte.result.1) levels_are e.turn)) in
     record {
-      parts = done_more _ i c.args.parts.now c.loop-i.parts x y inv.parts c.loop-i-test.true old refl;
-      rest = λ k l. ap (λ (ds : List (Option ℕ)). slice_get ds k) c.set.ensures ∙ get_set_other c.loop-i.dues i k _ (omega arith) ∙ inv.rest k (omega arith);
-      due = subst (λ (ds : List (Option ℕ)). AreDue m p.state p.now p.wake_count (slice_set c.loop-i.parts i y) ds) (sym c.set.ensures) (due_set m p.state p.now p.wake_count c.loop-i.parts c.loop-i.dues i y _ within here inv.due e.first);
+      within = inside;
+      rest_parts = λ k l. rest_parts k (omega (arith, l, n.from));
+      rest = λ k l. ap (λ (q : List (Option ℕ)). slice_get q k) c.set.ensures ∙ rest k (omega (arith, l, n.from));
       dues_long = ap length c.set.ensures ∙ length-set c.loop-i.dues i _ ∙ inv.dues_long;
-      turns = λ inputs ls ts awaits.
-          let inside : i < length ts = omega (arith, awaits.stands.long, c.loop-i-test.true) in
-          turns_more m g.met.P.Part.laws w inputs p.state p.now p.wake_count ls t ts i c.args.parts.now c.loop-i.parts c.loop-i.answers c.loop-i.changed c.take_turn-byte.result.1 x y (state_at ts) c.take_turn-byte.result.0
-          (inv.turns inputs ls ts awaits) old (get_within ts i (p.state x) inside) within room (turn inputs ls ts awaits).0;
-      flags_long = length-set c.loop-i.flags i _ ∙ inv.flags_long;
-      flags_rest = λ k l. get_set_other c.loop-i.flags i k _ (omega arith) ∙ inv.flags_rest k (omega arith);
-      unset = unset_more c.loop-i.flags i false space refl inv.unset;
+      due = subst (λ (q : List (Option ℕ)). AreDue m p.state p.now p.wake_count ps q) (sym c.set.ensures) (due_set m p.state p.now p.wake_count c.loop-i.parts c.loop-i.dues i y _ within here inv.due e.first);
+      late = subst (λ (q : List (Option ℕ)). AreLate q t) (sym c.set.ensures) (late_set c.loop-i.dues i t c.take_turn-byte.new.due here inv.late e.later);
+      passed = λ k l. elim (less_or k (i + 1)) [
+        | inl less ↦ subst (λ (q : List (Option ℕ)). slice_get q k ≢ Some (Some t)) (sym c.set.ensures) (passed_set c.loop-i.dues i t c.take_turn-byte.new.due here inv.passed e.later k less)
+        | inr more ↦ (n.passed k more l).1
+      ];
+      turns = λ inputs ts awaits.
+          let s = some_there ts i (omega (arith, awaits.stands.long, within, c.loop-i.auto.parts)) in
+          let more = turns_more m laws w inputs p.state p.now p.wake_count ls t ts i c.args.parts.now c.loop-i.parts c.loop-i.answers c.loop-i.changed c.take_turn-byte.result.1 x y s.0 byte
+          (inv.turns inputs ts awaits) old s.1 within room (turn inputs ts awaits).0 in
+          turns_skip m laws w inputs p.state p.now p.wake_count ls t ts (i + 1) j c.args.parts.now ps bs changed more awaits.stands.long inside
+          (let l : length bs ≡ length c.loop-i.answers = length-set c.loop-i.answers i byte in omega (arith, l, c.loop-i.auto.answers, c.requires.answers)) rest_parts quiet (λ k z s l h ez es. (pass inputs ts awaits k z s l h ez es).0);
       fits = fits_new;
       told = told_more m p.state c.loop-i.parts i x y c.loop-i.nets c.tell.new.nets here_is inv.told room_is.0 room_is.1 _ place (c.tell.ensures.drives y new_is) (c.tell.ensures.closed y new_is);
       nets_rest = c.tell.ensures.rest ∙ ap (λ (z : Circuit). record z { drives = c.tell.new.nets.drives; closed = c.tell.new.nets.closed }) inv.nets_rest;
-      silent = λ none. silent_more c.loop-i.answers i c.take_turn-byte.result.0 c.loop-i.sent _ room c.is_some-sent.ensures none inv.silent;
-      steps = λ inputs ls ts awaits.
-          let inside : i < length ts = omega (arith, awaits.stands.long, c.loop-i-test.true) in
-          count_more i c.args.steps.now c.loop-i.steps c.take_turn-byte.new.steps (λ k. active_in m w inputs ls t k (slice_get ts k)) _ (inv.steps inputs ls ts awaits) e.steps
-          (ap (active_in m w inputs ls t i) (get_within ts i (p.state x) inside) ∙ (turn inputs ls ts awaits).1);
+      quiet = λ k a l ea. quiet k a (omega (arith, l, n.from)) ea;
+      silent = λ none. silent_more c.loop-i.answers i byte c.loop-i.sent _ room c.is_some-sent.ensures none inv.silent;
+      steps = λ inputs ts awaits.
+          let s = some_there ts i (omega (arith, awaits.stands.long, within, c.loop-i.auto.parts)) in
+          let f = λ (k : ℕ). active_in m w inputs ls t k (slice_get ts k) in
+          let counted = count_more i c.args.steps.now c.loop-i.steps c.take_turn-byte.new.steps f _ (inv.steps inputs ts awaits) e.steps (ap (active_in m w inputs ls t i) s.1 ∙ (turn inputs ts awaits).1) in
+          let skipped : sum_below j f ≡ sum_below (i + 1) f = sum_skip (i + 1) j f n.from (λ k l h.
+          let z = some_there c.args.parts.now k (omega (arith, h, inside)) in
+          let u = some_there ts k (omega (arith, h, inside, awaits.stands.long)) in
+          ap (active_in m w inputs ls t k) u.1 ∙ (pass inputs ts awaits k z.0 u.0 l h z.1 u.1).1) in
+          omega (arith, counted, skipped);
     }
 
-pub returns-clause-turns : goal.returns-clause-turns
-returns-clause-turns g c = λ inputs ls ts awaits.
+pub next_part-i-requires-clause-late : goal.next_part-i-requires-clause-late
+next_part-i-requires-clause-late g c =
     let p = g.P.Part in
-    let e : c.loop-i.i ≡ length c.args.parts.now = omega (arith, c.loop-i.auto.parts) in
-    subst (λ (n : ℕ). Turns p.machine c.args.wiring.now inputs p.state p.now p.wake_count ls c.args.t ts n c.args.parts.now c.loop-i.parts c.loop-i.answers c.loop-i.changed) e (c.loop-i.invariant.turns inputs ls ts awaits)
+    dues_late p.machine p.state p.now p.wake_count c.args.t c.args.parts.now c.args.dues.now c.requires.dues c.requires.may
+
+pub next_part-i-requires-in-loop-i-clause-late : goal.next_part-i-requires-in-loop-i-clause-late
+next_part-i-requires-in-loop-i-clause-late g c =
+    let inv = c.loop-i.invariant in
+    let i = c.loop-i.i in
+    let here : i < length c.loop-i.dues = omega (arith, inv.dues_long, c.requires.dues, c.loop-i-test.true) in
+    subst (λ (q : List (Option ℕ)). AreLate q c.args.t) (sym c.set.ensures) (late_set c.loop-i.dues i c.args.t c.take_turn-byte.new.due here inv.late c.take_turn-byte.ensures.later)
+
+pub next_part-i-requires-in-loop-i-clause-before : goal.next_part-i-requires-in-loop-i-clause-before
+next_part-i-requires-in-loop-i-clause-before g c =
+    let inv = c.loop-i.invariant in
+    let i = c.loop-i.i in
+    let here : i < length c.loop-i.dues = omega (arith, inv.dues_long, c.requires.dues, c.loop-i-test.true) in
+    λ k l. subst (λ (q : List (Option ℕ)). slice_get q k ≢ Some (Some c.args.t)) (sym c.set.ensures) (passed_set c.loop-i.dues i c.args.t c.take_turn-byte.new.due here inv.passed c.take_turn-byte.ensures.later k l)
+
+pub slice_bounds-take_turn-end-in-loop-i : goal.slice_bounds-take_turn-end-in-loop-i
+slice_bounds-take_turn-end-in-loop-i g c =
+    let p = g.P.Part in
+    let inv = c.loop-i.invariant in
+    let i = c.loop-i.i in
+    let within : i < length c.loop-i.parts = omega (arith, c.loop-i.auto.parts, c.loop-i-test.true) in
+    let here_is : slice_get c.loop-i.parts i ≡ Some (get_or c.loop-i.parts i c.index-parts-i.result) = get_within c.loop-i.parts i c.index-parts-i.result within in
+    let room = fits_pins p.machine c.args.wiring.now (map p.state c.loop-i.parts) inv.fits i _ (some_map p.state c.loop-i.parts i _ here_is) in
+    omega (arith, room, c.pins-pins.ensures, c.loop-i.auto.own, c.requires.own, ap (λ (l : List ℕ). get_or l i 0) c.as_slice.ensures)
+
+pub slice_bounds-take_turn-end : goal.slice_bounds-take_turn-end
+slice_bounds-take_turn-end g c =
+    let p = g.P.Part in
+    let inv = c.loop-i.invariant in
+    let i = c.loop-i.i in
+    let within : i < length c.loop-i.parts = omega (arith, c.loop-i.auto.parts, c.loop-i-test.true) in
+    let here_is : slice_get c.loop-i.parts i ≡ Some (get_or c.loop-i.parts i c.index-parts-i.result) = get_within c.loop-i.parts i c.index-parts-i.result within in
+    let room = fits_pins p.machine c.args.wiring.now (map p.state c.loop-i.parts) inv.fits i _ (some_map p.state c.loop-i.parts i _ here_is) in
+    omega (arith, room, c.pins-pins.ensures, ap length c.as_slice-net_of.ensures, ap (λ (l : List ℕ). get_or l i 0) c.as_slice.ensures)
+
+pub take_turn-byte-requires-clause-may : goal.take_turn-byte-requires-clause-may
+take_turn-byte-requires-clause-may g c =
+    let i = c.loop-i.i in
+    let inv = c.loop-i.invariant in
+    let within : i < length c.loop-i.parts = omega (arith, c.loop-i.auto.parts, c.loop-i-test.true) in
+    let here_is = get_within c.loop-i.parts i c.index-parts-i-in-loop-i.result within in
+    let due = sym (inv.rest i (omega arith)) ∙ c.due-due.ensures in
+    c.requires.may i _ _ (sym (inv.rest_parts i (omega arith)) ∙ here_is) due
+
+pub take_turn-byte-requires-clause-differs : goal.take_turn-byte-requires-clause-differs
+take_turn-byte-requires-clause-differs g c = λ is later same.
+    let p = g.P.Part in
+    let m = p.machine in
+    let w = c.args.wiring.now in
+    let ls = c.args.nets.now.levels in
+    let i = c.loop-i.i in
+    let inv = c.loop-i.invariant in
+    let x = get_or c.loop-i.parts i c.index-parts-i-in-loop-i.result in
+    let within : i < length c.loop-i.parts = omega (arith, c.loop-i.auto.parts, c.loop-i-test.true) in
+    let here_is : slice_get c.loop-i.parts i ≡ Some x = get_within c.loop-i.parts i _ within in
+    let other : slice_get c.loop-i.parts i ≡ Some (get_or c.loop-i.parts i c.index-parts-i.result) = get_within c.loop-i.parts i c.index-parts-i.result within in
+    let old = sym (inv.rest_parts i (omega arith)) ∙ here_is in
+    let pins = c.pins-pins.ensures ∙ ap (λ (y : g.row.P.Denot). length (m.drives (p.state y))) (some_same (sym other ∙ here_is)) in
+    let first = ap (λ (l : List ℕ). get_or l i 0) c.as_slice.ensures in
+    let at = get_or c.as_slice.result.now i 0 in
+    let n = length (m.drives (p.state x)) in
+    let count : at + c.pins-pins.result - at ≡ n = omega (arith, pins) in
+    let levels_are : c.levels.result.now ≡ ls = c.levels.ensures.levels ∙ ap (λ (z : Circuit). z.levels) inv.nets_rest in
+    c.requires.differ i x old (sym c.has.ensures ∙ is) later
+    (same ∙ ap (λ (l : List Level). map (level_at l) (take (at + c.pins-pins.result - at) (drop at c.as_slice-net_of.result.now))) levels_are
+    ∙ ap (λ (ns : List ℕ). map (level_at ls) (take (at + c.pins-pins.result - at) (drop at ns))) c.as_slice-net_of.ensures
+    ∙ ap (λ (j : ℕ). map (level_at ls) (take j (drop at w.net_of))) count
+    ∙ ap (λ (j : ℕ). map (level_at ls) (take n (drop j w.net_of))) first)
+
+pub returns-clause-turns : goal.returns-clause-turns
+returns-clause-turns g c = λ inputs ts awaits.
+    let p = g.P.Part in
+    let e : c.loop-i.i ≡ length c.args.parts.now = omega (arith, c.loop-i.auto.parts, c.loop-i.invariant.within, c.loop-i-test.false) in
+    subst (λ (n : ℕ). Turns p.machine c.args.wiring.now inputs p.state p.now p.wake_count c.args.nets.now.levels c.args.t ts n c.args.parts.now c.loop-i.parts c.loop-i.answers c.loop-i.changed) e (c.loop-i.invariant.turns inputs ts awaits)
 
 pub returns-clause-steps : goal.returns-clause-steps
-returns-clause-steps g c = λ inputs ls ts awaits.
+returns-clause-steps g c = λ inputs ts awaits.
     let p = g.P.Part in
-    let e : c.loop-i.i ≡ length c.args.parts.now = omega (arith, c.loop-i.auto.parts) in
-    subst (λ (n : ℕ). c.loop-i.steps ≡ c.args.steps.now + sum_below n (λ k. active_in p.machine c.args.wiring.now inputs ls c.args.t k (slice_get ts k))) e (c.loop-i.invariant.steps inputs ls ts awaits)
-
-pub returns-clause-unset : goal.returns-clause-unset
-returns-clause-unset g c = λ k b eb.
-    let within = slice_get_within c.loop-i.flags k b eb in
-    c.loop-i.invariant.unset k b (omega (arith, within, c.loop-i.invariant.flags_long, c.requires.flags, c.loop-i.auto.parts, c.loop-i-test.false)) eb
+    let e : c.loop-i.i ≡ length c.args.parts.now = omega (arith, c.loop-i.auto.parts, c.loop-i.invariant.within, c.loop-i-test.false) in
+    subst (λ (n : ℕ). c.loop-i.steps ≡ c.args.steps.now + sum_below n (λ k. active_in p.machine c.args.wiring.now inputs c.args.nets.now.levels c.args.t k (slice_get ts k))) e (c.loop-i.invariant.steps inputs ts awaits)
 
 pub tell-requires-clause-within : goal.tell-requires-clause-within
 tell-requires-clause-within g c =
@@ -127,7 +239,7 @@ tell-requires-clause-within g c =
     let inv = c.loop-i.invariant in
     let x = get_or c.loop-i.parts i c.index-parts-i-in-loop-i.result in
     let y = c.take_turn-byte.new.part in
-    let within : i < length c.loop-i.parts = omega (arith, c.loop-i.auto.parts) in
+    let within : i < length c.loop-i.parts = omega (arith, c.loop-i.auto.parts, c.loop-i-test.true) in
     let here_is : slice_get c.loop-i.parts i ≡ Some x = get_within c.loop-i.parts i _ within in
     let new_is : slice_get (slice_set c.loop-i.parts i y) i ≡ Some y = get_set_same c.loop-i.parts i y within in
     let room_is = turned_room m g.met.P.Part.laws p.state p.now p.wake_count c.args.t x y _ _ _ _ _ c.take_turn-byte.ensures.turn in
@@ -145,7 +257,7 @@ tell-requires-clause-first g c =
     let inv = c.loop-i.invariant in
     let x = get_or c.loop-i.parts i c.index-parts-i-in-loop-i.result in
     let y = c.take_turn-byte.new.part in
-    let within : i < length c.loop-i.parts = omega (arith, c.loop-i.auto.parts) in
+    let within : i < length c.loop-i.parts = omega (arith, c.loop-i.auto.parts, c.loop-i-test.true) in
     let here_is : slice_get c.loop-i.parts i ≡ Some x = get_within c.loop-i.parts i _ within in
     let new_is : slice_get (slice_set c.loop-i.parts i y) i ≡ Some y = get_set_same c.loop-i.parts i y within in
     let room_is = turned_room m g.met.P.Part.laws p.state p.now p.wake_count c.args.t x y _ _ _ _ _ c.take_turn-byte.ensures.turn in
@@ -164,7 +276,7 @@ tell-requires-clause-pins g c =
     let inv = c.loop-i.invariant in
     let x = get_or c.loop-i.parts i c.index-parts-i-in-loop-i.result in
     let y = c.take_turn-byte.new.part in
-    let within : i < length c.loop-i.parts = omega (arith, c.loop-i.auto.parts) in
+    let within : i < length c.loop-i.parts = omega (arith, c.loop-i.auto.parts, c.loop-i-test.true) in
     let here_is : slice_get c.loop-i.parts i ≡ Some x = get_within c.loop-i.parts i _ within in
     let new_is : slice_get (slice_set c.loop-i.parts i y) i ≡ Some y = get_set_same c.loop-i.parts i y within in
     let room_is = turned_room m g.met.P.Part.laws p.state p.now p.wake_count c.args.t x y _ _ _ _ _ c.take_turn-byte.ensures.turn in
@@ -182,7 +294,7 @@ tell-requires-clause-contacts g c =
     let inv = c.loop-i.invariant in
     let x = get_or c.loop-i.parts i c.index-parts-i-in-loop-i.result in
     let y = c.take_turn-byte.new.part in
-    let within : i < length c.loop-i.parts = omega (arith, c.loop-i.auto.parts) in
+    let within : i < length c.loop-i.parts = omega (arith, c.loop-i.auto.parts, c.loop-i-test.true) in
     let here_is : slice_get c.loop-i.parts i ≡ Some x = get_within c.loop-i.parts i _ within in
     let new_is : slice_get (slice_set c.loop-i.parts i y) i ≡ Some y = get_set_same c.loop-i.parts i y within in
     let room_is = turned_room m g.met.P.Part.laws p.state p.now p.wake_count c.args.t x y _ _ _ _ _ c.take_turn-byte.ensures.turn in
@@ -200,7 +312,7 @@ tell-requires-clause-few g c =
     let inv = c.loop-i.invariant in
     let x = get_or c.loop-i.parts i c.index-parts-i-in-loop-i.result in
     let y = c.take_turn-byte.new.part in
-    let within : i < length c.loop-i.parts = omega (arith, c.loop-i.auto.parts) in
+    let within : i < length c.loop-i.parts = omega (arith, c.loop-i.auto.parts, c.loop-i-test.true) in
     let here_is : slice_get c.loop-i.parts i ≡ Some x = get_within c.loop-i.parts i _ within in
     let new_is : slice_get (slice_set c.loop-i.parts i y) i ≡ Some y = get_set_same c.loop-i.parts i y within in
     let room_is = turned_room m g.met.P.Part.laws p.state p.now p.wake_count c.args.t x y _ _ _ _ _ c.take_turn-byte.ensures.turn in
@@ -222,7 +334,7 @@ tell-requires-clause-drives_long g c =
     let inv = c.loop-i.invariant in
     let x = get_or c.loop-i.parts i c.index-parts-i-in-loop-i.result in
     let y = c.take_turn-byte.new.part in
-    let within : i < length c.loop-i.parts = omega (arith, c.loop-i.auto.parts) in
+    let within : i < length c.loop-i.parts = omega (arith, c.loop-i.auto.parts, c.loop-i-test.true) in
     let here_is : slice_get c.loop-i.parts i ≡ Some x = get_within c.loop-i.parts i _ within in
     let new_is : slice_get (slice_set c.loop-i.parts i y) i ≡ Some y = get_set_same c.loop-i.parts i y within in
     let room_is = turned_room m g.met.P.Part.laws p.state p.now p.wake_count c.args.t x y _ _ _ _ _ c.take_turn-byte.ensures.turn in
@@ -240,7 +352,7 @@ tell-requires-clause-closed_long g c =
     let inv = c.loop-i.invariant in
     let x = get_or c.loop-i.parts i c.index-parts-i-in-loop-i.result in
     let y = c.take_turn-byte.new.part in
-    let within : i < length c.loop-i.parts = omega (arith, c.loop-i.auto.parts) in
+    let within : i < length c.loop-i.parts = omega (arith, c.loop-i.auto.parts, c.loop-i-test.true) in
     let here_is : slice_get c.loop-i.parts i ≡ Some x = get_within c.loop-i.parts i _ within in
     let new_is : slice_get (slice_set c.loop-i.parts i y) i ≡ Some y = get_set_same c.loop-i.parts i y within in
     let room_is = turned_room m g.met.P.Part.laws p.state p.now p.wake_count c.args.t x y _ _ _ _ _ c.take_turn-byte.ensures.turn in
@@ -258,14 +370,14 @@ tell-requires-clause-still g c =
     let inv = c.loop-i.invariant in
     let x = get_or c.loop-i.parts i c.index-parts-i-in-loop-i.result in
     let y = c.take_turn-byte.new.part in
-    let within : i < length c.loop-i.parts = omega (arith, c.loop-i.auto.parts) in
+    let within : i < length c.loop-i.parts = omega (arith, c.loop-i.auto.parts, c.loop-i-test.true) in
     let here_is : slice_get c.loop-i.parts i ≡ Some x = get_within c.loop-i.parts i _ within in
     let new_is : slice_get (slice_set c.loop-i.parts i y) i ≡ Some y = get_set_same c.loop-i.parts i y within in
     let room_is = turned_room m g.met.P.Part.laws p.state p.now p.wake_count c.args.t x y _ _ _ _ _ c.take_turn-byte.ensures.turn in
     let fits_new = fits_set m w p.state c.loop-i.parts i x y here_is room_is inv.fits in
     let inside_is : i < length (map p.state c.loop-i.parts) = (let l : length (map p.state c.loop-i.parts) ≡ length c.loop-i.parts = simp length-map refl in omega (arith, l, within)) in
     let place = ap (λ (l : List ℕ). get_or l i 0) c.as_slice.ensures ∙ inv.fits.places i inside_is in
-    let old = done_next _ i c.args.parts.now c.loop-i.parts c.index-parts-i-in-loop-i.result inv.parts c.loop-i-test.true in
+    let old = sym (inv.rest_parts i (omega arith)) ∙ here_is in
     let here : i < length c.loop-i.dues = omega (arith, inv.dues_long, c.requires.dues) in
     let due = sym (inv.rest i (omega arith)) ∙ c.due-due.ensures in
     let may = c.requires.may i x _ old due in
@@ -287,14 +399,14 @@ tell-requires-clause-others g c =
     let inv = c.loop-i.invariant in
     let x = get_or c.loop-i.parts i c.index-parts-i-in-loop-i.result in
     let y = c.take_turn-byte.new.part in
-    let within : i < length c.loop-i.parts = omega (arith, c.loop-i.auto.parts) in
+    let within : i < length c.loop-i.parts = omega (arith, c.loop-i.auto.parts, c.loop-i-test.true) in
     let here_is : slice_get c.loop-i.parts i ≡ Some x = get_within c.loop-i.parts i _ within in
     let new_is : slice_get (slice_set c.loop-i.parts i y) i ≡ Some y = get_set_same c.loop-i.parts i y within in
     let room_is = turned_room m g.met.P.Part.laws p.state p.now p.wake_count c.args.t x y _ _ _ _ _ c.take_turn-byte.ensures.turn in
     let fits_new = fits_set m w p.state c.loop-i.parts i x y here_is room_is inv.fits in
     let inside_is : i < length (map p.state c.loop-i.parts) = (let l : length (map p.state c.loop-i.parts) ≡ length c.loop-i.parts = simp length-map refl in omega (arith, l, within)) in
     let place = ap (λ (l : List ℕ). get_or l i 0) c.as_slice.ensures ∙ inv.fits.places i inside_is in
-    let old = done_next _ i c.args.parts.now c.loop-i.parts c.index-parts-i-in-loop-i.result inv.parts c.loop-i-test.true in
+    let old = sym (inv.rest_parts i (omega arith)) ∙ here_is in
     let here : i < length c.loop-i.dues = omega (arith, inv.dues_long, c.requires.dues) in
     let due = sym (inv.rest i (omega arith)) ∙ c.due-due.ensures in
     let may = c.requires.may i x _ old due in

@@ -1,0 +1,6 @@
+use Rattle.std.proofs.Common.{◌≡◌, ◌<◌, ℕ, Option, Some, None}
+use Rattle.std.specs.Prelude.{slice_get}
+use Rattle.board_run.proofs.hand.forget.Given as goal
+
+abbrev pub invariant-loop-i : goal.invariant-loop-i
+invariant-loop-i l = (k : ℕ) (a : Option ℕ) → k < l.i → slice_get l.answers k ≡ Some a → a ≡ None
