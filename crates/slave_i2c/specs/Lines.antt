@@ -1,0 +1,25 @@
+-- What two lines say in two cycles (UM10204, "START and STOP conditions", "Data validity").
+use Rattle.std.specs.Prelude.{◌&&◌, not, Bool, List, get_or}
+use Rattle.sim_base.specs.Signal.{reads}
+use Rattle.sim_base.specs.declared.signal.Level.{Level}
+use Rattle.sim_base.specs.declared.signal.Level.TheVariants as levels
+use Rattle.slave_i2c.specs.declared.lines.Lines.{Lines}
+
+-- what SCL and SDA read
+abbrev pub lines_of : List Level → Lines
+lines_of l = record { scl = reads (get_or l 0 levels.Low); sda = reads (get_or l 1 levels.Low) }
+
+-- START: SDA falls while SCL is High.
+abbrev pub is_start : Lines → Lines → Bool
+is_start before now = before.scl && (now.scl && (before.sda && not now.sda))
+
+-- STOP: SDA rises while SCL is High.
+abbrev pub is_stop : Lines → Lines → Bool
+is_stop before now = before.scl && (now.scl && (not before.sda && now.sda))
+
+-- a rise and a fall of SCL
+abbrev pub rises : Lines → Lines → Bool
+rises before now = now.scl && not before.scl
+
+abbrev pub falls : Lines → Lines → Bool
+falls before now = before.scl && not now.scl

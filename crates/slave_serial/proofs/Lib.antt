@@ -1,0 +1,2 @@
+pub mod UartLemmas
+pub mod SpiLemmas

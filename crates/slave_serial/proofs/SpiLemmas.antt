@@ -1,0 +1,62 @@
+-- A cycle without an event, on wires that stay, leaves an SPI slave as it is.
+use Rattle.std.proofs.Common.{◌≡◌, ℕ, ◌-◌, ◌≤◌, List, [], ◌∷◌, Bool, true, false, not, ◌&&◌, if◌then◌else◌, Option, None, ◌==◌, refl, ap, ◌∙◌, subst}
+use Rattle.sim_base.specs.declared.limits.TheConstants.{MOST_CYCLES}
+use Rattle.unit_law.specs.Coming.{comes, IsAhead, or_end, within_run}
+use Rattle.unit_law.proofs.StillLemmas.{chosen, before_it, at_it, ahead_of}
+use Rattle.slave_law.specs.declared.request.EngineRequest.{EngineRequest}
+use Rattle.slave_law.specs.declared.request.EngineRequest.TheVariants as requests
+use Rattle.slave_law.specs.Slave.{SlaveAt, IsQuiet, IsFirstDue}
+use Rattle.slave_law.proofs.StillLemmas.{ahead_is, due_is}
+use Rattle.slave_serial.specs.declared.transaction.Wires.{Wires}
+use Rattle.slave_serial.specs.declared.transaction.Transaction.{Transaction}
+use Rattle.slave_serial.specs.declared.transaction.Transaction.TheVariants.{Idle, Opening, Between, Shifting, Stopped}
+use Rattle.slave_serial.specs.declared.transaction.Spi.{Spi}
+use Rattle.slave_serial.specs.Spi.{spi, moved, loaded, presents, is_away, next_turn, Stands}
+
+-- SCK that stays has no edge
+no_edge : (cpha away : Bool) → (if cpha then (away && not away) else (away && not away)) ≡ false
+no_edge true true = refl
+no_edge true false = refl
+no_edge false true = refl
+no_edge false false = refl
+
+unmoved : (s : Spi) (x : Transaction) (t : ℕ) (mosi : Bool) → comes (next_turn x) t ≡ false → (moved s x t false false mosi).0 ≡ s
+unmoved s Idle t mosi h = refl
+unmoved s (Opening b d) t mosi h = ap (λ (p : Spi × List EngineRequest). p.0) (chosen (d == t) (loaded s b false mosi) (s, []) h)
+unmoved s (Between b) t mosi h = refl
+unmoved s (Shifting b x) t mosi h = refl
+unmoved s (Stopped n d) t mosi h = ap (λ (p : Spi × List EngineRequest). p.0) (chosen (d == t) (record s { miso = None; transaction = Idle }, requests.Done n ∷ []) (s, []) h)
+
+pub stays : (s : Spi) (l : Wires) (t : ℕ) → spi.due s t ≡ false → (spi.step s t l l).0 ≡ s
+stays s l t h =
+    ap (λ (r : Bool). (moved s s.transaction t r (presents s l l) l.mosi).0) (no_edge s.cpha (is_away s.cpol l.sck))
+    ∙ ap (λ (p : Bool). (moved s s.transaction t false p l.mosi).0) (no_edge s.cpha (is_away s.cpol l.sck))
+    ∙ unmoved s s.transaction t l.mosi h
+
+stands_ahead : (x : Transaction) (t : ℕ) → Stands x t → IsAhead (next_turn x) t
+stands_ahead Idle t h = tt
+stands_ahead (Opening b d) t h = h.ahead
+stands_ahead (Between b) t h = tt
+stands_ahead (Shifting b x) t h = tt
+stands_ahead (Stopped n d) t h = h
+
+stands_at : (x : Transaction) (t to : ℕ) → Stands x t → IsAhead (next_turn x) to → Stands x to
+stands_at Idle t to h ahead = tt
+stands_at (Opening b d) t to h ahead = record { index = h.index; ahead = ahead }
+stands_at (Between b) t to h ahead = h
+stands_at (Shifting b x) t to h ahead = h
+stands_at (Stopped n d) t to h ahead = ahead
+
+-- v is what the struct shows of its fields, and s what the caller knows
+module _ (v s : SlaveAt Spi Wires) (same : v ≡ s) where
+  pub stands_then : (t : ℕ) → v.next ≤ t → IsQuiet spi s.slave s.held s.next (t - s.next) → Stands v.slave.transaction v.next → Stands s.slave.transaction t
+  stands_then t here quiet h =
+      let stands : Stands s.slave.transaction s.next = subst (λ (x : SlaveAt Spi Wires). Stands x.slave.transaction x.next) same h in
+      stands_at s.slave.transaction s.next t stands
+      (ahead_is spi stays v s same t here quiet (λ u. next_turn u.transaction) (λ u t due. due) (stands_ahead s.slave.transaction s.next stands))
+
+  -- the answer of `due`
+  pub first_by : (r : Option ℕ) → r ≡ within_run (or_end (next_turn v.slave.transaction)) → v.next ≤ MOST_CYCLES → Stands v.slave.transaction v.next → IsFirstDue spi s.slave s.held s.next r
+  first_by r is end h =
+      let a = next_turn v.slave.transaction in
+      due_is spi stays v s same (or_end a) r is (ahead_of a v.next (stands_ahead v.slave.transaction v.next h) end) (before_it a) (at_it a)

@@ -1,0 +1,76 @@
+-- A cycle without an event, on a line that stays, leaves a UART as it is.
+use Rattle.std.proofs.Common.{◌≡◌, ℕ, ◌+◌, ◌-◌, ◌≤◌, Bool, true, false, Option, None, Some, ◌==◌, refl, ap, ◌∙◌, subst}
+use Rattle.std.specs.Prelude.{min}
+use Rattle.sim_base.specs.declared.limits.TheConstants.{MOST_CYCLES}
+use Rattle.unit_law.specs.Coming.{comes, IsAhead, or_end, within_run}
+use Rattle.unit_law.proofs.StillLemmas.{neither, chosen, before_both, at_both, ahead_both}
+use Rattle.slave_law.specs.Slave.{SlaveAt, IsQuiet, IsFirstDue}
+use Rattle.slave_law.proofs.StillLemmas.{ahead_is, due_is}
+use Rattle.slave_serial.specs.declared.reception.Reception.{Reception}
+use Rattle.slave_serial.specs.declared.sending.Sending.{Sending}
+use Rattle.slave_serial.specs.declared.sending.Sending.TheVariants.{Idle, Empty, Start, Bits}
+use Rattle.slave_serial.specs.Reception.{received, sampled, next_sample, Receives}
+use Rattle.slave_serial.specs.Sending.{sent, bit_over, bit_end, Sends}
+use Rattle.slave_serial.specs.Uart.{Uart, uart}
+
+quiet_ear : (o : Option Reception) (bit t : ℕ) (l : Bool) → comes (next_sample o) t ≡ false → received o bit t l l ≡ o
+quiet_ear None bit t true h = refl
+quiet_ear None bit t false h = refl
+quiet_ear (Some r) bit t l h = chosen (r.sample == t) (sampled r bit t l) (Some r) h
+
+quiet_line : (s : Sending) (bit t : ℕ) → comes (bit_end s) t ≡ false → sent s bit t ≡ s
+quiet_line Idle bit t h = refl
+quiet_line (Empty d) bit t h = chosen (d == t) Idle (Empty d) h
+quiet_line (Start b d) bit t h = chosen (d == t) (Bits b (record { byte = 0; place = 0; end = t + bit - 1 })) (Start b d) h
+quiet_line (Bits b f) bit t h = chosen (f.end == t) (bit_over b f bit t) (Bits b f) h
+
+pub stays : (u : Uart) (l : Bool) (t : ℕ) → uart.due u t ≡ false → (uart.step u t l l).0 ≡ u
+stays u l t h =
+    let d = neither (comes (bit_end u.sending) t) (comes (next_sample u.reception) t) h in
+    ap (λ (o : Option Reception). record u { reception = o; sending = sent u.sending u.bit t }) (quiet_ear u.reception u.bit t l d.1)
+    ∙ ap (λ (s : Sending). record u { sending = s }) (quiet_line u.sending u.bit t d.0)
+
+sends_ahead : (s : Sending) (t : ℕ) → Sends s t → IsAhead (bit_end s) t
+sends_ahead Idle t h = tt
+sends_ahead (Empty d) t h = h
+sends_ahead (Start b d) t h = h.ahead
+sends_ahead (Bits b f) t h = h.ahead
+
+sends_at : (s : Sending) (t to : ℕ) → Sends s t → IsAhead (bit_end s) to → Sends s to
+sends_at Idle t to h ahead = tt
+sends_at (Empty d) t to h ahead = ahead
+sends_at (Start b d) t to h ahead = record { index = h.index; ahead = ahead }
+sends_at (Bits b f) t to h ahead = record { index = h.index; place = h.place; ahead = ahead }
+
+receives_ahead : (o : Option Reception) (t : ℕ) → Receives o t → IsAhead (next_sample o) t
+receives_ahead None t h = tt
+receives_ahead (Some r) t h = h.ahead
+
+receives_at : (o : Option Reception) (t to : ℕ) → Receives o t → IsAhead (next_sample o) to → Receives o to
+receives_at None t to h ahead = tt
+receives_at (Some r) t to h ahead = record { place = h.place; ahead = ahead }
+
+-- v is what the struct shows of its fields, and s what the caller knows
+module _ (v s : SlaveAt Uart Bool) (same : v ≡ s) where
+  module _ (t : ℕ) (here : v.next ≤ t) (quiet : IsQuiet uart s.slave s.held s.next (t - s.next)) where
+    pub sends_then : Sends v.slave.sending v.next → Sends s.slave.sending t
+    sends_then h =
+        let stands : Sends s.slave.sending s.next = subst (λ (x : SlaveAt Uart Bool). Sends x.slave.sending x.next) same h in
+        sends_at s.slave.sending s.next t stands
+        (ahead_is uart stays v s same t here quiet (λ u. bit_end u.sending) (λ u t due. (neither _ _ due).0) (sends_ahead s.slave.sending s.next stands))
+
+    pub receives_then : Receives v.slave.reception v.next → Receives s.slave.reception t
+    receives_then h =
+        let stands : Receives s.slave.reception s.next = subst (λ (x : SlaveAt Uart Bool). Receives x.slave.reception x.next) same h in
+        receives_at s.slave.reception s.next t stands
+        (ahead_is uart stays v s same t here quiet (λ u. next_sample u.reception) (λ u t due. (neither _ _ due).1) (receives_ahead s.slave.reception s.next stands))
+
+  -- the answer of `due`
+  pub first_by : (r : Option ℕ) → r ≡ within_run (min (or_end (bit_end v.slave.sending)) (or_end (next_sample v.slave.reception))) →
+      v.next ≤ MOST_CYCLES → Sends v.slave.sending v.next → Receives v.slave.reception v.next → IsFirstDue uart s.slave s.held s.next r
+  first_by r is end h k =
+      let a = bit_end v.slave.sending in
+      let b = next_sample v.slave.reception in
+      due_is uart stays v s same (min (or_end a) (or_end b)) r is
+      (ahead_both a b v.next (sends_ahead v.slave.sending v.next h) (receives_ahead v.slave.reception v.next k) end)
+      (before_both a b) (at_both a b)

@@ -1,0 +1,5 @@
+pub mod Pins
+pub mod Reception
+pub mod Sending
+pub mod Uart
+pub mod Spi

@@ -1,0 +1,48 @@
+-- A UART, cycle by cycle: 8 data bits, no parity, one stop bit (profile).
+use Rattle.std.specs.Prelude.{ℕ, List, ◌∷◌, ◌++◌, Bool, true, false, ◌||◌, Option}
+use Rattle.std.specs.Option.{option_to_list}
+use Rattle.unit_law.specs.Coming.{comes}
+use Rattle.slave_law.specs.declared.request.EngineRequest.{EngineRequest}
+use Rattle.slave_law.specs.declared.request.EngineRequest.TheVariants as requests
+use Rattle.slave_law.specs.Slave.{SlaveMachine, SlaveAt}
+use Rattle.slave_serial.specs.declared.reception.Reception.{Reception}
+use Rattle.slave_serial.specs.declared.sending.Sending.{Sending}
+use Rattle.slave_serial.specs.Reception.{received, taken_in, next_sample}
+use Rattle.slave_serial.specs.Sending.{sent, put_out, bit_end, is_sending, begun, given}
+
+-- How many cycles a bit has, what comes in, and what goes out.
+pub record Uart : Type 0 where
+  pub bit : ℕ
+  pub reception : Option Reception
+  pub sending : Sending
+
+-- One cycle, from what RX read in the cycle before and reads in this one; receiving comes before sending.
+abbrev pub uart_step : Uart → ℕ → Bool → Bool → Uart × List EngineRequest
+uart_step u t before now = (
+  record u { reception = received u.reception u.bit t before now; sending = sent u.sending u.bit t },
+  option_to_list (taken_in u.reception t now) ++ option_to_list (put_out u.sending t),
+)
+
+-- It has an event in the cycle of each sample, in the first cycle of a frame, and in the last one of each bit that it sends.
+abbrev pub uart : SlaveMachine Uart Bool
+uart = record {
+  step = uart_step;
+  due = λ u t. comes (bit_end u.sending) t || comes (next_sample u.reception) t;
+}
+
+-- whether `Sent` is still to be asked for
+abbrev pub waits_sent : List EngineRequest → Bool
+waits_sent (requests.Sent ∷ rs) = true
+waits_sent rs = false
+
+-- It is busy until `Sent` is asked for.
+abbrev pub is_busy : SlaveAt Uart Bool → Bool
+is_busy s = is_sending s.slave.sending || waits_sent s.asks
+
+-- A call of some bytes in cycle t, while it is idle.
+abbrev pub started : SlaveAt Uart Bool → ℕ → ℕ → SlaveAt Uart Bool
+started s t count = record s { slave = record (s.slave) { sending = begun count t } }
+
+-- the byte that was fetched
+abbrev pub with_byte : Uart → ℕ → Uart
+with_byte u x = record u { sending = given u.sending x }

@@ -1,0 +1,162 @@
+//! The bytes that go out, each in a frame: a start bit, 8 data bits and a stop bit.
+ghost use Rattle.std.specs.Prelude.{◌≡◌, ◌+◌, ◌<◌, ◌≤◌};
+ghost use Rattle.slave_serial.specs.Reception.{IsBit};
+ghost use Rattle.slave_serial.specs.Sending.{begun, bit_over, sent, put_out, given, line, bit_end, is_sending, Sends};
+
+use crate::buffer::Buffer;
+use sim_base::MOST_CYCLES;
+use slave_law::EngineRequest;
+use unit_law::has_bit;
+
+/// A frame on the way: its byte, which of its bits is sent, and the last cycle of that bit.
+#[derive(Clone, Copy)]
+pub struct Frame {
+    pub byte: u8,
+    pub place: u8,
+    pub end: u32,
+}
+
+/// What goes on at TX: nothing; a call of no bytes that is answered in a cycle; a frame whose first cycle is to come, in
+/// which its byte is fetched; a frame on the way.
+#[derive(Clone, Copy)]
+pub enum Sending {
+    Idle,
+    Empty(u32),
+    Start(Buffer, u32),
+    Bits(Buffer, Frame),
+}
+
+/// `count` bytes, from the cycle behind this one on.
+pub(crate) fn begun(count: u32, cycle: u32) -> Sending
+    requires cycle { cycle < MOST_CYCLES }
+    ensures value { result ≡ begun count cycle }
+    ensures stands { Sends result (cycle + 1) }
+{
+    if count == 0 {
+        Sending::Empty(cycle + 1)
+    } else {
+        Sending::Start(Buffer { count, index: 0 }, cycle + 1)
+    }
+}
+
+// The last cycle of a bit.
+fn bit_over(buffer: Buffer, frame: Frame, bit: u32, cycle: u32) -> Sending
+    requires bit { IsBit bit }
+    requires cycle { cycle < MOST_CYCLES }
+    requires place { frame.place ≤ 9 }
+    requires index { buffer.index < buffer.count }
+    ensures value { result ≡ bit_over buffer frame bit cycle }
+    ensures stands { Sends result (cycle + 1) }
+{
+    if frame.place < 9 {
+        return Sending::Bits(
+            buffer,
+            Frame {
+                place: frame.place + 1,
+                end: cycle + bit,
+                ..frame
+            },
+        );
+    }
+    let index = buffer.index + 1;
+    if index == buffer.count {
+        Sending::Idle
+    } else {
+        Sending::Start(Buffer { index, ..buffer }, cycle + 1)
+    }
+}
+
+impl Sending {
+    /// One cycle.
+    pub(crate) fn sent(self, bit: u32, cycle: u32) -> Sending
+        requires bit { IsBit bit }
+        requires cycle { cycle < MOST_CYCLES }
+        requires stands { Sends self cycle }
+        ensures value { result ≡ sent self bit cycle }
+        ensures stands { Sends result (cycle + 1) }
+    {
+        match self {
+            Sending::Empty(due) if due == cycle => Sending::Idle,
+            Sending::Start(buffer, first) if first == cycle => Sending::Bits(
+                buffer,
+                Frame {
+                    byte: 0,
+                    place: 0,
+                    end: cycle + bit - 1,
+                },
+            ),
+            Sending::Bits(buffer, frame) if frame.end == cycle => {
+                bit_over(buffer, frame, bit, cycle)
+            }
+            _ => self,
+        }
+    }
+
+    /// What is asked for in a cycle: the byte of a frame in its first one, the end of all in the last one.
+    pub(crate) fn put_out(self, cycle: u32) -> Option<EngineRequest>
+        requires { Sends self cycle }
+        ensures { result ≡ put_out self cycle }
+    {
+        match self {
+            Sending::Empty(due) if due == cycle => Some(EngineRequest::Sent),
+            Sending::Start(buffer, first) if first == cycle => {
+                Some(EngineRequest::Fetch(buffer.index))
+            }
+            Sending::Bits(buffer, frame)
+                if frame.end == cycle && (frame.place == 9 && buffer.index + 1 == buffer.count) => {
+                Some(EngineRequest::Sent)
+            }
+            _ => None,
+        }
+    }
+
+    /// With the byte that was fetched.
+    pub(crate) fn given(self, byte: u8) -> Sending
+        ensures { result ≡ given self byte }
+    {
+        match self {
+            Sending::Bits(buffer, frame) => Sending::Bits(buffer, Frame { byte, ..frame }),
+            _ => self,
+        }
+    }
+
+    /// What TX is in a cycle.
+    pub(crate) fn line(self, cycle: u32) -> bool
+        ensures { result ≡ line self cycle }
+    {
+        match self {
+            Sending::Idle | Sending::Empty(_) => true,
+            Sending::Start(_, first) => first != cycle,
+            Sending::Bits(_, frame) => {
+                if frame.place == 0 {
+                    false
+                } else if frame.place < 9 {
+                    has_bit(frame.byte, frame.place - 1)
+                } else {
+                    true
+                }
+            }
+        }
+    }
+
+    /// The cycle of its next event.
+    pub(crate) fn bit_end(self) -> Option<u32>
+        ensures { result ≡ bit_end self }
+    {
+        match self {
+            Sending::Idle => None,
+            Sending::Empty(due) => Some(due),
+            Sending::Start(_, first) => Some(first),
+            Sending::Bits(_, frame) => Some(frame.end),
+        }
+    }
+
+    pub(crate) fn is_sending(self) -> bool
+        ensures { result ≡ is_sending self }
+    {
+        match self {
+            Sending::Idle => false,
+            Sending::Empty(_) | Sending::Start(..) | Sending::Bits(..) => true,
+        }
+    }
+}
