@@ -1,6 +1,7 @@
 -- Variables that are linked by the nets that they show.
-use Rattle.std.proofs.Common.{◌≡◌, ◌≢◌, ℕ, zero, suc, ◌+◌, ◌<◌, List, [], ◌∷◌, length, get_or, refl, ap, sym, ◌∙◌, arith, inl, inr, subst, Option, Some, Bool, true, false, ◌||◌}
-use Rattle.std.specs.Prelude.{slice_get, slice_index, slice_set}
+use Rattle.std.proofs.Common.{◌≡◌, ◌≢◌, ℕ, zero, suc, ◌+◌, ◌<◌, ◌≤◌, min, List, [], ◌∷◌, length, get_or, refl, ap, sym, ◌∙◌, arith, inl, inr, subst, Option, Some, Bool, true, false, ◌||◌}
+use Rattle.std.specs.Prelude.{eqb, slice_get, slice_index, slice_set}
+use Rattle.std.specs.List.{list_any}
 use Rattle.std.proofs.lemmas.Bool.Decides.{eqb_tells}
 use Rattle.std.proofs.lemmas.List.{get_or-set_same, get_or-set_other, length-set, length-map}
 use Rattle.std.proofs.lemmas.Option.{slice_get_within, slice_get-map, slice_get-get_or}
@@ -105,20 +106,16 @@ value_here [] levels drives k n e = absurd cc
 value_here (v ∷ vs) levels drives zero n e = let s : v.shows ≡ Net n = some_is e in ap (shown_value levels drives) s
 value_here (v ∷ vs) levels drives (suc k) n e = value_here vs levels drives k n e
 
--- where one net is told, the variables of others have the values that they had
-pub others_still : (vs : List Variable) (values : List ℕ) (before after : List Level) (drives : List Drive) (changed : List ℕ) → length changed ≡ 1 → AreNets (sources vs) → HasSeen vs values before → AreBut changed before after →
-    (k : ℕ) → k < length vs → slice_get (sources vs) k ≢ Some (Net (get_or changed 0 0)) → get_or values k 0 ≡ get_or (values_at after drives vs) k 0
-others_still vs values before after drives [] one nets seen but k less other = absurd (omega (arith, one))
-others_still vs values before after drives (x ∷ y ∷ more) one nets seen but k less other = absurd (omega (arith, one))
-others_still vs values before after drives (x ∷ []) one nets seen but k less other =
+-- where one net is told, or two, the variables of others have the values that they had
+pub others_still : (vs : List Variable) (values : List ℕ) (before after : List Level) (drives : List Drive) (changed : List ℕ) (one two : ℕ) → ((n : ℕ) → n ≢ one → n ≢ two → list_any (eqb n) changed ≡ false) →
+    AreNets (sources vs) → HasSeen vs values before → AreBut changed before after →
+    (k : ℕ) → k < length vs → slice_get (sources vs) k ≢ Some (Net one) → slice_get (sources vs) k ≢ Some (Net two) → get_or values k 0 ≡ get_or (values_at after drives vs) k 0
+others_still vs values before after drives changed one two told nets seen but k less first second =
     let within : k < length (sources vs) = omega (arith, less, length-map vs (λ (v : Variable). v.shows)) in
     let at : slice_get (sources vs) k ≡ Some (get_or (sources vs) k (Net 0)) = slice_get-get_or (sources vs) k (Net 0) within in
     let net = nets k (get_or (sources vs) k (Net 0)) at in
     let here : slice_get (sources vs) k ≡ Some (Net net.0) = at ∙ ap (λ (s : Source). Some s) net.1 in
-    let level : slice_get after net.0 ≡ slice_get before net.0 = but net.0 (elim (eqb_tells net.0 x) [
-      | inl same ↦ absurd (other (here ∙ ap (λ (m : ℕ). Some (Net m)) same.1))
-      | inr far ↦ rw far.0 refl
-    ]) in
+    let level : slice_get after net.0 ≡ slice_get before net.0 = but net.0 (told net.0 (λ same. first (here ∙ ap (λ (m : ℕ). Some (Net m)) same)) (λ same. second (here ∙ ap (λ (m : ℕ). Some (Net m)) same))) in
     seen k net.0 here ∙ ap (λ (o : Option Level). option_map_or level_value o 122) (sym level) ∙ sym (value_here vs after drives k net.0 here)
 
 -- after a row the values are those of its levels
@@ -127,3 +124,18 @@ seen_after s h k row e f = λ i n here.
     let variables : k.variables ≡ s.variables = ap (λ (x : HeadState). x.variables) f ∙ ap (λ (x : HeadState). x.variables) e in
     let values : k.values ≡ values_at row.levels row.drives s.variables = ap (λ (x : HeadState). x.values) f ∙ ap (λ (x : HeadState). x.values) e in
     ap (λ (l : List ℕ). get_or l i 0) values ∙ value_here s.variables row.levels row.drives i n (subst (λ (vs : List Variable). slice_get (sources vs) i ≡ Some (Net n)) variables here)
+
+-- the next place is so from a later one on
+pub next_from : (all : List Source) (net from more at : ℕ) → from ≤ more → more ≤ at → IsNext all net from at → IsNext all net more at
+next_from all net from more at later order is = record {
+  order = order;
+  within = is.within;
+  none = λ k least less. is.none k (omega (arith, later, least)) less;
+  here = is.here;
+}
+
+pub both_within : (a b i n : ℕ) → i ≡ min a b → a ≤ n → b ≤ n → i ≤ n
+both_within a b i n e p q = omega (arith, e, p)
+
+pub both_from : (a b i n : ℕ) → i ≡ min a b → n ≤ a → n ≤ b → n ≤ i
+both_from a b i n e p q = omega (arith, e, p, q)

@@ -1,8 +1,9 @@
-//! The value changes of one net.
-ghost use Rattle.std.specs.Prelude.{◌≡◌, ◌≢◌, ℕ, ◌+◌, ◌*◌, ◌<◌, ◌≤◌, ◌++◌, length, Some, slice_get, slice_index};
+//! The value changes of one net or two.
+ghost use Rattle.std.specs.Prelude.{◌≡◌, ◌≢◌, ℕ, ◌+◌, ◌*◌, ◌<◌, ◌≤◌, ◌++◌, List, length, Some, slice_get, slice_index};
+ghost use Rattle.text_model.specs.Wave as wave;
 ghost use Rattle.text_model.specs.Wave.{Net, changes, change_count, value_changes};
 ghost use Rattle.vcd_text.specs.Variables.{variables_of};
-ghost use Rattle.vcd_text.specs.Chains.{sources, values_at, AreChains};
+ghost use Rattle.vcd_text.specs.Chains.{sources, values_at, AreChains, IsNext};
 
 use crate::buffer::Buffer;
 use crate::chains::first_of;
@@ -11,10 +12,20 @@ use crate::value::of_source;
 use crate::variable::Variable;
 use sim_base::{Drive, Level};
 
-/// Puts the values of the variables that show a net in place of those of the last row, and writes the
+/// Where a net's variables go on behind variable i, of which the next from there on is at a place.
+#[inline]
+fn behind(at: usize, i: usize, next: &[u16]) -> usize
+    requires { at ≡ i → i < length next.now }
+    ensures { (all : List wave.Source) (first : List ℕ) (net : ℕ) → AreChains all first next.now → IsNext all net i at → i < length all → IsNext all net (i + 1) result }
+{
+    if at == i { next[i] as usize } else { at }
+}
+
+/// Puts the values of the variables that show one of two nets in place of those of the last row, and writes the
 /// lines of those that are not what they were; answers how many these are.
 fn push_chain(
-    net: u16,
+    one: u16,
+    two: u16,
     variables: &[Variable],
     first: &[u16],
     next: &[u16],
@@ -26,7 +37,7 @@ fn push_chain(
     requires few { length variables.now ≤ 8930 }
     requires long { length values.old ≡ length variables.now }
     requires chains { AreChains (sources (variables_of variables.now)) first.now next.now }
-    requires others { (k : ℕ) → k < length variables.now → slice_get (sources (variables_of variables.now)) k ≢ Some (Net net)
+    requires others { (k : ℕ) → k < length variables.now → slice_get (sources (variables_of variables.now)) k ≢ Some (Net one) → slice_get (sources (variables_of variables.now)) k ≢ Some (Net two)
         → slice_index values.old k ≡ slice_index (values_at levels.now drives.now (variables_of variables.now)) k }
     requires room { length out.old.text + 4 * length variables.now ≤ out.old.room }
     ensures values { values.new ≡ values_at levels.now drives.now (variables_of variables.now) }
@@ -34,21 +45,26 @@ fn push_chain(
     ensures count { result ≡ change_count values.old (values_at levels.now drives.now (variables_of variables.now)) }
 {
     let mut count = 0;
-    let mut i = first_of(net, first, variables.len());
+    let mut a = first_of(one, first, variables.len());
+    let mut b = first_of(two, first, variables.len());
+    let mut i = a.min(b);
     while i < variables.len() {
         let value = of_source(variables[i].shows, levels, drives);
         let more = push_change(i, values[i], value, out);
         count += more;
         values[i] = value;
-        i = next[i] as usize;
+        a = behind(a, i, next);
+        b = behind(b, i, next);
+        i = a.min(b);
     }
     count
 }
 
-/// The value changes of a cycle in which no net but this one has another level, and how many there are.
+/// The value changes of a cycle in which no net but these two has another level, and how many there are.
 pub(crate) fn push_net_changes(
     cycle: u32,
-    net: u16,
+    one: u16,
+    two: u16,
     variables: &[Variable],
     first: &[u16],
     next: &[u16],
@@ -60,7 +76,7 @@ pub(crate) fn push_net_changes(
     requires few { length variables.now ≤ 8930 }
     requires long { length values.old ≡ length variables.now }
     requires chains { AreChains (sources (variables_of variables.now)) first.now next.now }
-    requires others { (k : ℕ) → k < length variables.now → slice_get (sources (variables_of variables.now)) k ≢ Some (Net net)
+    requires others { (k : ℕ) → k < length variables.now → slice_get (sources (variables_of variables.now)) k ≢ Some (Net one) → slice_get (sources (variables_of variables.now)) k ≢ Some (Net two)
         → slice_index values.old k ≡ slice_index (values_at levels.now drives.now (variables_of variables.now)) k }
     requires room { length out.old.text + 42 + 4 * length variables.now ≤ out.old.room }
     ensures values { values.new ≡ values_at levels.now drives.now (variables_of variables.now) }
@@ -69,7 +85,9 @@ pub(crate) fn push_net_changes(
 {
     let start = out.text().len();
     push_time(cycle, out);
-    let count = push_chain(net, variables, first, next, levels, drives, values, out);
+    let count = push_chain(
+        one, two, variables, first, next, levels, drives, values, out,
+    );
     if count == 0 {
         out.truncate(start);
     }

@@ -1,5 +1,6 @@
 //! The variables of a wave, and the text of one row after another.
-ghost use Rattle.std.specs.Prelude.{◌≡◌, ◌≢◌, ℕ, ◌<◌, ◌≤◌, List, [], ◌++◌, Some, slice_get, slice_index, length, IfOk, replicate, vec_len, true, false};
+ghost use Rattle.std.specs.Prelude.{◌≡◌, ◌≢◌, ℕ, ◌<◌, ◌≤◌, List, [], ◌++◌, Some, slice_get, slice_index, length, IfOk, replicate, vec_len, eqb, true, false};
+ghost use Rattle.std.specs.List.{list_any};
 ghost use Rattle.text_model.specs.Wave.{time_line};
 ghost use Rattle.vcd_text.specs.Variables.{variables_of};
 ghost use Rattle.vcd_text.specs.Heads.{gathered, after_row, changed_by};
@@ -34,6 +35,18 @@ fn numbers(alloc: Global, number: u16, count: usize) -> Result<Vec<u16>, AllocEr
     ensures { IfOk result (λ v. v.items ≡ replicate count number) }
 {
     vec![in alloc; number; count]
+}
+
+/// The nets that are told, where they are one, twice, or two.
+#[inline]
+fn two_of(changed: &[u16]) -> Option<(u16, u16)>
+    ensures { (p : ℕ × ℕ) → result ≡ Some p → (n : ℕ) → n ≢ p.0 → n ≢ p.1 → list_any (eqb n) changed.now ≡ false }
+{
+    match changed {
+        [one] => Some((*one, *one)),
+        [one, two] => Some((*one, *two)),
+        _ => None,
+    }
 }
 
 /// The variables of a wave and the text of its head, with the room for the values of the last row
@@ -133,18 +146,26 @@ impl WaveHead {
         !self.shows_pins
     }
 
-    /// Makes the text of the next row, looking at the variables of a net alone.
-    fn take_net(&mut self, cycle: u32, net: u16, levels: &[Level], drives: &[Drive]) -> u64
+    /// Makes the text of the next row, looking at the variables of two nets alone.
+    fn take_nets(
+        &mut self,
+        cycle: u32,
+        one: u16,
+        two: u16,
+        levels: &[Level],
+        drives: &[Drive],
+    ) -> u64
         requires room { length self.old.text ≤ gathered }
         requires started { self.old.started ≡ true }
-        requires others { (k : ℕ) → k < length self.old.variables → slice_get (sources self.old.variables) k ≢ Some (Net net)
+        requires others { (k : ℕ) → k < length self.old.variables → slice_get (sources self.old.variables) k ≢ Some (Net one) → slice_get (sources self.old.variables) k ≢ Some (Net two)
             → slice_index self.old.values k ≡ slice_index (values_at levels.now drives.now self.old.variables) k }
         ensures text { self.new ≡ after_row self.old (record { cycle = cycle; levels = levels.now; drives = drives.now }) }
         ensures count { result ≡ changed_by self.old (record { cycle = cycle; levels = levels.now; drives = drives.now }) }
     {
         push_net_changes(
             cycle,
-            net,
+            one,
+            two,
             self.variables.as_slice(),
             &self.first,
             &self.next,
@@ -191,7 +212,7 @@ impl WaveHead {
     }
 
     /// Makes the text of the next row behind what is kept, and answers how many values it changes.
-    /// Where one net is told and no variable shows a pin, it looks at the variables of that net alone.
+    /// Where one net is told, or two, and no variable shows a pin, it looks at the variables of these alone.
     pub(crate) fn take_row(
         &mut self,
         cycle: u32,
@@ -205,10 +226,11 @@ impl WaveHead {
         ensures count { result ≡ changed_by self.old (record { cycle = cycle; levels = levels.now; drives = drives.now }) }
     {
         if self.has_started() {
-            if changed.len() == 1 && self.shows_nets_alone() {
-                self.take_net(cycle, changed[0], levels, drives)
-            } else {
-                self.take_changes(cycle, levels, drives)
+            match two_of(changed) {
+                Some((one, two)) if self.shows_nets_alone() => {
+                    self.take_nets(cycle, one, two, levels, drives)
+                }
+                _ => self.take_changes(cycle, levels, drives),
             }
         } else {
             self.take_first(cycle, levels, drives);

@@ -1,8 +1,8 @@
-use Rattle.std.proofs.Common.{◌≡◌, ◌<◌, ◌≤◌, ◌+◌, ◌*◌, ◌-◌, ◌++◌, ℕ, drop, length, Some}
-use Rattle.std.specs.Prelude.{slice_get, slice_index}
-use Rattle.text_model.specs.Wave.{Net, changes, change_count}
+use Rattle.std.proofs.Common.{◌≡◌, ◌<◌, ◌≤◌, ◌+◌, ◌*◌, ◌-◌, ◌++◌, ℕ, drop, length}
+use Rattle.std.specs.Prelude.{slice_index}
+use Rattle.text_model.specs.Wave.{changes, change_count}
 use Rattle.vcd_text.specs.Variables.{variables_of}
-use Rattle.vcd_text.specs.Chains.{sources, values_at}
+use Rattle.vcd_text.specs.Chains.{sources, values_at, IsNext}
 use Rattle.vcd_text.proofs.follow.push_chain.Given as goal
 
 abbrev pub invariant-loop-i : goal.invariant-loop-i
@@ -16,7 +16,8 @@ invariant-loop-i l =
       few : l.count ≤ l.i;
       within : l.i ≤ length l.variables;
       long : length l.values ≡ length l.variables;
-      here : l.i < length l.variables → slice_get (sources (variables_of l.variables)) l.i ≡ Some (Net l.net);
+      one : IsNext (sources (variables_of l.variables)) l.one l.i l.a;
+      two : IsNext (sources (variables_of l.variables)) l.two l.i l.b;
       done : (k : ℕ) → k < l.i → slice_index l.values k ≡ slice_index target k;
       rest : (k : ℕ) → l.i ≤ k → slice_index l.values k ≡ slice_index l.fn.values k;
     }
