@@ -1,0 +1,5 @@
+(module (memory 1)
+  (func $chipInit (export "chipInit")
+    (drop (memory.grow (i32.const 63)))
+    (if (i32.ne (memory.grow (i32.const 1)) (i32.const -1)) (then unreachable))
+    (i32.store8 (i32.const 4194304) (i32.const 1))))

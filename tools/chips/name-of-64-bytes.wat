@@ -1,0 +1,3 @@
+(module (import "env" "pinInit" (func $pinInit (param i32 i32) (result i32))) (memory 1)
+  (data (i32.const 0) "0123456789abcdef0123456789abcdef0123456789abcdef0123456789abcdef")
+  (func $chipInit (export "chipInit") (drop (call $pinInit (i32.const 0) (i32.const 0)))))

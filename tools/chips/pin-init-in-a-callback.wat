@@ -1,0 +1,10 @@
+(module
+  (import "env" "pinInit" (func $pinInit (param i32 i32) (result i32)))
+  (import "env" "timerInit" (func $timerInit (param i32) (result i32)))
+  (import "env" "timerStartNanos" (func $start (param i32 i64 i32)))
+  (memory 1) (table 2 funcref) (elem (i32.const 1) $late)
+  (data (i32.const 0) "OUT\00\00\00\00\00\01\00\00\00")
+  (func $chipInit (export "chipInit")
+    (drop (call $pinInit (i32.const 0) (i32.const 17)))
+    (call $start (call $timerInit (i32.const 4)) (i64.const 0) (i32.const 0)))
+  (func $late (param i32) (drop (call $pinInit (i32.const 0) (i32.const 0)))))
