@@ -2,6 +2,7 @@
 
 use crate::behaviour::AnyBehaviour;
 use avr_mcu::Mcu;
+use chip_host::Chip;
 use part_law::{Part, Span, Went};
 use reactive_part::Reactive;
 use sim_base::{Drive, Level, Steps};
@@ -13,6 +14,7 @@ pub enum AnyPart {
     Uno(Mcu),
     /// One that does nothing by itself.
     Reactive(Reactive<AnyBehaviour>),
+    Chip(Chip),
 }
 
 macro_rules! on_part {
@@ -20,6 +22,7 @@ macro_rules! on_part {
         match $any {
             AnyPart::Uno($part) => $call,
             AnyPart::Reactive($part) => $call,
+            AnyPart::Chip($part) => $call,
         }
     };
 }

@@ -11,7 +11,7 @@ use Rattle.std.proofs.lemmas.List.Elements.{All-map}
 use Rattle.std.proofs.lemmas.List.Folds.{list_all-map}
 use Rattle.std.proofs.lemmas.List.Sums.{sum_by-cons, list_all-from_AllPass}
 use Rattle.std.proofs.lemmas.Slice.Zip.{firsts-zip}
-use Rattle.std.proofs.lemmas.Option.{get_or_from_slice_get, slice_get_past}
+use Rattle.std.proofs.lemmas.Option.{get_or_from_slice_get, slice_get_cases, slice_get_past}
 use Rattle.sim_base.specs.declared.fault.Refusal.{Refusal}
 use Rattle.sim_base.specs.declared.fault.Fault.{Fault}
 use Rattle.sim_base.specs.declared.fault.Fault.TheVariants as faults
@@ -38,7 +38,7 @@ use Rattle.board_build.specs.declared.plan.Plan.{Plan}
 use Rattle.part_catalog.specs.declared.settings.Settings.{Settings}
 use Rattle.sim_base.specs.declared.fault.Place.TheVariants as places
 use Rattle.sim_base.specs.Refusals.{AttrValue, ScriptPart}
-use Rattle.board_build.specs.Parts.{ids_from, chip_place, is_chip_type, chosen, kind_of_part, numbers_from, is_uno, one_of, one_uno, found_chip, settings_in, planned, part_in_plan, is_chip, few_chips, takes, input_for, input_of, place_of}
+use Rattle.board_build.specs.Parts.{ids_from, chip_place, is_chip_type, chosen, kind_of_part, numbers_from, is_uno, one_of, one_uno, found_chip, settings_in, planned, part_in_plan, is_chip, no_ninth, few_chips, takes, input_for, input_of, place_of}
 use Rattle.board_build.specs.Pins.{count_of, starts_from, wire_on_board, contacts_inside, resistors_in, pairs_inside, pairs_at}
 use Rattle.board_build.specs.Plan.{nets_of_pairs, joined, wiring_of, plan_in, plan_of}
 use Rattle.board_build.specs.IsPlan.{IsPlan, can_run, kinds_in, contact_count}
@@ -150,6 +150,16 @@ one_number (first ∷ second ∷ rest) u e = absurd cc
 
 pub uno_counted : (kinds : List (Option PlanKind)) (u : Unit {0}) → one_uno kinds ≡ Ok u → count_by is_uno kinds ≡ 1
 uno_counted kinds u e = sym (numbers_count is_uno 1 kinds) ∙ one_number (numbers_from is_uno 1 kinds) u e
+
+-- no more than eight chips
+few_numbers : (numbers : List ℕ) (u : Unit {0}) → no_ninth (slice_get numbers 8) ≡ Ok u → length numbers ≤ 8
+few_numbers numbers u e = elim (slice_get_cases numbers 8).1 [ inl x ↦ absurd (ninth x.0 (ap no_ninth (sym x.2) ∙ e)) | inr past ↦ past.0 ]
+  where
+    ninth : (part : ℕ) → no_ninth (Some part) ≡ Ok u → ⊥
+    ninth part e = cc
+
+pub chips_counted : (kinds : List (Option PlanKind)) (u : Unit {0}) → few_chips kinds ≡ Ok u → count_by is_chip kinds ≤ 8
+chips_counted kinds u e = let few = few_numbers (numbers_from is_chip 1 kinds) u e in omega (arith, few, numbers_count is_chip 1 kinds)
 
 -- the numbers in a wiring are those of nets
 pub from_all : {A : Type 0} (P : A → Type 0) (xs : List A) → All P xs → (k : ℕ) (x : A) → slice_get xs k ≡ Some x → P x
@@ -277,9 +287,9 @@ module _ (diagram : Diagram) (pins : List (List (Option (List ℕ)))) (script : 
     made : (found : List (Option PlanKind)) (ids : List (List ℕ)) → each_from (kind_of_part project.chips) 1 diagram.parts ≡ Ok found →
         (wires : List (ℕ × ℕ)) (uno : Unit {0}) (kinds : List PlanKind) (parts : List PlanPart) (inputs : List Input) →
         each_from (λ k. wire_on_board pins found ids) 1 diagram.wires ≡ Ok wires → one_uno found ≡ Ok uno → each_from found_chip 1 found ≡ Ok kinds →
-        each_from part_in_plan 1 (zip kinds diagram.parts) ≡ Ok parts → each_from (λ k. input_of ids kinds) 1 script ≡ Ok inputs →
+        each_from part_in_plan 1 (zip kinds diagram.parts) ≡ Ok parts → (v : Unit {0}) → few_chips found ≡ Ok v → each_from (λ k. input_of ids kinds) 1 script ≡ Ok inputs →
         IsPlan pins (record { parts = parts; wiring = wiring_of wires (starts_from pins 0 found) (sum_by (count_of pins) found) found; inputs = inputs })
-    made found ids is wires uno kinds parts inputs wire one chip more input =
+    made found ids is wires uno kinds parts inputs wire one chip more v eight input =
         let many : length found ≡ length diagram.parts = each_length (kind_of_part project.chips) 1 diagram.parts found is in
         let same_many : length kinds ≡ length found = each_length found_chip 1 found kinds chip in
         let texts : length diagram.parts ≡ length kinds = omega arith in
@@ -293,6 +303,7 @@ module _ (diagram : Diagram) (pins : List (List (Option (List ℕ)))) (script : 
           few = omega arith;
           ready = ap (λ (n : ℕ). list_all (λ (part : PlanPart). can_run n part.kind) parts) each ∙ all_run project.chips diagram.parts found parts is same;
           one_uno = ap (count_by is_uno) same ∙ uno_counted found uno one;
+          few_chips = rw same (chips_counted found v eight);
           wiring = is_wiring wires firsts total found join (all_inside pins contacts_inside (contacts_each pins) found) (all_inside pins resistors_in (resistors_each pins) found);
           first_pins = ap (starts_from pins 0) (sym same);
           chips = ap (map is_chip) (sym same);
@@ -308,11 +319,11 @@ module _ (diagram : Diagram) (pins : List (List (Option (List ℕ)))) (script : 
     module _ (plan : Plan) (found : List (Option PlanKind)) (ids : List (List ℕ)) (is : each_from (kind_of_part project.chips) 1 diagram.parts ≡ Ok found) where
       after_inputs : (wires : List (ℕ × ℕ)) (u : Unit {0}) (kinds : List PlanKind) (parts : List PlanPart) (inputs : List Input) →
           each_from (λ k. wire_on_board pins found ids) 1 diagram.wires ≡ Ok wires → one_uno found ≡ Ok u → each_from found_chip 1 found ≡ Ok kinds →
-          each_from part_in_plan 1 (zip kinds diagram.parts) ≡ Ok parts → each_from (λ k. input_of ids kinds) 1 script ≡ Ok inputs → from_inputs wires found parts inputs ≡ Ok plan → IsGood plan
-      after_inputs wires u kinds parts inputs wire one chip more input e =
+          each_from part_in_plan 1 (zip kinds diagram.parts) ≡ Ok parts → (v : Unit {0}) → few_chips found ≡ Ok v → each_from (λ k. input_of ids kinds) 1 script ≡ Ok inputs → from_inputs wires found parts inputs ≡ Ok plan → IsGood plan
+      after_inputs wires u kinds parts inputs wire one chip more v eight input e =
           let as_made : record { parts = parts; wiring = wiring_of wires (starts_from pins 0 found) (sum_by (count_of pins) found) found; inputs = inputs } ≡ plan = ok_same e in
           let cycles = each_map (λ k. input_of ids kinds) (λ (input : Input). input.cycle) (λ (row : ScriptRow). row.cycle) (λ k row i h. (input_fits ids kinds row i h).1) 1 script inputs input in
-          subst IsGood as_made (made found ids is wires u kinds parts inputs wire one chip more input, cycles)
+          subst IsGood as_made (made found ids is wires u kinds parts inputs wire one chip more v eight input, cycles)
 
       after_parts : (wires : List (ℕ × ℕ)) (u : Unit {0}) (kinds : List PlanKind) (parts : List PlanPart) →
           each_from (λ k. wire_on_board pins found ids) 1 diagram.wires ≡ Ok wires → one_uno found ≡ Ok u → each_from found_chip 1 found ≡ Ok kinds →
@@ -320,7 +331,7 @@ module _ (diagram : Diagram) (pins : List (List (Option (List ℕ)))) (script : 
       after_parts wires u kinds parts wire one chip more e =
           let few_c = in_steps (few_chips found) (from_few wires found ids kinds parts) plan e in
           let x = in_steps (each_from (λ k. input_of ids kinds) 1 script) (from_inputs wires found parts) plan few_c.2 in
-          after_inputs wires u kinds parts x.0 wire one chip more x.1 x.2
+          after_inputs wires u kinds parts x.0 wire one chip more few_c.0 few_c.1 x.1 x.2
 
       after_wires : (wires : List (ℕ × ℕ)) → each_from (λ k. wire_on_board pins found ids) 1 diagram.wires ≡ Ok wires → from_wires found ids wires ≡ Ok plan → IsGood plan
       after_wires wires wire e =

@@ -28,6 +28,7 @@ pub record IsPlan (chip_pins : List (List (Option (List ℕ)))) (plan : Plan) : 
   pub few : length plan.parts ≤ 64
   pub ready : list_all (λ (part : PlanPart). can_run (length chip_pins) part.kind) plan.parts ≡ true
   pub one_uno : count_by is_uno (kinds_in plan.parts) ≡ 1
+  pub few_chips : count_by is_chip (kinds_in plan.parts) ≤ 8
   pub wiring : IsWiring plan.wiring
   pub first_pins : plan.wiring.first_pin ≡ starts_from chip_pins 0 (kinds_in plan.parts)
   pub chips : plan.wiring.chip ≡ map is_chip (kinds_in plan.parts)

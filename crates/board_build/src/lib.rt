@@ -14,4 +14,5 @@ mod refusals;
 mod wiring;
 
 pub use board::build;
+pub use parts::copied;
 pub use plan::{Plan, PlanKind, PlanPart};

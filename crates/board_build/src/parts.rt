@@ -25,7 +25,8 @@ fn settings_in(kind: PlanKind, attrs: &List<(Text, Text)>) -> Option<Settings>
     }
 }
 
-fn copied(alloc: Global, attrs: &[(Text, Text)]) -> Result<List<(Text, Text)>, OutOfMemory>
+/// The same attributes once more.
+pub fn copied(alloc: Global, attrs: &[(Text, Text)]) -> Result<List<(Text, Text)>, OutOfMemory>
     ensures { IfOk result (λ copy. copy ≡ attrs.now) }
 {
     let mut copy = List::new(alloc);

@@ -1,5 +1,5 @@
 -- The report of a run: how the parts of its board stand at the end, a line a fact (profile).
-use Rattle.std.specs.Prelude.{◌⊎◌, ℕ, List, [], ◌∷◌, ◌++◌, map, Bool, false, if◌then◌else◌, is_some, slice_index_or}
+use Rattle.std.specs.Prelude.{◌⊎◌, ℕ, List, [], ◌∷◌, ◌++◌, map, Bool, true, false, if◌then◌else◌, Option, None, Some, is_some, slice_index_or}
 use Rattle.std.specs.List.{concat, flat_map}
 use Rattle.std.proofs.Common.{inl, inr}
 use Rattle.sim_base.specs.declared.signal.Level.{Level}
@@ -12,6 +12,9 @@ use Rattle.parts_basic.specs.Led.{is_lit}
 use Rattle.board_build.specs.declared.plan.PlanKind.{PlanKind}
 use Rattle.board_build.specs.declared.plan.PlanKind.TheVariants as plans
 use Rattle.board_build.specs.declared.plan.PlanPart.{PlanPart}
+use Rattle.board_build.specs.Parts.{is_chip}
+use Rattle.wasm_num.specs.Traps.{number_of}
+use Rattle.chip_host.specs.declared.death.Death.{Death}
 use Rattle.any_part.specs.AnyBehaviour.{AnyOwn}
 use Rattle.any_part.specs.AnyPart.{AnyState}
 use Rattle.sim_report.specs.declared.row.UnoMode.{UnoMode}
@@ -48,19 +51,35 @@ own_rows part held (inr (inl passive)) = if is_input part.kind then lines.Input 
 own_rows part held (inr (inr (inl gate))) = []
 own_rows part held (inr (inr (inr shift))) = lines.Shift part.id shift.stages shift.storage ∷ []
 
+-- whether a chip lives, or the trap that ended it and its cycle
+abbrev pub chip_row : List ℕ → Option Death → ReportRow
+chip_row id None = lines.Alive id
+chip_row id (Some death) = lines.Trap id (number_of death.trap) death.cycle
+
 abbrev pub part_rows : PlanPart → AnyState → List ReportRow
 part_rows part (inl uno) = uno_rows part.id uno
-part_rows part (inr reacting) = own_rows part reacting.held reacting.own
+part_rows part (inr (inl reacting)) = own_rows part reacting.held reacting.own
+part_rows part (inr (inr chip)) = chip_row part.id chip.dead ∷ []
 
--- those of the parts of a plan in their order
-unfoldable pub parts_rows : List PlanPart → List AnyState → List ReportRow
-parts_rows [] states = []
-parts_rows (part ∷ parts) [] = []
-parts_rows (part ∷ parts) (state ∷ states) = part_rows part state ++ parts_rows parts states
+-- the lines of parts, by how each stands; of the chips alone, or of all others
+module _ {S : Type 0} (says : PlanPart → S → List ReportRow) where
+  abbrev pub chosen_rows : Bool → PlanPart → S → List ReportRow
+  chosen_rows true part state = if is_chip (Some part.kind) then says part state else []
+  chosen_rows false part state = if is_chip (Some part.kind) then [] else says part state
+
+  -- those of the parts of a plan in their order
+  unfoldable pub parts_rows : Bool → List PlanPart → List S → List ReportRow
+  parts_rows chips [] states = []
+  parts_rows chips (part ∷ parts) [] = []
+  parts_rows chips (part ∷ parts) (state ∷ states) = chosen_rows chips part state ++ parts_rows chips parts states
 
 abbrev pub text_of : List ReportRow → List ℕ
 text_of rows = concat (map line_of rows)
 
--- the report after so many cycles
+-- the report after so many cycles, but for the chips
+abbrev pub rest_text : {S : Type 0} → (PlanPart → S → List ReportRow) → ℕ → List PlanPart → List S → List ℕ
+rest_text says cycles parts states = text_of (lines.Cycles cycles ∷ parts_rows says false parts states)
+
+-- the report after so many cycles: the chips come last
 abbrev pub report_text : ℕ → List PlanPart → List AnyState → List ℕ
-report_text cycles parts states = text_of (lines.Cycles cycles ∷ parts_rows parts states)
+report_text cycles parts states = rest_text part_rows cycles parts states ++ text_of (parts_rows part_rows true parts states)

@@ -1,16 +1,18 @@
 //! The lines of a board's parts.
-ghost use Rattle.std.specs.Prelude.{◌≡◌, ◌++◌, ℕ, List, true, map};
+ghost use Rattle.std.specs.Prelude.{◌≡◌, ◌++◌, ℕ, List, true, Some, map};
+ghost use Rattle.board_build.specs.Parts.{is_chip};
 ghost use Rattle.sim_base.specs.Outside.{Outside, SameOthers};
 ghost use Rattle.outcome_model.specs.Work.{Wrote};
 ghost use Rattle.any_part.specs.AnyPart.{state_of};
 ghost use Rattle.any_part.specs.AnyBehaviour.{own_of};
 ghost use Rattle.sim_report.specs.Lines.{line_of};
-ghost use Rattle.board_report.specs.Report.{mode_of, is_input, ignored_row, uno_rows, own_rows, part_rows, text_of, report_text};
+ghost use Rattle.board_report.specs.Report.{mode_of, is_input, ignored_row, uno_rows, own_rows, chip_row, part_rows, chosen_rows, parts_rows, text_of, report_text};
 
 use any_part::{AnyBehaviour, AnyPart};
 use avr_core::Mode;
 use avr_mcu::Mcu;
 use board_build::{PlanKind, PlanPart};
+use chip_host::Death;
 use part_catalog::greatest_value;
 use parts_basic::Led;
 use sim_base::{Bench, Level, Name, Port, WriteEnd};
@@ -126,6 +128,16 @@ fn write_own<B: Bench>(
     }
 }
 
+/// Whether a chip lives, or the trap that ended it and its cycle.
+fn chip_row(id: &Name, trap: Option<Death>) -> ReportRow
+    ensures { result ≡ chip_row id.now trap }
+{
+    match trap {
+        Some(death) => ReportRow::Trap(id.copy(), death.trap.number(), death.cycle),
+        None => ReportRow::Alive(id.copy()),
+    }
+}
+
 fn write_part<B: Bench>(end: WriteEnd, part: &PlanPart, state: &AnyPart, bench: &mut B) -> WriteEnd
     requires { (B.outside bench.old).opened Port.Report ≡ true }
     ensures next { (a : Outside) (text : List ℕ) → Wrote end Port.Report text a (B.outside bench.old) → Wrote result Port.Report (text ++ text_of (part_rows part.now (state_of state.now))) a (B.outside bench.new) }
@@ -138,11 +150,62 @@ fn write_part<B: Bench>(end: WriteEnd, part: &PlanPart, state: &AnyPart, bench: 
         AnyPart::Reactive(reactive) => {
             write_own(end, part, reactive.held(), reactive.behaviour(), bench)
         }
+        AnyPart::Chip(chip) => {
+            let row = chip_row(&part.id, chip.trap());
+            write_line(end, &row, bench)
+        }
     }
 }
 
+fn is_chip(kind: PlanKind) -> bool
+    ensures { result ≡ is_chip (Some kind) }
+{
+    matches!(kind, PlanKind::Chip(_))
+}
+
+/// The lines of a part, where it is a chip and chips are wanted, or neither.
+fn write_chosen<B: Bench>(
+    end: WriteEnd,
+    chips: bool,
+    part: &PlanPart,
+    state: &AnyPart,
+    bench: &mut B,
+) -> WriteEnd
+    requires { (B.outside bench.old).opened Port.Report ≡ true }
+    ensures next { (a : Outside) (text : List ℕ) → Wrote end Port.Report text a (B.outside bench.old) → Wrote result Port.Report (text ++ text_of (chosen_rows part_rows chips part.now (state_of state.now))) a (B.outside bench.new) }
+    ensures named { (B.outside bench.new).name Port.Report ≡ (B.outside bench.old).name Port.Report }
+    ensures opened { (B.outside bench.new).opened Port.Report ≡ true }
+    ensures others { SameOthers Port.Report (B.outside bench.old) (B.outside bench.new) }
+{
+    match (chips, is_chip(part.kind)) {
+        (true, true) | (false, false) => write_part(end, part, state, bench),
+        (true, false) | (false, true) => end,
+    }
+}
+
+/// The lines of the parts that are no chips, or of those that are, in their order.
+fn write_parts<B: Bench>(
+    end: WriteEnd,
+    chips: bool,
+    plan: &[PlanPart],
+    parts: &[AnyPart],
+    bench: &mut B,
+) -> WriteEnd
+    requires { (B.outside bench.old).opened Port.Report ≡ true }
+    ensures next { (a : Outside) (text : List ℕ) → Wrote end Port.Report text a (B.outside bench.old) → Wrote result Port.Report (text ++ text_of (parts_rows part_rows chips plan.now (map state_of parts.now))) a (B.outside bench.new) }
+    ensures named { (B.outside bench.new).name Port.Report ≡ (B.outside bench.old).name Port.Report }
+    ensures opened { (B.outside bench.new).opened Port.Report ≡ true }
+    ensures others { SameOthers Port.Report (B.outside bench.old) (B.outside bench.new) }
+{
+    let mut end = end;
+    for i in 0..plan.len().min(parts.len()) {
+        end = write_chosen(end, chips, &plan[i], &parts[i], bench);
+    }
+    end
+}
+
 /// Writes the report of a board after so many cycles on Report: all of it, or a first part where a
-/// write fails. The parts of the plan and those of the board stand in the same order.
+/// write fails. The parts of the plan and those of the board stand in the same order; chips come last.
 pub fn write_report_of<B: Bench>(
     cycles: u32,
     plan: &[PlanPart],
@@ -154,9 +217,7 @@ pub fn write_report_of<B: Bench>(
     ensures named { (B.outside bench.new).name Port.Report ≡ (B.outside bench.old).name Port.Report }
     ensures others { SameOthers Port.Report (B.outside bench.old) (B.outside bench.new) }
 {
-    let mut end = write_report(&ReportRow::Cycles(cycles), bench);
-    for i in 0..plan.len().min(parts.len()) {
-        end = write_part(end, &plan[i], &parts[i], bench);
-    }
-    end
+    let end = write_report(&ReportRow::Cycles(cycles), bench);
+    let end = write_parts(end, false, plan, parts, bench);
+    write_parts(end, true, plan, parts, bench)
 }

@@ -41,6 +41,7 @@ is_plan = record {
   few = lit≤ tt;
   ready = refl;
   one_uno = refl;
+  few_chips = lit≤ tt;
   wiring = is_wiring;
   first_pins = refl;
   chips = refl;

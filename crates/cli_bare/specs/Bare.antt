@@ -33,4 +33,4 @@ bare_outputs = record { serial = false; wave = Some (codes "-"); report = None }
 
 -- the wave of a firmware's first n cycles: of the 20 digital pins 0 to 13 and A0 to A5, under the name `uno`
 abbrev pub bare_run : List ℕ → ℕ → Texts
-bare_run flash n = run_texts bare_outputs (record { flash = flash; plan = uno_plan }) n
+bare_run flash n = run_texts bare_outputs (record { flash = flash; chips = []; budget = 0 }) uno_plan n

@@ -36,7 +36,7 @@ fn run_bare<B: Bench, L: Ledger>(
         wave: Some("-"),
         report: None,
     };
-    run_board(alloc, flash, plan, n, outputs, bench, steps)
+    run_board(alloc, flash, &[], plan, 0, n, outputs, bench, steps)
 }
 
 /// Writes the wave of so many microseconds, 16 cycles each, of the firmware of file `hex`.

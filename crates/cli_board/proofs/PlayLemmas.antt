@@ -9,13 +9,14 @@ use Rattle.board_laws.specs.Active.{active_pairs}
 use Rattle.board_run.specs.BoardView.{BoardView}
 use Rattle.any_part.specs.declared.part.AnyPart.{AnyPart}
 use Rattle.any_part.specs.AnyPart.{AnyState, any, state_of}
-use Rattle.any_part.specs.Start.{starts}
+use Rattle.any_part.specs.Start.{Contents, starts}
 use Rattle.sim_base.specs.declared.wiring.Wiring.{Wiring}
 use Rattle.sim_base.specs.declared.wiring.Input.{Input}
 use Rattle.board_build.specs.declared.plan.PlanPart.{PlanPart}
 use Rattle.board_report.specs.Report.{report_text}
-use Rattle.project_model.specs.Work.{Work}
+use Rattle.board_build.specs.declared.plan.Plan.{Plan}
 use Rattle.project_model.specs.Variables.{board_variables}
+use Rattle.chip_module.specs.Sources.{pins_of}
 use Rattle.cli_board.specs.Run.{Outputs, texts_for, run_texts}
 use Rattle.cli_board.specs.Ran as runs
 use Rattle.vcd_text.specs.Ports.{texts, Writes}
@@ -35,15 +36,14 @@ since_start P v n start p =
     subst (λ (k : ℕ). P 0 k) all (subst (λ (t : ℕ). P t (n - v.cycle)) start p)
 
 -- the texts of a run by its plan, where the board is that of the plan at its start
-pub run_is : (end : WriteEnd) (out : Outputs) (variables : List Variable) (v : BoardView AnyPart) (planned : List PlanPart) (work : Work) (n : ℕ) (a b : Outside) →
-    variables ≡ board_variables work.plan → v.wiring ≡ work.plan.wiring → v.inputs ≡ work.plan.inputs → map state_of v.parts ≡ starts work.flash work.plan.parts → planned ≡ work.plan.parts →
+pub run_is : (end : WriteEnd) (out : Outputs) (variables : List Variable) (v : BoardView AnyPart) (planned : List PlanPart) (has : Contents) (plan : Plan) (n : ℕ) (a b : Outside) →
+    variables ≡ board_variables (pins_of has.chips) plan → v.wiring ≡ plan.wiring → v.inputs ≡ plan.inputs → map state_of v.parts ≡ starts has plan.parts → planned ≡ plan.parts →
     runs.Writes end (texts_for out (wave_text variables (rows any v.wiring v.inputs None (map state_of v.parts) 0 n) n) (bytes any v.wiring v.inputs (map state_of v.parts) 0 n) (report_text n planned (states any v.wiring v.inputs (map state_of v.parts) 0 n)) (active_pairs any v.wiring v.inputs (map state_of v.parts) 0 n)) a b →
-    runs.Writes end (run_texts out work n) a b
-run_is end out variables v planned work n a b shown wired given begun named w =
+    runs.Writes end (run_texts out has plan n) a b
+run_is end out variables v planned has plan n a b shown wired given begun named w =
     let T : List Variable → Wiring → List Input → List AnyState → List PlanPart → Type 0 = λ vs wiring inputs ss ps. runs.Writes end (texts_for out (wave_text vs (rows any wiring inputs None ss 0 n) n) (bytes any wiring inputs ss 0 n) (report_text n ps (states any wiring inputs ss 0 n)) (active_pairs any wiring inputs ss 0 n)) a b in
-    let plan = work.plan in
-    let one : T (board_variables plan) v.wiring v.inputs (map state_of v.parts) planned = subst (λ (vs : List Variable). T vs v.wiring v.inputs (map state_of v.parts) planned) shown w in
-    let two : T (board_variables plan) plan.wiring v.inputs (map state_of v.parts) planned = subst (λ (x : Wiring). T (board_variables plan) x v.inputs (map state_of v.parts) planned) wired one in
-    let three : T (board_variables plan) plan.wiring plan.inputs (map state_of v.parts) planned = subst (λ (x : List Input). T (board_variables plan) plan.wiring x (map state_of v.parts) planned) given two in
-    let four : T (board_variables plan) plan.wiring plan.inputs (starts work.flash plan.parts) planned = subst (λ (x : List AnyState). T (board_variables plan) plan.wiring plan.inputs x planned) begun three in
-    subst (λ (x : List PlanPart). T (board_variables plan) plan.wiring plan.inputs (starts work.flash plan.parts) x) named four
+    let one : T (board_variables (pins_of has.chips) plan) v.wiring v.inputs (map state_of v.parts) planned = subst (λ (vs : List Variable). T vs v.wiring v.inputs (map state_of v.parts) planned) shown w in
+    let two : T (board_variables (pins_of has.chips) plan) plan.wiring v.inputs (map state_of v.parts) planned = subst (λ (x : Wiring). T (board_variables (pins_of has.chips) plan) x v.inputs (map state_of v.parts) planned) wired one in
+    let three : T (board_variables (pins_of has.chips) plan) plan.wiring plan.inputs (map state_of v.parts) planned = subst (λ (x : List Input). T (board_variables (pins_of has.chips) plan) plan.wiring x (map state_of v.parts) planned) given two in
+    let four : T (board_variables (pins_of has.chips) plan) plan.wiring plan.inputs (starts has plan.parts) planned = subst (λ (x : List AnyState). T (board_variables (pins_of has.chips) plan) plan.wiring plan.inputs x planned) begun three in
+    subst (λ (x : List PlanPart). T (board_variables (pins_of has.chips) plan) plan.wiring plan.inputs (starts has plan.parts) x) named four

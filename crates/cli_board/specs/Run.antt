@@ -7,8 +7,9 @@ use Rattle.board_model.specs.Rows.{rows}
 use Rattle.board_laws.specs.Active.{active_pairs}
 use Rattle.outcome_model.specs.Stop.{Output, Texts}
 use Rattle.any_part.specs.AnyPart.{any}
-use Rattle.any_part.specs.Start.{starts}
-use Rattle.project_model.specs.Work.{Work}
+use Rattle.chip_module.specs.Sources.{pins_of}
+use Rattle.any_part.specs.Start.{Contents, starts}
+use Rattle.board_build.specs.declared.plan.Plan.{Plan}
 use Rattle.project_model.specs.Variables.{board_variables}
 use Rattle.board_report.specs.Report.{report_text}
 
@@ -18,22 +19,23 @@ pub record Outputs : Type 0 where
   pub wave : Option (List ℕ)
   pub report : Option (List ℕ)
 
--- the wave of the first n cycles
-abbrev pub run_wave : Work → ℕ → List ℕ
-run_wave work n =
-    wave_text (board_variables work.plan) (rows any work.plan.wiring work.plan.inputs None (starts work.flash work.plan.parts) 0 n) n
+-- The board of a plan from the start states of its parts, whose chips and flash are these.
+module _ (has : Contents) (plan : Plan) (n : ℕ) where
+  -- the wave of the first n cycles
+  abbrev pub run_wave : List ℕ
+  run_wave = wave_text (board_variables (pins_of has.chips) plan) (rows any plan.wiring plan.inputs None (starts has plan.parts) 0 n) n
 
--- the bytes of these cycles
-abbrev pub run_bytes : Work → ℕ → List ℕ
-run_bytes work n = bytes any work.plan.wiring work.plan.inputs (starts work.flash work.plan.parts) 0 n
+  -- the bytes of these cycles
+  abbrev pub run_bytes : List ℕ
+  run_bytes = bytes any plan.wiring plan.inputs (starts has plan.parts) 0 n
 
--- how the parts stand after them
-abbrev pub run_report : Work → ℕ → List ℕ
-run_report work n = report_text n work.plan.parts (states any work.plan.wiring work.plan.inputs (starts work.flash work.plan.parts) 0 n)
+  -- how the parts stand after them
+  abbrev pub run_report : List ℕ
+  run_report = report_text n plan.parts (states any plan.wiring plan.inputs (starts has plan.parts) 0 n)
 
--- how many pairs of a cycle and a part there are in which the part is active
-abbrev pub run_wakes : Work → ℕ → ℕ
-run_wakes work n = active_pairs any work.plan.wiring work.plan.inputs (starts work.flash work.plan.parts) 0 n
+  -- how many pairs of a cycle and a part there are in which the part is active
+  abbrev pub run_wakes : ℕ
+  run_wakes = active_pairs any plan.wiring plan.inputs (starts has plan.parts) 0 n
 
 -- a text under a name
 abbrev pub named_text : List ℕ → List ℕ → Output
@@ -48,5 +50,5 @@ texts_for out wave bytes report wakes = record {
   wakes = wakes;
 }
 
-abbrev pub run_texts : Outputs → Work → ℕ → Texts
-run_texts out work n = texts_for out (run_wave work n) (run_bytes work n) (run_report work n) (run_wakes work n)
+abbrev pub run_texts : Outputs → Contents → Plan → ℕ → Texts
+run_texts out has plan n = texts_for out (run_wave has plan n) (run_bytes has plan n) (run_report has plan n) (run_wakes has plan n)

@@ -1,7 +1,9 @@
 //! A board of a plan, from its start.
-ghost use Rattle.std.specs.Prelude.{◌≡◌, ◌≤◌, ◌<◌, ◌+◌, [], IfOk, length};
+ghost use Rattle.std.specs.Prelude.{◌≡◌, ◌≤◌, ◌<◌, ◌+◌, IfOk, length};
 ghost use Rattle.board_model.specs.Fits.{AreInputs};
 ghost use Rattle.board_build.specs.IsPlan.{IsPlan};
+ghost use Rattle.std.specs.List.{All};
+ghost use Rattle.chip_module.specs.Sources.{HasFewPins, pins_of};
 ghost use Rattle.outcome_model.specs.Outcome as ends;
 ghost use Rattle.project_model.specs.Variables.{board_variables};
 ghost use Rattle.cli_work.specs.Outcomes.{outcome_of};
@@ -14,6 +16,7 @@ use crate::variables::make_variables;
 use any_part::load;
 use board_build::Plan;
 use board_run::Board;
+use chip_module::ChipSource;
 use cli_work::WorkEnd;
 use sim_base::{Bench, Flash, MOST_CYCLES, OutOfMemory, Steps, WriteEnd};
 use std::alloc::Global;
@@ -21,36 +24,41 @@ use std::sync::ledger::Ledger;
 use vcd_text::WaveHead;
 
 /// The head of the wave, with the room for its text.
-fn make_head(alloc: Global, plan: &Plan) -> Result<WaveHead, OutOfMemory>
-    requires { IsPlan [] plan.now }
-    ensures { IfOk result (λ h. h.variables ≡ board_variables plan.now) }
+fn make_head(alloc: Global, plan: &Plan, chips: &[ChipSource]) -> Result<WaveHead, OutOfMemory>
+    requires plan { IsPlan (pins_of chips.now) plan.now }
+    requires few_pins { All HasFewPins chips.now }
+    ensures { IfOk result (λ h. h.variables ≡ board_variables (pins_of chips.now) plan.now) }
 {
-    let variables = make_variables(alloc, plan)?;
+    let variables = make_variables(alloc, plan, chips)?;
     WaveHead::of(alloc, variables)
 }
 
-/// Takes all memory that the run of a plan for `n` cycles needs, at most `MOST_CYCLES`, and runs it: the
-/// wave and the report are opened, then the wave and the bytes are written, and then the report.
+/// Takes all memory that the run of a plan for `n` cycles needs, at most `MOST_CYCLES`, and runs it with
+/// the chips of its project, each call into which gets this much fuel. The wave and the report are
+/// opened, then the wave and the bytes are written, and then the report.
 pub fn run_board<B: Bench, L: Ledger>(
     alloc: Global,
     flash: Flash,
+    chips: &[ChipSource],
     plan: Plan,
+    budget: u32,
     n: u32,
     outputs: Outputs,
     bench: &mut B,
     steps: &mut Steps<L>,
 ) -> WorkEnd
-    requires plan { IsPlan [] plan }
+    requires plan { IsPlan (pins_of chips.now) plan }
+    requires few_pins { All HasFewPins chips.now }
     requires inputs { AreInputs (length plan.parts) plan.inputs }
     requires some { 0 < n }
     requires end { n ≤ MOST_CYCLES }
-    ensures ran { Ran (outcome_of result) (run_texts (outputs_of outputs.entry) (record { flash = flash; plan = plan }) n) (B.outside bench.old) (B.outside bench.new) }
-    ensures steps { outcome_of result ≡ ends.Accepted → steps.new ≡ steps.old + run_wakes (record { flash = flash; plan = plan }) n }
+    ensures ran { Ran (outcome_of result) (run_texts (outputs_of outputs.entry) (record { flash = flash; chips = chips.now; budget = budget }) plan n) (B.outside bench.old) (B.outside bench.new) }
+    ensures steps { outcome_of result ≡ ends.Accepted → steps.new ≡ steps.old + run_wakes (record { flash = flash; chips = chips.now; budget = budget }) plan n }
 {
-    let Ok(mut head) = make_head(alloc, &plan) else {
+    let Ok(mut head) = make_head(alloc, &plan, chips) else {
         return WorkEnd::OutOfMemory;
     };
-    let Ok(parts) = load(alloc, &plan, flash) else {
+    let Ok(parts) = load(alloc, &plan, flash, chips, budget) else {
         return WorkEnd::OutOfMemory;
     };
     let planned = plan.parts;

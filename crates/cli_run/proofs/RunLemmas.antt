@@ -10,17 +10,17 @@ use Rattle.outcome_model.proofs.EndLemmas.{answered, answer_stops, one_answer}
 use Rattle.project_model.specs.Work.{Work, WorkIn}
 use Rattle.cli_project.proofs.ProjectLemmas.{one_work}
 use Rattle.cli_board.specs.Run.{Outputs, run_texts}
-use Rattle.cli_run.specs.Answer.{RunAnswer}
+use Rattle.cli_run.specs.Answer.{contents, RunAnswer}
 
 module _ (folder : List ℕ) (us : ℕ) (script : Option (List ℕ)) (out : Outputs) where
   abbrev texts_by : Work → Texts
-  texts_by work = run_texts out work (16 * us)
+  texts_by work = run_texts out (contents work) work.plan (16 * us)
 
   pub one_run : IsOne (RunAnswer folder us script out)
   unfolding RunAnswer
   one_run = one_answer (WorkIn folder script) texts_by (one_work folder script)
 
-  pub run_answer : (told : Option Files) (work : Work) → IfSome told (λ files. WorkIn folder script files (Ok work)) → IfSome told (λ files. RunAnswer folder us script out files (Ok (run_texts out work (16 * us))))
+  pub run_answer : (told : Option Files) (work : Work) → IfSome told (λ files. WorkIn folder script files (Ok work)) → IfSome told (λ files. RunAnswer folder us script out files (Ok (run_texts out (contents work) work.plan (16 * us))))
   unfolding RunAnswer
   run_answer = answered (WorkIn folder script) texts_by
 

@@ -35,7 +35,9 @@ pub fn run<B: Bench, L: Ledger>(
         Ok(work) => run_board(
             alloc,
             work.flash,
+            &[],
             work.plan,
+            0,
             16 * micros,
             outputs,
             bench,

@@ -1,10 +1,13 @@
-use Rattle.std.proofs.Common.{◌≡◌, ◌*◌, ◌≤◌, ◌++◌, length, drop}
+use Rattle.std.proofs.Common.{◌≡◌, ◌≤◌, ◌++◌, length, drop, take}
+use Rattle.std.specs.List.{sum_by}
 use Rattle.vcd_text.specs.Variables.{variables_of}
-use Rattle.project_model.specs.Variables.{part_variables, board_variables}
+use Rattle.chip_module.specs.Sources.{pins_of}
+use Rattle.project_model.specs.Variables.{parts_variables, board_variables}
+use Rattle.cli_board.proofs.VariableLemmas.{most_variables}
 use Rattle.cli_board.proofs.variables.make_variables.Given as goal
 
 abbrev pub invariant-loop-i : goal.invariant-loop-i
 invariant-loop-i l = record {
-  parts : variables_of l.variables ++ part_variables l.plan.wiring.net_of (drop l.i l.plan.wiring.first_pin) (drop l.i l.plan.parts) ≡ board_variables l.plan;
-  few : length l.variables ≤ 31 * l.i;
+  parts : variables_of l.variables ++ parts_variables (pins_of l.chips) l.plan.wiring.net_of (drop l.i l.plan.wiring.first_pin) (drop l.i l.plan.parts) ≡ board_variables (pins_of l.chips) l.plan;
+  few : length l.variables ≤ sum_by most_variables (take l.i l.plan.parts);
 }

@@ -9,7 +9,7 @@ use Rattle.cli_project.specs.Works.{work_of}
 use Rattle.cli_board.specs.Outputs.{outputs_of}
 use Rattle.cli_board.specs.Run.{run_texts}
 use Rattle.cli_board.proofs.RanLemmas.{ran_ends, ran_said, ran_counts}
-use Rattle.cli_run.specs.Answer.{RunAnswer}
+use Rattle.cli_run.specs.Answer.{contents, RunAnswer}
 use Rattle.cli_run.proofs.RunLemmas.{run_answer, run_stops}
 use Rattle.cli_run.proofs.running.run.Goals as goal
 
@@ -21,7 +21,7 @@ returns-in-Ok-clause-ends g c =
     let script : Option (List ℕ) = option_map (λ (f : Bor (List ℕ)). f.now) c.args.script in
     let out = outputs_of c.args.outputs in
     let work : Work = work_of c.in-Ok.work in
-    let texts : Texts = run_texts out work (16 * us) in
+    let texts : Texts = run_texts out (contents work) work.plan (16 * us) in
     let is : IfSome a.files (λ (files : Files). RunAnswer folder us script out files (Ok texts)) =
     run_answer folder us script out a.files work c.in-Ok.ensures.got.0 in
     ran_ends (RunAnswer folder us script out) texts a (g.B.Bench.outside c.read_work.new.bench) (g.B.Bench.outside c.run_board.new.bench) c.in-Ok.ensures.got.1 c.in-Ok.ensures.ports (outcome_of c.run_board.result) is c.run_board.ensures.ran
@@ -34,7 +34,7 @@ returns-in-Ok-clause-counts g c =
     let script : Option (List ℕ) = option_map (λ (f : Bor (List ℕ)). f.now) c.args.script in
     let out = outputs_of c.args.outputs in
     let work : Work = work_of c.in-Ok.work in
-    let texts : Texts = run_texts out work (16 * us) in
+    let texts : Texts = run_texts out (contents work) work.plan (16 * us) in
     let is : IfSome a.files (λ (files : Files). RunAnswer folder us script out files (Ok texts)) =
     run_answer folder us script out a.files work c.in-Ok.ensures.got.0 in
     ran_counts (RunAnswer folder us script out) texts (outcome_of c.run_board.result) a c.args.steps.now c.run_board.new.steps is c.run_board.ensures.steps
@@ -43,7 +43,7 @@ pub returns-in-Ok-clause-silent : goal.returns-in-Ok-clause-silent
 returns-in-Ok-clause-silent g c =
     let script : Option (List ℕ) = option_map (λ (f : Bor (List ℕ)). f.now) c.args.script in
     let out = outputs_of c.args.outputs in
-    ran_said (RunAnswer c.args.folder.now c.args.micros script out) (run_texts out (work_of c.in-Ok.work) (16 * c.args.micros)) (g.B.Bench.outside c.args.bench.now) (g.B.Bench.outside c.read_work.new.bench) (g.B.Bench.outside c.run_board.new.bench)
+    ran_said (RunAnswer c.args.folder.now c.args.micros script out) (run_texts out (contents (work_of c.in-Ok.work)) (work_of c.in-Ok.work).plan (16 * c.args.micros)) (g.B.Bench.outside c.args.bench.now) (g.B.Bench.outside c.read_work.new.bench) (g.B.Bench.outside c.run_board.new.bench)
     c.in-Ok.ensures.got.1 c.in-Ok.ensures.ports (outcome_of c.run_board.result) c.run_board.ensures.ran
 
 pub returns-in-Err-clause-ends : goal.returns-in-Err-clause-ends

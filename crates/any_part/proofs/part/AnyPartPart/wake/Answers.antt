@@ -11,3 +11,12 @@ wake-requires-in-Reactive-clause-pins c = rw c.in-Reactive.is at c.requires.pins
 
 pub returns-in-Uno-clause-others : goal.returns-in-Uno-clause-others
 returns-in-Uno-clause-others c = rw c.in-Uno.is c.wake.ensures.others
+
+pub returns-in-Chip-clause-drives : goal.returns-in-Chip-clause-drives
+returns-in-Chip-clause-drives c = rw c.in-Chip.is c.wake-in-Chip.ensures.drives
+
+pub returns-in-Chip-clause-contacts : goal.returns-in-Chip-clause-contacts
+returns-in-Chip-clause-contacts c = rw c.in-Chip.is c.wake-in-Chip.ensures.contacts
+
+pub wake-requires-in-Chip-clause-pins : goal.wake-requires-in-Chip-clause-pins
+wake-requires-in-Chip-clause-pins c = rw c.in-Chip.is at c.requires.pins
