@@ -1,15 +1,22 @@
 -- Reading a project file by file.
-use Rattle.std.proofs.Common.{◌≡◌, ◌∙◌, ◌⊎◌, ℕ, List, refl, Option, Some, None, Result, Ok, Err, inl, inr, IfSome}
+use Rattle.std.proofs.Common.{◌≡◌, ◌∙◌, ◌⊎◌, ◌++◌, [], ◌∷◌, ◌<◌, ◌-◌, ◌+◌, ℕ, List, length, length-append, take, drop, slice_index_or, arith, ap, sym, subst, refl, Option, Some, None, Result, Ok, Err, inl, inr, IfSome, IfOk}
+use Rattle.std.proofs.lemmas.List.{take_all}
 use Rattle.sim_base.specs.Outside.{Outside, SamePorts, Files}
 use Rattle.text_model.specs.Hex.{hex_image}
 use Rattle.document_model.specs.Project.{project_text}
+use Rattle.document_model.specs.declared.project.ChipFile.{ChipFile}
 use Rattle.document_model.specs.Diagram.{diagram_text}
+use Rattle.chip_json.specs.ChipJson.{chip_text}
+use Rattle.chip_module.specs.Binary.{Binary, Judges}
+use Rattle.chip_module.specs.declared.source.ChipSource.{ChipSource}
+use Rattle.chip_module.proofs.BinaryLemmas.{one_binary, not_both}
 use Rattle.script_text.specs.Script.{script_of}
 use Rattle.outcome_model.specs.Stop.{Stop, Texts, accepted}
 use Rattle.outcome_model.specs.Outcome.{Outcome, Stopped, OutOfMemory}
-use Rattle.outcome_model.specs.Work.{Is, ReadStops, IsSteady, IsOneReading}
-use Rattle.outcome_model.proofs.ReadLemmas.{if_always, steady_file, one_file, one_function, one_both}
-use Rattle.project_model.specs.Work.{Work, ScriptIn, WorkIn}
+use Rattle.outcome_model.specs.Work.{Reading, Is, ReadStops, Got, IsSteady, IsOneReading}
+use Rattle.outcome_model.proofs.ReadLemmas.{if_always, first_stops, got_both, steady_file, steady_both, steady_rule, one_file, one_function, one_both}
+use Rattle.outcome_model.proofs.JudgeLemmas.{steady_judged, one_judged}
+use Rattle.project_model.specs.Work.{Work, in_folder, ChipIn, ChipsAfter, PinsIn, ScriptIn, WorkIn}
 use Rattle.outcome_model.specs.Happens.{Ends}
 use Rattle.outcome_model.specs.Promises.{IsOne}
 use Rattle.outcome_model.proofs.EndLemmas.{answered, answer_stops, only_texts, one_answer}
@@ -18,6 +25,65 @@ use Rattle.cli_project.specs.Answer.{CheckAnswer}
 pub steady_script : (script : Option (List ℕ)) → IsSteady (ScriptIn script)
 steady_script None = λ files name x e. inl e
 steady_script (Some name) = steady_file name script_of
+
+-- the files of chips are read alike where another is not there
+module _ (folder : List ℕ) where
+  pub steady_pins : (path : List ℕ) (binary : Binary) → IsSteady (PinsIn folder path binary)
+  steady_pins path binary = steady_both _ _ (steady_file (in_folder folder path) chip_text) (λ pins. steady_rule _)
+
+  pub steady_chip : (chip : ChipFile) → IsSteady (ChipIn folder chip)
+  steady_chip chip = steady_both _ _ (steady_judged (in_folder folder chip.binary) Judges) (steady_pins chip.json)
+
+  pub steady_chips : (read : List ChipSource) (chips : List ChipFile) → IsSteady (ChipsAfter folder read chips)
+  unfolding ChipsAfter
+  steady_chips read [] = steady_rule _
+  steady_chips read (chip ∷ chips) = steady_both _ _ (steady_chip chip) (λ source. steady_chips (read ++ source ∷ []) chips)
+
+-- the first chip and those behind it
+chips_split : (d chip : ChipFile) (chips : List ChipFile) → 0 < length chips → chip ≡ slice_index_or chips 0 d → chips ≡ chip ∷ take (length chips - 1) (drop 1 chips)
+chips_split d chip [] more first = absurd (omega arith)
+chips_split d chip (c ∷ cs) more first =
+    ap (λ (x : ChipFile). x ∷ cs) (sym first) ∙ ap (λ (l : List ChipFile). chip ∷ l) (sym (take_all (length (c ∷ cs) - 1) cs (omega arith)))
+
+-- the chips behind those that were read
+module _ (folder : List ℕ) (read : List ChipSource) where
+  module _ (chip : ChipFile) (chips : List ChipFile) where
+    abbrev chips_next : ChipSource → Reading (List ChipSource)
+    chips_next source = ChipsAfter folder (read ++ source ∷ []) chips
+
+    pub chip_stops : (o : Outcome) (a b : Outside) → ReadStops o (ChipIn folder chip) a b → ReadStops o (ChipsAfter folder read (chip ∷ chips)) a b
+    unfolding ChipsAfter
+    chip_stops = first_stops (ChipIn folder chip) chips_next
+
+    pub chips_got : {E : Type 0} (out : E → Outcome) (source : ChipSource) (r : Result (List ChipSource) E) (a m b : Outside) → SamePorts a m → IfSome a.files (λ files. ChipIn folder chip files (Ok source)) × (m.read_faults ≡ a.read_faults) →
+        Got (λ (sources : List ChipSource). sources) out r (ChipsAfter folder (read ++ source ∷ []) chips) m b → Got (λ (sources : List ChipSource). sources) out r (ChipsAfter folder read (chip ∷ chips)) a b
+    unfolding ChipsAfter
+    chips_got out source r a m b = got_both (ChipIn folder chip) chips_next (steady_chip folder chip) source (λ sources. sources) out r a m b
+
+  pub first_chip_stops : (d chip : ChipFile) (chips : List ChipFile) → 0 < length chips → chip ≡ slice_index_or chips 0 d → (o : Outcome) (a b : Outside) → ReadStops o (ChipIn folder chip) a b → ReadStops o (ChipsAfter folder read chips) a b
+  first_chip_stops d chip chips more first o a b s =
+      subst (λ (l : List ChipFile). ReadStops o (ChipsAfter folder read l) a b) (sym (chips_split d chip chips more first)) (chip_stops chip (take (length chips - 1) (drop 1 chips)) o a b s)
+
+  pub more_chips_got : {E : Type 0} (out : E → Outcome) (d chip : ChipFile) (chips : List ChipFile) → 0 < length chips → chip ≡ slice_index_or chips 0 d → (source : ChipSource) (after : List ChipSource) → after ≡ read ++ source ∷ [] →
+      (r : Result (List ChipSource) E) (a m b : Outside) → SamePorts a m → IfSome a.files (λ files. ChipIn folder chip files (Ok source)) × (m.read_faults ≡ a.read_faults) →
+      Got (λ (sources : List ChipSource). sources) out r (ChipsAfter folder after (take (length chips - 1) (drop 1 chips))) m b → Got (λ (sources : List ChipSource). sources) out r (ChipsAfter folder read chips) a b
+  more_chips_got out d chip chips more first source after added r a m b same got g =
+      let rest : List ChipFile = take (length chips - 1) (drop 1 chips) in
+      subst (λ (l : List ChipFile). Got (λ (sources : List ChipSource). sources) out r (ChipsAfter folder read l) a b) (sym (chips_split d chip chips more first))
+      (chips_got chip rest out source r a m b same got (subst (λ (l : List ChipSource). Got (λ (sources : List ChipSource). sources) out r (ChipsAfter folder l rest) m b) added g))
+
+  pub more_counted : {E : Type 0} (d chip : ChipFile) (chips : List ChipFile) → 0 < length chips → chip ≡ slice_index_or chips 0 d → (source : ChipSource) (after : List ChipSource) → after ≡ read ++ source ∷ [] →
+      (r : Result (List ChipSource) E) → IfOk r (λ cs. length cs ≡ length after + length (take (length chips - 1) (drop 1 chips))) → IfOk r (λ cs. length cs ≡ length read + length chips)
+  more_counted d chip chips more first source after added (Ok cs) e =
+      let n = ap (λ (l : List ChipFile). length l) (chips_split d chip chips more first) in
+      let m = ap (λ (l : List ChipSource). length l) added ∙ length-append read (source ∷ []) in
+      omega (arith, n, m, e)
+  more_counted d chip chips more first source after added (Err x) e = tt
+
+  pub no_chips : (chips : List ChipFile) → length chips < 1 → (told : Option Files) → IfSome told (λ files. ChipsAfter folder read chips files (Ok read))
+  unfolding ChipsAfter
+  no_chips [] none told = if_always told _ (λ files. refl)
+  no_chips (c ∷ cs) none told = absurd (omega (arith, none))
 
 -- two runs of calls leave the ports alone, and none at all does
 pub same_both : (a m b : Outside) → SamePorts a m → SamePorts m b → SamePorts a b
@@ -33,6 +99,16 @@ rule_stops result s said a e (inr is) = rw is tt
 
 -- A project holds one work.
 module _ (folder : List ℕ) (script : Option (List ℕ)) where
+  one_chip : (chip : ChipFile) → IsOneReading (ChipIn folder chip)
+  one_chip chip =
+      one_both _ _ (one_judged (in_folder folder chip.binary) Judges one_binary not_both) (λ binary.
+      one_both _ _ (one_file _ chip_text) (λ pins. one_function _))
+
+  one_chips : (read : List ChipSource) (chips : List ChipFile) → IsOneReading (ChipsAfter folder read chips)
+  unfolding ChipsAfter
+  one_chips read [] = one_function _
+  one_chips read (chip ∷ chips) = one_both _ _ (one_chip chip) (λ source. one_chips (read ++ source ∷ []) chips)
+
   one_script : (script : Option (List ℕ)) → IsOneReading (ScriptIn script)
   one_script None = one_function _
   one_script (Some name) = one_file name script_of
@@ -42,8 +118,9 @@ module _ (folder : List ℕ) (script : Option (List ℕ)) where
       one_both _ _ (one_file _ project_text) (λ project.
       one_both _ _ (one_file _ hex_image) (λ flash.
       one_both _ _ (one_file _ diagram_text) (λ diagram.
+      one_both _ _ (one_chips [] project.chips) (λ chips.
       one_both _ _ (one_script script) (λ rows.
-      one_both _ _ (one_function _) (λ plan. one_function _)))))
+      one_both _ _ (one_function _) (λ plan. one_function _))))))
 
 module _ (folder : List ℕ) where
   -- the answer to `check`

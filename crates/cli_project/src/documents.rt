@@ -6,16 +6,17 @@ ghost use Rattle.cli_work.specs.Documents.{IsRead};
 ghost use Rattle.cli_work.specs.Outcomes.{outcome_of};
 ghost use Rattle.project_model.specs.Work.{in_folder};
 
+use chip_json::read_chip_json;
 use cli_work::{Document, WorkEnd, read_document};
 use diagram_json::read_diagram;
-use document_model::{Diagram, Project};
+use document_model::{ChipPins, Diagram, Project};
 use input_texts::Script;
 use project_files::read_project;
 use script_text::read_script;
 use sim_base::{Bench, Fault};
 use std::alloc::{AllocError, Global};
 
-/// `wokwi.toml`. No board runs chips yet, so a project has none.
+/// `wokwi.toml`.
 pub(crate) struct ProjectFile;
 
 impl Document for ProjectFile {
@@ -42,6 +43,21 @@ impl Document for DiagramFile {
 
     fn read(alloc: Global, bytes: &[u8]) -> Result<Diagram, Fault> {
         read_diagram(alloc, bytes)
+    }
+}
+
+/// The file of a chip's pins.
+pub(crate) struct PinsFile;
+
+impl Document for PinsFile {
+    ghost use Rattle.chip_json.specs.ChipJson.{chip_text};
+
+    type Text = ChipPins;
+
+    ghost reading = { chip_text };
+
+    fn read(alloc: Global, bytes: &[u8]) -> Result<ChipPins, Fault> {
+        read_chip_json(alloc, bytes)
     }
 }
 

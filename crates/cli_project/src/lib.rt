@@ -3,6 +3,7 @@
 #![tactic(auto)]
 
 mod checking;
+mod chips;
 mod documents;
 mod project;
 

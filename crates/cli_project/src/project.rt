@@ -1,5 +1,6 @@
 //! A project, from its folder, with a script.
-ghost use Rattle.std.specs.Prelude.{◌≡◌, ◌⊎◌, ◌≤◌, [], IfOk, length};
+ghost use Rattle.std.specs.Prelude.{◌≡◌, ◌⊎◌, ◌≤◌, IfOk, length};
+ghost use Rattle.std.specs.List.{All};
 ghost use Rattle.std.specs.Option.{option_map};
 ghost use Rattle.sim_base.specs.Outside.{Outside, SamePorts};
 ghost use Rattle.outcome_model.specs.Stop.{Refused};
@@ -7,12 +8,15 @@ ghost use Rattle.outcome_model.specs.Outcome as ends;
 ghost use Rattle.outcome_model.specs.Work.{Got};
 ghost use Rattle.board_model.specs.Fits.{AreInputs};
 ghost use Rattle.board_build.specs.IsPlan.{IsPlan};
+ghost use Rattle.chip_module.specs.Sources.{HasFewPins, pins_of};
 ghost use Rattle.cli_work.specs.Outcomes.{outcome_of};
-ghost use Rattle.project_model.specs.Work.{file_of_rule, ScriptIn, PlanIn, BehindDiagram, BehindFirmware, BehindProject, WorkIn};
+ghost use Rattle.project_model.specs.Work.{file_of_rule, ScriptIn, PlanIn, BehindChips, BehindDiagram, BehindFirmware, BehindProject, WorkIn};
 ghost use Rattle.cli_project.specs.Works.{IsRising, cycles_of, work_of};
 
+use crate::chips::{pins_of, read_chips};
 use crate::documents::{DiagramFile, ProjectFile, ScriptFile, name_in, read_in};
 use board_build::{Plan, build};
+use chip_module::ChipSource;
 use cli_work::{HexFile, Stop, WorkEnd, read_document, stopped};
 use document_model::{Diagram, Project};
 use input_texts::Script;
@@ -20,10 +24,11 @@ use sim_base::refusals::SCRIPT_PART;
 use sim_base::{Bench, Fault, Flash, List, Refusal};
 use std::alloc::Global;
 
-/// The firmware and the plan of a project.
+/// The firmware, the chips in the order of the project, and the plan of its board.
 #[derive(Drop)]
 pub struct Work {
     pub flash: Flash,
+    pub chips: List<ChipSource>,
     pub plan: Plan,
 }
 
@@ -43,23 +48,29 @@ fn refused_by_rule(alloc: Global, folder: &str, script: Option<&str>, refusal: R
     }
 }
 
-/// The plan of a project, its diagram and its script, without chips.
+/// The plan of a project, its diagram, its chips and its script.
 fn plan_board(
     alloc: Global,
     folder: &str,
     script: Option<&str>,
     project: &Project,
     diagram: &Diagram,
+    chips: &[ChipSource],
     rows: &Script,
 ) -> Result<Plan, WorkEnd>
-    requires chips { length project.now.chips ≡ 0 }
+    requires chips { length project.now.chips ≤ 8 }
+    requires each { length chips.now ≡ length project.now.chips }
+    requires pins { All HasFewPins chips.now }
     requires parts { length diagram.now.parts ≤ 64 }
     requires rising { IsRising 0 (cycles_of rows.now) }
-    ensures got { (a : Outside) → Got (λ p. p) outcome_of result (PlanIn folder.now (option_map (λ s. s.now) script.entry) project.now diagram.now rows.now) a a }
-    ensures plan { IfOk result (λ plan. IsPlan [] plan) }
+    ensures got { (a : Outside) → Got (λ p. p) outcome_of result (PlanIn folder.now (option_map (λ s. s.now) script.entry) project.now diagram.now chips.now rows.now) a a }
+    ensures plan { IfOk result (λ plan. IsPlan (pins_of chips.now) plan) }
     ensures inputs { IfOk result (λ plan. AreInputs (length plan.parts) plan.inputs) }
 {
-    match build(alloc, project, diagram, &[], rows) {
+    let Ok(pins) = pins_of(alloc, chips) else {
+        return Err(WorkEnd::OutOfMemory);
+    };
+    match build(alloc, project, diagram, pins.as_slice(), rows) {
         Ok(plan) => Ok(plan),
         Err(Fault::Refused(refusal)) => Err(refused_by_rule(alloc, folder, script, refusal)),
         Err(Fault::OutOfMemory) => Err(WorkEnd::OutOfMemory),
@@ -83,6 +94,40 @@ fn read_script_of<B: Bench>(
 }
 
 /// The script, and then the rules of the board.
+fn read_behind_chips<B: Bench>(
+    alloc: Global,
+    folder: &str,
+    script: Option<&str>,
+    project: &Project,
+    flash: Flash,
+    diagram: &Diagram,
+    chips: List<ChipSource>,
+    bench: &mut B,
+) -> Result<Work, WorkEnd>
+    requires chips { length project.now.chips ≤ 8 }
+    requires each { length chips ≡ length project.now.chips }
+    requires pins { All HasFewPins chips }
+    requires parts { length diagram.now.parts ≤ 64 }
+    ensures got { Got work_of outcome_of result (BehindChips folder.now (option_map (λ s. s.now) script.entry) project.now flash diagram.now chips) (B.outside bench.old) (B.outside bench.new) }
+    ensures ports { SamePorts (B.outside bench.old) (B.outside bench.new) }
+    ensures plan { IfOk result (λ w. IsPlan (pins_of w.chips) w.plan) }
+    ensures few { IfOk result (λ w. All HasFewPins w.chips) }
+    ensures inputs { IfOk result (λ w. AreInputs (length w.plan.parts) w.plan.inputs) }
+{
+    let rows = read_script_of(alloc, script, bench)?;
+    let plan = plan_board(
+        alloc,
+        folder,
+        script,
+        project,
+        diagram,
+        chips.as_slice(),
+        &rows,
+    )?;
+    Ok(Work { flash, chips, plan })
+}
+
+/// The chips, and what comes behind them.
 fn read_behind_diagram<B: Bench>(
     alloc: Global,
     folder: &str,
@@ -92,16 +137,16 @@ fn read_behind_diagram<B: Bench>(
     diagram: &Diagram,
     bench: &mut B,
 ) -> Result<Work, WorkEnd>
-    requires chips { length project.now.chips ≡ 0 }
+    requires chips { length project.now.chips ≤ 8 }
     requires parts { length diagram.now.parts ≤ 64 }
     ensures got { Got work_of outcome_of result (BehindDiagram folder.now (option_map (λ s. s.now) script.entry) project.now flash diagram.now) (B.outside bench.old) (B.outside bench.new) }
     ensures ports { SamePorts (B.outside bench.old) (B.outside bench.new) }
-    ensures plan { IfOk result (λ w. IsPlan [] w.plan) }
+    ensures plan { IfOk result (λ w. IsPlan (pins_of w.chips) w.plan) }
+    ensures few { IfOk result (λ w. All HasFewPins w.chips) }
     ensures inputs { IfOk result (λ w. AreInputs (length w.plan.parts) w.plan.inputs) }
 {
-    let rows = read_script_of(alloc, script, bench)?;
-    let plan = plan_board(alloc, folder, script, project, diagram, &rows)?;
-    Ok(Work { flash, plan })
+    let chips = read_chips(alloc, folder, project.chips.as_slice(), bench)?;
+    read_behind_chips(alloc, folder, script, project, flash, diagram, chips, bench)
 }
 
 /// The diagram, and what comes behind it.
@@ -113,10 +158,11 @@ fn read_behind_firmware<B: Bench>(
     flash: Flash,
     bench: &mut B,
 ) -> Result<Work, WorkEnd>
-    requires chips { length project.now.chips ≡ 0 }
+    requires chips { length project.now.chips ≤ 8 }
     ensures got { Got work_of outcome_of result (BehindFirmware folder.now (option_map (λ s. s.now) script.entry) project.now flash) (B.outside bench.old) (B.outside bench.new) }
     ensures ports { SamePorts (B.outside bench.old) (B.outside bench.new) }
-    ensures plan { IfOk result (λ w. IsPlan [] w.plan) }
+    ensures plan { IfOk result (λ w. IsPlan (pins_of w.chips) w.plan) }
+    ensures few { IfOk result (λ w. All HasFewPins w.chips) }
     ensures inputs { IfOk result (λ w. AreInputs (length w.plan.parts) w.plan.inputs) }
 {
     let diagram = read_in::<DiagramFile, B>(alloc, folder, "diagram.json", bench)?;
@@ -131,18 +177,19 @@ fn read_behind_project<B: Bench>(
     project: &Project,
     bench: &mut B,
 ) -> Result<Work, WorkEnd>
-    requires chips { length project.now.chips ≡ 0 }
+    requires chips { length project.now.chips ≤ 8 }
     ensures got { Got work_of outcome_of result (BehindProject folder.now (option_map (λ s. s.now) script.entry) project.now) (B.outside bench.old) (B.outside bench.new) }
     ensures ports { SamePorts (B.outside bench.old) (B.outside bench.new) }
-    ensures plan { IfOk result (λ w. IsPlan [] w.plan) }
+    ensures plan { IfOk result (λ w. IsPlan (pins_of w.chips) w.plan) }
+    ensures few { IfOk result (λ w. All HasFewPins w.chips) }
     ensures inputs { IfOk result (λ w. AreInputs (length w.plan.parts) w.plan.inputs) }
 {
     let flash = read_in::<HexFile, B>(alloc, folder, project.firmware.as_str(), bench)?;
     read_behind_firmware(alloc, folder, script, project, flash, bench)
 }
 
-/// The work that a folder and a script hold: the project file, the firmware, the diagram and the
-/// script, read in this order, each checked before the next, and then the rules of the board.
+/// The work that a folder and a script hold: the project file, the firmware, the diagram, of each chip
+/// its module and its pins, and the script, read in this order, each checked before the next, and then the rules of the board.
 pub fn read_work<B: Bench>(
     alloc: Global,
     folder: &str,
@@ -151,7 +198,8 @@ pub fn read_work<B: Bench>(
 ) -> Result<Work, WorkEnd>
     ensures got { Got work_of outcome_of result (WorkIn folder.now (option_map (λ s. s.now) script.entry)) (B.outside bench.old) (B.outside bench.new) }
     ensures ports { SamePorts (B.outside bench.old) (B.outside bench.new) }
-    ensures plan { IfOk result (λ w. IsPlan [] w.plan) }
+    ensures plan { IfOk result (λ w. IsPlan (pins_of w.chips) w.plan) }
+    ensures few { IfOk result (λ w. All HasFewPins w.chips) }
     ensures inputs { IfOk result (λ w. AreInputs (length w.plan.parts) w.plan.inputs) }
 {
     let project = read_in::<ProjectFile, B>(alloc, folder, "wokwi.toml", bench)?;

@@ -17,11 +17,11 @@ abbrev pub asked_of : Request → asks.Request
 asked_of (requests.Bare hex micros) = asks.Bare hex.now micros
 asked_of (requests.Check folder) = asks.Check folder.now
 asked_of (requests.Module file) = asks.Module file.now
-asked_of (requests.Run folder micros named) = asks.Run folder.now micros (named_by named)
+asked_of (requests.Run folder micros budget named) = asks.Run folder.now micros budget (named_by named)
 
 -- the number of microseconds is one that words can give
 abbrev pub IsRunTime : Request → Type 0
 IsRunTime (requests.Bare hex micros) = (0 < micros) × (micros ≤ 10000000)
 IsRunTime (requests.Check folder) = Unit {0}
 IsRunTime (requests.Module file) = Unit {0}
-IsRunTime (requests.Run folder micros named) = (0 < micros) × (micros ≤ 10000000)
+IsRunTime (requests.Run folder micros budget named) = (0 < micros) × (micros ≤ 10000000)

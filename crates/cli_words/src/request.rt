@@ -2,7 +2,7 @@
 ghost use Rattle.std.specs.Prelude.{◌≡◌, ◌≤◌, ◌<◌, map, string_bytes, IfOk, IfSome};
 ghost use Rattle.std.specs.Option.{option_map, option_and_then};
 ghost use Rattle.words_model.specs.Words.{Given, texts_of};
-ghost use Rattle.words_model.specs.Request.{request_of, asked_by, bare_syntax, bare_of, check_syntax, check_of, module_syntax, module_of, run_syntax, run_of, path_of, file_of, named_of, micros_of};
+ghost use Rattle.words_model.specs.Request.{request_of, asked_by, bare_syntax, bare_of, check_syntax, check_of, module_syntax, module_of, run_syntax, run_of, path_of, file_of, named_of, micros_of, budget_of};
 ghost use Rattle.cli_words.specs.Commands.{AreOf};
 ghost use Rattle.cli_words.specs.Asked.{asked_of, named_by, IsRunTime};
 
@@ -19,7 +19,7 @@ pub struct NamedFiles<'a> {
     pub report: Option<&'a str>,
 }
 
-/// What the words ask for; microseconds are 1 to 10,000,000.
+/// What the words ask for; microseconds are 1 to 10,000,000, and so are units of fuel.
 #[derive(Clone, Copy)]
 pub enum Request<'a> {
     /// The wave of one Uno without wires that runs a HEX file, for so many microseconds.
@@ -28,8 +28,9 @@ pub enum Request<'a> {
     Check(&'a str),
     /// Whether the module of a file is accepted.
     Module(&'a str),
-    /// A run of the project of a folder for so many microseconds, with the files that are named.
-    Run(&'a str, u32, NamedFiles<'a>),
+    /// A run of the project of a folder for so many microseconds, in which each call of a chip may
+    /// spend so many units of fuel, with the files that are named.
+    Run(&'a str, u32, u32, NamedFiles<'a>),
 }
 
 /// A file or a folder, whose name is not empty.
@@ -60,6 +61,16 @@ fn micros(matches: &ArgMatches) -> Option<u32>
     match text(matches, "us") {
         Some(word) => read_number(1, 10_000_000, word),
         None => None,
+    }
+}
+
+/// The fuel of each call of a chip.
+fn budget(matches: &ArgMatches) -> Option<u32>
+    ensures { (given : Given) → AreOf given matches.now → result ≡ budget_of given }
+{
+    match text(matches, "budget") {
+        Some(units) => read_number(1, 10_000_000, units),
+        None => Some(1_000_000),
     }
 }
 
@@ -147,13 +158,20 @@ fn run<'a>(matches: &ArgMatches<'a>) -> Option<Request<'a>>
     ensures asked { (given : Given) → AreOf given matches.now → option_map asked_of result ≡ run_of given }
     ensures run_time { IfSome result IsRunTime }
 {
-    match (path(matches, "folder"), micros(matches), named(matches)) {
-        (Some(folder), Some(micros), Some(named)) => Some(Request::Run(folder, micros, named)),
+    match (
+        path(matches, "folder"),
+        micros(matches),
+        budget(matches),
+        named(matches),
+    ) {
+        (Some(folder), Some(micros), Some(budget), Some(named)) => {
+            Some(Request::Run(folder, micros, budget, named))
+        }
         _ => None,
     }
 }
 
-/// `run FOLDER --us N [--script FILE] [--vcd FILE] [--report FILE]`
+/// `run FOLDER --us N [--script FILE] [--vcd FILE] [--report FILE] [--budget N]`
 fn read_run(alloc: Global, given: &[String]) -> Result<Option<Request<'_>>, AllocError>
     ensures request { IfOk result (λ o. option_map asked_of o ≡ option_and_then run_of (texts_of run_syntax (map string_bytes given.entry.now))) }
     ensures run_time { IfOk result (λ o. IfSome o IsRunTime) }
@@ -161,7 +179,7 @@ fn read_run(alloc: Global, given: &[String]) -> Result<Option<Request<'_>>, Allo
     match read_texts(
         alloc,
         &["folder"],
-        &["us", "script", "vcd", "report"],
+        &["us", "script", "vcd", "report", "budget"],
         given,
     )? {
         Some(matches) => Ok(run(&matches)),

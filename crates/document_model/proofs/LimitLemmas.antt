@@ -20,7 +20,8 @@ use Rattle.document_model.specs.Diagram.{has_version_1, part_of, at_most, parts_
 use Rattle.document_model.specs.Project.{firmware_of, most_chips, chip_items, chip_of, chips_after, chips_of, project_of, project_text}
 use Rattle.document_model.proofs.ReadingLemmas.{in_steps, each_length}
 
-passed : {A : Type 0} (test : Bool) (x y : A) (r : Refusal) → checked test x r ≡ Ok y → (test ≡ true) × (x ≡ y)
+-- a test that was passed
+pub passed : {A : Type 0} (test : Bool) (x y : A) (r : Refusal) → checked test x r ≡ Ok y → (test ≡ true) × (x ≡ y)
 passed true x y r e = (refl, cc)
 passed false x y r e = absurd cc
 

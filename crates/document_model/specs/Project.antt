@@ -26,9 +26,9 @@ firmware_of d = do
   firmware ← ok_or (string_at (codes "firmware") wokwi) (refusal TomlShape places.Whole)
   checked (is_one (option_and_then as_integer (get (codes "version") wokwi))) firmware (refusal TomlShape places.Whole)
 
--- How many chips a project may have: none, as long as no board runs them.
+-- how many chips a project may have
 abbrev pub most_chips : ℕ
-most_chips = 0
+most_chips = 8
 
 -- the items of the key `chip`: none where it is absent, and nothing where it is no array
 abbrev pub chip_items : Option Data → Option (List Data)

@@ -13,8 +13,8 @@ use sim_base::{Fault, List, Name, OutOfMemory, Place, Text};
 use std::alloc::Global;
 use toml::Value;
 
-/// How many chips a project may have: none, as long as no board runs them.
-const MOST_CHIPS: usize = 0;
+/// How many chips a project may have.
+const MOST_CHIPS: usize = 8;
 
 /// Whether a chip has the name.
 fn has_chip(chips: &[ChipFile], name: &str) -> bool

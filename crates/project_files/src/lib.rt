@@ -6,8 +6,6 @@
 mod chips;
 mod project;
 mod refusals;
-#[cfg(test)]
-mod tests;
 
 pub use document_model::{ChipFile, ChipPins, Project};
 pub use project::read_project;

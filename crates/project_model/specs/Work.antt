@@ -1,14 +1,19 @@
 -- A project in a folder (Wokwi, "wokwi.toml", "diagram.json"; the order of the files and their names are the profile's).
-use Rattle.std.specs.Prelude.{List, [], ◌++◌, ◌==◌, ℕ, codes, if◌then◌else◌, Option, None, Some, unwrap_or, Result, Ok, Err}
+use Rattle.std.specs.Prelude.{List, [], ◌∷◌, ◌++◌, ◌==◌, ℕ, codes, if◌then◌else◌, Option, None, Some, unwrap_or, Result, Ok, Err}
 use Rattle.sim_base.specs.declared.fault.Refusal.{Refusal}
 use Rattle.sim_base.specs.Refusals.{ScriptPart}
 use Rattle.text_model.specs.Hex.{hex_image}
 use Rattle.document_model.specs.declared.project.Project.{Project}
+use Rattle.document_model.specs.declared.project.ChipFile.{ChipFile}
 use Rattle.document_model.specs.declared.diagram.Diagram.{Diagram}
 use Rattle.document_model.specs.Project.{project_text}
 use Rattle.document_model.specs.Diagram.{diagram_text}
 use Rattle.outcome_model.specs.Stop.{Stop, Refused}
-use Rattle.outcome_model.specs.Work.{Reading, Is, IsFile, Then}
+use Rattle.outcome_model.specs.Work.{Reading, Is, IsFile, JudgedFile, Then}
+use Rattle.chip_json.specs.ChipJson.{chip_text}
+use Rattle.chip_module.specs.Binary.{Binary, Judges}
+use Rattle.chip_module.specs.Sources.{pins_of}
+use Rattle.chip_module.specs.declared.source.ChipSource.{ChipSource}
 use Rattle.input_texts.specs.declared.script.ScriptRow.{ScriptRow}
 use Rattle.script_text.specs.Script.{script_of}
 use Rattle.board_build.specs.declared.plan.Plan.{Plan}
@@ -18,13 +23,26 @@ use Rattle.board_build.specs.Plan.{plan_of}
 abbrev pub in_folder : List ℕ → List ℕ → List ℕ
 in_folder folder path = folder ++ (codes "/" ++ path)
 
--- the firmware's flash image, and the plan of the board
+-- the firmware's flash image, the chips of the project in its order, and the plan of the board
 pub record Work : Type 0 where
   pub flash : List ℕ
+  pub chips : List ChipSource
   pub plan : Plan
 
 abbrev pub diagram_name : List ℕ → List ℕ
 diagram_name folder = in_folder folder (codes "diagram.json")
+
+-- a chip: its module, and then its pins
+abbrev pub PinsIn : List ℕ → List ℕ → Binary → Reading ChipSource
+PinsIn folder path binary = Then (IsFile (in_folder folder path) chip_text) (λ pins. Is (λ files. Ok (record { binary = binary; pins = pins })))
+
+abbrev pub ChipIn : List ℕ → ChipFile → Reading ChipSource
+ChipIn folder chip = Then (JudgedFile (in_folder folder chip.binary) Judges) (PinsIn folder chip.json)
+
+-- the chips behind those that were read
+unfoldable pub ChipsAfter : List ℕ → List ChipSource → List ChipFile → Reading (List ChipSource)
+ChipsAfter folder read [] = Is (λ files. Ok read)
+ChipsAfter folder read (chip ∷ chips) = Then (ChipIn folder chip) (λ source. ChipsAfter folder (read ++ source ∷ []) chips)
 
 -- the lines of a script, none where no script is named; its name stands as it is, outside the folder
 abbrev pub ScriptIn : Option (List ℕ) → Reading (List ScriptRow)
@@ -39,14 +57,17 @@ abbrev pub by_rule : List ℕ → Option (List ℕ) → Result Plan Refusal → 
 by_rule folder script (Ok plan) = Ok plan
 by_rule folder script (Err r) = Err (Refused (file_of_rule folder script r) r)
 
--- the plan of a project, its diagram and its script
-abbrev pub PlanIn : List ℕ → Option (List ℕ) → Project → Diagram → List ScriptRow → Reading Plan
-PlanIn folder script project diagram rows = Is (λ files. by_rule folder script (plan_of project diagram [] rows))
+-- the plan of a project, its diagram, its chips and its script
+abbrev pub PlanIn : List ℕ → Option (List ℕ) → Project → Diagram → List ChipSource → List ScriptRow → Reading Plan
+PlanIn folder script project diagram chips rows = Is (λ files. by_rule folder script (plan_of project diagram (pins_of chips) rows))
 
--- what comes behind the project's file, the firmware and the diagram
+-- what comes behind the project's file, the firmware, the diagram and the chips
+abbrev pub BehindChips : List ℕ → Option (List ℕ) → Project → List ℕ → Diagram → List ChipSource → Reading Work
+BehindChips folder script project flash diagram chips =
+    Then (ScriptIn script) (λ rows. Then (PlanIn folder script project diagram chips rows) (λ plan. Is (λ files. Ok (record { flash = flash; chips = chips; plan = plan }))))
+
 abbrev pub BehindDiagram : List ℕ → Option (List ℕ) → Project → List ℕ → Diagram → Reading Work
-BehindDiagram folder script project flash diagram =
-    Then (ScriptIn script) (λ rows. Then (PlanIn folder script project diagram rows) (λ plan. Is (λ files. Ok (record { flash = flash; plan = plan }))))
+BehindDiagram folder script project flash diagram = Then (ChipsAfter folder [] project.chips) (BehindChips folder script project flash diagram)
 
 abbrev pub BehindFirmware : List ℕ → Option (List ℕ) → Project → List ℕ → Reading Work
 BehindFirmware folder script project flash = Then (IsFile (diagram_name folder) diagram_text) (BehindDiagram folder script project flash)

@@ -27,12 +27,13 @@ pub record NamedFiles : Type 0 where
 -- `Bare hex us`: the wave of so many microseconds of one Uno that runs the firmware of a HEX file.
 -- `Check folder`: whether a project is accepted.
 -- `Module file`: whether a chip's module is accepted.
--- `Run folder us named`: a run of a project for so many microseconds, with the files that are named for it.
+-- `Run folder us budget named`: a run of a project for so many microseconds, in which each call of a chip may spend so many
+-- units of fuel, with the files that are named for it.
 pub data Request : Type 0 where
   Bare : Text → ℕ → Request
   Check : Text → Request
   Module : Text → Request
-  Run : Text → ℕ → NamedFiles → Request
+  Run : Text → ℕ → ℕ → NamedFiles → Request
 
 -- a file name or a folder's is not empty
 abbrev pub path : Text → Option Text
@@ -52,6 +53,14 @@ file_of name given = named_file (text_of name given)
 -- a run time of 1 to 10,000,000 microseconds
 abbrev pub micros_of : Given → Option ℕ
 micros_of given = option_and_then (number_within 1 10000000) (text_of (codes "us") given)
+
+-- the fuel of each call of a chip: 1 to 10,000,000 units, and 1,000,000 where none is named
+abbrev pub budget_named : Option Text → Option ℕ
+budget_named None = Some 1000000
+budget_named (Some word) = number_within 1 10000000 word
+
+abbrev pub budget_of : Given → Option ℕ
+budget_of given = budget_named (text_of (codes "budget") given)
 
 -- `bare HEX --us N`
 abbrev pub bare_syntax : Syntax
@@ -82,13 +91,13 @@ abbrev pub named_of : Given → Option NamedFiles
 named_of given =
     option_and_then (λ script. option_and_then (λ wave. option_map (with_report script wave) (file_of (codes "report") given)) (file_of (codes "vcd") given)) (file_of (codes "script") given)
 
--- `run FOLDER --us N` with those files
+-- `run FOLDER --us N` with those files and `--budget N`
 abbrev pub run_syntax : Syntax
-run_syntax = record { words = codes "folder" ∷ []; options = codes "us" ∷ codes "script" ∷ codes "vcd" ∷ codes "report" ∷ [] }
+run_syntax = record { words = codes "folder" ∷ []; options = codes "us" ∷ codes "script" ∷ codes "vcd" ∷ codes "report" ∷ codes "budget" ∷ [] }
 
 abbrev pub run_of : Given → Option Request
 run_of given =
-    option_and_then (λ folder. option_and_then (λ us. option_map (Run folder us) (named_of given)) (micros_of given)) (path_of (codes "folder") given)
+    option_and_then (λ folder. option_and_then (λ us. option_and_then (λ budget. option_map (Run folder us budget) (named_of given)) (budget_of given)) (micros_of given)) (path_of (codes "folder") given)
 
 -- the request of a command with these words after it
 abbrev pub asked_by : Text → List Text → Option Request

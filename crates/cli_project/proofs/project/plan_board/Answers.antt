@@ -1,7 +1,13 @@
 use Rattle.std.proofs.Common.{length}
+use Rattle.std.proofs.lemmas.List.Elements.{All-map}
+use Rattle.board_build.specs.Pins.{IsShort}
+use Rattle.chip_module.specs.declared.source.ChipSource.{ChipSource}
 use Rattle.cli_project.proofs.InputLemmas.{are_inputs}
 use Rattle.cli_project.proofs.project.plan_board.Goals as goal
 
-pub returns-in-Ok-clause-inputs : goal.returns-in-Ok-clause-inputs
-returns-in-Ok-clause-inputs c =
-    are_inputs (length c.in-Ok.plan.parts) c.in-Ok.plan.inputs c.args.rows.now c.requires.rising c.in-Ok.ensures.cycles c.in-Ok.ensures.plan.for_parts
+pub build-requires-clause-pins : goal.build-requires-clause-pins
+build-requires-clause-pins c = rw (c.as_slice.ensures, c.in-Ok.ensures) (All-map IsShort (λ (chip : ChipSource). chip.pins) c.args.chips.now c.requires.pins)
+
+pub returns-in-Ok-build-clause-inputs : goal.returns-in-Ok-build-clause-inputs
+returns-in-Ok-build-clause-inputs c =
+    are_inputs (length c.in-Ok-build.plan.parts) c.in-Ok-build.plan.inputs c.args.rows.now c.requires.rising c.in-Ok-build.ensures.cycles c.in-Ok-build.ensures.plan.for_parts
