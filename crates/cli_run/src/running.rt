@@ -1,4 +1,4 @@
-//! `run FOLDER --us N [--script FILE] [--vcd FILE] [--report FILE]`: a project.
+//! `run FOLDER --us N [--script FILE] [--vcd FILE] [--report FILE] [--budget N]`: a project.
 ghost use Rattle.std.specs.Prelude.{◌≡◌, ◌≤◌, ◌<◌};
 ghost use Rattle.std.specs.Option.{option_map};
 ghost use Rattle.outcome_model.specs.Happens.{Ends, Counts};
@@ -15,29 +15,30 @@ use std::alloc::Global;
 use std::sync::ledger::Ledger;
 
 /// Runs the project of a folder under a script, if one is named, for so many microseconds, 16 cycles
-/// each, and writes its texts where the outputs say.
+/// each, where each call into a chip gets so much fuel, and writes its texts where the outputs say.
 pub fn run<B: Bench, L: Ledger>(
     alloc: Global,
     folder: &str,
     micros: u32,
     script: Option<&str>,
+    budget: u32,
     outputs: Outputs,
     bench: &mut B,
     steps: &mut Steps<L>,
 ) -> WorkEnd
     requires some { 0 < micros }
     requires end { micros ≤ 10000000 }
-    ensures ends { Ends (RunAnswer folder.now micros (option_map (λ s. s.now) script.entry) (outputs_of outputs.entry)) (outcome_of result) (B.outside bench.old) (B.outside bench.new) }
-    ensures counts { Counts (RunAnswer folder.now micros (option_map (λ s. s.now) script.entry) (outputs_of outputs.entry)) (outcome_of result) (B.outside bench.old) steps.old steps.new }
+    ensures ends { Ends (RunAnswer folder.now micros (option_map (λ s. s.now) script.entry) budget (outputs_of outputs.entry)) (outcome_of result) (B.outside bench.old) (B.outside bench.new) }
+    ensures counts { Counts (RunAnswer folder.now micros (option_map (λ s. s.now) script.entry) budget (outputs_of outputs.entry)) (outcome_of result) (B.outside bench.old) steps.old steps.new }
     ensures silent { SaidNothing (B.outside bench.old) (B.outside bench.new) }
 {
     match read_work(alloc, folder, script, bench) {
         Ok(work) => run_board(
             alloc,
             work.flash,
-            &[],
+            work.chips.as_slice(),
             work.plan,
-            0,
+            budget,
             16 * micros,
             outputs,
             bench,

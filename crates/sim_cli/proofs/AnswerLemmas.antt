@@ -21,7 +21,7 @@ pub one : (r : Request) → IsOne (Answers r)
 one (Bare hex us) = one_bare hex us
 one (Check folder) = one_check folder
 one (Module name) = one_module name
-one (Run folder us named) = one_run folder us named.script (outputs_to named)
+one (Run folder us budget named) = one_run folder us named.script budget (outputs_to named)
 
 pub check_counts : (folder : List ℕ) (o : Outcome) (a b : Outside) (n : ℕ) → Ends (CheckAnswer folder) o a b → outcomes.Counts (CheckAnswer folder) o a n n
 check_counts folder o a b n ends = accepted_counts (CheckAnswer folder) (check_only folder) o a b n ends

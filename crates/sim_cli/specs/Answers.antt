@@ -18,4 +18,4 @@ abbrev pub Answers : Request → Files → Result Texts Stop → Type 0
 Answers (Bare hex us) = BareAnswer hex us
 Answers (Check folder) = CheckAnswer folder
 Answers (Module name) = ModuleAnswer name
-Answers (Run folder us named) = RunAnswer folder us named.script (outputs_to named)
+Answers (Run folder us budget named) = RunAnswer folder us named.script budget (outputs_to named)

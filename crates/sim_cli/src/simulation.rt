@@ -33,13 +33,22 @@ fn work<B: Bench, L: Ledger>(
         Ok(Some(Request::Bare(hex, micros))) => bare(alloc, hex, micros, bench, steps),
         Ok(Some(Request::Check(folder))) => check(alloc, folder, bench),
         Ok(Some(Request::Module(file))) => check_module(alloc, file, bench),
-        Ok(Some(Request::Run(folder, micros, named))) => {
+        Ok(Some(Request::Run(folder, micros, budget, named))) => {
             let outputs = Outputs {
                 serial: true,
                 wave: named.wave,
                 report: named.report,
             };
-            run(alloc, folder, micros, named.script, outputs, bench, steps)
+            run(
+                alloc,
+                folder,
+                micros,
+                named.script,
+                budget,
+                outputs,
+                bench,
+                steps,
+            )
         }
         Ok(None) => WorkEnd::NoRequest,
         Err(_) => WorkEnd::OutOfMemory,

@@ -21,10 +21,10 @@ returns-in-Ok-clause-ends g c =
     let script : Option (List ℕ) = option_map (λ (f : Bor (List ℕ)). f.now) c.args.script in
     let out = outputs_of c.args.outputs in
     let work : Work = work_of c.in-Ok.work in
-    let texts : Texts = run_texts out (contents work) work.plan (16 * us) in
-    let is : IfSome a.files (λ (files : Files). RunAnswer folder us script out files (Ok texts)) =
-    run_answer folder us script out a.files work c.in-Ok.ensures.got.0 in
-    ran_ends (RunAnswer folder us script out) texts a (g.B.Bench.outside c.read_work.new.bench) (g.B.Bench.outside c.run_board.new.bench) c.in-Ok.ensures.got.1 c.in-Ok.ensures.ports (outcome_of c.run_board.result) is c.run_board.ensures.ran
+    let texts : Texts = run_texts out (contents work c.args.budget) work.plan (16 * us) in
+    let is : IfSome a.files (λ (files : Files). RunAnswer folder us script c.args.budget out files (Ok texts)) =
+    run_answer folder us script c.args.budget out a.files work c.in-Ok.ensures.got.0 in
+    ran_ends (RunAnswer folder us script c.args.budget out) texts a (g.B.Bench.outside c.read_work.new.bench) (g.B.Bench.outside c.run_board.new.bench) c.in-Ok.ensures.got.1 c.in-Ok.ensures.ports (outcome_of c.run_board.result) is c.run_board.ensures.ran
 
 pub returns-in-Ok-clause-counts : goal.returns-in-Ok-clause-counts
 returns-in-Ok-clause-counts g c =
@@ -34,22 +34,22 @@ returns-in-Ok-clause-counts g c =
     let script : Option (List ℕ) = option_map (λ (f : Bor (List ℕ)). f.now) c.args.script in
     let out = outputs_of c.args.outputs in
     let work : Work = work_of c.in-Ok.work in
-    let texts : Texts = run_texts out (contents work) work.plan (16 * us) in
-    let is : IfSome a.files (λ (files : Files). RunAnswer folder us script out files (Ok texts)) =
-    run_answer folder us script out a.files work c.in-Ok.ensures.got.0 in
-    ran_counts (RunAnswer folder us script out) texts (outcome_of c.run_board.result) a c.args.steps.now c.run_board.new.steps is c.run_board.ensures.steps
+    let texts : Texts = run_texts out (contents work c.args.budget) work.plan (16 * us) in
+    let is : IfSome a.files (λ (files : Files). RunAnswer folder us script c.args.budget out files (Ok texts)) =
+    run_answer folder us script c.args.budget out a.files work c.in-Ok.ensures.got.0 in
+    ran_counts (RunAnswer folder us script c.args.budget out) texts (outcome_of c.run_board.result) a c.args.steps.now c.run_board.new.steps is c.run_board.ensures.steps
 
 pub returns-in-Ok-clause-silent : goal.returns-in-Ok-clause-silent
 returns-in-Ok-clause-silent g c =
     let script : Option (List ℕ) = option_map (λ (f : Bor (List ℕ)). f.now) c.args.script in
     let out = outputs_of c.args.outputs in
-    ran_said (RunAnswer c.args.folder.now c.args.micros script out) (run_texts out (contents (work_of c.in-Ok.work)) (work_of c.in-Ok.work).plan (16 * c.args.micros)) (g.B.Bench.outside c.args.bench.now) (g.B.Bench.outside c.read_work.new.bench) (g.B.Bench.outside c.run_board.new.bench)
+    ran_said (RunAnswer c.args.folder.now c.args.micros script c.args.budget out) (run_texts out (contents (work_of c.in-Ok.work) c.args.budget) (work_of c.in-Ok.work).plan (16 * c.args.micros)) (g.B.Bench.outside c.args.bench.now) (g.B.Bench.outside c.read_work.new.bench) (g.B.Bench.outside c.run_board.new.bench)
     c.in-Ok.ensures.got.1 c.in-Ok.ensures.ports (outcome_of c.run_board.result) c.run_board.ensures.ran
 
 pub returns-in-Err-clause-ends : goal.returns-in-Err-clause-ends
 returns-in-Err-clause-ends g c =
-    run_stops c.args.folder.now c.args.micros (option_map (λ (f : Bor (List ℕ)). f.now) c.args.script) (outputs_of c.args.outputs) (outcome_of c.in-Err.outcome) _ _ c.in-Err.ensures.got c.in-Err.ensures.ports
+    run_stops c.args.folder.now c.args.micros (option_map (λ (f : Bor (List ℕ)). f.now) c.args.script) c.args.budget (outputs_of c.args.outputs) (outcome_of c.in-Err.outcome) _ _ c.in-Err.ensures.got c.in-Err.ensures.ports
 
 pub returns-in-Err-clause-counts : goal.returns-in-Err-clause-counts
 returns-in-Err-clause-counts g c =
-    stops_counts (RunAnswer c.args.folder.now c.args.micros (option_map (λ (f : Bor (List ℕ)). f.now) c.args.script) (outputs_of c.args.outputs)) (WorkIn c.args.folder.now (option_map (λ (f : Bor (List ℕ)). f.now) c.args.script)) (outcome_of c.in-Err.outcome) (g.B.Bench.outside c.args.bench.now) (g.B.Bench.outside c.read_work.new.bench) c.args.steps.now c.args.steps.now c.in-Err.ensures.got
+    stops_counts (RunAnswer c.args.folder.now c.args.micros (option_map (λ (f : Bor (List ℕ)). f.now) c.args.script) c.args.budget (outputs_of c.args.outputs)) (WorkIn c.args.folder.now (option_map (λ (f : Bor (List ℕ)). f.now) c.args.script)) (outcome_of c.in-Err.outcome) (g.B.Bench.outside c.args.bench.now) (g.B.Bench.outside c.read_work.new.bench) c.args.steps.now c.args.steps.now c.in-Err.ensures.got
