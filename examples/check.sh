@@ -65,6 +65,13 @@ widths() { # PIN
             else if (rise != "") { width = us - rise; if (width != last) print width; last = width; rise = "" }
         }'
 }
+# CYCLE VALUE of a pin in cycle 0 and at each change
+values() { # PART.PIN
+    awk -v name="$1" '
+        $5 == name { code = $4 }
+        /^#/ { cycle = substr($0, 2) / 625 }
+        /^[01xz]/ && substr($0, 2) == code { print cycle + 0, substr($0, 1, 1) }'
+}
 same() { # NAME, EXPECTED; the text at hand on standard input
     if cmp -s - "$2"; then echo "$1: ok"; else echo "$1: differs from $2"; return 1; fi
 }
@@ -86,7 +93,7 @@ twin counter/expected/run.vcd counter.vcd
 pulses <"$rows/crc.vcd" | same "crc in the rows" "$here/crc/expected/pulses.txt" || bad=1
 pulses <"$rows/sort.vcd" | same "sort in the rows" "$here/sort/expected/pulses.txt" || bad=1
 lights bit <"$rows/counter-down.vcd" | same "counter downwards in the rows" "$here/counter/expected/counts-down.txt" || bad=1
-for name in blink counter pulse arduino-blink fade pin-interrupt pot-blink button serial-hello pot-serial i2c-scanner spi-loopback shift-out spi-shift latch; do
+for name in blink counter pulse arduino-blink fade pin-interrupt pot-blink button serial-hello pot-serial i2c-scanner spi-loopback shift-out spi-shift latch chip-inverter chip-blinker chip-counter; do
     "$program" check "$here/$name" | same "$name as a project" "$here/$name/expected/check.txt" || bad=1
 done
 "$program" bare "$here/blink/blink.hex" --us 1 | same blink "$here/blink/expected/wave.vcd" || bad=1
@@ -131,6 +138,24 @@ scripted latch 20000
 "$program" run "$here/button" --us 60000 --script "$here/button/script.txt" --vcd - | at 13 1 | same "button's LED" "$here/button/expected/pin13.txt" || bad=1
 
 "$program" run "$here/latch" --us 20000 --script "$here/latch/script.txt" --vcd - | at 2 1 | same "latch's pin 2" "$here/latch/expected/pin2.txt" || bad=1
+
+# custom chips, with the modules that are here, and with those that clang makes of their sources
+chips() { # FOLDER OF THE PROJECTS, WORDS
+    wave "$1/chip-inverter" 1 | values inv1.OUT | same "chip-inverter$2" "$here/chip-inverter/expected/out.txt" || bad=1
+    "$program" run "$1/chip-inverter" --us 1 --report - | same "chip-inverter's report$2" "$here/chip-inverter/expected/report.txt" || bad=1
+    wave "$1/chip-blinker" 3000 | values blink1.OUT | same "chip-blinker$2" "$here/chip-blinker/expected/out.txt" || bad=1
+    "$program" run "$1/chip-counter" --us 10000 | same "chip-counter's bytes$2" "$here/chip-counter/expected/serial.txt" || bad=1
+}
+chips "$here" ""
+if command -v "${CLANG:-clang}" >/dev/null && command -v wasm-ld >/dev/null; then
+    for name in inverter blinker counter; do
+        cp -r "$here/chip-$name" "$down"
+        "$here/chips.sh" --into "$down/chip-$name" >/dev/null || bad=1
+    done
+    chips "$down" ", its module made again"
+else
+    echo "no clang or wasm-ld: the chips' modules are not made again" >&2
+fi
 
 # the counter with pin 2 on ground
 cp "$here/counter/wokwi.toml" "$here/counter/counter.hex" "$down"
