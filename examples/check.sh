@@ -55,14 +55,14 @@ at() { # PIN STEP
             was = now
         }'
 }
-# the microseconds of each pulse of an Uno's pin that differs from the one before
-widths() { # PIN
-    awk -v pin="$1" '
+# the microseconds of each pulse of an Uno's pin that differs from the one before, to the nearest STEP where there is one
+widths() { # PIN [STEP]
+    awk -v pin="$1" -v step="${2:-0}" '
         $5 == "uno." pin { code = $4 }
         /^#/ { us = substr($0, 2) / 10000 }
         /^[01xz]/ && substr($0, 2) == code {
             if (substr($0, 1, 1) == "1") rise = us
-            else if (rise != "") { width = us - rise; if (width != last) print width; last = width; rise = "" }
+            else if (rise != "") { width = us - rise; if (step) width = int(width / step + 0.5) * step; if (width != last) print width; last = width; rise = "" }
         }'
 }
 # CYCLE VALUE of a pin in cycle 0 and at each change
@@ -93,7 +93,7 @@ twin counter/expected/run.vcd counter.vcd
 pulses <"$rows/crc.vcd" | same "crc in the rows" "$here/crc/expected/pulses.txt" || bad=1
 pulses <"$rows/sort.vcd" | same "sort in the rows" "$here/sort/expected/pulses.txt" || bad=1
 lights bit <"$rows/counter-down.vcd" | same "counter downwards in the rows" "$here/counter/expected/counts-down.txt" || bad=1
-for name in blink counter pulse arduino-blink fade pin-interrupt pot-blink button serial-hello pot-serial i2c-scanner spi-loopback shift-out spi-shift latch chip-inverter chip-blinker chip-counter; do
+for name in blink counter pulse arduino-blink fade tone pin-interrupt pot-blink button serial-hello pot-serial i2c-scanner spi-loopback shift-out spi-shift latch chip-inverter chip-blinker chip-counter; do
     "$program" check "$here/$name" | same "$name as a project" "$here/$name/expected/check.txt" || bad=1
 done
 "$program" bare "$here/blink/blink.hex" --us 1 | same blink "$here/blink/expected/wave.vcd" || bad=1
@@ -109,6 +109,7 @@ wave "$here/pulse" 200 | changes_of 13 | same pulse "$here/pulse/expected/change
 # Arduino sketches; what is expected is what their text says
 wave "$here/arduino-blink" 2100000 | at 13 1 | same arduino-blink "$here/arduino-blink/expected/pin13.txt" || bad=1
 wave "$here/fade" 200000 | widths 9 | same fade "$here/fade/expected/pulses.txt" || bad=1
+wave "$here/tone" 80000 | widths 8 20 | same tone "$here/tone/expected/pulses.txt" || bad=1
 wave "$here/pin-interrupt" 30000 | at 13 1 | same pin-interrupt "$here/pin-interrupt/expected/pin13.txt" || bad=1
 for name in shift-out spi-shift; do
     wave "$here/$name" 100000 | lights led | same "$name's LEDs" "$here/$name/expected/leds.txt" || bad=1

@@ -95,6 +95,7 @@ if have cc && cc -O2 -o "$folder/uno" "$here/uno.c"; then
     row twi-bus 1500 2-18 3-19
     with_uno arduino-blink 2100000
     with_uno fade 200000
+    with_uno tone 80000
     with_uno pin-interrupt 30000 9=2
     with_uno pot-blink 950000 14~100
     with_uno serial-hello 350000
