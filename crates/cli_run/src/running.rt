@@ -8,7 +8,7 @@ ghost use Rattle.cli_board.specs.Outputs.{outputs_of};
 ghost use Rattle.cli_run.specs.Answer.{RunAnswer};
 
 use cli_board::{Outputs, run_board};
-use cli_project::read_work;
+use cli_project::{Work, read_work};
 use cli_work::WorkEnd;
 use sim_base::{Bench, Steps};
 use std::alloc::Global;
@@ -33,17 +33,20 @@ pub fn run<B: Bench, L: Ledger>(
     ensures silent { SaidNothing (B.outside bench.old) (B.outside bench.new) }
 {
     match read_work(alloc, folder, script, bench) {
-        Ok(work) => run_board(
-            alloc,
-            work.flash,
-            work.chips.as_slice(),
-            work.plan,
-            budget,
-            16 * micros,
-            outputs,
-            bench,
-            steps,
-        ),
+        Ok(work) => {
+            let Work { flash, chips, plan } = work;
+            run_board(
+                alloc,
+                flash,
+                chips.as_slice(),
+                plan,
+                budget,
+                16 * micros,
+                outputs,
+                bench,
+                steps,
+            )
+        }
         Err(outcome) => outcome,
     }
 }

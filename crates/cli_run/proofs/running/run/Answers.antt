@@ -1,13 +1,16 @@
-use Rattle.std.proofs.Common.{◌*◌, ℕ, List, Option, Ok, IfSome, Bor}
+use Rattle.std.proofs.Common.{◌≡◌, ◌+◌, ◌*◌, ℕ, List, Option, Ok, IfSome, Bor, subst}
 use Rattle.std.specs.Option.{option_map}
 use Rattle.sim_base.specs.Outside.{Outside, Files}
 use Rattle.outcome_model.specs.Stop.{Texts}
 use Rattle.project_model.specs.Work.{Work, WorkIn}
+use Rattle.chip_module.specs.declared.source.ChipSource.{ChipSource}
+use Rattle.outcome_model.specs.Outcome.{Accepted}
 use Rattle.outcome_model.proofs.EndLemmas.{stops_counts}
 use Rattle.cli_work.specs.Outcomes.{outcome_of}
 use Rattle.cli_project.specs.Works.{work_of}
 use Rattle.cli_board.specs.Outputs.{outputs_of}
-use Rattle.cli_board.specs.Run.{run_texts}
+use Rattle.cli_board.specs.Ran.{Ran}
+use Rattle.cli_board.specs.Run.{run_texts, run_wakes}
 use Rattle.cli_board.proofs.RanLemmas.{ran_ends, ran_said, ran_counts}
 use Rattle.cli_run.specs.Answer.{contents, RunAnswer}
 use Rattle.cli_run.proofs.RunLemmas.{run_answer, run_stops}
@@ -24,7 +27,9 @@ returns-in-Ok-clause-ends g c =
     let texts : Texts = run_texts out (contents work c.args.budget) work.plan (16 * us) in
     let is : IfSome a.files (λ (files : Files). RunAnswer folder us script c.args.budget out files (Ok texts)) =
     run_answer folder us script c.args.budget out a.files work c.in-Ok.ensures.got.0 in
-    ran_ends (RunAnswer folder us script c.args.budget out) texts a (g.B.Bench.outside c.read_work.new.bench) (g.B.Bench.outside c.run_board.new.bench) c.in-Ok.ensures.got.1 c.in-Ok.ensures.ports (outcome_of c.run_board.result) is c.run_board.ensures.ran
+    let ran : Ran (outcome_of c.run_board.result) texts (g.B.Bench.outside c.read_work.new.bench) (g.B.Bench.outside c.run_board.new.bench) =
+    subst (λ (chips : List ChipSource). Ran (outcome_of c.run_board.result) (run_texts out (record { flash = work.flash; chips = chips; budget = c.args.budget }) work.plan (16 * us)) (g.B.Bench.outside c.read_work.new.bench) (g.B.Bench.outside c.run_board.new.bench)) c.as_slice.ensures c.run_board.ensures.ran in
+    ran_ends (RunAnswer folder us script c.args.budget out) texts a (g.B.Bench.outside c.read_work.new.bench) (g.B.Bench.outside c.run_board.new.bench) c.in-Ok.ensures.got.1 c.in-Ok.ensures.ports (outcome_of c.run_board.result) is ran
 
 pub returns-in-Ok-clause-counts : goal.returns-in-Ok-clause-counts
 returns-in-Ok-clause-counts g c =
@@ -37,14 +42,20 @@ returns-in-Ok-clause-counts g c =
     let texts : Texts = run_texts out (contents work c.args.budget) work.plan (16 * us) in
     let is : IfSome a.files (λ (files : Files). RunAnswer folder us script c.args.budget out files (Ok texts)) =
     run_answer folder us script c.args.budget out a.files work c.in-Ok.ensures.got.0 in
-    ran_counts (RunAnswer folder us script c.args.budget out) texts (outcome_of c.run_board.result) a c.args.steps.now c.run_board.new.steps is c.run_board.ensures.steps
+    let counted : outcome_of c.run_board.result ≡ Accepted → c.run_board.new.steps ≡ c.args.steps.now + texts.wakes =
+    subst (λ (chips : List ChipSource). outcome_of c.run_board.result ≡ Accepted → c.run_board.new.steps ≡ c.args.steps.now + run_wakes (record { flash = work.flash; chips = chips; budget = c.args.budget }) work.plan (16 * us)) c.as_slice.ensures c.run_board.ensures.steps in
+    ran_counts (RunAnswer folder us script c.args.budget out) texts (outcome_of c.run_board.result) a c.args.steps.now c.run_board.new.steps is counted
 
 pub returns-in-Ok-clause-silent : goal.returns-in-Ok-clause-silent
 returns-in-Ok-clause-silent g c =
+    let us : ℕ = c.args.micros in
     let script : Option (List ℕ) = option_map (λ (f : Bor (List ℕ)). f.now) c.args.script in
     let out = outputs_of c.args.outputs in
-    ran_said (RunAnswer c.args.folder.now c.args.micros script c.args.budget out) (run_texts out (contents (work_of c.in-Ok.work) c.args.budget) (work_of c.in-Ok.work).plan (16 * c.args.micros)) (g.B.Bench.outside c.args.bench.now) (g.B.Bench.outside c.read_work.new.bench) (g.B.Bench.outside c.run_board.new.bench)
-    c.in-Ok.ensures.got.1 c.in-Ok.ensures.ports (outcome_of c.run_board.result) c.run_board.ensures.ran
+    let work : Work = work_of c.in-Ok.work in
+    let ran : Ran (outcome_of c.run_board.result) (run_texts out (contents work c.args.budget) work.plan (16 * us)) (g.B.Bench.outside c.read_work.new.bench) (g.B.Bench.outside c.run_board.new.bench) =
+    subst (λ (chips : List ChipSource). Ran (outcome_of c.run_board.result) (run_texts out (record { flash = work.flash; chips = chips; budget = c.args.budget }) work.plan (16 * us)) (g.B.Bench.outside c.read_work.new.bench) (g.B.Bench.outside c.run_board.new.bench)) c.as_slice.ensures c.run_board.ensures.ran in
+    ran_said (RunAnswer c.args.folder.now us script c.args.budget out) (run_texts out (contents work c.args.budget) work.plan (16 * us)) (g.B.Bench.outside c.args.bench.now) (g.B.Bench.outside c.read_work.new.bench) (g.B.Bench.outside c.run_board.new.bench)
+    c.in-Ok.ensures.got.1 c.in-Ok.ensures.ports (outcome_of c.run_board.result) ran
 
 pub returns-in-Err-clause-ends : goal.returns-in-Err-clause-ends
 returns-in-Err-clause-ends g c =
