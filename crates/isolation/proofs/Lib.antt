@@ -1,0 +1,4 @@
+mod ChipLemmas
+mod StayLemmas
+mod RestLemmas
+pub mod Isolation

@@ -1,0 +1,2 @@
+pub mod ChipRun
+pub mod PlayRun

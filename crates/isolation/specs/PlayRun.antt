@@ -1,0 +1,42 @@
+-- The run of a plan in which each chip is replaced by a player of rows of drives (profile).
+use Rattle.std.specs.Prelude.{◌⊎◌, ℕ, List, [], None}
+use Rattle.std.proofs.Common.{inl, inr}
+use Rattle.text_model.specs.Wave.{wave_text}
+use Rattle.board_model.specs.Board.{bytes, states}
+use Rattle.board_model.specs.Rows.{rows}
+use Rattle.board_laws.specs.Player.{DriveRows, PlayerState}
+use Rattle.board_laws.specs.Play.{or_player, played, recorded}
+use Rattle.board_laws.specs.Worlds.{is_chip}
+use Rattle.board_build.specs.declared.plan.Plan.{Plan}
+use Rattle.board_build.specs.declared.plan.PlanPart.{PlanPart}
+use Rattle.chip_module.specs.Sources.{pins_of}
+use Rattle.any_part.specs.AnyPart.{AnyState, any}
+use Rattle.any_part.specs.Start.{Contents, starts}
+use Rattle.sim_report.specs.declared.row.ReportRow.{ReportRow}
+use Rattle.board_report.specs.Report.{part_rows, rest_text}
+use Rattle.project_model.specs.Variables.{board_variables}
+
+-- the lines of a part as in any run; a player has none
+abbrev pub play_part_rows : PlanPart → AnyState ⊎ PlayerState → List ReportRow
+play_part_rows part (inl s) = part_rows part s
+play_part_rows part (inr p) = []
+
+module _ (has : Contents) (plan : Plan) (n : ℕ) where
+  -- the rows of each chip: its drives in each of the first n cycles of the run itself
+  abbrev pub own_rows : ℕ → List DriveRows
+  own_rows = recorded any plan.wiring plan.inputs (starts has plan.parts) n
+
+  module _ (drive_rows : ℕ → List DriveRows) where
+    -- the start states, with players of these rows in place of the chips
+    abbrev pub play_starts : List (AnyState ⊎ PlayerState)
+    play_starts = played (is_chip plan.wiring) drive_rows (starts has plan.parts)
+
+    abbrev pub play_wave : List ℕ
+    play_wave = wave_text (board_variables (pins_of has.chips) plan) (rows (or_player any) plan.wiring plan.inputs None play_starts 0 n) n
+
+    abbrev pub play_bytes : List ℕ
+    play_bytes = bytes (or_player any) plan.wiring plan.inputs play_starts 0 n
+
+    -- the report but for the chips
+    abbrev pub play_rest : List ℕ
+    play_rest = rest_text play_part_rows n plan.parts (states (or_player any) plan.wiring plan.inputs play_starts 0 n)
