@@ -1,10 +1,30 @@
 #!/bin/sh
-# Makes the modules of crates/chip_rows: those of the texts here with wat2wasm, and those of the examples.
+# Makes the modules of crates/chip_rows: those of the texts here with wat2wasm, and those of the examples. Then the modules of
+# crates/sim_rows that have a text beside them, what both have, and the inverter of the examples once more, by clang for the
+# first version of the standard, with a memory that is imported and with the names and producers that the linker leaves.
 here=$(cd "$(dirname "$0")" && pwd)
-data=$here/../../crates/chip_rows/data
+top=$here/../..
+data=$top/crates/chip_rows/data
+runs=$top/crates/sim_rows/data
+assemble() {
+    wat2wasm --disable-multi-value --disable-reference-types "$1" -o "$2/$(basename "$1" .wat).wasm" || exit 1
+}
 for text in "$here"/*.wat; do
-    wat2wasm --disable-multi-value --disable-reference-types "$text" -o "$data/$(basename "$text" .wat).wasm" || exit 1
+    assemble "$text" "$data"
 done
 for name in inverter blinker counter; do
-    cp "$here/../../examples/chip-$name/$name.wasm" "$data/clang-$name.wasm"
+    cp "$top/examples/chip-$name/$name.wasm" "$data/clang-$name.wasm"
 done
+for text in "$runs"/*.wat; do
+    assemble "$text" "$runs"
+done
+for name in start-loops init-calls-itself grows-and-stores name-at-the-end name-of-64-bytes pin-init-in-a-callback timer-33 \
+    callback-beyond-the-table callback-that-is-no-entry callback-of-another-type division-by-zero timer-of-0-ns-again-and-again \
+    callback-that-loops callback-0 ids-that-were-not-given delays-of-three-timers inverter-imports-its-memory clang-blinker \
+    clang-counter; do
+    cp "$data/$name.wasm" "$runs"
+done
+clang --target=wasm32 -mcpu=mvp -O2 -Wall -Wextra -ffreestanding -nostdlib -I"$top/sdk" \
+    -Wl,--no-entry,--export-table,--import-memory,-z,stack-size=8192 \
+    -o "$runs/clang-inverter-imports-its-memory.wasm" "$top/examples/chips/inverter/inverter.c" || exit 1
+chmod a-x "$runs/clang-inverter-imports-its-memory.wasm"

@@ -1,0 +1,16 @@
+;; P begins as an output that is high. A timer of 0 ns that repeats hands pinMode the number of its cycle, from 1 to 15.
+(module
+  (import "env" "pinInit" (func $pinInit (param i32 i32) (result i32)))
+  (import "env" "pinMode" (func $pinMode (param i32 i32)))
+  (import "env" "timerInit" (func $timerInit (param i32) (result i32)))
+  (import "env" "timerStartNanos" (func $start (param i32 i64 i32)))
+  (memory 1) (table 2 funcref) (elem (i32.const 1) $next) (global $cycle (mut i32) (i32.const 0))
+  (data (i32.const 0) "P\00\00\00\00\00\00\00\01\00\00\00\00\00\00\00")
+  (data (i32.const 64) "\00\00\00\00\10\00\00\00\01\00\00\00\02\00\00\00\03\00\00\00\04\00\00\00\11\00\00\00\00\00\00\00")
+  (data (i32.const 96) "\01\00\00\00\05\00\00\00\01\00\00\00\ff\ff\ff\ff\10\00\00\00\12\00\00\00\02\00\00\00\03\00\00\00")
+  (func $chipInit (export "chipInit")
+    (drop (call $pinInit (i32.const 0) (i32.const 17)))
+    (call $start (call $timerInit (i32.const 4)) (i64.const 0) (i32.const 1)))
+  (func $next (param i32)
+    (global.set $cycle (i32.add (global.get $cycle) (i32.const 1)))
+    (call $pinMode (i32.const 0) (i32.load offset=64 (i32.shl (global.get $cycle) (i32.const 2))))))

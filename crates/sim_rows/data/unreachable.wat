@@ -1,0 +1,1 @@
+(module (func $chipInit (export "chipInit") unreachable))
