@@ -26,5 +26,5 @@ for name in start-loops init-calls-itself grows-and-stores name-at-the-end name-
 done
 clang --target=wasm32 -mcpu=mvp -O2 -Wall -Wextra -ffreestanding -nostdlib -I"$top/sdk" \
     -Wl,--no-entry,--export-table,--import-memory,-z,stack-size=8192 \
-    -o "$runs/clang-inverter-imports-its-memory.wasm" "$top/examples/chips/inverter/inverter.c" || exit 1
+    -o "$runs/clang-inverter-imports-its-memory.wasm" "$top/examples/chip-inverter/inverter.c" || exit 1
 chmod a-x "$runs/clang-inverter-imports-its-memory.wasm"
