@@ -57,7 +57,7 @@ project() { # NAME FIRMWARE CHIP COUNT WORDS-FOR-THE-LINKER
         print "{ \"type\": \"wokwi-arduino-uno\", \"id\": \"uno\", \"attrs\": {} }"
         for (i = 1; i <= count; i++) printf ", { \"type\": \"chip-it\", \"id\": \"c%d\", \"attrs\": {} }\n", i
         print "], \"connections\": ["
-        for (i = 1; i <= count; i++) printf "%s [ \"uno:13\", \"c%d:IN\", \"green\", [] ]\n", i > 1 ? "," : "", i
+        for (i = 1; i <= count; i++) printf "%s [ \"uno:13\", \"c%d:IN\", \"green\", [] ]\n", (i > 1 ? "," : ""), i
         print "], \"dependencies\": {} }"
     }' >"$1/diagram.json"
 }
