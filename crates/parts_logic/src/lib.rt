@@ -4,7 +4,6 @@
 #![tactic(auto)]
 
 mod gate;
-mod pins;
 mod shift595;
 
 pub use gate::{Gate, GateOp};

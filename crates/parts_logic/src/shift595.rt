@@ -2,8 +2,7 @@
 ghost use Rattle.std.specs.Prelude.{◌≡◌, length};
 ghost use Rattle.parts_logic.specs.Shift595.{cleared, shifted, q};
 
-use crate::pins::{bit, is_low, output, reads_at, rises};
-use reactive_part::Behaviour;
+use reactive_part::{Behaviour, bit, is_low, output, reads_at, rises};
 use sim_base::{Drive, Level};
 use std::marker::Model;
 

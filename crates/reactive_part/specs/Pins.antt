@@ -22,6 +22,10 @@ reads_at ls pin = reads (at_pin ls pin)
 abbrev pub rises : List Level → List Level → ℕ → Bool
 rises before now pin = reads_at now pin && not (reads_at before pin)
 
+-- a falling edge: the pin reads 0, and read 1 in the step before
+abbrev pub falls : List Level → List Level → ℕ → Bool
+falls before now pin = reads_at before pin && not (reads_at now pin)
+
 -- what an output drives
 abbrev pub output : Bool → Drive
 output high = if high then drives.High else drives.Low

@@ -4,7 +4,9 @@
 #![tactic(auto)]
 
 mod behaviour;
+mod pins;
 mod reactive;
 
 pub use behaviour::Behaviour;
+pub use pins::{bit, falls, is_low, output, reads_at, rises};
 pub use reactive::Reactive;

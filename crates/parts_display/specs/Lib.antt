@@ -1,0 +1,5 @@
+pub mod Halves
+pub mod Seven
+pub mod Screen
+pub mod Expander
+pub mod Lcd
