@@ -1,25 +1,32 @@
 //! A text of bounded length that is built without memory being taken.
-ghost use Rattle.std.specs.Prelude.{◌≡◌, ℕ, List, [], ◌++◌, ◌+◌, ◌≤◌, take, length, IfOk};
+ghost use Rattle.std.specs.Prelude.{◌≡◌, ℕ, List, [], ◌∷◌, ◌++◌, ◌+◌, ◌<◌, ◌≤◌, take, length, IfOk, vec_len};
 
 use sim_base::OutOfMemory;
-use std::alloc::Global;
+use std::alloc::{AllocError, Global};
 use std::marker::Model;
 
 #[derive(Drop)]
 pub struct Buffer {
+    /// The text, and room behind it.
     bytes: Vec<u8>,
-    room: usize,
+    len: usize,
 }
 
 impl Model for Buffer {
-    ghost use Rattle.std.specs.Prelude.{◌≤◌, vec_capacity};
+    ghost use Rattle.std.specs.Prelude.{◌≤◌, take, vec_len};
     ghost use Rattle.vcd_text.specs.Buffers.{BufferState};
 
     ghost Value = { BufferState };
 
-    ghost view = { λ a. record { text = a.bytes.items; room = a.room } };
+    ghost view = { λ a. record { text = take a.len a.bytes.items; room = vec_len a.bytes } };
 
-    ghost invariant = { λ a. a.room ≤ vec_capacity a.bytes };
+    ghost invariant = { λ a. a.len ≤ vec_len a.bytes };
+}
+
+fn blank(alloc: Global, room: usize) -> Result<Vec<u8>, AllocError>
+    ensures { IfOk result (λ v. vec_len v ≡ room) }
+{
+    vec![in alloc; b' '; room]
 }
 
 impl Buffer {
@@ -28,15 +35,15 @@ impl Buffer {
         ensures { IfOk result (λ b. b ≡ record { text = []; room = room }) }
     {
         Ok(Buffer {
-            bytes: Vec::with_capacity(alloc, room)?,
-            room,
+            bytes: blank(alloc, room)?,
+            len: 0,
         })
     }
 
     pub fn clear(&mut self)
         ensures { self.new ≡ record self.old { text = [] } }
     {
-        self.bytes.clear();
+        self.len = 0;
     }
 
     /// Takes off what stands behind so many bytes.
@@ -44,22 +51,49 @@ impl Buffer {
         requires { len ≤ length self.old.text }
         ensures { self.new ≡ record self.old { text = take len self.old.text } }
     {
-        self.bytes.truncate(len);
+        self.len = len;
+    }
+
+    #[inline]
+    pub fn push_byte(&mut self, byte: u8)
+        requires { length self.old.text < self.old.room }
+        ensures { self.new ≡ record self.old { text = self.old.text ++ byte ∷ [] } }
+    {
+        self.bytes[self.len] = byte;
+        self.len += 1;
+    }
+
+    /// A text of two bytes at most, written byte by byte.
+    #[inline]
+    pub fn push_short(&mut self, text: &[u8])
+        requires short { length text.now ≤ 2 }
+        requires room { length self.old.text + length text.now ≤ self.old.room }
+        ensures { self.new ≡ record self.old { text = self.old.text ++ text.now } }
+    {
+        match text {
+            [] => {}
+            [one] => self.push_byte(*one),
+            [one, two] => {
+                self.push_byte(*one);
+                self.push_byte(*two);
+            }
+            _ => unreachable!(),
+        }
     }
 
     pub fn push(&mut self, text: &[u8])
         requires { length self.old.text + length text.now ≤ self.old.room }
         ensures { self.new ≡ record self.old { text = self.old.text ++ text.now } }
     {
-        match self.bytes.extend_from_slice(text) {
-            Ok(()) => {}
-            Err(_) => unreachable!(),
-        }
+        let end = self.len + text.len();
+        self.bytes[self.len..end].copy_from_slice(text);
+        self.len = end;
     }
 
+    #[inline]
     pub fn text(&self) -> &[u8]
         ensures { result.now ≡ self.now.text }
     {
-        self.bytes.as_slice()
+        &self.bytes[..self.len]
     }
 }

@@ -6,15 +6,16 @@ use crate::buffer::Buffer;
 use crate::declarations::identifier_code;
 
 /// The line of variable `i`.
+#[inline]
 fn push_value(i: usize, value: u8, out: &mut Buffer)
     requires few { i < 8930 }
     requires room { length out.old.text + 4 ≤ out.old.room }
     ensures text { out.new ≡ record out.old { text = out.old.text ++ value_line i value } }
     ensures short { length out.new.text ≤ length out.old.text + 4 }
 {
-    out.push(&[value]);
-    out.push(&identifier_code(i));
-    out.push(b"\n");
+    out.push_byte(value);
+    out.push_short(&identifier_code(i));
+    out.push_byte(b'\n');
 }
 
 pub(crate) fn push_change(i: usize, before: u8, now: u8, out: &mut Buffer) -> u64
