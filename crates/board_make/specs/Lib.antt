@@ -1,0 +1,4 @@
+pub mod Draws
+pub mod Firmware
+pub mod Board
+pub mod Inverter
