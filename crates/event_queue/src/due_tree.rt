@@ -1,7 +1,7 @@
 //! The tree.
-ghost use Rattle.std.specs.Prelude.{◌≡◌, ◌≢◌, ℕ, ◌+◌, ◌/◌, ◌<◌, ◌≤◌, List, length, replicate, Option, None, Some, slice_get, slice_set, IfOk};
+ghost use Rattle.std.specs.Prelude.{◌≡◌, ◌≢◌, ℕ, ◌+◌, ◌*◌, ◌/◌, ◌<◌, ◌≤◌, ◌⊎◌, List, length, replicate, Option, None, Some, true, slice_get, slice_set, IfOk};
 ghost use Rattle.event_queue.specs.First.{IsFirst};
-ghost use Rattle.event_queue.specs.Places.{at_place, IsBest};
+ghost use Rattle.event_queue.specs.Places.{at_place, IsBest, IsWithout};
 
 use crate::entry::{Entry, earlier};
 use sim_base::OutOfMemory;
@@ -12,7 +12,7 @@ use std::marker::Model;
 #[derive(Drop)]
 pub struct DueTree {
     dues: Vec<Option<u32>>,
-    /// At place k, the earlier of the two entries under it.
+    /// At place k, the earlier of the two entries under it, where there are more parts than k.
     best: [Entry; 64],
 }
 
@@ -26,38 +26,78 @@ impl Model for DueTree {
 
     ghost invariant = { λ a. record {
       few : length a.dues.items ≤ 64;
-      best : (k : ℕ) → 1 ≤ k → k < 64 → IsBest a.dues.items a.best k;
+      best : (k : ℕ) → 1 ≤ k → k < length a.dues.items → IsBest (length a.dues.items) a.dues.items a.best k;
     } };
 }
 
 /// What stands at a place.
 #[inline]
 fn at(dues: &[Option<u32>], best: &[Entry; 64], place: usize) -> Entry
-    requires { place < 128 }
-    ensures { result ≡ at_place dues.now best.now place }
+    requires few { length dues.now ≤ 64 }
+    requires place { place < 2 * length dues.now }
+    ensures { result ≡ at_place (length dues.now) dues.now best.now place }
 {
-    if place < 64 {
+    if place < dues.len() {
         return best[place];
     }
-    let part = place - 64;
+    let part = place - dues.len();
     Entry {
-        due: if part < dues.len() { dues[part] } else { None },
+        due: dues[part],
         part: part as u8,
     }
 }
 
 /// Lets part i meet the others anew, from its place to the top.
 fn replay(dues: &[Option<u32>], best: &mut [Entry; 64], i: usize)
-    requires part { i < 64 }
-    requires best { (k : ℕ) → 1 ≤ k → k < 64 → k ≢ (64 + i) / 2 → IsBest dues.now best.old k }
-    ensures { (k : ℕ) → 1 ≤ k → k < 64 → IsBest dues.now best.new k }
+    requires few { length dues.now ≤ 64 }
+    requires part { i < length dues.now }
+    requires best { (k : ℕ) → 1 ≤ k → k < length dues.now → k ≢ (length dues.now + i) / 2 → IsBest (length dues.now) dues.now best.old k }
+    ensures { (k : ℕ) → 1 ≤ k → k < length dues.now → IsBest (length dues.now) dues.now best.new k }
 {
-    let mut place = 64 + i;
+    let mut place = dues.len() + i;
     while place > 1 {
         place /= 2;
         let left = at(dues, best, 2 * place);
         let right = at(dues, best, 2 * place + 1);
         best[place] = earlier(left, right);
+    }
+}
+
+/// The place that is under the same one.
+#[inline]
+fn beside(place: usize) -> usize
+    requires { 1 < place }
+    ensures { (place ≡ 2 * (place / 2)) × (result ≡ 2 * (place / 2) + 1) ⊎ (place ≡ 2 * (place / 2) + 1) × (result ≡ 2 * (place / 2)) }
+{
+    if place % 2 == 0 { place + 1 } else { place - 1 }
+}
+
+/// The first of the parts but part i: the earliest of what stands beside its way to the top.
+#[inline]
+fn first_without(dues: &[Option<u32>], best: &[Entry; 64], i: u8) -> Entry
+    requires few { length dues.now ≤ 64 }
+    requires part { i < length dues.now }
+    requires best { (k : ℕ) → 1 ≤ k → k < length dues.now → IsBest (length dues.now) dues.now best.now k }
+    ensures { IsWithout dues.now best.now i 1 result }
+{
+    let mut place = dues.len() + i as usize;
+    let mut found = Entry { due: None, part: i };
+    while place > 1 {
+        found = earlier(found, at(dues, best, beside(place)));
+        place /= 2;
+    }
+    found
+}
+
+/// Whether two due cycles are the same.
+#[inline]
+fn is_same_due(a: Option<u32>, b: Option<u32>) -> bool
+    ensures { result ≡ true → a ≡ b }
+{
+    match (a, b) {
+        (Some(u), Some(v)) => u == v,
+        (None, None) => true,
+        _ => false,
     }
 }
 
@@ -99,31 +139,31 @@ impl DueTree {
         requires { i < length self.old }
         ensures { self.new ≡ slice_set self.old i due }
     {
+        if is_same_due(self.dues[i as usize], due) {
+            return;
+        }
         self.dues[i as usize] = due;
         replay(&self.dues, &mut self.best, i as usize);
     }
 
     /// The least due cycle, with the least part that has it.
+    #[inline]
     pub fn first(&self) -> Option<(u32, u8)>
         ensures { IsFirst self.now result }
     {
-        let best = at(&self.dues, &self.best, 1);
-        match best.due {
-            Some(u) => Some((u, best.part)),
-            None => None,
+        if self.dues.is_empty() {
+            return None;
         }
+        at(&self.dues, &self.best, 1).with_cycle()
     }
 
     /// The least due cycle of the parts but this one, with the least part that has it.
+    #[inline]
     pub fn first_but(&mut self, i: u8) -> Option<(u32, u8)>
         requires { i < length self.old }
         ensures same { self.new ≡ self.old }
         ensures first { IsFirst (slice_set self.old i None) result }
     {
-        let due = self.due(i);
-        self.set(i, None);
-        let first = self.first();
-        self.set(i, due);
-        first
+        first_without(&self.dues, &self.best, i).with_cycle()
     }
 }

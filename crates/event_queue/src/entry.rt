@@ -1,12 +1,25 @@
 //! What stands at a place of the tree.
 ghost use Rattle.std.specs.Prelude.{◌≡◌, ◌⊎◌, true, false};
-ghost use Rattle.event_queue.specs.Places.{IsNotAfter};
+ghost use Rattle.event_queue.specs.Places.{IsNotAfter, with_cycle};
 
 /// A part, and the cycle in which it is due.
 #[derive(Clone, Copy, Debug, PartialEq, Eq, Drop)]
 pub(crate) struct Entry {
     pub(crate) due: Option<u32>,
     pub(crate) part: u8,
+}
+
+impl Entry {
+    /// The cycle in which the part is due, with the part.
+    #[inline]
+    pub(crate) fn with_cycle(self) -> Option<(u32, u8)>
+        ensures { result ≡ with_cycle self }
+    {
+        match self.due {
+            Some(u) => Some((u, self.part)),
+            None => None,
+        }
+    }
 }
 
 /// Whether the first of two entries stands before the second: by cycle, then by part.

@@ -1,4 +1,4 @@
-use Rattle.std.proofs.Common.{◌≤◌, ◌<◌, ◌∙◌, ◌/◌, refl, subst, length-set, arith, inl, inr}
+use Rattle.std.proofs.Common.{◌≤◌, ◌<◌, ◌∙◌, ◌/◌, refl, subst, length, length-set, arith, inl, inr}
 use Rattle.event_queue.specs.declared.entry.Entry.{Entry}
 use Rattle.event_queue.specs.Places.{IsNotAfter}
 use Rattle.event_queue.proofs.TreeLemmas.{played}
@@ -11,7 +11,7 @@ loop-place-preserved c =
     let more = c.loop-place-test.true in
     let there = i.there in
     let some : 1 ≤ p = omega (arith, more) in
-    let inner : p < 64 = omega (arith, there) in
+    let inner : p < length c.args.dues.now = omega (arith, there) in
     let e = c.earlier.result in
     let dues = c.args.dues.now in
     let best = c.loop-place.best in
@@ -19,9 +19,9 @@ loop-place-preserved c =
     let right = c.at-right.ensures in
     record {
       some = some;
-      there = omega (arith, inner);
+      there = omega (arith, there);
       long = length-set best p e ∙ i.long;
-      best = played dues best i.long p some inner e c.loop-place.place refl
+      best = played (length dues) c.requires.few dues best i.long p some inner e c.loop-place.place refl
           (elim c.earlier.ensures.one [
             | inl x ↦ inl (x ∙ left)
             | inr x ↦ inr (x ∙ right)

@@ -1,4 +1,4 @@
-use Rattle.std.proofs.Common.{◌≡◌, ◌≢◌, ℕ, ◌-◌, ◌<◌, ◌≤◌, ◌/◌, length}
+use Rattle.std.proofs.Common.{◌≡◌, ◌≢◌, ℕ, ◌-◌, ◌*◌, ◌<◌, ◌≤◌, ◌/◌, length}
 use Rattle.event_queue.specs.Places.{IsBest}
 use Rattle.event_queue.proofs.due_tree.replay.Given as goal
 
@@ -6,9 +6,9 @@ use Rattle.event_queue.proofs.due_tree.replay.Given as goal
 abbrev pub invariant-loop-place : goal.invariant-loop-place
 invariant-loop-place l = record {
   some : 1 ≤ l.place;
-  there : l.place < 128;
+  there : l.place < 2 * length l.dues;
   long : length l.best ≡ 64;
-  best : (k : ℕ) → 1 ≤ k → k < 64 → k ≢ l.place / 2 → IsBest l.dues l.best k;
+  best : (k : ℕ) → 1 ≤ k → k < length l.dues → k ≢ l.place / 2 → IsBest (length l.dues) l.dues l.best k;
 }
 
 abbrev pub decreases-loop-place : goal.decreases-loop-place
