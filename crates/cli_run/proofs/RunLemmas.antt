@@ -1,16 +1,22 @@
 -- The answer to `run`.
-use Rattle.std.proofs.Common.{◌*◌, ℕ, List, Option, Ok, IfSome}
+use Rattle.std.proofs.Common.{◌≡◌, ◌∙◌, ◌*◌, ℕ, List, Option, Result, Ok, Err, IfSome, refl, ap, sym}
 use Rattle.sim_base.specs.Outside.{Outside, SamePorts, Files}
-use Rattle.outcome_model.specs.Stop.{Texts}
+use Rattle.outcome_model.specs.Stop.{Stop, Texts}
 use Rattle.outcome_model.specs.Outcome.{Outcome}
 use Rattle.outcome_model.specs.Work.{ReadStops}
 use Rattle.outcome_model.specs.Happens.{Ends}
 use Rattle.outcome_model.specs.Promises.{IsOne}
-use Rattle.outcome_model.proofs.EndLemmas.{answered, answer_stops, one_answer}
+use Rattle.outcome_model.proofs.ReadLemmas.{if_some}
+use Rattle.outcome_model.proofs.EndLemmas.{answered, answer_stops, one_answer, stopped_by}
+use Rattle.board_build.specs.IsPlan.{IsPlan}
+use Rattle.chip_module.specs.Sources.{pins_of}
 use Rattle.project_model.specs.Work.{Work, WorkIn}
 use Rattle.cli_project.proofs.ProjectLemmas.{one_work}
 use Rattle.cli_board.specs.Run.{Outputs, run_texts}
-use Rattle.cli_run.specs.Answer.{contents, RunAnswer}
+use Rattle.isolation.specs.PlayRun.{play_texts}
+use Rattle.isolation.specs.Isolated.{Fact, Follows, Isolated}
+use Rattle.isolation.proofs.Isolation.{isolated}
+use Rattle.cli_run.specs.Answer.{contents, RunAnswer, PlayAnswer, AnswerSuch}
 
 module _ (folder : List ℕ) (us : ℕ) (script : Option (List ℕ)) (budget : ℕ) (out : Outputs) where
   abbrev texts_by : Work → Texts
@@ -27,3 +33,33 @@ module _ (folder : List ℕ) (us : ℕ) (script : Option (List ℕ)) (budget : �
   pub run_stops : (o : Outcome) (a b : Outside) → ReadStops o (WorkIn folder script) a b → SamePorts a b → Ends (RunAnswer folder us script budget out) o a b
   unfolding RunAnswer
   run_stops = answer_stops (WorkIn folder script) texts_by
+
+  -- the work that was read is isolated, since `build` answered its plan
+  pub isolated_answer : (told : Option Files) (work : Work) → IsPlan (pins_of work.chips) work.plan →
+      IfSome told (λ files. WorkIn folder script files (Ok work)) →
+      IfSome told (λ files. AnswerSuch Isolated folder us script budget out files (Ok (run_texts out (contents work budget) work.plan (16 * us))))
+  unfolding AnswerSuch
+  isolated_answer told work is read =
+      let so = isolated (contents work budget) work.plan is (16 * us) in
+      if_some told _ _ (λ (files : Files) (e : WorkIn folder script files (Ok work)). (Ok work, (e, so), refl)) read
+
+  pub isolated_stops : (o : Outcome) (a b : Outside) → ReadStops o (WorkIn folder script) a b → SamePorts a b →
+      Ends (AnswerSuch Isolated folder us script budget out) o a b
+  unfolding AnswerSuch
+  isolated_stops = stopped_by (AnswerSuch Isolated folder us script budget out) (WorkIn folder script) (λ files s e. (Err s, e, refl))
+
+  -- what is true of a run that is isolated
+  pub played_answer : (files : Files) (t : Texts) → AnswerSuch Isolated folder us script budget out files (Ok t) →
+      PlayAnswer folder us script budget out files (Ok t)
+  unfolding AnswerSuch PlayAnswer
+  played_answer files t (Ok work, so, e) =
+      let same : ◌≡◌ {A = Result Texts Stop} (Ok (play_texts out (contents work budget) work.plan (16 * us))) (Ok t) = ap Ok (sym (so.1.played out)) ∙ e in
+      (Ok work, so.0, same)
+  played_answer files t (Err s, so, e) = (Err s, so, e)
+
+module _ (IsSo : Fact) (follows : Follows IsSo) (folder : List ℕ) (us : ℕ) (script : Option (List ℕ)) (budget : ℕ) (out : Outputs) where
+  pub such_answer : (files : Files) (t : Texts) → AnswerSuch Isolated folder us script budget out files (Ok t) →
+      AnswerSuch IsSo folder us script budget out files (Ok t)
+  unfolding AnswerSuch
+  such_answer files t (Ok work, so, e) = (Ok work, (so.0, follows (contents work budget) work.plan (16 * us) so.1), e)
+  such_answer files t (Err s, so, e) = (Err s, so, e)

@@ -5,7 +5,8 @@ ghost use Rattle.outcome_model.specs.Happens.{Ends, Counts};
 ghost use Rattle.outcome_model.specs.Work.{SaidNothing};
 ghost use Rattle.cli_work.specs.Outcomes.{outcome_of};
 ghost use Rattle.cli_board.specs.Outputs.{outputs_of};
-ghost use Rattle.cli_run.specs.Answer.{RunAnswer};
+ghost use Rattle.isolation.specs.Isolated.{Isolated};
+ghost use Rattle.cli_run.specs.Answer.{RunAnswer, AnswerSuch};
 
 use cli_board::{Outputs, run_board};
 use cli_project::{Work, read_work};
@@ -29,6 +30,8 @@ pub fn run<B: Bench, L: Ledger>(
     requires some { 0 < micros }
     requires end { micros ≤ 10000000 }
     ensures ends { Ends (RunAnswer folder.now micros (option_map (λ s. s.now) script.entry) budget (outputs_of outputs.entry)) (outcome_of result) (B.outside bench.old) (B.outside bench.new) }
+    ensures isolated { Ends (AnswerSuch Isolated folder.now micros (option_map (λ s. s.now) script.entry) budget (outputs_of outputs.entry))
+        (outcome_of result) (B.outside bench.old) (B.outside bench.new) }
     ensures counts { Counts (RunAnswer folder.now micros (option_map (λ s. s.now) script.entry) budget (outputs_of outputs.entry)) (outcome_of result) (B.outside bench.old) steps.old steps.new }
     ensures silent { SaidNothing (B.outside bench.old) (B.outside bench.new) }
 {

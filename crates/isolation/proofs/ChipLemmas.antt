@@ -1,7 +1,9 @@
 -- The chips of a plan begin as chips.
 use Rattle.std.proofs.Common.{◌≡◌, inl, inr, ◌<◌, ℕ, zero, suc, List, [], ◌∷◌, length, Bool, true, false, Option, None, Some, refl, ap, sym, ◌∙◌, subst, arith}
 use Rattle.std.specs.Prelude.{slice_get, unwrap_or}
+use Rattle.std.specs.List.{list_all}
 use Rattle.std.specs.Option.{option_map}
+use Rattle.std.proofs.lemmas.Bool.{and_parts, ltb-true}
 use Rattle.std.proofs.lemmas.Option.{slice_get_cases}
 use Rattle.part_catalog.specs.declared.settings.Settings.{Settings}
 use Rattle.board_laws.specs.Worlds.{IsQuietKind, TheseAre}
@@ -19,7 +21,7 @@ use Rattle.board_build.specs.declared.plan.PlanKind.TheVariants as plans
 use Rattle.board_build.specs.declared.plan.PlanPart.{PlanPart}
 use Rattle.board_build.specs.declared.plan.Plan.{Plan}
 use Rattle.board_build.specs.Parts.{is_chip}
-use Rattle.board_build.specs.IsPlan.{IsPlan}
+use Rattle.board_build.specs.IsPlan.{IsPlan, can_run}
 use Rattle.any_part.specs.AnyBehaviour.{any_reaction}
 use Rattle.any_part.specs.AnyPart.{AnyState, any}
 use Rattle.any_part.specs.Start.{Contents, chip_at_start, start_in, starts}
@@ -69,10 +71,29 @@ stock_same one other flash attrs settings (plans.Stock kinds.ArduinoUno) not = a
 stock_same one other flash attrs settings (plans.Stock kind) not = refl
 stock_same one other flash attrs settings (plans.Chip c) not = absurd cc
 
+-- a part at a place can be run where all can
+ready_at : (n : ℕ) (parts : List PlanPart) (i : ℕ) (part : PlanPart) → list_all (λ (p : PlanPart). can_run n p.kind) parts ≡ true →
+    slice_get parts i ≡ Some part → can_run n part.kind ≡ true
+ready_at n [] zero part ready at = absurd cc
+ready_at n [] (suc i) part ready at = absurd cc
+ready_at n (first ∷ parts) zero part ready at =
+    let both = and_parts (can_run n first.kind) (list_all (λ (p : PlanPart). can_run n p.kind) parts) ready in
+    let same : first ≡ part = cc in
+    ap (λ (p : PlanPart). can_run n p.kind) (sym same) ∙ both.0
+ready_at n (first ∷ parts) (suc i) part ready at =
+    ready_at n parts i part (and_parts (can_run n first.kind) (list_all (λ (p : PlanPart). can_run n p.kind) parts) ready).1 at
+
 module _ (has : Contents) (plan : Plan) (is : IsPlan (pins_of has.chips) plan) where
   -- the wiring's chips are those of the plan
   pub chips_are : (k : ℕ) → worlds.is_chip plan.wiring k ≡ is_chip_at plan.parts k
   chips_are k = ap (λ (l : List Bool). unwrap_or (slice_get l k) false) is.chips
+
+  -- a chip of the board is one of the project
+  pub chip_there : (i : ℕ) (part : PlanPart) (c : ℕ) → slice_get plan.parts i ≡ Some part → part.kind ≡ plans.Chip c →
+      (source : ChipSource) × (slice_get has.chips c ≡ Some source)
+  chip_there i part c at kind =
+      let ready = ap (can_run (length has.chips)) (sym kind) ∙ ready_at (length has.chips) plan.parts i part (all_ready has plan is) at in
+      elim (slice_get_cases has.chips c).1 [ inl x ↦ (x.0, x.2) | inr past ↦ absurd (omega (arith, past.0, ltb-true c (length has.chips) ready)) ]
 
   pub chips_begin : TheseAre IsChipState (worlds.is_chip plan.wiring) (starts has plan.parts)
   chips_begin k s here at =

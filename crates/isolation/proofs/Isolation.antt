@@ -1,23 +1,25 @@
 -- Isolation: a chip is a function of its own pins, and what it drives is all that the rest of a board sees of it.
-use Rattle.std.proofs.Common.{◌≡◌, inl, inr, ◌<◌, ℕ, ◌+◌, List, [], ◌∷◌, map, length, false, Option, None, Some, refl, ap, sym, ◌∙◌, subst, arith}
+use Rattle.std.proofs.Common.{◌≡◌, inl, inr, ◌<◌, ◌≤◌, ℕ, ◌+◌, List, [], ◌∷◌, ◌++◌, map, length, false, Option, None, Some, refl, ap, sym, ◌∙◌, subst, arith}
 use Rattle.std.specs.Prelude.{slice_get, unwrap_or}
 use Rattle.std.specs.Option.{option_map}
 use Rattle.std.proofs.lemmas.Option.{slice_get_within}
 use Rattle.sim_base.specs.declared.signal.Level.{Level}
 use Rattle.sim_base.specs.Rows.{Row}
-use Rattle.text_model.specs.Wave.{wave_text}
+use Rattle.sim_base.specs.declared.wiring.Wiring.{Wiring}
+use Rattle.sim_base.specs.declared.wiring.Input.{Input}
+use Rattle.text_model.specs.Wave.{Variable, wave_text}
 use Rattle.board_model.specs.Rows.{rows}
 use Rattle.board_model.specs.Walks.{below}
-use Rattle.board_model.specs.Board.{states, input_at}
+use Rattle.board_model.specs.Board.{bytes, input_at, levels_of, states}
 use Rattle.board_laws.specs.Alone.{part_run, drive_rows, own_levels, own_drives}
 use Rattle.board_laws.specs.Alike.{Alike}
-use Rattle.board_laws.specs.Worlds.{SameRest, SameChips}
+use Rattle.board_laws.specs.Worlds.{SameRest, SameChips, TheseAre}
 use Rattle.board_laws.specs.Worlds as worlds
 use Rattle.board_laws.proofs.AlikeLemmas.{alike_weaker, map_alike}
 use Rattle.board_laws.proofs.AloneLaw.{rows_run, state_alone}
 use Rattle.board_laws.proofs.OwnRows as own
 use Rattle.board_laws.proofs.PlayLaw.{play_states}
-use Rattle.board_laws.proofs.WorldsLaw.{worlds_states, worlds_rows, worlds_bytes}
+use Rattle.board_laws.proofs.WorldsLaw.{worlds_states, worlds_levels, worlds_rows, worlds_bytes}
 use Rattle.board_build.specs.declared.plan.PlanKind.{PlanKind}
 use Rattle.board_build.specs.declared.plan.PlanKind.TheVariants as plans
 use Rattle.board_build.specs.declared.plan.PlanPart.{PlanPart}
@@ -29,25 +31,27 @@ use Rattle.chip_host.specs.ChipLaws.{drive_count, start_given}
 use Rattle.chip_module.specs.declared.source.ChipSource.{ChipSource}
 use Rattle.chip_module.specs.Sources.{pins_of}
 use Rattle.any_part.specs.AnyPart.{AnyState, any, any_laws}
-use Rattle.any_part.specs.Start.{Contents, chip_at_start, start_in, starts}
+use Rattle.any_part.specs.Start.{Contents, chip_at_start, start_in, start_of, starts}
 use Rattle.any_part.proofs.StartLemmas.{all_ready, start_at, starts_many}
 use Rattle.sim_report.specs.declared.row.ReportRow.{ReportRow}
 use Rattle.sim_report.specs.declared.row.ReportRow.TheVariants as lines
 use Rattle.board_report.specs.Report.{part_rows, rest_text, text_of}
 use Rattle.project_model.specs.Variables.{board_variables}
-use Rattle.cli_board.specs.Run.{run_wave, run_bytes}
-use Rattle.isolation.specs.ChipRun.{chip_run}
-use Rattle.isolation.specs.PlayRun.{own_rows, play_part_rows, play_wave, play_bytes, play_rest}
-use Rattle.isolation.proofs.ChipLemmas.{IsChipState, quiet_chips, chips_are, chips_begin, part_there, part_kind, stock_same}
+use Rattle.cli_board.specs.Run.{Outputs, run_wave, run_bytes, run_report, run_wakes, run_texts, texts_for}
+use Rattle.isolation.specs.ChipRun.{chip_run, run_drives, run_levels}
+use Rattle.isolation.specs.PlayRun.{own_rows, play_part_rows, play_wave, play_bytes, play_rest, chip_lines, play_texts}
+use Rattle.isolation.specs.Worlds.{DifferInChips, DriveAlike, IsOneWorld, run_states}
+use Rattle.isolation.specs.Isolated.{Isolated}
+use Rattle.isolation.proofs.ChipLemmas.{IsChipState, quiet_chips, chips_are, chip_there, chips_begin, part_there, part_kind, stock_same}
 use Rattle.isolation.proofs.StayLemmas.{chip_runs}
 use Rattle.isolation.proofs.RestLemmas.{is_chip_at, rest_same}
+use Rattle.isolation.proofs.WorldLemmas.{lines_same, plan_same, variables_same}
 
 module _ (has : Contents) (plan : Plan) (is : IsPlan (pins_of has.chips) plan) (n : ℕ) where
   -- In a run the drives of each chip, cycle by cycle, are those that it has alone: by its module, its pins, its attributes, its
   -- budget and the levels of its own pins.
   pub chip_alone : (i : ℕ) (part : PlanPart) (c : ℕ) (source : ChipSource) → slice_get plan.parts i ≡ Some part → part.kind ≡ plans.Chip c → slice_get has.chips c ≡ Some source →
-      map (own_drives any plan.wiring plan.inputs (starts has plan.parts) 0 i) (below n)
-      ≡ chip_run source part.attrs has.budget (map (own_levels any plan.wiring plan.inputs (starts has plan.parts) 0 i (length source.pins)) (below n))
+      run_drives has plan n i ≡ chip_run source part.attrs has.budget (run_levels has plan n i (length source.pins))
   chip_alone i part c source at kind there = subst Claim pins claim
     where
       ss : List AnyState
@@ -99,34 +103,129 @@ module _ (has : Contents) (plan : Plan) (is : IsPlan (pins_of has.chips) plan) (
       (alike_weaker (λ k a b. worlds.is_chip plan.wiring k ≡ false → b ≡ inl a) (λ k a b. is_chip_at plan.parts k ≡ false → (part : PlanPart) → part_rows part a ≡ play_part_rows part b) _ _ like
       (λ k a b ea eb h c part. ap (play_part_rows part) (sym (h (chips_are has plan is k ∙ c))))))
 
--- Two worlds: the same board with other chips of the same pins. As long as the chips drive the same, all else is the same.
-module _ (one other : Contents) (flash : one.flash ≡ other.flash) (names : pins_of one.chips ≡ pins_of other.chips) (plan : Plan) (is : IsPlan (pins_of one.chips) plan) (n : ℕ)
-    (same : (t : ℕ) → t < n → SameChips any plan.wiring (states any plan.wiring plan.inputs (starts one plan.parts) 0 t) (states any plan.wiring plan.inputs (starts other plan.parts) 0 t)) where
-  also : IsPlan (pins_of other.chips) plan
-  also = subst (λ (pins : List (List (Option (List ℕ)))). IsPlan pins plan) names is
+  -- All texts are: the lines of the chips stand in the report behind all others.
+  pub texts_of_play : (out : Outputs) → run_texts out has plan n ≡ play_texts out has plan n
+  texts_of_play out =
+      let wave : List ℕ = play_wave has plan n (own_rows has plan n) in
+      let bytes : List ℕ = play_bytes has plan n (own_rows has plan n) in
+      ap (λ (w : List ℕ). texts_for out w (run_bytes has plan n) (run_report has plan n) (run_wakes has plan n)) wave_of_play
+      ∙ ap (λ (b : List ℕ). texts_for out wave b (run_report has plan n) (run_wakes has plan n)) bytes_of_play
+      ∙ ap (λ (r : List ℕ). texts_for out wave bytes (r ++ chip_lines has plan n) (run_wakes has plan n)) rest_of_play
 
-  rest_starts : SameRest plan.wiring (starts one plan.parts) (starts other plan.parts)
+-- Two worlds: projects that differ in what their chips are made of. As long as the chips drive the same, all else is the same.
+module _ (one other : Contents) (plan twin : Plan) (end : ℕ)
+    (is : IsPlan (pins_of one.chips) plan) (differ : DifferInChips one other plan twin) (alike : DriveAlike one other plan twin end) where
+  -- the parts of the other, wired so
+  abbrev wired : Wiring → List Input → Plan
+  wired w inputs = record { parts = twin.parts; wiring = w; inputs = inputs }
+
+  abbrev beside : Plan
+  beside = wired plan.wiring plan.inputs
+
+  also : IsPlan (pins_of other.chips) beside
+  also = subst (λ (names : List (List (Option (List ℕ)))). IsPlan names beside) differ.pins (plan_same (pins_of one.chips) plan twin.parts differ.parts is)
+
+  -- what holds of that wiring holds of the other's own, which is the same
+  as_wired : (P : Wiring → List Input → Type 0) → P plan.wiring plan.inputs → P twin.wiring twin.inputs
+  as_wired P p = subst (λ (i : List Input). P twin.wiring i) differ.inputs (subst (λ (w : Wiring). P w plan.inputs) differ.wiring p)
+
+  as_beside : (P : Wiring → List Input → Type 0) → P twin.wiring twin.inputs → P plan.wiring plan.inputs
+  as_beside P p = subst (λ (w : Wiring). P w plan.inputs) (sym differ.wiring) (subst (λ (i : List Input). P twin.wiring i) (sym differ.inputs) p)
+
+  -- the other's states in cycle t, in that wiring
+  abbrev other_states : Wiring → List Input → ℕ → List AnyState
+  other_states w inputs t = states any w inputs (starts other twin.parts) 0 t
+
+  rest_starts : SameRest plan.wiring (starts one plan.parts) (starts other twin.parts)
   rest_starts = record {
-    long = starts_many one plan.parts (all_ready one plan is) ∙ sym (starts_many other plan.parts (all_ready other plan also));
+    long = many ∙ differ.parts.long ∙ sym others;
     each = λ k a b ea eb not.
-        let part = part_there plan.parts k (omega (arith, slice_get_within (starts one plan.parts) k a ea, starts_many one plan.parts (all_ready one plan is))) in
-        let kind = part_kind plan.parts k part.0 part.1 ∙ sym (chips_are one plan is k) ∙ not in
-        let starts_same : Some a ≡ Some b = sym ea ∙ start_at one plan.parts k part.0 (all_ready one plan is) part.1 ∙ stock_same one other flash part.0.attrs part.0.settings part.0.kind kind
-        ∙ sym (start_at other plan.parts k part.0 (all_ready other plan also) part.1) ∙ eb in
+        let p = part_there plan.parts k (omega (arith, slice_get_within (starts one plan.parts) k a ea, many)) in
+        let q = part_there twin.parts k (omega (arith, slice_get_within (starts other twin.parts) k b eb, others)) in
+        let kind = part_kind plan.parts k p.0 p.1 ∙ sym (chips_are one plan is k) ∙ not in
+        let starts_same : Some a ≡ Some b =
+        sym ea
+        ∙ start_at one plan.parts k p.0 (all_ready one plan is) p.1
+        ∙ stock_same one other differ.flash p.0.attrs p.0.settings p.0.kind kind
+        ∙ ap (start_of other) ((differ.parts.each k p.0 q.0 p.1 q.1).rest kind)
+        ∙ sym (start_at other twin.parts k q.0 (all_ready other beside also) q.1)
+        ∙ eb in
         cc;
   }
+    where
+      many : length (starts one plan.parts) ≡ length plan.parts
+      many = starts_many one plan.parts (all_ready one plan is)
 
-  pub wave_of_worlds : run_wave one plan n ≡ run_wave other plan n
-  wave_of_worlds =
-      ap (λ (pins : List (List (Option (List ℕ)))). wave_text (board_variables pins plan) (rows any plan.wiring plan.inputs None (starts one plan.parts) 0 n) n) names
-      ∙ ap (λ (r : List Row). wave_text (board_variables (pins_of other.chips) plan) r n) (worlds_rows any IsChipState quiet_chips plan.wiring plan.inputs (starts one plan.parts) (starts other plan.parts) 0 n (chips_begin one plan is) (chips_begin other plan also) rest_starts same None n (omega arith))
+      others : length (starts other twin.parts) ≡ length twin.parts
+      others = starts_many other twin.parts (all_ready other beside also)
 
-  pub bytes_of_worlds : run_bytes one plan n ≡ run_bytes other plan n
-  bytes_of_worlds = worlds_bytes any IsChipState quiet_chips plan.wiring plan.inputs (starts one plan.parts) (starts other plan.parts) 0 n (chips_begin one plan is) (chips_begin other plan also) rest_starts same n (omega arith)
+  chips_alike : (t : ℕ) → t < end → SameChips any plan.wiring (run_states one plan t) (other_states plan.wiring plan.inputs t)
+  chips_alike t h = as_beside (λ w inputs. SameChips any plan.wiring (run_states one plan t) (other_states w inputs t)) (alike t h)
 
-  pub rest_of_worlds : rest_text part_rows n plan.parts (states any plan.wiring plan.inputs (starts one plan.parts) 0 n) ≡ rest_text part_rows n plan.parts (states any plan.wiring plan.inputs (starts other plan.parts) 0 n)
-  rest_of_worlds =
-      let like = worlds_states any IsChipState quiet_chips plan.wiring plan.inputs (starts one plan.parts) (starts other plan.parts) 0 n (chips_begin one plan is) (chips_begin other plan also) rest_starts same n (omega arith) in
-      ap (λ (rows : List ReportRow). text_of (lines.Cycles n ∷ rows)) (rest_same part_rows part_rows plan.parts _ _
-      (alike_weaker (λ k a b. worlds.is_chip plan.wiring k ≡ false → a ≡ b) (λ k a b. is_chip_at plan.parts k ≡ false → (part : PlanPart) → part_rows part a ≡ part_rows part b) _ _ like
-      (λ k a b ea eb h c part. ap (part_rows part) (h (chips_are one plan is k ∙ c)))))
+  chips_one : TheseAre IsChipState (worlds.is_chip plan.wiring) (starts one plan.parts)
+  chips_one = chips_begin one plan is
+
+  chips_other : TheseAre IsChipState (worlds.is_chip plan.wiring) (starts other twin.parts)
+  chips_other = chips_begin other beside also
+
+  rest_alike : (t : ℕ) → t ≤ end → SameRest plan.wiring (run_states one plan t) (other_states plan.wiring plan.inputs t)
+  rest_alike =
+      worlds_states any IsChipState quiet_chips plan.wiring plan.inputs (starts one plan.parts) (starts other twin.parts) 0 end
+      chips_one chips_other rest_starts chips_alike
+
+  levels_alike : (t : ℕ) → t < end → levels_of any plan.wiring (run_states one plan t) ≡ levels_of any plan.wiring (other_states plan.wiring plan.inputs t)
+  levels_alike =
+      worlds_levels any IsChipState quiet_chips plan.wiring plan.inputs (starts one plan.parts) (starts other twin.parts) 0 end
+      chips_one chips_other rest_starts chips_alike
+
+  bytes_alike : (t : ℕ) → t ≤ end → run_bytes one plan t ≡ bytes any plan.wiring plan.inputs (starts other twin.parts) 0 t
+  bytes_alike =
+      worlds_bytes any IsChipState quiet_chips plan.wiring plan.inputs (starts one plan.parts) (starts other twin.parts) 0 end
+      chips_one chips_other rest_starts chips_alike
+
+  rows_alike : rows any plan.wiring plan.inputs None (starts one plan.parts) 0 end ≡ rows any plan.wiring plan.inputs None (starts other twin.parts) 0 end
+  rows_alike =
+      worlds_rows any IsChipState quiet_chips plan.wiring plan.inputs (starts one plan.parts) (starts other twin.parts) 0 end
+      chips_one chips_other rest_starts chips_alike None end (omega arith)
+
+  shown_alike : board_variables (pins_of one.chips) plan ≡ board_variables (pins_of other.chips) beside
+  shown_alike =
+      ap (λ (names : List (List (Option (List ℕ)))). board_variables names plan) differ.pins
+      ∙ variables_same (pins_of other.chips) plan.wiring.net_of plan.wiring.first_pin plan.parts twin.parts differ.parts
+
+  wave_alike : run_wave one plan end ≡ run_wave other beside end
+  wave_alike =
+      ap (λ (vs : List Variable). wave_text vs (rows any plan.wiring plan.inputs None (starts one plan.parts) 0 end) end) shown_alike
+      ∙ ap (λ (r : List Row). wave_text (board_variables (pins_of other.chips) beside) r end) rows_alike
+
+  abbrev report_one : List ℕ
+  report_one = rest_text part_rows end plan.parts (run_states one plan end)
+
+  report_alike : report_one ≡ rest_text part_rows end twin.parts (other_states plan.wiring plan.inputs end)
+  report_alike =
+      let xs : List AnyState = run_states one plan end in
+      let ys : List AnyState = other_states plan.wiring plan.inputs end in
+      let Rest : ℕ → AnyState → AnyState → Type 0 = λ k a b. worlds.is_chip plan.wiring k ≡ false → a ≡ b in
+      let Says : ℕ → AnyState → AnyState → Type 0 = λ k a b. is_chip_at plan.parts k ≡ false → (part : PlanPart) → part_rows part a ≡ part_rows part b in
+      let each = alike_weaker Rest Says xs ys (rest_alike end (omega arith)) (λ k a b ea eb h c part. ap (part_rows part) (h (chips_are one plan is k ∙ c))) in
+      let same = rest_same part_rows part_rows plan.parts xs ys each ∙ lines_same part_rows plan.parts twin.parts ys differ.parts in
+      ap (λ (l : List ReportRow). text_of (lines.Cycles end ∷ l)) same
+
+  pub one_world : IsOneWorld one other plan twin end
+  one_world = record {
+    rest = λ t h. as_wired (λ w inputs. SameRest plan.wiring (run_states one plan t) (other_states w inputs t)) (rest_alike t h);
+    levels = λ t h. as_wired (λ w inputs. levels_of any plan.wiring (run_states one plan t) ≡ levels_of any w (other_states w inputs t)) (levels_alike t h);
+    bytes = λ t h. as_wired (λ w inputs. run_bytes one plan t ≡ bytes any w inputs (starts other twin.parts) 0 t) (bytes_alike t h);
+    wave = as_wired (λ w inputs. run_wave one plan end ≡ run_wave other (wired w inputs) end) wave_alike;
+    report = as_wired (λ w inputs. report_one ≡ rest_text part_rows end twin.parts (other_states w inputs end)) report_alike;
+  }
+
+-- so every run of a plan that `build` answers is isolated
+pub isolated : (has : Contents) (plan : Plan) → IsPlan (pins_of has.chips) plan → (n : ℕ) → Isolated has plan n
+isolated has plan is n = record {
+  alone = λ i part c at kind.
+      let source = chip_there has plan is i part c at kind in
+      (source.0, source.1, chip_alone has plan is n i part c source.0 at kind source.1);
+  played = texts_of_play has plan is n;
+  worlds = λ other twin end within differ alike. one_world has other plan twin end is differ alike;
+}

@@ -1,4 +1,5 @@
 mod ChipLemmas
 mod StayLemmas
 mod RestLemmas
+mod WorldLemmas
 pub mod Isolation

@@ -1,2 +1,4 @@
 pub mod ChipRun
 pub mod PlayRun
+pub mod Worlds
+pub mod Isolated

@@ -1,5 +1,5 @@
 -- The run of a plan in which each chip is replaced by a player of rows of drives (profile).
-use Rattle.std.specs.Prelude.{◌⊎◌, ℕ, List, [], None}
+use Rattle.std.specs.Prelude.{◌⊎◌, ◌++◌, ℕ, List, [], true, None}
 use Rattle.std.proofs.Common.{inl, inr}
 use Rattle.text_model.specs.Wave.{wave_text}
 use Rattle.board_model.specs.Board.{bytes, states}
@@ -7,14 +7,16 @@ use Rattle.board_model.specs.Rows.{rows}
 use Rattle.board_laws.specs.Player.{DriveRows, PlayerState}
 use Rattle.board_laws.specs.Play.{or_player, played, recorded}
 use Rattle.board_laws.specs.Worlds.{is_chip}
+use Rattle.outcome_model.specs.Stop.{Texts}
 use Rattle.board_build.specs.declared.plan.Plan.{Plan}
 use Rattle.board_build.specs.declared.plan.PlanPart.{PlanPart}
 use Rattle.chip_module.specs.Sources.{pins_of}
 use Rattle.any_part.specs.AnyPart.{AnyState, any}
 use Rattle.any_part.specs.Start.{Contents, starts}
 use Rattle.sim_report.specs.declared.row.ReportRow.{ReportRow}
-use Rattle.board_report.specs.Report.{part_rows, rest_text}
+use Rattle.board_report.specs.Report.{part_rows, parts_rows, rest_text, text_of}
 use Rattle.project_model.specs.Variables.{board_variables}
+use Rattle.cli_board.specs.Run.{Outputs, run_wakes, texts_for}
 
 -- the lines of a part as in any run; a player has none
 abbrev pub play_part_rows : PlanPart → AnyState ⊎ PlayerState → List ReportRow
@@ -40,3 +42,14 @@ module _ (has : Contents) (plan : Plan) (n : ℕ) where
     -- the report but for the chips
     abbrev pub play_rest : List ℕ
     play_rest = rest_text play_part_rows n plan.parts (states (or_player any) plan.wiring plan.inputs play_starts 0 n)
+
+  -- the lines of the chips in the run itself
+  abbrev pub chip_lines : List ℕ
+  chip_lines = text_of (parts_rows part_rows true plan.parts (states any plan.wiring plan.inputs (starts has plan.parts) 0 n))
+
+-- The texts of the board with a player of its own drives in place of each chip. A player has no line in the report: the lines
+-- of the chips are those of the run itself, and so is the count of wakes.
+abbrev pub play_texts : Outputs → Contents → Plan → ℕ → Texts
+play_texts out has plan n =
+    let drives = own_rows has plan n in
+    texts_for out (play_wave has plan n drives) (play_bytes has plan n drives) (play_rest has plan n drives ++ chip_lines has plan n) (run_wakes has plan n)

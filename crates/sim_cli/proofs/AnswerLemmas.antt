@@ -1,27 +1,66 @@
 -- Each request has one answer, and those that run no board count no wakes.
-use Rattle.std.proofs.Common.{ℕ, List, Option, None, Some}
-use Rattle.sim_base.specs.Outside.{Outside}
+use Rattle.std.proofs.Common.{ℕ, List, Option, None, Some, Ok}
+use Rattle.sim_base.specs.Outside.{Outside, Files}
 use Rattle.outcome_model.specs.Outcome.{Outcome, Accepted, NoRequest, Stopped, ReadFailed, WriteFailed, OutOfMemory, status_of}
-use Rattle.outcome_model.specs.Happens.{Ends}
+use Rattle.outcome_model.specs.Happens.{Answer, Ends}
 use Rattle.outcome_model.specs.Happens as outcomes
 use Rattle.outcome_model.proofs.EndLemmas.{accepted_counts, counts_asked}
 use Rattle.cli_project.specs.Answer.{CheckAnswer}
 use Rattle.cli_project.proofs.ProjectLemmas.{one_check, check_only}
-use Rattle.outcome_model.specs.Stop.{Missing, Refused}
+use Rattle.outcome_model.specs.Stop.{Missing, Refused, Texts}
 use Rattle.cli_module.specs.Answer.{ModuleAnswer}
 use Rattle.words_model.specs.Request.{Request, Bare, Check, Module, Run}
-use Rattle.outcome_model.specs.Promises.{IsOne}
+use Rattle.outcome_model.specs.Promises.{HoldsAnswer, IsOne}
+use Rattle.outcome_model.proofs.PromiseLemmas.{holds_answer}
+use Rattle.isolation.specs.ChipRun.{AreAlone}
+use Rattle.isolation.specs.Worlds.{SeesDrivesAlone}
+use Rattle.isolation.specs.Isolated.{Fact, Follows, Isolated}
 use Rattle.cli_bare.proofs.AnswerLemmas.{one_bare}
 use Rattle.cli_module.proofs.AnswerLemmas.{one_module, module_only}
-use Rattle.cli_run.proofs.RunLemmas.{one_run}
-use Rattle.sim_cli.specs.Answers.{Answers, outputs_to}
-use Rattle.sim_cli.specs.Promises.{Happens, Counts, CountsWakes}
+use Rattle.cli_run.proofs.RunLemmas.{one_run, played_answer, such_answer}
+use Rattle.cli_board.specs.Run.{Outputs}
+use Rattle.cli_run.specs.Answer.{PlayAnswer, AnswerSuch}
+use Rattle.sim_cli.specs.Answers.{Answers, AnswersWith, AnswersSuch, RunBy, outputs_to}
+use Rattle.sim_cli.specs.Promises.{Happens, HappensIsolated, HoldsPlay, HoldsAlone, HoldsWorlds, Counts, CountsWakes}
 
 pub one : (r : Request) → IsOne (Answers r)
 one (Bare hex us) = one_bare hex us
 one (Check folder) = one_check folder
 one (Module name) = one_module name
 one (Run folder us budget named) = one_run folder us named.script budget (outputs_to named)
+
+-- what answers are, the ports hold
+held_so : {R : Type 0} (one other : R → Answer) → ((r : R) (files : Files) (t : Texts) → one r files (Ok t) → other r files (Ok t)) →
+    (status : ℕ) (asked : Option R) (a b : Outside) → HoldsAnswer one status asked a b → HoldsAnswer other status asked a b
+held_so one other is status asked a b holds = λ e.
+    let x = holds e in
+    (x.0, λ files told. (let y = x.1 files told in (y.0, y.1, y.2, is y.0 files y.1 y.3, y.4)))
+
+with_run : (one other : RunBy) → ((folder : List ℕ) (us : ℕ) (script : Option (List ℕ)) (budget : ℕ) (out : Outputs) (files : Files) (t : Texts) →
+    one folder us script budget out files (Ok t) → other folder us script budget out files (Ok t)) →
+    (r : Request) (files : Files) (t : Texts) → AnswersWith one r files (Ok t) → AnswersWith other r files (Ok t)
+with_run one other is (Bare hex us) files t e = e
+with_run one other is (Check folder) files t e = e
+with_run one other is (Module name) files t e = e
+with_run one other is (Run folder us budget named) files t e = is folder us named.script budget (outputs_to named) files t e
+
+-- what the ports hold after a run whose chips are isolated
+module _ (a b : Outside) (o : Outcome) (asked : Option Request) (happens : HappensIsolated o asked a b) where
+  held : (other : RunBy) → ((r : Request) (files : Files) (t : Texts) → AnswersSuch Isolated r files (Ok t) → AnswersWith other r files (Ok t)) →
+      HoldsAnswer (AnswersWith other) (status_of o) asked a b
+  held other is = held_so (AnswersSuch Isolated) (AnswersWith other) is (status_of o) asked a b (holds_answer (AnswersSuch Isolated) a b o asked happens)
+
+  held_such : (IsSo : Fact) → Follows IsSo → HoldsAnswer (AnswersSuch IsSo) (status_of o) asked a b
+  held_such IsSo follows = held (AnswerSuch IsSo) (with_run (AnswerSuch Isolated) (AnswerSuch IsSo) (such_answer IsSo follows))
+
+  pub holds_play : HoldsPlay (status_of o) asked a b
+  holds_play = held PlayAnswer (with_run (AnswerSuch Isolated) PlayAnswer played_answer)
+
+  pub holds_alone : HoldsAlone (status_of o) asked a b
+  holds_alone = held_such AreAlone (λ has plan n so. so.alone)
+
+  pub holds_worlds : HoldsWorlds (status_of o) asked a b
+  holds_worlds = held_such SeesDrivesAlone (λ has plan n so. so.worlds)
 
 pub check_counts : (folder : List ℕ) (o : Outcome) (a b : Outside) (n : ℕ) → Ends (CheckAnswer folder) o a b → outcomes.Counts (CheckAnswer folder) o a n n
 check_counts folder o a b n ends = accepted_counts (CheckAnswer folder) (check_only folder) o a b n ends

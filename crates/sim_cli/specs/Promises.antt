@@ -5,10 +5,17 @@ use Rattle.words_model.specs.Request.{Request, request_of}
 use Rattle.outcome_model.specs.Outcome.{Outcome}
 use Rattle.outcome_model.specs.Happens as outcomes
 use Rattle.outcome_model.specs.Promises as promises
-use Rattle.sim_cli.specs.Answers.{Answers}
+use Rattle.isolation.specs.ChipRun.{AreAlone}
+use Rattle.isolation.specs.Worlds.{SeesDrivesAlone}
+use Rattle.isolation.specs.Isolated.{Isolated}
+use Rattle.sim_cli.specs.Answers.{Answers, PlayAnswers, AnswersSuch}
 
 abbrev pub Happens : Outcome → Option Request → Outside → Outside → Type 0
 Happens = outcomes.Happens Answers
+
+-- the same, where the chips of a run are isolated
+abbrev pub HappensIsolated : Outcome → Option Request → Outside → Outside → Type 0
+HappensIsolated = outcomes.Happens (AnswersSuch Isolated)
 
 -- the count of wakes is that of the answer, where something is asked for
 abbrev pub Counts : Outcome → Option Request → Outside → ℕ → ℕ → Type 0
@@ -27,6 +34,21 @@ IsComplete = promises.IsComplete Answers
 
 abbrev pub HoldsAnswer : ℕ → Option Request → Outside → Outside → Type 0
 HoldsAnswer = promises.HoldsAnswer Answers
+
+-- With status 0 of a run, each told port holds the text of the board in which each chip is replaced by a player of the drives
+-- that it has in the run.
+abbrev pub HoldsPlay : ℕ → Option Request → Outside → Outside → Type 0
+HoldsPlay = promises.HoldsAnswer PlayAnswers
+
+-- With status 0 of a run, each told port holds the text of a board whose chips each drive what they drive alone: by their module,
+-- pins, attributes and budget, and the levels of their own pins.
+abbrev pub HoldsAlone : ℕ → Option Request → Outside → Outside → Type 0
+HoldsAlone = promises.HoldsAnswer (AnswersSuch AreAlone)
+
+-- With status 0 of a run, each told port holds the text of a board on which all else is as on every other one that differs in its
+-- chips alone, as long as the chips of both drive the same.
+abbrev pub HoldsWorlds : ℕ → Option Request → Outside → Outside → Type 0
+HoldsWorlds = promises.HoldsAnswer (AnswersSuch SeesDrivesAlone)
 
 abbrev pub IsStopped : ℕ → Option Request → Outside → Outside → Type 0
 IsStopped = promises.IsStopped Answers

@@ -3,7 +3,9 @@ ghost use Rattle.std.specs.Prelude.{◌≡◌, map, string_bytes};
 ghost use Rattle.words_model.specs.Request.{request_of};
 ghost use Rattle.outcome_model.specs.Promises.{WordsAlone, HasCause, ComplainsAlone, IsStatus};
 ghost use Rattle.outcome_model.specs.Work.{SaidNothing};
-ghost use Rattle.sim_cli.specs.Promises.{Happens, Counts, Does, IsAnswered, IsComplete, HoldsAnswer, IsStopped, IsTrueStop, HoldsFront, CountsWakes};
+ghost use Rattle.sim_cli.specs.Promises.{Happens, HappensIsolated, Counts, Does};
+ghost use Rattle.sim_cli.specs.Promises.{IsAnswered, IsComplete, HoldsAnswer, IsStopped, IsTrueStop, HoldsFront, CountsWakes};
+ghost use Rattle.sim_cli.specs.Promises.{HoldsPlay, HoldsAlone, HoldsWorlds};
 ghost use Rattle.cli_work.specs.Outcomes.{outcome_of};
 
 use cli_bare::bare;
@@ -26,6 +28,7 @@ fn work<B: Bench, L: Ledger>(
     steps: &mut Steps<L>,
 ) -> WorkEnd
     ensures happens { Happens (outcome_of result) (request_of (map string_bytes words.now)) (B.outside bench.old) (B.outside bench.new) }
+    ensures isolated { HappensIsolated (outcome_of result) (request_of (map string_bytes words.now)) (B.outside bench.old) (B.outside bench.new) }
     ensures counts { Counts (outcome_of result) (request_of (map string_bytes words.now)) (B.outside bench.old) steps.old steps.new }
     ensures silent { SaidNothing (B.outside bench.old) (B.outside bench.new) }
 {
@@ -73,6 +76,9 @@ pub fn simulate<B: Bench, L: Ledger>(
     ensures answered { IsAnswered result (request_of (map string_bytes words.now)) (B.outside bench.old) (B.outside bench.new) }
     ensures complete { IsComplete result (request_of (map string_bytes words.now)) (B.outside bench.old) (B.outside bench.new) }
     ensures holds { HoldsAnswer result (request_of (map string_bytes words.now)) (B.outside bench.old) (B.outside bench.new) }
+    ensures played { HoldsPlay result (request_of (map string_bytes words.now)) (B.outside bench.old) (B.outside bench.new) }
+    ensures alone { HoldsAlone result (request_of (map string_bytes words.now)) (B.outside bench.old) (B.outside bench.new) }
+    ensures worlds { HoldsWorlds result (request_of (map string_bytes words.now)) (B.outside bench.old) (B.outside bench.new) }
     ensures stopped { IsStopped result (request_of (map string_bytes words.now)) (B.outside bench.old) (B.outside bench.new) }
     ensures true_stop { IsTrueStop result (request_of (map string_bytes words.now)) (B.outside bench.old) }
     ensures cause { HasCause result (B.outside bench.old) (B.outside bench.new) }

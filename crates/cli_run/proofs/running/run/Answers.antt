@@ -4,6 +4,7 @@ use Rattle.sim_base.specs.Outside.{Outside, Files}
 use Rattle.outcome_model.specs.Stop.{Texts}
 use Rattle.project_model.specs.Work.{Work, WorkIn}
 use Rattle.chip_module.specs.declared.source.ChipSource.{ChipSource}
+use Rattle.any_part.specs.Start.{Contents}
 use Rattle.outcome_model.specs.Outcome.{Accepted}
 use Rattle.outcome_model.proofs.EndLemmas.{stops_counts}
 use Rattle.cli_work.specs.Outcomes.{outcome_of}
@@ -12,8 +13,9 @@ use Rattle.cli_board.specs.Outputs.{outputs_of}
 use Rattle.cli_board.specs.Ran.{Ran}
 use Rattle.cli_board.specs.Run.{run_texts, run_wakes}
 use Rattle.cli_board.proofs.RanLemmas.{ran_ends, ran_said, ran_counts}
-use Rattle.cli_run.specs.Answer.{contents, RunAnswer}
-use Rattle.cli_run.proofs.RunLemmas.{run_answer, run_stops}
+use Rattle.isolation.specs.Isolated.{Isolated}
+use Rattle.cli_run.specs.Answer.{contents, RunAnswer, AnswerSuch}
+use Rattle.cli_run.proofs.RunLemmas.{run_answer, run_stops, isolated_answer, isolated_stops}
 use Rattle.cli_run.proofs.running.run.Goals as goal
 
 pub returns-in-Ok-clause-ends : goal.returns-in-Ok-clause-ends
@@ -30,6 +32,25 @@ returns-in-Ok-clause-ends g c =
     let ran : Ran (outcome_of c.run_board.result) texts (g.B.Bench.outside c.read_work.new.bench) (g.B.Bench.outside c.run_board.new.bench) =
     subst (λ (chips : List ChipSource). Ran (outcome_of c.run_board.result) (run_texts out (record { flash = work.flash; chips = chips; budget = c.args.budget }) work.plan (16 * us)) (g.B.Bench.outside c.read_work.new.bench) (g.B.Bench.outside c.run_board.new.bench)) c.as_slice.ensures c.run_board.ensures.ran in
     ran_ends (RunAnswer folder us script c.args.budget out) texts a (g.B.Bench.outside c.read_work.new.bench) (g.B.Bench.outside c.run_board.new.bench) c.in-Ok.ensures.got.1 c.in-Ok.ensures.ports (outcome_of c.run_board.result) is ran
+
+pub returns-in-Ok-clause-isolated : goal.returns-in-Ok-clause-isolated
+returns-in-Ok-clause-isolated g c =
+    let a : Outside = g.B.Bench.outside c.args.bench.now in
+    let m : Outside = g.B.Bench.outside c.read_work.new.bench in
+    let b : Outside = g.B.Bench.outside c.run_board.new.bench in
+    let folder : List ℕ = c.args.folder.now in
+    let us : ℕ = c.args.micros in
+    let script : Option (List ℕ) = option_map (λ (f : Bor (List ℕ)). f.now) c.args.script in
+    let out = outputs_of c.args.outputs in
+    let work : Work = work_of c.in-Ok.work in
+    let texts : Texts = run_texts out (contents work c.args.budget) work.plan (16 * us) in
+    let is : IfSome a.files (λ (files : Files). AnswerSuch Isolated folder us script c.args.budget out files (Ok texts)) =
+    isolated_answer folder us script c.args.budget out a.files work c.in-Ok.ensures.plan c.in-Ok.ensures.got.0 in
+    let has : List ChipSource → Contents = λ (chips : List ChipSource). record { flash = work.flash; chips = chips; budget = c.args.budget } in
+    let o = outcome_of c.run_board.result in
+    let ran : Ran o texts m b =
+    subst (λ (chips : List ChipSource). Ran o (run_texts out (has chips) work.plan (16 * us)) m b) c.as_slice.ensures c.run_board.ensures.ran in
+    ran_ends (AnswerSuch Isolated folder us script c.args.budget out) texts a m b c.in-Ok.ensures.got.1 c.in-Ok.ensures.ports o is ran
 
 pub returns-in-Ok-clause-counts : goal.returns-in-Ok-clause-counts
 returns-in-Ok-clause-counts g c =
@@ -60,6 +81,12 @@ returns-in-Ok-clause-silent g c =
 pub returns-in-Err-clause-ends : goal.returns-in-Err-clause-ends
 returns-in-Err-clause-ends g c =
     run_stops c.args.folder.now c.args.micros (option_map (λ (f : Bor (List ℕ)). f.now) c.args.script) c.args.budget (outputs_of c.args.outputs) (outcome_of c.in-Err.outcome) _ _ c.in-Err.ensures.got c.in-Err.ensures.ports
+
+pub returns-in-Err-clause-isolated : goal.returns-in-Err-clause-isolated
+returns-in-Err-clause-isolated g c =
+    let script : Option (List ℕ) = option_map (λ (f : Bor (List ℕ)). f.now) c.args.script in
+    let out = outputs_of c.args.outputs in
+    isolated_stops c.args.folder.now c.args.micros script c.args.budget out (outcome_of c.in-Err.outcome) _ _ c.in-Err.ensures.got c.in-Err.ensures.ports
 
 pub returns-in-Err-clause-counts : goal.returns-in-Err-clause-counts
 returns-in-Err-clause-counts g c =

@@ -4,8 +4,9 @@ use Rattle.cli_work.specs.Outcomes.{outcome_of}
 use Rattle.outcome_model.proofs.WriteLemmas.{complains, complains_since}
 use Rattle.outcome_model.proofs.EndLemmas.{told}
 use Rattle.outcome_model.proofs.PromiseLemmas.{words_alone, answered, complete, holds_answer, stopped, true_stop, has_cause, holds_front, complains_alone, is_status}
-use Rattle.sim_cli.specs.Answers.{Answers}
-use Rattle.sim_cli.proofs.AnswerLemmas.{one, counted}
+use Rattle.isolation.specs.Isolated.{Isolated}
+use Rattle.sim_cli.specs.Answers.{Answers, AnswersSuch}
+use Rattle.sim_cli.proofs.AnswerLemmas.{one, counted, holds_play, holds_alone, holds_worlds}
 use Rattle.sim_cli.proofs.simulation.simulate.Goals as goal
 
 pub returns-clause-does : goal.returns-clause-does
@@ -56,6 +57,36 @@ returns-clause-holds g c =
     let b = g.B.Bench.outside c.tell-end.new.bench in
     rw c.status.ensures (holds_answer Answers a b (outcome_of c.work-outcome.result) (request_of words)
     (told Answers (outcome_of c.work-outcome.result) (request_of words) a m b c.tell-end.ensures.quiet c.work-outcome.ensures.happens c.tell-end.ensures.others))
+
+pub returns-clause-played : goal.returns-clause-played
+returns-clause-played g c =
+    let asked = request_of (map string_bytes c.args.words.now) in
+    let a = g.B.Bench.outside c.args.bench.now in
+    let m = g.B.Bench.outside c.work-outcome.new.bench in
+    let b = g.B.Bench.outside c.tell-end.new.bench in
+    let o = outcome_of c.work-outcome.result in
+    let happens = told (AnswersSuch Isolated) o asked a m b c.tell-end.ensures.quiet c.work-outcome.ensures.isolated c.tell-end.ensures.others in
+    rw c.status.ensures (holds_play a b o asked happens)
+
+pub returns-clause-alone : goal.returns-clause-alone
+returns-clause-alone g c =
+    let asked = request_of (map string_bytes c.args.words.now) in
+    let a = g.B.Bench.outside c.args.bench.now in
+    let m = g.B.Bench.outside c.work-outcome.new.bench in
+    let b = g.B.Bench.outside c.tell-end.new.bench in
+    let o = outcome_of c.work-outcome.result in
+    let happens = told (AnswersSuch Isolated) o asked a m b c.tell-end.ensures.quiet c.work-outcome.ensures.isolated c.tell-end.ensures.others in
+    rw c.status.ensures (holds_alone a b o asked happens)
+
+pub returns-clause-worlds : goal.returns-clause-worlds
+returns-clause-worlds g c =
+    let asked = request_of (map string_bytes c.args.words.now) in
+    let a = g.B.Bench.outside c.args.bench.now in
+    let m = g.B.Bench.outside c.work-outcome.new.bench in
+    let b = g.B.Bench.outside c.tell-end.new.bench in
+    let o = outcome_of c.work-outcome.result in
+    let happens = told (AnswersSuch Isolated) o asked a m b c.tell-end.ensures.quiet c.work-outcome.ensures.isolated c.tell-end.ensures.others in
+    rw c.status.ensures (holds_worlds a b o asked happens)
 
 pub returns-clause-stopped : goal.returns-clause-stopped
 returns-clause-stopped g c =
