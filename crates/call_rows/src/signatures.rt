@@ -35,7 +35,7 @@ fn add_copy(alloc: Global, found: &mut List<FuncType>, kind: &FuncType) -> Resul
     Ok(())
 }
 
-/// Adds the type with a number; a number without a type is answered as want of memory.
+/// Adds the type with a number; a number without a type is answered as out of memory.
 fn add_type(
     alloc: Global,
     found: &mut List<FuncType>,

@@ -43,7 +43,7 @@ abbrev pub Judges : List ℕ → Result Binary Refusal → Type 0
 Judges bytes (Ok b) = IsBinary bytes b
 Judges bytes (Err r) = IsBroken bytes (faults.Refused r) ⊎ (IsInvalid bytes r ⊎ IsForeign bytes r)
 
--- what reading the bytes gives: want of memory alone is free
+-- what reading the bytes gives: out of memory alone is free
 abbrev pub IsReading : List ℕ → Result Binary Fault → Type 0
 IsReading bytes (Ok b) = Judges bytes (Ok b)
 IsReading bytes (Err (faults.Refused r)) = Judges bytes (Err r)

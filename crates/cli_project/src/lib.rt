@@ -1,5 +1,5 @@
 //! A project in a folder, read and checked (`project_model`), and the command `check`.
-//! Each call ends as its definition says; want of memory comes before a port is opened.
+//! Each call ends as its definition says; out of memory comes before a port is opened.
 #![tactic(auto)]
 
 mod checking;

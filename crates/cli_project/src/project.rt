@@ -32,7 +32,7 @@ pub struct Work {
     pub plan: Plan,
 }
 
-/// The end of the work by a rule of the board, with the file that the rule names; want of memory where
+/// The end of the work by a rule of the board, with the file that the rule names; out of memory where
 /// that name has no room.
 fn refused_by_rule(alloc: Global, folder: &str, script: Option<&str>, refusal: Refusal) -> WorkEnd
     ensures { (outcome_of result ≡ ends.Stopped (Refused (file_of_rule folder.now (option_map (λ s. s.now) script.entry) refusal) refusal)) ⊎ (outcome_of result ≡ ends.OutOfMemory) }

@@ -20,7 +20,7 @@ pub all_utf8 : {Z : Type 0} (words : List (String Z)) → list_all is_utf8 (map 
 all_utf8 [] = refl
 all_utf8 (w ∷ words) = and_from _ _ (is_utf8-from_IsUtf8 (string_bytes w) (IsUtf8-string_bytes w)) (all_utf8 words)
 
--- an error that is no want of memory comes where the words are refused
+-- an error other than out of memory comes where the words are refused
 pub refused : (ks : Kinds) (k : ErrorKind) (rows : List Row) → k ≢ kind.OutOfMemory → (k ≡ kind.OutOfMemory) ⊎ IsAmong k ks → pick ks rows ≡ None
 refused [] k rows other (inl memory) = absurd (other memory)
 refused [] k rows other (inr among) = absurd among

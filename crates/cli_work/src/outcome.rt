@@ -28,7 +28,7 @@ pub enum Stop {
     OutOfMemory,
 }
 
-/// The end of the work by a file of this name; want of memory where the name has no room.
+/// The end of the work by a file of this name; out of memory where the name has no room.
 pub fn stopped(alloc: Global, name: &str, stop: Stop) -> WorkEnd
     ensures { (outcome_of result ≡ stop_of name.now stop) ⊎ (outcome_of result ≡ ends.OutOfMemory) }
 {

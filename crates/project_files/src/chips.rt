@@ -55,26 +55,21 @@ fn new_name(chips: &[ChipFile], text: &str) -> Option<Name>
 fn read_chip(alloc: Global, chips: &[ChipFile], k: u32, value: &Value) -> Result<ChipFile, Fault>
     ensures { Reads (λ chip. chip) result (chip_of chips.now k (view value.now)) }
 {
-    let name = match value.get("name").and_then(Value::as_str) {
-        Some(name) => name,
-        None => return Err(not_shaped(Place::Chip(k))),
+    let Some(name) = value.get("name").and_then(Value::as_str) else {
+        return Err(not_shaped(Place::Chip(k)));
     };
-    let binary = match value.get("binary").and_then(Value::as_str) {
-        Some(binary) => binary,
-        None => return Err(not_shaped(Place::Chip(k))),
+    let Some(binary) = value.get("binary").and_then(Value::as_str) else {
+        return Err(not_shaped(Place::Chip(k)));
     };
-    let name = match new_name(chips, name) {
-        Some(name) => name,
-        None => return Err(not_shaped(Place::Chip(k))),
+    let Some(name) = new_name(chips, name) else {
+        return Err(not_shaped(Place::Chip(k)));
     };
-    match stem_of(binary) {
-        Some(stem) => {
-            let json = json_beside(alloc, stem)?;
-            let binary = Text::from_str(alloc, binary)?;
-            Ok(ChipFile { name, binary, json })
-        }
-        None => Err(not_shaped(Place::Chip(k))),
-    }
+    let Some(stem) = stem_of(binary) else {
+        return Err(not_shaped(Place::Chip(k)));
+    };
+    let json = json_beside(alloc, stem)?;
+    let binary = Text::from_str(alloc, binary)?;
+    Ok(ChipFile { name, binary, json })
 }
 
 pub(crate) fn read_items(alloc: Global, values: &[Value]) -> Result<List<ChipFile>, Fault>
@@ -111,9 +106,8 @@ fn items_of(document: &Value) -> Option<&[Value]>
 pub(crate) fn read_chips(alloc: Global, document: &Value) -> Result<List<ChipFile>, Fault>
     ensures { Reads (λ chips. chips) result (chips_of (view document.now)) }
 {
-    let items = match items_of(document) {
-        Some(items) => items,
-        None => return Err(not_shaped(Place::Whole)),
+    let Some(items) = items_of(document) else {
+        return Err(not_shaped(Place::Whole));
     };
     if items.len() > MOST_CHIPS {
         return Err(not_shaped(Place::Whole));

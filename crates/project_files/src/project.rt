@@ -34,13 +34,11 @@ fn is_whole_one(version: Option<i64>) -> bool
 fn read_firmware(alloc: Global, document: &Value) -> Result<Text, Fault>
     ensures { Reads (λ firmware. firmware) result (firmware_of (view document.now)) }
 {
-    let wokwi = match document.get("wokwi") {
-        Some(wokwi) => wokwi,
-        None => return Err(not_shaped(Place::Whole)),
+    let Some(wokwi) = document.get("wokwi") else {
+        return Err(not_shaped(Place::Whole));
     };
-    let firmware = match wokwi.get("firmware").and_then(Value::as_str) {
-        Some(firmware) => firmware,
-        None => return Err(not_shaped(Place::Whole)),
+    let Some(firmware) = wokwi.get("firmware").and_then(Value::as_str) else {
+        return Err(not_shaped(Place::Whole));
     };
     if !is_whole_one(wokwi.get("version").and_then(Value::as_integer)) {
         return Err(not_shaped(Place::Whole));
@@ -57,8 +55,7 @@ fn project(alloc: Global, document: &Value) -> Result<Project, Fault>
 }
 
 /// The project of a `wokwi.toml`. Keys that no rule names are passed over.
-/// Refuses with 30 TomlText at Whole, and with 31 TomlShape at Whole, or at the Chip that fails. As long as no board
-/// runs chips, an array `chip` that is not empty is refused with 31 at Whole.
+/// Refuses with 30 TomlText at Whole, and with 31 TomlShape at Whole, or at the Chip that fails.
 pub fn read_project(alloc: Global, bytes: &[u8]) -> Result<Project, Fault>
     ensures { Reads (λ project. project) result (project_text bytes.now) }
 {

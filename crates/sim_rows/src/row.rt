@@ -2,7 +2,7 @@
 use std::alloc::{AllocError, Global};
 use std::{fs, io};
 
-/// A run for each number from `first` to `last`. It is the number of the call of the outside that
+/// A run for each number from `first` to `last`. It is the number of the call of the environment that
 /// fails, where 0 is none, or where `cut` names a file the count of its bytes that are there.
 #[derive(Drop)]
 pub struct Row {
@@ -59,7 +59,7 @@ impl Row {
     }
 
     /// - `run WORDS`, `word WORD`: the words of the command line; `word` has the rest of its line as one
-    /// - `fails N`, `fails N M`: the call of the outside that fails, in a run for each
+    /// - `fails N`, `fails N M`: the call of the environment that fails, in a run for each
     /// - `cut NAME N M`: only so many bytes of the file are there, in a run for each
     /// - `room N`: so many bytes have room in the wave
     /// - `ends N`: the status

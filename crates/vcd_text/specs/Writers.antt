@@ -11,7 +11,7 @@ use Rattle.vcd_text.specs.Heads.{HeadState, gathered}
 use Rattle.vcd_text.specs.Ports.{texts, Leaves, BreaksOff}
 use Rattle.vcd_text.specs.declared.writer.WaveWriter.{WaveWriter}
 
--- What no call of a writer changes: the reference that it holds, the outside as it was lent, and
+-- What no call of a writer changes: the reference that it holds, the environment as it was lent, and
 -- what it is to write.
 pub record Tied : Type 0 where
   pub reference : ℕ
@@ -47,7 +47,7 @@ place_of outside w = record {
   serial = w.serial;
 }
 
--- the outside as a writer has it
+-- the environment as a writer has it
 abbrev pub outside_of : {B : Type 0} → (B → Outside) → WaveWriter B → Outside
 outside_of outside w = outside w.bench.now
 
@@ -65,7 +65,7 @@ is_whole outside w = w.whole && ((not w.wave || (outside w.bench.now).opened por
 abbrev pub faults_of : {B : Type 0} → (B → Outside) → WaveWriter B → ℕ
 faults_of outside w = (outside w.bench.now).faults ports.Wave + (outside w.bench.now).faults ports.Serial
 
--- Since the outside was lent, a wanted Wave has got a text that is, with what is kept, the text of the
+-- Since the environment was lent, a wanted Wave has got a text that is, with what is kept, the text of the
 -- rows, but for the wave's last line; a wanted Serial has got the bytes, and nothing else has changed;
 -- what is not wanted is counted.
 pub record Stands {B : Type 0} (outside : B → Outside) (w : WaveWriter B) (rows : List Row) (bytes : List ℕ) : Type 0 where
@@ -76,7 +76,7 @@ pub record Stands {B : Type 0} (outside : B → Outside) (w : WaveWriter B) (row
   pub changed : w.wave ≡ false → w.changes ≡ capped (wave_count w.head.now.variables rows)
   pub sent : w.serial ≡ false → w.sent ≡ capped (length bytes)
 
--- Since the outside was lent, first parts of these were written, and a write failed.
+-- Since the environment was lent, first parts of these were written, and a write failed.
 abbrev pub HasStopped : {B : Type 0} → (B → Outside) → WaveWriter B → List Row → List ℕ → Type 0
 HasStopped outside w rows bytes =
     BreaksOff (texts w.wave w.serial (begun_text w.head.now.variables rows) bytes) (outside w.start.now.value) (outside w.bench.now)

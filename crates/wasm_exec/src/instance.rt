@@ -39,7 +39,7 @@ impl Model for Instance {
 
 impl Instance {
     /// An instance of a module that imports no table and no global, with all the memory that its calls use.
-    /// It answers want of memory, too, at what `decode` never gives: another count of bodies than of functions, an
+    /// It answers out of memory, too, at what `decode` never gives: another count of bodies than of functions, an
     /// imported function of more than 16 parameters, a body of more than 2^30 locals; and at a body of more than 2^30
     /// instructions, which takes a module of more bytes.
     pub fn new(alloc: Global, valid: Valid) -> Result<Instance, OutOfMemory>
@@ -53,8 +53,8 @@ impl Instance {
         Ok(Instance { valid, parts })
     }
 
-    /// Calls a function, which is the first of at most 256 nested calls; each instruction takes a unit of the budget,
-    /// and the call itself takes none. Traps: those of evaluation, 1 Unreachable to 9 Budget, and the host's.
+    /// Calls a function, which is the first of at most 256 nested calls; each instruction costs one unit of fuel,
+    /// and the call itself costs none. Traps: those of evaluation, 1 Unreachable to 9 Budget, and the host's.
     pub fn invoke<H: Host>(
         &mut self,
         f: u32,

@@ -1,6 +1,6 @@
 //! Modules that run (WebAssembly core specification, "Module Instances", "Instantiation" and "Invocation").
 //! A call leaves what evaluation on the same budget leaves: a value or a trap, memory, globals and the host; it takes
-//! no memory. An instance takes all that its calls use when it is made, and may answer want of memory then.
+//! no memory. An instance takes all that its calls use when it is made, and may answer out of memory then.
 #![tactic(auto)]
 
 mod bodies;

@@ -1,6 +1,6 @@
 //! Integers, their operations, and memories of WebAssembly (core specification, "Numerics" and "Memory Instructions").
 //! Each call is exact, and traps exactly where the specification does; a trap changes nothing.
-//! Only the making of a memory takes room, and may answer want of memory.
+//! Only the making of a memory takes room, and may answer out of memory.
 #![tactic(auto)]
 
 mod bytes;

@@ -65,10 +65,7 @@ fn binary32(op: u8, a: u32, b: u32) -> Result<Value, Trap>
     if op <= 0x4F {
         return Ok(Value::I32(u32::from(int32::compare(op, a, b))));
     }
-    match int32::compute(op, a, b) {
-        Ok(n) => Ok(Value::I32(n)),
-        Err(trap) => Err(trap),
-    }
+    Ok(Value::I32(int32::compute(op, a, b)?))
 }
 
 fn binary64(op: u8, a: u64, b: u64) -> Result<Value, Trap>
@@ -78,8 +75,5 @@ fn binary64(op: u8, a: u64, b: u64) -> Result<Value, Trap>
     if op <= 0x5A {
         return Ok(Value::I32(u32::from(int64::compare(op, a, b))));
     }
-    match int64::compute(op, a, b) {
-        Ok(n) => Ok(Value::I64(n)),
-        Err(trap) => Err(trap),
-    }
+    Ok(Value::I64(int64::compute(op, a, b)?))
 }
