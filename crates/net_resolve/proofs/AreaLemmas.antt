@@ -1,5 +1,5 @@
 -- Areas: nets without a strong value that contacts and resistors connect.
-use Rattle.std.proofs.Common.{◌≡◌, ℕ, ◌<◌, List, length, map, Bool, true, not, refl, ap, sym, ◌∙◌, arith, inl, inr, subst, Some, eq-eqb}
+use Rattle.std.proofs.Common.{◌≡◌, ◌≢◌, ℕ, ◌<◌, List, length, map, Bool, true, not, refl, ap, sym, ◌∙◌, arith, inl, inr, subst, Some, eq-eqb}
 use Rattle.std.proofs.lemmas.Bool.{eqb-true}
 use Rattle.std.proofs.lemmas.Bool.Decides.{nat_tests}
 use Rattle.std.specs.Prelude.{◌==◌, ◌&&◌, ◌||◌, slice_get, slice_index, nat_lt}
@@ -12,11 +12,11 @@ use Rattle.board_model.specs.Nets.{joins, joined_by}
 use Rattle.board_model.specs.Resolve.{contact_joins, is_driven, passes, reaches}
 use Rattle.board_model.proofs.WalkLemmas.{walk_join, walk_back, walk_sound, walk_complete}
 use Rattle.board_model.proofs.Lists.{some_same, some_map}
-use Rattle.union_find.specs.Forest.{AreLabels, root_of, same_or, Joins}
+use Rattle.union_find.specs.Forest.{AreLabels, IsForest, root_of, same_or, Joins}
 use Rattle.net_resolve.specs.Groups.{AreGroups}
 use Rattle.net_resolve.specs.Sums.{is_loose, sum_at, added, strong_level}
 use Rattle.union_find.proofs.ForestLemmas.{label_root}
-use Rattle.union_find.proofs.PairLemmas.{or_cases, or_right, and_both, and_first, joins_cases, contact_of, contact_is, contact_bounds, same_or_swap}
+use Rattle.union_find.proofs.PairLemmas.{or_cases, or_right, and_both, and_first, joins_cases, contact_of, contact_is, contact_bounds, same_or_swap, walks_start, all_joined}
 use Rattle.net_resolve.proofs.ReachLemmas.{both_ways, any_at, any_some, one_label, loose_is, loose_group, contact_passes}
 
 -- What holds once the strong drives are summed by group.
@@ -32,6 +32,14 @@ is_bridge groups strong r = is_loose groups strong r.0 && is_loose groups strong
 
 abbrev pub bridges_of : List ℕ → List Level → List (ℕ × ℕ) → List Bool
 bridges_of groups strong rs = map (λ r. is_loose groups strong r.0 && is_loose groups strong r.1) rs
+
+-- pairs of which none is chosen join nothing
+pub joins_unchosen : (old : List ℕ) (cs : List (ℕ × ℕ)) (chosen : List Bool) → IsForest old → ((k : ℕ) → slice_get chosen k ≢ Some true) → Joins (contact_joins cs chosen) old old
+joins_unchosen old cs chosen forest none = record {
+  walks = walks_start old forest (contact_joins cs chosen);
+  keeps = λ x y _ _ e. e;
+  joined = all_joined old cs chosen (λ k d ed eb. absurd (none k eb));
+}
 
 lt_of : (a b : ℕ) → nat_lt a b ≡ true → a < b
 lt_of a b h = grind (arith, nat_tests)

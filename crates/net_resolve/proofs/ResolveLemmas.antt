@@ -16,7 +16,7 @@ use Rattle.board_model.specs.Resolve.{contact_joins, has_strong, is_driven, pass
 use Rattle.board_model.proofs.WalkLemmas.{walk_sound, walk_complete}
 use Rattle.board_model.proofs.Lists.{some_same, get-below, length-below, get_map_some, same_lists}
 use Rattle.union_find.specs.Forest.{AreLabels, Joins}
-use Rattle.net_resolve.specs.Sums.{is_loose, sum_at, added, weak_level, over_adds, resistors_add, together, level_here}
+use Rattle.net_resolve.specs.Sums.{is_loose, sum_at, added, weak_level, over_adds, resistors_add, together, own_level, level_here}
 use Rattle.union_find.proofs.PairLemmas.{or_cases, or_left, or_right, and_both, and_first, joins_cases, joins_is, joins_swap}
 use Rattle.net_resolve.proofs.ReachLemmas.{both_ways, either_way, any_at, any_some, one_label, strong_is}
 use Rattle.net_resolve.proofs.AreaLemmas.{Grouped, bridges_of, loose_here, passes_within, area_is}
@@ -112,6 +112,15 @@ both_none : (a b : Bool) → (a || b) ≡ false → level_of_values a b ≡ leve
 both_none true b h = absurd cc
 both_none false true h = absurd cc
 both_none false false h = refl
+
+map_same : (f h : ℕ → Level) (count : ℕ) → ((n : ℕ) → n < count → f n ≡ h n) → map f (below count) ≡ map h (below count)
+map_same f h count same = same_lists (map f (below count)) (map h (below count)) (simp length-map refl) (λ k x y ex ey.
+    let sx = get_map_some f (below count) k x ex in
+    let sy = get_map_some h (below count) k y ey in
+    let lk : k < count = omega (arith, slice_get_within (below count) k sx.0 sx.1, length-below count) in
+    let kx : k ≡ sx.0 = some_same (sym (get-below count k lk) ∙ sx.1) in
+    let ky : k ≡ sy.0 = some_same (sym (get-below count k lk) ∙ sy.1) in
+    sym sx.2 ∙ ap f (sym kx) ∙ same k lk ∙ ap h ky ∙ sy.2)
 
 module _ (net_of : List ℕ) (contacts resistors : List (ℕ × ℕ)) (closed : List Bool) (ds : List Drive) (groups : List ℕ) (strong : List Level)
     (g : Grouped net_of contacts resistors closed ds groups strong) (areas : List ℕ) (long : length areas ≡ length groups) (labels : AreLabels areas)
@@ -341,16 +350,25 @@ module _ (net_of : List ℕ) (contacts resistors : List (ℕ × ℕ)) (closed : 
           ∙ sym (ap (λ (b : Bool). if b then level_of_values (has_strong (length groups) net_of contacts resistors closed ds n true) (has_strong (length groups) net_of contacts resistors closed ds n false) else level_of_drives (collected (length groups) net_of contacts resistors closed ds n)) free)
     ]
 
-    map_same : (f h : ℕ → Level) (count : ℕ) → ((n : ℕ) → n < count → f n ≡ h n) → map f (below count) ≡ map h (below count)
-    map_same f h count same = same_lists (map f (below count)) (map h (below count)) (simp length-map refl) (λ k x y ex ey.
-        let sx = get_map_some f (below count) k x ex in
-        let sy = get_map_some h (below count) k y ey in
-        let lk : k < count = omega (arith, slice_get_within (below count) k sx.0 sx.1, length-below count) in
-        let kx : k ≡ sx.0 = some_same (sym (get-below count k lk) ∙ sx.1) in
-        let ky : k ≡ sy.0 = some_same (sym (get-below count k lk) ∙ sy.1) in
-        sym sx.2 ∙ ap f (sym kx) ∙ same k lk ∙ ap h ky ∙ sy.2)
-
     -- all levels are those of the definition
     pub levels_are : map (level_here groups strong areas sums) (below (length groups)) ≡ resolve (length groups) net_of contacts resistors closed ds
     unfolding resolve
     levels_are = map_same (level_here groups strong areas sums) (level_of (length groups) net_of contacts resistors closed ds) (length groups) level_is
+
+-- where each net's group has a strong value, that is its level
+module _ (net_of : List ℕ) (contacts resistors : List (ℕ × ℕ)) (closed : List Bool) (ds : List Drive) (groups : List ℕ) (strong : List Level)
+    (g : Grouped net_of contacts resistors closed ds groups strong) (driven : (n : ℕ) → n < length groups → is_loose groups strong n ≡ false) where
+  driven_level : (n : ℕ) → n < length groups → own_level groups strong n ≡ level_of (length groups) net_of contacts resistors closed ds n
+  driven_level n ln =
+      let free : not (is_driven (length groups) net_of contacts resistors closed ds n) ≡ false = sym (loose_here net_of contacts resistors closed ds groups strong g n ln) ∙ driven n ln in
+      strong_is contacts closed groups g.groups_are net_of resistors ds strong g.pins_within g.strong_are n ln
+      ∙ sym (ap (λ (b : Bool). if b then level_of_values (has_strong (length groups) net_of contacts resistors closed ds n true) (has_strong (length groups) net_of contacts resistors closed ds n false) else level_of_drives (collected (length groups) net_of contacts resistors closed ds n))
+      (not_loose (is_driven (length groups) net_of contacts resistors closed ds n) free))
+    where
+      not_loose : (b : Bool) → not b ≡ false → b ≡ true
+      not_loose true h = refl
+      not_loose false h = absurd cc
+
+  pub driven_are : map (own_level groups strong) (below (length groups)) ≡ resolve (length groups) net_of contacts resistors closed ds
+  unfolding resolve
+  driven_are = map_same (own_level groups strong) (level_of (length groups) net_of contacts resistors closed ds) (length groups) driven_level

@@ -1,14 +1,15 @@
 -- Sums of levels, place by place.
-use Rattle.std.proofs.Common.{◌≡◌, ℕ, zero, suc, ◌+◌, ◌<◌, ◌≤◌, List, [], ◌∷◌, length, drop, Bool, true, false, not, refl, ap, sym, ◌∙◌, arith, add-one, get_or, get_or-set_other, get_or-set_same, drop-cons, inl, inr}
+use Rattle.std.proofs.Common.{◌≡◌, ◌≢◌, ℕ, zero, suc, ◌+◌, ◌<◌, ◌≤◌, List, [], ◌∷◌, length, drop, Bool, true, false, not, refl, ap, sym, ◌∙◌, arith, add-one, get_or, get_or-set_other, get_or-set_same, drop-cons, inl, inr, subst, Some}
 use Rattle.std.specs.Cmp.Lexicographic.{pointwise}
 use Rattle.std.proofs.Math.Bool.{beq}
 use Rattle.std.proofs.lemmas.Bool.Decides.{eqb_tells}
-use Rattle.std.specs.Prelude.{◌==◌, ◌&&◌, if◌then◌else◌, slice_set, slice_index}
+use Rattle.std.specs.Prelude.{◌==◌, ◌&&◌, ◌||◌, if◌then◌else◌, slice_get, slice_set, slice_index}
 use Rattle.std.specs.List.{zip}
 use Rattle.sim_base.specs.declared.signal.Drive.{Drive}
 use Rattle.sim_base.specs.declared.signal.Drive.TheVariants as drives
 use Rattle.sim_base.specs.declared.signal.Level.{Level}
 use Rattle.sim_base.specs.declared.signal.Level.TheVariants as levels
+use Rattle.board_model.proofs.Lists.{get_set_same, get_set_other}
 use Rattle.net_resolve.specs.Sums.{together, sum_at, added, is_loose, over_adds, resistors_add, level_here, is_z}
 
 -- a sum after something was added to one
@@ -70,6 +71,29 @@ resistors_end groups strong areas a sum rs i h = rw (drop_all i rs h) refl
 pub level_chosen : (groups : List ℕ) (strong : List Level) (areas : List ℕ) (sums : List Level) (n : ℕ) (b : Bool) → b ≡ is_z (sum_at strong (slice_index groups n)) →
     (if b then sum_at sums (slice_index areas n) else sum_at strong (slice_index groups n)) ≡ level_here groups strong areas sums n
 level_chosen groups strong areas sums n b e = rw e refl
+
+-- one net more whose group has a strong value
+pub driven_more : (groups : List ℕ) (strong : List Level) (n : ℕ) (driven z : Bool) → z ≡ is_loose groups strong n → (driven ≡ true → (k : ℕ) → k < n → is_loose groups strong k ≡ false) →
+    (driven && not z) ≡ true → (k : ℕ) → k < n + 1 → is_loose groups strong k ≡ false
+driven_more groups strong n true false e before all k h = elim (eqb_tells k n) [
+  | inl at ↦ subst (λ (m : ℕ). is_loose groups strong m ≡ false) (sym at.1) (sym e)
+  | inr off ↦ let apart = off.1 in before refl k (omega (arith, h, apart))
+]
+driven_more groups strong n true true e before all k h = absurd cc
+driven_more groups strong n false z e before all k h = absurd cc
+
+-- one flag more that is put and not found
+pub none_more : (flags : List Bool) (i : ℕ) (found flag : Bool) → i < length flags → (found ≡ false → (k : ℕ) → k < i → slice_get flags k ≢ Some true) →
+    (found || flag) ≡ false → (k : ℕ) → k < i + 1 → slice_get (slice_set flags i flag) k ≢ Some true
+none_more flags i true flag within before off k h e = absurd cc
+none_more flags i false true within before off k h e = absurd cc
+none_more flags i false false within before off k h e = elim (eqb_tells k i) [
+  | inl at ↦
+      let here : slice_get (slice_set flags i false) i ≡ Some false = get_set_same flags i false within in
+      let same : slice_get (slice_set flags i false) i ≡ Some true = subst (λ (m : ℕ). slice_get (slice_set flags i false) m ≡ Some true) at.1 e in
+      absurd cc
+  | inr apart ↦ let a = apart.1 in before refl k (omega (arith, h, a)) (sym (get_set_other flags i k false a) ∙ e)
+]
 
 pub both_same : {a b c d : Bool} → a ≡ b → c ≡ d → (a && c) ≡ (b && d)
 both_same e f = cc

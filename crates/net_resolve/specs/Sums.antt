@@ -64,6 +64,10 @@ added gives counts sum (p ∷ ps) = added gives counts (if counts p.0 then toget
 abbrev pub is_loose : List ℕ → List Level → ℕ → Bool
 is_loose groups strong n = is_z (sum_at strong (slice_index groups n))
 
+-- the strong value of a net's group
+abbrev pub own_level : List ℕ → List Level → ℕ → Level
+own_level groups strong n = sum_at strong (slice_index groups n)
+
 -- what a resistor adds to an area: its strong value at one end, where the other end is loose and of the area
 abbrev pub over_adds : List ℕ → List Level → List ℕ → ℕ → ℕ → ℕ → Level → Level
 over_adds groups strong areas area from to sum =

@@ -9,7 +9,7 @@ ghost use Rattle.net_resolve.specs.Groups.{AreGroups};
 ghost use Rattle.net_resolve.specs.Sums.{sum_at, added, strong_level, weak_level, is_loose, resistors_add};
 
 use crate::groups::put_bridges;
-use crate::sums::{add_resistors, add_strong, add_weak, put_levels};
+use crate::sums::{add_resistors, add_strong, add_weak, put_levels, put_strong};
 use sim_base::{Drive, Level};
 use union_find::{join_chosen, label_chosen};
 
@@ -60,8 +60,7 @@ fn find_areas(
     ensures joins { Joins (contact_joins resistors.now (map (λ r. is_loose groups.now strong.now r.0 && is_loose groups.now strong.now r.1) resistors.now)) groups.now areas.new }
 {
     areas.copy_from_slice(groups);
-    if !resistors.is_empty() {
-        put_bridges(resistors, groups, strong, bridges);
+    if put_bridges(resistors, groups, strong, bridges) {
         join_chosen(resistors, bridges, areas);
     }
 }
@@ -90,7 +89,8 @@ fn sum_areas(
     add_weak(net_of, drives, groups, strong, areas, sums);
 }
 
-/// Writes the level of each net. The other lists are room to work in.
+/// Writes the level of each net. Weak drives and resistors are looked at only where a group has no strong value. The other
+/// lists are room to work in.
 pub(crate) fn resolve_groups(
     net_of: &[u16],
     drives: &[Drive],
@@ -114,6 +114,9 @@ pub(crate) fn resolve_groups(
     ensures { (contacts : List (ℕ × ℕ)) (closed : List Bool) → AreGroups contacts closed groups.now → levels.new ≡ resolve (length groups.now) net_of.now contacts resistors.now closed drives.now }
 {
     sum_groups(net_of, drives, groups, strong);
+    if put_strong(groups, strong, levels) {
+        return;
+    }
     find_areas(resistors, groups, strong, bridges, areas);
     sum_areas(net_of, drives, resistors, groups, strong, areas, sums);
     put_levels(groups, strong, areas, sums, levels);

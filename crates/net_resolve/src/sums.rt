@@ -1,9 +1,9 @@
 //! The level of a net, added up drive by drive.
-ghost use Rattle.std.specs.Prelude.{◌≡◌, ℕ, ◌<◌, ◌&&◌, ◌==◌, List, [], ◌∷◌, length, map, slice_get, slice_index, Some};
+ghost use Rattle.std.specs.Prelude.{◌≡◌, ℕ, ◌<◌, ◌&&◌, ◌==◌, List, [], ◌∷◌, length, map, slice_get, slice_index, Some, true, false};
 ghost use Rattle.std.specs.List.{zip};
 ghost use Rattle.board_model.specs.Resolve.{level_of_values};
 ghost use Rattle.board_model.specs.Walks.{below};
-ghost use Rattle.net_resolve.specs.Sums.{has_high, has_low, is_z, together, strong_level, weak_level, sum_at, added, is_loose, over_adds, resistors_add, level_here};
+ghost use Rattle.net_resolve.specs.Sums.{has_high, has_low, is_z, together, strong_level, weak_level, sum_at, added, is_loose, own_level, over_adds, resistors_add, level_here};
 
 use crate::groups::is_net_loose;
 use sim_base::{Drive, Level};
@@ -91,6 +91,23 @@ pub(crate) fn add_strong(net_of: &[u16], drives: &[Drive], groups: &[u16], sums:
         let group = groups[net_of[i] as usize] as usize;
         sums[group] = sum(sums[group], strong(drives[i]));
     }
+}
+
+/// Writes the strong value of each net's group, and tells whether each has one.
+pub(crate) fn put_strong(groups: &[u16], strong: &[Level], levels: &mut [Level]) -> bool
+    requires levels { length levels.old ≡ length groups.now }
+    requires groups { (n : ℕ) → n < length groups.now → slice_index groups.now n < length strong.now }
+    ensures levels { levels.new ≡ map (own_level groups.now strong.now) (below (length groups.now)) }
+    ensures driven { result ≡ true → (n : ℕ) → n < length groups.now → is_loose groups.now strong.now n ≡ false }
+{
+    let mut driven = true;
+    for n in 0..levels.len() {
+        let own = strong[groups[n] as usize];
+        let is_loose = is_level_z(own);
+        levels[n] = own;
+        driven = driven & !is_loose;
+    }
+    driven
 }
 
 /// Adds a weak drive of a pin, to the sum of the area of its net, where that net is loose.

@@ -1,14 +1,26 @@
-use Rattle.std.proofs.Common.{◌∙◌, sym, ap, arith, Some}
+use Rattle.std.proofs.Common.{◌≤◌, ◌∙◌, sym, ap, arith, length, map, Some, true}
 use Rattle.std.specs.Prelude.{◌&&◌}
-use Rattle.std.proofs.lemmas.Option.{slice_get-get_or}
-use Rattle.board_model.proofs.Lists.{take_set_more, some_map}
+use Rattle.std.proofs.lemmas.List.{length-map}
+use Rattle.std.proofs.lemmas.Option.{slice_get-get_or, slice_get_within}
+use Rattle.board_model.proofs.Lists.{take_set_more, take_whole, some_map, all_taken}
 use Rattle.net_resolve.specs.Sums.{is_loose}
-use Rattle.net_resolve.proofs.SumLemmas.{both_same}
+use Rattle.net_resolve.proofs.SumLemmas.{both_same, none_more}
 use Rattle.net_resolve.proofs.groups.put_bridges.Goals as goal
 
 pub loop-i-preserved : goal.loop-i-preserved
 loop-i-preserved c =
     let at = slice_get-get_or c.args.resistors.now c.loop-i.i (0, 0) c.loop-i-test.true in
     let value = some_map (λ (r : _). is_loose c.args.groups.now c.args.strong.now r.0 && is_loose c.args.groups.now c.args.strong.now r.1) c.args.resistors.now c.loop-i.i _ at in
-    take_set_more c.loop-i.bridges _ c.loop-i.i _ (omega (arith, c.loop-i.auto.bridges, c.requires.bridges))
-    (value ∙ ap Some (sym (both_same c.is_net_loose-one.ensures c.is_net_loose-other.ensures))) c.loop-i.invariant
+    record {
+      bridges = take_set_more c.loop-i.bridges _ c.loop-i.i _ (omega (arith, c.loop-i.auto.bridges, c.requires.bridges))
+          (value ∙ ap Some (sym (both_same c.is_net_loose-one.ensures c.is_net_loose-other.ensures))) c.loop-i.invariant.bridges;
+      none = none_more c.loop-i.bridges c.loop-i.i c.loop-i.found (c.is_net_loose-one.result && c.is_net_loose-other.result) (omega (arith, c.loop-i-test.true, c.loop-i.auto.bridges, c.requires.bridges)) c.loop-i.invariant.none;
+    }
+
+pub returns : goal.returns
+returns c =
+    let long : length (map (λ (r : _). is_loose c.args.groups.now c.args.strong.now r.0 && is_loose c.args.groups.now c.args.strong.now r.1) c.args.resistors.now) ≤ c.loop-i.i = simp length-map (omega (arith, c.loop-i-test.false)) in
+    record {
+      bridges = all_taken c.loop-i.i c.loop-i.bridges _ (omega (arith, c.loop-i.auto.bridges, c.requires.bridges, c.loop-i-test.false)) (c.loop-i.invariant.bridges ∙ take_whole c.loop-i.i _ long);
+      none = λ off k e. c.loop-i.invariant.none off k (omega (arith, slice_get_within c.loop-i.bridges k true e, c.loop-i.auto.bridges, c.requires.bridges, c.loop-i-test.false)) e;
+    }

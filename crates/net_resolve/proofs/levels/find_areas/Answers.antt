@@ -1,15 +1,16 @@
-use Rattle.std.proofs.Common.{◌≡◌, sym, subst, length, map, ℕ, List}
+use Rattle.std.proofs.Common.{sym, subst, map, ℕ, List, Bool}
 use Rattle.std.specs.Prelude.{◌&&◌}
-use Rattle.std.proofs.lemmas.Bool.{eqb-true}
 use Rattle.board_model.specs.Resolve.{contact_joins}
 use Rattle.union_find.specs.Forest.{Joins}
 use Rattle.net_resolve.specs.Sums.{is_loose}
-use Rattle.union_find.proofs.PairLemmas.{joins_none}
+use Rattle.net_resolve.proofs.AreaLemmas.{joins_unchosen}
 use Rattle.net_resolve.proofs.levels.find_areas.Goals as goal
 
-pub returns-else-not-is_empty-clause-joins : goal.returns-else-not-is_empty-clause-joins
-returns-else-not-is_empty-clause-joins c =
-    let none : length c.args.resistors.now ≡ 0 = eqb-true (length c.args.resistors.now) 0 (sym c.if-not-is_empty.ensures) in
-    subst (λ (areas : List ℕ). Joins (contact_joins c.args.resistors.now (map (λ r. is_loose c.args.groups.now c.args.strong.now r.0 && is_loose c.args.groups.now c.args.strong.now r.1) c.args.resistors.now)) c.args.groups.now areas)
+pub returns-else-put_bridges-clause-joins : goal.returns-else-put_bridges-clause-joins
+returns-else-put_bridges-clause-joins c =
+    let groups = c.args.groups.now in
+    let rs = c.args.resistors.now in
+    subst (λ (areas : List ℕ). Joins (contact_joins rs (map (λ r. is_loose groups c.args.strong.now r.0 && is_loose groups c.args.strong.now r.1) rs)) groups areas)
     (sym c.copy_from_slice.ensures.after)
-    (joins_none c.args.groups.now c.args.resistors.now _ c.requires.labels.forest none)
+    (subst (λ (bs : List Bool). Joins (contact_joins rs bs) groups groups) c.put_bridges.ensures.bridges
+    (joins_unchosen groups rs c.put_bridges.new.bridges c.requires.labels.forest (c.put_bridges.ensures.none c.if-put_bridges.false)))
