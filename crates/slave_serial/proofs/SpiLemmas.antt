@@ -1,4 +1,4 @@
--- A cycle without an event, on wires that stay, leaves an SPI slave as it is.
+-- A cycle without an event, on wires that stay, leaves an SPI slave as it is, and it asks for nothing.
 use Rattle.std.proofs.Common.{◌≡◌, ℕ, ◌-◌, ◌≤◌, List, [], ◌∷◌, Bool, true, false, not, ◌&&◌, if◌then◌else◌, Option, None, ◌==◌, refl, ap, ◌∙◌, subst}
 use Rattle.sim_base.specs.declared.limits.TheConstants.{MOST_CYCLES}
 use Rattle.unit_law.specs.Coming.{comes, IsAhead, or_end, within_run}
@@ -20,43 +20,31 @@ no_edge true false = refl
 no_edge false true = refl
 no_edge false false = refl
 
-unmoved : (s : Spi) (x : Transaction) (t : ℕ) (mosi : Bool) → comes (next_turn x) t ≡ false → (moved s x t false false mosi).0 ≡ s
+unmoved : (s : Spi) (x : Transaction) (t : ℕ) (mosi : Bool) → comes (next_turn x) t ≡ false → moved s x t false false mosi ≡ (s, [])
 unmoved s Idle t mosi h = refl
-unmoved s (Opening b d) t mosi h = ap (λ (p : Spi × List EngineRequest). p.0) (chosen (d == t) (loaded s b false mosi) (s, []) h)
+unmoved s (Opening b d) t mosi h = chosen (d == t) (loaded s b false mosi) (s, []) h
 unmoved s (Between b) t mosi h = refl
 unmoved s (Shifting b x) t mosi h = refl
-unmoved s (Stopped n d) t mosi h = ap (λ (p : Spi × List EngineRequest). p.0) (chosen (d == t) (record s { miso = None; transaction = Idle }, requests.Done n ∷ []) (s, []) h)
+unmoved s (Stopped n d) t mosi h = chosen (d == t) (record s { miso = None; transaction = Idle }, requests.Done n ∷ []) (s, []) h
 
-pub stays : (s : Spi) (l : Wires) (t : ℕ) → spi.due s t ≡ false → (spi.step s t l l).0 ≡ s
-stays s l t h =
-    ap (λ (r : Bool). (moved s s.transaction t r (presents s l l) l.mosi).0) (no_edge s.cpha (is_away s.cpol l.sck))
-    ∙ ap (λ (p : Bool). (moved s s.transaction t false p l.mosi).0) (no_edge s.cpha (is_away s.cpol l.sck))
+pub rests : (s : Spi) (l : Wires) (t : ℕ) → spi.due s t ≡ false → spi.step s t l l ≡ (s, [])
+rests s l t h =
+    ap (λ (r : Bool). moved s s.transaction t r (presents s l l) l.mosi) (no_edge s.cpha (is_away s.cpol l.sck))
+    ∙ ap (λ (p : Bool). moved s s.transaction t false p l.mosi) (no_edge s.cpha (is_away s.cpol l.sck))
     ∙ unmoved s s.transaction t l.mosi h
 
-stands_ahead : (x : Transaction) (t : ℕ) → Stands x t → IsAhead (next_turn x) t
-stands_ahead Idle t h = tt
-stands_ahead (Opening b d) t h = h.ahead
-stands_ahead (Between b) t h = tt
-stands_ahead (Shifting b x) t h = tt
-stands_ahead (Stopped n d) t h = h
-
-stands_at : (x : Transaction) (t to : ℕ) → Stands x t → IsAhead (next_turn x) to → Stands x to
-stands_at Idle t to h ahead = tt
-stands_at (Opening b d) t to h ahead = record { index = h.index; ahead = ahead }
-stands_at (Between b) t to h ahead = h
-stands_at (Shifting b x) t to h ahead = h
-stands_at (Stopped n d) t to h ahead = ahead
+pub stays : (s : Spi) (l : Wires) (t : ℕ) → spi.due s t ≡ false → (spi.step s t l l).0 ≡ s
+stays s l t h = ap (λ (p : Spi × List EngineRequest). p.0) (rests s l t h)
 
 -- v is what the struct shows of its fields, and s what the caller knows
 module _ (v s : SlaveAt Spi Wires) (same : v ≡ s) where
   pub stands_then : (t : ℕ) → v.next ≤ t → IsQuiet spi s.slave s.held s.next (t - s.next) → Stands v.slave.transaction v.next → Stands s.slave.transaction t
   stands_then t here quiet h =
       let stands : Stands s.slave.transaction s.next = subst (λ (x : SlaveAt Spi Wires). Stands x.slave.transaction x.next) same h in
-      stands_at s.slave.transaction s.next t stands
-      (ahead_is spi stays v s same t here quiet (λ u. next_turn u.transaction) (λ u t due. due) (stands_ahead s.slave.transaction s.next stands))
+      record { sound = stands.sound; ahead = ahead_is spi stays v s same t here quiet (λ u. next_turn u.transaction) (λ u t due. due) stands.ahead }
 
   -- the answer of `due`
   pub first_by : (r : Option ℕ) → r ≡ within_run (or_end (next_turn v.slave.transaction)) → v.next ≤ MOST_CYCLES → Stands v.slave.transaction v.next → IsFirstDue spi s.slave s.held s.next r
   first_by r is end h =
       let a = next_turn v.slave.transaction in
-      due_is spi stays v s same (or_end a) r is (ahead_of a v.next (stands_ahead v.slave.transaction v.next h) end) (before_it a) (at_it a)
+      due_is spi stays v s same (or_end a) r is (ahead_of a v.next h.ahead end) (before_it a) (at_it a)

@@ -1,17 +1,21 @@
--- A cycle without an event, on a line that stays, leaves a UART as it is.
+-- A cycle without an event, on a line that stays, leaves a UART as it is, and it asks for nothing.
 use Rattle.std.proofs.Common.{◌≡◌, ℕ, ◌+◌, ◌-◌, ◌≤◌, Bool, true, false, Option, None, Some, ◌==◌, refl, ap, ◌∙◌, subst}
-use Rattle.std.specs.Prelude.{min}
+use Rattle.std.specs.Prelude.{min, if◌then◌else◌, ◌++◌, ◌&&◌, []}
+use Rattle.std.specs.Option.{option_to_list}
 use Rattle.sim_base.specs.declared.limits.TheConstants.{MOST_CYCLES}
 use Rattle.unit_law.specs.Coming.{comes, IsAhead, or_end, within_run}
 use Rattle.unit_law.proofs.StillLemmas.{neither, chosen, before_both, at_both, ahead_both}
+use Rattle.slave_law.specs.declared.request.EngineRequest.{EngineRequest}
+use Rattle.slave_law.specs.declared.request.EngineRequest.TheVariants as requests
 use Rattle.slave_law.specs.Slave.{SlaveAt, IsQuiet, IsFirstDue}
 use Rattle.slave_law.proofs.StillLemmas.{ahead_is, due_is}
 use Rattle.slave_serial.specs.declared.reception.Reception.{Reception}
 use Rattle.slave_serial.specs.declared.sending.Sending.{Sending}
 use Rattle.slave_serial.specs.declared.sending.Sending.TheVariants.{Idle, Empty, Start, Bits}
-use Rattle.slave_serial.specs.Reception.{received, sampled, next_sample, Receives}
-use Rattle.slave_serial.specs.Sending.{sent, bit_over, bit_end, Sends}
-use Rattle.slave_serial.specs.Uart.{Uart, uart}
+use Rattle.slave_serial.specs.Reception.{received, sampled, taken_in, next_sample, Receives}
+use Rattle.slave_serial.specs.Sending.{sent, put_out, bit_over, bit_end, Sends}
+use Rattle.slave_serial.specs.declared.transceiver.Uart.{Uart}
+use Rattle.slave_serial.specs.Uart.{uart}
 
 quiet_ear : (o : Option Reception) (bit t : ℕ) (l : Bool) → comes (next_sample o) t ≡ false → received o bit t l l ≡ o
 quiet_ear None bit t true h = refl
@@ -30,25 +34,23 @@ stays u l t h =
     ap (λ (o : Option Reception). record u { reception = o; sending = sent u.sending u.bit t }) (quiet_ear u.reception u.bit t l d.1)
     ∙ ap (λ (s : Sending). record u { sending = s }) (quiet_line u.sending u.bit t d.0)
 
-sends_ahead : (s : Sending) (t : ℕ) → Sends s t → IsAhead (bit_end s) t
-sends_ahead Idle t h = tt
-sends_ahead (Empty d) t h = h
-sends_ahead (Start b d) t h = h.ahead
-sends_ahead (Bits b f) t h = h.ahead
+hears_none : (o : Option Reception) (t : ℕ) (l : Bool) → comes (next_sample o) t ≡ false → taken_in o t l ≡ None
+hears_none None t l h = refl
+hears_none (Some r) t l h = ap (λ (b : Bool). if b && (r.place == 9 && l) then Some (requests.Received r.byte) else None) h
 
-sends_at : (s : Sending) (t to : ℕ) → Sends s t → IsAhead (bit_end s) to → Sends s to
-sends_at Idle t to h ahead = tt
-sends_at (Empty d) t to h ahead = ahead
-sends_at (Start b d) t to h ahead = record { index = h.index; ahead = ahead }
-sends_at (Bits b f) t to h ahead = record { index = h.index; place = h.place; ahead = ahead }
+asks_none : (s : Sending) (t : ℕ) → comes (bit_end s) t ≡ false → put_out s t ≡ None
+asks_none Idle t h = refl
+asks_none (Empty d) t h = chosen (d == t) (Some requests.Sent) None h
+asks_none (Start b d) t h = chosen (d == t) (Some (requests.Fetch b.index)) None h
+asks_none (Bits b f) t h = ap (λ (c : Bool). if c && (f.place == 9 && b.index + 1 == b.count) then Some requests.Sent else None) h
 
-receives_ahead : (o : Option Reception) (t : ℕ) → Receives o t → IsAhead (next_sample o) t
-receives_ahead None t h = tt
-receives_ahead (Some r) t h = h.ahead
-
-receives_at : (o : Option Reception) (t to : ℕ) → Receives o t → IsAhead (next_sample o) to → Receives o to
-receives_at None t to h ahead = tt
-receives_at (Some r) t to h ahead = record { place = h.place; ahead = ahead }
+pub rests : (u : Uart) (l : Bool) (t : ℕ) → uart.due u t ≡ false → uart.step u t l l ≡ (u, [])
+rests u l t h =
+    let d = neither (comes (bit_end u.sending) t) (comes (next_sample u.reception) t) h in
+    let after : (uart.step u t l l).0 ≡ u = stays u l t h in
+    ap (λ (v : Uart). (v, option_to_list (taken_in u.reception t l) ++ option_to_list (put_out u.sending t))) after
+    ∙ ap (λ (o : Option EngineRequest). (u, option_to_list o ++ option_to_list (put_out u.sending t))) (hears_none u.reception t l d.1)
+    ∙ ap (λ (o : Option EngineRequest). (u, option_to_list o)) (asks_none u.sending t d.0)
 
 -- v is what the struct shows of its fields, and s what the caller knows
 module _ (v s : SlaveAt Uart Bool) (same : v ≡ s) where
@@ -56,14 +58,12 @@ module _ (v s : SlaveAt Uart Bool) (same : v ≡ s) where
     pub sends_then : Sends v.slave.sending v.next → Sends s.slave.sending t
     sends_then h =
         let stands : Sends s.slave.sending s.next = subst (λ (x : SlaveAt Uart Bool). Sends x.slave.sending x.next) same h in
-        sends_at s.slave.sending s.next t stands
-        (ahead_is uart stays v s same t here quiet (λ u. bit_end u.sending) (λ u t due. (neither _ _ due).0) (sends_ahead s.slave.sending s.next stands))
+        record { sound = stands.sound; ahead = ahead_is uart stays v s same t here quiet (λ u. bit_end u.sending) (λ u t due. (neither _ _ due).0) stands.ahead }
 
     pub receives_then : Receives v.slave.reception v.next → Receives s.slave.reception t
     receives_then h =
         let stands : Receives s.slave.reception s.next = subst (λ (x : SlaveAt Uart Bool). Receives x.slave.reception x.next) same h in
-        receives_at s.slave.reception s.next t stands
-        (ahead_is uart stays v s same t here quiet (λ u. next_sample u.reception) (λ u t due. (neither _ _ due).1) (receives_ahead s.slave.reception s.next stands))
+        ahead_is uart stays v s same t here quiet (λ u. next_sample u.reception) (λ u t due. (neither _ _ due).1) stands
 
   -- the answer of `due`
   pub first_by : (r : Option ℕ) → r ≡ within_run (min (or_end (bit_end v.slave.sending)) (or_end (next_sample v.slave.reception))) →
@@ -72,5 +72,5 @@ module _ (v s : SlaveAt Uart Bool) (same : v ≡ s) where
       let a = bit_end v.slave.sending in
       let b = next_sample v.slave.reception in
       due_is uart stays v s same (min (or_end a) (or_end b)) r is
-      (ahead_both a b v.next (sends_ahead v.slave.sending v.next h) (receives_ahead v.slave.reception v.next k) end)
+      (ahead_both a b v.next h.ahead k end)
       (before_both a b) (at_both a b)

@@ -2,6 +2,7 @@
 -- middle (profile; the frame is that of the data sheet's "USART0", "Frame Formats").
 use Rattle.std.specs.Prelude.{ℕ, ◌+◌, ◌-◌, ◌/◌, ◌≤◌, ◌==◌, ◌&&◌, not, nat_lt, Bool, if◌then◌else◌, Option, None, Some}
 use Rattle.unit_law.specs.Bits.{with_bit}
+use Rattle.unit_law.specs.Coming.{IsAhead}
 use Rattle.slave_law.specs.declared.request.EngineRequest.{EngineRequest}
 use Rattle.slave_law.specs.declared.request.EngineRequest.TheVariants as requests
 use Rattle.slave_serial.specs.declared.reception.Reception.{Reception}
@@ -41,10 +42,5 @@ pub record IsBit (bit : ℕ) : Type 0 where
   pub most : bit ≤ 16000000
 
 -- that a reception is one that stands at cycle t
-pub record IsReceptionAt (r : Reception) (t : ℕ) : Type 0 where
-  pub place : r.place ≤ 9
-  pub ahead : t ≤ r.sample
-
 abbrev pub Receives : Option Reception → ℕ → Type 0
-Receives None t = Unit {0}
-Receives (Some r) t = IsReceptionAt r t
+Receives r t = IsAhead (next_sample r) t

@@ -1,7 +1,8 @@
 -- The bytes of a call that go out at TX, cycle by cycle, each in a frame: a start bit 0, 8 data bits from the lowest, a stop
 -- bit 1 (profile; the frame is that of the data sheet's "USART0", "Frame Formats"). A frame follows the one before at once.
-use Rattle.std.specs.Prelude.{ℕ, ◌+◌, ◌-◌, ◌<◌, ◌≤◌, ◌==◌, ◌&&◌, not, nat_lt, Bool, true, false, if◌then◌else◌, Option, None, Some}
+use Rattle.std.specs.Prelude.{ℕ, ◌+◌, ◌-◌, ◌<◌, ◌==◌, ◌&&◌, not, nat_lt, Bool, true, false, if◌then◌else◌, Option, None, Some}
 use Rattle.unit_law.specs.Bits.{is_set}
+use Rattle.unit_law.specs.Coming.{IsAhead}
 use Rattle.slave_law.specs.declared.request.EngineRequest.{EngineRequest}
 use Rattle.slave_law.specs.declared.request.EngineRequest.TheVariants as requests
 use Rattle.slave_serial.specs.declared.buffer.Buffer.{Buffer}
@@ -51,6 +52,13 @@ line (Empty d) t = true
 line (Start b d) t = not (d == t)
 line (Bits b f) t = frame_bit f
 
+-- What it is in the cycle of the next turn, where a frame that is to begin begins in that one.
+abbrev pub next_line : Sending → Bool
+next_line Idle = true
+next_line (Empty d) = true
+next_line (Start b d) = false
+next_line (Bits b f) = frame_bit f
+
 -- the cycle of the next event
 abbrev pub bit_end : Sending → Option ℕ
 bit_end Idle = None
@@ -64,18 +72,14 @@ is_sending (Empty d) = true
 is_sending (Start b d) = true
 is_sending (Bits b f) = true
 
+-- that the byte on its way is one of those that are to go
+abbrev pub IsSending : Sending → Type 0
+IsSending Idle = Unit {0}
+IsSending (Empty d) = Unit {0}
+IsSending (Start b d) = b.index < b.count
+IsSending (Bits b f) = b.index < b.count
+
 -- that it is one that stands at cycle t
-pub record IsStartAt (b : Buffer) (d t : ℕ) : Type 0 where
-  pub index : b.index < b.count
-  pub ahead : t ≤ d
-
-pub record IsFrameAt (b : Buffer) (f : Frame) (t : ℕ) : Type 0 where
-  pub index : b.index < b.count
-  pub place : f.place ≤ 9
-  pub ahead : t ≤ f.end
-
-abbrev pub Sends : Sending → ℕ → Type 0
-Sends Idle t = Unit {0}
-Sends (Empty d) t = t ≤ d
-Sends (Start b d) t = IsStartAt b d t
-Sends (Bits b f) t = IsFrameAt b f t
+pub record Sends (s : Sending) (t : ℕ) : Type 0 where
+  pub sound : IsSending s
+  pub ahead : IsAhead (bit_end s) t

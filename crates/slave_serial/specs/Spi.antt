@@ -2,7 +2,7 @@
 -- and what MISO has between transactions are the profile's). Bits go from the highest.
 use Rattle.std.specs.Prelude.{ℕ, ◌+◌, ◌-◌, ◌/◌, ◌%◌, ◌<◌, ◌≤◌, ◌==◌, ◌&&◌, ◌||◌, not, nat_lt, List, [], ◌∷◌, Bool, true, false, if◌then◌else◌, Option, None, Some}
 use Rattle.unit_law.specs.Bits.{is_set, with_bit}
-use Rattle.unit_law.specs.Coming.{comes}
+use Rattle.unit_law.specs.Coming.{comes, IsAhead}
 use Rattle.slave_law.specs.declared.request.EngineRequest.{EngineRequest}
 use Rattle.slave_law.specs.declared.request.EngineRequest.TheVariants as requests
 use Rattle.slave_law.specs.Slave.{SlaveMachine, SlaveAt}
@@ -85,6 +85,21 @@ next_turn (Stopped n d) = Some d
 abbrev pub spi : SlaveMachine Spi Wires
 spi = record { step = spi_step; due = λ s t. comes (next_turn s.transaction) t }
 
+-- A transaction that waits for its first turn has it in cycle d.
+abbrev pub opens_in : Transaction → ℕ → Transaction
+opens_in (Opening b e) d = Opening b d
+opens_in Idle d = Idle
+opens_in (Between b) d = Between b
+opens_in (Shifting b x) d = Shifting b x
+opens_in (Stopped n e) d = Stopped n e
+
+abbrev pub is_opening : Transaction → Bool
+is_opening (Opening b d) = true
+is_opening Idle = false
+is_opening (Between b) = false
+is_opening (Shifting b x) = false
+is_opening (Stopped n d) = false
+
 abbrev pub is_open : Transaction → Bool
 is_open Idle = false
 is_open (Opening b d) = true
@@ -124,18 +139,19 @@ abbrev pub with_byte : Spi → Transaction → ℕ → Spi
 with_byte s (Shifting b x) y = record s { miso = Some (is_set y 7); transaction = Shifting b (record x { out = y }) }
 with_byte s transaction y = s
 
--- that a transaction is one that stands at cycle t
+-- that the byte on its way is one of those that are to be exchanged, and its next bit one of eight
 pub record IsShift (b : Buffer) (x : Shift) : Type 0 where
   pub index : b.index < b.count
   pub place : x.place ≤ 7
 
-pub record IsOpening (b : Buffer) (d t : ℕ) : Type 0 where
-  pub index : b.index < b.count
-  pub ahead : t ≤ d
+abbrev pub IsTransaction : Transaction → Type 0
+IsTransaction Idle = Unit {0}
+IsTransaction (Opening b d) = b.index < b.count
+IsTransaction (Between b) = b.index < b.count
+IsTransaction (Shifting b x) = IsShift b x
+IsTransaction (Stopped n d) = Unit {0}
 
-abbrev pub Stands : Transaction → ℕ → Type 0
-Stands Idle t = Unit {0}
-Stands (Opening b d) t = IsOpening b d t
-Stands (Between b) t = b.index < b.count
-Stands (Shifting b x) t = IsShift b x
-Stands (Stopped n d) t = t ≤ d
+-- that a transaction is one that stands at cycle t
+pub record Stands (x : Transaction) (t : ℕ) : Type 0 where
+  pub sound : IsTransaction x
+  pub ahead : IsAhead (next_turn x) t

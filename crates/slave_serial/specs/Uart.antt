@@ -1,20 +1,19 @@
 -- A UART, cycle by cycle: 8 data bits, no parity, one stop bit (profile).
-use Rattle.std.specs.Prelude.{ℕ, List, ◌∷◌, ◌++◌, Bool, true, false, ◌||◌, Option}
+use Rattle.std.specs.Prelude.{ℕ, List, ◌∷◌, ◌++◌, Bool, true, false, ◌||◌, None}
 use Rattle.std.specs.Option.{option_to_list}
 use Rattle.unit_law.specs.Coming.{comes}
 use Rattle.slave_law.specs.declared.request.EngineRequest.{EngineRequest}
 use Rattle.slave_law.specs.declared.request.EngineRequest.TheVariants as requests
 use Rattle.slave_law.specs.Slave.{SlaveMachine, SlaveAt}
-use Rattle.slave_serial.specs.declared.reception.Reception.{Reception}
 use Rattle.slave_serial.specs.declared.sending.Sending.{Sending}
-use Rattle.slave_serial.specs.Reception.{received, taken_in, next_sample}
-use Rattle.slave_serial.specs.Sending.{sent, put_out, bit_end, is_sending, begun, given}
+use Rattle.slave_serial.specs.declared.sending.Sending.TheVariants.{Idle}
+use Rattle.slave_serial.specs.declared.transceiver.Uart.{Uart}
+use Rattle.slave_serial.specs.Reception.{received, taken_in, next_sample, IsBit}
+use Rattle.slave_serial.specs.Sending.{sent, put_out, bit_end, is_sending, begun, given, IsSending}
 
--- How many cycles a bit has, what comes in, and what goes out.
-pub record Uart : Type 0 where
-  pub bit : ℕ
-  pub reception : Option Reception
-  pub sending : Sending
+-- an idle one, whose bits have this many cycles
+abbrev pub idle_uart : ℕ → Uart
+idle_uart bit = record { bit = bit; reception = None; sending = Idle }
 
 -- One cycle, from what RX read in the cycle before and reads in this one; receiving comes before sending.
 abbrev pub uart_step : Uart → ℕ → Bool → Bool → Uart × List EngineRequest
@@ -40,8 +39,13 @@ abbrev pub is_busy : SlaveAt Uart Bool → Bool
 is_busy s = is_sending s.slave.sending || waits_sent s.asks
 
 -- A call of some bytes in cycle t, while it is idle.
-abbrev pub started : SlaveAt Uart Bool → ℕ → ℕ → SlaveAt Uart Bool
-started s t count = record s { slave = record (s.slave) { sending = begun count t } }
+abbrev pub begins : Uart → ℕ → ℕ → Uart
+begins u t count = record u { sending = begun count t }
+
+-- that the bits have a length that they may have, and the byte on its way is one of those that are to go
+pub record IsUart (u : Uart) : Type 0 where
+  pub bit : IsBit u.bit
+  pub sends : IsSending u.sending
 
 -- the byte that was fetched
 abbrev pub with_byte : Uart → ℕ → Uart

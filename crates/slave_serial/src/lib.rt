@@ -9,7 +9,10 @@ mod reception;
 mod sending;
 mod spi;
 mod transaction;
+mod transceiver;
 mod uart;
 
 pub use spi::SpiEngine;
+pub use transaction::{Spi, Wires};
+pub use transceiver::Uart;
 pub use uart::UartEngine;

@@ -1,7 +1,7 @@
 //! A frame that comes in: a start bit, 8 data bits and a stop bit.
 ghost use Rattle.std.specs.Prelude.{◌≡◌, ◌+◌, ◌-◌, ◌<◌, ◌≤◌, ◌==◌, ◌&&◌, not};
 ghost use Rattle.unit_law.specs.Bits.{with_bit};
-ghost use Rattle.slave_serial.specs.Reception.{heard, next_bit, sampled, received, taken_in, next_sample, IsBit, IsReceptionAt, Receives};
+ghost use Rattle.slave_serial.specs.Reception.{next_bit, sampled, received, taken_in, next_sample, IsBit, Receives};
 
 use sim_base::MOST_CYCLES;
 use slave_law::EngineRequest;
@@ -22,7 +22,7 @@ impl Reception {
         requires cycle { cycle < MOST_CYCLES }
         requires place { self.place < 9 }
         ensures value { result ≡ next_bit self bit cycle }
-        ensures stands { IsReceptionAt result (cycle + 1) }
+        ensures ahead { cycle + 1 ≤ result.sample }
     {
         Reception {
             place: self.place + 1,
@@ -34,7 +34,6 @@ impl Reception {
     fn sampled(self, bit: u32, cycle: u32, high: bool) -> Option<Reception>
         requires bit { IsBit bit }
         requires cycle { cycle < MOST_CYCLES }
-        requires stands { IsReceptionAt self cycle }
         ensures value { result ≡ sampled self bit cycle high }
         ensures stands { Receives result (cycle + 1) }
     {
@@ -65,9 +64,8 @@ pub(crate) fn received(
 ) -> Option<Reception>
     requires bit { IsBit bit }
     requires cycle { cycle < MOST_CYCLES }
-    requires stands { Receives reception cycle }
     ensures value { result ≡ received reception bit cycle before now }
-    ensures stands { Receives result (cycle + 1) }
+    ensures stands { Receives reception cycle → Receives result (cycle + 1) }
 {
     match reception {
         Some(reception) => {

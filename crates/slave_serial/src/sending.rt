@@ -1,7 +1,7 @@
 //! The bytes that go out, each in a frame: a start bit, 8 data bits and a stop bit.
 ghost use Rattle.std.specs.Prelude.{◌≡◌, ◌+◌, ◌<◌, ◌≤◌};
 ghost use Rattle.slave_serial.specs.Reception.{IsBit};
-ghost use Rattle.slave_serial.specs.Sending.{begun, bit_over, sent, put_out, given, line, bit_end, is_sending, Sends};
+ghost use Rattle.slave_serial.specs.Sending.{begun, bit_over, sent, put_out, given, frame_bit, line, next_line, bit_end, is_sending, IsSending, Sends};
 
 use crate::buffer::Buffer;
 use sim_base::MOST_CYCLES;
@@ -16,6 +16,21 @@ pub struct Frame {
     pub end: u32,
 }
 
+impl Frame {
+    // The bit that is sent.
+    fn bit(self) -> bool
+        ensures { result ≡ frame_bit self }
+    {
+        if self.place == 0 {
+            false
+        } else if self.place < 9 {
+            has_bit(self.byte, self.place - 1)
+        } else {
+            true
+        }
+    }
+}
+
 /// What goes on at TX: nothing; a call of no bytes that is answered in a cycle; a frame whose first cycle is to come, in
 /// which its byte is fetched; a frame on the way.
 #[derive(Clone, Copy)]
@@ -28,7 +43,7 @@ pub enum Sending {
 
 /// `count` bytes, from the cycle behind this one on.
 pub(crate) fn begun(count: u32, cycle: u32) -> Sending
-    requires cycle { cycle < MOST_CYCLES }
+    requires cycle { cycle ≤ MOST_CYCLES }
     ensures value { result ≡ begun count cycle }
     ensures stands { Sends result (cycle + 1) }
 {
@@ -43,7 +58,6 @@ pub(crate) fn begun(count: u32, cycle: u32) -> Sending
 fn bit_over(buffer: Buffer, frame: Frame, bit: u32, cycle: u32) -> Sending
     requires bit { IsBit bit }
     requires cycle { cycle < MOST_CYCLES }
-    requires place { frame.place ≤ 9 }
     requires index { buffer.index < buffer.count }
     ensures value { result ≡ bit_over buffer frame bit cycle }
     ensures stands { Sends result (cycle + 1) }
@@ -71,9 +85,10 @@ impl Sending {
     pub(crate) fn sent(self, bit: u32, cycle: u32) -> Sending
         requires bit { IsBit bit }
         requires cycle { cycle < MOST_CYCLES }
-        requires stands { Sends self cycle }
+        requires sound { IsSending self }
         ensures value { result ≡ sent self bit cycle }
-        ensures stands { Sends result (cycle + 1) }
+        ensures sound { IsSending result }
+        ensures stands { Sends self cycle → Sends result (cycle + 1) }
     {
         match self {
             Sending::Empty(due) if due == cycle => Sending::Idle,
@@ -94,7 +109,7 @@ impl Sending {
 
     /// What is asked for in a cycle: the byte of a frame in its first one, the end of all in the last one.
     pub(crate) fn put_out(self, cycle: u32) -> Option<EngineRequest>
-        requires { Sends self cycle }
+        requires { IsSending self }
         ensures { result ≡ put_out self cycle }
     {
         match self {
@@ -112,7 +127,8 @@ impl Sending {
 
     /// With the byte that was fetched.
     pub(crate) fn given(self, byte: u8) -> Sending
-        ensures { result ≡ given self byte }
+        ensures value { result ≡ given self byte }
+        ensures sound { IsSending self → IsSending result }
     {
         match self {
             Sending::Bits(buffer, frame) => Sending::Bits(buffer, Frame { byte, ..frame }),
@@ -127,15 +143,18 @@ impl Sending {
         match self {
             Sending::Idle | Sending::Empty(_) => true,
             Sending::Start(_, first) => first != cycle,
-            Sending::Bits(_, frame) => {
-                if frame.place == 0 {
-                    false
-                } else if frame.place < 9 {
-                    has_bit(frame.byte, frame.place - 1)
-                } else {
-                    true
-                }
-            }
+            Sending::Bits(_, frame) => frame.bit(),
+        }
+    }
+
+    /// What TX is in the cycle of the next turn, where a frame that is to begin begins in that one.
+    pub(crate) fn next_line(self) -> bool
+        ensures { result ≡ next_line self }
+    {
+        match self {
+            Sending::Idle | Sending::Empty(_) => true,
+            Sending::Start(..) => false,
+            Sending::Bits(_, frame) => frame.bit(),
         }
     }
 

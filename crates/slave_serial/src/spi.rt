@@ -8,7 +8,7 @@ ghost use Rattle.slave_serial.specs.Pins.{output, wires_of};
 ghost use Rattle.slave_serial.specs.declared.transaction.Transaction.TheVariants as transactions;
 ghost use Rattle.slave_serial.specs.Spi.{spi, idle_in, waits_done, is_busy, opened, stopped, turn_from, with_byte, Stands};
 
-use crate::transaction::{Spi, Transaction, Wires};
+use crate::transaction::{Spi, Wires};
 use sim_base::{Drive, Level, MOST_CYCLES, reads_one};
 use slave_law::{Asked, EngineRequest, Wants};
 use std::marker::Model;
@@ -46,12 +46,7 @@ impl SpiEngine {
         ensures { result ≡ record { slave = idle_in mode; held = record { sck = false; mosi = false }; next = 0; asks = []; wants = wants.Nothing } }
     {
         SpiEngine {
-            slave: Spi {
-                cpol: mode / 2 == 1,
-                cpha: mode % 2 == 1,
-                miso: None,
-                transaction: Transaction::Idle,
-            },
+            slave: Spi::new(mode),
             wires: Wires {
                 sck: false,
                 mosi: false,

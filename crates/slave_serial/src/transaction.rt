@@ -3,7 +3,7 @@ ghost use Rattle.std.specs.Prelude.{◌≡◌, ℕ, ◌+◌, ◌-◌, ◌<◌, �
 ghost use Rattle.std.specs.Option.{option_to_list};
 ghost use Rattle.unit_law.specs.Bits.{with_bit};
 ghost use Rattle.slave_serial.specs.declared.transaction.Transaction.TheVariants as transactions;
-ghost use Rattle.slave_serial.specs.Spi.{is_away, leads, trails, reads_bit, presents, fresh, with_read, loaded, byte_over, bit_read, moved, spi_step, next_turn, opened, stopped, with_byte, is_open, Stands};
+ghost use Rattle.slave_serial.specs.Spi.{idle_in, is_away, leads, trails, reads_bit, presents, fresh, with_read, loaded, byte_over, bit_read, moved, spi_step, next_turn, opened, opens_in, is_opening, stopped, with_byte, is_open, IsTransaction, Stands};
 
 use crate::buffer::Buffer;
 use sim_base::MOST_CYCLES;
@@ -69,6 +69,20 @@ impl Shift {
 }
 
 impl Spi {
+    /// An idle one in a mode from 0 to 3: CPOL is its bit 1, CPHA its bit 0.
+    pub fn new(mode: u8) -> Spi
+        requires mode { mode < 4 }
+        ensures value { result ≡ idle_in mode }
+        ensures sound { IsTransaction result.transaction }
+    {
+        Spi {
+            cpol: mode / 2 == 1,
+            cpha: mode % 2 == 1,
+            miso: None,
+            transaction: Transaction::Idle,
+        }
+    }
+
     // Whether SCK stands away from CPOL.
     fn is_away(&self, sck: bool) -> bool
         ensures { result ≡ is_away self.now.cpol sck }
@@ -109,16 +123,17 @@ impl Spi {
     }
 
     /// One cycle, from what the wires read in the cycle before and read in this one: what it asks for, in this order.
-    pub(crate) fn step(
+    pub fn step(
         &mut self,
         cycle: u32,
         before: Wires,
         now: Wires,
     ) -> (Option<EngineRequest>, Option<EngineRequest>)
-        requires stands { Stands self.old.transaction cycle }
+        requires sound { IsTransaction self.old.transaction }
         ensures asks { option_to_list result.0 ++ option_to_list result.1 ≡ (spi_step self.old cycle before now).1 }
         ensures state { self.new ≡ (spi_step self.old cycle before now).0 }
-        ensures stands { Stands self.new.transaction (cycle + 1) }
+        ensures sound { IsTransaction self.new.transaction }
+        ensures stands { Stands self.old.transaction cycle → Stands self.new.transaction (cycle + 1) }
     {
         let reads = self.reads_bit(before, now);
         let presents = self.presents(before, now);
@@ -132,10 +147,11 @@ impl Spi {
         presents: bool,
         mosi: bool,
     ) -> (Option<EngineRequest>, Option<EngineRequest>)
-        requires stands { Stands self.old.transaction cycle }
+        requires sound { IsTransaction self.old.transaction }
         ensures asks { option_to_list result.0 ++ option_to_list result.1 ≡ (moved self.old self.old.transaction cycle reads presents mosi).1 }
         ensures state { self.new ≡ (moved self.old self.old.transaction cycle reads presents mosi).0 }
-        ensures stands { Stands self.new.transaction (cycle + 1) }
+        ensures sound { IsTransaction self.new.transaction }
+        ensures stands { Stands self.old.transaction cycle → Stands self.new.transaction (cycle + 1) }
     {
         match self.transaction {
             Transaction::Opening(buffer, turn) if turn == cycle => {
@@ -225,7 +241,7 @@ impl Spi {
     }
 
     /// A call of `count` bytes, whose first turn is that of this cycle.
-    pub(crate) fn begin(&mut self, count: u32, turn: u32)
+    pub fn begin(&mut self, count: u32, turn: u32)
         requires count { 0 < count }
         ensures state { self.new ≡ opened self.old count turn }
         ensures stands { (t : ℕ) → t ≤ turn → Stands self.new.transaction t }
@@ -238,9 +254,33 @@ impl Spi {
         };
     }
 
+    /// A transaction that waits for its first turn has it in this cycle.
+    pub fn open_in(&mut self, turn: u32)
+        ensures state { self.new ≡ record self.old { transaction = opens_in self.old.transaction turn } }
+        ensures sound { IsTransaction self.old.transaction → IsTransaction self.new.transaction }
+    {
+        if let Transaction::Opening(buffer, _) = self.transaction {
+            self.transaction = Transaction::Opening(buffer, turn);
+        }
+    }
+
+    /// Whether a transaction waits for its first turn.
+    pub fn is_opening(&self) -> bool
+        ensures { result ≡ is_opening self.now.transaction }
+    {
+        match self.transaction {
+            Transaction::Opening(..) => true,
+            Transaction::Idle
+            | Transaction::Between(_)
+            | Transaction::Shifting(..)
+            | Transaction::Stopped(..) => false,
+        }
+    }
+
     /// It is stopped: no edge counts any more, and `Done` comes in this cycle's turn.
-    pub(crate) fn stop(&mut self, turn: u32)
+    pub fn stop(&mut self, turn: u32)
         ensures state { self.new ≡ record self.old { transaction = stopped self.old.transaction turn } }
+        ensures sound { IsTransaction self.old.transaction → IsTransaction self.new.transaction }
         ensures stands { (t : ℕ) → t ≤ turn → Stands self.old.transaction t → Stands self.new.transaction t }
     {
         self.transaction = match self.transaction {
@@ -253,8 +293,9 @@ impl Spi {
     }
 
     /// With the byte that was fetched: its first bit is presented.
-    pub(crate) fn give(&mut self, value: u8)
+    pub fn give(&mut self, value: u8)
         ensures state { self.new ≡ with_byte self.old self.old.transaction value }
+        ensures sound { IsTransaction self.old.transaction → IsTransaction self.new.transaction }
     {
         if let Transaction::Shifting(buffer, shift) = self.transaction {
             self.miso = Some(has_bit(value, 7));
@@ -269,7 +310,7 @@ impl Spi {
     }
 
     /// The cycle in whose turn it goes on though SCK stays.
-    pub(crate) fn next_turn(&self) -> Option<u32>
+    pub fn next_turn(&self) -> Option<u32>
         ensures { result ≡ next_turn self.now.transaction }
     {
         match self.transaction {
@@ -278,7 +319,7 @@ impl Spi {
         }
     }
 
-    pub(crate) fn is_open(&self) -> bool
+    pub fn is_open(&self) -> bool
         ensures { result ≡ is_open self.now.transaction }
     {
         match self.transaction {

@@ -7,11 +7,9 @@ ghost use Rattle.slave_law.specs.Slave.{MayCome, IsFirstDue, turned, edged, aske
 ghost use Rattle.slave_serial.specs.Pins.{output, rx_of};
 ghost use Rattle.slave_serial.specs.Reception.{IsBit, Receives};
 ghost use Rattle.slave_serial.specs.Sending.{Sends, line};
-ghost use Rattle.slave_serial.specs.declared.sending.Sending.TheVariants as sendings;
-ghost use Rattle.slave_serial.specs.Uart.{Uart, uart, waits_sent, is_busy, started, with_byte};
+ghost use Rattle.slave_serial.specs.Uart.{uart, idle_uart, waits_sent, is_busy, begins, with_byte};
 
-use crate::reception::{Reception, next_sample, received, taken_in};
-use crate::sending::{Sending, begun};
+use crate::transceiver::Uart;
 use sim_base::{Drive, Level, MOST_CYCLES, reads_one};
 use slave_law::{Asked, EngineRequest, Wants};
 use std::marker::Model;
@@ -20,9 +18,7 @@ use unit_law::{or_end, within_run};
 /// A UART of 8 data bits, no parity and one stop bit, before its turn of cycle `next`.
 #[derive(Drop)]
 pub struct UartEngine {
-    bit: u32,
-    reception: Option<Reception>,
-    sending: Sending,
+    slave: Uart,
     rx: bool,
     next: u32,
     asked: Asked,
@@ -35,25 +31,23 @@ impl Model for UartEngine {
     ghost use Rattle.slave_law.specs.Slave.{SlaveAt};
     ghost use Rattle.slave_serial.specs.Reception.{IsBit, Receives};
     ghost use Rattle.slave_serial.specs.Sending.{Sends};
-    ghost use Rattle.slave_serial.specs.Uart.{Uart};
+    ghost use Rattle.slave_serial.specs.declared.transceiver.Uart.{Uart};
 
     ghost Value = { SlaveAt Uart Bool };
 
-    ghost view = { λ u. record { slave = record { bit = u.bit; reception = u.reception; sending = u.sending }; held = u.rx; next = u.next; asks = option_to_list u.asked.later; wants = u.asked.wants } };
+    ghost view = { λ u. record { slave = u.slave; held = u.rx; next = u.next; asks = option_to_list u.asked.later; wants = u.asked.wants } };
 
-    ghost invariant = { λ u. record { end : u.next ≤ MOST_CYCLES; bit : IsBit u.bit; sends : Sends u.sending u.next; receives : Receives u.reception u.next } };
+    ghost invariant = { λ u. record { end : u.next ≤ MOST_CYCLES; bit : IsBit u.slave.bit; sends : Sends u.slave.sending u.next; receives : Receives u.slave.reception u.next } };
 }
 
 impl UartEngine {
     /// An idle one, whose bits have this many cycles: 2 to 16,000,000.
     pub fn new(bit: u32) -> UartEngine
         requires { IsBit bit }
-        ensures { result ≡ record { slave = record { bit = bit; reception = None; sending = sendings.Idle }; held = false; next = 0; asks = []; wants = wants.Nothing } }
+        ensures { result ≡ record { slave = idle_uart bit; held = false; next = 0; asks = []; wants = wants.Nothing } }
     {
         UartEngine {
-            bit,
-            reception: None,
-            sending: Sending::Idle,
+            slave: Uart::new(bit),
             rx: false,
             next: 0,
             asked: Asked::nothing(),
@@ -82,10 +76,7 @@ impl UartEngine {
         ensures request { result ≡ first_of (uart.step self.old.slave t self.old.held rx).1 }
         ensures state { self.new ≡ turned uart self.old self.old.slave t rx }
     {
-        let first = taken_in(self.reception, t, rx);
-        let second = self.sending.put_out(t);
-        self.reception = received(self.reception, self.bit, t, self.rx, rx);
-        self.sending = self.sending.sent(self.bit, t);
+        let (first, second) = self.slave.step(t, self.rx, rx);
         self.rx = rx;
         self.next = t + 1;
         self.asked.ask(first, second)
@@ -95,14 +86,14 @@ impl UartEngine {
     pub fn due(&self) -> Option<u32>
         ensures { IsFirstDue uart self.now.slave self.now.held self.now.next result }
     {
-        within_run(or_end(self.sending.bit_end()).min(or_end(next_sample(self.reception))))
+        within_run(or_end(self.slave.bit_end()).min(or_end(self.slave.next_sample())))
     }
 
     /// What it drives TX to in the cycle of its next turn.
     pub fn drive(&self) -> Option<Drive>
         ensures { result ≡ Some (output (line self.now.slave.sending self.now.next)) }
     {
-        Some(if self.sending.line(self.next) {
+        Some(if self.slave.sending.line(self.next) {
             Drive::High
         } else {
             Drive::Low
@@ -114,7 +105,7 @@ impl UartEngine {
         requires { self.old.wants ≡ wants.Byte }
         ensures { self.new ≡ record self.old { slave = with_byte self.old.slave value; wants = wants.Nothing } }
     {
-        self.sending = self.sending.given(value);
+        self.slave.give(value);
         self.asked.close();
     }
 
@@ -123,19 +114,19 @@ impl UartEngine {
         requires end { t < MOST_CYCLES }
         requires forward { self.old.next ≤ t + 1 }
         ensures idle { result ≡ not (is_busy self.old) }
-        ensures state { self.new ≡ (if is_busy self.old then self.old else started self.old t count) }
+        ensures state { self.new ≡ (if is_busy self.old then self.old else record self.old { slave = begins self.old.slave t count }) }
     {
         if self.is_busy() {
             return false;
         }
-        self.sending = begun(count, t);
+        self.slave.begin(t, count);
         true
     }
 
     fn is_busy(&self) -> bool
         ensures { result ≡ is_busy self.now }
     {
-        self.sending.is_sending() | waits_sent(self.asked.later)
+        self.slave.is_sending() | waits_sent(self.asked.later)
     }
 }
 

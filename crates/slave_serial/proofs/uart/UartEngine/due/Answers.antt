@@ -10,5 +10,5 @@ pub returns : goal.returns
 returns c = first_by (the_view c.self.inside) c.args.self.now c.self.view_is c.within_run.result
     (c.within_run.ensures ∙ ap within_run (c.min.ensures
     ∙ ap (λ x. min x c.or_end-2.result) (c.or_end.ensures ∙ ap or_end c.bit_end.ensures)
-    ∙ ap (min (or_end (bit_end c.self.inside.sending))) (c.or_end-2.ensures ∙ ap or_end c.next_sample.ensures)))
+    ∙ ap (min (or_end (bit_end c.self.inside.slave.sending))) (c.or_end-2.ensures ∙ ap or_end c.next_sample.ensures)))
     c.self.invariant.end c.self.invariant.sends c.self.invariant.receives

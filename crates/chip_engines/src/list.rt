@@ -1,0 +1,93 @@
+//! The engines of a chip: a list of places, with an engine or none at each.
+ghost use Rattle.std.specs.Prelude.{◌≡◌, ◌<◌, ◌≤◌, IfSome, length, option_map};
+ghost use Rattle.std.specs.List.{position_from};
+ghost use Rattle.chip_engines.specs.Engine.{driven, is_free, place_drives};
+ghost use Rattle.chip_engines.specs.FirstDue.{first_serial, first_at, first_engine};
+
+use crate::due::{due_from, earlier};
+use crate::engine::Engine;
+use crate::serial::Serial;
+use sim_base::Drive;
+
+fn wide(cycle: Option<u32>) -> Option<u64>
+    ensures { result ≡ cycle }
+{
+    match cycle {
+        Some(cycle) => Some(u64::from(cycle)),
+        None => None,
+    }
+}
+
+fn first_serial(serial: Serial, from: u32) -> Option<u32>
+    ensures { result ≡ first_serial from serial }
+{
+    match serial {
+        Serial::Uart(uart) => earlier(
+            due_from(from, wide(uart.bit_end())),
+            due_from(from, wide(uart.next_sample())),
+        ),
+        Serial::Spi(spi) => {
+            if spi.is_opening() {
+                due_from(from, Some(u64::from(from)))
+            } else {
+                due_from(from, wide(spi.next_turn()))
+            }
+        }
+        Serial::I2c(_) => None,
+    }
+}
+
+fn first_at(place: Option<Engine>, from: u32) -> Option<u32>
+    ensures { result ≡ first_at from place }
+{
+    match place {
+        Some(engine) => first_serial(engine.serial, from),
+        None => None,
+    }
+}
+
+/// The first cycle from one on, and below the end, in which an engine has an event though no level changes.
+pub fn first_engine(places: &[Option<Engine>], from: u32) -> Option<u32>
+    ensures { result ≡ first_engine from places.now }
+{
+    match places {
+        [] => None,
+        [place, rest @ ..] => earlier(first_at(*place, from), first_engine(rest, from)),
+    }
+}
+
+fn place_drives(place: Option<Engine>, pin: u32) -> Option<Drive>
+    ensures { result ≡ place_drives pin place }
+{
+    match place {
+        Some(engine) => engine.drives(pin),
+        None => None,
+    }
+}
+
+/// What the first engine that drives a pin drives it to.
+pub fn driven(places: &[Option<Engine>], pin: u32) -> Option<Drive>
+    ensures { result ≡ driven pin places.now }
+{
+    match places {
+        [] => None,
+        [place, rest @ ..] => match place_drives(*place, pin) {
+            Some(drive) => Some(drive),
+            None => driven(rest, pin),
+        },
+    }
+}
+
+/// The first place without an engine.
+pub fn free(places: &[Option<Engine>]) -> Option<u32>
+    requires { length places.now ≤ 8 }
+    ensures place { result ≡ position_from is_free 0 places.now }
+    ensures within { IfSome result (λ i. i < length places.now) }
+{
+    for i in 0..places.len() {
+        if places[i].is_none() {
+            return Some(i as u32);
+        }
+    }
+    None
+}
