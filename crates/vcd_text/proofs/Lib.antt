@@ -1,4 +1,7 @@
 pub mod CallerLemmas
 mod ChainLemmas
+mod ReadLemmas
+mod ReadingLemmas
+mod TrackLemmas
 mod WaveLemmas
 mod WriterLemmas

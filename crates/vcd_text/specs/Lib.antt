@@ -1,6 +1,10 @@
 pub mod Buffers
 pub mod Chains
 pub mod Heads
+pub mod Lines
 pub mod Ports
+pub mod Reading
+pub mod TrackStates
+pub mod Tracks
 pub mod Variables
 pub mod Writers

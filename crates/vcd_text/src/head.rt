@@ -4,7 +4,7 @@ ghost use Rattle.std.specs.List.{list_any};
 ghost use Rattle.text_model.specs.Wave.{time_line};
 ghost use Rattle.vcd_text.specs.Variables.{variables_of};
 ghost use Rattle.vcd_text.specs.Heads.{gathered, after_row, changed_by};
-ghost use Rattle.text_model.specs.Wave.{Net};
+ghost use Rattle.text_model.specs.Wave.{Net, head};
 ghost use Rattle.vcd_text.specs.Chains.{HasSeen, AreNets, sources, values_at};
 ghost use Rattle.sim_base.specs.Rows.{AreBut};
 ghost use Rattle.sim_base.specs.declared.signal.Level.{Level};
@@ -122,6 +122,19 @@ impl WaveHead {
             text,
             started: false,
         })
+    }
+
+    pub(crate) fn variables(&self) -> &[Variable]
+        ensures { variables_of result.now ≡ self.now.variables }
+    {
+        self.variables.as_slice()
+    }
+
+    /// The text of the head.
+    pub fn head_bytes(&self) -> &[u8]
+        ensures { result.now ≡ head self.now.variables }
+    {
+        &self.head_bytes
     }
 
     /// Makes the next row the first one, and keeps no text.

@@ -10,10 +10,15 @@ mod changes;
 mod declarations;
 mod follow;
 mod head;
+mod line;
+mod read;
+mod tracks;
 mod value;
 mod variable;
 mod writer;
 
 pub use head::WaveHead;
+pub use read::read_wave;
+pub use tracks::DriveRows;
 pub use variable::{Source, Variable};
 pub use writer::WaveWriter;

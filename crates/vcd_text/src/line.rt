@@ -1,0 +1,219 @@
+//! One line of a wave that is read.
+ghost use Rattle.std.specs.Prelude.{◌≡◌, ◌≤◌, ◌+◌, ◌*◌, true, min, Some, if◌then◌else◌, List, ℕ};
+ghost use Rattle.std.specs.List.{list_all};
+ghost use Rattle.std.specs.Char.{digit_value, is_ascii_digit};
+ghost use Rattle.numerals.specs.Numerals.{value_of};
+ghost use Rattle.text_model.specs.Wave.{Variable as WaveVariable};
+ghost use Rattle.sim_base.specs.declared.limits.TheConstants.{MOST_CYCLES};
+ghost use Rattle.vcd_text.specs.Variables.{source_of, variables_of};
+ghost use Rattle.std.specs.Str.{bytes_eq};
+ghost use Rattle.sim_base.specs.Refusals.{WaveLine};
+ghost use Rattle.vcd_text.specs.Reading.{is_decimal, is_printable, is_value, judged, number_of, shows_net, time_said, value_of_number, value_said, verdict, behind_value, is_over};
+ghost use Rattle.vcd_text.specs.Lines.{latest, IsFitting};
+
+use crate::variable::{Source, Variable};
+use sim_base::refusals::{WAVE_LINE, WAVE_NAME, WAVE_TIME};
+
+/// What may come next in a wave behind its head.
+#[derive(Clone, Copy, Debug, PartialEq, Eq)]
+pub enum Stage {
+    /// `#0`.
+    Start,
+    /// `$dumpvars`.
+    Dump,
+    /// An initial value, or `$end`.
+    Initial,
+    /// A time.
+    Ended,
+    /// A value.
+    Opened,
+    /// A value or a time.
+    Changed,
+}
+
+/// What a line says.
+#[derive(Clone, Copy, Debug, PartialEq, Eq)]
+pub enum Line {
+    /// What may come next, and nothing else.
+    Goes(Stage),
+    /// The time of a cycle.
+    Time(u32),
+    /// A variable, by its number, has a value.
+    Value(usize, u8),
+    /// The number of the first rule that it breaks.
+    Faulty(u8),
+}
+
+/// More than any time of a run, in 100 ps.
+const LATEST: u64 = 1_000_000_000_000;
+
+fn are_digits(text: &[u8]) -> bool
+    ensures { result ≡ list_all is_ascii_digit text.now }
+{
+    text.iter().all(|d| d.is_ascii_digit())
+}
+
+fn is_decimal(digits: &[u8]) -> bool
+    ensures { result ≡ is_decimal digits.now }
+{
+    match digits {
+        [] => false,
+        [first, rest @ ..] => (*first != b'0' || rest.is_empty()) && are_digits(digits),
+    }
+}
+
+/// A number with one digit more, or a greater one than any time where it is that great.
+fn with_digit(n: u64, digit: u8) -> u64
+    requires digit { is_ascii_digit digit ≡ true }
+    requires early { n ≤ latest }
+    ensures number { result ≡ min latest (10 * n + digit_value digit) }
+    ensures early { result ≤ latest }
+{
+    LATEST.min(10 * n + u64::from(digit - b'0'))
+}
+
+/// The number of digits, or a greater one than any time where it is that great.
+fn number(digits: &[u8]) -> u64
+    requires { list_all is_ascii_digit digits.now ≡ true }
+    ensures { result ≡ min latest (value_of 10 digits.now) }
+{
+    let mut n: u64 = 0;
+    for d in digits {
+        n = with_digit(n, *d);
+    }
+    n
+}
+
+fn judge(n: u32, cycle: u32, time: u64) -> Line
+    requires { n ≤ MOST_CYCLES }
+    ensures judged { result ≡ judged n cycle time }
+    ensures fits { (variables : List WaveVariable) → IsFitting variables n cycle result }
+{
+    if time % 625 == 0 && 625 * u64::from(cycle) < time && time <= 625 * u64::from(n) {
+        Line::Time((time / 625) as u32)
+    } else {
+        Line::Faulty(WAVE_TIME)
+    }
+}
+
+fn read_time(n: u32, cycle: u32, line: &[u8]) -> Line
+    requires { n ≤ MOST_CYCLES }
+    ensures said { result ≡ time_said n cycle line.now }
+    ensures fits { (variables : List WaveVariable) → IsFitting variables n cycle result }
+{
+    match line {
+        [b'#', digits @ ..] if is_decimal(digits) => judge(n, cycle, number(digits)),
+        _ => Line::Faulty(WAVE_LINE),
+    }
+}
+
+fn is_value(value: u8) -> bool
+    ensures { result ≡ is_value value }
+{
+    matches!(value, b'0' | b'1' | b'x' | b'z')
+}
+
+fn is_printable(b: u8) -> bool
+    ensures { result ≡ is_printable b }
+{
+    33 <= b && b < 127
+}
+
+/// The number of the variable that has an identifier code.
+fn number_of(code: &[u8]) -> Option<usize>
+    ensures { result ≡ number_of code.now }
+{
+    match code {
+        [a] if is_printable(*a) => Some(usize::from(*a - 33)),
+        [a, b] if is_printable(*a) && is_printable(*b) => {
+            Some(94 + (94 * usize::from(*a - 33) + usize::from(*b - 33)))
+        }
+        _ => None,
+    }
+}
+
+fn shows_net(shows: Source) -> bool
+    ensures { result ≡ shows_net (source_of shows) }
+{
+    matches!(shows, Source::Net(_))
+}
+
+fn value_of_number(variables: &[Variable], value: u8, i: usize) -> Line
+    ensures said { result ≡ value_of_number (variables_of variables.now) value (Some i) }
+    ensures fits { (n cycle : ℕ) → IsFitting (variables_of variables.now) n cycle result }
+{
+    if i >= variables.len() {
+        return Line::Faulty(WAVE_NAME);
+    }
+    if value == b'x' && !shows_net(variables[i].shows) {
+        return Line::Faulty(WAVE_LINE);
+    }
+    Line::Value(i, value)
+}
+
+fn read_value(variables: &[Variable], line: &[u8]) -> Line
+    ensures said { result ≡ value_said (variables_of variables.now) line.now }
+    ensures fits { (n cycle : ℕ) → IsFitting (variables_of variables.now) n cycle result }
+{
+    match line {
+        [value, code @ ..] if is_value(*value) => match number_of(code) {
+            Some(i) => value_of_number(variables, *value, i),
+            None => Line::Faulty(WAVE_LINE),
+        },
+        _ => Line::Faulty(WAVE_LINE),
+    }
+}
+
+/// A line that has to be a certain text.
+fn exactly(line: &[u8], text: &[u8], next: Stage) -> Line
+    ensures said { result ≡ (if bytes_eq line.now text.now then Line.Goes next else Line.Faulty WaveLine) }
+    ensures fits { (variables : List WaveVariable) (n cycle : ℕ) → IsFitting variables n cycle result }
+{
+    if line == text {
+        Line::Goes(next)
+    } else {
+        Line::Faulty(WAVE_LINE)
+    }
+}
+
+/// What a line says in a stage, behind the time of a cycle, in a wave of `n` cycles.
+pub(crate) fn read_line(
+    variables: &[Variable],
+    n: u32,
+    stage: Stage,
+    cycle: u32,
+    line: &[u8],
+) -> Line
+    requires { n ≤ MOST_CYCLES }
+    ensures said { result ≡ verdict (variables_of variables.now) n stage cycle line.now }
+    ensures fits { IsFitting (variables_of variables.now) n cycle result }
+{
+    match stage {
+        Stage::Start => exactly(line, b"#0", Stage::Dump),
+        Stage::Dump => exactly(line, b"$dumpvars", Stage::Initial),
+        Stage::Initial if line == b"$end".as_slice() => Line::Goes(Stage::Ended),
+        Stage::Ended => read_time(n, cycle, line),
+        Stage::Changed if line.starts_with(b"#") => read_time(n, cycle, line),
+        Stage::Initial | Stage::Opened | Stage::Changed => read_value(variables, line),
+    }
+}
+
+/// What may come behind a value.
+pub(crate) fn behind_value(stage: Stage) -> Stage
+    ensures { result ≡ behind_value stage }
+{
+    match stage {
+        Stage::Initial => Stage::Initial,
+        _ => Stage::Changed,
+    }
+}
+
+/// Whether the last line was the time of the run's end.
+pub(crate) fn is_over(n: u32, stage: Stage, cycle: u32) -> bool
+    ensures { result ≡ is_over n stage cycle }
+{
+    match stage {
+        Stage::Opened => cycle == n,
+        _ => false,
+    }
+}
