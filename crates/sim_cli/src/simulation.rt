@@ -76,15 +76,18 @@ pub fn simulate<B: Bench, L: Ledger>(
     ensures answered { IsAnswered result (request_of (map string_bytes words.now)) (B.outside bench.old) (B.outside bench.new) }
     ensures complete { IsComplete result (request_of (map string_bytes words.now)) (B.outside bench.old) (B.outside bench.new) }
     ensures holds { HoldsAnswer result (request_of (map string_bytes words.now)) (B.outside bench.old) (B.outside bench.new) }
-    ensures played { HoldsPlay result (request_of (map string_bytes words.now)) (B.outside bench.old) (B.outside bench.new) }
-    ensures alone { HoldsAlone result (request_of (map string_bytes words.now)) (B.outside bench.old) (B.outside bench.new) }
-    ensures worlds { HoldsWorlds result (request_of (map string_bytes words.now)) (B.outside bench.old) (B.outside bench.new) }
     ensures stopped { IsStopped result (request_of (map string_bytes words.now)) (B.outside bench.old) (B.outside bench.new) }
     ensures true_stop { IsTrueStop result (request_of (map string_bytes words.now)) (B.outside bench.old) }
     ensures cause { HasCause result (B.outside bench.old) (B.outside bench.new) }
     ensures front { HoldsFront result (request_of (map string_bytes words.now)) (B.outside bench.old) (B.outside bench.new) }
     ensures steps { CountsWakes result (request_of (map string_bytes words.now)) (B.outside bench.old) steps.old steps.new }
     ensures silent { ComplainsAlone result (B.outside bench.old) (B.outside bench.new) }
+
+    // And of a run, whatever its chips do: players may stand for them, each drives by its own pins alone,
+    // and what they are made of is seen through their drives alone.
+    ensures played { HoldsPlay result (request_of (map string_bytes words.now)) (B.outside bench.old) (B.outside bench.new) }
+    ensures alone { HoldsAlone result (request_of (map string_bytes words.now)) (B.outside bench.old) (B.outside bench.new) }
+    ensures worlds { HoldsWorlds result (request_of (map string_bytes words.now)) (B.outside bench.old) (B.outside bench.new) }
 {
     let outcome = work(alloc, words, bench, steps);
     let _end = tell(&outcome, bench);
