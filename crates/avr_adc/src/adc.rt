@@ -7,7 +7,7 @@ ghost use Rattle.avr_adc.specs.Adc.{divisor, end_of, begun, value_of, sampled, e
 use crate::registers::{ADATE, ADEN, ADIE, ADIF, ADLAR, ADSC, Register, named, register_at};
 use sim_base::{Level, MOST_CYCLES};
 use std::marker::Model;
-use unit_law::{Pad, Request, Unit, has_bit, least, one, or_end, with_bit, within_run};
+use unit_law::{PORT_PINS, Pad, Request, Unit, has_bit, least, one, or_end, with_bit, within_run};
 
 /// A conversion on the way: the cycle in whose step it ends, and its channel.
 #[derive(Clone, Copy, Debug, PartialEq, Eq)]
@@ -240,7 +240,7 @@ impl Adc {
 
     // The step of its cycle.
     fn end_here(&mut self, levels: &[Level])
-        requires levels { length levels.now ≡ 20 }
+        requires levels { length levels.now ≡ PORT_PINS }
         requires end { self.old.cycle < MOST_CYCLES }
         ensures state { self.new ≡ record self.old { unit = stepped self.old.unit self.old.unit.conversion self.old.cycle levels.now } }
         ensures later { IsAhead (end_of self.new.unit.conversion) (self.old.cycle + 1) }
@@ -253,7 +253,7 @@ impl Adc {
     }
 
     fn end(&mut self, conversion: Conversion, levels: &[Level])
-        requires levels { length levels.now ≡ 20 }
+        requires levels { length levels.now ≡ PORT_PINS }
         requires end { self.old.cycle < MOST_CYCLES }
         ensures state { self.new ≡ record self.old { unit = ended self.old.unit conversion self.old.cycle levels.now } }
         ensures later { IsAhead (end_of self.new.unit.conversion) (self.old.cycle + 1) }
@@ -332,7 +332,7 @@ fn value_of(level: Level) -> u16
 }
 
 fn sampled(levels: &[Level], channel: u8) -> u16
-    requires { length levels.now ≡ 20 }
+    requires { length levels.now ≡ PORT_PINS }
     ensures value { result ≡ sampled levels.now channel }
     ensures short { result < 1024 }
 {

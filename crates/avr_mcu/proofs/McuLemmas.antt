@@ -17,10 +17,12 @@ use Rattle.avr_core.specs.CoreState.{Core}
 use Rattle.avr_core.specs.AvrStep.{Did}
 use Rattle.avr_core.proofs.BusLemmas.{step_leads, entered_leads}
 use Rattle.unit_law.specs.Bits.{with_bit}
+use Rattle.unit_law.specs.declared.pins.TheConstants.{PORT_PINS}
 use Rattle.unit_law.specs.UnitMachine.{UnitMachine, least, steps, FirstDue}
 use Rattle.unit_law.specs.UnitMachine as unit
 use Rattle.unit_law.proofs.UnitLemmas.{step_none, step_last, quiet_requests}
-use Rattle.avr_mcu.specs.Units.{Units, UnitsAt, unit_bus, pins, request, units_step, plain, with_plain, with_register, data_at, touches, bit_touches, pins_of, touched_by}
+use Rattle.avr_mcu.specs.declared.pins.TheConstants.{UNO_PINS}
+use Rattle.avr_mcu.specs.Units.{Units, UnitsAt, unit_bus, pins, request, units_step, plain, with_plain, with_register, data_at, touches, bit_touches, pins_of, pins_of_bit, touched_by}
 use Rattle.avr_mcu.proofs.ReachLemmas.{Reaches}
 use Rattle.avr_mcu.specs.McuOf.{Mcu, mcu, mcu_step, ready, enters, starts, performed, acted, core_acted, uno_drive, uno_drives}
 use Rattle.avr_mcu.specs.McuLawsOf.{drive_same, drives_same, length-uno_drives, rests}
@@ -47,15 +49,15 @@ or_two false b h k = k
 
 module _ {D : Type 0} (m : UnitMachine D) (laws : unit.Laws m) where
   -- the drive of one pin of the Uno
-  pub drive_at : (u : D) (p : ℕ) (d : Drive) → p < 31 → d ≡ uno_drive m u p → slice_get (uno_drives m u) p ≡ Some d
+  pub drive_at : (u : D) (p : ℕ) (d : Drive) → p < UNO_PINS → d ≡ uno_drive m u p → slice_get (uno_drives m u) p ≡ Some d
   unfolding uno_drives
   drive_at u p d h e =
-      let l : p < length (map (uno_drive m u) (range_with_len 0 31)) = omega (arith, length-map-range_with_len (uno_drive m u) 0 31) in
+      let l : p < length (map (uno_drive m u) (range_with_len 0 UNO_PINS)) = omega (arith, length-map-range_with_len (uno_drive m u) 0 UNO_PINS) in
       let z : 0 + p ≡ p = omega arith in
-      slice_get-get_or (map (uno_drive m u) (range_with_len 0 31)) p drives.Z l ∙ ap (λ (x : Drive). Some x) (get_or-map-range_with_len (uno_drive m u) 0 31 p p drives.Z h z ∙ sym e)
+      slice_get-get_or (map (uno_drive m u) (range_with_len 0 UNO_PINS)) p drives.Z l ∙ ap (λ (x : Drive). Some x) (get_or-map-range_with_len (uno_drive m u) 0 UNO_PINS p p drives.Z h z ∙ sym e)
 
-  drive_get : (u v : D) (p : ℕ) → (p < 20 → m.pad u p ≡ m.pad v p) → slice_get (uno_drives m u) p ≡ slice_get (uno_drives m v) p
-  drive_get u v p h = elim (lt_or p 31) [
+  drive_get : (u v : D) (p : ℕ) → (p < PORT_PINS → m.pad u p ≡ m.pad v p) → slice_get (uno_drives m u) p ≡ slice_get (uno_drives m v) p
+  drive_get u v p h = elim (lt_or p UNO_PINS) [
     | inl less ↦ drive_at u p (uno_drive m u p) less refl ∙ sym (drive_at v p (uno_drive m u p) less (drive_same m u v p h))
     | inr more ↦
         let none : (w : D) → slice_get (uno_drives m w) p ≡ None = λ w. slice_get_past (uno_drives m w) p (omega (arith, length-uno_drives m w, more)) in
@@ -70,7 +72,7 @@ module _ {D : Type 0} (m : UnitMachine D) (laws : unit.Laws m) where
     pub record Leads (s x : UnitsAt D) : Type 0 where
       pub cycle : x.cycle ≡ s.cycle
       pub held : x.held ≡ s.held
-      pub steady : (p : ℕ) → p < 20 → ¬ IsIn x.touched p → (¬ IsIn s.touched p) × (m.pad x.units.devices p ≡ m.pad s.units.devices p)
+      pub steady : (p : ℕ) → p < PORT_PINS → ¬ IsIn x.touched p → (¬ IsIn s.touched p) × (m.pad x.units.devices p ≡ m.pad s.units.devices p)
 
     leads_same : (s : UnitsAt D) → Leads s s
     leads_same s = record { cycle = refl; held = refl; steady = λ p l out. (out, refl) }
@@ -100,14 +102,14 @@ module _ {D : Type 0} (m : UnitMachine D) (laws : unit.Laws m) where
         by false p = refl
 
     -- a pin that was not touched was not before, and the write moves nothing or does not reach it
-    untouched : (t : Span) (moves : Bool) (a p : ℕ) → ¬ IsIn (touched_by t moves a) p → (¬ IsIn t p) × ((moves ≡ false) ⊎ (¬ IsIn (pins_of a) p))
-    untouched t true a p out = let both = not_joined t (pins_of a) p out in (both.0, inr both.1)
-    untouched t false a p out = (out, inl refl)
+    untouched : (t : Span) (moves : Bool) (reached : Span) (p : ℕ) → ¬ IsIn (touched_by t moves reached) p → (¬ IsIn t p) × ((moves ≡ false) ⊎ (¬ IsIn reached p))
+    untouched t true reached p out = let both = not_joined t reached p out in (both.0, inr both.1)
+    untouched t false reached p out = (out, inl refl)
 
     write_leads : (s : UnitsAt D) (a x : ℕ) → Leads s ((unit_bus m).write s a x)
-    write_leads s a x = record { cycle = refl; held = refl; steady = λ p l out. let e = untouched s.touched (touches m s.units a x) a p out in (e.0, by (nat_lt a 0x0100) (m.has a) (nat_lt a 0x0900) p l e.1) }
+    write_leads s a x = record { cycle = refl; held = refl; steady = λ p l out. let e = untouched s.touched (touches m s.units a x) (pins_of a) p out in (e.0, by (nat_lt a 0x0100) (m.has a) (nat_lt a 0x0900) p l e.1) }
       where
-        by : (b c d : Bool) (p : ℕ) → p < 20 → ((if b then (if c then m.moves s.units.devices a x else false) else false) ≡ false) ⊎ (¬ IsIn (pins_of a) p) →
+        by : (b c d : Bool) (p : ℕ) → p < PORT_PINS → ((if b then (if c then m.moves s.units.devices a x else false) else false) ≡ false) ⊎ (¬ IsIn (pins_of a) p) →
             m.pad (if b then (if c then record (s.units) { devices = m.write s.units.devices s.cycle a x } else with_plain m s.units a x) else if d then record (s.units) { sram = slice_set s.units.sram (a - 0x0100) x } else s.units).devices p ≡ m.pad s.units.devices p
         by true true d p l (inl h) = laws.writes_pad s.units.devices s.cycle a x p h
         by true true d p l (inr h) = reach.writes s.units.devices s.cycle a x p l h
@@ -119,11 +121,11 @@ module _ {D : Type 0} (m : UnitMachine D) (laws : unit.Laws m) where
     bits_lead s a k x = record {
       cycle = refl;
       held = refl;
-      steady = λ p l out. let e = untouched s.touched (bit_touches m s.units a k x) a p out in
+      steady = λ p l out. let e = untouched s.touched (bit_touches m s.units a k x) (pins_of_bit a k) p out in
           (e.0, by (nat_lt a 0x0100) (m.has a) (nat_lt a 0x0900) (with_bit (plain m s.units a) k x) (with_bit (data_at m s.units s.cycle [] a) k x) p l e.1);
     }
       where
-        by : (b c d : Bool) (y z p : ℕ) → p < 20 → ((if b then (if c then m.bit_moves s.units.devices a k x else false) else false) ≡ false) ⊎ (¬ IsIn (pins_of a) p) →
+        by : (b c d : Bool) (y z p : ℕ) → p < PORT_PINS → ((if b then (if c then m.bit_moves s.units.devices a k x else false) else false) ≡ false) ⊎ (¬ IsIn (pins_of_bit a k) p) →
             m.pad (if b then (if c then record (s.units) { devices = m.write_bit s.units.devices s.cycle a k x } else with_plain m s.units a y)
             else if b then with_register m s.units s.cycle a z
             else if d then record (s.units) { sram = slice_set s.units.sram (a - 0x0100) z } else s.units).devices p ≡ m.pad s.units.devices p
@@ -185,7 +187,7 @@ module _ {D : Type 0} (m : UnitMachine D) (laws : unit.Laws m) where
 
   -- the drives after what the core does and a step of the units that change nothing of the pins
   pub wake_drives : (old mid new : D) (touched : Span) (moves : Bool) →
-      ((p : ℕ) → p < 20 → ¬ IsIn touched p → m.pad mid p ≡ m.pad old p) → (moves ≡ false → (p : ℕ) → m.pad new p ≡ m.pad mid p) →
+      ((p : ℕ) → p < PORT_PINS → ¬ IsIn touched p → m.pad mid p ≡ m.pad old p) → (moves ≡ false → (p : ℕ) → m.pad new p ≡ m.pad mid p) →
       (span : Span) → span ≡ (if moves then all_pins else touched) → nat_lt span.from span.to ≡ false → uno_drives m new ≡ uno_drives m old
   wake_drives old mid new touched true did stepped span is none = absurd (let e : nat_lt span.from span.to ≡ true = ap (λ (x : Span). nat_lt x.from x.to) is in cc)
   wake_drives old mid new touched false did stepped span is none =
@@ -193,7 +195,7 @@ module _ {D : Type 0} (m : UnitMachine D) (laws : unit.Laws m) where
 
   -- one of them, where that may change others
   pub wake_drive : (old mid new : D) (touched : Span) (moves : Bool) →
-      ((p : ℕ) → p < 20 → ¬ IsIn touched p → m.pad mid p ≡ m.pad old p) → (moves ≡ false → (p : ℕ) → m.pad new p ≡ m.pad mid p) →
+      ((p : ℕ) → p < PORT_PINS → ¬ IsIn touched p → m.pad mid p ≡ m.pad old p) → (moves ≡ false → (p : ℕ) → m.pad new p ≡ m.pad mid p) →
       (span : Span) → span ≡ (if moves then all_pins else touched) → (p : ℕ) → ¬ IsIn span p → slice_get (uno_drives m new) p ≡ slice_get (uno_drives m old) p
   wake_drive old mid new touched true did stepped span is p out =
       drive_get new old p (λ l. absurd (out (subst (λ (x : Span). IsIn x p) (sym is) (omega arith, omega (arith, l)))))

@@ -5,9 +5,11 @@ use Rattle.std.proofs.lemmas.Bool.Decides.{nat_tests}
 use Rattle.std.proofs.lemmas.List.{length-take-le}
 use Rattle.sim_base.specs.declared.signal.Level.{Level}
 use Rattle.unit_law.specs.UnitMachine.{UnitMachine}
+use Rattle.unit_law.specs.declared.pins.TheConstants.{PORT_PINS}
 use Rattle.part_law.specs.declared.span.Span.{Span}
 use Rattle.part_law.specs.Spans.{no_pins}
-use Rattle.avr_mcu.specs.Units.{UnitsAt, unit_bus, reset, above, with_above, register, with_register, touched_by}
+use Rattle.avr_mcu.specs.declared.pins.TheConstants.{UNO_PINS}
+use Rattle.avr_mcu.specs.Units.{UnitsAt, unit_bus, reset, above, with_above, register, with_register, pins_of, touched_by}
 
 -- v is what the struct shows of its fields, and s what the caller knows
 module _ {D : Type 0} (m : UnitMachine D) (s v : UnitsAt D) (same : v ≡ s) where
@@ -52,7 +54,7 @@ module _ {D : Type 0} (m : UnitMachine D) (s : UnitsAt D) (a : ℕ) (from : 0x01
 
   pub above_write : (x : ℕ) → record s { units = with_above s.units a x } ≡ (unit_bus m).write s a x
   above_write x =
-      sym (ap (λ (b : Bool). record s { units = if b then with_register m s.units s.cycle a x else with_above s.units a x; touched = touched_by s.touched (if b then (if m.has a then m.moves s.units.devices a x else false) else false) a }) no_register)
+      sym (ap (λ (b : Bool). record s { units = if b then with_register m s.units s.cycle a x else with_above s.units a x; touched = touched_by s.touched (if b then (if m.has a then m.moves s.units.devices a x else false) else false) (pins_of a) }) no_register)
 
 -- after reset
 pub units_new : {D : Type 0} (m : UnitMachine D) (d : D) (sram : List ℕ) (ignored : List Bool) (held : List Level) (touched : Span) → d ≡ m.reset → sram ≡ replicate 2048 0 → ignored ≡ replicate 256 false → touched ≡ no_pins →
@@ -61,6 +63,6 @@ units_new {D} m d sram ignored held touched e f g h =
     let by : D → List ℕ → List Bool → Span → UnitsAt D = λ x y z t. record { units = record { devices = x; sram = y; gpior0 = 0; gpior1 = 0; gpior2 = 0; smcr = 0; ignored = z }; held = held; cycle = 0; touched = t } in
     ap (λ (x : D). by x sram ignored touched) e ∙ ap (λ (y : List ℕ). by m.reset y ignored touched) f ∙ ap (λ (z : List Bool). by m.reset (replicate 2048 0) z touched) g ∙ ap (by m.reset (replicate 2048 0) (replicate 256 false)) h
 
--- the first 20 of 31 levels
-pub length-front : (l : List Level) → length l ≡ 31 → length (take 20 l) ≡ 20
-length-front l h = let e : 20 ≤ length l = omega arith in length-take-le 20 l e
+-- the levels that units see of those of the Uno
+pub length-front : (l : List Level) → length l ≡ UNO_PINS → length (take PORT_PINS l) ≡ PORT_PINS
+length-front l h = let e : PORT_PINS ≤ length l = omega arith in length-take-le PORT_PINS l e

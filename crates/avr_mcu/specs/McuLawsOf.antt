@@ -8,8 +8,10 @@ use Rattle.sim_base.specs.declared.signal.Drive.{Drive}
 use Rattle.sim_base.specs.declared.signal.Drive.TheVariants as drives
 use Rattle.part_law.specs.Machine.{Laws}
 use Rattle.unit_law.specs.Pad.{driven}
+use Rattle.unit_law.specs.declared.pins.TheConstants.{PORT_PINS}
 use Rattle.unit_law.specs.UnitMachine.{UnitMachine}
 use Rattle.unit_law.specs.UnitMachine as unit
+use Rattle.avr_mcu.specs.declared.pins.TheConstants.{UNO_PINS}
 use Rattle.avr_mcu.specs.Units.{units_step, pins}
 use Rattle.avr_mcu.specs.McuOf.{Mcu, mcu, uno_drive, uno_drives, starts, acted, core_acted}
 
@@ -22,26 +24,26 @@ or_false true b h = cc
 or_false false b h = (refl, h)
 
 module _ {D : Type 0} (m : UnitMachine D) where
-  -- it has 31 pins
-  pub length-uno_drives : (u : D) → length (uno_drives m u) ≡ 31
+  -- the pins of an Uno
+  pub length-uno_drives : (u : D) → length (uno_drives m u) ≡ UNO_PINS
   unfolding uno_drives
-  length-uno_drives u = length-map-range_with_len (uno_drive m u) 0 31
+  length-uno_drives u = length-map-range_with_len (uno_drive m u) 0 UNO_PINS
 
   -- the drive of a pin rests on what the units ask of it
-  pub drive_same : (u v : D) (p : ℕ) → (p < 20 → m.pad u p ≡ m.pad v p) → uno_drive m u p ≡ uno_drive m v p
-  drive_same u v p h = by (nat_lt p 20) refl
+  pub drive_same : (u v : D) (p : ℕ) → (p < PORT_PINS → m.pad u p ≡ m.pad v p) → uno_drive m u p ≡ uno_drive m v p
+  drive_same u v p h = by (nat_lt p PORT_PINS) refl
     where
       rest : Drive
       rest = if nat_lt p 22 then drives.Z else if nat_lt p 25 then drives.Low else if nat_lt p 30 then drives.High else drives.Z
 
-      by : (b : Bool) → nat_lt p 20 ≡ b → (if b then driven (m.pad u p) else rest) ≡ (if b then driven (m.pad v p) else rest)
+      by : (b : Bool) → nat_lt p PORT_PINS ≡ b → (if b then driven (m.pad u p) else rest) ≡ (if b then driven (m.pad v p) else rest)
       by true less = ap driven (h (grind (arith, nat_tests, less)))
       by false more = refl
 
   -- so do all of them
-  pub drives_same : (u v : D) → ((p : ℕ) → p < 20 → m.pad u p ≡ m.pad v p) → uno_drives m u ≡ uno_drives m v
+  pub drives_same : (u v : D) → ((p : ℕ) → p < PORT_PINS → m.pad u p ≡ m.pad v p) → uno_drives m u ≡ uno_drives m v
   unfolding uno_drives
-  drives_same u v h = map_same (uno_drive m u) (uno_drive m v) (range_with_len 0 31) (λ p. drive_same u v p (h p))
+  drives_same u v h = map_same (uno_drive m u) (uno_drive m v) (range_with_len 0 UNO_PINS) (λ p. drive_same u v p (h p))
 
   -- a cycle in which nothing is due
   pub rests : (s : Mcu D) (t : ℕ) → (mcu m).due s t ≡ false → (core_acted m s t ≡ s) × (m.due s.units.devices t ≡ false)

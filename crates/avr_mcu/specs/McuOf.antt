@@ -14,7 +14,9 @@ use Rattle.avr_core.specs.AvrStep.{Did, avr_step, entered, may_enter}
 use Rattle.avr_core.specs.declared.state.Mode.{Mode}
 use Rattle.avr_core.specs.declared.state.Mode.TheVariants as modes
 use Rattle.unit_law.specs.Pad.{driven}
+use Rattle.unit_law.specs.declared.pins.TheConstants.{PORT_PINS}
 use Rattle.unit_law.specs.UnitMachine.{UnitMachine}
+use Rattle.avr_mcu.specs.declared.pins.TheConstants.{UNO_PINS}
 use Rattle.avr_mcu.specs.Units.{Units, UnitsAt, reset, request, units_step, unit_bus}
 
 pub record Mcu (D : Type 0) : Type 0 where
@@ -43,22 +45,22 @@ ready modes.Sleep enters = enters
 ready (modes.Halt w) enters = false
 
 module _ {D : Type 0} (m : UnitMachine D) where
-  -- The Uno's 31 pins: 0 to 13, A0 to A5, A4.2, A5.2, GND.1 to GND.3, 5V, 3.3V, VIN, IOREF, AREF, RESET.
+  -- The Uno's pins: 0 to 13, A0 to A5, A4.2, A5.2, GND.1 to GND.3, 5V, 3.3V, VIN, IOREF, AREF, RESET.
   -- A second pin of a net and RESET drive nothing.
   abbrev pub uno_drive : D → ℕ → Drive
   uno_drive u p =
-      if nat_lt p 20 then driven (m.pad u p)
+      if nat_lt p PORT_PINS then driven (m.pad u p)
       else if nat_lt p 22 then drives.Z
       else if nat_lt p 25 then drives.Low
       else if nat_lt p 30 then drives.High
       else drives.Z
 
   unfoldable pub uno_drives : D → List Drive
-  uno_drives u = map (uno_drive u) (range_with_len 0 31)
+  uno_drives u = map (uno_drive u) (range_with_len 0 UNO_PINS)
 
   -- The state after reset with this flash; the levels before cycle 0 count as Z.
   abbrev pub start : List ℕ → Mcu D
-  start flash = record { flash = flash; core = core_reset; next = 0; units = reset m; held = replicate 31 levels.Z }
+  start flash = record { flash = flash; core = core_reset; next = 0; units = reset m; held = replicate UNO_PINS levels.Z }
 
   -- Whether an interrupt is entered where an instruction would start: I is set, the last instruction was neither SEI
   -- nor RETI, and an enabled flag is set (data sheet, "Reset and Interrupt Handling").

@@ -1,10 +1,11 @@
 -- The units of the microcontroller with SRAM and the plain registers, and how they answer on the data bus
 -- (ATmega328P data sheet, "SRAM Data Memory" and "Register Summary").
-use Rattle.std.specs.Prelude.{ℕ, ◌-◌, ◌==◌, ◌&&◌, ◌||◌, nat_lt, Bool, true, false, if◌then◌else◌, List, [], replicate, take, slice_index, slice_set}
+use Rattle.std.specs.Prelude.{ℕ, ◌+◌, ◌-◌, ◌==◌, ◌&&◌, ◌||◌, nat_lt, Bool, true, false, if◌then◌else◌, List, [], replicate, take, slice_index, slice_set}
 use Rattle.sim_base.specs.declared.signal.Level.{Level}
 use Rattle.part_law.specs.declared.span.Span.{Span}
 use Rattle.part_law.specs.Spans.{all_pins, join}
 use Rattle.unit_law.specs.Bits.{with_bit}
+use Rattle.unit_law.specs.declared.pins.TheConstants.{PORT_PINS}
 use Rattle.unit_law.specs.UnitMachine.{UnitMachine, least}
 use Rattle.avr_core.specs.Bus.{Bus}
 
@@ -27,22 +28,34 @@ pub record UnitsAt (D : Type 0) : Type 0 where
   -- the pins of which a write in the cycle may have changed what they are asked for
   pub touched : Span
 
+-- what is given for the port whose PINx or PORTx a register is, and all pins where it is none
+abbrev pub at_port : ℕ → Span → Span → Span → Span
+at_port a b c d =
+    if a == 0x23 || a == 0x25 then b
+    else if a == 0x26 || a == 0x28 then c
+    else if a == 0x29 || a == 0x2B then d
+    else all_pins
+
 -- The pins that a write of a register may reach: PINx and PORTx reach those of their port, of which the Uno has 0 to 7
 -- for D, 8 to 13 for B and A0 to A5, numbered from 14, for C (data sheet, "I/O-Ports", "Register Description").
 abbrev pub pins_of : ℕ → Span
-pins_of a =
-    if a == 0x23 || a == 0x25 then record { from = 8; to = 14 }
-    else if a == 0x26 || a == 0x28 then record { from = 14; to = 20 }
-    else if a == 0x29 || a == 0x2B then record { from = 0; to = 8 }
-    else all_pins
+pins_of a = at_port a (record { from = 8; to = 14 }) (record { from = 14; to = 20 }) (record { from = 0; to = 8 })
 
--- what was touched, after a write that may move a pin or not
-abbrev pub touched_by : Span → Bool → ℕ → Span
-touched_by touched moves a = if moves then join touched (pins_of a) else touched
+-- a pin alone
+abbrev pub one_pin : ℕ → Span
+one_pin p = record { from = p; to = p + 1 }
+
+-- the pins that a write of bit k alone may reach: of a port that bit's
+abbrev pub pins_of_bit : ℕ → ℕ → Span
+pins_of_bit a k = at_port a (one_pin (8 + k)) (one_pin (14 + k)) (one_pin k)
+
+-- what was touched, after a write that may move the pins that it reaches or none
+abbrev pub touched_by : Span → Bool → Span → Span
+touched_by touched moves reached = if moves then join touched reached else touched
 
 -- the levels that units see: pins 0 to 13 and A0 to A5 come first
 abbrev pub pins : List Level → List Level
-pins l = take 20 l
+pins l = take PORT_PINS l
 
 -- the byte at an address from SRAM on
 abbrev pub above_in : List ℕ → ℕ → ℕ
@@ -130,6 +143,6 @@ module _ {D : Type 0} (m : UnitMachine D) where
   unit_bus = record {
     answers = λ s a. data_at s.units s.cycle s.held a;
     read = λ s a. record s { units = after_read s.units s.cycle a };
-    write = λ s a x. record s { units = with_data s.units s.cycle a x; touched = touched_by s.touched (touches s.units a x) a };
-    write_bit = λ s a k x. record s { units = with_data_bit s.units s.cycle a k x; touched = touched_by s.touched (bit_touches s.units a k x) a };
+    write = λ s a x. record s { units = with_data s.units s.cycle a x; touched = touched_by s.touched (touches s.units a x) (pins_of a) };
+    write_bit = λ s a k x. record s { units = with_data_bit s.units s.cycle a k x; touched = touched_by s.touched (bit_touches s.units a k x) (pins_of_bit a k) };
   }

@@ -8,6 +8,8 @@
 mod devices;
 mod follow;
 mod mcu;
+mod pins;
 mod units;
 
 pub use mcu::Mcu;
+pub use pins::UNO_PINS;

@@ -9,6 +9,7 @@ ghost use Rattle.part_law.specs.Machine.{IsFirstDue};
 ghost use Rattle.part_law.specs.Spans.{IsIn, all_pins, no_pins};
 
 use crate::follow::follow;
+use crate::pins::UNO_PINS;
 use crate::units::Units;
 use avr_core::{Core, Mode, decode_all};
 use avr_isa::Instr;
@@ -17,7 +18,7 @@ use sim_base::{Drive, Flash, Level, MOST_CYCLES, OutOfMemory, Steps};
 use std::alloc::Global;
 use std::marker::Model;
 use std::sync::ledger::Ledger;
-use unit_law::VECTORS;
+use unit_law::{PORT_PINS, VECTORS};
 
 /// The microcontroller, before the step of `cycle`.
 #[derive(Drop)]
@@ -97,7 +98,7 @@ impl Mcu {
         ensures acted { self.new.mcu ≡ core_acted devices self.old.mcu self.old.cycle }
         ensures cycle { self.new.cycle ≡ self.old.cycle }
         ensures wakes { self.new.wakes ≡ self.old.wakes }
-        ensures pads { (p : ℕ) → p < 20 → ¬ IsIn self.new.moved p → devices.pad self.new.mcu.units.devices p ≡ devices.pad self.old.mcu.units.devices p }
+        ensures pads { (p : ℕ) → p < PORT_PINS → ¬ IsIn self.new.moved p → devices.pad self.new.mcu.units.devices p ≡ devices.pad self.old.mcu.units.devices p }
     {
         let (next, touched) = act_core(
             &mut self.core,
@@ -134,7 +135,7 @@ impl Part for Mcu {
     ghost moves = { λ m p. is_in m.moved p };
 
     fn pins(&self) -> u8 {
-        31
+        UNO_PINS as u8
     }
 
     fn contacts(&self) -> u8 {
@@ -233,7 +234,7 @@ pub(crate) fn act_core(
     requires end { cycle < MOST_CYCLES }
     ensures acted { state_of flash.now core.new result.0 units.new.units units.new.held ≡ core_acted devices (state_of flash.now core.old next units.old.units units.old.held) cycle }
     ensures here { units.new.cycle ≡ cycle }
-    ensures pads { (p : ℕ) → p < 20 → ¬ IsIn result.1 p → devices.pad units.new.units.devices p ≡ devices.pad units.old.units.devices p }
+    ensures pads { (p : ℕ) → p < PORT_PINS → ¬ IsIn result.1 p → devices.pad units.new.units.devices p ≡ devices.pad units.old.units.devices p }
 {
     let enters = enters(core, units);
     if starts(core.mode(), enters, next, cycle) {
@@ -292,7 +293,7 @@ fn perform(
     requires awake { ¬ HasHalted core.old.mode }
     requires enters { enters ≡ true → request devices units.old.units units.old.held < 26 }
     ensures did { record { core = core.new; bus = units.new; cycles = result.0 } ≡ performed devices enters flash.now core.old (record units.old { touched = no_pins }) }
-    ensures pads { (p : ℕ) → p < 20 → ¬ IsIn result.1 p → devices.pad units.new.units.devices p ≡ devices.pad units.old.units.devices p }
+    ensures pads { (p : ℕ) → p < PORT_PINS → ¬ IsIn result.1 p → devices.pad units.new.units.devices p ≡ devices.pad units.old.units.devices p }
 {
     units.begin();
     let cycles = do_one(core, program, flash, units, enters);
@@ -388,7 +389,7 @@ fn next_start(ready: bool, next: u32, cycle: u32) -> u32
 
 // The drive of a pin of the Uno.
 fn uno_drive(units: &Units, pin: u8) -> Drive
-    requires { pin < 31 }
+    requires { pin < UNO_PINS }
     ensures { result ≡ uno_drive devices units.now.units.devices pin }
 {
     match pin {

@@ -5,16 +5,17 @@ ghost use Rattle.sim_base.specs.declared.signal.Level.TheVariants as levels;
 ghost use Rattle.unit_law.specs.Pad.{driven};
 ghost use Rattle.unit_law.specs.UnitMachine.{steps, IsQuiet, FirstDue};
 ghost use Rattle.avr_mcu.specs.Devices.{devices};
-ghost use Rattle.avr_mcu.specs.Units.{UnitsAt, unit_bus, reset, pins, request, units_step, above, above_in, with_above, plain, plain_of, with_plain, register, after_read, with_register, with_register_bit, pins_of, touched_by};
+ghost use Rattle.avr_mcu.specs.Units.{UnitsAt, unit_bus, reset, pins, request, units_step, above, above_in, with_above, plain, plain_of, with_plain, register, after_read, with_register, with_register_bit, at_port, one_pin, pins_of, pins_of_bit, touched_by};
 ghost use Rattle.part_law.specs.Spans.{no_pins};
 
 use crate::devices::Devices;
+use crate::pins::UNO_PINS;
 use avr_core::DataBus;
 use part_law::Span;
 use sim_base::{Drive, Level, MOST_CYCLES, OutOfMemory};
 use std::alloc::{AllocError, Global};
 use std::marker::Model;
-use unit_law::{Group, may_move, wait, with_bit};
+use unit_law::{Group, PORT_PINS, may_move, wait, with_bit};
 
 /// General purpose I/O registers, which only keep what is written (data sheet, "Register Summary").
 const GPIOR0: u8 = 0x3E;
@@ -43,9 +44,6 @@ const SRAM: u16 = 0x0100;
 
 const SRAM_END: u16 = 0x0900;
 
-/// The pins of the Uno that a unit sees: 0 to 13, then A0 to A5.
-const SEEN: usize = 20;
-
 /// The units, before the step of `cycle`, with the levels of the Uno's pins in the cycle before. The devices may
 /// stand at an earlier cycle; `due` is the first in which one of them has an event, and `request` the least
 /// vector that is enabled and flagged.
@@ -58,7 +56,7 @@ pub(crate) struct Units {
     gpior2: u8,
     smcr: u8,
     ignored: Vec<bool>,
-    held: [Level; 31],
+    held: [Level; UNO_PINS],
     cycle: u32,
     due: u32,
     request: u8,
@@ -71,6 +69,7 @@ impl Model for Units {
     ghost use Rattle.avr_mcu.specs.Units.{UnitsAt, pins};
     ghost use Rattle.unit_law.specs.UnitMachine.{least};
     ghost use Rattle.sim_base.specs.declared.limits.TheConstants.{MOST_CYCLES};
+    ghost use Rattle.avr_mcu.specs.declared.pins.TheConstants.{UNO_PINS};
 
     ghost Value = { UnitsAt State };
 
@@ -79,7 +78,7 @@ impl Model for Units {
     ghost invariant = { λ u. record {
       sram : vec_len u.sram ≡ 2048;
       ignored : vec_len u.ignored ≡ 256;
-      held : length u.held ≡ 31;
+      held : length u.held ≡ UNO_PINS;
       stands : ⟦<Devices as Group>⟧.stands u.devices (pins u.held) u.cycle;
       due : u.due ≡ ⟦<Devices as Group>⟧.until u.devices;
       request : u.request ≡ least (⟦<Devices as Group>⟧.machine.requests (⟦<Devices as Group>⟧.state u.devices u.cycle) (pins u.held));
@@ -90,7 +89,7 @@ impl Model for Units {
 impl Units {
     /// The units after reset, at cycle 0.
     pub(crate) fn new(alloc: Global) -> Result<Units, OutOfMemory>
-        ensures { IfOk result (λ u. u ≡ record { units = reset devices; held = replicate 31 levels.Z; cycle = 0; touched = no_pins }) }
+        ensures { IfOk result (λ u. u ≡ record { units = reset devices; held = replicate UNO_PINS levels.Z; cycle = 0; touched = no_pins }) }
     {
         let devices = Devices::new();
         let due = devices.due();
@@ -103,7 +102,7 @@ impl Units {
             gpior2: 0,
             smcr: 0,
             ignored: none_of(alloc, 256)?,
-            held: [Level::Z; 31],
+            held: [Level::Z; UNO_PINS],
             cycle: 0,
             due,
             request,
@@ -113,7 +112,7 @@ impl Units {
 
     /// The drive of an Uno pin, 14 to 19 being A0 to A5.
     pub(crate) fn drive(&self, pin: u8) -> Drive
-        requires { pin < 20 }
+        requires { pin < PORT_PINS }
         ensures { result ≡ driven (devices.pad self.now.units.devices pin) }
     {
         self.devices.pad(pin).drive()
@@ -131,7 +130,7 @@ impl Units {
     pub(crate) fn due(&self) -> u32
         ensures { FirstDue devices self.now.units.devices self.now.cycle result }
     {
-        first_of(&self.devices, self.due, self.cycle, &self.held[..SEEN])
+        first_of(&self.devices, self.due, self.cycle, &self.held[..PORT_PINS])
     }
 
     /// The least vector that is enabled and flagged, or `VECTORS`.
@@ -162,7 +161,8 @@ impl Units {
     pub(crate) fn taken(&mut self, vector: u8)
         ensures { self.new ≡ record self.old { units = record (self.old.units) { devices = devices.taken self.old.units.devices vector } } }
     {
-        self.devices.taken(self.cycle, &self.held[..SEEN], vector);
+        self.devices
+            .taken(self.cycle, &self.held[..PORT_PINS], vector);
         self.due = self.devices.due();
         self.request = self.devices.request();
     }
@@ -175,20 +175,20 @@ impl Units {
         requires quiet { IsQuiet devices self.old.units.devices self.old.cycle (to - self.old.cycle) }
         ensures { self.new ≡ record self.old { units = record (self.old.units) { devices = steps devices self.old.units.devices self.old.cycle (to - self.old.cycle) }; cycle = to } }
     {
-        wait(&self.devices, self.cycle, to, &self.held[..SEEN]);
+        wait(&self.devices, self.cycle, to, &self.held[..PORT_PINS]);
         self.cycle = to;
     }
 
     /// Whether a cycle on these levels may change what a pin is asked for.
     pub(crate) fn moves(&self, levels: &[Level]) -> bool
-        requires { length levels.now ≡ 31 }
+        requires { length levels.now ≡ UNO_PINS }
         ensures { result ≡ false → (p : ℕ) → devices.pad (devices.step self.now.units.devices self.now.cycle (pins self.now.held) (pins levels.now)) p ≡ devices.pad self.now.units.devices p }
     {
         may_move(
             &self.devices,
             self.due,
             self.cycle,
-            &self.held[..SEEN],
+            &self.held[..PORT_PINS],
             seen(levels),
         )
     }
@@ -201,16 +201,16 @@ impl Units {
         self.devices.event_moves(self.cycle)
     }
 
-    /// One cycle on these levels of the Uno's 31 pins, and the byte that leaves.
+    /// One cycle on these levels of the Uno's pins, and the byte that leaves.
     pub(crate) fn step(&mut self, levels: &[Level]) -> Option<u8>
-        requires levels { length levels.now ≡ 31 }
+        requires levels { length levels.now ≡ UNO_PINS }
         requires end { self.old.cycle < MOST_CYCLES }
         ensures byte { result ≡ devices.sends self.old.units.devices self.old.cycle }
         ensures state { self.new ≡ record self.old { units = units_step devices self.old.units self.old.cycle self.old.held levels.now; held = levels.now; cycle = self.old.cycle + 1 } }
     {
         let byte = self
             .devices
-            .step(self.cycle, &self.held[..SEEN], seen(levels));
+            .step(self.cycle, &self.held[..PORT_PINS], seen(levels));
         self.held.copy_from_slice(levels);
         self.due = self.devices.due();
         self.request = self.devices.request();
@@ -225,9 +225,7 @@ impl Units {
         ensures byte { result ≡ devices.sends self.old.units.devices self.old.cycle }
         ensures state { self.new ≡ record self.old { units = units_step devices self.old.units self.old.cycle self.old.held self.old.held; cycle = self.old.cycle + 1 } }
     {
-        let byte = self
-            .devices
-            .step(self.cycle, &self.held[..SEEN], &self.held[..SEEN]);
+        let byte = self.devices.step(self.cycle, &self.held[..PORT_PINS], &self.held[..PORT_PINS]);
         self.due = self.devices.due();
         self.request = self.devices.request();
         self.cycle += 1;
@@ -309,7 +307,7 @@ impl Units {
         ensures value { result ≡ devices.answers self.old.units.devices self.old.cycle (pins self.old.held) reg }
         ensures state { self.new ≡ record self.old { units = record (self.old.units) { devices = devices.read self.old.units.devices self.old.cycle reg } } }
     {
-        let value = self.devices.read(self.cycle, &self.held[..SEEN], reg);
+        let value = self.devices.read(self.cycle, &self.held[..PORT_PINS], reg);
         self.due = self.devices.due();
         self.request = self.devices.request();
         value
@@ -323,7 +321,7 @@ impl Units {
 
     // Writes a register, or notes that there is none.
     fn set_register(&mut self, reg: u8, value: u8)
-        ensures { self.new ≡ record self.old { units = with_register devices self.old.units self.old.cycle reg value; touched = touched_by self.old.touched (if devices.has reg then devices.moves self.old.units.devices reg value else false) reg } }
+        ensures { self.new ≡ record self.old { units = with_register devices self.old.units self.old.cycle reg value; touched = touched_by self.old.touched (if devices.has reg then devices.moves self.old.units.devices reg value else false) (pins_of reg) } }
     {
         if Devices::has(reg) {
             self.set_device_register(reg, value);
@@ -334,14 +332,14 @@ impl Units {
 
     fn set_device_register(&mut self, reg: u8, value: u8)
         requires { devices.has reg ≡ true }
-        ensures { self.new ≡ record self.old { units = record (self.old.units) { devices = devices.write self.old.units.devices self.old.cycle reg value }; touched = touched_by self.old.touched (devices.moves self.old.units.devices reg value) reg } }
+        ensures { self.new ≡ record self.old { units = record (self.old.units) { devices = devices.write self.old.units.devices self.old.cycle reg value }; touched = touched_by self.old.touched (devices.moves self.old.units.devices reg value) (pins_of reg) } }
     {
         let moves = self
             .devices
-            .write(self.cycle, &self.held[..SEEN], reg, value);
+            .write(self.cycle, &self.held[..PORT_PINS], reg, value);
         self.due = self.devices.due();
         self.request = self.devices.request();
-        self.touched = touched_by(self.touched, moves, reg);
+        self.touched = touched_by(self.touched, moves, pins_of(reg));
     }
 
     fn set_plain(&mut self, reg: u8, value: u8)
@@ -363,7 +361,7 @@ impl Units {
     // Writes one bit of a register alone.
     fn set_register_bit(&mut self, reg: u8, bit: u8, value: bool)
         requires { bit < 8 }
-        ensures { self.new ≡ record self.old { units = with_register_bit devices self.old.units self.old.cycle reg bit value; touched = touched_by self.old.touched (if devices.has reg then devices.bit_moves self.old.units.devices reg bit value else false) reg } }
+        ensures { self.new ≡ record self.old { units = with_register_bit devices self.old.units self.old.cycle reg bit value; touched = touched_by self.old.touched (if devices.has reg then devices.bit_moves self.old.units.devices reg bit value else false) (pins_of_bit reg bit) } }
     {
         if Devices::has(reg) {
             self.set_device_bit(reg, bit, value);
@@ -376,14 +374,39 @@ impl Units {
     fn set_device_bit(&mut self, reg: u8, bit: u8, value: bool)
         requires register { devices.has reg ≡ true }
         requires bit { bit < 8 }
-        ensures { self.new ≡ record self.old { units = record (self.old.units) { devices = devices.write_bit self.old.units.devices self.old.cycle reg bit value }; touched = touched_by self.old.touched (devices.bit_moves self.old.units.devices reg bit value) reg } }
+        ensures { self.new ≡ record self.old { units = record (self.old.units) { devices = devices.write_bit self.old.units.devices self.old.cycle reg bit value }; touched = touched_by self.old.touched (devices.bit_moves self.old.units.devices reg bit value) (pins_of_bit reg bit) } }
     {
         let moves = self
             .devices
-            .write_bit(self.cycle, &self.held[..SEEN], reg, bit, value);
+            .write_bit(self.cycle, &self.held[..PORT_PINS], reg, bit, value);
         self.due = self.devices.due();
         self.request = self.devices.request();
-        self.touched = touched_by(self.touched, moves, reg);
+        self.touched = touched_by(self.touched, moves, pins_of_bit(reg, bit));
+    }
+}
+
+// What is given for the port whose PINx or PORTx a register is, and all pins where it is none.
+#[inline]
+fn at_port(reg: u8, b: Span, c: Span, d: Span) -> Span
+    ensures { result ≡ at_port reg b c d }
+{
+    match reg {
+        PINB | PORTB => b,
+        PINC | PORTC => c,
+        PIND | PORTD => d,
+        _ => Span::all(),
+    }
+}
+
+// A pin alone.
+#[inline]
+fn one_pin(pin: u8) -> Span
+    requires { pin < 255 }
+    ensures { result ≡ one_pin pin }
+{
+    Span {
+        from: pin,
+        to: pin + 1,
     }
 }
 
@@ -392,21 +415,30 @@ impl Units {
 fn pins_of(reg: u8) -> Span
     ensures { result ≡ pins_of reg }
 {
-    match reg {
-        PINB | PORTB => Span { from: 8, to: 14 },
-        PINC | PORTC => Span { from: 14, to: 20 },
-        PIND | PORTD => Span { from: 0, to: 8 },
-        _ => Span::all(),
-    }
+    at_port(
+        reg,
+        Span { from: 8, to: 14 },
+        Span { from: 14, to: 20 },
+        Span { from: 0, to: 8 },
+    )
 }
 
-// The pins that were touched, after a write that may move a pin or not.
+// The pins that a write of one bit alone may reach.
 #[inline]
-fn touched_by(touched: Span, moves: bool, reg: u8) -> Span
-    ensures { result ≡ touched_by touched moves reg }
+fn pins_of_bit(reg: u8, bit: u8) -> Span
+    requires { bit < 8 }
+    ensures { result ≡ pins_of_bit reg bit }
+{
+    at_port(reg, one_pin(8 + bit), one_pin(14 + bit), one_pin(bit))
+}
+
+// The pins that were touched, after a write that may move those that it reaches or none.
+#[inline]
+fn touched_by(touched: Span, moves: bool, reached: Span) -> Span
+    ensures { result ≡ touched_by touched moves reached }
 {
     if moves {
-        touched.joined(pins_of(reg))
+        touched.joined(reached)
     } else {
         touched
     }
@@ -456,11 +488,11 @@ fn first_of<G: Group>(group: &G, due: u32, cycle: u32, levels: &[Level]) -> u32
 // The levels of the pins that units see.
 #[inline]
 fn seen(levels: &[Level]) -> &[Level]
-    requires { length levels.now ≡ 31 }
+    requires { length levels.now ≡ UNO_PINS }
     ensures value { result.now ≡ pins levels.now }
-    ensures length { length result.now ≡ 20 }
+    ensures length { length result.now ≡ PORT_PINS }
 {
-    &levels[..SEEN]
+    &levels[..PORT_PINS]
 }
 
 fn zeros(alloc: Global, count: usize) -> Result<Vec<u8>, AllocError>

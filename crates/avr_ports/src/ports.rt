@@ -8,7 +8,7 @@ use crate::pins::{bit_pad, is_change, is_edge, on, pinb, pinc, pind, requests_in
 use crate::registers::{Register, named, register_at};
 use sim_base::{Level, MOST_CYCLES};
 use std::marker::Model;
-use unit_law::{Pad, Request, Unit, VECTORS, has_bit, least, mask, one, with_bit};
+use unit_law::{PORT_PINS, Pad, Request, Unit, VECTORS, has_bit, least, mask, one, with_bit};
 
 /// The ports, before the step of `cycle`.
 #[derive(Drop)]
@@ -183,7 +183,7 @@ impl Unit for Ports {
 impl Ports {
     // What it requests where something is enabled.
     fn requested(&self, levels: &[Level]) -> u8
-        requires { length levels.now ≡ 20 }
+        requires { length levels.now ≡ PORT_PINS }
         ensures { result ≡ least (requests self.now.unit levels.now) }
     {
         least(&[
@@ -217,7 +217,7 @@ impl Ports {
 
     // What a register gives; PINx the levels of the cycle before.
     fn register(&self, levels: &[Level], reg: Register) -> u8
-        requires { length levels.now ≡ 20 }
+        requires { length levels.now ≡ PORT_PINS }
         ensures { result ≡ register self.now.unit levels.now reg }
     {
         match reg {
@@ -393,8 +393,8 @@ impl Ports {
 
     // The flags INTF after a cycle on these levels.
     fn sense_edges(&mut self, before: &[Level], now: &[Level])
-        requires before { length before.now ≡ 20 }
-        requires levels { length now.now ≡ 20 }
+        requires before { length before.now ≡ PORT_PINS }
+        requires levels { length now.now ≡ PORT_PINS }
         ensures { self.new ≡ record self.old { unit = edges_sensed self.old.unit before.now now.now } }
     {
         self.intf0 = self.intf0 | is_edge(self.eicra % 4, on(before, 2), on(now, 2));
@@ -403,8 +403,8 @@ impl Ports {
 
     // The flags PCIF after a cycle on these levels.
     fn sense_changes(&mut self, before: &[Level], now: &[Level])
-        requires before { length before.now ≡ 20 }
-        requires levels { length now.now ≡ 20 }
+        requires before { length before.now ≡ PORT_PINS }
+        requires levels { length now.now ≡ PORT_PINS }
         ensures { self.new ≡ record self.old { unit = changes_sensed self.old.unit before.now now.now } }
     {
         self.pcif0 = self.pcif0 | is_change(self.pcmsk0, pinb(before), pinb(now));

@@ -5,6 +5,7 @@ ghost use Rattle.unit_law.specs.Both.{first_of_two};
 
 use crate::group::Group;
 use crate::pad::Pad;
+use crate::pins::PORT_PINS;
 use sim_base::Level;
 
 /// Two groups side by side: a register is read from the first that has it, and a write goes to each.
@@ -120,7 +121,7 @@ fn first_of_two(first: Option<u8>, second: Option<u8>) -> Option<u8>
 // Writes a register where the group has it, and answers whether that may change what it asks of a pin.
 #[inline]
 fn write_where<G: Group>(group: &mut G, cycle: u32, levels: &[Level], reg: u8, value: u8) -> bool
-    requires levels { length levels.now ≡ 20 }
+    requires levels { length levels.now ≡ PORT_PINS }
     requires here { G.stands group.old levels.now cycle }
     ensures moves { result ≡ (if G.machine.has reg then G.machine.moves (G.state group.old cycle) reg value else false) }
     ensures state { G.state group.new cycle ≡ (if G.machine.has reg then G.machine.write (G.state group.old cycle) cycle reg value else G.state group.old cycle) }
@@ -144,7 +145,7 @@ fn write_bit_where<G: Group>(
     value: bool,
 ) -> bool
     requires bit { bit < 8 }
-    requires levels { length levels.now ≡ 20 }
+    requires levels { length levels.now ≡ PORT_PINS }
     requires here { G.stands group.old levels.now cycle }
     ensures moves { result ≡ (if G.machine.has reg then G.machine.bit_moves (G.state group.old cycle) reg bit value else false) }
     ensures state { G.state group.new cycle ≡ (if G.machine.has reg then G.machine.write_bit (G.state group.old cycle) cycle reg bit value else G.state group.old cycle) }

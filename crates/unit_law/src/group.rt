@@ -5,6 +5,7 @@ ghost use Rattle.sim_base.specs.declared.signal.Level.TheVariants as levels;
 ghost use Rattle.unit_law.specs.UnitMachine.{UnitMachine, Laws, least, steps, IsQuiet, FirstDue};
 
 use crate::pad::Pad;
+use crate::pins::PORT_PINS;
 use sim_base::{Level, MOST_CYCLES};
 
 /// Any number of units as one machine, which an owner asks at its own cycle, and which holds the levels of the
@@ -25,7 +26,7 @@ pub trait Group {
     /// The units after reset, at cycle 0; each level is Z.
     fn new() -> Self
         ensures state { state result 0 ≡ machine.reset }
-        ensures stands { stands result (replicate 20 levels.Z) 0 };
+        ensures stands { stands result (replicate PORT_PINS levels.Z) 0 };
 
     /// Whether a data address is a register of one of them.
     fn has(reg: u8) -> bool
@@ -33,8 +34,8 @@ pub trait Group {
 
     /// Whether one of them takes notice of a change of the levels.
     fn hears(&self, before: &[Level], now: &[Level]) -> bool
-        requires before { length before.now ≡ 20 }
-        requires levels { length now.now ≡ 20 }
+        requires before { length before.now ≡ PORT_PINS }
+        requires levels { length now.now ≡ PORT_PINS }
         ensures { (l : List Level) (t : ℕ) → stands self.now l t → result ≡ machine.hears (state self.now t) before.now now.now };
 
     /// Whether an event of this cycle may change what they ask of a pin.
@@ -44,7 +45,7 @@ pub trait Group {
     /// Reads a register in a cycle.
     fn read(&mut self, cycle: u32, levels: &[Level], reg: u8) -> u8
         requires register { machine.has reg ≡ true }
-        requires levels { length levels.now ≡ 20 }
+        requires levels { length levels.now ≡ PORT_PINS }
         requires here { stands self.old levels.now cycle }
         ensures value { result ≡ machine.answers (state self.old cycle) cycle levels.now reg }
         ensures state { state self.new cycle ≡ machine.read (state self.old cycle) cycle reg }
@@ -53,7 +54,7 @@ pub trait Group {
     /// Writes a register in a cycle, and answers whether that may change what they ask of a pin.
     fn write(&mut self, cycle: u32, levels: &[Level], reg: u8, value: u8) -> bool
         requires register { machine.has reg ≡ true }
-        requires levels { length levels.now ≡ 20 }
+        requires levels { length levels.now ≡ PORT_PINS }
         requires here { stands self.old levels.now cycle }
         ensures moves { result ≡ machine.moves (state self.old cycle) reg value }
         ensures state { state self.new cycle ≡ machine.write (state self.old cycle) cycle reg value }
@@ -63,7 +64,7 @@ pub trait Group {
     fn write_bit(&mut self, cycle: u32, levels: &[Level], reg: u8, bit: u8, value: bool) -> bool
         requires register { machine.has reg ≡ true }
         requires bit { bit < 8 }
-        requires levels { length levels.now ≡ 20 }
+        requires levels { length levels.now ≡ PORT_PINS }
         requires here { stands self.old levels.now cycle }
         ensures moves { result ≡ machine.bit_moves (state self.old cycle) reg bit value }
         ensures state { state self.new cycle ≡ machine.write_bit (state self.old cycle) cycle reg bit value }
@@ -72,8 +73,8 @@ pub trait Group {
     /// Steps over a cycle: a unit without an event that takes no notice of the change is not touched.
     /// Answers the byte that leaves.
     fn step(&mut self, cycle: u32, before: &[Level], now: &[Level]) -> Option<u8>
-        requires before { length before.now ≡ 20 }
-        requires levels { length now.now ≡ 20 }
+        requires before { length before.now ≡ PORT_PINS }
+        requires levels { length now.now ≡ PORT_PINS }
         requires end { cycle < MOST_CYCLES }
         requires here { stands self.old before.now cycle }
         ensures byte { result ≡ machine.sends (state self.old cycle) cycle }
@@ -90,14 +91,14 @@ pub trait Group {
 
     /// Clears what entering a vector in a cycle clears.
     fn taken(&mut self, cycle: u32, levels: &[Level], vector: u8)
-        requires levels { length levels.now ≡ 20 }
+        requires levels { length levels.now ≡ PORT_PINS }
         requires here { stands self.old levels.now cycle }
         ensures state { state self.new cycle ≡ machine.taken (state self.old cycle) vector }
         ensures stands { stands self.new levels.now cycle };
 
     /// What they ask of an Uno pin, 14 to 19 being A0 to A5.
     fn pad(&self, pin: u8) -> Pad
-        requires { pin < 20 }
+        requires { pin < PORT_PINS }
         ensures { (l : List Level) (t : ℕ) → stands self.now l t → result ≡ machine.pad (state self.now t) pin };
 
     ghost laws: { Laws machine };
@@ -129,8 +130,8 @@ pub fn wait<G: Group>(group: &G, cycle: u32, to: u32, levels: &[Level])
 #[inline]
 pub fn may_move<G: Group>(group: &G, due: u32, cycle: u32, before: &[Level], now: &[Level]) -> bool
     requires due { due ≡ G.until group.now }
-    requires before { length before.now ≡ 20 }
-    requires levels { length now.now ≡ 20 }
+    requires before { length before.now ≡ PORT_PINS }
+    requires levels { length now.now ≡ PORT_PINS }
     requires here { G.stands group.now before.now cycle }
     ensures { result ≡ false → (p : ℕ) → G.machine.pad (G.machine.step (G.state group.now cycle) cycle before.now now.now) p ≡ G.machine.pad (G.state group.now cycle) p }
 {

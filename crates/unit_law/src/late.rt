@@ -6,6 +6,7 @@ ghost use Rattle.unit_law.specs.Late.{LateStands, late_state, Lags};
 
 use crate::group::Group;
 use crate::pad::Pad;
+use crate::pins::PORT_PINS;
 use crate::unit::Unit;
 use sim_base::{Level, MOST_CYCLES};
 
@@ -34,7 +35,7 @@ impl<U: Unit> Group for Late<U> {
     fn new() -> Late<U> {
         let unit = U::new();
         let due = first_due(&unit);
-        let request = unit.request(&[Level::Z; 20]);
+        let request = unit.request(&[Level::Z; PORT_PINS]);
         Late { unit, due, request }
     }
 

@@ -10,6 +10,7 @@ mod coming;
 mod group;
 mod late;
 mod pad;
+mod pins;
 mod request;
 mod unit;
 
@@ -19,5 +20,6 @@ pub use coming::{comes, or_end, within_run};
 pub use group::{Group, may_move, wait};
 pub use late::Late;
 pub use pad::Pad;
+pub use pins::PORT_PINS;
 pub use request::{Request, VECTORS, least};
 pub use unit::Unit;
