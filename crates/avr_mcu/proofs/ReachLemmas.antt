@@ -140,19 +140,19 @@ module _ {E : Type 0} (rest : UnitMachine E) where
         (λ out. sides (with_register s.0 PORTD x) s (rest.has 0x2B) _ p (all_d s.0 _ p less out) n2B)
         (λ a is out. absurd (out (any_in (pins_of a) p less (is _ _ _)))) a;
     bits = λ s t a k x p less. by_address (λ a. ¬ IsIn (pins_of_bit a k) p →
-            (both ports rest).pad ((both ports rest).write_bit s t a k x) p ≡ (both ports rest).pad s p)
+        (both ports rest).pad ((both ports rest).write_bit s t a k x) p ≡ (both ports rest).pad s p)
         (λ out. sides (with_register_bit s.0 PINB k x) s (rest.has 0x23) _ p
-            (one_of x (with_register s.0 PINB (2 ^ k)) s.0 p (one_b s.0 (bit_xor s.0.portb (2 ^ k)) k p (toggle_keeps s.0.portb k) out)) n23)
+        (one_of x (with_register s.0 PINB (2 ^ k)) s.0 p (one_b s.0 (bit_xor s.0.portb (2 ^ k)) k p (toggle_keeps s.0.portb k) out)) n23)
         (λ out. sides (with_register_bit s.0 PORTB k x) s (rest.has 0x25) _ p
-            (one_b s.0 (with_bit s.0.portb k x) k p (λ j. bit_keeps s.0.portb k j x) out) n25)
+        (one_b s.0 (with_bit s.0.portb k x) k p (λ j. bit_keeps s.0.portb k j x) out) n25)
         (λ out. sides (with_register_bit s.0 PINC k x) s (rest.has 0x26) _ p
-            (one_of x (with_register s.0 PINC (2 ^ k)) s.0 p (one_c s.0 (bit_xor s.0.portc (2 ^ k)) k p (toggle_keeps s.0.portc k) out)) n26)
+        (one_of x (with_register s.0 PINC (2 ^ k)) s.0 p (one_c s.0 (bit_xor s.0.portc (2 ^ k)) k p (toggle_keeps s.0.portc k) out)) n26)
         (λ out. sides (with_register_bit s.0 PORTC k x) s (rest.has 0x28) _ p
-            (one_c s.0 (with_bit s.0.portc k x) k p (λ j. bit_keeps s.0.portc k j x) out) n28)
+        (one_c s.0 (with_bit s.0.portc k x) k p (λ j. bit_keeps s.0.portc k j x) out) n28)
         (λ out. sides (with_register_bit s.0 PIND k x) s (rest.has 0x29) _ p
-            (one_of x (with_register s.0 PIND (2 ^ k)) s.0 p (one_d s.0 (bit_xor s.0.portd (2 ^ k)) k p (toggle_keeps s.0.portd k) out)) n29)
+        (one_of x (with_register s.0 PIND (2 ^ k)) s.0 p (one_d s.0 (bit_xor s.0.portd (2 ^ k)) k p (toggle_keeps s.0.portd k) out)) n29)
         (λ out. sides (with_register_bit s.0 PORTD k x) s (rest.has 0x2B) _ p
-            (one_d s.0 (with_bit s.0.portd k x) k p (λ j. bit_keeps s.0.portd k j x) out) n2B)
+        (one_d s.0 (with_bit s.0.portd k x) k p (λ j. bit_keeps s.0.portd k j x) out) n2B)
         (λ a is out. absurd (out (any_in (pins_of_bit a k) p less (is _ _ _)))) a;
   }
 
