@@ -1,5 +1,6 @@
 -- Lines of a text, and what stands behind its head.
-use Rattle.std.proofs.Common.{◌≡◌, ◌≢◌, ◌<◌, ◌≤◌, ◌+◌, ℕ, zero, suc, List, [], ◌∷◌, ◌++◌, length, get_or, take, drop, Bool, true, false, ◌==◌, ◌||◌, if◌then◌else◌, Result, Ok, Err, refl, ap, arith, ◌∙◌, sym}
+use Rattle.std.proofs.Common.{◌≡◌, ◌≢◌, ◌<◌, ◌≤◌, ◌+◌, ℕ, zero, suc, List, [], ◌∷◌, ◌++◌, length, get_or, take, drop, Bool, true, false, ◌==◌, ◌||◌}
+use Rattle.std.proofs.Common.{if◌then◌else◌, Result, Ok, Err, refl, ap, arith, ◌∙◌, sym}
 use Rattle.std.specs.List.{list_any}
 use Rattle.std.proofs.lemmas.Bool.{ne_eqb, eq-eqb}
 use Rattle.std.proofs.lemmas.List.{take-append-drop, drop_more, drop_all, length-take-le, get_or-take}
@@ -66,18 +67,23 @@ module _ (l : List ℕ) (i : ℕ) (p : i < length l) (e : get_or l i 0 ≡ 10) w
   unended_first = ap unended (sym whole) ∙ unended_at (take i l) (drop (i + 1) l)
 
 module _ (k i : ℕ) (hs bs : List ℕ) where
-  behind_more : i < length hs → i < length bs → get_or hs i 0 ≡ get_or bs i 0 → behind k (drop i hs) (drop i bs) ≡ behind (if get_or hs i 0 == 10 then suc k else k) (drop (i + 1) hs) (drop (i + 1) bs)
+  behind_more : i < length hs → i < length bs → get_or hs i 0 ≡ get_or bs i 0 →
+      behind k (drop i hs) (drop i bs) ≡ behind (if get_or hs i 0 == 10 then suc k else k) (drop (i + 1) hs) (drop (i + 1) bs)
   unfolding behind
   behind_more p q e = rw (drop_more hs i 0 p, drop_more bs i 0 q, eq-eqb (get_or hs i 0) (get_or bs i 0) e) refl
 
   -- a line of the head ends, or goes on
-  pub behind_line : i < length hs → i < length bs → get_or hs i 0 ≡ get_or bs i 0 → get_or hs i 0 ≡ 10 → behind k (drop i hs) (drop i bs) ≡ behind (k + 1) (drop (i + 1) hs) (drop (i + 1) bs)
-  behind_line p q e lf = let one : suc k ≡ k + 1 = omega arith in behind_more p q e ∙ rw (eq-eqb (get_or hs i 0) 10 lf) (ap (λ (n : ℕ). behind n (drop (i + 1) hs) (drop (i + 1) bs)) one)
+  pub behind_line : i < length hs → i < length bs → get_or hs i 0 ≡ get_or bs i 0 → get_or hs i 0 ≡ 10 →
+      behind k (drop i hs) (drop i bs) ≡ behind (k + 1) (drop (i + 1) hs) (drop (i + 1) bs)
+  behind_line p q e lf = let one : suc k ≡ k + 1 = omega arith in behind_more p q e
+      ∙ rw (eq-eqb (get_or hs i 0) 10 lf) (ap (λ (n : ℕ). behind n (drop (i + 1) hs) (drop (i + 1) bs)) one)
 
-  pub behind_same : i < length hs → i < length bs → get_or hs i 0 ≡ get_or bs i 0 → get_or hs i 0 ≢ 10 → behind k (drop i hs) (drop i bs) ≡ behind k (drop (i + 1) hs) (drop (i + 1) bs)
+  pub behind_same : i < length hs → i < length bs → get_or hs i 0 ≡ get_or bs i 0 → get_or hs i 0 ≢ 10 →
+      behind k (drop i hs) (drop i bs) ≡ behind k (drop (i + 1) hs) (drop (i + 1) bs)
   behind_same p q e other = behind_more p q e ∙ rw (ne_eqb (get_or hs i 0) 10 other) refl
 
-  pub behind_other : i < length hs → i < length bs → get_or hs i 0 ≢ get_or bs i 0 → behind k (drop i hs) (drop i bs) ≡ Err (record { number = WaveHead; place = places.Line k })
+  pub behind_other : i < length hs → i < length bs → get_or hs i 0 ≢ get_or bs i 0 → behind k (drop i hs) (drop i bs) ≡ Err
+      (record { number = WaveHead; place = places.Line k })
   unfolding behind
   behind_other p q e = rw (drop_more hs i 0 p, drop_more bs i 0 q, ne_eqb (get_or hs i 0) (get_or bs i 0) e) refl
 

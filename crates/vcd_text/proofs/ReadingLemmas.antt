@@ -1,5 +1,6 @@
 -- What each line of a wave leads to, and its end.
-use Rattle.std.proofs.Common.{◌≡◌, ◌+◌, ◌-◌, ℕ, suc, List, [], ◌∷◌, ◌++◌, length, map, Bool, true, false, ◌&&◌, Option, None, Some, Result, Ok, Err, refl, ap, ◌∙◌, sym, arith}
+use Rattle.std.proofs.Common.{◌≡◌, ◌+◌, ◌-◌, ℕ, suc, List, [], ◌∷◌, ◌++◌, length, map, Bool, true, false, ◌&&◌, Option, None, Some, Result, Ok, Err, refl, ap}
+use Rattle.std.proofs.Common.{◌∙◌, sym, arith}
 use Rattle.std.specs.List.{list_all, range_with_len}
 use Rattle.std.proofs.lemmas.Bool.{eqb-true}
 use Rattle.sim_base.specs.declared.fault.Refusal.{Refusal}
@@ -33,7 +34,8 @@ module _ (vs : List Variable) (n : ℕ) where
 
   -- a line of this verdict
   pub line_read : (k : ℕ) (stage : Stage) (cycle : ℕ) (said : List Change) (rest line more : List ℕ) (says : Line) (whole : Result (List Change) Refusal) →
-      from_here k stage cycle said rest ≡ whole → ended_lines rest ≡ line ∷ ended_lines more → unended rest ≡ unended more → says ≡ verdict vs n stage cycle line →
+      from_here k stage cycle said rest ≡ whole → ended_lines rest ≡ line ∷ ended_lines more → unended rest ≡ unended more →
+      says ≡ verdict vs n stage cycle line →
       after says k stage cycle said (λ (stage : Stage) (cycle : ℕ) (said : List Change). from_here (k + 1) stage cycle said more) ≡ whole
   unfolding changes_from
   line_read k stage cycle said rest line more says whole so_far ended last is =
@@ -54,7 +56,8 @@ module _ (vs : List Variable) (n : ℕ) where
       ∙ so_far
 
   -- what the text is read as, by what is wrong at its end
-  module _ (pins k : ℕ) (stage : Stage) (cycle : ℕ) (said : List Change) (rest : List ℕ) (s : TrackStates) (whole : Result (List Change) Refusal) (over given : Bool) (fault : Option Refusal)
+  module _ (pins k : ℕ) (stage : Stage) (cycle : ℕ) (said : List Change) (rest : List ℕ) (s : TrackStates) (whole : Result (List Change) Refusal)
+      (over given : Bool) (fault : Option Refusal)
       (are : AreSaid vs pins cycle said s) (so_far : from_here k stage cycle said rest ≡ whole) (ended : ended_lines rest ≡ []) (last : unended rest ≡ rest)
       (over_is : over ≡ is_over n stage cycle) (given_is : given ≡ list_all (λ (g : Bool). g) s.given) (fault_is : fault ≡ end_fault over given k rest) where
     fault_said : fault ≡ end_fault (is_over n stage cycle) (list_all (is_given said) (range_with_len 0 (length vs))) k rest
@@ -70,7 +73,8 @@ module _ (vs : List Variable) (n : ℕ) where
     read_well none =
         let end : cycle ≡ n = over_at n cycle stage (sym over_is ∙ no_fault over given k rest (sym fault_is ∙ none)) in
         ap (tracks_of vs pins n) (sym whole_is ∙ ap (λ (o : Option Refusal). unless o said) none)
-        ∙ ap (λ (l : List DriveRows). Ok l) (ap (λ (m : ℕ). map (λ (pin : ℕ). rows_to (drive_said vs said pin) (suc m)) (range_with_len 0 pins)) (sym end) ∙ sym (all_rows vs pins cycle said s are))
+        ∙ ap (λ (l : List DriveRows). Ok l) (ap (λ (m : ℕ). map (λ (pin : ℕ). rows_to (drive_said vs said pin) (suc m)) (range_with_len 0 pins)) (sym end)
+        ∙ sym (all_rows vs pins cycle said s are))
 
     pub read_badly : (r : Refusal) → fault ≡ Some r → tracks_of vs pins n whole ≡ Err r
     read_badly r some = ap (tracks_of vs pins n) (sym whole_is ∙ ap (λ (o : Option Refusal). unless o said) some)

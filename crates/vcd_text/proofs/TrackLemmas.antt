@@ -1,11 +1,13 @@
 -- What changes say of pins, change by change.
-use Rattle.std.proofs.Common.{◌≡◌, ◌≢◌, ◌<◌, ◌≤◌, ◌+◌, ◌-◌, ℕ, zero, suc, List, [], ◌∷◌, ◌++◌, length, get_or, take, map, replicate, Bool, true, false, not, ◌&&◌, ◌||◌, ◌==◌, nat_le, if◌then◌else◌, Option, None, Some, refl, ap, arith, ◌∙◌, sym, inl, inr, subst}
+use Rattle.std.proofs.Common.{◌≡◌, ◌≢◌, ◌<◌, ◌≤◌, ◌+◌, ◌-◌, ℕ, zero, suc, List, [], ◌∷◌, ◌++◌, length, get_or, take, map, replicate, Bool, true, false, not}
+use Rattle.std.proofs.Common.{◌&&◌, ◌||◌, ◌==◌, nat_le, if◌then◌else◌, Option, None, Some, refl, ap, arith, ◌∙◌, sym, inl, inr, subst}
 use Rattle.std.specs.Prelude.{slice_get, slice_set}
 use Rattle.std.specs.List.{All, list_all, list_any, range_with_len}
 use Rattle.std.specs.Option.{option_map_or}
 use Rattle.std.proofs.lemmas.Bool.{cases_Bool, cases_eq, eq-eqb, ne_eqb, eqb-true}
 use Rattle.std.proofs.lemmas.Bool.Decides.{nat_tests}
-use Rattle.std.proofs.lemmas.List.{append-nil, get_or-map, get_or-set_same, get_or-set_other, get_or-replicate, length-map, length-replicate, length-set, same_lists}
+use Rattle.std.proofs.lemmas.List.{append-nil, get_or-map, get_or-set_same, get_or-set_other, get_or-replicate, length-map, length-replicate, length-set}
+use Rattle.std.proofs.lemmas.List.{same_lists}
 use Rattle.std.proofs.lemmas.List.Folds.{list_all-map, list_any-append}
 use Rattle.std.proofs.lemmas.List.Elements.{All-append}
 use Rattle.std.proofs.lemmas.List.FromFn.{get_or-map-range_with_len, length-map-range_with_len}
@@ -16,7 +18,8 @@ use Rattle.sim_base.specs.declared.signal.Drive.TheVariants as drives
 use Rattle.text_model.specs.Wave.{Source, Net, Strong, Weak, Variable, char_z}
 use Rattle.vcd_text.specs.Reading.{Change, is_given}
 use Rattle.vcd_text.specs.Tracks.{value_from, is_strong, is_weak, shows, strong_at, weak_at, drive_of, drive_said, same_drive, DriveRows, row_at, rows_to}
-use Rattle.vcd_text.specs.TrackStates.{TrackState, TrackStates, blank, last_row, ends_at, ends_in, without_row, with_row, with_drive, strongly, weakly, at_pin, pins_after, given_after, track_at, AreSaid}
+use Rattle.vcd_text.specs.TrackStates.{TrackState, TrackStates, blank, last_row, ends_at, ends_in, without_row, with_row, with_drive, strongly, weakly}
+use Rattle.vcd_text.specs.TrackStates.{at_pin, pins_after, given_after, track_at, AreSaid}
 
 le_true : (n m : ℕ) → n ≤ m → nat_le n m ≡ true
 le_true n m h = grind (arith, nat_tests, h)
@@ -80,7 +83,8 @@ last_behind : (rows : DriveRows) (row : ℕ × Drive) → last_row (rows ++ row 
 last_behind rows row =
     let n : length (rows ++ row ∷ []) - 1 ≡ length rows = omega (arith, longer rows row) in
     let inside : length rows < length (rows ++ row ∷ []) = omega (arith, longer rows row) in
-    ap (λ (k : ℕ). slice_get (rows ++ row ∷ []) k) n ∙ slice_get-get_or (rows ++ row ∷ []) (length rows) row inside ∙ ap (λ (r : ℕ × Drive). Some r) (get_or-append_seam rows row [] row)
+    ap (λ (k : ℕ). slice_get (rows ++ row ∷ []) k) n ∙ slice_get-get_or (rows ++ row ∷ []) (length rows) row inside
+    ∙ ap (λ (r : ℕ × Drive). Some r) (get_or-append_seam rows row [] row)
 
 take_behind : (rows : DriveRows) (row : ℕ × Drive) → take (length (rows ++ row ∷ []) - 1) (rows ++ row ∷ []) ≡ rows
 take_behind rows row =
@@ -116,12 +120,14 @@ module _ (f : ℕ → Drive) where
   off (suc t) = elim (cases_Bool (same_drive (f t) (f (suc t)))) [
     | inl same ↦
         let whole : rows_to f (suc (suc t)) ≡ rows_to f (suc t) = rw same (append-nil (rows_to f (suc t))) in
-        ap (λ (l : DriveRows). without_row l (suc t)) whole ∙ ap (λ (b : Bool). if b then take (length (rows_to f (suc t)) - 1) (rows_to f (suc t)) else rows_to f (suc t)) (none_at (suc t))
+        ap (λ (l : DriveRows). without_row l (suc t)) whole
+        ∙ ap (λ (b : Bool). if b then take (length (rows_to f (suc t)) - 1) (rows_to f (suc t)) else rows_to f (suc t)) (none_at (suc t))
     | inr other ↦
         let row : ℕ × Drive = (suc t, f (suc t)) in
         let whole : rows_to f (suc (suc t)) ≡ rows_to f (suc t) ++ row ∷ [] = rw other refl in
         let at : ends_at (rows_to f (suc t) ++ row ∷ []) (suc t) ≡ true =
-        ap (λ (o : Option (ℕ × Drive)). option_map_or (λ (row : ℕ × Drive). row.0 == suc t) o false) (last_behind (rows_to f (suc t)) row) ∙ eq-eqb (suc t) (suc t) refl in
+        ap (λ (o : Option (ℕ × Drive)). option_map_or (λ (row : ℕ × Drive). row.0 == suc t) o false) (last_behind (rows_to f (suc t)) row)
+        ∙ eq-eqb (suc t) (suc t) refl in
         ap (λ (l : DriveRows). without_row l (suc t)) whole
         ∙ ap (λ (b : Bool). if b then take (length (rows_to f (suc t) ++ row ∷ []) - 1) (rows_to f (suc t) ++ row ∷ []) else rows_to f (suc t) ++ row ∷ []) at
         ∙ take_behind (rows_to f (suc t)) row
@@ -132,7 +138,8 @@ module _ (f : ℕ → Drive) where
   on (suc t) =
       let last = last_is t in
       let row : ℕ × Drive = (suc t, f (suc t)) in
-      let in_it : ends_in (rows_to f (suc t)) (f (suc t)) ≡ same_drive (f t) (f (suc t)) = ap (λ (o : Option (ℕ × Drive)). option_map_or (λ (row : ℕ × Drive). same_drive row.1 (f (suc t))) o false) last.2 in
+      let in_it : ends_in (rows_to f (suc t)) (f (suc t)) ≡ same_drive (f t) (f (suc t)) =
+      ap (λ (o : Option (ℕ × Drive)). option_map_or (λ (row : ℕ × Drive). same_drive row.1 (f (suc t))) o false) last.2 in
       ap (λ (b : Bool). if b then rows_to f (suc t) else rows_to f (suc t) ++ row ∷ []) in_it ∙ join (rows_to f (suc t)) row (same_drive (f t) (f (suc t)))
 
   -- nothing changes from a cycle on
@@ -141,7 +148,8 @@ module _ (f : ℕ → Drive) where
   rows_still c (suc k) still =
       let more : c + suc k ≡ suc (c + k) = omega arith in
       let same : same_drive (f (c + k)) (f (suc (c + k))) ≡ true =
-      ap (λ (d : Drive). same_drive d (f (suc (c + k)))) (still (c + k) (omega arith)) ∙ ap (λ (d : Drive). same_drive (f c) d) (still (suc (c + k)) (omega arith)) ∙ same_refl (f c) in
+      ap (λ (d : Drive). same_drive d (f (suc (c + k)))) (still (c + k) (omega arith))
+      ∙ ap (λ (d : Drive). same_drive (f c) d) (still (suc (c + k)) (omega arith)) ∙ same_refl (f c) in
       let step : rows_to f (suc (suc (c + k))) ≡ rows_to f (suc (c + k)) = rw same (append-nil (rows_to f (suc (c + k)))) in
       ap (λ (n : ℕ). rows_to f (suc n)) more ∙ step ∙ rows_still c k still
 
@@ -160,7 +168,8 @@ rows_set : (f g : ℕ → Drive) (t : ℕ) → ((u : ℕ) → u < t → f u ≡ 
 rows_set f g t same = ap (λ (l : DriveRows). with_row l t (g t)) (off f t ∙ rows_same f g t same) ∙ on g t
 
 module _ (test : Change → Bool) where
-  value_push : (said : List Change) (found : ℕ) (c : Change) (t : ℕ) → value_from test found (said ++ c ∷ []) t ≡ (if test c && nat_le c.cycle t then c.value else value_from test found said t)
+  value_push : (said : List Change) (found : ℕ) (c : Change) (t : ℕ) →
+      value_from test found (said ++ c ∷ []) t ≡ (if test c && nat_le c.cycle t then c.value else value_from test found said t)
   value_push [] found c t = refl
   value_push (d ∷ said) found c t = value_push said (if test d && nat_le d.cycle t then d.value else found) c t
 
@@ -177,10 +186,12 @@ module _ (test : Change → Bool) where
   value_now : (said : List Change) (found : ℕ) (c : Change) (t : ℕ) → test c ≡ true → c.cycle ≤ t → value_from test found (said ++ c ∷ []) t ≡ c.value
   value_now said found c t e least = value_push said found c t ∙ rw (e, le_true c.cycle t least) refl
 
-  value_still : (said : List Change) (found k t : ℕ) → All (λ (d : Change). d.cycle ≤ k) said → k ≤ t → value_from test found said t ≡ value_from test found said k
+  value_still : (said : List Change) (found k t : ℕ) → All (λ (d : Change). d.cycle ≤ k) said → k ≤ t →
+      value_from test found said t ≡ value_from test found said k
   value_still [] found k t all later = refl
   value_still (c ∷ said) found k t all later =
-      rw (le_true c.cycle t (omega (arith, first_of all, later)), le_true c.cycle k (first_of all)) (value_still said (if test c && true then c.value else found) k t (rest_of all) later)
+      rw (le_true c.cycle t (omega (arith, first_of all, later)), le_true c.cycle k (first_of all))
+      (value_still said (if test c && true then c.value else found) k t (rest_of all) later)
     where
       first_of : All (λ (d : Change). d.cycle ≤ k) (c ∷ said) → c.cycle ≤ k
       first_of a = a 0 c (omega arith)
@@ -188,7 +199,8 @@ module _ (test : Change → Bool) where
       rest_of : All (λ (d : Change). d.cycle ≤ k) (c ∷ said) → All (λ (d : Change). d.cycle ≤ k) said
       rest_of a = λ (k : ℕ) (d : Change) (p : k < length said). a (suc k) d (omega (arith, p))
 
-track_is : (a b c d : ℕ) (r s : DriveRows) → a ≡ b → c ≡ d → r ≡ s → ◌≡◌ {A = TrackState} (record { strong = a; weak = c; rows = r }) (record { strong = b; weak = d; rows = s })
+track_is : (a b c d : ℕ) (r s : DriveRows) → a ≡ b → c ≡ d → r ≡ s → ◌≡◌ {A = TrackState} (record { strong = a; weak = c; rows = r })
+    (record { strong = b; weak = d; rows = s })
 track_is a b c d r s e f g =
     ap (λ (x : ℕ). made x c r) e ∙ ap (λ (x : ℕ). made b x r) f ∙ ap (λ (x : DriveRows). made b d x) g
   where
@@ -201,7 +213,8 @@ drive_is a b c d e f = ap (λ (x : ℕ). drive_of x c) e ∙ ap (λ (x : ℕ). d
 module _ (vs : List Variable) (said : List Change) where
   -- later nothing else is said
   still_at : (k pin t : ℕ) → All (λ (d : Change). d.cycle ≤ k) said → k ≤ t → drive_said vs said pin t ≡ drive_said vs said pin k
-  still_at k pin t all later = drive_is _ _ _ _ (value_still (shows vs (is_strong pin)) said char_z k t all later) (value_still (shows vs (is_weak pin)) said char_z k t all later)
+  still_at k pin t all later =
+      drive_is _ _ _ _ (value_still (shows vs (is_strong pin)) said char_z k t all later) (value_still (shows vs (is_weak pin)) said char_z k t all later)
 
   track_later : (k pin t : ℕ) → All (λ (d : Change). d.cycle ≤ k) said → k ≤ t → track_at vs said t pin ≡ track_at vs said k pin
   track_later k pin t all later =
@@ -221,36 +234,46 @@ module _ (vs : List Variable) (said : List Change) where
 
     -- before the change all is as it was
     as_before : (pin u : ℕ) → u < c.cycle → f pin u ≡ g pin u
-    as_before pin u less = sym (drive_is _ _ _ _ (value_before (shows vs (is_strong pin)) said char_z c u less) (value_before (shows vs (is_weak pin)) said char_z c u less))
+    as_before pin u less =
+        sym (drive_is _ _ _ _ (value_before (shows vs (is_strong pin)) said char_z c u less) (value_before (shows vs (is_weak pin)) said char_z c u less))
 
-    track_other : (pin : ℕ) → shows vs (is_strong pin) c ≡ false → shows vs (is_weak pin) c ≡ false → track_at vs more c.cycle pin ≡ track_at vs said c.cycle pin
+    track_other : (pin : ℕ) → shows vs (is_strong pin) c ≡ false → shows vs (is_weak pin) c ≡ false →
+        track_at vs more c.cycle pin ≡ track_at vs said c.cycle pin
     track_other pin a b =
         track_is _ _ _ _ _ _ (value_other (shows vs (is_strong pin)) said char_z c c.cycle a) (value_other (shows vs (is_weak pin)) said char_z c c.cycle b)
-        (rows_same (g pin) (f pin) (suc c.cycle) (λ u p. drive_is _ _ _ _ (value_other (shows vs (is_strong pin)) said char_z c u a) (value_other (shows vs (is_weak pin)) said char_z c u b)))
+        (rows_same (g pin) (f pin) (suc c.cycle)
+        (λ u p. drive_is _ _ _ _ (value_other (shows vs (is_strong pin)) said char_z c u a) (value_other (shows vs (is_weak pin)) said char_z c u b)))
 
-    track_strong : (pin : ℕ) → shows vs (is_strong pin) c ≡ true → shows vs (is_weak pin) c ≡ false → track_at vs more c.cycle pin ≡ strongly (track_at vs said c.cycle pin) c.cycle c.value
+    track_strong : (pin : ℕ) → shows vs (is_strong pin) c ≡ true → shows vs (is_weak pin) c ≡ false →
+        track_at vs more c.cycle pin ≡ strongly (track_at vs said c.cycle pin) c.cycle c.value
     track_strong pin a b =
         let strong = value_now (shows vs (is_strong pin)) said char_z c c.cycle a (omega arith) in
         let weak = value_other (shows vs (is_weak pin)) said char_z c c.cycle b in
         let now : g pin c.cycle ≡ drive_of c.value (weak_at vs said pin c.cycle) = drive_is _ _ _ _ strong weak in
-        track_is _ _ _ _ _ _ strong weak (sym (rows_set (f pin) (g pin) c.cycle (as_before pin)) ∙ ap (λ (d : Drive). with_drive (rows_to (f pin) (suc c.cycle)) c.cycle d) now)
+        track_is _ _ _ _ _ _ strong weak (sym (rows_set (f pin) (g pin) c.cycle (as_before pin))
+        ∙ ap (λ (d : Drive). with_drive (rows_to (f pin) (suc c.cycle)) c.cycle d) now)
 
-    track_weak : (pin : ℕ) → shows vs (is_strong pin) c ≡ false → shows vs (is_weak pin) c ≡ true → track_at vs more c.cycle pin ≡ weakly (track_at vs said c.cycle pin) c.cycle c.value
+    track_weak : (pin : ℕ) → shows vs (is_strong pin) c ≡ false → shows vs (is_weak pin) c ≡ true →
+        track_at vs more c.cycle pin ≡ weakly (track_at vs said c.cycle pin) c.cycle c.value
     track_weak pin a b =
         let strong = value_other (shows vs (is_strong pin)) said char_z c c.cycle a in
         let weak = value_now (shows vs (is_weak pin)) said char_z c c.cycle b (omega arith) in
         let now : g pin c.cycle ≡ drive_of (strong_at vs said pin c.cycle) c.value = drive_is _ _ _ _ strong weak in
-        track_is _ _ _ _ _ _ strong weak (sym (rows_set (f pin) (g pin) c.cycle (as_before pin)) ∙ ap (λ (d : Drive). with_drive (rows_to (f pin) (suc c.cycle)) c.cycle d) now)
+        track_is _ _ _ _ _ _ strong weak (sym (rows_set (f pin) (g pin) c.cycle (as_before pin))
+        ∙ ap (λ (d : Drive). with_drive (rows_to (f pin) (suc c.cycle)) c.cycle d) now)
 
 -- an item that is set, and the others
 set_same : {X : Type 0} (xs : List X) (i : ℕ) (x : X) → i < length xs → slice_get (slice_set xs i x) i ≡ Some x
 set_same xs i x less = slice_get-get_or (slice_set xs i x) i x (omega (arith, less, length-set xs i x)) ∙ ap Some (get_or-set_same xs i x x less)
 
 set_other : {X : Type 0} (xs : List X) (i j : ℕ) (x : X) → j < length xs → j ≢ i → slice_get (slice_set xs i x) j ≡ slice_get xs j
-set_other xs i j x less far = slice_get-get_or (slice_set xs i x) j x (omega (arith, less, length-set xs i x)) ∙ ap Some (get_or-set_other xs i j x x far) ∙ sym (slice_get-get_or xs j x less)
+set_other xs i j x less far = slice_get-get_or (slice_set xs i x) j x (omega (arith, less, length-set xs i x)) ∙ ap Some (get_or-set_other xs i j x x far)
+    ∙ sym (slice_get-get_or xs j x less)
 
-at_same : (h : TrackState → TrackState) (pins : List TrackState) (p : ℕ) (s : TrackState) → slice_get pins p ≡ Some s → slice_get (at_pin h pins p) p ≡ Some (h s)
-at_same h pins p s at = ap (λ (o : Option TrackState). slice_get (option_map_or (λ (s : TrackState). slice_set pins p (h s)) o pins) p) at ∙ set_same pins p (h s) (slice_get_within pins p s at)
+at_same : (h : TrackState → TrackState) (pins : List TrackState) (p : ℕ) (s : TrackState) → slice_get pins p ≡ Some s →
+    slice_get (at_pin h pins p) p ≡ Some (h s)
+at_same h pins p s at = ap (λ (o : Option TrackState). slice_get (option_map_or (λ (s : TrackState). slice_set pins p (h s)) o pins) p) at
+    ∙ set_same pins p (h s) (slice_get_within pins p s at)
 
 at_other : (h : TrackState → TrackState) (pins : List TrackState) (q p : ℕ) → p < length pins → p ≢ q → slice_get (at_pin h pins q) p ≡ slice_get pins p
 at_other h pins q p less far = go (slice_get pins q)
@@ -277,15 +300,18 @@ module _ (vs : List Variable) (said : List Change) (c : Change) (v : Variable) (
 
   pin_after : (source : Source) → v.shows ≡ source → (pins : List TrackState) (p : ℕ) → slice_get pins p ≡ Some (track_at vs said c.cycle p) →
       slice_get (pins_after pins source c.cycle c.value) p ≡ Some (track_at vs (said ++ c ∷ []) c.cycle p)
-  pin_after (Net n) e pins p at = at ∙ ap Some (sym (track_other vs said c p (shows_is (is_strong p) ∙ ap (is_strong p) e) (shows_is (is_weak p) ∙ ap (is_weak p) e)))
+  pin_after (Net n) e pins p at = at
+      ∙ ap Some (sym (track_other vs said c p (shows_is (is_strong p) ∙ ap (is_strong p) e) (shows_is (is_weak p) ∙ ap (is_weak p) e)))
   pin_after (Strong q) e pins p at = elim (cases_eq q p) [
-    | inl same ↦ ap (λ (k : ℕ). slice_get (at_pin (λ (s : TrackState). strongly s c.cycle c.value) pins k) p) same ∙ at_same (λ s. strongly s c.cycle c.value) pins p (track_at vs said c.cycle p) at
+    | inl same ↦ ap (λ (k : ℕ). slice_get (at_pin (λ (s : TrackState). strongly s c.cycle c.value) pins k) p) same
+        ∙ at_same (λ s. strongly s c.cycle c.value) pins p (track_at vs said c.cycle p) at
         ∙ ap Some (sym (track_strong vs said c p (shows_is (is_strong p) ∙ ap (is_strong p) e ∙ eq-eqb q p same) (shows_is (is_weak p) ∙ ap (is_weak p) e)))
     | inr far ↦ at_other (λ s. strongly s c.cycle c.value) pins q p (slice_get_within pins p (track_at vs said c.cycle p) at) (λ e. far (sym e)) ∙ at
         ∙ ap Some (sym (track_other vs said c p (shows_is (is_strong p) ∙ ap (is_strong p) e ∙ ne_eqb q p far) (shows_is (is_weak p) ∙ ap (is_weak p) e)))
   ]
   pin_after (Weak q) e pins p at = elim (cases_eq q p) [
-    | inl same ↦ ap (λ (k : ℕ). slice_get (at_pin (λ (s : TrackState). weakly s c.cycle c.value) pins k) p) same ∙ at_same (λ s. weakly s c.cycle c.value) pins p (track_at vs said c.cycle p) at
+    | inl same ↦ ap (λ (k : ℕ). slice_get (at_pin (λ (s : TrackState). weakly s c.cycle c.value) pins k) p) same
+        ∙ at_same (λ s. weakly s c.cycle c.value) pins p (track_at vs said c.cycle p) at
         ∙ ap Some (sym (track_weak vs said c p (shows_is (is_strong p) ∙ ap (is_strong p) e) (shows_is (is_weak p) ∙ ap (is_weak p) e ∙ eq-eqb q p same)))
     | inr far ↦ at_other (λ s. weakly s c.cycle c.value) pins q p (slice_get_within pins p (track_at vs said c.cycle p) at) (λ e. far (sym e)) ∙ at
         ∙ ap Some (sym (track_other vs said c p (shows_is (is_strong p) ∙ ap (is_strong p) e) (shows_is (is_weak p) ∙ ap (is_weak p) e ∙ ne_eqb q p far)))
@@ -313,19 +339,24 @@ off_second true true e = absurd cc
 off_second true false e = refl
 off_second false b e = refl
 
-given_push : (said : List Change) (c : Change) (given : List Bool) (j : ℕ) → slice_get given j ≡ Some (is_given said j) → slice_get (given_after given c.variable c.cycle) j ≡ Some (is_given (said ++ c ∷ []) j)
+given_push : (said : List Change) (c : Change) (given : List Bool) (j : ℕ) → slice_get given j ≡ Some (is_given said j) →
+    slice_get (given_after given c.variable c.cycle) j ≡ Some (is_given (said ++ c ∷ []) j)
 given_push said c given j at =
-    let more : is_given (said ++ c ∷ []) j ≡ (is_given said j || ((c.cycle == 0 && c.variable == j) || false)) = list_any-append (λ (d : Change). d.cycle == 0 && d.variable == j) said (c ∷ []) in
+    let more : is_given (said ++ c ∷ []) j ≡ (is_given said j || ((c.cycle == 0 && c.variable == j) || false)) =
+    list_any-append (λ (d : Change). d.cycle == 0 && d.variable == j) said (c ∷ []) in
     let less = slice_get_within given j (is_given said j) at in
     elim (cases_Bool (c.cycle == 0)) [
       | inl now ↦ ap (λ (b : Bool). slice_get (if b then slice_set given c.variable true else given) j) now ∙ elim (cases_eq c.variable j) [
         | inl same ↦ ap (λ (k : ℕ). slice_get (slice_set given k true) j) same ∙ set_same given j true less
-            ∙ ap (λ (b : Bool). Some b) (sym (more ∙ ap (λ (b : Bool). is_given said j || b) (both_on (c.cycle == 0) (c.variable == j) now (eq-eqb c.variable j same)) ∙ or_all (is_given said j)))
+            ∙ ap (λ (b : Bool). Some b) (sym (more
+            ∙ ap (λ (b : Bool). is_given said j || b) (both_on (c.cycle == 0) (c.variable == j) now (eq-eqb c.variable j same)) ∙ or_all (is_given said j)))
         | inr far ↦ set_other given c.variable j true less (λ e. far (sym e)) ∙ at
-            ∙ ap (λ (b : Bool). Some b) (sym (more ∙ ap (λ (b : Bool). is_given said j || b) (off_second (c.cycle == 0) (c.variable == j) (ne_eqb c.variable j far)) ∙ or_false (is_given said j)))
+            ∙ ap (λ (b : Bool). Some b) (sym (more
+            ∙ ap (λ (b : Bool). is_given said j || b) (off_second (c.cycle == 0) (c.variable == j) (ne_eqb c.variable j far)) ∙ or_false (is_given said j)))
       ]
       | inr later ↦ ap (λ (b : Bool). slice_get (if b then slice_set given c.variable true else given) j) later ∙ at
-          ∙ ap (λ (b : Bool). Some b) (sym (more ∙ ap (λ (b : Bool). is_given said j || b) (off_first (c.cycle == 0) (c.variable == j) later) ∙ or_false (is_given said j)))
+          ∙ ap (λ (b : Bool). Some b) (sym (more ∙ ap (λ (b : Bool). is_given said j || b) (off_first (c.cycle == 0) (c.variable == j) later)
+          ∙ or_false (is_given said j)))
     ]
 
 given_long : (given : List Bool) (i cycle : ℕ) → length (given_after given i cycle) ≡ length given
@@ -338,7 +369,8 @@ given_long given i cycle = go (cycle == 0)
 module _ (vs : List Variable) (pins : ℕ) where
   -- one more change in the cycle
   pub said_more : (cycle value i : ℕ) (said : List Change) (s : TrackStates) (v : Variable) → slice_get vs i ≡ Some v → AreSaid vs pins cycle said s →
-      AreSaid vs pins cycle (said ++ record { cycle = cycle; variable = i; value = value } ∷ []) (record { given = given_after s.given i cycle; pins = pins_after s.pins v.shows cycle value })
+      AreSaid vs pins cycle (said ++ record { cycle = cycle; variable = i; value = value } ∷ [])
+      (record { given = given_after s.given i cycle; pins = pins_after s.pins v.shows cycle value })
   said_more cycle value i said s v here is = record {
     so_far = All-append (λ (c : Change). c.cycle ≤ cycle) said (c ∷ []) is.so_far (λ k d p. one k d p);
     all_pins = after_long s.pins v.shows cycle value ∙ is.all_pins;
@@ -370,19 +402,27 @@ module _ (vs : List Variable) (pins : ℕ) where
     so_far = λ k d p. absurd (omega (arith, p));
     all_pins = ap (λ (l : List TrackState). length l) f ∙ length-replicate pins blank;
     all_variables = ap (λ (l : List Bool). length l) e ∙ length-replicate (length vs) false;
-    tracks = λ p less. ap (λ (l : List TrackState). slice_get l p) f ∙ slice_get-get_or (replicate pins blank) p blank (omega (arith, less, length-replicate pins blank)) ∙ ap Some (get_or-replicate pins p blank blank less);
-    given = λ i less. ap (λ (l : List Bool). slice_get l i) e ∙ slice_get-get_or (replicate (length vs) false) i false (omega (arith, less, length-replicate (length vs) false)) ∙ ap Some (get_or-replicate (length vs) i false false less);
+    tracks = λ p less. ap (λ (l : List TrackState). slice_get l p) f
+        ∙ slice_get-get_or (replicate pins blank) p blank (omega (arith, less, length-replicate pins blank))
+        ∙ ap Some (get_or-replicate pins p blank blank less);
+    given = λ i less. ap (λ (l : List Bool). slice_get l i) e
+        ∙ slice_get-get_or (replicate (length vs) false) i false (omega (arith, less, length-replicate (length vs) false))
+        ∙ ap Some (get_or-replicate (length vs) i false false less);
   }
 
-  pub all_given : (cycle : ℕ) (said : List Change) (s : TrackStates) → AreSaid vs pins cycle said s → list_all (λ (g : Bool). g) s.given ≡ list_all (is_given said) (range_with_len 0 (length vs))
+  pub all_given : (cycle : ℕ) (said : List Change) (s : TrackStates) → AreSaid vs pins cycle said s →
+      list_all (λ (g : Bool). g) s.given ≡ list_all (is_given said) (range_with_len 0 (length vs))
   all_given cycle said s is = ap (list_all (λ (g : Bool). g)) same ∙ list_all-map (λ (g : Bool). g) (is_given said) (range_with_len 0 (length vs))
     where
       same : s.given ≡ map (is_given said) (range_with_len 0 (length vs))
-      same = same_lists s.given (map (is_given said) (range_with_len 0 (length vs))) (is.all_variables ∙ sym (length-map-range_with_len (is_given said) 0 (length vs)))
+      same = same_lists s.given (map (is_given said) (range_with_len 0 (length vs))) (is.all_variables
+          ∙ sym (length-map-range_with_len (is_given said) 0 (length vs)))
           (λ k d p. (let less : k < length vs = omega (arith, p, is.all_variables) in
-          get_or_from_slice_get s.given k (is_given said k) d (is.given k less) ∙ sym (get_or-map-range_with_len (is_given said) 0 (length vs) k k d less (omega arith))))
+          get_or_from_slice_get s.given k (is_given said k) d (is.given k less)
+          ∙ sym (get_or-map-range_with_len (is_given said) 0 (length vs) k k d less (omega arith))))
 
-  pub all_rows : (cycle : ℕ) (said : List Change) (s : TrackStates) → AreSaid vs pins cycle said s → map (λ (t : TrackState). t.rows) s.pins ≡ map (λ (pin : ℕ). rows_to (drive_said vs said pin) (suc cycle)) (range_with_len 0 pins)
+  pub all_rows : (cycle : ℕ) (said : List Change) (s : TrackStates) → AreSaid vs pins cycle said s →
+      map (λ (t : TrackState). t.rows) s.pins ≡ map (λ (pin : ℕ). rows_to (drive_said vs said pin) (suc cycle)) (range_with_len 0 pins)
   all_rows cycle said s is =
       same_lists (map (λ (t : TrackState). t.rows) s.pins) (map rows (range_with_len 0 pins))
       (length-map s.pins (λ (t : TrackState). t.rows) ∙ is.all_pins ∙ sym (length-map-range_with_len rows 0 pins))

@@ -1,6 +1,7 @@
 -- The wave that a text is, as it is read: the text that a writer leaves, but that the values of one time may stand in any order, and
 -- that a value may be given again (IEEE 1364-2005, clause 18; the form and the order of its rules are the profile's).
-use Rattle.std.specs.Prelude.{ℕ, suc, ◌+◌, ◌-◌, ◌*◌, ◌/◌, ◌%◌, nat_lt, nat_le, ◌==◌, Bool, true, false, not, ◌&&◌, ◌||◌, if◌then◌else◌, List, [], ◌∷◌, ◌++◌, length, codes, Option, None, Some, slice_get, Result, Ok, Err}
+use Rattle.std.specs.Prelude.{ℕ, suc, ◌+◌, ◌-◌, ◌*◌, ◌/◌, ◌%◌, nat_lt, nat_le, ◌==◌, Bool, true, false, not, ◌&&◌, ◌||◌, if◌then◌else◌, List, [], ◌∷◌, ◌++◌}
+use Rattle.std.specs.Prelude.{length, codes, Option, None, Some, slice_get, Result, Ok, Err}
 use Rattle.std.specs.List.{list_all, list_any, range_with_len}
 use Rattle.std.specs.Char.{is_ascii_digit}
 use Rattle.std.specs.Str.{bytes_eq}
@@ -133,7 +134,8 @@ unless None said = Ok said
 unless (Some r) said = Err r
 
 abbrev pub at_end : List Variable → ℕ → ℕ → Stage → ℕ → List Change → List ℕ → Result (List Change) Refusal
-at_end variables n k stage cycle said rest = unless (end_fault (is_over n stage cycle) (list_all (is_given said) (range_with_len 0 (length variables))) k rest) said
+at_end variables n k stage cycle said rest =
+    unless (end_fault (is_over n stage cycle) (list_all (is_given said) (range_with_len 0 (length variables))) k rest) said
 
 -- the changes that the lines from number k on say, and what stands behind them
 unfoldable pub changes_from : List Variable → ℕ → List ℕ → ℕ → Stage → ℕ → List Change → List (List ℕ) → Result (List Change) Refusal

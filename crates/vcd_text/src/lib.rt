@@ -1,7 +1,8 @@
 //! The wave of a run as a value change dump (IEEE 1364-2005, clause 18, "Value change dump (VCD)
-//! files"), written while the run goes on, and the bytes of the serial port.
+//! files"), written while the run goes on, and the bytes of the serial port; and a wave that is read.
 //! A writer's ports hold exactly the text of the rows and the bytes that it was handed, or a first
-//! part of it after a write that failed; only `WaveHead::of` takes memory.
+//! part of it after a write that failed. `read_wave` answers what its text says, or the first refusal
+//! with its line. Only it and `WaveHead::of` take memory.
 #![tactic(auto)]
 
 mod buffer;

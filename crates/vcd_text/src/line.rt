@@ -8,7 +8,8 @@ ghost use Rattle.sim_base.specs.declared.limits.TheConstants.{MOST_CYCLES};
 ghost use Rattle.vcd_text.specs.Variables.{source_of, variables_of};
 ghost use Rattle.std.specs.Str.{bytes_eq};
 ghost use Rattle.sim_base.specs.Refusals.{WaveLine};
-ghost use Rattle.vcd_text.specs.Reading.{is_decimal, is_printable, is_value, judged, number_of, shows_net, time_said, value_of_number, value_said, verdict, behind_value, is_over};
+ghost use Rattle.vcd_text.specs.Reading.{is_decimal, is_printable, is_value, judged, number_of, shows_net, time_said, value_of_number, value_said, verdict};
+ghost use Rattle.vcd_text.specs.Reading.{behind_value, is_over};
 ghost use Rattle.vcd_text.specs.Lines.{latest, IsFitting};
 
 use crate::variable::{Source, Variable};

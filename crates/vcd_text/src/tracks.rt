@@ -201,7 +201,10 @@ impl Tracks {
         value: u8,
     ) -> Result<(), OutOfMemory>
         requires { i < length self.old.given }
-        ensures { OnOk result (self.new ≡ record { given = given_after self.old.given i cycle; pins = pins_after self.old.pins (source_of shows) cycle value }) }
+        ensures { OnOk result (self.new ≡ record {
+          given = given_after self.old.given i cycle;
+          pins = pins_after self.old.pins (source_of shows) cycle value;
+        }) }
     {
         if cycle == 0 {
             self.given[i] = true;

@@ -8,8 +8,11 @@ pub returns-then-i-bytes-clause-behind : goal.returns-then-i-bytes-clause-behind
 returns-then-i-bytes-clause-behind c =
     let l = c.loop-i in
     rw c.refused.ensures (sym l.invariant.behind ∙ elim c.then-i-bytes.branch [
-      | then-i-bytes-via-then-i-bytes w ↦ (let past = w.if-i-bytes.true in behind_short l.number l.i c.args.head.now c.args.bytes.now c.loop-i-test.true (omega (arith, past)))
-      | then-i-bytes-via-else-i-bytes+then-head-i w ↦ (let inside = w.if-i-bytes.false in behind_other l.number l.i c.args.head.now c.args.bytes.now c.loop-i-test.true (omega (arith, inside)) w.if-head-i.true)
+      | then-i-bytes-via-then-i-bytes w ↦
+          (let past = w.if-i-bytes.true in behind_short l.number l.i c.args.head.now c.args.bytes.now c.loop-i-test.true (omega (arith, past)))
+      | then-i-bytes-via-else-i-bytes+then-head-i w ↦
+          (let inside = w.if-i-bytes.false in behind_other l.number l.i c.args.head.now c.args.bytes.now c.loop-i-test.true
+          (omega (arith, inside)) w.if-head-i.true)
     ])
 
 pub loop-i-preserved : goal.loop-i-preserved
@@ -18,13 +21,17 @@ loop-i-preserved c =
     let inside = c.if-i-bytes.false in
     elim c.if-head-i-eq10.branch [
       | then-head-i-eq10 w ↦ record {
-        behind = rw w.number-is (sym (behind_line l.number l.i c.args.head.now c.args.bytes.now c.loop-i-test.true (omega (arith, inside)) c.if-head-i.false w.if-head-i-eq10.true) ∙ l.invariant.behind);
+        behind =
+            rw w.number-is (sym (behind_line l.number l.i c.args.head.now c.args.bytes.now c.loop-i-test.true
+            (omega (arith, inside)) c.if-head-i.false w.if-head-i-eq10.true) ∙ l.invariant.behind);
         within = omega (arith, inside);
         number = rw w.number-is (let n = l.invariant.number in omega (arith, n));
         first = rw w.number-is (omega arith);
       }
       | else-head-i-eq10 w ↦ record {
-        behind = rw w.number-is (sym (behind_same l.number l.i c.args.head.now c.args.bytes.now c.loop-i-test.true (omega (arith, inside)) c.if-head-i.false w.if-head-i-eq10.false) ∙ l.invariant.behind);
+        behind =
+            rw w.number-is (sym (behind_same l.number l.i c.args.head.now c.args.bytes.now c.loop-i-test.true
+            (omega (arith, inside)) c.if-head-i.false w.if-head-i-eq10.false) ∙ l.invariant.behind);
         within = omega (arith, inside);
         number = rw w.number-is (let n = l.invariant.number in omega (arith, n));
         first = rw w.number-is l.invariant.first;
@@ -37,4 +44,5 @@ returns-clause-behind c =
     let past = c.loop-i-test.false in
     let end : l.i ≡ length c.args.head.now = omega (arith, past, l.auto.i-end) in
     rw (take_rest c.args.bytes.now (length c.args.head.now))
-    (sym l.invariant.behind ∙ behind_done l.number l.i c.args.head.now c.args.bytes.now (omega (arith, past)) ∙ ap (λ (j : ℕ). Ok (l.number, drop j c.args.bytes.now)) end)
+    (sym l.invariant.behind ∙ behind_done l.number l.i c.args.head.now c.args.bytes.now (omega (arith, past))
+    ∙ ap (λ (j : ℕ). Ok (l.number, drop j c.args.bytes.now)) end)

@@ -1,4 +1,5 @@
-use Rattle.std.proofs.Common.{◌≡◌, ◌<◌, ◌+◌, ◌∙◌, ℕ, List, [], ◌∷◌, ◌++◌, length, get_or, map, replicate, false, Bool, Option, Some, Ok, Err, sym, ap, subst, arith}
+use Rattle.std.proofs.Common.{◌≡◌, ◌<◌, ◌+◌, ◌∙◌, ℕ, List, [], ◌∷◌, ◌++◌, length, get_or, map, replicate, false, Bool, Option, Some, Ok, Err, sym, ap, subst}
+use Rattle.std.proofs.Common.{arith}
 use Rattle.std.specs.Prelude.{slice_get}
 use Rattle.std.specs.Option.{option_map}
 use Rattle.std.proofs.lemmas.List.{length-map}
@@ -29,7 +30,8 @@ loop-line-init c =
         said_none c.args.head.now.variables c.args.pins c.in_ok-tracks.tracks
             (ap (λ (s : TrackStates). s.given) c.in_ok-tracks.ensures ∙ ap (λ (n : ℕ). replicate n false) many)
             (ap (λ (s : TrackStates). s.pins) c.in_ok-tracks.ensures),
-        sym (ap (changes_behind c.args.head.now.variables c.args.n) (ap (λ (h : List ℕ). behind 1 h c.args.bytes.now) (sym c.head_bytes.ensures) ∙ c.in-Ok.ensures.behind)),
+        sym (ap (changes_behind c.args.head.now.variables c.args.n) (ap (λ (h : List ℕ). behind 1 h c.args.bytes.now) (sym c.head_bytes.ensures)
+            ∙ c.in-Ok.ensures.behind)),
       );
     }
 
@@ -39,7 +41,9 @@ returns-in-Faulty-clause-reads c =
     let vs = c.args.head.now.variables in
     let is : says.Faulty c.in-Faulty.fault ≡ verdict vs c.args.n l.stage l.cycle c.in-Some.line.now =
     c.in-Faulty.ensures.said ∙ ap (λ (v : List Variable). verdict v c.args.n l.stage l.cycle c.in-Some.line.now) c.variables-variables.ensures in
-    ap (tracks_of vs c.args.pins c.args.n) (sym (line_read vs c.args.n l.number l.stage l.cycle l.invariant.said.0 l.rest.now c.in-Some.line.now c.in-Some.more.now (says.Faulty c.in-Faulty.fault) _
+    ap (tracks_of vs c.args.pins c.args.n)
+    (sym (line_read vs c.args.n l.number l.stage l.cycle l.invariant.said.0 l.rest.now c.in-Some.line.now c.in-Some.more.now
+    (says.Faulty c.in-Faulty.fault) _
     l.invariant.said.2 c.in-Some.ensures.line c.in-Some.ensures.rest is))
     ∙ ap (λ (r : Refusal). Err r) (sym c.refused.ensures)
 
@@ -59,7 +63,8 @@ loop-line-preserved c =
         said = rw (w.tracks-is, w.stage-is, w.cycle-is) (
           said,
           l.invariant.said.1,
-          line_read vs c.args.n l.number l.stage l.cycle said l.rest.now c.in-Some.line.now c.in-Some.more.now (says.Goes w.in-Goes.next) _ l.invariant.said.2 c.in-Some.ensures.line c.in-Some.ensures.rest (w.in-Goes.ensures.said ∙ named),
+          line_read vs c.args.n l.number l.stage l.cycle said l.rest.now c.in-Some.line.now c.in-Some.more.now
+              (says.Goes w.in-Goes.next) _ l.invariant.said.2 c.in-Some.ensures.line c.in-Some.ensures.rest (w.in-Goes.ensures.said ∙ named),
         );
       }
       | in-Time w ↦ record {
@@ -69,7 +74,8 @@ loop-line-preserved c =
         said = rw (w.tracks-is, w.stage-is, w.cycle-is) (
           said,
           (let fits = w.in-Time.ensures.fits.0 in said_later vs c.args.pins l.cycle w.in-Time.next said l.tracks (omega (arith, fits)) l.invariant.said.1),
-          line_read vs c.args.n l.number l.stage l.cycle said l.rest.now c.in-Some.line.now c.in-Some.more.now (says.Time w.in-Time.next) _ l.invariant.said.2 c.in-Some.ensures.line c.in-Some.ensures.rest (w.in-Time.ensures.said ∙ named),
+          line_read vs c.args.n l.number l.stage l.cycle said l.rest.now c.in-Some.line.now c.in-Some.more.now
+              (says.Time w.in-Time.next) _ l.invariant.said.2 c.in-Some.ensures.line c.in-Some.ensures.rest (w.in-Time.ensures.said ∙ named),
         );
       }
       | in-Value+in_ok-change-in-Value w ↦ (
@@ -79,7 +85,8 @@ loop-line-preserved c =
           let less = w.in-Value.ensures.fits in
           let inside : i < length all = omega (arith, less, length-map all variable_of) in
           let here : slice_get vs i ≡ Some (variable_of variable) =
-          ap (λ (v : List Variable). slice_get v i) (sym c.variables-variables.ensures) ∙ slice_get-map variable_of all i ∙ ap (option_map variable_of) (slice_get-get_or all i w.index-variables-i.result inside) in
+          ap (λ (v : List Variable). slice_get v i) (sym c.variables-variables.ensures) ∙ slice_get-map variable_of all i
+          ∙ ap (option_map variable_of) (slice_get-get_or all i w.index-variables-i.result inside) in
           let tracks = w.tracks-is ∙ w.in_ok-change-in-Value.ensures in
           let more : List Change = said ++ record { cycle = l.cycle; variable = i; value = w.in-Value.value } ∷ [] in
           record {
@@ -88,8 +95,10 @@ loop-line-preserved c =
             cycle = rw w.cycle-is l.invariant.cycle;
             said = rw (w.stage-is, w.cycle-is, w.behind_value-stage.ensures) (
               more,
-              subst (λ (s : TrackStates). AreSaid vs c.args.pins l.cycle more s) (sym tracks) (said_more vs c.args.pins l.cycle w.in-Value.value i said l.tracks (variable_of variable) here l.invariant.said.1),
-              line_read vs c.args.n l.number l.stage l.cycle said l.rest.now c.in-Some.line.now c.in-Some.more.now (says.Value i w.in-Value.value) _ l.invariant.said.2 c.in-Some.ensures.line c.in-Some.ensures.rest (w.in-Value.ensures.said ∙ named),
+              subst (λ (s : TrackStates). AreSaid vs c.args.pins l.cycle more s) (sym tracks)
+                  (said_more vs c.args.pins l.cycle w.in-Value.value i said l.tracks (variable_of variable) here l.invariant.said.1),
+              line_read vs c.args.n l.number l.stage l.cycle said l.rest.now c.in-Some.line.now c.in-Some.more.now
+                  (says.Value i w.in-Value.value) _ l.invariant.said.2 c.in-Some.ensures.line c.in-Some.ensures.rest (w.in-Value.ensures.said ∙ named),
             );
           })
     ]
@@ -97,12 +106,16 @@ loop-line-preserved c =
 pub returns-in-None-clause-reads : goal.returns-in-None-clause-reads
 returns-in-None-clause-reads c =
     let l = c.loop-line in
-    read_well c.args.head.now.variables c.args.n c.args.pins l.number l.stage l.cycle l.invariant.said.0 l.rest.now l.tracks _ c.is_over-over.result c.are_given.result c.end_fault.result
-    l.invariant.said.1 l.invariant.said.2 c.in_default.ensures.none.0 c.in_default.ensures.none.1 c.is_over-over.ensures c.are_given.ensures c.end_fault.ensures c.in-None.is
+    read_well c.args.head.now.variables c.args.n c.args.pins l.number l.stage l.cycle l.invariant.said.0 l.rest.now l.tracks _ c.is_over-over.result
+    c.are_given.result c.end_fault.result
+    l.invariant.said.1 l.invariant.said.2 c.in_default.ensures.none.0 c.in_default.ensures.none.1 c.is_over-over.ensures c.are_given.ensures
+    c.end_fault.ensures c.in-None.is
     ∙ ap (λ (rows : List DriveRows). Ok rows) (sym c.into_rows.ensures)
 
 pub returns-in-Some-end_fault-clause-reads : goal.returns-in-Some-end_fault-clause-reads
 returns-in-Some-end_fault-clause-reads c =
     let l = c.loop-line in
-    read_badly c.args.head.now.variables c.args.n c.args.pins l.number l.stage l.cycle l.invariant.said.0 l.rest.now l.tracks _ c.is_over-over.result c.are_given.result c.end_fault.result
-    l.invariant.said.1 l.invariant.said.2 c.in_default.ensures.none.0 c.in_default.ensures.none.1 c.is_over-over.ensures c.are_given.ensures c.end_fault.ensures c.in-Some-end_fault.refusal c.in-Some-end_fault.is
+    read_badly c.args.head.now.variables c.args.n c.args.pins l.number l.stage l.cycle l.invariant.said.0 l.rest.now l.tracks _ c.is_over-over.result
+    c.are_given.result c.end_fault.result
+    l.invariant.said.1 l.invariant.said.2 c.in_default.ensures.none.0 c.in_default.ensures.none.1 c.is_over-over.ensures c.are_given.ensures
+    c.end_fault.ensures c.in-Some-end_fault.refusal c.in-Some-end_fault.is

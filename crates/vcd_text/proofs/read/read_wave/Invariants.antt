@@ -9,7 +9,8 @@ invariant-loop-line l = record {
   number : l.number + length l.rest ≤ length l.bytes + 1;
   first : 1 ≤ l.number;
   cycle : l.cycle ≤ l.n;
-  said : (said : List Change) × AreSaid l.head.variables l.pins l.cycle said l.tracks × (from_here l.head.variables l.n l.number l.stage l.cycle said l.rest ≡ changes_of l.head.variables l.n l.bytes);
+  said : (said : List Change) × AreSaid l.head.variables l.pins l.cycle said l.tracks ×
+      (from_here l.head.variables l.n l.number l.stage l.cycle said l.rest ≡ changes_of l.head.variables l.n l.bytes);
 }
 
 abbrev pub decreases-loop-line : goal.decreases-loop-line

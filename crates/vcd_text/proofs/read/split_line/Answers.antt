@@ -4,10 +4,12 @@ use Rattle.vcd_text.proofs.ReadLemmas.{IsUnbroken, ended_first, unended_first, e
 use Rattle.vcd_text.proofs.read.split_line.Goals as goal
 
 pub returns-then-b-eq10-clause-line : goal.returns-then-b-eq10-clause-line
-returns-then-b-eq10-clause-line c = rw (take_rest c.args.bytes.now (c.loop-i.i + 1)) (ended_first c.args.bytes.now c.loop-i.i c.loop-i-test.true c.if-b-eq10.true c.loop-i.invariant)
+returns-then-b-eq10-clause-line c =
+    rw (take_rest c.args.bytes.now (c.loop-i.i + 1)) (ended_first c.args.bytes.now c.loop-i.i c.loop-i-test.true c.if-b-eq10.true c.loop-i.invariant)
 
 pub returns-then-b-eq10-clause-rest : goal.returns-then-b-eq10-clause-rest
-returns-then-b-eq10-clause-rest c = rw (take_rest c.args.bytes.now (c.loop-i.i + 1)) (unended_first c.args.bytes.now c.loop-i.i c.loop-i-test.true c.if-b-eq10.true)
+returns-then-b-eq10-clause-rest c =
+    rw (take_rest c.args.bytes.now (c.loop-i.i + 1)) (unended_first c.args.bytes.now c.loop-i.i c.loop-i-test.true c.if-b-eq10.true)
 
 pub returns-clause-none : goal.returns-clause-none
 returns-clause-none c =
