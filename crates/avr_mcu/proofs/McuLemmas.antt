@@ -257,7 +257,7 @@ module _ {D : Type 0} (m : UnitMachine D) (laws : unit.Laws m) where
   pub waits_quiet : (s : Mcu D) (t n : ℕ) → ((k : ℕ) → k < n → (mcu m).due (waited s t k) (t + k) ≡ false) → IsQuiet (mcu m) s t n
   waits_quiet s t n quiet k h = ap (λ (x : Mcu D). (mcu m).due x (t + k)) (waits_glide s t k (λ j (l : j < k). quiet j (omega (arith, l, h)))) ∙ quiet k h
 
-  waited_enters : (s : Mcu D) (t n : ℕ) → unit.IsQuiet m s.units.devices t n → enters m (waited s t n) ≡ enters m s
+  pub waited_enters : (s : Mcu D) (t n : ℕ) → unit.IsQuiet m s.units.devices t n → enters m (waited s t n) ≡ enters m s
   waited_enters s t n quiet =
       ap (λ (x : ℕ). s.core.sreg.i && not s.core.just_enabled && nat_lt x 26) (ap least (quiet_requests m laws s.units.devices t n (pins s.held) quiet))
 

@@ -1,6 +1,7 @@
 //! The microcontroller as a part.
 ghost use Rattle.std.specs.Prelude.{◌≡◌, ◌+◌, ◌-◌, ◌<◌, ◌≤◌, List, ℕ, true, false, slice_index_or, slice_get, Some, None, IfOk, max, if◌then◌else◌, ◌&&◌, not, nat_lt};
 ghost use Rattle.avr_core.specs.AvrStep.{IsProgram, HasHalted, Did, avr_step};
+ghost use Rattle.avr_core.specs.declared.state.Mode.TheVariants.{Run};
 ghost use Rattle.avr_mcu.specs.Devices.{devices};
 ghost use Rattle.avr_mcu.specs.McuOf.{mcu, start, ready, enters, starts, entering, performed, core_acted, uno_drive};
 ghost use Rattle.avr_mcu.specs.McuState.{state_of};
@@ -245,6 +246,35 @@ pub(crate) fn act_core(
     }
 }
 
+// The same, where the caller may know that the core runs and that all that it does is the next instruction.
+#[inline(always)]
+pub(crate) fn act_at(
+    core: &mut Core,
+    program: &[Instr],
+    flash: &Flash,
+    units: &mut Units,
+    next: u32,
+    cycle: u32,
+    plain: bool,
+) -> (u32, Span)
+    requires program { IsProgram flash.now program.now }
+    requires here { units.old.cycle ≡ cycle }
+    requires end { cycle < MOST_CYCLES }
+    requires late { plain ≡ true → next ≤ cycle }
+    requires runs { plain ≡ true → core.old.mode ≡ Run }
+    requires passes { plain ≡ true → enters devices (state_of flash.now core.old next units.old.units units.old.held) ≡ false }
+    ensures acted { state_of flash.now core.new result.0 units.new.units units.new.held ≡ core_acted devices (state_of flash.now core.old next units.old.units units.old.held) cycle }
+    ensures here { units.new.cycle ≡ cycle }
+    ensures pads { (p : ℕ) → p < PORT_PINS → ¬ IsIn result.1 p → devices.pad units.new.units.devices p ≡ devices.pad units.old.units.devices p }
+{
+    if plain {
+        let (cycles, touched) = perform(core, program, flash, units, false);
+        (cycle + cycles as u32, touched)
+    } else {
+        act_core(core, program, flash, units, next, cycle)
+    }
+}
+
 // Whether the core does something in the cycle.
 #[inline]
 fn starts(mode: Mode, enters: bool, next: u32, cycle: u32) -> bool
@@ -262,7 +292,7 @@ fn starts(mode: Mode, enters: bool, next: u32, cycle: u32) -> bool
 
 // Whether an interrupt is entered where an instruction would start.
 #[inline]
-fn enters(core: &Core, units: &Units) -> bool
+pub(crate) fn enters(core: &Core, units: &Units) -> bool
     ensures { (flash : List ℕ) (next : ℕ) → result ≡ enters devices (state_of flash core.now next units.now.units units.now.held) }
 {
     core.may_enter() & (units.request() < VECTORS)
