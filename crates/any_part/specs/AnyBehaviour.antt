@@ -7,20 +7,24 @@ use Rattle.parts_basic.specs.Led.{LedState, led, led_laws}
 use Rattle.parts_basic.specs.Passive.{PassiveState, passive, passive_laws}
 use Rattle.parts_logic.specs.Gate.{GateState, gate, gate_laws}
 use Rattle.parts_logic.specs.Shift595.{ShiftState, shift595, shift595_laws}
+use Rattle.parts_display.specs.Seven.{SevenState, seven, seven_laws}
+use Rattle.parts_display.specs.Lcd.{LcdState, lcd, lcd_laws}
 use Rattle.any_part.specs.declared.behaviour.AnyBehaviour.{AnyBehaviour}
 use Rattle.any_part.specs.declared.behaviour.AnyBehaviour.TheVariants as behaviours
 
 abbrev pub AnyOwn : Type 0
-AnyOwn = LedState ⊎ (PassiveState ⊎ (GateState ⊎ ShiftState))
+AnyOwn = LedState ⊎ (PassiveState ⊎ (GateState ⊎ (ShiftState ⊎ (SevenState ⊎ LcdState))))
 
 abbrev pub any_reaction : Reaction AnyOwn
-any_reaction = either led (either passive (either gate shift595))
+any_reaction = either led (either passive (either gate (either shift595 (either seven lcd))))
 
 pub any_reaction_laws : ReactionLaws any_reaction
 any_reaction_laws =
-    either_laws led (either passive (either gate shift595)) led_laws
-    (either_laws passive (either gate shift595) passive_laws
-    (either_laws gate shift595 gate_laws shift595_laws))
+    either_laws led (either passive (either gate (either shift595 (either seven lcd)))) led_laws
+    (either_laws passive (either gate (either shift595 (either seven lcd))) passive_laws
+    (either_laws gate (either shift595 (either seven lcd)) gate_laws
+    (either_laws shift595 (either seven lcd) shift595_laws
+    (either_laws seven lcd seven_laws lcd_laws))))
 
 -- where each kind stands in the sum
 abbrev pub a_led : LedState → AnyOwn
@@ -33,10 +37,18 @@ abbrev pub a_gate : GateState → AnyOwn
 a_gate s = inr (inr (inl s))
 
 abbrev pub a_shift595 : ShiftState → AnyOwn
-a_shift595 s = inr (inr (inr s))
+a_shift595 s = inr (inr (inr (inl s)))
+
+abbrev pub a_seven : SevenState → AnyOwn
+a_seven s = inr (inr (inr (inr (inl s))))
+
+abbrev pub an_lcd : LcdState → AnyOwn
+an_lcd s = inr (inr (inr (inr (inr s))))
 
 abbrev pub own_of : AnyBehaviour → AnyOwn
 own_of (behaviours.Led b) = a_led b
 own_of (behaviours.Passive b) = a_passive b
 own_of (behaviours.Gate b) = a_gate b
 own_of (behaviours.Shift595 b) = a_shift595 b
+own_of (behaviours.Seven b) = a_seven b
+own_of (behaviours.Lcd b) = an_lcd b

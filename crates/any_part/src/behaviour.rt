@@ -1,6 +1,7 @@
 //! A behaviour of any kind.
 
 use parts_basic::{Led, Passive};
+use parts_display::{Lcd, Seven};
 use parts_logic::{Gate, Shift595};
 use reactive_part::Behaviour;
 use sim_base::{Drive, Level};
@@ -12,6 +13,8 @@ pub enum AnyBehaviour {
     Passive(Passive),
     Gate(Gate),
     Shift595(Shift595),
+    Seven(Seven),
+    Lcd(Lcd),
 }
 
 macro_rules! on_behaviour {
@@ -21,6 +24,8 @@ macro_rules! on_behaviour {
             AnyBehaviour::Passive($behaviour) => $call,
             AnyBehaviour::Gate($behaviour) => $call,
             AnyBehaviour::Shift595($behaviour) => $call,
+            AnyBehaviour::Seven($behaviour) => $call,
+            AnyBehaviour::Lcd($behaviour) => $call,
         }
     };
 }

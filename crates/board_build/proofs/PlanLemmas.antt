@@ -23,7 +23,7 @@ use Rattle.pin_nets.specs.Numbering.{net_numbers, net_count}
 use Rattle.pin_nets.proofs.BoundLemmas.{numbers_below, length-net_numbers}
 use Rattle.part_catalog.specs.declared.kind.Kind.{Kind}
 use Rattle.part_catalog.specs.declared.kind.Kind.TheVariants as kinds
-use Rattle.part_catalog.specs.Kinds.{named_kind, kind_in, types, is_ready, if_ready}
+use Rattle.part_catalog.specs.Kinds.{named_kind}
 use Rattle.part_catalog.specs.Attributes.{wired_kind}
 use Rattle.document_model.specs.declared.diagram.PartText.{PartText}
 use Rattle.document_model.specs.declared.diagram.Diagram.{Diagram}
@@ -71,54 +71,18 @@ abbrev runs_if : ℕ → Option PlanKind → Bool
 runs_if chips None = true
 runs_if chips (Some kind) = can_run chips kind
 
-ready_wired : (kind : Kind) (attrs : List (List ℕ × List ℕ)) → is_ready kind ≡ true → is_ready (wired_kind kind attrs) ≡ true
-ready_wired kinds.ArduinoUno attrs h = h
-ready_wired kinds.Led attrs h = h
-ready_wired kinds.Pushbutton attrs h = h
-ready_wired kinds.SlideSwitch attrs h = h
-ready_wired kinds.DipSwitch8 attrs h = h
-ready_wired kinds.Resistor attrs h = h
-ready_wired kinds.Junction attrs h = h
-ready_wired kinds.Text attrs h = h
-ready_wired kinds.Vcc attrs h = h
-ready_wired kinds.Gnd attrs h = h
-ready_wired kinds.Potentiometer attrs h = h
-ready_wired kinds.GateNot attrs h = h
-ready_wired kinds.GateBuffer attrs h = h
-ready_wired kinds.GateAnd2 attrs h = h
-ready_wired kinds.GateOr2 attrs h = h
-ready_wired kinds.GateNand2 attrs h = h
-ready_wired kinds.GateNor2 attrs h = h
-ready_wired kinds.GateXor2 attrs h = h
-ready_wired kinds.GateXnor2 attrs h = h
-ready_wired kinds.ShiftRegister595 attrs h = h
-ready_wired kinds.SevenSegment attrs h = h
-ready_wired kinds.Lcd1602Full attrs h = absurd cc
-ready_wired kinds.Lcd1602I2c attrs h = h
-
-ready_named : (text : List ℕ) (kind : Kind) → named_kind text ≡ Some kind → is_ready kind ≡ true
-unfolding named_kind
-ready_named text kind e = named (kind_in types text) e
-  where
-    named : (o : Option Kind) → if_ready o ≡ Some kind → is_ready kind ≡ true
-    named None e = absurd cc
-    named (Some found) e = elim (cases_Bool (is_ready found)) [
-      | inl ready ↦ let same : Some found ≡ Some kind = rw ready at e in let at : found ≡ kind = cc in ap is_ready (sym at) ∙ ready
-      | inr unready ↦ let bad : None ≡ Some kind = rw unready at e in absurd cc
-    ]
-
 found_runs : (chips : List ChipFile) (k : ℕ) (part : PartText) (kind : Option PlanKind) → kind_of_part chips k part ≡ Ok kind → runs_if (length chips) kind ≡ true
-found_runs chips k part kind e = chosen_runs (named_kind part.kind) refl e
+found_runs chips k part kind e = chosen_runs (named_kind part.kind) e
   where
     chip_runs : (name : List ℕ) (o : Option ℕ) → chip_place chips name ≡ o → runs_if (length chips) (option_map plans.Chip o) ≡ true
     chip_runs name None e = refl
     chip_runs name (Some chip) e = let h = position_below (λ (chip : ChipFile). bytes_eq name chip.name) 0 chips chip e in lt-ltb chip (length chips) (omega arith)
 
-    chosen_runs : (o : Option Kind) → named_kind part.kind ≡ o → chosen chips k part o ≡ Ok kind → runs_if (length chips) kind ≡ true
-    chosen_runs (Some stock) is e =
+    chosen_runs : (o : Option Kind) → chosen chips k part o ≡ Ok kind → runs_if (length chips) kind ≡ true
+    chosen_runs (Some stock) e =
         let same : Some (plans.Stock (wired_kind stock part.attrs)) ≡ kind = cc in
-        ap (runs_if (length chips)) (sym same) ∙ ready_wired stock part.attrs (ready_named part.kind stock is)
-    chosen_runs None is e = elim (cases_Bool (is_chip_type part.kind)) [
+        ap (runs_if (length chips)) (sym same)
+    chosen_runs None e = elim (cases_Bool (is_chip_type part.kind)) [
       | inl chip ↦ let same : option_map plans.Chip (chip_place chips (drop 5 part.kind)) ≡ kind = cc (rw chip at e) in
           ap (runs_if (length chips)) (sym same) ∙ chip_runs (drop 5 part.kind) (chip_place chips (drop 5 part.kind)) refl
       | inr other ↦ let bad = rw other at e in absurd cc

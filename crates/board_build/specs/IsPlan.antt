@@ -4,7 +4,6 @@ use Rattle.std.specs.Prelude.{◌≡◌, ℕ, ◌<◌, ◌≤◌, List, length, 
 use Rattle.std.specs.List.{list_all, sum_by, count_by}
 use Rattle.sim_base.specs.declared.wiring.Input.{Input}
 use Rattle.board_model.specs.Fits.{IsWiring}
-use Rattle.part_catalog.specs.Kinds.{is_ready}
 use Rattle.board_build.specs.declared.plan.PlanKind.{PlanKind}
 use Rattle.board_build.specs.declared.plan.PlanKind.TheVariants as plans
 use Rattle.board_build.specs.declared.plan.PlanPart.{PlanPart}
@@ -12,9 +11,9 @@ use Rattle.board_build.specs.declared.plan.Plan.{Plan}
 use Rattle.board_build.specs.Parts.{is_uno, is_chip}
 use Rattle.board_build.specs.Pins.{count_of, starts_from, contacts_inside}
 
--- a part of a kind that can be simulated, or one of so many chips
+-- a part of a kind of the catalogue, or one of so many chips
 abbrev pub can_run : ℕ → PlanKind → Bool
-can_run chips (plans.Stock kind) = is_ready kind
+can_run chips (plans.Stock kind) = true
 can_run chips (plans.Chip chip) = nat_lt chip chips
 
 abbrev pub kinds_in : List PlanPart → List (Option PlanKind)

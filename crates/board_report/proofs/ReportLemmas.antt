@@ -25,6 +25,10 @@ text-append xs ys = ap concat (map-append line_of xs ys) ∙ concat-append (map 
 pub text-one : (row : ReportRow) → text_of (row ∷ []) ≡ line_of row
 text-one row = append-nil (line_of row)
 
+-- two rows behind a text
+pub rows_both : (text : List ℕ) (r s : ReportRow) → (text ++ line_of r) ++ line_of s ≡ text ++ text_of (r ∷ s ∷ [])
+rows_both text r s = append_assoc text (line_of r) (line_of s) ∙ ap (λ (l : List ℕ). text ++ (line_of r ++ l)) (sym (append-nil (line_of s)))
+
 -- what was written of a text is what was written of an equal one
 pub wrote_same : (end : WriteEnd) (p : Port) (t u : List ℕ) (a b : Outside) → t ≡ u → Wrote end p t a b → Wrote end p u a b
 wrote_same end p t u a b e w = subst (λ (l : List ℕ). Wrote end p l a b) e w

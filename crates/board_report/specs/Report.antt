@@ -1,5 +1,5 @@
 -- The report of a run: how the parts of its board stand at the end, a line a fact (profile).
-use Rattle.std.specs.Prelude.{◌⊎◌, ℕ, List, [], ◌∷◌, ◌++◌, map, Bool, true, false, if◌then◌else◌, Option, None, Some, is_some, slice_index_or}
+use Rattle.std.specs.Prelude.{◌⊎◌, ℕ, ◌+◌, List, [], ◌∷◌, ◌++◌, map, Bool, true, false, if◌then◌else◌, Option, None, Some, is_some, slice_index_or}
 use Rattle.std.specs.List.{concat, flat_map}
 use Rattle.std.proofs.Common.{inl, inr}
 use Rattle.sim_base.specs.declared.signal.Level.{Level}
@@ -9,6 +9,7 @@ use Rattle.avr_core.specs.declared.state.Mode.TheVariants as modes
 use Rattle.avr_mcu.specs.Mcu.{Mcu}
 use Rattle.part_catalog.specs.Attributes.{greatest_of}
 use Rattle.parts_basic.specs.Led.{is_lit}
+use Rattle.parts_display.specs.Screen.{Screen, line}
 use Rattle.board_build.specs.declared.plan.PlanKind.{PlanKind}
 use Rattle.board_build.specs.declared.plan.PlanKind.TheVariants as plans
 use Rattle.board_build.specs.declared.plan.PlanPart.{PlanPart}
@@ -44,12 +45,21 @@ abbrev pub is_input : PlanKind → Bool
 is_input (plans.Stock kind) = is_some (greatest_of kind)
 is_input (plans.Chip chip) = false
 
+-- the two lines of a text display, which the report counts from 1
+abbrev pub lcd_row : List ℕ → Screen → ℕ → ReportRow
+lcd_row id screen row = lines.Lcd id (row + 1) (line screen row)
+
+abbrev pub lcd_rows : List ℕ → Screen → List ReportRow
+lcd_rows id screen = lcd_row id screen 0 ∷ lcd_row id screen 1 ∷ []
+
 -- what a part that does nothing by itself shows; an LED by the levels of its last step
 abbrev pub own_rows : PlanPart → List Level → AnyOwn → List ReportRow
 own_rows part held (inl led) = lines.Led part.id (is_lit held) led.count ∷ []
 own_rows part held (inr (inl passive)) = if is_input part.kind then lines.Input part.id passive.value ∷ [] else []
 own_rows part held (inr (inr (inl gate))) = []
-own_rows part held (inr (inr (inr shift))) = lines.Shift part.id shift.stages shift.storage ∷ []
+own_rows part held (inr (inr (inr (inl shift)))) = lines.Shift part.id shift.stages shift.storage ∷ []
+own_rows part held (inr (inr (inr (inr (inl seven))))) = lines.Seg part.id seven.segments ∷ []
+own_rows part held (inr (inr (inr (inr (inr lcd))))) = lcd_rows part.id lcd.screen
 
 -- whether a chip lives, or the trap that ended it and its cycle
 abbrev pub chip_row : List ℕ → Option Death → ReportRow

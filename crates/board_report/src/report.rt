@@ -1,12 +1,12 @@
 //! The lines of a board's parts.
-ghost use Rattle.std.specs.Prelude.{◌≡◌, ◌++◌, ℕ, List, true, Some, map};
+ghost use Rattle.std.specs.Prelude.{◌≡◌, ◌++◌, ◌+◌, ◌<◌, ℕ, List, true, Some, map};
 ghost use Rattle.board_build.specs.Parts.{is_chip};
 ghost use Rattle.sim_base.specs.Outside.{Outside, SameOthers};
 ghost use Rattle.outcome_model.specs.Work.{Wrote};
 ghost use Rattle.any_part.specs.AnyPart.{state_of};
 ghost use Rattle.any_part.specs.AnyBehaviour.{own_of};
 ghost use Rattle.sim_report.specs.Lines.{line_of};
-ghost use Rattle.board_report.specs.Report.{mode_of, is_input, ignored_row, uno_rows, own_rows, chip_row, part_rows, chosen_rows, parts_rows, text_of, report_text};
+ghost use Rattle.board_report.specs.Report.{mode_of, is_input, ignored_row, uno_rows, own_rows, lcd_row, lcd_rows, chip_row, part_rows, chosen_rows, parts_rows, text_of, report_text};
 
 use any_part::{AnyBehaviour, AnyPart};
 use avr_core::Mode;
@@ -15,6 +15,7 @@ use board_build::{PlanKind, PlanPart};
 use chip_host::Death;
 use part_catalog::greatest_value;
 use parts_basic::Led;
+use parts_display::Lcd;
 use sim_base::{Bench, Level, Name, Port, WriteEnd};
 use sim_report::{ReportRow, UnoMode, write_report};
 
@@ -89,6 +90,31 @@ fn is_input(kind: PlanKind) -> bool
     }
 }
 
+/// A line of a text display, 0 or 1.
+fn write_lcd_line<B: Bench>(end: WriteEnd, id: &Name, lcd: &Lcd, row: u8, bench: &mut B) -> WriteEnd
+    requires row { row < 2 }
+    requires opened { (B.outside bench.old).opened Port.Report ≡ true }
+    ensures next { (a : Outside) (text : List ℕ) → Wrote end Port.Report text a (B.outside bench.old) → Wrote result Port.Report (text ++ line_of (lcd_row id.now lcd.now.screen row)) a (B.outside bench.new) }
+    ensures named { (B.outside bench.new).name Port.Report ≡ (B.outside bench.old).name Port.Report }
+    ensures opened { (B.outside bench.new).opened Port.Report ≡ true }
+    ensures others { SameOthers Port.Report (B.outside bench.old) (B.outside bench.new) }
+{
+    let row = ReportRow::Lcd(id.copy(), row + 1, lcd.line(row));
+    write_line(end, &row, bench)
+}
+
+/// The two lines of a text display.
+fn write_lcd<B: Bench>(end: WriteEnd, id: &Name, lcd: &Lcd, bench: &mut B) -> WriteEnd
+    requires { (B.outside bench.old).opened Port.Report ≡ true }
+    ensures next { (a : Outside) (text : List ℕ) → Wrote end Port.Report text a (B.outside bench.old) → Wrote result Port.Report (text ++ text_of (lcd_rows id.now lcd.now.screen)) a (B.outside bench.new) }
+    ensures named { (B.outside bench.new).name Port.Report ≡ (B.outside bench.old).name Port.Report }
+    ensures opened { (B.outside bench.new).opened Port.Report ≡ true }
+    ensures others { SameOthers Port.Report (B.outside bench.old) (B.outside bench.new) }
+{
+    let end = write_lcd_line(end, id, lcd, 0, bench);
+    write_lcd_line(end, id, lcd, 1, bench)
+}
+
 /// What a part that does nothing by itself shows, on the levels of its last step.
 fn write_own<B: Bench>(
     end: WriteEnd,
@@ -125,6 +151,11 @@ fn write_own<B: Bench>(
                 bench,
             )
         }
+        AnyBehaviour::Seven(seven) => {
+            let row = ReportRow::Seg(part.id.copy(), seven.segments());
+            write_line(end, &row, bench)
+        }
+        AnyBehaviour::Lcd(lcd) => write_lcd(end, &part.id, lcd, bench),
     }
 }
 
