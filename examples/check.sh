@@ -37,6 +37,15 @@ lights() { # NAME
             if (all !~ /[xz]/) print number
         }'
 }
+# MILLISECOND SEGMENTS of a digit whose cathode is on ground, A in bit 0, where they stay for a millisecond; the time to the nearest 10
+digits() { # NAME
+    awk -v name="$1" '
+        BEGIN { split("A B C D E F G DP", letters); for (k in letters) place[name "." letters[k]] = 2 ^ (k - 1) }
+        /^\$var/ && $5 in place { weight[$4] = place[$5] }
+        /^#/ { now = substr($0, 2) / 10000000; if (moved && now - since >= 1) show() }
+        /^[01xz]/ && substr($0, 2) in weight { level[substr($0, 2)] = substr($0, 1, 1); since = now; moved = 1 }
+        function show(  k, n) { for (k in level) n += (level[k] == "1") * weight[k]; printf "%d %02X\n", int(since / 10 + 0.5) * 10, n; moved = 0 }'
+}
 # CYCLE PIN VALUE for each change of a pin of the Uno
 changes_of() { # PIN
     awk -v pin="$1" '
@@ -93,7 +102,7 @@ twin counter/expected/run.vcd counter.vcd
 pulses <"$rows/crc.vcd" | same "crc in the rows" "$here/crc/expected/pulses.txt" || bad=1
 pulses <"$rows/sort.vcd" | same "sort in the rows" "$here/sort/expected/pulses.txt" || bad=1
 lights bit <"$rows/counter-down.vcd" | same "counter downwards in the rows" "$here/counter/expected/counts-down.txt" || bad=1
-for name in blink counter pulse arduino-blink fade tone pin-interrupt pot-blink button serial-hello pot-serial i2c-scanner spi-loopback shift-out spi-shift latch chip-inverter chip-blinker chip-counter; do
+for name in blink counter pulse arduino-blink fade tone pin-interrupt pot-blink button serial-hello pot-serial i2c-scanner spi-loopback shift-out spi-shift latch seven-segment lcd-hello lcd-i2c chip-inverter chip-blinker chip-counter; do
     "$program" check "$here/$name" | same "$name as a project" "$here/$name/expected/check.txt" || bad=1
 done
 "$program" bare "$here/blink/blink.hex" --us 1 | same blink "$here/blink/expected/wave.vcd" || bad=1
@@ -114,6 +123,7 @@ wave "$here/pin-interrupt" 30000 | at 13 1 | same pin-interrupt "$here/pin-inter
 for name in shift-out spi-shift; do
     wave "$here/$name" 100000 | lights led | same "$name's LEDs" "$here/$name/expected/leds.txt" || bad=1
 done
+wave "$here/seven-segment" 1050000 | digits digit | same seven-segment "$here/seven-segment/expected/digits.txt" || bad=1
 wave "$here/pot-blink" 950000 | at 13 10 | same pot-blink "$here/pot-blink/expected/pin13.txt" || bad=1
 "$here/arduino.sh" --check || bad=1
 
@@ -136,6 +146,9 @@ scripted spi-loopback 5000
 scripted shift-out 100000
 scripted spi-shift 100000
 scripted latch 20000
+scripted seven-segment 450000
+scripted lcd-hello 1250000
+"$program" run "$here/lcd-i2c" --us 150000 --report - | grep "^lcd" | same "lcd-i2c's lines" "$here/lcd-i2c/expected/lines.txt" || bad=1
 "$program" run "$here/button" --us 60000 --script "$here/button/script.txt" --vcd - | at 13 1 | same "button's LED" "$here/button/expected/pin13.txt" || bad=1
 
 "$program" run "$here/latch" --us 20000 --script "$here/latch/script.txt" --vcd - | at 2 1 | same "latch's pin 2" "$here/latch/expected/pin2.txt" || bad=1

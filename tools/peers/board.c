@@ -1,4 +1,4 @@
-/* A second reading of docs/PROJECTS.md, docs/WAVE.md and the data sheets of the 74HC series, apart from the definitions and
+/* A second reading of docs/PARTS.md, docs/WAVE.md and the data sheets of the 74HC series and the HD44780U, apart from the definitions and
    the code of this repository: a board of parts around an Uno whose pins are told. It goes cycle by cycle: all nets are
    resolved from what all pins drive, then all parts act on these levels. Prints the wave in the form of `run`.
    Words: the diagram, how many cycles, then `script=FILE`, `uno=FILE` with a wave of uno.c whose values the Uno's pins
@@ -20,6 +20,7 @@ struct part {
     int strength[PINS], drives[PINS]; /* what each pin drives: none, weak or strong; 0 or 1 */
     int before[PINS], now[PINS];      /* what stands on its nets: a set of values */
     int stages, storage, lit, rises;
+    int cathode, text[128], address, down, on, halves, high, lost; /* a digit; a display and what it was told */
 };
 static struct part parts[PARTS];
 static int part_count;
@@ -58,6 +59,7 @@ static const struct { const char *type, *pins; } kinds[] = {
     {"wokwi-gate-not", "IN OUT"}, {"wokwi-gate-buffer", "IN OUT"}, {"wokwi-gate-and-2", "A B OUT"}, {"wokwi-gate-or-2", "A B OUT"},
     {"wokwi-gate-nand-2", "A B OUT"}, {"wokwi-gate-nor-2", "A B OUT"}, {"wokwi-gate-xor-2", "A B OUT"}, {"wokwi-gate-xnor-2", "A B OUT"},
     {"wokwi-74hc595", "DS SHCP STCP MR OE Q0 Q1 Q2 Q3 Q4 Q5 Q6 Q7 Q7S GND VCC"},
+    {"wokwi-7segment", "A B C D E F G DP COM COM.1 COM.2"}, {"wokwi-lcd1602", "VSS VDD V0 RS RW E D0 D1 D2 D3 D4 D5 D6 D7 A K"},
 };
 static int pin(struct part *p, const char *name) {
     for (int i = 0; i < p->count; i++) if (!strcmp(p->pins[i], name)) return p->first + i;
@@ -81,6 +83,7 @@ static void put_part(void) {
             for (blanks(), text++, blanks(); *text != '}'; blanks()) {
                 quoted(key, sizeof key), quoted(value, sizeof value);
                 if (!strcmp(key, "value")) p->value = atoi(value);
+                if (!strcmp(key, "common")) p->cathode = !strcmp(value, "cathode");
             }
             text++;
         } else skip();
@@ -128,6 +131,7 @@ static void read_diagram(const char *name) {
                 if (is(p, "pushbutton")) join(pin(p, "1.l"), pin(p, "1.r")), join(pin(p, "2.l"), pin(p, "2.r")), contact(i, "1.l", "2.l", 1);
                 if (is(p, "slide-switch")) contact(i, "1", "2", 0), contact(i, "2", "3", 1);
                 for (int k = 0; k < 8 && is(p, "dip-switch-8"); k++) links[link_count++] = (struct link){p->first + k, p->first + k + 8, i, k};
+                if (is(p, "7segment")) join(pin(p, "COM"), pin(p, "COM.1")), join(pin(p, "COM"), pin(p, "COM.2"));
                 if (is(p, "resistor")) links[link_count++] = (struct link){p->first, p->first + 1, -1, 0};
             }
         } else if (!strcmp(key, "connections")) {
@@ -202,6 +206,43 @@ static void set(struct part *p, const char *name, int strength, int value) {
 static int one(struct part *p, const char *name) { return p->now[pin(p, name) - p->first] == ONE; }
 static int low(struct part *p, const char *name) { return p->now[pin(p, name) - p->first] == ZERO; }
 static int rises(struct part *p, const char *name) { return one(p, name) && p->before[pin(p, name) - p->first] != ONE; }
+static int falls(struct part *p, const char *name) { return !one(p, name) && p->before[pin(p, name) - p->first] == ONE; }
+/* the 80 places of a display in their order, and back: those of the second line begin at 0x40 */
+static int place(int address) {
+    if (address < 0x40) return address < 0x28 ? address : 0x27;
+    return address < 0x68 ? address - 0x18 : 0x4F;
+}
+static void move(struct part *p, int down) {
+    int next = (place(p->address) + (down ? 79 : 1)) % 80;
+    p->address = next < 0x28 ? next : next + 0x18;
+}
+static void put(struct part *p, int byte) {
+    if (p->lost) return;
+    if (p->address % 0x40 < 0x28) p->text[p->address] = byte;
+    move(p, p->down);
+}
+static void order(struct part *p, int byte) {
+    int from = 7;
+    while (from >= 0 && !(byte >> from & 1)) from--;
+    if (from == 7) p->address = byte & 0x7F;
+    if (from == 6) p->lost = 1;
+    if (from == 5) p->halves = !(byte & 0x10), p->high = -1;
+    if (from == 4 && !(byte & 8)) move(p, !(byte & 4));
+    if (from == 3) p->on = byte >> 2 & 1;
+    if (from == 2) p->down = !(byte & 2);
+    if (from == 0) for (int k = 0; k < 128; k++) p->text[k] = ' ';
+    if (from == 0) p->down = 0;
+    if (from == 0 || from == 1) p->address = 0;
+    if (from == 0 || from == 1 || from == 7) p->lost = 0;
+}
+static void take(struct part *p) {
+    char name[3] = "D0";
+    int byte = 0;
+    for (int k = 0; k < 8; k++) name[1] = '0' + k, byte |= one(p, name) << k;
+    if (p->halves && p->high < 0) { p->high = byte & 0xF0; return; }
+    if (p->halves) byte = p->high | byte >> 4, p->high = -1;
+    if (one(p, "RS")) put(p, byte); else order(p, byte);
+}
 static void show(struct part *p, int off) {
     char name[4] = "Q0";
     for (int k = 0; k < 8; k++) name[1] = '0' + k, set(p, name, off ? NO : STRONG, p->storage >> k & 1);
@@ -213,6 +254,7 @@ static void begin(struct part *p) {
     if (is(p, "potentiometer")) set(p, "SIG", WEAK, p->value >= 512);
     if (!strncmp(p->type, "wokwi-gate-", 11)) set(p, "OUT", STRONG, 1);
     if (is(p, "74hc595")) show(p, 0);
+    if (is(p, "lcd1602")) for (int k = 0; k < 128; k++) p->text[k] = ' ';
     if (is(p, "arduino-uno")) {
         static const char *high[] = {"5V", "3.3V", "VIN", "IOREF", "AREF"}, *lows[] = {"GND.1", "GND.2", "GND.3"};
         for (int i = 0; i < 5; i++) set(p, high[i], STRONG, 1);
@@ -240,6 +282,14 @@ static void act(struct part *p) {
         if (rises(p, "STCP")) p->storage = old;
         show(p, one(p, "OE"));
     }
+    if (is(p, "7segment")) {
+        p->lit = 0;
+        for (int k = 0; k < 8; k++) {
+            const char *at = p->pins[k];
+            p->lit |= (p->cathode ? low(p, "COM") && one(p, at) : one(p, "COM") && low(p, at)) << k;
+        }
+    }
+    if (is(p, "lcd1602") && falls(p, "E") && !one(p, "RW")) take(p);
     if (is(p, "led")) {
         int lit = one(p, "A") && low(p, "C");
         p->rises += lit && !p->lit;
@@ -360,6 +410,15 @@ int main(int count, char **words) {
             if (is(p, "led")) fprintf(f, "led %s %s lit %d\n", p->id, p->lit ? "on" : "off", p->rises);
             if (is(p, "pushbutton") || strstr(p->type, "-switch") || is(p, "potentiometer")) fprintf(f, "input %s %d\n", p->id, p->value);
             if (is(p, "74hc595")) fprintf(f, "shift %s %02X %02X\n", p->id, p->stages, p->storage);
+            if (is(p, "7segment")) fprintf(f, "seg %s %02X\n", p->id, p->lit);
+            for (int line = 0; line < 2 && is(p, "lcd1602"); line++) {
+                fprintf(f, "lcd %s %d |", p->id, line + 1);
+                for (int k = 0; k < 16; k++) {
+                    int c = p->text[0x40 * line + k];
+                    fputc(!p->on ? ' ' : c < ' ' || c > '~' ? '?' : c, f);
+                }
+                fputs("|\n", f);
+            }
         }
         fclose(f);
     }

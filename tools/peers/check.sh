@@ -107,7 +107,7 @@ else
     echo "uno.c: skipped, no compiler for C" >&2
 fi
 
-# board.c, a second reading of nets, gates and the 74HC595: whole waves of the gate's rows and of examples, and what the report
+# board.c, a second reading of nets, gates, the 74HC595 and displays: whole waves of the gate's rows and of examples, and what the report
 # says of their parts; the Uno drives what it does on uno.c
 board_row() { # NAME MICROSECONDS DIAGRAM WORDS OF board.c
     name=$1 us=$2 diagram=$3
@@ -130,12 +130,23 @@ with_board() { # NAME MICROSECONDS WORDS OF uno.c, which tell what its pins read
         grep -v '^cycles \|^uno ' "$folder/report" | cmp -s - "$folder/parts"
     says $? "$name on board.c"
 }
+board_displays() { # NAME MICROSECONDS, of a row of displays.rows that has this diagram
+    "$folder/uno" "$rows/$1.hex" "$((16 * $2))" >"$folder/pins.vcd"
+    "$folder/board" "$rows/$1.json" "$((16 * $2))" uno="$folder/pins.vcd" report="$folder/parts" >/dev/null
+    awk -v name="$1.json" '$1 == "file" && $2 == "p/diagram.json" { here = $3 == name } here && sub(/^reports lcd/, "lcd")' "$rows/displays.rows" |
+        cmp -s - "$folder/parts"
+    says $? "displays of $1 on board.c"
+}
 if [ -x "$folder/uno" ] && cc -O2 -o "$folder/board" "$here/board.c"; then
     board_row ring 1 ring.json
     board_row gates 5 gates.json script="$rows/gates.script"
     board_row lamps 2 lamps.json script="$rows/lamps.script"
     board_row shift 20 chain.json
     board_row shift-spi 50 chain.json
+    board_displays lcd-8 1000
+    board_displays lcd-4 5000
+    with_board seven-segment 450000
+    with_board lcd-hello 150000
     with_board shift-out 100000
     with_board spi-shift 100000
     with_board latch 20000 2=low @80002 2=high @192001 2=low
@@ -151,7 +162,7 @@ if have avr-gcc avr-objcopy; then
     for source in "$rows"/*.c; do
         name=$(basename "$source" .c)
         avr-gcc -mmcu=atmega328p -Os -o "$folder/row.elf" "$source" &&
-            avr-objcopy -O ihex -j .text "$folder/row.elf" "$folder/row.hex" &&
+            avr-objcopy -O ihex -R .eeprom "$folder/row.elf" "$folder/row.hex" &&
             tr -d '\r' <"$folder/row.hex" | cmp -s - "$rows/$name.hex"
         says $? "$name.hex from its source"
     done

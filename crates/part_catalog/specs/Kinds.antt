@@ -1,5 +1,5 @@
 -- The types of parts (Wokwi documentation, "Diagram file format" and the pages of the parts; the names of the gates' types are ours).
-use Rattle.std.specs.Prelude.{ℕ, List, [], ◌∷◌, Bool, true, false, Option, None, Some, if◌then◌else◌, codes}
+use Rattle.std.specs.Prelude.{ℕ, List, [], ◌∷◌, Option, None, Some, if◌then◌else◌, codes}
 use Rattle.std.specs.Str.{bytes_eq}
 use Rattle.part_catalog.specs.declared.kind.Kind.{Kind}
 use Rattle.part_catalog.specs.declared.kind.Kind.TheVariants as kinds
@@ -33,34 +33,6 @@ abbrev pub kind_in : List (List ℕ × Kind) → List ℕ → Option Kind
 kind_in [] text = None
 kind_in (x ∷ xs) text = if bytes_eq x.0 text then Some x.1 else kind_in xs text
 
--- whether the part of a kind can be simulated yet
-abbrev pub is_ready : Kind → Bool
-is_ready kinds.ArduinoUno = true
-is_ready kinds.Led = true
-is_ready kinds.Pushbutton = true
-is_ready kinds.SlideSwitch = true
-is_ready kinds.DipSwitch8 = true
-is_ready kinds.Resistor = true
-is_ready kinds.Junction = true
-is_ready kinds.Text = true
-is_ready kinds.Vcc = true
-is_ready kinds.Gnd = true
-is_ready kinds.Potentiometer = true
-is_ready kinds.GateNot = true
-is_ready kinds.GateBuffer = true
-is_ready kinds.GateAnd2 = true
-is_ready kinds.GateOr2 = true
-is_ready kinds.GateNand2 = true
-is_ready kinds.GateNor2 = true
-is_ready kinds.GateXor2 = true
-is_ready kinds.GateXnor2 = true
-is_ready kinds.ShiftRegister595 = true
-is_ready kind = false
-
-abbrev pub if_ready : Option Kind → Option Kind
-if_ready None = None
-if_ready (Some kind) = if is_ready kind then Some kind else None
-
--- the kind of a type whose part can be simulated
+-- the kind of a type
 unfoldable pub named_kind : List ℕ → Option Kind
-named_kind text = if_ready (kind_in types text)
+named_kind text = kind_in types text

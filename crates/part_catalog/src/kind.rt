@@ -1,8 +1,8 @@
 //! The kinds of parts, by the names of their types.
-ghost use Rattle.std.specs.Prelude.{◌≡◌, List, ℕ, map, true};
+ghost use Rattle.std.specs.Prelude.{◌≡◌, List, ℕ, map};
 ghost use Rattle.std.specs.Borrow.{Bor};
 ghost use Rattle.part_catalog.specs.declared.kind.Kind.{Kind};
-ghost use Rattle.part_catalog.specs.Kinds.{types, kind_in, is_ready, named_kind};
+ghost use Rattle.part_catalog.specs.Kinds.{types, kind_in, named_kind};
 
 /// A kind of part, the Arduino Uno among them. The text display has a kind for each way in which it
 /// can be wired.
@@ -31,35 +31,6 @@ pub enum Kind {
     SevenSegment,
     Lcd1602Full,
     Lcd1602I2c,
-}
-
-/// Whether the part of a kind can be simulated yet.
-fn is_built(kind: Kind) -> bool
-    ensures { result ≡ is_ready kind }
-{
-    matches!(
-        kind,
-        Kind::ArduinoUno
-            | Kind::Led
-            | Kind::Pushbutton
-            | Kind::SlideSwitch
-            | Kind::DipSwitch8
-            | Kind::Resistor
-            | Kind::Junction
-            | Kind::Text
-            | Kind::Vcc
-            | Kind::Gnd
-            | Kind::Potentiometer
-            | Kind::GateNot
-            | Kind::GateBuffer
-            | Kind::GateAnd2
-            | Kind::GateOr2
-            | Kind::GateNand2
-            | Kind::GateNor2
-            | Kind::GateXor2
-            | Kind::GateXnor2
-            | Kind::ShiftRegister595
-    )
 }
 
 fn type_names() -> &'static [(&'static str, Kind)]
@@ -102,14 +73,11 @@ fn find_kind(names: &[(&str, Kind)], text: &str) -> Option<Kind>
     None
 }
 
-/// The kind of a type of part; None exactly where there is no such type, or its part cannot be
-/// simulated yet. The text display has its full pins here, and `kind_with` may change that.
+/// The kind of a type of part; None exactly where there is no such type. The text display has its
+/// full pins here, and `kind_with` may change that.
 #[tactic(auto, unfolding(crate::specs::Kinds::named_kind))]
 pub fn kind_of(text: &str) -> Option<Kind>
     ensures { result ≡ named_kind text.now }
 {
-    match find_kind(type_names(), text) {
-        Some(kind) if is_built(kind) => Some(kind),
-        _ => None,
-    }
+    find_kind(type_names(), text)
 }

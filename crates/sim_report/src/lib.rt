@@ -5,8 +5,6 @@
 mod line;
 mod report;
 mod row;
-#[cfg(test)]
-mod tests;
 
 pub use report::write_report;
 pub use row::{ReportRow, UnoMode};
