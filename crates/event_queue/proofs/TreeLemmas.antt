@@ -7,7 +7,7 @@ use Rattle.event_queue.specs.declared.entry.Entry.{Entry}
 use Rattle.event_queue.specs.First.{IsFirst}
 use Rattle.event_queue.specs.Places.{IsNotAfter, leaf, no_entry, at_place, IsBest, IsWithout, with_cycle}
 
-some_same : {A : Type 0} (x y : A) → Some x ≡ Some y → x ≡ y
+pub some_same : {A : Type 0} (x y : A) → Some x ≡ Some y → x ≡ y
 some_same x y e = cc
 
 pub not_after_self : (a : Entry) → IsNotAfter a a
@@ -209,7 +209,7 @@ module _ (n : ℕ) (dues : List (Option ℕ)) (best : List Entry) (i : ℕ) (d :
         at_leaf n new best k leaves ∙ ap (λ (o : Option (Option ℕ)). record { due = unwrap_or o None; part = k - n }) (get_other dues i (k - n) d other) ∙ sym (at_leaf n dues best k leaves)
   ]
 
-  pub leaf_set : ((k : ℕ) → 1 ≤ k → k < n → IsBest n dues best k) → (k : ℕ) → 1 ≤ k → k < n → k ≢ (n + i) / 2 → IsBest n new best k
+  pub leaf_set : ((k : ℕ) → 1 ≤ k → k < n → k ≢ (n + i) / 2 → IsBest n dues best k) → (k : ℕ) → 1 ≤ k → k < n → k ≢ (n + i) / 2 → IsBest n new best k
   leaf_set all k a b above =
       let not_here : k ≢ n + i = omega arith in
       let not_left : 2 * k ≢ n + i = (λ (h : 2 * k ≡ n + i). above (omega arith)) in
@@ -217,7 +217,7 @@ module _ (n : ℕ) (dues : List (Option ℕ)) (best : List Entry) (i : ℕ) (d :
       let here = leaf_other k not_here in
       let left = leaf_other (2 * k) not_left in
       let right = leaf_other (2 * k + 1) not_right in
-      let old = all k a b in
+      let old = all k a b above in
       record {
         one = λ u h. elim (old.one u (ap (λ (x : Entry). x.due) (sym here) ∙ h)) [
           | inl x ↦ inl (here ∙ x ∙ sym left)
@@ -227,7 +227,7 @@ module _ (n : ℕ) (dues : List (Option ℕ)) (best : List Entry) (i : ℕ) (d :
         second = subst (λ (x : Entry). IsNotAfter x (at_place n new best (2 * k + 1))) (sym here) (subst (λ (x : Entry). IsNotAfter (at_place n dues best k) x) (sym right) old.second);
       }
 
-pub set_best : (dues : List (Option ℕ)) (best : List Entry) (i : ℕ) (d : Option ℕ) → ((k : ℕ) → 1 ≤ k → k < length dues → IsBest (length dues) dues best k) →
+pub set_best : (dues : List (Option ℕ)) (best : List Entry) (i : ℕ) (d : Option ℕ) → ((k : ℕ) → 1 ≤ k → k < length dues → k ≢ (length dues + i) / 2 → IsBest (length dues) dues best k) →
     (k : ℕ) → 1 ≤ k → k < length (slice_set dues i d) → k ≢ (length (slice_set dues i d) + i) / 2 → IsBest (length (slice_set dues i d)) (slice_set dues i d) best k
 set_best dues best i d all =
     subst (λ (n : ℕ). (k : ℕ) → 1 ≤ k → k < n → k ≢ (n + i) / 2 → IsBest n (slice_set dues i d) best k) (sym (length-set dues i d)) (leaf_set (length dues) dues best i d all)
@@ -244,7 +244,7 @@ module _ (dues : List (Option ℕ)) (best : List Entry) (i : ℕ) where
   start_without low long all = record {
     tree = best;
     long = long;
-    best = leaf_set n dues best i None all;
+    best = leaf_set n dues best i None (λ k a b h. all k a b);
     here = at_leaf n without best (n + i) (omega arith) ∙ ap (leaf without) (let e : n + i - n ≡ i = omega arith in e) ∙ ap (λ (o : Option (Option ℕ)). record { due = unwrap_or o None; part = i }) (get_same dues i None low);
     beside = λ k a b. leaf_other n dues best i None k b;
   }
@@ -326,3 +326,61 @@ module _ (n : ℕ) where
     first = λ v h. absurd (let e : Some v ≡ None = sym h ∙ none_at (2 * k) in cc);
     second = λ v h. absurd (let e : Some v ≡ None = sym h ∙ none_at (2 * k + 1) in cc);
   }
+
+-- where no part is due but one
+pub none_or_some : (d : Option ℕ) → (d ≡ None) ⊎ ((u : ℕ) × (d ≡ Some u))
+none_or_some None = inl refl
+none_or_some (Some u) = inr (u, refl)
+
+same_part : (k j : ℕ) → (k ≡ j) ⊎ (k ≢ j)
+same_part k j = grind arith
+
+there_is : (xs : List (Option ℕ)) (i : ℕ) → i < length xs → (x : Option ℕ) × (slice_get xs i ≡ Some x)
+there_is [] i h = absurd (omega arith)
+there_is (y ∷ xs) zero h = (y, refl)
+there_is (y ∷ xs) (suc i) h = there_is xs i (omega arith)
+
+set_twice : (xs : List (Option ℕ)) (i : ℕ) (x y : Option ℕ) → slice_set (slice_set xs i x) i y ≡ slice_set xs i y
+set_twice [] i x y = refl
+set_twice (z ∷ xs) zero x y = refl
+set_twice (z ∷ xs) (suc i) x y = ap (λ (l : List (Option ℕ)). z ∷ l) (set_twice xs i x y)
+
+module _ (dues : List (Option ℕ)) (j : ℕ) (low : j < length dues) (none : IsFirst (slice_set dues j None) None) where
+  other_none : (k : ℕ) (d : Option ℕ) → k ≢ j → slice_get dues k ≡ Some d → d ≡ None
+  other_none k d h e = none k d (get_other dues j k None h ∙ e)
+
+  pub first_of_one : IsFirst dues (with_cycle (leaf dues j))
+  first_of_one = let at = there_is dues j low in
+      subst (λ (o : Option (Option ℕ)). IsFirst dues (with_cycle (record { due = unwrap_or o None; part = j }))) (sym at.1) (go at.0 at.1)
+    where
+      go : (d : Option ℕ) → slice_get dues j ≡ Some d → IsFirst dues (with_cycle (record { due = d; part = j }))
+      go None e = λ k d h. elim (same_part k j) [
+        | inl here ↦ some_same d None (sym h ∙ ap (slice_get dues) here ∙ e)
+        | inr other ↦ other_none k d other h
+      ]
+      go (Some u) e = (
+        e,
+        λ k v h. elim (same_part k j) [
+          | inl here ↦
+              let same : v ≡ u = some_same v u (some_same (Some v) (Some u) (sym h ∙ ap (slice_get dues) here ∙ e)) in
+              ((omega (arith, same)), λ (less : k < j). absurd (omega (arith, here, less)))
+          | inr other ↦ absurd (let x = other_none k (Some v) other h in cc)
+        ],
+      )
+
+  -- so without another part the first is the same
+  pub same_without : (i : ℕ) → i < length dues → i ≢ j → slice_set dues i None ≡ dues
+  same_without i within other =
+      let at = there_is dues i within in
+      set_same dues i None (at.1 ∙ ap Some (other_none i at.0 other at.1))
+
+  -- and it stays alone whatever its due cycle is
+  pub still_alone : (d : Option ℕ) → IsFirst (slice_set (slice_set dues j d) j None) None
+  still_alone d = subst (λ (l : List (Option ℕ)). IsFirst l None) (sym (set_twice dues j d None)) none
+
+-- the part at the top is one
+module _ (dues : List (Option ℕ)) (best : List Entry) (all : (k : ℕ) → 1 ≤ k → k < length dues → IsBest (length dues) dues best k) (some : 1 ≤ length dues) where
+  pub top_within : (e : Entry) → e ≡ at_place (length dues) dues best 1 → (u : ℕ) → e.due ≡ Some u → e.part < length dues
+  top_within e top u is =
+      subst (λ (x : Entry). x.part < length dues) (sym top)
+      (slice_get_within dues _ (Some u) (first_some (length dues) dues best all refl some u (ap (λ (x : Entry). x.due) (sym top) ∙ is)).0)

@@ -1,5 +1,6 @@
 -- The places of the tree. Place 1 is the top, the places under k are 2 k and 2 k + 1, and part i of n parts is at n + i. No public clause cites this.
 use Rattle.std.specs.Prelude.{◌≡◌, ◌≢◌, ℕ, ◌+◌, ◌-◌, ◌*◌, ◌/◌, ◌<◌, ◌≤◌, ◌⊎◌, List, length, Option, None, Some, slice_get, slice_set, nat_le, if◌then◌else◌, option_map, unwrap_or}
+use Rattle.event_queue.specs.First.{IsFirst}
 use Rattle.event_queue.specs.declared.entry.Entry.{Entry}
 
 -- by cycle, then by part; parts that are not due come last
@@ -35,3 +36,11 @@ pub record IsWithout (dues : List (Option ℕ)) (stored : List Entry) (i place :
   pub best : (k : ℕ) → 1 ≤ k → k < length dues → k ≢ place / 2 → IsBest (length dues) (slice_set dues i None) tree k
   pub here : at_place (length dues) (slice_set dues i None) tree place ≡ found
   pub beside : (k : ℕ) → k < 2 * place → k ≢ place → at_place (length dues) (slice_set dues i None) tree k ≡ at_place (length dues) dues stored k
+
+-- a place that is not above the part that is alone
+abbrev pub IsPlayed : Option ℕ → ℕ → ℕ → Type 0
+IsPlayed alone n k = (j : ℕ) → alone ≡ Some j → k ≢ (n + j) / 2
+
+-- none is due but the part that is alone
+abbrev pub IsAlone : Option ℕ → List (Option ℕ) → Type 0
+IsAlone alone dues = (j : ℕ) → alone ≡ Some j → (j < length dues) × IsFirst (slice_set dues j None) None

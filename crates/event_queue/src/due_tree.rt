@@ -1,7 +1,7 @@
 //! The tree.
 ghost use Rattle.std.specs.Prelude.{◌≡◌, ◌≢◌, ℕ, ◌+◌, ◌*◌, ◌/◌, ◌<◌, ◌≤◌, ◌⊎◌, List, length, replicate, Option, None, Some, true, slice_get, slice_set, IfOk};
 ghost use Rattle.event_queue.specs.First.{IsFirst};
-ghost use Rattle.event_queue.specs.Places.{at_place, IsBest, IsWithout};
+ghost use Rattle.event_queue.specs.Places.{leaf, at_place, IsBest, IsPlayed, IsAlone, IsWithout};
 
 use crate::entry::{Entry, earlier};
 use sim_base::OutOfMemory;
@@ -14,11 +14,13 @@ pub struct DueTree {
     dues: Vec<Option<u32>>,
     /// At place k, the earlier of the two entries under it, where there are more parts than k.
     best: [Entry; 64],
+    /// A part but for which none is due, where that is known: it meets no other until another is due.
+    alone: Option<u8>,
 }
 
 impl Model for DueTree {
     ghost use Rattle.std.specs.Prelude.{ℕ, ◌<◌, ◌≤◌, List, Option, length};
-    ghost use Rattle.event_queue.specs.Places.{IsBest};
+    ghost use Rattle.event_queue.specs.Places.{IsBest, IsPlayed, IsAlone};
 
     ghost Value = { List (Option ℕ) };
 
@@ -26,8 +28,22 @@ impl Model for DueTree {
 
     ghost invariant = { λ a. record {
       few : length a.dues.items ≤ 64;
-      best : (k : ℕ) → 1 ≤ k → k < length a.dues.items → IsBest (length a.dues.items) a.dues.items a.best k;
+      best : (k : ℕ) → 1 ≤ k → k < length a.dues.items → IsPlayed a.alone (length a.dues.items) k → IsBest (length a.dues.items) a.dues.items a.best k;
+      alone : IsAlone a.alone a.dues.items;
     } };
+}
+
+/// Part i with its due cycle.
+#[inline]
+fn leaf_of(dues: &[Option<u32>], i: usize) -> Entry
+    requires few { length dues.now ≤ 64 }
+    requires part { i < length dues.now }
+    ensures { result ≡ leaf dues.now i }
+{
+    Entry {
+        due: dues[i],
+        part: i as u8,
+    }
 }
 
 /// What stands at a place.
@@ -40,11 +56,7 @@ fn at(dues: &[Option<u32>], best: &[Entry; 64], place: usize) -> Entry
     if place < dues.len() {
         return best[place];
     }
-    let part = place - dues.len();
-    Entry {
-        due: dues[part],
-        part: part as u8,
-    }
+    leaf_of(dues, place - dues.len())
 }
 
 /// Lets part i meet the others anew, from its place to the top.
@@ -101,6 +113,86 @@ fn is_same_due(a: Option<u32>, b: Option<u32>) -> bool
     }
 }
 
+/// Whether the part that is alone is this one.
+#[inline]
+fn is_part(alone: Option<u8>, i: u8) -> bool
+    ensures { result ≡ true → alone ≡ Some i }
+{
+    match alone {
+        Some(j) => j == i,
+        None => false,
+    }
+}
+
+/// Lets the part that was alone meet the others.
+fn join(dues: &[Option<u32>], best: &mut [Entry; 64], alone: Option<u8>)
+    requires few { length dues.now ≤ 64 }
+    requires alone { IsAlone alone dues.now }
+    requires best { (k : ℕ) → 1 ≤ k → k < length dues.now → IsPlayed alone (length dues.now) k → IsBest (length dues.now) dues.now best.old k }
+    ensures { (k : ℕ) → 1 ≤ k → k < length dues.now → IsBest (length dues.now) dues.now best.new k }
+{
+    if let Some(j) = alone {
+        replay(dues, best, j as usize);
+    }
+}
+
+/// The part but for which none is due, if there is one.
+fn only_due(dues: &[Option<u32>], best: &[Entry; 64]) -> Option<u8>
+    requires few { length dues.now ≤ 64 }
+    requires some { 1 ≤ length dues.now }
+    requires best { (k : ℕ) → 1 ≤ k → k < length dues.now → IsBest (length dues.now) dues.now best.now k }
+    ensures { IsAlone result dues.now }
+{
+    let top = at(dues, best, 1);
+    if let Some(_cycle) = top.due {
+        return match first_without(dues, best, top.part).due {
+            Some(_) => None,
+            None => Some(top.part),
+        };
+    }
+    None
+}
+
+/// The first of all, where the part that is alone meets no other.
+#[inline]
+fn first_of(dues: &[Option<u32>], best: &[Entry; 64], alone: Option<u8>) -> Option<(u32, u8)>
+    requires few { length dues.now ≤ 64 }
+    requires best { (k : ℕ) → 1 ≤ k → k < length dues.now → IsPlayed alone (length dues.now) k → IsBest (length dues.now) dues.now best.now k }
+    requires alone { IsAlone alone dues.now }
+    ensures { IsFirst dues.now result }
+{
+    if let Some(j) = alone {
+        return leaf_of(dues, j as usize).with_cycle();
+    }
+    if dues.is_empty() {
+        return None;
+    }
+    at(dues, best, 1).with_cycle()
+}
+
+/// The first of the parts but part i.
+#[inline]
+fn first_beside(
+    dues: &[Option<u32>],
+    best: &[Entry; 64],
+    alone: Option<u8>,
+    i: u8,
+) -> Option<(u32, u8)>
+    requires few { length dues.now ≤ 64 }
+    requires part { i < length dues.now }
+    requires best { (k : ℕ) → 1 ≤ k → k < length dues.now → IsPlayed alone (length dues.now) k → IsBest (length dues.now) dues.now best.now k }
+    requires alone { IsAlone alone dues.now }
+    ensures { IsFirst (slice_set dues.now i None) result }
+{
+    if let Some(j) = alone {
+        if j == i {
+            return None;
+        }
+        return leaf_of(dues, j as usize).with_cycle();
+    }
+    first_without(dues, best, i).with_cycle()
+}
+
 fn no_dues(alloc: Global, n: usize) -> Result<Vec<Option<u32>>, AllocError>
     ensures { IfOk result (λ v. v.items ≡ replicate n None) }
 {
@@ -122,6 +214,7 @@ impl DueTree {
         Ok(DueTree {
             dues: no_dues(alloc, n as usize)?,
             best: no_entries(),
+            alone: None,
         })
     }
 
@@ -142,8 +235,18 @@ impl DueTree {
         if is_same_due(self.dues[i as usize], due) {
             return;
         }
+        if is_part(self.alone, i) {
+            self.dues[i as usize] = due;
+            return;
+        }
+        join(&self.dues, &mut self.best, self.alone);
         self.dues[i as usize] = due;
         replay(&self.dues, &mut self.best, i as usize);
+        self.alone = if due.is_some() {
+            None
+        } else {
+            only_due(&self.dues, &self.best)
+        };
     }
 
     /// The least due cycle, with the least part that has it.
@@ -151,10 +254,7 @@ impl DueTree {
     pub fn first(&self) -> Option<(u32, u8)>
         ensures { IsFirst self.now result }
     {
-        if self.dues.is_empty() {
-            return None;
-        }
-        at(&self.dues, &self.best, 1).with_cycle()
+        first_of(&self.dues, &self.best, self.alone)
     }
 
     /// The least due cycle of the parts but this one, with the least part that has it.
@@ -164,6 +264,6 @@ impl DueTree {
         ensures same { self.new ≡ self.old }
         ensures first { IsFirst (slice_set self.old i None) result }
     {
-        first_without(&self.dues, &self.best, i).with_cycle()
+        first_beside(&self.dues, &self.best, self.alone, i)
     }
 }

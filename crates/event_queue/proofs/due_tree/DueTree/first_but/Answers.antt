@@ -1,22 +1,18 @@
-use Rattle.std.proofs.Common.{◌<◌, ◌≤◌, sym, subst, length, List, ℕ, Option, None}
+use Rattle.std.proofs.Common.{◌≤◌, ◌<◌, length, sym, subst, List, ℕ, Option, None}
 use Rattle.std.specs.Prelude.{slice_set}
 use Rattle.event_queue.specs.First.{IsFirst}
-use Rattle.event_queue.specs.Places.{IsBest, IsWithout, with_cycle}
-use Rattle.event_queue.proofs.TreeLemmas.{without_first}
+use Rattle.event_queue.specs.Places.{IsBest, IsPlayed, IsAlone}
 use Rattle.event_queue.proofs.due_tree.DueTree.first_but.Goals as goal
+
+pub first_beside-requires-clause-best : goal.first_beside-requires-clause-best
+first_beside-requires-clause-best c =
+    let i = c.self.inside in
+    subst (λ (l : List (Option ℕ)). (k : ℕ) → 1 ≤ k → k < length l → IsPlayed i.alone (length l) k → IsBest (length l) l i.best k) (sym c.deref.ensures.value) c.self.invariant.best
+
+pub first_beside-requires-clause-alone : goal.first_beside-requires-clause-alone
+first_beside-requires-clause-alone c = subst (λ (l : List (Option ℕ)). IsAlone c.self.inside.alone l) (sym c.deref.ensures.value) c.self.invariant.alone
 
 pub returns-clause-first : goal.returns-clause-first
 returns-clause-first c =
-    let i = c.self.inside in
-    let v = c.self.invariant in
-    let found = c.first_without.result in
-    let low : c.args.i < length c.self.inside.dues.items = subst (λ (l : List (Option ℕ)). c.args.i < length l) (sym c.self.view_is) c.requires in
-    let w : IsWithout c.self.inside.dues.items c.self.inside.best c.args.i 1 c.first_without.result =
-    subst (λ (l : List (Option ℕ)). IsWithout l c.self.inside.best c.args.i 1 c.first_without.result) c.deref.ensures.value c.first_without.ensures in
-    subst (λ (o : Option (ℕ × ℕ)). IsFirst (slice_set c.args.self.now c.args.i None) o) (sym c.with_cycle.ensures)
-    (subst (λ (l : List (Option ℕ)). IsFirst (slice_set l c.args.i None) (with_cycle found)) c.self.view_is
-    (without_first i.dues.items i.best c.args.i v.few low found w))
-
-pub first_without-requires-clause-best : goal.first_without-requires-clause-best
-first_without-requires-clause-best c =
-    subst (λ (l : List (Option ℕ)). (k : ℕ) → 1 ≤ k → k < length l → IsBest (length l) l c.self.inside.best k) (sym c.deref.ensures.value) c.self.invariant.best
+    subst (λ (l : List (Option ℕ)). IsFirst (slice_set l c.args.i None) c.first_beside.result) c.self.view_is
+    (subst (λ (l : List (Option ℕ)). IsFirst (slice_set l c.args.i None) c.first_beside.result) c.deref.ensures.value c.first_beside.ensures)

@@ -11,7 +11,8 @@ invariant_of-result c =
     let dues = c.in_ok-no_dues.ensures in
     record {
       few = (let l = ap length dues in let m = length-replicate {A = Option ℕ} c.args.n None in let h = c.requires in omega (arith, l, m, h));
-      best = λ k a b. subst (λ (l : List (Option ℕ)). IsBest (length l) l c.no_entries.result k) (sym dues)
+      best = λ k a b played. subst (λ (l : List (Option ℕ)). IsBest (length l) l c.no_entries.result k) (sym dues)
           (subst (λ (es : List Entry). IsBest (length (replicate {A = Option ℕ} c.args.n None)) (replicate c.args.n None) es k) (sym c.no_entries.ensures)
           (subst (λ (m : ℕ). IsBest m (replicate {A = Option ℕ} c.args.n None) (replicate 64 no_entry) k) (sym (length-replicate {A = Option ℕ} c.args.n None)) (best_none c.args.n k)));
+      alone = λ j e. absurd cc;
     }
