@@ -85,7 +85,7 @@ module _ {S P : Type 0} (m : Machine S) (laws : Laws m) (w : Wiring) (state : P 
       let st = like.each k p.0 s p.1 es in
       quiet_rest m (state p.0) s (now p.0) t u st.not_later order st.is (quiet k p.0 other p.1)
 
-  steady : IsSteady m w inputs Js t (u - t)
+  pub steady : IsSteady m w inputs Js t (u - t)
   steady = record {
     same = λ k s es. elim (eqb_tells k who) [
       | inl e ↦ subst (λ (x : S). IsSame m x t (u - t)) (some_same (sym there ∙ subst (λ (j : ℕ). slice_get Js j ≡ Some s) e.1 es)) same
@@ -282,6 +282,7 @@ module _ {S P : Type 0} (m : Machine S) (laws : Laws m) (w : Wiring) (state : P 
     pub lags : Lags m w state now wakes u new after
     pub row_none : rows m w inputs (shown_at t kept.seen) (Ts m laws w state now wakes t parts) t (u - t) ≡ []
     pub bytes_are : bytes m w inputs (Ts m laws w state now wakes t parts) t (u - t) ≡ bs
+    pub rests : IsSteady m w inputs (Ts m laws w state now wakes t parts) t (u - t)
 
   pub alone_goes : (t u limit : ℕ) (parts new : List P) (kept : Kept) (after : List (Option ℕ)) (changed : Bool) (steps more who : ℕ) (p q : P) (d : Option ℕ) (ds : List Drive) (cs : List Bool) → IsTold m (map state new) (retold kept.seen ds cs).circuit →
       Lags m w state now wakes t parts kept → kept.stale ≡ false → 0 < t → u ≤ limit → limit ≤ MOST_CYCLES → IsAlone inputs kept.dues kept.input who t limit →
@@ -301,6 +302,7 @@ module _ {S P : Type 0} (m : Machine S) (laws : Laws m) (w : Wiring) (state : P 
         lags = alone_lags m laws w state now wakes inputs t u parts kept lags fresh later order who p q went.here quiet silent went.same went.state_is went.now_is went.woken_is changed d ds cs (subst (λ (xs : List P). IsTold m (map state xs) (retold kept.seen ds cs).circuit) went.new_is told) went.first went.drives went.contacts;
         row_none = alone_rows m laws w state now wakes inputs t u parts kept lags fresh later order who p q went.here quiet silent went.same went.state_is went.now_is went.woken_is;
         bytes_are = alone_bytes m laws w state now wakes inputs t u parts kept lags fresh later order who p q went.here quiet silent went.same went.state_is went.now_is went.woken_is;
+        rests = steady m laws w state now wakes inputs t u parts kept lags fresh later order who p q went.here quiet silent went.same went.state_is went.now_is went.woken_is;
       } in
       subst (λ (xs : List P). Goes t u parts xs kept (record { input = kept.input; stale = changed; dues = after; own = kept.own; seen = retold kept.seen ds cs; answers = kept.answers }) steps more (sent m (glided m state now wakes t p) t (u - t))) (sym went.new_is)
       (subst (λ (xs : List (Option ℕ)). Goes t u parts (slice_set parts who q) kept (record { input = kept.input; stale = changed; dues = xs; own = kept.own; seen = retold kept.seen ds cs; answers = kept.answers }) steps more (sent m (glided m state now wakes t p) t (u - t))) (sym went.dues_are) here)

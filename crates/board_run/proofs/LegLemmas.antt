@@ -165,7 +165,7 @@ module _ {S P : Type 0} (m : Machine S) (laws : Laws m) (w : Wiring) (state : P 
     part_of : (k : ℕ) (s : S) → slice_get Js k ≡ Some s → (p : P) × (slice_get parts k ≡ Some p)
     part_of k s es = let r = get_map_some (glided m state now wakes t) parts k s es in (r.0, r.1)
 
-    stretch : IsStretch m w inputs Js t (u - t)
+    pub stretch : IsStretch m w inputs Js t (u - t)
     stretch = record {
       valid = λ k s es. let p = part_of k s es in stands_valid m laws t (now p.0) (state p.0) s (like.each k p.0 s p.1 es);
       quiet = λ k s es. let p = part_of k s es in let st = like.each k p.0 s p.1 es in quiet_rest m (state p.0) s (now p.0) t u st.not_later order st.is (quiet k p.0 p.1);
@@ -178,7 +178,7 @@ module _ {S P : Type 0} (m : Machine S) (laws : Laws m) (w : Wiring) (state : P 
       silent = λ j k l. silent (t + j) k (omega arith) (omega arith);
     }
 
-    steady : IsSteady m w inputs Js t (u - t)
+    pub steady : IsSteady m w inputs Js t (u - t)
     steady = record {
       same = λ k s es. record {
         same_drives = λ j l. glide_drives m laws s t j (stretch.valid k s es) (λ i (h : i < j). stretch.quiet k s es i (omega arith));
@@ -271,6 +271,7 @@ module _ {S P : Type 0} (m : Machine S) (laws : Laws m) (w : Wiring) (state : P 
     pub leg : Leg m w state now wakes inputs t u parts parts kept.seen kept.seen steps steps
     pub row_none : rows m w inputs (shown_at t kept.seen) (Ts m laws w state now wakes t parts) t (u - t) ≡ []
     pub byte_none : bytes m w inputs (Ts m laws w state now wakes t parts) t (u - t) ≡ []
+    pub rests : kept.stale ≡ false → IsSteady m w inputs (Ts m laws w state now wakes t parts) t (u - t)
     pub lags : Lags m w state now wakes u parts kept
 
   pub jumps_to : (t u : ℕ) (parts : List P) (kept : Kept) (steps : ℕ) → Lags m w state now wakes t parts kept → 0 < t → t ≤ u → u ≤ MOST_CYCLES → (kept.stale ≡ true → u ≡ t) →
@@ -291,6 +292,7 @@ module _ {S P : Type 0} (m : Machine S) (laws : Laws m) (w : Wiring) (state : P 
             leg = leg_none t steps parts kept.seen;
             row_none = ap (rows m w inputs (shown_at t kept.seen) (Ts m laws w state now wakes t parts) t) none;
             byte_none = ap (bytes m w inputs (Ts m laws w state now wakes t parts) t) none;
+            rests = λ f. absurd (let x : true ≡ false = sym e ∙ f in cc);
             lags = lags;
           } in
           subst (λ (v : ℕ). Jumps t v parts kept steps) (sym (stays e)) here
@@ -298,6 +300,7 @@ module _ {S P : Type 0} (m : Machine S) (laws : Laws m) (w : Wiring) (state : P 
         leg = jump_leg t u parts kept lags e after order quiet silent steps;
         row_none = jump_rows t u parts kept lags e after order quiet silent;
         byte_none = jump_bytes t u parts kept lags e after order quiet silent;
+        rests = λ _. steady t u parts kept lags e after order quiet silent;
         lags = jump_lags t u parts kept lags e after order quiet silent;
       }
 

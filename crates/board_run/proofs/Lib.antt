@@ -1,5 +1,6 @@
 pub mod GatherLemmas
 pub mod StepLemmas
+mod StretchLemmas
 pub mod HandLemmas
 pub mod ScriptLemmas
 pub mod WakeLemmas

@@ -13,7 +13,7 @@ use Rattle.sim_base.specs.declared.wiring.Wiring.{Wiring}
 use Rattle.sim_base.specs.declared.limits.TheConstants.{MOST_CYCLES}
 use Rattle.board_run.proofs.ScriptLemmas.{others_leave}
 
-below_or : (u t : ℕ) → (u < t) ⊎ (t ≤ u)
+pub below_or : (u t : ℕ) → (u < t) ⊎ (t ≤ u)
 below_or u t = grind arith
 
 -- nothing is due before v, if the due cycle is not before it

@@ -1,4 +1,4 @@
--- Parts that lag behind their board, and their turn in a cycle. No public clause cites this.
+-- Parts that lag behind their board, and their turn in a cycle.
 use Rattle.std.specs.Prelude.{◌≡◌, ℕ, ◌+◌, ◌-◌, ◌<◌, ◌≤◌, List, map, Bool, true, false, not, ◌||◌, ◌==◌, Option, None, Some, slice_get}
 use Rattle.std.specs.Option.{is_some}
 use Rattle.sim_base.specs.declared.signal.Level.{Level}

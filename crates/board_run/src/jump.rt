@@ -82,7 +82,14 @@ fn first_input(inputs: &[Input], input: usize, t: u32, n: u32) -> u32
 
 /// The next cycle from t on, not after n, in which something may happen.
 #[inline]
-fn next_cycle(stale: bool, dues: &DueTree, inputs: &[Input], input: usize, t: u32, n: u32) -> u32
+pub(crate) fn next_cycle(
+    stale: bool,
+    dues: &DueTree,
+    inputs: &[Input],
+    input: usize,
+    t: u32,
+    n: u32,
+) -> u32
     requires within { t ≤ n }
     requires order { IsInOrder inputs.now }
     requires behind { AreBehind inputs.now input t }
@@ -103,7 +110,13 @@ fn next_cycle(stale: bool, dues: &DueTree, inputs: &[Input], input: usize, t: u3
 
 /// The one part that goes on from cycle t, and up to which cycle, where no other part is due and the script says nothing.
 #[inline]
-fn find_alone(next: Next, dues: &mut DueTree, inputs: &[Input], t: u32, n: u32) -> Option<(u8, u32)>
+pub(crate) fn find_alone(
+    next: Next,
+    dues: &mut DueTree,
+    inputs: &[Input],
+    t: u32,
+    n: u32,
+) -> Option<(u8, u32)>
     requires before { t < n }
     requires order { IsInOrder inputs.now }
     requires behind { AreBehind inputs.now next.input t }
@@ -308,7 +321,7 @@ fn settle_one<P: Part>(part: &mut P, n: u32) -> Option<u32>
 }
 
 /// Brings every part to the cycle, and asks it when it is due.
-fn settle_all<P: Part>(parts: &mut [P], dues: &mut DueTree, n: u32)
+pub(crate) fn settle_all<P: Part>(parts: &mut [P], dues: &mut DueTree, n: u32)
     requires end { n ≤ MOST_CYCLES }
     requires few { length parts.old ≤ 64 }
     requires dues { length dues.old ≡ length parts.old }

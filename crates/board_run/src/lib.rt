@@ -14,7 +14,12 @@ mod reading;
 mod script;
 mod show;
 mod start;
+mod still;
 mod tell;
 mod turn;
+mod unwatched;
 
 pub use board::{Board, RunEnd};
+pub use gather::{is_same_drive, level_of_net};
+pub use turn::take_turn;
+pub use unwatched::Unwatched;

@@ -73,7 +73,7 @@ fn wake_late<P: Part, L: Ledger>(
 
 /// A part's turn in a cycle: where it is active it is woken on the levels of its pins' nets, for which there is room.
 #[inline]
-fn take_turn<P: Part, L: Ledger>(
+pub fn take_turn<P: Part, L: Ledger>(
     part: &mut P,
     due: &mut Option<u32>,
     levels: &[Level],

@@ -1,0 +1,62 @@
+-- A stretch of the board up to the next cycle in which something may happen.
+use Rattle.std.proofs.Common.{◌≡◌, ◌∙◌, ℕ, zero, suc, ◌-◌, ◌<◌, ◌≤◌, refl, ap, sym, arith, subst, inl, inr}
+use Rattle.std.proofs.Common.{List, length, map, get_or, Bool, true, false, Option, None, Some}
+use Rattle.std.specs.Prelude.{◌==◌, ◌||◌, slice_get}
+use Rattle.std.proofs.lemmas.Option.{slice_get_within}
+use Rattle.sim_base.specs.declared.limits.TheConstants.{MOST_CYCLES}
+use Rattle.sim_base.specs.declared.wiring.Wiring.{Wiring}
+use Rattle.sim_base.specs.declared.wiring.Input.{Input}
+use Rattle.part_law.specs.Machine.{Machine, Laws}
+use Rattle.board_model.specs.Board.{input_at}
+use Rattle.board_model.proofs.Lists.{get_within}
+use Rattle.board_laws.specs.Stretch.{IsStretch}
+use Rattle.board_laws.specs.Steady.{IsSteady}
+use Rattle.board_run.specs.Lagging.{glided, AreLate}
+use Rattle.board_run.specs.Legs.{Kept, Lags, Leg, AreAt}
+use Rattle.board_run.proofs.NextLemmas.{below_or, quiet_until}
+use Rattle.board_run.proofs.LegLemmas.{at_here, stretch, jumps_to, leg_none}
+
+-- where something may happen later than now, no drive has changed, and cycle 0 is over
+pub unchanged : (stale : Bool) (t r : ℕ) → ((stale || (t == 0)) ≡ true → r ≡ t) → t < r → (stale ≡ false) × (0 < t)
+unchanged true t r now less = let e : r ≡ t = now refl in absurd (omega (arith, e, less))
+unchanged false zero r now less = let e : r ≡ 0 = now refl in absurd (omega (arith, e, less))
+unchanged false (suc t) r now less = (refl, omega arith)
+
+module _ {S P : Type 0} (m : Machine S) (laws : Laws m) (w : Wiring) (state : P → S) (now wakes : P → ℕ) (inputs : List Input) where
+  -- parts that stand at cycle t have a stretch up to u where none of them is due before u and the script says nothing
+  pub stretch_until : (t u : ℕ) (parts : List P) (kept : Kept) → Lags m w state now wakes t parts kept → AreAt now t parts → kept.stale ≡ false →
+      0 < t → t ≤ u → u ≤ MOST_CYCLES → AreLate kept.dues u → ((v k : ℕ) → t ≤ v → v < u → input_at inputs v k ≡ None) → IsStretch m w inputs (map state parts) t (u - t)
+  stretch_until t u parts kept lags at fresh after order end late silent =
+      subst (λ (ss : List S). IsStretch m w inputs ss t (u - t)) (at_here m laws w state now wakes inputs t parts at)
+      (stretch m laws w state now wakes inputs t u parts kept lags fresh after order
+      (λ k p ep.
+      let inside : k < length kept.dues = (let l = slice_get_within parts k p ep in let n = lags.dues_long in omega (arith, l, n)) in
+      let d : Option ℕ = get_or kept.dues k None in
+      let ed : slice_get kept.dues k ≡ Some d = get_within kept.dues k None inside in
+      quiet_until m state now wakes t u d p order end (lags.may k p d ep ed) (λ x e l. late k x (ed ∙ ap Some e)))
+      silent)
+
+  -- where nothing new is shown up to cycle u
+  pub record Rests (t u : ℕ) (parts new : List P) (kept after : Kept) (steps more : ℕ) : Type 0 where
+    pub leg : Leg m w state now wakes inputs t u parts new kept.seen after.seen steps more
+    pub lags : Lags m w state now wakes u new after
+    pub steady : t < u → IsSteady m w inputs (map (glided m state now wakes t) parts) t (u - t)
+
+  -- no part is due up to there, or it is here
+  pub rests_to : (t u : ℕ) (parts : List P) (kept : Kept) (steps : ℕ) → Lags m w state now wakes t parts kept → t ≤ u → u ≤ MOST_CYCLES → ((kept.stale || (t == 0)) ≡ true → u ≡ t) →
+      AreLate kept.dues u → ((v k : ℕ) → t ≤ v → v < u → input_at inputs v k ≡ None) → Rests t u parts parts kept kept steps steps
+  rests_to t u parts kept steps lags order end stays due silent = elim (below_or t u) [
+    | inl less ↦
+        let still = unchanged kept.stale t u stays less in
+        let none : kept.stale ≡ true → u ≡ t = λ e. absurd (let x : true ≡ false = sym e ∙ still.0 in cc) in
+        let j = jumps_to m laws w state now wakes inputs t u parts kept steps lags still.1 order end none (λ k x e. due k x e) silent in
+        record { leg = j.leg; lags = j.lags; steady = λ _. j.rests still.0 }
+    | inr more ↦
+        let same : u ≡ t = omega (arith, more, order) in
+        let here : Rests t t parts parts kept kept steps steps = record {
+          leg = leg_none m laws w state now wakes inputs t steps parts kept.seen;
+          lags = lags;
+          steady = λ (less : t < t). absurd (omega arith);
+        } in
+        subst (λ (v : ℕ). Rests t v parts parts kept kept steps steps) (sym same) here
+  ]
