@@ -1,7 +1,7 @@
 pub mod CallerLemmas
 mod ChainLemmas
-mod ReadLemmas
-mod ReadingLemmas
-mod TrackLemmas
+pub mod ReadLemmas
+pub mod ReadingLemmas
+pub mod TrackLemmas
 mod WaveLemmas
 mod WriterLemmas

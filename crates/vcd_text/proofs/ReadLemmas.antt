@@ -19,7 +19,7 @@ rest_unbroken b l unbroken k p = unbroken (suc k) (omega (arith, p))
 first_unbroken : (b : ℕ) (l : List ℕ) → IsUnbroken (b ∷ l) → (b == 10) ≡ false
 first_unbroken b l unbroken = ne_eqb b 10 (unbroken 0 (omega arith))
 
-ended_at : (l rest : List ℕ) → IsUnbroken l → ended_lines (l ++ 10 ∷ rest) ≡ l ∷ ended_lines rest
+pub ended_at : (l rest : List ℕ) → IsUnbroken l → ended_lines (l ++ 10 ∷ rest) ≡ l ∷ ended_lines rest
 unfolding ended_lines
 ended_at [] rest unbroken = refl
 ended_at (b ∷ l) rest unbroken = rw (first_unbroken b l unbroken) (ap (before_line b) (ended_at l rest (rest_unbroken b l unbroken)))
@@ -32,7 +32,7 @@ has_lf : (l rest : List ℕ) → list_any (λ (a : ℕ). a == 10) (l ++ 10 ∷ r
 has_lf [] rest = refl
 has_lf (b ∷ l) rest = or_true (b == 10) (list_any (λ (a : ℕ). a == 10) (l ++ 10 ∷ rest)) (has_lf l rest)
 
-unended_at : (l rest : List ℕ) → unended (l ++ 10 ∷ rest) ≡ unended rest
+pub unended_at : (l rest : List ℕ) → unended (l ++ 10 ∷ rest) ≡ unended rest
 unfolding unended
 unended_at [] rest = refl
 unended_at (b ∷ l) rest = rw (or_true (b == 10) (list_any (λ (a : ℕ). a == 10) (l ++ 10 ∷ rest)) (has_lf l rest)) (unended_at l rest)

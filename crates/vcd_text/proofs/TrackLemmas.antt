@@ -157,7 +157,7 @@ row_same : (f g : ℕ → Drive) (t : ℕ) → ((u : ℕ) → u ≤ t → f u �
 row_same f g zero same = rw (same 0 (omega arith)) refl
 row_same f g (suc t) same = rw (same t (omega arith), same (suc t) (omega arith)) refl
 
-rows_same : (f g : ℕ → Drive) (n : ℕ) → ((u : ℕ) → u < n → f u ≡ g u) → rows_to f n ≡ rows_to g n
+pub rows_same : (f g : ℕ → Drive) (n : ℕ) → ((u : ℕ) → u < n → f u ≡ g u) → rows_to f n ≡ rows_to g n
 rows_same f g zero same = refl
 rows_same f g (suc n) same =
     ap (λ (l : DriveRows). l ++ row_at f n) (rows_same f g n (λ u p. same u (omega (arith, p))))
@@ -168,7 +168,7 @@ rows_set : (f g : ℕ → Drive) (t : ℕ) → ((u : ℕ) → u < t → f u ≡ 
 rows_set f g t same = ap (λ (l : DriveRows). with_row l t (g t)) (off f t ∙ rows_same f g t same) ∙ on g t
 
 module _ (test : Change → Bool) where
-  value_push : (said : List Change) (found : ℕ) (c : Change) (t : ℕ) →
+  pub value_push : (said : List Change) (found : ℕ) (c : Change) (t : ℕ) →
       value_from test found (said ++ c ∷ []) t ≡ (if test c && nat_le c.cycle t then c.value else value_from test found said t)
   value_push [] found c t = refl
   value_push (d ∷ said) found c t = value_push said (if test d && nat_le d.cycle t then d.value else found) c t
@@ -207,7 +207,7 @@ track_is a b c d r s e f g =
     made : ℕ → ℕ → DriveRows → TrackState
     made x y z = record { strong = x; weak = y; rows = z }
 
-drive_is : (a b c d : ℕ) → a ≡ b → c ≡ d → drive_of a c ≡ drive_of b d
+pub drive_is : (a b c d : ℕ) → a ≡ b → c ≡ d → drive_of a c ≡ drive_of b d
 drive_is a b c d e f = ap (λ (x : ℕ). drive_of x c) e ∙ ap (λ (x : ℕ). drive_of b x) f
 
 module _ (vs : List Variable) (said : List Change) where
