@@ -102,7 +102,7 @@ twin counter/expected/run.vcd counter.vcd
 pulses <"$rows/crc.vcd" | same "crc in the rows" "$here/crc/expected/pulses.txt" || bad=1
 pulses <"$rows/sort.vcd" | same "sort in the rows" "$here/sort/expected/pulses.txt" || bad=1
 lights bit <"$rows/counter-down.vcd" | same "counter downwards in the rows" "$here/counter/expected/counts-down.txt" || bad=1
-for name in blink counter pulse arduino-blink fade tone pin-interrupt pot-blink button serial-hello pot-serial i2c-scanner spi-loopback shift-out spi-shift latch seven-segment lcd-hello lcd-i2c chip-inverter chip-blinker chip-counter; do
+for name in blink counter pulse arduino-blink fade tone pin-interrupt pot-blink button serial-hello pot-serial i2c-scanner spi-loopback shift-out spi-shift latch seven-segment lcd-hello lcd-i2c chip-inverter chip-blinker chip-counter chip-thermometer chip-registers chip-echo; do
     "$program" check "$here/$name" | same "$name as a project" "$here/$name/expected/check.txt" || bad=1
 done
 "$program" bare "$here/blink/blink.hex" --us 1 | same blink "$here/blink/expected/wave.vcd" || bad=1
@@ -159,10 +159,13 @@ chips() { # FOLDER OF THE PROJECTS, WORDS
     "$program" run "$1/chip-inverter" --us 1 --report - | same "chip-inverter's report$2" "$here/chip-inverter/expected/report.txt" || bad=1
     wave "$1/chip-blinker" 3000 | values blink1.OUT | same "chip-blinker$2" "$here/chip-blinker/expected/out.txt" || bad=1
     "$program" run "$1/chip-counter" --us 10000 | same "chip-counter's bytes$2" "$here/chip-counter/expected/serial.txt" || bad=1
+    "$program" run "$1/chip-thermometer" --us 250000 | same "chip-thermometer's bytes$2" "$here/chip-thermometer/expected/serial.txt" || bad=1
+    "$program" run "$1/chip-registers" --us 5000 | same "chip-registers' bytes$2" "$here/chip-registers/expected/serial.txt" || bad=1
+    "$program" run "$1/chip-echo" --us 10000 | same "chip-echo's bytes$2" "$here/chip-echo/expected/serial.txt" || bad=1
 }
 chips "$here" ""
 if command -v "${CLANG:-clang}" >/dev/null && command -v wasm-ld >/dev/null; then
-    for name in inverter blinker counter; do
+    for name in inverter blinker counter thermometer registers echo; do
         cp -r "$here/chip-$name" "$down"
         "$here/chips.sh" --into "$down/chip-$name" >/dev/null || bad=1
     done

@@ -1,10 +1,10 @@
 // What a custom chip calls: the functions that the simulator gives to its module.
 //
 // The names and types are those that chips for Wokwi use, as far as the simulator has them, so that a chip of pins, watches,
-// timers and attributes is compiled as it stands. How each function is imported (its name, its parameters and its result),
+// timers, attributes, UARTs, SPI and I2C slaves is compiled as it stands. How each function is imported (its name, its parameters and its result),
 // and the offsets of the configurations, are the simulator's own: docs/CHIPS.md, "What a chip can call".
 //
-// Not here: analog pins, float attributes, UART, SPI and I2C.
+// Not here: analog pins and float attributes.
 #ifndef WOKWI_API_H
 #define WOKWI_API_H
 
@@ -88,6 +88,65 @@ CHIP_IMPORT("timerStartNanos") void timer_start_ns(timer_t timer, uint64_t nanos
 CHIP_IMPORT("timerStop") void timer_stop(timer_t timer);
 // The time since cycle 0, rounded down.
 CHIP_IMPORT("getSimNanos") uint64_t get_sim_nanos(void);
+
+// ---- UARTs, at most 8: 8 data bits, no parity, one stop bit
+
+typedef uint32_t uart_dev_t;
+
+typedef struct {
+    void *user_data;
+    // NO_PIN where there is none
+    pin_t rx;
+    pin_t tx;
+    uint32_t baud_rate;
+    void (*rx_data)(void *user_data, uint8_t byte);
+    void (*write_done)(void *user_data);
+    uint32_t reserved[8];
+} uart_config_t;
+
+CHIP_IMPORT("uartInit") uart_dev_t uart_init(const uart_config_t *config);
+// Sends from the next cycle on, and reads each byte when it is sent; false while bytes are sent.
+CHIP_IMPORT("uartWrite") bool uart_write(uart_dev_t uart, uint8_t *buffer, uint32_t count);
+
+// ---- SPI slaves, at most 8
+
+typedef uint32_t spi_dev_t;
+
+typedef struct {
+    void *user_data;
+    pin_t sck;
+    pin_t mosi;
+    pin_t miso;
+    // 0 to 3
+    uint32_t mode;
+    void (*done)(void *user_data, uint8_t *buffer, uint32_t count);
+    uint32_t reserved[8];
+} spi_config_t;
+
+CHIP_IMPORT("spiInit") spi_dev_t spi_init(const spi_config_t *config);
+// Exchanges each byte of the buffer with one of the master; does nothing while bytes are exchanged.
+CHIP_IMPORT("spiStart") void spi_start(spi_dev_t spi, uint8_t *buffer, uint32_t count);
+// `done` comes in the next cycle, with the number of bytes that were exchanged whole.
+CHIP_IMPORT("spiStop") void spi_stop(spi_dev_t spi);
+
+// ---- I2C slaves, at most 8
+
+typedef uint32_t i2c_dev_t;
+
+typedef struct {
+    void *user_data;
+    uint32_t address;
+    pin_t scl;
+    pin_t sda;
+    // whether the chip is there, a byte for the master, whether a byte is taken, and the end
+    bool (*connect)(void *user_data, uint32_t address, bool read);
+    uint8_t (*read)(void *user_data);
+    bool (*write)(void *user_data, uint8_t data);
+    void (*disconnect)(void *user_data);
+    uint32_t reserved[8];
+} i2c_config_t;
+
+CHIP_IMPORT("i2cInit") i2c_dev_t i2c_init(const i2c_config_t *config);
 
 #ifdef __cplusplus
 }

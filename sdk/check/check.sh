@@ -9,7 +9,7 @@ work=$(mktemp -d) || exit 1
 trap 'rm -rf "$work"' EXIT
 
 # NAME (PARAMETERS) -> RESULT, as wasm-objdump shows types
-sed -n 's/^row_of names\.[A-Za-z]* = row (codes "\([A-Za-z]*\)") \(.*\)$/\1 \2/p' "$here/../../crates/chip_abi/specs/HostNames.antt" |
+sed -n 's/^row_of names\.[A-Za-z0-9]* = row (codes "\([A-Za-z0-9]*\)") \(.*\)$/\1 \2/p' "$here/../../crates/chip_abi/specs/HostNames.antt" |
     sed 's/ ∷ \[\]//g; s/ ∷ /, /g; s/I32/i32/g; s/I64/i64/g; s/\[\]/()/g' |
     sed 's/^\([^ ]*\) \(([^)]*)\) (\([^)]*\))$/\1 \2 -> \3/; s/-> $/-> nil/' | sort >"$work/table"
 

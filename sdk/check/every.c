@@ -13,4 +13,13 @@ void chip_init(void) {
     timer_start(timer, attr_read(attr_init("micros", 1)), true);
     timer_start_ns(timer, get_sim_nanos(), false);
     timer_stop(timer);
+    const uart_config_t uart = {.rx = NO_PIN, .tx = pin, .baud_rate = 9600};
+    uint8_t bytes[1] = {0};
+    uart_write(uart_init(&uart), bytes, 1);
+    const spi_config_t spi = {.sck = pin, .mosi = pin, .miso = NO_PIN};
+    spi_dev_t slave = spi_init(&spi);
+    spi_start(slave, bytes, 1);
+    spi_stop(slave);
+    const i2c_config_t i2c = {.address = 8, .scl = pin, .sda = pin};
+    i2c_init(&i2c);
 }

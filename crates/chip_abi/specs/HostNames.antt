@@ -29,17 +29,24 @@ row_of names.TimerStart = row (codes "timerStart") (I32 ∷ I32 ∷ I32 ∷ []) 
 row_of names.TimerStartNanos = row (codes "timerStartNanos") (I32 ∷ I64 ∷ I32 ∷ []) []
 row_of names.TimerStop = row (codes "timerStop") (I32 ∷ []) []
 row_of names.GetSimNanos = row (codes "getSimNanos") [] (I64 ∷ [])
+row_of names.UartInit = row (codes "uartInit") (I32 ∷ []) (I32 ∷ [])
+row_of names.UartWrite = row (codes "uartWrite") (I32 ∷ I32 ∷ I32 ∷ []) (I32 ∷ [])
+row_of names.SpiInit = row (codes "spiInit") (I32 ∷ []) (I32 ∷ [])
+row_of names.SpiStart = row (codes "spiStart") (I32 ∷ I32 ∷ I32 ∷ []) []
+row_of names.SpiStop = row (codes "spiStop") (I32 ∷ []) []
+row_of names.I2cInit = row (codes "i2cInit") (I32 ∷ []) (I32 ∷ [])
 
 abbrev pub all_names : List HostName
 all_names = names.PinInit ∷ names.PinRead ∷ names.PinWrite ∷ names.PinWatch ∷ names.PinWatchStop ∷ names.PinMode ∷ names.AttrInit ∷ names.AttrRead
-    ∷ names.TimerInit ∷ names.TimerStart ∷ names.TimerStartNanos ∷ names.TimerStop ∷ names.GetSimNanos ∷ []
+    ∷ names.TimerInit ∷ names.TimerStart ∷ names.TimerStartNanos ∷ names.TimerStop ∷ names.GetSimNanos
+    ∷ names.UartInit ∷ names.UartWrite ∷ names.SpiInit ∷ names.SpiStart ∷ names.SpiStop ∷ names.I2cInit ∷ []
 
 abbrev pub named_among : List HostName → List ℕ → Option HostName
 named_among [] text = None
 named_among (name ∷ rest) text = if bytes_eq text (row_of name).text then Some name else named_among rest text
 
 -- the function with a name
-abbrev pub named : List ℕ → Option HostName
+unfoldable pub named : List ℕ → Option HostName
 named text = named_among all_names text
 
 -- the type of a function

@@ -20,9 +20,16 @@ pub enum HostName {
     TimerStartNanos,
     TimerStop,
     GetSimNanos,
+    UartInit,
+    UartWrite,
+    SpiInit,
+    SpiStart,
+    SpiStop,
+    I2cInit,
 }
 
 /// The function with a name.
+#[tactic(auto, unfolding(crate::specs::HostNames::named))]
 pub(crate) fn named(name: &str) -> Option<HostName>
     ensures { result ≡ named name.now }
 {
@@ -40,6 +47,12 @@ pub(crate) fn named(name: &str) -> Option<HostName>
         "timerStartNanos" => Some(HostName::TimerStartNanos),
         "timerStop" => Some(HostName::TimerStop),
         "getSimNanos" => Some(HostName::GetSimNanos),
+        "uartInit" => Some(HostName::UartInit),
+        "uartWrite" => Some(HostName::UartWrite),
+        "spiInit" => Some(HostName::SpiInit),
+        "spiStart" => Some(HostName::SpiStart),
+        "spiStop" => Some(HostName::SpiStop),
+        "i2cInit" => Some(HostName::I2cInit),
         _ => None,
     }
 }
@@ -57,8 +70,16 @@ pub(crate) fn params_of(name: HostName) -> &'static [ValType]
         | HostName::PinWatchStop
         | HostName::AttrRead
         | HostName::TimerInit
-        | HostName::TimerStop => &[ValType::I32],
-        HostName::TimerStart => &[ValType::I32, ValType::I32, ValType::I32],
+        | HostName::TimerStop
+        | HostName::UartInit
+        | HostName::SpiInit
+        | HostName::SpiStop
+        | HostName::I2cInit => &[ValType::I32],
+        HostName::TimerStart | HostName::UartWrite | HostName::SpiStart => &[
+            ValType::I32,
+            ValType::I32,
+            ValType::I32,
+        ],
         HostName::TimerStartNanos => &[ValType::I32, ValType::I64, ValType::I32],
         HostName::GetSimNanos => &[],
     }
@@ -73,13 +94,19 @@ pub(crate) fn results_of(name: HostName) -> &'static [ValType]
         | HostName::PinWatch
         | HostName::AttrInit
         | HostName::AttrRead
-        | HostName::TimerInit => &[ValType::I32],
+        | HostName::TimerInit
+        | HostName::UartInit
+        | HostName::UartWrite
+        | HostName::SpiInit
+        | HostName::I2cInit => &[ValType::I32],
         HostName::GetSimNanos => &[ValType::I64],
         HostName::PinWrite
         | HostName::PinWatchStop
         | HostName::PinMode
         | HostName::TimerStart
         | HostName::TimerStartNanos
-        | HostName::TimerStop => &[],
+        | HostName::TimerStop
+        | HostName::SpiStart
+        | HostName::SpiStop => &[],
     }
 }

@@ -1,6 +1,6 @@
 -- What a call into a module leaves of a chip.
 use Rattle.std.proofs.Common.{◌≡◌, ◌≢◌, ℕ, zero, suc, List, [], ◌∷◌, length, reverse, Bool, true, false, Option, None, Some, Result, Ok, Err, refl, sym, ap, subst, ◌∙◌}
-use Rattle.std.specs.Prelude.{if◌then◌else◌}
+use Rattle.std.specs.Prelude.{if◌then◌else◌, option_to_list}
 use Rattle.wasm_num.specs.declared.trap.Trap.{Trap}
 use Rattle.wasm_num.specs.declared.value.Value.{Value}
 use Rattle.wasm_num.specs.declared.value.Value.TheVariants.{I32}
@@ -17,7 +17,7 @@ use Rattle.chip_host.specs.declared.death.Death.{Death}
 use Rattle.sim_base.specs.declared.signal.Level.{Level}
 use Rattle.chip_host.specs.Inventory.{Moment, Given, Inventory, HostState}
 use Rattle.chip_host.specs.HostCall.{answers}
-use Rattle.chip_host.specs.Chip.{Chip, chip_from, ended, called, set_up, started, then_set_up, is_live, host_of}
+use Rattle.chip_host.specs.Chip.{Chip, chip_from, ended, called, replied, answer_of, value_of, set_up, started, then_set_up, is_live, host_of}
 
 abbrev moment : HostState → Moment
 moment h = h.moment
@@ -91,6 +91,26 @@ unfolding called
 not_called s t zero args e = refl
 not_called s t (suc n) args e = absurd cc
 
+replied_is : (s : Chip) (t slot : ℕ) (args : List Value) (absent : ℕ) → slot ≢ 0 →
+    replied s t slot args absent ≡ (let e = slot_call (call answers (program_of s.running.wasm) 256) (program_of s.running.wasm) slot args true (state_of s.running (host_of s false t) s.budget) in (ended s t e, answer_of e))
+unfolding replied
+replied_is s t zero args absent h = absurd (h refl)
+replied_is s t (suc n) args absent h = refl
+
+pub not_asked : (s : Chip) (t slot : ℕ) (args : List Value) (absent : ℕ) → slot ≡ 0 → replied s t slot args absent ≡ (s, Some absent)
+unfolding replied
+not_asked s t zero args absent e = refl
+not_asked s t (suc n) args absent e = absurd cc
+
+-- what a callback answers
+abbrev pub answered : Result (Option Value) Trap → Option ℕ
+answered (Ok v) = Some (value_of (option_to_list v))
+answered (Err t) = None
+
+answer_is : (result : Result (Option Value) Trap) (s : State HostState) → answer_of (end_of result s) ≡ answered result
+answer_is (Ok v) s = refl
+answer_is (Err t) s = refl
+
 -- a callback
 module _ (r : Running) (h : HostState) (budget slot : ℕ) (args : List Value) (result : Result (Option Value) Trap) (r' : Running) (h' : HostState)
     (there : (p : Program) × IsProgram r.wasm p)
@@ -114,6 +134,37 @@ module _ (r : Running) (h : HostState) (budget slot : ℕ) (args : List Value) (
       ends_as r h budget r' h' t result evaluated same slot_ends (slot_keeps p slot args false (state_of r h budget))
       ∙ ap (λ (x : HostState). ended s t (slot_call (call answers p 256) p slot args false (state_of r x budget))) (sym (host_same r h budget false t set refl))
       ∙ sym (called_is s t slot args some)
+
+-- a callback that answers
+module _ (r : Running) (h : HostState) (budget slot : ℕ) (args : List Value) (absent : ℕ) (result : Result (Option Value) Trap) (r' : Running) (h' : HostState)
+    (there : (p : Program) × IsProgram r.wasm p)
+    (ends : (p : Program) → IsProgram r.wasm p → EndsAs result r' h' (slot_call (call answers p 256) p slot args true (state_of r h budget))) where
+  abbrev reply : End HostState
+  reply = slot_call (call answers (program_of r.wasm) 256) (program_of r.wasm) slot args true (state_of r h budget)
+
+  reply_ends : EndsAs result r' h' reply
+  reply_ends = ends (program_of r.wasm) (is_program_of r.wasm there.0 there.1)
+
+  reply_keeps : KeepsEnd moment h.moment reply
+  reply_keeps = slot_keeps (program_of r.wasm) slot args true (state_of r h budget)
+
+  pub reply_around : h'.moment ≡ h.moment
+  reply_around = around_of r h budget result r' h' reply reply_ends reply_keeps
+
+  reply_is : slot ≢ 0 → h.moment.init ≡ false → (ended (chip_from r h budget None) h.moment.now reply, answer_of reply) ≡ replied (chip_from r h budget None) h.moment.now slot args absent
+  reply_is some set =
+      let s : Chip = chip_from r h budget None in
+      let t : ℕ = h.moment.now in
+      ap (λ (x : HostState). let e = slot_call (call answers (program_of r.wasm) 256) (program_of r.wasm) slot args true (state_of r x budget) in (ended s t e, answer_of e)) (sym (host_same r h budget false t set refl))
+      ∙ sym (replied_is s t slot args absent some)
+
+  pub replied_chip : slot ≢ 0 → h.moment.init ≡ false → r'.wasm ≡ r.wasm → chip_from r' h' budget (death_of h.moment.now result) ≡ (replied (chip_from r h budget None) h.moment.now slot args absent).0
+  replied_chip some set same =
+      ends_as r h budget r' h' h.moment.now result reply same reply_ends reply_keeps ∙ ap (λ (p : Chip × Option ℕ). p.0) (reply_is some set)
+
+  pub replied_answer : slot ≢ 0 → h.moment.init ≡ false → answered result ≡ (replied (chip_from r h budget None) h.moment.now slot args absent).1
+  replied_answer some set =
+      sym (answer_is result reply_ends.state) ∙ ap answer_of (sym reply_ends.whole) ∙ ap (λ (p : Chip × Option ℕ). p.1) (reply_is some set)
 
 -- a function that sets the chip up
 module _ (r : Running) (h : HostState) (budget f : ℕ) (result : Result (Option Value) Trap) (r' : Running) (h' : HostState)

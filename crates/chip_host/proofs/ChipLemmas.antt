@@ -1,13 +1,14 @@
 -- A chip's wake, and the drive of a pin.
-use Rattle.std.proofs.Common.{◌≡◌, ◌<◌, ℕ, ◌+◌, List, length, map, Some, sym, ap, ◌∙◌, arith}
-use Rattle.std.specs.Prelude.{slice_get}
+use Rattle.std.proofs.Common.{◌≡◌, ◌<◌, ℕ, ◌+◌, List, ◌++◌, length, map, Option, None, Some, refl, sym, ap, ◌∙◌, arith}
+use Rattle.std.specs.Prelude.{slice_get, option_to_list}
 use Rattle.std.specs.List.{range_with_len}
 use Rattle.std.proofs.lemmas.Option.{slice_get-get_or}
 use Rattle.std.proofs.lemmas.List.FromFn.{get_or-map-range_with_len}
 use Rattle.sim_base.specs.declared.signal.Drive.{Drive}
 use Rattle.sim_base.specs.declared.signal.Drive.TheVariants as drives
 use Rattle.sim_base.specs.declared.signal.Level.{Level}
-use Rattle.chip_host.specs.Chip.{Chip, ChipAt, chip, chip_drive, chip_step, seeing, timers_first, turned, watch_turns}
+use Rattle.slave_law.specs.declared.request.EngineRequest.{EngineRequest}
+use Rattle.chip_host.specs.Chip.{Chip, ChipAt, chip, chip_drive, chip_step, seeing, timers_first, turned, watch_turns, served, all_served, engines_last}
 use Rattle.chip_host.specs.ChipLaws.{Fixed, timer_turns_fixed, drive_count}
 
 pub drive_at : (s : Chip) (p : ℕ) (d : Drive) → p < length (chip.drives s) → d ≡ chip_drive s p → slice_get (chip.drives s) p ≡ Some d
@@ -16,13 +17,20 @@ drive_at s p d h e =
     let z : 0 + p ≡ p = omega arith in
     slice_get-get_or (map (chip_drive s) (range_with_len 0 (length s.given.names))) p drives.Z h ∙ ap (λ (x : Drive). Some x) (get_or-map-range_with_len (chip_drive s) 0 (length s.given.names) p p drives.Z l z ∙ sym e)
 
+-- the requests of a turn, of which there are two at most
+pub two_served : (s : Chip) (t k : ℕ) (a b : Option EngineRequest) → all_served s t k (option_to_list a ++ option_to_list b) ≡ served (served s t k a b) t k b None
+two_served s t k None None = refl
+two_served s t k None (Some r) = refl
+two_served s t k (Some q) None = refl
+two_served s t k (Some q) (Some r) = refl
+
 abbrev waking : ChipAt → List Level → ChipAt
 waking a ls = record { chip = seeing a.chip ls; cycle = a.cycle; wakes = a.wakes; before = a.chip.held }
 
 pub turned_step : (a : ChipAt) (ls : List Level) → (turned (waking a ls)).chip ≡ chip_step a.chip a.cycle ls
 turned_step a ls =
     let fired : Chip = timers_first (seeing a.chip ls) a.cycle in
-    ap (λ (f : Fixed). watch_turns fired a.cycle a.chip.held (length f.given.names)) (timer_turns_fixed (seeing a.chip ls) a.cycle (length a.chip.inventory.timers))
+    ap (λ (f : Fixed). engines_last (watch_turns fired a.cycle a.chip.held (length f.given.names)) a.cycle a.chip.held) (timer_turns_fixed (seeing a.chip ls) a.cycle (length a.chip.inventory.timers))
 
 abbrev keeping : ChipAt → ChipAt
 keeping a = record { chip = a.chip; cycle = a.cycle; wakes = a.wakes; before = a.chip.held }

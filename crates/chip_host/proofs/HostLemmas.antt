@@ -1,6 +1,6 @@
--- The types of imported functions.
-use Rattle.std.proofs.Common.{◌≡◌, ◌<◌, ℕ, zero, suc, List, [], ◌∷◌, length, map, Some, sym, ap, ◌∙◌, arith}
-use Rattle.std.specs.Prelude.{slice_get, option_map}
+-- The types of imported functions, and the length of a list of which one is replaced.
+use Rattle.std.proofs.Common.{◌≡◌, ◌<◌, ℕ, zero, suc, List, [], ◌∷◌, length, map, Some, refl, sym, ap, ◌∙◌, arith}
+use Rattle.std.specs.Prelude.{slice_get, slice_set, option_map}
 use Rattle.std.proofs.lemmas.Option.{slice_get-map}
 use Rattle.wasm_code.specs.declared.types.FuncType.{FuncType}
 use Rattle.chip_abi.specs.declared.host_name.HostName.{HostName}
@@ -16,3 +16,8 @@ pub import_type : (table : List HostName) (i : ℕ) (t : FuncType) (name : HostN
 import_type table i t name h n =
     let e : Some t ≡ Some (type_of_name name) = sym h ∙ slice_get-map type_of_name table i ∙ ap (option_map type_of_name) n in
     cc
+
+pub length_set : {X : Type 0} (xs : List X) (k : ℕ) (x : X) → length (slice_set xs k x) ≡ length xs
+length_set [] k x = refl
+length_set (y ∷ ys) zero x = refl
+length_set (y ∷ ys) (suc k) x = ap (λ (n : ℕ). suc n) (length_set ys k x)

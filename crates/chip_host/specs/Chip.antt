@@ -1,5 +1,6 @@
--- A chip as a machine: in a cycle each due timer calls back by its id, and then each watch whose edge came, by its pin (profile).
-use Rattle.std.specs.Prelude.{ℕ, zero, suc, ◌+◌, ◌==◌, ◌&&◌, ◌||◌, List, [], ◌∷◌, length, map, replicate, slice_get, slice_set, Bool, true, false, if◌then◌else◌, Option, None, Some, option_map}
+-- A chip as a machine: in a cycle each due timer calls back by its id, then each watch whose edge came, by its pin, and then each
+-- engine has its turn, by kind and id (profile).
+use Rattle.std.specs.Prelude.{ℕ, zero, suc, ◌+◌, ◌%◌, ◌^◌, ◌==◌, ◌&&◌, ◌||◌, nat_lt, List, [], ◌∷◌, length, map, replicate, slice_get, slice_set, unwrap_or, Bool, true, false, if◌then◌else◌, Option, None, Some, option_map}
 use Rattle.std.specs.List.{range_with_len}
 use Rattle.sim_base.specs.declared.signal.Drive.{Drive}
 use Rattle.sim_base.specs.declared.signal.Drive.TheVariants as drives
@@ -10,17 +11,22 @@ use Rattle.part_law.specs.Machine.{Machine}
 use Rattle.wasm_num.specs.declared.value.Value.{Value}
 use Rattle.wasm_num.specs.declared.value.Value.TheVariants.{I32}
 use Rattle.wasm_decode.specs.declared.module.Module.{Module}
+use Rattle.wasm_num.specs.Mem.{Mem}
 use Rattle.wasm_eval.specs.Eval.{State, End, Gives, Fails, Wrong, call}
 use Rattle.wasm_exec.specs.Programs.{memory_at_first, first_globals}
 use Rattle.wasm_exec.specs.Instances.{Running, state_of}
 use Rattle.wasm_exec.specs.Slots.{slot_call}
 use Rattle.wasm_program.specs.ProgramOf.{program_of}
+use Rattle.slave_law.specs.declared.request.EngineRequest.{EngineRequest}
+use Rattle.slave_law.specs.declared.request.EngineRequest.TheVariants as requests
+use Rattle.chip_engines.specs.declared.engine.Engine.{Engine}
+use Rattle.chip_engines.specs.Engine.{engine_turned, any_engine_due, gets_byte, gets_answer}
 use Rattle.chip_host.specs.declared.watch.Watch.{Watch}
 use Rattle.chip_host.specs.declared.timer.Timer.{Timer}
 use Rattle.chip_host.specs.declared.timer.Delay.{Delay}
 use Rattle.chip_host.specs.declared.death.Death.{Death}
-use Rattle.chip_host.specs.Inventory.{Inventory, Given, HostState, drive_of, pin_at, watch_at}
-use Rattle.chip_host.specs.HostCall.{answers, cycles_of, level_of, one_if}
+use Rattle.chip_host.specs.Inventory.{Inventory, Given, HostState, pin_drives, watch_at, engine_at}
+use Rattle.chip_host.specs.HostCall.{answers, cycles_of, level_of, one_if, set_engine}
 
 pub record Chip : Type 0 where
   pub running : Running
@@ -77,6 +83,23 @@ ended s t Wrong = s
 unfoldable pub called : Chip → ℕ → ℕ → List Value → Chip
 called s t zero args = s
 called s t (suc n) args = ended s t (slot_call (call answers (program_of s.running.wasm) 256) (program_of s.running.wasm) (suc n) args false (state_of s.running (host_of s false t) s.budget))
+
+-- an i32 that a callback gives
+abbrev pub value_of : List Value → ℕ
+value_of (I32 n ∷ []) = n
+value_of vs = 0
+
+abbrev pub answer_of : End HostState → Option ℕ
+answer_of (Gives vs e) = Some (value_of vs)
+answer_of (Fails trap e) = None
+answer_of Wrong = None
+
+-- a callback that answers, and what it answers where it does not trap; 0 is none, which answers what stands for it
+unfoldable pub replied : Chip → ℕ → ℕ → List Value → ℕ → Chip × Option ℕ
+replied s t zero args absent = (s, Some absent)
+replied s t (suc n) args absent =
+    let e = slot_call (call answers (program_of s.running.wasm) 256) (program_of s.running.wasm) (suc n) args true (state_of s.running (host_of s false t) s.budget) in
+    (ended s t e, answer_of e)
 
 -- a function without parameters, at time 0 while the chip is set up
 unfoldable pub set_up : Chip → ℕ → Chip
@@ -138,6 +161,89 @@ abbrev pub watch_turns : Chip → ℕ → List Level → ℕ → Chip
 watch_turns s t before zero = s
 watch_turns s t before (suc n) = watch_turn (watch_turns s t before n) t before n
 
+-- ---- engines
+
+abbrev pub with_engine : Chip → ℕ → Engine → Chip
+with_engine s k e = record s { inventory = set_engine s.inventory k e }
+
+abbrev pub change_by : (Engine → Engine) → Chip → ℕ → Option Engine → Chip
+change_by f s k None = s
+change_by f s k (Some e) = with_engine s k (f e)
+
+-- the engine at a place is changed
+abbrev pub change : (Engine → Engine) → Chip → ℕ → Chip
+change f s k = change_by f s k (engine_at s.inventory k)
+
+-- What a callback answered, where it did; the answer of `read` counts mod 256.
+abbrev pub takes_byte : ℕ → Chip → Option ℕ → Chip
+takes_byte k s None = s
+takes_byte k s (Some n) = change (λ (e : Engine). gets_byte e (n % 256)) s k
+
+abbrev pub takes_answer : ℕ → Chip → Option ℕ → Chip
+takes_answer k s None = s
+takes_answer k s (Some n) = change (λ (e : Engine). gets_answer e n) s k
+
+-- byte n of the engine's bytes in the memory
+abbrev pub byte_address : Engine → ℕ → ℕ
+byte_address e n = (e.buffer + n) % 2 ^ 32
+
+abbrev pub byte_in : Mem → ℕ → ℕ
+byte_in m addr = unwrap_or (slice_get m.bytes addr) 0
+
+abbrev pub with_stored : Mem → ℕ → ℕ → Mem
+with_stored m addr x = if nat_lt addr (length m.bytes) then record m { bytes = slice_set m.bytes addr x } else m
+
+abbrev pub stored : Chip → ℕ → ℕ → Chip
+stored s addr x = record s { running = record (s.running) { memory = with_stored s.running.memory addr x } }
+
+-- A request of an engine, which stands at place k. Without a callback, `connect` and `write` answer 1 and `read` 255.
+abbrev pub serves : Chip → ℕ → ℕ → Engine → EngineRequest → Chip
+serves s t k e requests.None = s
+serves s t k e (requests.Fetch n) = with_engine s k (gets_byte e (byte_in s.running.memory (byte_address e n)))
+serves s t k e (requests.Store n x) = stored s (byte_address e n) x
+serves s t k e (requests.Received x) = called s t e.calls.received (I32 e.user ∷ I32 x ∷ [])
+serves s t k e requests.Sent = called s t e.calls.sent (I32 e.user ∷ [])
+serves s t k e (requests.Done n) = called s t e.calls.done (I32 e.user ∷ I32 e.buffer ∷ I32 n ∷ [])
+serves s t k e (requests.Connect address read) =
+    let r = replied s t e.calls.connect (I32 e.user ∷ I32 address ∷ I32 (one_if read) ∷ []) 1 in takes_answer k r.0 r.1
+serves s t k e requests.Read = let r = replied s t e.calls.read (I32 e.user ∷ []) 255 in takes_byte k r.0 r.1
+serves s t k e (requests.Write x) = let r = replied s t e.calls.write (I32 e.user ∷ I32 x ∷ []) 1 in takes_answer k r.0 r.1
+serves s t k e requests.Disconnect = called s t e.calls.disconnect (I32 e.user ∷ [])
+
+abbrev pub serves_at : Chip → ℕ → ℕ → Option Engine → EngineRequest → Option EngineRequest → Chip
+serves_at s t k None r later = s
+serves_at s t k (Some e) r later = let w = record e { later = later } in serves (with_engine s k w) t k w r
+
+-- A request of the engine at place k of a live chip, behind which it asks for a further one in its turn.
+abbrev pub served : Chip → ℕ → ℕ → Option EngineRequest → Option EngineRequest → Chip
+served s t k None later = s
+served s t k (Some r) later = if is_live s then serves_at s t k (engine_at s.inventory k) r later else s
+
+abbrev pub next_of : List EngineRequest → Option EngineRequest
+next_of [] = None
+next_of (r ∷ rs) = Some r
+
+-- all requests of a turn
+abbrev pub all_served : Chip → ℕ → ℕ → List EngineRequest → Chip
+all_served s t k [] = s
+all_served s t k (r ∷ rs) = all_served (served s t k (Some r) (next_of rs)) t k rs
+
+abbrev pub takes_turn : Chip → ℕ → List Level → ℕ → Option Engine → Chip
+takes_turn s t before k None = s
+takes_turn s t before k (Some e) = let after = engine_turned e t before s.held in all_served (with_engine s k after.0) t k after.1
+
+-- the turn of the engine at a place
+abbrev pub engine_turn : Chip → ℕ → List Level → ℕ → Chip
+engine_turn s t before k = if is_live s then takes_turn s t before k (engine_at s.inventory k) else s
+
+-- the turns of the first n places
+abbrev pub engine_turns : Chip → ℕ → List Level → ℕ → Chip
+engine_turns s t before zero = s
+engine_turns s t before (suc n) = engine_turn (engine_turns s t before n) t before n
+
+abbrev pub engines_last : Chip → ℕ → List Level → Chip
+engines_last s t before = engine_turns s t before (length s.inventory.engines)
+
 abbrev pub seeing : Chip → List Level → Chip
 seeing s ls = record s { held = ls }
 
@@ -145,18 +251,18 @@ abbrev pub timers_first : Chip → ℕ → Chip
 timers_first s t = timer_turns s t (length s.inventory.timers)
 
 abbrev pub chip_step : Chip → ℕ → List Level → Chip
-chip_step s t ls = watch_turns (timers_first (seeing s ls) t) t s.held (length s.given.names)
+chip_step s t ls = engines_last (watch_turns (timers_first (seeing s ls) t) t s.held (length s.given.names)) t s.held
 
 -- a chip behind all turns of its cycle
 abbrev pub turned : ChipAt → ChipAt
 turned a =
     let fired = timers_first a.chip a.cycle in
-    record { chip = watch_turns fired a.cycle a.before (length fired.given.names); cycle = a.cycle + 1; wakes = a.wakes + 1; before = a.before }
+    record { chip = engines_last (watch_turns fired a.cycle a.before (length fired.given.names)) a.cycle a.before; cycle = a.cycle + 1; wakes = a.wakes + 1; before = a.before }
 
 -- ---- what it shows
 
 abbrev pub chip_drive : Chip → ℕ → Drive
-chip_drive s i = if is_live s then drive_of (pin_at s.inventory i) else drives.Z
+chip_drive s i = if is_live s then pin_drives s.inventory i else drives.Z
 
 abbrev pub any_due : ℕ → List Timer → Bool
 any_due t [] = false
@@ -168,7 +274,7 @@ chip = record {
   drives = λ s. map (chip_drive s) (range_with_len 0 (length s.given.names));
   contacts = λ s. [];
   held = λ s. s.held;
-  due = λ s t. t == 0 || (is_live s && any_due t s.inventory.timers);
+  due = λ s t. t == 0 || (is_live s && (any_due t s.inventory.timers || any_engine_due t s.inventory.engines));
   valid = λ s t. true;
 }
 
@@ -181,7 +287,7 @@ no_pins n = replicate n None
 abbrev pub first_host : Given → HostState
 first_host given = record {
   moment = record { given = given; init = true; now = 0; levels = replicate (length given.names) levels.Z };
-  inventory = record { pins = no_pins (length given.names); watches = no_pins (length given.names); timers = []; attributes = [] };
+  inventory = record { pins = no_pins (length given.names); watches = no_pins (length given.names); timers = []; attributes = []; engines = no_pins 24 };
 }
 
 -- before anything ran
@@ -191,7 +297,7 @@ made m given budget = record {
   given = given;
   budget = budget;
   held = replicate (length given.names) levels.Z;
-  inventory = record { pins = no_pins (length given.names); watches = no_pins (length given.names); timers = []; attributes = [] };
+  inventory = record { pins = no_pins (length given.names); watches = no_pins (length given.names); timers = []; attributes = []; engines = no_pins 24 };
   dead = None;
 }
 

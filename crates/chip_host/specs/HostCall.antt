@@ -1,6 +1,6 @@
 -- Host calls: what each function of the host answers and leaves (profile, docs/CHIPS.md). A call tests its phase, then the id, the
 -- limit, addresses and text.
-use Rattle.std.specs.Prelude.{ℕ, ◌+◌, ◌*◌, ◌-◌, ◌^◌, ◌/◌, ◌==◌, nat_lt, max, List, [], ◌∷◌, ◌++◌, length, drop, slice_get, slice_set, unwrap_or, Bool, false, not, if◌then◌else◌, Option, None, Some, Result, Ok, Err}
+use Rattle.std.specs.Prelude.{ℕ, ◌+◌, ◌*◌, ◌-◌, ◌^◌, ◌/◌, ◌==◌, nat_lt, max, List, [], ◌∷◌, ◌++◌, length, drop, slice_get, slice_set, take, option_map, unwrap_or, ◌||◌, Bool, false, not, if◌then◌else◌, Option, None, Some, Result, Ok, Err}
 use Rattle.std.specs.List.{position_from}
 use Rattle.std.specs.Str.{bytes_eq}
 use Rattle.sim_base.specs.declared.signal.Level.{Level}
@@ -10,7 +10,7 @@ use Rattle.wasm_num.specs.declared.trap.Trap.{Trap}
 use Rattle.wasm_num.specs.declared.trap.Trap.TheVariants as traps
 use Rattle.wasm_num.specs.declared.value.Value.{Value}
 use Rattle.wasm_num.specs.declared.value.Value.TheVariants.{I32, I64}
-use Rattle.wasm_num.specs.Mem.{Mem}
+use Rattle.wasm_num.specs.Mem.{Mem, has}
 use Rattle.wasm_eval.specs.Eval.{Answer}
 use Rattle.chip_abi.specs.declared.host_name.HostName.{HostName}
 use Rattle.chip_abi.specs.declared.host_name.HostName.TheVariants as names
@@ -21,7 +21,11 @@ use Rattle.chip_host.specs.declared.timer.Delay.{Delay}
 use Rattle.chip_host.specs.declared.timer.Delay.TheVariants as delays
 use Rattle.chip_abi.specs.Reading.{word_at, text_in}
 use Rattle.chip_host.specs.Attributes.{attr_value}
-use Rattle.chip_host.specs.Inventory.{Inventory, Moment, HostState, with_mode, pin_at}
+use Rattle.chip_host.specs.Inventory.{Inventory, Moment, HostState, with_mode, pin_at, engine_at}
+use Rattle.chip_engines.specs.declared.engine.Callbacks.{Callbacks}
+use Rattle.chip_engines.specs.declared.engine.Engine.{Engine}
+use Rattle.chip_engines.specs.Serial.{uart_of, spi_of, i2c_of}
+use Rattle.chip_engines.specs.Engine.{new_engine, is_free, is_busy, sends, exchanges, stops}
 
 -- what a call answers, and what it leaves
 pub record Done : Type 0 where
@@ -147,6 +151,91 @@ attr_init a addr default m d =
 abbrev pub read_attribute : ℕ → Inventory → Done
 read_attribute id d = gives (unwrap_or (slice_get d.attributes id) 0) d
 
+-- ---- engines: those of a kind stand from a place on
+
+abbrev pub uarts : ℕ
+uarts = 0
+
+abbrev pub spis : ℕ
+spis = 8
+
+abbrev pub i2cs : ℕ
+i2cs = 16
+
+abbrev pub set_engine : Inventory → ℕ → Engine → Inventory
+set_engine d k e = record d { engines = slice_set d.engines k (Some e) }
+
+-- the engine of a kind with an id
+abbrev pub engine_of : ℕ → ℕ → Inventory → Option Engine
+engine_of base id d = if nat_lt id 8 then engine_at d (base + id) else None
+
+-- A configured pin that was not given counts as -1.
+abbrev pub given_pin : Inventory → ℕ → Option ℕ
+given_pin d i = option_map (λ (p : Pin). i) (pin_at d i)
+
+abbrev pub and_then : {X Y : Type 0} → Result X Trap → (X → Result Y Trap) → Result Y Trap
+and_then (Ok x) f = f x
+and_then (Err t) f = Err t
+
+abbrev pub no_calls : Callbacks
+no_calls = record { received = 0; sent = 0; done = 0; connect = 0; read = 0; write = 0; disconnect = 0 }
+
+-- user, rx, tx, baud, rx_data, write_done
+abbrev pub uart_from : Mem → ℕ → Inventory → Result Engine Trap
+uart_from m addr d =
+    and_then (word_at m (addr + 0)) (λ (user : ℕ). and_then (word_at m (addr + 4)) (λ (rx : ℕ). and_then (word_at m (addr + 8)) (λ (tx : ℕ).
+    and_then (word_at m (addr + 12)) (λ (baud : ℕ). and_then (word_at m (addr + 16)) (λ (received : ℕ). and_then (word_at m (addr + 20)) (λ (sent : ℕ).
+    Ok (new_engine (uart_of baud) (record { first = given_pin d rx; second = None; out = given_pin d tx }) user (record no_calls { received = received; sent = sent }))))))))
+
+-- user, sck, mosi, miso, mode, done
+abbrev pub spi_from : Mem → ℕ → Inventory → Result Engine Trap
+spi_from m addr d =
+    and_then (word_at m (addr + 0)) (λ (user : ℕ). and_then (word_at m (addr + 4)) (λ (sck : ℕ). and_then (word_at m (addr + 8)) (λ (mosi : ℕ).
+    and_then (word_at m (addr + 12)) (λ (miso : ℕ). and_then (word_at m (addr + 16)) (λ (mode : ℕ). and_then (word_at m (addr + 20)) (λ (done : ℕ).
+    Ok (new_engine (spi_of mode) (record { first = given_pin d sck; second = given_pin d mosi; out = given_pin d miso }) user (record no_calls { done = done }))))))))
+
+-- user, address, scl, sda, connect, read, write, disconnect
+abbrev pub i2c_from : Mem → ℕ → Inventory → Result Engine Trap
+i2c_from m addr d =
+    and_then (word_at m (addr + 0)) (λ (user : ℕ). and_then (word_at m (addr + 4)) (λ (address : ℕ). and_then (word_at m (addr + 8)) (λ (scl : ℕ).
+    and_then (word_at m (addr + 12)) (λ (sda : ℕ). and_then (word_at m (addr + 16)) (λ (connect : ℕ). and_then (word_at m (addr + 20)) (λ (read : ℕ).
+    and_then (word_at m (addr + 24)) (λ (write : ℕ). and_then (word_at m (addr + 28)) (λ (disconnect : ℕ).
+    Ok (new_engine (i2c_of address) (record { first = given_pin d scl; second = given_pin d sda; out = given_pin d sda }) user
+    (record no_calls { connect = connect; read = read; write = write; disconnect = disconnect }))))))))))
+
+abbrev pub init_engine : Option ℕ → ℕ → Result Engine Trap → Inventory → Done
+init_engine None base read d = fails traps.HostLimit d
+init_engine (Some id) base (Err t) d = fails t d
+init_engine (Some id) base (Ok e) d = gives id (set_engine d (base + id) e)
+
+-- the first id of a kind that was not given
+abbrev pub free_id : ℕ → Inventory → Option ℕ
+free_id base d = position_from is_free 0 (take 8 (drop base d.engines))
+
+-- configuration; answers the id
+abbrev pub engine_init : Moment → ℕ → Result Engine Trap → Inventory → Done
+engine_init a base read d = if a.init then init_engine (free_id base d) base read d else fails traps.HostPhase d
+
+-- id, buffer, count; 1, or 0 while sending
+abbrev pub write_uart : Option Engine → ℕ → ℕ → ℕ → Moment → Mem → Inventory → Done
+write_uart None id buffer count a m d = gives 0 d
+write_uart (Some e) id buffer count a m d =
+    if not (has m buffer count) then fails traps.HostAddress d
+    else if is_busy e then gives 0 d
+    else gives 1 (set_engine d (uarts + id) (sends e a.now a.init buffer count))
+
+-- id, buffer, count
+abbrev pub start_spi : Option Engine → ℕ → ℕ → ℕ → Moment → Mem → Inventory → Done
+start_spi None id buffer count a m d = nothing d
+start_spi (Some e) id buffer count a m d =
+    if not (has m buffer count) then fails traps.HostAddress d
+    else if count == 0 || is_busy e then nothing d
+    else nothing (set_engine d (spis + id) (exchanges e a.now buffer count))
+
+abbrev pub stop_spi : Option Engine → ℕ → Moment → Inventory → Done
+stop_spi None id a d = nothing d
+stop_spi (Some e) id a d = nothing (set_engine d (spis + id) (stops e a.now))
+
 -- ---- each function
 
 abbrev pub host_does : HostName → List Value → Moment → Mem → Inventory → Done
@@ -163,6 +252,12 @@ host_does names.PinMode (I32 i ∷ I32 mode ∷ []) a m d = mode_pin (pin_at d i
 host_does names.PinWatchStop (I32 i ∷ []) a m d = unwatch (slice_get d.watches i) i d
 host_does names.TimerStartNanos (I32 id ∷ I64 x ∷ I32 again ∷ []) a m d = start_timer (slice_get d.timers id) id a.now (delays.Nanos x) (not (again == 0)) d
 host_does names.TimerStop (I32 id ∷ []) a m d = stop_timer (slice_get d.timers id) id d
+host_does names.UartInit (I32 addr ∷ []) a m d = engine_init a uarts (uart_from m addr d) d
+host_does names.UartWrite (I32 id ∷ I32 buffer ∷ I32 count ∷ []) a m d = write_uart (engine_of uarts id d) id buffer count a m d
+host_does names.SpiInit (I32 addr ∷ []) a m d = engine_init a spis (spi_from m addr d) d
+host_does names.SpiStart (I32 id ∷ I32 buffer ∷ I32 count ∷ []) a m d = start_spi (engine_of spis id d) id buffer count a m d
+host_does names.SpiStop (I32 id ∷ []) a m d = stop_spi (engine_of spis id d) id a d
+host_does names.I2cInit (I32 addr ∷ []) a m d = engine_init a i2cs (i2c_from m addr d) d
 host_does name args a m d = fails traps.Unreachable d
 
 abbrev pub host_at : Option HostName → List Value → Moment → Mem → Inventory → Done

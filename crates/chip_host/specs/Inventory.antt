@@ -1,5 +1,5 @@
 -- What a chip has got from its host (profile).
-use Rattle.std.specs.Prelude.{ℕ, ◌==◌, List, Bool, true, false, if◌then◌else◌, Option, None, Some, slice_get}
+use Rattle.std.specs.Prelude.{ℕ, ◌==◌, List, Bool, true, false, if◌then◌else◌, Option, None, Some, slice_get, unwrap_or}
 use Rattle.sim_base.specs.declared.signal.Drive.{Drive}
 use Rattle.sim_base.specs.declared.signal.Drive.TheVariants as drives
 use Rattle.sim_base.specs.declared.signal.Level.{Level}
@@ -9,6 +9,8 @@ use Rattle.chip_host.specs.declared.pin.Mode.TheVariants as modes
 use Rattle.chip_host.specs.declared.pin.Pin.{Pin}
 use Rattle.chip_host.specs.declared.watch.Watch.{Watch}
 use Rattle.chip_host.specs.declared.timer.Timer.{Timer}
+use Rattle.chip_engines.specs.declared.engine.Engine.{Engine}
+use Rattle.chip_engines.specs.Engine.{driven}
 
 -- what calls change: each pin that pinInit gave, each pin's watch, the timers by their ids
 pub record Inventory : Type 0 where
@@ -17,6 +19,8 @@ pub record Inventory : Type 0 where
   pub timers : List Timer
   -- the values of the attributes, by their ids
   pub attributes : List ℕ
+  -- 24 places for engines, 8 of each kind, in the order of their turns: UARTs, SPI slaves, I2C slaves, each kind by its ids
+  pub engines : List (Option Engine)
 
 -- what stands for good: the imported functions in order, the names of the pins, and the diagram's attributes
 pub record Given : Type 0 where
@@ -68,6 +72,13 @@ pin_at d i = joined (slice_get d.pins i)
 
 abbrev pub watch_at : Inventory → ℕ → Option Watch
 watch_at d i = joined (slice_get d.watches i)
+
+abbrev pub engine_at : Inventory → ℕ → Option Engine
+engine_at d k = joined (slice_get d.engines k)
+
+-- The first engine that drives a pin counts before the pin's mode.
+abbrev pub pin_drives : Inventory → ℕ → Drive
+pin_drives d i = unwrap_or (driven i d.engines) (drive_of (pin_at d i))
 
 abbrev pub left : HostState → Inventory → HostState
 left h d = record { moment = h.moment; inventory = d }

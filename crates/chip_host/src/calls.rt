@@ -1,10 +1,11 @@
 //! Calls into a chip's module.
 ghost use Rattle.std.specs.Prelude.{◌≡◌, List, [], true, false, None, Some, IfSome, map, slice_get};
+ghost use Rattle.std.specs.Option.{option_to_list};
 ghost use Rattle.wasm_validate.specs.Rules.{imported_functions, type_of};
 ghost use Rattle.wasm_code.specs.declared.types.FuncType.{FuncType};
 ghost use Rattle.wasm_eval.specs.Values.{HasTypes};
 ghost use Rattle.chip_abi.specs.HostNames.{type_of_name};
-ghost use Rattle.chip_host.specs.Chip.{chip_from, called, set_up, started, then_set_up};
+ghost use Rattle.chip_host.specs.Chip.{chip_from, called, replied, value_of, set_up, started, then_set_up};
 
 use crate::death::Death;
 use crate::host::ChipHost;
@@ -33,6 +34,42 @@ pub(crate) fn call_slot(
     match instance.invoke_slot(slot, args, false, host, budget) {
         Ok(_) => None,
         Err(trap) => Some(Death { trap, cycle }),
+    }
+}
+
+/// What a callback gives, where it is an i32.
+fn value_of(value: Option<Value>) -> u32
+    ensures { result ≡ value_of (option_to_list value) }
+{
+    match value {
+        Some(Value::I32(n)) => n,
+        _ => 0,
+    }
+}
+
+/// A callback that answers, and its answer where it does not trap; 0 is none, and `absent` is answered for it.
+pub(crate) fn ask_slot(
+    instance: &mut Instance,
+    host: &mut ChipHost,
+    budget: u32,
+    slot: u32,
+    args: &[Value],
+    absent: u32,
+) -> (Option<u32>, Option<Death>)
+    requires hosts { map (λ t. Some t) (map type_of_name host.old.moment.given.table) ≡ map (slice_get instance.old.wasm.types) (imported_functions instance.old.wasm.imports) }
+    requires set { host.old.moment.init ≡ false }
+    ensures chip { chip_from instance.new host.new budget result.1 ≡ (replied (chip_from instance.old host.old budget None) host.old.moment.now slot args.now absent).0 }
+    ensures answer { result.0 ≡ (replied (chip_from instance.old host.old budget None) host.old.moment.now slot args.now absent).1 }
+    ensures wasm { instance.new.wasm ≡ instance.old.wasm }
+    ensures moment { host.new.moment ≡ host.old.moment }
+{
+    if slot == 0 {
+        return (Some(absent), None);
+    }
+    let cycle = host.cycle();
+    match instance.invoke_slot(slot, args, true, host, budget) {
+        Ok(value) => (Some(value_of(value)), None),
+        Err(trap) => (None, Some(Death { trap, cycle })),
     }
 }
 

@@ -2,17 +2,20 @@
 ghost use Rattle.std.specs.Prelude.{◌≡◌, ◌<◌, ◌≤◌, ◌+◌, List, ℕ, true, None, Some, Ok, IfOk, length, slice_get};
 ghost use Rattle.chip_abi.specs.HostNames.{type_of_name};
 ghost use Rattle.chip_abi.specs.Imports.{imports_of};
-ghost use Rattle.chip_host.specs.Chip.{called, is_live, timer_turn, watch_turn, watch_turns, seeing, timers_first, turned, chip_drive, start_state};
+ghost use Rattle.chip_host.specs.Chip.{called, replied, is_live, timer_turn, watch_turn, watch_turns, takes_byte, takes_answer, byte_in, stored, serves, served, takes_turn, engine_turn, engines_last, seeing, timers_first, turned, chip_drive, start_state};
 ghost use Rattle.chip_host.specs.NextDue.{next_due};
+ghost use Rattle.chip_engines.specs.Engine.{IsEngine};
 
-use crate::calls::{call_slot, init_of, run_both, start_of};
+use crate::calls::{ask_slot, call_slot, init_of, run_both, start_of};
 use crate::death::Death;
 use crate::host::{ChipHost, levels_z};
 use crate::timer::{again, is_at};
 use crate::watch::{is_edge, reading};
 use chip_abi::ImportMap;
+use chip_engines::Engine;
 use part_law::Part;
 use sim_base::{Drive, Level, List, MOST_CYCLES, Name, OutOfMemory, Text};
+use slave_law::EngineRequest;
 use std::alloc::Global;
 use std::marker::Model;
 use wasm_exec::Instance;
@@ -160,6 +163,178 @@ impl Chip {
         }
     }
 
+    /// Asks the module.
+    fn ask(&mut self, slot: u32, args: &[Value], absent: u32) -> Option<u32>
+        requires { is_live self.old.chip ≡ true }
+        ensures state { self.new ≡ record self.old { chip = (replied self.old.chip self.old.cycle slot args.now absent).0 } }
+        ensures answer { result ≡ (replied self.old.chip self.old.cycle slot args.now absent).1 }
+    {
+        let (answer, dead) = ask_slot(
+            &mut self.instance,
+            &mut self.host,
+            self.budget,
+            slot,
+            args,
+            absent,
+        );
+        self.dead = dead;
+        answer
+    }
+
+    /// Hands an engine the byte that was answered.
+    fn take_byte(&mut self, place: usize, answer: Option<u32>)
+        requires { place < 24 }
+        ensures { self.new ≡ record self.old { chip = takes_byte place self.old.chip answer } }
+    {
+        if let Some(byte) = answer {
+            if let Some(engine) = self.host.engine(place) {
+                self.host
+                    .set_engine(place, engine.with_byte((byte % 256) as u8));
+            }
+        }
+    }
+
+    /// Hands an engine what was answered.
+    fn take_answer(&mut self, place: usize, answer: Option<u32>)
+        requires { place < 24 }
+        ensures { self.new ≡ record self.old { chip = takes_answer place self.old.chip answer } }
+    {
+        if let Some(value) = answer {
+            if let Some(engine) = self.host.engine(place) {
+                self.host.set_engine(place, engine.with_answer(value));
+            }
+        }
+    }
+
+    fn fetch(&self, addr: u32) -> u8
+        ensures { result ≡ byte_in self.now.chip.running.memory addr }
+    {
+        match self.instance.memory().as_slice().get(addr as usize) {
+            Some(byte) => *byte,
+            None => 0,
+        }
+    }
+
+    fn store(&mut self, addr: u32, byte: u8)
+        ensures { self.new ≡ record self.old { chip = stored self.old.chip addr byte } }
+    {
+        if (addr as usize) < self.instance.memory().as_slice().len() {
+            self.instance.store_byte(addr, byte);
+        }
+    }
+
+    /// Serves a request of the engine at a place.
+    fn serve(&mut self, place: usize, engine: Engine, request: EngineRequest)
+        requires live { is_live self.old.chip ≡ true }
+        requires within { place < 24 }
+        requires sound { IsEngine engine }
+        ensures { self.new ≡ record self.old { chip = serves self.old.chip self.old.cycle place engine request } }
+    {
+        let user = Value::I32(engine.user);
+        let calls = engine.calls;
+        match request {
+            EngineRequest::None => {}
+            EngineRequest::Fetch(n) => {
+                let byte = self.fetch(engine.buffer.wrapping_add(n));
+                self.host.set_engine(place, engine.with_byte(byte));
+            }
+            EngineRequest::Store(n, byte) => self.store(engine.buffer.wrapping_add(n), byte),
+            EngineRequest::Received(byte) => {
+                self.call(calls.received, &[user, Value::I32(u32::from(byte))]);
+            }
+            EngineRequest::Sent => self.call(calls.sent, &[user]),
+            EngineRequest::Done(n) => {
+                self.call(
+                    calls.done,
+                    &[user, Value::I32(engine.buffer), Value::I32(n)],
+                );
+            }
+            EngineRequest::Connect(address, read) => {
+                let answer = self.ask(
+                    calls.connect,
+                    &[
+                        user,
+                        Value::I32(u32::from(address)),
+                        Value::I32(u32::from(read)),
+                    ],
+                    1,
+                );
+                self.take_answer(place, answer);
+            }
+            EngineRequest::Read => {
+                let answer = self.ask(calls.read, &[user], 255);
+                self.take_byte(place, answer);
+            }
+            EngineRequest::Write(byte) => {
+                let answer = self.ask(calls.write, &[user, Value::I32(u32::from(byte))], 1);
+                self.take_answer(place, answer);
+            }
+            EngineRequest::Disconnect => self.call(calls.disconnect, &[user]),
+        }
+    }
+
+    /// A request of the engine at a place, if any, behind which it may ask for a further one.
+    fn serve_next(
+        &mut self,
+        place: usize,
+        request: Option<EngineRequest>,
+        later: Option<EngineRequest>,
+    )
+        requires { place < 24 }
+        ensures { self.new ≡ record self.old { chip = served self.old.chip self.old.cycle place request later } }
+    {
+        if let Some(request) = request {
+            if self.dead.is_some() {
+                return;
+            }
+            if let Some(engine) = self.host.engine(place) {
+                let waiting = Engine { later, ..engine };
+                self.host.set_engine(place, waiting);
+                self.serve(place, waiting, request);
+            }
+        }
+    }
+
+    /// The turn of an engine, which stands at a place.
+    fn take_turn(&mut self, place: usize, engine: Engine)
+        requires within { place < 24 }
+        requires end { self.old.cycle < MOST_CYCLES }
+        requires sound { IsEngine engine }
+        ensures { self.new ≡ record self.old { chip = takes_turn self.old.chip self.old.cycle self.old.before place (Some engine) } }
+    {
+        let turn = engine.turned(
+            self.host.cycle(),
+            self.before.as_slice(),
+            self.host.levels(),
+        );
+        self.host.set_engine(place, turn.engine);
+        self.serve_next(place, turn.first, turn.second);
+        self.serve_next(place, turn.second, None);
+    }
+
+    /// The turn of the engine at a place.
+    fn engine_turn(&mut self, place: usize)
+        requires within { place < 24 }
+        requires end { self.old.cycle < MOST_CYCLES }
+        ensures { self.new ≡ record self.old { chip = engine_turn self.old.chip self.old.cycle self.old.before place } }
+    {
+        if self.dead.is_some() {
+            return;
+        }
+        if let Some(engine) = self.host.engine(place) {
+            self.take_turn(place, engine);
+        }
+    }
+
+    fn engine_turns(&mut self)
+        requires end { self.old.cycle < MOST_CYCLES }
+        ensures { self.new ≡ record self.old { chip = engines_last self.old.chip self.old.cycle self.old.before } }
+    {
+        for place in 0..self.host.engine_count() {
+            self.engine_turn(place);
+        }
+    }
+
     fn pin_drive(&self, pin: u8) -> Drive
         ensures { result ≡ chip_drive self.now.chip pin }
     {
@@ -205,6 +380,7 @@ impl Chip {
     {
         self.timer_turns();
         self.watch_turns();
+        self.engine_turns();
         let cycle = self.host.cycle();
         self.host.pass_to(cycle + 1);
         self.wakes += 1;

@@ -3,19 +3,22 @@ ghost use Rattle.std.specs.Prelude.{◌≡◌, ◌<◌, ◌≤◌, ◌==◌, ◌
 ghost use Rattle.std.specs.List.{position_from};
 ghost use Rattle.wasm_code.specs.declared.types.ValType.TheVariants as types;
 ghost use Rattle.wasm_eval.specs.Values.{HasTypes};
-ghost use Rattle.chip_host.specs.Inventory.{HostState, left, pin_at, watch_at, with_mode, drive_of};
+ghost use Rattle.chip_host.specs.Inventory.{HostState, left, pin_at, watch_at, engine_at, with_mode, drive_of, pin_drives};
 ghost use Rattle.chip_abi.specs.HostNames.{type_of_name};
 ghost use Rattle.chip_abi.specs.Reading.{word_at};
 ghost use Rattle.chip_host.specs.FirstDue.{first_due};
 ghost use Rattle.sim_base.specs.declared.signal.Level.TheVariants as levels;
 ghost use Rattle.chip_host.specs.Chip.{first_host};
-ghost use Rattle.chip_host.specs.HostCall.{has_name, kept, set_pin, pin_init, read_pin, write_pin, watch_pin, watch_from, timer_init, timer_from, start_timer, stop_timer, mode_pin, unwatch, started, level_of, attr_init, read_attribute, host_does, host_at};
+ghost use Rattle.chip_host.specs.HostCall.{has_name, kept, set_pin, pin_init, read_pin, write_pin, watch_pin, watch_from, timer_init, timer_from, start_timer, stop_timer, mode_pin, unwatch, started, level_of, attr_init, read_attribute, set_engine, free_id, host_does, host_at};
+ghost use Rattle.chip_engines.specs.Engine.{IsEngine};
+ghost use Rattle.chip_engines.specs.FirstDue.{earlier, first_engine};
 
 use crate::attributes::attr_value;
 use crate::pin::{Pin, drive_of, with_mode};
 use crate::timer::{Delay, Timer, first_due, started, stopped};
 use crate::watch::Watch;
 use chip_abi::{HostName, ImportMap, read_string, read_word};
+use chip_engines::{Engine, driven, earlier, first_engine, free};
 use sim_base::{Drive, Level, List, MOST_CYCLES, Name, OutOfMemory, Text, reads_one};
 use std::alloc::Global;
 use std::marker::Model;
@@ -35,11 +38,13 @@ pub struct ChipHost {
     watches: Vec<Option<Watch>>,
     timers: Vec<Timer>,
     attributes: Vec<u32>,
+    engines: Vec<Option<Engine>>,
 }
 
 impl Model for ChipHost {
     ghost use Rattle.std.specs.Prelude.{◌≡◌, ◌≤◌, length};
     ghost use Rattle.std.specs.Vec.{vec_capacity};
+    ghost use Rattle.chip_engines.specs.Engine.{AreEngines};
     ghost use Rattle.chip_host.specs.Inventory.{HostState};
     ghost use Rattle.sim_base.specs.declared.limits.TheConstants.{MOST_CYCLES};
 
@@ -47,7 +52,7 @@ impl Model for ChipHost {
 
     ghost view = { λ c. record {
       moment = record { given = record { table = c.map; names = c.names; attrs = c.attrs }; init = c.init; now = c.cycle; levels = c.levels.items };
-      inventory = record { pins = c.pins.items; watches = c.watches.items; timers = c.timers.items; attributes = c.attributes.items };
+      inventory = record { pins = c.pins.items; watches = c.watches.items; timers = c.timers.items; attributes = c.attributes.items; engines = c.engines.items };
     } };
 
     ghost invariant = { λ c. record {
@@ -57,6 +62,8 @@ impl Model for ChipHost {
       watches : length c.watches.items ≡ length c.names;
       timer_room : 32 ≤ vec_capacity c.timers;
       attribute_room : 64 ≤ vec_capacity c.attributes;
+      places : length c.engines.items ≡ 24;
+      sound : AreEngines c.engines.items;
       end : c.cycle ≤ MOST_CYCLES;
     } };
 }
@@ -120,7 +127,7 @@ fn read_timer(memory: &Memory, addr: u32) -> Result<Timer, Trap>
 
 impl ChipHost {
     /// A pin that `pinInit` gave.
-    fn pin(&self, i: u32) -> Option<Pin>
+    pub fn pin(&self, i: u32) -> Option<Pin>
         ensures pin { result ≡ pin_at self.now.inventory i }
         ensures within { IfSome result (λ p. i < length self.now.inventory.pins) }
     {
@@ -355,6 +362,16 @@ impl ChipHost {
                 self.timer_start(*id, Delay::Nanos(*x), *again != 0)
             }
             (HostName::TimerStop, [Value::I32(id)]) => self.timer_stop(*id),
+            (HostName::UartInit, [Value::I32(addr)]) => self.uart_init(*addr, memory),
+            (HostName::UartWrite, [Value::I32(id), Value::I32(buffer), Value::I32(count)]) => {
+                self.uart_write(*id, *buffer, *count, memory)
+            }
+            (HostName::SpiInit, [Value::I32(addr)]) => self.spi_init(*addr, memory),
+            (HostName::SpiStart, [Value::I32(id), Value::I32(buffer), Value::I32(count)]) => {
+                self.spi_start(*id, *buffer, *count, memory)
+            }
+            (HostName::SpiStop, [Value::I32(id)]) => self.spi_stop(*id),
+            (HostName::I2cInit, [Value::I32(addr)]) => self.i2c_init(*addr, memory),
             _ => Err(Trap::Unreachable),
         }
     }
@@ -376,6 +393,12 @@ fn no_watches(alloc: Global, count: usize) -> Result<Vec<Option<Watch>>, OutOfMe
     ensures { IfOk result (λ v. v.items ≡ replicate count None) }
 {
     Ok(vec![in alloc; None; count]?)
+}
+
+fn no_engines(alloc: Global) -> Result<Vec<Option<Engine>>, OutOfMemory>
+    ensures { IfOk result (λ v. v.items ≡ replicate 24 None) }
+{
+    Ok(vec![in alloc; None; 24]?)
 }
 
 impl ChipHost {
@@ -401,6 +424,7 @@ impl ChipHost {
             watches: no_watches(alloc, count)?,
             timers: Vec::with_capacity(alloc, 32)?,
             attributes: Vec::with_capacity(alloc, 64)?,
+            engines: no_engines(alloc)?,
         })
     }
 
@@ -440,11 +464,66 @@ impl ChipHost {
         self.levels.copy_from_slice(levels);
     }
 
-    /// The first cycle from one on, and below the end, at which a timer is due.
+    /// The first cycle from one on, and below the end, at which a timer or an engine is due.
     pub fn first_due(&self, from: u32) -> Option<u32>
-        ensures { result ≡ first_due from self.now.inventory.timers }
+        ensures { result ≡ earlier (first_due from self.now.inventory.timers) (first_engine from self.now.inventory.engines) }
     {
-        first_due(self.timers.as_slice(), from)
+        earlier(
+            first_due(self.timers.as_slice(), from),
+            first_engine(self.engines.as_slice(), from),
+        )
+    }
+
+    /// Whether the chip is being set up.
+    pub fn is_set_up(&self) -> bool
+        ensures { result ≡ self.now.moment.init }
+    {
+        self.init
+    }
+
+    /// How many places for engines it has.
+    pub fn engine_count(&self) -> usize
+        ensures count { result ≡ length self.now.inventory.engines }
+        ensures few { result ≤ 24 }
+    {
+        self.engines.len()
+    }
+
+    fn place(&self, place: usize) -> Option<Option<Engine>>
+        ensures { result ≡ slice_get self.now.inventory.engines place }
+    {
+        self.engines.as_slice().get(place).copied()
+    }
+
+    /// The engine at a place.
+    pub fn engine(&self, place: usize) -> Option<Engine>
+        ensures engine { result ≡ engine_at self.now.inventory place }
+        ensures sound { IfSome result IsEngine }
+    {
+        let _init = self.init;
+        match self.place(place) {
+            Some(engine) => engine,
+            None => None,
+        }
+    }
+
+    /// Puts an engine at a place.
+    pub fn set_engine(&mut self, place: usize, engine: Engine)
+        requires within { place < 24 }
+        requires sound { IsEngine engine }
+        ensures { self.new ≡ left self.old (set_engine self.old.inventory place engine) }
+    {
+        self.engines[place] = Some(engine);
+    }
+
+    /// The first id of a kind that was not given.
+    pub fn free_id(&self, base: u32) -> Option<u32>
+        requires { base ≤ 16 }
+        ensures id { result ≡ free_id base self.now.inventory }
+        ensures few { IfSome result (λ i. i < 8) }
+    {
+        let from = base as usize;
+        free(&self.engines.as_slice()[from..from + 8])
     }
 
     pub fn pin_count(&self) -> usize
@@ -484,9 +563,12 @@ impl ChipHost {
     }
 
     pub fn drive(&self, i: u8) -> Drive
-        ensures { result ≡ drive_of (pin_at self.now.inventory i) }
+        ensures { result ≡ pin_drives self.now.inventory i }
     {
-        drive_of(self.pin(u32::from(i)))
+        match driven(self.engines.as_slice(), u32::from(i)) {
+            Some(drive) => drive,
+            None => drive_of(self.pin(u32::from(i))),
+        }
     }
 }
 

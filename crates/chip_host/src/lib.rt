@@ -1,4 +1,5 @@
-//! A chip: a module that runs as a part of a board, called where a timer is due or a watched pin changes.
+//! A chip: a module that runs as a part of a board, called where a timer is due, a watched pin changes, or a
+//! serial engine asks for something.
 //! Each call leaves what the definition (`specs/Chip.antt`) leaves; a trap ends the chip.
 //! Only `Chip::new` takes memory.
 #![tactic(auto)]
@@ -7,6 +8,7 @@ mod attributes;
 mod calls;
 mod chip;
 mod death;
+mod engines;
 mod host;
 mod pin;
 mod timer;

@@ -2,9 +2,9 @@
 ghost use Rattle.std.specs.Prelude.{◌≡◌, ◌+◌, None};
 ghost use Rattle.chip_host.specs.HostCall.{cycles_of, started};
 ghost use Rattle.chip_host.specs.Chip.{again, is_at};
-ghost use Rattle.chip_host.specs.FirstDue.{due_from, earlier, first_due};
+ghost use Rattle.chip_host.specs.FirstDue.{first_due};
 
-use sim_base::MOST_CYCLES;
+use chip_engines::{due_from, earlier};
 
 /// A delay, as it was asked.
 #[derive(Clone, Copy, Debug, PartialEq, Eq)]
@@ -84,31 +84,6 @@ pub(crate) fn is_at(now: u32, due: Option<u64>) -> bool
     match due {
         Some(cycle) => cycle == u64::from(now),
         None => false,
-    }
-}
-
-fn due_from(from: u32, due: Option<u64>) -> Option<u32>
-    ensures { result ≡ due_from from due }
-{
-    match due {
-        Some(cycle) => {
-            if u64::from(from) <= cycle && cycle < u64::from(MOST_CYCLES) {
-                Some(cycle as u32)
-            } else {
-                None
-            }
-        }
-        None => None,
-    }
-}
-
-fn earlier(a: Option<u32>, b: Option<u32>) -> Option<u32>
-    ensures { result ≡ earlier a b }
-{
-    match (a, b) {
-        (None, b) => b,
-        (Some(a), None) => Some(a),
-        (Some(a), Some(b)) => Some(a.min(b)),
     }
 }
 
