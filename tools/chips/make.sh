@@ -1,6 +1,6 @@
 #!/bin/sh
 # Makes the modules of crates/chip_rows: those of the texts here with wat2wasm, and those of the examples. Then the modules of
-# crates/sim_rows that have a text beside them, what both have, and the inverter of the examples once more, by clang for the
+# crates/sim_rows: those of the sources here in C, those that have a text beside them, what both have, and the inverter of the examples once more, by clang for the
 # first version of the standard, with a memory that is imported and with the names and producers that the linker leaves.
 here=$(cd "$(dirname "$0")" && pwd)
 top=$here/../..
@@ -14,6 +14,10 @@ for text in "$here"/*.wat; do
 done
 for name in inverter blinker counter; do
     cp "$top/examples/chip-$name/$name.wasm" "$data/clang-$name.wasm"
+done
+for source in "$here"/*.c; do
+    "$top/sdk/build.sh" -o "$runs/$(basename "$source" .c).wasm" "$source" || exit 1
+    chmod a-x "$runs/$(basename "$source" .c).wasm"
 done
 for text in "$runs"/*.wat; do
     assemble "$text" "$runs"

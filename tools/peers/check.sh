@@ -1,8 +1,8 @@
 #!/bin/sh
 # What other programs make of the same inputs: simavr moves the same pins of the examples in the same cycles, uno.c, a
 # second reading of the data sheet, those of sketches with timers, interrupts, ADC, Serial, SPI and Wire, board.c, a second
-# reading of parts and nets, has the same waves of boards, and wabt answers the same to the modules of the gate. What cannot
-# be asked is skipped, and said on standard error.
+# reading of parts and nets, has the same waves of boards, chips.c, a second reading of docs/CHIPS.md, those of boards with chips,
+# and wabt answers the same to the modules of the gate. What cannot be asked is skipped, and said on standard error.
 # Debian's packages: gcc, simavr, libsimavr-dev, gcc-avr; wabt, clang, lld. `--install` installs them first, which wants root.
 # PROGRAM is the program to try, ./mudflatjar if it is not set. Ends with 1 where one answers otherwise.
 here=$(cd "$(dirname "$0")" && pwd)
@@ -150,6 +150,60 @@ if [ -x "$folder/uno" ] && cc -O2 -o "$folder/board" "$here/board.c"; then
     with_board shift-out 100000
     with_board spi-shift 100000
     with_board latch 20000 2=low @80002 2=high @192001 2=low
+fi
+# chips.c, which has chips on the pins of uno.c and runs the sources that the modules are made of: whole waves and bytes of the gate's
+# rows, and of examples
+chip_on_uno() { # PROGRAM SOURCE [SOURCE OF A SECOND]
+    [ -z "${3:-}" ] || cc -O2 -w -c -Dchip_init=chip_init_1 -I"$here/../../sdk" -o "$folder/second.o" "$3" || return 1
+    cc -O2 -w -DCHIPS -Dchip_init=chip_init_0 -I"$here/../../sdk" -o "$folder/$1" "$here/uno.c" "$here/chips.c" "$2" ${3:+"$folder/second.o"}
+}
+chip_row() { # PROGRAM FIRMWARE MICROSECONDS BYTES WAVE OR - WORDS
+    program_of_row=$1 hex=$2 us=$3 bytes=$4 vcd=$5
+    shift 5
+    "$folder/$program_of_row" "$rows/$hex.hex" "$((16 * us))" "$@" serial="$folder/bytes" >"$folder/wave" && cmp -s "$folder/bytes" "$rows/$bytes.bytes" &&
+        { [ "$vcd" = - ] || cmp -s "$folder/wave" "$rows/$vcd.vcd"; }
+    says $? "row $bytes $us on chips.c"
+}
+with_chips() { # NAME MICROSECONDS WORDS
+    name=$1 us=$2
+    shift 2
+    "$program" run "$examples/$name" --us "$us" --vcd "$folder/wave" >"$folder/bytes"
+    [ -s "$folder/bytes" ] && "$folder/$name" "$examples/$name/$name.hex" "$((16 * us))" "$@" serial="$folder/own" | cmp -s - "$folder/wave" &&
+        cmp -s "$folder/bytes" "$folder/own"
+    says $? "$name on chips.c"
+}
+if [ -x "$folder/uno" ]; then
+    for name in uart-turns spi-modes i2c-log engine-order every-byte; do
+        chip_on_uno "$name" "$here/../chips/$name.c" || bad=1
+    done
+    chip_on_uno i2c-two "$here/../chips/i2c-log.c" "$here/../chips/i2c-log.c" || bad=1
+    turns=chip=c1:RX@1,TX@0,DONE@-,BUSY@-
+    chip_row uart-turns uart-chip 19500 uart-chip - $turns attr=baud:9600
+    chip_row uart-turns uart-chip 9800 uart-chip uart-chip-19200 $turns attr=baud:19200 2=high
+    chip_row uart-turns uart-chip 3300 uart-chip - $turns attr=baud:57600 3=high
+    chip_row uart-turns uart-chip 1700 uart-chip uart-chip-115200 $turns attr=baud:115200 2=high 3=high
+    chip_row uart-turns uart-chip 800 uart-chip - $turns attr=baud:250000 4=high
+    chip_row uart-turns uart-chip 400 uart-chip - $turns attr=baud:500000 2=high 4=high
+    chip_row uart-turns uart-chip 220 uart-chip - $turns attr=baud:1000000 3=high 4=high
+    chip_row uart-turns uart-chip 120 uart-chip uart-chip-2000000 $turns attr=baud:2000000 2=high 3=high 4=high
+    modes=chip=c1:SCK@13,MOSI@11,MISO@12,DONE@-,S0@2,S1@3,S2@4,S3@5
+    chip_row spi-modes spi-chip 330 spi-chip spi-chip $modes
+    chip_row spi-modes spi-chip 4450 spi-chip-divisors - $modes
+    chip_row i2c-log i2c-chip 1330 i2c-chip-1-mhz i2c-chip chip=c1:SCL@19,SDA@18
+    chip_row i2c-log i2c-chip 3030 i2c-chip - chip=c1:SCL@19,SDA@18
+    chip_row i2c-two i2c-chip 3030 i2c-two-chips - chip=c1:SCL@19,SDA@18 chip=c2:SCL@19,SDA@18 attr=first:95 attr=tells:0
+    order=chip=c1:TURN@-,RX@1,TX@0,SCK@13,MOSI@11,MISO@12,SCL@19,SDA@18
+    chip_row engine-order engine-order 600 engine-order-0 engine-order-0 $order attr=mode:0
+    chip_row engine-order engine-order 600 engine-order-1 - $order attr=mode:1
+    chip_row engine-order engine-order 600 engine-order-2 - $order attr=mode:2
+    chip_row engine-order engine-order 600 engine-order-3 engine-order-3 $order attr=mode:3
+    chip_row every-byte every-byte 15800 every-byte - chip=c1:RX@1,TX@0,SCK@13,MOSI@11,MISO@12,SCL@19,SDA@18
+    for name in thermometer registers echo; do
+        chip_on_uno "chip-$name" "$examples/chip-$name/$name.c" || bad=1
+    done
+    with_chips chip-thermometer 250000 chip=room:SCL@19,SDA@18,GND@-,VCC@- attr=temperature:23500
+    with_chips chip-registers 5000 chip=regs:CS@10,SCK@13,MOSI@11,MISO@12,GND@-,VCC@-
+    with_chips chip-echo 10000 chip=echo1:RX@1,TX@0,GND@-,VCC@-
 fi
 if have avr-gcc avr-objcopy; then
     for source in "$rows"/*.S; do
