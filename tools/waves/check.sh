@@ -6,6 +6,7 @@
 here=$(cd "$(dirname "$0")" && pwd)
 program=${PROGRAM:-$here/../../mudflatjar}
 examples=$here/../../examples
+rows=$here/../../crates/sim_rows/data
 folder=$(mktemp -d) || exit 1
 trap 'rm -rf "$folder"' EXIT
 bad=0
@@ -60,11 +61,11 @@ wave() { # NAME WORDS
     fi
 }
 
-# what sigrok-cli's UART decoder finds on pin 1 is what was printed
-with_uart() { # NAME MICROSECONDS BAUD
+# what sigrok-cli's UART decoder finds on pin 1, or on another, is what was printed
+with_uart() { # NAME MICROSECONDS BAUD [PIN]
     "$program" run "$examples/$1" --us "$2" --vcd "$folder/wave" >"$folder/bytes" && [ -s "$folder/bytes" ] &&
-        sigrok-cli -I vcd:downsample=625 -i "$folder/wave" -P "uart:rx=uno.1:baudrate=$3" -B uart=rx | cmp -s - "$folder/bytes"
-    says $? "$1" "decoded by sigrok-cli at $3 baud"
+        sigrok-cli -I vcd:downsample=625 -i "$folder/wave" -P "uart:rx=uno.${4:-1}:baudrate=$3" -B uart=rx | cmp -s - "$folder/bytes"
+    says $? "$1" "pin ${4:-1} decoded by sigrok-cli at $3 baud"
 }
 
 # what a decoder finds in a wave first is the text on standard input
@@ -90,6 +91,23 @@ bytes() {
     printf '%s\n' "Start repeat" Read "Address read: 52" ACK "Data read: 96" ACK "Data read: 69" NACK Stop
 }
 
+# what a chip notes of a write, of reads behind repeated STARTs, and of its notes until then: 0xD0 before a byte that it saw, 0xB0
+# before one that it gave
+notes() {
+    printf '%s\n' Start Write "Address write: 20" ACK "Data write: 11" ACK "Data write: 0F" NACK "Data write: 33" NACK Stop
+    printf '%s\n' Start Write "Address write: 20" ACK "Data write: 22" ACK "Start repeat" Read "Address read: 20" ACK
+    printf '%s\n' "Data read: A4" ACK "Data read: ED" ACK "Data read: C8" NACK "Start repeat" Read "Address read: 20" ACK
+    printf '%s\n' "Data read: 59" NACK Stop Start Read "Address read: 21" ACK
+    for note in C0 D0 11 D0 0F F0 C0 D0 22 F0 C1 B0 A4 B0 ED B0 C8 F0 C1 B0 59 F0 00; do printf 'Data read: %s\nACK\n' $note; done
+}
+# bytes that a chip sends back three bytes later, or that it was made with
+modes() { # MODE LINE BYTES
+    mode=$1 line=$2
+    shift 2
+    printf '%s\n' "$@" | decoded "$rows/spi-chip.vcd" "a chip of mode $mode" "$line" \
+        "spi:clk=uno.13:mosi=uno.11:miso=uno.12:cs=uno.$((2 + mode)):cpol=$((mode / 2)):cpha=$((mode % 2))" "spi=$line-data"
+}
+
 have sigrok-cli || echo "sigrok-cli: skipped" >&2
 have vcd2fst fst2vcd || echo "vcd2fst: skipped" >&2
 
@@ -109,7 +127,7 @@ if have sigrok-cli; then
     "$program" run "$examples/i2c-scanner" --us 20000 --vcd "$folder/wave" >"$folder/bytes"
     calls | i2c "$folder/wave" i2c-scanner "the calls"
     # this wave is compared with the program's own by the gate
-    bytes | i2c "$here/../../crates/sim_rows/data/twi.vcd" "a slave on the bus" "bytes out and in"
+    bytes | i2c "$rows/twi.vcd" "a slave on the bus" "bytes out and in"
     "$program" run "$examples/spi-loopback" --us 5000 --vcd "$folder/wave" >"$folder/bytes"
     for line in mosi miso; do
         printf '%s\n' 4D 75 64 00 FF A5 | spi "$folder/wave" spi-loopback "$line"
@@ -119,5 +137,24 @@ if have sigrok-cli; then
     printf '%s\n' 01 02 04 08 10 | spi "$folder/wave" spi-shift mosi
     "$program" run "$examples/shift-out" --us 50000 --vcd "$folder/wave" >"$folder/bytes"
     printf '%s\n' 01 02 04 08 10 | decoded "$folder/wave" shift-out mosi spi:clk=uno.12:mosi=uno.11:cs=uno.8 spi=mosi-data
+    # custom chips: 23.5 degrees in 1/256, the registers from 5 on, and letters that come back
+    "$program" run "$examples/chip-thermometer" --us 50000 --vcd "$folder/wave" >"$folder/bytes"
+    printf '%s\n' Start Read "Address read: 48" ACK "Data read: 17" ACK "Data read: 80" NACK Stop |
+        i2c "$folder/wave" chip-thermometer "the chip's bytes"
+    "$program" run "$examples/chip-registers" --us 5000 --vcd "$folder/wave" >"$folder/bytes"
+    printf '%s\n' 85 12 34 AB CD 05 00 00 00 00 | spi "$folder/wave" chip-registers mosi
+    printf '%s\n' 00 00 00 00 00 00 12 34 AB CD | spi "$folder/wave" chip-registers miso
+    with_uart chip-echo 10000 115200
+    with_uart chip-echo 10000 115200 0
+    # waves of the gate's rows: what chips note of the bus, and bytes from the highest bit and then from the lowest in each mode
+    notes | i2c "$rows/i2c-chip.vcd" "a chip with notes" "what it saw and gave"
+    modes 0 mosi 1D 52 87 BC B8 4A E1
+    modes 0 miso 01 81 7E FF 1D 52 87 FF
+    modes 1 mosi 1E 53 88 BD 78 CA 11
+    modes 1 miso 12 C3 3C FF 1E 53 88 FF
+    modes 2 mosi 1F 54 89 BE F8 2A 91
+    modes 2 miso 24 E7 18 FF 1F 54 89 FF
+    modes 3 mosi 20 55 8A BF 04 AA 51
+    modes 3 miso 48 FF 00 20 01 55 8A 04
 fi
 exit $bad
