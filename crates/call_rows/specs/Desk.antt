@@ -6,6 +6,7 @@ use Rattle.wasm_num.specs.declared.trap.Trap.TheVariants as traps
 use Rattle.wasm_num.specs.declared.value.Value.{Value}
 use Rattle.wasm_num.specs.declared.value.Value.TheVariants.{I32, I64}
 use Rattle.wasm_num.specs.Mem.{Mem, is_inside, stored}
+use Rattle.wasm_code.specs.declared.operators.StoreOp.TheVariants as stores
 use Rattle.wasm_code.specs.declared.types.ValType.TheVariants as types
 use Rattle.wasm_code.specs.declared.types.FuncType.{FuncType}
 use Rattle.wasm_eval.specs.Eval.{Answer}
@@ -28,7 +29,7 @@ answer _ _ count m = Err traps.HostLimit
 
 -- the memory that it leaves
 abbrev pub after : ℕ → List Value → Mem → Mem
-after (suc zero) (I32 a ∷ []) m = stored 0x3A m a (I32 90)
+after (suc zero) (I32 a ∷ []) m = stored stores.I32Store8 m a (I32 90)
 after _ _ m = m
 
 abbrev pub next : ℕ → ℕ

@@ -2,6 +2,7 @@
 ghost use Rattle.std.specs.Prelude.{◌≡◌};
 ghost use Rattle.call_rows.specs.Desk.{imports_of};
 
+use wasm_code::StoreOp;
 use wasm_eval::Host;
 use wasm_num::{Memory, Trap, Value};
 
@@ -47,7 +48,12 @@ impl Host for Desk {
         self.calls = self.calls.wrapping_add(1);
         match (import, args) {
             (0, []) => Ok(Some(Value::I32(self.calls))),
-            (1, [Value::I32(address)]) => match memory.store(0x3A, *address, 0, Value::I32(90)) {
+            (1, [Value::I32(address)]) => match memory.store(
+                StoreOp::I32Store8,
+                *address,
+                0,
+                Value::I32(90),
+            ) {
                 Ok(()) => Ok(None),
                 Err(_) => Err(Trap::HostAddress),
             },

@@ -1,5 +1,6 @@
 //! Instructions ("Instructions" of the core specification).
 use crate::labels::Labels;
+use crate::operators::{BinaryOp, LoadOp, StoreOp, UnaryOp};
 use crate::types::ValType;
 
 /// The alignment, as a power of two, and the offset of an access to memory.
@@ -9,7 +10,8 @@ pub struct MemArg {
     pub offset: u32,
 }
 
-/// An instruction of the table of float types. Loads, stores and operations have their opcode.
+/// An instruction of the table of float types. It is typed and never computed, so loads, stores and operations have their
+/// opcode: a name would say no more.
 #[derive(Clone, Copy, Debug, PartialEq, Eq)]
 pub enum FloatInstr {
     Load(u8, MemArg),
@@ -23,8 +25,7 @@ pub enum FloatInstr {
     Truncate(u8),
 }
 
-/// An instruction as a body has it, one for each opcode with its immediates. Loads, stores and
-/// operations on numbers have their opcode; `opcodes` has their types.
+/// An instruction as a body has it, one for each opcode with its immediates. `opcodes` has the names of opcodes, and the types.
 #[derive(Drop)]
 pub enum Instr {
     Unreachable,
@@ -48,8 +49,8 @@ pub enum Instr {
     LocalTee(u32),
     GlobalGet(u32),
     GlobalSet(u32),
-    Load(u8, MemArg),
-    Store(u8, MemArg),
+    Load(LoadOp, MemArg),
+    Store(StoreOp, MemArg),
     MemorySize,
     MemoryGrow,
     MemoryCopy,
@@ -57,8 +58,8 @@ pub enum Instr {
     I32Const(u32),
     I64Const(u64),
     /// An operation on one integer.
-    Unary(u8),
+    Unary(UnaryOp),
     /// An operation on two integers.
-    Binary(u8),
+    Binary(BinaryOp),
     Float(FloatInstr),
 }

@@ -1,5 +1,6 @@
 -- Reading expressions, and why what was read is nested.
-use Rattle.std.proofs.Common.{◌≡◌, ℕ, ◌<◌, List, [], ◌∷◌, ◌++◌, length, Option, Bool, true, false, not, ◌&&◌, Result, Ok, Err, refl, sym, ap, subst, ◌∙◌, arith, append_assoc, length-append}
+use Rattle.std.proofs.Common.{◌≡◌, ℕ, ◌<◌, List, [], ◌∷◌, ◌++◌, length, Option, Some, None, Bool, true, false, not, ◌&&◌, Result, Ok, Err, refl, sym, ap, subst, ◌∙◌, arith, append_assoc, length-append}
+use Rattle.std.specs.Option.{option_map_or}
 use Rattle.std.specs.Prelude.{if◌then◌else◌, ◌==◌, nat_le, is_some}
 use Rattle.sim_base.specs.declared.fault.Fault.{Fault}
 use Rattle.sim_base.specs.Refusals.{WasmOpcode, WasmLimit}
@@ -16,7 +17,11 @@ use Rattle.wasm_code.specs.declared.instr.Instr.{Instr}
 use Rattle.wasm_code.specs.declared.instr.Instr.TheVariants as instrs
 use Rattle.wasm_code.specs.declared.instr.FloatInstr.TheVariants as floats
 use Rattle.wasm_code.specs.declared.instr.MemArg.{MemArg}
-use Rattle.wasm_code.specs.Opcodes.{from, load, store, float_load, unary, binary, float_unary}
+use Rattle.wasm_code.specs.declared.operators.UnaryOp.{UnaryOp}
+use Rattle.wasm_code.specs.declared.operators.BinaryOp.{BinaryOp}
+use Rattle.wasm_code.specs.declared.operators.LoadOp.{LoadOp}
+use Rattle.wasm_code.specs.declared.operators.StoreOp.{StoreOp}
+use Rattle.wasm_code.specs.Opcodes.{from, load_of, store_of, float_load, unary_of, binary_of, float_unary}
 use Rattle.wasm_code.specs.Code.{Block, Loop, If, IsNested}
 use Rattle.wasm_code.proofs.Nesting.{IsOpen, open_none, open_plain, open_more, open_less, open_parted, open_ends}
 use Rattle.wasm_decode.specs.declared.instructions.Shape.{Shape}
@@ -89,16 +94,16 @@ no_index op n = by (op == 0x0C) (op == 0x0D) (op == 0x10) (op == 0x20) (op == 0x
     by false false false false false false false = refl
 
 no_access : (op x y : ℕ) → is_else (access_of op x y) ≡ false
-no_access op x y = by (is_some (load op)) (is_some (store op)) (is_some (float_load op))
+no_access op x y = by (load_of op) (store_of op) (is_some (float_load op))
   where
     at : MemArg
     at = record { align = x; offset = y }
 
-    by : (a b c : Bool) → is_else (if a then instrs.Load op at else if b then instrs.Store op at else if c then instrs.Float (floats.Load op at) else instrs.Float (floats.Store op at)) ≡ false
-    by true b c = refl
-    by false true c = refl
-    by false false true = refl
-    by false false false = refl
+    by : (a : Option LoadOp) (b : Option StoreOp) (c : Bool) → is_else (option_map_or (λ o. instrs.Load o at) a (option_map_or (λ o. instrs.Store o at) b (if c then instrs.Float (floats.Load op at) else instrs.Float (floats.Store op at)))) ≡ false
+    by (Some a) b c = refl
+    by None (Some b) c = refl
+    by None None true = refl
+    by None None false = refl
 
 no_memory : (op : ℕ) → is_else (memory_of op) ≡ false
 no_memory op = by (op == 0x3F)
@@ -108,13 +113,13 @@ no_memory op = by (op == 0x3F)
     by false = refl
 
 no_number : (op : ℕ) → is_else (numeric_of op) ≡ false
-no_number op = by (is_some (unary op)) (is_some (binary op)) (is_some (float_unary op))
+no_number op = by (unary_of op) (binary_of op) (is_some (float_unary op))
   where
-    by : (a b c : Bool) → is_else (if a then instrs.Unary op else if b then instrs.Binary op else if c then instrs.Float (floats.Unary op) else instrs.Float (floats.Binary op)) ≡ false
-    by true b c = refl
-    by false true c = refl
-    by false false true = refl
-    by false false false = refl
+    by : (a : Option UnaryOp) (b : Option BinaryOp) (c : Bool) → is_else (option_map_or (λ o. instrs.Unary o) a (option_map_or (λ o. instrs.Binary o) b (if c then instrs.Float (floats.Unary op) else instrs.Float (floats.Binary op)))) ≡ false
+    by (Some a) b c = refl
+    by None (Some b) c = refl
+    by None None true = refl
+    by None None false = refl
 
 no_prefixed : (n : ℕ) (bytes : List ℕ) (i : Instr) → (prefixed_of n).text bytes i → is_else i ≡ false
 no_prefixed n bytes i h = by (n == 10) (n == 11) h

@@ -1,5 +1,6 @@
 -- Instructions and expressions (WebAssembly core specification, "Binary Format", "Instructions", "Expressions").
 use Rattle.std.specs.Int.{w32, w64, from_le_bytes}
+use Rattle.std.specs.Option.{option_map_or}
 use Rattle.std.specs.Prelude.{ℕ, ◌%◌, nat_lt, List, [], ◌∷◌, length, Bool, true, false, not, ◌&&◌, ◌||◌, ◌==◌, nat_le, if◌then◌else◌, Result, Ok, Err, Option, is_some}
 use Rattle.sim_base.specs.Refusals.{WasmOpcode, WasmLimit}
 use Rattle.wasm_code.specs.declared.types.ValType.{ValType}
@@ -7,7 +8,7 @@ use Rattle.wasm_code.specs.declared.instr.Instr.{Instr}
 use Rattle.wasm_code.specs.declared.instr.Instr.TheVariants as instrs
 use Rattle.wasm_code.specs.declared.instr.FloatInstr.TheVariants as floats
 use Rattle.wasm_code.specs.declared.instr.MemArg.{MemArg}
-use Rattle.wasm_code.specs.Opcodes.{unary, binary, load, store, float_load, float_store, float_unary, float_binary, truncate, from}
+use Rattle.wasm_code.specs.Opcodes.{unary_of, binary_of, load_of, store_of, float_load, float_store, float_unary, float_binary, truncate, from}
 use Rattle.wasm_text.specs.Form.{Form, give, byte, choose, ◌>>=◌}
 use Rattle.wasm_text.specs.Leb.{u32, unsigned, signed}
 use Rattle.wasm_text.specs.Lists.{repeated, vec_to, bytes_of_length}
@@ -17,10 +18,10 @@ use Rattle.wasm_decode.specs.declared.instructions.Shape.TheVariants as shapes
 
 -- opcodes of the table, by what they are applied to
 abbrev pub is_access : ℕ → Bool
-is_access op = is_some (load op) || is_some (store op) || is_some (float_load op) || is_some (float_store op)
+is_access op = is_some (load_of op) || is_some (store_of op) || is_some (float_load op) || is_some (float_store op)
 
 abbrev pub is_numeric : ℕ → Bool
-is_numeric op = is_some (unary op) || is_some (binary op) || is_some (float_unary op) || is_some (float_binary op)
+is_numeric op = is_some (unary_of op) || is_some (binary_of op) || is_some (float_unary op) || is_some (float_binary op)
 
 -- those of control, variables, the memory's size and constants; and the byte FC, behind which a number says the instruction
 abbrev pub is_other : ℕ → Bool
@@ -95,13 +96,12 @@ call_indirect = do
   table ← table_zero
   give (instrs.CallIndirect kind)
 
--- loads and stores
+-- loads and stores: the name that the opcode has, or the opcode itself for a float
+abbrev pub float_access : ℕ → MemArg → Instr
+float_access op at = if is_some (float_load op) then instrs.Float (floats.Load op at) else instrs.Float (floats.Store op at)
+
 abbrev pub access_at : ℕ → MemArg → Instr
-access_at op at =
-    if is_some (load op) then instrs.Load op at
-    else if is_some (store op) then instrs.Store op at
-    else if is_some (float_load op) then instrs.Float (floats.Load op at)
-    else instrs.Float (floats.Store op at)
+access_at op at = option_map_or (λ o. instrs.Load o at) (load_of op) (option_map_or (λ o. instrs.Store o at) (store_of op) (float_access op at))
 
 abbrev pub access_of : ℕ → ℕ → ℕ → Instr
 access_of op align offset = access_at op (record { align = align; offset = offset })
@@ -142,13 +142,12 @@ float_64 = do
   bytes ← bytes_of_length 8
   give (instrs.Float (floats.F64Const (from_le_bytes w64 bytes)))
 
--- operations on numbers
+-- operations on numbers, likewise
+abbrev pub float_numeric : ℕ → Instr
+float_numeric op = if is_some (float_unary op) then instrs.Float (floats.Unary op) else instrs.Float (floats.Binary op)
+
 abbrev pub numeric_of : ℕ → Instr
-numeric_of op =
-    if is_some (unary op) then instrs.Unary op
-    else if is_some (binary op) then instrs.Binary op
-    else if is_some (float_unary op) then instrs.Float (floats.Unary op)
-    else instrs.Float (floats.Binary op)
+numeric_of op = option_map_or (λ o. instrs.Unary o) (unary_of op) (option_map_or (λ o. instrs.Binary o) (binary_of op) (float_numeric op))
 
 -- ---- behind FC
 

@@ -60,7 +60,7 @@ IsBroken bytes faults.OutOfMemory = Unit {0}
 IsBroken bytes (faults.Refused r) =
     ((m : Module) → ModuleText bytes m → ⊥) × ((i : ℕ) × (r.place ≡ places.Byte i) × ModuleBreaks bytes i r.number)
 
--- Ok: the bytes are the text of this module and of no other. Want of memory alone is free.
+-- Ok: the bytes are the text of this module and of no other. Out of memory alone is free.
 abbrev pub IsDecoded : List ℕ → Result Module Fault → Type 0
 IsDecoded bytes (Ok m) = ModuleText bytes m × ((n : Module) → ModuleText bytes n → n ≡ m)
 IsDecoded bytes (Err e) = IsBroken bytes e

@@ -2,7 +2,7 @@
 ghost use Rattle.std.specs.Int.{w32, w64, from_le_bytes};
 ghost use Rattle.std.specs.Prelude.{◌≡◌, ◌≤◌, true, reverse, length, Ok, Err, ◌&&◌, ◌==◌, not, nat_le};
 ghost use Rattle.wasm_code.specs.Opcodes.{from};
-ghost use Rattle.wasm_decode.specs.InstrText.{else_may_come as may_come, is_opcode, is_other, is_access, is_numeric, judge_opcode, is_bare, bare as bare_instr, block_of, block as block_form, is_indexed, index_of, indexed as indexed_form, br_table as br_table_form, call_indirect as call_indirect_form, access_at, access as access_form, memory_of, reserved as reserved_form, const_32 as const_32_form, const_64 as const_64_form, float_32 as float_32_form, float_64 as float_64_form, shape_of, numeric_of, immediates as immediates_form, instr};
+ghost use Rattle.wasm_decode.specs.InstrText.{else_may_come as may_come, is_opcode, is_other, is_access, is_numeric, judge_opcode, is_bare, bare as bare_instr, block_of, block as block_form, is_indexed, index_of, indexed as indexed_form, br_table as br_table_form, call_indirect as call_indirect_form, access_at, float_access, access as access_form, memory_of, reserved as reserved_form, const_32 as const_32_form, const_64 as const_64_form, float_32 as float_32_form, float_64 as float_64_form, shape_of, numeric_of, float_numeric, immediates as immediates_form, instr};
 ghost use Rattle.wasm_text.specs.Reads.{Decodes};
 
 use crate::prefixed::prefixed;
@@ -10,8 +10,8 @@ use sim_base::refusals::{WASM_LIMIT, WASM_OPCODE};
 use sim_base::{Fault, List};
 use std::alloc::Global;
 use wasm_code::{
-    BlockType, FloatInstr, Instr, Labels, MemArg, ValType, binary_row, float_binary_row,
-    float_load_row, float_store_row, float_unary_row, load_row, store_row, unary_row,
+    BlockType, FloatInstr, Instr, Labels, MemArg, ValType, binary_of, float_binary_row,
+    float_load_row, float_store_row, float_unary_row, load_of, store_of, unary_of,
 };
 use wasm_text::{Reader, index, judged, list_to, refused, signed, tag, zero};
 
@@ -92,8 +92,8 @@ fn is_other(op: u8) -> bool
 fn is_access(op: u8) -> bool
     ensures { result ≡ is_access op }
 {
-    load_row(op).is_some()
-        || store_row(op).is_some()
+    load_of(op).is_some()
+        || store_of(op).is_some()
         || float_load_row(op).is_some()
         || float_store_row(op).is_some()
 }
@@ -101,8 +101,8 @@ fn is_access(op: u8) -> bool
 fn is_numeric(op: u8) -> bool
     ensures { result ≡ is_numeric op }
 {
-    unary_row(op).is_some()
-        || binary_row(op).is_some()
+    unary_of(op).is_some()
+        || binary_of(op).is_some()
         || float_unary_row(op).is_some()
         || float_binary_row(op).is_some()
 }
@@ -246,11 +246,19 @@ fn access(reader: &mut Reader, op: u8) -> Result<Instr, Fault>
 fn access_instr(op: u8, at: MemArg) -> Instr
     ensures { result ≡ access_at op at }
 {
-    if load_row(op).is_some() {
-        Instr::Load(op, at)
-    } else if store_row(op).is_some() {
-        Instr::Store(op, at)
-    } else if float_load_row(op).is_some() {
+    match load_of(op) {
+        Some(load) => Instr::Load(load, at),
+        None => match store_of(op) {
+            Some(store) => Instr::Store(store, at),
+            None => float_access(op, at),
+        },
+    }
+}
+
+fn float_access(op: u8, at: MemArg) -> Instr
+    ensures { result ≡ float_access op at }
+{
+    if float_load_row(op).is_some() {
         Instr::Float(FloatInstr::Load(op, at))
     } else {
         Instr::Float(FloatInstr::Store(op, at))
@@ -290,11 +298,19 @@ fn const_64(reader: &mut Reader) -> Result<Instr, Fault>
 fn numeric(op: u8) -> Instr
     ensures { result ≡ numeric_of op }
 {
-    if unary_row(op).is_some() {
-        Instr::Unary(op)
-    } else if binary_row(op).is_some() {
-        Instr::Binary(op)
-    } else if float_unary_row(op).is_some() {
+    match unary_of(op) {
+        Some(unary) => Instr::Unary(unary),
+        None => match binary_of(op) {
+            Some(binary) => Instr::Binary(binary),
+            None => float_numeric(op),
+        },
+    }
+}
+
+fn float_numeric(op: u8) -> Instr
+    ensures { result ≡ float_numeric op }
+{
+    if float_unary_row(op).is_some() {
         Instr::Float(FloatInstr::Unary(op))
     } else {
         Instr::Float(FloatInstr::Binary(op))

@@ -1,7 +1,7 @@
 //! The WebAssembly binary format, read into a module (WebAssembly core specification, "Binary Format").
 //! `decode` answers Ok exactly for the text of a module, with the module; it refuses other bytes with
 //! 60 WasmMagic to 69 WasmLimit at the byte at which they break.
-//! It may answer want of memory, and takes no more than a small multiple of the bytes.
+//! It may answer out of memory, and takes no more than a small multiple of the bytes.
 #![tactic(auto)]
 
 mod bodies;

@@ -7,10 +7,57 @@ use Rattle.wasm_num.specs.declared.value.Value.TheVariants.{I32, I64, F32}
 use Rattle.wasm_num.specs.Mem.{Mem, put}
 use Rattle.wasm_code.specs.declared.types.ValType.{ValType}
 use Rattle.wasm_code.specs.declared.types.ValType.TheVariants as types
+use Rattle.wasm_code.specs.declared.instr.Instr.{Instr}
 use Rattle.wasm_code.specs.declared.instr.Instr.TheVariants as instrs
+use Rattle.wasm_code.specs.declared.operators.Plain.TheVariants as plains
+use Rattle.wasm_code.specs.declared.operators.Division.TheVariants as divisions
+use Rattle.wasm_code.specs.declared.operators.Binary.TheVariants as binaries
+use Rattle.wasm_code.specs.declared.operators.Unary32.TheVariants as words
+use Rattle.wasm_code.specs.declared.operators.Unary64.TheVariants as longs
+use Rattle.wasm_code.specs.declared.operators.UnaryOp.TheVariants as unaries
+use Rattle.wasm_code.specs.declared.operators.BinaryOp.TheVariants as pairs
+use Rattle.wasm_code.specs.declared.operators.LoadOp.TheVariants as loads
+use Rattle.wasm_code.specs.declared.operators.StoreOp.TheVariants as stores
 use Rattle.wasm_code.specs.declared.instr.FloatInstr.TheVariants as floats
 use Rattle.wasm_code.specs.Code.{Block, Loop, If, Code, Done, Then, In, Both}
 use Rattle.wasm_eval.specs.Eval.{Program, Func, State, Answer, End, Gives, Fails, Wrong, call}
+
+-- operators as instructions
+abbrev i32_eqz : Instr
+i32_eqz = instrs.Unary (unaries.I32 words.Eqz)
+
+abbrev i32_wrap_i64 : Instr
+i32_wrap_i64 = instrs.Unary (unaries.I64 longs.Wrap)
+
+abbrev i64_extend_i32_u : Instr
+i64_extend_i32_u = instrs.Unary (unaries.I32 words.ExtendU)
+
+abbrev i32_ge_u : Instr
+i32_ge_u = instrs.Binary (pairs.I32 (binaries.Plain plains.GeU))
+
+abbrev i32_add : Instr
+i32_add = instrs.Binary (pairs.I32 (binaries.Plain plains.Add))
+
+abbrev i32_sub : Instr
+i32_sub = instrs.Binary (pairs.I32 (binaries.Plain plains.Sub))
+
+abbrev i32_mul : Instr
+i32_mul = instrs.Binary (pairs.I32 (binaries.Plain plains.Mul))
+
+abbrev i32_div_u : Instr
+i32_div_u = instrs.Binary (pairs.I32 (binaries.Division divisions.DivU))
+
+abbrev i32_rem_u : Instr
+i32_rem_u = instrs.Binary (pairs.I32 (binaries.Division divisions.RemU))
+
+abbrev i64_add : Instr
+i64_add = instrs.Binary (pairs.I64 (binaries.Plain plains.Add))
+
+abbrev i64_sub : Instr
+i64_sub = instrs.Binary (pairs.I64 (binaries.Plain plains.Sub))
+
+abbrev i64_rem_s : Instr
+i64_rem_s = instrs.Binary (pairs.I64 (binaries.Division divisions.RemS))
 
 -- no function is imported
 abbrev host : Unit {0} → ℕ → List Value → Mem → Answer (Unit {0})
@@ -50,7 +97,7 @@ sum = record {
   imports = [];
   funcs =
       function [] (types.I32 ∷ []) []
-      (Then (instrs.I32Const 1) (Then (instrs.I32Const 2) (Then (instrs.Binary 0x6A) Done))) ∷
+      (Then (instrs.I32Const 1) (Then (instrs.I32Const 2) (Then i32_add Done))) ∷
       [];
   table = [];
 }
@@ -145,7 +192,7 @@ countdown = record {
   imports = [];
   funcs =
       function (types.I32 ∷ []) [] []
-      (In Loop None (Then (instrs.LocalGet 0) (Then (instrs.I32Const 1) (Then (instrs.Binary 0x6B) (Then (instrs.LocalTee 0) (Then (instrs.BrIf 0) Done))))) Done) ∷
+      (In Loop None (Then (instrs.LocalGet 0) (Then (instrs.I32Const 1) (Then i32_sub (Then (instrs.LocalTee 0) (Then (instrs.BrIf 0) Done))))) Done) ∷
       [];
   table = [];
 }
@@ -169,7 +216,7 @@ nested_loops = record {
   imports = [];
   funcs =
       function [] (types.I32 ∷ []) (types.I32 ∷ types.I32 ∷ types.I32 ∷ [])
-      (Then (instrs.I32Const 3) (Then (instrs.LocalSet 0) (In Loop None (Then (instrs.I32Const 2) (Then (instrs.LocalSet 1) (Then instrs.Nop (In Loop None (Then (instrs.LocalGet 2) (Then (instrs.I32Const 1) (Then (instrs.Binary 0x6A) (Then (instrs.LocalSet 2) (Then (instrs.LocalGet 1) (Then (instrs.I32Const 1) (Then (instrs.Binary 0x6B) (Then (instrs.LocalTee 1) (Then (instrs.BrIf 0) Done))))))))) (Then (instrs.LocalGet 0) (Then (instrs.I32Const 1) (Then (instrs.Binary 0x6B) (Then (instrs.LocalTee 0) (Then (instrs.BrIf 0) Done))))))))) (Then (instrs.LocalGet 2) Done)))) ∷
+      (Then (instrs.I32Const 3) (Then (instrs.LocalSet 0) (In Loop None (Then (instrs.I32Const 2) (Then (instrs.LocalSet 1) (Then instrs.Nop (In Loop None (Then (instrs.LocalGet 2) (Then (instrs.I32Const 1) (Then i32_add (Then (instrs.LocalSet 2) (Then (instrs.LocalGet 1) (Then (instrs.I32Const 1) (Then i32_sub (Then (instrs.LocalTee 1) (Then (instrs.BrIf 0) Done))))))))) (Then (instrs.LocalGet 0) (Then (instrs.I32Const 1) (Then i32_sub (Then (instrs.LocalTee 0) (Then (instrs.BrIf 0) Done))))))))) (Then (instrs.LocalGet 2) Done)))) ∷
       [];
   table = [];
 }
@@ -191,9 +238,9 @@ traps_and_units = record {
       function [] [] []
       (Then instrs.Unreachable Done) ∷
       function [] (types.I32 ∷ []) []
-      (Then (instrs.I32Const 1) (Then (instrs.I32Const 0) (Then (instrs.Binary 0x6E) Done))) ∷
+      (Then (instrs.I32Const 1) (Then (instrs.I32Const 0) (Then i32_div_u Done))) ∷
       function [] (types.I32 ∷ []) []
-      (Then (instrs.I32Const 4294967295) (Then (instrs.Load 0x28 (record { align = 2; offset = 0 })) Done)) ∷
+      (Then (instrs.I32Const 4294967295) (Then (instrs.Load loads.I32Load (record { align = 2; offset = 0 })) Done)) ∷
       [];
   table = [];
 }
@@ -245,7 +292,7 @@ br_table_of_one = record {
   imports = [];
   funcs =
       function (types.I32 ∷ []) (types.I32 ∷ []) []
-      (In Block (Some types.I32) (Then (instrs.I32Const 5) (Then (instrs.LocalGet 0) (Then (instrs.BrTable [] 0) Done))) (Then (instrs.I32Const 1) (Then (instrs.Binary 0x6A) Done))) ∷
+      (In Block (Some types.I32) (Then (instrs.I32Const 5) (Then (instrs.LocalGet 0) (Then (instrs.BrTable [] 0) Done))) (Then (instrs.I32Const 1) (Then i32_add Done))) ∷
       [];
   table = [];
 }
@@ -269,9 +316,9 @@ branch_leaves_one = record {
       function [] (types.I64 ∷ []) []
       (Then (instrs.I32Const 7) (Then (instrs.I64Const 8) (Then (instrs.I32Const 9) (Then instrs.Drop (Then instrs.Return Done))))) ∷
       function (types.I32 ∷ []) (types.I32 ∷ []) []
-      (Then (instrs.I32Const 100) (In Block (Some types.I32) (Then (instrs.I32Const 1) (Then (instrs.I32Const 2) (Then (instrs.LocalGet 0) (Then (instrs.BrIf 0) (Then instrs.Drop Done))))) (Then (instrs.Binary 0x6A) Done))) ∷
+      (Then (instrs.I32Const 100) (In Block (Some types.I32) (Then (instrs.I32Const 1) (Then (instrs.I32Const 2) (Then (instrs.LocalGet 0) (Then (instrs.BrIf 0) (Then instrs.Drop Done))))) (Then i32_add Done))) ∷
       function [] (types.I32 ∷ []) []
-      (Then (instrs.I32Const 1) (In Loop (Some types.I32) (Then (instrs.I32Const 2) Done) (Then (instrs.Binary 0x6B) Done))) ∷
+      (Then (instrs.I32Const 1) (In Loop (Some types.I32) (Then (instrs.I32Const 2) Done) (Then i32_sub Done))) ∷
       [];
   table = [];
 }
@@ -294,7 +341,7 @@ branch_out_of_loops = record {
   imports = [];
   funcs =
       function (types.I32 ∷ []) (types.I32 ∷ []) (types.I32 ∷ [])
-      (In Block None (In Loop None (In Loop None (Then (instrs.LocalGet 1) (Then (instrs.I32Const 1) (Then (instrs.Binary 0x6A) (Then (instrs.LocalTee 1) (Then (instrs.LocalGet 0) (Then (instrs.Binary 0x4F) (Then (instrs.BrIf 2) (Then (instrs.LocalGet 1) (Then (instrs.I32Const 3) (Then (instrs.Binary 0x70) (Then (instrs.BrIf 0) Done))))))))))) (Then (instrs.Br 0) Done)) Done) (Then (instrs.LocalGet 1) Done)) ∷
+      (In Block None (In Loop None (In Loop None (Then (instrs.LocalGet 1) (Then (instrs.I32Const 1) (Then i32_add (Then (instrs.LocalTee 1) (Then (instrs.LocalGet 0) (Then i32_ge_u (Then (instrs.BrIf 2) (Then (instrs.LocalGet 1) (Then (instrs.I32Const 3) (Then i32_rem_u (Then (instrs.BrIf 0) Done))))))))))) (Then (instrs.Br 0) Done)) Done) (Then (instrs.LocalGet 1) Done)) ∷
       [];
   table = [];
 }
@@ -359,7 +406,7 @@ depth = record {
   imports = [];
   funcs =
       function (types.I32 ∷ []) [] []
-      (Then (instrs.LocalGet 0) (In If None (Then (instrs.LocalGet 0) (Then (instrs.I32Const 1) (Then (instrs.Binary 0x6B) (Then (instrs.Call 0) Done)))) Done)) ∷
+      (Then (instrs.LocalGet 0) (In If None (Then (instrs.LocalGet 0) (Then (instrs.I32Const 1) (Then i32_sub (Then (instrs.Call 0) Done)))) Done)) ∷
       [];
   table = [];
 }
@@ -381,17 +428,17 @@ calls = record {
   imports = [];
   funcs =
       function (types.I32 ∷ types.I64 ∷ []) (types.I64 ∷ []) []
-      (Then (instrs.LocalGet 1) (Then (instrs.LocalGet 0) (Then (instrs.Unary 0xAD) (Then (instrs.Binary 0x7D) Done)))) ∷
+      (Then (instrs.LocalGet 1) (Then (instrs.LocalGet 0) (Then i64_extend_i32_u (Then i64_sub Done)))) ∷
       function [] (types.I64 ∷ []) []
       (Then (instrs.I32Const 3) (Then (instrs.I64Const 10) (Then (instrs.Call 0) Done))) ∷
       function (types.I32 ∷ []) (types.I32 ∷ []) (types.I32 ∷ types.I64 ∷ [])
-      (Then (instrs.LocalGet 1) (Then (instrs.LocalGet 2) (Then (instrs.Unary 0xA7) (Then (instrs.Binary 0x6A) (Then (instrs.LocalGet 0) (Then (instrs.I32Const 5) (Then (instrs.LocalSet 0) (Then (instrs.I64Const 77) (Then (instrs.LocalSet 2) (Then (instrs.LocalGet 0) (Then (instrs.LocalSet 1) (Then (instrs.Binary 0x6A) Done)))))))))))) ∷
+      (Then (instrs.LocalGet 1) (Then (instrs.LocalGet 2) (Then i32_wrap_i64 (Then i32_add (Then (instrs.LocalGet 0) (Then (instrs.I32Const 5) (Then (instrs.LocalSet 0) (Then (instrs.I64Const 77) (Then (instrs.LocalSet 2) (Then (instrs.LocalGet 0) (Then (instrs.LocalSet 1) (Then i32_add Done)))))))))))) ∷
       function (types.I32 ∷ []) (types.I32 ∷ []) []
-      (Then (instrs.LocalGet 0) (Then (instrs.Unary 0x45) (In If None (Then (instrs.I32Const 1) (Then instrs.Return Done)) (Then (instrs.LocalGet 0) (Then (instrs.I32Const 1) (Then (instrs.Binary 0x6B) (Then (instrs.Call 3) (Then (instrs.LocalGet 0) (Then (instrs.Binary 0x6C) Done))))))))) ∷
+      (Then (instrs.LocalGet 0) (Then i32_eqz (In If None (Then (instrs.I32Const 1) (Then instrs.Return Done)) (Then (instrs.LocalGet 0) (Then (instrs.I32Const 1) (Then i32_sub (Then (instrs.Call 3) (Then (instrs.LocalGet 0) (Then i32_mul Done))))))))) ∷
       function [] (types.I32 ∷ []) []
-      (Then (instrs.I32Const 9) (Then (instrs.I32Const 4) (Then (instrs.Call 5) (Then (instrs.Binary 0x6A) Done)))) ∷
+      (Then (instrs.I32Const 9) (Then (instrs.I32Const 4) (Then (instrs.Call 5) (Then i32_add Done)))) ∷
       function (types.I32 ∷ []) (types.I32 ∷ []) []
-      (Then (instrs.LocalGet 0) (Then (instrs.I32Const 100) (Then (instrs.Binary 0x6A) Done))) ∷
+      (Then (instrs.LocalGet 0) (Then (instrs.I32Const 100) (Then i32_add Done))) ∷
       [];
   table = [];
 }
@@ -417,7 +464,7 @@ through_the_table = record {
   imports = [];
   funcs =
       function (types.I32 ∷ types.I32 ∷ []) (types.I32 ∷ []) []
-      (Then (instrs.LocalGet 0) (Then (instrs.LocalGet 1) (Then (instrs.Binary 0x6B) Done))) ∷
+      (Then (instrs.LocalGet 0) (Then (instrs.LocalGet 1) (Then i32_sub Done))) ∷
       function [] [] []
       (Done) ∷
       function (types.I32 ∷ []) (types.I32 ∷ []) []
@@ -477,7 +524,7 @@ growth_to_the_greatest = record {
       function [] (types.I32 ∷ []) []
       (Then instrs.MemorySize Done) ∷
       function (types.I32 ∷ []) [] []
-      (Then (instrs.LocalGet 0) (Then (instrs.I32Const 1) (Then (instrs.Store 0x3A (record { align = 0; offset = 0 })) Done))) ∷
+      (Then (instrs.LocalGet 0) (Then (instrs.I32Const 1) (Then (instrs.Store stores.I32Store8 (record { align = 0; offset = 0 })) Done))) ∷
       [];
   table = [];
 }
@@ -504,17 +551,17 @@ ends_of_memory = record {
   imports = [];
   funcs =
       function (types.I32 ∷ []) (types.I32 ∷ []) []
-      (Then (instrs.LocalGet 0) (Then (instrs.Load 0x28 (record { align = 2; offset = 0 })) Done)) ∷
+      (Then (instrs.LocalGet 0) (Then (instrs.Load loads.I32Load (record { align = 2; offset = 0 })) Done)) ∷
       function (types.I32 ∷ []) (types.I64 ∷ []) []
-      (Then (instrs.LocalGet 0) (Then (instrs.Load 0x29 (record { align = 3; offset = 8 })) Done)) ∷
+      (Then (instrs.LocalGet 0) (Then (instrs.Load loads.I64Load (record { align = 3; offset = 8 })) Done)) ∷
       function (types.I32 ∷ []) (types.I32 ∷ []) []
-      (Then (instrs.LocalGet 0) (Then (instrs.Load 0x2D (record { align = 0; offset = 4294967295 })) Done)) ∷
+      (Then (instrs.LocalGet 0) (Then (instrs.Load loads.I32Load8U (record { align = 0; offset = 4294967295 })) Done)) ∷
       function (types.I32 ∷ []) [] []
-      (Then (instrs.LocalGet 0) (Then (instrs.I32Const 1684234849) (Then (instrs.Store 0x36 (record { align = 2; offset = 0 })) Done))) ∷
+      (Then (instrs.LocalGet 0) (Then (instrs.I32Const 1684234849) (Then (instrs.Store stores.I32Store (record { align = 2; offset = 0 })) Done))) ∷
       function (types.I32 ∷ []) [] []
-      (Then (instrs.LocalGet 0) (Then (instrs.I64Const 18446744073709551615) (Then (instrs.Store 0x3D (record { align = 1; offset = 65535 })) Done))) ∷
+      (Then (instrs.LocalGet 0) (Then (instrs.I64Const 18446744073709551615) (Then (instrs.Store stores.I64Store16 (record { align = 1; offset = 65535 })) Done))) ∷
       function (types.I32 ∷ []) (types.I32 ∷ []) []
-      (Then (instrs.LocalGet 0) (Then (instrs.Load 0x2F (record { align = 1; offset = 0 })) Done)) ∷
+      (Then (instrs.LocalGet 0) (Then (instrs.Load loads.I32Load16U (record { align = 1; offset = 0 })) Done)) ∷
       [];
   table = [];
 }
@@ -546,33 +593,33 @@ widths = record {
   imports = [];
   funcs =
       function [] (types.I32 ∷ []) []
-      (Then (instrs.I32Const 16) (Then (instrs.Load 0x2C (record { align = 0; offset = 0 })) Done)) ∷
+      (Then (instrs.I32Const 16) (Then (instrs.Load loads.I32Load8S (record { align = 0; offset = 0 })) Done)) ∷
       function [] (types.I32 ∷ []) []
-      (Then (instrs.I32Const 16) (Then (instrs.Load 0x2D (record { align = 0; offset = 0 })) Done)) ∷
+      (Then (instrs.I32Const 16) (Then (instrs.Load loads.I32Load8U (record { align = 0; offset = 0 })) Done)) ∷
       function [] (types.I32 ∷ []) []
-      (Then (instrs.I32Const 16) (Then (instrs.Load 0x2E (record { align = 1; offset = 0 })) Done)) ∷
+      (Then (instrs.I32Const 16) (Then (instrs.Load loads.I32Load16S (record { align = 1; offset = 0 })) Done)) ∷
       function [] (types.I32 ∷ []) []
-      (Then (instrs.I32Const 17) (Then (instrs.Load 0x2F (record { align = 1; offset = 0 })) Done)) ∷
+      (Then (instrs.I32Const 17) (Then (instrs.Load loads.I32Load16U (record { align = 1; offset = 0 })) Done)) ∷
       function [] (types.I64 ∷ []) []
-      (Then (instrs.I32Const 17) (Then (instrs.Load 0x30 (record { align = 0; offset = 0 })) Done)) ∷
+      (Then (instrs.I32Const 17) (Then (instrs.Load loads.I64Load8S (record { align = 0; offset = 0 })) Done)) ∷
       function [] (types.I64 ∷ []) []
-      (Then (instrs.I32Const 17) (Then (instrs.Load 0x31 (record { align = 0; offset = 0 })) Done)) ∷
+      (Then (instrs.I32Const 17) (Then (instrs.Load loads.I64Load8U (record { align = 0; offset = 0 })) Done)) ∷
       function [] (types.I64 ∷ []) []
-      (Then (instrs.I32Const 20) (Then (instrs.Load 0x32 (record { align = 1; offset = 0 })) Done)) ∷
+      (Then (instrs.I32Const 20) (Then (instrs.Load loads.I64Load16S (record { align = 1; offset = 0 })) Done)) ∷
       function [] (types.I64 ∷ []) []
-      (Then (instrs.I32Const 20) (Then (instrs.Load 0x33 (record { align = 1; offset = 0 })) Done)) ∷
+      (Then (instrs.I32Const 20) (Then (instrs.Load loads.I64Load16U (record { align = 1; offset = 0 })) Done)) ∷
       function [] (types.I64 ∷ []) []
-      (Then (instrs.I32Const 20) (Then (instrs.Load 0x34 (record { align = 2; offset = 0 })) Done)) ∷
+      (Then (instrs.I32Const 20) (Then (instrs.Load loads.I64Load32S (record { align = 2; offset = 0 })) Done)) ∷
       function [] (types.I64 ∷ []) []
-      (Then (instrs.I32Const 20) (Then (instrs.Load 0x35 (record { align = 2; offset = 0 })) Done)) ∷
+      (Then (instrs.I32Const 20) (Then (instrs.Load loads.I64Load32U (record { align = 2; offset = 0 })) Done)) ∷
       function [] (types.I32 ∷ []) []
-      (Then (instrs.I32Const 16) (Then (instrs.Load 0x28 (record { align = 2; offset = 0 })) Done)) ∷
+      (Then (instrs.I32Const 16) (Then (instrs.Load loads.I32Load (record { align = 2; offset = 0 })) Done)) ∷
       function [] (types.I64 ∷ []) []
-      (Then (instrs.I32Const 16) (Then (instrs.Load 0x29 (record { align = 3; offset = 0 })) Done)) ∷
+      (Then (instrs.I32Const 16) (Then (instrs.Load loads.I64Load (record { align = 3; offset = 0 })) Done)) ∷
       function [] (types.I64 ∷ []) []
-      (Then (instrs.I32Const 32) (Then (instrs.I64Const 81985529216486895) (Then (instrs.Store 0x3E (record { align = 2; offset = 0 })) (Then (instrs.I32Const 32) (Then (instrs.Load 0x29 (record { align = 3; offset = 0 })) Done))))) ∷
+      (Then (instrs.I32Const 32) (Then (instrs.I64Const 81985529216486895) (Then (instrs.Store stores.I64Store32 (record { align = 2; offset = 0 })) (Then (instrs.I32Const 32) (Then (instrs.Load loads.I64Load (record { align = 3; offset = 0 })) Done))))) ∷
       function [] (types.I64 ∷ []) []
-      (Then (instrs.I32Const 40) (Then (instrs.I64Const 18446744073709551614) (Then (instrs.Store 0x37 (record { align = 3; offset = 0 })) (Then (instrs.I32Const 40) (Then (instrs.I32Const 0) (Then (instrs.Store 0x3A (record { align = 0; offset = 0 })) (Then (instrs.I32Const 43) (Then (instrs.I64Const 291) (Then (instrs.Store 0x3C (record { align = 0; offset = 0 })) (Then (instrs.I32Const 45) (Then (instrs.I32Const 74565) (Then (instrs.Store 0x3B (record { align = 1; offset = 0 })) (Then (instrs.I32Const 40) (Then (instrs.Load 0x29 (record { align = 3; offset = 0 })) Done)))))))))))))) ∷
+      (Then (instrs.I32Const 40) (Then (instrs.I64Const 18446744073709551614) (Then (instrs.Store stores.I64Store (record { align = 3; offset = 0 })) (Then (instrs.I32Const 40) (Then (instrs.I32Const 0) (Then (instrs.Store stores.I32Store8 (record { align = 0; offset = 0 })) (Then (instrs.I32Const 43) (Then (instrs.I64Const 291) (Then (instrs.Store stores.I64Store8 (record { align = 0; offset = 0 })) (Then (instrs.I32Const 45) (Then (instrs.I32Const 74565) (Then (instrs.Store stores.I32Store16 (record { align = 1; offset = 0 })) (Then (instrs.I32Const 40) (Then (instrs.Load loads.I64Load (record { align = 3; offset = 0 })) Done)))))))))))))) ∷
       [];
   table = [];
 }
@@ -604,9 +651,9 @@ globals = record {
   imports = [];
   funcs =
       function [] (types.I32 ∷ []) []
-      (Then (instrs.GlobalGet 0) (Then (instrs.I32Const 1) (Then (instrs.Binary 0x6A) (Then (instrs.GlobalSet 0) (Then (instrs.GlobalGet 0) Done))))) ∷
+      (Then (instrs.GlobalGet 0) (Then (instrs.I32Const 1) (Then i32_add (Then (instrs.GlobalSet 0) (Then (instrs.GlobalGet 0) Done))))) ∷
       function [] (types.I64 ∷ []) []
-      (Then (instrs.GlobalGet 1) (Then (instrs.GlobalGet 2) (Then (instrs.Binary 0x7C) Done))) ∷
+      (Then (instrs.GlobalGet 1) (Then (instrs.GlobalGet 2) (Then i64_add Done))) ∷
       function (types.I64 ∷ []) [] []
       (Then (instrs.LocalGet 0) (Then (instrs.GlobalSet 2) Done)) ∷
       [];
@@ -634,9 +681,9 @@ segments = record {
   imports = [];
   funcs =
       function [] (types.I32 ∷ []) []
-      (Then (instrs.I32Const 4) (Then (instrs.Load 0x28 (record { align = 2; offset = 0 })) Done)) ∷
+      (Then (instrs.I32Const 4) (Then (instrs.Load loads.I32Load (record { align = 2; offset = 0 })) Done)) ∷
       function [] (types.I32 ∷ []) []
-      (Then (instrs.I32Const 8) (Then (instrs.Load 0x28 (record { align = 2; offset = 0 })) Done)) ∷
+      (Then (instrs.I32Const 8) (Then (instrs.Load loads.I32Load (record { align = 2; offset = 0 })) Done)) ∷
       function (types.I32 ∷ []) (types.I32 ∷ []) []
       (Then (instrs.LocalGet 0) (Then (instrs.CallIndirect 0) Done)) ∷
       [];
@@ -706,7 +753,7 @@ division_by_zero = record {
   imports = [];
   funcs =
       function (types.I64 ∷ []) (types.I64 ∷ []) []
-      (Then (instrs.I64Const 1) (Then (instrs.LocalGet 0) (Then (instrs.Binary 0x81) Done))) ∷
+      (Then (instrs.I64Const 1) (Then (instrs.LocalGet 0) (Then i64_rem_s Done))) ∷
       [];
   table = [];
 }
@@ -737,7 +784,7 @@ copies = record {
       function three_words [] []
       (Then (instrs.LocalGet 0) (Then (instrs.LocalGet 1) (Then (instrs.LocalGet 2) (Then instrs.MemoryFill Done)))) ∷
       function (types.I32 ∷ []) (types.I32 ∷ []) []
-      (Then (instrs.LocalGet 0) (Then (instrs.Load 0x28 (record { align = 2; offset = 0 })) Done)) ∷
+      (Then (instrs.LocalGet 0) (Then (instrs.Load loads.I32Load (record { align = 2; offset = 0 })) Done)) ∷
       [];
   table = [];
 }

@@ -1,10 +1,11 @@
 //! Integers of 32 bits ("Integer Operations" of the core specification). An integer is its unsigned value.
-ghost use Rattle.std.specs.Prelude.{◌≡◌, ◌-◌, ◌≤◌, ◌<◌, int_div};
+ghost use Rattle.std.specs.Prelude.{◌≡◌, ◌<◌, int_div};
 ghost use Rattle.std.specs.Int.{w8, w16, w32, cast_signed, cast_unsigned};
 ghost use Rattle.wasm_num.specs.Integer.{wrap, extend_s, idiv_u, idiv_s, irem_u, irem_s, ishl, ishr_u, ishr_s, irotl, irotr, ilt_s, igt_s, ile_s, ige_s};
-ghost use Rattle.wasm_num.specs.Numeric.{compares, computes, counts};
+ghost use Rattle.wasm_num.specs.Numeric.{plain, divided, computed};
 
 use crate::trap::Trap;
+use wasm_code::{Binary, Division, Plain};
 
 /// The low 32 bits.
 #[inline(always)]
@@ -150,63 +151,54 @@ pub fn ge_s(a: u32, b: u32) -> bool
     a.cast_signed() >= b.cast_signed()
 }
 
-/// The comparison of an opcode from eq to ge_u.
+/// An operator that never traps; a comparison gives 1 where it holds, else 0.
 #[inline(always)]
-pub fn compare(op: u8, a: u32, b: u32) -> bool
-    requires first { 0x46 ≤ op }
-    requires last { op ≤ 0x4F }
-    ensures { result ≡ compares w32 (op - 0x46) a b }
+pub fn plain(operator: Plain, a: u32, b: u32) -> u32
+    ensures { result ≡ plain w32 operator a b }
 {
-    match op {
-        0x46 => a == b,
-        0x47 => a != b,
-        0x48 => lt_s(a, b),
-        0x49 => a < b,
-        0x4A => gt_s(a, b),
-        0x4B => a > b,
-        0x4C => le_s(a, b),
-        0x4D => a <= b,
-        0x4E => ge_s(a, b),
-        _ => a >= b,
+    match operator {
+        Plain::Eq => u32::from(a == b),
+        Plain::Ne => u32::from(a != b),
+        Plain::LtS => u32::from(lt_s(a, b)),
+        Plain::LtU => u32::from(a < b),
+        Plain::GtS => u32::from(gt_s(a, b)),
+        Plain::GtU => u32::from(a > b),
+        Plain::LeS => u32::from(le_s(a, b)),
+        Plain::LeU => u32::from(a <= b),
+        Plain::GeS => u32::from(ge_s(a, b)),
+        Plain::GeU => u32::from(a >= b),
+        Plain::Add => a.wrapping_add(b),
+        Plain::Sub => a.wrapping_sub(b),
+        Plain::Mul => a.wrapping_mul(b),
+        Plain::And => a & b,
+        Plain::Or => a | b,
+        Plain::Xor => a ^ b,
+        Plain::Shl => shl(a, b),
+        Plain::ShrS => shr_s(a, b),
+        Plain::ShrU => shr_u(a, b),
+        Plain::Rotl => rotl(a, b),
+        Plain::Rotr => rotr(a, b),
     }
 }
 
-/// The operation of an opcode from add to rotr.
 #[inline(always)]
-pub fn compute(op: u8, a: u32, b: u32) -> Result<u32, Trap>
-    requires first { 0x6A ≤ op }
-    requires last { op ≤ 0x78 }
-    ensures { result ≡ computes w32 (op - 0x6A) a b }
+pub fn divided(operator: Division, a: u32, b: u32) -> Result<u32, Trap>
+    ensures { result ≡ divided w32 operator a b }
 {
-    match op {
-        0x6A => Ok(a.wrapping_add(b)),
-        0x6B => Ok(a.wrapping_sub(b)),
-        0x6C => Ok(a.wrapping_mul(b)),
-        0x6D => div_s(a, b),
-        0x6E => div_u(a, b),
-        0x6F => rem_s(a, b),
-        0x70 => rem_u(a, b),
-        0x71 => Ok(a & b),
-        0x72 => Ok(a | b),
-        0x73 => Ok(a ^ b),
-        0x74 => Ok(shl(a, b)),
-        0x75 => Ok(shr_s(a, b)),
-        0x76 => Ok(shr_u(a, b)),
-        0x77 => Ok(rotl(a, b)),
-        _ => Ok(rotr(a, b)),
+    match operator {
+        Division::DivS => div_s(a, b),
+        Division::DivU => div_u(a, b),
+        Division::RemS => rem_s(a, b),
+        Division::RemU => rem_u(a, b),
     }
 }
 
-/// The operation of an opcode from clz to popcnt.
 #[inline(always)]
-pub fn count(op: u8, a: u32) -> u32
-    requires first { 0x67 ≤ op }
-    requires last { op ≤ 0x69 }
-    ensures { result ≡ counts w32 (op - 0x67) a }
+pub fn computed(operator: Binary, a: u32, b: u32) -> Result<u32, Trap>
+    ensures { result ≡ computed w32 operator a b }
 {
-    match op {
-        0x67 => a.leading_zeros(),
-        0x68 => a.trailing_zeros(),
-        _ => a.count_ones(),
+    match operator {
+        Binary::Plain(operator) => Ok(plain(operator, a, b)),
+        Binary::Division(operator) => divided(operator, a, b),
     }
 }

@@ -1,10 +1,11 @@
 //! Integers of 64 bits ("Integer Operations" of the core specification). An integer is its unsigned value.
-ghost use Rattle.std.specs.Prelude.{◌≡◌, ◌-◌, ◌≤◌, ◌<◌, int_div};
+ghost use Rattle.std.specs.Prelude.{◌≡◌, ◌<◌, int_div};
 ghost use Rattle.std.specs.Int.{w8, w16, w32, w64, cast_signed, cast_unsigned};
 ghost use Rattle.wasm_num.specs.Integer.{extend_s, idiv_u, idiv_s, irem_u, irem_s, ishl, ishr_u, ishr_s, irotl, irotr, ilt_s, igt_s, ile_s, ige_s};
-ghost use Rattle.wasm_num.specs.Numeric.{compares, computes, counts};
+ghost use Rattle.wasm_num.specs.Numeric.{plain, divided};
 
 use crate::trap::Trap;
+use wasm_code::{Division, Plain};
 
 /// A byte by its sign.
 #[inline(always)]
@@ -150,63 +151,44 @@ pub fn ge_s(a: u64, b: u64) -> bool
     a.cast_signed() >= b.cast_signed()
 }
 
-/// The comparison of an opcode from eq to ge_u.
+/// An operator that never traps; a comparison gives 1 where it holds, else 0.
 #[inline(always)]
-pub fn compare(op: u8, a: u64, b: u64) -> bool
-    requires first { 0x51 ≤ op }
-    requires last { op ≤ 0x5A }
-    ensures { result ≡ compares w64 (op - 0x51) a b }
+pub fn plain(operator: Plain, a: u64, b: u64) -> u64
+    ensures { result ≡ plain w64 operator a b }
 {
-    match op {
-        0x51 => a == b,
-        0x52 => a != b,
-        0x53 => lt_s(a, b),
-        0x54 => a < b,
-        0x55 => gt_s(a, b),
-        0x56 => a > b,
-        0x57 => le_s(a, b),
-        0x58 => a <= b,
-        0x59 => ge_s(a, b),
-        _ => a >= b,
+    match operator {
+        Plain::Eq => u64::from(a == b),
+        Plain::Ne => u64::from(a != b),
+        Plain::LtS => u64::from(lt_s(a, b)),
+        Plain::LtU => u64::from(a < b),
+        Plain::GtS => u64::from(gt_s(a, b)),
+        Plain::GtU => u64::from(a > b),
+        Plain::LeS => u64::from(le_s(a, b)),
+        Plain::LeU => u64::from(a <= b),
+        Plain::GeS => u64::from(ge_s(a, b)),
+        Plain::GeU => u64::from(a >= b),
+        Plain::Add => a.wrapping_add(b),
+        Plain::Sub => a.wrapping_sub(b),
+        Plain::Mul => a.wrapping_mul(b),
+        Plain::And => a & b,
+        Plain::Or => a | b,
+        Plain::Xor => a ^ b,
+        Plain::Shl => shl(a, b),
+        Plain::ShrS => shr_s(a, b),
+        Plain::ShrU => shr_u(a, b),
+        Plain::Rotl => rotl(a, b),
+        Plain::Rotr => rotr(a, b),
     }
 }
 
-/// The operation of an opcode from add to rotr.
 #[inline(always)]
-pub fn compute(op: u8, a: u64, b: u64) -> Result<u64, Trap>
-    requires first { 0x7C ≤ op }
-    requires last { op ≤ 0x8A }
-    ensures { result ≡ computes w64 (op - 0x7C) a b }
+pub fn divided(operator: Division, a: u64, b: u64) -> Result<u64, Trap>
+    ensures { result ≡ divided w64 operator a b }
 {
-    match op {
-        0x7C => Ok(a.wrapping_add(b)),
-        0x7D => Ok(a.wrapping_sub(b)),
-        0x7E => Ok(a.wrapping_mul(b)),
-        0x7F => div_s(a, b),
-        0x80 => div_u(a, b),
-        0x81 => rem_s(a, b),
-        0x82 => rem_u(a, b),
-        0x83 => Ok(a & b),
-        0x84 => Ok(a | b),
-        0x85 => Ok(a ^ b),
-        0x86 => Ok(shl(a, b)),
-        0x87 => Ok(shr_s(a, b)),
-        0x88 => Ok(shr_u(a, b)),
-        0x89 => Ok(rotl(a, b)),
-        _ => Ok(rotr(a, b)),
-    }
-}
-
-/// The operation of an opcode from clz to popcnt.
-#[inline(always)]
-pub fn count(op: u8, a: u64) -> u64
-    requires first { 0x79 ≤ op }
-    requires last { op ≤ 0x7B }
-    ensures { result ≡ counts w64 (op - 0x79) a }
-{
-    match op {
-        0x79 => u64::from(a.leading_zeros()),
-        0x7A => u64::from(a.trailing_zeros()),
-        _ => u64::from(a.count_ones()),
+    match operator {
+        Division::DivS => div_s(a, b),
+        Division::DivU => div_u(a, b),
+        Division::RemS => rem_s(a, b),
+        Division::RemU => rem_u(a, b),
     }
 }

@@ -2,8 +2,7 @@
 ghost use Rattle.std.specs.Prelude.{◌≡◌, ◌+◌, ◌*◌, ◌≤◌, ◌<◌, IfOk, length, nat_le, min, replicate, take, drop, if◌then◌else◌, ◌-◌, ◌^◌, slice_set, Ok};
 ghost use Rattle.std.specs.Option.{option_map_or, ForSome};
 ghost use Rattle.std.specs.Int.{w8, w16, w32, w64};
-ghost use Rattle.wasm_num.specs.Mem.{Mem, size, grown, grow_answer, put, read, written, IsAccess, IsLoad, load, IsStore, stored, store_width, has, can_copy, copied, filled, IsDone, IsWhole};
-ghost use Rattle.wasm_num.specs.declared.value.Value.TheVariants.{I32, I64};
+ghost use Rattle.wasm_num.specs.Mem.{Mem, size, grown, grow_answer, put, read, written, IsAccess, load, IsStore, stored, store_width, has, can_copy, copied, filled, IsDone, IsWhole};
 
 use crate::bytes::{get8, get16, get32, get64, set8, set16, set32, set64};
 use crate::trap::Trap;
@@ -12,6 +11,7 @@ use crate::{int32, int64};
 use sim_base::OutOfMemory;
 use std::alloc::Global;
 use std::marker::Model;
+use wasm_code::{LoadOp, StoreOp};
 
 /// How many bytes a page has.
 pub const PAGE: usize = 65_536;
@@ -214,77 +214,43 @@ impl Memory {
         Ok(())
     }
 
-    /// A load by its opcode at an address and an offset. Trap: 2 MemoryBounds.
-    pub fn load(&self, op: u8, addr: u32, offset: u32) -> Result<Value, Trap>
-        requires { IsLoad op }
+    /// A load at an address and an offset. Trap: 2 MemoryBounds.
+    pub fn load(&self, op: LoadOp, addr: u32, offset: u32) -> Result<Value, Trap>
         ensures { result ≡ load op self.now (addr + offset) }
     {
         let at = effective(addr, offset);
         match op {
-            0x28 => Ok(Value::I32(self.read32(at)?)),
-            0x29 => Ok(Value::I64(self.read64(at)?)),
-            0x2C => Ok(Value::I32(int32::extend8_s(self.read8(at)?))),
-            0x2D => Ok(Value::I32(u32::from(self.read8(at)?))),
-            0x2E => Ok(Value::I32(int32::extend16_s(self.read16(at)?))),
-            0x2F => Ok(Value::I32(u32::from(self.read16(at)?))),
-            _ => self.load64(op, at),
+            LoadOp::I32Load => Ok(Value::I32(self.read32(at)?)),
+            LoadOp::I64Load => Ok(Value::I64(self.read64(at)?)),
+            LoadOp::I32Load8S => Ok(Value::I32(int32::extend8_s(self.read8(at)?))),
+            LoadOp::I32Load8U => Ok(Value::I32(u32::from(self.read8(at)?))),
+            LoadOp::I32Load16S => Ok(Value::I32(int32::extend16_s(self.read16(at)?))),
+            LoadOp::I32Load16U => Ok(Value::I32(u32::from(self.read16(at)?))),
+            LoadOp::I64Load8S => Ok(Value::I64(int64::extend8_s(self.read8(at)?))),
+            LoadOp::I64Load8U => Ok(Value::I64(u64::from(self.read8(at)?))),
+            LoadOp::I64Load16S => Ok(Value::I64(int64::extend16_s(self.read16(at)?))),
+            LoadOp::I64Load16U => Ok(Value::I64(u64::from(self.read16(at)?))),
+            LoadOp::I64Load32S => Ok(Value::I64(int64::extend32_s(self.read32(at)?))),
+            LoadOp::I64Load32U => Ok(Value::I64(u64::from(self.read32(at)?))),
         }
     }
 
-    fn load64(&self, op: u8, at: u64) -> Result<Value, Trap>
-        requires first { 0x30 ≤ op }
-        requires last { op ≤ 0x35 }
-        requires address { at < 2 ^ 33 }
-        ensures { result ≡ load op self.now at }
-    {
-        match op {
-            0x30 => Ok(Value::I64(int64::extend8_s(self.read8(at)?))),
-            0x31 => Ok(Value::I64(u64::from(self.read8(at)?))),
-            0x32 => Ok(Value::I64(int64::extend16_s(self.read16(at)?))),
-            0x33 => Ok(Value::I64(u64::from(self.read16(at)?))),
-            0x34 => Ok(Value::I64(int64::extend32_s(self.read32(at)?))),
-            _ => Ok(Value::I64(u64::from(self.read32(at)?))),
-        }
-    }
-
-    /// A store by its opcode at an address and an offset. Trap: 2 MemoryBounds, which leaves all as it is.
-    pub fn store(&mut self, op: u8, addr: u32, offset: u32, v: Value) -> Result<(), Trap>
+    /// A store at an address and an offset. Trap: 2 MemoryBounds, which leaves all as it is.
+    pub fn store(&mut self, op: StoreOp, addr: u32, offset: u32, v: Value) -> Result<(), Trap>
         requires { IsStore op v }
         ensures trap { IsAccess result (store_width op) self.old (addr + offset) }
         ensures after { self.new ≡ stored op self.old (addr + offset) v }
     {
         let at = effective(addr, offset);
-        match v {
-            Value::I32(n) => self.store32(op, at, n),
-            Value::I64(n) => self.store64(op, at, n),
+        match (op, v) {
+            (StoreOp::I32Store, Value::I32(n)) => self.write32(at, n),
+            (StoreOp::I32Store8, Value::I32(n)) => self.write8(at, (n % 0x100) as u8),
+            (StoreOp::I32Store16, Value::I32(n)) => self.write16(at, (n % 0x1_0000) as u16),
+            (StoreOp::I64Store, Value::I64(n)) => self.write64(at, n),
+            (StoreOp::I64Store8, Value::I64(n)) => self.write8(at, (n % 0x100) as u8),
+            (StoreOp::I64Store16, Value::I64(n)) => self.write16(at, (n % 0x1_0000) as u16),
+            (StoreOp::I64Store32, Value::I64(n)) => self.write32(at, (n % 0x1_0000_0000) as u32),
             _ => unreachable!(),
-        }
-    }
-
-    fn store32(&mut self, op: u8, at: u64, n: u32) -> Result<(), Trap>
-        requires code { IsStore op (I32 n) }
-        requires address { at < 2 ^ 33 }
-        ensures trap { IsAccess result (store_width op) self.old at }
-        ensures after { self.new ≡ stored op self.old at (I32 n) }
-    {
-        match op {
-            0x36 => self.write32(at, n),
-            0x3A => self.write8(at, (n % 0x100) as u8),
-            _ => self.write16(at, (n % 0x1_0000) as u16),
-        }
-    }
-
-    fn store64(&mut self, op: u8, at: u64, n: u64) -> Result<(), Trap>
-        requires code { IsStore op (I64 n) }
-        requires address { at < 2 ^ 33 }
-        ensures trap { IsAccess result (store_width op) self.old at }
-        ensures after { self.new ≡ stored op self.old at (I64 n) }
-    {
-        match op {
-            0x37 => self.write64(at, n),
-            0x3C => self.write8(at, (n % 0x100) as u8),
-            0x3D => self.write16(at, (n % 0x1_0000) as u16),
-            _ => self.write32(at, (n % 0x1_0000_0000) as u32),
         }
     }
 

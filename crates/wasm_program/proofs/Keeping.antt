@@ -10,6 +10,7 @@ use Rattle.wasm_num.specs.Numeric.{binary}
 use Rattle.wasm_code.specs.declared.types.FuncType.{FuncType}
 use Rattle.wasm_code.specs.declared.instr.Instr.{Instr}
 use Rattle.wasm_code.specs.declared.instr.Instr.TheVariants as instrs
+use Rattle.wasm_code.specs.declared.operators.StoreOp.{StoreOp}
 use Rattle.wasm_code.specs.Code.{Block, Loop, If, Code, Done, Then, In, Both}
 use Rattle.wasm_eval.specs.Eval.{Program, Func, func_types, same_signature, State, Outcome, Falls, Branches, Returns, Traps, Stuck, End, Gives, Fails, Wrong, Answer, Next, Calls, unit_of, settled, pushed, branch_if, branch_table, ended, called, of_type, through, call_indirect, memory_copy, memory_fill, taking, is_float, does, block_exit, loop_exit, chosen, eval, arity, body_exit, answered, made, of_index, call}
 
@@ -139,7 +140,7 @@ module _ {S X : Type 0} (kept : S → X) (x : X) where
     indirect_keeps (Some t) (F64 n ∷ vs) s go h k = tt
     indirect_keeps (Some t) (I32 i ∷ vs) s go h k = through_keeps t (slice_get p.table i) vs s go h k
 
-    put_keeps : (b : Bool) (op at : ℕ) (v : Value) (vs : List Value) (s : State S) (go : Next S) → kept s.host ≡ x → KeepsNext go → Keeps (if b then go vs (record s { memory = stored op s.memory at v }) else Traps traps.MemoryBounds s)
+    put_keeps : (b : Bool) (op : StoreOp) (at : ℕ) (v : Value) (vs : List Value) (s : State S) (go : Next S) → kept s.host ≡ x → KeepsNext go → Keeps (if b then go vs (record s { memory = stored op s.memory at v }) else Traps traps.MemoryBounds s)
     put_keeps true op at v vs s go h k = k vs _ h
     put_keeps false op at v vs s go h k = h
 

@@ -1,4 +1,3 @@
-pub mod Operators
 pub mod Machine
 pub mod Turns
 pub mod Gives

@@ -14,7 +14,7 @@ pub record Took (old new : Reader) (text : List ℕ) : Type 0 where
 abbrev pub Reads : {X : Type 0} → Form X → Reader → Reader → X → Type 0
 Reads form old new x = (text : List ℕ) × form.text text x × Took old new text
 
--- it stopped where the bytes break; want of memory alone is free
+-- it stopped where the bytes break; out of memory alone is free
 abbrev pub Fails : {X : Type 0} → Form X → Reader → Fault → Type 0
 Fails form old faults.OutOfMemory = Unit {0}
 Fails form old (faults.Refused r) = (i : ℕ) × (r.place ≡ places.Byte (old.at + i)) × form.breaks old.rest.now i r.number

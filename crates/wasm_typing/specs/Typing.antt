@@ -7,9 +7,10 @@ use Rattle.wasm_code.specs.declared.types.FuncType.{FuncType}
 use Rattle.wasm_code.specs.declared.types.GlobalType.{GlobalType}
 use Rattle.wasm_code.specs.declared.instr.Instr.{Instr}
 use Rattle.wasm_code.specs.declared.instr.Instr.TheVariants as instrs
+use Rattle.wasm_code.specs.declared.instr.MemArg.{MemArg}
 use Rattle.wasm_code.specs.declared.instr.FloatInstr.{FloatInstr}
 use Rattle.wasm_code.specs.declared.instr.FloatInstr.TheVariants as floats
-use Rattle.wasm_code.specs.Opcodes.{unary, binary, load, store, float_load, float_store, float_unary, float_binary, truncate}
+use Rattle.wasm_code.specs.Opcodes.{unary_row, binary_row, load_row, store_row, float_load, float_store, float_unary, float_binary, truncate}
 use Rattle.wasm_code.specs.Code.{Kind, Block, Loop, If, Code, Done, Then, In, Both, flat, Beginning, Here, Inside, InsideElse, flat_beginning}
 
 -- What the module gives to a body ("Contexts"); functions and globals begin with the imported ones.
@@ -30,6 +31,13 @@ Signature = List ValType × List ValType
 abbrev pub gives : ValType → Signature
 gives t = ([], t ∷ [])
 
+-- one operand of a type to a result of another, and two operands of a type
+abbrev pub one_to : ValType × ValType → Signature
+one_to row = (row.0 ∷ [], row.1 ∷ [])
+
+abbrev pub two_to : ValType × ValType → Signature
+two_to row = (row.0 ∷ row.0 ∷ [], row.1 ∷ [])
+
 abbrev pub of_type : FuncType → Signature
 of_type t = (reverse t.params, reverse t.results)
 
@@ -40,6 +48,13 @@ through_table t = (I32 ∷ reverse t.params, reverse t.results)
 -- an access to memory whose alignment is not above its width
 abbrev pub access : ℕ → ℕ → Signature → Option Signature
 access align width s = if nat_le (2 ^ align) width then Some s else None
+
+-- a load and a store of a value's type and so many bytes
+abbrev pub loads : MemArg → ValType × ℕ → Option Signature
+loads at row = access at.align row.1 (I32 ∷ [], row.0 ∷ [])
+
+abbrev pub stores : MemArg → ValType × ℕ → Option Signature
+stores at row = access at.align row.1 (row.0 ∷ I32 ∷ [], [])
 
 -- where there is such a thing
 abbrev pub given : ℕ → Option Signature → Option Signature
@@ -82,13 +97,13 @@ all_below n (x ∷ xs) = nat_lt x n && all_below n xs
 module _ (c : Context) where
   -- those of the table of float types
   abbrev pub float_signature : FloatInstr → Option Signature
-  float_signature (floats.Load op at) = given c.memories (option_and_then (λ row. access at.align row.1 (I32 ∷ [], row.0 ∷ [])) (float_load op))
-  float_signature (floats.Store op at) = given c.memories (option_and_then (λ row. access at.align row.1 (row.0 ∷ I32 ∷ [], [])) (float_store op))
+  float_signature (floats.Load op at) = given c.memories (option_and_then (loads at) (float_load op))
+  float_signature (floats.Store op at) = given c.memories (option_and_then (stores at) (float_store op))
   float_signature (floats.F32Const n) = Some (gives F32)
   float_signature (floats.F64Const n) = Some (gives F64)
-  float_signature (floats.Unary op) = option_map (λ row. (row.0 ∷ [], row.1 ∷ [])) (float_unary op)
-  float_signature (floats.Binary op) = option_map (λ row. (row.0 ∷ row.0 ∷ [], row.1 ∷ [])) (float_binary op)
-  float_signature (floats.Truncate n) = option_map (λ row. (row.0 ∷ [], row.1 ∷ [])) (truncate n)
+  float_signature (floats.Unary op) = option_map one_to (float_unary op)
+  float_signature (floats.Binary op) = option_map two_to (float_binary op)
+  float_signature (floats.Truncate n) = option_map one_to (truncate n)
 
   -- the operands and results of an instruction that has the same ones under all labels; none where it has no type here
   abbrev pub signature : Instr → Option Signature
@@ -100,16 +115,16 @@ module _ (c : Context) where
   signature (instrs.LocalTee x) = option_map (λ t. (t ∷ [], t ∷ [])) (slice_get c.locals x)
   signature (instrs.GlobalGet x) = option_map (λ g. gives g.value) (slice_get c.globals x)
   signature (instrs.GlobalSet x) = option_and_then (λ g. if g.changeable then Some (g.value ∷ [], []) else None) (slice_get c.globals x)
-  signature (instrs.Load op at) = given c.memories (option_and_then (λ row. access at.align row.1 (I32 ∷ [], row.0 ∷ [])) (load op))
-  signature (instrs.Store op at) = given c.memories (option_and_then (λ row. access at.align row.1 (row.0 ∷ I32 ∷ [], [])) (store op))
+  signature (instrs.Load op at) = given c.memories (loads at (load_row op))
+  signature (instrs.Store op at) = given c.memories (stores at (store_row op))
   signature instrs.MemorySize = given c.memories (Some (gives I32))
   signature instrs.MemoryGrow = given c.memories (Some (I32 ∷ [], I32 ∷ []))
   signature instrs.MemoryCopy = given c.memories (Some (I32 ∷ I32 ∷ I32 ∷ [], []))
   signature instrs.MemoryFill = given c.memories (Some (I32 ∷ I32 ∷ I32 ∷ [], []))
   signature (instrs.I32Const n) = Some (gives I32)
   signature (instrs.I64Const n) = Some (gives I64)
-  signature (instrs.Unary op) = option_map (λ row. (row.0 ∷ [], row.1 ∷ [])) (unary op)
-  signature (instrs.Binary op) = option_map (λ row. (row.0 ∷ row.0 ∷ [], row.1 ∷ [])) (binary op)
+  signature (instrs.Unary op) = Some (one_to (unary_row op))
+  signature (instrs.Binary op) = Some (two_to (binary_row op))
   signature (instrs.Float f) = float_signature f
   signature _ = None
 

@@ -10,7 +10,9 @@ use crate::floats::float_step;
 use crate::open::Frame;
 use sim_base::OutOfMemory;
 use std::alloc::Global;
-use wasm_code::{Instr, MemArg, ValType, binary_row, load_row, store_row, unary_row};
+use wasm_code::{
+    Instr, LoadOp, MemArg, StoreOp, ValType, binary_row, load_row, store_row, unary_row,
+};
 
 /// Goes over an instruction, or answers false where its operands do not fit.
 pub fn step(
@@ -64,8 +66,14 @@ pub fn step(
             checker.give(ValType::I64)?;
             Ok(true)
         }
-        Instr::Unary(op) => unary(checker, context, *op),
-        Instr::Binary(op) => binary(checker, context, *op),
+        Instr::Unary(op) => {
+            let (one, gives) = unary_row(*op);
+            checker.one_to(one, gives)
+        }
+        Instr::Binary(op) => {
+            let (one, gives) = binary_row(*op);
+            checker.two_to(one, gives)
+        }
         Instr::Float(float) => float_step(checker, context, *float),
     }
 }
@@ -167,7 +175,7 @@ pub fn is_aligned(align: u32, width: u32) -> bool
 fn load(
     checker: &mut Checker,
     context: &BodyContext,
-    op: u8,
+    op: LoadOp,
     at: MemArg,
 ) -> Result<bool, OutOfMemory>
     ensures { IfOk result (λ yes. Follows yes (step_form (context_of context.now) (Instr.Load op at) (state_of checker.old)) (state_of checker.new)) }
@@ -175,32 +183,24 @@ fn load(
     if context.memories == 0 {
         return Ok(false);
     }
-    match load_row(op) {
-        Some((value, width)) => {
-            if !is_aligned(at.align, width) {
-                return Ok(false);
-            }
-            checker.one_to(ValType::I32, value)
-        }
-        None => Ok(false),
+    let (value, width) = load_row(op);
+    if !is_aligned(at.align, width) {
+        return Ok(false);
     }
+    checker.one_to(ValType::I32, value)
 }
 
-fn store(checker: &mut Checker, context: &BodyContext, op: u8, at: MemArg) -> bool
+fn store(checker: &mut Checker, context: &BodyContext, op: StoreOp, at: MemArg) -> bool
     ensures { Follows result (step_form (context_of context.now) (Instr.Store op at) (state_of checker.old)) (state_of checker.new) }
 {
     if context.memories == 0 {
         return false;
     }
-    match store_row(op) {
-        Some((value, width)) => {
-            if !is_aligned(at.align, width) {
-                return false;
-            }
-            checker.store(value)
-        }
-        None => false,
+    let (value, width) = store_row(op);
+    if !is_aligned(at.align, width) {
+        return false;
     }
+    checker.store(value)
 }
 
 fn memory_size(checker: &mut Checker, context: &BodyContext) -> Result<bool, OutOfMemory>
@@ -230,22 +230,4 @@ fn memory_bulk(checker: &mut Checker, context: &BodyContext) -> bool
         return false;
     }
     checker.take_three()
-}
-
-fn unary(checker: &mut Checker, context: &BodyContext, op: u8) -> Result<bool, OutOfMemory>
-    ensures { IfOk result (λ yes. Follows yes (step_form (context_of context.now) (Instr.Unary op) (state_of checker.old)) (state_of checker.new)) }
-{
-    match unary_row(op) {
-        Some((one, gives)) => checker.one_to(one, gives),
-        None => Ok(false),
-    }
-}
-
-fn binary(checker: &mut Checker, context: &BodyContext, op: u8) -> Result<bool, OutOfMemory>
-    ensures { IfOk result (λ yes. Follows yes (step_form (context_of context.now) (Instr.Binary op) (state_of checker.old)) (state_of checker.new)) }
-{
-    match binary_row(op) {
-        Some((one, gives)) => checker.two_to(one, gives),
-        None => Ok(false),
-    }
 }

@@ -98,7 +98,7 @@ pub record Chip : Type 0 where
   pub wasm : Module
   pub init : ℕ
 
--- Refused: the one rule that the module breaks first; it is not valid. Want of memory alone is free.
+-- Refused: the one rule that the module breaks first; it is not valid. Out of memory alone is free.
 abbrev pub IsRefused : Module → Fault → Type 0
 IsRefused m faults.OutOfMemory = Unit {0}
 IsRefused m (faults.Refused r) = Breaks m r × ((q : Refusal) → Breaks m q → q ≡ r) × ((init : ℕ) → IsValid m init → ⊥)

@@ -1,7 +1,7 @@
 //! Modules validated (WebAssembly core specification, "Validation"), with the limits of the profile.
 //! `validate` answers Ok exactly for a module that keeps all rules; it refuses others with the first rule
 //! that fails, 70 ValidIndex to 74 ValidForm and 77 ChipInit to 79 ValidLimit, at its place.
-//! It may answer want of memory.
+//! It may answer out of memory.
 #![tactic(auto)]
 
 mod bodies;

@@ -1,4 +1,5 @@
-//! Operators on integers and accesses to memory, by their names in the table of opcodes.
+//! Operators on integers and accesses to memory, by their names ("Numeric Instructions" and "Memory Instructions" of the
+//! core specification).
 
 /// An operator on two integers of one width that never traps.
 #[derive(Clone, Copy, Debug, PartialEq, Eq)]
@@ -26,7 +27,7 @@ pub enum Plain {
     Rotr,
 }
 
-/// An operator on two integers of one width that traps for some. Traps: 3 DivideByZero, 4 Overflow.
+/// An operator on two integers of one width that traps for some of them.
 #[derive(Clone, Copy, Debug, PartialEq, Eq)]
 pub enum Division {
     DivS,
@@ -68,6 +69,20 @@ pub enum Unary64 {
     Extend8S,
     Extend16S,
     Extend32S,
+}
+
+/// An operator on one integer, by the type of its operand.
+#[derive(Clone, Copy, Debug, PartialEq, Eq)]
+pub enum UnaryOp {
+    I32(Unary32),
+    I64(Unary64),
+}
+
+/// An operator on two integers, by the type of its operands.
+#[derive(Clone, Copy, Debug, PartialEq, Eq)]
+pub enum BinaryOp {
+    I32(Binary),
+    I64(Binary),
 }
 
 /// A load from memory.
