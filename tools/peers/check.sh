@@ -2,7 +2,8 @@
 # What other programs make of the same inputs: simavr moves the same pins of the examples in the same cycles, uno.c, a
 # second reading of the data sheet, those of sketches with timers, interrupts, ADC, Serial, SPI and Wire, board.c, a second
 # reading of parts and nets, has the same waves of boards, chips.c, a second reading of docs/CHIPS.md, those of boards with chips,
-# and wabt answers the same to the modules of the gate. What cannot be asked is skipped, and said on standard error.
+# make.c, one of the generated project, counts the same, as does `run` on that project's files, and wabt answers the same to the
+# modules of the gate. What cannot be asked is skipped, and said on standard error.
 # Debian's packages: gcc, simavr, libsimavr-dev, gcc-avr; wabt, clang, lld. `--install` installs them first, which wants root.
 # PROGRAM is the program to try, ./mudflatjar if it is not set. Ends with 1 where one answers otherwise.
 here=$(cd "$(dirname "$0")" && pwd)
@@ -105,6 +106,27 @@ if have cc && cc -O2 -o "$folder/uno" "$here/uno.c"; then
     with_uno pot-serial 290000 14~300 @1440000 14~700 @3040000 14~1023
 else
     echo "uno.c: skipped, no compiler for C" >&2
+fi
+
+# the generated project as files: `make` counts what `run` writes of them
+for words in "0 10" "7 100"; do
+    set -- $words
+    "$here/made.sh" "$1" "$folder/made" &&
+        sent=$("$program" run "$folder/made" --us "$2" --vcd "$folder/made.vcd" | wc -c) &&
+        changes=$(awk '/^#/ { time = substr($0, 2) } /^[01xz]/ && time > 0 { n++ } END { print n + 0 }' "$folder/made.vcd") &&
+        [ "$("$program" make "$1" --us "$2")" = "make $1 cycles $((16 * $2)) changes $changes serial $((sent))" ]
+    says $? "make $1 for $2 microseconds on the run of its project"
+done
+
+# make.c, a second reading of the generated project: the line of `make`
+if have cc && cc -O2 -o "$folder/make" "$here/make.c"; then
+    for words in "0 1" "7 100" "7 10000" "2026 1000" "4294967295 10"; do
+        set -- $words
+        [ "$("$program" make "$1" --us "$2")" = "$("$folder/make" "$1" "$2")" ]
+        says $? "make $1 for $2 microseconds on make.c"
+    done
+else
+    echo "make.c: skipped, no compiler for C" >&2
 fi
 
 # board.c, a second reading of nets, gates, the 74HC595 and displays: whole waves of the gate's rows and of examples, and what the report

@@ -1,3 +1,4 @@
+mod CountLemmas
 mod PlayLemmas
 pub mod RanLemmas
 mod StageLemmas

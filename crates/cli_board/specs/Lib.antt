@@ -1,3 +1,4 @@
+pub mod Counted
 pub mod Outputs
 pub mod Ran
 pub mod Run

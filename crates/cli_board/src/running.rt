@@ -24,7 +24,11 @@ use std::sync::ledger::Ledger;
 use vcd_text::WaveHead;
 
 /// The head of the wave, with the room for its text.
-fn make_head(alloc: Global, plan: &Plan, chips: &[ChipSource]) -> Result<WaveHead, OutOfMemory>
+pub(crate) fn make_head(
+    alloc: Global,
+    plan: &Plan,
+    chips: &[ChipSource],
+) -> Result<WaveHead, OutOfMemory>
     requires plan { IsPlan (pins_of chips.now) plan.now }
     requires few_pins { All HasFewPins chips.now }
     ensures { IfOk result (λ h. h.variables ≡ board_variables (pins_of chips.now) plan.now) }

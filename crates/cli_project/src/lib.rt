@@ -8,4 +8,4 @@ mod documents;
 mod project;
 
 pub use checking::check;
-pub use project::{Work, read_work};
+pub use project::{Work, plan_board, read_work};

@@ -48,8 +48,9 @@ fn refused_by_rule(alloc: Global, folder: &str, script: Option<&str>, refusal: R
     }
 }
 
-/// The plan of a project, its diagram, its chips and its script.
-fn plan_board(
+/// The plan of a project, its diagram, its chips and its script, or the end of the work by a rule of the board, which names
+/// the script, if it is named, or the folder's diagram.
+pub fn plan_board(
     alloc: Global,
     folder: &str,
     script: Option<&str>,

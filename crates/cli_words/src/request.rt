@@ -2,7 +2,7 @@
 ghost use Rattle.std.specs.Prelude.{◌≡◌, ◌≤◌, ◌<◌, map, string_bytes, IfOk, IfSome};
 ghost use Rattle.std.specs.Option.{option_map, option_and_then};
 ghost use Rattle.words_model.specs.Words.{Given, texts_of};
-ghost use Rattle.words_model.specs.Request.{request_of, asked_by, bare_syntax, bare_of, check_syntax, check_of, module_syntax, module_of, run_syntax, run_of, path_of, file_of, named_of, micros_of, budget_of};
+ghost use Rattle.words_model.specs.Request.{request_of, asked_by, bare_syntax, bare_of, check_syntax, check_of, module_syntax, module_of, run_syntax, run_of, path_of, file_of, named_of, micros_of, budget_of, seed_of, make_syntax, make_of};
 ghost use Rattle.cli_words.specs.Commands.{AreOf};
 ghost use Rattle.cli_words.specs.Asked.{asked_of, named_by, IsRunTime};
 
@@ -31,6 +31,8 @@ pub enum Request<'a> {
     /// A run of the project of a folder for so many microseconds, in which each call of a chip may
     /// spend so many units of fuel, with the files that are named.
     Run(&'a str, u32, u32, NamedFiles<'a>),
+    /// A run of the board that is generated from a seed, for so many microseconds.
+    Make(u32, u32),
 }
 
 /// A file or a folder, whose name is not empty.
@@ -187,6 +189,37 @@ fn read_run(alloc: Global, given: &[String]) -> Result<Option<Request<'_>>, Allo
     }
 }
 
+/// The seed of a generated board.
+fn seed(matches: &ArgMatches) -> Option<u32>
+    ensures { (given : Given) → AreOf given matches.now → result ≡ seed_of given }
+{
+    match text(matches, "seed") {
+        Some(word) => read_number(0, 4_294_967_295, word),
+        None => None,
+    }
+}
+
+fn make<'a>(matches: &ArgMatches<'a>) -> Option<Request<'a>>
+    ensures asked { (given : Given) → AreOf given matches.now → option_map asked_of result ≡ make_of given }
+    ensures run_time { IfSome result IsRunTime }
+{
+    match (seed(matches), micros(matches)) {
+        (Some(seed), Some(micros)) => Some(Request::Make(seed, micros)),
+        _ => None,
+    }
+}
+
+/// `make SEED --us N`
+fn read_make(alloc: Global, given: &[String]) -> Result<Option<Request<'_>>, AllocError>
+    ensures request { IfOk result (λ o. option_map asked_of o ≡ option_and_then make_of (texts_of make_syntax (map string_bytes given.entry.now))) }
+    ensures run_time { IfOk result (λ o. IfSome o IsRunTime) }
+{
+    match read_texts(alloc, &["seed"], &["us"], given)? {
+        Some(matches) => Ok(make(&matches)),
+        None => Ok(None),
+    }
+}
+
 /// The request of a command with these words after it.
 fn read_command<'a>(
     alloc: Global,
@@ -201,6 +234,7 @@ fn read_command<'a>(
         "check" => read_check(alloc, given),
         "module" => read_module(alloc, given),
         "run" => read_run(alloc, given),
+        "make" => read_make(alloc, given),
         _ => Ok(None),
     }
 }

@@ -9,7 +9,7 @@ use Rattle.cli_project.specs.Answer.{CheckAnswer}
 use Rattle.cli_project.proofs.ProjectLemmas.{one_check, check_only}
 use Rattle.outcome_model.specs.Stop.{Missing, Refused, Texts}
 use Rattle.cli_module.specs.Answer.{ModuleAnswer}
-use Rattle.words_model.specs.Request.{Request, Bare, Check, Module, Run}
+use Rattle.words_model.specs.Request.{Request, Bare, Check, Module, Run, Make}
 use Rattle.outcome_model.specs.Promises.{HoldsAnswer, IsOne}
 use Rattle.outcome_model.proofs.PromiseLemmas.{holds_answer}
 use Rattle.isolation.specs.ChipRun.{AreAlone}
@@ -18,6 +18,7 @@ use Rattle.isolation.specs.Isolated.{Fact, Follows, Isolated}
 use Rattle.cli_bare.proofs.AnswerLemmas.{one_bare}
 use Rattle.cli_module.proofs.AnswerLemmas.{one_module, module_only}
 use Rattle.cli_run.proofs.RunLemmas.{one_run, played_answer, such_answer}
+use Rattle.cli_make.proofs.MakeLemmas.{one_make}
 use Rattle.cli_board.specs.Run.{Outputs}
 use Rattle.cli_run.specs.Answer.{PlayAnswer, AnswerSuch}
 use Rattle.sim_cli.specs.Answers.{Answers, AnswersWith, AnswersSuch, RunBy, outputs_to}
@@ -28,6 +29,7 @@ one (Bare hex us) = one_bare hex us
 one (Check folder) = one_check folder
 one (Module name) = one_module name
 one (Run folder us budget named) = one_run folder us named.script budget (outputs_to named)
+one (Make seed us) = one_make seed us
 
 -- what answers are, the ports hold
 held_so : {R : Type 0} (one other : R → Answer) → ((r : R) (files : Files) (t : Texts) → one r files (Ok t) → other r files (Ok t)) →
@@ -43,6 +45,7 @@ with_run one other is (Bare hex us) files t e = e
 with_run one other is (Check folder) files t e = e
 with_run one other is (Module name) files t e = e
 with_run one other is (Run folder us budget named) files t e = is folder us named.script budget (outputs_to named) files t e
+with_run one other is (Make seed us) files t e = e
 
 -- what the ports hold after a run whose chips are isolated
 module _ (a b : Outside) (o : Outcome) (asked : Option Request) (happens : HappensIsolated o asked a b) where

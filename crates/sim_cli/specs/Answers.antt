@@ -1,7 +1,7 @@
 -- What each request is answered with: a line for each command.
 use Rattle.std.specs.Prelude.{ℕ, List, Option, true, Result}
 use Rattle.sim_base.specs.Outside.{Files}
-use Rattle.words_model.specs.Request.{NamedFiles, Request, Bare, Check, Module, Run}
+use Rattle.words_model.specs.Request.{NamedFiles, Request, Bare, Check, Module, Run, Make}
 use Rattle.outcome_model.specs.Stop.{Stop, Texts}
 use Rattle.outcome_model.specs.Happens.{Answer}
 use Rattle.cli_bare.specs.Answer.{BareAnswer}
@@ -10,6 +10,7 @@ use Rattle.cli_module.specs.Answer.{ModuleAnswer}
 use Rattle.cli_board.specs.Run.{Outputs}
 use Rattle.isolation.specs.Isolated.{Fact}
 use Rattle.cli_run.specs.Answer.{RunAnswer, PlayAnswer, AnswerSuch}
+use Rattle.cli_make.specs.Answer.{MakeAnswer}
 
 -- the bytes of a run go to Serial, its wave and its report to the files that are named
 abbrev pub outputs_to : NamedFiles → Outputs
@@ -25,6 +26,7 @@ AnswersWith run (Bare hex us) = BareAnswer hex us
 AnswersWith run (Check folder) = CheckAnswer folder
 AnswersWith run (Module name) = ModuleAnswer name
 AnswersWith run (Run folder us budget named) = run folder us named.script budget (outputs_to named)
+AnswersWith run (Make seed us) = MakeAnswer seed us
 
 abbrev pub Answers : Request → Files → Result Texts Stop → Type 0
 Answers = AnswersWith RunAnswer

@@ -10,6 +10,7 @@ ghost use Rattle.cli_work.specs.Outcomes.{outcome_of};
 
 use cli_bare::bare;
 use cli_board::Outputs;
+use cli_make::make;
 use cli_module::check_module;
 use cli_project::check;
 use cli_run::run;
@@ -53,6 +54,7 @@ fn work<B: Bench, L: Ledger>(
                 steps,
             )
         }
+        Ok(Some(Request::Make(seed, micros))) => make(alloc, seed, micros, bench, steps),
         Ok(None) => WorkEnd::NoRequest,
         Err(_) => WorkEnd::OutOfMemory,
     }

@@ -1,0 +1,14 @@
+-- What is counted of the wave of a run (profile).
+use Rattle.std.specs.Prelude.{ℕ, None}
+use Rattle.text_model.specs.Wave.{wave_count}
+use Rattle.board_model.specs.Rows.{rows}
+use Rattle.any_part.specs.AnyPart.{any}
+use Rattle.any_part.specs.Start.{Contents, starts}
+use Rattle.board_build.specs.declared.plan.Plan.{Plan}
+use Rattle.chip_module.specs.Sources.{pins_of}
+use Rattle.project_model.specs.Variables.{board_variables}
+
+-- how many value changes the wave of the first n cycles has after the initial values, where the board of a plan has these
+-- chips and this flash
+abbrev pub run_changes : Contents → Plan → ℕ → ℕ
+run_changes has plan n = wave_count (board_variables (pins_of has.chips) plan) (rows any plan.wiring plan.inputs None (starts has plan.parts) 0 n)

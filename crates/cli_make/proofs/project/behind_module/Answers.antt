@@ -1,0 +1,30 @@
+use Rattle.std.proofs.Common.{List, [], ◌∷◌, None, Ok, refl, ap, sym}
+use Rattle.outcome_model.specs.Work.{Reading}
+use Rattle.outcome_model.proofs.ReadLemmas.{if_always, first_stops, got_both, steady_rule}
+use Rattle.board_build.specs.declared.plan.Plan.{Plan}
+use Rattle.chip_module.specs.declared.source.ChipSource.{ChipSource}
+use Rattle.project_model.specs.Work.{PlanIn}
+use Rattle.cli_work.specs.Outcomes.{outcome_of}
+use Rattle.cli_project.specs.declared.project.Work.{Work}
+use Rattle.cli_project.specs.Works.{work_of}
+use Rattle.cli_project.proofs.ProjectLemmas.{same_here}
+use Rattle.cli_make.specs.Answer.{folder}
+use Rattle.cli_make.proofs.MakeLemmas.{with_plan}
+use Rattle.cli_make.proofs.project.behind_module.Goals as goal
+
+pub returns-in-Ok-plan_board-clause-got : goal.returns-in-Ok-plan_board-clause-got
+returns-in-Ok-plan_board-clause-got c = λ a.
+    let chip : ChipSource = c.args.chip in
+    let plan : Plan = c.in-Ok-plan_board.plan in
+    let planned : Reading Plan = PlanIn folder None c.args.project.now c.args.diagram.now (chip ∷ []) [] in
+    let work : Work = record { flash = c.args.flash; chips = c.in-Ok.chips; plan = plan } in
+    got_both planned (with_plan c.args.flash chip) (steady_rule _) plan work_of outcome_of (Ok work) a a a (same_here a)
+    (rw (c.as_slice.ensures, c.in-Ok.ensures, c.new-rows.ensures) at (c.in-Ok-plan_board.ensures.got a))
+    (if_always a.files _ (λ files. ap (λ (cs : List ChipSource). Ok (record { flash = c.args.flash; chips = cs; plan = plan })) (sym c.in-Ok.ensures)), refl)
+
+pub returns-in-Err-clause-got : goal.returns-in-Err-clause-got
+returns-in-Err-clause-got c = λ a.
+    let chip : ChipSource = c.args.chip in
+    let planned : Reading Plan = PlanIn folder None c.args.project.now c.args.diagram.now (chip ∷ []) [] in
+    first_stops planned (with_plan c.args.flash chip) (outcome_of c.in-Err.end) a a
+    (rw (c.as_slice.ensures, c.in-Ok.ensures, c.new-rows.ensures) at (c.in-Err.ensures.got a))
