@@ -1,0 +1,25 @@
+-- An Uno alone on its board.
+use Rattle.std.proofs.Common.{◌≡◌, ◌∙◌, ◌<◌, ℕ, List, [], ◌∷◌, false, length, map, ap, sym, subst, arith}
+use Rattle.std.specs.Prelude.{take, slice_index}
+use Rattle.std.proofs.lemmas.List.{append-nil}
+use Rattle.sim_base.specs.declared.wiring.Wiring.{Wiring}
+use Rattle.board_model.specs.Board.{drives_of}
+use Rattle.board_model.specs.Fits.{Fits}
+use Rattle.avr_mcu.specs.Devices.{Devices, devices}
+use Rattle.avr_mcu.specs.McuOf.{McuAt, mcu, uno_drives}
+use Rattle.avr_mcu.specs.McuLawsOf.{length-uno_drives}
+
+module _ (w : Wiring) (p : McuAt Devices) (pins : length w.net_of ≡ 31) (contacts : w.contacts ≡ []) (first : w.first_pin ≡ 0 ∷ []) (chip : w.chip ≡ false ∷ []) where
+  fits_one : Fits (mcu devices) w (p.mcu ∷ [])
+  fits_one = record {
+    parts = ap length first;
+    chips = ap length chip;
+    pins = pins ∙ sym (length-uno_drives devices p.mcu.units.devices) ∙ ap length (sym (append-nil (uno_drives devices p.mcu.units.devices)));
+    contacts = ap length contacts;
+    places = λ i (h : i < 1).
+        let none : 0 ≡ i = omega (arith, h) in
+        subst (λ (k : ℕ). slice_index w.first_pin k ≡ length (drives_of (mcu devices) (take k (p.mcu ∷ [])))) none (ap (λ (l : List ℕ). slice_index l 0) first);
+  }
+
+  pub fits : (ps : List (McuAt Devices)) → ps ≡ p ∷ [] → Fits (mcu devices) w (map (λ (m : McuAt Devices). m.mcu) ps)
+  fits ps is = subst (λ (l : List (McuAt Devices)). Fits (mcu devices) w (map (λ (m : McuAt Devices). m.mcu) l)) (sym is) fits_one

@@ -1,0 +1,98 @@
+//! An Uno alone on its board.
+ghost use Rattle.std.specs.Prelude.{◌≡◌, ◌<◌, ◌≤◌, [], ◌∷◌, false, IfOk, length};
+
+use crate::unseen::Unseen;
+use avr_mcu::Mcu;
+use board_run::{Board, RunEnd};
+use input_texts::read_hex;
+use net_resolve::has_valid_nets;
+use part_law::Part;
+use sim_base::{Flash, List, MOST_CYCLES, OutOfMemory, Steps, Wiring};
+use std::alloc::{AllocError, Global};
+use std::marker::Brand;
+use std::sync::ledger::{Blank, Ledger};
+
+/// A net for each pin.
+const NETS: [u16; 31] = [
+    0, 1, 2, 3, 4, 5, 6, 7, 8, 9, 10, 11, 12, 13, 14, 15, 16, 17, 18, 19, 20, 21, 22, 23, 24, 25,
+    26, 27, 28, 29, 30,
+];
+
+fn list_of<T: Copy>(alloc: Global, items: &[T]) -> Result<List<T>, AllocError>
+    ensures { IfOk result (λ l. l ≡ items.now) }
+{
+    Ok(List::from_vec(Vec::from_slice(alloc, items)?))
+}
+
+fn lone_wiring(alloc: Global) -> Result<Wiring, OutOfMemory>
+    ensures pins { IfOk result (λ w. length w.net_of ≡ 31) }
+    ensures contacts { IfOk result (λ w. w.contacts ≡ []) }
+    ensures first { IfOk result (λ w. w.first_pin ≡ 0 ∷ []) }
+    ensures chip { IfOk result (λ w. w.chip ≡ false ∷ []) }
+{
+    Ok(Wiring {
+        nets: 31,
+        net_of: list_of(alloc, &NETS)?,
+        contacts: List::new(alloc),
+        resistors: List::new(alloc),
+        first_pin: list_of(alloc, &[0])?,
+        chip: list_of(alloc, &[false])?,
+    })
+}
+
+fn alone(alloc: Global, mcu: Mcu) -> Result<List<Mcu>, OutOfMemory>
+    ensures { IfOk result (λ l. l ≡ mcu ∷ []) }
+{
+    let mut parts = List::new(alloc);
+    parts.push(mcu)?;
+    Ok(parts)
+}
+
+/// The wakes in `n` cycles from reset, None where the board cannot be run.
+fn run_alone<L: Ledger>(alloc: Global, flash: Flash, n: u32, blank: Blank) -> Option<u32>
+    requires some { 0 < n }
+    requires end { n ≤ MOST_CYCLES }
+    requires name { blank.name ≡ L.name }
+    requires parts { blank.parts ≡ L.parts }
+    requires shares { 0 < L.parts }
+{
+    let Ok(wiring) = lone_wiring(alloc) else {
+        return None;
+    };
+    if !has_valid_nets(&wiring) {
+        return None;
+    }
+    let Ok(mcu) = Mcu::new(alloc, flash) else {
+        return None;
+    };
+    let Ok(parts) = alone(alloc, mcu) else {
+        return None;
+    };
+    let Ok(mut board) = Board::new(alloc, parts, wiring, List::new(alloc)) else {
+        return None;
+    };
+    let mut steps: Steps<L> = Steps::new(blank);
+    let mut unseen = Unseen::new();
+    match board.run(n, &mut unseen, &mut steps) {
+        RunEnd::Done => first_woken(board.parts().as_slice()),
+        RunEnd::WriteFault => None,
+    }
+}
+
+fn first_woken(parts: &[Mcu]) -> Option<u32> {
+    match parts.first() {
+        Some(mcu) => Some(mcu.woken()),
+        None => None,
+    }
+}
+
+/// The wakes in so many microseconds, 16 cycles each.
+pub fn wakes_of(alloc: Global, hex: &[u8], micros: u32) -> Option<u32> {
+    if micros == 0 || micros > 10_000_000 || hex.len() > 65_536 {
+        return None;
+    }
+    match read_hex(alloc, hex) {
+        Ok(flash) => run_alone::<Brand>(alloc, flash, 16 * micros, Blank::new(1)),
+        Err(_) => None,
+    }
+}
