@@ -13,12 +13,14 @@ use Rattle.board_model.specs.Walks.{below}
 use Rattle.board_model.specs.Board.{bytes, input_at, levels_of, states}
 use Rattle.board_laws.specs.Alone.{part_run, drive_rows, own_levels, own_drives}
 use Rattle.board_laws.specs.Alike.{Alike}
+use Rattle.board_laws.specs.Play.{AreDrives}
+use Rattle.board_laws.specs.Player.{DriveRows}
 use Rattle.board_laws.specs.Worlds.{SameRest, SameChips, TheseAre}
 use Rattle.board_laws.specs.Worlds as worlds
 use Rattle.board_laws.proofs.AlikeLemmas.{alike_weaker, map_alike}
 use Rattle.board_laws.proofs.AloneLaw.{rows_run, state_alone}
 use Rattle.board_laws.proofs.OwnRows as own
-use Rattle.board_laws.proofs.PlayLaw.{play_states}
+use Rattle.board_laws.proofs.PlayLaw.{play_states, play_rows, play_bytes as all_bytes}
 use Rattle.board_laws.proofs.WorldsLaw.{worlds_states, worlds_levels, worlds_rows, worlds_bytes}
 use Rattle.board_build.specs.declared.plan.PlanKind.{PlanKind}
 use Rattle.board_build.specs.declared.plan.PlanKind.TheVariants as plans
@@ -88,29 +90,38 @@ module _ (has : Contents) (plan : Plan) (is : IsPlan (pins_of has.chips) plan) (
       claim : Claim (length (chip.drives s))
       claim = map_alike (own_drives any plan.wiring plan.inputs ss 0 i) (λ k. chip.drives (part_run chip levels (λ j. None) s 0 k)) (below n) (below n) each ∙ sym (rows_run chip levels s 0 n)
 
-  -- The wave, the bytes and the report but for the chips are those of the same board with each chip replaced by a player of the
-  -- drives that it has in the run.
-  pub wave_of_play : run_wave has plan n ≡ play_wave has plan n (own_rows has plan n)
-  wave_of_play = ap (λ (r : List Row). wave_text (board_variables (pins_of has.chips) plan) r n) (own.rows_of_play any any_laws plan.wiring plan.inputs (starts has plan.parts) IsChipState quiet_chips (worlds.is_chip plan.wiring) (chips_begin has plan is) None n)
+  -- The wave, the bytes and the report but for the chips are those of the same board with each chip replaced by a player of its drives.
+  module _ (drive_rows : ℕ → List DriveRows) (drives : AreDrives any plan.wiring plan.inputs (starts has plan.parts) n (worlds.is_chip plan.wiring) drive_rows) where
+    pub wave_played : run_wave has plan n ≡ play_wave has plan n drive_rows
+    wave_played =
+        ap (λ (r : List Row). wave_text (board_variables (pins_of has.chips) plan) r n)
+        (play_rows any IsChipState quiet_chips plan.wiring plan.inputs (starts has plan.parts) n (worlds.is_chip plan.wiring) drive_rows (chips_begin has plan is) drives None)
 
-  pub bytes_of_play : run_bytes has plan n ≡ play_bytes has plan n (own_rows has plan n)
-  bytes_of_play = own.bytes_of_play any any_laws plan.wiring plan.inputs (starts has plan.parts) IsChipState quiet_chips (worlds.is_chip plan.wiring) (chips_begin has plan is) None n
+    pub bytes_played : run_bytes has plan n ≡ play_bytes has plan n drive_rows
+    bytes_played =
+        all_bytes any IsChipState quiet_chips plan.wiring plan.inputs (starts has plan.parts) n (worlds.is_chip plan.wiring) drive_rows (chips_begin has plan is) drives
 
-  pub rest_of_play : rest_text part_rows n plan.parts (states any plan.wiring plan.inputs (starts has plan.parts) 0 n) ≡ play_rest has plan n (own_rows has plan n)
-  rest_of_play =
-      let like = play_states any IsChipState quiet_chips plan.wiring plan.inputs (starts has plan.parts) n (worlds.is_chip plan.wiring) (own_rows has plan n) (chips_begin has plan is) (own.own_rows any any_laws plan.wiring plan.inputs (starts has plan.parts) (worlds.is_chip plan.wiring) n) n (omega arith) in
-      ap (λ (rows : List ReportRow). text_of (lines.Cycles n ∷ rows)) (rest_same part_rows play_part_rows plan.parts _ _
-      (alike_weaker (λ k a b. worlds.is_chip plan.wiring k ≡ false → b ≡ inl a) (λ k a b. is_chip_at plan.parts k ≡ false → (part : PlanPart) → part_rows part a ≡ play_part_rows part b) _ _ like
-      (λ k a b ea eb h c part. ap (play_part_rows part) (sym (h (chips_are has plan is k ∙ c))))))
+    pub rest_played : rest_text part_rows n plan.parts (states any plan.wiring plan.inputs (starts has plan.parts) 0 n) ≡ play_rest has plan n drive_rows
+    rest_played =
+        let like = play_states any IsChipState quiet_chips plan.wiring plan.inputs (starts has plan.parts) n (worlds.is_chip plan.wiring) drive_rows (chips_begin has plan is)
+        drives n (omega arith) in
+        ap (λ (rows : List ReportRow). text_of (lines.Cycles n ∷ rows)) (rest_same part_rows play_part_rows plan.parts _ _
+        (alike_weaker (λ k a b. worlds.is_chip plan.wiring k ≡ false → b ≡ inl a)
+        (λ k a b. is_chip_at plan.parts k ≡ false → (part : PlanPart) → part_rows part a ≡ play_part_rows part b) _ _ like
+        (λ k a b ea eb h c part. ap (play_part_rows part) (sym (h (chips_are has plan is k ∙ c))))))
+
+  -- So they are with the drives that the chips have in the run itself.
+  own_are : AreDrives any plan.wiring plan.inputs (starts has plan.parts) n (worlds.is_chip plan.wiring) (own_rows has plan n)
+  own_are = own.own_rows any any_laws plan.wiring plan.inputs (starts has plan.parts) (worlds.is_chip plan.wiring) n
 
   -- All texts are: the lines of the chips stand in the report behind all others.
   pub texts_of_play : (out : Outputs) → run_texts out has plan n ≡ play_texts out has plan n
   texts_of_play out =
       let wave : List ℕ = play_wave has plan n (own_rows has plan n) in
       let bytes : List ℕ = play_bytes has plan n (own_rows has plan n) in
-      ap (λ (w : List ℕ). texts_for out w (run_bytes has plan n) (run_report has plan n) (run_wakes has plan n)) wave_of_play
-      ∙ ap (λ (b : List ℕ). texts_for out wave b (run_report has plan n) (run_wakes has plan n)) bytes_of_play
-      ∙ ap (λ (r : List ℕ). texts_for out wave bytes (r ++ chip_lines has plan n) (run_wakes has plan n)) rest_of_play
+      ap (λ (w : List ℕ). texts_for out w (run_bytes has plan n) (run_report has plan n) (run_wakes has plan n)) (wave_played (own_rows has plan n) own_are)
+      ∙ ap (λ (b : List ℕ). texts_for out wave b (run_report has plan n) (run_wakes has plan n)) (bytes_played (own_rows has plan n) own_are)
+      ∙ ap (λ (r : List ℕ). texts_for out wave bytes (r ++ chip_lines has plan n) (run_wakes has plan n)) (rest_played (own_rows has plan n) own_are)
 
 -- Two worlds: projects that differ in what their chips are made of. As long as the chips drive the same, all else is the same.
 module _ (one other : Contents) (plan twin : Plan) (end : ℕ)

@@ -1,5 +1,5 @@
-mod ChipLemmas
-mod StayLemmas
+pub mod ChipLemmas
+pub mod StayLemmas
 mod RestLemmas
 mod WorldLemmas
 pub mod Isolation
