@@ -73,7 +73,8 @@ drop_range (suc f) a (suc n) =
     let g : n - f ≡ suc n - suc f = omega arith in
     drop_range f (a + 1) n ∙ ap (λ (x : ℕ). range_with_len x (n - f)) e ∙ ap (range_with_len (a + suc f)) g
 
-is_there : (chips : List Bool) (k : ℕ) → unwrap_or (slice_get chips k) false ≡ true → k < length chips
+-- a chip has a place in the list
+pub is_there : (chips : List Bool) (k : ℕ) → unwrap_or (slice_get chips k) false ≡ true → k < length chips
 is_there [] k is = absurd cc
 is_there (c ∷ chips) zero is = omega arith
 is_there (c ∷ chips) (suc k) is = omega (arith, is_there chips k is)

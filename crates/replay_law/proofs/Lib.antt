@@ -1,0 +1,2 @@
+mod VariableLemmas
+pub mod ReplayLaw
