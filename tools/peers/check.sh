@@ -223,9 +223,9 @@ if [ -x "$folder/uno" ]; then
     for name in thermometer registers echo; do
         chip_on_uno "chip-$name" "$examples/chip-$name/$name.c" || bad=1
     done
-    with_chips chip-thermometer 250000 chip=room:SCL@19,SDA@18,GND@-,VCC@- attr=temperature:23500
-    with_chips chip-registers 5000 chip=regs:CS@10,SCK@13,MOSI@11,MISO@12,GND@-,VCC@-
-    with_chips chip-echo 10000 chip=echo1:RX@1,TX@0,GND@-,VCC@-
+    with_chips chip-thermometer 250000 chip=room:SCL@19,SDA@18,GND@low,VCC@high attr=temperature:23500
+    with_chips chip-registers 5000 chip=regs:CS@10,SCK@13,MOSI@11,MISO@12,GND@low,VCC@high
+    with_chips chip-echo 10000 chip=echo1:RX@1,TX@0,GND@low,VCC@high
 fi
 if have avr-gcc avr-objcopy; then
     for source in "$rows"/*.S; do

@@ -1,7 +1,7 @@
 /* A second reading of docs/CHIPS.md, apart from the definitions and the code of this repository: chips in C on the pins of
    uno.c, in each cycle their timers, watches and engines. A chip's source is compiled as it stands, beside this file; of
-   several each names its chip_init anew. Further words of uno.c: `chip=ID:NAME@PIN,NAME@-` is a chip with its pins and the
-   pins of the Uno that they are wired to, `attr=NAME:VALUE` an attribute of the chip before.
+   several each names its chip_init anew. Further words of uno.c: `chip=ID:NAME@PIN,NAME@-,NAME@low` is a chip with its pins and
+   the pins of the Uno that they are wired to (none, a supply), `attr=NAME:VALUE` an attribute of the chip before.
    cc -O2 -Wno-attributes -DCHIPS -Dchip_init=chip_init_0 -I../../sdk -o uno-chip uno.c chips.c CHIP.c */
 #include <stdio.h>
 #include <stdlib.h>
@@ -15,7 +15,7 @@ enum { MOST_CHIPS = 4, MOST_PINS = 16, MOST = 8, MOST_TIMERS = 32 };
 
 struct line { /* a pin of the chip */
     char name[16];
-    int at, given, mode, value, watched;
+    int at, supply, given, mode, value, watched;
     pin_watch_config_t watch;
 };
 struct clock {
@@ -362,7 +362,9 @@ int chips_word(char *word) {
     for (char *pin = strtok(strchr(word, ':') + 1, ","); pin; pin = strtok(NULL, ",")) {
         struct line *line = &chip->line[chip->pins++];
         sscanf(pin, "%15[^@]", line->name);
-        line->at = strstr(pin, "@-") ? -1 : atoi(strchr(pin, '@') + 1);
+        const char *to = strchr(pin, '@') + 1;
+        line->at = *to == '-' || *to == 'l' || *to == 'h' ? -1 : atoi(to);
+        line->supply = *to == 'l' ? LOW_LEVEL : *to == 'h' ? HIGH_LEVEL : NO_LEVEL;
     }
     return 1;
 }
@@ -374,7 +376,7 @@ void chips_cycle(long long now) {
     cycle = now;
     for (int c = 0; c < count; c++)
         for (int p = 0; p < chips[c].pins; p++)
-            if (chips[c].line[p].at < 0) level_of_pin[c][p] = net(-1, NO_LEVEL, &chips[c], p);
+            if (chips[c].line[p].at < 0) level_of_pin[c][p] = net(-1, chips[c].line[p].supply, &chips[c], p);
 }
 /* the names of the chips' variables in their order, or their values in this cycle; NULL behind the last */
 const char *chips_name(int k) {
