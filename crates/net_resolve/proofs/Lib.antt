@@ -10,3 +10,4 @@ pub mod PlaceLemmas
 pub mod CutLemmas
 pub mod MarkLemmas
 pub mod RightLemmas
+pub mod ResolutionLemmas

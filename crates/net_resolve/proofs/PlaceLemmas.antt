@@ -1,5 +1,5 @@
 -- Lists whose items are taken from places of another, or put there.
-use Rattle.std.proofs.Common.{◌≡◌, ◌≢◌, ℕ, ◌+◌, ◌<◌, ◌≤◌, List, [], ◌∷◌, length, map, refl, ap, sym, ◌∙◌, arith, inl, inr, Option, Some}
+use Rattle.std.proofs.Common.{◌≡◌, ◌≢◌, ℕ, ◌+◌, ◌<◌, ◌≤◌, List, [], ◌∷◌, length, map, refl, ap, sym, ◌∙◌, subst, arith, inl, inr, Option, Some}
 use Rattle.std.proofs.lemmas.List.{length-map}
 use Rattle.std.proofs.lemmas.Option.{slice_get_within}
 use Rattle.std.specs.Prelude.{slice_get, slice_set}
@@ -52,3 +52,14 @@ same_somes {A = A} (x ∷ xs) (y ∷ ys) e =
     let a : x ≡ y = cc in
     let b : xs ≡ ys = same_somes xs ys cc in
     cc
+
+-- one more item is that of its place
+pub from_more : {A : Type 0} (from into : List A) (places : List ℕ) (j m : ℕ) (x : A) → Filled (IsFrom from) j places into →
+    slice_get places j ≡ Some m → slice_get into j ≡ Some x → slice_get from m ≡ Some x → Filled (IsFrom from) (j + 1) places into
+from_more {A = A} from into places j m x filled at is there k p b l ek eb = elim (lt_or_eq k j l) [
+  | inl less ↦ filled k p b less ek eb
+  | inr same ↦
+      let em : m ≡ p = some_same (sym at ∙ subst (λ (i : ℕ). slice_get places i ≡ Some p) same ek) in
+      let ex : x ≡ b = some_same (sym is ∙ subst (λ (i : ℕ). slice_get into i ≡ Some b) same eb) in
+      subst (λ (q : ℕ). slice_get from q ≡ Some b) em (there ∙ ap Some ex)
+]

@@ -5,3 +5,4 @@ pub mod Circuit
 pub mod Wired
 pub mod Subcircuits
 pub mod Sorted
+pub mod Resolutions

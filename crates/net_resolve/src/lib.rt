@@ -8,6 +8,7 @@ mod groups;
 mod levels;
 mod marks;
 mod nets;
+mod resolution;
 mod room;
 mod subcircuit;
 mod sums;

@@ -10,6 +10,7 @@ ghost use Rattle.net_resolve.specs.Subcircuits.{SubcircuitView, IsCut, AreSubcir
 
 use crate::cut::{cut_all, sort};
 use crate::marks::Marks;
+use crate::resolution::{is_same_drive, is_same_flag};
 use crate::room::{all_z, no_drives, no_flags};
 use crate::subcircuit::Subcircuit;
 use sim_base::{Drive, Level, OutOfMemory, Wiring};
@@ -66,18 +67,6 @@ impl Model for Nets {
       drives_long : vec_len a.drives ≡ vec_len a.net_of;
       closed_long : vec_len a.closed ≡ vec_len a.contacts;
     } };
-}
-
-fn is_same_drive(a: Drive, b: Drive) -> bool
-    ensures { result ≡ true → a ≡ b }
-{
-    a == b
-}
-
-fn is_same_flag(a: bool, b: bool) -> bool
-    ensures { result ≡ true → a ≡ b }
-{
-    a == b
 }
 
 /// Keeps what a pin drives, and marks its subcircuit where it drove something else.

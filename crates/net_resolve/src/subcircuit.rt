@@ -4,13 +4,16 @@ ghost use Rattle.sim_base.specs.declared.signal.Drive.{Drive};
 ghost use Rattle.board_model.specs.Resolve.{resolve};
 ghost use Rattle.net_resolve.specs.Marked.{Moves};
 ghost use Rattle.net_resolve.specs.Subcircuits.{SubcircuitView, Lacks, AreOnce};
+ghost use Rattle.net_resolve.specs.Resolutions.{IsResolution};
 
 use crate::marks::Marks;
+use crate::resolution::Resolution;
 use crate::room::{no_drives, no_flags};
 use crate::whole::Whole;
 use sim_base::{Drive, Level, OutOfMemory};
 use std::alloc::Global;
 use std::marker::Model;
+use std::mem;
 
 /// Some nets of a board, which are numbered anew from 0, with the pins, contacts and resistors on them.
 #[derive(Drop)]
@@ -19,15 +22,16 @@ pub(crate) struct Subcircuit {
     nets: Vec<usize>,
     pins: Vec<usize>,
     contacts: Vec<usize>,
-    /// What its pins drive and which of its contacts are closed.
-    drives: Vec<Drive>,
-    closed: Vec<bool>,
     whole: Whole,
+    /// The resolution that was asked for last, and the other one that is kept.
+    last: Resolution,
+    before: Resolution,
 }
 
 impl Model for Subcircuit {
     ghost use Rattle.std.specs.Prelude.{◌≡◌, length, vec_len};
     ghost use Rattle.net_resolve.specs.Subcircuits.{SubcircuitView};
+    ghost use Rattle.net_resolve.specs.Resolutions.{IsResolution};
 
     ghost Value = { SubcircuitView };
 
@@ -37,8 +41,8 @@ impl Model for Subcircuit {
       nets_long : vec_len a.nets ≡ a.whole.nets;
       pins_long : vec_len a.pins ≡ length a.whole.net_of;
       contacts_long : vec_len a.contacts ≡ length a.whole.contacts;
-      drives_long : vec_len a.drives ≡ vec_len a.pins;
-      closed_long : vec_len a.closed ≡ vec_len a.contacts;
+      last : IsResolution a.whole a.last;
+      before : IsResolution a.whole a.before;
     } };
 }
 
@@ -92,29 +96,76 @@ fn scatter(levels: &[Level], places: &[usize], into: &mut [Level], changed: &mut
     }
 }
 
+/// The levels of some nets where no pin drives and no contact is closed.
+fn first_resolution(
+    alloc: Global,
+    pins: usize,
+    contacts: usize,
+    whole: &mut Whole,
+) -> Result<Resolution, OutOfMemory>
+    requires pins { pins ≡ length whole.old.net_of }
+    requires contacts { contacts ≡ length whole.old.contacts }
+    ensures same { whole.new ≡ record whole.old { levels = whole.new.levels } }
+    ensures found { IfOk result (λ r. IsResolution whole.old r) }
+{
+    let drives = no_drives(alloc, pins)?;
+    let closed = no_flags(alloc, contacts)?;
+    whole.resolve(&drives, &closed);
+    let levels = Vec::from_slice(alloc, whole.levels())?;
+    Ok(Resolution {
+        drives,
+        closed,
+        levels,
+    })
+}
+
 /// Resolves some nets of a board by the drives and contacts at some places.
 fn resolve_at(
     drives: &[Drive],
     closed: &[bool],
     pins: &[usize],
     contacts: &[usize],
-    own_drives: &mut [Drive],
-    own_closed: &mut [bool],
+    found: &mut Resolution,
     whole: &mut Whole,
 )
     requires pins { (j k : ℕ) → slice_get pins.now j ≡ Some k → k < length drives.now }
     requires contacts { (j k : ℕ) → slice_get contacts.now j ≡ Some k → k < length closed.now }
-    requires drives_long { length own_drives.old ≡ length pins.now }
-    requires closed_long { length own_closed.old ≡ length contacts.now }
     requires pins_long { length pins.now ≡ length whole.old.net_of }
     requires contacts_long { length contacts.now ≡ length whole.old.contacts }
+    requires found { IsResolution whole.old found.old }
     ensures same { whole.new ≡ record whole.old { levels = whole.new.levels } }
-    ensures levels { (cs : List Bool) (ds : List Drive) → map Some cs ≡ map (slice_get closed.now) contacts.now → map Some ds ≡ map (slice_get drives.now) pins.now →
-        whole.new.levels ≡ resolve whole.old.nets whole.old.net_of whole.old.contacts whole.old.resistors cs ds }
+    ensures found { IsResolution whole.old found.new }
+    ensures drives { map Some found.new.drives.items ≡ map (slice_get drives.now) pins.now }
+    ensures closed { map Some found.new.closed.items ≡ map (slice_get closed.now) contacts.now }
 {
-    gather(drives, pins, own_drives);
-    gather(closed, contacts, own_closed);
-    whole.resolve(own_drives, own_closed);
+    gather(drives, pins, &mut found.drives);
+    gather(closed, contacts, &mut found.closed);
+    whole.resolve(&found.drives, &found.closed);
+    found.levels.copy_from_slice(whole.levels());
+}
+
+/// Resolves some nets of a board by the drives and contacts at some places, where the resolution is one by others.
+fn resolve_unless_known(
+    drives: &[Drive],
+    closed: &[bool],
+    pins: &[usize],
+    contacts: &[usize],
+    found: &mut Resolution,
+    whole: &mut Whole,
+)
+    requires pins { (j k : ℕ) → slice_get pins.now j ≡ Some k → k < length drives.now }
+    requires contacts { (j k : ℕ) → slice_get contacts.now j ≡ Some k → k < length closed.now }
+    requires pins_long { length pins.now ≡ length whole.old.net_of }
+    requires contacts_long { length contacts.now ≡ length whole.old.contacts }
+    requires found { IsResolution whole.old found.old }
+    ensures same { whole.new ≡ record whole.old { levels = whole.new.levels } }
+    ensures found { IsResolution whole.old found.new }
+    ensures drives { map Some found.new.drives.items ≡ map (slice_get drives.now) pins.now }
+    ensures closed { map Some found.new.closed.items ≡ map (slice_get closed.now) contacts.now }
+{
+    if !found.holds(drives, closed, pins, contacts) {
+        resolve_at(drives, closed, pins, contacts, found, whole);
+    }
 }
 
 impl Subcircuit {
@@ -130,13 +181,16 @@ impl Subcircuit {
         requires contacts { length contacts.now ≡ length whole.contacts }
         ensures { IfOk result (λ s. s ≡ record { nets = nets.now; pins = pins.now; contacts = contacts.now; own_nets = whole.net_of; own_contacts = whole.contacts; own_resistors = whole.resistors }) }
     {
+        let mut whole = whole;
+        let last = first_resolution(alloc, pins.len(), contacts.len(), &mut whole)?;
+        let before = first_resolution(alloc, pins.len(), contacts.len(), &mut whole)?;
         Ok(Subcircuit {
             nets: Vec::from_slice(alloc, nets)?,
             pins: Vec::from_slice(alloc, pins)?,
             contacts: Vec::from_slice(alloc, contacts)?,
-            drives: no_drives(alloc, pins.len())?,
-            closed: no_flags(alloc, contacts.len())?,
             whole,
+            last,
+            before,
         })
     }
 
@@ -162,15 +216,15 @@ impl Subcircuit {
         ensures room { changed.new.room ≡ changed.old.room }
         ensures moves { Moves levels.old levels.new changed.old.marked changed.new.marked }
     {
-        resolve_at(
+        mem::swap(&mut self.last, &mut self.before);
+        resolve_unless_known(
             drives,
             closed,
             &self.pins,
             &self.contacts,
-            &mut self.drives,
-            &mut self.closed,
+            &mut self.last,
             &mut self.whole,
         );
-        scatter(self.whole.levels(), &self.nets, levels, changed);
+        scatter(&self.last.levels, &self.nets, levels, changed);
     }
 }

@@ -1,0 +1,16 @@
+-- Levels by the same drives and contacts are the same, and a resolution stays one while the nets and what joins them stay.
+use Rattle.std.proofs.Common.{◌≡◌, ◌∙◌, ap, sym, subst, List, Bool}
+use Rattle.sim_base.specs.declared.signal.Drive.{Drive}
+use Rattle.board_model.specs.Resolve.{resolve}
+use Rattle.net_resolve.specs.Wired.{Wired}
+use Rattle.net_resolve.specs.Resolutions.{IsResolution}
+use Rattle.net_resolve.specs.declared.resolution.Resolution.{Resolution}
+
+pub resolve_same : (w : Wired) {cs es : List Bool} {ds fs : List Drive} → cs ≡ es → ds ≡ fs → resolve w.nets w.net_of w.contacts w.resistors cs ds ≡ resolve w.nets w.net_of w.contacts w.resistors es fs
+resolve_same w {cs = cs} {es = es} {ds = ds} {fs = fs} closed drives =
+    ap (λ (l : List Bool). resolve w.nets w.net_of w.contacts w.resistors l ds) closed ∙ ap (λ (l : List Drive). resolve w.nets w.net_of w.contacts w.resistors es l) drives
+
+pub resolution_moved : (w v : Wired) (a : Resolution) → v ≡ record w { levels = v.levels } → IsResolution w a → IsResolution v a
+resolution_moved w v a same it =
+    let moved : IsResolution (record w { levels = v.levels }) a = record { drives_long = it.drives_long; closed_long = it.closed_long; levels_long = it.levels_long; levels_are = it.levels_are } in
+    subst (λ (x : Wired). IsResolution x a) (sym same) moved

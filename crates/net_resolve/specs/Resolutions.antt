@@ -1,0 +1,12 @@
+-- Resolutions that are kept. No public clause cites this.
+use Rattle.std.specs.Prelude.{◌≡◌, length, vec_len}
+use Rattle.board_model.specs.Resolve.{resolve}
+use Rattle.net_resolve.specs.Wired.{Wired}
+use Rattle.net_resolve.specs.declared.resolution.Resolution.{Resolution}
+
+-- The levels are those that the drives and the closed contacts give.
+pub record IsResolution (w : Wired) (r : Resolution) : Type 0 where
+  pub drives_long : vec_len r.drives ≡ length w.net_of
+  pub closed_long : vec_len r.closed ≡ length w.contacts
+  pub levels_long : vec_len r.levels ≡ w.nets
+  pub levels_are : r.levels.items ≡ resolve w.nets w.net_of w.contacts w.resistors r.closed.items r.drives.items
