@@ -1,0 +1,5 @@
+mod DifferenceLemmas
+mod TurnedLemmas
+mod BesideLemmas
+mod AbreastLemmas
+mod WakesLemmas
