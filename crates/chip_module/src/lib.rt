@@ -7,4 +7,4 @@ mod binary;
 mod source;
 
 pub use binary::ChipModule;
-pub use source::{ChipSource, copied_pins};
+pub use source::{ChipSource, copied_pins, pins_of};

@@ -1,5 +1,6 @@
 //! A chip of a project.
 ghost use Rattle.std.specs.Prelude.{◌≡◌, IfOk};
+ghost use Rattle.chip_module.specs.Sources.{pins_of};
 
 use crate::binary::ChipModule;
 use sim_base::{List, Name, OutOfMemory};
@@ -27,4 +28,15 @@ pub fn copied_pins(
         }
     }
     Ok(copy)
+}
+
+/// The pins of each chip.
+pub fn pins_of(alloc: Global, chips: &[ChipSource]) -> Result<List<List<Option<Name>>>, OutOfMemory>
+    ensures { IfOk result (λ pins. pins ≡ pins_of chips.now) }
+{
+    let mut pins = List::new(alloc);
+    for chip in chips {
+        pins.push(copied_pins(alloc, &chip.pins)?)?;
+    }
+    Ok(pins)
 }
