@@ -99,6 +99,9 @@ twin sort/sort.hex sort.hex
 twin counter/counter.hex counter.hex
 twin counter/diagram.json counter.json
 twin counter/expected/run.vcd counter.vcd
+twin replay/recorded.vcd inverter.vcd
+twin replay/late.vcd inverter-moved.vcd
+twin replay/expected/late.vcd inverter-moved-played.vcd
 pulses <"$rows/crc.vcd" | same "crc in the rows" "$here/crc/expected/pulses.txt" || bad=1
 pulses <"$rows/sort.vcd" | same "sort in the rows" "$here/sort/expected/pulses.txt" || bad=1
 lights bit <"$rows/counter-down.vcd" | same "counter downwards in the rows" "$here/counter/expected/counts-down.txt" || bad=1
@@ -173,6 +176,24 @@ if command -v "${CLANG:-clang}" >/dev/null && command -v wasm-ld >/dev/null; the
 else
     echo "no clang or wasm-ld: the chips' modules are not made again" >&2
 fi
+
+# waves that stand in for a chip: its own, one that was edited, and those that the chips here write
+replay() { # FOLDER WAVE MICROSECONDS
+    "$program" replay "$1" "$2" --us "$3" --vcd "$down/played" --report "$down/report" >"$down/serial"
+}
+replay "$here/chip-inverter" "$here/replay/recorded.vcd" 1
+same "replay's wave" "$here/replay/recorded.vcd" <"$down/played" || bad=1
+same "replay's report" "$here/replay/expected/report.txt" <"$down/report" || bad=1
+replay "$here/chip-inverter" "$here/replay/late.vcd" 1
+same "replay's edited wave" "$here/replay/expected/late.vcd" <"$down/played" || bad=1
+for case in chip-inverter=1000 chip-blinker=3000 chip-counter=10000 chip-thermometer=250000 chip-registers=5000 chip-echo=10000; do
+    name=${case%=*}
+    "$program" run "$here/$name" --us "${case#*=}" --vcd "$down/recorded" --report "$down/whole" >"$down/sent"
+    replay "$here/$name" "$down/recorded" "${case#*=}"
+    same "$name played" "$down/recorded" <"$down/played" || bad=1
+    same "$name's bytes, played" "$down/sent" <"$down/serial" || bad=1
+    grep -v '^chip ' "$down/whole" | cmp -s - "$down/report" || { echo "$name's report, played: differs"; bad=1; }
+done
 
 # the counter with pin 2 on ground
 cp "$here/counter/wokwi.toml" "$here/counter/counter.hex" "$down"

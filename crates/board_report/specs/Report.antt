@@ -4,6 +4,7 @@ use Rattle.std.specs.List.{concat, flat_map}
 use Rattle.std.proofs.Common.{inl, inr}
 use Rattle.sim_base.specs.declared.signal.Level.{Level}
 use Rattle.board_model.specs.Walks.{below}
+use Rattle.board_laws.specs.Player.{PlayerState}
 use Rattle.avr_core.specs.declared.state.Mode.{Mode}
 use Rattle.avr_core.specs.declared.state.Mode.TheVariants as modes
 use Rattle.avr_mcu.specs.Mcu.{Mcu}
@@ -71,6 +72,11 @@ part_rows part (inl uno) = uno_rows part.id uno
 part_rows part (inr (inl reacting)) = own_rows part reacting.held reacting.own
 part_rows part (inr (inr chip)) = chip_row part.id chip.dead ∷ []
 
+-- the lines of a part that may be a player of recorded drives, which has none
+abbrev pub play_part_rows : PlanPart → AnyState ⊎ PlayerState → List ReportRow
+play_part_rows part (inl s) = part_rows part s
+play_part_rows part (inr p) = []
+
 -- the lines of parts, by how each stands; of the chips alone, or of all others
 module _ {S : Type 0} (says : PlanPart → S → List ReportRow) where
   abbrev pub chosen_rows : Bool → PlanPart → S → List ReportRow
@@ -90,6 +96,11 @@ text_of rows = concat (map line_of rows)
 abbrev pub rest_text : {S : Type 0} → (PlanPart → S → List ReportRow) → ℕ → List PlanPart → List S → List ℕ
 rest_text says cycles parts states = text_of (lines.Cycles cycles ∷ parts_rows says false parts states)
 
--- the report after so many cycles: the chips come last
+-- the same with the chips, which come last, or without
+abbrev pub shown_text : {S : Type 0} → (PlanPart → S → List ReportRow) → Bool → ℕ → List PlanPart → List S → List ℕ
+shown_text says true cycles parts states = rest_text says cycles parts states ++ text_of (parts_rows says true parts states)
+shown_text says false cycles parts states = rest_text says cycles parts states
+
+-- the report after so many cycles
 abbrev pub report_text : ℕ → List PlanPart → List AnyState → List ℕ
-report_text cycles parts states = rest_text part_rows cycles parts states ++ text_of (parts_rows part_rows true parts states)
+report_text = shown_text part_rows true

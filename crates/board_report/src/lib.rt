@@ -5,4 +5,4 @@
 
 mod report;
 
-pub use report::write_report_of;
+pub use report::{Shown, write_report_of};

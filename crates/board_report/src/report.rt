@@ -1,12 +1,13 @@
 //! The lines of a board's parts.
 ghost use Rattle.std.specs.Prelude.{◌≡◌, ◌++◌, ◌+◌, ◌<◌, ℕ, List, true, Some, map};
+ghost use Rattle.sim_report.specs.declared.row.ReportRow.{ReportRow};
+ghost use Rattle.board_build.specs.declared.plan.PlanPart.{PlanPart};
 ghost use Rattle.board_build.specs.Parts.{is_chip};
 ghost use Rattle.sim_base.specs.Outside.{Outside, SameOthers};
 ghost use Rattle.outcome_model.specs.Work.{Wrote};
-ghost use Rattle.any_part.specs.AnyPart.{state_of};
 ghost use Rattle.any_part.specs.AnyBehaviour.{own_of};
 ghost use Rattle.sim_report.specs.Lines.{line_of};
-ghost use Rattle.board_report.specs.Report.{mode_of, is_input, ignored_row, uno_rows, own_rows, lcd_row, lcd_rows, chip_row, part_rows, chosen_rows, parts_rows, text_of, report_text};
+ghost use Rattle.board_report.specs.Report.{mode_of, is_input, ignored_row, uno_rows, own_rows, lcd_row, lcd_rows, chip_row, chosen_rows, parts_rows, text_of, shown_text};
 
 use any_part::{AnyBehaviour, AnyPart};
 use avr_core::Mode;
@@ -169,21 +170,43 @@ fn chip_row(id: &Name, trap: Option<Death>) -> ReportRow
     }
 }
 
-fn write_part<B: Bench>(end: WriteEnd, part: &PlanPart, state: &AnyPart, bench: &mut B) -> WriteEnd
-    requires { (B.outside bench.old).opened Port.Report ≡ true }
-    ensures next { (a : Outside) (text : List ℕ) → Wrote end Port.Report text a (B.outside bench.old) → Wrote result Port.Report (text ++ text_of (part_rows part.now (state_of state.now))) a (B.outside bench.new) }
-    ensures named { (B.outside bench.new).name Port.Report ≡ (B.outside bench.old).name Port.Report }
-    ensures opened { (B.outside bench.new).opened Port.Report ≡ true }
-    ensures others { SameOthers Port.Report (B.outside bench.old) (B.outside bench.new) }
-{
-    match state {
-        AnyPart::Uno(uno) => write_uno(end, &part.id, uno, bench),
-        AnyPart::Reactive(reactive) => {
-            write_own(end, part, reactive.held(), reactive.behaviour(), bench)
-        }
-        AnyPart::Chip(chip) => {
-            let row = chip_row(&part.id, chip.trap());
-            write_line(end, &row, bench)
+/// A part that has lines in a report, by how it stands.
+pub trait Shown {
+    ghost Stood: { Type 0 };
+
+    ghost stood: { Self → Stood };
+
+    ghost says: { PlanPart → Stood → List ReportRow };
+
+    /// Writes its lines where the writing so far has not failed.
+    fn write_lines<B: Bench>(&self, end: WriteEnd, part: &PlanPart, bench: &mut B) -> WriteEnd
+        requires { (B.outside bench.old).opened Port.Report ≡ true }
+        ensures next { (a : Outside) (text : List ℕ) → Wrote end Port.Report text a (B.outside bench.old) → Wrote result Port.Report (text ++ text_of (says part.now (stood self.now))) a (B.outside bench.new) }
+        ensures named { (B.outside bench.new).name Port.Report ≡ (B.outside bench.old).name Port.Report }
+        ensures opened { (B.outside bench.new).opened Port.Report ≡ true }
+        ensures others { SameOthers Port.Report (B.outside bench.old) (B.outside bench.new) };
+}
+
+impl Shown for AnyPart {
+    ghost use Rattle.any_part.specs.AnyPart.{AnyState, state_of};
+    ghost use Rattle.board_report.specs.Report.{part_rows};
+
+    ghost Stood = { AnyState };
+
+    ghost stood = { state_of };
+
+    ghost says = { part_rows };
+
+    fn write_lines<B: Bench>(&self, end: WriteEnd, part: &PlanPart, bench: &mut B) -> WriteEnd {
+        match self {
+            AnyPart::Uno(uno) => write_uno(end, &part.id, uno, bench),
+            AnyPart::Reactive(reactive) => {
+                write_own(end, part, reactive.held(), reactive.behaviour(), bench)
+            }
+            AnyPart::Chip(chip) => {
+                let row = chip_row(&part.id, chip.trap());
+                write_line(end, &row, bench)
+            }
         }
     }
 }
@@ -195,35 +218,35 @@ fn is_chip(kind: PlanKind) -> bool
 }
 
 /// The lines of a part, where it is a chip and chips are wanted, or neither.
-fn write_chosen<B: Bench>(
+fn write_chosen<P: Shown, B: Bench>(
     end: WriteEnd,
     chips: bool,
     part: &PlanPart,
-    state: &AnyPart,
+    state: &P,
     bench: &mut B,
 ) -> WriteEnd
     requires { (B.outside bench.old).opened Port.Report ≡ true }
-    ensures next { (a : Outside) (text : List ℕ) → Wrote end Port.Report text a (B.outside bench.old) → Wrote result Port.Report (text ++ text_of (chosen_rows part_rows chips part.now (state_of state.now))) a (B.outside bench.new) }
+    ensures next { (a : Outside) (text : List ℕ) → Wrote end Port.Report text a (B.outside bench.old) → Wrote result Port.Report (text ++ text_of (chosen_rows P.says chips part.now (P.stood state.now))) a (B.outside bench.new) }
     ensures named { (B.outside bench.new).name Port.Report ≡ (B.outside bench.old).name Port.Report }
     ensures opened { (B.outside bench.new).opened Port.Report ≡ true }
     ensures others { SameOthers Port.Report (B.outside bench.old) (B.outside bench.new) }
 {
     match (chips, is_chip(part.kind)) {
-        (true, true) | (false, false) => write_part(end, part, state, bench),
+        (true, true) | (false, false) => state.write_lines(end, part, bench),
         (true, false) | (false, true) => end,
     }
 }
 
 /// The lines of the parts that are no chips, or of those that are, in their order.
-fn write_parts<B: Bench>(
+fn write_parts<P: Shown, B: Bench>(
     end: WriteEnd,
     chips: bool,
     plan: &[PlanPart],
-    parts: &[AnyPart],
+    parts: &[P],
     bench: &mut B,
 ) -> WriteEnd
     requires { (B.outside bench.old).opened Port.Report ≡ true }
-    ensures next { (a : Outside) (text : List ℕ) → Wrote end Port.Report text a (B.outside bench.old) → Wrote result Port.Report (text ++ text_of (parts_rows part_rows chips plan.now (map state_of parts.now))) a (B.outside bench.new) }
+    ensures next { (a : Outside) (text : List ℕ) → Wrote end Port.Report text a (B.outside bench.old) → Wrote result Port.Report (text ++ text_of (parts_rows P.says chips plan.now (map P.stood parts.now))) a (B.outside bench.new) }
     ensures named { (B.outside bench.new).name Port.Report ≡ (B.outside bench.old).name Port.Report }
     ensures opened { (B.outside bench.new).opened Port.Report ≡ true }
     ensures others { SameOthers Port.Report (B.outside bench.old) (B.outside bench.new) }
@@ -236,19 +259,25 @@ fn write_parts<B: Bench>(
 }
 
 /// Writes the report of a board after so many cycles on Report: all of it, or a first part where a
-/// write fails. The parts of the plan and those of the board stand in the same order; chips come last.
-pub fn write_report_of<B: Bench>(
+/// write fails. The parts of the plan and those of the board stand in the same order; chips come last, if
+/// they are to have lines.
+pub fn write_report_of<P: Shown, B: Bench>(
     cycles: u32,
+    chips: bool,
     plan: &[PlanPart],
-    parts: &[AnyPart],
+    parts: &[P],
     bench: &mut B,
 ) -> WriteEnd
     requires { (B.outside bench.old).opened Port.Report ≡ true }
-    ensures wrote { Wrote result Port.Report (report_text cycles plan.now (map state_of parts.now)) (B.outside bench.old) (B.outside bench.new) }
+    ensures wrote { Wrote result Port.Report (shown_text P.says chips cycles plan.now (map P.stood parts.now)) (B.outside bench.old) (B.outside bench.new) }
     ensures named { (B.outside bench.new).name Port.Report ≡ (B.outside bench.old).name Port.Report }
     ensures others { SameOthers Port.Report (B.outside bench.old) (B.outside bench.new) }
 {
     let end = write_report(&ReportRow::Cycles(cycles), bench);
     let end = write_parts(end, false, plan, parts, bench);
-    write_parts(end, true, plan, parts, bench)
+    if chips {
+        write_parts(end, true, plan, parts, bench)
+    } else {
+        end
+    }
 }

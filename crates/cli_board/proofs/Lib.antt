@@ -1,5 +1,5 @@
 mod CountLemmas
-mod PlayLemmas
+pub mod PlayLemmas
 pub mod RanLemmas
 mod StageLemmas
-mod VariableLemmas
+pub mod VariableLemmas

@@ -10,5 +10,5 @@ mod running;
 mod variables;
 
 pub use counting::count_board;
-pub use playing::Outputs;
-pub use running::run_board;
+pub use playing::{Outputs, write_run};
+pub use running::{make_head, run_board};

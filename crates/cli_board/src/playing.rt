@@ -1,5 +1,5 @@
 //! A board that runs from cycle 0, and what it writes.
-ghost use Rattle.std.specs.Prelude.{◌≡◌, ◌≤◌, ◌<◌, ◌+◌, None, true, false, map, is_some};
+ghost use Rattle.std.specs.Prelude.{◌≡◌, ◌≤◌, ◌<◌, ◌+◌, List, None, true, false, map, is_some};
 ghost use Rattle.std.specs.Option.{option_map};
 ghost use Rattle.sim_base.specs.Outside.{is_openable};
 ghost use Rattle.text_model.specs.Wave.{wave_text};
@@ -7,16 +7,15 @@ ghost use Rattle.board_model.specs.Board.{bytes, states};
 ghost use Rattle.board_model.specs.Rows.{rows};
 ghost use Rattle.board_laws.specs.Active.{active_pairs};
 ghost use Rattle.vcd_text.specs.Ports.{texts, Writes as WritesTexts};
-ghost use Rattle.any_part.specs.AnyPart.{any, state_of};
-ghost use Rattle.board_report.specs.Report.{report_text};
+ghost use Rattle.board_report.specs.Report.{shown_text};
 ghost use Rattle.cli_board.specs.Outputs.{outputs_of};
 ghost use Rattle.cli_board.specs.Ran.{OpensNamed, Reports, Writes};
 ghost use Rattle.cli_board.specs.Run.{texts_for};
 
-use any_part::AnyPart;
 use board_build::PlanPart;
-use board_report::write_report_of;
+use board_report::{Shown, write_report_of};
 use board_run::{Board, RunEnd};
+use part_law::Part;
 use sim_base::{Bench, MOST_CYCLES, Port, Steps, WriteEnd};
 use std::snapshot::Snapshot;
 use std::sync::ledger::Ledger;
@@ -43,8 +42,8 @@ fn open_named<B: Bench>(port: Port, name: Option<&str>, bench: &mut B) -> WriteE
 }
 
 /// Runs the board from cycle 0 up to cycle `n` and writes what is wanted of its wave and its bytes.
-fn play<B: Bench, L: Ledger>(
-    board: &mut Board<AnyPart>,
+fn play<P: Part, B: Bench, L: Ledger>(
+    board: &mut Board<P>,
     head: &mut WaveHead,
     n: u32,
     wave: bool,
@@ -58,10 +57,10 @@ fn play<B: Bench, L: Ledger>(
     requires some { 0 < n }
     requires end { n ≤ MOST_CYCLES }
     requires opened { wave ≡ true → (B.outside bench.old).opened Port.Wave ≡ true }
-    ensures wrote { WritesTexts result (texts wave serial (wave_text head.old.variables (rows any board.old.wiring board.old.inputs None (map state_of board.old.parts) 0 n) n) (bytes any board.old.wiring board.old.inputs (map state_of board.old.parts) 0 n)) (B.outside bench.old) (B.outside bench.new) }
+    ensures wrote { WritesTexts result (texts wave serial (wave_text head.old.variables (rows P.machine board.old.wiring board.old.inputs None (map P.state board.old.parts) 0 n) n) (bytes P.machine board.old.wiring board.old.inputs (map P.state board.old.parts) 0 n)) (B.outside bench.old) (B.outside bench.new) }
     ensures alive { result ≡ WriteEnd.Ok → board.new.given_up ≡ false }
-    ensures states { result ≡ WriteEnd.Ok → map state_of board.new.parts ≡ states any board.old.wiring board.old.inputs (map state_of board.old.parts) 0 n }
-    ensures steps { result ≡ WriteEnd.Ok → steps.new ≡ steps.old + active_pairs any board.old.wiring board.old.inputs (map state_of board.old.parts) 0 n }
+    ensures states { result ≡ WriteEnd.Ok → map P.state board.new.parts ≡ states P.machine board.old.wiring board.old.inputs (map P.state board.old.parts) 0 n }
+    ensures steps { result ≡ WriteEnd.Ok → steps.new ≡ steps.old + active_pairs P.machine board.old.wiring board.old.inputs (map P.state board.old.parts) 0 n }
 {
     let start = Snapshot::of(&*bench);
     let mut writer = WaveWriter::new(head, bench, &start, wave, serial);
@@ -71,31 +70,33 @@ fn play<B: Bench, L: Ledger>(
     }
 }
 
-/// Writes the report of a board after `n` cycles, where it is wanted.
-fn report<B: Bench>(
+/// Writes the report of a board after `n` cycles, where it is wanted, with the lines of its chips or without.
+fn report<P: Part + Shown, B: Bench>(
     wanted: bool,
     n: u32,
+    chips: bool,
     plan: &[PlanPart],
-    board: &Board<AnyPart>,
+    board: &Board<P>,
     bench: &mut B,
 ) -> WriteEnd
     requires alive { board.now.given_up ≡ false }
     requires opened { wanted ≡ true → (B.outside bench.old).opened Port.Report ≡ true }
-    ensures { Reports wanted (report_text n plan.now (map state_of board.now.parts)) result (B.outside bench.old) (B.outside bench.new) }
+    ensures { Reports wanted (shown_text P.says chips n plan.now (map P.stood board.now.parts)) result (B.outside bench.old) (B.outside bench.new) }
 {
     if wanted {
-        write_report_of(n, plan, board.parts().as_slice(), bench)
+        write_report_of(n, chips, plan, board.parts().as_slice(), bench)
     } else {
         WriteEnd::Ok
     }
 }
 
 /// Opens the outputs, runs the board from cycle 0 up to cycle `n`, and writes its texts: first the wave
-/// and the bytes while it runs, then the report.
-pub(crate) fn write_run<B: Bench, L: Ledger>(
-    board: &mut Board<AnyPart>,
+/// and the bytes while it runs, then the report, with the lines of its chips or without.
+pub fn write_run<P: Part + Shown, B: Bench, L: Ledger>(
+    board: &mut Board<P>,
     head: &mut WaveHead,
     plan: &[PlanPart],
+    chips: bool,
     n: u32,
     outputs: Outputs,
     bench: &mut B,
@@ -106,12 +107,14 @@ pub(crate) fn write_run<B: Bench, L: Ledger>(
     requires before { board.old.before ≡ None }
     requires some { 0 < n }
     requires end { n ≤ MOST_CYCLES }
-    ensures wrote { Writes result (texts_for (outputs_of outputs.entry)
-        (wave_text head.old.variables (rows any board.old.wiring board.old.inputs None (map state_of board.old.parts) 0 n) n)
-        (bytes any board.old.wiring board.old.inputs (map state_of board.old.parts) 0 n)
-        (report_text n plan.now (states any board.old.wiring board.old.inputs (map state_of board.old.parts) 0 n))
-        (active_pairs any board.old.wiring board.old.inputs (map state_of board.old.parts) 0 n)) (B.outside bench.old) (B.outside bench.new) }
-    ensures steps { result ≡ WriteEnd.Ok → steps.new ≡ steps.old + active_pairs any board.old.wiring board.old.inputs (map state_of board.old.parts) 0 n }
+    ensures wrote { (stand : List P.Stood) →
+        ((parts : List P) → map P.state parts ≡ states P.machine board.old.wiring board.old.inputs (map P.state board.old.parts) 0 n → map P.stood parts ≡ stand) →
+        Writes result (texts_for (outputs_of outputs.entry)
+        (wave_text head.old.variables (rows P.machine board.old.wiring board.old.inputs None (map P.state board.old.parts) 0 n) n)
+        (bytes P.machine board.old.wiring board.old.inputs (map P.state board.old.parts) 0 n)
+        (shown_text P.says chips n plan.now stand)
+        (active_pairs P.machine board.old.wiring board.old.inputs (map P.state board.old.parts) 0 n)) (B.outside bench.old) (B.outside bench.new) }
+    ensures steps { result ≡ WriteEnd.Ok → steps.new ≡ steps.old + active_pairs P.machine board.old.wiring board.old.inputs (map P.state board.old.parts) 0 n }
 {
     match open_named(Port::Wave, outputs.wave, bench) {
         WriteEnd::Ok => {}
@@ -126,5 +129,5 @@ pub(crate) fn write_run<B: Bench, L: Ledger>(
         WriteEnd::Ok => {}
         WriteEnd::Failed => return WriteEnd::Failed,
     }
-    report(outputs.report.is_some(), n, plan, board, bench)
+    report(outputs.report.is_some(), n, chips, plan, board, bench)
 }

@@ -24,11 +24,7 @@ use std::sync::ledger::Ledger;
 use vcd_text::WaveHead;
 
 /// The head of the wave, with the room for its text.
-pub(crate) fn make_head(
-    alloc: Global,
-    plan: &Plan,
-    chips: &[ChipSource],
-) -> Result<WaveHead, OutOfMemory>
+pub fn make_head(alloc: Global, plan: &Plan, chips: &[ChipSource]) -> Result<WaveHead, OutOfMemory>
     requires plan { IsPlan (pins_of chips.now) plan.now }
     requires few_pins { All HasFewPins chips.now }
     ensures { IfOk result (λ h. h.variables ≡ board_variables (pins_of chips.now) plan.now) }
@@ -73,6 +69,7 @@ pub fn run_board<B: Bench, L: Ledger>(
         &mut board,
         &mut head,
         planned.as_slice(),
+        true,
         n,
         outputs,
         bench,

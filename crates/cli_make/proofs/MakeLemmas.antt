@@ -45,7 +45,7 @@ one_bytes name bytes = record { one_sided = sided; one_given = λ files x y e f.
 
 -- what comes behind the plan
 abbrev pub with_plan : List ℕ → ChipSource → Plan → Reading Work
-with_plan flash chip plan = Is (λ (files : Files). Ok (record { flash = flash; chips = chip ∷ []; plan = plan }))
+with_plan flash chip plan = Is (λ (files : Files). Ok (record { flash = flash; chips = chip ∷ []; plan = plan; wave = [] }))
 
 one_made : (seed : ℕ) → IsOneReading (MadeIn seed)
 one_made seed =

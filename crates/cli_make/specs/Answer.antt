@@ -1,8 +1,8 @@
 -- What `make SEED --us N` is answered with (profile).
-use Rattle.std.specs.Prelude.{◌*◌, ℕ, List, [], ◌∷◌, ◌++◌, length, codes, decimal, None, Some, Result, Ok}
+use Rattle.std.specs.Prelude.{◌*◌, ℕ, List, [], ◌∷◌, ◌++◌, length, codes, decimal, None, Some, Result}
 use Rattle.sim_base.specs.Outside.{Files}
 use Rattle.outcome_model.specs.Stop.{Stop, Texts, JudgedAs, printed}
-use Rattle.outcome_model.specs.Work.{Reading, Is, Then}
+use Rattle.outcome_model.specs.Work.{Reading, Then}
 use Rattle.outcome_model.specs.Happens.{AnswerOf}
 use Rattle.document_model.specs.declared.project.Project.{Project}
 use Rattle.document_model.specs.declared.diagram.Diagram.{Diagram}
@@ -11,7 +11,7 @@ use Rattle.board_make.specs.Firmware.{image}
 use Rattle.board_make.specs.Inverter.{inverter}
 use Rattle.chip_module.specs.Binary.{Binary, Judges}
 use Rattle.chip_module.specs.declared.source.ChipSource.{ChipSource}
-use Rattle.project_model.specs.Work.{Work, PlanIn, in_folder}
+use Rattle.project_model.specs.Work.{Work, BehindScript, in_folder}
 use Rattle.any_part.specs.Start.{Contents}
 use Rattle.vcd_text.specs.Writers.{capped}
 use Rattle.cli_board.specs.Counted.{run_changes}
@@ -29,10 +29,9 @@ JudgedBytes name bytes files = JudgedAs name (Judges bytes)
 abbrev pub source : Binary → ChipSource
 source binary = record { binary = binary; pins = chip_pins }
 
--- the board of a project with one chip, by the rules of boards
+-- the board of a project with one chip and no script, by the rules of boards
 abbrev pub BehindModule : Project → List ℕ → Diagram → ChipSource → Reading Work
-BehindModule made flash board chip =
-    Then (PlanIn folder None made board (chip ∷ []) []) (λ plan. Is (λ files. Ok (record { flash = flash; chips = chip ∷ []; plan = plan })))
+BehindModule made flash board chip = BehindScript folder None made flash board (chip ∷ []) [] []
 
 -- The generated project of a seed: its module by the rules of modules, and then the board by its rules.
 abbrev pub MadeIn : ℕ → Reading Work

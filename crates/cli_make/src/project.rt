@@ -74,7 +74,15 @@ fn behind_module(
         chips.as_slice(),
         &rows,
     ) {
-        Ok(plan) => Ok(Work { flash, chips, plan }),
+        Ok(plan) => {
+            let wave = Vec::new(alloc);
+            Ok(Work {
+                flash,
+                chips,
+                plan,
+                wave,
+            })
+        }
         Err(end) => Err(end),
     }
 }

@@ -51,7 +51,12 @@ fn counted_line<B: Bench, L: Ledger>(
     ensures reads { (B.outside bench.new).read_faults ≡ (B.outside bench.old).read_faults }
     ensures steps { IfOk result (λ s. steps.new ≡ steps.old + run_wakes (contents (work_of work)) work.plan n) }
 {
-    let Work { flash, chips, plan } = work;
+    let Work {
+        flash,
+        chips,
+        plan,
+        ..
+    } = work;
     let (changes, sent) = count_board(
         alloc,
         flash,

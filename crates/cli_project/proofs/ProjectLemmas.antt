@@ -14,9 +14,9 @@ use Rattle.script_text.specs.Script.{script_of}
 use Rattle.outcome_model.specs.Stop.{Stop, Texts, accepted}
 use Rattle.outcome_model.specs.Outcome.{Outcome, Stopped, OutOfMemory}
 use Rattle.outcome_model.specs.Work.{Reading, Is, ReadStops, Got, IsSteady, IsOneReading}
-use Rattle.outcome_model.proofs.ReadLemmas.{if_always, first_stops, got_both, steady_file, steady_both, steady_rule, one_file, one_function, one_both}
+use Rattle.outcome_model.proofs.ReadLemmas.{if_always, first_stops, got_both, steady_file, steady_within, steady_both, steady_rule, one_file, one_within, one_function, one_both}
 use Rattle.outcome_model.proofs.JudgeLemmas.{steady_judged, one_judged}
-use Rattle.project_model.specs.Work.{Work, in_folder, ChipIn, ChipsAfter, PinsIn, ScriptIn, WorkIn}
+use Rattle.project_model.specs.Work.{Work, in_folder, ChipIn, ChipsAfter, PinsIn, ScriptIn, WaveIn, WorkIn}
 use Rattle.outcome_model.specs.Happens.{Ends}
 use Rattle.outcome_model.specs.Promises.{IsOne}
 use Rattle.outcome_model.proofs.EndLemmas.{answered, answer_stops, only_texts, one_answer}
@@ -25,6 +25,10 @@ use Rattle.cli_project.specs.Answer.{CheckAnswer}
 pub steady_script : (script : Option (List ℕ)) → IsSteady (ScriptIn script)
 steady_script None = λ files name x e. inl e
 steady_script (Some name) = steady_file name script_of
+
+pub steady_wave : (wave : Option (List ℕ)) → IsSteady (WaveIn wave)
+steady_wave None = λ files name x e. inl e
+steady_wave (Some name) = steady_within 16777216 name (λ bytes. Ok bytes)
 
 -- the files of chips are read alike where another is not there
 module _ (folder : List ℕ) where
@@ -98,7 +102,7 @@ rule_stops result s said a e (inl is) = rw is (if_always a.files _ (λ files. e)
 rule_stops result s said a e (inr is) = rw is tt
 
 -- A project holds one work.
-module _ (folder : List ℕ) (script : Option (List ℕ)) where
+module _ (folder : List ℕ) (script wave : Option (List ℕ)) where
   one_chip : (chip : ChipFile) → IsOneReading (ChipIn folder chip)
   one_chip chip =
       one_both _ _ (one_judged (in_folder folder chip.binary) Judges one_binary not_both) (λ binary.
@@ -113,14 +117,30 @@ module _ (folder : List ℕ) (script : Option (List ℕ)) where
   one_script None = one_function _
   one_script (Some name) = one_file name script_of
 
-  pub one_work : IsOneReading (WorkIn folder script)
+  one_wave : (wave : Option (List ℕ)) → IsOneReading (WaveIn wave)
+  one_wave None = one_function _
+  one_wave (Some name) = one_within 16777216 name (λ bytes. Ok bytes)
+
+  -- it is read alike where another file is not there
+  pub steady_work : IsSteady (WorkIn folder script wave)
+  steady_work =
+      steady_both _ _ (steady_file _ project_text) (λ project.
+      steady_both _ _ (steady_file _ hex_image) (λ flash.
+      steady_both _ _ (steady_file _ diagram_text) (λ diagram.
+      steady_both _ _ (steady_chips folder [] project.chips) (λ chips.
+      steady_both _ _ (steady_script script) (λ rows.
+      steady_both _ _ (steady_wave wave) (λ bytes.
+      steady_both _ _ (steady_rule _) (λ plan. steady_rule _)))))))
+
+  pub one_work : IsOneReading (WorkIn folder script wave)
   one_work =
       one_both _ _ (one_file _ project_text) (λ project.
       one_both _ _ (one_file _ hex_image) (λ flash.
       one_both _ _ (one_file _ diagram_text) (λ diagram.
       one_both _ _ (one_chips [] project.chips) (λ chips.
       one_both _ _ (one_script script) (λ rows.
-      one_both _ _ (one_function _) (λ plan. one_function _))))))
+      one_both _ _ (one_wave wave) (λ bytes.
+      one_both _ _ (one_function _) (λ plan. one_function _)))))))
 
 module _ (folder : List ℕ) where
   -- the answer to `check`
@@ -129,16 +149,16 @@ module _ (folder : List ℕ) where
 
   pub one_check : IsOne (CheckAnswer folder)
   unfolding CheckAnswer
-  one_check = one_answer (WorkIn folder None) texts_by (one_work folder None)
+  one_check = one_answer (WorkIn folder None None) texts_by (one_work folder None None)
 
-  pub check_answer : (told : Option Files) (work : Work) → IfSome told (λ files. WorkIn folder None files (Ok work)) → IfSome told (λ files. CheckAnswer folder files (Ok accepted))
+  pub check_answer : (told : Option Files) (work : Work) → IfSome told (λ files. WorkIn folder None None files (Ok work)) → IfSome told (λ files. CheckAnswer folder files (Ok accepted))
   unfolding CheckAnswer
-  check_answer = answered (WorkIn folder None) texts_by
+  check_answer = answered (WorkIn folder None None) texts_by
 
-  pub check_stops : (o : Outcome) (a b : Outside) → ReadStops o (WorkIn folder None) a b → SamePorts a b → Ends (CheckAnswer folder) o a b
+  pub check_stops : (o : Outcome) (a b : Outside) → ReadStops o (WorkIn folder None None) a b → SamePorts a b → Ends (CheckAnswer folder) o a b
   unfolding CheckAnswer
-  check_stops = answer_stops (WorkIn folder None) texts_by
+  check_stops = answer_stops (WorkIn folder None None) texts_by
 
   pub check_only : (files : Files) (t : Texts) → CheckAnswer folder files (Ok t) → t ≡ accepted
   unfolding CheckAnswer
-  check_only files t e = only_texts (WorkIn folder None) texts_by accepted (λ work. refl) files t e
+  check_only files t e = only_texts (WorkIn folder None None) texts_by accepted (λ work. refl) files t e

@@ -7,4 +7,4 @@ use Rattle.project_model.specs.Work.{WorkIn}
 
 -- that the project is accepted, or what is wrong with it first
 unfoldable pub CheckAnswer : List ℕ → Files → Result Texts Stop → Type 0
-CheckAnswer folder = AnswerOf (WorkIn folder None) (λ work. accepted)
+CheckAnswer folder = AnswerOf (WorkIn folder None None) (λ work. accepted)

@@ -16,7 +16,7 @@ pub fn check<B: Bench>(alloc: Global, folder: &str, bench: &mut B) -> WorkEnd
     ensures ends { Ends (CheckAnswer folder.now) (outcome_of result) (B.outside bench.old) (B.outside bench.new) }
     ensures silent { SaidNothing (B.outside bench.old) (B.outside bench.new) }
 {
-    match read_work(alloc, folder, None, bench) {
+    match read_work(alloc, folder, None, None, bench) {
         Ok(_) => write_text(bench, Port::Report, &[b"accepted\n"]),
         Err(outcome) => outcome,
     }

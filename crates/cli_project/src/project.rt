@@ -1,4 +1,4 @@
-//! A project, from its folder, with a script.
+//! A project, from its folder, with a script and a wave.
 ghost use Rattle.std.specs.Prelude.{◌≡◌, ◌⊎◌, ◌≤◌, IfOk, length};
 ghost use Rattle.std.specs.List.{All};
 ghost use Rattle.std.specs.Option.{option_map};
@@ -10,26 +10,27 @@ ghost use Rattle.board_model.specs.Fits.{AreInputs};
 ghost use Rattle.board_build.specs.IsPlan.{IsPlan};
 ghost use Rattle.chip_module.specs.Sources.{HasFewPins, pins_of};
 ghost use Rattle.cli_work.specs.Outcomes.{outcome_of};
-ghost use Rattle.project_model.specs.Work.{file_of_rule, ScriptIn, PlanIn, BehindChips, BehindDiagram, BehindFirmware, BehindProject, WorkIn};
+ghost use Rattle.project_model.specs.Work.{file_of_rule, ScriptIn, WaveIn, PlanIn, BehindChips, BehindDiagram, BehindFirmware, BehindProject, WorkIn};
 ghost use Rattle.cli_project.specs.Works.{IsRising, cycles_of, work_of};
 
 use crate::chips::{pins_of, read_chips};
 use crate::documents::{DiagramFile, ProjectFile, ScriptFile, name_in, read_in};
 use board_build::{Plan, build};
 use chip_module::ChipSource;
-use cli_work::{HexFile, Stop, WorkEnd, read_document, stopped};
+use cli_work::{HexFile, Stop, WorkEnd, read_document, read_within, stopped};
 use document_model::{Diagram, Project};
 use input_texts::Script;
 use sim_base::refusals::SCRIPT_PART;
 use sim_base::{Bench, Fault, Flash, List, Refusal};
 use std::alloc::Global;
 
-/// The firmware, the chips in the order of the project, and the plan of its board.
+/// The firmware, the chips in the order of the project, the plan of its board, and the bytes of a wave.
 #[derive(Drop)]
 pub struct Work {
     pub flash: Flash,
     pub chips: List<ChipSource>,
     pub plan: Plan,
+    pub wave: Vec<u8>,
 }
 
 /// The end of the work by a rule of the board, with the file that the rule names; out of memory where
@@ -48,8 +49,8 @@ fn refused_by_rule(alloc: Global, folder: &str, script: Option<&str>, refusal: R
     }
 }
 
-/// The plan of a project, its diagram, its chips and its script, or the end of the work by a rule of the board, which names
-/// the script, if it is named, or the folder's diagram.
+/// The plan of a project, its diagram, its chips and its script, or the end of the work by a rule of the board, which names the
+/// script, if it is named, or the folder's diagram.
 pub fn plan_board(
     alloc: Global,
     folder: &str,
@@ -94,11 +95,31 @@ fn read_script_of<B: Bench>(
     }
 }
 
-/// The script, and then the rules of the board.
+/// The bytes of a wave, none where no wave is named.
+fn read_wave_of<B: Bench>(
+    alloc: Global,
+    wave: Option<&str>,
+    bench: &mut B,
+) -> Result<Vec<u8>, WorkEnd>
+    ensures got { Got (λ w. w.items) outcome_of result (WaveIn (option_map (λ s. s.now) wave.entry)) (B.outside bench.old) (B.outside bench.new) }
+    ensures ports { SamePorts (B.outside bench.old) (B.outside bench.new) }
+    ensures short { IfOk result (λ w. length w.items ≤ 16777216) }
+{
+    match wave {
+        Some(name) => match read_within(alloc, 16_777_216, name, bench) {
+            Ok(bytes) => Ok(bytes),
+            Err(stop) => Err(stopped(alloc, name, stop)),
+        },
+        None => Ok(Vec::new(alloc)),
+    }
+}
+
+/// The script, the wave, and then the rules of the board.
 fn read_behind_chips<B: Bench>(
     alloc: Global,
     folder: &str,
     script: Option<&str>,
+    wave: Option<&str>,
     project: &Project,
     flash: Flash,
     diagram: &Diagram,
@@ -109,13 +130,15 @@ fn read_behind_chips<B: Bench>(
     requires each { length chips ≡ length project.now.chips }
     requires pins { All HasFewPins chips }
     requires parts { length diagram.now.parts ≤ 64 }
-    ensures got { Got work_of outcome_of result (BehindChips folder.now (option_map (λ s. s.now) script.entry) project.now flash diagram.now chips) (B.outside bench.old) (B.outside bench.new) }
+    ensures got { Got work_of outcome_of result (BehindChips folder.now (option_map (λ s. s.now) script.entry) (option_map (λ s. s.now) wave.entry) project.now flash diagram.now chips) (B.outside bench.old) (B.outside bench.new) }
     ensures ports { SamePorts (B.outside bench.old) (B.outside bench.new) }
     ensures plan { IfOk result (λ w. IsPlan (pins_of w.chips) w.plan) }
     ensures few { IfOk result (λ w. All HasFewPins w.chips) }
     ensures inputs { IfOk result (λ w. AreInputs (length w.plan.parts) w.plan.inputs) }
+    ensures short { IfOk result (λ w. length w.wave.items ≤ 16777216) }
 {
     let rows = read_script_of(alloc, script, bench)?;
+    let wave = read_wave_of(alloc, wave, bench)?;
     let plan = plan_board(
         alloc,
         folder,
@@ -125,7 +148,12 @@ fn read_behind_chips<B: Bench>(
         chips.as_slice(),
         &rows,
     )?;
-    Ok(Work { flash, chips, plan })
+    Ok(Work {
+        flash,
+        chips,
+        plan,
+        wave,
+    })
 }
 
 /// The chips, and what comes behind them.
@@ -133,6 +161,7 @@ fn read_behind_diagram<B: Bench>(
     alloc: Global,
     folder: &str,
     script: Option<&str>,
+    wave: Option<&str>,
     project: &Project,
     flash: Flash,
     diagram: &Diagram,
@@ -140,14 +169,17 @@ fn read_behind_diagram<B: Bench>(
 ) -> Result<Work, WorkEnd>
     requires chips { length project.now.chips ≤ 8 }
     requires parts { length diagram.now.parts ≤ 64 }
-    ensures got { Got work_of outcome_of result (BehindDiagram folder.now (option_map (λ s. s.now) script.entry) project.now flash diagram.now) (B.outside bench.old) (B.outside bench.new) }
+    ensures got { Got work_of outcome_of result (BehindDiagram folder.now (option_map (λ s. s.now) script.entry) (option_map (λ s. s.now) wave.entry) project.now flash diagram.now) (B.outside bench.old) (B.outside bench.new) }
     ensures ports { SamePorts (B.outside bench.old) (B.outside bench.new) }
     ensures plan { IfOk result (λ w. IsPlan (pins_of w.chips) w.plan) }
     ensures few { IfOk result (λ w. All HasFewPins w.chips) }
     ensures inputs { IfOk result (λ w. AreInputs (length w.plan.parts) w.plan.inputs) }
+    ensures short { IfOk result (λ w. length w.wave.items ≤ 16777216) }
 {
     let chips = read_chips(alloc, folder, project.chips.as_slice(), bench)?;
-    read_behind_chips(alloc, folder, script, project, flash, diagram, chips, bench)
+    read_behind_chips(
+        alloc, folder, script, wave, project, flash, diagram, chips, bench,
+    )
 }
 
 /// The diagram, and what comes behind it.
@@ -155,19 +187,21 @@ fn read_behind_firmware<B: Bench>(
     alloc: Global,
     folder: &str,
     script: Option<&str>,
+    wave: Option<&str>,
     project: &Project,
     flash: Flash,
     bench: &mut B,
 ) -> Result<Work, WorkEnd>
     requires chips { length project.now.chips ≤ 8 }
-    ensures got { Got work_of outcome_of result (BehindFirmware folder.now (option_map (λ s. s.now) script.entry) project.now flash) (B.outside bench.old) (B.outside bench.new) }
+    ensures got { Got work_of outcome_of result (BehindFirmware folder.now (option_map (λ s. s.now) script.entry) (option_map (λ s. s.now) wave.entry) project.now flash) (B.outside bench.old) (B.outside bench.new) }
     ensures ports { SamePorts (B.outside bench.old) (B.outside bench.new) }
     ensures plan { IfOk result (λ w. IsPlan (pins_of w.chips) w.plan) }
     ensures few { IfOk result (λ w. All HasFewPins w.chips) }
     ensures inputs { IfOk result (λ w. AreInputs (length w.plan.parts) w.plan.inputs) }
+    ensures short { IfOk result (λ w. length w.wave.items ≤ 16777216) }
 {
     let diagram = read_in::<DiagramFile, B>(alloc, folder, "diagram.json", bench)?;
-    read_behind_diagram(alloc, folder, script, project, flash, &diagram, bench)
+    read_behind_diagram(alloc, folder, script, wave, project, flash, &diagram, bench)
 }
 
 /// The firmware, and what comes behind it.
@@ -175,34 +209,38 @@ fn read_behind_project<B: Bench>(
     alloc: Global,
     folder: &str,
     script: Option<&str>,
+    wave: Option<&str>,
     project: &Project,
     bench: &mut B,
 ) -> Result<Work, WorkEnd>
     requires chips { length project.now.chips ≤ 8 }
-    ensures got { Got work_of outcome_of result (BehindProject folder.now (option_map (λ s. s.now) script.entry) project.now) (B.outside bench.old) (B.outside bench.new) }
+    ensures got { Got work_of outcome_of result (BehindProject folder.now (option_map (λ s. s.now) script.entry) (option_map (λ s. s.now) wave.entry) project.now) (B.outside bench.old) (B.outside bench.new) }
     ensures ports { SamePorts (B.outside bench.old) (B.outside bench.new) }
     ensures plan { IfOk result (λ w. IsPlan (pins_of w.chips) w.plan) }
     ensures few { IfOk result (λ w. All HasFewPins w.chips) }
     ensures inputs { IfOk result (λ w. AreInputs (length w.plan.parts) w.plan.inputs) }
+    ensures short { IfOk result (λ w. length w.wave.items ≤ 16777216) }
 {
     let flash = read_in::<HexFile, B>(alloc, folder, project.firmware.as_str(), bench)?;
-    read_behind_firmware(alloc, folder, script, project, flash, bench)
+    read_behind_firmware(alloc, folder, script, wave, project, flash, bench)
 }
 
-/// The work that a folder and a script hold: the project file, the firmware, the diagram, of each chip
-/// its module and its pins, and the script, read in this order, each checked before the next, and then the rules of the board.
+/// The work that a folder, a script and a wave hold: the project file, the firmware, the diagram, of each chip
+/// its module and its pins, the script and the wave, read in this order, each checked before the next, and then the rules of the board.
 pub fn read_work<B: Bench>(
     alloc: Global,
     folder: &str,
     script: Option<&str>,
+    wave: Option<&str>,
     bench: &mut B,
 ) -> Result<Work, WorkEnd>
-    ensures got { Got work_of outcome_of result (WorkIn folder.now (option_map (λ s. s.now) script.entry)) (B.outside bench.old) (B.outside bench.new) }
+    ensures got { Got work_of outcome_of result (WorkIn folder.now (option_map (λ s. s.now) script.entry) (option_map (λ s. s.now) wave.entry)) (B.outside bench.old) (B.outside bench.new) }
     ensures ports { SamePorts (B.outside bench.old) (B.outside bench.new) }
     ensures plan { IfOk result (λ w. IsPlan (pins_of w.chips) w.plan) }
     ensures few { IfOk result (λ w. All HasFewPins w.chips) }
     ensures inputs { IfOk result (λ w. AreInputs (length w.plan.parts) w.plan.inputs) }
+    ensures short { IfOk result (λ w. length w.wave.items ≤ 16777216) }
 {
     let project = read_in::<ProjectFile, B>(alloc, folder, "wokwi.toml", bench)?;
-    read_behind_project(alloc, folder, script, &project, bench)
+    read_behind_project(alloc, folder, script, wave, &project, bench)
 }

@@ -1,5 +1,5 @@
 -- The answer to `run`.
-use Rattle.std.proofs.Common.{◌≡◌, ◌∙◌, ◌*◌, ℕ, List, Option, Result, Ok, Err, IfSome, refl, ap, sym}
+use Rattle.std.proofs.Common.{◌≡◌, ◌∙◌, ◌*◌, ℕ, List, Option, None, Result, Ok, Err, IfSome, refl, ap, sym}
 use Rattle.sim_base.specs.Outside.{Outside, SamePorts, Files}
 use Rattle.outcome_model.specs.Stop.{Stop, Texts}
 use Rattle.outcome_model.specs.Outcome.{Outcome}
@@ -24,29 +24,29 @@ module _ (folder : List ℕ) (us : ℕ) (script : Option (List ℕ)) (budget : �
 
   pub one_run : IsOne (RunAnswer folder us script budget out)
   unfolding RunAnswer
-  one_run = one_answer (WorkIn folder script) texts_by (one_work folder script)
+  one_run = one_answer (WorkIn folder script None) texts_by (one_work folder script None)
 
-  pub run_answer : (told : Option Files) (work : Work) → IfSome told (λ files. WorkIn folder script files (Ok work)) → IfSome told (λ files. RunAnswer folder us script budget out files (Ok (run_texts out (contents work budget) work.plan (16 * us))))
+  pub run_answer : (told : Option Files) (work : Work) → IfSome told (λ files. WorkIn folder script None files (Ok work)) → IfSome told (λ files. RunAnswer folder us script budget out files (Ok (run_texts out (contents work budget) work.plan (16 * us))))
   unfolding RunAnswer
-  run_answer = answered (WorkIn folder script) texts_by
+  run_answer = answered (WorkIn folder script None) texts_by
 
-  pub run_stops : (o : Outcome) (a b : Outside) → ReadStops o (WorkIn folder script) a b → SamePorts a b → Ends (RunAnswer folder us script budget out) o a b
+  pub run_stops : (o : Outcome) (a b : Outside) → ReadStops o (WorkIn folder script None) a b → SamePorts a b → Ends (RunAnswer folder us script budget out) o a b
   unfolding RunAnswer
-  run_stops = answer_stops (WorkIn folder script) texts_by
+  run_stops = answer_stops (WorkIn folder script None) texts_by
 
   -- the work that was read is isolated, since `build` answered its plan
   pub isolated_answer : (told : Option Files) (work : Work) → IsPlan (pins_of work.chips) work.plan →
-      IfSome told (λ files. WorkIn folder script files (Ok work)) →
+      IfSome told (λ files. WorkIn folder script None files (Ok work)) →
       IfSome told (λ files. AnswerSuch Isolated folder us script budget out files (Ok (run_texts out (contents work budget) work.plan (16 * us))))
   unfolding AnswerSuch
   isolated_answer told work is read =
       let so = isolated (contents work budget) work.plan is (16 * us) in
-      if_some told _ _ (λ (files : Files) (e : WorkIn folder script files (Ok work)). (Ok work, (e, so), refl)) read
+      if_some told _ _ (λ (files : Files) (e : WorkIn folder script None files (Ok work)). (Ok work, (e, so), refl)) read
 
-  pub isolated_stops : (o : Outcome) (a b : Outside) → ReadStops o (WorkIn folder script) a b → SamePorts a b →
+  pub isolated_stops : (o : Outcome) (a b : Outside) → ReadStops o (WorkIn folder script None) a b → SamePorts a b →
       Ends (AnswerSuch Isolated folder us script budget out) o a b
   unfolding AnswerSuch
-  isolated_stops = stopped_by (AnswerSuch Isolated folder us script budget out) (WorkIn folder script) (λ files s e. (Err s, e, refl))
+  isolated_stops = stopped_by (AnswerSuch Isolated folder us script budget out) (WorkIn folder script None) (λ files s e. (Err s, e, refl))
 
   -- what is true of a run that is isolated
   pub played_answer : (files : Files) (t : Texts) → AnswerSuch Isolated folder us script budget out files (Ok t) →

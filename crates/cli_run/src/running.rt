@@ -35,9 +35,14 @@ pub fn run<B: Bench, L: Ledger>(
     ensures counts { Counts (RunAnswer folder.now micros (option_map (λ s. s.now) script.entry) budget (outputs_of outputs.entry)) (outcome_of result) (B.outside bench.old) steps.old steps.new }
     ensures silent { SaidNothing (B.outside bench.old) (B.outside bench.new) }
 {
-    match read_work(alloc, folder, script, bench) {
+    match read_work(alloc, folder, script, None, bench) {
         Ok(work) => {
-            let Work { flash, chips, plan } = work;
+            let Work {
+                flash,
+                chips,
+                plan,
+                ..
+            } = work;
             run_board(
                 alloc,
                 flash,

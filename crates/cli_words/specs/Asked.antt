@@ -18,6 +18,7 @@ asked_of (requests.Bare hex micros) = asks.Bare hex.now micros
 asked_of (requests.Check folder) = asks.Check folder.now
 asked_of (requests.Module file) = asks.Module file.now
 asked_of (requests.Run folder micros budget named) = asks.Run folder.now micros budget (named_by named)
+asked_of (requests.Replay folder wave micros named) = asks.Replay folder.now wave.now micros (named_by named)
 asked_of (requests.Make seed micros) = asks.Make seed micros
 
 -- the number of microseconds is one that words can give
@@ -26,4 +27,5 @@ IsRunTime (requests.Bare hex micros) = (0 < micros) × (micros ≤ 10000000)
 IsRunTime (requests.Check folder) = Unit {0}
 IsRunTime (requests.Module file) = Unit {0}
 IsRunTime (requests.Run folder micros budget named) = (0 < micros) × (micros ≤ 10000000)
+IsRunTime (requests.Replay folder wave micros named) = (0 < micros) × (micros ≤ 10000000)
 IsRunTime (requests.Make seed micros) = (0 < micros) × (micros ≤ 10000000)

@@ -2,7 +2,7 @@
 ghost use Rattle.std.specs.Prelude.{◌≡◌, ◌≤◌, ◌<◌, map, string_bytes, IfOk, IfSome};
 ghost use Rattle.std.specs.Option.{option_map, option_and_then};
 ghost use Rattle.words_model.specs.Words.{Given, texts_of};
-ghost use Rattle.words_model.specs.Request.{request_of, asked_by, bare_syntax, bare_of, check_syntax, check_of, module_syntax, module_of, run_syntax, run_of, path_of, file_of, named_of, micros_of, budget_of, seed_of, make_syntax, make_of};
+ghost use Rattle.words_model.specs.Request.{request_of, asked_by, bare_syntax, bare_of, check_syntax, check_of, module_syntax, module_of, run_syntax, run_of, replay_syntax, replay_of, seed_of, make_syntax, make_of, path_of, file_of, named_of, micros_of, budget_of};
 ghost use Rattle.cli_words.specs.Commands.{AreOf};
 ghost use Rattle.cli_words.specs.Asked.{asked_of, named_by, IsRunTime};
 
@@ -31,6 +31,9 @@ pub enum Request<'a> {
     /// A run of the project of a folder for so many microseconds, in which each call of a chip may
     /// spend so many units of fuel, with the files that are named.
     Run(&'a str, u32, u32, NamedFiles<'a>),
+    /// A run of the project of a folder with a player of what a wave says in place of each chip, for
+    /// so many microseconds, with the files that are named.
+    Replay(&'a str, &'a str, u32, NamedFiles<'a>),
     /// A run of the board that is generated from a seed, for so many microseconds.
     Make(u32, u32),
 }
@@ -189,6 +192,23 @@ fn read_run(alloc: Global, given: &[String]) -> Result<Option<Request<'_>>, Allo
     }
 }
 
+fn replay<'a>(matches: &ArgMatches<'a>) -> Option<Request<'a>>
+    ensures asked { (given : Given) → AreOf given matches.now → option_map asked_of result ≡ replay_of given }
+    ensures run_time { IfSome result IsRunTime }
+{
+    match (
+        path(matches, "folder"),
+        path(matches, "wave"),
+        micros(matches),
+        named(matches),
+    ) {
+        (Some(folder), Some(wave), Some(micros), Some(named)) => {
+            Some(Request::Replay(folder, wave, micros, named))
+        }
+        _ => None,
+    }
+}
+
 /// The seed of a generated board.
 fn seed(matches: &ArgMatches) -> Option<u32>
     ensures { (given : Given) → AreOf given matches.now → result ≡ seed_of given }
@@ -206,6 +226,22 @@ fn make<'a>(matches: &ArgMatches<'a>) -> Option<Request<'a>>
     match (seed(matches), micros(matches)) {
         (Some(seed), Some(micros)) => Some(Request::Make(seed, micros)),
         _ => None,
+    }
+}
+
+/// `replay FOLDER WAVE --us N [--script FILE] [--vcd FILE] [--report FILE]`
+fn read_replay(alloc: Global, given: &[String]) -> Result<Option<Request<'_>>, AllocError>
+    ensures request { IfOk result (λ o. option_map asked_of o ≡ option_and_then replay_of (texts_of replay_syntax (map string_bytes given.entry.now))) }
+    ensures run_time { IfOk result (λ o. IfSome o IsRunTime) }
+{
+    match read_texts(
+        alloc,
+        &["folder", "wave"],
+        &["us", "script", "vcd", "report"],
+        given,
+    )? {
+        Some(matches) => Ok(replay(&matches)),
+        None => Ok(None),
     }
 }
 
@@ -234,6 +270,7 @@ fn read_command<'a>(
         "check" => read_check(alloc, given),
         "module" => read_module(alloc, given),
         "run" => read_run(alloc, given),
+        "replay" => read_replay(alloc, given),
         "make" => read_make(alloc, given),
         _ => Ok(None),
     }

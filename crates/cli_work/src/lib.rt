@@ -10,5 +10,5 @@ mod writing;
 
 pub use complaint::tell;
 pub use outcome::{Stop, WorkEnd, status, stopped};
-pub use reading::{Document, HexFile, read_bytes, read_document};
+pub use reading::{Document, HexFile, read_bytes, read_document, read_within};
 pub use writing::{write_next, write_parts, write_text};

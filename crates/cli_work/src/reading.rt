@@ -3,7 +3,7 @@ ghost use Rattle.std.specs.Prelude.{◌≡◌, ◌≤◌, ℕ, List, Result, Ok,
 ghost use Rattle.sim_base.specs.declared.fault.Refusal.{Refusal};
 ghost use Rattle.sim_base.specs.Outside.{Outside, SamePorts};
 ghost use Rattle.sim_base.specs.Reads.{Reads};
-ghost use Rattle.outcome_model.specs.Work.{Got, IsFile};
+ghost use Rattle.outcome_model.specs.Work.{Got, IsFile, IsFileWithin};
 ghost use Rattle.cli_work.specs.Documents.{IsRead};
 ghost use Rattle.cli_work.specs.Outcomes.{outcome_of, stop_of};
 
@@ -13,14 +13,19 @@ use sim_base::refusals::FILE_TOO_LONG;
 use sim_base::{Bench, Fault, Flash, Place, ReadEnd, Refusal};
 use std::alloc::Global;
 
-/// The bytes of a file of at most 1,048,576 bytes.
-pub fn read_bytes<B: Bench>(alloc: Global, name: &str, bench: &mut B) -> Result<Vec<u8>, Stop>
-    ensures got { Got (λ v. v.items) (stop_of name.now) result (IsFile name.now (λ bytes. Ok bytes)) (B.outside bench.old) (B.outside bench.new) }
+/// The bytes of a file of at most `limit` bytes.
+pub fn read_within<B: Bench>(
+    alloc: Global,
+    limit: u32,
+    name: &str,
+    bench: &mut B,
+) -> Result<Vec<u8>, Stop>
+    ensures got { Got (λ v. v.items) (stop_of name.now) result (IsFileWithin limit name.now (λ bytes. Ok bytes)) (B.outside bench.old) (B.outside bench.new) }
     ensures ports { SamePorts (B.outside bench.old) (B.outside bench.new) }
-    ensures short { IfOk result (λ v. length v.items ≤ 1048576) }
+    ensures short { IfOk result (λ v. length v.items ≤ limit) }
 {
     let mut bytes = Vec::new(alloc);
-    match bench.read_file(name, 1_048_576, &mut bytes) {
+    match bench.read_file(name, limit, &mut bytes) {
         ReadEnd::Ok => Ok(bytes),
         ReadEnd::Missing => Err(Stop::Missing),
         ReadEnd::TooLong => Err(Stop::Refused(Refusal {
@@ -30,6 +35,15 @@ pub fn read_bytes<B: Bench>(alloc: Global, name: &str, bench: &mut B) -> Result<
         ReadEnd::Failed => Err(Stop::ReadFailed),
         ReadEnd::OutOfMemory => Err(Stop::OutOfMemory),
     }
+}
+
+/// The bytes of a file of at most 1,048,576 bytes.
+pub fn read_bytes<B: Bench>(alloc: Global, name: &str, bench: &mut B) -> Result<Vec<u8>, Stop>
+    ensures got { Got (λ v. v.items) (stop_of name.now) result (IsFile name.now (λ bytes. Ok bytes)) (B.outside bench.old) (B.outside bench.new) }
+    ensures ports { SamePorts (B.outside bench.old) (B.outside bench.new) }
+    ensures short { IfOk result (λ v. length v.items ≤ 1048576) }
+{
+    read_within(alloc, 1_048_576, name, bench)
 }
 
 /// A kind of file: what its bytes, at most 1,048,576, are read as.

@@ -1,6 +1,5 @@
 -- The run of a plan in which each chip is replaced by a player of rows of drives (profile).
-use Rattle.std.specs.Prelude.{◌⊎◌, ◌++◌, ℕ, List, [], true, None}
-use Rattle.std.proofs.Common.{inl, inr}
+use Rattle.std.specs.Prelude.{◌⊎◌, ◌++◌, ℕ, List, true, None}
 use Rattle.text_model.specs.Wave.{wave_text}
 use Rattle.board_model.specs.Board.{bytes, states}
 use Rattle.board_model.specs.Rows.{rows}
@@ -9,19 +8,12 @@ use Rattle.board_laws.specs.Play.{or_player, played, recorded}
 use Rattle.board_laws.specs.Worlds.{is_chip}
 use Rattle.outcome_model.specs.Stop.{Texts}
 use Rattle.board_build.specs.declared.plan.Plan.{Plan}
-use Rattle.board_build.specs.declared.plan.PlanPart.{PlanPart}
 use Rattle.chip_module.specs.Sources.{pins_of}
 use Rattle.any_part.specs.AnyPart.{AnyState, any}
 use Rattle.any_part.specs.Start.{Contents, starts}
-use Rattle.sim_report.specs.declared.row.ReportRow.{ReportRow}
-use Rattle.board_report.specs.Report.{part_rows, parts_rows, rest_text, text_of}
+use Rattle.board_report.specs.Report.{part_rows, parts_rows, play_part_rows, rest_text, text_of}
 use Rattle.project_model.specs.Variables.{board_variables}
 use Rattle.cli_board.specs.Run.{Outputs, run_wakes, texts_for}
-
--- the lines of a part as in any run; a player has none
-abbrev pub play_part_rows : PlanPart → AnyState ⊎ PlayerState → List ReportRow
-play_part_rows part (inl s) = part_rows part s
-play_part_rows part (inr p) = []
 
 module _ (has : Contents) (plan : Plan) (n : ℕ) where
   -- the rows of each chip: its drives in each of the first n cycles of the run itself

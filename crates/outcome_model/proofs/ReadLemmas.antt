@@ -7,9 +7,9 @@ use Rattle.std.specs.Cmp.Lexicographic.{nat_list_cmp_total, slice_cmp}
 use Rattle.std.specs.Cmp.{eq_by_cmp_equiv}
 use Rattle.sim_base.specs.declared.fault.Refusal.{Refusal}
 use Rattle.sim_base.specs.Outside.{Outside, SamePorts, Files}
-use Rattle.outcome_model.specs.Stop.{Stop, Missing, file, read_from}
+use Rattle.outcome_model.specs.Stop.{Stop, Missing, file_within, read_from}
 use Rattle.outcome_model.specs.Outcome.{Outcome, Accepted, NoRequest, Stopped, ReadFailed, WriteFailed, OutOfMemory, status_of}
-use Rattle.outcome_model.specs.Work.{Reading, Is, IsFile, Then, ReadStops, Got, IsSteady, IsOneReading}
+use Rattle.outcome_model.specs.Work.{Reading, Is, IsFileWithin, IsFile, Then, ReadStops, Got, IsSteady, IsOneReading}
 
 pub if_some : {X : Type 0} (o : Option X) (P Q : X → Type 0) → ((x : X) → P x → Q x) → IfSome o P → IfSome o Q
 if_some None P Q f h = tt
@@ -23,8 +23,8 @@ pub gone : (files : Files) (name : List ℕ) → get (remove files name) name �
 gone files name = get-remove nat_list_cmp_total files name name ∙ ap (λ (b : Bool). cond b None (get files name)) ((eq_by_cmp_equiv nat_list_cmp_total).refl name)
 
 -- were the file not there, that would be the first event
-pub not_there : {X : Type 0} (files : Files) (name : List ℕ) (reading : List ℕ → Result X Refusal) → file (remove files name) name reading ≡ Err (Missing name)
-not_there files name reading = rw (gone files name) refl
+pub not_there : {X : Type 0} (limit : ℕ) (files : Files) (name : List ℕ) (reading : List ℕ → Result X Refusal) → file_within limit (remove files name) name reading ≡ Err (Missing name)
+not_there limit files name reading = rw (gone files name) refl
 
 -- where the name of the file has no room, memory is wanting
 pub named_stop : {X : Type 0} (reading : Reading X) (o said : Outcome) (a b : Outside) → ReadStops o reading a b → (said ≡ o) ⊎ (said ≡ OutOfMemory) → ReadStops said reading a b
@@ -69,14 +69,17 @@ module _ {X Y : Type 0} (first : Reading X) (next : X → Reading Y) where
     got_both view out (Err e) a m b same got g = second_stops (out e) a m b got.0 got.1 same g
 
 -- one file is read alike where another is not there
-pub steady_file : {X : Type 0} (name : List ℕ) (reading : List ℕ → Result X Refusal) → IsSteady (IsFile name reading)
-steady_file name reading files n x e = go (is_eq (slice_cmp nat_cmp name n)) refl
+pub steady_within : {X : Type 0} (limit : ℕ) (name : List ℕ) (reading : List ℕ → Result X Refusal) → IsSteady (IsFileWithin limit name reading)
+steady_within limit name reading files n x e = go (is_eq (slice_cmp nat_cmp name n)) refl
   where
-    go : (b : Bool) → is_eq (slice_cmp nat_cmp name n) ≡ b → (file (remove files n) name reading ≡ Ok x) ⊎ (file (remove files n) name reading ≡ Err (Missing n))
+    go : (b : Bool) → is_eq (slice_cmp nat_cmp name n) ≡ b → (file_within limit (remove files n) name reading ≡ Ok x) ⊎ (file_within limit (remove files n) name reading ≡ Err (Missing n))
     go true same =
         let is : n ≡ name = sym ((bytes_eq-Decides name n).0 (sym (is_eq-slice_cmp name n) ∙ same)) in
-        inr (rw is (not_there files name reading))
-    go false other = inl (ap (read_from name 1048576 reading) (get-remove nat_list_cmp_total files n name ∙ ap (λ (b : Bool). cond b None (get files name)) other) ∙ e)
+        inr (rw is (not_there limit files name reading))
+    go false other = inl (ap (read_from name limit reading) (get-remove nat_list_cmp_total files n name ∙ ap (λ (b : Bool). cond b None (get files name)) other) ∙ e)
+
+pub steady_file : {X : Type 0} (name : List ℕ) (reading : List ℕ → Result X Refusal) → IsSteady (IsFile name reading)
+steady_file = steady_within 1048576
 
 -- and so are two, one after the other
 pub steady_both : {X Y : Type 0} (first : Reading X) (next : X → Reading Y) → IsSteady first → ((x : X) → IsSteady (next x)) → IsSteady (Then first next)
@@ -101,8 +104,11 @@ one_function {X = X} reading = record {
   one_status = λ files t s e f. (let same : ◌≡◌ {A = Result X Stop} (Err t) (Err s) = sym e ∙ f in let it : t ≡ s = cc in ap (λ (y : Stop). status_of (Stopped y)) it);
 }
 
+pub one_within : {X : Type 0} (limit : ℕ) (name : List ℕ) (reading : List ℕ → Result X Refusal) → IsOneReading (IsFileWithin limit name reading)
+one_within limit name reading = one_function (λ (files : Files). file_within limit files name reading)
+
 pub one_file : {X : Type 0} (name : List ℕ) (reading : List ℕ → Result X Refusal) → IsOneReading (IsFile name reading)
-one_file name reading = one_function (λ (files : Files). file files name reading)
+one_file = one_within 1048576
 
 -- And so do two readings, one after the other, that each do.
 module _ {X Y : Type 0} (first : Reading X) (next : X → Reading Y) (one : IsOneReading first) (two : (x : X) → IsOneReading (next x)) where

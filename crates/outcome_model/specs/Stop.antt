@@ -52,9 +52,9 @@ read_from name limit reading (Some bytes) =
     if nat_lt limit (length bytes) then Err (Refused name (record { number = FileTooLong; place = places.Whole }))
     else refused_in name (reading bytes)
 
--- a file of at most 1,048,576 bytes
-abbrev pub file : {X : Type 0} → Files → List ℕ → (List ℕ → Result X Refusal) → Result X Stop
-file files name reading = read_from name 1048576 reading (get files name)
+-- a file of at most so many bytes
+abbrev pub file_within : {X : Type 0} → ℕ → Files → List ℕ → (List ℕ → Result X Refusal) → Result X Stop
+file_within limit files name reading = read_from name limit reading (get files name)
 
 -- the same of a reading that is a relation between bytes and what they give
 abbrev pub JudgedAs : {X : Type 0} → List ℕ → (Result X Refusal → Type 0) → Result X Stop → Type 0

@@ -8,7 +8,7 @@ use Rattle.sim_base.specs.declared.bench.WriteEnd.{WriteEnd}
 use Rattle.sim_base.specs.declared.bench.WriteEnd.TheVariants as writes
 use Rattle.sim_base.specs.Causes.{Rose}
 use Rattle.sim_base.specs.Outside.{Outside, Files, Grows, IsFront, IsKept}
-use Rattle.outcome_model.specs.Stop.{Stop, Missing, Output, file, Judged}
+use Rattle.outcome_model.specs.Stop.{Stop, Missing, Output, file_within, Judged}
 use Rattle.outcome_model.specs.Outcome.{Outcome, Accepted, NoRequest, Stopped, ReadFailed, WriteFailed, OutOfMemory, status_of, IsOn, BeginsOn}
 
 -- a text was written on a port, or a first part of it where a write failed
@@ -24,9 +24,13 @@ Reading X = Files → Result X Stop → Type 0
 abbrev pub Is : {X : Type 0} → (Files → Result X Stop) → Reading X
 Is reading files result = reading files ≡ result
 
+-- one file of at most so many bytes
+abbrev pub IsFileWithin : {X : Type 0} → ℕ → List ℕ → (List ℕ → Result X Refusal) → Reading X
+IsFileWithin limit name reading files result = file_within limit files name reading ≡ result
+
 -- one file of at most 1,048,576 bytes
 abbrev pub IsFile : {X : Type 0} → List ℕ → (List ℕ → Result X Refusal) → Reading X
-IsFile name reading files result = file files name reading ≡ result
+IsFile = IsFileWithin 1048576
 
 -- one file of at most 1,048,576 bytes that is judged by a relation
 abbrev pub JudgedFile : {X : Type 0} → List ℕ → (List ℕ → Result X Refusal → Type 0) → Reading X

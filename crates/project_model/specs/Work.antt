@@ -9,7 +9,7 @@ use Rattle.document_model.specs.declared.diagram.Diagram.{Diagram}
 use Rattle.document_model.specs.Project.{project_text}
 use Rattle.document_model.specs.Diagram.{diagram_text}
 use Rattle.outcome_model.specs.Stop.{Stop, Refused}
-use Rattle.outcome_model.specs.Work.{Reading, Is, IsFile, JudgedFile, Then}
+use Rattle.outcome_model.specs.Work.{Reading, Is, IsFile, IsFileWithin, JudgedFile, Then}
 use Rattle.chip_json.specs.ChipJson.{chip_text}
 use Rattle.chip_module.specs.Binary.{Binary, Judges}
 use Rattle.chip_module.specs.Sources.{pins_of}
@@ -23,11 +23,12 @@ use Rattle.board_build.specs.Plan.{plan_of}
 abbrev pub in_folder : List ℕ → List ℕ → List ℕ
 in_folder folder path = folder ++ (codes "/" ++ path)
 
--- the firmware's flash image, the chips of the project in its order, and the plan of the board
+-- the firmware's flash image, the chips of the project in its order, the plan of the board, and the bytes of a wave
 pub record Work : Type 0 where
   pub flash : List ℕ
   pub chips : List ChipSource
   pub plan : Plan
+  pub wave : List ℕ
 
 abbrev pub diagram_name : List ℕ → List ℕ
 diagram_name folder = in_folder folder (codes "diagram.json")
@@ -49,6 +50,11 @@ abbrev pub ScriptIn : Option (List ℕ) → Reading (List ScriptRow)
 ScriptIn None = Is (λ files. Ok [])
 ScriptIn (Some name) = IsFile name script_of
 
+-- the bytes of a wave, at most 16,777,216, none where no wave is named; its name stands as it is, outside the folder
+abbrev pub WaveIn : Option (List ℕ) → Reading (List ℕ)
+WaveIn None = Is (λ files. Ok [])
+WaveIn (Some name) = IsFileWithin 16777216 name (λ bytes. Ok bytes)
+
 -- the file that a rule of the board names: the script where a part does not take what it gives, and else the diagram
 abbrev pub file_of_rule : List ℕ → Option (List ℕ) → Refusal → List ℕ
 file_of_rule folder script r = if r.number == ScriptPart then unwrap_or script (diagram_name folder) else diagram_name folder
@@ -62,20 +68,24 @@ abbrev pub PlanIn : List ℕ → Option (List ℕ) → Project → Diagram → L
 PlanIn folder script project diagram chips rows = Is (λ files. by_rule folder script (plan_of project diagram (pins_of chips) rows))
 
 -- what comes behind the project's file, the firmware, the diagram and the chips
-abbrev pub BehindChips : List ℕ → Option (List ℕ) → Project → List ℕ → Diagram → List ChipSource → Reading Work
-BehindChips folder script project flash diagram chips =
-    Then (ScriptIn script) (λ rows. Then (PlanIn folder script project diagram chips rows) (λ plan. Is (λ files. Ok (record { flash = flash; chips = chips; plan = plan }))))
+abbrev pub BehindScript : List ℕ → Option (List ℕ) → Project → List ℕ → Diagram → List ChipSource → List ScriptRow → List ℕ → Reading Work
+BehindScript folder script project flash diagram chips rows wave =
+    Then (PlanIn folder script project diagram chips rows) (λ plan. Is (λ files. Ok (record { flash = flash; chips = chips; plan = plan; wave = wave })))
 
-abbrev pub BehindDiagram : List ℕ → Option (List ℕ) → Project → List ℕ → Diagram → Reading Work
-BehindDiagram folder script project flash diagram = Then (ChipsAfter folder [] project.chips) (BehindChips folder script project flash diagram)
+abbrev pub BehindChips : List ℕ → Option (List ℕ) → Option (List ℕ) → Project → List ℕ → Diagram → List ChipSource → Reading Work
+BehindChips folder script wave project flash diagram chips =
+    Then (ScriptIn script) (λ rows. Then (WaveIn wave) (BehindScript folder script project flash diagram chips rows))
 
-abbrev pub BehindFirmware : List ℕ → Option (List ℕ) → Project → List ℕ → Reading Work
-BehindFirmware folder script project flash = Then (IsFile (diagram_name folder) diagram_text) (BehindDiagram folder script project flash)
+abbrev pub BehindDiagram : List ℕ → Option (List ℕ) → Option (List ℕ) → Project → List ℕ → Diagram → Reading Work
+BehindDiagram folder script wave project flash diagram = Then (ChipsAfter folder [] project.chips) (BehindChips folder script wave project flash diagram)
 
-abbrev pub BehindProject : List ℕ → Option (List ℕ) → Project → Reading Work
-BehindProject folder script project = Then (IsFile (in_folder folder project.firmware) hex_image) (BehindFirmware folder script project)
+abbrev pub BehindFirmware : List ℕ → Option (List ℕ) → Option (List ℕ) → Project → List ℕ → Reading Work
+BehindFirmware folder script wave project flash = Then (IsFile (diagram_name folder) diagram_text) (BehindDiagram folder script wave project flash)
 
--- The work that a folder and a script hold, or the first file that is missing or refused: the files in this order, each
+abbrev pub BehindProject : List ℕ → Option (List ℕ) → Option (List ℕ) → Project → Reading Work
+BehindProject folder script wave project = Then (IsFile (in_folder folder project.firmware) hex_image) (BehindFirmware folder script wave project)
+
+-- The work that a folder, a script and a wave hold, or the first file that is missing or refused: the files in this order, each
 -- read and checked before the next, and then the rules of the board.
-abbrev pub WorkIn : List ℕ → Option (List ℕ) → Reading Work
-WorkIn folder script = Then (IsFile (in_folder folder (codes "wokwi.toml")) project_text) (BehindProject folder script)
+abbrev pub WorkIn : List ℕ → Option (List ℕ) → Option (List ℕ) → Reading Work
+WorkIn folder script wave = Then (IsFile (in_folder folder (codes "wokwi.toml")) project_text) (BehindProject folder script wave)

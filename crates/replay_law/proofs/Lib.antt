@@ -1,2 +1,3 @@
-mod VariableLemmas
+pub mod FuelLemmas
+pub mod VariableLemmas
 pub mod ReplayLaw

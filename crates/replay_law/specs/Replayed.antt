@@ -35,13 +35,17 @@ module _ (has : Contents) (plan : Plan) where
     abbrev pub run_rows : List Row
     run_rows = rows any plan.wiring plan.inputs None (starts has plan.parts) 0 n
 
+    -- the report of the run but for the chips
+    abbrev pub run_rest : List ℕ
+    run_rest = rest_text part_rows n plan.parts (states any plan.wiring plan.inputs (starts has plan.parts) 0 n)
+
     -- what is read of the wave of the run of n cycles
     pub record IsReplayed (drives : List DriveRows) : Type 0 where
       pub read : wave_rows shown (length plan.wiring.net_of) n (run_wave has plan n) ≡ Ok drives
       -- With players of it in place of the chips, the run writes the same wave, sends the same bytes, and leaves all other parts the same.
       pub wave : run_wave has plan n ≡ play_wave has plan n (part_of drives)
       pub bytes : run_bytes has plan n ≡ play_bytes has plan n (part_of drives)
-      pub rest : rest_text part_rows n plan.parts (states any plan.wiring plan.inputs (starts has plan.parts) 0 n) ≡ play_rest has plan n (part_of drives)
+      pub rest : run_rest ≡ play_rest has plan n (part_of drives)
 
     abbrev pub own_drives : List DriveRows
     own_drives = written_rows shown run_rows (length plan.wiring.net_of) n

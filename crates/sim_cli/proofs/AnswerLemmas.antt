@@ -9,7 +9,7 @@ use Rattle.cli_project.specs.Answer.{CheckAnswer}
 use Rattle.cli_project.proofs.ProjectLemmas.{one_check, check_only}
 use Rattle.outcome_model.specs.Stop.{Missing, Refused, Texts}
 use Rattle.cli_module.specs.Answer.{ModuleAnswer}
-use Rattle.words_model.specs.Request.{Request, Bare, Check, Module, Run, Make}
+use Rattle.words_model.specs.Request.{Request, Bare, Check, Module, Run, Replay, Make}
 use Rattle.outcome_model.specs.Promises.{HoldsAnswer, IsOne}
 use Rattle.outcome_model.proofs.PromiseLemmas.{holds_answer}
 use Rattle.isolation.specs.ChipRun.{AreAlone}
@@ -18,6 +18,8 @@ use Rattle.isolation.specs.Isolated.{Fact, Follows, Isolated}
 use Rattle.cli_bare.proofs.AnswerLemmas.{one_bare}
 use Rattle.cli_module.proofs.AnswerLemmas.{one_module, module_only}
 use Rattle.cli_run.proofs.RunLemmas.{one_run, played_answer, such_answer}
+use Rattle.cli_replay.specs.Answer.{ReplayAnswer}
+use Rattle.cli_replay.proofs.ReplayLemmas.{one_replay}
 use Rattle.cli_make.proofs.MakeLemmas.{one_make}
 use Rattle.cli_board.specs.Run.{Outputs}
 use Rattle.cli_run.specs.Answer.{PlayAnswer, AnswerSuch}
@@ -29,6 +31,7 @@ one (Bare hex us) = one_bare hex us
 one (Check folder) = one_check folder
 one (Module name) = one_module name
 one (Run folder us budget named) = one_run folder us named.script budget (outputs_to named)
+one (Replay folder wave us named) = one_replay folder wave us named.script (outputs_to named)
 one (Make seed us) = one_make seed us
 
 -- what answers are, the ports hold
@@ -40,18 +43,19 @@ held_so one other is status asked a b holds = λ e.
 
 with_run : (one other : RunBy) → ((folder : List ℕ) (us : ℕ) (script : Option (List ℕ)) (budget : ℕ) (out : Outputs) (files : Files) (t : Texts) →
     one folder us script budget out files (Ok t) → other folder us script budget out files (Ok t)) →
-    (r : Request) (files : Files) (t : Texts) → AnswersWith one r files (Ok t) → AnswersWith other r files (Ok t)
+    (r : Request) (files : Files) (t : Texts) → AnswersWith one ReplayAnswer r files (Ok t) → AnswersWith other ReplayAnswer r files (Ok t)
 with_run one other is (Bare hex us) files t e = e
 with_run one other is (Check folder) files t e = e
 with_run one other is (Module name) files t e = e
 with_run one other is (Run folder us budget named) files t e = is folder us named.script budget (outputs_to named) files t e
+with_run one other is (Replay folder wave us named) files t e = e
 with_run one other is (Make seed us) files t e = e
 
 -- what the ports hold after a run whose chips are isolated
 module _ (a b : Outside) (o : Outcome) (asked : Option Request) (happens : HappensIsolated o asked a b) where
-  held : (other : RunBy) → ((r : Request) (files : Files) (t : Texts) → AnswersSuch Isolated r files (Ok t) → AnswersWith other r files (Ok t)) →
-      HoldsAnswer (AnswersWith other) (status_of o) asked a b
-  held other is = held_so (AnswersSuch Isolated) (AnswersWith other) is (status_of o) asked a b (holds_answer (AnswersSuch Isolated) a b o asked happens)
+  held : (other : RunBy) → ((r : Request) (files : Files) (t : Texts) → AnswersSuch Isolated r files (Ok t) → AnswersWith other ReplayAnswer r files (Ok t)) →
+      HoldsAnswer (AnswersWith other ReplayAnswer) (status_of o) asked a b
+  held other is = held_so (AnswersSuch Isolated) (AnswersWith other ReplayAnswer) is (status_of o) asked a b (holds_answer (AnswersSuch Isolated) a b o asked happens)
 
   held_such : (IsSo : Fact) → Follows IsSo → HoldsAnswer (AnswersSuch IsSo) (status_of o) asked a b
   held_such IsSo follows = held (AnswerSuch IsSo) (with_run (AnswerSuch Isolated) (AnswerSuch IsSo) (such_answer IsSo follows))

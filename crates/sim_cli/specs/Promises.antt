@@ -8,7 +8,7 @@ use Rattle.outcome_model.specs.Promises as promises
 use Rattle.isolation.specs.ChipRun.{AreAlone}
 use Rattle.isolation.specs.Worlds.{SeesDrivesAlone}
 use Rattle.isolation.specs.Isolated.{Isolated}
-use Rattle.sim_cli.specs.Answers.{Answers, PlayAnswers, AnswersSuch}
+use Rattle.sim_cli.specs.Answers.{Answers, PlayAnswers, AnswersSuch, RepeatAnswers}
 
 abbrev pub Happens : Outcome → Option Request → Outside → Outside → Type 0
 Happens = outcomes.Happens Answers
@@ -16,6 +16,10 @@ Happens = outcomes.Happens Answers
 -- the same, where the chips of a run are isolated
 abbrev pub HappensIsolated : Outcome → Option Request → Outside → Outside → Type 0
 HappensIsolated = outcomes.Happens (AnswersSuch Isolated)
+
+-- the same, where a replay of the wave that a run wrote has the texts of that run
+abbrev pub HappensRepeated : Outcome → Option Request → Outside → Outside → Type 0
+HappensRepeated = outcomes.Happens RepeatAnswers
 
 -- the count of wakes is that of the answer, where something is asked for
 abbrev pub Counts : Outcome → Option Request → Outside → ℕ → ℕ → Type 0
@@ -49,6 +53,11 @@ HoldsAlone = promises.HoldsAnswer (AnswersSuch AreAlone)
 -- chips alone, as long as the chips of both drive the same.
 abbrev pub HoldsWorlds : ℕ → Option Request → Outside → Outside → Type 0
 HoldsWorlds = promises.HoldsAnswer (AnswersSuch SeesDrivesAlone)
+
+-- With status 0 of a replay of the wave that `run` wrote of the same project, script and run time, each told port holds the text
+-- of that run; the report has no lines of chips.
+abbrev pub HoldsRepeat : ℕ → Option Request → Outside → Outside → Type 0
+HoldsRepeat = promises.HoldsAnswer RepeatAnswers
 
 abbrev pub IsStopped : ℕ → Option Request → Outside → Outside → Type 0
 IsStopped = promises.IsStopped Answers

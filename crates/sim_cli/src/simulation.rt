@@ -3,22 +3,37 @@ ghost use Rattle.std.specs.Prelude.{◌≡◌, map, string_bytes};
 ghost use Rattle.words_model.specs.Request.{request_of};
 ghost use Rattle.outcome_model.specs.Promises.{WordsAlone, HasCause, ComplainsAlone, IsStatus};
 ghost use Rattle.outcome_model.specs.Work.{SaidNothing};
-ghost use Rattle.sim_cli.specs.Promises.{Happens, HappensIsolated, Counts, Does};
+ghost use Rattle.sim_cli.specs.Promises.{Happens, HappensIsolated, HappensRepeated, Counts, Does};
 ghost use Rattle.sim_cli.specs.Promises.{IsAnswered, IsComplete, HoldsAnswer, IsStopped, IsTrueStop, HoldsFront, CountsWakes};
-ghost use Rattle.sim_cli.specs.Promises.{HoldsPlay, HoldsAlone, HoldsWorlds};
+ghost use Rattle.sim_cli.specs.Promises.{HoldsPlay, HoldsAlone, HoldsWorlds, HoldsRepeat};
 ghost use Rattle.cli_work.specs.Outcomes.{outcome_of};
+ghost use Rattle.cli_words.specs.Asked.{named_by};
+ghost use Rattle.cli_board.specs.Outputs.{outputs_of};
+ghost use Rattle.sim_cli.specs.Answers.{outputs_to};
 
 use cli_bare::bare;
 use cli_board::Outputs;
 use cli_make::make;
 use cli_module::check_module;
 use cli_project::check;
+use cli_replay::replay;
 use cli_run::run;
-use cli_words::{Request, read_words};
+use cli_words::{NamedFiles, Request, read_words};
 use cli_work::{WorkEnd, status, tell};
 use sim_base::{Bench, Steps};
 use std::alloc::Global;
 use std::sync::ledger::Ledger;
+
+/// The bytes of a run go to Serial, its wave and its report to the files that are named.
+fn outputs_to(named: NamedFiles<'_>) -> Outputs<'_>
+    ensures { outputs_of result ≡ outputs_to (named_by named.entry) }
+{
+    Outputs {
+        serial: true,
+        wave: named.wave,
+        report: named.report,
+    }
+}
 
 /// The work that the words ask for; Complaint is left alone.
 #[tactic(auto, using(crate::proofs::AnswerLemmas::check_counts, crate::proofs::AnswerLemmas::module_counts))]
@@ -30,6 +45,7 @@ fn work<B: Bench, L: Ledger>(
 ) -> WorkEnd
     ensures happens { Happens (outcome_of result) (request_of (map string_bytes words.now)) (B.outside bench.old) (B.outside bench.new) }
     ensures isolated { HappensIsolated (outcome_of result) (request_of (map string_bytes words.now)) (B.outside bench.old) (B.outside bench.new) }
+    ensures repeated { HappensRepeated (outcome_of result) (request_of (map string_bytes words.now)) (B.outside bench.old) (B.outside bench.new) }
     ensures counts { Counts (outcome_of result) (request_of (map string_bytes words.now)) (B.outside bench.old) steps.old steps.new }
     ensures silent { SaidNothing (B.outside bench.old) (B.outside bench.new) }
 {
@@ -38,17 +54,26 @@ fn work<B: Bench, L: Ledger>(
         Ok(Some(Request::Check(folder))) => check(alloc, folder, bench),
         Ok(Some(Request::Module(file))) => check_module(alloc, file, bench),
         Ok(Some(Request::Run(folder, micros, budget, named))) => {
-            let outputs = Outputs {
-                serial: true,
-                wave: named.wave,
-                report: named.report,
-            };
+            let outputs = outputs_to(named);
             run(
                 alloc,
                 folder,
                 micros,
                 named.script,
                 budget,
+                outputs,
+                bench,
+                steps,
+            )
+        }
+        Ok(Some(Request::Replay(folder, wave, micros, named))) => {
+            let outputs = outputs_to(named);
+            replay(
+                alloc,
+                folder,
+                micros,
+                named.script,
+                wave,
                 outputs,
                 bench,
                 steps,
@@ -90,6 +115,9 @@ pub fn simulate<B: Bench, L: Ledger>(
     ensures played { HoldsPlay result (request_of (map string_bytes words.now)) (B.outside bench.old) (B.outside bench.new) }
     ensures alone { HoldsAlone result (request_of (map string_bytes words.now)) (B.outside bench.old) (B.outside bench.new) }
     ensures worlds { HoldsWorlds result (request_of (map string_bytes words.now)) (B.outside bench.old) (B.outside bench.new) }
+
+    // And of a replay: of the wave that a run wrote it writes the same wave, bytes and report, but for the lines of the chips.
+    ensures repeated { HoldsRepeat result (request_of (map string_bytes words.now)) (B.outside bench.old) (B.outside bench.new) }
 {
     let outcome = work(alloc, words, bench, steps);
     let _end = tell(&outcome, bench);

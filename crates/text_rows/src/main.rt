@@ -9,6 +9,7 @@ mod chip;
 mod diagram;
 mod hex;
 mod project;
+mod reading;
 mod refused;
 mod row;
 mod script;
@@ -20,6 +21,7 @@ use chip::chip_answer;
 use diagram::diagram_answer;
 use hex::hex_answer;
 use project::project_answer;
+use reading::reading_answer;
 use row::text_of;
 use script::script_answer;
 use sim_base::OutOfMemory;
@@ -66,6 +68,7 @@ fn made(alloc: Global, name: &str, text: &str, wanted: &str) -> Result<String, O
         "projects.rows" => project_answer(alloc, &bytes),
         "scripts.rows" => script_answer(alloc, &bytes),
         "waves.rows" => wave_answer(alloc, &bytes),
+        "readings.rows" => reading_answer(alloc, &bytes),
         "catalogue.rows" => catalogue_answer(alloc, &bytes),
         _ => base_answer(alloc, &bytes),
     }

@@ -96,7 +96,7 @@ fn place(word: &str) -> u16 {
 }
 
 /// `net NAME 0`, `strong NAME 0` or `weak NAME 0`: the level of a net, and what a pin drives.
-fn variables_of(alloc: Global, texts: &str) -> Result<List<Variable>, OutOfMemory> {
+pub fn variables_of(alloc: Global, texts: &str) -> Result<List<Variable>, OutOfMemory> {
     let mut variables = List::new(alloc);
     for text in texts.split(',') {
         let words: Vec<&str> = text.split_whitespace().collect(alloc)?;

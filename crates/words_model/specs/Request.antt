@@ -29,12 +29,14 @@ pub record NamedFiles : Type 0 where
 -- `Module file`: whether a chip's module is accepted.
 -- `Run folder us budget named`: a run of a project for so many microseconds, in which each call of a chip may spend so many
 -- units of fuel, with the files that are named for it.
+-- `Replay folder wave us named`: such a run with a player of what a wave says in place of each chip.
 -- `Make seed us`: a run of the board that is generated from a seed, for so many microseconds.
 pub data Request : Type 0 where
   Bare : Text → ℕ → Request
   Check : Text → Request
   Module : Text → Request
   Run : Text → ℕ → ℕ → NamedFiles → Request
+  Replay : Text → Text → ℕ → NamedFiles → Request
   Make : ℕ → ℕ → Request
 
 -- a file name or a folder's is not empty
@@ -101,6 +103,14 @@ abbrev pub run_of : Given → Option Request
 run_of given =
     option_and_then (λ folder. option_and_then (λ us. option_and_then (λ budget. option_map (Run folder us budget) (named_of given)) (budget_of given)) (micros_of given)) (path_of (codes "folder") given)
 
+-- `replay FOLDER WAVE --us N` with those files
+abbrev pub replay_syntax : Syntax
+replay_syntax = record { words = codes "folder" ∷ codes "wave" ∷ []; options = codes "us" ∷ codes "script" ∷ codes "vcd" ∷ codes "report" ∷ [] }
+
+abbrev pub replay_of : Given → Option Request
+replay_of given =
+    option_and_then (λ folder. option_and_then (λ wave. option_and_then (λ us. option_map (Replay folder wave us) (named_of given)) (micros_of given)) (path_of (codes "wave") given)) (path_of (codes "folder") given)
+
 -- a seed from 0 to 4,294,967,295
 abbrev pub seed_of : Given → Option ℕ
 seed_of given = option_and_then (number_within 0 4294967295) (text_of (codes "seed") given)
@@ -119,6 +129,7 @@ asked_by command words =
     else if bytes_eq command (codes "check") then option_and_then check_of (texts_of check_syntax words)
     else if bytes_eq command (codes "module") then option_and_then module_of (texts_of module_syntax words)
     else if bytes_eq command (codes "run") then option_and_then run_of (texts_of run_syntax words)
+    else if bytes_eq command (codes "replay") then option_and_then replay_of (texts_of replay_syntax words)
     else if bytes_eq command (codes "make") then option_and_then make_of (texts_of make_syntax words)
     else None
 

@@ -1,4 +1,4 @@
-use Rattle.std.proofs.Common.{List, [], ◌∷◌, None, Ok, refl, ap, sym}
+use Rattle.std.proofs.Common.{◌∙◌, ℕ, List, [], ◌∷◌, None, Ok, refl, ap, sym}
 use Rattle.outcome_model.specs.Work.{Reading}
 use Rattle.outcome_model.proofs.ReadLemmas.{if_always, first_stops, got_both, steady_rule}
 use Rattle.board_build.specs.declared.plan.Plan.{Plan}
@@ -17,10 +17,14 @@ returns-in-Ok-plan_board-clause-got c = λ a.
     let chip : ChipSource = c.args.chip in
     let plan : Plan = c.in-Ok-plan_board.plan in
     let planned : Reading Plan = PlanIn folder None c.args.project.now c.args.diagram.now (chip ∷ []) [] in
-    let work : Work = record { flash = c.args.flash; chips = c.in-Ok.chips; plan = plan } in
+    let work : Work = record { flash = c.args.flash; chips = c.in-Ok.chips; plan = plan; wave = c.new-wave.result } in
     got_both planned (with_plan c.args.flash chip) (steady_rule _) plan work_of outcome_of (Ok work) a a a (same_here a)
-    (rw (c.as_slice.ensures, c.in-Ok.ensures, c.new-rows.ensures) at (c.in-Ok-plan_board.ensures.got a))
-    (if_always a.files _ (λ files. ap (λ (cs : List ChipSource). Ok (record { flash = c.args.flash; chips = cs; plan = plan })) (sym c.in-Ok.ensures)), refl)
+    (rw (c.as_slice.ensures, c.in-Ok.ensures, c.new-rows.ensures) at (c.in-Ok-plan_board.ensures.got a)) (
+      if_always a.files _ (λ files.
+          ap (λ (cs : List ChipSource). Ok (record { flash = c.args.flash; chips = cs; plan = plan; wave = [] })) (sym c.in-Ok.ensures)
+          ∙ ap (λ (wave : List ℕ). Ok (record { flash = c.args.flash; chips = c.in-Ok.chips; plan = plan; wave = wave })) (sym c.new-wave.ensures.items)),
+      refl,
+    )
 
 pub returns-in-Err-clause-got : goal.returns-in-Err-clause-got
 returns-in-Err-clause-got c = λ a.

@@ -20,9 +20,10 @@ returns-in_err-diagram-clause-got g c =
     let b : Outside = g.B.Bench.outside c.read_in.new.bench in
     let folder : List ℕ = c.args.folder.now in
     let script : Option (List ℕ) = option_map (λ (s : Bor (List ℕ)). s.now) c.args.script in
+    let wave : Option (List ℕ) = option_map (λ (s : Bor (List ℕ)). s.now) c.args.wave in
     let q = err_from_is_err_and c.from_residual.result c.from_residual.ensures.1 in
     let e = c.in_err-diagram.field-0.0 in
-    rw (q.1, q.2) (first_stops (IsFile (diagram_name folder) diagram_text) (BehindDiagram folder script c.args.project.now c.args.flash) (outcome_of e) a b c.in_err-diagram.ensures.got)
+    rw (q.1, q.2) (first_stops (IsFile (diagram_name folder) diagram_text) (BehindDiagram folder script wave c.args.project.now c.args.flash) (outcome_of e) a b c.in_err-diagram.ensures.got)
 
 pub returns-clause-got : goal.returns-clause-got
 returns-clause-got g c =
@@ -31,4 +32,5 @@ returns-clause-got g c =
     let d : Outside = g.B.Bench.outside c.read_behind_diagram.new.bench in
     let folder : List ℕ = c.args.folder.now in
     let script : Option (List ℕ) = option_map (λ (s : Bor (List ℕ)). s.now) c.args.script in
-    got_both (IsFile (diagram_name folder) diagram_text) (BehindDiagram folder script c.args.project.now c.args.flash) (steady_file (diagram_name folder) diagram_text) c.in_ok-diagram.diagram work_of outcome_of c.read_behind_diagram.result a b d c.in_ok-diagram.ensures.ports (c.in_ok-diagram.ensures.got) c.read_behind_diagram.ensures.got
+    let wave : Option (List ℕ) = option_map (λ (s : Bor (List ℕ)). s.now) c.args.wave in
+    got_both (IsFile (diagram_name folder) diagram_text) (BehindDiagram folder script wave c.args.project.now c.args.flash) (steady_file (diagram_name folder) diagram_text) c.in_ok-diagram.diagram work_of outcome_of c.read_behind_diagram.result a b d c.in_ok-diagram.ensures.ports (c.in_ok-diagram.ensures.got) c.read_behind_diagram.ensures.got

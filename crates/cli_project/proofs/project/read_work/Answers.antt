@@ -20,9 +20,10 @@ returns-in_err-project-clause-got g c =
     let b : Outside = g.B.Bench.outside c.read_in.new.bench in
     let folder : List ℕ = c.args.folder.now in
     let script : Option (List ℕ) = option_map (λ (s : Bor (List ℕ)). s.now) c.args.script in
+    let wave : Option (List ℕ) = option_map (λ (s : Bor (List ℕ)). s.now) c.args.wave in
     let q = err_from_is_err_and c.from_residual.result c.from_residual.ensures.1 in
     let e = c.in_err-project.field-0.0 in
-    rw (q.1, q.2) (first_stops (IsFile (in_folder folder (codes "wokwi.toml")) project_text) (BehindProject folder script) (outcome_of e) a b c.in_err-project.ensures.got)
+    rw (q.1, q.2) (first_stops (IsFile (in_folder folder (codes "wokwi.toml")) project_text) (BehindProject folder script wave) (outcome_of e) a b c.in_err-project.ensures.got)
 
 pub returns-clause-got : goal.returns-clause-got
 returns-clause-got g c =
@@ -31,4 +32,5 @@ returns-clause-got g c =
     let d : Outside = g.B.Bench.outside c.read_behind_project.new.bench in
     let folder : List ℕ = c.args.folder.now in
     let script : Option (List ℕ) = option_map (λ (s : Bor (List ℕ)). s.now) c.args.script in
-    got_both (IsFile (in_folder folder (codes "wokwi.toml")) project_text) (BehindProject folder script) (steady_file (in_folder folder (codes "wokwi.toml")) project_text) c.in_ok-project.project work_of outcome_of c.read_behind_project.result a b d c.in_ok-project.ensures.ports (c.in_ok-project.ensures.got) c.read_behind_project.ensures.got
+    let wave : Option (List ℕ) = option_map (λ (s : Bor (List ℕ)). s.now) c.args.wave in
+    got_both (IsFile (in_folder folder (codes "wokwi.toml")) project_text) (BehindProject folder script wave) (steady_file (in_folder folder (codes "wokwi.toml")) project_text) c.in_ok-project.project work_of outcome_of c.read_behind_project.result a b d c.in_ok-project.ensures.ports (c.in_ok-project.ensures.got) c.read_behind_project.ensures.got

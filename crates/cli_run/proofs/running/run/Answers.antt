@@ -1,4 +1,4 @@
-use Rattle.std.proofs.Common.{◌≡◌, ◌+◌, ◌*◌, ℕ, List, Option, Ok, IfSome, Bor, subst}
+use Rattle.std.proofs.Common.{◌≡◌, ◌+◌, ◌*◌, ℕ, List, Option, None, Ok, IfSome, Bor, subst}
 use Rattle.std.specs.Option.{option_map}
 use Rattle.sim_base.specs.Outside.{Outside, Files}
 use Rattle.outcome_model.specs.Stop.{Texts}
@@ -90,4 +90,4 @@ returns-in-Err-clause-isolated g c =
 
 pub returns-in-Err-clause-counts : goal.returns-in-Err-clause-counts
 returns-in-Err-clause-counts g c =
-    stops_counts (RunAnswer c.args.folder.now c.args.micros (option_map (λ (f : Bor (List ℕ)). f.now) c.args.script) c.args.budget (outputs_of c.args.outputs)) (WorkIn c.args.folder.now (option_map (λ (f : Bor (List ℕ)). f.now) c.args.script)) (outcome_of c.in-Err.outcome) (g.B.Bench.outside c.args.bench.now) (g.B.Bench.outside c.read_work.new.bench) c.args.steps.now c.args.steps.now c.in-Err.ensures.got
+    stops_counts (RunAnswer c.args.folder.now c.args.micros (option_map (λ (f : Bor (List ℕ)). f.now) c.args.script) c.args.budget (outputs_of c.args.outputs)) (WorkIn c.args.folder.now (option_map (λ (f : Bor (List ℕ)). f.now) c.args.script) None) (outcome_of c.in-Err.outcome) (g.B.Bench.outside c.args.bench.now) (g.B.Bench.outside c.read_work.new.bench) c.args.steps.now c.args.steps.now c.in-Err.ensures.got

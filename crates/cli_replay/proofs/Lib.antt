@@ -1,0 +1,3 @@
+mod OrderLemmas
+mod RepeatLemmas
+pub mod ReplayLemmas

@@ -1,0 +1,101 @@
+-- A play of the wave that a run wrote has the texts of that run.
+use Rattle.std.proofs.Common.{◌≡◌, ◌∙◌, ◌≤◌, ◌<◌, ◌*◌, ℕ, List, length, Option, None, Result, Ok, Err, IfSome, ap, sym, refl, ◌⊎◌, arith}
+use Rattle.sim_base.specs.Outside.{Outside, SamePorts, Files}
+use Rattle.sim_base.specs.declared.fault.Refusal.{Refusal}
+use Rattle.sim_base.specs.declared.limits.TheConstants.{MOST_CYCLES}
+use Rattle.outcome_model.specs.Outcome.{Outcome}
+use Rattle.outcome_model.specs.Work.{ReadStops}
+use Rattle.outcome_model.specs.Happens.{Ends}
+use Rattle.outcome_model.proofs.ReadLemmas.{if_some}
+use Rattle.outcome_model.proofs.EndLemmas.{stopped_by}
+use Rattle.text_model.specs.Wave.{wave_text}
+use Rattle.board_model.specs.Board.{bytes, states}
+use Rattle.board_model.specs.Rows.{rows}
+use Rattle.board_laws.specs.Player.{DriveRows, PlayerState}
+use Rattle.board_laws.specs.Play.{or_player}
+use Rattle.board_build.specs.declared.plan.Plan.{Plan}
+use Rattle.board_report.specs.Report.{play_part_rows, rest_text}
+use Rattle.chip_module.specs.Sources.{pins_of}
+use Rattle.any_part.specs.AnyPart.{AnyState, any}
+use Rattle.any_part.specs.Start.{Contents}
+use Rattle.project_model.specs.Variables.{board_variables}
+use Rattle.vcd_text.specs.Tracks.{wave_rows}
+use Rattle.cli_board.specs.Run.{Outputs, run_bytes, run_wave, texts_for}
+use Rattle.isolation.specs.PlayRun.{play_bytes, play_rest, play_starts, play_wave}
+use Rattle.replay_law.specs.Replayed.{IsReplayed, own_drives, part_of, run_rest}
+use Rattle.replay_law.proofs.FuelLemmas.{starts_same}
+use Rattle.replay_law.proofs.ReplayLaw.{replayed}
+use Rattle.replay_law.proofs.VariableLemmas.{few_shown}
+use Rattle.cli_project.specs.Works.{work_of}
+use Rattle.cli_replay.specs.declared.replaying.Play as declared
+use Rattle.cli_replay.specs.Answer.{Play, PlayIn, RepeatAnswer, RepeatsRun, contents, part_rows_of, play_wakes, replay_texts}
+use Rattle.cli_replay.specs.Plays.{IsReady, play_of}
+
+-- texts for outputs, by the three that are written
+texts_same : (out : Outputs) (wave wave_b bytes bytes_b rest rest_b : List ℕ) (wakes : ℕ) → wave ≡ wave_b → bytes ≡ bytes_b → rest ≡ rest_b →
+    texts_for out wave bytes rest wakes ≡ texts_for out wave_b bytes_b rest_b wakes
+texts_same out wave wave_b bytes bytes_b rest rest_b wakes a b c =
+    ap (λ (w : List ℕ). texts_for out w bytes rest wakes) a
+    ∙ ap (λ (x : List ℕ). texts_for out wave_b x rest wakes) b
+    ∙ ap (λ (r : List ℕ). texts_for out wave_b bytes_b r wakes) c
+
+-- what was read is one
+one_read : (x y : List DriveRows) → ◌≡◌ {A = Result (List DriveRows) Refusal} (Ok x) (Ok y) → x ≡ y
+one_read x y e = cc
+
+module _ (n : ℕ) (some : 0 < n) (most : n ≤ MOST_CYCLES) (p : declared.Play) (ready : IsReady n p) where
+  abbrev plan : Plan
+  plan = p.work.plan
+
+  abbrev has : ℕ → Contents
+  has budget = record (contents (work_of p.work)) { budget = budget }
+
+  abbrev part_rows : ℕ → List DriveRows
+  part_rows = part_rows_of (play_of p)
+
+  begun : (budget : ℕ) → play_starts (has budget) plan n part_rows ≡ play_starts (has 0) plan n part_rows
+  begun budget = starts_same (has budget) (has 0) plan ready.plan ready.plan refl part_rows
+
+  law : (budget : ℕ) → IsReplayed (has budget) plan n (own_drives (has budget) plan n)
+  law budget = replayed (has budget) plan ready.plan n (few_shown p.work.chips plan ready.few_pins ready.plan) (omega (arith, most)) some
+
+  module _ (budget : ℕ) (is : p.work.wave.items ≡ run_wave (has budget) plan n) where
+    drives_same : own_drives (has budget) plan n ≡ p.rows
+    drives_same =
+        one_read (own_drives (has budget) plan n) p.rows
+        (sym (law budget).read ∙ sym (ap (λ (w : List ℕ). wave_rows (board_variables (pins_of p.work.chips) plan) (length plan.wiring.net_of) n w) is) ∙ ready.said)
+
+    abbrev Starts : Type 0
+    Starts = List (AnyState ⊎ PlayerState)
+
+    wave_same : play_wave (has 0) plan n part_rows ≡ p.work.wave.items
+    wave_same =
+        sym (is ∙ (law budget).wave ∙ ap (λ (d : List DriveRows). play_wave (has budget) plan n (part_of (has budget) plan d)) drives_same
+        ∙ ap (λ (ss : Starts). wave_text (board_variables (pins_of p.work.chips) plan) (rows (or_player any) plan.wiring plan.inputs None ss 0 n) n) (begun budget))
+
+    bytes_same : play_bytes (has 0) plan n part_rows ≡ run_bytes (has budget) plan n
+    bytes_same =
+        sym ((law budget).bytes ∙ ap (λ (d : List DriveRows). play_bytes (has budget) plan n (part_of (has budget) plan d)) drives_same
+        ∙ ap (λ (ss : Starts). bytes (or_player any) plan.wiring plan.inputs ss 0 n) (begun budget))
+
+    rest_same : play_rest (has 0) plan n part_rows ≡ run_rest (has budget) plan n
+    rest_same =
+        sym ((law budget).rest ∙ ap (λ (d : List DriveRows). play_rest (has budget) plan n (part_of (has budget) plan d)) drives_same
+        ∙ ap (λ (ss : Starts). rest_text play_part_rows n plan.parts (states (or_player any) plan.wiring plan.inputs ss 0 n)) (begun budget))
+
+  pub repeats : RepeatsRun n (play_of p)
+  repeats = λ budget out is.
+      texts_same out (play_wave (has 0) plan n part_rows) p.work.wave.items (play_bytes (has 0) plan n part_rows) (run_bytes (has budget) plan n)
+      (play_rest (has 0) plan n part_rows) (run_rest (has budget) plan n) (play_wakes (play_of p) n)
+      (wave_same budget is) (bytes_same budget is) (rest_same budget is)
+
+-- the answer of such a play
+module _ (folder wave : List ℕ) (us : ℕ) (script : Option (List ℕ)) (out : Outputs) where
+  pub repeat_answer : (told : Option Files) (play : Play) → RepeatsRun (16 * us) play → IfSome told (λ files. PlayIn folder wave script (16 * us) files (Ok play)) →
+      IfSome told (λ files. RepeatAnswer folder wave us script out files (Ok (replay_texts out (16 * us) play)))
+  unfolding RepeatAnswer
+  repeat_answer told play so read = if_some told _ _ (λ (files : Files) (e : PlayIn folder wave script (16 * us) files (Ok play)). (Ok play, (e, so), refl)) read
+
+  pub repeat_stops : (o : Outcome) (a b : Outside) → ReadStops o (PlayIn folder wave script (16 * us)) a b → SamePorts a b → Ends (RepeatAnswer folder wave us script out) o a b
+  unfolding RepeatAnswer
+  repeat_stops = stopped_by (RepeatAnswer folder wave us script out) (PlayIn folder wave script (16 * us)) (λ files s e. (Err s, e, refl))

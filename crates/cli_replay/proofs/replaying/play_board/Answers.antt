@@ -1,0 +1,32 @@
+use Rattle.std.proofs.Common.{◌∙◌, ap, map, false, arith}
+use Rattle.sim_base.specs.declared.bench.WriteEnd.TheVariants as writes
+use Rattle.board_run.specs.BoardView.{BoardView}
+use Rattle.board_laws.specs.Play.{or_player}
+use Rattle.any_part.specs.AnyPart.{any}
+use Rattle.board_report.specs.Report.{play_part_rows}
+use Rattle.played_part.specs.declared.part.PlayedPart.{PlayedPart}
+use Rattle.played_part.specs.Played.{state_of}
+use Rattle.cli_board.specs.Outputs.{outputs_of}
+use Rattle.cli_board.proofs.PlayLemmas.{same_texts}
+use Rattle.cli_board.proofs.VariableLemmas.{pins_few}
+use Rattle.cli_replay.proofs.replaying.play_board.Goals as goal
+
+pub load_played-requires-clause-few : goal.load_played-requires-clause-few
+load_played-requires-clause-few g c =
+    omega (arith, c.requires.ready.pins, pins_few c.args.play.work.chips c.args.play.work.plan c.requires.ready.few_pins c.requires.ready.plan)
+
+pub returns-in-Ok-write_run-clause-ran : goal.returns-in-Ok-write_run-clause-ran
+returns-in-Ok-write_run-clause-ran g c =
+    let is = c.in-Ok-new.ensures in
+    same_texts (or_player any) play_part_rows false writes.Ok (outputs_of c.args.outputs) c.args.n (g.B.Bench.outside c.args.bench.now) (g.B.Bench.outside c.write_run.new.bench) _ _ _ _ _ _ _ _ _ _
+    c.requires.ready.head (ap (λ (x : BoardView PlayedPart). x.wiring) is) (ap (λ (x : BoardView PlayedPart). x.inputs) is)
+    (ap (λ (x : BoardView PlayedPart). map state_of x.parts) is ∙ rw c.as_slice.ensures at c.in-Ok.ensures.states) c.as_slice-planned.ensures
+    (c.in-Ok-write_run.ensures.wrote _ (λ parts same. same))
+
+pub returns-clause-ran : goal.returns-clause-ran
+returns-clause-ran g c =
+    let is = c.in-Ok-new.ensures in
+    same_texts (or_player any) play_part_rows false writes.Failed (outputs_of c.args.outputs) c.args.n (g.B.Bench.outside c.args.bench.now) (g.B.Bench.outside c.write_run.new.bench) _ _ _ _ _ _ _ _ _ _
+    c.requires.ready.head (ap (λ (x : BoardView PlayedPart). x.wiring) is) (ap (λ (x : BoardView PlayedPart). x.inputs) is)
+    (ap (λ (x : BoardView PlayedPart). map state_of x.parts) is ∙ rw c.as_slice.ensures at c.in-Ok.ensures.states) c.as_slice-planned.ensures
+    (c.in-Failed.ensures.wrote _ (λ parts same. same))

@@ -1,0 +1,147 @@
+//! `replay FOLDER WAVE --us N [--script FILE] [--vcd FILE] [--report FILE]`: a project with a player of what a wave says in
+//! place of each chip.
+ghost use Rattle.std.specs.Prelude.{◌≡◌, ◌≤◌, ◌<◌, ◌+◌, Some, IfOk, length};
+ghost use Rattle.std.specs.List.{All};
+ghost use Rattle.std.specs.Option.{option_map};
+ghost use Rattle.sim_base.specs.Outside.{Outside, SamePorts};
+ghost use Rattle.outcome_model.specs.Outcome as ends;
+ghost use Rattle.outcome_model.specs.Happens.{Ends, Counts};
+ghost use Rattle.outcome_model.specs.Work.{Got, SaidNothing};
+ghost use Rattle.board_model.specs.Fits.{AreInputs};
+ghost use Rattle.board_build.specs.IsPlan.{IsPlan};
+ghost use Rattle.chip_module.specs.Sources.{HasFewPins, pins_of};
+ghost use Rattle.cli_work.specs.Outcomes.{outcome_of};
+ghost use Rattle.cli_project.specs.Works.{work_of};
+ghost use Rattle.cli_board.specs.Outputs.{outputs_of};
+ghost use Rattle.cli_board.specs.Ran.{Ran};
+ghost use Rattle.cli_replay.specs.Answer.{PlayIn, RepeatAnswer, ReplayAnswer, RowsIn, play_wakes, replay_texts};
+ghost use Rattle.cli_replay.specs.Plays.{IsReady, play_of};
+
+use board_run::Board;
+use cli_board::{Outputs, make_head, write_run};
+use cli_project::{Work, read_work};
+use cli_work::{Stop, WorkEnd, stopped};
+use played_part::load_played;
+use sim_base::{Bench, Fault, MOST_CYCLES, Steps, WriteEnd};
+use std::alloc::Global;
+use std::sync::ledger::Ledger;
+use vcd_text::{DriveRows, WaveHead, read_wave};
+
+/// A project, the head of its wave, and what a wave says of each pin of its board.
+#[derive(Drop)]
+struct Play {
+    work: Work,
+    head: WaveHead,
+    rows: DriveRows,
+}
+
+/// What the wave of a work says in `n` cycles, at most `MOST_CYCLES`.
+fn read_rows(alloc: Global, name: &str, work: Work, n: u32) -> Result<Play, WorkEnd>
+    requires plan { IsPlan (pins_of work.chips) work.plan }
+    requires few_pins { All HasFewPins work.chips }
+    requires inputs { AreInputs (length work.plan.parts) work.plan.inputs }
+    requires short { length work.wave.items ≤ 16777216 }
+    requires end { n ≤ MOST_CYCLES }
+    ensures got { (a : Outside) → Got play_of outcome_of result (RowsIn name.now n (work_of work)) a a }
+    ensures ready { IfOk result (IsReady n) }
+{
+    let Ok(head) = make_head(alloc, &work.plan, work.chips.as_slice()) else {
+        return Err(WorkEnd::OutOfMemory);
+    };
+    let pins = work.plan.wiring.net_of.len();
+    match read_wave(alloc, &head, pins, n, work.wave.as_slice()) {
+        Ok(rows) => Ok(Play { work, head, rows }),
+        Err(Fault::Refused(refusal)) => Err(stopped(alloc, name, Stop::Refused(refusal))),
+        Err(Fault::OutOfMemory) => Err(WorkEnd::OutOfMemory),
+    }
+}
+
+/// The work that a folder, a script and a wave hold, and what the wave says in `n` cycles.
+fn read_play<B: Bench>(
+    alloc: Global,
+    folder: &str,
+    wave: &str,
+    script: Option<&str>,
+    n: u32,
+    bench: &mut B,
+) -> Result<Play, WorkEnd>
+    requires end { n ≤ MOST_CYCLES }
+    ensures got { Got play_of outcome_of result (PlayIn folder.now wave.now (option_map (λ s. s.now) script.entry) n)
+        (B.outside bench.old) (B.outside bench.new) }
+    ensures ports { SamePorts (B.outside bench.old) (B.outside bench.new) }
+    ensures ready { IfOk result (IsReady n) }
+{
+    let work = read_work(alloc, folder, script, Some(wave), bench)?;
+    read_rows(alloc, wave, work, n)
+}
+
+/// Takes all memory that the run of a project for `n` cycles needs, and runs it with players of the wave's rows in place of its
+/// chips.
+fn play_board<B: Bench, L: Ledger>(
+    alloc: Global,
+    play: Play,
+    n: u32,
+    outputs: Outputs,
+    bench: &mut B,
+    steps: &mut Steps<L>,
+) -> WorkEnd
+    requires ready { IsReady n play }
+    requires some { 0 < n }
+    requires end { n ≤ MOST_CYCLES }
+    ensures ran { Ran (outcome_of result) (replay_texts (outputs_of outputs.entry) n (play_of play)) (B.outside bench.old) (B.outside bench.new) }
+    ensures steps { outcome_of result ≡ ends.Accepted → steps.new ≡ steps.old + play_wakes (play_of play) n }
+{
+    let Play {
+        work,
+        mut head,
+        rows,
+    } = play;
+    let Work {
+        flash,
+        chips,
+        plan,
+        ..
+    } = work;
+    let Ok(parts) = load_played(alloc, &plan, flash, chips.as_slice(), &rows) else {
+        return WorkEnd::OutOfMemory;
+    };
+    let planned = plan.parts;
+    let Ok(mut board) = Board::new(alloc, parts, plan.wiring, plan.inputs) else {
+        return WorkEnd::OutOfMemory;
+    };
+    let planned = planned.as_slice();
+    match write_run(
+        &mut board, &mut head, planned, false, n, outputs, bench, steps,
+    ) {
+        WriteEnd::Ok => WorkEnd::Accepted,
+        WriteEnd::Failed => WorkEnd::WriteFailed,
+    }
+}
+
+/// Runs the project of a folder under a script, if one is named, for so many microseconds, 16 cycles each, with a player of what
+/// a wave says in place of each chip, and writes its texts where the outputs say. No module of a chip is run.
+pub fn replay<B: Bench, L: Ledger>(
+    alloc: Global,
+    folder: &str,
+    micros: u32,
+    script: Option<&str>,
+    wave: &str,
+    outputs: Outputs,
+    bench: &mut B,
+    steps: &mut Steps<L>,
+) -> WorkEnd
+    requires some { 0 < micros }
+    requires end { micros ≤ 10000000 }
+    ensures ends { Ends (ReplayAnswer folder.now wave.now micros (option_map (λ s. s.now) script.entry) (outputs_of outputs.entry))
+        (outcome_of result) (B.outside bench.old) (B.outside bench.new) }
+    ensures repeated { Ends (RepeatAnswer folder.now wave.now micros (option_map (λ s. s.now) script.entry) (outputs_of outputs.entry))
+        (outcome_of result) (B.outside bench.old) (B.outside bench.new) }
+    ensures counts { Counts (ReplayAnswer folder.now wave.now micros (option_map (λ s. s.now) script.entry) (outputs_of outputs.entry))
+        (outcome_of result) (B.outside bench.old) steps.old steps.new }
+    ensures silent { SaidNothing (B.outside bench.old) (B.outside bench.new) }
+{
+    match read_play(alloc, folder, wave, script, 16 * micros, bench) {
+        Ok(play) => play_board(alloc, play, 16 * micros, outputs, bench, steps),
+        Err(outcome) => outcome,
+    }
+}

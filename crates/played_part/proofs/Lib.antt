@@ -1,0 +1,3 @@
+pub mod Inside
+mod PlayLemmas
+pub mod LoadLemmas

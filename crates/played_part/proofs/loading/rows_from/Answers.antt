@@ -1,0 +1,14 @@
+use Rattle.std.proofs.Common.{◌≡◌, ◌∙◌, ◌++◌, ◌∷◌, [], ◌+◌, ap, sym, List, Some, drop}
+use Rattle.std.specs.Prelude.{slice_get}
+use Rattle.board_laws.specs.Player.{DriveRows}
+use Rattle.played_part.proofs.PlayLemmas.{get_behind, one_more}
+use Rattle.played_part.proofs.loading.rows_from.Goals as goal
+
+pub loop-k-preserved : goal.loop-k-preserved
+loop-k-preserved c =
+    let l = c.loop-k in
+    let rows : List DriveRows = c.args.rows.now in
+    let first = c.args.first in
+    let pin : DriveRows = c.in_ok-pin.pin in
+    let at : slice_get rows (first + l.k) ≡ Some pin = c.rows.ensures ∙ ap Some (sym c.in_ok-pin.ensures) in
+    c.in_ok-push.ensures.ok ∙ ap (λ (pins : List DriveRows). pins ++ pin ∷ []) l.invariant ∙ one_more (drop first rows) l.k pin (get_behind first rows l.k pin at)
