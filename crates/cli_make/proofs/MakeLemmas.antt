@@ -12,6 +12,7 @@ use Rattle.outcome_model.specs.Happens.{Answer, Ends}
 use Rattle.outcome_model.specs.Promises.{IsOne}
 use Rattle.outcome_model.proofs.ReadLemmas.{if_some, one_both, one_function}
 use Rattle.outcome_model.proofs.EndLemmas.{answered, answer_stops, one_answer, alone_ran, on_after, begins_after, kept_after}
+use Rattle.document_model.specs.declared.project.Project.{Project}
 use Rattle.board_make.specs.Board.{chip_file, diagram, lamps_parts}
 use Rattle.board_make.specs.Inverter.{inverter}
 use Rattle.board_build.specs.declared.plan.Plan.{Plan}
@@ -44,8 +45,9 @@ one_bytes name bytes = record { one_sided = sided; one_given = λ files x y e f.
     statuses files (Refused n r) (Refused m q) e f = refl
 
 -- what comes behind the plan
-abbrev pub with_plan : List ℕ → ChipSource → Plan → Reading Work
-with_plan flash chip plan = Is (λ (files : Files). Ok (record { flash = flash; chips = chip ∷ []; plan = plan; wave = [] }))
+abbrev pub with_plan : Project → List ℕ → ChipSource → Plan → Reading Work
+with_plan project flash chip plan =
+    Is (λ (files : Files). Ok (record { project = project; flash = flash; diagram = []; chips = chip ∷ []; plan = plan; wave = [] }))
 
 one_made : (seed : ℕ) → IsOneReading (MadeIn seed)
 one_made seed =

@@ -31,7 +31,7 @@ source binary = record { binary = binary; pins = chip_pins }
 
 -- the board of a project with one chip and no script, by the rules of boards
 abbrev pub BehindModule : Project → List ℕ → Diagram → ChipSource → Reading Work
-BehindModule made flash board chip = BehindScript folder None made flash board (chip ∷ []) [] []
+BehindModule made flash board chip = BehindScript folder None made flash (board, []) (chip ∷ []) [] []
 
 -- The generated project of a seed: its module by the rules of modules, and then the board by its rules.
 abbrev pub MadeIn : ℕ → Reading Work

@@ -48,15 +48,15 @@ fn only(alloc: Global, chip: ChipSource) -> Result<List<ChipSource>, OutOfMemory
 /// The plan behind the module of the one chip, or the end of the work by a rule of the board.
 fn behind_module(
     alloc: Global,
-    project: &Project,
+    project: Project,
     flash: Flash,
     diagram: &Diagram,
     chip: ChipSource,
 ) -> Result<Work, WorkEnd>
-    requires chips { length project.now.chips ≡ 1 }
+    requires chips { length project.chips ≡ 1 }
     requires parts { length diagram.now.parts ≤ 64 }
     requires few { HasFewPins chip }
-    ensures got { (a : Outside) → Got work_of outcome_of result (BehindModule project.now flash diagram.now chip) a a }
+    ensures got { (a : Outside) → Got work_of outcome_of result (BehindModule project flash diagram.now chip) a a }
     ensures plan { IfOk result (λ w. IsPlan (pins_of w.chips) w.plan) }
     ensures few { IfOk result (λ w. All HasFewPins w.chips) }
     ensures inputs { IfOk result (λ w. AreInputs (length w.plan.parts) w.plan.inputs) }
@@ -69,15 +69,18 @@ fn behind_module(
         alloc,
         "make",
         None,
-        project,
+        &project,
         diagram,
         chips.as_slice(),
         &rows,
     ) {
         Ok(plan) => {
+            let bytes = List::new(alloc);
             let wave = Vec::new(alloc);
             Ok(Work {
+                project,
                 flash,
+                diagram: bytes,
                 chips,
                 plan,
                 wave,
@@ -107,7 +110,7 @@ pub(crate) fn made_work(alloc: Global, seed: u32) -> Result<Work, WorkEnd>
     match judged(alloc, module) {
         Ok(binary) => {
             let chip = ChipSource { binary, pins };
-            behind_module(alloc, &project, flash, &diagram, chip)
+            behind_module(alloc, project, flash, &diagram, chip)
         }
         Err(end) => Err(end),
     }

@@ -1,10 +1,12 @@
 -- Reading a project file by file.
 use Rattle.std.proofs.Common.{◌≡◌, ◌∙◌, ◌⊎◌, ◌++◌, [], ◌∷◌, ◌<◌, ◌-◌, ◌+◌, ℕ, List, length, length-append, take, drop, slice_index_or, arith, ap, sym, subst, refl, Option, Some, None, Result, Ok, Err, inl, inr, IfSome, IfOk}
 use Rattle.std.proofs.lemmas.List.{take_all}
+use Rattle.sim_base.specs.declared.fault.Refusal.{Refusal}
 use Rattle.sim_base.specs.Outside.{Outside, SamePorts, Files}
 use Rattle.text_model.specs.Hex.{hex_image}
 use Rattle.document_model.specs.Project.{project_text}
 use Rattle.document_model.specs.declared.project.ChipFile.{ChipFile}
+use Rattle.document_model.specs.declared.diagram.Diagram.{Diagram}
 use Rattle.document_model.specs.Diagram.{diagram_text}
 use Rattle.chip_json.specs.ChipJson.{chip_text}
 use Rattle.chip_module.specs.Binary.{Binary, Judges}
@@ -16,7 +18,7 @@ use Rattle.outcome_model.specs.Outcome.{Outcome, Stopped, OutOfMemory}
 use Rattle.outcome_model.specs.Work.{Reading, Is, ReadStops, Got, IsSteady, IsOneReading}
 use Rattle.outcome_model.proofs.ReadLemmas.{if_always, first_stops, got_both, steady_file, steady_within, steady_both, steady_rule, one_file, one_within, one_function, one_both}
 use Rattle.outcome_model.proofs.JudgeLemmas.{steady_judged, one_judged}
-use Rattle.project_model.specs.Work.{Work, in_folder, ChipIn, ChipsAfter, PinsIn, ScriptIn, WaveIn, WorkIn}
+use Rattle.project_model.specs.Work.{Work, in_folder, with_bytes, drawn, ChipIn, ChipsAfter, PinsIn, ScriptIn, WaveIn, WorkIn}
 use Rattle.outcome_model.specs.Happens.{Ends}
 use Rattle.outcome_model.specs.Promises.{IsOne}
 use Rattle.outcome_model.proofs.EndLemmas.{answered, answer_stops, only_texts, one_answer}
@@ -101,6 +103,14 @@ pub rule_stops : {X : Type 0} (result : Result X Stop) (s : Stop) (said : Outcom
 rule_stops result s said a e (inl is) = rw is (if_always a.files _ (λ files. e))
 rule_stops result s said a e (inr is) = rw is tt
 
+-- what is kept beside its bytes is what they are read as
+bytes_beside : {X : Type 0} (bytes : List ℕ) (r : Result X Refusal) (d : X × List ℕ) → with_bytes bytes r ≡ Ok d → r ≡ Ok d.0
+bytes_beside {X = X} bytes (Ok x) d e = let same : (x, bytes) ≡ d = cc in ap (λ (p : X × List ℕ). Ok p.0) same
+bytes_beside {X = X} bytes (Err r) d e = absurd cc
+
+pub drawn_is : (bytes : List ℕ) (d : Diagram × List ℕ) → drawn bytes ≡ Ok d → diagram_text bytes ≡ Ok d.0
+drawn_is bytes d e = bytes_beside bytes (diagram_text bytes) d e
+
 -- A project holds one work.
 module _ (folder : List ℕ) (script wave : Option (List ℕ)) where
   one_chip : (chip : ChipFile) → IsOneReading (ChipIn folder chip)
@@ -126,7 +136,7 @@ module _ (folder : List ℕ) (script wave : Option (List ℕ)) where
   steady_work =
       steady_both _ _ (steady_file _ project_text) (λ project.
       steady_both _ _ (steady_file _ hex_image) (λ flash.
-      steady_both _ _ (steady_file _ diagram_text) (λ diagram.
+      steady_both _ _ (steady_file _ drawn) (λ diagram.
       steady_both _ _ (steady_chips folder [] project.chips) (λ chips.
       steady_both _ _ (steady_script script) (λ rows.
       steady_both _ _ (steady_wave wave) (λ bytes.
@@ -136,7 +146,7 @@ module _ (folder : List ℕ) (script wave : Option (List ℕ)) where
   one_work =
       one_both _ _ (one_file _ project_text) (λ project.
       one_both _ _ (one_file _ hex_image) (λ flash.
-      one_both _ _ (one_file _ diagram_text) (λ diagram.
+      one_both _ _ (one_file _ drawn) (λ diagram.
       one_both _ _ (one_chips [] project.chips) (λ chips.
       one_both _ _ (one_script script) (λ rows.
       one_both _ _ (one_wave wave) (λ bytes.

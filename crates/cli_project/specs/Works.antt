@@ -5,7 +5,7 @@ use Rattle.project_model.specs.Work as projects
 use Rattle.cli_project.specs.declared.project.Work.{Work}
 
 abbrev pub work_of : Work → projects.Work
-work_of w = record { flash = w.flash; chips = w.chips; plan = w.plan; wave = w.wave.items }
+work_of w = record { project = w.project; flash = w.flash; diagram = w.diagram; chips = w.chips; plan = w.plan; wave = w.wave.items }
 
 -- numbers of which none is below the one before, the first not below a bound
 abbrev pub IsRising : ℕ → List ℕ → Type 0

@@ -13,7 +13,7 @@ use document_model::{ChipPins, Diagram, Project};
 use input_texts::Script;
 use project_files::read_project;
 use script_text::read_script;
-use sim_base::{Bench, Fault};
+use sim_base::{Bench, Fault, List};
 use std::alloc::{AllocError, Global};
 
 /// `wokwi.toml`.
@@ -31,18 +31,24 @@ impl Document for ProjectFile {
     }
 }
 
-/// `diagram.json`.
+/// `diagram.json`, which is kept beside what it says.
 pub(crate) struct DiagramFile;
 
 impl Document for DiagramFile {
-    ghost use Rattle.document_model.specs.Diagram.{diagram_text};
+    ghost use Rattle.project_model.specs.Work.{drawn};
 
-    type Text = Diagram;
+    type Text = (Diagram, List<u8>);
 
-    ghost reading = { diagram_text };
+    ghost reading = { drawn };
 
-    fn read(alloc: Global, bytes: &[u8]) -> Result<Diagram, Fault> {
-        read_diagram(alloc, bytes)
+    fn read(alloc: Global, bytes: &[u8]) -> Result<(Diagram, List<u8>), Fault> {
+        match read_diagram(alloc, bytes) {
+            Ok(diagram) => match bytes.to_vec(alloc) {
+                Ok(bytes) => Ok((diagram, List::from_vec(bytes))),
+                Err(_) => Err(Fault::OutOfMemory),
+            },
+            Err(fault) => Err(fault),
+        }
     }
 }
 
@@ -77,7 +83,7 @@ impl Document for ScriptFile {
 }
 
 /// The name of a file in a folder.
-pub(crate) fn name_in(alloc: Global, folder: &str, path: &str) -> Result<String, AllocError>
+pub fn name_in(alloc: Global, folder: &str, path: &str) -> Result<String, AllocError>
     ensures { IfOk result (λ name. string_bytes name ≡ in_folder folder.now path.now) }
 {
     format!(in alloc; "{folder}/{path}")

@@ -8,4 +8,5 @@ mod documents;
 mod project;
 
 pub use checking::check;
+pub use documents::name_in;
 pub use project::{Work, plan_board, read_work};

@@ -24,10 +24,13 @@ use sim_base::refusals::SCRIPT_PART;
 use sim_base::{Bench, Fault, Flash, List, Refusal};
 use std::alloc::Global;
 
-/// The firmware, the chips in the order of the project, the plan of its board, and the bytes of a wave.
+/// What the project's file says, the firmware, the bytes of the diagram, the chips in the order of the project, the plan of its
+/// board, and the bytes of a wave.
 #[derive(Drop)]
 pub struct Work {
+    pub project: Project,
     pub flash: Flash,
+    pub diagram: List<u8>,
     pub chips: List<ChipSource>,
     pub plan: Plan,
     pub wave: Vec<u8>,
@@ -120,36 +123,40 @@ fn read_behind_chips<B: Bench>(
     folder: &str,
     script: Option<&str>,
     wave: Option<&str>,
-    project: &Project,
+    project: Project,
     flash: Flash,
-    diagram: &Diagram,
+    drawn: (Diagram, List<u8>),
     chips: List<ChipSource>,
     bench: &mut B,
 ) -> Result<Work, WorkEnd>
-    requires chips { length project.now.chips ≤ 8 }
-    requires each { length chips ≡ length project.now.chips }
+    requires chips { length project.chips ≤ 8 }
+    requires each { length chips ≡ length project.chips }
     requires pins { All HasFewPins chips }
-    requires parts { length diagram.now.parts ≤ 64 }
-    ensures got { Got work_of outcome_of result (BehindChips folder.now (option_map (λ s. s.now) script.entry) (option_map (λ s. s.now) wave.entry) project.now flash diagram.now chips) (B.outside bench.old) (B.outside bench.new) }
+    requires parts { length drawn.0.parts ≤ 64 }
+    ensures got { Got work_of outcome_of result (BehindChips folder.now (option_map (λ s. s.now) script.entry) (option_map (λ s. s.now) wave.entry) project flash drawn chips) (B.outside bench.old) (B.outside bench.new) }
     ensures ports { SamePorts (B.outside bench.old) (B.outside bench.new) }
     ensures plan { IfOk result (λ w. IsPlan (pins_of w.chips) w.plan) }
     ensures few { IfOk result (λ w. All HasFewPins w.chips) }
     ensures inputs { IfOk result (λ w. AreInputs (length w.plan.parts) w.plan.inputs) }
     ensures short { IfOk result (λ w. length w.wave.items ≤ 16777216) }
+    ensures each { IfOk result (λ w. length w.chips ≡ length w.project.chips) }
 {
     let rows = read_script_of(alloc, script, bench)?;
     let wave = read_wave_of(alloc, wave, bench)?;
+    let (diagram, bytes) = drawn;
     let plan = plan_board(
         alloc,
         folder,
         script,
-        project,
-        diagram,
+        &project,
+        &diagram,
         chips.as_slice(),
         &rows,
     )?;
     Ok(Work {
+        project,
         flash,
+        diagram: bytes,
         chips,
         plan,
         wave,
@@ -162,23 +169,24 @@ fn read_behind_diagram<B: Bench>(
     folder: &str,
     script: Option<&str>,
     wave: Option<&str>,
-    project: &Project,
+    project: Project,
     flash: Flash,
-    diagram: &Diagram,
+    drawn: (Diagram, List<u8>),
     bench: &mut B,
 ) -> Result<Work, WorkEnd>
-    requires chips { length project.now.chips ≤ 8 }
-    requires parts { length diagram.now.parts ≤ 64 }
-    ensures got { Got work_of outcome_of result (BehindDiagram folder.now (option_map (λ s. s.now) script.entry) (option_map (λ s. s.now) wave.entry) project.now flash diagram.now) (B.outside bench.old) (B.outside bench.new) }
+    requires chips { length project.chips ≤ 8 }
+    requires parts { length drawn.0.parts ≤ 64 }
+    ensures got { Got work_of outcome_of result (BehindDiagram folder.now (option_map (λ s. s.now) script.entry) (option_map (λ s. s.now) wave.entry) project flash drawn) (B.outside bench.old) (B.outside bench.new) }
     ensures ports { SamePorts (B.outside bench.old) (B.outside bench.new) }
     ensures plan { IfOk result (λ w. IsPlan (pins_of w.chips) w.plan) }
     ensures few { IfOk result (λ w. All HasFewPins w.chips) }
     ensures inputs { IfOk result (λ w. AreInputs (length w.plan.parts) w.plan.inputs) }
     ensures short { IfOk result (λ w. length w.wave.items ≤ 16777216) }
+    ensures each { IfOk result (λ w. length w.chips ≡ length w.project.chips) }
 {
     let chips = read_chips(alloc, folder, project.chips.as_slice(), bench)?;
     read_behind_chips(
-        alloc, folder, script, wave, project, flash, diagram, chips, bench,
+        alloc, folder, script, wave, project, flash, drawn, chips, bench,
     )
 }
 
@@ -188,20 +196,21 @@ fn read_behind_firmware<B: Bench>(
     folder: &str,
     script: Option<&str>,
     wave: Option<&str>,
-    project: &Project,
+    project: Project,
     flash: Flash,
     bench: &mut B,
 ) -> Result<Work, WorkEnd>
-    requires chips { length project.now.chips ≤ 8 }
-    ensures got { Got work_of outcome_of result (BehindFirmware folder.now (option_map (λ s. s.now) script.entry) (option_map (λ s. s.now) wave.entry) project.now flash) (B.outside bench.old) (B.outside bench.new) }
+    requires chips { length project.chips ≤ 8 }
+    ensures got { Got work_of outcome_of result (BehindFirmware folder.now (option_map (λ s. s.now) script.entry) (option_map (λ s. s.now) wave.entry) project flash) (B.outside bench.old) (B.outside bench.new) }
     ensures ports { SamePorts (B.outside bench.old) (B.outside bench.new) }
     ensures plan { IfOk result (λ w. IsPlan (pins_of w.chips) w.plan) }
     ensures few { IfOk result (λ w. All HasFewPins w.chips) }
     ensures inputs { IfOk result (λ w. AreInputs (length w.plan.parts) w.plan.inputs) }
     ensures short { IfOk result (λ w. length w.wave.items ≤ 16777216) }
+    ensures each { IfOk result (λ w. length w.chips ≡ length w.project.chips) }
 {
-    let diagram = read_in::<DiagramFile, B>(alloc, folder, "diagram.json", bench)?;
-    read_behind_diagram(alloc, folder, script, wave, project, flash, &diagram, bench)
+    let drawn = read_in::<DiagramFile, B>(alloc, folder, "diagram.json", bench)?;
+    read_behind_diagram(alloc, folder, script, wave, project, flash, drawn, bench)
 }
 
 /// The firmware, and what comes behind it.
@@ -210,16 +219,17 @@ fn read_behind_project<B: Bench>(
     folder: &str,
     script: Option<&str>,
     wave: Option<&str>,
-    project: &Project,
+    project: Project,
     bench: &mut B,
 ) -> Result<Work, WorkEnd>
-    requires chips { length project.now.chips ≤ 8 }
-    ensures got { Got work_of outcome_of result (BehindProject folder.now (option_map (λ s. s.now) script.entry) (option_map (λ s. s.now) wave.entry) project.now) (B.outside bench.old) (B.outside bench.new) }
+    requires chips { length project.chips ≤ 8 }
+    ensures got { Got work_of outcome_of result (BehindProject folder.now (option_map (λ s. s.now) script.entry) (option_map (λ s. s.now) wave.entry) project) (B.outside bench.old) (B.outside bench.new) }
     ensures ports { SamePorts (B.outside bench.old) (B.outside bench.new) }
     ensures plan { IfOk result (λ w. IsPlan (pins_of w.chips) w.plan) }
     ensures few { IfOk result (λ w. All HasFewPins w.chips) }
     ensures inputs { IfOk result (λ w. AreInputs (length w.plan.parts) w.plan.inputs) }
     ensures short { IfOk result (λ w. length w.wave.items ≤ 16777216) }
+    ensures each { IfOk result (λ w. length w.chips ≡ length w.project.chips) }
 {
     let flash = read_in::<HexFile, B>(alloc, folder, project.firmware.as_str(), bench)?;
     read_behind_firmware(alloc, folder, script, wave, project, flash, bench)
@@ -240,7 +250,8 @@ pub fn read_work<B: Bench>(
     ensures few { IfOk result (λ w. All HasFewPins w.chips) }
     ensures inputs { IfOk result (λ w. AreInputs (length w.plan.parts) w.plan.inputs) }
     ensures short { IfOk result (λ w. length w.wave.items ≤ 16777216) }
+    ensures each { IfOk result (λ w. length w.chips ≡ length w.project.chips) }
 {
     let project = read_in::<ProjectFile, B>(alloc, folder, "wokwi.toml", bench)?;
-    read_behind_project(alloc, folder, script, wave, &project, bench)
+    read_behind_project(alloc, folder, script, wave, project, bench)
 }

@@ -23,15 +23,26 @@ use Rattle.board_build.specs.Plan.{plan_of}
 abbrev pub in_folder : List ℕ → List ℕ → List ℕ
 in_folder folder path = folder ++ (codes "/" ++ path)
 
--- the firmware's flash image, the chips of the project in its order, the plan of the board, and the bytes of a wave
+-- What the project's file says, the firmware's flash image, the bytes of the diagram, none where it is generated, the chips of
+-- the project in its order, the plan of the board, and the bytes of a wave.
 pub record Work : Type 0 where
+  pub project : Project
   pub flash : List ℕ
+  pub diagram : List ℕ
   pub chips : List ChipSource
   pub plan : Plan
   pub wave : List ℕ
 
 abbrev pub diagram_name : List ℕ → List ℕ
 diagram_name folder = in_folder folder (codes "diagram.json")
+
+-- what some bytes are read as, with the bytes themselves
+abbrev pub with_bytes : {X : Type 0} → List ℕ → Result X Refusal → Result (X × List ℕ) Refusal
+with_bytes bytes (Ok x) = Ok (x, bytes)
+with_bytes bytes (Err r) = Err r
+
+abbrev pub drawn : List ℕ → Result (Diagram × List ℕ) Refusal
+drawn bytes = with_bytes bytes (diagram_text bytes)
 
 -- a chip: its module, and then its pins
 abbrev pub PinsIn : List ℕ → List ℕ → Binary → Reading ChipSource
@@ -68,19 +79,20 @@ abbrev pub PlanIn : List ℕ → Option (List ℕ) → Project → Diagram → L
 PlanIn folder script project diagram chips rows = Is (λ files. by_rule folder script (plan_of project diagram (pins_of chips) rows))
 
 -- what comes behind the project's file, the firmware, the diagram and the chips
-abbrev pub BehindScript : List ℕ → Option (List ℕ) → Project → List ℕ → Diagram → List ChipSource → List ScriptRow → List ℕ → Reading Work
+abbrev pub BehindScript : List ℕ → Option (List ℕ) → Project → List ℕ → Diagram × List ℕ → List ChipSource → List ScriptRow → List ℕ → Reading Work
 BehindScript folder script project flash diagram chips rows wave =
-    Then (PlanIn folder script project diagram chips rows) (λ plan. Is (λ files. Ok (record { flash = flash; chips = chips; plan = plan; wave = wave })))
+    Then (PlanIn folder script project diagram.0 chips rows)
+    (λ plan. Is (λ files. Ok (record { project = project; flash = flash; diagram = diagram.1; chips = chips; plan = plan; wave = wave })))
 
-abbrev pub BehindChips : List ℕ → Option (List ℕ) → Option (List ℕ) → Project → List ℕ → Diagram → List ChipSource → Reading Work
+abbrev pub BehindChips : List ℕ → Option (List ℕ) → Option (List ℕ) → Project → List ℕ → Diagram × List ℕ → List ChipSource → Reading Work
 BehindChips folder script wave project flash diagram chips =
     Then (ScriptIn script) (λ rows. Then (WaveIn wave) (BehindScript folder script project flash diagram chips rows))
 
-abbrev pub BehindDiagram : List ℕ → Option (List ℕ) → Option (List ℕ) → Project → List ℕ → Diagram → Reading Work
+abbrev pub BehindDiagram : List ℕ → Option (List ℕ) → Option (List ℕ) → Project → List ℕ → Diagram × List ℕ → Reading Work
 BehindDiagram folder script wave project flash diagram = Then (ChipsAfter folder [] project.chips) (BehindChips folder script wave project flash diagram)
 
 abbrev pub BehindFirmware : List ℕ → Option (List ℕ) → Option (List ℕ) → Project → List ℕ → Reading Work
-BehindFirmware folder script wave project flash = Then (IsFile (diagram_name folder) diagram_text) (BehindDiagram folder script wave project flash)
+BehindFirmware folder script wave project flash = Then (IsFile (diagram_name folder) drawn) (BehindDiagram folder script wave project flash)
 
 abbrev pub BehindProject : List ℕ → Option (List ℕ) → Option (List ℕ) → Project → Reading Work
 BehindProject folder script wave project = Then (IsFile (in_folder folder project.firmware) hex_image) (BehindFirmware folder script wave project)

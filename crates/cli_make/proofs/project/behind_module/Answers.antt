@@ -3,6 +3,8 @@ use Rattle.outcome_model.specs.Work.{Reading}
 use Rattle.outcome_model.proofs.ReadLemmas.{if_always, first_stops, got_both, steady_rule}
 use Rattle.board_build.specs.declared.plan.Plan.{Plan}
 use Rattle.chip_module.specs.declared.source.ChipSource.{ChipSource}
+use Rattle.document_model.specs.declared.project.Project.{Project}
+use Rattle.project_model.specs.Work as model
 use Rattle.project_model.specs.Work.{PlanIn}
 use Rattle.cli_work.specs.Outcomes.{outcome_of}
 use Rattle.cli_project.specs.declared.project.Work.{Work}
@@ -16,19 +18,25 @@ pub returns-in-Ok-plan_board-clause-got : goal.returns-in-Ok-plan_board-clause-g
 returns-in-Ok-plan_board-clause-got c = λ a.
     let chip : ChipSource = c.args.chip in
     let plan : Plan = c.in-Ok-plan_board.plan in
-    let planned : Reading Plan = PlanIn folder None c.args.project.now c.args.diagram.now (chip ∷ []) [] in
-    let work : Work = record { flash = c.args.flash; chips = c.in-Ok.chips; plan = plan; wave = c.new-wave.result } in
-    got_both planned (with_plan c.args.flash chip) (steady_rule _) plan work_of outcome_of (Ok work) a a a (same_here a)
+    let planned : Reading Plan = PlanIn folder None c.args.project c.args.diagram.now (chip ∷ []) [] in
+    let project : Project = c.args.project in
+    let flash : List ℕ = c.args.flash in
+    let chips : List ChipSource = c.in-Ok.chips in
+    let work : Work = record { project = project; flash = flash; diagram = c.new-bytes.result; chips = chips; plan = plan; wave = c.new-wave.result } in
+    let has : List ChipSource → List ℕ → List ℕ → model.Work =
+    λ (cs : List ChipSource) (bytes wave : List ℕ). record { project = project; flash = flash; diagram = bytes; chips = cs; plan = plan; wave = wave } in
+    got_both planned (with_plan c.args.project c.args.flash chip) (steady_rule _) plan work_of outcome_of (Ok work) a a a (same_here a)
     (rw (c.as_slice.ensures, c.in-Ok.ensures, c.new-rows.ensures) at (c.in-Ok-plan_board.ensures.got a)) (
       if_always a.files _ (λ files.
-          ap (λ (cs : List ChipSource). Ok (record { flash = c.args.flash; chips = cs; plan = plan; wave = [] })) (sym c.in-Ok.ensures)
-          ∙ ap (λ (wave : List ℕ). Ok (record { flash = c.args.flash; chips = c.in-Ok.chips; plan = plan; wave = wave })) (sym c.new-wave.ensures.items)),
+          ap (λ (cs : List ChipSource). Ok (has cs [] [])) (sym c.in-Ok.ensures)
+          ∙ ap (λ (bytes : List ℕ). Ok (has chips bytes [])) (sym c.new-bytes.ensures)
+          ∙ ap (λ (wave : List ℕ). Ok (has chips c.new-bytes.result wave)) (sym c.new-wave.ensures.items)),
       refl,
     )
 
 pub returns-in-Err-clause-got : goal.returns-in-Err-clause-got
 returns-in-Err-clause-got c = λ a.
     let chip : ChipSource = c.args.chip in
-    let planned : Reading Plan = PlanIn folder None c.args.project.now c.args.diagram.now (chip ∷ []) [] in
-    first_stops planned (with_plan c.args.flash chip) (outcome_of c.in-Err.end) a a
+    let planned : Reading Plan = PlanIn folder None c.args.project c.args.diagram.now (chip ∷ []) [] in
+    first_stops planned (with_plan c.args.project c.args.flash chip) (outcome_of c.in-Err.end) a a
     (rw (c.as_slice.ensures, c.in-Ok.ensures, c.new-rows.ensures) at (c.in-Err.ensures.got a))

@@ -34,8 +34,8 @@ returns-in-Ok-judged-clause-got c = λ a.
     got_both (JudgedBytes name inverter) next (steady_bytes name inverter) c.in-Ok-judged.binary work_of outcome_of c.behind_module.result a a a (same_here a)
     (rw made.inverter at (c.in-Ok-judged.ensures a)) (rw (made.project, made.flash, made.diagram, made.pins) at (c.behind_module.ensures.got a))
 
-pub returns-clause-got : goal.returns-clause-got
-returns-clause-got c = λ a.
+pub returns-in-Err-clause-got : goal.returns-in-Err-clause-got
+returns-in-Err-clause-got c = λ a.
     let seed : ℕ = c.args.seed in
     let next : Binary → Reading Work = λ binary. BehindModule project (image seed) (diagram seed) (source binary) in
     first_stops (JudgedBytes (in_folder folder chip_file.binary) inverter) next (outcome_of c.in-Err.end) a a

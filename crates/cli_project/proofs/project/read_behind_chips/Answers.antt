@@ -2,6 +2,7 @@ use Rattle.std.proofs.Common.{ℕ, List, Option, Ok, Err, Bor, refl}
 use Rattle.std.specs.Option.{option_map}
 use Rattle.std.proofs.lemmas.Result.{err_from_is_err_and}
 use Rattle.sim_base.specs.Outside.{Outside, Files}
+use Rattle.document_model.specs.declared.project.Project.{Project}
 use Rattle.input_texts.specs.declared.script.ScriptRow.{ScriptRow}
 use Rattle.chip_module.specs.declared.source.ChipSource.{ChipSource}
 use Rattle.board_build.specs.declared.plan.Plan.{Plan}
@@ -15,8 +16,9 @@ use Rattle.cli_project.specs.Works.{work_of}
 use Rattle.cli_project.proofs.ProjectLemmas.{steady_script, steady_wave, same_here}
 use Rattle.cli_project.proofs.project.read_behind_chips.Goals as goal
 
-abbrev plan_next : List ℕ → List ChipSource → List ℕ → Plan → Reading model.Work
-plan_next flash chips wave plan = Is (λ (files : Files). Ok (record { flash = flash; chips = chips; plan = plan; wave = wave }))
+abbrev plan_next : Project → List ℕ → List ℕ → List ChipSource → List ℕ → Plan → Reading model.Work
+plan_next project flash diagram chips wave plan =
+    Is (λ (files : Files). Ok (record { project = project; flash = flash; diagram = diagram; chips = chips; plan = plan; wave = wave }))
 
 pub returns-in_err-rows-clause-got : goal.returns-in_err-rows-clause-got
 returns-in_err-rows-clause-got g c =
@@ -27,7 +29,7 @@ returns-in_err-rows-clause-got g c =
     let wave : Option (List ℕ) = option_map (λ (s : Bor (List ℕ)). s.now) c.args.wave in
     let q = err_from_is_err_and c.from_residual.result c.from_residual.ensures.1 in
     let e = c.in_err-rows.field-0.0 in
-    rw (q.1, q.2) (first_stops (ScriptIn script) (λ (rows : List ScriptRow). Then (WaveIn wave) (BehindScript folder script c.args.project.now c.args.flash c.args.diagram.now c.args.chips rows)) (outcome_of e) a b c.in_err-rows.ensures.got)
+    rw (q.1, q.2) (first_stops (ScriptIn script) (λ (rows : List ScriptRow). Then (WaveIn wave) (BehindScript folder script c.args.project c.args.flash c.args.drawn c.args.chips rows)) (outcome_of e) a b c.in_err-rows.ensures.got)
 
 pub returns-in_err-wave-clause-got : goal.returns-in_err-wave-clause-got
 returns-in_err-wave-clause-got g c =
@@ -40,7 +42,7 @@ returns-in_err-wave-clause-got g c =
     let rows : List ScriptRow = c.in_ok-rows.rows in
     let q = err_from_is_err_and c.from_residual-in_err-wave.result c.from_residual-in_err-wave.ensures.1 in
     let e = c.in_err-wave.field-0.0 in
-    let Behind : List ScriptRow → List ℕ → Reading model.Work = BehindScript folder script c.args.project.now c.args.flash c.args.diagram.now c.args.chips in
+    let Behind : List ScriptRow → List ℕ → Reading model.Work = BehindScript folder script c.args.project c.args.flash c.args.drawn c.args.chips in
     rw (q.1, q.2) (got_both (ScriptIn script) (λ (rows : List ScriptRow). Then (WaveIn wave) (Behind rows)) (steady_script script) rows work_of outcome_of (Err e) a m b c.in_ok-rows.ensures.ports c.in_ok-rows.ensures.got
     (first_stops (WaveIn wave) (Behind rows) (outcome_of e) m b c.in_err-wave.ensures.got))
 
@@ -56,11 +58,11 @@ returns-in_err-plan-clause-got g c =
     let bytes : List ℕ = c.in_ok-wave.wave.items in
     let q = err_from_is_err_and c.from_residual-in_err-plan.result c.from_residual-in_err-plan.ensures.1 in
     let e = c.in_err-plan.field-0.0 in
-    let Plans : Reading Plan = PlanIn folder script c.args.project.now c.args.diagram.now c.args.chips rows in
-    let Behind : List ScriptRow → List ℕ → Reading model.Work = BehindScript folder script c.args.project.now c.args.flash c.args.diagram.now c.args.chips in
+    let Plans : Reading Plan = PlanIn folder script c.args.project c.args.drawn.0 c.args.chips rows in
+    let Behind : List ScriptRow → List ℕ → Reading model.Work = BehindScript folder script c.args.project c.args.flash c.args.drawn c.args.chips in
     rw (q.1, q.2) (got_both (ScriptIn script) (λ (rows : List ScriptRow). Then (WaveIn wave) (Behind rows)) (steady_script script) rows work_of outcome_of (Err e) a m b c.in_ok-rows.ensures.ports c.in_ok-rows.ensures.got
     (got_both (WaveIn wave) (Behind rows) (steady_wave wave) bytes work_of outcome_of (Err e) m b b c.in_ok-wave.ensures.ports c.in_ok-wave.ensures.got
-    (first_stops Plans (plan_next c.args.flash c.args.chips bytes) (outcome_of e) b b (rw c.as_slice.ensures at (c.in_err-plan.ensures.got b)))))
+    (first_stops Plans (plan_next c.args.project c.args.flash c.args.drawn.1 c.args.chips bytes) (outcome_of e) b b (rw c.as_slice.ensures at (c.in_err-plan.ensures.got b)))))
 
 pub returns-clause-got : goal.returns-clause-got
 returns-clause-got g c =
@@ -73,9 +75,9 @@ returns-clause-got g c =
     let rows : List ScriptRow = c.in_ok-rows.rows in
     let bytes : List ℕ = c.in_ok-wave.wave.items in
     let plan : Plan = c.in_ok-plan.plan in
-    let work : Work = record { flash = c.args.flash; chips = c.args.chips; plan = plan; wave = c.in_ok-wave.wave } in
-    let Plans : Reading Plan = PlanIn folder script c.args.project.now c.args.diagram.now c.args.chips rows in
-    let Behind : List ScriptRow → List ℕ → Reading model.Work = BehindScript folder script c.args.project.now c.args.flash c.args.diagram.now c.args.chips in
+    let work : Work = record { project = c.args.project; flash = c.args.flash; diagram = c.args.drawn.1; chips = c.args.chips; plan = plan; wave = c.in_ok-wave.wave } in
+    let Plans : Reading Plan = PlanIn folder script c.args.project c.args.drawn.0 c.args.chips rows in
+    let Behind : List ScriptRow → List ℕ → Reading model.Work = BehindScript folder script c.args.project c.args.flash c.args.drawn c.args.chips in
     got_both (ScriptIn script) (λ (rows : List ScriptRow). Then (WaveIn wave) (Behind rows)) (steady_script script) rows work_of outcome_of (Ok work) a m b c.in_ok-rows.ensures.ports c.in_ok-rows.ensures.got
     (got_both (WaveIn wave) (Behind rows) (steady_wave wave) bytes work_of outcome_of (Ok work) m b b c.in_ok-wave.ensures.ports c.in_ok-wave.ensures.got
-    (got_both Plans (plan_next c.args.flash c.args.chips bytes) (steady_rule _) plan work_of outcome_of (Ok work) b b b (same_here b) (rw c.as_slice.ensures at (c.in_ok-plan.ensures.got b)) (if_always b.files _ (λ files. refl), refl)))
+    (got_both Plans (plan_next c.args.project c.args.flash c.args.drawn.1 c.args.chips bytes) (steady_rule _) plan work_of outcome_of (Ok work) b b b (same_here b) (rw c.as_slice.ensures at (c.in_ok-plan.ensures.got b)) (if_always b.files _ (λ files. refl), refl)))

@@ -18,7 +18,7 @@ returns-in_err-chips-clause-got g c =
     let wave : Option (List ℕ) = option_map (λ (s : Bor (List ℕ)). s.now) c.args.wave in
     let q = err_from_is_err_and c.from_residual.result c.from_residual.ensures.1 in
     let e = c.in_err-chips.field-0.0 in
-    rw (q.1, q.2) (first_stops (ChipsAfter folder [] c.args.project.now.chips) (BehindChips folder script wave c.args.project.now c.args.flash c.args.diagram.now) (outcome_of e) a b (rw c.as_slice.ensures at c.in_err-chips.ensures.got))
+    rw (q.1, q.2) (first_stops (ChipsAfter folder [] c.args.project.chips) (BehindChips folder script wave c.args.project c.args.flash c.args.drawn) (outcome_of e) a b (rw c.as_slice.ensures at c.in_err-chips.ensures.got))
 
 pub returns-clause-got : goal.returns-clause-got
 returns-clause-got g c =
@@ -28,5 +28,5 @@ returns-clause-got g c =
     let folder : List ℕ = c.args.folder.now in
     let script : Option (List ℕ) = option_map (λ (s : Bor (List ℕ)). s.now) c.args.script in
     let wave : Option (List ℕ) = option_map (λ (s : Bor (List ℕ)). s.now) c.args.wave in
-    got_both (ChipsAfter folder [] c.args.project.now.chips) (BehindChips folder script wave c.args.project.now c.args.flash c.args.diagram.now) (steady_chips folder [] c.args.project.now.chips) c.in_ok-chips.chips work_of outcome_of c.read_behind_chips.result a b d c.in_ok-chips.ensures.ports
+    got_both (ChipsAfter folder [] c.args.project.chips) (BehindChips folder script wave c.args.project c.args.flash c.args.drawn) (steady_chips folder [] c.args.project.chips) c.in_ok-chips.chips work_of outcome_of c.read_behind_chips.result a b d c.in_ok-chips.ensures.ports
     (rw c.as_slice.ensures at c.in_ok-chips.ensures.got) c.read_behind_chips.ensures.got

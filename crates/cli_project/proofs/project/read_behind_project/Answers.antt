@@ -19,7 +19,7 @@ returns-in_err-flash-clause-got g c =
     let wave : Option (List ℕ) = option_map (λ (s : Bor (List ℕ)). s.now) c.args.wave in
     let q = err_from_is_err_and c.from_residual.result c.from_residual.ensures.1 in
     let e = c.in_err-flash.field-0.0 in
-    rw (q.1, q.2) (first_stops (IsFile (in_folder folder c.args.project.now.firmware) hex_image) (BehindFirmware folder script wave c.args.project.now) (outcome_of e) a b (rw c.as_str.ensures at c.in_err-flash.ensures.got))
+    rw (q.1, q.2) (first_stops (IsFile (in_folder folder c.args.project.firmware) hex_image) (BehindFirmware folder script wave c.args.project) (outcome_of e) a b (rw c.as_str.ensures at c.in_err-flash.ensures.got))
 
 pub returns-clause-got : goal.returns-clause-got
 returns-clause-got g c =
@@ -29,4 +29,4 @@ returns-clause-got g c =
     let folder : List ℕ = c.args.folder.now in
     let script : Option (List ℕ) = option_map (λ (s : Bor (List ℕ)). s.now) c.args.script in
     let wave : Option (List ℕ) = option_map (λ (s : Bor (List ℕ)). s.now) c.args.wave in
-    got_both (IsFile (in_folder folder c.args.project.now.firmware) hex_image) (BehindFirmware folder script wave c.args.project.now) (steady_file (in_folder folder c.args.project.now.firmware) hex_image) c.in_ok-flash.flash work_of outcome_of c.read_behind_firmware.result a b d c.in_ok-flash.ensures.ports (rw c.as_str.ensures at c.in_ok-flash.ensures.got) c.read_behind_firmware.ensures.got
+    got_both (IsFile (in_folder folder c.args.project.firmware) hex_image) (BehindFirmware folder script wave c.args.project) (steady_file (in_folder folder c.args.project.firmware) hex_image) c.in_ok-flash.flash work_of outcome_of c.read_behind_firmware.result a b d c.in_ok-flash.ensures.ports (rw c.as_str.ensures at c.in_ok-flash.ensures.got) c.read_behind_firmware.ensures.got
