@@ -1,8 +1,6 @@
 use Rattle.std.proofs.Common.{◌≡◌, ◌∙◌, ◌+◌, ◌++◌, ◌<◌, ◌≤◌, ℕ, List, [], length, drop, min, map, ap, sym, refl, arith}
 use Rattle.std.proofs.lemmas.List.{append_assoc, append-nil}
 use Rattle.sim_base.specs.declared.bench.Port.TheVariants as ports
-use Rattle.sim_base.specs.Outside.{Outside}
-use Rattle.outcome_model.specs.Work.{Wrote}
 use Rattle.outcome_model.proofs.WriteLemmas.{others_more}
 use Rattle.sim_report.specs.declared.row.ReportRow.{ReportRow}
 use Rattle.board_build.specs.declared.plan.PlanPart.{PlanPart}
