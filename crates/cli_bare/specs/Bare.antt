@@ -7,7 +7,8 @@ use Rattle.board_build.specs.declared.plan.PlanKind.TheVariants as plans
 use Rattle.board_build.specs.declared.plan.PlanPart.{PlanPart}
 use Rattle.board_build.specs.declared.plan.Plan.{Plan}
 use Rattle.outcome_model.specs.Stop.{Texts}
-use Rattle.cli_board.specs.Run.{Outputs, run_texts}
+use Rattle.avr_mcu.specs.Mcu.{Mcu, mcu, start}
+use Rattle.board_outputs.specs.Run.{Outputs, board_wave, board_bytes, board_wakes, texts_for}
 
 -- Pins 0 to 13 and A0 to A5 are nets of their own; A4.2 and A5.2 are joined with A4 and A5 inside the board; GND.1 to
 -- GND.3, 5V, 3.3V, VIN, IOREF, AREF and RESET follow.
@@ -27,10 +28,14 @@ uno_part = record { id = codes "uno"; kind = plans.Stock kinds.ArduinoUno; setti
 abbrev pub uno_plan : Plan
 uno_plan = record { parts = uno_part ∷ []; wiring = uno_wiring; inputs = [] }
 
+-- the Uno after reset with this flash
+abbrev pub uno_starts : List ℕ → List Mcu
+uno_starts flash = start flash ∷ []
+
 -- the wave on standard output, and nothing else
 abbrev pub bare_outputs : Outputs
 bare_outputs = record { serial = false; wave = Some (codes "-"); report = None }
 
 -- the wave of a firmware's first n cycles: of the 20 digital pins 0 to 13 and A0 to A5, under the name `uno`
 abbrev pub bare_run : List ℕ → ℕ → Texts
-bare_run flash n = run_texts bare_outputs (record { flash = flash; chips = []; budget = 0 }) uno_plan n
+bare_run flash n = texts_for bare_outputs (board_wave mcu [] uno_plan (uno_starts flash) n) (board_bytes mcu uno_plan (uno_starts flash) n) [] (board_wakes mcu uno_plan (uno_starts flash) n)

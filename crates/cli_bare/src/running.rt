@@ -4,18 +4,19 @@ ghost use Rattle.outcome_model.specs.Outcome as ends;
 ghost use Rattle.outcome_model.specs.Happens.{Ends, Counts};
 ghost use Rattle.outcome_model.specs.Work.{SaidNothing};
 ghost use Rattle.cli_work.specs.Outcomes.{outcome_of};
-ghost use Rattle.cli_board.specs.Ran.{Ran};
+ghost use Rattle.board_outputs.specs.Ran.{Ran};
 ghost use Rattle.cli_bare.specs.Answer.{BareAnswer};
 ghost use Rattle.cli_bare.specs.Bare.{bare_run};
 
-use crate::uno::make_plan;
-use cli_board::{Outputs, run_board};
+use crate::uno::{make_parts, make_plan};
+use board_outputs::{Outputs, open_and_play, wave_head};
+use board_run::Board;
 use cli_work::{HexFile, WorkEnd, read_document};
-use sim_base::{Bench, Flash, MOST_CYCLES, Steps};
+use sim_base::{Bench, Flash, MOST_CYCLES, Steps, WriteEnd};
 use std::alloc::Global;
 use std::sync::ledger::Ledger;
 
-/// Runs the board with its wave on standard output.
+/// Takes all memory that the run needs, and runs the board with its wave on standard output.
 fn run_bare<B: Bench, L: Ledger>(
     alloc: Global,
     flash: Flash,
@@ -31,12 +32,24 @@ fn run_bare<B: Bench, L: Ledger>(
     let Ok(plan) = make_plan(alloc) else {
         return WorkEnd::OutOfMemory;
     };
+    let Ok(mut head) = wave_head(alloc, &plan, &[]) else {
+        return WorkEnd::OutOfMemory;
+    };
+    let Ok(parts) = make_parts(alloc, flash) else {
+        return WorkEnd::OutOfMemory;
+    };
+    let Ok(mut board) = Board::new(alloc, parts, plan.wiring, plan.inputs) else {
+        return WorkEnd::OutOfMemory;
+    };
     let outputs = Outputs {
         serial: false,
         wave: Some("-"),
         report: None,
     };
-    run_board(alloc, flash, &[], plan, 0, n, outputs, bench, steps)
+    match open_and_play(&mut board, &mut head, n, outputs, bench, steps) {
+        WriteEnd::Ok => WorkEnd::Accepted,
+        WriteEnd::Failed => WorkEnd::WriteFailed,
+    }
 }
 
 /// Writes the wave of so many microseconds, 16 cycles each, of the firmware of file `hex`.

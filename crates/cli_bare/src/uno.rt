@@ -1,10 +1,13 @@
-//! The plan of one Uno without wires.
-ghost use Rattle.std.specs.Prelude.{◌≡◌, IfOk, codes};
-ghost use Rattle.cli_bare.specs.Bare.{uno_wiring, uno_part, uno_plan};
+//! The plan of one Uno without wires, and the Uno.
+ghost use Rattle.std.specs.Prelude.{◌≡◌, IfOk, codes, length, map};
+ghost use Rattle.board_model.specs.Fresh.{AreFresh};
+ghost use Rattle.avr_mcu.specs.Mcu.{mcu, McuAt};
+ghost use Rattle.cli_bare.specs.Bare.{uno_wiring, uno_part, uno_plan, uno_starts};
 
+use avr_mcu::Mcu;
 use board_build::{Plan, PlanKind, PlanPart};
 use part_catalog::{Kind, Settings};
-use sim_base::{List, Name, OutOfMemory, Wiring};
+use sim_base::{Flash, List, Name, OutOfMemory, Wiring};
 use std::alloc::{AllocError, Global};
 
 /// The net of each pin: A4.2 and A5.2 are joined with A4 and A5.
@@ -66,4 +69,15 @@ pub(crate) fn make_plan(alloc: Global) -> Result<Plan, OutOfMemory>
         wiring: make_wiring(alloc)?,
         inputs: List::new(alloc),
     })
+}
+
+/// The Uno after reset with this flash.
+pub(crate) fn make_parts(alloc: Global, flash: Flash) -> Result<List<Mcu>, OutOfMemory>
+    ensures states { IfOk result (λ parts. map (λ (p : McuAt). p.mcu) parts ≡ uno_starts flash) }
+    ensures fresh { IfOk result (λ parts. AreFresh mcu (λ p. p.mcu) (λ p. p.cycle) (λ p. p.wakes) parts) }
+    ensures one { IfOk result (λ parts. length parts ≡ 1) }
+{
+    let mut parts = List::new(alloc);
+    parts.push(Mcu::new(alloc, flash)?)?;
+    Ok(parts)
 }

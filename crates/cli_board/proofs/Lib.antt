@@ -1,5 +1,3 @@
 mod CountLemmas
 pub mod PlayLemmas
-pub mod RanLemmas
-mod StageLemmas
-pub mod VariableLemmas
+mod ReportLemmas

@@ -6,7 +6,7 @@ use Rattle.any_part.specs.AnyPart.{any}
 use Rattle.any_part.specs.Start.{Contents, starts}
 use Rattle.board_build.specs.declared.plan.Plan.{Plan}
 use Rattle.chip_module.specs.Sources.{pins_of}
-use Rattle.project_model.specs.Variables.{board_variables}
+use Rattle.board_outputs.specs.Variables.{board_variables}
 
 -- how many value changes the wave of the first n cycles has after the initial values, where the board of a plan has these
 -- chips and this flash

@@ -1,4 +1,3 @@
 pub mod Counted
-pub mod Outputs
-pub mod Ran
+pub mod Reports
 pub mod Run

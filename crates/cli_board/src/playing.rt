@@ -1,74 +1,23 @@
-//! A board that runs from cycle 0, and what it writes.
-ghost use Rattle.std.specs.Prelude.{◌≡◌, ◌≤◌, ◌<◌, ◌+◌, List, None, true, false, map, is_some};
-ghost use Rattle.std.specs.Option.{option_map};
-ghost use Rattle.sim_base.specs.Outside.{is_openable};
+//! A board that runs from cycle 0, and what it writes, its report too.
+ghost use Rattle.std.specs.Prelude.{◌≡◌, ◌≤◌, ◌<◌, ◌+◌, List, None, true, false, map};
 ghost use Rattle.text_model.specs.Wave.{wave_text};
 ghost use Rattle.board_model.specs.Board.{bytes, states};
 ghost use Rattle.board_model.specs.Rows.{rows};
 ghost use Rattle.board_laws.specs.Active.{active_pairs};
-ghost use Rattle.vcd_text.specs.Ports.{texts, Writes as WritesTexts};
 ghost use Rattle.board_report.specs.Report.{shown_text};
-ghost use Rattle.cli_board.specs.Outputs.{outputs_of};
-ghost use Rattle.cli_board.specs.Ran.{OpensNamed, Reports, Writes};
-ghost use Rattle.cli_board.specs.Run.{texts_for};
+ghost use Rattle.board_outputs.specs.Outputs.{outputs_of};
+ghost use Rattle.board_outputs.specs.Ran.{Writes};
+ghost use Rattle.board_outputs.specs.Run.{texts_for};
+ghost use Rattle.cli_board.specs.Reports.{Reports};
 
 use board_build::PlanPart;
+use board_outputs::{Outputs, open_and_play};
 use board_report::{Shown, write_report_of};
-use board_run::{Board, RunEnd};
+use board_run::Board;
 use part_law::Part;
 use sim_base::{Bench, MOST_CYCLES, Port, Steps, WriteEnd};
-use std::snapshot::Snapshot;
 use std::sync::ledger::Ledger;
-use vcd_text::{WaveHead, WaveWriter};
-
-/// Where the texts of a run go: its bytes on Serial or nowhere, its wave and its report each in a file,
-/// if one is named; `-` is standard output.
-#[derive(Clone, Copy)]
-pub struct Outputs<'a> {
-    pub serial: bool,
-    pub wave: Option<&'a str>,
-    pub report: Option<&'a str>,
-}
-
-/// Opens a port on a file, if one is named.
-fn open_named<B: Bench>(port: Port, name: Option<&str>, bench: &mut B) -> WriteEnd
-    requires { is_openable port ≡ true }
-    ensures { OpensNamed port (option_map (λ f. f.now) name.entry) result (B.outside bench.old) (B.outside bench.new) }
-{
-    match name {
-        Some(name) => bench.open_port(port, name),
-        None => WriteEnd::Ok,
-    }
-}
-
-/// Runs the board from cycle 0 up to cycle `n` and writes what is wanted of its wave and its bytes.
-fn play<P: Part, B: Bench, L: Ledger>(
-    board: &mut Board<P>,
-    head: &mut WaveHead,
-    n: u32,
-    wave: bool,
-    serial: bool,
-    bench: &mut B,
-    steps: &mut Steps<L>,
-) -> WriteEnd
-    requires cycle { board.old.cycle ≡ 0 }
-    requires alive { board.old.given_up ≡ false }
-    requires before { board.old.before ≡ None }
-    requires some { 0 < n }
-    requires end { n ≤ MOST_CYCLES }
-    requires opened { wave ≡ true → (B.outside bench.old).opened Port.Wave ≡ true }
-    ensures wrote { WritesTexts result (texts wave serial (wave_text head.old.variables (rows P.machine board.old.wiring board.old.inputs None (map P.state board.old.parts) 0 n) n) (bytes P.machine board.old.wiring board.old.inputs (map P.state board.old.parts) 0 n)) (B.outside bench.old) (B.outside bench.new) }
-    ensures alive { result ≡ WriteEnd.Ok → board.new.given_up ≡ false }
-    ensures states { result ≡ WriteEnd.Ok → map P.state board.new.parts ≡ states P.machine board.old.wiring board.old.inputs (map P.state board.old.parts) 0 n }
-    ensures steps { result ≡ WriteEnd.Ok → steps.new ≡ steps.old + active_pairs P.machine board.old.wiring board.old.inputs (map P.state board.old.parts) 0 n }
-{
-    let start = Snapshot::of(&*bench);
-    let mut writer = WaveWriter::new(head, bench, &start, wave, serial);
-    match board.run(n, &mut writer, steps) {
-        RunEnd::Done => writer.end(n),
-        RunEnd::WriteFault => WriteEnd::Failed,
-    }
-}
+use vcd_text::WaveHead;
 
 /// Writes the report of a board after `n` cycles, where it is wanted, with the lines of its chips or without.
 fn report<P: Part + Shown, B: Bench>(
@@ -108,7 +57,8 @@ pub fn write_run<P: Part + Shown, B: Bench, L: Ledger>(
     requires some { 0 < n }
     requires end { n ≤ MOST_CYCLES }
     ensures wrote { (stand : List P.Stood) →
-        ((parts : List P) → map P.state parts ≡ states P.machine board.old.wiring board.old.inputs (map P.state board.old.parts) 0 n → map P.stood parts ≡ stand) →
+        ((parts : List P) → map P.state parts ≡ states P.machine board.old.wiring board.old.inputs (map P.state board.old.parts) 0 n →
+        map P.stood parts ≡ stand) →
         Writes result (texts_for (outputs_of outputs.entry)
         (wave_text head.old.variables (rows P.machine board.old.wiring board.old.inputs None (map P.state board.old.parts) 0 n) n)
         (bytes P.machine board.old.wiring board.old.inputs (map P.state board.old.parts) 0 n)
@@ -116,16 +66,7 @@ pub fn write_run<P: Part + Shown, B: Bench, L: Ledger>(
         (active_pairs P.machine board.old.wiring board.old.inputs (map P.state board.old.parts) 0 n)) (B.outside bench.old) (B.outside bench.new) }
     ensures steps { result ≡ WriteEnd.Ok → steps.new ≡ steps.old + active_pairs P.machine board.old.wiring board.old.inputs (map P.state board.old.parts) 0 n }
 {
-    match open_named(Port::Wave, outputs.wave, bench) {
-        WriteEnd::Ok => {}
-        WriteEnd::Failed => return WriteEnd::Failed,
-    }
-    match open_named(Port::Report, outputs.report, bench) {
-        WriteEnd::Ok => {}
-        WriteEnd::Failed => return WriteEnd::Failed,
-    }
-    let wave = outputs.wave.is_some();
-    match play(board, head, n, wave, outputs.serial, bench, steps) {
+    match open_and_play(board, head, n, outputs, bench, steps) {
         WriteEnd::Ok => {}
         WriteEnd::Failed => return WriteEnd::Failed,
     }

@@ -5,18 +5,18 @@ ghost use Rattle.board_build.specs.IsPlan.{IsPlan};
 ghost use Rattle.std.specs.List.{All};
 ghost use Rattle.chip_module.specs.Sources.{HasFewPins, pins_of};
 ghost use Rattle.outcome_model.specs.Outcome as ends;
-ghost use Rattle.project_model.specs.Variables.{board_variables};
 ghost use Rattle.cli_work.specs.Outcomes.{outcome_of};
-ghost use Rattle.cli_board.specs.Outputs.{outputs_of};
-ghost use Rattle.cli_board.specs.Ran.{Ran};
+ghost use Rattle.board_outputs.specs.Outputs.{outputs_of};
+ghost use Rattle.board_outputs.specs.Ran.{Ran};
+ghost use Rattle.board_outputs.specs.Variables.{board_variables};
 ghost use Rattle.cli_board.specs.Run.{run_texts, run_wakes};
 
-use crate::playing::{Outputs, write_run};
-use crate::variables::make_variables;
+use crate::playing::write_run;
 use any_part::load;
 use board_build::Plan;
+use board_outputs::{Outputs, wave_head};
 use board_run::Board;
-use chip_module::ChipSource;
+use chip_module::{ChipSource, pins_of};
 use cli_work::WorkEnd;
 use sim_base::{Bench, Flash, MOST_CYCLES, OutOfMemory, Steps, WriteEnd};
 use std::alloc::Global;
@@ -29,8 +29,8 @@ pub fn make_head(alloc: Global, plan: &Plan, chips: &[ChipSource]) -> Result<Wav
     requires few_pins { All HasFewPins chips.now }
     ensures { IfOk result (λ h. h.variables ≡ board_variables (pins_of chips.now) plan.now) }
 {
-    let variables = make_variables(alloc, plan, chips)?;
-    WaveHead::of(alloc, variables)
+    let pins = pins_of(alloc, chips)?;
+    wave_head(alloc, plan, pins.as_slice())
 }
 
 /// Takes all memory that the run of a plan for `n` cycles needs, at most `MOST_CYCLES`, and runs it with
@@ -52,8 +52,11 @@ pub fn run_board<B: Bench, L: Ledger>(
     requires inputs { AreInputs (length plan.parts) plan.inputs }
     requires some { 0 < n }
     requires end { n ≤ MOST_CYCLES }
-    ensures ran { Ran (outcome_of result) (run_texts (outputs_of outputs.entry) (record { flash = flash; chips = chips.now; budget = budget }) plan n) (B.outside bench.old) (B.outside bench.new) }
-    ensures steps { outcome_of result ≡ ends.Accepted → steps.new ≡ steps.old + run_wakes (record { flash = flash; chips = chips.now; budget = budget }) plan n }
+    ensures ran { Ran (outcome_of result)
+        (run_texts (outputs_of outputs.entry) (record { flash = flash; chips = chips.now; budget = budget }) plan n)
+        (B.outside bench.old) (B.outside bench.new) }
+    ensures steps { outcome_of result ≡ ends.Accepted →
+        steps.new ≡ steps.old + run_wakes (record { flash = flash; chips = chips.now; budget = budget }) plan n }
 {
     let Ok(mut head) = make_head(alloc, &plan, chips) else {
         return WorkEnd::OutOfMemory;

@@ -4,16 +4,16 @@ ghost use Rattle.std.specs.List.{All};
 ghost use Rattle.sim_base.specs.Outside.{SamePorts};
 ghost use Rattle.outcome_model.specs.Work.{Got, JudgedFile};
 ghost use Rattle.chip_module.specs.Binary.{Judges};
-ghost use Rattle.chip_module.specs.Sources.{HasFewPins, pins_of};
+ghost use Rattle.chip_module.specs.Sources.{HasFewPins};
 ghost use Rattle.cli_work.specs.Outcomes.{outcome_of};
 ghost use Rattle.project_model.specs.Work.{ChipIn, ChipsAfter, PinsIn, in_folder};
 
 use crate::documents::{PinsFile, name_in, read_in};
-use chip_module::{ChipModule, ChipSource, copied_pins};
+use chip_module::{ChipModule, ChipSource};
 use cli_module::read_module;
 use cli_work::WorkEnd;
-use document_model::{ChipFile, ChipPins};
-use sim_base::{Bench, List, OutOfMemory};
+use document_model::ChipFile;
+use sim_base::{Bench, List};
 use std::alloc::Global;
 
 /// The module of a file of a folder.
@@ -101,15 +101,4 @@ pub(crate) fn read_chips<B: Bench>(
     ensures count { IfOk result (λ cs. length cs ≡ length chips.now) }
 {
     read_more(alloc, folder, List::new(alloc), chips, bench)
-}
-
-/// The pins of each chip.
-pub(crate) fn pins_of(alloc: Global, chips: &[ChipSource]) -> Result<List<ChipPins>, OutOfMemory>
-    ensures { IfOk result (λ pins. pins ≡ pins_of chips.now) }
-{
-    let mut pins = List::new(alloc);
-    for chip in chips {
-        pins.push(copied_pins(alloc, &chip.pins)?)?;
-    }
-    Ok(pins)
 }

@@ -13,10 +13,10 @@ ghost use Rattle.cli_work.specs.Outcomes.{outcome_of};
 ghost use Rattle.project_model.specs.Work.{file_of_rule, ScriptIn, WaveIn, PlanIn, BehindChips, BehindDiagram, BehindFirmware, BehindProject, WorkIn};
 ghost use Rattle.cli_project.specs.Works.{IsRising, cycles_of, work_of};
 
-use crate::chips::{pins_of, read_chips};
+use crate::chips::read_chips;
 use crate::documents::{DiagramFile, ProjectFile, ScriptFile, name_in, read_in};
 use board_build::{Plan, build};
-use chip_module::ChipSource;
+use chip_module::{ChipSource, pins_of};
 use cli_work::{HexFile, Stop, WorkEnd, read_document, read_within, stopped};
 use document_model::{Diagram, Project};
 use input_texts::Script;

@@ -18,9 +18,10 @@ use Rattle.board_report.specs.Report.{play_part_rows, rest_text}
 use Rattle.chip_module.specs.Sources.{pins_of}
 use Rattle.any_part.specs.AnyPart.{AnyState, any}
 use Rattle.any_part.specs.Start.{Contents}
-use Rattle.project_model.specs.Variables.{board_variables}
+use Rattle.board_outputs.specs.Variables.{board_variables}
 use Rattle.vcd_text.specs.Tracks.{wave_rows}
-use Rattle.cli_board.specs.Run.{Outputs, run_bytes, run_wave, texts_for}
+use Rattle.cli_board.specs.Run.{run_bytes, run_wave}
+use Rattle.board_outputs.specs.Run.{Outputs, texts_for}
 use Rattle.isolation.specs.PlayRun.{play_bytes, play_rest, play_starts, play_wave}
 use Rattle.replay_law.specs.Replayed.{IsReplayed, own_drives, part_of, run_rest}
 use Rattle.replay_law.proofs.FuelLemmas.{starts_same}

@@ -12,11 +12,11 @@ use Rattle.outcome_model.proofs.ReadLemmas.{if_always, one_both, one_function}
 use Rattle.outcome_model.proofs.EndLemmas.{answered, answer_stops, one_answer}
 use Rattle.board_laws.specs.Player.{DriveRows}
 use Rattle.chip_module.specs.Sources.{pins_of}
-use Rattle.project_model.specs.Variables.{board_variables}
+use Rattle.board_outputs.specs.Variables.{board_variables}
 use Rattle.project_model.specs.Work.{Work}
 use Rattle.vcd_text.specs.Tracks.{wave_rows}
 use Rattle.cli_project.proofs.ProjectLemmas.{one_work, rule_stops}
-use Rattle.cli_board.specs.Run.{Outputs}
+use Rattle.board_outputs.specs.Run.{Outputs}
 use Rattle.cli_replay.specs.Answer.{Play, PlayIn, RowsIn, ReplayAnswer, replay_texts}
 
 module _ (folder wave : List ℕ) (us : ℕ) (script : Option (List ℕ)) (out : Outputs) where

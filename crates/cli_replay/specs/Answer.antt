@@ -10,11 +10,12 @@ use Rattle.board_laws.specs.Play.{or_player}
 use Rattle.chip_module.specs.Sources.{pins_of}
 use Rattle.any_part.specs.AnyPart.{any}
 use Rattle.any_part.specs.Start.{Contents}
-use Rattle.project_model.specs.Variables.{board_variables}
+use Rattle.board_outputs.specs.Variables.{board_variables}
 use Rattle.project_model.specs.Work.{Work, WorkIn}
 use Rattle.vcd_text.specs.Tracks.{wave_rows}
 use Rattle.played_part.specs.Start.{rows_of_part}
-use Rattle.cli_board.specs.Run.{Outputs, run_bytes, run_wave, texts_for}
+use Rattle.cli_board.specs.Run.{run_bytes, run_wave}
+use Rattle.board_outputs.specs.Run.{Outputs, texts_for}
 use Rattle.isolation.specs.PlayRun.{play_starts, play_wave, play_bytes, play_rest}
 use Rattle.replay_law.specs.Replayed.{run_rest}
 

@@ -5,7 +5,7 @@ use Rattle.trace_run.specs.Rows.{AreInOrder}
 use Rattle.board_model.specs.Fits.{AreInputs}
 use Rattle.board_build.specs.IsPlan.{IsPlan}
 use Rattle.chip_module.specs.Sources.{HasFewPins, pins_of}
-use Rattle.project_model.specs.Variables.{board_variables}
+use Rattle.board_outputs.specs.Variables.{board_variables}
 use Rattle.vcd_text.specs.Tracks.{wave_rows}
 use Rattle.cli_project.specs.Works.{work_of}
 use Rattle.cli_replay.specs.declared.replaying.Play.{Play}

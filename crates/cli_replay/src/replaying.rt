@@ -12,13 +12,14 @@ ghost use Rattle.board_build.specs.IsPlan.{IsPlan};
 ghost use Rattle.chip_module.specs.Sources.{HasFewPins, pins_of};
 ghost use Rattle.cli_work.specs.Outcomes.{outcome_of};
 ghost use Rattle.cli_project.specs.Works.{work_of};
-ghost use Rattle.cli_board.specs.Outputs.{outputs_of};
-ghost use Rattle.cli_board.specs.Ran.{Ran};
+ghost use Rattle.board_outputs.specs.Outputs.{outputs_of};
+ghost use Rattle.board_outputs.specs.Ran.{Ran};
 ghost use Rattle.cli_replay.specs.Answer.{PlayIn, RepeatAnswer, ReplayAnswer, RowsIn, play_wakes, replay_texts};
 ghost use Rattle.cli_replay.specs.Plays.{IsReady, play_of};
 
+use board_outputs::Outputs;
 use board_run::Board;
-use cli_board::{Outputs, make_head, write_run};
+use cli_board::{make_head, write_run};
 use cli_project::{Work, read_work};
 use cli_work::{Stop, WorkEnd, stopped};
 use played_part::load_played;

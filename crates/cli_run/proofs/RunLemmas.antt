@@ -12,7 +12,8 @@ use Rattle.board_build.specs.IsPlan.{IsPlan}
 use Rattle.chip_module.specs.Sources.{pins_of}
 use Rattle.project_model.specs.Work.{Work, WorkIn}
 use Rattle.cli_project.proofs.ProjectLemmas.{one_work}
-use Rattle.cli_board.specs.Run.{Outputs, run_texts}
+use Rattle.cli_board.specs.Run.{run_texts}
+use Rattle.board_outputs.specs.Run.{Outputs}
 use Rattle.isolation.specs.PlayRun.{play_texts}
 use Rattle.isolation.specs.Isolated.{Fact, Follows, Isolated}
 use Rattle.isolation.proofs.Isolation.{isolated}

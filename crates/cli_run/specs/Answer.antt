@@ -6,7 +6,8 @@ use Rattle.outcome_model.specs.Work.{Reading}
 use Rattle.outcome_model.specs.Happens.{AnswerOf}
 use Rattle.any_part.specs.Start.{Contents}
 use Rattle.project_model.specs.Work.{Work, WorkIn}
-use Rattle.cli_board.specs.Run.{Outputs, run_texts}
+use Rattle.cli_board.specs.Run.{run_texts}
+use Rattle.board_outputs.specs.Run.{Outputs}
 use Rattle.isolation.specs.PlayRun.{play_texts}
 use Rattle.isolation.specs.Isolated.{Fact}
 

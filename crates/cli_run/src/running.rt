@@ -4,11 +4,12 @@ ghost use Rattle.std.specs.Option.{option_map};
 ghost use Rattle.outcome_model.specs.Happens.{Ends, Counts};
 ghost use Rattle.outcome_model.specs.Work.{SaidNothing};
 ghost use Rattle.cli_work.specs.Outcomes.{outcome_of};
-ghost use Rattle.cli_board.specs.Outputs.{outputs_of};
+ghost use Rattle.board_outputs.specs.Outputs.{outputs_of};
 ghost use Rattle.isolation.specs.Isolated.{Isolated};
 ghost use Rattle.cli_run.specs.Answer.{RunAnswer, AnswerSuch};
 
-use cli_board::{Outputs, run_board};
+use board_outputs::Outputs;
+use cli_board::run_board;
 use cli_project::{Work, read_work};
 use cli_work::WorkEnd;
 use sim_base::{Bench, Steps};

@@ -38,8 +38,9 @@ use Rattle.any_part.proofs.StartLemmas.{all_ready, start_at, starts_many}
 use Rattle.sim_report.specs.declared.row.ReportRow.{ReportRow}
 use Rattle.sim_report.specs.declared.row.ReportRow.TheVariants as lines
 use Rattle.board_report.specs.Report.{part_rows, play_part_rows, rest_text, text_of}
-use Rattle.project_model.specs.Variables.{board_variables}
-use Rattle.cli_board.specs.Run.{Outputs, run_wave, run_bytes, run_report, run_wakes, run_texts, texts_for}
+use Rattle.board_outputs.specs.Variables.{board_variables}
+use Rattle.cli_board.specs.Run.{run_wave, run_bytes, run_report, run_wakes, run_texts}
+use Rattle.board_outputs.specs.Run.{Outputs, texts_for}
 use Rattle.isolation.specs.ChipRun.{chip_run, run_drives, run_levels}
 use Rattle.isolation.specs.PlayRun.{own_rows, play_wave, play_bytes, play_rest, chip_lines, play_texts}
 use Rattle.isolation.specs.Worlds.{DifferInChips, DriveAlike, IsOneWorld, run_states}

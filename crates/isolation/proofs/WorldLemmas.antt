@@ -13,7 +13,7 @@ use Rattle.board_build.specs.Pins.{count_of, starts_from}
 use Rattle.board_build.specs.IsPlan.{IsPlan, can_run, contact_count, kinds_in}
 use Rattle.sim_report.specs.declared.row.ReportRow.{ReportRow}
 use Rattle.board_report.specs.Report.{chosen_rows, parts_rows}
-use Rattle.project_model.specs.Variables.{shown_names, pins_variables, part_variables, parts_variables}
+use Rattle.board_outputs.specs.Variables.{shown_names, pins_variables, part_variables, parts_variables}
 use Rattle.isolation.specs.Worlds.{IsSamePart}
 
 -- the parts of two plans, one by one

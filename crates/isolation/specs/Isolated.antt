@@ -2,7 +2,8 @@
 use Rattle.std.specs.Prelude.{◌≡◌, ℕ}
 use Rattle.board_build.specs.declared.plan.Plan.{Plan}
 use Rattle.any_part.specs.Start.{Contents}
-use Rattle.cli_board.specs.Run.{Outputs, run_texts}
+use Rattle.cli_board.specs.Run.{run_texts}
+use Rattle.board_outputs.specs.Run.{Outputs}
 use Rattle.isolation.specs.ChipRun.{AreAlone}
 use Rattle.isolation.specs.PlayRun.{play_texts}
 use Rattle.isolation.specs.Worlds.{SeesDrivesAlone}

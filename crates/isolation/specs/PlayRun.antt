@@ -12,8 +12,9 @@ use Rattle.chip_module.specs.Sources.{pins_of}
 use Rattle.any_part.specs.AnyPart.{AnyState, any}
 use Rattle.any_part.specs.Start.{Contents, starts}
 use Rattle.board_report.specs.Report.{part_rows, parts_rows, play_part_rows, rest_text, text_of}
-use Rattle.project_model.specs.Variables.{board_variables}
-use Rattle.cli_board.specs.Run.{Outputs, run_wakes, texts_for}
+use Rattle.board_outputs.specs.Variables.{board_variables}
+use Rattle.cli_board.specs.Run.{run_wakes}
+use Rattle.board_outputs.specs.Run.{Outputs, texts_for}
 
 module _ (has : Contents) (plan : Plan) (n : ℕ) where
   -- the rows of each chip: its drives in each of the first n cycles of the run itself

@@ -21,7 +21,7 @@ use Rattle.board_build.specs.Pins.{IsShort, count_of, pins_of_chip}
 use Rattle.board_build.proofs.PinLemmas.{count_few}
 use Rattle.chip_module.specs.declared.source.ChipSource.{ChipSource}
 use Rattle.chip_module.specs.Sources.{HasFewPins, pins_of}
-use Rattle.project_model.specs.Variables.{shown_names, pin_variables, pins_variables, part_variables, parts_variables, board_variables}
+use Rattle.board_outputs.specs.Variables.{shown_names, pin_variables, pins_variables, part_variables, parts_variables, board_variables}
 use Rattle.chip_law.specs.Named.{is_named}
 use Rattle.wave_law.specs.Written.{IsTold, is_shown}
 

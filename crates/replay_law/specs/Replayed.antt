@@ -13,7 +13,7 @@ use Rattle.chip_module.specs.Sources.{pins_of}
 use Rattle.any_part.specs.AnyPart.{any}
 use Rattle.any_part.specs.Start.{Contents, starts}
 use Rattle.board_report.specs.Report.{part_rows, rest_text}
-use Rattle.project_model.specs.Variables.{board_variables}
+use Rattle.board_outputs.specs.Variables.{board_variables}
 use Rattle.cli_board.specs.Run.{run_bytes, run_wave}
 use Rattle.wave_law.specs.Read.{rows_of_part, written_rows}
 use Rattle.isolation.specs.PlayRun.{play_bytes, play_rest, play_wave}

@@ -21,7 +21,7 @@ use Rattle.cli_run.proofs.RunLemmas.{one_run, played_answer, such_answer}
 use Rattle.cli_replay.specs.Answer.{ReplayAnswer}
 use Rattle.cli_replay.proofs.ReplayLemmas.{one_replay}
 use Rattle.cli_make.proofs.MakeLemmas.{one_make}
-use Rattle.cli_board.specs.Run.{Outputs}
+use Rattle.board_outputs.specs.Run.{Outputs}
 use Rattle.cli_run.specs.Answer.{PlayAnswer, AnswerSuch}
 use Rattle.sim_cli.specs.Answers.{Answers, AnswersWith, AnswersSuch, RunBy, outputs_to}
 use Rattle.sim_cli.specs.Promises.{Happens, HappensIsolated, HoldsPlay, HoldsAlone, HoldsWorlds, Counts, CountsWakes}

@@ -7,7 +7,7 @@ use Rattle.outcome_model.specs.Happens.{Answer}
 use Rattle.cli_bare.specs.Answer.{BareAnswer}
 use Rattle.cli_project.specs.Answer.{CheckAnswer}
 use Rattle.cli_module.specs.Answer.{ModuleAnswer}
-use Rattle.cli_board.specs.Run.{Outputs}
+use Rattle.board_outputs.specs.Run.{Outputs}
 use Rattle.isolation.specs.Isolated.{Fact}
 use Rattle.cli_run.specs.Answer.{RunAnswer, PlayAnswer, AnswerSuch}
 use Rattle.cli_replay.specs.Answer.{ReplayAnswer, RepeatAnswer}

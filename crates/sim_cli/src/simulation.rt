@@ -8,11 +8,11 @@ ghost use Rattle.sim_cli.specs.Promises.{IsAnswered, IsComplete, HoldsAnswer, Is
 ghost use Rattle.sim_cli.specs.Promises.{HoldsPlay, HoldsAlone, HoldsWorlds, HoldsRepeat};
 ghost use Rattle.cli_work.specs.Outcomes.{outcome_of};
 ghost use Rattle.cli_words.specs.Asked.{named_by};
-ghost use Rattle.cli_board.specs.Outputs.{outputs_of};
+ghost use Rattle.board_outputs.specs.Outputs.{outputs_of};
 ghost use Rattle.sim_cli.specs.Answers.{outputs_to};
 
+use board_outputs::Outputs;
 use cli_bare::bare;
-use cli_board::Outputs;
 use cli_make::make;
 use cli_module::check_module;
 use cli_project::check;

@@ -4,7 +4,7 @@ use Rattle.text_model.specs.Hex.{hex_image}
 use Rattle.outcome_model.specs.Work.{IsFile}
 use Rattle.outcome_model.proofs.EndLemmas.{stops_counts}
 use Rattle.cli_work.specs.Outcomes.{outcome_of}
-use Rattle.cli_board.proofs.RanLemmas.{ran_ends, ran_said, ran_counts}
+use Rattle.board_outputs.proofs.RanLemmas.{ran_ends, ran_said, ran_counts}
 use Rattle.cli_bare.specs.Bare.{bare_run}
 use Rattle.cli_bare.specs.Answer.{BareAnswer}
 use Rattle.cli_bare.proofs.AnswerLemmas.{bare_answer, bare_stops}

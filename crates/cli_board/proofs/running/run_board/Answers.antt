@@ -1,10 +1,10 @@
-use Rattle.std.proofs.Common.{◌≡◌, ◌∙◌, ap, map, true}
+use Rattle.std.proofs.Common.{◌∙◌, ap, map, true}
 use Rattle.sim_base.specs.declared.bench.WriteEnd.TheVariants as writes
 use Rattle.any_part.specs.declared.part.AnyPart.{AnyPart}
 use Rattle.board_run.specs.BoardView.{BoardView}
 use Rattle.any_part.specs.AnyPart.{any, state_of}
 use Rattle.board_report.specs.Report.{part_rows}
-use Rattle.cli_board.specs.Outputs.{outputs_of}
+use Rattle.board_outputs.specs.Outputs.{outputs_of}
 use Rattle.cli_board.proofs.PlayLemmas.{same_texts}
 use Rattle.cli_board.proofs.running.run_board.Goals as goal
 

@@ -5,7 +5,7 @@ use Rattle.project_model.specs.Work.{Work}
 use Rattle.cli_work.specs.Outcomes.{outcome_of}
 use Rattle.cli_project.specs.Works.{work_of}
 use Rattle.cli_project.proofs.ProjectLemmas.{same_here}
-use Rattle.cli_board.proofs.RanLemmas.{ran_counts}
+use Rattle.board_outputs.proofs.RanLemmas.{ran_counts}
 use Rattle.cli_make.specs.Answer.{MadeIn, MakeAnswer, made_texts}
 use Rattle.cli_make.proofs.MakeLemmas.{make_answer, make_stops, made_ends, made_silent}
 use Rattle.cli_make.proofs.running.make.Goals as goal

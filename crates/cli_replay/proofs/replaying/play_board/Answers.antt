@@ -1,19 +1,25 @@
 use Rattle.std.proofs.Common.{◌∙◌, ap, map, false, arith}
+use Rattle.std.specs.List.{All}
+use Rattle.std.proofs.lemmas.List.Elements.{All-map}
 use Rattle.sim_base.specs.declared.bench.WriteEnd.TheVariants as writes
 use Rattle.board_run.specs.BoardView.{BoardView}
 use Rattle.board_laws.specs.Play.{or_player}
+use Rattle.board_build.specs.Pins.{IsShort}
+use Rattle.chip_module.specs.declared.source.ChipSource.{ChipSource}
+use Rattle.chip_module.specs.Sources.{pins_of}
 use Rattle.any_part.specs.AnyPart.{any}
 use Rattle.board_report.specs.Report.{play_part_rows}
 use Rattle.played_part.specs.declared.part.PlayedPart.{PlayedPart}
 use Rattle.played_part.specs.Played.{state_of}
-use Rattle.cli_board.specs.Outputs.{outputs_of}
+use Rattle.board_outputs.specs.Outputs.{outputs_of}
 use Rattle.cli_board.proofs.PlayLemmas.{same_texts}
-use Rattle.cli_board.proofs.VariableLemmas.{pins_few}
+use Rattle.board_outputs.proofs.VariableLemmas.{pins_few}
 use Rattle.cli_replay.proofs.replaying.play_board.Goals as goal
 
 pub load_played-requires-clause-few : goal.load_played-requires-clause-few
 load_played-requires-clause-few g c =
-    omega (arith, c.requires.ready.pins, pins_few c.args.play.work.chips c.args.play.work.plan c.requires.ready.few_pins c.requires.ready.plan)
+    let short : All IsShort (pins_of c.args.play.work.chips) = All-map IsShort (λ (chip : ChipSource). chip.pins) c.args.play.work.chips c.requires.ready.few_pins in
+    omega (arith, c.requires.ready.pins, pins_few (pins_of c.args.play.work.chips) c.args.play.work.plan short c.requires.ready.plan)
 
 pub returns-in-Ok-write_run-clause-ran : goal.returns-in-Ok-write_run-clause-ran
 returns-in-Ok-write_run-clause-ran g c =

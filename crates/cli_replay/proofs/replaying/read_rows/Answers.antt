@@ -3,7 +3,7 @@ use Rattle.sim_base.specs.declared.fault.Fault.{Fault}
 use Rattle.sim_base.specs.Reads.{Reads}
 use Rattle.text_model.specs.Wave.{Variable}
 use Rattle.board_laws.specs.Player.{DriveRows}
-use Rattle.project_model.specs.Variables.{board_variables}
+use Rattle.board_outputs.specs.Variables.{board_variables}
 use Rattle.chip_module.specs.declared.source.ChipSource.{ChipSource}
 use Rattle.chip_module.specs.Sources.{pins_of}
 use Rattle.vcd_text.specs.Tracks.{wave_rows}

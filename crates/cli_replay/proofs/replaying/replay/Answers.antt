@@ -4,8 +4,8 @@ use Rattle.sim_base.specs.Outside.{Outside, Files}
 use Rattle.outcome_model.specs.Stop.{Texts}
 use Rattle.outcome_model.proofs.EndLemmas.{stops_counts}
 use Rattle.cli_work.specs.Outcomes.{outcome_of}
-use Rattle.cli_board.specs.Outputs.{outputs_of}
-use Rattle.cli_board.proofs.RanLemmas.{ran_ends, ran_said, ran_counts}
+use Rattle.board_outputs.specs.Outputs.{outputs_of}
+use Rattle.board_outputs.proofs.RanLemmas.{ran_ends, ran_said, ran_counts}
 use Rattle.cli_replay.specs.Answer.{PlayIn, RepeatAnswer, RepeatsRun, ReplayAnswer, replay_texts}
 use Rattle.cli_replay.specs.Plays.{play_of}
 use Rattle.cli_replay.proofs.RepeatLemmas.{repeat_answer, repeat_stops, repeats}

@@ -9,10 +9,10 @@ use Rattle.outcome_model.specs.Outcome.{Accepted}
 use Rattle.outcome_model.proofs.EndLemmas.{stops_counts}
 use Rattle.cli_work.specs.Outcomes.{outcome_of}
 use Rattle.cli_project.specs.Works.{work_of}
-use Rattle.cli_board.specs.Outputs.{outputs_of}
-use Rattle.cli_board.specs.Ran.{Ran}
+use Rattle.board_outputs.specs.Outputs.{outputs_of}
+use Rattle.board_outputs.specs.Ran.{Ran}
 use Rattle.cli_board.specs.Run.{run_texts, run_wakes}
-use Rattle.cli_board.proofs.RanLemmas.{ran_ends, ran_said, ran_counts}
+use Rattle.board_outputs.proofs.RanLemmas.{ran_ends, ran_said, ran_counts}
 use Rattle.isolation.specs.Isolated.{Isolated}
 use Rattle.cli_run.specs.Answer.{contents, RunAnswer, AnswerSuch}
 use Rattle.cli_run.proofs.RunLemmas.{run_answer, run_stops, isolated_answer, isolated_stops}

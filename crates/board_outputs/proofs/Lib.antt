@@ -1,0 +1,5 @@
+mod CountLemmas
+pub mod PlayLemmas
+pub mod RanLemmas
+pub mod StageLemmas
+pub mod VariableLemmas

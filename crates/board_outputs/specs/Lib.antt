@@ -1,0 +1,4 @@
+pub mod Outputs
+pub mod Ran
+pub mod Run
+pub mod Variables
