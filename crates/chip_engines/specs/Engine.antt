@@ -1,5 +1,5 @@
 -- An engine behind its pins, and the engines of a chip (profile).
-use Rattle.std.specs.Prelude.{ℕ, ◌+◌, ◌==◌, ◌&&◌, ◌||◌, not, List, [], ◌∷◌, Bool, true, false, if◌then◌else◌, Option, None, Some, IfSome, slice_get, unwrap_or}
+use Rattle.std.specs.Prelude.{◌≢◌, ℕ, ◌+◌, ◌==◌, ◌&&◌, ◌||◌, not, List, [], ◌∷◌, Bool, true, false, if◌then◌else◌, Option, None, Some, IfSome, slice_get, unwrap_or}
 use Rattle.std.specs.Option.{option_to_list}
 use Rattle.sim_base.specs.Signal.{reads}
 use Rattle.sim_base.specs.declared.signal.Drive.{Drive}
@@ -121,3 +121,7 @@ is_free (Some e) = false
 abbrev pub AreEngines : List (Option Engine) → Type 0
 AreEngines [] = Unit {0}
 AreEngines (o ∷ os) = IfSome o IsEngine × AreEngines os
+
+-- that no engine stands at a place
+abbrev pub HasNone : List (Option Engine) → ℕ → Type 0
+HasNone os k = (e : Engine) → slice_get os k ≢ Some (Some e)

@@ -1,7 +1,7 @@
 //! An engine behind its pins.
-ghost use Rattle.std.specs.Prelude.{◌≡◌, ◌<◌, ◌≤◌, ◌++◌};
+ghost use Rattle.std.specs.Prelude.{◌≡◌, ◌<◌, ◌≤◌, ◌++◌, true, false};
 ghost use Rattle.std.specs.Option.{option_to_list};
-ghost use Rattle.chip_engines.specs.Serial.{IsSerial};
+ghost use Rattle.chip_engines.specs.Serial.{IsSerial, serial_output};
 ghost use Rattle.chip_engines.specs.Engine.{new_engine, pin_reads, inputs_of, inputs_before, engine_turned, is_busy, sends, exchanges, stops, gets_byte, gets_answer, drives_at, waits_sent_in, IsEngine};
 
 use crate::serial::{Inputs, Serial};
@@ -41,12 +41,12 @@ pub struct Engine {
     pub buffer: u32,
 }
 
-/// What a turn leaves: the engine, and what it asks for, in this order.
+/// What a turn leaves to do: what the engine asks for, in this order, and whether it drives something else than before.
 #[derive(Clone, Copy)]
 pub struct Turn {
-    pub engine: Engine,
     pub first: Option<EngineRequest>,
     pub second: Option<EngineRequest>,
+    pub moved: bool,
 }
 
 fn pin_reads(pin: Option<u32>, levels: &[Level]) -> bool
@@ -95,6 +95,17 @@ fn waits_sent(later: Option<EngineRequest>) -> bool
     }
 }
 
+fn is_same(a: Option<Drive>, b: Option<Drive>) -> bool
+    ensures { result ≡ true → a ≡ b }
+{
+    match (a, b) {
+        (None, None) => true,
+        (Some(Drive::Low), Some(Drive::Low)) => true,
+        (Some(Drive::High), Some(Drive::High)) => true,
+        _ => false,
+    }
+}
+
 impl Engine {
     /// An idle one.
     pub fn new(serial: Serial, pins: Pins, user: u32, calls: Callbacks) -> Engine
@@ -112,32 +123,36 @@ impl Engine {
     }
 
     /// Its turn of a cycle, on the levels of the chip's pins in the cycle before and in this one.
-    pub fn turned(self, cycle: u32, before: &[Level], now: &[Level]) -> Turn
+    pub fn turn(&mut self, cycle: u32, before: &[Level], now: &[Level]) -> Turn
         requires cycle { cycle < MOST_CYCLES }
-        requires sound { IsEngine self }
-        ensures engine { result.engine ≡ (engine_turned self cycle before.now now.now).0 }
-        ensures asks { option_to_list result.first ++ option_to_list result.second ≡ (engine_turned self cycle before.now now.now).1 }
-        ensures sound { IsEngine result.engine }
+        requires sound { IsEngine self.old }
+        ensures engine { self.new ≡ (engine_turned self.old cycle before.now now.now).0 }
+        ensures asks { option_to_list result.first ++ option_to_list result.second ≡ (engine_turned self.old cycle before.now now.now).1 }
+        ensures drives { result.moved ≡ false → serial_output self.new.serial self.new.early ≡ serial_output self.old.serial self.old.early }
+        ensures sound { IsEngine self.new }
     {
-        let step = self.serial.step(
-            cycle,
-            self.pins.inputs_before(cycle, before),
-            self.pins.inputs(now),
-        );
+        let output = self.output();
+        let before = self.pins.inputs_before(cycle, before);
+        let now = self.pins.inputs(now);
+        self.early = self.early && cycle != 0;
+        let (first, second) = self.serial.step(cycle, before, now);
         Turn {
-            engine: Engine {
-                serial: step.serial,
-                early: self.early && cycle != 0,
-                ..self
-            },
-            first: step.first,
-            second: step.second,
+            first,
+            second,
+            moved: !is_same(output, self.output()),
         }
     }
 
+    // What it drives its pin to in the next cycle, where it has one.
+    fn output(&self) -> Option<Drive>
+        ensures { result ≡ serial_output self.now.serial self.now.early }
+    {
+        self.serial.output(self.early)
+    }
+
     /// What it drives a pin to in the next cycle.
-    pub fn drives(self, pin: u32) -> Option<Drive>
-        ensures { result ≡ drives_at pin self }
+    pub fn drives(&self, pin: u32) -> Option<Drive>
+        ensures { result ≡ drives_at pin self.now }
     {
         match self.pins.out {
             Some(out) => {

@@ -12,4 +12,4 @@ mod serial;
 pub use due::{due_from, earlier};
 pub use engine::{Callbacks, Engine, Pins, Turn};
 pub use list::{driven, first_engine, free};
-pub use serial::{Inputs, Serial, Step};
+pub use serial::{Inputs, Serial};

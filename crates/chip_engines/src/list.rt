@@ -18,8 +18,8 @@ fn wide(cycle: Option<u32>) -> Option<u64>
     }
 }
 
-fn first_serial(serial: Serial, from: u32) -> Option<u32>
-    ensures { result ≡ first_serial from serial }
+fn first_serial(serial: &Serial, from: u32) -> Option<u32>
+    ensures { result ≡ first_serial from serial.now }
 {
     match serial {
         Serial::Uart(uart) => earlier(
@@ -37,11 +37,11 @@ fn first_serial(serial: Serial, from: u32) -> Option<u32>
     }
 }
 
-fn first_at(place: Option<Engine>, from: u32) -> Option<u32>
-    ensures { result ≡ first_at from place }
+fn first_at(place: &Option<Engine>, from: u32) -> Option<u32>
+    ensures { result ≡ first_at from place.now }
 {
     match place {
-        Some(engine) => first_serial(engine.serial, from),
+        Some(engine) => first_serial(&engine.serial, from),
         None => None,
     }
 }
@@ -52,12 +52,12 @@ pub fn first_engine(places: &[Option<Engine>], from: u32) -> Option<u32>
 {
     match places {
         [] => None,
-        [place, rest @ ..] => earlier(first_at(*place, from), first_engine(rest, from)),
+        [place, rest @ ..] => earlier(first_at(place, from), first_engine(rest, from)),
     }
 }
 
-fn place_drives(place: Option<Engine>, pin: u32) -> Option<Drive>
-    ensures { result ≡ place_drives pin place }
+fn place_drives(place: &Option<Engine>, pin: u32) -> Option<Drive>
+    ensures { result ≡ place_drives pin place.now }
 {
     match place {
         Some(engine) => engine.drives(pin),
@@ -71,7 +71,7 @@ pub fn driven(places: &[Option<Engine>], pin: u32) -> Option<Drive>
 {
     match places {
         [] => None,
-        [place, rest @ ..] => match place_drives(*place, pin) {
+        [place, rest @ ..] => match place_drives(place, pin) {
             Some(drive) => Some(drive),
             None => driven(rest, pin),
         },

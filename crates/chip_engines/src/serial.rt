@@ -1,11 +1,11 @@
 //! The machines of the three kinds of engine as one.
 ghost use Rattle.std.specs.Prelude.{◌≡◌, ◌<◌, ◌++◌, ◌≤◌, false, true};
 ghost use Rattle.std.specs.Option.{option_to_list};
-ghost use Rattle.slave_serial.specs.Uart.{uart_step, IsUart};
-ghost use Rattle.slave_serial.specs.Spi.{spi_step, IsTransaction};
-ghost use Rattle.slave_i2c.specs.I2c.{i2c_step, IsPlace};
+ghost use Rattle.slave_serial.specs.Uart.{IsUart};
+ghost use Rattle.slave_serial.specs.Spi.{IsTransaction};
+ghost use Rattle.slave_i2c.specs.I2c.{IsPlace};
 ghost use Rattle.chip_engines.specs.declared.serial.Serial.TheVariants as serials;
-ghost use Rattle.chip_engines.specs.Serial.{wires_of, lines_of, in_turn, serial_step, serial_output, serial_busy, bit_of, uart_of, spi_of, i2c_of, with_byte, with_answer, IsSerial};
+ghost use Rattle.chip_engines.specs.Serial.{wires_of, lines_of, serial_step, serial_output, serial_busy, bit_of, uart_of, spi_of, i2c_of, with_byte, with_answer, IsSerial};
 
 use sim_base::{Drive, MOST_CYCLES};
 use slave_i2c::{Lines, Slave};
@@ -25,14 +25,6 @@ pub enum Serial {
 pub struct Inputs {
     pub first: bool,
     pub second: bool,
-}
-
-/// What a cycle leaves: the engine, and what it asks for, in this order.
-#[derive(Clone, Copy)]
-pub struct Step {
-    pub serial: Serial,
-    pub first: Option<EngineRequest>,
-    pub second: Option<EngineRequest>,
 }
 
 fn wires_of(inputs: Inputs) -> Wires
@@ -87,24 +79,33 @@ impl Serial {
         Serial::I2c(Slave::new((address % 128) as u8))
     }
 
-    /// One cycle, from what its pins read in the cycle before and read in this one.
-    pub fn step(self, cycle: u32, before: Inputs, now: Inputs) -> Step
+    /// One cycle, from what its pins read in the cycle before and read in this one: what it asks for, in this order.
+    /// An SPI slave's transaction that waits for its first turn has it in this cycle.
+    pub fn step(
+        &mut self,
+        cycle: u32,
+        before: Inputs,
+        now: Inputs,
+    ) -> (Option<EngineRequest>, Option<EngineRequest>)
         requires cycle { cycle < MOST_CYCLES }
-        requires sound { IsSerial self }
-        ensures serial { result.serial ≡ (serial_step self cycle before now).0 }
-        ensures asks { option_to_list result.first ++ option_to_list result.second ≡ (serial_step self cycle before now).1 }
-        ensures sound { IsSerial result.serial }
+        requires sound { IsSerial self.old }
+        ensures serial { self.new ≡ (serial_step self.old cycle before now).0 }
+        ensures asks { option_to_list result.0 ++ option_to_list result.1 ≡ (serial_step self.old cycle before now).1 }
+        ensures sound { IsSerial self.new }
     {
         match self {
-            Serial::Uart(uart) => step_uart(uart, cycle, before.first, now.first),
-            Serial::Spi(spi) => step_spi(spi, cycle, wires_of(before), wires_of(now)),
-            Serial::I2c(slave) => step_i2c(slave, lines_of(before), lines_of(now)),
+            Serial::Uart(uart) => uart.step(cycle, before.first, now.first),
+            Serial::Spi(spi) => {
+                spi.open_in(cycle);
+                spi.step(cycle, wires_of(before), wires_of(now))
+            }
+            Serial::I2c(slave) => (None, slave.step(lines_of(before), lines_of(now))),
         }
     }
 
     /// What it drives its out pin to in the next cycle; `early` tells that a UART was told to send before cycle 0.
-    pub fn output(self, early: bool) -> Option<Drive>
-        ensures { result ≡ serial_output self early }
+    pub fn output(&self, early: bool) -> Option<Drive>
+        ensures { result ≡ serial_output self.now early }
     {
         match self {
             Serial::Uart(uart) => Some(if early || uart.next_line() {
@@ -155,51 +156,6 @@ impl Serial {
             Serial::I2c(slave) => answer_i2c(slave, answer),
             Serial::Uart(_) | Serial::Spi(_) => self,
         }
-    }
-}
-
-fn step_uart(mut uart: Uart, cycle: u32, before: bool, now: bool) -> Step
-    requires cycle { cycle < MOST_CYCLES }
-    requires sound { IsUart uart }
-    ensures serial { result.serial ≡ serials.Uart (uart_step uart cycle before now).0 }
-    ensures asks { option_to_list result.first ++ option_to_list result.second ≡ (uart_step uart cycle before now).1 }
-    ensures sound { IsSerial result.serial }
-{
-    let (first, second) = uart.step(cycle, before, now);
-    Step {
-        serial: Serial::Uart(uart),
-        first,
-        second,
-    }
-}
-
-// A transaction that waits for its first turn has it in this cycle.
-fn step_spi(mut spi: Spi, cycle: u32, before: Wires, now: Wires) -> Step
-    requires sound { IsTransaction spi.transaction }
-    ensures serial { result.serial ≡ serials.Spi (spi_step (in_turn spi cycle) cycle before now).0 }
-    ensures asks { option_to_list result.first ++ option_to_list result.second ≡ (spi_step (in_turn spi cycle) cycle before now).1 }
-    ensures sound { IsSerial result.serial }
-{
-    spi.open_in(cycle);
-    let (first, second) = spi.step(cycle, before, now);
-    Step {
-        serial: Serial::Spi(spi),
-        first,
-        second,
-    }
-}
-
-fn step_i2c(mut slave: Slave, before: Lines, now: Lines) -> Step
-    requires sound { IsPlace slave.phase }
-    ensures serial { result.serial ≡ serials.I2c (i2c_step slave before now).0 }
-    ensures asks { option_to_list result.first ++ option_to_list result.second ≡ (i2c_step slave before now).1 }
-    ensures sound { IsSerial result.serial }
-{
-    let second = slave.step(before, now);
-    Step {
-        serial: Serial::I2c(slave),
-        first: None,
-        second,
     }
 }
 

@@ -32,10 +32,10 @@ turned_step a ls =
     let fired : Chip = timers_first (seeing a.chip ls) a.cycle in
     ap (λ (f : Fixed). engines_last (watch_turns fired a.cycle a.chip.held (length f.given.names)) a.cycle a.chip.held) (timer_turns_fixed (seeing a.chip ls) a.cycle (length a.chip.inventory.timers))
 
-abbrev keeping : ChipAt → ChipAt
+abbrev pub keeping : ChipAt → ChipAt
 keeping a = record { chip = a.chip; cycle = a.cycle; wakes = a.wakes; before = a.chip.held }
 
-abbrev seen : ChipAt → List Level → ChipAt
+abbrev pub seen : ChipAt → List Level → ChipAt
 seen a ls = record { chip = seeing a.chip ls; cycle = a.cycle; wakes = a.wakes; before = a.before }
 
 pub wakes_as : (a b c d : ChipAt) (ls : List Level) → b ≡ keeping a → c ≡ seen b ls → d ≡ turned c → d.chip ≡ chip_step a.chip a.cycle ls

@@ -1,8 +1,12 @@
 -- The types of imported functions, and the length of a list of which one is replaced.
-use Rattle.std.proofs.Common.{◌≡◌, ◌<◌, ℕ, zero, suc, List, [], ◌∷◌, length, map, Some, refl, sym, ap, ◌∙◌, arith}
+use Rattle.std.proofs.Common.{◌≡◌, ◌<◌, ◌≤◌, ◌-◌, take, drop, Option, ℕ, zero, suc, List, [], ◌∷◌, length, map, Some, refl, sym, ap, ◌∙◌, arith}
 use Rattle.std.specs.Prelude.{slice_get, slice_set, option_map}
 use Rattle.std.proofs.lemmas.Option.{slice_get-map}
 use Rattle.wasm_code.specs.declared.types.FuncType.{FuncType}
+use Rattle.sim_base.specs.declared.signal.Drive.{Drive}
+use Rattle.chip_engines.specs.declared.engine.Engine.{Engine}
+use Rattle.chip_engines.specs.Engine.{HasNone, driven}
+use Rattle.chip_engines.proofs.PlaceLemmas.{driven_between}
 use Rattle.chip_abi.specs.declared.host_name.HostName.{HostName}
 use Rattle.chip_abi.specs.HostNames.{type_of_name}
 
@@ -21,3 +25,10 @@ pub length_set : {X : Type 0} (xs : List X) (k : ℕ) (x : X) → length (slice_
 length_set [] k x = refl
 length_set (y ∷ ys) zero x = refl
 length_set (y ∷ ys) (suc k) x = ap (λ (n : ℕ). suc n) (length_set ys k x)
+
+-- what is found of the engines between the first and the last one
+pub driven_is : (os es : List (Option Engine)) (first end i n : ℕ) (r : Option Drive) → r ≡ driven n (take (end - first) (drop first es)) → n ≡ i → es ≡ os → first ≤ end
+    → ((k : ℕ) → k < first → HasNone os k) → ((k : ℕ) → end ≤ k → HasNone os k) → r ≡ driven i os
+driven_is os es first end i n r is pin same order before behind =
+    is ∙ ap (λ (m : ℕ). driven m (take (end - first) (drop first es))) pin ∙ ap (λ (xs : List (Option Engine)). driven i (take (end - first) (drop first xs))) same
+    ∙ driven_between os first end order before behind i

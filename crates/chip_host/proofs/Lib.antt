@@ -3,3 +3,5 @@ mod CallLemmas
 mod DueLemmas
 mod ChipLemmas
 mod SetupLemmas
+mod TurnLemmas
+mod ShownLemmas

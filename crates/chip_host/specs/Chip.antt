@@ -1,6 +1,6 @@
 -- A chip as a machine: in a cycle each due timer calls back by its id, then each watch whose edge came, by its pin, and then each
 -- engine has its turn, by kind and id (profile).
-use Rattle.std.specs.Prelude.{ℕ, zero, suc, ◌+◌, ◌%◌, ◌^◌, ◌==◌, ◌&&◌, ◌||◌, nat_lt, List, [], ◌∷◌, length, map, replicate, slice_get, slice_set, unwrap_or, Bool, true, false, if◌then◌else◌, Option, None, Some, option_map}
+use Rattle.std.specs.Prelude.{◌≡◌, ℕ, zero, suc, ◌+◌, ◌%◌, ◌^◌, ◌==◌, ◌&&◌, ◌||◌, nat_lt, List, [], ◌∷◌, length, map, replicate, slice_get, slice_set, unwrap_or, Bool, true, false, if◌then◌else◌, Option, None, Some, option_map}
 use Rattle.std.specs.List.{range_with_len}
 use Rattle.sim_base.specs.declared.signal.Drive.{Drive}
 use Rattle.sim_base.specs.declared.signal.Drive.TheVariants as drives
@@ -8,6 +8,7 @@ use Rattle.sim_base.specs.declared.signal.Level.{Level}
 use Rattle.sim_base.specs.declared.signal.Level.TheVariants as levels
 use Rattle.sim_base.specs.Signal.{reads}
 use Rattle.part_law.specs.Machine.{Machine}
+use Rattle.part_law.specs.declared.span.Span.{Span}
 use Rattle.wasm_num.specs.declared.value.Value.{Value}
 use Rattle.wasm_num.specs.declared.value.Value.TheVariants.{I32}
 use Rattle.wasm_decode.specs.declared.module.Module.{Module}
@@ -39,13 +40,21 @@ pub record Chip : Type 0 where
   -- the trap that ended it, and its cycle
   pub dead : Option Death
 
--- a chip on a board: before the step of `cycle`
+-- a chip that takes the turns of `cycle`
 pub record ChipAt : Type 0 where
   pub chip : Chip
   pub cycle : ℕ
   pub wakes : ℕ
   -- the levels of the step before the last one
   pub before : List Level
+
+-- a chip on a board: before the step of `cycle`
+pub record OnBoard : Type 0 where
+  pub chip : Chip
+  pub cycle : ℕ
+  pub wakes : ℕ
+  -- the pins whose drives its last wake may have changed
+  pub moved : Span
 
 -- the chip that an instance and a host make
 abbrev pub chip_from : Running → HostState → ℕ → Option Death → Chip
@@ -263,6 +272,10 @@ turned a =
 
 abbrev pub chip_drive : Chip → ℕ → Drive
 chip_drive s i = if is_live s then pin_drives s.inventory i else drives.Z
+
+-- that each pin drives in one state what it does in the other
+abbrev pub DrivesAs : Chip → Chip → Type 0
+DrivesAs s r = (i : ℕ) → chip_drive s i ≡ chip_drive r i
 
 abbrev pub any_due : ℕ → List Timer → Bool
 any_due t [] = false

@@ -5,3 +5,5 @@ pub mod Chip
 pub mod ChipLaws
 pub mod FirstDue
 pub mod NextDue
+pub mod Shown
+pub mod Turned

@@ -1,5 +1,5 @@
 //! The host that a chip's module imports from.
-ghost use Rattle.std.specs.Prelude.{◌≡◌, ◌<◌, ◌≤◌, ◌==◌, ◌+◌, [], ◌∷◌, not, length, map, IfOk, IfSome, Some, slice_get, slice_set, option_to_list, replicate, None, false};
+ghost use Rattle.std.specs.Prelude.{◌≡◌, ℕ, ◌<◌, ◌≤◌, ◌==◌, ◌+◌, [], ◌∷◌, not, length, map, IfOk, IfSome, Some, slice_get, slice_set, option_to_list, replicate, None, false};
 ghost use Rattle.std.specs.List.{position_from};
 ghost use Rattle.wasm_code.specs.declared.types.ValType.TheVariants as types;
 ghost use Rattle.wasm_eval.specs.Values.{HasTypes};
@@ -7,6 +7,7 @@ ghost use Rattle.chip_host.specs.Inventory.{HostState, left, pin_at, watch_at, e
 ghost use Rattle.chip_abi.specs.HostNames.{type_of_name};
 ghost use Rattle.chip_abi.specs.Reading.{word_at};
 ghost use Rattle.chip_host.specs.FirstDue.{first_due};
+ghost use Rattle.chip_host.specs.Turned.{HasTurned};
 ghost use Rattle.sim_base.specs.declared.signal.Level.TheVariants as levels;
 ghost use Rattle.chip_host.specs.Chip.{first_host};
 ghost use Rattle.chip_host.specs.HostCall.{has_name, kept, set_pin, pin_init, read_pin, write_pin, watch_pin, watch_from, timer_init, timer_from, start_timer, stop_timer, mode_pin, unwatch, started, level_of, attr_init, read_attribute, set_engine, free_id, host_does, host_at};
@@ -18,7 +19,7 @@ use crate::pin::{Pin, drive_of, with_mode};
 use crate::timer::{Delay, Timer, first_due, started, stopped};
 use crate::watch::Watch;
 use chip_abi::{HostName, ImportMap, read_string, read_word};
-use chip_engines::{Engine, driven, earlier, first_engine, free};
+use chip_engines::{Engine, Turn, driven, earlier, first_engine, free};
 use sim_base::{Drive, Level, List, MOST_CYCLES, Name, OutOfMemory, Text, reads_one};
 use std::alloc::Global;
 use std::marker::Model;
@@ -39,12 +40,15 @@ pub struct ChipHost {
     timers: Vec<Timer>,
     attributes: Vec<u32>,
     engines: Vec<Option<Engine>>,
+    // All engines stand at places from `first` to below `end`.
+    first: usize,
+    end: usize,
 }
 
 impl Model for ChipHost {
-    ghost use Rattle.std.specs.Prelude.{◌≡◌, ◌≤◌, length};
+    ghost use Rattle.std.specs.Prelude.{◌≡◌, ◌<◌, ◌≤◌, ℕ, length};
     ghost use Rattle.std.specs.Vec.{vec_capacity};
-    ghost use Rattle.chip_engines.specs.Engine.{AreEngines};
+    ghost use Rattle.chip_engines.specs.Engine.{AreEngines, HasNone};
     ghost use Rattle.chip_host.specs.Inventory.{HostState};
     ghost use Rattle.sim_base.specs.declared.limits.TheConstants.{MOST_CYCLES};
 
@@ -64,6 +68,10 @@ impl Model for ChipHost {
       attribute_room : 64 ≤ vec_capacity c.attributes;
       places : length c.engines.items ≡ 24;
       sound : AreEngines c.engines.items;
+      order : c.first ≤ c.end;
+      within : c.end ≤ 24;
+      before : (k : ℕ) → k < c.first → HasNone c.engines.items k;
+      behind : (k : ℕ) → c.end ≤ k → HasNone c.engines.items k;
       end : c.cycle ≤ MOST_CYCLES;
     } };
 }
@@ -96,6 +104,18 @@ fn kept(pin: Option<Pin>) -> bool
     match pin {
         Some(pin) => pin.high,
         None => false,
+    }
+}
+
+/// The first place of those from `first` to below `end` and of one more.
+fn first_with(first: usize, end: usize, place: usize) -> usize
+    ensures within { result ≤ place }
+    ensures far { (k : ℕ) → k < result → first ≤ k → end ≤ k }
+{
+    if first == end {
+        place
+    } else {
+        first.min(place)
     }
 }
 
@@ -425,6 +445,8 @@ impl ChipHost {
             timers: Vec::with_capacity(alloc, 32)?,
             attributes: Vec::with_capacity(alloc, 64)?,
             engines: no_engines(alloc)?,
+            first: 0,
+            end: 0,
         })
     }
 
@@ -470,7 +492,7 @@ impl ChipHost {
     {
         earlier(
             first_due(self.timers.as_slice(), from),
-            first_engine(self.engines.as_slice(), from),
+            first_engine(&self.engines.as_slice()[self.first..self.end], from),
         )
     }
 
@@ -481,12 +503,16 @@ impl ChipHost {
         self.init
     }
 
-    /// How many places for engines it has.
-    pub fn engine_count(&self) -> usize
-        ensures count { result ≡ length self.now.inventory.engines }
-        ensures few { result ≤ 24 }
+    /// The next place from one on at which an engine may stand, or the end.
+    pub fn next_place(&self, from: usize) -> usize
+        requires { from ≤ 24 }
+        ensures from { from ≤ result }
+        ensures within { result ≤ 24 }
+        ensures passed { (k : ℕ) → from ≤ k → k < result → engine_at self.now.inventory k ≡ None }
+        ensures all { length self.now.inventory.engines ≡ 24 }
     {
-        self.engines.len()
+        let place = from.max(self.first);
+        if place < self.end { place } else { 24 }
     }
 
     fn place(&self, place: usize) -> Option<Option<Engine>>
@@ -514,6 +540,25 @@ impl ChipHost {
         ensures { self.new ≡ left self.old (set_engine self.old.inventory place engine) }
     {
         self.engines[place] = Some(engine);
+        self.first = first_with(self.first, self.end, place);
+        self.end = self.end.max(place + 1);
+    }
+
+    /// The turn of the engine at a place, on the levels of the cycle before and of this one; None where none stands there.
+    pub fn turn(&mut self, place: usize, before: &[Level]) -> Option<Turn>
+        requires within { place < 24 }
+        requires end { self.old.moment.now < MOST_CYCLES }
+        ensures { HasTurned place before.now self.old self.new result }
+    {
+        match self.engine(place) {
+            Some(engine) => {
+                let mut engine = engine;
+                let turn = engine.turn(self.cycle, before, self.levels.as_slice());
+                self.set_engine(place, engine);
+                Some(turn)
+            }
+            None => None,
+        }
     }
 
     /// The first id of a kind that was not given.
@@ -565,7 +610,7 @@ impl ChipHost {
     pub fn drive(&self, i: u8) -> Drive
         ensures { result ≡ pin_drives self.now.inventory i }
     {
-        match driven(self.engines.as_slice(), u32::from(i)) {
+        match driven(&self.engines.as_slice()[self.first..self.end], u32::from(i)) {
             Some(drive) => drive,
             None => drive_of(self.pin(u32::from(i))),
         }

@@ -11,7 +11,9 @@ mod death;
 mod engines;
 mod host;
 mod pin;
+mod shown;
 mod timer;
+mod turns;
 mod watch;
 
 pub use chip::Chip;

@@ -1,4 +1,4 @@
-use Rattle.std.proofs.Common.{ℕ, Some, None, Ok, Err, sym, ap, ◌∙◌, Option}
+use Rattle.std.proofs.Common.{ℕ, Some, Ok, Err, sym, ap, ◌∙◌, Option}
 use Rattle.chip_host.specs.Chip.{Chip, chip_from}
 use Rattle.chip_host.proofs.CallLemmas.{not_asked, replied_chip, replied_answer, reply_around}
 use Rattle.chip_host.proofs.calls.ask_slot.Goals as goal

@@ -1,39 +1,18 @@
-use Rattle.std.proofs.Common.{◌≡◌, ◌∙◌, List, length, true, false, replicate, ap, sym, arith}
-use Rattle.std.proofs.lemmas.List.{length-replicate}
-use Rattle.sim_base.specs.declared.signal.Level.{Level}
-use Rattle.sim_base.specs.declared.signal.Level.TheVariants as levels
-use Rattle.wasm_decode.specs.declared.module.Module.{Module}
-use Rattle.chip_abi.proofs.ImportLemmas.{known_imports}
-use Rattle.chip_host.specs.Inventory.{Given, Moment, HostState}
-use Rattle.chip_host.proofs.SetupLemmas.{hosts_known, moved}
+use Rattle.std.proofs.Common.{◌≡◌, length, ap, sym, ◌∙◌, arith}
+use Rattle.chip_host.specs.Inventory.{Given}
+use Rattle.chip_host.specs.Chip.{Chip}
+use Rattle.chip_host.specs.ChipLaws.{start_given}
 use Rattle.chip_host.proofs.chip.Chip.new.Goals as goal
-
-pub new-requires-2-clause-tables : goal.new-requires-2-clause-tables
-new-requires-2-clause-tables c = (known_imports c.args.valid.wasm c.args.map c.requires.map).tables
-
-pub new-requires-2-clause-globals : goal.new-requires-2-clause-globals
-new-requires-2-clause-globals c = (known_imports c.args.valid.wasm c.args.map c.requires.map).globals
-
-pub run_both-dead-requires-clause-start : goal.run_both-dead-requires-clause-start
-run_both-dead-requires-clause-start c = moved c.args.valid.wasm c.in_ok-instance.instance.wasm c.start_of-start.result c.in_ok-instance.ensures.wasm c.start_of-start.ensures.typed
-
-pub run_both-dead-requires-clause-hosts : goal.run_both-dead-requires-clause-hosts
-run_both-dead-requires-clause-hosts c =
-    let given : Given = record { table = c.args.map; names = c.args.pins; attrs = c.args.attrs } in
-    hosts_known c.args.valid.wasm c.in_ok-instance.instance.wasm given c.in_ok-host.host.moment c.requires.map c.in_ok-instance.ensures.wasm (ap (λ (h : HostState). h.moment.given) c.in_ok-host.ensures)
 
 pub invariant_of-result : goal.invariant_of-result
 invariant_of-result c =
-    let given : Given = record { table = c.args.map; names = c.args.pins; attrs = c.args.attrs } in
-    let first : c.in_ok-host.host.moment ≡ record { given = given; init = true; now = 0; levels = replicate (length given.names) levels.Z } = ap (λ (h : HostState). h.moment) c.in_ok-host.ensures in
-    let moment : c.end_set_up.new.self.moment ≡ record { given = given; init = false; now = 0; levels = replicate (length given.names) levels.Z } =
-    ap (λ (h : HostState). h.moment) c.end_set_up.ensures ∙ ap (λ (m : Moment). record m { init = false }) (c.run_both-dead.ensures.moment ∙ first) in
-    let wasm : c.run_both-dead.new.instance.wasm ≡ c.args.valid.wasm = c.run_both-dead.ensures.wasm ∙ c.in_ok-instance.ensures.wasm in
-    let names = ap (λ (m : Moment). length m.given.names) moment in
+    let a = c.args in
+    let given : Given = record { table = a.map; names = a.pins; attrs = a.attrs } in
+    let names : length c.in_ok-turns.turns.chip.given.names ≡ length a.pins =
+    ap (λ (s : Chip). length s.given.names) c.in_ok-turns.ensures.state ∙ ap (λ (g : Given). length g.names) (start_given a.valid.wasm a.valid.init given a.budget) in
+    let count : length c.show-moved.new.shown.items ≡ length a.pins = c.show-moved.ensures.room ∙ c.in_ok-shown.ensures ∙ c.len.ensures in
     record {
-      hosts = hosts_known c.args.valid.wasm c.run_both-dead.new.instance.wasm given c.end_set_up.new.self.moment c.requires.map wasm (ap (λ (m : Moment). m.given) moment);
-      set = ap (λ (m : Moment). m.init) moment;
-      before = ap (λ (ls : List Level). length ls) c.in_ok-before.ensures ∙ length-replicate c.len.result levels.Z ∙ c.len.ensures ∙ sym names;
-      levels = ap (λ (m : Moment). length m.levels) moment ∙ length-replicate (length given.names) levels.Z ∙ sym names;
-      end = let zero = ap (λ (m : Moment). m.now) moment in omega (arith, zero);
+      shown = c.show-moved.ensures.shown;
+      room = count ∙ sym names;
+      few = omega (arith, count, c.requires.few);
     }

@@ -1,5 +1,6 @@
-use Rattle.std.proofs.Common.{◌∙◌, Some}
+use Rattle.std.proofs.Common.{◌∙◌, Some, arith}
 use Rattle.chip_engines.proofs.EngineLemmas as engines
+use Rattle.chip_engines.proofs.PlaceLemmas.{none_before, none_behind}
 use Rattle.chip_host.proofs.HostLemmas.{length_set}
 use Rattle.chip_host.proofs.host.ChipHost.set_engine.Goals as goal
 
@@ -15,5 +16,9 @@ invariant_of-self c =
       attribute_room = i.attribute_room;
       places = length_set c.self.inside.engines.items c.args.place (Some c.args.engine) ∙ i.places;
       sound = engines.set_engine c.self.inside.engines.items c.args.place (Some c.args.engine) i.sound c.requires.sound;
+      order = omega (arith, c.first_with-self-inside.ensures.within, c.max-self-inside.ensures);
+      within = omega (arith, i.within, c.requires.within, c.max-self-inside.ensures);
+      before = none_before c.self.inside.engines.items c.self.inside.first c.self.inside.end i.before i.behind c.args.place (Some c.args.engine) _ c.first_with-self-inside.ensures.within c.first_with-self-inside.ensures.far;
+      behind = none_behind c.self.inside.engines.items c.self.inside.first c.self.inside.end i.before i.behind c.args.place (Some c.args.engine) _ (omega (arith, c.max-self-inside.ensures)) (omega (arith, c.max-self-inside.ensures));
       end = i.end;
     }

@@ -1,0 +1,132 @@
+-- What a chip's pins drive, as it is kept.
+use Rattle.std.proofs.Common.{◌≡◌, ◌≢◌, ◌<◌, ◌≤◌, ◌+◌, ◌⊎◌, inl, inr, ℕ, zero, suc, List, [], ◌∷◌, length, map, false, Some, refl, ap, sym, ◌∙◌, arith}
+use Rattle.std.proofs.Common.{get_or}
+use Rattle.std.specs.Prelude.{nat_lt, slice_get, slice_set}
+use Rattle.std.specs.List.{range_with_len}
+use Rattle.std.proofs.lemmas.Option.{slice_get_past, slice_get_read}
+use Rattle.sim_base.specs.declared.signal.Drive.{Drive}
+use Rattle.part_law.specs.declared.span.Span.{Span}
+use Rattle.sim_base.specs.declared.signal.Level.{Level}
+use Rattle.part_law.specs.Spans.{IsIn, is_in, no_pins}
+use Rattle.part_law.proofs.SpanLemmas.{none_in, not_in_span}
+use Rattle.chip_host.specs.Chip.{Chip, ChipAt, chip, chip_drive, chip_step}
+use Rattle.chip_host.specs.Inventory.{Given}
+use Rattle.chip_host.specs.ChipLaws.{Fixed, drive_count, step_fixed}
+use Rattle.chip_host.specs.Shown.{Shows}
+use Rattle.chip_host.proofs.HostLemmas.{length_set}
+use Rattle.chip_host.proofs.ChipLemmas.{drive_at, keeping, seen}
+
+get_set : (ds : List Drive) (i : ℕ) (d : Drive) → i < length ds → slice_get (slice_set ds i d) i ≡ Some d
+get_set [] i d l = absurd (omega (arith, l))
+get_set (x ∷ xs) zero d l = refl
+get_set (x ∷ xs) (suc i) d l = get_set xs i d (omega (arith, l))
+
+get_other : (ds : List Drive) (i k : ℕ) (d : Drive) → k ≢ i → slice_get (slice_set ds i d) k ≡ slice_get ds k
+get_other [] i k d other = refl
+get_other (x ∷ xs) zero zero d other = absurd (other refl)
+get_other (x ∷ xs) zero (suc k) d other = refl
+get_other (x ∷ xs) (suc i) zero d other = refl
+get_other (x ∷ xs) (suc i) (suc k) d other = get_other xs i k d (λ e. other (ap (λ (n : ℕ). suc n) e))
+
+-- what was kept at first and is now, where the first i pins were found anew
+pub record Kept (s : Chip) (old now : List Drive) (moved : Span) (i : ℕ) : Type 0 where
+  pub room : length now ≡ length old
+  pub found : (k : ℕ) → k < i → slice_get now k ≡ Some (chip_drive s k)
+  pub rest : (k : ℕ) → i ≤ k → slice_get now k ≡ slice_get old k
+  pub same : (k : ℕ) → k < i → ¬ IsIn moved k → slice_get now k ≡ slice_get old k
+
+pub kept_none : (s : Chip) (ds : List Drive) → Kept s ds ds no_pins 0
+kept_none s ds = record {
+  room = refl;
+  found = λ k (l : k < 0). absurd (omega (arith, l));
+  rest = λ k l. refl;
+  same = λ k l out. refl;
+}
+
+below_or : (k i : ℕ) → k < suc i → (k ≡ i) ⊎ (k < i)
+below_or k i l = grind (arith, l)
+
+other_of : (k i : ℕ) → k < i → k ≢ i
+other_of k i l e = absurd (omega (arith, l, e))
+
+pub kept_more : (s : Chip) (old now after : List Drive) (moved span : Span) (i : ℕ) (d : Drive) → Kept s old now moved i → i < length now → d ≡ chip_drive s i → after ≡ slice_set now i d
+    → ((k : ℕ) → ¬ IsIn span k → (¬ IsIn moved k) × (k ≡ i → slice_get now i ≡ Some d)) → Kept s old after span (i + 1)
+kept_more s old now after moved span i d kept l is put out =
+    let here : slice_get after i ≡ Some d = ap (λ (ds : List Drive). slice_get ds i) put ∙ get_set now i d l in
+    let there : (k : ℕ) → k ≢ i → slice_get after k ≡ slice_get now k = λ k other. ap (λ (ds : List Drive). slice_get ds k) put ∙ get_other now i k d other in
+    record {
+      room = ap (λ (ds : List Drive). length ds) put ∙ length_set now i d ∙ kept.room;
+      found = λ k (b : k < i + 1). elim (below_or k i (omega (arith, b))) [
+        | inl e ↦ ap (λ (n : ℕ). slice_get after n) e ∙ here ∙ ap (λ (x : Drive). Some x) is ∙ ap (λ (n : ℕ). Some (chip_drive s n)) (sym e)
+        | inr b ↦ there k (other_of k i b) ∙ kept.found k b
+      ];
+      rest = λ k (b : i + 1 ≤ k). there k (λ e. absurd (omega (arith, b, e))) ∙ kept.rest k (omega (arith, b));
+      same = λ k (b : k < i + 1) un. elim (below_or k i (omega (arith, b))) [
+        | inl e ↦ ap (λ (n : ℕ). slice_get after n) e ∙ here ∙ sym ((out k un).1 e) ∙ kept.rest i (omega arith) ∙ ap (λ (n : ℕ). slice_get old n) (sym e)
+        | inr b ↦ there k (other_of k i b) ∙ kept.same k b (out k un).0
+      ];
+    }
+
+some_same : (a b : Drive) → Some a ≡ Some b → a ≡ b
+some_same a b e = cc
+
+-- a pin of which the same is kept drives the same
+pub pin_same : (s r : Chip) (ds es : List Drive) (k : ℕ) → Shows s ds → Shows r es → length es ≡ length ds → k < length ds → slice_get es k ≡ slice_get ds k → chip_drive r k ≡ chip_drive s k
+pin_same s r ds es k old new room l same = some_same (chip_drive r k) (chip_drive s k) (sym (new k (omega (arith, room, l))) ∙ same ∙ old k l)
+
+same_map : (f g : ℕ → Drive) (a n : ℕ) → ((k : ℕ) → a ≤ k → k < a + n → f k ≡ g k) → map f (range_with_len a n) ≡ map g (range_with_len a n)
+same_map f g a zero same = refl
+same_map f g a (suc n) same =
+    ap (λ (d : Drive). d ∷ map f (range_with_len (a + 1) n)) (same a (omega arith) (omega arith))
+    ∙ ap (λ (ds : List Drive). g a ∷ ds) (same_map f g (a + 1) n (λ k (l : a + 1 ≤ k) (h : k < a + 1 + n). same k (omega (arith, l)) (omega (arith, h))))
+
+-- where each pin drives the same, all do
+pub drives_same : (s r : Chip) → r.given ≡ s.given → ((k : ℕ) → k < length s.given.names → chip_drive r k ≡ chip_drive s k) → chip.drives r ≡ chip.drives s
+drives_same s r given same =
+    ap (λ (g : _). map (chip_drive r) (range_with_len 0 (length g.names))) given ∙ same_map (chip_drive r) (chip_drive s) 0 (length s.given.names) (λ k l (h : k < 0 + length s.given.names). same k (omega (arith, h)))
+
+within_or : (k n : ℕ) → (k < n) ⊎ (n ≤ k)
+within_or k n = grind arith
+
+-- a pin, or a number behind the pins, of which the same is kept
+pub drive_same : (s r : Chip) (k : ℕ) → r.given ≡ s.given → (k < length s.given.names → chip_drive r k ≡ chip_drive s k) → slice_get (chip.drives r) k ≡ slice_get (chip.drives s) k
+drive_same s r k given same =
+    let names : length r.given.names ≡ length s.given.names = ap (λ (g : _). length g.names) given in
+    elim (within_or k (length s.given.names)) [
+      | inl l ↦
+          drive_at r k (chip_drive r k) (omega (arith, l, names, drive_count r)) refl ∙ ap (λ (d : Drive). Some d) (same l)
+          ∙ sym (drive_at s k (chip_drive s k) (omega (arith, l, drive_count s)) refl)
+      | inr l ↦ slice_get_past (chip.drives r) k (omega (arith, l, names, drive_count r)) ∙ sym (slice_get_past (chip.drives s) k (omega (arith, l, drive_count s)))
+    ]
+
+-- what was read of what is kept
+pub shown_at : (s r : Chip) (ds : List Drive) (k : ℕ) (d : Drive) → Shows s ds → k < length ds → d ≡ get_or ds k d → s ≡ r → d ≡ chip_drive r k
+shown_at s r ds k d shows l read same =
+    some_same d (chip_drive r k) (sym (slice_get_read ds (length ds) k d refl l read) ∙ shows k l ∙ ap (λ (x : Chip). Some (chip_drive x k)) same)
+
+-- ---- behind a wake
+
+module _ (s r : Chip) (t : ℕ) (ls : List Level) (step : r ≡ chip_step s t ls) (ds es : List Drive) (old : Shows s ds) (new : Shows r es) (count : length ds ≡ length s.given.names) (room : length es ≡ length ds) (span : Span)
+    (same : (k : ℕ) → k < length ds → ¬ IsIn span k → slice_get es k ≡ slice_get ds k) where
+  given_same : r.given ≡ s.given
+  given_same = ap (λ (x : Chip). x.given) step ∙ ap (λ (f : Fixed). f.given) (step_fixed s t ls)
+
+  pub room_same : length es ≡ length r.given.names
+  room_same = room ∙ count ∙ sym (ap (λ (g : Given). length g.names) given_same)
+
+  pub woken_drives : nat_lt span.from span.to ≡ false → chip.drives r ≡ chip.drives s
+  woken_drives none =
+      drives_same s r given_same
+      (λ k (l : k < length s.given.names). let h : k < length ds = omega (arith, l, count) in pin_same s r ds es k old new room h (same k h (none_in span k none)))
+
+  pub woken_drive : (k : ℕ) → is_in span k ≡ false → slice_get (chip.drives r) k ≡ slice_get (chip.drives s) k
+  woken_drive k out =
+      drive_same s r k given_same
+      (λ (l : k < length s.given.names). let h : k < length ds = omega (arith, l, count) in pin_same s r ds es k old new room h (same k h (not_in_span span k out)))
+
+-- what is kept is what the pins drive on new levels too
+pub shows_seen : (a b c : ChipAt) (ls : List Level) (ds : List Drive) → b ≡ keeping a → c ≡ seen b ls → Shows a.chip ds → Shows c.chip ds
+shows_seen a b c ls ds p q shows k l = shows k l ∙ sym (ap (λ (x : ChipAt). Some (chip_drive x.chip k)) (q ∙ ap (λ (x : ChipAt). seen x ls) p))
+
+pub shows_held : (a b : ChipAt) (ds : List Drive) → b ≡ keeping a → Shows a.chip ds → Shows b.chip ds
+shows_held a b ds p shows k l = shows k l ∙ sym (ap (λ (x : ChipAt). Some (chip_drive x.chip k)) p)
