@@ -1,6 +1,8 @@
 -- The answer to `replay`.
-use Rattle.std.proofs.Common.{◌≡◌, ◌⊎◌, ◌*◌, ℕ, List, length, Option, Some, Result, Ok, Err, IfSome, ap, sym, ◌∙◌}
+use Rattle.std.proofs.Common.{◌≡◌, ◌⊎◌, ◌*◌, ◌+◌, ℕ, List, length, Option, Some, Result, Ok, Err, IfSome, ap, sym, ◌∙◌}
 use Rattle.sim_base.specs.declared.fault.Refusal.{Refusal}
+use Rattle.sim_base.specs.declared.wiring.Wiring.{Wiring}
+use Rattle.sim_base.specs.declared.wiring.Input.{Input}
 use Rattle.sim_base.specs.Outside.{Outside, SamePorts, Files}
 use Rattle.text_model.specs.Wave.{Variable}
 use Rattle.outcome_model.specs.Stop.{◌>>=◌, Stop, Refused, refused_in}
@@ -10,6 +12,8 @@ use Rattle.outcome_model.specs.Happens.{Ends}
 use Rattle.outcome_model.specs.Promises.{IsOne}
 use Rattle.outcome_model.proofs.ReadLemmas.{if_always, one_both, one_function}
 use Rattle.outcome_model.proofs.EndLemmas.{answered, answer_stops, one_answer}
+use Rattle.part_law.specs.Machine.{Machine}
+use Rattle.board_laws.specs.Active.{active_pairs}
 use Rattle.board_laws.specs.Player.{DriveRows}
 use Rattle.chip_module.specs.Sources.{pins_of}
 use Rattle.board_outputs.specs.Variables.{board_variables}
@@ -32,6 +36,15 @@ module _ (folder wave : List ℕ) (us : ℕ) (script : Option (List ℕ)) (out :
   pub replay_stops : (o : Outcome) (a b : Outside) → ReadStops o (PlayIn folder wave script (16 * us)) a b → SamePorts a b → Ends (ReplayAnswer folder wave us script out) o a b
   unfolding ReplayAnswer
   replay_stops = answer_stops (PlayIn folder wave script (16 * us)) (replay_texts out (16 * us))
+
+-- the wakes of a run are those of one of the same wiring, inputs and states
+pub same_wakes : {S : Type 0} (m : Machine S) (n before after : ℕ) (w x : Wiring) (inputs values : List Input) (ss ts : List S) → w ≡ x → inputs ≡ values → ss ≡ ts →
+    after ≡ before + active_pairs m w inputs ss 0 n → after ≡ before + active_pairs m x values ts 0 n
+same_wakes m n before after w x inputs values ss ts wired given begun is =
+    is
+    ∙ ap (λ (v : Wiring). before + active_pairs m v inputs ss 0 n) wired
+    ∙ ap (λ (l : List Input). before + active_pairs m x l ss 0 n) given
+    ∙ ap (λ l. before + active_pairs m x values l 0 n) begun
 
 -- what a wave says hangs on what it shows, on how many pins there are and on its bytes
 pub said_same : (shown by : List Variable) (count pins n : ℕ) (text bytes : List ℕ) (r : Result (List DriveRows) Refusal) → shown ≡ by → count ≡ pins → text ≡ bytes →

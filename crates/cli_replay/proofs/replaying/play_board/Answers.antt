@@ -1,4 +1,4 @@
-use Rattle.std.proofs.Common.{◌∙◌, ap, map, false, arith}
+use Rattle.std.proofs.Common.{◌∙◌, ap, map, false, refl, arith}
 use Rattle.std.specs.List.{All}
 use Rattle.std.proofs.lemmas.List.Elements.{All-map}
 use Rattle.sim_base.specs.declared.bench.WriteEnd.TheVariants as writes
@@ -14,6 +14,7 @@ use Rattle.played_part.specs.Played.{state_of}
 use Rattle.board_outputs.specs.Outputs.{outputs_of}
 use Rattle.cli_board.proofs.PlayLemmas.{same_texts}
 use Rattle.board_outputs.proofs.VariableLemmas.{pins_few}
+use Rattle.cli_replay.proofs.ReplayLemmas.{same_wakes}
 use Rattle.cli_replay.proofs.replaying.play_board.Goals as goal
 
 pub load_played-requires-clause-few : goal.load_played-requires-clause-few
@@ -36,3 +37,11 @@ returns-clause-ran g c =
     c.requires.ready.head (ap (λ (x : BoardView PlayedPart). x.wiring) is) (ap (λ (x : BoardView PlayedPart). x.inputs) is)
     (ap (λ (x : BoardView PlayedPart). map state_of x.parts) is ∙ rw c.as_slice.ensures at c.in-Ok.ensures.states) c.as_slice-planned.ensures
     (c.in-Failed.ensures.wrote _ (λ parts same. same))
+
+pub returns-in-Ok-write_run-clause-steps : goal.returns-in-Ok-write_run-clause-steps
+returns-in-Ok-write_run-clause-steps g c accepted =
+    let is = c.in-Ok-new.ensures in
+    same_wakes (or_player any) c.args.n c.args.steps.now c.write_run.new.steps _ _ _ _ _ _
+    (ap (λ (x : BoardView PlayedPart). x.wiring) is) (ap (λ (x : BoardView PlayedPart). x.inputs) is)
+    (ap (λ (x : BoardView PlayedPart). map state_of x.parts) is ∙ rw c.as_slice.ensures at c.in-Ok.ensures.states)
+    (c.in-Ok-write_run.ensures.steps refl)
