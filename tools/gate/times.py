@@ -1,5 +1,5 @@
 #!/usr/bin/env python3
-"""Runs a command, as `tools/gate/times.py rt ci --anew`, and says at its end what the prover took in it.
+"""Runs a command, as `tools/gate/times.py rt ci`, and says at its end what the prover took in it.
 
 The toolchain prints no times. Each second the processor time (user and system) of the prover's processes below the
 command is read from /proc. The table, in the form of Markdown, has a row for each crate in processor seconds: its
