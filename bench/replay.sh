@@ -37,7 +37,7 @@ cat >diagram.json <<'JSON'
 JSON
 
 limited run . --us 1000 --vcd wave.vcd
-us=$((1000 * 16000000 / $(stat -c %s wave.vcd)))
+us=$((1000 * 14500000 / $(stat -c %s wave.vcd))) # the times of a longer wave have more digits
 limited run . --us $us --vcd wave.vcd
 limited replay . wave.vcd --us $us --vcd played.vcd
 cmp wave.vcd played.vcd
