@@ -1,6 +1,6 @@
 #!/bin/sh
-# The program on the real system: files that are missing, cannot be read or are folders; outputs that cannot be made or
-# written, and a good run whose file is compared byte for byte. Each with its status and its line on standard error.
+# The program on the real system: files that are missing, cannot be read or are folders; a word that is no text; outputs that cannot
+# be made or written, and a good run whose file is compared byte for byte. Each with its status and its line on standard error.
 # Ends with 1 where one ends otherwise. PROGRAM is the program to try, ./mudflatjar if it is not set.
 here=$(cd "$(dirname "$0")" && pwd)
 program=${PROGRAM:-$here/../mudflatjar}
@@ -70,6 +70,8 @@ try run q --us 1 --vcd w.vcd
 ends "a folder that is not there" 4 "q/wokwi.toml: missing"
 try bare none.hex --us 1
 ends "a file that is not there" 4 "none.hex: missing"
+try bare p/blink.hex --us 1 "$(printf '\377')"
+ends "a word that is not UTF-8" 2 "words not understood"
 try bare p --us 1
 ends "a folder in place of a file" 5 "p: read failed"
 mkdir -p r/diagram.json && cp p/wokwi.toml p/blink.hex r
