@@ -232,7 +232,7 @@ module _ {S P : Type 0} (m : Machine S) (laws : Laws m) (w : Wiring) (state : P 
 
   -- the invariant after it
   pub alone_lags : (changed : Bool) (d : Option ℕ) (ds : List Drive) (cs : List Bool) → IsTold m (map state new) (retold kept.seen ds cs).circuit → IsFirstDue m (state q0) (now q0) d → (changed ≡ false → m.drives (state q0) ≡ m.drives s0) → (changed ≡ false → m.contacts (state q0) ≡ m.contacts s0) →
-      Lags m w state now wakes u new (record { input = kept.input; stale = changed; dues = slice_set kept.dues who d; own = kept.own; seen = retold kept.seen ds cs; answers = kept.answers })
+      Lags m w state now wakes u new (record { input = kept.input; stale = changed; dues = slice_set kept.dues who d; seen = retold kept.seen ds cs; answers = kept.answers })
   alone_lags changed d ds cs told first drives contacts =
       let room : who < length kept.dues = omega (arith, inside, lags.dues_long) in
       let due = due_set m state now wakes parts kept.dues who q0 d inside room (λ k p e ep ee. (lags.may k p e ep ee).first) first in
@@ -254,7 +254,6 @@ module _ {S P : Type 0} (m : Machine S) (laws : Laws m) (w : Wiring) (state : P 
         valid = λ k z ez. (after_is k (before k z ez).0 z (before k z ez).1 ez).stands.valid;
         dues_long = length-set kept.dues who d ∙ lags.dues_long ∙ sym new_long;
         answers_long = lags.answers_long ∙ sym new_long;
-        own_long = lags.own_long;
         silent = lags.silent;
         fits = fits_room m w (map state parts) (map state new) longer same_room lags.fits;
         suits = retold_suits m w (map state new) kept.seen ds cs (fits_room m w (map state parts) (map state new) longer same_room lags.fits) lags.suits told;
@@ -287,7 +286,7 @@ module _ {S P : Type 0} (m : Machine S) (laws : Laws m) (w : Wiring) (state : P 
   pub alone_goes : (t u limit : ℕ) (parts new : List P) (kept : Kept) (after : List (Option ℕ)) (changed : Bool) (steps more who : ℕ) (p q : P) (d : Option ℕ) (ds : List Drive) (cs : List Bool) → IsTold m (map state new) (retold kept.seen ds cs).circuit →
       Lags m w state now wakes t parts kept → kept.stale ≡ false → 0 < t → u ≤ limit → limit ≤ MOST_CYCLES → IsAlone inputs kept.dues kept.input who t limit →
       WentAlone m state now wakes who t u parts new kept.dues after changed steps more p q d →
-      Goes t u parts new kept (record { input = kept.input; stale = changed; dues = after; own = kept.own; seen = retold kept.seen ds cs; answers = kept.answers }) steps more (sent m (glided m state now wakes t p) t (u - t))
+      Goes t u parts new kept (record { input = kept.input; stale = changed; dues = after; seen = retold kept.seen ds cs; answers = kept.answers }) steps more (sent m (glided m state now wakes t p) t (u - t))
   alone_goes t u limit parts new kept after changed steps more who p q d ds cs told lags fresh later within end alone went =
       let further = went.further in
       let order : t ≤ u = omega (arith, further) in
@@ -297,12 +296,12 @@ module _ {S P : Type 0} (m : Machine S) (laws : Laws m) (w : Wiring) (state : P 
       let ed : slice_get kept.dues k ≡ Some (get_or kept.dues k None) = get_within kept.dues k None inside in
       quiet_until m state now wakes t u (get_or kept.dues k None) x order last (lags.may k x (get_or kept.dues k None) ex ed) (λ v e l. let far = alone.others k v other (ed ∙ ap Some e) in omega (arith, far, within)) in
       let silent : (v k : ℕ) → t ≤ v → v < u → input_at inputs v k ≡ None = λ v k from before. alone.silent v k from (omega (arith, before, within)) in
-      let here : Goes t u parts (slice_set parts who q) kept (record { input = kept.input; stale = changed; dues = slice_set kept.dues who d; own = kept.own; seen = retold kept.seen ds cs; answers = kept.answers }) steps more (sent m (glided m state now wakes t p) t (u - t)) = record {
+      let here : Goes t u parts (slice_set parts who q) kept (record { input = kept.input; stale = changed; dues = slice_set kept.dues who d; seen = retold kept.seen ds cs; answers = kept.answers }) steps more (sent m (glided m state now wakes t p) t (u - t)) = record {
         leg = alone_leg m laws w state now wakes inputs t u parts kept lags fresh later order who p q went.here quiet silent went.same went.state_is went.now_is went.woken_is ds cs steps more went.steps_are;
         lags = alone_lags m laws w state now wakes inputs t u parts kept lags fresh later order who p q went.here quiet silent went.same went.state_is went.now_is went.woken_is changed d ds cs (subst (λ (xs : List P). IsTold m (map state xs) (retold kept.seen ds cs).circuit) went.new_is told) went.first went.drives went.contacts;
         row_none = alone_rows m laws w state now wakes inputs t u parts kept lags fresh later order who p q went.here quiet silent went.same went.state_is went.now_is went.woken_is;
         bytes_are = alone_bytes m laws w state now wakes inputs t u parts kept lags fresh later order who p q went.here quiet silent went.same went.state_is went.now_is went.woken_is;
         rests = steady m laws w state now wakes inputs t u parts kept lags fresh later order who p q went.here quiet silent went.same went.state_is went.now_is went.woken_is;
       } in
-      subst (λ (xs : List P). Goes t u parts xs kept (record { input = kept.input; stale = changed; dues = after; own = kept.own; seen = retold kept.seen ds cs; answers = kept.answers }) steps more (sent m (glided m state now wakes t p) t (u - t))) (sym went.new_is)
-      (subst (λ (xs : List (Option ℕ)). Goes t u parts (slice_set parts who q) kept (record { input = kept.input; stale = changed; dues = xs; own = kept.own; seen = retold kept.seen ds cs; answers = kept.answers }) steps more (sent m (glided m state now wakes t p) t (u - t))) (sym went.dues_are) here)
+      subst (λ (xs : List P). Goes t u parts xs kept (record { input = kept.input; stale = changed; dues = after; seen = retold kept.seen ds cs; answers = kept.answers }) steps more (sent m (glided m state now wakes t p) t (u - t))) (sym went.new_is)
+      (subst (λ (xs : List (Option ℕ)). Goes t u parts (slice_set parts who q) kept (record { input = kept.input; stale = changed; dues = xs; seen = retold kept.seen ds cs; answers = kept.answers }) steps more (sent m (glided m state now wakes t p) t (u - t))) (sym went.dues_are) here)

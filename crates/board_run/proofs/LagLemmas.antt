@@ -178,9 +178,9 @@ module _ {S P : Type 0} (m : Machine S) (laws : Laws m) (w : Wiring) (state : P 
         )
 
     -- the invariant at the next cycle
-    pub event_lags : (j : ℕ) (dues after : List (Option ℕ)) (own : List Level) (ds : List Drive) (cs : List Bool) → length old ≤ 64 → Fits m w (map state old) → length dues ≡ length old → length after ≡ length old → length own ≡ length w.net_of → AreDue m state now wakes new dues →
-        AreNone after → IsTold m (map state new) (retold seen ds cs).circuit → Lags m w state now wakes (t + 1) new (record { input = j; stale = changed; dues = dues; own = own; seen = retold seen ds cs; answers = after })
-    event_lags j dues after own ds cs few fits dues_long answers_long own_long due silent told =
+    pub event_lags : (j : ℕ) (dues after : List (Option ℕ)) (ds : List Drive) (cs : List Bool) → length old ≤ 64 → Fits m w (map state old) → length dues ≡ length old → length after ≡ length old → AreDue m state now wakes new dues →
+        AreNone after → IsTold m (map state new) (retold seen ds cs).circuit → Lags m w state now wakes (t + 1) new (record { input = j; stale = changed; dues = dues; seen = retold seen ds cs; answers = after })
+    event_lags j dues after ds cs few fits dues_long answers_long due silent told =
         let longer : length (map state old) ≡ length (map state new) = simp length-map (sym long) in
         record {
           few = subst (λ n. n ≤ 64) (sym long) few;
@@ -190,7 +190,6 @@ module _ {S P : Type 0} (m : Machine S) (laws : Laws m) (w : Wiring) (state : P 
           valid = λ k q eq. (turned_from k (before k q eq).0 q (before k q eq).1 eq).stands.valid;
           dues_long = dues_long ∙ sym long;
           answers_long = answers_long ∙ sym long;
-          own_long = own_long;
           silent = silent;
           fits = fits_room m w (map state old) (map state new) longer same_room fits;
           suits = retold_suits m w (map state new) seen ds cs (fits_room m w (map state old) (map state new) longer same_room fits) suits told;

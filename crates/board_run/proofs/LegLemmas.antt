@@ -231,7 +231,6 @@ module _ {S P : Type 0} (m : Machine S) (laws : Laws m) (w : Wiring) (state : P 
       valid = lags.valid;
       dues_long = lags.dues_long;
       answers_long = lags.answers_long;
-      own_long = lags.own_long;
       silent = lags.silent;
       fits = lags.fits;
       suits = lags.suits;
@@ -376,7 +375,7 @@ module _ {S P : Type 0} (m : Machine S) (laws : Laws m) (w : Wiring) (state : P 
   -- settled parts may go on from there
   pub settled_lags : (n : ℕ) (mid new : List P) (kept : Kept) (after : List (Option ℕ)) → Lags m w state now wakes n mid kept → length new ≡ length mid → length after ≡ length kept.dues →
       ((k : ℕ) (p q : P) → slice_get mid k ≡ Some p → slice_get new k ≡ Some q → (state q ≡ glided m state now wakes n p) × (now q ≡ n) × (wakes q ≡ wakes p)) →
-      AreDue m state now wakes new after → Lags m w state now wakes n new (record { input = kept.input; stale = kept.stale; dues = after; own = kept.own; seen = kept.seen; answers = kept.answers })
+      AreDue m state now wakes new after → Lags m w state now wakes n new (record { input = kept.input; stale = kept.stale; dues = after; seen = kept.seen; answers = kept.answers })
   settled_lags n mid new kept after lags long dues_long settled due = record {
     few = subst (λ j. j ≤ 64) (sym long) lags.few;
     may = λ k q d eq ed.
@@ -397,7 +396,6 @@ module _ {S P : Type 0} (m : Machine S) (laws : Laws m) (w : Wiring) (state : P 
         subst (λ (a : ℕ). m.valid (state q) a ≡ true) (sym h.1) (ap (λ (s : S). m.valid s n) h.0 ∙ stands_valid m laws n (now x.0) (state x.0) (glided m state now wakes n x.0) (stands k x.0 x.1));
     dues_long = dues_long ∙ lags.dues_long ∙ sym long;
     answers_long = lags.answers_long ∙ sym long;
-    own_long = lags.own_long;
     silent = lags.silent;
     fits = fits_room m w (map state mid) (map state new) longer same_room lags.fits;
     suits = lags.suits;
@@ -448,9 +446,9 @@ module _ {S P : Type 0} (m : Machine S) (laws : Laws m) (w : Wiring) (state : P 
 
 -- a board at cycle 0 of which nothing was read
 pub lags_start : {S P : Type 0} (m : Machine S) (w : Wiring) (state : P → S) (now wakes : P → ℕ) (parts : List P) (kept : Kept) → kept.stale ≡ true → length parts ≤ 64 → AreFresh m state now wakes parts →
-    length kept.dues ≡ length parts → AreDue m state now wakes parts kept.dues → length kept.answers ≡ length parts → length kept.own ≡ length w.net_of → AreNone kept.answers → IsTold m (map state parts) kept.seen.circuit → Fits m w (map state parts) → Suits w kept.seen →
+    length kept.dues ≡ length parts → AreDue m state now wakes parts kept.dues → length kept.answers ≡ length parts → AreNone kept.answers → IsTold m (map state parts) kept.seen.circuit → Fits m w (map state parts) → Suits w kept.seen →
     length kept.seen.chip_drives ≡ length (chip_drives_of m w.chip (map state parts)) → Lags m w state now wakes 0 parts kept
-lags_start m w state now wakes parts kept stale few new dues_long due answers_long own_long silent told fits suits chips = record {
+lags_start m w state now wakes parts kept stale few new dues_long due answers_long silent told fits suits chips = record {
   few = few;
   may = λ k p d ep ed.
       let at = new.at_start k p ep in
@@ -459,7 +457,6 @@ lags_start m w state now wakes parts kept stale few new dues_long due answers_lo
   valid = λ k p ep. subst (λ (t : ℕ). m.valid (state p) t ≡ true) (sym (new.at_start k p ep)) (new.are_valid k p ep);
   dues_long = dues_long;
   answers_long = answers_long;
-  own_long = own_long;
   silent = silent;
   fits = fits;
   suits = suits;

@@ -1,6 +1,5 @@
 -- A board on its way whose parts lag behind: what holds at a cycle, and what a leg of the way does. No public clause cites this.
 use Rattle.std.specs.Prelude.{◌≡◌, ◌≢◌, ℕ, ◌+◌, ◌-◌, ◌<◌, ◌≤◌, List, length, map, Bool, true, false, Option, None, Some, slice_get, slice_set}
-use Rattle.sim_base.specs.declared.signal.Level.{Level}
 use Rattle.sim_base.specs.declared.wiring.Wiring.{Wiring}
 use Rattle.sim_base.specs.declared.wiring.Input.{Input}
 use Rattle.part_law.specs.Machine.{Machine, glide, dues, IsSame, IsFirstDue}
@@ -21,8 +20,6 @@ pub record Kept : Type 0 where
   pub stale : Bool
   -- the first due cycle of each part
   pub dues : List (Option ℕ)
-  -- room for the levels of the pins of a part
-  pub own : List Level
   pub seen : Seen
   pub answers : List (Option ℕ)
 
@@ -38,7 +35,6 @@ module _ {S P : Type 0} (m : Machine S) (w : Wiring) (state : P → S) (now wake
     pub valid : (k : ℕ) (p : P) → slice_get parts k ≡ Some p → m.valid (state p) (now p) ≡ true
     pub dues_long : length kept.dues ≡ length parts
     pub answers_long : length kept.answers ≡ length parts
-    pub own_long : length kept.own ≡ length w.net_of
     pub silent : AreNone kept.answers
     pub fits : Fits m w (map state parts)
     pub suits : Suits w kept.seen

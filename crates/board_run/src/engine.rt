@@ -2,7 +2,6 @@
 ghost use Rattle.std.specs.Prelude.{◌≡◌, ◌≢◌, ℕ, ◌+◌, ◌-◌, ◌<◌, ◌≤◌, List, [], length, map, true, false, Some, None, Option, slice_get};
 ghost use Rattle.sim_base.specs.Causes.{Rose};
 ghost use Rattle.sim_base.specs.Rows.{Handed, StopsWithin, IsBehind};
-ghost use Rattle.sim_base.specs.declared.signal.Level.{Level};
 ghost use Rattle.sim_base.specs.declared.wiring.Input.{Input};
 ghost use Rattle.board_model.specs.Board.{bytes, options};
 ghost use Rattle.board_model.specs.Rows.{rows};
@@ -23,7 +22,7 @@ use crate::show::{Next, show_cycle};
 use crate::turn::{Woken, wake_active};
 use event_queue::DueTree;
 use part_law::Part;
-use sim_base::{Input, Level, MOST_CYCLES, Steps, Watcher, Wiring, WriteEnd};
+use sim_base::{Input, MOST_CYCLES, Steps, Watcher, Wiring, WriteEnd};
 use std::sync::ledger::Ledger;
 
 /// Gives the parts that may be active their turn on the levels that were read.
@@ -34,7 +33,6 @@ fn turn_read<P: Part, L: Ledger>(
     wiring: &Wiring,
     reading: &mut Reading,
     differ: PartSet,
-    own: &mut [Level],
     given: &[Input],
     answers: &mut [Option<u8>],
     t: u32,
@@ -48,7 +46,6 @@ fn turn_read<P: Part, L: Ledger>(
     requires dues { length dues.old ≡ length parts.old }
     requires suits { Suits wiring.now reading.old }
     requires told { IsTold P.machine (map P.state parts.old) reading.old.circuit }
-    requires own { length own.old ≡ length wiring.now.net_of }
     requires differ { (k : ℕ) (p : _) → slice_get parts.old k ≡ Some p → has_part differ k ≡ true → 0 < t
         → P.machine.held (P.state p) ≢ levels_on P.machine wiring.now reading.old.circuit.levels k (P.state p) }
     requires answers { length answers.old ≡ length parts.old }
@@ -68,7 +65,6 @@ fn turn_read<P: Part, L: Ledger>(
         dues,
         wiring,
         differ,
-        own,
         given,
         answers,
         t,
@@ -86,7 +82,6 @@ pub(crate) fn event<P: Part, W: Watcher, L: Ledger>(
     inputs: &[Input],
     t: u32,
     reading: &mut Reading,
-    own: &mut [Level],
     answers: &mut [Option<u8>],
     out: &mut W,
     steps: &mut Steps<L>,
@@ -95,11 +90,11 @@ pub(crate) fn event<P: Part, W: Watcher, L: Ledger>(
     requires order { IsInOrder inputs.now }
     requires behind { AreBehind inputs.now next.input t }
     requires lags { Lags P.machine wiring.now P.state P.now P.wake_count t parts.old
-        (record { input = next.input; stale = next.stale; dues = dues.old; own = own.old; seen = reading.old; answers = answers.old }) }
+        (record { input = next.input; stale = next.stale; dues = dues.old; seen = reading.old; answers = answers.old }) }
     requires whole { W.whole out.old ≡ true }
     requires later { IsBehind W.last W.seen out.old t reading.old.circuit.levels }
     ensures lags { (x : Next) → result ≡ Some x → Lags P.machine wiring.now P.state P.now P.wake_count (t + 1) parts.new
-        (record { input = x.input; stale = x.stale; dues = dues.new; own = own.new; seen = reading.new; answers = answers.new }) }
+        (record { input = x.input; stale = x.stale; dues = dues.new; seen = reading.new; answers = answers.new }) }
     ensures behind { (x : Next) → result ≡ Some x → AreBehind inputs.now x.input (t + 1) }
     ensures leg { Leg P.machine wiring.now P.state P.now P.wake_count inputs.now t (t + 1) parts.old parts.new reading.old reading.new steps.old steps.new }
     ensures handed { (x : Next) → result ≡ Some x → Handed W.whole W.faults W.stands out.old out.new
@@ -120,7 +115,6 @@ pub(crate) fn event<P: Part, W: Watcher, L: Ledger>(
         wiring,
         reading,
         differ,
-        own,
         &inputs[next.input..end],
         answers,
         t,

@@ -18,7 +18,7 @@ use crate::reading::Reading;
 use crate::show::Next;
 use event_queue::DueTree;
 use part_law::Part;
-use sim_base::{Input, Level, MOST_CYCLES, Steps, Watcher, Wiring};
+use sim_base::{Input, MOST_CYCLES, Steps, Watcher, Wiring};
 use std::sync::ledger::Ledger;
 
 /// The due cycle if it is before n, and else n.
@@ -151,7 +151,6 @@ fn event_and_jump<P: Part, W: Watcher, L: Ledger>(
     t: u32,
     n: u32,
     reading: &mut Reading,
-    own: &mut [Level],
     answers: &mut [Option<u8>],
     out: &mut W,
     steps: &mut Steps<L>,
@@ -161,13 +160,13 @@ fn event_and_jump<P: Part, W: Watcher, L: Ledger>(
     requires order { IsInOrder inputs.now }
     requires behind { AreBehind inputs.now next.input t }
     requires lags { Lags P.machine wiring.now P.state P.now P.wake_count t parts.old
-        (record { input = next.input; stale = next.stale; dues = dues.old; own = own.old; seen = reading.old; answers = answers.old }) }
+        (record { input = next.input; stale = next.stale; dues = dues.old; seen = reading.old; answers = answers.old }) }
     requires whole { W.whole out.old ≡ true }
     requires later { IsBehind W.last W.seen out.old t reading.old.circuit.levels }
     ensures from { (x : Next × ℕ) → result ≡ Some x → t < x.1 }
     ensures within { (x : Next × ℕ) → result ≡ Some x → x.1 ≤ n }
     ensures lags { (x : Next × ℕ) → result ≡ Some x → Lags P.machine wiring.now P.state P.now P.wake_count x.1 parts.new
-        (record { input = x.0.input; stale = x.0.stale; dues = dues.new; own = own.new; seen = reading.new; answers = answers.new }) }
+        (record { input = x.0.input; stale = x.0.stale; dues = dues.new; seen = reading.new; answers = answers.new }) }
     ensures behind { (x : Next × ℕ) → result ≡ Some x → AreBehind inputs.now x.0.input x.1 }
     ensures leg { (x : Next × ℕ) → result ≡ Some x → Leg P.machine wiring.now P.state P.now P.wake_count inputs.now t x.1 parts.old parts.new reading.old reading.new steps.old steps.new }
     ensures handed { (x : Next × ℕ) → result ≡ Some x → Handed W.whole W.faults W.stands out.old out.new
@@ -182,7 +181,7 @@ fn event_and_jump<P: Part, W: Watcher, L: Ledger>(
     ensures place { W.place out.new ≡ W.place out.old }
 {
     match event(
-        next, parts, dues, wiring, inputs, t, reading, own, answers, out, steps,
+        next, parts, dues, wiring, inputs, t, reading, answers, out, steps,
     ) {
         Some(after) => {
             let u = next_cycle(after.stale, dues, inputs, after.input, t + 1, n);
@@ -202,7 +201,6 @@ fn advance<P: Part, W: Watcher, L: Ledger>(
     t: u32,
     n: u32,
     reading: &mut Reading,
-    own: &mut [Level],
     answers: &mut [Option<u8>],
     out: &mut W,
     steps: &mut Steps<L>,
@@ -212,13 +210,13 @@ fn advance<P: Part, W: Watcher, L: Ledger>(
     requires order { IsInOrder inputs.now }
     requires behind { AreBehind inputs.now next.input t }
     requires lags { Lags P.machine wiring.now P.state P.now P.wake_count t parts.old
-        (record { input = next.input; stale = next.stale; dues = dues.old; own = own.old; seen = reading.old; answers = answers.old }) }
+        (record { input = next.input; stale = next.stale; dues = dues.old; seen = reading.old; answers = answers.old }) }
     requires whole { W.whole out.old ≡ true }
     requires later { IsBehind W.last W.seen out.old t reading.old.circuit.levels }
     ensures from { (x : Next × ℕ) → result ≡ Some x → t < x.1 }
     ensures within { (x : Next × ℕ) → result ≡ Some x → x.1 ≤ n }
     ensures lags { (x : Next × ℕ) → result ≡ Some x → Lags P.machine wiring.now P.state P.now P.wake_count x.1 parts.new
-        (record { input = x.0.input; stale = x.0.stale; dues = dues.new; own = own.new; seen = reading.new; answers = answers.new }) }
+        (record { input = x.0.input; stale = x.0.stale; dues = dues.new; seen = reading.new; answers = answers.new }) }
     ensures behind { (x : Next × ℕ) → result ≡ Some x → AreBehind inputs.now x.0.input x.1 }
     ensures leg { (x : Next × ℕ) → result ≡ Some x → Leg P.machine wiring.now P.state P.now P.wake_count inputs.now t x.1 parts.old parts.new reading.old reading.new steps.old steps.new }
     ensures handed { (x : Next × ℕ) → result ≡ Some x → Handed W.whole W.faults W.stands out.old out.new
@@ -246,7 +244,7 @@ fn advance<P: Part, W: Watcher, L: Ledger>(
             None => None,
         },
         None => event_and_jump(
-            next, parts, dues, wiring, inputs, t, n, reading, own, answers, out, steps,
+            next, parts, dues, wiring, inputs, t, n, reading, answers, out, steps,
         ),
     }
 }
@@ -261,7 +259,6 @@ fn run_legs<P: Part, W: Watcher, L: Ledger>(
     from: u32,
     n: u32,
     reading: &mut Reading,
-    own: &mut [Level],
     answers: &mut [Option<u8>],
     out: &mut W,
     steps: &mut Steps<L>,
@@ -271,11 +268,11 @@ fn run_legs<P: Part, W: Watcher, L: Ledger>(
     requires order { IsInOrder inputs.now }
     requires behind { AreBehind inputs.now next.input from }
     requires lags { Lags P.machine wiring.now P.state P.now P.wake_count from parts.old
-        (record { input = next.input; stale = next.stale; dues = dues.old; own = own.old; seen = reading.old; answers = answers.old }) }
+        (record { input = next.input; stale = next.stale; dues = dues.old; seen = reading.old; answers = answers.old }) }
     requires whole { W.whole out.old ≡ true }
     requires later { IsBehind W.last W.seen out.old from reading.old.circuit.levels }
     ensures lags { (x : Next) → result ≡ Some x → Lags P.machine wiring.now P.state P.now P.wake_count n parts.new
-        (record { input = x.input; stale = x.stale; dues = dues.new; own = own.new; seen = reading.new; answers = answers.new }) }
+        (record { input = x.input; stale = x.stale; dues = dues.new; seen = reading.new; answers = answers.new }) }
     ensures behind { (x : Next) → result ≡ Some x → AreBehind inputs.now x.input n }
     ensures leg { (x : Next) → result ≡ Some x → Leg P.machine wiring.now P.state P.now P.wake_count inputs.now from n parts.old parts.new reading.old reading.new steps.old steps.new }
     ensures handed { (x : Next) → result ≡ Some x → Handed W.whole W.faults W.stands out.old out.new
@@ -293,7 +290,7 @@ fn run_legs<P: Part, W: Watcher, L: Ledger>(
     let mut t = from;
     while t < n {
         match advance(
-            at, parts, dues, wiring, inputs, t, n, reading, own, answers, out, steps,
+            at, parts, dues, wiring, inputs, t, n, reading, answers, out, steps,
         ) {
             Some((after, u)) => {
                 at = after;
@@ -348,7 +345,6 @@ pub(crate) fn run_jumping<P: Part, W: Watcher, L: Ledger>(
     from: u32,
     n: u32,
     reading: &mut Reading,
-    own: &mut [Level],
     answers: &mut [Option<u8>],
     out: &mut W,
     steps: &mut Steps<L>,
@@ -359,12 +355,12 @@ pub(crate) fn run_jumping<P: Part, W: Watcher, L: Ledger>(
     requires behind { AreBehind inputs.now next.input from }
     requires at { AreAt P.now from parts.old }
     requires lags { Lags P.machine wiring.now P.state P.now P.wake_count from parts.old
-        (record { input = next.input; stale = next.stale; dues = dues.old; own = own.old; seen = reading.old; answers = answers.old }) }
+        (record { input = next.input; stale = next.stale; dues = dues.old; seen = reading.old; answers = answers.old }) }
     requires whole { W.whole out.old ≡ true }
     requires later { IsBehind W.last W.seen out.old from reading.old.circuit.levels }
     ensures states { (x : Next) → result ≡ Some x → map P.state parts.new ≡ states P.machine wiring.now inputs.now (map P.state parts.old) from (n - from) }
     ensures lags { (x : Next) → result ≡ Some x → Lags P.machine wiring.now P.state P.now P.wake_count n parts.new
-        (record { input = x.input; stale = x.stale; dues = dues.new; own = own.new; seen = reading.new; answers = answers.new }) }
+        (record { input = x.input; stale = x.stale; dues = dues.new; seen = reading.new; answers = answers.new }) }
     ensures at { (x : Next) → result ≡ Some x → AreAt P.now n parts.new }
     ensures behind { (x : Next) → result ≡ Some x → AreBehind inputs.now x.input n }
     ensures before { (x : Next) → result ≡ Some x → shown_before P.machine wiring.now inputs.now (shown_at from reading.old) (map P.state parts.old) from (n - from) ≡ shown_at n reading.new }
@@ -385,7 +381,7 @@ pub(crate) fn run_jumping<P: Part, W: Watcher, L: Ledger>(
     ensures place { W.place out.new ≡ W.place out.old }
 {
     match run_legs(
-        next, parts, dues, wiring, inputs, from, n, reading, own, answers, out, steps,
+        next, parts, dues, wiring, inputs, from, n, reading, answers, out, steps,
     ) {
         Some(after) => {
             settle_all(parts, dues, n);

@@ -16,7 +16,7 @@ use crate::show::Next;
 use crate::unwatched::Unwatched;
 use event_queue::DueTree;
 use part_law::Part;
-use sim_base::{Input, Level, MOST_CYCLES, Steps, Wiring};
+use sim_base::{Input, MOST_CYCLES, Steps, Wiring};
 use std::sync::ledger::Ledger;
 
 /// Goes on from cycle t, not after n, by one stretch in which nothing new is shown: of one part by itself, or of no part. It
@@ -30,7 +30,6 @@ fn rest<P: Part, L: Ledger>(
     t: u32,
     n: u32,
     reading: &mut Reading,
-    own: &[Level],
     answers: &[Option<u8>],
     steps: &mut Steps<L>,
 ) -> (Next, u32)
@@ -39,11 +38,11 @@ fn rest<P: Part, L: Ledger>(
     requires order { IsInOrder inputs.now }
     requires behind { AreBehind inputs.now next.input t }
     requires lags { Lags P.machine wiring.now P.state P.now P.wake_count t parts.old
-        (record { input = next.input; stale = next.stale; dues = dues.old; own = own.now; seen = reading.old; answers = answers.now }) }
+        (record { input = next.input; stale = next.stale; dues = dues.old; seen = reading.old; answers = answers.now }) }
     ensures from { t ≤ result.1 }
     ensures within { result.1 ≤ n }
     ensures lags { Lags P.machine wiring.now P.state P.now P.wake_count result.1 parts.new
-        (record { input = result.0.input; stale = result.0.stale; dues = dues.new; own = own.now; seen = reading.new; answers = answers.now }) }
+        (record { input = result.0.input; stale = result.0.stale; dues = dues.new; seen = reading.new; answers = answers.now }) }
     ensures behind { AreBehind inputs.now result.0.input result.1 }
     ensures leg { Leg P.machine wiring.now P.state P.now P.wake_count inputs.now t result.1 parts.old parts.new reading.old reading.new steps.old steps.new }
     ensures steady { t < result.1 → IsSteady P.machine wiring.now inputs.now (map (glided P.machine P.state P.now P.wake_count t) parts.old) t (result.1 - t) }
@@ -79,7 +78,6 @@ pub(crate) fn stay<P: Part, L: Ledger>(
     t: u32,
     n: u32,
     reading: &mut Reading,
-    own: &[Level],
     answers: &[Option<u8>],
     steps: &mut Steps<L>,
 ) -> (Next, u32)
@@ -89,12 +87,12 @@ pub(crate) fn stay<P: Part, L: Ledger>(
     requires behind { AreBehind inputs.now next.input t }
     requires at { AreAt P.now t parts.old }
     requires lags { Lags P.machine wiring.now P.state P.now P.wake_count t parts.old
-        (record { input = next.input; stale = next.stale; dues = dues.old; own = own.now; seen = reading.old; answers = answers.now }) }
+        (record { input = next.input; stale = next.stale; dues = dues.old; seen = reading.old; answers = answers.now }) }
     ensures from { t ≤ result.1 }
     ensures within { result.1 ≤ n }
     ensures states { map P.state parts.new ≡ states P.machine wiring.now inputs.now (map P.state parts.old) t (result.1 - t) }
     ensures lags { Lags P.machine wiring.now P.state P.now P.wake_count result.1 parts.new
-        (record { input = result.0.input; stale = result.0.stale; dues = dues.new; own = own.now; seen = reading.new; answers = answers.now }) }
+        (record { input = result.0.input; stale = result.0.stale; dues = dues.new; seen = reading.new; answers = answers.now }) }
     ensures at { AreAt P.now result.1 parts.new }
     ensures behind { AreBehind inputs.now result.0.input result.1 }
     ensures before { shown_before P.machine wiring.now inputs.now (shown_at t reading.old) (map P.state parts.old) t (result.1 - t) ≡ shown_at result.1 reading.new }
@@ -104,7 +102,7 @@ pub(crate) fn stay<P: Part, L: Ledger>(
     ensures steady { t < result.1 → IsSteady P.machine wiring.now inputs.now (map P.state parts.old) t (result.1 - t) }
 {
     let after = rest(
-        next, parts, dues, wiring, inputs, t, n, reading, own, answers, steps,
+        next, parts, dues, wiring, inputs, t, n, reading, answers, steps,
     );
     settle_all(parts, dues, after.1);
     after

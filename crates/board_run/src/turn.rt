@@ -104,6 +104,35 @@ pub fn take_turn<P: Part, L: Ledger>(
     }
 }
 
+/// The same where the levels of its pins are at hand.
+#[inline]
+fn take_turn_on<P: Part, L: Ledger>(
+    part: &mut P,
+    due: &mut Option<u32>,
+    own: &[Level],
+    differs: bool,
+    input: Option<u16>,
+    t: u32,
+    steps: &mut Steps<L>,
+) -> (Option<u8>, bool)
+    requires end { t < MOST_CYCLES }
+    requires may { MayTurn P.machine P.state P.now P.wake_count t due.old part.old }
+    requires pins { length own.now ≡ length (P.machine.drives (P.state part.old)) }
+    requires differs { differs ≡ true → 0 < t → P.machine.held (P.state part.old) ≢ own.now }
+    ensures turn { turned P.machine P.state P.now P.wake_count (to_wake due.old t input differs) t own.now input part.old part.new result.0 result.1 }
+    ensures first { IsFirstDue P.machine (P.state part.new) (P.now part.new) due.new }
+    ensures later { (u : ℕ) → due.new ≡ Some u → t < u }
+    ensures others { result.1 ≡ true → (pin : ℕ) → P.moves part.new pin ≡ false
+        → slice_get (P.machine.drives (P.state part.new)) pin ≡ slice_get (P.machine.drives (glided P.machine P.state P.now P.wake_count t part.old)) pin }
+    ensures steps { steps.new ≡ steps.old + (if to_wake due.old t input differs then 1 else 0) }
+{
+    if is_to_wake(*due, t, input, differs) {
+        wake_late(part, due, own, input, t, steps)
+    } else {
+        (None, false)
+    }
+}
+
 /// These parts and those that the script addresses.
 fn with_given(parts: PartSet, given: &[Input]) -> PartSet
     ensures { (t k : ℕ) → k < 64 → has_part result k ≡ false → (has_part parts k ≡ false) × (input_at given.now t k ≡ None) }
@@ -150,12 +179,12 @@ fn next_part(parts: PartSet, dues: &DueTree, t: u32, from: usize, end: usize) ->
 
 /// Gives each part its turn that is due, addressed by the script, or on a net whose level changed: where it is active
 /// it is woken, and the nets are told what it drives and connects. It leaves the bytes that come in answers.
+#[inline]
 pub(crate) fn wake_active<P: Part, L: Ledger>(
     parts: &mut [P],
     dues: &mut DueTree,
     wiring: &Wiring,
     differ: PartSet,
-    own: &mut [Level],
     given: &[Input],
     answers: &mut [Option<u8>],
     t: u32,
@@ -168,7 +197,6 @@ pub(crate) fn wake_active<P: Part, L: Ledger>(
     requires may { (k : ℕ) (p : _) (d : Option ℕ) → slice_get parts.old k ≡ Some p → slice_get dues.old k ≡ Some d → MayTurn P.machine P.state P.now P.wake_count t d p }
     requires valid { (k : ℕ) (p : _) → slice_get parts.old k ≡ Some p → P.machine.valid (P.state p) (P.now p) ≡ true }
     requires dues { length dues.old ≡ length parts.old }
-    requires own { length own.old ≡ length wiring.now.net_of }
     requires differ { (k : ℕ) (p : _) → slice_get parts.old k ≡ Some p → has_part differ k ≡ true → 0 < t
         → P.machine.held (P.state p) ≢ levels_on P.machine wiring.now nets.old.levels k (P.state p) }
     requires answers { length answers.old ≡ length parts.old }
@@ -185,8 +213,8 @@ pub(crate) fn wake_active<P: Part, L: Ledger>(
     ensures steps { (inputs : List Input) (ts : List P.State) → Awaits P.machine wiring.now P.state P.now given.now inputs nets.old.levels differ t parts.old ts
         → steps.new ≡ steps.old + sum_below (length parts.old) (λ k. active_in P.machine wiring.now inputs nets.old.levels t k (slice_get ts k)) }
 {
-    let net_of = wiring.net_of.as_slice();
-    let _contacts = wiring.contacts.as_slice(); // lists that are lent have lengths that numbers hold
+    let _net_of = wiring.net_of.as_slice(); // lists that are lent have lengths that numbers hold
+    let _contacts = wiring.contacts.as_slice();
     let marked = with_given(differ, given);
     let mut changed = false;
     let mut sent = false;
@@ -197,12 +225,10 @@ pub(crate) fn wake_active<P: Part, L: Ledger>(
         let pins = parts[i].pins() as usize;
         let input = find_input(given, t, i);
         let mut due = dues.due(i as u8);
-        let (byte, touched) = take_turn(
+        let (byte, touched) = take_turn_on(
             &mut parts[i],
             &mut due,
-            nets.levels(),
-            &net_of[first..first + pins],
-            &mut own[first..first + pins],
+            &nets.pin_levels()[first..first + pins],
             differ.has(i),
             input,
             t,

@@ -228,6 +228,7 @@ impl DueTree {
     }
 
     /// Part i is due in this cycle, or not at all.
+    #[inline]
     pub fn set(&mut self, i: u8, due: Option<u32>)
         requires { i < length self.old }
         ensures { self.new ≡ slice_set self.old i due }
@@ -239,6 +240,14 @@ impl DueTree {
             self.dues[i as usize] = due;
             return;
         }
+        self.renew(i, due);
+    }
+
+    /// The same for a part that may meet others.
+    fn renew(&mut self, i: u8, due: Option<u32>)
+        requires { i < length self.old }
+        ensures { self.new ≡ slice_set self.old i due }
+    {
         join(&self.dues, &mut self.best, self.alone);
         self.dues[i as usize] = due;
         replay(&self.dues, &mut self.best, i as usize);

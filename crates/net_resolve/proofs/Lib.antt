@@ -7,6 +7,7 @@ pub mod PickLemmas
 pub mod LocalLemmas
 pub mod SubcircuitLemmas
 pub mod PlaceLemmas
+pub mod PinLemmas
 pub mod CutLemmas
 pub mod MarkLemmas
 pub mod RightLemmas

@@ -1,5 +1,6 @@
 -- Lists whose items are taken from places of another, or put there.
 use Rattle.std.proofs.Common.{◌≡◌, ◌≢◌, ℕ, ◌+◌, ◌<◌, ◌≤◌, List, [], ◌∷◌, length, map, refl, ap, sym, ◌∙◌, subst, arith, inl, inr, Option, Some}
+use Rattle.std.proofs.lemmas.Bool.Decides.{eqb_tells}
 use Rattle.std.proofs.lemmas.List.{length-map}
 use Rattle.std.proofs.lemmas.Option.{slice_get_within}
 use Rattle.std.specs.Prelude.{slice_get, slice_set}
@@ -41,6 +42,26 @@ put_more from places j old new m x once put at within is = record {
   others = λ k h.
       let other : k ≢ m = λ (same : k ≡ m). h j (omega arith) (at ∙ ap Some (sym same)) in
       get_set_other new m k x other ∙ put.others k (λ i (l : i < j) e. h i (omega (arith, l)) e);
+}
+
+-- The places before j were renewed from a list, and nothing else was written.
+pub record Renewed {A : Type 0} (all : List A) (places : List ℕ) (j : ℕ) (old new : List A) : Type 0 where
+  pub there : (i k : ℕ) → i < j → slice_get places i ≡ Some k → slice_get new k ≡ slice_get all k
+  pub others : (k : ℕ) → ((i : ℕ) → i < j → slice_get places i ≡ Some k → ⊥) → slice_get new k ≡ slice_get old k
+
+pub renewed_more : {A : Type 0} (all : List A) (places : List ℕ) (j : ℕ) (old new : List A) (m : ℕ) (x : A) →
+    Renewed all places j old new → slice_get places j ≡ Some m → m < length new → slice_get all m ≡ Some x → Renewed all places (j + 1) old (slice_set new m x)
+renewed_more all places j old new m x renewed at within is = record {
+  there = λ i k l e. elim (eqb_tells k m) [
+    | inl t ↦ ap (slice_get (slice_set new m x)) t.1 ∙ get_set_same new m x within ∙ sym is ∙ ap (slice_get all) (sym t.1)
+    | inr f ↦ get_set_other new m k x f.1 ∙ elim (lt_or_eq i j l) [
+      | inl less ↦ renewed.there i k less e
+      | inr same ↦ absurd (f.1 (some_same (sym e ∙ ap (slice_get places) same ∙ at)))
+    ]
+  ];
+  others = λ k h.
+      let other : k ≢ m = λ (same : k ≡ m). h j (omega arith) (at ∙ ap Some (sym same)) in
+      get_set_other new m k x other ∙ renewed.others k (λ i (l : i < j) e. h i (omega (arith, l)) e);
 }
 
 -- items are known by being there

@@ -67,6 +67,10 @@ pub record IsSubcircuit (w : Wired) (labels : List ℕ) (q : ℕ) (s : Subcircui
   pub own_contacts_are : AreOwn s.nets w.contacts s.contacts s.own_contacts
   pub own_resistors_are : AreOwn s.nets w.resistors (picked q 0 (labels_of labels w.resistors)) s.own_resistors
 
+-- each pin on one of its nets is among its pins
+abbrev pub HasAllPins : List ℕ → SubcircuitView → Type 0
+HasAllPins net_of s = (k n : ℕ) → slice_get net_of k ≡ Some n → Lacks s.pins k → Lacks s.nets n
+
 -- the level of a net by these contacts and drives
 abbrev pub level_now : Wired → List Bool → List Drive → ℕ → Level
 level_now w closed ds n = level_of w.nets w.net_of w.contacts w.resistors closed ds n

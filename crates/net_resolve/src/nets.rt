@@ -1,12 +1,13 @@
 //! The nets of a board.
-ghost use Rattle.std.specs.Prelude.{◌≡◌, ℕ, ◌<◌, ◌≤◌, List, [], length, replicate, Some, eqb, slice_get, slice_set, slice_index, slice_index_or, IfOk, vec_len, true, false};
+ghost use Rattle.std.specs.Prelude.{◌≡◌, ℕ, ◌<◌, ◌≤◌, List, [], length, map, replicate, Some, eqb, slice_get, slice_set, slice_index, slice_index_or, IfOk, vec_len, true, false};
 ghost use Rattle.std.specs.List.{IsDistinct};
 ghost use Rattle.board_model.specs.Fits.{IsWiring};
+ghost use Rattle.board_model.specs.Board.{level_at};
 ghost use Rattle.board_model.specs.Resolve.{resolve};
 ghost use Rattle.net_resolve.specs.Circuit.{Circuit, AreChanged};
 ghost use Rattle.net_resolve.specs.Marked.{has, Noted};
 ghost use Rattle.net_resolve.specs.Wired.{Wired};
-ghost use Rattle.net_resolve.specs.Subcircuits.{SubcircuitView, IsCut, AreSubcircuits, AreRight, FitsIn};
+ghost use Rattle.net_resolve.specs.Subcircuits.{SubcircuitView, IsCut, AreSubcircuits, AreRight, FitsIn, HasAllPins};
 
 use crate::cut::{cut_all, sort};
 use crate::marks::Marks;
@@ -34,12 +35,15 @@ pub struct Nets {
     /// The subcircuits that are to be resolved again.
     marks: Marks,
     levels: Vec<Level>,
+    /// The level of each pin's net.
+    pin_levels: Vec<Level>,
     /// The nets whose levels the last resolution changed.
     changed: Marks,
 }
 
 impl Model for Nets {
-    ghost use Rattle.std.specs.Prelude.{◌≡◌, ◌≤◌, length, vec_len};
+    ghost use Rattle.std.specs.Prelude.{◌≡◌, ◌≤◌, length, map, vec_len};
+    ghost use Rattle.board_model.specs.Board.{level_at};
     ghost use Rattle.net_resolve.specs.Circuit.{Circuit};
     ghost use Rattle.net_resolve.specs.Subcircuits.{IsCut, AreSubcircuits, AreRight, unresolved};
 
@@ -66,6 +70,7 @@ impl Model for Nets {
       changed_room : a.changed.room ≡ vec_len a.levels;
       drives_long : vec_len a.drives ≡ vec_len a.net_of;
       closed_long : vec_len a.closed ≡ vec_len a.contacts;
+      pin_levels : a.pin_levels.items ≡ map (level_at a.levels.items) a.net_of.items;
     } };
 }
 
@@ -116,13 +121,15 @@ fn keep_closed(
     }
 }
 
-/// Resolves the subcircuits that are marked.
+/// Resolves the subcircuits that are marked, and keeps the levels of the pins.
 fn resolve_subcircuits(
     drives: &[Drive],
     closed: &[bool],
+    net_of: &[u16],
     marked: &[u16],
     subcircuits: &mut [Subcircuit],
     levels: &mut [Level],
+    pin_levels: &mut [Level],
     changed: &mut Marks,
 )
     requires marked { (q : ℕ) → has marked.now q ≡ true → q < length subcircuits.old }
@@ -130,14 +137,21 @@ fn resolve_subcircuits(
     requires few { length levels.old ≤ 65536 }
     requires room { changed.old.room ≡ length levels.old }
     requires fits { (q : ℕ) (s : SubcircuitView) → slice_get subcircuits.old q ≡ Some s → FitsIn (length drives.now) (length closed.now) (length levels.old) s }
+    requires each { length net_of.now ≡ length drives.now }
+    requires nets { (k n : ℕ) → slice_get net_of.now k ≡ Some n → n < length levels.old }
+    requires whole { (q : ℕ) (s : SubcircuitView) → slice_get subcircuits.old q ≡ Some s → HasAllPins net_of.now s }
+    requires pin_levels { pin_levels.old ≡ map (level_at levels.old) net_of.now }
     ensures same { subcircuits.new ≡ subcircuits.old }
     ensures room { changed.new.room ≡ changed.old.room }
     ensures right { (w : Wired) (labels : List ℕ) → IsCut w labels → AreSubcircuits w labels subcircuits.old → length closed.now ≡ length w.contacts → length drives.now ≡ length w.net_of →
         AreRight w labels marked.now closed.now drives.now levels.old → AreRight w labels [] closed.now drives.now levels.new }
     ensures changed { (w : Wired) (labels : List ℕ) → IsCut w labels → AreSubcircuits w labels subcircuits.old → length levels.old ≡ w.nets → changed.old.marked ≡ [] → AreChanged levels.old levels.new changed.new.marked }
+    ensures pin_levels { pin_levels.new ≡ map (level_at levels.new) net_of.now }
 {
     for i in 0..marked.len() {
-        subcircuits[marked[i] as usize].resolve(drives, closed, levels, changed);
+        subcircuits[marked[i] as usize].resolve(
+            drives, closed, net_of, levels, pin_levels, changed,
+        );
     }
 }
 
@@ -169,6 +183,7 @@ impl Nets {
             closed: no_flags(alloc, wiring.contacts.len())?,
             marks: Marks::all(alloc, wiring.nets)?,
             levels: all_z(alloc, count)?,
+            pin_levels: all_z(alloc, wiring.net_of.len())?,
             changed: Marks::new(alloc, wiring.nets)?,
         })
     }
@@ -213,9 +228,11 @@ impl Nets {
         resolve_subcircuits(
             &self.drives,
             &self.closed,
+            &self.net_of,
             self.marks.marked(),
             &mut self.subcircuits,
             &mut self.levels,
+            &mut self.pin_levels,
             &mut self.changed,
         );
         self.marks.clear();
@@ -251,6 +268,14 @@ impl Nets {
         ensures nets { length result.now ≡ self.now.nets }
     {
         &self.levels
+    }
+
+    /// The level of each pin's net.
+    pub fn pin_levels(&self) -> &[Level]
+        ensures levels { result.now ≡ map (level_at self.now.levels) self.now.net_of }
+        ensures pins { length result.now ≡ length self.now.net_of }
+    {
+        &self.pin_levels
     }
 
     /// The nets whose levels the last resolution changed.

@@ -1,9 +1,10 @@
 //! Nets that no contact and no resistor connects with others: their levels are found alone.
-ghost use Rattle.std.specs.Prelude.{◌≡◌, ◌≢◌, ℕ, ◌<◌, ◌≤◌, List, length, map, Some, slice_get, slice_set, IfOk, vec_len, Bool, true, false};
+ghost use Rattle.std.specs.Prelude.{◌≡◌, ◌≢◌, ℕ, ◌<◌, ◌≤◌, List, length, map, Some, slice_get, slice_set, slice_index, IfOk, vec_len, Bool, true, false};
 ghost use Rattle.sim_base.specs.declared.signal.Drive.{Drive};
 ghost use Rattle.board_model.specs.Resolve.{resolve};
 ghost use Rattle.net_resolve.specs.Marked.{Moves};
-ghost use Rattle.net_resolve.specs.Subcircuits.{SubcircuitView, Lacks, AreOnce};
+ghost use Rattle.board_model.specs.Board.{level_at};
+ghost use Rattle.net_resolve.specs.Subcircuits.{SubcircuitView, Lacks, AreOnce, HasAllPins};
 ghost use Rattle.net_resolve.specs.Resolutions.{IsResolution};
 
 use crate::marks::Marks;
@@ -93,6 +94,30 @@ fn scatter(levels: &[Level], places: &[usize], into: &mut [Level], changed: &mut
 {
     for j in 0..places.len() {
         put_level(levels[j], places[j], into, changed);
+    }
+}
+
+/// Puts the level of a pin's net in the pin's place.
+#[inline]
+fn put_pin(pin: usize, net_of: &[u16], levels: &[Level], into: &mut [Level])
+    requires pin { pin < length net_of.now }
+    requires nets { (k n : ℕ) → slice_get net_of.now k ≡ Some n → n < length levels.now }
+    requires room { length into.old ≡ length net_of.now }
+    ensures { into.new ≡ slice_set into.old pin (level_at levels.now (slice_index net_of.now pin)) }
+{
+    into[pin] = levels[net_of[pin] as usize];
+}
+
+/// Puts the level of its net in the place of each of these pins.
+fn put_pins(pins: &[usize], net_of: &[u16], levels: &[Level], into: &mut [Level])
+    requires pins { (j k : ℕ) → slice_get pins.now j ≡ Some k → k < length net_of.now }
+    requires nets { (k n : ℕ) → slice_get net_of.now k ≡ Some n → n < length levels.now }
+    requires room { length into.old ≡ length net_of.now }
+    ensures put { (j k : ℕ) → slice_get pins.now j ≡ Some k → slice_get into.new k ≡ slice_get (map (level_at levels.now) net_of.now) k }
+    ensures others { (k : ℕ) → Lacks pins.now k → slice_get into.new k ≡ slice_get into.old k }
+{
+    for j in 0..pins.len() {
+        put_pin(pins[j], net_of, levels, into);
     }
 }
 
@@ -195,12 +220,14 @@ impl Subcircuit {
     }
 
     /// Finds the levels of its nets, by what the pins of the board drive and which contacts are closed,
-    /// and marks the nets whose levels change.
+    /// marks the nets whose levels change, and keeps the levels of the pins, which are those of their nets.
     pub(crate) fn resolve(
         &mut self,
         drives: &[Drive],
         closed: &[bool],
+        net_of: &[u16],
         levels: &mut [Level],
+        pin_levels: &mut [Level],
         changed: &mut Marks,
     )
         requires pins { (j k : ℕ) → slice_get self.old.pins j ≡ Some k → k < length drives.now }
@@ -209,12 +236,17 @@ impl Subcircuit {
         requires once { AreOnce self.old.nets }
         requires few { length levels.old ≤ 65536 }
         requires room { changed.old.room ≡ length levels.old }
+        requires each { length net_of.now ≡ length drives.now }
+        requires within { (k n : ℕ) → slice_get net_of.now k ≡ Some n → n < length levels.old }
+        requires whole { HasAllPins net_of.now self.old }
+        requires pin_levels { pin_levels.old ≡ map (level_at levels.old) net_of.now }
         ensures same { self.new ≡ self.old }
         ensures put { (own_closed : List Bool) (own_drives : List Drive) → map Some own_closed ≡ map (slice_get closed.now) self.old.contacts → map Some own_drives ≡ map (slice_get drives.now) self.old.pins →
             (j n : ℕ) → slice_get self.old.nets j ≡ Some n → slice_get levels.new n ≡ slice_get (resolve (length self.old.nets) self.old.own_nets self.old.own_contacts self.old.own_resistors own_closed own_drives) j }
         ensures others { (n : ℕ) → Lacks self.old.nets n → slice_get levels.new n ≡ slice_get levels.old n }
         ensures room { changed.new.room ≡ changed.old.room }
         ensures moves { Moves levels.old levels.new changed.old.marked changed.new.marked }
+        ensures pin_levels { pin_levels.new ≡ map (level_at levels.new) net_of.now }
     {
         mem::swap(&mut self.last, &mut self.before);
         resolve_unless_known(
@@ -226,5 +258,6 @@ impl Subcircuit {
             &mut self.whole,
         );
         scatter(&self.last.levels, &self.nets, levels, changed);
+        put_pins(&self.pins, net_of, levels, pin_levels);
     }
 }

@@ -12,7 +12,7 @@ pub turn_read-woken-requires-clause-differ : goal.turn_read-woken-requires-claus
 turn_read-woken-requires-clause-differ g c =
     let p = g.P.Part in
     let s = c.show_cycle-shown.ensures in
-    let kept : Kept = record { input = c.args.next.input; stale = c.args.next.stale; dues = c.args.dues.now; own = c.args.own.now; seen = c.args.reading.now; answers = c.args.answers.now } in
+    let kept : Kept = record { input = c.args.next.input; stale = c.args.next.stale; dues = c.args.dues.now; seen = c.args.reading.now; answers = c.args.answers.now } in
     lags_differ p.machine g.met.P.Part.laws c.args.wiring.now p.state p.now p.wake_count c.args.t c.args.parts.now kept c.show_cycle-shown.new.reading c.show_cycle-shown.result.1 c.requires.lags s.differ
 
 pub returns-in-Ok-hand_sent-clause-lags : goal.returns-in-Ok-hand_sent-clause-lags
@@ -27,16 +27,15 @@ returns-in-Ok-hand_sent-clause-lags g c = λ x ex.
     let e = c.turn_read-woken in
     let seen = c.show_cycle-shown.new.reading in
     let s = c.show_cycle-shown.ensures in
-    let kept : Kept = record { input = c.args.next.input; stale = c.args.next.stale; dues = c.args.dues.now; own = c.args.own.now; seen = c.args.reading.now; answers = c.args.answers.now } in
+    let kept : Kept = record { input = c.args.next.input; stale = c.args.next.stale; dues = c.args.dues.now; seen = c.args.reading.now; answers = c.args.answers.now } in
     let like = lags_stand m laws w p.state p.now p.wake_count t old kept c.requires.lags in
     let awaits = lags_await m laws w p.state p.now p.wake_count inputs t c.args.next.input c.end_of_cycle-end.result old kept seen c.show_cycle-shown.result.1 c.requires.lags s.differ
     c.end_of_cycle-end.ensures.from c.requires.behind c.end_of_cycle-end.ensures.behind in
     let turns = e.ensures.turns inputs (map (glided m p.state p.now p.wake_count t) old) awaits in
     let answers_long = c.hand_sent.auto.answers ∙ e.auto.answers ∙ c.requires.lags.answers_long in
-    let own_long = e.auto.own ∙ c.requires.lags.own_long in
-    subst (λ (n : Next). Lags m w p.state p.now p.wake_count (t + 1) e.new.parts (record { input = n.input; stale = n.stale; dues = e.new.dues; own = e.new.own; seen = e.new.reading; answers = c.hand_sent.new.answers })) (some_same ex)
-    (subst (λ (z : Seen). Lags m w p.state p.now p.wake_count (t + 1) e.new.parts (record { input = c.end_of_cycle-end.result; stale = e.result.changed; dues = e.new.dues; own = e.new.own; seen = z; answers = c.hand_sent.new.answers })) (sym e.ensures.rest)
-    (event_lags m laws w p.state p.now p.wake_count inputs t old e.new.parts seen e.new.answers e.result.changed e.auto.parts s.of s.suits like turns c.end_of_cycle-end.result e.new.dues c.hand_sent.new.answers e.new.own e.new.reading.circuit.drives e.new.reading.circuit.closed c.requires.lags.few c.requires.lags.fits (e.ensures.dues ∙ c.requires.lags.dues_long) answers_long own_long e.ensures.due c.hand_sent.ensures.none (record { drives_are = e.ensures.told.drives_are; closed_are = e.ensures.told.closed_are })))
+    subst (λ (n : Next). Lags m w p.state p.now p.wake_count (t + 1) e.new.parts (record { input = n.input; stale = n.stale; dues = e.new.dues; seen = e.new.reading; answers = c.hand_sent.new.answers })) (some_same ex)
+    (subst (λ (z : Seen). Lags m w p.state p.now p.wake_count (t + 1) e.new.parts (record { input = c.end_of_cycle-end.result; stale = e.result.changed; dues = e.new.dues; seen = z; answers = c.hand_sent.new.answers })) (sym e.ensures.rest)
+    (event_lags m laws w p.state p.now p.wake_count inputs t old e.new.parts seen e.new.answers e.result.changed e.auto.parts s.of s.suits like turns c.end_of_cycle-end.result e.new.dues c.hand_sent.new.answers e.new.reading.circuit.drives e.new.reading.circuit.closed c.requires.lags.few c.requires.lags.fits (e.ensures.dues ∙ c.requires.lags.dues_long) answers_long e.ensures.due c.hand_sent.ensures.none (record { drives_are = e.ensures.told.drives_are; closed_are = e.ensures.told.closed_are })))
 
 pub returns-in-Ok-hand_sent-clause-leg : goal.returns-in-Ok-hand_sent-clause-leg
 returns-in-Ok-hand_sent-clause-leg g c =
@@ -50,7 +49,7 @@ returns-in-Ok-hand_sent-clause-leg g c =
     let e = c.turn_read-woken in
     let seen = c.show_cycle-shown.new.reading in
     let s = c.show_cycle-shown.ensures in
-    let kept : Kept = record { input = c.args.next.input; stale = c.args.next.stale; dues = c.args.dues.now; own = c.args.own.now; seen = c.args.reading.now; answers = c.args.answers.now } in
+    let kept : Kept = record { input = c.args.next.input; stale = c.args.next.stale; dues = c.args.dues.now; seen = c.args.reading.now; answers = c.args.answers.now } in
     let like = lags_stand m laws w p.state p.now p.wake_count t old kept c.requires.lags in
     let awaits = lags_await m laws w p.state p.now p.wake_count inputs t c.args.next.input c.end_of_cycle-end.result old kept seen c.show_cycle-shown.result.1 c.requires.lags s.differ
     c.end_of_cycle-end.ensures.from c.requires.behind c.end_of_cycle-end.ensures.behind in
@@ -71,7 +70,7 @@ returns-in-Failed-hand_sent-clause-leg g c =
     let e = c.turn_read-woken in
     let seen = c.show_cycle-shown.new.reading in
     let s = c.show_cycle-shown.ensures in
-    let kept : Kept = record { input = c.args.next.input; stale = c.args.next.stale; dues = c.args.dues.now; own = c.args.own.now; seen = c.args.reading.now; answers = c.args.answers.now } in
+    let kept : Kept = record { input = c.args.next.input; stale = c.args.next.stale; dues = c.args.dues.now; seen = c.args.reading.now; answers = c.args.answers.now } in
     let like = lags_stand m laws w p.state p.now p.wake_count t old kept c.requires.lags in
     let awaits = lags_await m laws w p.state p.now p.wake_count inputs t c.args.next.input c.end_of_cycle-end.result old kept seen c.show_cycle-shown.result.1 c.requires.lags s.differ
     c.end_of_cycle-end.ensures.from c.requires.behind c.end_of_cycle-end.ensures.behind in
@@ -92,7 +91,7 @@ returns-in-Failed-clause-leg g c =
     let e = c.turn_read-woken in
     let seen = c.show_cycle-shown.new.reading in
     let s = c.show_cycle-shown.ensures in
-    let kept : Kept = record { input = c.args.next.input; stale = c.args.next.stale; dues = c.args.dues.now; own = c.args.own.now; seen = c.args.reading.now; answers = c.args.answers.now } in
+    let kept : Kept = record { input = c.args.next.input; stale = c.args.next.stale; dues = c.args.dues.now; seen = c.args.reading.now; answers = c.args.answers.now } in
     let like = lags_stand m laws w p.state p.now p.wake_count t old kept c.requires.lags in
     let awaits = lags_await m laws w p.state p.now p.wake_count inputs t c.args.next.input c.end_of_cycle-end.result old kept seen c.show_cycle-shown.result.1 c.requires.lags s.differ
     c.end_of_cycle-end.ensures.from c.requires.behind c.end_of_cycle-end.ensures.behind in
@@ -113,7 +112,7 @@ returns-in-Ok-hand_sent-clause-handed g c = λ x ex.
     let e = c.turn_read-woken in
     let seen = c.show_cycle-shown.new.reading in
     let s = c.show_cycle-shown.ensures in
-    let kept : Kept = record { input = c.args.next.input; stale = c.args.next.stale; dues = c.args.dues.now; own = c.args.own.now; seen = c.args.reading.now; answers = c.args.answers.now } in
+    let kept : Kept = record { input = c.args.next.input; stale = c.args.next.stale; dues = c.args.dues.now; seen = c.args.reading.now; answers = c.args.answers.now } in
     let like = lags_stand m laws w p.state p.now p.wake_count t old kept c.requires.lags in
     let awaits = lags_await m laws w p.state p.now p.wake_count inputs t c.args.next.input c.end_of_cycle-end.result old kept seen c.show_cycle-shown.result.1 c.requires.lags s.differ
     c.end_of_cycle-end.ensures.from c.requires.behind c.end_of_cycle-end.ensures.behind in
@@ -135,7 +134,7 @@ returns-in-Failed-hand_sent-clause-failed g c = λ none.
     let e = c.turn_read-woken in
     let seen = c.show_cycle-shown.new.reading in
     let s = c.show_cycle-shown.ensures in
-    let kept : Kept = record { input = c.args.next.input; stale = c.args.next.stale; dues = c.args.dues.now; own = c.args.own.now; seen = c.args.reading.now; answers = c.args.answers.now } in
+    let kept : Kept = record { input = c.args.next.input; stale = c.args.next.stale; dues = c.args.dues.now; seen = c.args.reading.now; answers = c.args.answers.now } in
     let like = lags_stand m laws w p.state p.now p.wake_count t old kept c.requires.lags in
     let awaits = lags_await m laws w p.state p.now p.wake_count inputs t c.args.next.input c.end_of_cycle-end.result old kept seen c.show_cycle-shown.result.1 c.requires.lags s.differ
     c.end_of_cycle-end.ensures.from c.requires.behind c.end_of_cycle-end.ensures.behind in
@@ -161,7 +160,7 @@ returns-in-Failed-clause-failed g c = λ none.
     let e = c.turn_read-woken in
     let seen = c.show_cycle-shown.new.reading in
     let s = c.show_cycle-shown.ensures in
-    let kept : Kept = record { input = c.args.next.input; stale = c.args.next.stale; dues = c.args.dues.now; own = c.args.own.now; seen = c.args.reading.now; answers = c.args.answers.now } in
+    let kept : Kept = record { input = c.args.next.input; stale = c.args.next.stale; dues = c.args.dues.now; seen = c.args.reading.now; answers = c.args.answers.now } in
     let like = lags_stand m laws w p.state p.now p.wake_count t old kept c.requires.lags in
     let awaits = lags_await m laws w p.state p.now p.wake_count inputs t c.args.next.input c.end_of_cycle-end.result old kept seen c.show_cycle-shown.result.1 c.requires.lags s.differ
     c.end_of_cycle-end.ensures.from c.requires.behind c.end_of_cycle-end.ensures.behind in

@@ -20,7 +20,7 @@ use Rattle.board_run.proofs.jump.advance.Goals as goal
 pub find_alone-requires-clause-late : goal.find_alone-requires-clause-late
 find_alone-requires-clause-late g c =
     let p = g.P.Part in
-    lags_late p.machine c.args.wiring.now p.state p.now p.wake_count c.args.t c.args.parts.now (record { input = c.args.next.input; stale = c.args.next.stale; dues = c.args.dues.now; own = c.args.own.now; seen = c.args.reading.now; answers = c.args.answers.now }) c.requires.lags
+    lags_late p.machine c.args.wiring.now p.state p.now p.wake_count c.args.t c.args.parts.now (record { input = c.args.next.input; stale = c.args.next.stale; dues = c.args.dues.now; seen = c.args.reading.now; answers = c.args.answers.now }) c.requires.lags
 
 pub stretch-requires-clause-end : goal.stretch-requires-clause-end
 stretch-requires-clause-end g c =
@@ -47,7 +47,7 @@ stretch-requires-clause-valid g c =
 pub event_and_jump-requires-clause-lags : goal.event_and_jump-requires-clause-lags
 event_and_jump-requires-clause-lags g c =
     let p = g.P.Part in
-    subst (λ (ds : List (Option ℕ)). Lags p.machine c.args.wiring.now p.state p.now p.wake_count c.args.t c.args.parts.now (record { input = c.args.next.input; stale = c.args.next.stale; dues = ds; own = c.args.own.now; seen = c.args.reading.now; answers = c.args.answers.now })) (sym c.find_alone.ensures.same) c.requires.lags
+    subst (λ (ds : List (Option ℕ)). Lags p.machine c.args.wiring.now p.state p.now p.wake_count c.args.t c.args.parts.now (record { input = c.args.next.input; stale = c.args.next.stale; dues = ds; seen = c.args.reading.now; answers = c.args.answers.now })) (sym c.find_alone.ensures.same) c.requires.lags
 
 pub returns-in-Some-stretch-clause-from : goal.returns-in-Some-stretch-clause-from
 returns-in-Some-stretch-clause-from g c = λ y ey.
@@ -60,8 +60,8 @@ returns-in-Some-stretch-clause-from g c = λ y ey.
     let limit = c.in-Some.limit in
     let found = c.in-Some.ensures in
     let same = c.find_alone.ensures.same in
-    let kept : Kept = record { input = c.args.next.input; stale = c.args.next.stale; dues = c.find_alone.new.dues; own = c.args.own.now; seen = c.args.reading.now; answers = c.args.answers.now } in
-    let lags : Lags m w p.state p.now p.wake_count t old kept = subst (λ (ds : List (Option ℕ)). Lags m w p.state p.now p.wake_count t old (record { input = c.args.next.input; stale = c.args.next.stale; dues = ds; own = c.args.own.now; seen = c.args.reading.now; answers = c.args.answers.now })) (sym same) c.requires.lags in
+    let kept : Kept = record { input = c.args.next.input; stale = c.args.next.stale; dues = c.find_alone.new.dues; seen = c.args.reading.now; answers = c.args.answers.now } in
+    let lags : Lags m w p.state p.now p.wake_count t old kept = subst (λ (ds : List (Option ℕ)). Lags m w p.state p.now p.wake_count t old (record { input = c.args.next.input; stale = c.args.next.stale; dues = ds; seen = c.args.reading.now; answers = c.args.answers.now })) (sym same) c.requires.lags in
     let alone : IsAlone c.args.inputs.now c.find_alone.new.dues c.args.next.input who t limit = subst (λ (ds : List (Option ℕ)). IsAlone c.args.inputs.now ds c.args.next.input who t limit) (sym same) (found.alone (who, limit) refl) in
     let most = found.within (who, limit) refl in
     let end : limit ≤ MOST_CYCLES = omega (arith, most, c.requires.end) in
@@ -88,8 +88,8 @@ returns-in-Some-stretch-clause-within g c = λ y ey.
     let limit = c.in-Some.limit in
     let found = c.in-Some.ensures in
     let same = c.find_alone.ensures.same in
-    let kept : Kept = record { input = c.args.next.input; stale = c.args.next.stale; dues = c.find_alone.new.dues; own = c.args.own.now; seen = c.args.reading.now; answers = c.args.answers.now } in
-    let lags : Lags m w p.state p.now p.wake_count t old kept = subst (λ (ds : List (Option ℕ)). Lags m w p.state p.now p.wake_count t old (record { input = c.args.next.input; stale = c.args.next.stale; dues = ds; own = c.args.own.now; seen = c.args.reading.now; answers = c.args.answers.now })) (sym same) c.requires.lags in
+    let kept : Kept = record { input = c.args.next.input; stale = c.args.next.stale; dues = c.find_alone.new.dues; seen = c.args.reading.now; answers = c.args.answers.now } in
+    let lags : Lags m w p.state p.now p.wake_count t old kept = subst (λ (ds : List (Option ℕ)). Lags m w p.state p.now p.wake_count t old (record { input = c.args.next.input; stale = c.args.next.stale; dues = ds; seen = c.args.reading.now; answers = c.args.answers.now })) (sym same) c.requires.lags in
     let alone : IsAlone c.args.inputs.now c.find_alone.new.dues c.args.next.input who t limit = subst (λ (ds : List (Option ℕ)). IsAlone c.args.inputs.now ds c.args.next.input who t limit) (sym same) (found.alone (who, limit) refl) in
     let most = found.within (who, limit) refl in
     let end : limit ≤ MOST_CYCLES = omega (arith, most, c.requires.end) in
@@ -117,8 +117,8 @@ returns-in-Some-stretch-clause-lags g c = λ y ey.
     let limit = c.in-Some.limit in
     let found = c.in-Some.ensures in
     let same = c.find_alone.ensures.same in
-    let kept : Kept = record { input = c.args.next.input; stale = c.args.next.stale; dues = c.find_alone.new.dues; own = c.args.own.now; seen = c.args.reading.now; answers = c.args.answers.now } in
-    let lags : Lags m w p.state p.now p.wake_count t old kept = subst (λ (ds : List (Option ℕ)). Lags m w p.state p.now p.wake_count t old (record { input = c.args.next.input; stale = c.args.next.stale; dues = ds; own = c.args.own.now; seen = c.args.reading.now; answers = c.args.answers.now })) (sym same) c.requires.lags in
+    let kept : Kept = record { input = c.args.next.input; stale = c.args.next.stale; dues = c.find_alone.new.dues; seen = c.args.reading.now; answers = c.args.answers.now } in
+    let lags : Lags m w p.state p.now p.wake_count t old kept = subst (λ (ds : List (Option ℕ)). Lags m w p.state p.now p.wake_count t old (record { input = c.args.next.input; stale = c.args.next.stale; dues = ds; seen = c.args.reading.now; answers = c.args.answers.now })) (sym same) c.requires.lags in
     let alone : IsAlone c.args.inputs.now c.find_alone.new.dues c.args.next.input who t limit = subst (λ (ds : List (Option ℕ)). IsAlone c.args.inputs.now ds c.args.next.input who t limit) (sym same) (found.alone (who, limit) refl) in
     let most = found.within (who, limit) refl in
     let end : limit ≤ MOST_CYCLES = omega (arith, most, c.requires.end) in
@@ -134,8 +134,8 @@ returns-in-Some-stretch-clause-lags g c = λ y ey.
     let x : Next × ℕ = (record { input = c.args.next.input; stale = changed }, u) in
     let told : IsTold m (map p.state new.parts) (retold c.args.reading.now new.reading.circuit.drives new.reading.circuit.closed).circuit = record { drives_are = c.stretch.ensures.told.drives_are; closed_are = c.stretch.ensures.told.closed_are } in
     let goes = alone_goes m g.met.P.Part.laws w p.state p.now p.wake_count c.args.inputs.now t u limit old new.parts kept new.dues changed c.args.steps.now new.steps who went.0 went.1 went.2 new.reading.circuit.drives new.reading.circuit.closed told lags fresh later within end alone went.3 in
-    subst (λ (z : Next × ℕ). Lags m w p.state p.now p.wake_count z.1 new.parts (record { input = z.0.input; stale = z.0.stale; dues = new.dues; own = c.args.own.now; seen = new.reading; answers = c.args.answers.now })) (some_same ey)
-    (subst (λ (v : Seen). Lags m w p.state p.now p.wake_count u new.parts (record { input = c.args.next.input; stale = changed; dues = new.dues; own = c.args.own.now; seen = v; answers = c.args.answers.now })) (sym c.stretch.ensures.rest) goes.lags)
+    subst (λ (z : Next × ℕ). Lags m w p.state p.now p.wake_count z.1 new.parts (record { input = z.0.input; stale = z.0.stale; dues = new.dues; seen = new.reading; answers = c.args.answers.now })) (some_same ey)
+    (subst (λ (v : Seen). Lags m w p.state p.now p.wake_count u new.parts (record { input = c.args.next.input; stale = changed; dues = new.dues; seen = v; answers = c.args.answers.now })) (sym c.stretch.ensures.rest) goes.lags)
 
 pub returns-in-Some-stretch-clause-behind : goal.returns-in-Some-stretch-clause-behind
 returns-in-Some-stretch-clause-behind g c = λ y ey.
@@ -148,8 +148,8 @@ returns-in-Some-stretch-clause-behind g c = λ y ey.
     let limit = c.in-Some.limit in
     let found = c.in-Some.ensures in
     let same = c.find_alone.ensures.same in
-    let kept : Kept = record { input = c.args.next.input; stale = c.args.next.stale; dues = c.find_alone.new.dues; own = c.args.own.now; seen = c.args.reading.now; answers = c.args.answers.now } in
-    let lags : Lags m w p.state p.now p.wake_count t old kept = subst (λ (ds : List (Option ℕ)). Lags m w p.state p.now p.wake_count t old (record { input = c.args.next.input; stale = c.args.next.stale; dues = ds; own = c.args.own.now; seen = c.args.reading.now; answers = c.args.answers.now })) (sym same) c.requires.lags in
+    let kept : Kept = record { input = c.args.next.input; stale = c.args.next.stale; dues = c.find_alone.new.dues; seen = c.args.reading.now; answers = c.args.answers.now } in
+    let lags : Lags m w p.state p.now p.wake_count t old kept = subst (λ (ds : List (Option ℕ)). Lags m w p.state p.now p.wake_count t old (record { input = c.args.next.input; stale = c.args.next.stale; dues = ds; seen = c.args.reading.now; answers = c.args.answers.now })) (sym same) c.requires.lags in
     let alone : IsAlone c.args.inputs.now c.find_alone.new.dues c.args.next.input who t limit = subst (λ (ds : List (Option ℕ)). IsAlone c.args.inputs.now ds c.args.next.input who t limit) (sym same) (found.alone (who, limit) refl) in
     let most = found.within (who, limit) refl in
     let end : limit ≤ MOST_CYCLES = omega (arith, most, c.requires.end) in
@@ -177,8 +177,8 @@ returns-in-Some-stretch-clause-leg g c = λ y ey.
     let limit = c.in-Some.limit in
     let found = c.in-Some.ensures in
     let same = c.find_alone.ensures.same in
-    let kept : Kept = record { input = c.args.next.input; stale = c.args.next.stale; dues = c.find_alone.new.dues; own = c.args.own.now; seen = c.args.reading.now; answers = c.args.answers.now } in
-    let lags : Lags m w p.state p.now p.wake_count t old kept = subst (λ (ds : List (Option ℕ)). Lags m w p.state p.now p.wake_count t old (record { input = c.args.next.input; stale = c.args.next.stale; dues = ds; own = c.args.own.now; seen = c.args.reading.now; answers = c.args.answers.now })) (sym same) c.requires.lags in
+    let kept : Kept = record { input = c.args.next.input; stale = c.args.next.stale; dues = c.find_alone.new.dues; seen = c.args.reading.now; answers = c.args.answers.now } in
+    let lags : Lags m w p.state p.now p.wake_count t old kept = subst (λ (ds : List (Option ℕ)). Lags m w p.state p.now p.wake_count t old (record { input = c.args.next.input; stale = c.args.next.stale; dues = ds; seen = c.args.reading.now; answers = c.args.answers.now })) (sym same) c.requires.lags in
     let alone : IsAlone c.args.inputs.now c.find_alone.new.dues c.args.next.input who t limit = subst (λ (ds : List (Option ℕ)). IsAlone c.args.inputs.now ds c.args.next.input who t limit) (sym same) (found.alone (who, limit) refl) in
     let most = found.within (who, limit) refl in
     let end : limit ≤ MOST_CYCLES = omega (arith, most, c.requires.end) in
@@ -208,8 +208,8 @@ returns-in-Some-stretch-clause-handed g c = λ y ey.
     let limit = c.in-Some.limit in
     let found = c.in-Some.ensures in
     let same = c.find_alone.ensures.same in
-    let kept : Kept = record { input = c.args.next.input; stale = c.args.next.stale; dues = c.find_alone.new.dues; own = c.args.own.now; seen = c.args.reading.now; answers = c.args.answers.now } in
-    let lags : Lags m w p.state p.now p.wake_count t old kept = subst (λ (ds : List (Option ℕ)). Lags m w p.state p.now p.wake_count t old (record { input = c.args.next.input; stale = c.args.next.stale; dues = ds; own = c.args.own.now; seen = c.args.reading.now; answers = c.args.answers.now })) (sym same) c.requires.lags in
+    let kept : Kept = record { input = c.args.next.input; stale = c.args.next.stale; dues = c.find_alone.new.dues; seen = c.args.reading.now; answers = c.args.answers.now } in
+    let lags : Lags m w p.state p.now p.wake_count t old kept = subst (λ (ds : List (Option ℕ)). Lags m w p.state p.now p.wake_count t old (record { input = c.args.next.input; stale = c.args.next.stale; dues = ds; seen = c.args.reading.now; answers = c.args.answers.now })) (sym same) c.requires.lags in
     let alone : IsAlone c.args.inputs.now c.find_alone.new.dues c.args.next.input who t limit = subst (λ (ds : List (Option ℕ)). IsAlone c.args.inputs.now ds c.args.next.input who t limit) (sym same) (found.alone (who, limit) refl) in
     let most = found.within (who, limit) refl in
     let end : limit ≤ MOST_CYCLES = omega (arith, most, c.requires.end) in
@@ -252,8 +252,8 @@ returns-in-None-stretch-clause-failed g c = λ none.
     let limit = c.in-Some.limit in
     let found = c.in-Some.ensures in
     let same = c.find_alone.ensures.same in
-    let kept : Kept = record { input = c.args.next.input; stale = c.args.next.stale; dues = c.find_alone.new.dues; own = c.args.own.now; seen = c.args.reading.now; answers = c.args.answers.now } in
-    let lags : Lags m w p.state p.now p.wake_count t old kept = subst (λ (ds : List (Option ℕ)). Lags m w p.state p.now p.wake_count t old (record { input = c.args.next.input; stale = c.args.next.stale; dues = ds; own = c.args.own.now; seen = c.args.reading.now; answers = c.args.answers.now })) (sym same) c.requires.lags in
+    let kept : Kept = record { input = c.args.next.input; stale = c.args.next.stale; dues = c.find_alone.new.dues; seen = c.args.reading.now; answers = c.args.answers.now } in
+    let lags : Lags m w p.state p.now p.wake_count t old kept = subst (λ (ds : List (Option ℕ)). Lags m w p.state p.now p.wake_count t old (record { input = c.args.next.input; stale = c.args.next.stale; dues = ds; seen = c.args.reading.now; answers = c.args.answers.now })) (sym same) c.requires.lags in
     let alone : IsAlone c.args.inputs.now c.find_alone.new.dues c.args.next.input who t limit = subst (λ (ds : List (Option ℕ)). IsAlone c.args.inputs.now ds c.args.next.input who t limit) (sym same) (found.alone (who, limit) refl) in
     let most = found.within (who, limit) refl in
     let end : limit ≤ MOST_CYCLES = omega (arith, most, c.requires.end) in
@@ -289,8 +289,8 @@ returns-in-None-stretch-clause-stopped g c = λ none.
     let limit = c.in-Some.limit in
     let found = c.in-Some.ensures in
     let same = c.find_alone.ensures.same in
-    let kept : Kept = record { input = c.args.next.input; stale = c.args.next.stale; dues = c.find_alone.new.dues; own = c.args.own.now; seen = c.args.reading.now; answers = c.args.answers.now } in
-    let lags : Lags m w p.state p.now p.wake_count t old kept = subst (λ (ds : List (Option ℕ)). Lags m w p.state p.now p.wake_count t old (record { input = c.args.next.input; stale = c.args.next.stale; dues = ds; own = c.args.own.now; seen = c.args.reading.now; answers = c.args.answers.now })) (sym same) c.requires.lags in
+    let kept : Kept = record { input = c.args.next.input; stale = c.args.next.stale; dues = c.find_alone.new.dues; seen = c.args.reading.now; answers = c.args.answers.now } in
+    let lags : Lags m w p.state p.now p.wake_count t old kept = subst (λ (ds : List (Option ℕ)). Lags m w p.state p.now p.wake_count t old (record { input = c.args.next.input; stale = c.args.next.stale; dues = ds; seen = c.args.reading.now; answers = c.args.answers.now })) (sym same) c.requires.lags in
     let alone : IsAlone c.args.inputs.now c.find_alone.new.dues c.args.next.input who t limit = subst (λ (ds : List (Option ℕ)). IsAlone c.args.inputs.now ds c.args.next.input who t limit) (sym same) (found.alone (who, limit) refl) in
     let most = found.within (who, limit) refl in
     let end : limit ≤ MOST_CYCLES = omega (arith, most, c.requires.end) in

@@ -27,12 +27,12 @@ returns-in-Some-clause-lags g c = λ x ex.
     let n = c.in-Some.after in
     let u = c.next_cycle-u.result in
     let nc = c.next_cycle-u.ensures in
-    let kept : Kept = record { input = n.input; stale = n.stale; dues = e.dues; own = e.own; seen = e.reading; answers = e.answers } in
+    let kept : Kept = record { input = n.input; stale = n.stale; dues = e.dues; seen = e.reading; answers = e.answers } in
     let end : u ≤ MOST_CYCLES = omega (arith, nc.within, c.requires.end) in
     let later : 0 < t + 1 = omega arith in
     let j = jumps_to m laws w p.state p.now p.wake_count inputs (t + 1) u e.parts kept e.steps (c.in-Some.ensures.lags n refl) later nc.from end nc.stale nc.due nc.silent in
     let leg = c.event.ensures.leg in
-    subst (λ (y : Next × ℕ). Lags m w p.state p.now p.wake_count y.1 e.parts (record { input = y.0.input; stale = y.0.stale; dues = e.dues; own = e.own; seen = e.reading; answers = e.answers })) (some_same ex) j.lags
+    subst (λ (y : Next × ℕ). Lags m w p.state p.now p.wake_count y.1 e.parts (record { input = y.0.input; stale = y.0.stale; dues = e.dues; seen = e.reading; answers = e.answers })) (some_same ex) j.lags
 
 pub returns-in-Some-clause-leg : goal.returns-in-Some-clause-leg
 returns-in-Some-clause-leg g c = λ x ex.
@@ -47,7 +47,7 @@ returns-in-Some-clause-leg g c = λ x ex.
     let n = c.in-Some.after in
     let u = c.next_cycle-u.result in
     let nc = c.next_cycle-u.ensures in
-    let kept : Kept = record { input = n.input; stale = n.stale; dues = e.dues; own = e.own; seen = e.reading; answers = e.answers } in
+    let kept : Kept = record { input = n.input; stale = n.stale; dues = e.dues; seen = e.reading; answers = e.answers } in
     let end : u ≤ MOST_CYCLES = omega (arith, nc.within, c.requires.end) in
     let later : 0 < t + 1 = omega arith in
     let j = jumps_to m laws w p.state p.now p.wake_count inputs (t + 1) u e.parts kept e.steps (c.in-Some.ensures.lags n refl) later nc.from end nc.stale nc.due nc.silent in
@@ -68,7 +68,7 @@ returns-in-Some-clause-handed g c = λ x ex.
     let n = c.in-Some.after in
     let u = c.next_cycle-u.result in
     let nc = c.next_cycle-u.ensures in
-    let kept : Kept = record { input = n.input; stale = n.stale; dues = e.dues; own = e.own; seen = e.reading; answers = e.answers } in
+    let kept : Kept = record { input = n.input; stale = n.stale; dues = e.dues; seen = e.reading; answers = e.answers } in
     let end : u ≤ MOST_CYCLES = omega (arith, nc.within, c.requires.end) in
     let later : 0 < t + 1 = omega arith in
     let j = jumps_to m laws w p.state p.now p.wake_count inputs (t + 1) u e.parts kept e.steps (c.in-Some.ensures.lags n refl) later nc.from end nc.stale nc.due nc.silent in
@@ -97,7 +97,7 @@ next_cycle-u-requires-clause-late g c =
     let p = g.P.Part in
     let e = c.event.new in
     let n = c.in-Some.after in
-    lags_late p.machine c.args.wiring.now p.state p.now p.wake_count (c.args.t + 1) e.parts (record { input = n.input; stale = n.stale; dues = e.dues; own = e.own; seen = e.reading; answers = e.answers }) (c.in-Some.ensures.lags n refl)
+    lags_late p.machine c.args.wiring.now p.state p.now p.wake_count (c.args.t + 1) e.parts (record { input = n.input; stale = n.stale; dues = e.dues; seen = e.reading; answers = e.answers }) (c.in-Some.ensures.lags n refl)
 
 pub returns-in-None-clause-failed : goal.returns-in-None-clause-failed
 returns-in-None-clause-failed g c = λ none.

@@ -16,7 +16,7 @@ settle_all-requires-clause-later g c = λ k x ex.
     let p = g.P.Part in
     let r = c.run_legs.new in
     let n = c.in-Some.after in
-    let kept : Kept = record { input = n.input; stale = n.stale; dues = r.dues; own = r.own; seen = r.reading; answers = r.answers } in
+    let kept : Kept = record { input = n.input; stale = n.stale; dues = r.dues; seen = r.reading; answers = r.answers } in
     (may_settle p.machine g.met.P.Part.laws c.args.wiring.now p.state p.now p.wake_count c.args.inputs.now c.args.n r.parts kept (c.in-Some.ensures.lags n refl) k x ex).0
 
 pub settle_all-requires-clause-quiet : goal.settle_all-requires-clause-quiet
@@ -24,7 +24,7 @@ settle_all-requires-clause-quiet g c = λ k x ex.
     let p = g.P.Part in
     let r = c.run_legs.new in
     let n = c.in-Some.after in
-    let kept : Kept = record { input = n.input; stale = n.stale; dues = r.dues; own = r.own; seen = r.reading; answers = r.answers } in
+    let kept : Kept = record { input = n.input; stale = n.stale; dues = r.dues; seen = r.reading; answers = r.answers } in
     (may_settle p.machine g.met.P.Part.laws c.args.wiring.now p.state p.now p.wake_count c.args.inputs.now c.args.n r.parts kept (c.in-Some.ensures.lags n refl) k x ex).1
 
 pub returns-in-Some-clause-states : goal.returns-in-Some-clause-states
@@ -166,8 +166,8 @@ returns-in-Some-clause-lags g c = λ y ey.
     let r = c.run_legs.new in
     let s = c.settle_all in
     let n = c.in-Some.after in
-    let kept : Kept = record { input = n.input; stale = n.stale; dues = r.dues; own = r.own; seen = r.reading; answers = r.answers } in
-    subst (λ (z : Next). Lags p.machine c.args.wiring.now p.state p.now p.wake_count c.args.n s.new.parts (record { input = z.input; stale = z.stale; dues = s.new.dues; own = r.own; seen = r.reading; answers = r.answers })) (some_same ey)
+    let kept : Kept = record { input = n.input; stale = n.stale; dues = r.dues; seen = r.reading; answers = r.answers } in
+    subst (λ (z : Next). Lags p.machine c.args.wiring.now p.state p.now p.wake_count c.args.n s.new.parts (record { input = z.input; stale = z.stale; dues = s.new.dues; seen = r.reading; answers = r.answers })) (some_same ey)
     (settled_lags p.machine g.met.P.Part.laws c.args.wiring.now p.state p.now p.wake_count c.args.inputs.now c.args.n r.parts s.new.parts kept s.new.dues (c.in-Some.ensures.lags n refl) s.auto.parts s.ensures.dues s.ensures.settled s.ensures.due)
 
 pub returns-in-None-clause-stopped : goal.returns-in-None-clause-stopped

@@ -1,5 +1,6 @@
 use Rattle.std.proofs.Common.{get_or, ◌≡◌, ◌∙◌, refl, sym, ap, arith, length, map, List, ℕ, Bool}
-use Rattle.std.specs.Prelude.{◌&&◌, ◌==◌, eqb, slice_get}
+use Rattle.std.specs.Prelude.{◌&&◌, ◌==◌, eqb, slice_get, slice_index}
+use Rattle.std.proofs.lemmas.List.{length-map}
 use Rattle.sim_base.specs.declared.signal.Level.{Level}
 use Rattle.board_model.specs.Board.{levels_of}
 use Rattle.board_model.specs.Rows.{same_list, same_level, same_drive, chip_drives_of}
@@ -73,3 +74,15 @@ returns-clause-suits g c =
       on_long = suits.on_long;
       on_are = suits.on_are;
     }
+
+pub keep_chips-same_drives-requires-clause-firsts : goal.keep_chips-same_drives-requires-clause-firsts
+keep_chips-same_drives-requires-clause-firsts g c = ap length c.as_slice-2.ensures ∙ c.requires.fits.parts ∙ simp length-map refl
+
+pub keep_chips-same_drives-requires-clause-places : goal.keep_chips-same_drives-requires-clause-places
+keep_chips-same_drives-requires-clause-places g c = λ k l.
+    let p = g.P.Part in
+    let long : length (map p.state c.args.parts.now) ≡ length c.args.parts.now = simp length-map refl in
+    ap (λ (ns : List ℕ). slice_index ns k) c.as_slice-2.ensures ∙ c.requires.fits.places k (omega (arith, l, long))
+
+pub keep_chips-same_drives-requires-clause-told : goal.keep_chips-same_drives-requires-clause-told
+keep_chips-same_drives-requires-clause-told g c = c.drives.ensures.drives ∙ ap (λ (x : Circuit). x.drives) c.resolve_marked.ensures.levels ∙ c.requires.told.drives_are

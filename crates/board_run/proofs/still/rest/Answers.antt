@@ -11,7 +11,7 @@ use Rattle.board_run.proofs.still.rest.Goals as goal
 pub find_alone-requires-clause-late : goal.find_alone-requires-clause-late
 find_alone-requires-clause-late g c =
     let p = g.P.Part in
-    lags_late p.machine c.args.wiring.now p.state p.now p.wake_count c.args.t c.args.parts.now (record { input = c.args.next.input; stale = c.args.next.stale; dues = c.args.dues.now; own = c.args.own.now; seen = c.args.reading.now; answers = c.args.answers.now }) c.requires.lags
+    lags_late p.machine c.args.wiring.now p.state p.now p.wake_count c.args.t c.args.parts.now (record { input = c.args.next.input; stale = c.args.next.stale; dues = c.args.dues.now; seen = c.args.reading.now; answers = c.args.answers.now }) c.requires.lags
 
 pub stretch-requires-clause-end : goal.stretch-requires-clause-end
 stretch-requires-clause-end g c =
@@ -43,8 +43,8 @@ unreachable-requires g c =
 pub next_cycle-u-requires-clause-late : goal.next_cycle-u-requires-clause-late
 next_cycle-u-requires-clause-late g c =
     let p = g.P.Part in
-    lags_late p.machine c.args.wiring.now p.state p.now p.wake_count c.args.t c.args.parts.now (record { input = c.args.next.input; stale = c.args.next.stale; dues = c.find_alone.new.dues; own = c.args.own.now; seen = c.args.reading.now; answers = c.args.answers.now })
-    (subst (λ (ds : List (Option ℕ)). Lags p.machine c.args.wiring.now p.state p.now p.wake_count c.args.t c.args.parts.now (record { input = c.args.next.input; stale = c.args.next.stale; dues = ds; own = c.args.own.now; seen = c.args.reading.now; answers = c.args.answers.now })) (sym c.find_alone.ensures.same) c.requires.lags)
+    lags_late p.machine c.args.wiring.now p.state p.now p.wake_count c.args.t c.args.parts.now (record { input = c.args.next.input; stale = c.args.next.stale; dues = c.find_alone.new.dues; seen = c.args.reading.now; answers = c.args.answers.now })
+    (subst (λ (ds : List (Option ℕ)). Lags p.machine c.args.wiring.now p.state p.now p.wake_count c.args.t c.args.parts.now (record { input = c.args.next.input; stale = c.args.next.stale; dues = ds; seen = c.args.reading.now; answers = c.args.answers.now })) (sym c.find_alone.ensures.same) c.requires.lags)
 
 pub returns-in-Some-stretch-clause-from : goal.returns-in-Some-stretch-clause-from
 returns-in-Some-stretch-clause-from g c =
@@ -57,8 +57,8 @@ returns-in-Some-stretch-clause-from g c =
     let limit = c.in-Some.limit in
     let found = c.in-Some.ensures in
     let same = c.find_alone.ensures.same in
-    let kept : Kept = record { input = c.args.next.input; stale = c.args.next.stale; dues = c.find_alone.new.dues; own = c.args.own.now; seen = c.args.reading.now; answers = c.args.answers.now } in
-    let lags : Lags m w p.state p.now p.wake_count t old kept = subst (λ (ds : List (Option ℕ)). Lags m w p.state p.now p.wake_count t old (record { input = c.args.next.input; stale = c.args.next.stale; dues = ds; own = c.args.own.now; seen = c.args.reading.now; answers = c.args.answers.now })) (sym same) c.requires.lags in
+    let kept : Kept = record { input = c.args.next.input; stale = c.args.next.stale; dues = c.find_alone.new.dues; seen = c.args.reading.now; answers = c.args.answers.now } in
+    let lags : Lags m w p.state p.now p.wake_count t old kept = subst (λ (ds : List (Option ℕ)). Lags m w p.state p.now p.wake_count t old (record { input = c.args.next.input; stale = c.args.next.stale; dues = ds; seen = c.args.reading.now; answers = c.args.answers.now })) (sym same) c.requires.lags in
     let alone : IsAlone c.args.inputs.now c.find_alone.new.dues c.args.next.input who t limit = subst (λ (ds : List (Option ℕ)). IsAlone c.args.inputs.now ds c.args.next.input who t limit) (sym same) (found.alone (who, limit) refl) in
     let most = found.within (who, limit) refl in
     let end : limit ≤ MOST_CYCLES = omega (arith, most, c.requires.end) in
@@ -84,8 +84,8 @@ returns-in-Some-stretch-clause-within g c =
     let limit = c.in-Some.limit in
     let found = c.in-Some.ensures in
     let same = c.find_alone.ensures.same in
-    let kept : Kept = record { input = c.args.next.input; stale = c.args.next.stale; dues = c.find_alone.new.dues; own = c.args.own.now; seen = c.args.reading.now; answers = c.args.answers.now } in
-    let lags : Lags m w p.state p.now p.wake_count t old kept = subst (λ (ds : List (Option ℕ)). Lags m w p.state p.now p.wake_count t old (record { input = c.args.next.input; stale = c.args.next.stale; dues = ds; own = c.args.own.now; seen = c.args.reading.now; answers = c.args.answers.now })) (sym same) c.requires.lags in
+    let kept : Kept = record { input = c.args.next.input; stale = c.args.next.stale; dues = c.find_alone.new.dues; seen = c.args.reading.now; answers = c.args.answers.now } in
+    let lags : Lags m w p.state p.now p.wake_count t old kept = subst (λ (ds : List (Option ℕ)). Lags m w p.state p.now p.wake_count t old (record { input = c.args.next.input; stale = c.args.next.stale; dues = ds; seen = c.args.reading.now; answers = c.args.answers.now })) (sym same) c.requires.lags in
     let alone : IsAlone c.args.inputs.now c.find_alone.new.dues c.args.next.input who t limit = subst (λ (ds : List (Option ℕ)). IsAlone c.args.inputs.now ds c.args.next.input who t limit) (sym same) (found.alone (who, limit) refl) in
     let most = found.within (who, limit) refl in
     let end : limit ≤ MOST_CYCLES = omega (arith, most, c.requires.end) in
@@ -111,8 +111,8 @@ returns-in-Some-stretch-clause-lags g c =
     let limit = c.in-Some.limit in
     let found = c.in-Some.ensures in
     let same = c.find_alone.ensures.same in
-    let kept : Kept = record { input = c.args.next.input; stale = c.args.next.stale; dues = c.find_alone.new.dues; own = c.args.own.now; seen = c.args.reading.now; answers = c.args.answers.now } in
-    let lags : Lags m w p.state p.now p.wake_count t old kept = subst (λ (ds : List (Option ℕ)). Lags m w p.state p.now p.wake_count t old (record { input = c.args.next.input; stale = c.args.next.stale; dues = ds; own = c.args.own.now; seen = c.args.reading.now; answers = c.args.answers.now })) (sym same) c.requires.lags in
+    let kept : Kept = record { input = c.args.next.input; stale = c.args.next.stale; dues = c.find_alone.new.dues; seen = c.args.reading.now; answers = c.args.answers.now } in
+    let lags : Lags m w p.state p.now p.wake_count t old kept = subst (λ (ds : List (Option ℕ)). Lags m w p.state p.now p.wake_count t old (record { input = c.args.next.input; stale = c.args.next.stale; dues = ds; seen = c.args.reading.now; answers = c.args.answers.now })) (sym same) c.requires.lags in
     let alone : IsAlone c.args.inputs.now c.find_alone.new.dues c.args.next.input who t limit = subst (λ (ds : List (Option ℕ)). IsAlone c.args.inputs.now ds c.args.next.input who t limit) (sym same) (found.alone (who, limit) refl) in
     let most = found.within (who, limit) refl in
     let end : limit ≤ MOST_CYCLES = omega (arith, most, c.requires.end) in
@@ -127,7 +127,7 @@ returns-in-Some-stretch-clause-lags g c =
     let far = went.3.further in
     let told : IsTold m (map p.state new.parts) (retold c.args.reading.now new.reading.circuit.drives new.reading.circuit.closed).circuit = record { drives_are = c.stretch.ensures.told.drives_are; closed_are = c.stretch.ensures.told.closed_are } in
     let goes = alone_goes m g.met.P.Part.laws w p.state p.now p.wake_count c.args.inputs.now t u limit old new.parts kept new.dues changed c.args.steps.now new.steps who went.0 went.1 went.2 new.reading.circuit.drives new.reading.circuit.closed told lags fresh later within end alone went.3 in
-    subst (λ (v : Seen). Lags m w p.state p.now p.wake_count u new.parts (record { input = c.args.next.input; stale = changed; dues = new.dues; own = c.args.own.now; seen = v; answers = c.args.answers.now })) (sym c.stretch.ensures.rest) goes.lags
+    subst (λ (v : Seen). Lags m w p.state p.now p.wake_count u new.parts (record { input = c.args.next.input; stale = changed; dues = new.dues; seen = v; answers = c.args.answers.now })) (sym c.stretch.ensures.rest) goes.lags
 
 pub returns-in-Some-stretch-clause-behind : goal.returns-in-Some-stretch-clause-behind
 returns-in-Some-stretch-clause-behind g c =
@@ -140,8 +140,8 @@ returns-in-Some-stretch-clause-behind g c =
     let limit = c.in-Some.limit in
     let found = c.in-Some.ensures in
     let same = c.find_alone.ensures.same in
-    let kept : Kept = record { input = c.args.next.input; stale = c.args.next.stale; dues = c.find_alone.new.dues; own = c.args.own.now; seen = c.args.reading.now; answers = c.args.answers.now } in
-    let lags : Lags m w p.state p.now p.wake_count t old kept = subst (λ (ds : List (Option ℕ)). Lags m w p.state p.now p.wake_count t old (record { input = c.args.next.input; stale = c.args.next.stale; dues = ds; own = c.args.own.now; seen = c.args.reading.now; answers = c.args.answers.now })) (sym same) c.requires.lags in
+    let kept : Kept = record { input = c.args.next.input; stale = c.args.next.stale; dues = c.find_alone.new.dues; seen = c.args.reading.now; answers = c.args.answers.now } in
+    let lags : Lags m w p.state p.now p.wake_count t old kept = subst (λ (ds : List (Option ℕ)). Lags m w p.state p.now p.wake_count t old (record { input = c.args.next.input; stale = c.args.next.stale; dues = ds; seen = c.args.reading.now; answers = c.args.answers.now })) (sym same) c.requires.lags in
     let alone : IsAlone c.args.inputs.now c.find_alone.new.dues c.args.next.input who t limit = subst (λ (ds : List (Option ℕ)). IsAlone c.args.inputs.now ds c.args.next.input who t limit) (sym same) (found.alone (who, limit) refl) in
     let most = found.within (who, limit) refl in
     let end : limit ≤ MOST_CYCLES = omega (arith, most, c.requires.end) in
@@ -168,8 +168,8 @@ returns-in-Some-stretch-clause-leg g c =
     let limit = c.in-Some.limit in
     let found = c.in-Some.ensures in
     let same = c.find_alone.ensures.same in
-    let kept : Kept = record { input = c.args.next.input; stale = c.args.next.stale; dues = c.find_alone.new.dues; own = c.args.own.now; seen = c.args.reading.now; answers = c.args.answers.now } in
-    let lags : Lags m w p.state p.now p.wake_count t old kept = subst (λ (ds : List (Option ℕ)). Lags m w p.state p.now p.wake_count t old (record { input = c.args.next.input; stale = c.args.next.stale; dues = ds; own = c.args.own.now; seen = c.args.reading.now; answers = c.args.answers.now })) (sym same) c.requires.lags in
+    let kept : Kept = record { input = c.args.next.input; stale = c.args.next.stale; dues = c.find_alone.new.dues; seen = c.args.reading.now; answers = c.args.answers.now } in
+    let lags : Lags m w p.state p.now p.wake_count t old kept = subst (λ (ds : List (Option ℕ)). Lags m w p.state p.now p.wake_count t old (record { input = c.args.next.input; stale = c.args.next.stale; dues = ds; seen = c.args.reading.now; answers = c.args.answers.now })) (sym same) c.requires.lags in
     let alone : IsAlone c.args.inputs.now c.find_alone.new.dues c.args.next.input who t limit = subst (λ (ds : List (Option ℕ)). IsAlone c.args.inputs.now ds c.args.next.input who t limit) (sym same) (found.alone (who, limit) refl) in
     let most = found.within (who, limit) refl in
     let end : limit ≤ MOST_CYCLES = omega (arith, most, c.requires.end) in
@@ -197,8 +197,8 @@ returns-in-Some-stretch-clause-steady g c =
     let limit = c.in-Some.limit in
     let found = c.in-Some.ensures in
     let same = c.find_alone.ensures.same in
-    let kept : Kept = record { input = c.args.next.input; stale = c.args.next.stale; dues = c.find_alone.new.dues; own = c.args.own.now; seen = c.args.reading.now; answers = c.args.answers.now } in
-    let lags : Lags m w p.state p.now p.wake_count t old kept = subst (λ (ds : List (Option ℕ)). Lags m w p.state p.now p.wake_count t old (record { input = c.args.next.input; stale = c.args.next.stale; dues = ds; own = c.args.own.now; seen = c.args.reading.now; answers = c.args.answers.now })) (sym same) c.requires.lags in
+    let kept : Kept = record { input = c.args.next.input; stale = c.args.next.stale; dues = c.find_alone.new.dues; seen = c.args.reading.now; answers = c.args.answers.now } in
+    let lags : Lags m w p.state p.now p.wake_count t old kept = subst (λ (ds : List (Option ℕ)). Lags m w p.state p.now p.wake_count t old (record { input = c.args.next.input; stale = c.args.next.stale; dues = ds; seen = c.args.reading.now; answers = c.args.answers.now })) (sym same) c.requires.lags in
     let alone : IsAlone c.args.inputs.now c.find_alone.new.dues c.args.next.input who t limit = subst (λ (ds : List (Option ℕ)). IsAlone c.args.inputs.now ds c.args.next.input who t limit) (sym same) (found.alone (who, limit) refl) in
     let most = found.within (who, limit) refl in
     let end : limit ≤ MOST_CYCLES = omega (arith, most, c.requires.end) in
@@ -223,8 +223,8 @@ returns-in-None-clause-lags g c =
     let t = c.args.t in
     let old = c.args.parts.now in
     let same = c.find_alone.ensures.same in
-    let kept : Kept = record { input = c.args.next.input; stale = c.args.next.stale; dues = c.find_alone.new.dues; own = c.args.own.now; seen = c.args.reading.now; answers = c.args.answers.now } in
-    let lags : Lags m w p.state p.now p.wake_count t old kept = subst (λ (ds : List (Option ℕ)). Lags m w p.state p.now p.wake_count t old (record { input = c.args.next.input; stale = c.args.next.stale; dues = ds; own = c.args.own.now; seen = c.args.reading.now; answers = c.args.answers.now })) (sym same) c.requires.lags in
+    let kept : Kept = record { input = c.args.next.input; stale = c.args.next.stale; dues = c.find_alone.new.dues; seen = c.args.reading.now; answers = c.args.answers.now } in
+    let lags : Lags m w p.state p.now p.wake_count t old kept = subst (λ (ds : List (Option ℕ)). Lags m w p.state p.now p.wake_count t old (record { input = c.args.next.input; stale = c.args.next.stale; dues = ds; seen = c.args.reading.now; answers = c.args.answers.now })) (sym same) c.requires.lags in
     let nc = c.next_cycle-u.ensures in
     let u = c.next_cycle-u.result in
     let end : u ≤ MOST_CYCLES = omega (arith, nc.within, c.requires.end) in
@@ -239,8 +239,8 @@ returns-in-None-clause-leg g c =
     let t = c.args.t in
     let old = c.args.parts.now in
     let same = c.find_alone.ensures.same in
-    let kept : Kept = record { input = c.args.next.input; stale = c.args.next.stale; dues = c.find_alone.new.dues; own = c.args.own.now; seen = c.args.reading.now; answers = c.args.answers.now } in
-    let lags : Lags m w p.state p.now p.wake_count t old kept = subst (λ (ds : List (Option ℕ)). Lags m w p.state p.now p.wake_count t old (record { input = c.args.next.input; stale = c.args.next.stale; dues = ds; own = c.args.own.now; seen = c.args.reading.now; answers = c.args.answers.now })) (sym same) c.requires.lags in
+    let kept : Kept = record { input = c.args.next.input; stale = c.args.next.stale; dues = c.find_alone.new.dues; seen = c.args.reading.now; answers = c.args.answers.now } in
+    let lags : Lags m w p.state p.now p.wake_count t old kept = subst (λ (ds : List (Option ℕ)). Lags m w p.state p.now p.wake_count t old (record { input = c.args.next.input; stale = c.args.next.stale; dues = ds; seen = c.args.reading.now; answers = c.args.answers.now })) (sym same) c.requires.lags in
     let nc = c.next_cycle-u.ensures in
     let u = c.next_cycle-u.result in
     let end : u ≤ MOST_CYCLES = omega (arith, nc.within, c.requires.end) in
@@ -255,8 +255,8 @@ returns-in-None-clause-steady g c =
     let t = c.args.t in
     let old = c.args.parts.now in
     let same = c.find_alone.ensures.same in
-    let kept : Kept = record { input = c.args.next.input; stale = c.args.next.stale; dues = c.find_alone.new.dues; own = c.args.own.now; seen = c.args.reading.now; answers = c.args.answers.now } in
-    let lags : Lags m w p.state p.now p.wake_count t old kept = subst (λ (ds : List (Option ℕ)). Lags m w p.state p.now p.wake_count t old (record { input = c.args.next.input; stale = c.args.next.stale; dues = ds; own = c.args.own.now; seen = c.args.reading.now; answers = c.args.answers.now })) (sym same) c.requires.lags in
+    let kept : Kept = record { input = c.args.next.input; stale = c.args.next.stale; dues = c.find_alone.new.dues; seen = c.args.reading.now; answers = c.args.answers.now } in
+    let lags : Lags m w p.state p.now p.wake_count t old kept = subst (λ (ds : List (Option ℕ)). Lags m w p.state p.now p.wake_count t old (record { input = c.args.next.input; stale = c.args.next.stale; dues = ds; seen = c.args.reading.now; answers = c.args.answers.now })) (sym same) c.requires.lags in
     let nc = c.next_cycle-u.ensures in
     let u = c.next_cycle-u.result in
     let end : u ≤ MOST_CYCLES = omega (arith, nc.within, c.requires.end) in

@@ -22,7 +22,7 @@ settle_all-requires-clause-later g c =
     let e = c.rest-after.ensures in
     let x = c.rest-after.result in
     let count = x.1 - t in
-    let kept : Kept = record { input = x.0.input; stale = x.0.stale; dues = r.dues; own = c.args.own.now; seen = r.reading; answers = c.args.answers.now } in
+    let kept : Kept = record { input = x.0.input; stale = x.0.stale; dues = r.dues; seen = r.reading; answers = c.args.answers.now } in
     let here = at_here m laws w p.state p.now p.wake_count inputs t old c.requires.at in
     let before = shown_at t c.args.reading.now in
     λ k z ez. (may_settle m laws w p.state p.now p.wake_count inputs x.1 r.parts kept e.lags k z ez).0
@@ -40,7 +40,7 @@ settle_all-requires-clause-quiet g c =
     let e = c.rest-after.ensures in
     let x = c.rest-after.result in
     let count = x.1 - t in
-    let kept : Kept = record { input = x.0.input; stale = x.0.stale; dues = r.dues; own = c.args.own.now; seen = r.reading; answers = c.args.answers.now } in
+    let kept : Kept = record { input = x.0.input; stale = x.0.stale; dues = r.dues; seen = r.reading; answers = c.args.answers.now } in
     let here = at_here m laws w p.state p.now p.wake_count inputs t old c.requires.at in
     let before = shown_at t c.args.reading.now in
     λ k z ez. (may_settle m laws w p.state p.now p.wake_count inputs x.1 r.parts kept e.lags k z ez).1
@@ -58,7 +58,7 @@ returns-clause-states g c =
     let e = c.rest-after.ensures in
     let x = c.rest-after.result in
     let count = x.1 - t in
-    let kept : Kept = record { input = x.0.input; stale = x.0.stale; dues = r.dues; own = c.args.own.now; seen = r.reading; answers = c.args.answers.now } in
+    let kept : Kept = record { input = x.0.input; stale = x.0.stale; dues = r.dues; seen = r.reading; answers = c.args.answers.now } in
     let here = at_here m laws w p.state p.now p.wake_count inputs t old c.requires.at in
     let before = shown_at t c.args.reading.now in
     let s = c.settle_all in
@@ -78,7 +78,7 @@ returns-clause-at g c =
     let e = c.rest-after.ensures in
     let x = c.rest-after.result in
     let count = x.1 - t in
-    let kept : Kept = record { input = x.0.input; stale = x.0.stale; dues = r.dues; own = c.args.own.now; seen = r.reading; answers = c.args.answers.now } in
+    let kept : Kept = record { input = x.0.input; stale = x.0.stale; dues = r.dues; seen = r.reading; answers = c.args.answers.now } in
     let here = at_here m laws w p.state p.now p.wake_count inputs t old c.requires.at in
     let before = shown_at t c.args.reading.now in
     let s = c.settle_all in
@@ -97,7 +97,7 @@ returns-clause-before g c =
     let e = c.rest-after.ensures in
     let x = c.rest-after.result in
     let count = x.1 - t in
-    let kept : Kept = record { input = x.0.input; stale = x.0.stale; dues = r.dues; own = c.args.own.now; seen = r.reading; answers = c.args.answers.now } in
+    let kept : Kept = record { input = x.0.input; stale = x.0.stale; dues = r.dues; seen = r.reading; answers = c.args.answers.now } in
     let here = at_here m laws w p.state p.now p.wake_count inputs t old c.requires.at in
     let before = shown_at t c.args.reading.now in
     ap (λ (l : List p.State). shown_before m w inputs before l t count) (sym here) ∙ e.leg.before_is
@@ -115,7 +115,7 @@ returns-clause-woken g c =
     let e = c.rest-after.ensures in
     let x = c.rest-after.result in
     let count = x.1 - t in
-    let kept : Kept = record { input = x.0.input; stale = x.0.stale; dues = r.dues; own = c.args.own.now; seen = r.reading; answers = c.args.answers.now } in
+    let kept : Kept = record { input = x.0.input; stale = x.0.stale; dues = r.dues; seen = r.reading; answers = c.args.answers.now } in
     let here = at_here m laws w p.state p.now p.wake_count inputs t old c.requires.at in
     let before = shown_at t c.args.reading.now in
     let s = c.settle_all in
@@ -135,7 +135,7 @@ returns-clause-steps g c =
     let e = c.rest-after.ensures in
     let x = c.rest-after.result in
     let count = x.1 - t in
-    let kept : Kept = record { input = x.0.input; stale = x.0.stale; dues = r.dues; own = c.args.own.now; seen = r.reading; answers = c.args.answers.now } in
+    let kept : Kept = record { input = x.0.input; stale = x.0.stale; dues = r.dues; seen = r.reading; answers = c.args.answers.now } in
     let here = at_here m laws w p.state p.now p.wake_count inputs t old c.requires.at in
     let before = shown_at t c.args.reading.now in
     e.leg.steps_are ∙ ap (λ (l : List p.State). c.args.steps.now + active_pairs m w inputs l t count) here
@@ -153,7 +153,7 @@ returns-clause-steady g c =
     let e = c.rest-after.ensures in
     let x = c.rest-after.result in
     let count = x.1 - t in
-    let kept : Kept = record { input = x.0.input; stale = x.0.stale; dues = r.dues; own = c.args.own.now; seen = r.reading; answers = c.args.answers.now } in
+    let kept : Kept = record { input = x.0.input; stale = x.0.stale; dues = r.dues; seen = r.reading; answers = c.args.answers.now } in
     let here = at_here m laws w p.state p.now p.wake_count inputs t old c.requires.at in
     let before = shown_at t c.args.reading.now in
     λ less. subst (λ (l : List p.State). IsSteady m w inputs l t count) here (e.steady less)
@@ -171,7 +171,7 @@ returns-clause-lags g c =
     let e = c.rest-after.ensures in
     let x = c.rest-after.result in
     let count = x.1 - t in
-    let kept : Kept = record { input = x.0.input; stale = x.0.stale; dues = r.dues; own = c.args.own.now; seen = r.reading; answers = c.args.answers.now } in
+    let kept : Kept = record { input = x.0.input; stale = x.0.stale; dues = r.dues; seen = r.reading; answers = c.args.answers.now } in
     let here = at_here m laws w p.state p.now p.wake_count inputs t old c.requires.at in
     let before = shown_at t c.args.reading.now in
     let s = c.settle_all in

@@ -10,6 +10,7 @@ use Rattle.net_resolve.specs.Circuit.{Circuit}
 use Rattle.board_run.specs.Lagging.{to_wake, turned, Turns, Awaits, AreDue, AreLate}
 use Rattle.board_run.specs.Seen.{HasAt}
 use Rattle.board_run.proofs.StepLemmas.{fits_pins}
+use Rattle.board_run.proofs.GatherLemmas.{length_slice, slice_on_nets}
 use Rattle.board_run.proofs.WakeLemmas.{silent_more}
 use Rattle.board_run.proofs.ReadLemmas.{told_more, still_told, others_told}
 use Rattle.board_run.proofs.TurnLemmas.{some_there, awaited_turn, awaited_rest, turns_none, turns_more, turns_skip, less_or, due_set, dues_late, late_set, passed_set, count_more, sum_skip, turned_room, turned_still, turned_others, fits_set}
@@ -68,16 +69,16 @@ loop-i-preserved g c =
     let t = c.args.t in
     let inv = c.loop-i.invariant in
     let x = get_or c.loop-i.parts i c.index-parts-i-in-loop-i.result in
-    let e = c.take_turn-byte.ensures in
-    let y = c.take_turn-byte.new.part in
-    let byte = c.take_turn-byte.result.0 in
+    let e = c.take_turn_on-byte.ensures in
+    let y = c.take_turn_on-byte.new.part in
+    let byte = c.take_turn_on-byte.result.0 in
     let within : i < length c.loop-i.parts = omega (arith, c.loop-i.auto.parts, c.loop-i-test.true) in
     let here_is : slice_get c.loop-i.parts i ≡ Some x = get_within c.loop-i.parts i _ within in
     let other : slice_get c.loop-i.parts i ≡ Some (get_or c.loop-i.parts i c.index-parts-i.result) = get_within c.loop-i.parts i c.index-parts-i.result within in
     let old = sym (inv.rest_parts i (omega arith)) ∙ here_is in
     let pins = c.pins-pins.ensures ∙ ap (λ (y : g.row.P.Denot). length (m.drives (p.state y))) (some_same (sym other ∙ here_is)) in
     let at = get_or c.as_slice.result.now i 0 in
-    let levels_are : c.levels.result.now ≡ ls = c.levels.ensures.levels ∙ ap (λ (z : Circuit). z.levels) inv.nets_rest in
+    let own_is = slice_on_nets ls w.net_of at c.pins-pins.result c.loop-i.nets c.pin_levels.result.now c.pin_levels.ensures.levels (ap (λ (z : Circuit). z.levels) inv.nets_rest) (ap (λ (z : Circuit). z.net_of) inv.nets_rest ∙ c.requires.wired.0) in
     let first = ap (λ (l : List ℕ). get_or l i 0) c.as_slice.ensures in
     let here : i < length c.loop-i.dues = omega (arith, inv.dues_long, c.requires.dues, within, c.loop-i.auto.parts) in
     let due = sym (inv.rest i (omega arith)) ∙ c.due-due.ensures in
@@ -89,14 +90,14 @@ loop-i-preserved g c =
     let inside_is : i < length (map p.state c.loop-i.parts) = (let l : length (map p.state c.loop-i.parts) ≡ length c.loop-i.parts = simp length-map refl in omega (arith, l, within)) in
     let place = ap (λ (l : List ℕ). get_or l i 0) c.as_slice.ensures ∙ inv.fits.places i inside_is in
     let ps = slice_set c.loop-i.parts i y in
-    let ds = slice_set c.loop-i.dues i c.take_turn-byte.new.due in
+    let ds = slice_set c.loop-i.dues i c.take_turn_on-byte.new.due in
     let bs = slice_set c.loop-i.answers i byte in
-    let changed = c.loop-i.changed || c.take_turn-byte.result.1 in
+    let changed = c.loop-i.changed || c.take_turn_on-byte.result.1 in
     let j = c.next_part-i-in-loop-i.result in
     let n = c.next_part-i-in-loop-i.ensures in
     let inside : j ≤ length c.args.parts.now = omega (arith, n.within) in
     let rest_parts = λ (k : ℕ) (l : i + 1 ≤ k). get_set_other c.loop-i.parts i k y (omega (arith, l)) ∙ inv.rest_parts k (omega (arith, l)) in
-    let rest = λ (k : ℕ) (l : i + 1 ≤ k). get_set_other c.loop-i.dues i k c.take_turn-byte.new.due (omega (arith, l)) ∙ inv.rest k (omega (arith, l)) in
+    let rest = λ (k : ℕ) (l : i + 1 ≤ k). get_set_other c.loop-i.dues i k c.take_turn_on-byte.new.due (omega (arith, l)) ∙ inv.rest k (omega (arith, l)) in
     let quiet = λ (k : ℕ) (a : Option ℕ) (l : i + 1 ≤ k) (ea : slice_get bs k ≡ Some a). inv.quiet k a (omega (arith, l)) (sym (get_set_other c.loop-i.answers i k byte (omega (arith, l))) ∙ ea) in
     let pass = λ (inputs : List Input) (ts : List p.State) (awaits : Awaits m w p.state p.now c.args.given.now inputs ls c.args.differ t c.args.parts.now ts) (k : ℕ) (z : _) (s : p.State) (l : i + 1 ≤ k) (h : k < j)
     (ez : slice_get c.args.parts.now k ≡ Some z) (es : slice_get ts k ≡ Some s).
@@ -109,23 +110,23 @@ loop-i-preserved g c =
     let turn = λ (inputs : List Input) (ts : List p.State) (awaits : Awaits m w p.state p.now c.args.given.now inputs ls c.args.differ t c.args.parts.now ts).
     let s = some_there ts i (omega (arith, awaits.stands.long, within, c.loop-i.auto.parts)) in
     awaited_turn m laws w c.args.given.now inputs p.state p.now p.wake_count ls c.args.differ t c.args.parts.now ts c.requires.end awaits
-    i x y s.0 _ c.find_input-input.result byte (get_or c.as_slice.result.now i 0) c.pins-pins.result c.has.result c.take_turn-byte.result.1
-    old s.1 c.has.ensures may first pins c.find_input-input.ensures (subst (λ (ns : List ℕ). turned m p.state p.now p.wake_count (to_wake c.due-due.result t c.find_input-input.result c.has.result) t (map (level_at ls) (take (at + c.pins-pins.result - at) (drop at ns))) c.find_input-input.result x y byte c.take_turn-byte.result.1) c.as_slice-net_of.ensures
-    (subst (λ (l : List Level). turned m p.state p.now p.wake_count (to_wake c.due-due.result t c.find_input-input.result c.has.result) t (map (level_at l) (take (at + c.pins-pins.result - at) (drop at c.as_slice-net_of.result.now))) c.find_input-input.result x y byte c.take_turn-byte.result.1) levels_are e.turn)) in
+    i x y s.0 _ c.find_input-input.result byte (get_or c.as_slice.result.now i 0) c.pins-pins.result c.has.result c.take_turn_on-byte.result.1
+    old s.1 c.has.ensures may first pins c.find_input-input.ensures
+    (subst (λ (l : List Level). turned m p.state p.now p.wake_count (to_wake c.due-due.result t c.find_input-input.result c.has.result) t l c.find_input-input.result x y byte c.take_turn_on-byte.result.1) own_is e.turn) in
     record {
       within = inside;
       rest_parts = λ k l. rest_parts k (omega (arith, l, n.from));
       rest = λ k l. ap (λ (q : List (Option ℕ)). slice_get q k) c.set.ensures ∙ rest k (omega (arith, l, n.from));
       dues_long = ap length c.set.ensures ∙ length-set c.loop-i.dues i _ ∙ inv.dues_long;
       due = subst (λ (q : List (Option ℕ)). AreDue m p.state p.now p.wake_count ps q) (sym c.set.ensures) (due_set m p.state p.now p.wake_count c.loop-i.parts c.loop-i.dues i y _ within here inv.due e.first);
-      late = subst (λ (q : List (Option ℕ)). AreLate q t) (sym c.set.ensures) (late_set c.loop-i.dues i t c.take_turn-byte.new.due here inv.late e.later);
+      late = subst (λ (q : List (Option ℕ)). AreLate q t) (sym c.set.ensures) (late_set c.loop-i.dues i t c.take_turn_on-byte.new.due here inv.late e.later);
       passed = λ k l. elim (less_or k (i + 1)) [
-        | inl less ↦ subst (λ (q : List (Option ℕ)). slice_get q k ≢ Some (Some t)) (sym c.set.ensures) (passed_set c.loop-i.dues i t c.take_turn-byte.new.due here inv.passed e.later k less)
+        | inl less ↦ subst (λ (q : List (Option ℕ)). slice_get q k ≢ Some (Some t)) (sym c.set.ensures) (passed_set c.loop-i.dues i t c.take_turn_on-byte.new.due here inv.passed e.later k less)
         | inr more ↦ (n.passed k more l).1
       ];
       turns = λ inputs ts awaits.
           let s = some_there ts i (omega (arith, awaits.stands.long, within, c.loop-i.auto.parts)) in
-          let more = turns_more m laws w inputs p.state p.now p.wake_count ls t ts i c.args.parts.now c.loop-i.parts c.loop-i.answers c.loop-i.changed c.take_turn-byte.result.1 x y s.0 byte
+          let more = turns_more m laws w inputs p.state p.now p.wake_count ls t ts i c.args.parts.now c.loop-i.parts c.loop-i.answers c.loop-i.changed c.take_turn_on-byte.result.1 x y s.0 byte
           (inv.turns inputs ts awaits) old s.1 within room (turn inputs ts awaits).0 in
           turns_skip m laws w inputs p.state p.now p.wake_count ls t ts (i + 1) j c.args.parts.now ps bs changed more awaits.stands.long inside
           (let l : length bs ≡ length c.loop-i.answers = length-set c.loop-i.answers i byte in omega (arith, l, c.loop-i.auto.answers, c.requires.answers)) rest_parts quiet (λ k z s l h ez es. (pass inputs ts awaits k z s l h ez es).0);
@@ -137,7 +138,7 @@ loop-i-preserved g c =
       steps = λ inputs ts awaits.
           let s = some_there ts i (omega (arith, awaits.stands.long, within, c.loop-i.auto.parts)) in
           let f = λ (k : ℕ). active_in m w inputs ls t k (slice_get ts k) in
-          let counted = count_more i c.args.steps.now c.loop-i.steps c.take_turn-byte.new.steps f _ (inv.steps inputs ts awaits) e.steps (ap (active_in m w inputs ls t i) s.1 ∙ (turn inputs ts awaits).1) in
+          let counted = count_more i c.args.steps.now c.loop-i.steps c.take_turn_on-byte.new.steps f _ (inv.steps inputs ts awaits) e.steps (ap (active_in m w inputs ls t i) s.1 ∙ (turn inputs ts awaits).1) in
           let skipped : sum_below j f ≡ sum_below (i + 1) f = sum_skip (i + 1) j f n.from (λ k l h.
           let z = some_there c.args.parts.now k (omega (arith, h, inside)) in
           let u = some_there ts k (omega (arith, h, inside, awaits.stands.long)) in
@@ -155,37 +156,45 @@ next_part-i-requires-in-loop-i-clause-late g c =
     let inv = c.loop-i.invariant in
     let i = c.loop-i.i in
     let here : i < length c.loop-i.dues = omega (arith, inv.dues_long, c.requires.dues, c.loop-i-test.true) in
-    subst (λ (q : List (Option ℕ)). AreLate q c.args.t) (sym c.set.ensures) (late_set c.loop-i.dues i c.args.t c.take_turn-byte.new.due here inv.late c.take_turn-byte.ensures.later)
+    subst (λ (q : List (Option ℕ)). AreLate q c.args.t) (sym c.set.ensures) (late_set c.loop-i.dues i c.args.t c.take_turn_on-byte.new.due here inv.late c.take_turn_on-byte.ensures.later)
 
 pub next_part-i-requires-in-loop-i-clause-before : goal.next_part-i-requires-in-loop-i-clause-before
 next_part-i-requires-in-loop-i-clause-before g c =
     let inv = c.loop-i.invariant in
     let i = c.loop-i.i in
     let here : i < length c.loop-i.dues = omega (arith, inv.dues_long, c.requires.dues, c.loop-i-test.true) in
-    λ k l. subst (λ (q : List (Option ℕ)). slice_get q k ≢ Some (Some c.args.t)) (sym c.set.ensures) (passed_set c.loop-i.dues i c.args.t c.take_turn-byte.new.due here inv.passed c.take_turn-byte.ensures.later k l)
+    λ k l. subst (λ (q : List (Option ℕ)). slice_get q k ≢ Some (Some c.args.t)) (sym c.set.ensures) (passed_set c.loop-i.dues i c.args.t c.take_turn_on-byte.new.due here inv.passed c.take_turn_on-byte.ensures.later k l)
 
-pub slice_bounds-take_turn-end-in-loop-i : goal.slice_bounds-take_turn-end-in-loop-i
-slice_bounds-take_turn-end-in-loop-i g c =
+pub slice_bounds-take_turn_on-end : goal.slice_bounds-take_turn_on-end
+slice_bounds-take_turn_on-end g c =
     let p = g.P.Part in
     let inv = c.loop-i.invariant in
     let i = c.loop-i.i in
     let within : i < length c.loop-i.parts = omega (arith, c.loop-i.auto.parts, c.loop-i-test.true) in
     let here_is : slice_get c.loop-i.parts i ≡ Some (get_or c.loop-i.parts i c.index-parts-i.result) = get_within c.loop-i.parts i c.index-parts-i.result within in
     let room = fits_pins p.machine c.args.wiring.now (map p.state c.loop-i.parts) inv.fits i _ (some_map p.state c.loop-i.parts i _ here_is) in
-    omega (arith, room, c.pins-pins.ensures, c.loop-i.auto.own, c.requires.own, ap (λ (l : List ℕ). get_or l i 0) c.as_slice.ensures)
+    let long = c.pin_levels.ensures.pins ∙ ap (λ (z : Circuit). length z.net_of) inv.nets_rest ∙ ap length c.requires.wired.0 in
+    omega (arith, room, c.pins-pins.ensures, long, ap (λ (l : List ℕ). get_or l i 0) c.as_slice.ensures)
 
-pub slice_bounds-take_turn-end : goal.slice_bounds-take_turn-end
-slice_bounds-take_turn-end g c =
+pub take_turn_on-byte-requires-clause-pins : goal.take_turn_on-byte-requires-clause-pins
+take_turn_on-byte-requires-clause-pins g c =
     let p = g.P.Part in
+    let m = p.machine in
     let inv = c.loop-i.invariant in
     let i = c.loop-i.i in
+    let x = get_or c.loop-i.parts i c.index-parts-i-in-loop-i.result in
     let within : i < length c.loop-i.parts = omega (arith, c.loop-i.auto.parts, c.loop-i-test.true) in
-    let here_is : slice_get c.loop-i.parts i ≡ Some (get_or c.loop-i.parts i c.index-parts-i.result) = get_within c.loop-i.parts i c.index-parts-i.result within in
-    let room = fits_pins p.machine c.args.wiring.now (map p.state c.loop-i.parts) inv.fits i _ (some_map p.state c.loop-i.parts i _ here_is) in
-    omega (arith, room, c.pins-pins.ensures, ap length c.as_slice-net_of.ensures, ap (λ (l : List ℕ). get_or l i 0) c.as_slice.ensures)
+    let here_is : slice_get c.loop-i.parts i ≡ Some x = get_within c.loop-i.parts i _ within in
+    let other : slice_get c.loop-i.parts i ≡ Some (get_or c.loop-i.parts i c.index-parts-i.result) = get_within c.loop-i.parts i c.index-parts-i.result within in
+    let room = fits_pins p.machine c.args.wiring.now (map p.state c.loop-i.parts) inv.fits i _ (some_map p.state c.loop-i.parts i _ other) in
+    let long = c.pin_levels.ensures.pins ∙ ap (λ (z : Circuit). length z.net_of) inv.nets_rest ∙ ap length c.requires.wired.0 in
+    let pins = c.pins-pins.ensures ∙ ap (λ (y : g.row.P.Denot). length (m.drives (p.state y))) (some_same (sym other ∙ here_is)) in
+    let at = get_or c.as_slice.result.now i 0 in
+    let inside : at + c.pins-pins.result ≤ length c.pin_levels.result.now = omega (arith, room, c.pins-pins.ensures, long, ap (λ (l : List ℕ). get_or l i 0) c.as_slice.ensures) in
+    length_slice c.pin_levels.result.now at c.pins-pins.result inside ∙ pins
 
-pub take_turn-byte-requires-clause-may : goal.take_turn-byte-requires-clause-may
-take_turn-byte-requires-clause-may g c =
+pub take_turn_on-byte-requires-clause-may : goal.take_turn_on-byte-requires-clause-may
+take_turn_on-byte-requires-clause-may g c =
     let i = c.loop-i.i in
     let inv = c.loop-i.invariant in
     let within : i < length c.loop-i.parts = omega (arith, c.loop-i.auto.parts, c.loop-i-test.true) in
@@ -193,8 +202,8 @@ take_turn-byte-requires-clause-may g c =
     let due = sym (inv.rest i (omega arith)) ∙ c.due-due.ensures in
     c.requires.may i _ _ (sym (inv.rest_parts i (omega arith)) ∙ here_is) due
 
-pub take_turn-byte-requires-clause-differs : goal.take_turn-byte-requires-clause-differs
-take_turn-byte-requires-clause-differs g c = λ is later same.
+pub take_turn_on-byte-requires-clause-differs : goal.take_turn_on-byte-requires-clause-differs
+take_turn_on-byte-requires-clause-differs g c = λ is later same.
     let p = g.P.Part in
     let m = p.machine in
     let w = c.args.wiring.now in
@@ -211,10 +220,9 @@ take_turn-byte-requires-clause-differs g c = λ is later same.
     let at = get_or c.as_slice.result.now i 0 in
     let n = length (m.drives (p.state x)) in
     let count : at + c.pins-pins.result - at ≡ n = omega (arith, pins) in
-    let levels_are : c.levels.result.now ≡ ls = c.levels.ensures.levels ∙ ap (λ (z : Circuit). z.levels) inv.nets_rest in
+    let own_is = slice_on_nets ls w.net_of at c.pins-pins.result c.loop-i.nets c.pin_levels.result.now c.pin_levels.ensures.levels (ap (λ (z : Circuit). z.levels) inv.nets_rest) (ap (λ (z : Circuit). z.net_of) inv.nets_rest ∙ c.requires.wired.0) in
     c.requires.differ i x old (sym c.has.ensures ∙ is) later
-    (same ∙ ap (λ (l : List Level). map (level_at l) (take (at + c.pins-pins.result - at) (drop at c.as_slice-net_of.result.now))) levels_are
-    ∙ ap (λ (ns : List ℕ). map (level_at ls) (take (at + c.pins-pins.result - at) (drop at ns))) c.as_slice-net_of.ensures
+    (same ∙ own_is
     ∙ ap (λ (j : ℕ). map (level_at ls) (take j (drop at w.net_of))) count
     ∙ ap (λ (j : ℕ). map (level_at ls) (take n (drop j w.net_of))) first)
 
@@ -238,11 +246,11 @@ tell-requires-clause-within g c =
     let i = c.loop-i.i in
     let inv = c.loop-i.invariant in
     let x = get_or c.loop-i.parts i c.index-parts-i-in-loop-i.result in
-    let y = c.take_turn-byte.new.part in
+    let y = c.take_turn_on-byte.new.part in
     let within : i < length c.loop-i.parts = omega (arith, c.loop-i.auto.parts, c.loop-i-test.true) in
     let here_is : slice_get c.loop-i.parts i ≡ Some x = get_within c.loop-i.parts i _ within in
     let new_is : slice_get (slice_set c.loop-i.parts i y) i ≡ Some y = get_set_same c.loop-i.parts i y within in
-    let room_is = turned_room m g.met.P.Part.laws p.state p.now p.wake_count c.args.t x y _ _ _ _ _ c.take_turn-byte.ensures.turn in
+    let room_is = turned_room m g.met.P.Part.laws p.state p.now p.wake_count c.args.t x y _ _ _ _ _ c.take_turn_on-byte.ensures.turn in
     let fits_new = fits_set m w p.state c.loop-i.parts i x y here_is room_is inv.fits in
     let inside_is : i < length (map p.state c.loop-i.parts) = (let l : length (map p.state c.loop-i.parts) ≡ length c.loop-i.parts = simp length-map refl in omega (arith, l, within)) in
     let place = ap (λ (l : List ℕ). get_or l i 0) c.as_slice.ensures ∙ inv.fits.places i inside_is in
@@ -256,11 +264,11 @@ tell-requires-clause-first g c =
     let i = c.loop-i.i in
     let inv = c.loop-i.invariant in
     let x = get_or c.loop-i.parts i c.index-parts-i-in-loop-i.result in
-    let y = c.take_turn-byte.new.part in
+    let y = c.take_turn_on-byte.new.part in
     let within : i < length c.loop-i.parts = omega (arith, c.loop-i.auto.parts, c.loop-i-test.true) in
     let here_is : slice_get c.loop-i.parts i ≡ Some x = get_within c.loop-i.parts i _ within in
     let new_is : slice_get (slice_set c.loop-i.parts i y) i ≡ Some y = get_set_same c.loop-i.parts i y within in
-    let room_is = turned_room m g.met.P.Part.laws p.state p.now p.wake_count c.args.t x y _ _ _ _ _ c.take_turn-byte.ensures.turn in
+    let room_is = turned_room m g.met.P.Part.laws p.state p.now p.wake_count c.args.t x y _ _ _ _ _ c.take_turn_on-byte.ensures.turn in
     let fits_new = fits_set m w p.state c.loop-i.parts i x y here_is room_is inv.fits in
     let inside_is : i < length (map p.state c.loop-i.parts) = (let l : length (map p.state c.loop-i.parts) ≡ length c.loop-i.parts = simp length-map refl in omega (arith, l, within)) in
     let place = ap (λ (l : List ℕ). get_or l i 0) c.as_slice.ensures ∙ inv.fits.places i inside_is in
@@ -275,11 +283,11 @@ tell-requires-clause-pins g c =
     let i = c.loop-i.i in
     let inv = c.loop-i.invariant in
     let x = get_or c.loop-i.parts i c.index-parts-i-in-loop-i.result in
-    let y = c.take_turn-byte.new.part in
+    let y = c.take_turn_on-byte.new.part in
     let within : i < length c.loop-i.parts = omega (arith, c.loop-i.auto.parts, c.loop-i-test.true) in
     let here_is : slice_get c.loop-i.parts i ≡ Some x = get_within c.loop-i.parts i _ within in
     let new_is : slice_get (slice_set c.loop-i.parts i y) i ≡ Some y = get_set_same c.loop-i.parts i y within in
-    let room_is = turned_room m g.met.P.Part.laws p.state p.now p.wake_count c.args.t x y _ _ _ _ _ c.take_turn-byte.ensures.turn in
+    let room_is = turned_room m g.met.P.Part.laws p.state p.now p.wake_count c.args.t x y _ _ _ _ _ c.take_turn_on-byte.ensures.turn in
     let fits_new = fits_set m w p.state c.loop-i.parts i x y here_is room_is inv.fits in
     let inside_is : i < length (map p.state c.loop-i.parts) = (let l : length (map p.state c.loop-i.parts) ≡ length c.loop-i.parts = simp length-map refl in omega (arith, l, within)) in
     let place = ap (λ (l : List ℕ). get_or l i 0) c.as_slice.ensures ∙ inv.fits.places i inside_is in
@@ -293,11 +301,11 @@ tell-requires-clause-contacts g c =
     let i = c.loop-i.i in
     let inv = c.loop-i.invariant in
     let x = get_or c.loop-i.parts i c.index-parts-i-in-loop-i.result in
-    let y = c.take_turn-byte.new.part in
+    let y = c.take_turn_on-byte.new.part in
     let within : i < length c.loop-i.parts = omega (arith, c.loop-i.auto.parts, c.loop-i-test.true) in
     let here_is : slice_get c.loop-i.parts i ≡ Some x = get_within c.loop-i.parts i _ within in
     let new_is : slice_get (slice_set c.loop-i.parts i y) i ≡ Some y = get_set_same c.loop-i.parts i y within in
-    let room_is = turned_room m g.met.P.Part.laws p.state p.now p.wake_count c.args.t x y _ _ _ _ _ c.take_turn-byte.ensures.turn in
+    let room_is = turned_room m g.met.P.Part.laws p.state p.now p.wake_count c.args.t x y _ _ _ _ _ c.take_turn_on-byte.ensures.turn in
     let fits_new = fits_set m w p.state c.loop-i.parts i x y here_is room_is inv.fits in
     let inside_is : i < length (map p.state c.loop-i.parts) = (let l : length (map p.state c.loop-i.parts) ≡ length c.loop-i.parts = simp length-map refl in omega (arith, l, within)) in
     let place = ap (λ (l : List ℕ). get_or l i 0) c.as_slice.ensures ∙ inv.fits.places i inside_is in
@@ -311,11 +319,11 @@ tell-requires-clause-few g c =
     let i = c.loop-i.i in
     let inv = c.loop-i.invariant in
     let x = get_or c.loop-i.parts i c.index-parts-i-in-loop-i.result in
-    let y = c.take_turn-byte.new.part in
+    let y = c.take_turn_on-byte.new.part in
     let within : i < length c.loop-i.parts = omega (arith, c.loop-i.auto.parts, c.loop-i-test.true) in
     let here_is : slice_get c.loop-i.parts i ≡ Some x = get_within c.loop-i.parts i _ within in
     let new_is : slice_get (slice_set c.loop-i.parts i y) i ≡ Some y = get_set_same c.loop-i.parts i y within in
-    let room_is = turned_room m g.met.P.Part.laws p.state p.now p.wake_count c.args.t x y _ _ _ _ _ c.take_turn-byte.ensures.turn in
+    let room_is = turned_room m g.met.P.Part.laws p.state p.now p.wake_count c.args.t x y _ _ _ _ _ c.take_turn_on-byte.ensures.turn in
     let fits_new = fits_set m w p.state c.loop-i.parts i x y here_is room_is inv.fits in
     let inside_is : i < length (map p.state c.loop-i.parts) = (let l : length (map p.state c.loop-i.parts) ≡ length c.loop-i.parts = simp length-map refl in omega (arith, l, within)) in
     let place = ap (λ (l : List ℕ). get_or l i 0) c.as_slice.ensures ∙ inv.fits.places i inside_is in
@@ -333,11 +341,11 @@ tell-requires-clause-drives_long g c =
     let i = c.loop-i.i in
     let inv = c.loop-i.invariant in
     let x = get_or c.loop-i.parts i c.index-parts-i-in-loop-i.result in
-    let y = c.take_turn-byte.new.part in
+    let y = c.take_turn_on-byte.new.part in
     let within : i < length c.loop-i.parts = omega (arith, c.loop-i.auto.parts, c.loop-i-test.true) in
     let here_is : slice_get c.loop-i.parts i ≡ Some x = get_within c.loop-i.parts i _ within in
     let new_is : slice_get (slice_set c.loop-i.parts i y) i ≡ Some y = get_set_same c.loop-i.parts i y within in
-    let room_is = turned_room m g.met.P.Part.laws p.state p.now p.wake_count c.args.t x y _ _ _ _ _ c.take_turn-byte.ensures.turn in
+    let room_is = turned_room m g.met.P.Part.laws p.state p.now p.wake_count c.args.t x y _ _ _ _ _ c.take_turn_on-byte.ensures.turn in
     let fits_new = fits_set m w p.state c.loop-i.parts i x y here_is room_is inv.fits in
     let inside_is : i < length (map p.state c.loop-i.parts) = (let l : length (map p.state c.loop-i.parts) ≡ length c.loop-i.parts = simp length-map refl in omega (arith, l, within)) in
     let place = ap (λ (l : List ℕ). get_or l i 0) c.as_slice.ensures ∙ inv.fits.places i inside_is in
@@ -351,11 +359,11 @@ tell-requires-clause-closed_long g c =
     let i = c.loop-i.i in
     let inv = c.loop-i.invariant in
     let x = get_or c.loop-i.parts i c.index-parts-i-in-loop-i.result in
-    let y = c.take_turn-byte.new.part in
+    let y = c.take_turn_on-byte.new.part in
     let within : i < length c.loop-i.parts = omega (arith, c.loop-i.auto.parts, c.loop-i-test.true) in
     let here_is : slice_get c.loop-i.parts i ≡ Some x = get_within c.loop-i.parts i _ within in
     let new_is : slice_get (slice_set c.loop-i.parts i y) i ≡ Some y = get_set_same c.loop-i.parts i y within in
-    let room_is = turned_room m g.met.P.Part.laws p.state p.now p.wake_count c.args.t x y _ _ _ _ _ c.take_turn-byte.ensures.turn in
+    let room_is = turned_room m g.met.P.Part.laws p.state p.now p.wake_count c.args.t x y _ _ _ _ _ c.take_turn_on-byte.ensures.turn in
     let fits_new = fits_set m w p.state c.loop-i.parts i x y here_is room_is inv.fits in
     let inside_is : i < length (map p.state c.loop-i.parts) = (let l : length (map p.state c.loop-i.parts) ≡ length c.loop-i.parts = simp length-map refl in omega (arith, l, within)) in
     let place = ap (λ (l : List ℕ). get_or l i 0) c.as_slice.ensures ∙ inv.fits.places i inside_is in
@@ -369,11 +377,11 @@ tell-requires-clause-still g c =
     let i = c.loop-i.i in
     let inv = c.loop-i.invariant in
     let x = get_or c.loop-i.parts i c.index-parts-i-in-loop-i.result in
-    let y = c.take_turn-byte.new.part in
+    let y = c.take_turn_on-byte.new.part in
     let within : i < length c.loop-i.parts = omega (arith, c.loop-i.auto.parts, c.loop-i-test.true) in
     let here_is : slice_get c.loop-i.parts i ≡ Some x = get_within c.loop-i.parts i _ within in
     let new_is : slice_get (slice_set c.loop-i.parts i y) i ≡ Some y = get_set_same c.loop-i.parts i y within in
-    let room_is = turned_room m g.met.P.Part.laws p.state p.now p.wake_count c.args.t x y _ _ _ _ _ c.take_turn-byte.ensures.turn in
+    let room_is = turned_room m g.met.P.Part.laws p.state p.now p.wake_count c.args.t x y _ _ _ _ _ c.take_turn_on-byte.ensures.turn in
     let fits_new = fits_set m w p.state c.loop-i.parts i x y here_is room_is inv.fits in
     let inside_is : i < length (map p.state c.loop-i.parts) = (let l : length (map p.state c.loop-i.parts) ≡ length c.loop-i.parts = simp length-map refl in omega (arith, l, within)) in
     let place = ap (λ (l : List ℕ). get_or l i 0) c.as_slice.ensures ∙ inv.fits.places i inside_is in
@@ -384,7 +392,7 @@ tell-requires-clause-still g c =
     let v = c.requires.valid i x old in
     λ z ez none.
     let z_is : y ≡ z = some_same (sym new_is ∙ ez) in
-    let still = turned_still m g.met.P.Part.laws p.state p.now p.wake_count c.args.t x y _ _ _ _ _ v may.quiet c.take_turn-byte.ensures.turn none in
+    let still = turned_still m g.met.P.Part.laws p.state p.now p.wake_count c.args.t x y _ _ _ _ _ v may.quiet c.take_turn_on-byte.ensures.turn none in
     let told = still_told m p.state c.loop-i.parts i x y c.loop-i.nets c.loop-i.nets here_is inv.told room_is.0 room_is.1 _ place still.0 still.1 in (
       subst (λ (u : g.row.P.Denot). HasAt (get_or c.as_slice.result.now i 0) (m.drives (p.state u)) c.loop-i.nets.drives) z_is told.0,
       subst (λ (u : g.row.P.Denot). HasAt (length (contacts_of m (take i (map p.state (slice_set c.loop-i.parts i y))))) (m.contacts (p.state u)) c.loop-i.nets.closed) z_is told.1,
@@ -398,11 +406,11 @@ tell-requires-clause-others g c =
     let i = c.loop-i.i in
     let inv = c.loop-i.invariant in
     let x = get_or c.loop-i.parts i c.index-parts-i-in-loop-i.result in
-    let y = c.take_turn-byte.new.part in
+    let y = c.take_turn_on-byte.new.part in
     let within : i < length c.loop-i.parts = omega (arith, c.loop-i.auto.parts, c.loop-i-test.true) in
     let here_is : slice_get c.loop-i.parts i ≡ Some x = get_within c.loop-i.parts i _ within in
     let new_is : slice_get (slice_set c.loop-i.parts i y) i ≡ Some y = get_set_same c.loop-i.parts i y within in
-    let room_is = turned_room m g.met.P.Part.laws p.state p.now p.wake_count c.args.t x y _ _ _ _ _ c.take_turn-byte.ensures.turn in
+    let room_is = turned_room m g.met.P.Part.laws p.state p.now p.wake_count c.args.t x y _ _ _ _ _ c.take_turn_on-byte.ensures.turn in
     let fits_new = fits_set m w p.state c.loop-i.parts i x y here_is room_is inv.fits in
     let inside_is : i < length (map p.state c.loop-i.parts) = (let l : length (map p.state c.loop-i.parts) ≡ length c.loop-i.parts = simp length-map refl in omega (arith, l, within)) in
     let place = ap (λ (l : List ℕ). get_or l i 0) c.as_slice.ensures ∙ inv.fits.places i inside_is in
@@ -413,6 +421,6 @@ tell-requires-clause-others g c =
     let v = c.requires.valid i x old in
     λ z ez some j within_pins none.
     let z_is : y ≡ z = some_same (sym new_is ∙ ez) in
-    let same = turned_others m g.met.P.Part.laws p.state p.now p.wake_count c.args.t x y (p.moves y) v may.quiet (c.take_turn-byte.ensures.others some) in
+    let same = turned_others m g.met.P.Part.laws p.state p.now p.wake_count c.args.t x y (p.moves y) v may.quiet (c.take_turn_on-byte.ensures.others some) in
     subst (λ (u : g.row.P.Denot). j < length (m.drives (p.state u)) → p.moves u j ≡ false → slice_get c.loop-i.nets.drives (get_or c.as_slice.result.now i 0 + j) ≡ slice_get (m.drives (p.state u)) j) z_is
     (others_told m p.state c.loop-i.parts i x y c.loop-i.nets c.loop-i.nets here_is inv.told room_is.0 room_is.1 _ place (p.moves y) same j) within_pins none

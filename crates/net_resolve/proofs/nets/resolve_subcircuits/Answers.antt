@@ -46,6 +46,18 @@ resolve-requires-clause-once c =
     let first = subst (λ (x : List SubcircuitView). slice_get x q ≡ Some (get_or l.subcircuits q d)) l.invariant.same (slice_get-get_or l.subcircuits q d inside) in
     (c.requires.fits q (get_or l.subcircuits q d) first).once
 
+pub resolve-requires-clause-within : goal.resolve-requires-clause-within
+resolve-requires-clause-within c = λ k n e. omega (arith, c.requires.nets k n e, c.loop-i.auto.levels)
+
+pub resolve-requires-clause-whole : goal.resolve-requires-clause-whole
+resolve-requires-clause-whole c =
+    let l = c.loop-i in
+    let q = get_or c.args.marked.now l.i 0 in
+    let d = c.index-subcircuits-marked.result in
+    let inside : q < length l.subcircuits = omega (arith, c.requires.marked q (has_at c.args.marked.now l.i c.loop-i-test.true), l.auto.subcircuits) in
+    let first = subst (λ (x : List SubcircuitView). slice_get x q ≡ Some (get_or l.subcircuits q d)) l.invariant.same (slice_get-get_or l.subcircuits q d inside) in
+    c.requires.whole q (get_or l.subcircuits q d) first
+
 pub loop-i-preserved : goal.loop-i-preserved
 loop-i-preserved c =
     let l = c.loop-i in
@@ -68,6 +80,7 @@ loop-i-preserved c =
           (distinct_first q (drop (l.i + 1) marked) (subst (λ (ns : List ℕ). IsDistinct eqb ns) more (distinct_drop marked l.i c.requires.once)))
           c.resolve.ensures.others c.resolve.ensures.moves
           (subst (λ (ns : List ℕ). Begun labels ns c.args.levels.now l.levels l.changed.marked) more (l.invariant.changed w labels cut are ll none));
+      pin_levels = c.resolve.ensures.pin_levels;
     }
 
 pub returns : goal.returns
@@ -80,4 +93,5 @@ returns c =
       right = λ w labels cut are lc ld right.
           subst (λ (ns : List ℕ). AreRight w labels ns c.args.closed.now c.args.drives.now l.levels) end (l.invariant.right w labels cut are lc ld right);
       changed = λ w labels cut are ll none. (l.invariant.changed w labels cut are ll none).changed;
+      pin_levels = l.invariant.pin_levels;
     }

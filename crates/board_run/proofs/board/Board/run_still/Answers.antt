@@ -1,6 +1,5 @@
 use Rattle.std.proofs.Common.{◌≡◌, ◌<◌, ◌+◌, ◌-◌, ◌∙◌, ◌++◌, ap, sym, refl, length, take, drop, map, List, ℕ, subst, Option, Some}
 use Rattle.std.specs.Prelude.{slice_get}
-use Rattle.sim_base.specs.declared.signal.Level.{Level}
 use Rattle.sim_base.specs.declared.wiring.Wiring.{Wiring}
 use Rattle.sim_base.specs.declared.wiring.Input.{Input}
 use Rattle.board_model.specs.Board.{states}
@@ -28,10 +27,9 @@ stay-after-requires-clause-lags g c =
     let m = p.machine in
     let i = c.self.inside in
     let alive = ap (λ (v : BoardView g.row.P.Denot). v.given_up) c.self.view_is ∙ c.requires.alive in
-    let lags = λ (xs : List g.row.P.Denot) (own : List Level) (answers : List (Option ℕ)). Lags m i.wiring p.state p.now p.wake_count i.cycle xs (record { input = i.next.input; stale = i.next.stale; dues = i.dues; own = own; seen = i.reading; answers = answers }) in
-    subst (λ (a : List (Option ℕ)). lags c.as_mut_slice.result.now c.as_slice-2.result.now a) (sym c.as_slice-3.ensures.value)
-    (subst (λ (h : List Level). lags c.as_mut_slice.result.now h i.answers.items) (sym c.as_slice-2.ensures.value)
-    (subst (λ (xs : List g.row.P.Denot). lags xs i.own.items i.answers.items) (sym c.as_mut_slice.ensures.value) (c.self.invariant.lags alive)))
+    let lags = λ (xs : List g.row.P.Denot) (answers : List (Option ℕ)). Lags m i.wiring p.state p.now p.wake_count i.cycle xs (record { input = i.next.input; stale = i.next.stale; dues = i.dues; seen = i.reading; answers = answers }) in
+    subst (λ (a : List (Option ℕ)). lags c.as_mut_slice.result.now a) (sym c.as_slice-2.ensures.value)
+    (subst (λ (xs : List g.row.P.Denot). lags xs i.answers.items) (sym c.as_mut_slice.ensures.value) (c.self.invariant.lags alive))
 
 pub invariant_of-self : goal.invariant_of-self
 invariant_of-self g c =
@@ -48,10 +46,10 @@ invariant_of-self g c =
     let wiring = ap (λ (v : BoardView g.row.P.Denot). v.wiring) c.self.view_is in
     let cycle = ap (λ (v : BoardView g.row.P.Denot). v.cycle) c.self.view_is in
     let old = c.as_mut_slice.ensures.value ∙ ap (λ (v : BoardView g.row.P.Denot). v.parts) c.self.view_is in
-    let lags = λ (xs : List g.row.P.Denot) (own : List Level) (answers : List (Option ℕ)). Lags m i.wiring p.state p.now p.wake_count x.1 xs (record { input = x.0.input; stale = x.0.stale; dues = r.new.dues; own = own; seen = r.new.reading; answers = answers }) in
+    let lags = λ (xs : List g.row.P.Denot) (answers : List (Option ℕ)). Lags m i.wiring p.state p.now p.wake_count x.1 xs (record { input = x.0.input; stale = x.0.stale; dues = r.new.dues; seen = r.new.reading; answers = answers }) in
     record {
       at = λ _. subst (λ (xs : List g.row.P.Denot). AreAt p.now x.1 xs) (sym parts) e.at;
-      lags = λ _. subst (λ (a : List (Option ℕ)). lags ps i.own.items a) c.as_slice-3.ensures.value (subst (λ (h : List Level). lags ps h c.as_slice-3.result.now) c.as_slice-2.ensures.value (subst (λ (xs : List g.row.P.Denot). lags xs c.as_slice-2.result.now c.as_slice-3.result.now) (sym parts) e.lags));
+      lags = λ _. subst (λ (a : List (Option ℕ)). lags ps a) c.as_slice-2.ensures.value (subst (λ (xs : List g.row.P.Denot). lags xs c.as_slice-2.result.now) (sym parts) e.lags);
       behind = λ _. subst (λ (xs : List Input). AreBehind xs x.0.input x.1) c.as_slice.ensures e.behind;
       order = c.self.invariant.order;
     }

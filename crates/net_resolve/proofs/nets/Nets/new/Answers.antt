@@ -1,7 +1,11 @@
-use Rattle.std.proofs.Common.{◌≡◌, ◌∙◌, ℕ, List, length, arith, sym, ap, refl, subst}
+use Rattle.std.proofs.Common.{◌≡◌, ◌∙◌, ℕ, List, length, map, replicate, arith, sym, ap, refl, subst}
 use Rattle.net_resolve.specs.Marked.{MarksView}
 use Rattle.net_resolve.specs.Subcircuits.{IsCut, AreSubcircuits, unresolved}
 use Rattle.std.specs.Prelude.{vec_len}
+use Rattle.sim_base.specs.declared.signal.Level.{Level}
+use Rattle.sim_base.specs.declared.signal.Level.TheVariants as levels
+use Rattle.board_model.specs.Board.{level_at}
+use Rattle.net_resolve.proofs.PinLemmas.{pins_z}
 use Rattle.net_resolve.proofs.RightLemmas.{cut_moved, subs_moved, right_none}
 use Rattle.net_resolve.proofs.nets.Nets.new.Goals as goal
 
@@ -34,4 +38,6 @@ invariant_of-result c =
       changed_room = ap (λ (m : MarksView). m.room) c.in_ok-new.ensures ∙ same_n;
       drives_long = omega (arith, c.in_ok-no_drives.ensures.len, c.len.ensures, c.in_ok-from_slice.ensures.len, ap length c.as_slice.ensures);
       closed_long = omega (arith, c.in_ok-no_flags.ensures.len, c.len-2.ensures, c.in_ok-from_slice-2.ensures.len, ap length c.as_slice-2.ensures);
+      pin_levels = c.in_ok-all_z-2.ensures.items ∙ ap (λ (k : ℕ). replicate k levels.Z) (c.len-3.ensures ∙ ap length same_net_of) ∙ pins_z w.nets net_of
+          ∙ ap (λ (ls : List Level). map (level_at ls) net_of) (sym c.in_ok-all_z.ensures.items);
     }

@@ -1,12 +1,14 @@
-use Rattle.std.proofs.Common.{◌≡◌, ◌∙◌, List, [], Bool, length, arith, sym, ap, refl, subst, Some}
+use Rattle.std.proofs.Common.{◌≡◌, ◌∙◌, ℕ, List, [], ◌++◌, Bool, length, map, take, drop, arith, sym, ap, refl, subst, Some}
 use Rattle.std.specs.Prelude.{slice_get}
 use Rattle.sim_base.specs.declared.signal.Drive.{Drive}
 use Rattle.sim_base.specs.declared.signal.Level.{Level}
+use Rattle.board_model.specs.Board.{level_at}
 use Rattle.board_model.specs.Resolve.{resolve}
 use Rattle.board_model.proofs.Lists.{lent_whole}
 use Rattle.net_resolve.specs.Circuit.{Circuit, AreChanged}
 use Rattle.net_resolve.specs.Marked.{MarksView}
-use Rattle.net_resolve.specs.Subcircuits.{SubcircuitView, AreRight, unresolved}
+use Rattle.net_resolve.specs.Subcircuits.{SubcircuitView, AreRight, HasAllPins, unresolved}
+use Rattle.net_resolve.proofs.PinLemmas.{all_pins}
 use Rattle.net_resolve.proofs.RightLemmas.{right_moved, right_all, subs_moved, fits_in}
 use Rattle.net_resolve.proofs.nets.Nets.resolve_marked.Goals as goal
 
@@ -20,6 +22,30 @@ resolve_subcircuits-requires-clause-fits c = λ q s e.
     (omega (arith, ap length c.deref.ensures.value, v.drives_long, i.drives.ok.0, i.net_of.ok.0))
     (omega (arith, ap length c.deref-2.ensures.value, v.closed_long, i.closed.ok.0, i.contacts.ok.0))
     (omega (arith, ap length c.deref_mut-2.ensures.value, i.levels.ok.0))
+
+pub resolve_subcircuits-requires-clause-each : goal.resolve_subcircuits-requires-clause-each
+resolve_subcircuits-requires-clause-each c =
+    let i = c.self.inside in
+    omega (arith, ap length c.deref.ensures.value, ap length c.deref-3.ensures.value, c.self.invariant.drives_long, i.drives.ok.0, i.net_of.ok.0)
+
+pub resolve_subcircuits-requires-clause-nets : goal.resolve_subcircuits-requires-clause-nets
+resolve_subcircuits-requires-clause-nets c = λ k n e.
+    let i = c.self.inside in
+    omega (arith, c.self.invariant.cut.pins_within k n (subst (λ (ns : List ℕ). slice_get ns k ≡ Some n) c.deref-3.ensures.value e), ap length c.deref_mut-2.ensures.value, i.levels.ok.0)
+
+pub resolve_subcircuits-requires-clause-whole : goal.resolve_subcircuits-requires-clause-whole
+resolve_subcircuits-requires-clause-whole c = λ q s e.
+    let i = c.self.inside in
+    let v = c.self.invariant in
+    let w = unresolved i.levels.len i.net_of.items i.contacts.items i.resistors.items in
+    subst (λ (ns : List ℕ). HasAllPins ns s) (sym c.deref-3.ensures.value)
+    (all_pins w i.labels.items q s (v.subcircuits q s (subst (λ (ss : List SubcircuitView). slice_get ss q ≡ Some s) c.deref_mut.ensures.value e)))
+
+pub resolve_subcircuits-requires-clause-pin_levels : goal.resolve_subcircuits-requires-clause-pin_levels
+resolve_subcircuits-requires-clause-pin_levels c =
+    let i = c.self.inside in
+    c.deref_mut-3.ensures.value ∙ c.self.invariant.pin_levels ∙ ap (λ (ls : List Level). map (level_at ls) i.net_of.items) (sym c.deref_mut-2.ensures.value)
+    ∙ ap (λ (ns : List ℕ). map (level_at c.deref_mut-2.result.now) ns) (sym c.deref-3.ensures.value)
 
 pub invariant_of-self : goal.invariant_of-self
 invariant_of-self c =
@@ -44,6 +70,9 @@ invariant_of-self c =
       changed_room = r.ensures.room ∙ ap (λ (m : MarksView). m.room) c.clear.ensures ∙ v.changed_room;
       drives_long = v.drives_long;
       closed_long = v.closed_long;
+      pin_levels = lent_whole i.pin_levels.len i.pin_levels.items r.new.pin_levels i.pin_levels.ok.0 (r.auto.pin_levels ∙ ap length c.deref_mut-3.ensures.value)
+          ∙ r.ensures.pin_levels ∙ ap (λ (ls : List Level). map (level_at ls) c.deref-3.result.now) (sym levels)
+          ∙ ap (λ (ns : List ℕ). map (level_at (take i.levels.len (r.new.levels ++ drop (length r.new.levels) i.levels.items))) ns) c.deref-3.ensures.value;
     }
 
 pub returns-clause-levels : goal.returns-clause-levels

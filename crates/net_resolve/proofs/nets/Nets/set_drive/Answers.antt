@@ -36,4 +36,5 @@ invariant_of-self c =
       changed_room = v.changed_room;
       drives_long = v.drives_long;
       closed_long = v.closed_long;
+      pin_levels = v.pin_levels;
     }

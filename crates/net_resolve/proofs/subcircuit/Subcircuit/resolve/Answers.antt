@@ -1,13 +1,15 @@
-use Rattle.std.proofs.Common.{◌≡◌, ◌∙◌, ℕ, sym, ap, subst, arith, length, map, List, Some}
+use Rattle.std.proofs.Common.{◌≡◌, ◌∙◌, ℕ, sym, ap, subst, arith, length, map, List, Some, refl}
 use Rattle.std.specs.Prelude.{slice_get}
 use Rattle.sim_base.specs.declared.signal.Level.{Level}
 use Rattle.board_model.specs.Resolve.{resolve}
 use Rattle.net_resolve.specs.Wired.{Wired}
 use Rattle.net_resolve.specs.Resolutions.{IsResolution}
 use Rattle.net_resolve.specs.declared.resolution.Resolution.{Resolution}
-use Rattle.net_resolve.specs.Subcircuits.{SubcircuitView}
+use Rattle.std.proofs.lemmas.List.{length-map}
+use Rattle.net_resolve.specs.Subcircuits.{Lacks, SubcircuitView}
 use Rattle.net_resolve.proofs.ResolutionLemmas.{resolution_moved, resolve_same}
 use Rattle.net_resolve.proofs.PlaceLemmas.{same_somes}
+use Rattle.net_resolve.proofs.PinLemmas.{pins_follow}
 use Rattle.net_resolve.proofs.subcircuit.Subcircuit.resolve.Goals as goal
 
 pub resolve_unless_known-requires-clause-pins : goal.resolve_unless_known-requires-clause-pins
@@ -65,3 +67,22 @@ returns-clause-put c = λ cs ds ec ed j n e.
     put ∙ ap (λ (l : List Level). slice_get l j) levels
     ∙ ap (λ (x : ℕ). slice_get (resolve x w.net_of w.contacts w.resistors cs ds) j) count
     ∙ ap (λ (v : SubcircuitView). slice_get (resolve (length c.args.self.now.nets) v.own_nets v.own_contacts v.own_resistors cs ds) j) v
+
+pub put_pins-requires-clause-pins : goal.put_pins-requires-clause-pins
+put_pins-requires-clause-pins c = λ j k e.
+    omega (arith, c.requires.each, c.requires.pins j k (subst (λ (l : List ℕ). slice_get l j ≡ Some k) (c.deref-5.ensures.value ∙ ap (λ (v : SubcircuitView). v.pins) c.self.view_is) e))
+
+pub put_pins-requires-clause-nets : goal.put_pins-requires-clause-nets
+put_pins-requires-clause-nets c = λ k n e. omega (arith, c.requires.within k n e, c.scatter.auto.into)
+
+pub put_pins-requires-clause-room : goal.put_pins-requires-clause-room
+put_pins-requires-clause-room c = ap length c.requires.pin_levels ∙ simp length-map refl
+
+pub returns-clause-pin_levels : goal.returns-clause-pin_levels
+returns-clause-pin_levels c =
+    let nets = c.deref-4.ensures.value ∙ ap (λ (v : SubcircuitView). v.nets) c.self.view_is in
+    let pins = c.deref-5.ensures.value ∙ ap (λ (v : SubcircuitView). v.pins) c.self.view_is in
+    let long = ap length c.requires.pin_levels ∙ simp length-map refl in
+    pins_follow c.args.net_of.now c.deref-5.result.now c.deref-4.result.now c.args.levels.now c.scatter.new.into c.args.pin_levels.now c.put_pins.new.into
+    (c.put_pins.auto.into ∙ long) c.requires.pin_levels c.put_pins.ensures.put c.put_pins.ensures.others
+    (λ k n e lacks. subst (λ (l : List ℕ). Lacks l n) (sym nets) (c.requires.whole k n e (subst (λ (l : List ℕ). Lacks l k) pins lacks))) c.scatter.ensures.others
