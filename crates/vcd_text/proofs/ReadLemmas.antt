@@ -1,10 +1,9 @@
 -- Lines of a text, and what stands behind its head.
 use Rattle.std.proofs.Common.{◌≡◌, ◌≢◌, ◌<◌, ◌≤◌, ◌+◌, ℕ, zero, suc, List, [], ◌∷◌, ◌++◌, length, get_or, take, drop, Bool, true, false, ◌==◌, ◌||◌}
-use Rattle.std.proofs.Common.{if◌then◌else◌, Result, Ok, Err, refl, ap, arith, ◌∙◌, sym}
+use Rattle.std.proofs.Common.{if◌then◌else◌, Ok, Err, refl, ap, arith, ◌∙◌, sym}
 use Rattle.std.specs.List.{list_any}
 use Rattle.std.proofs.lemmas.Bool.{ne_eqb, eq-eqb}
 use Rattle.std.proofs.lemmas.List.{take-append-drop, drop_more, drop_all, length-take-le, get_or-take}
-use Rattle.sim_base.specs.declared.fault.Refusal.{Refusal}
 use Rattle.sim_base.specs.declared.fault.Place.TheVariants as places
 use Rattle.sim_base.specs.Refusals.{WaveHead}
 use Rattle.vcd_text.specs.Reading.{before_line, ended_lines, unended, behind}
@@ -50,6 +49,12 @@ pub unended_all : (l : List ℕ) → IsUnbroken l → unended l ≡ l
 unfolding unended
 unended_all [] unbroken = refl
 unended_all (b ∷ l) unbroken = rw (no_lf (b ∷ l) unbroken) refl
+
+-- the first two bytes
+pub two_unbroken : (l : List ℕ) → get_or l 0 0 ≢ 10 → get_or l 1 0 ≢ 10 → (k : ℕ) → k < 2 → get_or l k 0 ≢ 10
+two_unbroken l a b zero h = a
+two_unbroken l a b (suc zero) h = b
+two_unbroken l a b (suc (suc k)) h = absurd (omega (arith, h))
 
 module _ (l : List ℕ) (i : ℕ) (p : i < length l) (e : get_or l i 0 ≡ 10) where
   whole : take i l ++ 10 ∷ drop (i + 1) l ≡ l

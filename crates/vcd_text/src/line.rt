@@ -1,5 +1,5 @@
 //! One line of a wave that is read.
-ghost use Rattle.std.specs.Prelude.{◌≡◌, ◌≤◌, ◌+◌, ◌*◌, true, min, Some, if◌then◌else◌, List, ℕ};
+ghost use Rattle.std.specs.Prelude.{◌≡◌, ◌≤◌, ◌+◌, ◌*◌, true, false, min, Some, if◌then◌else◌, List, ℕ, IfSome, IfNone};
 ghost use Rattle.std.specs.List.{list_all};
 ghost use Rattle.std.specs.Char.{digit_value, is_ascii_digit};
 ghost use Rattle.numerals.specs.Numerals.{value_of};
@@ -48,21 +48,6 @@ pub enum Line {
 /// More than any time of a run, in 100 ps.
 const LATEST: u64 = 1_000_000_000_000;
 
-fn are_digits(text: &[u8]) -> bool
-    ensures { result ≡ list_all is_ascii_digit text.now }
-{
-    text.iter().all(|d| d.is_ascii_digit())
-}
-
-fn is_decimal(digits: &[u8]) -> bool
-    ensures { result ≡ is_decimal digits.now }
-{
-    match digits {
-        [] => false,
-        [first, rest @ ..] => (*first != b'0' || rest.is_empty()) && are_digits(digits),
-    }
-}
-
 /// A number with one digit more, or a greater one than any time where it is that great.
 fn with_digit(n: u64, digit: u8) -> u64
     requires digit { is_ascii_digit digit ≡ true }
@@ -73,16 +58,36 @@ fn with_digit(n: u64, digit: u8) -> u64
     LATEST.min(10 * n + u64::from(digit - b'0'))
 }
 
-/// The number of digits, or a greater one than any time where it is that great.
-fn number(digits: &[u8]) -> u64
-    requires { list_all is_ascii_digit digits.now ≡ true }
-    ensures { result ≡ min latest (value_of 10 digits.now) }
+/// The number of digits, or a greater one than any time where it is that great; none where one is no digit.
+fn number(digits: &[u8]) -> Option<u64>
+    ensures some { IfSome result (λ n. (list_all is_ascii_digit digits.now ≡ true) × (n ≡ min latest (value_of 10 digits.now))) }
+    ensures none { IfNone result (list_all is_ascii_digit digits.now ≡ false) }
 {
     let mut n: u64 = 0;
     for d in digits {
+        if !d.is_ascii_digit() {
+            return None;
+        }
         n = with_digit(n, *d);
     }
-    n
+    Some(n)
+}
+
+/// The same of digits without leading zeros.
+fn decimal(digits: &[u8]) -> Option<u64>
+    ensures some { IfSome result (λ n. (is_decimal digits.now ≡ true) × (n ≡ min latest (value_of 10 digits.now))) }
+    ensures none { IfNone result (is_decimal digits.now ≡ false) }
+{
+    match digits {
+        [] => None,
+        [first, rest @ ..] => {
+            if *first != b'0' || rest.is_empty() {
+                number(digits)
+            } else {
+                None
+            }
+        }
+    }
 }
 
 fn judge(n: u32, cycle: u32, time: u64) -> Line
@@ -103,7 +108,10 @@ fn read_time(n: u32, cycle: u32, line: &[u8]) -> Line
     ensures fits { (variables : List WaveVariable) → IsFitting variables n cycle result }
 {
     match line {
-        [b'#', digits @ ..] if is_decimal(digits) => judge(n, cycle, number(digits)),
+        [b'#', digits @ ..] => match decimal(digits) {
+            Some(time) => judge(n, cycle, time),
+            None => Line::Faulty(WAVE_LINE),
+        },
         _ => Line::Faulty(WAVE_LINE),
     }
 }

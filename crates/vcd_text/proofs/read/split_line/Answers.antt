@@ -1,18 +1,12 @@
-use Rattle.std.proofs.Common.{◌≢◌, ◌<◌, ◌+◌, ℕ, length, get_or, arith}
+use Rattle.std.proofs.Common.{arith}
 use Rattle.std.proofs.lemmas.List.{take_rest}
-use Rattle.vcd_text.proofs.ReadLemmas.{IsUnbroken, ended_first, unended_first, ended_none, unended_all}
+use Rattle.vcd_text.proofs.ReadLemmas.{ended_first, two_unbroken, unended_first}
 use Rattle.vcd_text.proofs.read.split_line.Goals as goal
 
-pub returns-then-b-eq10-clause-line : goal.returns-then-b-eq10-clause-line
-returns-then-b-eq10-clause-line c =
-    rw (take_rest c.args.bytes.now (c.loop-i.i + 1)) (ended_first c.args.bytes.now c.loop-i.i c.loop-i-test.true c.if-b-eq10.true c.loop-i.invariant)
+pub returns-in-len3-up-clause-line : goal.returns-in-len3-up-clause-line
+returns-in-len3-up-clause-line c =
+    rw (take_rest c.args.bytes.now 3) (ended_first c.args.bytes.now 2 (omega (arith, c.in-len3-up.len_at_least)) c.if-end-eq10.true (two_unbroken c.args.bytes.now c.if-a-ne10.true c.if-b-ne10.true))
 
-pub returns-then-b-eq10-clause-rest : goal.returns-then-b-eq10-clause-rest
-returns-then-b-eq10-clause-rest c =
-    rw (take_rest c.args.bytes.now (c.loop-i.i + 1)) (unended_first c.args.bytes.now c.loop-i.i c.loop-i-test.true c.if-b-eq10.true)
-
-pub returns-clause-none : goal.returns-clause-none
-returns-clause-none c =
-    let past = c.loop-i-test.false in
-    let unbroken : IsUnbroken c.args.bytes.now = λ k p. c.loop-i.invariant k (omega (arith, p, past)) in
-    (ended_none c.args.bytes.now unbroken, unended_all c.args.bytes.now unbroken)
+pub returns-in-len3-up-clause-rest : goal.returns-in-len3-up-clause-rest
+returns-in-len3-up-clause-rest c =
+    rw (take_rest c.args.bytes.now 3) (unended_first c.args.bytes.now 2 (omega (arith, c.in-len3-up.len_at_least)) c.if-end-eq10.true)
