@@ -7,6 +7,7 @@ use Rattle.std.proofs.lemmas.List.{length-map, length-drop, length-take-le, get_
 use Rattle.std.proofs.lemmas.List.Sums.{sum_by_more_le}
 use Rattle.std.proofs.lemmas.Bool.{ltb-true}
 use Rattle.std.proofs.lemmas.Option.{slice_get_read, slice_get-map, slice_get_cases, slice_get_within, get_or_from_slice_get}
+use Rattle.part_law.specs.Spans.{no_pins}
 use Rattle.board_model.specs.Fits.{Fits}
 use Rattle.board_model.proofs.Lists.{some_same}
 use Rattle.board_laws.specs.Player.{DriveRows, new_player}
@@ -73,7 +74,7 @@ module _ (has : Contents) (rows : List DriveRows) (first : ℕ) (part : PlanPart
       if is_chip (Some kind) then Some (inr (new_player (rows_from (pins_of has.chips) rows first (Some kind)))) else option_map inl (start_in has part.attrs part.settings kind)
 
   pub player_begins : (chip : ℕ) (source : ChipSource) (p : PlayedPart) → part.kind ≡ plans.Chip chip → slice_get has.chips chip ≡ Some source →
-      p ≡ played_parts.Player (record { player = new_player (take (length source.pins) (drop first rows)); wakes = 0; changed = false }) → Begins (play_start has rows first part) p
+      p ≡ played_parts.Player (record { player = new_player (take (length source.pins) (drop first rows)); wakes = 0; moved = no_pins }) → Begins (play_start has rows first part) p
   player_begins chip source p kind there is =
       let state : start_as part.kind ≡ Some (inr (new_player (take (length source.pins) (drop first rows)))) =
       ap start_as kind ∙ ap (λ (n : ℕ). Some (inr (new_player (take n (drop first rows))))) (chip_count has.chips chip source there) in

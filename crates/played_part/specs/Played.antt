@@ -1,8 +1,9 @@
 -- A part of a board, or a player in a chip's place, as one machine (profile).
-use Rattle.std.specs.Prelude.{◌⊎◌, ℕ, Bool, true}
+use Rattle.std.specs.Prelude.{◌⊎◌, ℕ, Bool, nat_lt}
 use Rattle.std.proofs.Common.{inl, inr}
 use Rattle.part_law.specs.Machine.{Laws}
 use Rattle.part_law.specs.Either.{either_laws}
+use Rattle.part_law.specs.Spans.{is_in}
 use Rattle.board_laws.specs.Player.{PlayerState, player}
 use Rattle.board_laws.specs.PlayerLaws.{player_laws}
 use Rattle.board_laws.specs.Play.{or_player}
@@ -31,8 +32,8 @@ wakes_of (played.Player p) = p.wakes
 
 abbrev pub changes_of : PlayedPart → Bool
 changes_of (played.Part p) = parts.changes_of p
-changes_of (played.Player p) = p.changed
+changes_of (played.Player p) = nat_lt p.moved.from p.moved.to
 
 abbrev pub moves_of : PlayedPart → ℕ → Bool
 moves_of (played.Part p) pin = parts.moves_of p pin
-moves_of (played.Player p) pin = true
+moves_of (played.Player p) pin = is_in p.moved pin

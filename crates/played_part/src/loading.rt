@@ -1,6 +1,7 @@
 //! The parts of a plan, with a player of a wave's drives in place of each chip.
 ghost use Rattle.std.specs.Prelude.{◌≡◌, ◌≢◌, ◌≤◌, ◌+◌, List, ℕ, length, map, take, drop, true, false, Some, None, IfOk, if◌then◌else◌};
 ghost use Rattle.std.specs.List.{All};
+ghost use Rattle.part_law.specs.Spans.{no_pins};
 ghost use Rattle.board_model.specs.Fits.{Fits};
 ghost use Rattle.board_model.specs.Fresh.{AreFresh};
 ghost use Rattle.board_laws.specs.Player.{new_player as fresh_player};
@@ -65,7 +66,7 @@ fn new_player(
     requires few { length rows.now ≤ 4096 }
     requires few_pins { count ≤ 64 }
     requires order { All AreInOrder rows.now }
-    ensures { IfOk result (λ p. p ≡ PlayedPart.Player (record { player = fresh_player (take count (drop first rows.now)); wakes = 0; changed = false })) }
+    ensures { IfOk result (λ p. p ≡ PlayedPart.Player (record { player = fresh_player (take count (drop first rows.now)); wakes = 0; moved = no_pins })) }
 {
     Ok(PlayedPart::Player(Player::new(rows_from(alloc, rows, first, count)?)))
 }

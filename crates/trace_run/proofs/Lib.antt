@@ -1,2 +1,3 @@
 pub mod RowLemmas
+mod CountLemmas
 pub mod StateLemmas

@@ -1,23 +1,21 @@
 -- When a player is due, and how it goes on.
-use Rattle.std.proofs.Common.{◌≡◌, ◌<◌, ◌≤◌, ◌⊎◌, inl, inr, ℕ, suc, ◌+◌, ◌-◌, List, length, take, replicate, map, Bool, true, false, Option, None, Some, refl, sym, ap, subst, ◌∙◌, arith}
-use Rattle.std.specs.Prelude.{◌==◌, ◌||◌}
-use Rattle.std.specs.List.{list_any}
+use Rattle.std.proofs.Common.{◌≡◌, ◌<◌, ◌≤◌, inl, inr, ℕ, suc, ◌+◌, ◌-◌, List, [], ◌∷◌, length, take, replicate, map, Bool, true, false, Option, None, Some, refl, sym, ap, subst, ◌∙◌, arith}
+use Rattle.std.specs.Prelude.{◌==◌, ◌||◌, nat_lt, slice_get}
 use Rattle.std.proofs.lemmas.List.{take-replicate}
 use Rattle.std.proofs.lemmas.Simd.{splat_is_map}
 use Rattle.std.proofs.lemmas.Bool.{cases_lt}
+use Rattle.sim_base.specs.declared.signal.Drive.{Drive}
 use Rattle.sim_base.specs.declared.signal.Level.TheVariants as levels
 use Rattle.sim_base.specs.declared.limits.TheConstants.{MOST_CYCLES}
 use Rattle.part_law.specs.Machine.{glide, IsQuiet, IsFirstDue}
-use Rattle.board_laws.specs.Player.{DriveRows, PlayerState, player, has_row, drive_at}
-use Rattle.board_laws.specs.PlayerLaws.{player_laws}
+use Rattle.part_law.specs.declared.span.Span.{Span}
+use Rattle.part_law.specs.Spans.{IsIn}
+use Rattle.part_law.proofs.SpanLemmas.{none_in}
+use Rattle.board_laws.specs.Player.{DriveRows, PlayerState, player}
 use Rattle.board_laws.proofs.PlayerLemmas.{player_glides, player_quiet}
-use Rattle.trace_run.specs.Rows.{IsNext, any_row}
-use Rattle.trace_run.specs.PlayerAt.{PlayerAt}
-use Rattle.trace_run.proofs.RowLemmas.{eq_no, eq_yes, or_none, or_second}
-
-later_none : (a b : Bool) → (a || b) ≡ false → b ≡ false
-later_none false b h = h
-later_none true b h = absurd cc
+use Rattle.trace_run.specs.Rows.{AreCounts, IsNext, any_row}
+use Rattle.trace_run.proofs.RowLemmas.{eq_no, neither, or_none, or_second}
+use Rattle.trace_run.proofs.CountLemmas.{counts_later}
 
 -- it is quiet before a cycle, where no row comes up to it
 quiet_to : (s : PlayerState) (to : ℕ) → ¬ (s.cycle ≡ 0) → ((v : ℕ) → s.cycle < v → v ≤ to → any_row s.rows v ≡ false) → IsQuiet player s s.cycle (to - s.cycle)
@@ -51,19 +49,25 @@ from_next f c to (Some u) l none next = elim (cases_lt to u) [
   | inr h ↦ let no = none u next.0 h in let yes = next.1 in absurd cc
 ]
 
--- the next row stays so over quiet cycles
+-- over quiet cycles no row comes
+none_over : (now : PlayerState) (to : ℕ) → IsQuiet player now now.cycle (to - now.cycle) → (v : ℕ) → now.cycle < v → v ≤ to → any_row now.rows v ≡ false
+none_over now to quiet v h m =
+    let k = v - now.cycle - 1 in
+    let within : k < to - now.cycle = omega (arith, h, m) in
+    let at : now.cycle + k + 1 ≡ v = omega (arith, h) in
+    let due : ((now.cycle + k == 0) || any_row now.rows (now.cycle + k + 1)) ≡ false = sym (ap (λ (p : PlayerState). player.due p (now.cycle + k)) (player_glides now k)) ∙ quiet k within in
+    subst (λ (w : ℕ). any_row now.rows w ≡ false) at (neither (now.cycle + k == 0) (any_row now.rows (now.cycle + k + 1)) due).1
+
+-- the next row stays so over them, and as many are past
 pub next_later : (s now : PlayerState) (to : ℕ) (next : Option ℕ) → s ≡ now → now.cycle ≤ to → IsQuiet player now now.cycle (to - now.cycle) → IsNext (any_row s.rows) s.cycle next → IsNext (any_row s.rows) to next
 next_later s now to next e l quiet is =
     subst (λ (p : PlayerState). IsNext (any_row p.rows) to next) (sym e)
-    (from_next (any_row now.rows) now.cycle to next l none (subst (λ (p : PlayerState). IsNext (any_row p.rows) p.cycle next) e is))
-  where
-    none : (v : ℕ) → now.cycle < v → v ≤ to → any_row now.rows v ≡ false
-    none v h m =
-        let k = v - now.cycle - 1 in
-        let within : k < to - now.cycle = omega (arith, h, m) in
-        let at : now.cycle + k + 1 ≡ v = omega (arith, h) in
-        let due : ((now.cycle + k == 0) || any_row now.rows (now.cycle + k + 1)) ≡ false = sym (ap (λ (p : PlayerState). player.due p (now.cycle + k)) (player_glides now k)) ∙ quiet k within in
-        subst (λ (w : ℕ). any_row now.rows w ≡ false) at (later_none (now.cycle + k == 0) (any_row now.rows (now.cycle + k + 1)) due)
+    (from_next (any_row now.rows) now.cycle to next l (none_over now to quiet) (subst (λ (p : PlayerState). IsNext (any_row p.rows) p.cycle next) e is))
+
+pub past_later : (s now : PlayerState) (to : ℕ) (counts : List ℕ) → s ≡ now → now.cycle ≤ to → IsQuiet player now now.cycle (to - now.cycle) → AreCounts s.rows s.cycle counts → AreCounts s.rows to counts
+past_later s now to counts e l quiet are =
+    subst (λ (p : PlayerState). AreCounts p.rows to counts) (sym e)
+    (counts_later now.rows now.cycle to counts l (none_over now to quiet) (subst (λ (p : PlayerState). AreCounts p.rows p.cycle counts) e are))
 
 pub settled : (s now : PlayerState) (to : ℕ) → s ≡ now → now.cycle ≤ to → record { rows = s.rows; cycle = to; held = s.held } ≡ glide player now now.cycle (to - now.cycle)
 settled s now to e l =
@@ -72,21 +76,33 @@ settled s now to e l =
     ∙ ap (λ (t : ℕ). record { rows = now.rows; cycle = t; held = now.held }) at
     ∙ sym (player_glides now (to - now.cycle))
 
--- the next row stays so over a cycle in which none is due
+-- over a cycle in which it is not due no row comes
+none_after : (s : PlayerState) → player.due s s.cycle ≡ false → (v : ℕ) → s.cycle < v → v ≤ s.cycle + 1 → any_row s.rows v ≡ false
+none_after s due v h m =
+    let at : s.cycle + 1 ≡ v = omega (arith, h, m) in
+    subst (λ (w : ℕ). any_row s.rows w ≡ false) at (neither (s.cycle == 0) (any_row s.rows (s.cycle + 1)) due).1
+
+-- the next row stays so over it, and as many are past
 pub next_after : (s : PlayerState) (next : Option ℕ) → player.due s s.cycle ≡ false → IsNext (any_row s.rows) s.cycle next → IsNext (any_row s.rows) (s.cycle + 1) next
-next_after s next due is = from_next (any_row s.rows) s.cycle (s.cycle + 1) next (omega arith) none is
-  where
-    none : (v : ℕ) → s.cycle < v → v ≤ s.cycle + 1 → any_row s.rows v ≡ false
-    none v h m =
-        let at : s.cycle + 1 ≡ v = omega (arith, h, m) in
-        subst (λ (w : ℕ). any_row s.rows w ≡ false) at (later_none (s.cycle == 0) (any_row s.rows (s.cycle + 1)) due)
+next_after s next due is = from_next (any_row s.rows) s.cycle (s.cycle + 1) next (omega arith) (none_after s due) is
+
+pub past_after : (s : PlayerState) (counts : List ℕ) → player.due s s.cycle ≡ false → AreCounts s.rows s.cycle counts → AreCounts s.rows (s.cycle + 1) counts
+past_after s counts due are = counts_later s.rows s.cycle (s.cycle + 1) counts (omega arith) (none_after s due) are
 
 pub held_at_start : (rows : List DriveRows) → length rows ≤ 64 → take (length rows) (replicate 64 levels.Z) ≡ map (λ r. levels.Z) rows
 held_at_start rows few = take-replicate (length rows) 64 levels.Z few ∙ splat_is_map rows (length rows) levels.Z refl
 
--- a step that is not due changes no drive
-pub same_drives : (q old : PlayerAt) → q.player.rows ≡ old.player.rows → q.player.cycle ≡ old.player.cycle + 1 → q.changed ≡ player.due old.player old.player.cycle → q.changed ≡ false → player.drives q.player ≡ player.drives old.player
-same_drives q old rows cycle changed off =
-    ap (λ (r : List DriveRows). map (λ x. drive_at x q.player.cycle) r) rows
-    ∙ ap (λ (t : ℕ). map (λ x. drive_at x t) old.player.rows) cycle
-    ∙ player_laws.glides_drives old.player old.player.cycle (eq_yes old.player.cycle old.player.cycle refl) (sym changed ∙ off)
+drive_is : (d e : Drive) → Some d ≡ Some e → d ≡ e
+drive_is d e is = cc
+
+-- where each pin drives the same, all do
+all_same : (ds es : List Drive) → ((k : ℕ) → slice_get ds k ≡ slice_get es k) → ds ≡ es
+all_same [] [] same = refl
+all_same [] (e ∷ es) same = absurd (let first = same 0 in cc)
+all_same (d ∷ ds) [] same = absurd (let first = same 0 in cc)
+all_same (d ∷ ds) (e ∷ es) same =
+    ap (λ (x : Drive). x ∷ ds) (drive_is d e (same 0)) ∙ ap (λ (l : List Drive). e ∷ l) (all_same ds es (λ k. same (suc k)))
+
+-- where no pin moved, no drive did
+pub none_moved : (moved : Span) (s now : PlayerState) → ((pin : ℕ) → ¬ IsIn moved pin → slice_get (player.drives now) pin ≡ slice_get (player.drives s) pin) → nat_lt moved.from moved.to ≡ false → player.drives now ≡ player.drives s
+none_moved moved s now others none = all_same (player.drives now) (player.drives s) (λ k. others k (none_in moved k none))

@@ -1,17 +1,14 @@
 -- A player on a board: before the step of its cycle.
-use Rattle.std.specs.Prelude.{ℕ, ◌+◌, Bool}
-use Rattle.board_laws.specs.Player.{PlayerState, player}
+use Rattle.std.specs.Prelude.{ℕ, ◌+◌}
+use Rattle.part_law.specs.declared.span.Span.{Span}
+use Rattle.board_laws.specs.Player.{PlayerState}
 
 pub record PlayerAt : Type 0 where
   pub player : PlayerState
   pub wakes : ℕ
-  -- whether its last wake may have changed a drive
-  pub changed : Bool
+  -- the pins whose drives its last wake may have changed
+  pub moved : Span
 
 -- after a step on the levels that it holds
-abbrev pub stepped : PlayerAt → PlayerAt
-stepped p = record {
-  player = record { rows = p.player.rows; cycle = p.player.cycle + 1; held = p.player.held };
-  wakes = p.wakes + 1;
-  changed = player.due p.player p.player.cycle;
-}
+abbrev pub stepped : PlayerState → PlayerState
+stepped s = record { rows = s.rows; cycle = s.cycle + 1; held = s.held }

@@ -1,12 +1,13 @@
 //! A part that drives what was recorded.
-ghost use Rattle.std.specs.Prelude.{◌≡◌, ◌≤◌, ◌<◌, false, length};
+ghost use Rattle.std.specs.Prelude.{◌≡◌, ◌≤◌, ◌<◌, ◌+◌, ℕ, length, slice_get};
 ghost use Rattle.std.specs.List.{All};
+ghost use Rattle.part_law.specs.Spans.{IsIn, no_pins};
 ghost use Rattle.board_laws.specs.Player.{new_player, player};
 ghost use Rattle.trace_run.specs.PlayerAt.{stepped};
 ghost use Rattle.trace_run.specs.Rows.{AreInOrder};
 
-use crate::rows::{drive_at, next_of};
-use part_law::Part;
+use crate::rows::{count_all, drive_of};
+use part_law::{Part, Span};
 use sim_base::{Drive, Level, List, MOST_CYCLES};
 use std::marker::Model;
 
@@ -14,13 +15,16 @@ use std::marker::Model;
 #[derive(Drop)]
 pub struct Player {
     rows: List<List<(u32, Drive)>>,
+    /// Of each pin how many rows stand at or before `cycle`.
+    counts: [usize; 64],
     /// The levels of its last step.
     held: [Level; 64],
     cycle: u32,
     /// The cycle of the first row behind `cycle`.
     next: Option<u32>,
     wakes: u32,
-    changed: bool,
+    /// The pins of which a row came with its last wake.
+    moved: Span,
 }
 
 impl Model for Player {
@@ -28,19 +32,20 @@ impl Model for Player {
     ghost use Rattle.std.specs.List.{All};
     ghost use Rattle.sim_base.specs.declared.limits.TheConstants.{MOST_CYCLES};
     ghost use Rattle.trace_run.specs.PlayerAt.{PlayerAt};
-    ghost use Rattle.trace_run.specs.Rows.{AreInOrder, IsNext, any_row};
+    ghost use Rattle.trace_run.specs.Rows.{AreCounts, AreInOrder, IsNext, any_row};
 
     ghost Value = { PlayerAt };
 
     ghost view = { λ p. record {
       player = record { rows = p.rows; cycle = p.cycle; held = take (length p.rows) p.held };
       wakes = p.wakes;
-      changed = p.changed;
+      moved = p.moved;
     } };
 
     ghost invariant = { λ p. record {
       few : length p.rows ≤ 64;
       rows : All AreInOrder p.rows;
+      counts : AreCounts p.rows p.cycle p.counts;
       next : IsNext (any_row p.rows) p.cycle p.next;
       end : p.cycle ≤ MOST_CYCLES;
     } };
@@ -51,16 +56,18 @@ impl Player {
     pub fn new(rows: List<List<(u32, Drive)>>) -> Self
         requires few { length rows ≤ 64 }
         requires order { All AreInOrder rows }
-        ensures { result ≡ record { player = new_player rows; wakes = 0; changed = false } }
+        ensures { result ≡ record { player = new_player rows; wakes = 0; moved = no_pins } }
     {
-        let next = next_of(rows.as_slice(), 0);
+        let mut counts = [0; 64];
+        let (next, _moved) = count_all(rows.as_slice(), 0, &mut counts);
         Player {
             rows,
+            counts,
             held: [Level::Z; 64],
             cycle: 0,
             next,
             wakes: 0,
-            changed: false,
+            moved: Span::none(),
         }
     }
 
@@ -75,18 +82,26 @@ impl Player {
     fn step(&mut self)
         requires end { self.old.player.cycle < MOST_CYCLES }
         requires count { self.old.wakes ≤ self.old.player.cycle }
-        ensures { self.new ≡ stepped self.old }
+        ensures player { self.new.player ≡ stepped self.old.player }
+        ensures wakes { self.new.wakes ≡ self.old.wakes + 1 }
+        ensures others { (pin : ℕ) → ¬ IsIn self.new.moved pin → slice_get (player.drives self.new.player) pin ≡ slice_get (player.drives self.old.player) pin }
     {
-        self.changed = self.is_due();
+        let due = self.is_due();
         self.cycle += 1;
         self.wakes += 1;
-        if self.changed {
-            self.next = next_of(self.rows.as_slice(), self.cycle);
+        if due {
+            let (next, moved) = count_all(self.rows.as_slice(), self.cycle, &mut self.counts);
+            self.next = next;
+            self.moved = moved;
+        } else {
+            self.moved = Span::none();
         }
     }
 }
 
 impl Part for Player {
+    ghost use Rattle.std.specs.Prelude.{nat_lt};
+    ghost use Rattle.part_law.specs.Spans.{is_in};
     ghost use Rattle.board_laws.specs.Player.{PlayerState, player};
     ghost use Rattle.board_laws.specs.PlayerLaws.{player_laws};
 
@@ -100,7 +115,9 @@ impl Part for Player {
 
     ghost wake_count = { λ p. p.wakes };
 
-    ghost changes = { λ p. p.changed };
+    ghost changes = { λ p. nat_lt p.moved.from p.moved.to };
+
+    ghost moves = { λ p pin. is_in p.moved pin };
 
     fn pins(&self) -> u8 {
         self.rows.len() as u8
@@ -111,8 +128,9 @@ impl Part for Player {
     }
 
     fn drive(&self, pin: u8) -> Drive {
-        let rows = self.rows.as_slice()[usize::from(pin)].as_slice();
-        drive_at(rows, self.cycle)
+        let pin = usize::from(pin);
+        let rows = self.rows.as_slice()[pin].as_slice();
+        drive_of(rows, self.counts[pin])
     }
 
     fn contact(&self, i: u8) -> bool {
@@ -134,7 +152,12 @@ impl Part for Player {
     }
 
     fn changed(&self) -> bool {
-        self.changed
+        self.moved.has_any()
+    }
+
+    #[tactic(auto, using(part_law::proofs::SpanLemmas::in_span))]
+    fn moved(&self) -> Span {
+        self.moved
     }
 
     fn settle(&mut self, to: u32) {

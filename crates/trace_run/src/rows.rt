@@ -1,27 +1,32 @@
-//! The rows of a pin: from a row's cycle on, its drive.
-ghost use Rattle.std.specs.Prelude.{◌≡◌, ◌≤◌, List, true, false, nat_le, length};
+//! The rows of pins: from a row's cycle on, its drive.
+ghost use Rattle.std.specs.Prelude.{◌≡◌, ◌≢◌, ◌≤◌, ◌<◌, ℕ, List, length, slice_index};
 ghost use Rattle.std.specs.List.{All};
-ghost use Rattle.std.specs.List.Sorted.{IsPartitionPoint};
+ghost use Rattle.part_law.specs.Spans.{IsIn};
 ghost use Rattle.board_laws.specs.Player.{drive_at, has_row};
-ghost use Rattle.trace_run.specs.Rows.{AreInOrder, IsNext, any_row, earlier};
+ghost use Rattle.trace_run.specs.Rows.{AreAllPast, AreCounts, AreInOrder, ArePast, IsCount, IsNext, any_row, earlier};
 
+use part_law::Span;
 use sim_base::{Drive, List};
 
-/// How many rows stand at or before a cycle.
-fn count_to(rows: &[(u32, Drive)], cycle: u32) -> usize
-    requires { AreInOrder rows.now }
-    ensures bound { result ≤ length rows.now }
-    ensures point { IsPartitionPoint (λ row. nat_le row.0 cycle ≡ true) (λ row. nat_le row.0 cycle ≡ false) rows.now result }
+/// How many rows stand at or before a cycle, where so many do.
+fn count_on(rows: &[(u32, Drive)], cycle: u32, from: usize) -> usize
+    requires order { AreInOrder rows.now }
+    requires past { ArePast rows.now cycle from }
+    ensures { IsCount rows.now cycle result }
 {
-    rows.partition_point(|row| row.0 <= cycle)
+    let mut count = from;
+    while count < rows.len() && rows[count].0 <= cycle {
+        count += 1;
+    }
+    count
 }
 
-/// The drive of the last row at or before a cycle.
-pub fn drive_at(rows: &[(u32, Drive)], cycle: u32) -> Drive
-    requires { AreInOrder rows.now }
-    ensures { result ≡ drive_at rows.now cycle }
+/// The drive of the last of so many rows.
+#[inline]
+pub fn drive_of(rows: &[(u32, Drive)], count: usize) -> Drive
+    requires { count ≤ length rows.now }
+    ensures { (cycle : ℕ) → IsCount rows.now cycle count → result ≡ drive_at rows.now cycle }
 {
-    let count = count_to(rows, cycle);
     if count == 0 {
         Drive::Z
     } else {
@@ -29,12 +34,11 @@ pub fn drive_at(rows: &[(u32, Drive)], cycle: u32) -> Drive
     }
 }
 
-/// The cycle of the first row behind a cycle.
-fn next_row(rows: &[(u32, Drive)], cycle: u32) -> Option<u32>
+/// The cycle of the first row behind so many.
+fn next_row(rows: &[(u32, Drive)], count: usize) -> Option<u32>
     requires { AreInOrder rows.now }
-    ensures { IsNext (has_row rows.now) cycle result }
+    ensures { (cycle : ℕ) → IsCount rows.now cycle count → IsNext (has_row rows.now) cycle result }
 {
-    let count = count_to(rows, cycle);
     if count < rows.len() {
         Some(rows[count].0)
     } else {
@@ -52,16 +56,54 @@ fn earlier(a: Option<u32>, b: Option<u32>) -> Option<u32>
     }
 }
 
-/// The cycle of the first row of any pin behind a cycle.
-pub fn next_of(pins: &[List<(u32, Drive)>], cycle: u32) -> Option<u32>
-    requires { All AreInOrder pins.now }
-    ensures { IsNext (any_row pins.now) cycle result }
+/// Some pins, and one more.
+fn with_pin(moved: Span, pin: u8) -> Span
+    requires { pin < 64 }
+    ensures { (k : ℕ) → ¬ IsIn result k → (¬ IsIn moved k) × (k ≢ pin) }
+{
+    moved.joined(Span {
+        from: pin,
+        to: pin + 1,
+    })
+}
+
+/// Some pins, and one more where more of its rows are past than before.
+fn with_moved(moved: Span, pin: usize, before: usize, count: usize) -> Span
+    requires { pin < 64 }
+    ensures { (k : ℕ) → ¬ IsIn result k → (¬ IsIn moved k) × (k ≡ pin → count ≡ before) }
+{
+    if count == before {
+        moved
+    } else {
+        with_pin(moved, pin as u8)
+    }
+}
+
+/// Counts of each pin the rows at or before a cycle, where so many are. Answers the cycle of the first row of any pin behind it,
+/// and the pins of which more are.
+pub fn count_all(
+    pins: &[List<(u32, Drive)>],
+    cycle: u32,
+    counts: &mut [usize; 64],
+) -> (Option<u32>, Span)
+    requires few { length pins.now ≤ 64 }
+    requires order { All AreInOrder pins.now }
+    requires past { AreAllPast pins.now cycle counts.old }
+    ensures counts { AreCounts pins.now cycle counts.new }
+    ensures next { IsNext (any_row pins.now) cycle result.0 }
+    ensures moved { (pin : ℕ) → ¬ IsIn result.1 pin → slice_index counts.new pin ≡ slice_index counts.old pin }
 {
     let mut next = None;
+    let mut moved = Span::none();
     let mut i = pins.len();
     while i > 0 {
         i -= 1;
-        next = earlier(next_row(pins[i].as_slice(), cycle), next);
+        let rows = pins[i].as_slice();
+        let before = counts[i];
+        let count = count_on(rows, cycle, before);
+        moved = with_moved(moved, i, before, count);
+        counts[i] = count;
+        next = earlier(next_row(rows, count), next);
     }
-    next
+    (next, moved)
 }

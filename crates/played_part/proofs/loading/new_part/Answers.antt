@@ -1,6 +1,6 @@
-use Rattle.std.proofs.Common.{◌≡◌, ◌∙◌, ℕ, List, length, take, drop, Some, true, false, ap, sym, arith}
+use Rattle.std.proofs.Common.{◌≡◌, ◌∙◌, ℕ, List, length, take, drop, Some, ap, sym, arith}
+use Rattle.part_law.specs.Spans.{no_pins}
 use Rattle.board_build.specs.declared.plan.PlanKind.{PlanKind}
-use Rattle.board_build.specs.declared.plan.PlanKind.TheVariants as plans
 use Rattle.board_build.specs.declared.plan.PlanPart.{PlanPart}
 use Rattle.board_build.specs.Parts.{is_uno}
 use Rattle.board_build.specs.Pins.{count_of}
@@ -40,6 +40,6 @@ returns-in-Chip-clause-begins c =
     let source : ChipSource = c.index-chips-chip.result in
     let there = source_there chips c.args.part.now.kind chip source c.in-Chip.is c.requires.ready c.index-chips-chip.is in
     let many : c.len-pins.result ≡ length source.pins = c.len-pins.ensures ∙ sym (ap (λ (s : ChipSource). length s.pins) c.index-chips-chip.is) in
-    let player : ℕ → PlayedPart = λ count. played_parts.Player (record { player = fresh_player (take count (drop c.args.first c.args.rows.now)); wakes = 0; changed = false }) in
+    let player : ℕ → PlayedPart = λ count. played_parts.Player (record { player = fresh_player (take count (drop c.args.first c.args.rows.now)); wakes = 0; moved = no_pins }) in
     if_ok (λ (p : PlayedPart). p ≡ player c.len-pins.result) _ c.new_player.result c.new_player.ensures
     (λ p is flash none. player_begins (record { flash = flash; chips = chips; budget = 0 }) c.args.rows.now c.args.first part chip source p c.in-Chip.is there (is ∙ ap player many))

@@ -1,6 +1,6 @@
 use Rattle.std.proofs.Common.{ap}
 use Rattle.trace_run.specs.PlayerAt.{PlayerAt}
-use Rattle.trace_run.proofs.StateLemmas.{settled, next_later}
+use Rattle.trace_run.proofs.StateLemmas.{settled, next_later, past_later}
 use Rattle.trace_run.proofs.player.PlayerPart.settle.Goals as goal
 
 pub invariant_of-self : goal.invariant_of-self
@@ -10,6 +10,7 @@ invariant_of-self c =
     record {
       few = inv.few;
       rows = inv.rows;
+      counts = past_later _ c.args.self.now.player c.args.to c.self.inside.counts is c.requires.later c.requires.quiet inv.counts;
       next = next_later _ c.args.self.now.player c.args.to c.self.inside.next is c.requires.later c.requires.quiet inv.next;
       end = c.requires.end;
     }

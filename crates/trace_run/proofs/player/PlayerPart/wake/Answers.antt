@@ -1,13 +1,16 @@
-use Rattle.std.proofs.Common.{ℕ, ◌+◌, ap, ◌∙◌}
-use Rattle.board_laws.specs.Player.{PlayerState, player}
+use Rattle.std.proofs.Common.{ap, ◌∙◌}
+use Rattle.std.specs.Prelude.{slice_get}
+use Rattle.part_law.proofs.SpanLemmas.{not_in_span}
+use Rattle.board_laws.specs.Player.{player}
 use Rattle.trace_run.specs.PlayerAt.{PlayerAt}
-use Rattle.trace_run.proofs.StateLemmas.{same_drives}
+use Rattle.trace_run.proofs.StateLemmas.{none_moved}
 use Rattle.trace_run.proofs.player.PlayerPart.wake.Goals as goal
 
 pub returns-clause-drives : goal.returns-clause-drives
 returns-clause-drives c =
-    let is = ap (λ (p : PlayerAt). p.player) c.self.view_is in
-    same_drives c.step.new.self c.args.self.now
-    (ap (λ (p : PlayerAt). p.player.rows) c.step.ensures ∙ ap (λ (p : PlayerState). p.rows) is)
-    (ap (λ (p : PlayerAt). p.player.cycle) c.step.ensures ∙ ap (λ (p : PlayerState). p.cycle + 1) is)
-    (ap (λ (p : PlayerAt). p.changed) c.step.ensures ∙ ap (λ (p : PlayerState). player.due p p.cycle) is)
+    none_moved c.step.new.self.moved c.args.self.now.player c.step.new.self.player
+    (λ pin out. c.step.ensures.others pin out ∙ ap (λ (p : PlayerAt). slice_get (player.drives p.player) pin) c.self.view_is)
+
+pub returns-clause-others : goal.returns-clause-others
+returns-clause-others c = λ pin out.
+    c.step.ensures.others pin (not_in_span c.step.new.self.moved pin out) ∙ ap (λ (p : PlayerAt). slice_get (player.drives p.player) pin) c.self.view_is
