@@ -21,14 +21,13 @@ use Rattle.board_laws.specs.Active.{active_in, active_at, active_pairs}
 use Rattle.board_laws.specs.FirstDiff.{Difference, part_diff, stepped_beside, first_beside, first_diff, SamePins}
 use Rattle.board_laws.specs.Steady.{IsSteady}
 use Rattle.board_laws.specs.Twin.{chips_before, with_chips}
-use Rattle.board_laws.specs.Worlds.{is_chip, IsQuietKind, TheseAre, SameRest, SameChips}
+use Rattle.board_laws.specs.Worlds.{is_chip, SameRest, SameChips}
 use Rattle.board_laws.proofs.ActiveLaw.{held_before}
-use Rattle.board_laws.proofs.FirstDiffLaw.{beside_sees, rest_same, rest_until, same_chips}
+use Rattle.board_laws.proofs.FirstDiffLaw.{same_chips}
 use Rattle.board_laws.proofs.Splits.{states_split, pairs_split, sum_same}
 use Rattle.board_laws.specs.Stands.{Stands}
 use Rattle.board_laws.proofs.StandsLaw.{stands_here, stands_shows}
 use Rattle.board_laws.proofs.SteadyLaw.{steady_states}
-use Rattle.board_laws.proofs.TwinLaw.{beside_active}
 use Rattle.board_laws.proofs.WithChips.{rest_with_chips, get-with_chips}
 use Rattle.board_run.specs.Lagging.{AreDue}
 use Rattle.board_run.specs.Seen.{levels_on}
@@ -36,9 +35,10 @@ use Rattle.board_run.proofs.NextLemmas.{quiet_until}
 use Rattle.board_run.proofs.StepLemmas.{fits_pins}
 use Rattle.board_run.proofs.TurnLemmas.{some_there}
 use Rattle.twin_run.specs.Beside.{IsChipOf, HasChips, ChipsStand, ChipsHold, ChipsTurned, Abreast, beside_at, beside_pairs}
-use Rattle.twin_run.specs.Twins.{IsTwin, differs, end_of, chip_pairs}
+use Rattle.twin_run.specs.Twins.{HaveNoContacts, IsTwin, differs, end_of, chip_pairs}
 use Rattle.twin_run.specs.declared.twin.TwinEnd.TheVariants as ends
 use Rattle.twin_run.proofs.DifferenceLemmas.{by_drives}
+use Rattle.twin_run.proofs.MuteLemmas.{active_before, rest_before, rest_up_to, sees_first}
 use Rattle.twin_run.proofs.BesideLemmas.{As, Bs, chip_inside, pins_beside, pairs_rise, length-beside, chips_sleep, none_in, stand_next, may_next, fit_next, held_next, counted}
 
 module _ {S P : Type 0} (m : Machine S) (laws : Laws m) (w : Wiring) (inputs : List Input) (state : P → S) (now wakes : P → ℕ) (xs ys : List S)
@@ -201,9 +201,9 @@ module _ {S P : Type 0} (m : Machine S) (laws : Laws m) (w : Wiring) (inputs : L
       let e : t + suc j ≡ suc (t + j) = omega arith in
       ap (first_beside m w inputs xs ys 0) e ∙ ap (λ o. option_or o (part_diff m w (0 + (t + j)) 0 (A (t + j)) (B (t + j)))) (stays t d found j)
 
-  module _ (IsOf : S → Type 0) (kind : IsQuietKind m IsOf) (one : TheseAre IsOf (is_chip w) xs) (other : TheseAre IsOf (is_chip w) ys) (rest : SameRest w xs ys) where
+  module _ (free : HaveNoContacts m w xs ys) (rest : SameRest w xs ys) where
     sees : (n : ℕ) → first_beside m w inputs xs ys 0 n ≡ first_diff m w inputs xs ys 0 n
-    sees n = beside_sees m laws IsOf kind w inputs xs ys 0 one other rest pins n
+    sees n = sees_first m w inputs xs ys laws free rest pins n
 
     or_first : {A : Type 0} (o q : Option A) → option_or o q ≡ None → o ≡ None
     or_first None q h = refl
@@ -218,7 +218,7 @@ module _ {S P : Type 0} (m : Machine S) (laws : Laws m) (w : Wiring) (inputs : L
         let before = pairs_are t (or_first _ _ none) in
         let same = sum_same m w inputs (length ys) (beside_at m w inputs xs ys t) (λ k. if is_chip w k then active_at m w inputs ys 0 k t else 0)
         (λ k. ap (λ (x : ℕ). if is_chip w k then x else 0)
-        (ap (λ (v : ℕ). active_in m w inputs (levels_of m w (A t)) v k (slice_get (B t) k)) (sym z) ∙ beside_active m laws w inputs xs ys 0 IsOf kind one other rest pins t none k)) in
+        (ap (λ (v : ℕ). active_in m w inputs (levels_of m w (A t)) v k (slice_get (B t) k)) (sym z) ∙ active_before m w inputs xs ys laws free rest pins t none k)) in
         omega (arith, before, same)
 
     pub ends_same : (n steps more : ℕ) (parts chips : List P) (dues : List (Option ℕ)) (before : List Level) → Is n parts chips dues before steps more → IsTwin m w inputs xs ys n ends.Same steps more
@@ -230,7 +230,7 @@ module _ {S P : Type 0} (m : Machine S) (laws : Laws m) (w : Wiring) (inputs : L
           sees = ap end_of (sym none);
           rose = is.rose;
           wakes = omega (arith, so_far, pairs);
-          rest = rest_same m laws IsOf kind w inputs xs ys 0 one other rest pins n none;
+          rest = rest_before m w inputs xs ys laws free rest pins n none;
         }
 
     pub ends_differ : (t n steps more : ℕ) (parts chips : List P) (dues : List (Option ℕ)) (before : List Level) (d : Difference) → Is t parts chips dues before steps more → t < n →
@@ -249,7 +249,7 @@ module _ {S P : Type 0} (m : Machine S) (laws : Laws m) (w : Wiring) (inputs : L
           sees = ap end_of (sym all);
           rose = is.rose;
           wakes = omega (arith, so_far, pairs, one_pairs, other_pairs);
-          rest = λ u l. rest_until m laws IsOf kind w inputs xs ys 0 one other rest pins n d all u (omega (arith, l));
+          rest = λ u l. rest_up_to m w inputs xs ys laws free rest pins n d all u (omega (arith, l));
         }
 
 -- a twin at its start

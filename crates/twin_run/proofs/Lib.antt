@@ -1,5 +1,6 @@
 mod DifferenceLemmas
 mod TurnedLemmas
 mod BesideLemmas
+mod MuteLemmas
 mod AbreastLemmas
 mod WakesLemmas

@@ -1,5 +1,5 @@
 -- A twin: a board at cycle 0, and the chips of a second board that differs in them alone (profile).
-use Rattle.std.specs.Prelude.{◌≡◌, ℕ, ◌+◌, ◌≤◌, List, length, map, Bool, Option, None, Some, true, false, slice_get, if◌then◌else◌}
+use Rattle.std.specs.Prelude.{◌≡◌, ℕ, ◌+◌, ◌≤◌, List, [], length, map, Option, None, Some, true, false, slice_get, if◌then◌else◌}
 use Rattle.std.specs.List.{sum_by}
 use Rattle.sim_base.specs.declared.wiring.Wiring.{Wiring}
 use Rattle.sim_base.specs.declared.wiring.Input.{Input}
@@ -10,7 +10,7 @@ use Rattle.board_model.specs.Fresh.{AreFresh}
 use Rattle.board_laws.specs.Active.{active_at, active_pairs, sum_below}
 use Rattle.board_laws.specs.FirstDiff.{Difference, first_diff, SamePins}
 use Rattle.board_laws.specs.Twin.{with_chips, chips_before}
-use Rattle.board_laws.specs.Worlds.{is_chip, IsQuietKind, TheseAre, SameRest}
+use Rattle.board_laws.specs.Worlds.{is_chip, TheseAre, SameRest}
 use Rattle.board_run.specs.BoardView.{BoardView}
 use Rattle.twin_run.specs.declared.twin.TwinEnd.{TwinEnd}
 use Rattle.twin_run.specs.declared.twin.TwinEnd.TheVariants as ends
@@ -52,11 +52,10 @@ pub record AreTwins {S P : Type 0} (m : Machine S) (state : P → S) (now wakes 
   pub pins : SamePins m twin.board.wiring (map state twin.board.parts) (other_states state twin)
   pub unscripted : (t k : ℕ) → is_chip twin.board.wiring k ≡ true → input_at twin.board.inputs t k ≡ None
 
--- the chips of two boards are of a kind that has no contacts and sends no bytes
-pub record HaveQuietChips {S : Type 0} (m : Machine S) (w : Wiring) (is_of : S → Bool) (xs ys : List S) : Type 0 where
-  pub kind : IsQuietKind m (λ s. is_of s ≡ true)
-  pub one : TheseAre (λ s. is_of s ≡ true) (is_chip w) xs
-  pub other : TheseAre (λ s. is_of s ≡ true) (is_chip w) ys
+-- no chip of the two boards has contacts
+pub record HaveNoContacts {S : Type 0} (m : Machine S) (w : Wiring) (xs ys : List S) : Type 0 where
+  pub one : TheseAre (λ s. m.contacts s ≡ []) (is_chip w) xs
+  pub other : TheseAre (λ s. m.contacts s ≡ []) (is_chip w) ys
 
 -- the pairs of a cycle below n and a chip that is active in it
 abbrev pub chip_pairs : {S : Type 0} → Machine S → Wiring → List Input → List S → ℕ → ℕ

@@ -1,5 +1,5 @@
 //! One rest of a board beside two sets of chips.
-ghost use Rattle.std.specs.Prelude.{◌≡◌, ◌≤◌, ◌<◌, ◌+◌, ◌-◌, ℕ, List, length, map, Bool, None, Some, true, false, not, IfOk, slice_get, if◌then◌else◌};
+ghost use Rattle.std.specs.Prelude.{◌≡◌, ◌≤◌, ◌<◌, ◌+◌, ◌-◌, ℕ, List, length, map, None, Some, true, false, not, IfOk, slice_get, if◌then◌else◌};
 ghost use Rattle.std.specs.List.{sum_by};
 ghost use Rattle.std.specs.Option.{option_map};
 ghost use Rattle.part_law.specs.Machine.{IsFirstDue};
@@ -13,7 +13,7 @@ ghost use Rattle.board_laws.specs.Twin.{chips_before, with_chips};
 ghost use Rattle.board_laws.specs.Worlds.{is_chip};
 ghost use Rattle.board_run.specs.Lagging.{AreDue, MayTurn, to_wake, turned};
 ghost use Rattle.twin_run.specs.Beside.{ArePair, Abreast, HasChips, ChipsFit, ChipsHold, ChipsMay, ChipsTurned};
-ghost use Rattle.twin_run.specs.Twins.{AreTwins, HaveQuietChips, IsTwin, TwinView, cycle_of, differs, other_states, wakes_in};
+ghost use Rattle.twin_run.specs.Twins.{AreTwins, HaveNoContacts, IsTwin, TwinView, cycle_of, differs, other_states, wakes_in};
 
 use board_run::{Board, RunEnd, Unwatched, is_same_drive, level_of_net, take_turn};
 use part_law::Part;
@@ -380,7 +380,7 @@ fn run_beside<P: Part, L: Ledger>(
     requires own { length own.old ≡ length board.old.wiring.net_of }
     requires end { n ≤ MOST_CYCLES }
     ensures wiring { board.new.wiring ≡ board.old.wiring }
-    ensures twin { (is_of : P.State → Bool) → HaveQuietChips P.machine board.old.wiring is_of (map P.state board.old.parts)
+    ensures twin { HaveNoContacts P.machine board.old.wiring (map P.state board.old.parts)
         (other_states P.state (record { board = board.old; chips = chips.old }))
         → IsTwin P.machine board.old.wiring board.old.inputs (map P.state board.old.parts)
         (other_states P.state (record { board = board.old; chips = chips.old })) n result steps.old steps.new }
@@ -421,8 +421,7 @@ impl<P: Part> Twin<P> {
     pub fn run<L: Ledger>(&mut self, n: u32, steps: &mut Steps<L>) -> TwinEnd
         requires twins { AreTwins P.machine P.state P.now P.wake_count self.old }
         requires end { n ≤ MOST_CYCLES }
-        ensures twin { (is_of : P.State → Bool)
-            → HaveQuietChips P.machine self.old.board.wiring is_of (map P.state self.old.board.parts) (other_states P.state self.old)
+        ensures twin { HaveNoContacts P.machine self.old.board.wiring (map P.state self.old.board.parts) (other_states P.state self.old)
             → IsTwin P.machine self.old.board.wiring self.old.board.inputs (map P.state self.old.board.parts) (other_states P.state self.old)
             n result steps.old steps.new }
         ensures woken { wakes_in P.wake_count self.new + steps.old ≡ wakes_in P.wake_count self.old + steps.new }

@@ -39,7 +39,7 @@ loop-t-init g c =
     }
 
 pub returns-clause-twin : goal.returns-clause-twin
-returns-clause-twin g c = λ is_of quiet.
+returns-clause-twin g c = λ free.
     let p = g.P.Part in
     let b = c.args.board.now in
     let twins = c.requires.twins in
@@ -49,7 +49,7 @@ returns-clause-twin g c = λ is_of quiet.
     let ys = other_states p.state (record { board = b; chips = c.args.chips.now }) in
     subst (λ (n : ℕ). IsTwin p.machine b.wiring b.inputs xs ys n ends.Same c.args.steps.now c.loop-t.steps) end
     (ends_same p.machine g.met.P.Part.laws b.wiring b.inputs p.state p.now p.wake_count xs ys twins.pins twins.fits.chips twins.unscripted
-    (λ s. is_of s ≡ true) quiet.kind quiet.one quiet.other (rest_with_chips b.wiring xs (map p.state c.args.chips.now)) c.loop-t.t c.args.steps.now c.loop-t.steps c.loop-t.board.parts c.loop-t.chips c.loop-t.dues c.loop-t.before i.abreast)
+    free (rest_with_chips b.wiring xs (map p.state c.args.chips.now)) c.loop-t.t c.args.steps.now c.loop-t.steps c.loop-t.board.parts c.loop-t.chips c.loop-t.dues c.loop-t.before i.abreast)
 
 pub difference-requires-clause-few : goal.difference-requires-clause-few
 difference-requires-clause-few g c =
@@ -95,7 +95,7 @@ difference-requires-clause-pins g c =
     (compared m g.met.P.Part.laws b.wiring b.inputs p.state p.now p.wake_count xs ys twins.pins twins.fits.chips twins.unscripted l.t c.args.steps.now l.steps l.board.parts l.chips l.dues l.before l.invariant.abreast))
 
 pub returns-in-Some-clause-twin : goal.returns-in-Some-clause-twin
-returns-in-Some-clause-twin g c = λ is_of quiet.
+returns-in-Some-clause-twin g c = λ free.
     let p = g.P.Part in
     let m = p.machine in
     let laws = g.met.P.Part.laws in
@@ -113,7 +113,7 @@ returns-in-Some-clause-twin g c = λ is_of quiet.
     let d = answer_of o c.in-Some.end found in
     let cycle : d.0.cycle ≡ l.t = ap (λ (e : TwinEnd). cycle_of e 0) d.2 ∙ c.difference.ensures.cycle c.in-Some.end c.in-Some.is in
     subst (λ (e : TwinEnd). IsTwin m b.wiring b.inputs xs ys c.args.n e c.args.steps.now l.steps) d.2
-    (ends_differ m laws b.wiring b.inputs p.state p.now p.wake_count xs ys twins.pins twins.fits.chips twins.unscripted (λ s. is_of s ≡ true) quiet.kind quiet.one quiet.other
+    (ends_differ m laws b.wiring b.inputs p.state p.now p.wake_count xs ys twins.pins twins.fits.chips twins.unscripted free
     (rest_with_chips b.wiring xs (map p.state c.args.chips.now)) l.t c.args.n c.args.steps.now l.steps l.board.parts l.chips l.dues l.before d.0 is c.loop-t-test.true d.1 cycle)
 
 pub go_beside-t-requires-clause-fits : goal.go_beside-t-requires-clause-fits
