@@ -102,6 +102,8 @@ twin counter/expected/run.vcd counter.vcd
 twin replay/recorded.vcd inverter.vcd
 twin replay/late.vcd inverter-moved.vcd
 twin replay/expected/late.vcd inverter-moved-played.vcd
+twin twin/by-table/inverter.wasm inverter-by-table.wasm
+twin twin/without-its-third-write/inverter.wasm inverter-without-its-third-write.wasm
 pulses <"$rows/crc.vcd" | same "crc in the rows" "$here/crc/expected/pulses.txt" || bad=1
 pulses <"$rows/sort.vcd" | same "sort in the rows" "$here/sort/expected/pulses.txt" || bad=1
 lights bit <"$rows/counter-down.vcd" | same "counter downwards in the rows" "$here/counter/expected/counts-down.txt" || bad=1
@@ -193,6 +195,11 @@ for case in chip-inverter=1000 chip-blinker=3000 chip-counter=10000 chip-thermom
     same "$name played" "$down/recorded" <"$down/played" || bad=1
     same "$name's bytes, played" "$down/sent" <"$down/serial" || bad=1
     grep -v '^chip ' "$down/whole" | cmp -s - "$down/report" || { echo "$name's report, played: differs"; bad=1; }
+done
+
+# other versions of a chip
+for name in by-table without-its-third-write; do
+    "$program" twin "$here/chip-inverter" "$here/twin/$name" --us 1000 | same "twin $name" "$here/twin/expected/$name.txt" || bad=1
 done
 
 # the counter with pin 2 on ground

@@ -8,3 +8,8 @@ for name in inverter blinker counter thermometer registers echo; do
     "$here/../sdk/build.sh" -o "$file" "$here/chip-$name/$name.c" || exit 1
     chmod a-x "$file"
 done
+[ -n "$into" ] && exit
+for name in by-table without-its-third-write; do
+    "$here/../sdk/build.sh" -o "$here/twin/$name/inverter.wasm" "$here/twin/$name/inverter.c" || exit 1
+    chmod a-x "$here/twin/$name/inverter.wasm"
+done

@@ -1,7 +1,8 @@
 #!/bin/sh
 # Makes the modules of crates/chip_rows: those of the texts here with wat2wasm, and those of the examples. Then the modules of
-# crates/sim_rows: those of the sources here in C, those that have a text beside them, what both have, and the inverter of the examples once more, by clang for the
-# first version of the standard, with a memory that is imported and with the names and producers that the linker leaves.
+# crates/sim_rows: those of the sources here in C, the twins of the examples, those that have a text beside them, and what both
+# have; the inverter and the counter of the examples without optimisation; and the inverter by clang for the first version of the
+# standard, with a memory that is imported and with the names and producers that the linker leaves.
 here=$(cd "$(dirname "$0")" && pwd)
 top=$here/../..
 data=$top/crates/chip_rows/data
@@ -19,14 +20,21 @@ for source in "$here"/*.c; do
     "$top/sdk/build.sh" -o "$runs/$(basename "$source" .c).wasm" "$source" || exit 1
     chmod a-x "$runs/$(basename "$source" .c).wasm"
 done
+for name in by-table without-its-third-write; do
+    cp "$top/examples/twin/$name/inverter.wasm" "$runs/inverter-$name.wasm"
+done
 for text in "$runs"/*.wat; do
     assemble "$text" "$runs"
 done
 for name in start-loops init-calls-itself grows-and-stores name-at-the-end name-of-64-bytes pin-init-in-a-callback timer-33 \
     callback-beyond-the-table callback-that-is-no-entry callback-of-another-type division-by-zero timer-of-0-ns-again-and-again \
     callback-that-loops callback-0 ids-that-were-not-given delays-of-three-timers inverter-imports-its-memory clang-blinker \
-    clang-counter; do
+    clang-counter clang-inverter; do
     cp "$data/$name.wasm" "$runs"
+done
+for name in inverter counter; do
+    "$top/sdk/build.sh" -O0 -o "$runs/clang-$name-O0.wasm" "$top/examples/chip-$name/$name.c" || exit 1
+    chmod a-x "$runs/clang-$name-O0.wasm"
 done
 clang --target=wasm32 -mcpu=mvp -O2 -Wall -Wextra -ffreestanding -nostdlib -I"$top/sdk" \
     -Wl,--no-entry,--export-table,--import-memory,-z,stack-size=8192 \

@@ -19,6 +19,7 @@ asked_of (requests.Check folder) = asks.Check folder.now
 asked_of (requests.Module file) = asks.Module file.now
 asked_of (requests.Run folder micros budget named) = asks.Run folder.now micros budget (named_by named)
 asked_of (requests.Replay folder wave micros named) = asks.Replay folder.now wave.now micros (named_by named)
+asked_of (requests.Twin folder other micros budget) = asks.Twin folder.now other.now micros budget
 asked_of (requests.Make seed micros) = asks.Make seed micros
 
 -- the number of microseconds is one that words can give
@@ -28,4 +29,5 @@ IsRunTime (requests.Check folder) = Unit {0}
 IsRunTime (requests.Module file) = Unit {0}
 IsRunTime (requests.Run folder micros budget named) = (0 < micros) × (micros ≤ 10000000)
 IsRunTime (requests.Replay folder wave micros named) = (0 < micros) × (micros ≤ 10000000)
+IsRunTime (requests.Twin folder other micros budget) = (0 < micros) × (micros ≤ 10000000)
 IsRunTime (requests.Make seed micros) = (0 < micros) × (micros ≤ 10000000)

@@ -2,7 +2,7 @@
 ghost use Rattle.std.specs.Prelude.{◌≡◌, ◌≤◌, ◌<◌, map, string_bytes, IfOk, IfSome};
 ghost use Rattle.std.specs.Option.{option_map, option_and_then};
 ghost use Rattle.words_model.specs.Words.{Given, texts_of};
-ghost use Rattle.words_model.specs.Request.{request_of, asked_by, bare_syntax, bare_of, check_syntax, check_of, module_syntax, module_of, run_syntax, run_of, replay_syntax, replay_of, seed_of, make_syntax, make_of, path_of, file_of, named_of, micros_of, budget_of};
+ghost use Rattle.words_model.specs.Request.{request_of, asked_by, bare_syntax, bare_of, check_syntax, check_of, module_syntax, module_of, run_syntax, run_of, replay_syntax, replay_of, twin_syntax, twin_of, seed_of, make_syntax, make_of, path_of, file_of, named_of, micros_of, budget_of};
 ghost use Rattle.cli_words.specs.Commands.{AreOf};
 ghost use Rattle.cli_words.specs.Asked.{asked_of, named_by, IsRunTime};
 
@@ -34,6 +34,9 @@ pub enum Request<'a> {
     /// A run of the project of a folder with a player of what a wave says in place of each chip, for
     /// so many microseconds, with the files that are named.
     Replay(&'a str, &'a str, u32, NamedFiles<'a>),
+    /// Whether the chips of the projects of two folders, which share all else, drive the same for so
+    /// many microseconds, in which each call of a chip may spend so many units of fuel.
+    Twin(&'a str, &'a str, u32, u32),
     /// A run of the board that is generated from a seed, for so many microseconds.
     Make(u32, u32),
 }
@@ -209,6 +212,23 @@ fn replay<'a>(matches: &ArgMatches<'a>) -> Option<Request<'a>>
     }
 }
 
+fn twin<'a>(matches: &ArgMatches<'a>) -> Option<Request<'a>>
+    ensures asked { (given : Given) → AreOf given matches.now → option_map asked_of result ≡ twin_of given }
+    ensures run_time { IfSome result IsRunTime }
+{
+    match (
+        path(matches, "folder"),
+        path(matches, "other"),
+        micros(matches),
+        budget(matches),
+    ) {
+        (Some(folder), Some(other), Some(micros), Some(budget)) => {
+            Some(Request::Twin(folder, other, micros, budget))
+        }
+        _ => None,
+    }
+}
+
 /// The seed of a generated board.
 fn seed(matches: &ArgMatches) -> Option<u32>
     ensures { (given : Given) → AreOf given matches.now → result ≡ seed_of given }
@@ -245,6 +265,17 @@ fn read_replay(alloc: Global, given: &[String]) -> Result<Option<Request<'_>>, A
     }
 }
 
+/// `twin FOLDER OTHER --us N [--budget N]`
+fn read_twin(alloc: Global, given: &[String]) -> Result<Option<Request<'_>>, AllocError>
+    ensures request { IfOk result (λ o. option_map asked_of o ≡ option_and_then twin_of (texts_of twin_syntax (map string_bytes given.entry.now))) }
+    ensures run_time { IfOk result (λ o. IfSome o IsRunTime) }
+{
+    match read_texts(alloc, &["folder", "other"], &["us", "budget"], given)? {
+        Some(matches) => Ok(twin(&matches)),
+        None => Ok(None),
+    }
+}
+
 /// `make SEED --us N`
 fn read_make(alloc: Global, given: &[String]) -> Result<Option<Request<'_>>, AllocError>
     ensures request { IfOk result (λ o. option_map asked_of o ≡ option_and_then make_of (texts_of make_syntax (map string_bytes given.entry.now))) }
@@ -271,6 +302,7 @@ fn read_command<'a>(
         "module" => read_module(alloc, given),
         "run" => read_run(alloc, given),
         "replay" => read_replay(alloc, given),
+        "twin" => read_twin(alloc, given),
         "make" => read_make(alloc, given),
         _ => Ok(None),
     }

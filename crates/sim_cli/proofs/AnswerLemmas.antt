@@ -9,7 +9,7 @@ use Rattle.cli_project.specs.Answer.{CheckAnswer}
 use Rattle.cli_project.proofs.ProjectLemmas.{one_check, check_only}
 use Rattle.outcome_model.specs.Stop.{Missing, Refused, Texts}
 use Rattle.cli_module.specs.Answer.{ModuleAnswer}
-use Rattle.words_model.specs.Request.{Request, Bare, Check, Module, Run, Replay, Make}
+use Rattle.words_model.specs.Request.{Request, Bare, Check, Module, Run, Replay, Twin, Make}
 use Rattle.outcome_model.specs.Promises.{HoldsAnswer, IsOne}
 use Rattle.outcome_model.proofs.PromiseLemmas.{holds_answer}
 use Rattle.isolation.specs.ChipRun.{AreAlone}
@@ -20,6 +20,7 @@ use Rattle.cli_module.proofs.AnswerLemmas.{one_module, module_only}
 use Rattle.cli_run.proofs.RunLemmas.{one_run, played_answer, such_answer}
 use Rattle.cli_replay.specs.Answer.{ReplayAnswer}
 use Rattle.cli_replay.proofs.ReplayLemmas.{one_replay}
+use Rattle.cli_twin.proofs.AnswerLemmas.{one_twin}
 use Rattle.cli_make.proofs.MakeLemmas.{one_make}
 use Rattle.board_outputs.specs.Run.{Outputs}
 use Rattle.cli_run.specs.Answer.{PlayAnswer, AnswerSuch}
@@ -32,6 +33,7 @@ one (Check folder) = one_check folder
 one (Module name) = one_module name
 one (Run folder us budget named) = one_run folder us named.script budget (outputs_to named)
 one (Replay folder wave us named) = one_replay folder wave us named.script (outputs_to named)
+one (Twin folder other us budget) = one_twin folder other us budget
 one (Make seed us) = one_make seed us
 
 -- what answers are, the ports hold
@@ -49,6 +51,7 @@ with_run one other is (Check folder) files t e = e
 with_run one other is (Module name) files t e = e
 with_run one other is (Run folder us budget named) files t e = is folder us named.script budget (outputs_to named) files t e
 with_run one other is (Replay folder wave us named) files t e = e
+with_run one other is (Twin folder second us budget) files t e = e
 with_run one other is (Make seed us) files t e = e
 
 -- what the ports hold after a run whose chips are isolated

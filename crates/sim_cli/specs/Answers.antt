@@ -1,7 +1,7 @@
 -- What each request is answered with: a line for each command.
 use Rattle.std.specs.Prelude.{ℕ, List, Option, true, Result}
 use Rattle.sim_base.specs.Outside.{Files}
-use Rattle.words_model.specs.Request.{NamedFiles, Request, Bare, Check, Module, Run, Replay, Make}
+use Rattle.words_model.specs.Request.{NamedFiles, Request, Bare, Check, Module, Run, Replay, Twin, Make}
 use Rattle.outcome_model.specs.Stop.{Stop, Texts}
 use Rattle.outcome_model.specs.Happens.{Answer}
 use Rattle.cli_bare.specs.Answer.{BareAnswer}
@@ -11,6 +11,7 @@ use Rattle.board_outputs.specs.Run.{Outputs}
 use Rattle.isolation.specs.Isolated.{Fact}
 use Rattle.cli_run.specs.Answer.{RunAnswer, PlayAnswer, AnswerSuch}
 use Rattle.cli_replay.specs.Answer.{ReplayAnswer, RepeatAnswer}
+use Rattle.cli_twin.specs.Answer.{TwinAnswer}
 use Rattle.cli_make.specs.Answer.{MakeAnswer}
 
 -- the bytes of a run go to Serial, its wave and its report to the files that are named
@@ -32,6 +33,7 @@ AnswersWith run replay (Check folder) = CheckAnswer folder
 AnswersWith run replay (Module name) = ModuleAnswer name
 AnswersWith run replay (Run folder us budget named) = run folder us named.script budget (outputs_to named)
 AnswersWith run replay (Replay folder wave us named) = replay folder wave us named.script (outputs_to named)
+AnswersWith run replay (Twin folder other us budget) = TwinAnswer folder other us budget
 AnswersWith run replay (Make seed us) = MakeAnswer seed us
 
 abbrev pub Answers : Request → Files → Result Texts Stop → Type 0

@@ -18,6 +18,7 @@ use cli_module::check_module;
 use cli_project::check;
 use cli_replay::replay;
 use cli_run::run;
+use cli_twin::twin;
 use cli_words::{NamedFiles, Request, read_words};
 use cli_work::{WorkEnd, status, tell};
 use sim_base::{Bench, Steps};
@@ -78,6 +79,9 @@ fn work<B: Bench, L: Ledger>(
                 bench,
                 steps,
             )
+        }
+        Ok(Some(Request::Twin(folder, other, micros, budget))) => {
+            twin(alloc, folder, other, micros, budget, bench, steps)
         }
         Ok(Some(Request::Make(seed, micros))) => make(alloc, seed, micros, bench, steps),
         Ok(None) => WorkEnd::NoRequest,

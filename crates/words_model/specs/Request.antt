@@ -30,6 +30,7 @@ pub record NamedFiles : Type 0 where
 -- `Run folder us budget named`: a run of a project for so many microseconds, in which each call of a chip may spend so many
 -- units of fuel, with the files that are named for it.
 -- `Replay folder wave us named`: such a run with a player of what a wave says in place of each chip.
+-- `Twin folder other us budget`: whether the chips of two projects that share all else drive the same in such a run.
 -- `Make seed us`: a run of the board that is generated from a seed, for so many microseconds.
 pub data Request : Type 0 where
   Bare : Text → ℕ → Request
@@ -37,6 +38,7 @@ pub data Request : Type 0 where
   Module : Text → Request
   Run : Text → ℕ → ℕ → NamedFiles → Request
   Replay : Text → Text → ℕ → NamedFiles → Request
+  Twin : Text → Text → ℕ → ℕ → Request
   Make : ℕ → ℕ → Request
 
 -- a file name or a folder's is not empty
@@ -111,6 +113,14 @@ abbrev pub replay_of : Given → Option Request
 replay_of given =
     option_and_then (λ folder. option_and_then (λ wave. option_and_then (λ us. option_map (Replay folder wave us) (named_of given)) (micros_of given)) (path_of (codes "wave") given)) (path_of (codes "folder") given)
 
+-- `twin FOLDER OTHER --us N` with `--budget N`
+abbrev pub twin_syntax : Syntax
+twin_syntax = record { words = codes "folder" ∷ codes "other" ∷ []; options = codes "us" ∷ codes "budget" ∷ [] }
+
+abbrev pub twin_of : Given → Option Request
+twin_of given =
+    option_and_then (λ folder. option_and_then (λ other. option_and_then (λ us. option_map (Twin folder other us) (budget_of given)) (micros_of given)) (path_of (codes "other") given)) (path_of (codes "folder") given)
+
 -- a seed from 0 to 4,294,967,295
 abbrev pub seed_of : Given → Option ℕ
 seed_of given = option_and_then (number_within 0 4294967295) (text_of (codes "seed") given)
@@ -130,6 +140,7 @@ asked_by command words =
     else if bytes_eq command (codes "module") then option_and_then module_of (texts_of module_syntax words)
     else if bytes_eq command (codes "run") then option_and_then run_of (texts_of run_syntax words)
     else if bytes_eq command (codes "replay") then option_and_then replay_of (texts_of replay_syntax words)
+    else if bytes_eq command (codes "twin") then option_and_then twin_of (texts_of twin_syntax words)
     else if bytes_eq command (codes "make") then option_and_then make_of (texts_of make_syntax words)
     else None
 

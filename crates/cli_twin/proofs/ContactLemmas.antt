@@ -1,0 +1,15 @@
+-- No chip of two boards has contacts.
+use Rattle.board_build.specs.declared.plan.Plan.{Plan}
+use Rattle.board_build.specs.IsPlan.{IsPlan}
+use Rattle.chip_module.specs.Sources.{pins_of}
+use Rattle.any_part.specs.AnyPart.{any}
+use Rattle.any_part.specs.Start.{Contents, starts}
+use Rattle.isolation.proofs.ChipLemmas.{quiet_chips, chips_begin}
+use Rattle.twin_run.specs.Twins.{HaveNoContacts}
+
+pub free_of_contacts : (one two : Contents) (plan : Plan) → IsPlan (pins_of one.chips) plan → IsPlan (pins_of two.chips) plan →
+    HaveNoContacts any plan.wiring (starts one plan.parts) (starts two plan.parts)
+free_of_contacts one two plan is also = record {
+  one = λ k s here at. quiet_chips.no_contacts s (chips_begin one plan is k s here at);
+  other = λ k s here at. quiet_chips.no_contacts s (chips_begin two plan also k s here at);
+}

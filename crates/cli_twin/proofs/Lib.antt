@@ -1,0 +1,7 @@
+mod SharedLemmas
+mod WithLemmas
+mod ChipLemmas
+mod ContactLemmas
+mod PlanLemmas
+mod TwinLemmas
+pub mod AnswerLemmas

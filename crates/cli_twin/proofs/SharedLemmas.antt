@@ -1,0 +1,184 @@
+-- What it means that no file of a twin differs.
+use Rattle.std.proofs.Common.{◌≡◌, ◌∙◌, ◌<◌, ◌≤◌, ◌+◌, ◌&&◌, ℕ, zero, suc, List, [], ◌∷◌, length, drop, get_or, Bool, true, false, Option, None, Some, refl, ap, sym, arith, inl, inr, ◌⊎◌}
+use Rattle.std.specs.Prelude.{◌==◌, if◌then◌else◌, slice_index, codes}
+use Rattle.std.specs.Str.{bytes_eq}
+use Rattle.std.proofs.lemmas.Bool.{and_parts, cases_Bool, eqb-true}
+use Rattle.std.proofs.lemmas.Bool.Decides.{nat_tests}
+use Rattle.std.proofs.lemmas.List.{drop_all, drop_more, length-map, same_lists}
+use Rattle.std.proofs.lemmas.Option.{same_Some, slice_get-get_or}
+use Rattle.std.proofs.lemmas.Slice.Eq.{bytes_eq-Decides}
+use Rattle.document_model.specs.declared.project.ChipFile.{ChipFile}
+use Rattle.board_model.specs.Rows.{same_list}
+use Rattle.chip_module.specs.declared.source.ChipSource.{ChipSource}
+use Rattle.chip_module.specs.Sources.{pins_of}
+use Rattle.project_model.specs.Work.{Work}
+use Rattle.cli_twin.specs.Shared.{names_of, other_path, other_pins, same_below, same_pin}
+
+bytes_mean : (a b : List ℕ) → bytes_eq a b ≡ true → a ≡ b
+bytes_mean a b e = (bytes_eq-Decides a b).0 e
+
+pin_means : (a b : Option (List ℕ)) → same_pin a b ≡ true → a ≡ b
+pin_means None None e = refl
+pin_means (Some a) (Some b) e = ap Some (bytes_mean a b e)
+pin_means None (Some b) e = absurd cc
+pin_means (Some a) None e = absurd cc
+
+module _ {A : Type 0} (same : A → A → Bool) where
+  -- two lists whose items are the same are one list
+  list_means : ((x y : A) → same x y ≡ true → x ≡ y) → (xs ys : List A) → same_list same xs ys ≡ true → xs ≡ ys
+  list_means means [] [] e = refl
+  list_means means [] (y ∷ ys) e = absurd cc
+  list_means means (x ∷ xs) [] e = absurd cc
+  list_means means (x ∷ xs) (y ∷ ys) e =
+      let both = and_parts (same x y) (same_list same xs ys) e in
+      let a : x ≡ y = means x y both.0 in
+      let b : xs ≡ ys = list_means means xs ys both.1 in
+      cc
+
+  -- lists of other lengths are others
+  pub lengths_differ : (xs ys : List A) → (length xs ≡ length ys → ⊥) → same_list same xs ys ≡ false
+  lengths_differ [] [] other = absurd (other refl)
+  lengths_differ [] (y ∷ ys) other = refl
+  lengths_differ (x ∷ xs) [] other = refl
+  lengths_differ (x ∷ xs) (y ∷ ys) other = go (same x y) (lengths_differ xs ys (λ e. other (ap suc e)))
+    where
+      go : (b : Bool) → same_list same xs ys ≡ false → (b && same_list same xs ys) ≡ false
+      go true rest = rest
+      go false rest = refl
+
+  -- what is told of two lists from a place on
+  pub same_from : (xs ys : List A) (i : ℕ) (d e : A) → i < length xs → i < length ys →
+      same_list same (drop i xs) (drop i ys) ≡ (same (get_or xs i d) (get_or ys i e) && same_list same (drop (i + 1) xs) (drop (i + 1) ys))
+  same_from xs ys i d e here there = rw (drop_more xs i d here, drop_more ys i e there) refl
+
+pub below_none : (a b : List ℕ) → same_below 0 a b ≡ true
+unfolding same_below
+below_none a b = refl
+
+-- images that are the same below n have the same byte at each address below it
+below_at : (n k : ℕ) (a b : List ℕ) → same_below n a b ≡ true → k < n → slice_index a k ≡ slice_index b k
+unfolding same_below
+below_at zero k a b e less = absurd (omega (arith, less))
+below_at (suc n) k a b e less =
+    let both = and_parts (same_below n a b) (slice_index a n == slice_index b n) e in
+    elim (last_or k n less) [
+      | inl here ↦ let at : slice_index a n ≡ slice_index b n = grind (arith, both.1, nat_tests) in rw here at
+      | inr before ↦ below_at n k a b both.0 before
+    ]
+  where
+    last_or : (k n : ℕ) → k < suc n → (k ≡ n) ⊎ (k < n)
+    last_or k n less = grind (arith, less)
+
+other_number : (x y : ℕ) → (x ≡ y → ⊥) → (x == y) ≡ false
+other_number x y other = elim (cases_Bool (x == y)) [ inl is ↦ absurd (other (eqb-true x y is)) | inr is ↦ is ]
+
+-- another byte makes two images others
+pub below_other : (n k : ℕ) (a b : List ℕ) → k < n → (slice_index a k ≡ slice_index b k → ⊥) → same_below n a b ≡ false
+unfolding same_below
+below_other zero k a b less other = absurd (omega (arith, less))
+below_other (suc n) k a b less other = elim (last_or k n less) [
+  | inl here ↦ let at : (slice_index a n == slice_index b n) ≡ false = other_number (slice_index a n) (slice_index b n) (λ e. other (rw here e)) in
+      ap (λ (x : Bool). same_below n a b && x) at ∙ and_false (same_below n a b)
+  | inr before ↦ ap (λ (x : Bool). x && (slice_index a n == slice_index b n)) (below_other n k a b before other)
+]
+  where
+    last_or : (k n : ℕ) → k < suc n → (k ≡ n) ⊎ (k < n)
+    last_or k n less = grind (arith, less)
+
+    and_false : (b : Bool) → (b && false) ≡ false
+    and_false true = refl
+    and_false false = refl
+
+-- the same byte at one more address
+pub below_more : (n : ℕ) (a b : List ℕ) → same_below n a b ≡ true → slice_index a n ≡ slice_index b n → same_below (n + 1) a b ≡ true
+unfolding same_below
+below_more n a b e at =
+    let next : n + 1 ≡ suc n = omega arith in
+    let here : (slice_index a n == slice_index b n) ≡ true = grind (arith, at, nat_tests) in
+    ap (λ (m : ℕ). same_below m a b) next ∙ ap (λ (x : Bool). x && (slice_index a n == slice_index b n)) e ∙ here
+
+-- images of one length that are the same below it are one
+pub flash_means : (n : ℕ) (a b : List ℕ) → length a ≡ n → length b ≡ n → same_below n a b ≡ true → a ≡ b
+flash_means n a b la lb e = same_lists a b (la ∙ sym lb) (λ k d less.
+    let inside : k < n = omega (arith, la, less) in
+    at_default a k d less ∙ below_at n k a b e inside ∙ sym (at_default b k d (omega (arith, lb, inside))))
+  where
+    at_default : (xs : List ℕ) (k d : ℕ) → k < length xs → get_or xs k d ≡ slice_index xs k
+    at_default xs k d less = same_Some (get_or xs k d) (get_or xs k 0) (sym (slice_get-get_or xs k d less) ∙ slice_get-get_or xs k 0 less)
+
+-- what is told of the chips from a place on
+module _ (files : List ChipFile) (one two : List ChipSource) (i : ℕ) (d : ChipFile) (e f : ChipSource) (inside : i < length files) (same_one : length one ≡ length files)
+    (same_two : length two ≡ length files) where
+  pins_from : other_pins (drop i files) (drop i one) (drop i two)
+      ≡ (if same_list same_pin (get_or one i e).pins (get_or two i f).pins then other_pins (drop (i + 1) files) (drop (i + 1) one) (drop (i + 1) two) else Some (get_or files i d).json)
+  unfolding other_pins
+  pins_from = rw (drop_more files i d inside, drop_more one i e (omega (arith, inside, same_one)), drop_more two i f (omega (arith, inside, same_two))) refl
+
+  pub pins_same : same_list same_pin (get_or one i e).pins (get_or two i f).pins ≡ true →
+      other_pins (drop (i + 1) files) (drop (i + 1) one) (drop (i + 1) two) ≡ other_pins (drop i files) (drop i one) (drop i two)
+  pins_same is =
+      sym (pins_from ∙ ap (λ (b : Bool). if b then other_pins (drop (i + 1) files) (drop (i + 1) one) (drop (i + 1) two) else Some (get_or files i d).json) is)
+
+  pub pins_other : same_list same_pin (get_or one i e).pins (get_or two i f).pins ≡ false → Some (get_or files i d).json ≡ other_pins (drop i files) (drop i one) (drop i two)
+  pins_other is =
+      sym (pins_from ∙ ap (λ (b : Bool). if b then other_pins (drop (i + 1) files) (drop (i + 1) one) (drop (i + 1) two) else Some (get_or files i d).json) is)
+
+pub pins_none : (files : List ChipFile) (one two : List ChipSource) (i : ℕ) → length files ≤ i → other_pins (drop i files) (drop i one) (drop i two) ≡ None
+unfolding other_pins
+pins_none files one two i past = rw (dropped files i past) refl
+  where
+    dropped : (files : List ChipFile) (i : ℕ) → length files ≤ i → drop i files ≡ []
+    dropped files i past = drop_all i files past
+
+-- no pin file differs where all pins are the same
+pins_mean : (files : List ChipFile) (one two : List ChipSource) → length one ≡ length files → length two ≡ length files → other_pins files one two ≡ None → pins_of one ≡ pins_of two
+unfolding other_pins
+pins_mean [] [] [] la lb e = refl
+pins_mean [] (a ∷ one) two la lb e = absurd (omega (arith, la))
+pins_mean [] [] (b ∷ two) la lb e = absurd (omega (arith, lb))
+pins_mean (file ∷ files) [] two la lb e = absurd (omega (arith, la))
+pins_mean (file ∷ files) (a ∷ one) [] la lb e = absurd (omega (arith, lb))
+pins_mean (file ∷ files) (a ∷ one) (b ∷ two) la lb e = go (same_list same_pin a.pins b.pins) refl e (λ none. pins_mean files one two (omega (arith, la)) (omega (arith, lb)) none)
+  where
+    go : (c : Bool) → same_list same_pin a.pins b.pins ≡ c → (if c then other_pins files one two else Some file.json) ≡ None → (other_pins files one two ≡ None → pins_of one ≡ pins_of two) →
+        pins_of (a ∷ one) ≡ pins_of (b ∷ two)
+    go true is none further =
+        let first : a.pins ≡ b.pins = list_means same_pin pin_means a.pins b.pins is in
+        let rest : pins_of one ≡ pins_of two = further none in
+        cc
+    go false is none further = absurd cc
+
+-- what is the same where no file differs
+pub record AreShared (a b : Work) : Type 0 where
+  pub names : names_of a.project.chips ≡ names_of b.project.chips
+  pub flash : same_below 32768 a.flash b.flash ≡ true
+  pub diagram : a.diagram ≡ b.diagram
+  pub pins : pins_of a.chips ≡ pins_of b.chips
+
+pub shared : (a b : Work) → length a.chips ≡ length a.project.chips → length b.chips ≡ length b.project.chips → other_path a b ≡ None → AreShared a b
+shared a b la lb none =
+    go (same_list bytes_eq (names_of a.project.chips) (names_of b.project.chips)) (same_below 32768 a.flash b.flash) (bytes_eq a.diagram b.diagram) refl refl refl none
+  where
+    go : (x y z : Bool) → same_list bytes_eq (names_of a.project.chips) (names_of b.project.chips) ≡ x → same_below 32768 a.flash b.flash ≡ y → bytes_eq a.diagram b.diagram ≡ z →
+        (if x then if y then if z then other_pins b.project.chips a.chips b.chips else Some (codes "diagram.json") else Some b.project.firmware else Some (codes "wokwi.toml")) ≡ None → AreShared a b
+    go true true true ex ey ez e =
+        let names : names_of a.project.chips ≡ names_of b.project.chips = list_means bytes_eq bytes_mean _ _ ex in
+        let name : ChipFile → List ℕ = λ chip. chip.name in
+        let many : length a.project.chips ≡ length b.project.chips =
+        sym (length-map a.project.chips name) ∙ ap (λ (l : List (List ℕ)). length l) names ∙ length-map b.project.chips name in
+        record { names = names; flash = ey; diagram = bytes_mean a.diagram b.diagram ez; pins = pins_mean b.project.chips a.chips b.chips (la ∙ many) lb e }
+    go true true false ex ey ez e = absurd cc
+    go true false z ex ey ez e = absurd cc
+    go false y z ex ey ez e = absurd cc
+
+-- chips of the same names are as many
+pub names_many : (x y : List ChipFile) → same_list bytes_eq (names_of x) (names_of y) ≡ true → length x ≡ length y
+names_many x y e =
+    let name : ChipFile → List ℕ = λ chip. chip.name in
+    let same : names_of x ≡ names_of y = list_means bytes_eq bytes_mean _ _ e in
+    sym (length-map x name) ∙ ap (λ (l : List (List ℕ)). length l) same ∙ length-map y name
+
+pub names_differ : (x y : List ChipFile) → (length x ≡ length y → ⊥) → same_list bytes_eq (names_of x) (names_of y) ≡ false
+names_differ x y other =
+    let name : ChipFile → List ℕ = λ chip. chip.name in
+    lengths_differ bytes_eq (names_of x) (names_of y) (λ e. other (sym (length-map x name) ∙ e ∙ length-map y name))

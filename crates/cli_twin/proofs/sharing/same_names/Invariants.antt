@@ -1,0 +1,8 @@
+use Rattle.std.proofs.Common.{◌≡◌, drop}
+use Rattle.std.specs.Str.{bytes_eq}
+use Rattle.board_model.specs.Rows.{same_list}
+use Rattle.cli_twin.specs.Shared.{names_of}
+use Rattle.cli_twin.proofs.sharing.same_names.Given as goal
+
+abbrev pub invariant-loop-i : goal.invariant-loop-i
+invariant-loop-i l = same_list bytes_eq (names_of (drop l.i l.a)) (names_of (drop l.i l.b)) ≡ same_list bytes_eq (names_of l.a) (names_of l.b)

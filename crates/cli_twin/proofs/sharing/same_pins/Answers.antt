@@ -1,0 +1,7 @@
+use Rattle.std.proofs.Common.{sym}
+use Rattle.cli_twin.specs.Shared.{same_pin}
+use Rattle.cli_twin.proofs.SharedLemmas.{lengths_differ}
+use Rattle.cli_twin.proofs.sharing.same_pins.Goals as goal
+
+pub returns-then-a-b : goal.returns-then-a-b
+returns-then-a-b c = sym (lengths_differ same_pin c.args.a.now c.args.b.now c.if-a-b.true)

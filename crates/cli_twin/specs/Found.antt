@@ -1,0 +1,47 @@
+-- What the run of a pair finds.
+use Rattle.std.specs.Prelude.{◌≡◌, ℕ, List, [], map, false, Option, None, Some}
+use Rattle.sim_base.specs.declared.wiring.Wiring.{Wiring}
+use Rattle.board_laws.specs.FirstDiff.{Difference}
+use Rattle.twin_run.specs.declared.twin.TwinEnd.{TwinEnd}
+use Rattle.twin_run.specs.declared.twin.TwinEnd.TheVariants as ends
+use Rattle.twin_run.specs.Twins.{AreTwins, IsTwin, TwinView, other_states}
+use Rattle.board_build.specs.declared.plan.Plan.{Plan}
+use Rattle.board_build.specs.declared.plan.PlanPart.{PlanPart}
+use Rattle.any_part.specs.declared.part.AnyPart.{AnyPart}
+use Rattle.any_part.specs.AnyPart.{any, state_of, cycle_of, wakes_of}
+use Rattle.any_part.specs.Start.{Contents, starts}
+use Rattle.chip_module.specs.Sources.{pins_of}
+use Rattle.cli_twin.specs.Shared.{Pair}
+use Rattle.cli_twin.specs.Line.{line}
+use Rattle.cli_twin.specs.Answer.{contents}
+
+-- the first difference that an end says
+abbrev pub diff_of : TwinEnd → Option Difference
+diff_of ends.Same = None
+diff_of (ends.Differs t part pin a b) = Some (record { cycle = t; part = part; pin = pin; one = a; other = b })
+
+-- the chips of the second project beside all else of the first
+abbrev pub beside : ℕ → Pair → Contents
+beside budget pair = record { flash = pair.one.flash; chips = pair.other.chips; budget = budget }
+
+-- a board at cycle 0 without a script, beside chips
+abbrev pub twin_view : {P : Type 0} → List P → List P → Wiring → TwinView P
+twin_view parts chips wiring = record {
+  board = record { parts = parts; wiring = wiring; inputs = []; cycle = 0; given_up = false; before = None };
+  chips = chips;
+}
+
+-- the board of a plan with these contents, beside the chips of others
+pub record IsLoaded (one two : Contents) (plan : Plan) (twin : TwinView AnyPart) (planned : List PlanPart) : Type 0 where
+  pub twins : AreTwins any state_of cycle_of wakes_of twin
+  pub wiring : twin.board.wiring ≡ plan.wiring
+  pub inputs : twin.board.inputs ≡ []
+  pub own : map state_of twin.board.parts ≡ starts one plan.parts
+  pub others : other_states state_of twin ≡ starts two plan.parts
+  pub as_planned : planned ≡ plan.parts
+
+-- the line of a twin on the first project's board, without a script
+pub record Found (budget n : ℕ) (pair : Pair) (text : List ℕ) (before after : ℕ) : Type 0 where
+  pub end : TwinEnd
+  pub says : text ≡ line (pins_of pair.one.chips) pair.one.plan.parts n (diff_of end)
+  pub twin : IsTwin any pair.one.plan.wiring [] (starts (contents pair.one budget) pair.one.plan.parts) (starts (beside budget pair) pair.one.plan.parts) n end before after

@@ -1,0 +1,78 @@
+//! The projects of two folders.
+ghost use Rattle.std.specs.Prelude.{◌≡◌, ◌⊎◌, None, IfOk, length};
+ghost use Rattle.std.specs.List.{All};
+ghost use Rattle.sim_base.specs.Outside.{Outside, SamePorts};
+ghost use Rattle.sim_base.specs.declared.fault.Place.TheVariants as places;
+ghost use Rattle.sim_base.specs.Refusals.{TwinDiffers};
+ghost use Rattle.outcome_model.specs.Stop.{Refused};
+ghost use Rattle.outcome_model.specs.Outcome as ends;
+ghost use Rattle.outcome_model.specs.Work.{Got, Is};
+ghost use Rattle.board_build.specs.IsPlan.{IsPlan};
+ghost use Rattle.chip_module.specs.Sources.{HasFewPins, pins_of};
+ghost use Rattle.project_model.specs.Work.{in_folder};
+ghost use Rattle.cli_work.specs.Outcomes.{outcome_of};
+ghost use Rattle.cli_project.specs.Works.{work_of};
+ghost use Rattle.cli_twin.specs.Pairs.{IsReady, pair_of};
+ghost use Rattle.cli_twin.specs.Shared.{PairIn, other_path, paired};
+
+use crate::sharing::other_path;
+use cli_project::{Work, name_in, read_work};
+use cli_work::{Stop, WorkEnd, stopped};
+use sim_base::refusals::TWIN_DIFFERS;
+use sim_base::{Bench, Place, Refusal};
+use std::alloc::Global;
+
+/// A project, and its twin.
+#[derive(Drop)]
+pub(crate) struct Pair {
+    pub(crate) one: Work,
+    pub(crate) other: Work,
+}
+
+/// The end of the work by a file of a folder that differs; out of memory where its name has no room.
+fn differs(alloc: Global, folder: &str, path: &str) -> WorkEnd
+    ensures { (outcome_of result ≡ ends.Stopped (Refused (in_folder folder.now path.now) (record { number = TwinDiffers; place = places.Whole })))
+        ⊎ (outcome_of result ≡ ends.OutOfMemory) }
+{
+    let refusal = Refusal {
+        number: TWIN_DIFFERS,
+        place: Place::Whole,
+    };
+    match name_in(alloc, folder, path) {
+        Ok(name) => stopped(alloc, name.as_str(), Stop::Refused(refusal)),
+        Err(_) => WorkEnd::OutOfMemory,
+    }
+}
+
+/// Two projects as a pair, or the first file of the other's folder that differs.
+fn make_pair(alloc: Global, folder: &str, one: Work, other: Work) -> Result<Pair, WorkEnd>
+    requires plan { IsPlan (pins_of one.chips) one.plan }
+    requires few_one { All HasFewPins one.chips }
+    requires few_other { All HasFewPins other.chips }
+    requires each_one { length one.chips ≡ length one.project.chips }
+    requires each_other { length other.chips ≡ length other.project.chips }
+    ensures got { (a : Outside) → Got pair_of outcome_of result
+        (Is (λ files. paired folder.now (record { one = work_of one; other = work_of other }) (other_path (work_of one) (work_of other)))) a a }
+    ensures ready { IfOk result IsReady }
+{
+    match other_path(&one, &other) {
+        Some(path) => Err(differs(alloc, folder, path)),
+        None => Ok(Pair { one, other }),
+    }
+}
+
+/// The project of a folder whole, then that of the other, and then whether they are twins.
+pub(crate) fn read_pair<B: Bench>(
+    alloc: Global,
+    folder: &str,
+    other: &str,
+    bench: &mut B,
+) -> Result<Pair, WorkEnd>
+    ensures got { Got pair_of outcome_of result (PairIn folder.now other.now) (B.outside bench.old) (B.outside bench.new) }
+    ensures ports { SamePorts (B.outside bench.old) (B.outside bench.new) }
+    ensures ready { IfOk result IsReady }
+{
+    let one = read_work(alloc, folder, None, None, bench)?;
+    let twin = read_work(alloc, other, None, None, bench)?;
+    make_pair(alloc, other, one, twin)
+}

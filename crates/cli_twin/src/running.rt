@@ -1,0 +1,124 @@
+//! `twin FOLDER_A FOLDER_B --us N [--budget N]`: two projects that differ in what their chips are made of, on one board.
+ghost use Rattle.std.specs.Prelude.{◌≡◌, ◌≤◌, ◌<◌, length, map, IfOk, string_bytes};
+ghost use Rattle.std.specs.List.{All};
+ghost use Rattle.outcome_model.specs.Happens.{Ends, Counts};
+ghost use Rattle.outcome_model.specs.Work.{SaidNothing};
+ghost use Rattle.board_model.specs.Fits.{Fits, IsWiring};
+ghost use Rattle.board_model.specs.Fresh.{AreFresh};
+ghost use Rattle.board_build.specs.IsPlan.{IsPlan};
+ghost use Rattle.chip_module.specs.Sources.{HasFewPins, pins_of};
+ghost use Rattle.cli_work.specs.Outcomes.{outcome_of};
+ghost use Rattle.cli_twin.specs.Answer.{TwinAnswer};
+ghost use Rattle.cli_twin.specs.Found.{Found, IsLoaded, twin_view};
+ghost use Rattle.cli_twin.specs.Pairs.{IsReady, pair_of};
+
+use crate::chips::load_chips;
+use crate::line::line;
+use crate::pair::{Pair, read_pair};
+use any_part::{AnyPart, load};
+use board_build::{Plan, PlanPart};
+use board_run::Board;
+use chip_module::ChipSource;
+use cli_project::Work;
+use cli_work::{WorkEnd, write_text};
+use part_law::Part;
+use sim_base::{Bench, Flash, List, MOST_CYCLES, OutOfMemory, Port, Steps, Wiring};
+use std::alloc::Global;
+use std::sync::ledger::Ledger;
+use twin_run::Twin;
+
+/// A board beside the chips of another. No script is for a twin.
+fn twin_of<P: Part + Drop>(
+    alloc: Global,
+    parts: List<P>,
+    chips: List<P>,
+    wiring: Wiring,
+) -> Result<Twin<P>, OutOfMemory>
+    requires few { length parts ≤ 64 }
+    requires wiring { IsWiring wiring }
+    requires fits { Fits P.machine wiring (map P.state parts) }
+    requires fresh { AreFresh P.machine P.state P.now P.wake_count parts }
+    ensures { IfOk result (λ t. t ≡ twin_view parts chips wiring) }
+{
+    let board = Board::new(alloc, parts, wiring, List::new(alloc))?;
+    Twin::new(alloc, board, chips)
+}
+
+/// The board of a project beside the chips of another, and its parts as they are planned.
+fn load_twin(
+    alloc: Global,
+    flash: Flash,
+    plan: Plan,
+    chips: &[ChipSource],
+    others: &[ChipSource],
+    budget: u32,
+) -> Result<(Twin<AnyPart>, List<PlanPart>), OutOfMemory>
+    requires plan { IsPlan (pins_of chips.now) plan }
+    requires few_pins { All HasFewPins chips.now }
+    requires few_others { All HasFewPins others.now }
+    requires pins { pins_of chips.now ≡ pins_of others.now }
+    ensures { IfOk result (λ r. IsLoaded (record { flash = flash; chips = chips.now; budget = budget })
+        (record { flash = flash; chips = others.now; budget = budget }) plan r.0 r.1) }
+{
+    let parts = load(alloc, &plan, flash, chips, budget)?;
+    let beside = load_chips(alloc, &plan, others, budget)?;
+    let Plan {
+        parts: planned,
+        wiring,
+        ..
+    } = plan;
+    let twin = twin_of(alloc, parts, beside, wiring)?;
+    Ok((twin, planned))
+}
+
+/// Runs a pair for `n` cycles, and answers the line of its first difference.
+fn found_line<L: Ledger>(
+    alloc: Global,
+    pair: Pair,
+    budget: u32,
+    n: u32,
+    steps: &mut Steps<L>,
+) -> Result<String, OutOfMemory>
+    requires ready { IsReady pair }
+    requires end { n ≤ MOST_CYCLES }
+    ensures found { IfOk result (λ s. Found budget n (pair_of pair) (string_bytes s) steps.old steps.new) }
+{
+    let Pair { one, other } = pair;
+    let Work {
+        flash,
+        chips,
+        plan,
+        ..
+    } = one;
+    let others = other.chips.as_slice();
+    let (mut twin, planned) = load_twin(alloc, flash, plan, chips.as_slice(), others, budget)?;
+    let end = twin.run(n, steps);
+    Ok(line(alloc, chips.as_slice(), planned.as_slice(), n, end)?)
+}
+
+/// Runs the projects of two folders that differ in what their chips are made of alone, for so many microseconds, 16 cycles each,
+/// and writes on Report, which is standard output, in which cycle a chip first drives otherwise, or that none does. Each call into
+/// a chip gets so much fuel. What the projects do not share is refused with 95 TwinDiffers.
+pub fn twin<B: Bench, L: Ledger>(
+    alloc: Global,
+    folder: &str,
+    other: &str,
+    micros: u32,
+    budget: u32,
+    bench: &mut B,
+    steps: &mut Steps<L>,
+) -> WorkEnd
+    requires some { 0 < micros }
+    requires end { micros ≤ 10000000 }
+    ensures ends { Ends (TwinAnswer folder.now other.now micros budget) (outcome_of result) (B.outside bench.old) (B.outside bench.new) }
+    ensures counts { Counts (TwinAnswer folder.now other.now micros budget) (outcome_of result) (B.outside bench.old) steps.old steps.new }
+    ensures silent { SaidNothing (B.outside bench.old) (B.outside bench.new) }
+{
+    match read_pair(alloc, folder, other, bench) {
+        Ok(pair) => match found_line(alloc, pair, budget, 16 * micros, steps) {
+            Ok(line) => write_text(bench, Port::Report, &[line.as_bytes()]),
+            Err(_) => WorkEnd::OutOfMemory,
+        },
+        Err(end) => end,
+    }
+}

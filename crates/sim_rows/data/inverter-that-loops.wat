@@ -1,0 +1,10 @@
+(module
+  (import "env" "pinInit" (func $pinInit (param i32 i32) (result i32)))
+  (import "env" "pinWatch" (func $pinWatch (param i32 i32) (result i32)))
+  (memory 1) (table 2 funcref) (elem (i32.const 1) $callback)
+  (data (i32.const 0) "IN\00OUT\00")
+  (data (i32.const 20) "\03\00\00\00\01\00\00\00")
+  (func $chipInit (export "chipInit")
+    (drop (call $pinWatch (call $pinInit (i32.const 0) (i32.const 0)) (i32.const 16)))
+    (drop (call $pinInit (i32.const 3) (i32.const 17))))
+  (func $callback (param i32 i32 i32) (loop (br 0))))
