@@ -2,9 +2,21 @@
 use Rattle.std.proofs.Common.{◌≡◌, ◌≢◌, ◌<◌, ◌≤◌, ◌+◌, ◌-◌, ◌⊎◌, inl, inr, ℕ, zero, suc, List, [], ◌∷◌, take, drop, Option, None, Some, refl, ap, sym, ◌∙◌, arith}
 use Rattle.std.specs.Prelude.{slice_get, slice_set}
 use Rattle.sim_base.specs.declared.signal.Drive.{Drive}
+use Rattle.sim_base.specs.declared.signal.Level.{Level}
 use Rattle.chip_engines.specs.declared.engine.Engine.{Engine}
+use Rattle.chip_engines.specs.declared.engine.Turn.{Turn}
 use Rattle.chip_engines.specs.Engine.{HasNone, place_drives, drives_at, or_next, driven}
 use Rattle.chip_engines.specs.FirstDue.{earlier, first_at, first_engine}
+use Rattle.chip_engines.specs.Turned.{HasTurnedAt}
+
+-- the last place
+pub earlier_none : (a : Option ℕ) → earlier a None ≡ a
+earlier_none None = refl
+earlier_none (Some n) = refl
+
+pub or_next_none : (d : Option Drive) → or_next d None ≡ d
+or_next_none None = refl
+or_next_none (Some d) = refl
 
 -- what is found place by place, and nothing at a place without an engine
 module _ {X : Type 0} (f : List (Option Engine) → X) (skips : (os : List (Option Engine)) → f (None ∷ os) ≡ f os) (goes : (o : Option Engine) (os ps : List (Option Engine)) → f os ≡ f ps → f (o ∷ os) ≡ f (o ∷ ps)) where
@@ -44,13 +56,21 @@ driven_same pin (o ∷ os) (suc k) e g at same = ap (or_next (place_drives pin o
 
 -- ---- where no engine stands
 
--- an engine that is put at a place stands at no other
-pub none_set : (os : List (Option Engine)) (k j : ℕ) (o : Option Engine) → k ≢ j → HasNone os k → HasNone (slice_set os j o) k
+-- what is put at a place stands at no other
+pub none_set : {X : Type 0} (os : List (Option X)) (k j : ℕ) (o : Option X) → k ≢ j → HasNone os k → HasNone (slice_set os j o) k
 none_set [] k j o other none e = none e
 none_set (p ∷ ps) zero zero o other none e = absurd (other refl)
 none_set (p ∷ ps) (suc k) zero o other none e = none e
 none_set (p ∷ ps) zero (suc j) o other none e = none e
 none_set (p ∷ ps) (suc k) (suc j) o other none e = none_set ps k j o (λ h. other (ap (λ (n : ℕ). suc n) h)) none e
+
+-- where nothing stands, nothing does still, unless it is put there
+pub none_kept : {X : Type 0} (os : List (Option X)) (j k : ℕ) (p : Option X) → (HasNone os j → p ≡ None) → HasNone os k → HasNone (slice_set os j p) k
+none_kept [] j k p empty none e = none e
+none_kept (q ∷ qs) zero zero p empty none e = λ h. absurd (let n = empty none in cc)
+none_kept (q ∷ qs) zero (suc k) p empty none e = none e
+none_kept (q ∷ qs) (suc j) zero p empty none e = none e
+none_kept (q ∷ qs) (suc j) (suc k) p empty none e = none_kept qs j k p empty none e
 
 before_or : (k n : ℕ) → (n ≤ k) ⊎ (k < n)
 before_or k n = grind arith
@@ -67,3 +87,8 @@ module _ (os : List (Option Engine)) (first end : ℕ) (before : (k : ℕ) → k
 
   pub none_behind : (to : ℕ) → end ≤ to → place + 1 ≤ to → (k : ℕ) → to ≤ k → HasNone (slice_set os place o) k
   none_behind to l h k g = none_set os k place o (λ e. absurd (omega (arith, h, g, e))) (behind k (omega (arith, l, g)))
+
+-- an empty place is empty behind its turn
+pub none_turned : (os : List (Option Engine)) (k t : ℕ) (before now : List Level) (o p : Option Engine) (r : Option Turn) → slice_get os k ≡ Some o → HasTurnedAt t before now o p r → HasNone os k → p ≡ None
+none_turned os k t before now o p None at turned none = turned.1
+none_turned os k t before now o p (Some turn) at turned none = absurd (none turned.0 (at ∙ ap (λ (x : Option Engine). Some x) turned.1))

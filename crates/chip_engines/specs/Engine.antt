@@ -122,6 +122,6 @@ abbrev pub AreEngines : List (Option Engine) → Type 0
 AreEngines [] = Unit {0}
 AreEngines (o ∷ os) = IfSome o IsEngine × AreEngines os
 
--- that no engine stands at a place
-abbrev pub HasNone : List (Option Engine) → ℕ → Type 0
-HasNone os k = (e : Engine) → slice_get os k ≢ Some (Some e)
+-- that nothing stands at a place
+abbrev pub HasNone : {X : Type 0} → List (Option X) → ℕ → Type 0
+HasNone {X = X} os k = (x : X) → slice_get os k ≢ Some (Some x)

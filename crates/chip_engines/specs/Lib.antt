@@ -1,3 +1,4 @@
 pub mod Serial
 pub mod Engine
 pub mod FirstDue
+pub mod Turned

@@ -62,8 +62,8 @@ fn pin_reads(pin: Option<u32>, levels: &[Level]) -> bool
 }
 
 impl Pins {
-    fn inputs(self, levels: &[Level]) -> Inputs
-        ensures { result ≡ inputs_of self levels.now }
+    fn inputs(&self, levels: &[Level]) -> Inputs
+        ensures { result ≡ inputs_of self.now levels.now }
     {
         Inputs {
             first: pin_reads(self.first, levels),
@@ -72,8 +72,8 @@ impl Pins {
     }
 
     // What they read in the cycle before this one.
-    fn inputs_before(self, cycle: u32, levels: &[Level]) -> Inputs
-        ensures { result ≡ inputs_before self cycle levels.now }
+    fn inputs_before(&self, cycle: u32, levels: &[Level]) -> Inputs
+        ensures { result ≡ inputs_before self.now cycle levels.now }
     {
         if cycle == 0 {
             Inputs {

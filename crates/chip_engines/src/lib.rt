@@ -11,5 +11,5 @@ mod serial;
 
 pub use due::{due_from, earlier};
 pub use engine::{Callbacks, Engine, Pins, Turn};
-pub use list::{driven, first_engine, free};
+pub use list::{driven, first_engine, free, turn_at};
 pub use serial::{Inputs, Serial};

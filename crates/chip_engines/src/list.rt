@@ -1,13 +1,14 @@
 //! The engines of a chip: a list of places, with an engine or none at each.
 ghost use Rattle.std.specs.Prelude.{◌≡◌, ◌<◌, ◌≤◌, IfSome, length, option_map};
 ghost use Rattle.std.specs.List.{position_from};
-ghost use Rattle.chip_engines.specs.Engine.{driven, is_free, place_drives};
+ghost use Rattle.chip_engines.specs.Engine.{driven, is_free, place_drives, IsEngine};
+ghost use Rattle.chip_engines.specs.Turned.{HasTurnedAt};
 ghost use Rattle.chip_engines.specs.FirstDue.{first_serial, first_at, first_engine};
 
 use crate::due::{due_from, earlier};
-use crate::engine::Engine;
+use crate::engine::{Engine, Turn};
 use crate::serial::Serial;
-use sim_base::Drive;
+use sim_base::{Drive, Level, MOST_CYCLES};
 
 fn wide(cycle: Option<u32>) -> Option<u64>
     ensures { result ≡ cycle }
@@ -52,6 +53,7 @@ pub fn first_engine(places: &[Option<Engine>], from: u32) -> Option<u32>
 {
     match places {
         [] => None,
+        [place] => first_at(place, from),
         [place, rest @ ..] => earlier(first_at(place, from), first_engine(rest, from)),
     }
 }
@@ -71,10 +73,30 @@ pub fn driven(places: &[Option<Engine>], pin: u32) -> Option<Drive>
 {
     match places {
         [] => None,
+        [place] => place_drives(place, pin),
         [place, rest @ ..] => match place_drives(place, pin) {
             Some(drive) => Some(drive),
             None => driven(rest, pin),
         },
+    }
+}
+
+/// The turn of the engine at a place, on the levels of the chip's pins in the cycle before and in this one; None where none
+/// stands there.
+pub fn turn_at(
+    place: &mut Option<Engine>,
+    cycle: u32,
+    before: &[Level],
+    now: &[Level],
+) -> Option<Turn>
+    requires cycle { cycle < MOST_CYCLES }
+    requires sound { IfSome place.old IsEngine }
+    ensures turned { HasTurnedAt cycle before.now now.now place.old place.new result }
+    ensures sound { IfSome place.new IsEngine }
+{
+    match place {
+        Some(engine) => Some(engine.turn(cycle, before, now)),
+        None => None,
     }
 }
 

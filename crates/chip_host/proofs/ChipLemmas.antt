@@ -24,7 +24,8 @@ two_served s t k None (Some r) = refl
 two_served s t k (Some q) None = refl
 two_served s t k (Some q) (Some r) = refl
 
-abbrev waking : ChipAt → List Level → ChipAt
+-- a chip that takes these levels
+abbrev pub waking : ChipAt → List Level → ChipAt
 waking a ls = record { chip = seeing a.chip ls; cycle = a.cycle; wakes = a.wakes; before = a.chip.held }
 
 pub turned_step : (a : ChipAt) (ls : List Level) → (turned (waking a ls)).chip ≡ chip_step a.chip a.cycle ls
@@ -35,11 +36,8 @@ turned_step a ls =
 abbrev pub keeping : ChipAt → ChipAt
 keeping a = record { chip = a.chip; cycle = a.cycle; wakes = a.wakes; before = a.chip.held }
 
-abbrev pub seen : ChipAt → List Level → ChipAt
-seen a ls = record { chip = seeing a.chip ls; cycle = a.cycle; wakes = a.wakes; before = a.before }
-
-pub wakes_as : (a b c d : ChipAt) (ls : List Level) → b ≡ keeping a → c ≡ seen b ls → d ≡ turned c → d.chip ≡ chip_step a.chip a.cycle ls
-wakes_as a b c d ls p q r = ap (λ (x : ChipAt). x.chip) (r ∙ ap turned (q ∙ ap (λ (x : ChipAt). seen x ls) p)) ∙ turned_step a ls
+pub wakes_as : (a b c : ChipAt) (ls : List Level) → b ≡ waking a ls → c ≡ turned b → c.chip ≡ chip_step a.chip a.cycle ls
+wakes_as a b c ls p q = ap (λ (x : ChipAt). x.chip) (q ∙ ap turned p) ∙ turned_step a ls
 
 pub wakes_held : (a b d : ChipAt) → b ≡ keeping a → d ≡ turned b → d.chip ≡ chip_step a.chip a.cycle a.chip.held
 wakes_held a b d p r = ap (λ (x : ChipAt). x.chip) (r ∙ ap turned p) ∙ turned_step a a.chip.held

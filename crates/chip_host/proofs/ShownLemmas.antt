@@ -14,7 +14,7 @@ use Rattle.chip_host.specs.Inventory.{Given}
 use Rattle.chip_host.specs.ChipLaws.{Fixed, drive_count, step_fixed}
 use Rattle.chip_host.specs.Shown.{Shows}
 use Rattle.chip_host.proofs.HostLemmas.{length_set}
-use Rattle.chip_host.proofs.ChipLemmas.{drive_at, keeping, seen}
+use Rattle.chip_host.proofs.ChipLemmas.{drive_at, keeping, waking}
 
 get_set : (ds : List Drive) (i : ℕ) (d : Drive) → i < length ds → slice_get (slice_set ds i d) i ≡ Some d
 get_set [] i d l = absurd (omega (arith, l))
@@ -125,8 +125,8 @@ module _ (s r : Chip) (t : ℕ) (ls : List Level) (step : r ≡ chip_step s t ls
       (λ (l : k < length s.given.names). let h : k < length ds = omega (arith, l, count) in pin_same s r ds es k old new room h (same k h (not_in_span span k out)))
 
 -- what is kept is what the pins drive on new levels too
-pub shows_seen : (a b c : ChipAt) (ls : List Level) (ds : List Drive) → b ≡ keeping a → c ≡ seen b ls → Shows a.chip ds → Shows c.chip ds
-shows_seen a b c ls ds p q shows k l = shows k l ∙ sym (ap (λ (x : ChipAt). Some (chip_drive x.chip k)) (q ∙ ap (λ (x : ChipAt). seen x ls) p))
+pub shows_seen : (a b : ChipAt) (ls : List Level) (ds : List Drive) → b ≡ waking a ls → Shows a.chip ds → Shows b.chip ds
+shows_seen a b ls ds p shows k l = shows k l ∙ sym (ap (λ (x : ChipAt). Some (chip_drive x.chip k)) p)
 
 pub shows_held : (a b : ChipAt) (ds : List Drive) → b ≡ keeping a → Shows a.chip ds → Shows b.chip ds
 shows_held a b ds p shows k l = shows k l ∙ sym (ap (λ (x : ChipAt). Some (chip_drive x.chip k)) p)

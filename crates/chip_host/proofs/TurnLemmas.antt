@@ -1,6 +1,6 @@
 -- The turns of a chip's cycle, and what they leave of what its pins drive.
 use Rattle.std.proofs.Common.{◌≡◌, ◌<◌, ◌≤◌, ◌+◌, ◌-◌, ℕ, zero, suc, Bool, true, false, List, length, ◌++◌, Option, None, Some, refl, ap, sym, subst, ◌∙◌, arith}
-use Rattle.std.specs.Prelude.{◌||◌, if◌then◌else◌, slice_get, unwrap_or}
+use Rattle.std.specs.Prelude.{◌||◌, ◌&&◌, if◌then◌else◌, slice_get, slice_set, unwrap_or}
 use Rattle.sim_base.specs.declared.signal.Drive.{Drive}
 use Rattle.sim_base.specs.declared.signal.Drive.TheVariants as drives
 use Rattle.sim_base.specs.declared.signal.Level.{Level}
@@ -11,21 +11,24 @@ use Rattle.std.specs.Option.{is_some, option_to_list}
 use Rattle.chip_engines.specs.declared.engine.Turn.{Turn}
 use Rattle.chip_engines.specs.Engine.{HasNone, out_drives, engine_turned}
 use Rattle.chip_engines.specs.Serial.{serial_output}
+use Rattle.chip_engines.specs.Turned.{HasTurnedAt}
+use Rattle.chip_engines.proofs.EngineLemmas.{set_same}
 use Rattle.chip_engines.proofs.PlaceLemmas.{driven_same}
 use Rattle.chip_host.specs.declared.death.Death.{Death}
-use Rattle.chip_host.specs.Turned.{HasGone}
-use Rattle.chip_host.specs.Inventory.{HostState, joined, engine_at, pin_at, drive_of}
-use Rattle.chip_host.specs.Chip.{Chip, ChipAt, DrivesAs, chip_from, chip_drive, is_live_by, is_live, with_engine, all_served, takes_turn, engine_turn, engine_turns, engines_last}
+use Rattle.chip_host.specs.declared.watch.Watch.{Watch}
+use Rattle.chip_host.specs.Turned.{HasGone, HasTurned}
+use Rattle.chip_host.specs.Inventory.{HostState, joined, left, watch_at, engine_at, pin_at, drive_of}
+use Rattle.chip_host.specs.Chip.{Chip, ChipAt, DrivesAs, chip_from, chip_drive, is_live_by, is_live, with_engine, all_served, takes_turn, engine_turn, engine_turns, engines_last, reading, watch_fires, watched, watch_turn, watch_turns}
 
 if_same : {X : Type 0} (b : Bool) (x : X) → (if b then x else x) ≡ x
 if_same true x = refl
 if_same false x = refl
 
--- where no engine stands, none is found
-pub none_found : (os : List (Option Engine)) (k : ℕ) → HasNone os k → joined (slice_get os k) ≡ None
-none_found os k none = by (slice_get os k) refl
+-- where nothing stands, nothing is found
+pub none_found : {X : Type 0} (os : List (Option X)) (k : ℕ) → HasNone os k → joined (slice_get os k) ≡ None
+none_found {X = X} os k none = by (slice_get os k) refl
   where
-    by : (o : Option (Option Engine)) → slice_get os k ≡ o → joined o ≡ None
+    by : (o : Option (Option X)) → slice_get os k ≡ o → joined o ≡ None
     by None e = refl
     by (Some None) e = refl
     by (Some (Some g)) e = absurd (none g e)
@@ -36,6 +39,15 @@ engine_there (Some p) e h = ap (λ (x : Option Engine). Some x) h
 
 no_turn : (s : Chip) (t : ℕ) (before : List Level) (k : ℕ) → engine_at s.inventory k ≡ None → engine_turn s t before k ≡ s
 no_turn s t before k none = ap (λ (o : Option Engine). if is_live s then takes_turn s t before k o else s) none ∙ if_same (is_live s) s
+
+no_watch : (s : Chip) (t : ℕ) (before : List Level) (i : ℕ) → watch_at s.inventory i ≡ None → watch_turn s t before i ≡ s
+no_watch s t before i none =
+    ap (λ (o : Option Watch). if is_live s && watch_fires o (reading before i) (reading s.held i) then watched s t i o else s) none ∙ if_same (is_live s && false) s
+
+-- where no pin has a watch, the turns of the watches leave all as it is
+pub unwatched : (s : Chip) (t : ℕ) (before : List Level) (n : ℕ) → ((i : ℕ) → watch_at s.inventory i ≡ None) → watch_turns s t before n ≡ s
+unwatched s t before zero none = refl
+unwatched s t before (suc n) none = ap (λ (r : Chip). watch_turn r t before n) (unwatched s t before n none) ∙ no_watch s t before n (none n)
 
 skipped_by : (s : Chip) (t : ℕ) (before : List Level) (j n : ℕ) → ((k : ℕ) → n ≤ k → k < j + n → engine_at (engine_turns s t before n).inventory k ≡ None) → engine_turns s t before (j + n) ≡ engine_turns s t before n
 skipped_by s t before zero n none = let e : 0 + n ≡ n = omega arith in ap (engine_turns s t before) e
@@ -88,6 +100,19 @@ goes_same s k e g at pins out i =
 
 -- ---- the turn of the engine at a place, as the host takes it
 
+-- the turn that is taken at its place
+pub turned_at : (h : HostState) (place : ℕ) (before : List Level) (o p : Option Engine) (r : Option Turn) → slice_get h.inventory.engines place ≡ Some o → HasTurnedAt h.moment.now before h.moment.levels o p r
+    → HasTurned place before h (left h (record h.inventory { engines = slice_set h.inventory.engines place p })) r
+turned_at h place before o p None at turned =
+    let same : slice_set h.inventory.engines place p ≡ h.inventory.engines =
+    ap (slice_set h.inventory.engines place) (turned.1 ∙ sym turned.0) ∙ set_same h.inventory.engines place o at in
+    (ap (λ (os : List (Option Engine)). left h (record h.inventory { engines = os })) same, ap joined at ∙ turned.0)
+turned_at h place before o p (Some turn) at turned = (
+  turned.0,
+  ap joined at ∙ turned.1,
+  record { host = ap (λ (q : Option Engine). left h (record h.inventory { engines = slice_set h.inventory.engines place q })) turned.2; told = turned.3 },
+)
+
 abbrev pub at_host : Running → HostState → ℕ → Option Death → ℕ → List Level → ChipAt
 at_host m h budget dead wakes before = record { chip = chip_from m h budget dead; cycle = h.moment.now; wakes = wakes; before = before }
 
@@ -111,14 +136,14 @@ module _ (m : Running) (h r : HostState) (budget : ℕ) (dead : Option Death) (w
       let next : HostState → ChipAt = λ (x : HostState). record (at_host m x budget dead wakes before) { chip = all_served (chip_from m x budget dead) x.moment.now place (option_to_list turn.first ++ option_to_list turn.second) } in
       let g : Engine = (engine_turned e h.moment.now before h.moment.levels).0 in
       ap next gone.host
-      ∙ ap (λ (rs : List EngineRequest). record (at_host m h budget dead wakes before) { chip = all_served (with_engine s place g) h.moment.now place rs }) gone.asks
+      ∙ ap (λ (rs : List EngineRequest). record (at_host m h budget dead wakes before) { chip = all_served (with_engine s place g) h.moment.now place rs }) gone.told.asks
       ∙ sym (ap (λ (x : Chip). record (at_host m h budget dead wakes before) { chip = x }) (live_turn (Some e) at))
 
   pub goes_as : (e : Engine) (turn : Turn) → engine_at h.inventory place ≡ Some e → HasGone place before h r e turn → turn.moved ≡ false → DrivesAs (chip_from m r budget dead) (chip_from m h budget dead)
   goes_as e turn at gone still i =
       let s : Chip = chip_from m h budget dead in
       let g : Engine = (engine_turned e h.moment.now before h.moment.levels).0 in
-      ap (λ (x : HostState). chip_drive (chip_from m x budget dead) i) gone.host ∙ goes_same s place e g at refl (gone.drives still) i
+      ap (λ (x : HostState). chip_drive (chip_from m x budget dead) i) gone.host ∙ goes_same s place e g at refl (gone.told.drives still) i
 
   pub goes_none : r ≡ h → engine_at h.inventory place ≡ None → at_host m r budget dead wakes before ≡ taking (at_host m h budget dead wakes before) place
   goes_none same at =

@@ -145,7 +145,6 @@ impl Part for Chip {
     }
 
     fn wake(&mut self, levels: &[Level], _input: Option<u16>) -> Option<u8> {
-        self.turns.keep_levels();
         self.turns.see(levels);
         self.moved = turn(&mut self.turns, &mut self.shown);
         None

@@ -19,10 +19,11 @@ use crate::pin::{Pin, drive_of, with_mode};
 use crate::timer::{Delay, Timer, first_due, started, stopped};
 use crate::watch::Watch;
 use chip_abi::{HostName, ImportMap, read_string, read_word};
-use chip_engines::{Engine, Turn, driven, earlier, first_engine, free};
+use chip_engines::{Engine, Turn, driven, earlier, first_engine, free, turn_at};
 use sim_base::{Drive, Level, List, MOST_CYCLES, Name, OutOfMemory, Text, reads_one};
 use std::alloc::Global;
 use std::marker::Model;
+use std::mem;
 use wasm_eval::Host;
 use wasm_num::{Memory, Trap, Value};
 
@@ -43,10 +44,12 @@ pub struct ChipHost {
     // All engines stand at places from `first` to below `end`.
     first: usize,
     end: usize,
+    // Whether a pin may have a watch.
+    watched: bool,
 }
 
 impl Model for ChipHost {
-    ghost use Rattle.std.specs.Prelude.{◌≡◌, ◌<◌, ◌≤◌, ℕ, length};
+    ghost use Rattle.std.specs.Prelude.{◌≡◌, ◌<◌, ◌≤◌, ℕ, false, length};
     ghost use Rattle.std.specs.Vec.{vec_capacity};
     ghost use Rattle.chip_engines.specs.Engine.{AreEngines, HasNone};
     ghost use Rattle.chip_host.specs.Inventory.{HostState};
@@ -72,6 +75,7 @@ impl Model for ChipHost {
       within : c.end ≤ 24;
       before : (k : ℕ) → k < c.first → HasNone c.engines.items k;
       behind : (k : ℕ) → c.end ≤ k → HasNone c.engines.items k;
+      unwatched : c.watched ≡ false → (k : ℕ) → HasNone c.watches.items k;
       end : c.cycle ≤ MOST_CYCLES;
     } };
 }
@@ -233,6 +237,7 @@ impl ChipHost {
                 Err(trap) => Err(trap),
                 Ok(watch) => {
                     self.watches[i as usize] = Some(watch);
+                    self.watched = true;
                     Ok(Some(Value::I32(1)))
                 }
             },
@@ -447,6 +452,7 @@ impl ChipHost {
             engines: no_engines(alloc)?,
             first: 0,
             end: 0,
+            watched: false,
         })
     }
 
@@ -470,6 +476,15 @@ impl ChipHost {
         ensures { self.new ≡ record self.old { moment = record self.old.moment { now = to } } }
     {
         self.cycle = to;
+    }
+
+    /// Puts these levels in the place of its own.
+    pub fn swap_levels(&mut self, other: &mut Vec<Level>)
+        requires { length other.old.items ≡ length self.old.moment.given.names }
+        ensures taken { self.new ≡ record self.old { moment = record self.old.moment { levels = other.old.items } } }
+        ensures given { other.new.items ≡ self.old.moment.levels }
+    {
+        mem::swap(&mut self.levels, other);
     }
 
     pub fn levels(&self) -> &[Level]
@@ -550,15 +565,12 @@ impl ChipHost {
         requires end { self.old.moment.now < MOST_CYCLES }
         ensures { HasTurned place before.now self.old self.new result }
     {
-        match self.engine(place) {
-            Some(engine) => {
-                let mut engine = engine;
-                let turn = engine.turn(self.cycle, before, self.levels.as_slice());
-                self.set_engine(place, engine);
-                Some(turn)
-            }
-            None => None,
-        }
+        turn_at(
+            &mut self.engines[place],
+            self.cycle,
+            before,
+            self.levels.as_slice(),
+        )
     }
 
     /// The first id of a kind that was not given.
@@ -605,6 +617,13 @@ impl ChipHost {
             Some(watch) => *watch,
             None => None,
         }
+    }
+
+    /// Whether a pin may have a watch.
+    pub fn has_watches(&self) -> bool
+        ensures { result ≡ false → (k : ℕ) → watch_at self.now.inventory k ≡ None }
+    {
+        self.watched
     }
 
     pub fn drive(&self, i: u8) -> Drive

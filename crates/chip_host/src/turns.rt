@@ -178,6 +178,9 @@ impl Turns {
         ensures state { self.new ≡ record self.old { chip = watch_turns self.old.chip self.old.cycle self.old.before (length self.old.chip.given.names) } }
         ensures rests { result ≡ false → self.new ≡ self.old }
     {
+        if !self.host.has_watches() {
+            return false;
+        }
         let mut called = false;
         for i in 0..self.host.pin_count() {
             called = called | self.watch_turn(i);
@@ -399,17 +402,19 @@ impl Turns {
         self.host.first_due(cycle)
     }
 
-    /// Keeps the levels of the step before.
+    /// Keeps the levels of the step before, which stay.
     pub(crate) fn keep_levels(&mut self)
         ensures { self.new ≡ record self.old { before = self.old.chip.held } }
     {
         self.before.copy_from_slice(self.host.levels());
     }
 
+    /// Takes these levels, and keeps those of the step before.
     pub(crate) fn see(&mut self, levels: &[Level])
         requires { length levels.now ≡ length self.old.chip.given.names }
-        ensures { self.new ≡ record self.old { chip = seeing self.old.chip levels.now } }
+        ensures { self.new ≡ record self.old { chip = seeing self.old.chip levels.now; before = self.old.chip.held } }
     {
+        self.host.swap_levels(&mut self.before);
         self.host.see(levels);
     }
 

@@ -20,5 +20,6 @@ invariant_of-self c =
       within = omega (arith, i.within, c.requires.within, c.max-self-inside.ensures);
       before = none_before c.self.inside.engines.items c.self.inside.first c.self.inside.end i.before i.behind c.args.place (Some c.args.engine) _ c.first_with-self-inside.ensures.within c.first_with-self-inside.ensures.far;
       behind = none_behind c.self.inside.engines.items c.self.inside.first c.self.inside.end i.before i.behind c.args.place (Some c.args.engine) _ (omega (arith, c.max-self-inside.ensures)) (omega (arith, c.max-self-inside.ensures));
+      unwatched = i.unwatched;
       end = i.end;
     }

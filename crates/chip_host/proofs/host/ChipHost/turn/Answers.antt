@@ -1,28 +1,63 @@
-use Rattle.std.proofs.Common.{◌≡◌, List, ap, sym, ◌∙◌}
+use Rattle.std.proofs.Common.{◌≡◌, ◌<◌, Some, None, List, Option, length, ap, sym, subst, ◌∙◌, arith}
+use Rattle.std.specs.Prelude.{slice_get, slice_set}
+use Rattle.std.proofs.lemmas.Option.{slice_get-get_or}
 use Rattle.sim_base.specs.declared.signal.Level.{Level}
-use Rattle.slave_law.specs.declared.request.EngineRequest.{EngineRequest}
 use Rattle.chip_engines.specs.declared.engine.Engine.{Engine}
-use Rattle.chip_engines.specs.Engine.{engine_turned}
-use Rattle.chip_engines.specs.Serial.{serial_output}
-use Rattle.chip_host.specs.HostCall.{set_engine}
+use Rattle.chip_engines.specs.Engine.{HasNone}
+use Rattle.chip_engines.specs.Turned.{HasTurnedAt}
+use Rattle.chip_engines.proofs.EngineLemmas as engines
+use Rattle.chip_engines.proofs.PlaceLemmas.{none_kept, none_turned}
 use Rattle.chip_host.specs.Inventory.{HostState, left}
+use Rattle.chip_host.specs.Turned.{HasTurned}
+use Rattle.chip_host.proofs.HostLemmas.{length_set}
+use Rattle.chip_host.proofs.TurnLemmas.{turned_at}
 use Rattle.chip_host.proofs.host.ChipHost.turn.Goals as goal
 
-pub returns-in-Some : goal.returns-in-Some
-returns-in-Some c =
+pub turn_at-requires-clause-sound : goal.turn_at-requires-clause-sound
+turn_at-requires-clause-sound c =
+    let os = c.self.inside.engines.items in
+    let o = c.index_mut.result.now in
+    let less : c.args.place < length c.self.inside.engines.items = omega (arith, c.requires.within, c.self.invariant.places) in
+    let at : slice_get c.self.inside.engines.items c.args.place ≡ Some c.index_mut.result.now = slice_get-get_or os c.args.place o less ∙ ap (λ (x : Option Engine). Some x) (sym c.index_mut.ensures.value) in
+    engines.engine_at os c.args.place o c.self.invariant.sound at
+
+pub invariant_of-self : goal.invariant_of-self
+invariant_of-self c =
+    let i = c.self.invariant in
+    let os = c.self.inside.engines.items in
+    let o = c.index_mut.result.now in
+    let p = c.turn_at.new.place in
+    let less : c.args.place < length c.self.inside.engines.items = omega (arith, c.requires.within, i.places) in
+    let at : slice_get c.self.inside.engines.items c.args.place ≡ Some c.index_mut.result.now = slice_get-get_or os c.args.place o less ∙ ap (λ (x : Option Engine). Some x) (sym c.index_mut.ensures.value) in
+    let empty : HasNone c.self.inside.engines.items c.args.place → c.turn_at.new.place ≡ None =
+    none_turned os c.args.place c.self.inside.cycle c.args.before.now c.as_slice.result.now o p c.turn_at.result at c.turn_at.ensures.turned in
+    record {
+      few = i.few;
+      levels = i.levels;
+      pins = i.pins;
+      watches = i.watches;
+      timer_room = i.timer_room;
+      attribute_room = i.attribute_room;
+      places = length_set os c.args.place p ∙ i.places;
+      sound = engines.set_engine os c.args.place p i.sound c.turn_at.ensures.sound;
+      order = i.order;
+      within = i.within;
+      before = λ k l. none_kept os c.args.place k p empty (i.before k l);
+      behind = λ k l. none_kept os c.args.place k p empty (i.behind k l);
+      unwatched = i.unwatched;
+      end = i.end;
+    }
+
+pub returns : goal.returns
+returns c =
+    let os = c.self.inside.engines.items in
+    let o = c.index_mut.result.now in
+    let p = c.turn_at.new.place in
+    let less : c.args.place < length c.self.inside.engines.items = omega (arith, c.requires.within, c.self.invariant.places) in
+    let at : slice_get c.self.inside.engines.items c.args.place ≡ Some c.index_mut.result.now = slice_get-get_or os c.args.place o less ∙ ap (λ (x : Option Engine). Some x) (sym c.index_mut.ensures.value) in
+    let turned = subst (λ (ls : List Level). HasTurnedAt c.self.inside.cycle c.args.before.now ls o p c.turn_at.result) c.as_slice.ensures.value c.turn_at.ensures.turned in
     let h = c.args.self.now in
-    let e = c.in-Some.engine in
-    let before = c.args.before.now in
-    let t = c.turn-turn.ensures in
-    let same : engine_turned e c.self.inside.cycle before c.as_slice.result.now ≡ engine_turned e h.moment.now before h.moment.levels =
-    ap (λ (ls : List Level). engine_turned e c.self.inside.cycle before ls) c.as_slice.ensures.value
-    ∙ ap (λ (x : HostState). engine_turned e x.moment.now before x.moment.levels) c.self.view_is in
-    let after : c.turn-turn.new.self ≡ (engine_turned e h.moment.now before h.moment.levels).0 = t.engine ∙ ap (λ (p : Engine × List EngineRequest). p.0) same in (
-      e,
-      sym c.in-Some.ensures.engine,
-      record {
-        host = c.set_engine.ensures ∙ ap (λ (g : Engine). left h (set_engine h.inventory c.args.place g)) after;
-        asks = t.asks ∙ ap (λ (p : Engine × List EngineRequest). p.1) same;
-        drives = λ still. ap (λ (g : Engine). serial_output g.serial g.early) (sym after) ∙ t.drives still;
-      },
-    )
+    let there : slice_get c.args.self.now.inventory.engines c.args.place ≡ Some c.index_mut.result.now = subst (λ (x : HostState). slice_get x.inventory.engines c.args.place ≡ Some o) c.self.view_is at in
+    let gone = subst (λ (x : HostState). HasTurnedAt x.moment.now c.args.before.now x.moment.levels o p c.turn_at.result) c.self.view_is turned in
+    subst (λ (r : HostState). HasTurned c.args.place c.args.before.now h r c.turn_at.result)
+    (sym (ap (λ (x : HostState). left x (record x.inventory { engines = slice_set x.inventory.engines c.args.place p })) c.self.view_is)) (turned_at h c.args.place c.args.before.now o p c.turn_at.result there gone)
