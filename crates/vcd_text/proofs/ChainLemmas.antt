@@ -1,8 +1,9 @@
 -- Variables that are linked by the nets that they show.
-use Rattle.std.proofs.Common.{◌≡◌, ◌≢◌, ℕ, zero, suc, ◌+◌, ◌<◌, ◌≤◌, min, List, [], ◌∷◌, length, get_or, refl, ap, sym, ◌∙◌, arith, inl, inr, subst, Option, Some, Bool, true, false, ◌||◌}
+use Rattle.std.proofs.Common.{◌≡◌, ◌≢◌, ◌⊎◌, ℕ, zero, suc, ◌+◌, ◌<◌, ◌≤◌, min, List, [], ◌∷◌, ◌++◌, length, get_or, refl, ap, sym, ◌∙◌, arith, inl, inr, subst, Option, Some, Bool, true, false, ◌||◌}
 use Rattle.std.specs.Prelude.{eqb, slice_get, slice_index, slice_set}
 use Rattle.std.specs.List.{list_any}
 use Rattle.std.proofs.lemmas.Bool.Decides.{eqb_tells}
+use Rattle.std.proofs.lemmas.List.Folds.{list_any-append}
 use Rattle.std.proofs.lemmas.List.{get_or-set_same, get_or-set_other, length-set, length-map}
 use Rattle.std.proofs.lemmas.Option.{slice_get_within, slice_get-map, slice_get-get_or}
 use Rattle.std.specs.Option.{option_map}
@@ -14,7 +15,7 @@ use Rattle.sim_base.specs.declared.signal.Level.{Level}
 use Rattle.sim_base.specs.declared.signal.Drive.{Drive}
 use Rattle.sim_base.specs.Rows.{Row, AreBut}
 use Rattle.vcd_text.specs.Heads.{HeadState, after_row}
-use Rattle.vcd_text.specs.Chains.{sources, values_at, IsNext, AreLinked, AreNets, HasSeen}
+use Rattle.vcd_text.specs.Chains.{sources, values_at, IsNet, IsNext, AreLinked, AreNetsBut, PinsRest, HasSeen}
 
 pub some_is : {A : Type 0} {x y : A} → Some x ≡ Some y → x ≡ y
 some_is e = cc
@@ -30,11 +31,6 @@ shown_long vs = length-map (variables_of vs) (λ (v : Variable). v.shows) ∙ le
 
 pub shown_within : (vs : List declared.Variable) (k : ℕ) (s : Source) → slice_get (sources (variables_of vs)) k ≡ Some s → k < length vs
 shown_within vs k s e = let w = slice_get_within (sources (variables_of vs)) k s e in omega (arith, w, shown_long vs)
-
--- of two flags that are off
-pub both_off : (a b : Bool) → (a || b) ≡ false → (a ≡ false) × (b ≡ false)
-both_off true b h = absurd cc
-both_off false b h = (refl, h)
 
 -- one place before where nothing shows the net
 earlier : (all : List Source) (net i at : ℕ) (s : Source) → slice_get all i ≡ Some s → s ≢ Net net → IsNext all net (i + 1) at → IsNext all net i at
@@ -106,17 +102,20 @@ value_here [] levels drives k n e = absurd cc
 value_here (v ∷ vs) levels drives zero n e = let s : v.shows ≡ Net n = some_is e in ap (shown_value levels drives) s
 value_here (v ∷ vs) levels drives (suc k) n e = value_here vs levels drives k n e
 
--- where one net is told, or two, the variables of others have the values that they had
+-- where one net is told, or two, and the variables of pins have the values that they had, those of other nets have so too
 pub others_still : (vs : List Variable) (values : List ℕ) (before after : List Level) (drives : List Drive) (changed : List ℕ) (one two : ℕ) → ((n : ℕ) → n ≢ one → n ≢ two → list_any (eqb n) changed ≡ false) →
-    AreNets (sources vs) → HasSeen vs values before → AreBut changed before after →
+    PinsRest vs values after drives → HasSeen vs values before → AreBut changed before after →
     (k : ℕ) → k < length vs → slice_get (sources vs) k ≢ Some (Net one) → slice_get (sources vs) k ≢ Some (Net two) → get_or values k 0 ≡ get_or (values_at after drives vs) k 0
-others_still vs values before after drives changed one two told nets seen but k less first second =
+others_still vs values before after drives changed one two told rest seen but k less first second =
     let within : k < length (sources vs) = omega (arith, less, length-map vs (λ (v : Variable). v.shows)) in
     let at : slice_get (sources vs) k ≡ Some (get_or (sources vs) k (Net 0)) = slice_get-get_or (sources vs) k (Net 0) within in
-    let net = nets k (get_or (sources vs) k (Net 0)) at in
-    let here : slice_get (sources vs) k ≡ Some (Net net.0) = at ∙ ap (λ (s : Source). Some s) net.1 in
-    let level : slice_get after net.0 ≡ slice_get before net.0 = but net.0 (told net.0 (λ same. first (here ∙ ap (λ (m : ℕ). Some (Net m)) same)) (λ same. second (here ∙ ap (λ (m : ℕ). Some (Net m)) same))) in
-    seen k net.0 here ∙ ap (λ (o : Option Level). option_map_or level_value o 122) (sym level) ∙ sym (value_here vs after drives k net.0 here)
+    elim (rest k (get_or (sources vs) k (Net 0)) at) [
+      | inl net ↦
+          let here : slice_get (sources vs) k ≡ Some (Net net.0) = at ∙ ap (λ (s : Source). Some s) net.1 in
+          let level : slice_get after net.0 ≡ slice_get before net.0 = but net.0 (told net.0 (λ same. first (here ∙ ap (λ (m : ℕ). Some (Net m)) same)) (λ same. second (here ∙ ap (λ (m : ℕ). Some (Net m)) same))) in
+          seen k net.0 here ∙ ap (λ (o : Option Level). option_map_or level_value o 122) (sym level) ∙ sym (value_here vs after drives k net.0 here)
+      | inr same ↦ same
+    ]
 
 -- after a row the values are those of its levels
 pub seen_after : (s h k : HeadState) (row : Row) → h ≡ after_row s row → k ≡ record h { text = k.text } → HasSeen k.variables k.values row.levels
@@ -139,3 +138,49 @@ both_within a b i n e p q = omega (arith, e, p)
 
 pub both_from : (a b i n : ℕ) → i ≡ min a b → n ≤ a → n ≤ b → n ≤ i
 both_from a b i n e p q = omega (arith, e, p, q)
+
+-- ---- variables that show pins
+
+or_off : (a b : Bool) → (a || b) ≡ false → (a ≡ false) × (b ≡ false)
+or_off true b h = absurd cc
+or_off false b h = (refl, h)
+
+or_on : (a b : Bool) → (a || b) ≡ true → (a ≡ true) ⊎ (b ≡ true)
+or_on true b h = inl refl
+or_on false b h = inr h
+
+pub eqb_is : (a b : ℕ) → eqb a b ≡ true → a ≡ b
+eqb_is a b e = elim (eqb_tells a b) [
+  | inl same ↦ same.1
+  | inr far ↦ absurd (let f = far.0 in cc)
+]
+
+-- a number that is added is there, and so are those that were
+pub added_others : (pins : List ℕ) (i k : ℕ) → list_any (eqb k) (pins ++ i ∷ []) ≡ false → list_any (eqb k) pins ≡ false
+added_others pins i k none = (or_off (list_any (eqb k) pins) (list_any (eqb k) (i ∷ [])) (sym (list_any-append (eqb k) pins (i ∷ [])) ∙ none)).0
+
+pub added_own : (pins : List ℕ) (i : ℕ) → list_any (eqb i) (pins ++ i ∷ []) ≢ false
+added_own pins i none =
+    let off = (or_off (list_any (eqb i) pins) (list_any (eqb i) (i ∷ [])) (sym (list_any-append (eqb i) pins (i ∷ [])) ∙ none)).1 in
+    elim (eqb_tells i i) [
+      | inl same ↦ absurd (let e = same.0 in cc)
+      | inr far ↦ far.1 refl
+    ]
+
+-- the first of some variables has the value that it had, and so have the others
+pub same_more : (pin k n : ℕ) (pins values target : List ℕ) → (pin < n → slice_index values pin ≡ slice_index target pin) → (list_any (eqb k) pins ≡ true → k < n → slice_index values k ≡ slice_index target k)
+    → list_any (eqb k) (pin ∷ pins) ≡ true → k < n → slice_index values k ≡ slice_index target k
+same_more pin k n pins values target own others among less =
+    elim (or_on (eqb k pin) (list_any (eqb k) pins) among) [
+      | inl e ↦ let is : pin ≡ k = sym (eqb_is k pin e) in subst (λ (j : ℕ). j < n → slice_index values j ≡ slice_index target j) is own less
+      | inr e ↦ others e less
+    ]
+
+-- where all that show pins have the values that they had
+pub rests_by : (vs : List Variable) (pins values : List ℕ) (levels : List Level) (drives : List Drive) → AreNetsBut pins (sources vs)
+    → ((k : ℕ) → list_any (eqb k) pins ≡ true → k < length vs → slice_index values k ≡ slice_index (values_at levels drives vs) k) → PinsRest vs values levels drives
+rests_by vs pins values levels drives nets same k s at = by (list_any (eqb k) pins) refl
+  where
+    by : (b : Bool) → list_any (eqb k) pins ≡ b → IsNet s ⊎ (slice_index values k ≡ slice_index (values_at levels drives vs) k)
+    by false e = inl (nets.others k s at e)
+    by true e = let w = slice_get_within (sources vs) k s at in inr (same k e (omega (arith, w, length-map vs (λ (v : Variable). v.shows))))

@@ -1,5 +1,6 @@
 -- The variables by the nets that they show. No public clause cites this.
-use Rattle.std.specs.Prelude.{◌≡◌, ◌≢◌, ℕ, ◌+◌, ◌<◌, ◌≤◌, List, length, map, Some, slice_get, slice_index}
+use Rattle.std.specs.Prelude.{◌≡◌, ◌≢◌, ◌⊎◌, ℕ, ◌+◌, ◌<◌, ◌≤◌, List, length, map, Some, false, eqb, slice_get, slice_index}
+use Rattle.std.specs.List.{list_any}
 use Rattle.sim_base.specs.declared.signal.Level.{Level}
 use Rattle.sim_base.specs.declared.signal.Drive.{Drive}
 use Rattle.std.specs.Option.{option_map_or}
@@ -33,8 +34,14 @@ pub record AreChains (shows : List Source) (first next : List ℕ) : Type 0 wher
   pub nets : (k n : ℕ) → slice_get shows k ≡ Some (Net n) → n < length first
   pub linked : AreLinked shows first next 0
 
-abbrev pub AreNets : List Source → Type 0
-AreNets shows = (k : ℕ) (s : Source) → slice_get shows k ≡ Some s → IsNet s
+-- each variable that shows no net is among these
+pub record AreNetsBut (pins : List ℕ) (shows : List Source) : Type 0 where
+  pub others : (k : ℕ) (s : Source) → slice_get shows k ≡ Some s → list_any (eqb k) pins ≡ false → IsNet s
+
+-- each variable that shows no net has the value that it had
+abbrev pub PinsRest : List Variable → List ℕ → List Level → List Drive → Type 0
+PinsRest variables values levels drives =
+    (k : ℕ) (s : Source) → slice_get (sources variables) k ≡ Some s → IsNet s ⊎ (slice_index values k ≡ slice_index (values_at levels drives variables) k)
 
 -- the values of the variables that show nets are those of these levels
 abbrev pub HasSeen : List Variable → List ℕ → List Level → Type 0

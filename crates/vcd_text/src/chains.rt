@@ -1,11 +1,13 @@
 //! The variables by the nets that they show.
-ghost use Rattle.std.specs.Prelude.{◌≡◌, ℕ, ◌+◌, ◌<◌, ◌≤◌, List, length, map, Some, false, true, slice_get, slice_index};
+ghost use Rattle.std.specs.Prelude.{◌≡◌, ℕ, ◌+◌, ◌<◌, ◌≤◌, List, length, map, IfOk, OnOk, Some, eqb, false, true, slice_get, slice_index};
+ghost use Rattle.std.specs.List.{list_any};
 ghost use Rattle.text_model.specs.Wave as wave;
 ghost use Rattle.text_model.specs.Wave.{Net};
 ghost use Rattle.vcd_text.specs.Variables.{source_of, variables_of};
-ghost use Rattle.vcd_text.specs.Chains.{sources, IsNet, IsNext, AreLinked, AreChains, AreNets};
+ghost use Rattle.vcd_text.specs.Chains.{sources, IsNet, IsNext, AreLinked, AreChains, AreNetsBut};
 
 use crate::variable::{Source, Variable};
+use std::alloc::{AllocError, Global};
 
 /// A count of nets that has room for what a variable shows.
 fn with_net(count: usize, shows: Source) -> usize
@@ -29,42 +31,70 @@ pub(crate) fn count_nets(variables: &[Variable]) -> usize
     count
 }
 
-/// Puts variable `i` before those that are linked, and answers whether it shows a pin.
-fn link(i: usize, shows: Source, first: &mut [u16], next: &mut [u16]) -> bool
+/// Puts variable `i` before those that are linked.
+fn link(i: usize, shows: Source, first: &mut [u16], next: &mut [u16])
     requires few { i < 8930 }
     requires room { i < length next.old }
     requires net { (n : ℕ) → source_of shows ≡ Net n → n < length first.old }
-    ensures linked { (all : List wave.Source) → slice_get all i ≡ Some (source_of shows) → AreLinked all first.old next.old (i + 1) → AreLinked all first.new next.new i }
-    ensures net { result ≡ false → IsNet (source_of shows) }
+    ensures { (all : List wave.Source) → slice_get all i ≡ Some (source_of shows) → AreLinked all first.old next.old (i + 1) → AreLinked all first.new next.new i }
 {
     match shows {
         Source::Net(net) => {
             let net = net as usize;
             next[i] = first[net];
             first[net] = i as u16;
-            false
         }
-        Source::Strong(_) | Source::Weak(_) => true,
+        Source::Strong(_) | Source::Weak(_) => {}
     }
 }
 
-/// Links the variables, and answers whether one shows a pin.
-pub(crate) fn link_all(variables: &[Variable], first: &mut [u16], next: &mut [u16]) -> bool
+/// Links the variables.
+pub(crate) fn link_all(variables: &[Variable], first: &mut [u16], next: &mut [u16])
     requires few { length variables.now ≤ 8930 }
     requires long { length next.old ≡ length variables.now }
     requires nets { (k n : ℕ) → slice_get (sources (variables_of variables.now)) k ≡ Some (Net n) → n < length first.old }
     requires blank { (n : ℕ) → n < length first.old → slice_index first.old n ≡ length variables.now }
-    ensures chains { AreChains (sources (variables_of variables.now)) first.new next.new }
-    ensures nets { result ≡ false → AreNets (sources (variables_of variables.now)) }
+    ensures { AreChains (sources (variables_of variables.now)) first.new next.new }
 {
-    let mut pins = false;
     let mut i = variables.len();
     while i > 0 {
         i -= 1;
-        let pin = link(i, variables[i].shows, first, next);
-        pins = pins | pin;
+        link(i, variables[i].shows, first, next);
     }
-    pins
+}
+
+fn is_net(shows: Source) -> bool
+    ensures { result ≡ true → IsNet (source_of shows) }
+{
+    match shows {
+        Source::Net(_) => true,
+        Source::Strong(_) | Source::Weak(_) => false,
+    }
+}
+
+/// Adds a variable that shows a pin.
+fn add_pin(i: usize, shows: Source, pins: &mut Vec<u16>) -> Result<(), AllocError>
+    requires { i < 8930 }
+    ensures others { OnOk result ((k : ℕ) → list_any (eqb k) pins.new.items ≡ false → list_any (eqb k) pins.old.items ≡ false) }
+    ensures own { OnOk result (list_any (eqb i) pins.new.items ≡ false → IsNet (source_of shows)) }
+{
+    if is_net(shows) {
+        return Ok(());
+    }
+    pins.push(i as u16)?;
+    Ok(())
+}
+
+/// The variables that show pins.
+pub(crate) fn pins_of(alloc: Global, variables: &[Variable]) -> Result<Vec<u16>, AllocError>
+    requires { length variables.now ≤ 8930 }
+    ensures { IfOk result (λ v. AreNetsBut v.items (sources (variables_of variables.now))) }
+{
+    let mut pins = Vec::new(alloc);
+    for i in 0..variables.len() {
+        add_pin(i, variables[i].shows, &mut pins)?;
+    }
+    Ok(pins)
 }
 
 /// The first variable that shows a net, or how many variables there are.

@@ -1,5 +1,6 @@
 //! The value changes of one net or two.
-ghost use Rattle.std.specs.Prelude.{◌≡◌, ◌≢◌, ℕ, ◌+◌, ◌*◌, ◌<◌, ◌≤◌, ◌++◌, List, length, Some, slice_get, slice_index};
+ghost use Rattle.std.specs.Prelude.{◌≡◌, ◌≢◌, ℕ, ◌+◌, ◌*◌, ◌<◌, ◌≤◌, ◌++◌, List, length, Some, eqb, true, slice_get, slice_index};
+ghost use Rattle.std.specs.List.{list_any};
 ghost use Rattle.text_model.specs.Wave as wave;
 ghost use Rattle.text_model.specs.Wave.{Net, changes, change_count, value_changes};
 ghost use Rattle.vcd_text.specs.Variables.{variables_of};
@@ -11,6 +12,42 @@ use crate::changes::{push_change, push_time};
 use crate::value::of_source;
 use crate::variable::Variable;
 use sim_base::{Drive, Level};
+
+/// Whether a variable has the value that it had.
+fn has_same(
+    i: u16,
+    variables: &[Variable],
+    levels: &[Level],
+    drives: &[Drive],
+    values: &[u8],
+) -> bool
+    requires { length values.now ≡ length variables.now }
+    ensures { result ≡ true → i < length variables.now → slice_index values.now i ≡ slice_index (values_at levels.now drives.now (variables_of variables.now)) i }
+{
+    let i = i as usize;
+    i >= variables.len() || values[i] == of_source(variables[i].shows, levels, drives)
+}
+
+/// Whether each of these variables has the value that it had.
+pub(crate) fn have_same(
+    pins: &[u16],
+    variables: &[Variable],
+    levels: &[Level],
+    drives: &[Drive],
+    values: &[u8],
+) -> bool
+    requires { length values.now ≡ length variables.now }
+    ensures { result ≡ true → (k : ℕ) → list_any (eqb k) pins.now ≡ true → k < length variables.now
+        → slice_index values.now k ≡ slice_index (values_at levels.now drives.now (variables_of variables.now)) k }
+{
+    match pins {
+        [] => true,
+        [pin, rest @ ..] => {
+            has_same(*pin, variables, levels, drives, values)
+                && have_same(rest, variables, levels, drives, values)
+        }
+    }
+}
 
 /// Where a net's variables go on behind variable i, of which the next from there on is at a place.
 #[inline]

@@ -5,15 +5,15 @@ ghost use Rattle.text_model.specs.Wave.{time_line};
 ghost use Rattle.vcd_text.specs.Variables.{variables_of};
 ghost use Rattle.vcd_text.specs.Heads.{gathered, after_row, changed_by};
 ghost use Rattle.text_model.specs.Wave.{Net, head};
-ghost use Rattle.vcd_text.specs.Chains.{HasSeen, AreNets, sources, values_at};
+ghost use Rattle.vcd_text.specs.Chains.{HasSeen, PinsRest, sources, values_at};
 ghost use Rattle.sim_base.specs.Rows.{AreBut};
 ghost use Rattle.sim_base.specs.declared.signal.Level.{Level};
 
 use crate::buffer::Buffer;
-use crate::chains::{count_nets, link_all};
+use crate::chains::{count_nets, link_all, pins_of};
 use crate::changes::{push_first, push_time, push_value_changes};
 use crate::declarations::head_text;
-use crate::follow::push_net_changes;
+use crate::follow::{have_same, push_net_changes};
 use crate::value::fill_values;
 use crate::variable::Variable;
 use sim_base::{Drive, Level, List, OutOfMemory};
@@ -58,8 +58,8 @@ pub struct WaveHead {
     /// The first variable that shows each net, and behind each variable the next that shows its net.
     first: Vec<u16>,
     next: Vec<u16>,
-    /// Whether a variable shows a pin.
-    shows_pins: bool,
+    /// The variables that show pins.
+    pins: Vec<u16>,
     /// The values of the last row.
     before: Vec<u8>,
     /// Room for those of the row at hand.
@@ -69,10 +69,10 @@ pub struct WaveHead {
 }
 
 impl Model for WaveHead {
-    ghost use Rattle.std.specs.Prelude.{◌≡◌, ◌≤◌, ◌+◌, length, vec_len, false};
+    ghost use Rattle.std.specs.Prelude.{◌≡◌, ◌≤◌, ◌+◌, length, vec_len};
     ghost use Rattle.text_model.specs.Wave.{head};
     ghost use Rattle.vcd_text.specs.Heads.{HeadState, gathered, text_room};
-    ghost use Rattle.vcd_text.specs.Chains.{sources, AreChains, AreNets};
+    ghost use Rattle.vcd_text.specs.Chains.{sources, AreChains, AreNetsBut};
 
     ghost Value = { HeadState };
 
@@ -87,7 +87,7 @@ impl Model for WaveHead {
         × (vec_len a.current ≡ length a.variables)
         × (gathered + text_room (variables_of a.variables) ≤ a.text.room)
         × AreChains (sources (variables_of a.variables)) a.first.items a.next.items
-        × (a.shows_pins ≡ false → AreNets (sources (variables_of a.variables))) };
+        × AreNetsBut a.pins.items (sources (variables_of a.variables)) };
 }
 
 impl WaveHead {
@@ -106,7 +106,8 @@ impl WaveHead {
             count_nets(variables.as_slice()),
         )?;
         let mut next = numbers(alloc, 0, variables.len())?;
-        let shows_pins = link_all(variables.as_slice(), &mut first, &mut next);
+        link_all(variables.as_slice(), &mut first, &mut next);
+        let pins = pins_of(alloc, variables.as_slice())?;
         let text = Buffer::with_room(
             alloc,
             GATHERED + head_bytes.len() + 57 + 4 * variables.len(),
@@ -116,7 +117,7 @@ impl WaveHead {
             head_bytes,
             first,
             next,
-            shows_pins,
+            pins,
             before,
             current,
             text,
@@ -152,11 +153,17 @@ impl WaveHead {
         self.started
     }
 
-    /// Whether no variable shows a pin.
-    fn shows_nets_alone(&self) -> bool
-        ensures { result ≡ true → AreNets (sources self.now.variables) }
+    /// Whether each variable that shows a pin has the value that it had.
+    fn pins_rest(&self, levels: &[Level], drives: &[Drive]) -> bool
+        ensures { result ≡ true → PinsRest self.now.variables self.now.values levels.now drives.now }
     {
-        !self.shows_pins
+        have_same(
+            &self.pins,
+            self.variables.as_slice(),
+            levels,
+            drives,
+            &self.before,
+        )
     }
 
     /// Makes the text of the next row, looking at the variables of two nets alone.
@@ -225,7 +232,7 @@ impl WaveHead {
     }
 
     /// Makes the text of the next row behind what is kept, and answers how many values it changes.
-    /// Where one net is told, or two, and no variable shows a pin, it looks at the variables of these alone.
+    /// Where one net is told, or two, it looks at the variables of these and of pins alone, unless a pin's has another value.
     pub(crate) fn take_row(
         &mut self,
         cycle: u32,
@@ -240,7 +247,7 @@ impl WaveHead {
     {
         if self.has_started() {
             match two_of(changed) {
-                Some((one, two)) if self.shows_nets_alone() => {
+                Some((one, two)) if self.pins_rest(levels, drives) => {
                     self.take_nets(cycle, one, two, levels, drives)
                 }
                 _ => self.take_changes(cycle, levels, drives),
