@@ -4,10 +4,11 @@
 The toolchain prints no times. Each second the processor time (user and system) of the prover's processes below the
 command is read from /proc. The table, in the form of Markdown, has a row for each crate in processor seconds: its
 proof, its tests, its wrong bodies, what builds its program, and the sum; and one for all. What a process takes in its
-last second is not seen.
+last second is not seen. Ended by SIGTERM or SIGINT, it ends the command and says what it took until then.
 """
 import collections
 import os
+import signal
 import subprocess
 import sys
 import time
@@ -77,6 +78,8 @@ def table(sums):
 def main():
     began = time.time()
     command = subprocess.Popen(sys.argv[1:])
+    for number in (signal.SIGTERM, signal.SIGINT):
+        signal.signal(number, lambda *_: command.terminate())
     seen = {}
     while command.poll() is None:
         look(str(command.pid), seen)
