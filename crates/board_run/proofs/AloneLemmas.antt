@@ -1,6 +1,7 @@
 -- One part goes on by itself while the others are quiet: that is a leg of the board's way.
 use Rattle.std.proofs.Common.{◌≡◌, ◌≢◌, ℕ, zero, suc, ◌+◌, ◌-◌, ◌<◌, ◌≤◌, List, [], length, map, Bool, true, false, Option, None, Some, ap, sym, ◌∙◌, arith, subst, get_or, inl, inr, length-set}
 use Rattle.std.specs.Prelude.{slice_get, slice_set, if◌then◌else◌}
+use Rattle.std.specs.List.{flat_map}
 use Rattle.std.proofs.lemmas.Option.{slice_get_within}
 use Rattle.std.proofs.lemmas.List.{length-map}
 use Rattle.std.proofs.lemmas.Bool.Decides.{eqb_tells}
@@ -13,19 +14,20 @@ use Rattle.part_law.specs.Machine.{Machine, Laws, glide, dues, sent, IsQuiet, Is
 use Rattle.part_law.proofs.MachineLemmas.{glide_valid, glide_drives, glide_contacts, glide_pins, glide_ports, glide_holds}
 use Rattle.board_model.specs.Board.{level_at, own_nets, input_at, states, bytes}
 use Rattle.board_model.specs.Rows.{Shown, shown_of, shown_before, rows}
-use Rattle.board_model.proofs.Lists.{some_same, get_within, get_map_some, some_map, get_set_same, get_set_other}
+use Rattle.board_model.proofs.Lists.{some_same, get_within, get_map_some, some_map, get_set_same, get_set_other, flat_map_same}
 use Rattle.board_laws.specs.Alike.{Alike}
 use Rattle.board_laws.specs.Stands.{Stands}
 use Rattle.board_laws.specs.Steady.{IsSteady}
 use Rattle.board_laws.proofs.StandsLaw.{stands_here, stands_shows, stands_holds, stands_valid}
 use Rattle.board_laws.proofs.SteadyLaw.{steady_states, steady_before, steady_rows, steady_cycles, steady_bytes, steady_pairs, quiet_dues}
+use Rattle.board_run.specs.Changes.{LastTells}
 use Rattle.board_run.specs.Seen.{IsOf, IsTold, retold, shown_at}
 use Rattle.board_run.specs.Lagging.{glided}
 use Rattle.board_run.specs.Legs.{Kept, Lags, Leg, WentAlone, IsAlone}
 use Rattle.board_run.proofs.ShowLemmas.{shown_is}
 use Rattle.board_model.proofs.RoomLemmas.{SameRoom, fits_room, chips_room}
 use Rattle.board_run.proofs.LagLemmas.{lags_stand, stand_show, stand_are, lag_of, Ts}
-use Rattle.board_run.proofs.ReadLemmas.{retold_suits, retold_is}
+use Rattle.board_run.proofs.ReadLemmas.{retold_suits, retold_is, flat_each}
 use Rattle.board_run.proofs.ShowLemmas.{still_of}
 use Rattle.board_run.specs.Upcoming.{AreBehind}
 use Rattle.board_run.proofs.NextLemmas.{quiet_until}
@@ -169,6 +171,61 @@ module _ {S P : Type 0} (m : Machine S) (laws : Laws m) (w : Wiring) (state : P 
     steps_are = counted ∙ ap (λ (n : ℕ). steps + n) (sym (steady_pairs m laws w inputs Js t (u - t) steady who s0 there valid calm (u - t) (omega arith)));
   }
 
+  -- the states at the end and one cycle before it
+  abbrev End : List S
+  End = states m w inputs Js t (u - t)
+
+  abbrev Late : List S
+  Late = states m w inputs Js t (u - t - 1)
+
+  gliding : (j : ℕ) → j ≤ u - t → Alike (λ k s x. x ≡ glide m s t j) Js (states m w inputs Js t j)
+  gliding j l = steady_states m laws w inputs Js t (u - t) steady j l
+
+  late_same : {B : Type 0} (f : S → List B) → ((k : ℕ) (s : S) → slice_get Js k ≡ Some s → f (glide m s t (u - t - 1)) ≡ f s) → flat_map f Late ≡ flat_map f Js
+  late_same f each =
+      let like = gliding (u - t - 1) (omega arith) in
+      flat_map_same f Late Js (sym like.long) (λ k x y ex ey. ap f (like.each k y x ey ex) ∙ each k y ey)
+
+  late_drives : t < u → flat_map m.drives Late ≡ flat_map m.drives Js
+  late_drives further = late_same m.drives (λ k s es. (steady.same k s es).same_drives (u - t - 1) (omega (arith, further)))
+
+  late_contacts : t < u → flat_map m.contacts Late ≡ flat_map m.contacts Js
+  late_contacts further = late_same m.contacts (λ k s es. (steady.same k s es).same_contacts (u - t - 1) (omega (arith, further)))
+
+  end_still : m.drives (state q0) ≡ m.drives s0 → m.contacts (state q0) ≡ m.contacts s0 → (k : ℕ) (x y : S) → slice_get End k ≡ Some x → slice_get Js k ≡ Some y → (m.drives x ≡ m.drives y) × (m.contacts x ≡ m.contacts y)
+  end_still drives contacts k x y ex ey =
+      let x_is : x ≡ glide m y t (u - t) = (gliding (u - t) (omega arith)).each k y x ey ex in
+      elim (eqb_tells k who) [
+        | inl e ↦
+            let y_is : s0 ≡ y = some_same (sym there ∙ subst (λ (j : ℕ). slice_get Js j ≡ Some y) e.1 ey) in
+            let at : x ≡ state q0 = x_is ∙ ap (λ (s : S). glide m s t (u - t)) (sym y_is) ∙ sym state_is in
+            (ap m.drives at ∙ drives ∙ ap m.drives y_is, ap m.contacts at ∙ contacts ∙ ap m.contacts y_is)
+        | inr e ↦ (
+          ap m.drives x_is ∙ glide_drives m laws y t (u - t) (valid k y ey) (calm k y e.1 ey),
+          ap m.contacts x_is ∙ glide_contacts m laws y t (u - t) (valid k y ey) (calm k y e.1 ey),
+        )
+      ]
+
+  -- what its last step changed is what its end did, since all shows the same before
+  pub alone_tells : (changed : Bool) → t < u → (changed ≡ false → m.drives (state q0) ≡ m.drives s0) → (changed ≡ false → m.contacts (state q0) ≡ m.contacts s0) →
+      (changed ≡ true → m.drives (state q0) ≡ m.drives s0 → m.contacts (state q0) ≢ m.contacts s0) → LastTells m w inputs changed Js t (u - t)
+  alone_tells changed further drives contacts other =
+      let like = gliding (u - t) (omega arith) in
+      record {
+        same = λ none. (
+          flat_map_same m.drives End Js (sym like.long) (λ k x y ex ey. (end_still (drives none) (contacts none) k x y ex ey).0) ∙ sym (late_drives further),
+          flat_map_same m.contacts End Js (sym like.long) (λ k x y ex ey. (end_still (drives none) (contacts none) k x y ex ey).1) ∙ sym (late_contacts further),
+        );
+        other = λ one ds cs.
+            let within : who < length End = omega (arith, slice_get_within Js who s0 there, like.long) in
+            let z = get_or End who s0 in
+            let ez : slice_get End who ≡ Some z = get_within End who s0 within in
+            let z_is : state q0 ≡ z = state_is ∙ sym (like.each who s0 z there ez) in
+            other one
+            (ap m.drives z_is ∙ flat_each m.drives End Js (sym like.long) (λ k x y ex ey. ap (λ s. length (m.drives s)) (like.each k y x ey ex) ∙ glide_pins m laws y t (u - t)) (ds ∙ late_drives further) who z s0 ez there)
+            (ap m.contacts z_is ∙ flat_each m.contacts End Js (sym like.long) (λ k x y ex ey. ap (λ s. length (m.contacts s)) (like.each k y x ey ex) ∙ glide_ports m laws y t (u - t)) (cs ∙ late_contacts further) who z s0 ez there);
+      }
+
   pub alone_rows : rows m w inputs (shown_at t kept.seen) Js t (u - t) ≡ []
   alone_rows = ap (λ (o : Option Shown). rows m w inputs o Js t (u - t)) shown_same ∙ steady_rows m laws w inputs Js t (u - t) steady (u - t) (omega arith)
 
@@ -282,6 +339,7 @@ module _ {S P : Type 0} (m : Machine S) (laws : Laws m) (w : Wiring) (state : P 
     pub row_none : rows m w inputs (shown_at t kept.seen) (Ts m laws w state now wakes t parts) t (u - t) ≡ []
     pub bytes_are : bytes m w inputs (Ts m laws w state now wakes t parts) t (u - t) ≡ bs
     pub rests : IsSteady m w inputs (Ts m laws w state now wakes t parts) t (u - t)
+    pub tells : LastTells m w inputs after.stale (Ts m laws w state now wakes t parts) t (u - t)
 
   pub alone_goes : (t u limit : ℕ) (parts new : List P) (kept : Kept) (after : List (Option ℕ)) (changed : Bool) (steps more who : ℕ) (p q : P) (d : Option ℕ) (ds : List Drive) (cs : List Bool) → IsTold m (map state new) (retold kept.seen ds cs).circuit →
       Lags m w state now wakes t parts kept → kept.stale ≡ false → 0 < t → u ≤ limit → limit ≤ MOST_CYCLES → IsAlone inputs kept.dues kept.input who t limit →
@@ -302,6 +360,7 @@ module _ {S P : Type 0} (m : Machine S) (laws : Laws m) (w : Wiring) (state : P 
         row_none = alone_rows m laws w state now wakes inputs t u parts kept lags fresh later order who p q went.here quiet silent went.same went.state_is went.now_is went.woken_is;
         bytes_are = alone_bytes m laws w state now wakes inputs t u parts kept lags fresh later order who p q went.here quiet silent went.same went.state_is went.now_is went.woken_is;
         rests = steady m laws w state now wakes inputs t u parts kept lags fresh later order who p q went.here quiet silent went.same went.state_is went.now_is went.woken_is;
+        tells = alone_tells m laws w state now wakes inputs t u parts kept lags fresh later order who p q went.here quiet silent went.same went.state_is went.now_is went.woken_is changed further went.drives went.contacts went.other;
       } in
       subst (λ (xs : List P). Goes t u parts xs kept (record { input = kept.input; stale = changed; dues = after; seen = retold kept.seen ds cs; answers = kept.answers }) steps more (sent m (glided m state now wakes t p) t (u - t))) (sym went.new_is)
       (subst (λ (xs : List (Option ℕ)). Goes t u parts (slice_set parts who q) kept (record { input = kept.input; stale = changed; dues = xs; seen = retold kept.seen ds cs; answers = kept.answers }) steps more (sent m (glided m state now wakes t p) t (u - t))) (sym went.dues_are) here)

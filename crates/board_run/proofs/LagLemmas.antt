@@ -11,15 +11,16 @@ use Rattle.part_law.specs.Machine.{Machine, Laws}
 use Rattle.board_model.specs.Board.{level_at, own_nets, levels_of, part_step, steps_from, board_step, states, bytes_of, bytes, options}
 use Rattle.board_model.specs.Rows.{Shown, same_list, same_level, shown_before, row_if, rows}
 use Rattle.board_model.specs.Fits.{Fits}
-use Rattle.board_model.proofs.Lists.{some_same, get_within, get_map_some, some_map, same_lists}
+use Rattle.board_model.proofs.Lists.{some_same, get_within, get_map_some, some_map, same_lists, flat_map_same}
 use Rattle.board_laws.specs.Alike.{Alike, SameShow}
 use Rattle.board_laws.specs.Active.{sum_below, active_in, active_cycles, active_pairs}
 use Rattle.board_laws.specs.Stands.{Stands}
 use Rattle.board_laws.proofs.AlikeLemmas.{alike_weaker, flat_map_alike}
 use Rattle.board_laws.proofs.BesideLaw.{same_levels, same_shown, same_drives, same_row, same_chips}
-use Rattle.board_model.proofs.Steps.{length-steps_from}
+use Rattle.board_model.proofs.Steps.{length-steps_from, get-steps_from}
 use Rattle.board_model.proofs.RoomLemmas.{SameRoom, fits_room, chips_room}
 use Rattle.board_laws.proofs.StandsLaw.{stands_shows, stands_holds}
+use Rattle.board_run.specs.Changes.{Tells, LastTells}
 use Rattle.board_run.specs.Seen.{Seen, Suits, IsOf, IsTold, AreDiffering, retold, levels_on, shown, shown_at}
 use Rattle.board_run.specs.Upcoming.{AreBehind}
 use Rattle.board_run.specs.Lagging.{glided, Awaits, Turns, AreDue}
@@ -29,7 +30,7 @@ use Rattle.board_run.proofs.ShowLemmas.{shown_is}
 use Rattle.board_run.specs.declared.part_set.PartSet.{PartSet}
 use Rattle.board_run.specs.Parts.{has_part, AreNone}
 use Rattle.board_run.proofs.ShowLemmas.{still_of, not_first}
-use Rattle.board_run.proofs.ReadLemmas.{retold_suits, retold_is}
+use Rattle.board_run.proofs.ReadLemmas.{retold_suits, retold_is, flat_each}
 use Rattle.board_run.proofs.TurnLemmas.{turns_stand}
 use Rattle.board_model.proofs.SameLemmas.{level_same, list_same}
 
@@ -228,6 +229,43 @@ module _ {S P : Type 0} (m : Machine S) (laws : Laws m) (w : Wiring) (state : P 
               ∙ ap (λ (n : ℕ). steps + n) (sum_first _)
               ∙ ap (λ (n : ℕ). steps + active_pairs m w inputs ts t n) (sym e);
         }
+
+    -- whether the cycle changed a drive or a contact
+    tells_after : Tells m changed (Ts t old) Us
+    tells_after = record {
+      same = λ none. (flat_map_same m.drives Us (Ts t old) us_long (λ k x y ex ey. (still none k x y ex ey).drives), flat_map_same m.contacts Us (Ts t old) us_long (λ k x y ex ey. (still none k x y ex ey).contacts));
+      other = λ one ds cs.
+          let z = turns.moved one in
+          let eu = us_at z.0 z.1 z.3 in
+          z.4 (flat_each m.drives Us (Ts t old) us_long (λ k x y ex ey. pins k x y ex ey) ds z.0 _ z.1 eu z.3) (flat_each m.contacts Us (Ts t old) us_long (λ k x y ex ey. ports k x y ex ey) cs z.0 _ z.1 eu z.3);
+    }
+      where
+        us_long : length Us ≡ length (Ts t old)
+        us_long = simp (length-map, length-steps_from)
+
+        us_at : (k : ℕ) (s : S) → slice_get (Ts t old) k ≡ Some s → slice_get Us k ≡ Some (part_step m w inputs seen.circuit.levels t k s).0
+        us_at k s es = some_map (λ (r : S × Option ℕ). r.0) (steps_from m w inputs seen.circuit.levels t 0 (Ts t old)) k (part_step m w inputs seen.circuit.levels t k s) (get-steps_from m w inputs seen.circuit.levels t k (Ts t old) s es)
+
+        step_is : (k : ℕ) (x y : S) → slice_get Us k ≡ Some x → slice_get (Ts t old) k ≡ Some y → (part_step m w inputs seen.circuit.levels t k y).0 ≡ x
+        step_is k x y ex ey = some_same (sym (us_at k y ey) ∙ ex)
+
+        still : changed ≡ false → (k : ℕ) (x y : S) → slice_get Us k ≡ Some x → slice_get (Ts t old) k ≡ Some y → SameShow m m x y
+        still none k x y ex ey = subst (λ (z : S). SameShow m m z y) (step_is k x y ex ey) (turns.still none k y (omega (arith, slice_get_within (Ts t old) k y ey, like.long)) ey)
+
+        pins : (k : ℕ) (x y : S) → slice_get Us k ≡ Some x → slice_get (Ts t old) k ≡ Some y → length (m.drives x) ≡ length (m.drives y)
+        pins k x y ex ey = subst (λ (z : S). length (m.drives z) ≡ length (m.drives y)) (step_is k x y ex ey) (laws.keeps_pins y t _ _)
+
+        ports : (k : ℕ) (x y : S) → slice_get Us k ≡ Some x → slice_get (Ts t old) k ≡ Some y → length (m.contacts x) ≡ length (m.contacts y)
+        ports k x y ex ey = subst (λ (z : S). length (m.contacts z) ≡ length (m.contacts y)) (step_is k x y ex ey) (laws.keeps_contacts y t _ _)
+
+    pub event_tells : LastTells m w inputs changed (Ts t old) t (t + 1 - t)
+    unfolding states
+    event_tells =
+        let e : t + 1 - t ≡ suc zero = omega arith in
+        let f : t + 0 ≡ t = omega arith in
+        let here : Tells m changed (Ts t old) (board_step m w inputs (Ts t old) (t + 0)) = subst (λ (u : List S). Tells m changed (Ts t old) u) (us_are ∙ ap (board_step m w inputs (Ts t old)) (sym f)) tells_after in
+        let last : LastTells m w inputs changed (Ts t old) t (suc zero) = here in
+        subst (λ (n : ℕ). LastTells m w inputs changed (Ts t old) t n) (sym e) last
 
     -- the rows and bytes of the one cycle
     pub event_rows : (was : Seen) → row_if m w (shown_at t was) (map state old) t ≡ rows m w inputs (shown_at t was) (Ts t old) t (t + 1 - t)

@@ -1,5 +1,5 @@
 -- Legs that follow on each other, and legs over quiet cycles.
-use Rattle.std.proofs.Common.{◌≡◌, ℕ, zero, suc, ◌+◌, ◌-◌, ◌<◌, ◌≤◌, List, [], ◌++◌, length, map, Bool, true, false, Option, None, Some, refl, ap, sym, ◌∙◌, arith, subst, get_or}
+use Rattle.std.proofs.Common.{◌≡◌, ℕ, zero, suc, ◌+◌, ◌-◌, ◌<◌, ◌≤◌, List, [], ◌++◌, length, map, Bool, true, false, Option, None, Some, refl, ap, sym, ◌∙◌, arith, subst, get_or, inl, inr}
 use Rattle.std.specs.Prelude.{◌==◌, if◌then◌else◌, slice_get}
 use Rattle.std.proofs.lemmas.Option.{slice_get_within}
 use Rattle.std.proofs.lemmas.List.{length-map}
@@ -9,27 +9,28 @@ use Rattle.sim_base.specs.declared.wiring.Input.{Input}
 use Rattle.sim_base.specs.Rows.{Row}
 use Rattle.part_law.specs.Machine.{Machine, Laws, glide, idle, IsQuiet}
 use Rattle.part_law.proofs.MachineLemmas.{glide_drives, glide_contacts}
-use Rattle.board_model.specs.Board.{level_at, own_nets, input_at, states, bytes}
+use Rattle.board_model.specs.Board.{level_at, own_nets, input_at, drives_of, contacts_of, states, bytes}
 use Rattle.board_model.specs.Rows.{Shown, chip_drives_of, shown_of, shown_before, rows}
 use Rattle.board_model.specs.Fits.{Fits}
 use Rattle.board_model.specs.Fresh.{AreFresh}
-use Rattle.board_model.proofs.Lists.{some_same, get_within, get_map_some, some_map, same_lists}
+use Rattle.board_model.proofs.Lists.{some_same, get_within, get_map_some, some_map, same_lists, flat_map_same}
 use Rattle.board_laws.specs.Alike.{Alike}
 use Rattle.board_laws.specs.Active.{active_cycles, active_pairs}
 use Rattle.board_laws.specs.Stands.{Stands}
 use Rattle.board_laws.specs.Stretch.{IsStretch}
 use Rattle.board_laws.specs.Steady.{IsSteady}
 use Rattle.board_laws.proofs.StandsLaw.{stands_shows, stands_holds, stands_valid}
-use Rattle.board_laws.proofs.StretchLaw.{stretch_rows, stretch_bytes, stretch_pairs}
+use Rattle.board_laws.proofs.StretchLaw.{stretch_states, stretch_rows, stretch_bytes, stretch_pairs}
 use Rattle.board_laws.proofs.SteadyLaw.{steady_states, steady_before, steady_cycles, quiet_dues}
 use Rattle.board_laws.proofs.Splits.{states_split, bytes_split, shown_split, rows_split, pairs_split, cycles_split}
 use Rattle.board_run.specs.Parts.{AreNone}
+use Rattle.board_run.specs.Changes.{Tells, LastTells}
 use Rattle.board_run.specs.Seen.{Seen, Suits, IsOf, IsTold, shown, shown_at}
 use Rattle.board_run.specs.Lagging.{glided, AreDue}
 use Rattle.board_run.specs.Legs.{Kept, Lags, Leg}
 use Rattle.sim_base.specs.Rows.{StopsWithin, AreFronts, Handed}
 use Rattle.sim_base.specs.declared.limits.TheConstants.{MOST_CYCLES}
-use Rattle.board_run.proofs.NextLemmas.{quiet_until}
+use Rattle.board_run.proofs.NextLemmas.{below_or, quiet_until}
 use Rattle.board_run.proofs.HandLemmas.{stops_after, nothing_more}
 use Rattle.board_run.proofs.ShowLemmas.{fronts, still_of, still_same}
 use Rattle.board_run.proofs.ShowLemmas.{shown_is}
@@ -134,6 +135,16 @@ module _ {S P : Type 0} (m : Machine S) (laws : Laws m) (w : Wiring) (state : P 
               omega (arith, one, two, split);
         }
 
+    later_states : (j : ℕ) → states m w inputs Ss t ((u - t) + j) ≡ states m w inputs Ms u j
+    later_states j = states_split m w inputs Ss t (u - t) j ∙ ap (λ (l : List S). states m w inputs l (t + (u - t)) j) (sym first.states_are) ∙ ap (λ (c : ℕ). states m w inputs Ms c j) there
+
+    -- what the last step of the second changed is what the last step of both did
+    pub tells_then : (changed : Bool) → u < v → LastTells m w inputs changed Ms u (v - u) → LastTells m w inputs changed Ss t (v - t)
+    tells_then changed further tells =
+        let before : v - t - 1 ≡ (u - t) + (v - u - 1) = (let x = first.order in omega (arith, x, further)) in
+        subst (λ (l : List S). Tells m changed (states m w inputs Ss t (v - t - 1)) l) (sym (ap (states m w inputs Ss t) count ∙ later_states (v - u)))
+        (subst (λ (l : List S). Tells m changed l (states m w inputs Ms u (v - u))) (sym (ap (states m w inputs Ss t) before ∙ later_states (v - u - 1))) tells)
+
     pub rows_then : rows m w inputs (shown_at t before) Ss t (v - t) ≡ rows m w inputs (shown_at t before) Ss t (u - t) ++ rows m w inputs (shown_at u seen) Ms u (v - u)
     rows_then =
         let so_far = rows m w inputs (shown_at t before) Ss t (u - t) in
@@ -224,6 +235,21 @@ module _ {S P : Type 0} (m : Machine S) (laws : Laws m) (w : Wiring) (state : P 
     pub jump_bytes : bytes m w inputs Js t (u - t) ≡ []
     jump_bytes = stretch_bytes m laws w inputs Js t (u - t) stretch (u - t) (omega arith)
 
+    stays : (j : ℕ) → j ≤ u - t → (drives_of m (states m w inputs Js t j) ≡ drives_of m Js) × (contacts_of m (states m w inputs Js t j) ≡ contacts_of m Js)
+    stays j l =
+        let like = stretch_states m laws w inputs Js t (u - t) stretch j l in (
+          flat_map_same m.drives (states m w inputs Js t j) Js (sym like.long) (λ k x y ex ey.
+              ap m.drives (like.each k y x ey ex) ∙ glide_drives m laws y t j (stretch.valid k y ey) (λ i (h : i < j). stretch.quiet k y ey i (omega (arith, h, l)))),
+          flat_map_same m.contacts (states m w inputs Js t j) Js (sym like.long) (λ k x y ex ey.
+              ap m.contacts (like.each k y x ey ex) ∙ glide_contacts m laws y t j (stretch.valid k y ey) (λ i (h : i < j). stretch.quiet k y ey i (omega (arith, h, l)))),
+        )
+
+    pub jump_tells : LastTells m w inputs false Js t (u - t)
+    jump_tells =
+        let a = stays (u - t) (omega arith) in
+        let b = stays (u - t - 1) (omega arith) in
+        record { same = λ _. (a.0 ∙ sym b.0, a.1 ∙ sym b.1); other = λ (one : false ≡ true). absurd cc }
+
     pub jump_lags : Lags m w state now wakes u parts kept
     jump_lags = record {
       few = lags.few;
@@ -271,6 +297,7 @@ module _ {S P : Type 0} (m : Machine S) (laws : Laws m) (w : Wiring) (state : P 
     pub row_none : rows m w inputs (shown_at t kept.seen) (Ts m laws w state now wakes t parts) t (u - t) ≡ []
     pub byte_none : bytes m w inputs (Ts m laws w state now wakes t parts) t (u - t) ≡ []
     pub rests : kept.stale ≡ false → IsSteady m w inputs (Ts m laws w state now wakes t parts) t (u - t)
+    pub tells : kept.stale ≡ false → LastTells m w inputs false (Ts m laws w state now wakes t parts) t (u - t)
     pub lags : Lags m w state now wakes u parts kept
 
   pub jumps_to : (t u : ℕ) (parts : List P) (kept : Kept) (steps : ℕ) → Lags m w state now wakes t parts kept → 0 < t → t ≤ u → u ≤ MOST_CYCLES → (kept.stale ≡ true → u ≡ t) →
@@ -292,6 +319,7 @@ module _ {S P : Type 0} (m : Machine S) (laws : Laws m) (w : Wiring) (state : P 
             row_none = ap (rows m w inputs (shown_at t kept.seen) (Ts m laws w state now wakes t parts) t) none;
             byte_none = ap (bytes m w inputs (Ts m laws w state now wakes t parts) t) none;
             rests = λ f. absurd (let x : true ≡ false = sym e ∙ f in cc);
+            tells = λ f. absurd (let x : true ≡ false = sym e ∙ f in cc);
             lags = lags;
           } in
           subst (λ (v : ℕ). Jumps t v parts kept steps) (sym (stays e)) here
@@ -300,8 +328,19 @@ module _ {S P : Type 0} (m : Machine S) (laws : Laws m) (w : Wiring) (state : P 
         row_none = jump_rows t u parts kept lags e after order quiet silent;
         byte_none = jump_bytes t u parts kept lags e after order quiet silent;
         rests = λ _. steady t u parts kept lags e after order quiet silent;
+        tells = λ _. jump_tells t u parts kept lags e after order quiet silent;
         lags = jump_lags t u parts kept lags e after order quiet silent;
       }
+
+  -- what the last step changed, where a jump follows on a leg
+  pub jumped_tells : (stale : Bool) (t v u a b : ℕ) (old mid : List P) (before seen : Seen) → Leg m w state now wakes inputs t v old mid before seen a b → Leg m w state now wakes inputs v u mid mid seen seen b b →
+      (stale ≡ true → u ≡ v) → (stale ≡ false → LastTells m w inputs false (Ts m laws w state now wakes v mid) v (u - v)) →
+      LastTells m w inputs stale (Ts m laws w state now wakes t old) t (v - t) → LastTells m w inputs stale (Ts m laws w state now wakes t old) t (u - t)
+  jumped_tells true t v u a b old mid before seen leg jump stays later first = subst (λ (n : ℕ). LastTells m w inputs true (Ts m laws w state now wakes t old) t (n - t)) (sym (stays refl)) first
+  jumped_tells false t v u a b old mid before seen leg jump stays later first = elim (below_or v u) [
+    | inl less ↦ tells_then t v u a b b old mid mid before seen seen leg jump false less (later refl)
+    | inr more ↦ let e : v ≡ u = (let l = jump.order in omega (arith, l, more)) in subst (λ (n : ℕ). LastTells m w inputs false (Ts m laws w state now wakes t old) t (n - t)) e first
+  ]
 
   -- what is shown up to a cycle is the first part of what is shown up to a later one
   pub shown_front : (c u n : ℕ) (before : Option Shown) (ss : List S) → c ≤ u → u ≤ n → AreFronts (rows m w inputs before ss c (u - c)) (bytes m w inputs ss c (u - c)) (rows m w inputs before ss c (n - c)) (bytes m w inputs ss c (n - c))

@@ -1,16 +1,17 @@
 -- The next cycle in which something may happen.
-use Rattle.std.proofs.Common.{◌≡◌, ℕ, zero, suc, ◌+◌, ◌-◌, ◌<◌, ◌≤◌, List, [], ◌∷◌, length, true, false, Option, None, Some, refl, arith, subst, get_or, inl, inr, ◌⊎◌}
-use Rattle.std.specs.Prelude.{slice_get}
+use Rattle.std.proofs.Common.{◌≡◌, ◌≢◌, ◌∙◌, ℕ, zero, suc, ◌+◌, ◌-◌, ◌<◌, ◌≤◌, List, [], ◌∷◌, length, Bool, true, false, Option, None, Some, refl, ap, sym, arith, subst, get_or, inl, inr, ◌⊎◌}
+use Rattle.std.specs.Prelude.{◌==◌, ◌&&◌, if◌then◌else◌, slice_get}
 use Rattle.std.proofs.lemmas.Option.{slice_get_within, slice_get-get_or}
 use Rattle.sim_base.specs.declared.wiring.Input.{Input}
 use Rattle.part_law.specs.Machine.{Machine, glide, IsQuiet, IsFirstDue}
-use Rattle.board_model.specs.Board.{input_at}
+use Rattle.board_model.specs.Board.{input_from, input_at}
 use Rattle.event_queue.specs.First.{IsFirst}
 use Rattle.board_run.specs.Upcoming.{AreBehind, IsInOrder}
 use Rattle.board_run.specs.Lagging.{MayTurn, AreLate}
 use Rattle.board_run.specs.Legs.{Kept, Lags}
 use Rattle.sim_base.specs.declared.wiring.Wiring.{Wiring}
 use Rattle.sim_base.specs.declared.limits.TheConstants.{MOST_CYCLES}
+use Rattle.board_model.proofs.Lists.{some_same}
 use Rattle.board_run.proofs.ScriptLemmas.{others_leave}
 
 pub below_or : (u t : ℕ) → (u < t) ⊎ (t ≤ u)
@@ -60,7 +61,7 @@ behind_until inputs i t v d order behind later next = record {
       omega (arith, a, b);
 }
 
-some_there : {P : Type 0} (ps : List P) (k : ℕ) → k < length ps → (p : P) × (slice_get ps k ≡ Some p)
+pub some_there : {P : Type 0} (ps : List P) (k : ℕ) → k < length ps → (p : P) × (slice_get ps k ≡ Some p)
 some_there [] k h = absurd (omega arith)
 some_there (p ∷ ps) zero h = (p, refl)
 some_there (p ∷ ps) (suc k) h = some_there ps k (omega arith)
@@ -90,3 +91,31 @@ first_least dues (Some (v, i)) x is least k u e =
     let a = least v i refl in
     let b = (is.1 k u e).0 in
     omega (arith, a, b)
+
+-- the due cycle that was found is one of them
+pub first_one : (dues : List (Option ℕ)) (first : Option (ℕ × ℕ)) (x n : ℕ) → IsFirst dues first → (x ≡ n) ⊎ ((i : ℕ) × (first ≡ Some (x, i))) → x < n → (k : ℕ) × (slice_get dues k ≡ Some (Some x))
+first_one dues first x n is (inl end) less = absurd (omega (arith, end, less))
+first_one dues first x n is (inr y) less = (y.0, (subst (λ (f : Option (ℕ × ℕ)). IsFirst dues f) y.1 is).0)
+
+kept_or : (b : Bool) (v : ℕ) (before : Option ℕ) → before ≢ None → (if b then Some v else before) ≢ None
+kept_or true v before some none = absurd cc
+kept_or false v before some none = some none
+
+kept : (xs : List Input) (before : Option ℕ) (t i : ℕ) → before ≢ None → input_from before xs t i ≢ None
+kept [] before t i some none = some none
+kept (y ∷ xs) before t i some none = kept xs (if y.cycle == t && y.part == i then Some y.value else before) t i (kept_or (y.cycle == t && y.part == i) y.value before some) none
+
+same_place : (z : Input) → (z.cycle == z.cycle && z.part == z.part) ≡ true
+same_place z = grind arith
+
+found : (x : Input) (before : Option ℕ) (xs : List Input) (n : ℕ) → slice_get xs n ≡ Some x → input_from before xs x.cycle x.part ≢ None
+found x before [] n e none = absurd cc
+found x before (y ∷ xs) zero e none =
+    let here : y ≡ x = some_same e in
+    let yes : (y.cycle == x.cycle && y.part == x.part) ≡ true = ap (λ (z : Input). z.cycle == x.cycle && z.part == x.part) here ∙ same_place x in
+    kept xs (Some y.value) x.cycle x.part (λ n. cc) (sym (ap (λ (b : Bool). input_from (if b then Some y.value else before) xs x.cycle x.part) yes) ∙ none)
+found x before (y ∷ xs) (suc n) e none = found x (if y.cycle == x.cycle && y.part == x.part then Some y.value else before) xs n e none
+
+-- the script addresses a part in the cycle of each of its values
+pub addresses : (inputs : List Input) (n : ℕ) (x : Input) → slice_get inputs n ≡ Some x → input_at inputs x.cycle x.part ≢ None
+addresses inputs n x e = found x None inputs n e

@@ -46,6 +46,9 @@ pub not_so : (b : Bool) → ¬ (b ≡ true) → b ≡ false
 not_so true h = absurd (h refl)
 not_so false h = refl
 
+less_or : (j n : ℕ) → (j < n) ⊎ (n ≤ j)
+less_or j n = grind arith
+
 -- the pins of a span were put, and the others were there
 pub span_put : {A : Type 0} (items old new : List A) (span : Span) (place n from to : ℕ) → n ≡ length items → n ≤ 255 → to ≡ min span.to n → from ≡ min span.from to → length new ≡ length old →
     ((j : ℕ) → from ≤ j → j < to → slice_get new (place + j) ≡ slice_get items j) → ((x : ℕ) → (x < place + from) ⊎ (place + to ≤ x) → slice_get new x ≡ slice_get old x) →
@@ -62,9 +65,18 @@ span_put items old new span place n from to count few is_to is_from long told re
   before = λ j h. rest j (inl (omega (arith, h)));
   after = λ j h. rest j (inr (let l : to ≤ n = grind (arith, is_to) in omega (arith, h, count, l)));
 }
-  where
-    less_or : (j n : ℕ) → (j < n) ⊎ (n ≤ j)
-    less_or j n = grind arith
+
+-- the pins of a span have what was there, and so have the others
+pub span_there : {A : Type 0} (items old : List A) (span : Span) (place n from to : ℕ) → n ≡ length items → n ≤ 255 → to ≡ min span.to n → from ≡ min span.from to →
+    ((j : ℕ) → from ≤ j → j < to → slice_get old (place + j) ≡ slice_get items j) →
+    ((j : ℕ) → j < length items → j < 255 → ¬ IsIn span j → slice_get old (place + j) ≡ slice_get items j) → HasAt place items old
+span_there items old span place n from to count few is_to is_from there others j h = elim (less_or j from) [
+  | inl before ↦ others j h (omega (arith, h, count, few)) (λ i. let a = i.0 in grind (arith, a, before, is_from, is_to))
+  | inr after ↦ elim (less_or j to) [
+    | inl inside ↦ there j after inside
+    | inr beyond ↦ others j h (omega (arith, h, count, few)) (λ i. let b = i.1 in grind (arith, b, beyond, is_to, h, count))
+  ]
+]
 
 get_left : {B : Type 0} (xs ys : List B) (j : ℕ) → j < length xs → slice_get (xs ++ ys) j ≡ slice_get xs j
 get_left [] ys j h = absurd (omega arith)
@@ -110,6 +122,13 @@ module _ {S B : Type 0} (f : S → List B) where
   same_place (x ∷ xs) (y ∷ ys) long each (suc i) =
       let rest : length (flat_map f (take i xs)) ≡ length (flat_map f (take i ys)) = same_place xs ys (omega arith) (λ k a b ea eb. each (suc k) a b ea eb) i in
       omega (arith, length-append (f x) (flat_map f (take i xs)), length-append (f y) (flat_map f (take i ys)), each 0 x y refl refl, rest)
+
+  -- where all have the same in all, each has
+  pub flat_each : (xs ys : List S) → length xs ≡ length ys → ((k : ℕ) (x y : S) → slice_get xs k ≡ Some x → slice_get ys k ≡ Some y → length (f x) ≡ length (f y)) → flat_map f xs ≡ flat_map f ys →
+      (k : ℕ) (x y : S) → slice_get xs k ≡ Some x → slice_get ys k ≡ Some y → f x ≡ f y
+  flat_each xs ys long each same k x y ex ey = same_lists (f x) (f y) (each k x y ex ey) (λ j a b ea eb.
+      some_same (sym ea ∙ sym (flat_get xs k x j ex (slice_get_within (f x) j a ea)) ∙ ap (λ (l : List B). slice_get l (length (flat_map f (take k xs)) + j)) same
+      ∙ ap (λ (n : ℕ). slice_get (flat_map f ys) (n + j)) (same_place xs ys long each k) ∙ flat_get ys k y j ey (slice_get_within (f y) j b eb) ∙ eb))
 
   lt_ge : (j n : ℕ) → (j < n) ⊎ (n ≤ j)
   lt_ge j n = grind arith
@@ -247,6 +266,18 @@ module _ {S P : Type 0} (m : Machine S) (state : P → S) (parts : List P) (i : 
         ∙ flat_get m.drives (map state parts) i (state p) j at (subst (λ l. j < length l) ds h) ∙ ap (λ l. slice_get l j) (sym ds),
     λ j h. ap (λ l. slice_get l (length (contacts_of m (take i (map state (slice_set parts i q)))) + j)) told.closed_are ∙ ap (λ n. slice_get (contacts_of m (map state parts)) (n + j)) (before_same m.contacts)
         ∙ flat_get m.contacts (map state parts) i (state p) j at (subst (λ l. j < length l) cs h) ∙ ap (λ l. slice_get l j) (sym cs),
+  )
+
+  -- and it is still, where it has them already
+  pub told_still : (first : ℕ) → first ≡ length (drives_of m (take i (map state parts))) → HasAt first (m.drives (state q)) c.drives →
+      HasAt (length (contacts_of m (take i (map state (slice_set parts i q))))) (m.contacts (state q)) c.closed → (m.drives (state q) ≡ m.drives (state p)) × (m.contacts (state q) ≡ m.contacts (state p))
+  told_still first place ds cs = (
+    same_lists (m.drives (state q)) (m.drives (state p)) pins (λ j a b ea eb.
+        some_same (sym ea ∙ sym (ds j (slice_get_within (m.drives (state q)) j a ea)) ∙ ap (λ l. slice_get l (first + j)) told.drives_are ∙ ap (λ n. slice_get (drives_of m (map state parts)) (n + j)) place
+        ∙ flat_get m.drives (map state parts) i (state p) j at (slice_get_within (m.drives (state p)) j b eb) ∙ eb)),
+    same_lists (m.contacts (state q)) (m.contacts (state p)) ports (λ j a b ea eb.
+        some_same (sym ea ∙ sym (cs j (slice_get_within (m.contacts (state q)) j a ea)) ∙ ap (λ l. slice_get l (length (contacts_of m (take i (map state (slice_set parts i q)))) + j)) told.closed_are
+        ∙ ap (λ n. slice_get (contacts_of m (map state parts)) (n + j)) (before_same m.contacts) ∙ flat_get m.contacts (map state parts) i (state p) j at (slice_get_within (m.contacts (state p)) j b eb) ∙ eb)),
   )
 
   -- and else those of the pins that did not move

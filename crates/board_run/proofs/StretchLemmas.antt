@@ -1,19 +1,20 @@
 -- A stretch of the board up to the next cycle in which something may happen.
-use Rattle.std.proofs.Common.{◌≡◌, ◌∙◌, ℕ, zero, suc, ◌-◌, ◌<◌, ◌≤◌, refl, ap, sym, arith, subst, inl, inr}
+use Rattle.std.proofs.Common.{◌≡◌, ◌≢◌, ◌⊎◌, ◌∙◌, ℕ, zero, suc, ◌-◌, ◌<◌, ◌≤◌, refl, ap, sym, arith, subst, inl, inr}
 use Rattle.std.proofs.Common.{List, length, map, get_or, Bool, true, false, Option, None, Some}
 use Rattle.std.specs.Prelude.{◌==◌, ◌||◌, slice_get}
 use Rattle.std.proofs.lemmas.Option.{slice_get_within}
 use Rattle.sim_base.specs.declared.limits.TheConstants.{MOST_CYCLES}
 use Rattle.sim_base.specs.declared.wiring.Wiring.{Wiring}
 use Rattle.sim_base.specs.declared.wiring.Input.{Input}
-use Rattle.part_law.specs.Machine.{Machine, Laws}
+use Rattle.part_law.specs.Machine.{Machine, Laws, glide}
 use Rattle.board_model.specs.Board.{input_at}
-use Rattle.board_model.proofs.Lists.{get_within}
+use Rattle.board_model.proofs.Lists.{get_within, some_map}
 use Rattle.board_laws.specs.Stretch.{IsStretch}
 use Rattle.board_laws.specs.Steady.{IsSteady}
+use Rattle.board_run.specs.Changes.{LastTells, HasEvent}
 use Rattle.board_run.specs.Lagging.{glided, AreLate}
 use Rattle.board_run.specs.Legs.{Kept, Lags, Leg, AreAt}
-use Rattle.board_run.proofs.NextLemmas.{below_or, quiet_until}
+use Rattle.board_run.proofs.NextLemmas.{below_or, quiet_until, some_there}
 use Rattle.board_run.proofs.LegLemmas.{at_here, stretch, jumps_to, leg_none}
 
 -- where something may happen later than now, no drive has changed, and cycle 0 is over
@@ -21,6 +22,11 @@ pub unchanged : (stale : Bool) (t r : ℕ) → ((stale || (t == 0)) ≡ true →
 unchanged true t r now less = let e : r ≡ t = now refl in absurd (omega (arith, e, less))
 unchanged false zero r now less = let e : r ≡ 0 = now refl in absurd (omega (arith, e, less))
 unchanged false (suc t) r now less = (refl, omega arith)
+
+pub neither : (stale : Bool) (t : ℕ) → stale ≡ false → 0 < t → (stale || (t == 0)) ≡ false
+neither true t none later = absurd cc
+neither false zero none later = absurd (omega arith)
+neither false (suc t) none later = grind arith
 
 module _ {S P : Type 0} (m : Machine S) (laws : Laws m) (w : Wiring) (state : P → S) (now wakes : P → ℕ) (inputs : List Input) where
   -- parts that stand at cycle t have a stretch up to u where none of them is due before u and the script says nothing
@@ -36,11 +42,21 @@ module _ {S P : Type 0} (m : Machine S) (laws : Laws m) (w : Wiring) (state : P 
       quiet_until m state now wakes t u d p order end (lags.may k p d ep ed) (λ x e l. late k x (ed ∙ ap Some e)))
       silent)
 
+  -- what comes next: the due cycle of a part that stands at cycle t, or a value of the script
+  pub event_at : (t u : ℕ) (parts : List P) (kept : Kept) → Lags m w state now wakes t parts kept → AreAt now t parts →
+      ((k : ℕ) × (slice_get kept.dues k ≡ Some (Some u))) ⊎ ((k : ℕ) × (input_at inputs u k ≢ None)) → HasEvent m inputs (map state parts) t u
+  event_at t u parts kept lags at (inr x) = inr x
+  event_at t u parts kept lags at (inl x) =
+      let p = some_there parts x.0 (omega (arith, slice_get_within kept.dues x.0 (Some u) x.1, lags.dues_long)) in
+      let first = (lags.may x.0 p.0 (Some u) p.1 x.1).first in
+      inl (x.0, state p.0, some_map state parts x.0 p.0 p.1, subst (λ (c : ℕ). m.due (glide m (state p.0) c (u - c)) u ≡ true) (at x.0 p.0 p.1) first.3)
+
   -- where nothing new is shown up to cycle u
   pub record Rests (t u : ℕ) (parts new : List P) (kept after : Kept) (steps more : ℕ) : Type 0 where
     pub leg : Leg m w state now wakes inputs t u parts new kept.seen after.seen steps more
     pub lags : Lags m w state now wakes u new after
     pub steady : t < u → IsSteady m w inputs (map (glided m state now wakes t) parts) t (u - t)
+    pub tells : t < u → LastTells m w inputs after.stale (map (glided m state now wakes t) parts) t (u - t)
 
   -- no part is due up to there, or it is here
   pub rests_to : (t u : ℕ) (parts : List P) (kept : Kept) (steps : ℕ) → Lags m w state now wakes t parts kept → t ≤ u → u ≤ MOST_CYCLES → ((kept.stale || (t == 0)) ≡ true → u ≡ t) →
@@ -50,13 +66,19 @@ module _ {S P : Type 0} (m : Machine S) (laws : Laws m) (w : Wiring) (state : P 
         let still = unchanged kept.stale t u stays less in
         let none : kept.stale ≡ true → u ≡ t = λ e. absurd (let x : true ≡ false = sym e ∙ still.0 in cc) in
         let j = jumps_to m laws w state now wakes inputs t u parts kept steps lags still.1 order end none (λ k x e. due k x e) silent in
-        record { leg = j.leg; lags = j.lags; steady = λ _. j.rests still.0 }
+        record {
+          leg = j.leg;
+          lags = j.lags;
+          steady = λ _. j.rests still.0;
+          tells = λ _. subst (λ (b : Bool). LastTells m w inputs b (map (glided m state now wakes t) parts) t (u - t)) (sym still.0) (j.tells still.0);
+        }
     | inr more ↦
         let same : u ≡ t = omega (arith, more, order) in
         let here : Rests t t parts parts kept kept steps steps = record {
           leg = leg_none m laws w state now wakes inputs t steps parts kept.seen;
           lags = lags;
           steady = λ (less : t < t). absurd (omega arith);
+          tells = λ (less : t < t). absurd (omega arith);
         } in
         subst (λ (v : ℕ). Rests t v parts parts kept kept steps steps) (sym same) here
   ]

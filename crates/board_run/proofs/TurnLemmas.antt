@@ -37,6 +37,10 @@ some_there [] k h = absurd (omega arith)
 some_there (x ∷ xs) zero h = (x, refl)
 some_there (x ∷ xs) (suc k) h = some_there xs k (omega arith)
 
+pub one_of : (a b : Bool) → (a || b) ≡ true → (a ≡ true) ⊎ (b ≡ true)
+one_of true b e = inl refl
+one_of false b e = inr e
+
 zero_or_more : (t : ℕ) → (t ≡ 0) ⊎ (0 < t)
 zero_or_more t = grind arith
 
@@ -135,14 +139,21 @@ module _ {S P : Type 0} (m : Machine S) (laws : Laws m) (w : Wiring) (inputs : L
           }
 
 module _ {S P : Type 0} (m : Machine S) (laws : Laws m) (w : Wiring) (inputs : List Input) (state : P → S) (now wakes : P → ℕ) (ls : List Level) (t : ℕ) (ts : List S) where
-  pub turns_none : (ps : List P) (answers : List (Option ℕ)) (changed : Bool) → Turns m w inputs state now wakes ls t ts 0 ps ps answers changed
-  turns_none ps answers changed = record { done = λ k p q s h. absurd (omega arith); answered = λ k h. absurd (omega arith); still = λ none k s h. absurd (omega arith) }
+  pub turns_none : (ps : List P) (answers : List (Option ℕ)) → Turns m w inputs state now wakes ls t ts 0 ps ps answers false
+  turns_none ps answers = record {
+    done = λ k p q s h. absurd (omega arith);
+    answered = λ k h. absurd (omega arith);
+    still = λ none k s h. absurd (omega arith);
+    moved = λ (one : false ≡ true). absurd cc;
+  }
 
   -- one more turn
-  pub turns_more : (i : ℕ) (old new : List P) (answers : List (Option ℕ)) (changed more : Bool) (p q : P) (s : S) (byte : Option ℕ) →
+  pub turns_more : (i : ℕ) (old new : List P) (answers : List (Option ℕ)) (changed touched more : Bool) (p q : P) (s : S) (byte : Option ℕ) →
       Turns m w inputs state now wakes ls t ts i old new answers changed → slice_get old i ≡ Some p → slice_get ts i ≡ Some s → i < length new → i < length answers →
-      HadTurn m w inputs state now wakes ls t i p q s byte more → Turns m w inputs state now wakes ls t ts (i + 1) old (slice_set new i q) (slice_set answers i byte) (changed || more)
-  turns_more i old new answers changed more p q s byte turns ep es within room turn = record {
+      HadTurn m w inputs state now wakes ls t i p q s byte touched → (more ≡ false → SameShow m m (part_step m w inputs ls t i s).0 s) →
+      (more ≡ true → m.drives (part_step m w inputs ls t i s).0 ≡ m.drives s → m.contacts (part_step m w inputs ls t i s).0 ≢ m.contacts s) →
+      Turns m w inputs state now wakes ls t ts (i + 1) old (slice_set new i q) (slice_set answers i byte) (changed || more)
+  turns_more i old new answers changed touched more p q s byte turns ep es within room turn still moved = record {
     done = λ k a b u l ea eb eu. elim (lt_or_eq k i l) [
       | inl less ↦
           let other : k ≢ i = omega arith in
@@ -167,16 +178,20 @@ module _ {S P : Type 0} (m : Machine S) (laws : Laws m) (w : Wiring) (inputs : L
       | inr same ↦
           let u_is : s ≡ u = some_same (sym es ∙ subst (λ (j : ℕ). slice_get ts j ≡ Some u) same eu) in
           subst (λ (j : ℕ). SameShow m m (part_step m w inputs ls t j u).0 u) (sym same)
-          (subst (λ (x : S). SameShow m m (part_step m w inputs ls t i x).0 x) u_is (turn.still both.1))
+          (subst (λ (x : S). SameShow m m (part_step m w inputs ls t i x).0 x) u_is (still both.1))
+    ];
+    moved = λ one. elim (one_of changed more one) [
+      | inl before ↦ let x = turns.moved before in (x.0, x.1, (let l = x.2 in omega (arith, l)), x.3, x.4)
+      | inr here ↦ (i, s, omega arith, es, moved here)
     ];
   }
 
   -- parts that are passed over
-  pub turns_skip : (i j : ℕ) (old new : List P) (answers : List (Option ℕ)) (changed : Bool) → Turns m w inputs state now wakes ls t ts i old new answers changed → length old ≡ length ts → j ≤ length old → length old ≤ length answers →
+  pub turns_skip : (i j : ℕ) (old new : List P) (answers : List (Option ℕ)) (changed : Bool) → i ≤ j → Turns m w inputs state now wakes ls t ts i old new answers changed → length old ≡ length ts → j ≤ length old → length old ≤ length answers →
       ((k : ℕ) → i ≤ k → slice_get new k ≡ slice_get old k) → ((k : ℕ) (a : Option ℕ) → i ≤ k → slice_get answers k ≡ Some a → a ≡ None) →
       ((k : ℕ) (p : P) (s : S) → i ≤ k → k < j → slice_get old k ≡ Some p → slice_get ts k ≡ Some s → HadTurn m w inputs state now wakes ls t k p p s None false) →
       Turns m w inputs state now wakes ls t ts j old new answers changed
-  turns_skip i j old new answers changed turns like inside room rest quiet pass = record {
+  turns_skip i j old new answers changed least turns like inside room rest quiet pass = record {
     done = λ k p q s l ep eq es. elim (less_or k i) [
       | inl less ↦ turns.done k p q s less ep eq es
       | inr more ↦
@@ -199,6 +214,7 @@ module _ {S P : Type 0} (m : Machine S) (laws : Laws m) (w : Wiring) (inputs : L
           let p = some_there old k (omega (arith, l, inside)) in
           (pass k p.0 s more l p.1 es).still refl
     ];
+    moved = λ one. let x = turns.moved one in (x.0, x.1, (let l = x.2 in omega (arith, l, least)), x.3, x.4);
   }
 
   -- after all turns the parts stand for the states after the cycle
@@ -217,6 +233,22 @@ module _ {S P : Type 0} (m : Machine S) (laws : Laws m) (w : Wiring) (inputs : L
         let e : (part_step m w inputs ls t k f.0).0 ≡ u = ap (λ (r : S × Option ℕ). r.0) f.2 ∙ r.2 in
         subst (λ (x : S). Stands m (t + 1) (now q) (state q) x) e d.0;
   }
+
+-- what a step changed is what the part changed that stands for it
+module _ {S P : Type 0} (m : Machine S) (laws : Laws m) (w : Wiring) (inputs : List Input) (state : P → S) (now : P → ℕ) (ls : List Level) (t k : ℕ) (p q : P) (s : S)
+    (was : Stands m t (now p) (state p) s) (is : Stands m (t + 1) (now q) (state q) (part_step m w inputs ls t k s).0) where
+  pub step_still : (m.drives (state q) ≡ m.drives (state p)) × (m.contacts (state q) ≡ m.contacts (state p)) → SameShow m m (part_step m w inputs ls t k s).0 s
+  step_still same =
+      let a = stands_shows m laws t (now p) (state p) s was in
+      let b = stands_shows m laws (t + 1) (now q) (state q) (part_step m w inputs ls t k s).0 is in
+      record { drives = sym b.drives ∙ same.0 ∙ a.drives; contacts = sym b.contacts ∙ same.1 ∙ a.contacts }
+
+  pub still_step : m.drives (part_step m w inputs ls t k s).0 ≡ m.drives s → m.contacts (part_step m w inputs ls t k s).0 ≡ m.contacts s →
+      (m.drives (state q) ≡ m.drives (state p)) × (m.contacts (state q) ≡ m.contacts (state p))
+  still_step ds cs =
+      let a = stands_shows m laws t (now p) (state p) s was in
+      let b = stands_shows m laws (t + 1) (now q) (state q) (part_step m w inputs ls t k s).0 is in
+      (b.drives ∙ ds ∙ sym a.drives, b.contacts ∙ cs ∙ sym a.contacts)
 
 -- What a part drives and connects after its turn, beside what it did.
 module _ {S P : Type 0} (m : Machine S) (laws : Laws m) (state : P → S) (now wakes : P → ℕ) (t : ℕ) (p q : P) where

@@ -1,5 +1,5 @@
 -- Parts that lag behind their board, and their turn in a cycle.
-use Rattle.std.specs.Prelude.{◌≡◌, ℕ, ◌+◌, ◌-◌, ◌<◌, ◌≤◌, List, map, Bool, true, false, not, ◌||◌, ◌==◌, Option, None, Some, slice_get}
+use Rattle.std.specs.Prelude.{◌≡◌, ◌≢◌, ℕ, ◌+◌, ◌-◌, ◌<◌, ◌≤◌, List, map, Bool, true, false, not, ◌||◌, ◌==◌, Option, None, Some, slice_get}
 use Rattle.std.specs.Option.{is_some}
 use Rattle.sim_base.specs.declared.signal.Level.{Level}
 use Rattle.sim_base.specs.declared.wiring.Wiring.{Wiring}
@@ -70,9 +70,10 @@ pub record HadTurn {S P : Type 0} (m : Machine S) (w : Wiring) (inputs : List In
   pub byte_is : byte ≡ (part_step m w inputs ls t k s).1
   pub still : changed ≡ false → SameShow m m (part_step m w inputs ls t k s).0 s
 
--- the parts before number i had their turn, and one may show something else or none does
+-- the parts before number i had their turn, and one drives or connects something else or none does
 pub record Turns {S P : Type 0} (m : Machine S) (w : Wiring) (inputs : List Input) (state : P → S) (now wakes : P → ℕ) (ls : List Level) (t : ℕ) (ts : List S) (i : ℕ) (old new : List P) (answers : List (Option ℕ)) (changed : Bool) : Type 0 where
   pub done : (k : ℕ) (p q : P) (s : S) → k < i → slice_get old k ≡ Some p → slice_get new k ≡ Some q → slice_get ts k ≡ Some s →
       Stands m (t + 1) (now q) (state q) (part_step m w inputs ls t k s).0 × (wakes q ≡ wakes p + active_in m w inputs ls t k (Some s)) × (wakes q ≤ now q)
   pub answered : (k : ℕ) → k < i → slice_get answers k ≡ slice_get (map (λ r. r.1) (steps_from m w inputs ls t 0 ts)) k
   pub still : changed ≡ false → (k : ℕ) (s : S) → k < i → slice_get ts k ≡ Some s → SameShow m m (part_step m w inputs ls t k s).0 s
+  pub moved : changed ≡ true → (k : ℕ) × (s : S) × (k < i) × (slice_get ts k ≡ Some s) × (m.drives (part_step m w inputs ls t k s).0 ≡ m.drives s → m.contacts (part_step m w inputs ls t k s).0 ≢ m.contacts s)

@@ -16,7 +16,7 @@ use Rattle.board_run.specs.Lagging.{glided, MayTurn}
 pub record Kept : Type 0 where
   -- where the script goes on
   pub input : ℕ
-  -- whether a drive or a contact may have changed since the nets were resolved
+  -- whether a drive or a contact changed since the nets were resolved
   pub stale : Bool
   -- the first due cycle of each part
   pub dues : List (Option ℕ)
@@ -67,6 +67,7 @@ module _ {S P : Type 0} (m : Machine S) (state : P → S) (now wakes : P → ℕ
     pub first : IsFirstDue m (state q) (now q) d
     pub drives : changed ≡ false → m.drives (state q) ≡ m.drives (glided m state now wakes t p)
     pub contacts : changed ≡ false → m.contacts (state q) ≡ m.contacts (glided m state now wakes t p)
+    pub other : changed ≡ true → m.drives (state q) ≡ m.drives (glided m state now wakes t p) → m.contacts (state q) ≢ m.contacts (glided m state now wakes t p)
 
 -- up to this cycle no part but `who` is due and the script says nothing
 pub record IsAlone (inputs : List Input) (dues : List (Option ℕ)) (i who t limit : ℕ) : Type 0 where

@@ -1,5 +1,6 @@
 pub mod Parts
 pub mod BoardView
+pub mod Changes
 pub mod Seen
 pub mod Upcoming
 pub mod Lagging

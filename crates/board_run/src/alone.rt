@@ -51,7 +51,7 @@ fn go_alone<P: Part, L: Ledger>(
 }
 
 /// Part `who` goes on by itself, the nets are told what it drives and connects, and its byte is handed out: whether
-/// a drive or a contact may have changed, and where it stands. None where writing failed.
+/// a drive or a contact changed, and where it stands. None where writing failed.
 pub(crate) fn stretch<P: Part, W: Watcher, L: Ledger>(
     who: u8,
     parts: &mut [P],
@@ -91,9 +91,9 @@ pub(crate) fn stretch<P: Part, W: Watcher, L: Ledger>(
     let went = go_alone(&mut parts[i], &mut due, t, limit, steps);
     dues.set(who, due);
     let first = wiring.first_pin.as_slice()[i] as usize;
-    reading.tell(went.changed, parts, i, first, wiring);
+    let changed = reading.tell(went.changed, parts, i, first, wiring);
     match hand_byte(went.byte, out) {
-        WriteEnd::Ok => Some((went.changed, went.to)),
+        WriteEnd::Ok => Some((changed, went.to)),
         WriteEnd::Failed => None,
     }
 }

@@ -7,6 +7,7 @@ ghost use Rattle.board_model.specs.Board.{bytes, options};
 ghost use Rattle.board_model.specs.Rows.{rows};
 ghost use Rattle.board_model.specs.Fits.{Fits};
 ghost use Rattle.board_laws.specs.Active.{sum_below, active_in};
+ghost use Rattle.board_run.specs.Changes.{LastTells};
 ghost use Rattle.board_run.specs.Seen.{Suits, IsTold, levels_on, retold, shown_at};
 ghost use Rattle.board_run.specs.Parts.{has_part, AreNone};
 ghost use Rattle.board_run.specs.Upcoming.{AreBehind, IsInOrder};
@@ -100,6 +101,8 @@ pub(crate) fn event<P: Part, W: Watcher, L: Ledger>(
     ensures handed { (x : Next) → result ≡ Some x → Handed W.whole W.faults W.stands out.old out.new
         (rows P.machine wiring.now inputs.now (shown_at t reading.old) (map (glided P.machine P.state P.now P.wake_count t) parts.old) t (t + 1 - t))
         (bytes P.machine wiring.now inputs.now (map (glided P.machine P.state P.now P.wake_count t) parts.old) t (t + 1 - t)) }
+    ensures moved { (x : Next) → result ≡ Some x
+        → LastTells P.machine wiring.now inputs.now x.stale (map (glided P.machine P.state P.now P.wake_count t) parts.old) t (t + 1 - t) }
     ensures last { (x : Next) → result ≡ Some x → IsBehind W.last W.seen out.new (t + 1) reading.new.circuit.levels }
     ensures failed { result ≡ None → Rose (W.faults out.old) (W.faults out.new)
         × StopsWithin (W.stands out.old) (W.stopped out.new)

@@ -5,6 +5,7 @@ ghost use Rattle.sim_base.specs.Rows.{Handed, StopsWithin, IsBehind};
 ghost use Rattle.board_model.specs.Board.{bytes, input_at, states};
 ghost use Rattle.board_model.specs.Rows.{rows, shown_before};
 ghost use Rattle.board_laws.specs.Active.{active_cycles, active_pairs};
+ghost use Rattle.board_run.specs.Changes.{LastTells};
 ghost use Rattle.board_run.specs.Seen.{shown_at};
 ghost use Rattle.board_run.specs.Upcoming.{AreBehind, IsInOrder};
 ghost use Rattle.part_law.specs.Machine.{IsQuiet, IsFirstDue};
@@ -42,6 +43,7 @@ fn first_due(dues: &DueTree, t: u32, n: u32) -> u32
     ensures from { t ≤ result }
     ensures within { result ≤ n }
     ensures due { AreLate dues.now result }
+    ensures one { result < n → (k : ℕ) × (slice_get dues.now k ≡ Some (Some result)) }
 {
     let first = dues.first();
     at_most(first, n)
@@ -72,6 +74,7 @@ fn first_input(inputs: &[Input], input: usize, t: u32, n: u32) -> u32
     ensures within { result ≤ n }
     ensures silent { (v k : ℕ) → t ≤ v → v < result → input_at inputs.now v k ≡ None }
     ensures behind { AreBehind inputs.now input result }
+    ensures one { result < n → (k : ℕ) × (input_at inputs.now result k ≢ None) }
 {
     if input < inputs.len() && inputs[input].cycle < n {
         inputs[input].cycle
@@ -100,6 +103,7 @@ pub(crate) fn next_cycle(
     ensures due { AreLate dues.now result }
     ensures silent { (v k : ℕ) → t ≤ v → v < result → input_at inputs.now v k ≡ None }
     ensures behind { AreBehind inputs.now input result }
+    ensures event { stale ≡ false → result < n → ((k : ℕ) × (slice_get dues.now k ≡ Some (Some result))) ⊎ ((k : ℕ) × (input_at inputs.now result k ≢ None)) }
 {
     if stale {
         return t;
@@ -172,6 +176,8 @@ fn event_and_jump<P: Part, W: Watcher, L: Ledger>(
     ensures handed { (x : Next × ℕ) → result ≡ Some x → Handed W.whole W.faults W.stands out.old out.new
         (rows P.machine wiring.now inputs.now (shown_at t reading.old) (map (glided P.machine P.state P.now P.wake_count t) parts.old) t (x.1 - t))
         (bytes P.machine wiring.now inputs.now (map (glided P.machine P.state P.now P.wake_count t) parts.old) t (x.1 - t)) }
+    ensures moved { (x : Next × ℕ) → result ≡ Some x
+        → LastTells P.machine wiring.now inputs.now x.0.stale (map (glided P.machine P.state P.now P.wake_count t) parts.old) t (x.1 - t) }
     ensures last { (x : Next × ℕ) → result ≡ Some x → IsBehind W.last W.seen out.new x.1 reading.new.circuit.levels }
     ensures failed { result ≡ None → Rose (W.faults out.old) (W.faults out.new)
         × StopsWithin (W.stands out.old) (W.stopped out.new)
@@ -222,6 +228,8 @@ fn advance<P: Part, W: Watcher, L: Ledger>(
     ensures handed { (x : Next × ℕ) → result ≡ Some x → Handed W.whole W.faults W.stands out.old out.new
         (rows P.machine wiring.now inputs.now (shown_at t reading.old) (map (glided P.machine P.state P.now P.wake_count t) parts.old) t (x.1 - t))
         (bytes P.machine wiring.now inputs.now (map (glided P.machine P.state P.now P.wake_count t) parts.old) t (x.1 - t)) }
+    ensures moved { (x : Next × ℕ) → result ≡ Some x
+        → LastTells P.machine wiring.now inputs.now x.0.stale (map (glided P.machine P.state P.now P.wake_count t) parts.old) t (x.1 - t) }
     ensures last { (x : Next × ℕ) → result ≡ Some x → IsBehind W.last W.seen out.new x.1 reading.new.circuit.levels }
     ensures failed { result ≡ None → Rose (W.faults out.old) (W.faults out.new)
         × StopsWithin (W.stands out.old) (W.stopped out.new)
@@ -278,6 +286,8 @@ fn run_legs<P: Part, W: Watcher, L: Ledger>(
     ensures handed { (x : Next) → result ≡ Some x → Handed W.whole W.faults W.stands out.old out.new
         (rows P.machine wiring.now inputs.now (shown_at from reading.old) (map (glided P.machine P.state P.now P.wake_count from) parts.old) from (n - from))
         (bytes P.machine wiring.now inputs.now (map (glided P.machine P.state P.now P.wake_count from) parts.old) from (n - from)) }
+    ensures moved { (x : Next) → result ≡ Some x
+        → LastTells P.machine wiring.now inputs.now x.stale (map (glided P.machine P.state P.now P.wake_count from) parts.old) from (n - from) }
     ensures last { (x : Next) → result ≡ Some x → IsBehind W.last W.seen out.new n reading.new.circuit.levels }
     ensures failed { result ≡ None → Rose (W.faults out.old) (W.faults out.new)
         × StopsWithin (W.stands out.old) (W.stopped out.new)
@@ -370,6 +380,7 @@ pub(crate) fn run_jumping<P: Part, W: Watcher, L: Ledger>(
     ensures handed { (x : Next) → result ≡ Some x → Handed W.whole W.faults W.stands out.old out.new
         (rows P.machine wiring.now inputs.now (shown_at from reading.old) (map P.state parts.old) from (n - from))
         (bytes P.machine wiring.now inputs.now (map P.state parts.old) from (n - from)) }
+    ensures moved { (x : Next) → result ≡ Some x → LastTells P.machine wiring.now inputs.now x.stale (map P.state parts.old) from (n - from) }
     ensures last { (x : Next) → result ≡ Some x → IsBehind W.last W.seen out.new n reading.new.circuit.levels }
     ensures failed { result ≡ None → Rose (W.faults out.old) (W.faults out.new)
         × StopsWithin (W.stands out.old) (W.stopped out.new)

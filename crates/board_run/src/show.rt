@@ -12,8 +12,8 @@ use crate::reading::Reading;
 use part_law::Part;
 use sim_base::{Watcher, Wiring, WriteEnd};
 
-/// Where a board goes on: at which script value, and whether a drive or a contact may have changed
-/// since the nets were resolved.
+/// Where a board goes on: at which script value, and whether a drive or a contact changed since the
+/// nets were resolved.
 #[derive(Clone, Copy, Debug, PartialEq, Eq, Drop)]
 pub(crate) struct Next {
     pub(crate) input: usize,

@@ -4,6 +4,7 @@ ghost use Rattle.board_model.specs.Board.{states};
 ghost use Rattle.board_model.specs.Rows.{shown_before};
 ghost use Rattle.board_laws.specs.Active.{active_cycles, active_pairs};
 ghost use Rattle.board_laws.specs.Steady.{IsSteady};
+ghost use Rattle.board_run.specs.Changes.{LastTells};
 ghost use Rattle.board_run.specs.Seen.{shown_at};
 ghost use Rattle.board_run.specs.Upcoming.{AreBehind, IsInOrder};
 ghost use Rattle.board_run.specs.Lagging.{glided};
@@ -20,7 +21,7 @@ use sim_base::{Input, MOST_CYCLES, Steps, Wiring};
 use std::sync::ledger::Ledger;
 
 /// Goes on from cycle t, not after n, by one stretch in which nothing new is shown: of one part by itself, or of no part. It
-/// stays at t where a drive or a contact may have changed, where the script has a value and where parts are due together.
+/// stays at t where a drive or a contact changed, where the script has a value and where parts are due together.
 fn rest<P: Part, L: Ledger>(
     next: Next,
     parts: &mut [P],
@@ -46,6 +47,8 @@ fn rest<P: Part, L: Ledger>(
     ensures behind { AreBehind inputs.now result.0.input result.1 }
     ensures leg { Leg P.machine wiring.now P.state P.now P.wake_count inputs.now t result.1 parts.old parts.new reading.old reading.new steps.old steps.new }
     ensures steady { t < result.1 → IsSteady P.machine wiring.now inputs.now (map (glided P.machine P.state P.now P.wake_count t) parts.old) t (result.1 - t) }
+    ensures moved { t < result.1 → LastTells P.machine wiring.now inputs.now result.0.stale (map (glided P.machine P.state P.now P.wake_count t) parts.old) t (result.1 - t) }
+    ensures stays { result.1 ≡ t → result.0.stale ≡ next.stale }
 {
     let mut out = Unwatched::new();
     match find_alone(next, dues, inputs, t, n) {
@@ -100,6 +103,8 @@ pub(crate) fn stay<P: Part, L: Ledger>(
         → P.wake_count q ≡ P.wake_count p + active_cycles P.machine wiring.now inputs.now (map P.state parts.old) t (result.1 - t) k }
     ensures steps { steps.new ≡ steps.old + active_pairs P.machine wiring.now inputs.now (map P.state parts.old) t (result.1 - t) }
     ensures steady { t < result.1 → IsSteady P.machine wiring.now inputs.now (map P.state parts.old) t (result.1 - t) }
+    ensures moved { t < result.1 → LastTells P.machine wiring.now inputs.now result.0.stale (map P.state parts.old) t (result.1 - t) }
+    ensures stays { result.1 ≡ t → result.0.stale ≡ next.stale }
 {
     let after = rest(
         next, parts, dues, wiring, inputs, t, n, reading, answers, steps,

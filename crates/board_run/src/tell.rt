@@ -1,43 +1,75 @@
 //! The nets are told what parts drive and connect.
-ghost use Rattle.std.specs.Prelude.{◌≡◌, ℕ, ◌+◌, ◌^◌, ◌<◌, ◌≤◌, length, map, take, true, false, Some, slice_get};
+ghost use Rattle.std.specs.Prelude.{◌≡◌, ◌≢◌, ℕ, ◌+◌, ◌^◌, ◌<◌, ◌≤◌, length, map, take, true, false, Some, slice_get};
 ghost use Rattle.part_law.specs.Spans.{IsIn};
 ghost use Rattle.board_model.specs.Board.{drives_of, contacts_of};
 ghost use Rattle.board_run.specs.Seen.{HasAt, Put};
 
+use crate::gather::is_same_drive;
 use net_resolve::Nets;
 use part_law::{Part, Span};
+use sim_base::Drive;
 
-/// Sets what the pins of a span drive; the part's pins begin at a place.
-fn set_pins<P: Part>(part: &P, span: Span, at: usize, nets: &mut Nets)
+/// Whether a pin drives something else than the nets were told.
+#[inline]
+fn drives_other(nets: &Nets, pin: usize, drive: Drive) -> bool
+    requires within { pin < length nets.now.net_of }
+    ensures same { result ≡ false → slice_get nets.now.drives pin ≡ Some drive }
+    ensures other { result ≡ true → slice_get nets.now.drives pin ≢ Some drive }
+{
+    !is_same_drive(nets.drives()[pin], drive)
+}
+
+/// Whether a contact is closed where the nets were told that it is open, or the other way.
+#[inline]
+fn joins_other(nets: &Nets, contact: usize, closed: bool) -> bool
+    requires within { contact < length nets.now.contacts }
+    ensures same { result ≡ false → slice_get nets.now.closed contact ≡ Some closed }
+    ensures other { result ≡ true → slice_get nets.now.closed contact ≢ Some closed }
+{
+    nets.closed()[contact] != closed
+}
+
+/// Sets what the pins of a span drive, and tells whether one drives something else; the part's pins begin at a place.
+fn set_pins<P: Part>(part: &P, span: Span, at: usize, nets: &mut Nets) -> bool
     requires room { at + length (P.machine.drives (P.state part.now)) ≤ length nets.old.net_of }
     requires few { length nets.old.net_of < 2 ^ 63 }
     requires long { length nets.old.drives ≡ length nets.old.net_of }
     requires others { (j : ℕ) → j < length (P.machine.drives (P.state part.now)) → j < 255 → ¬ IsIn span j
         → slice_get nets.old.drives (at + j) ≡ slice_get (P.machine.drives (P.state part.now)) j }
     ensures put { Put at (length (P.machine.drives (P.state part.now))) (P.machine.drives (P.state part.now)) nets.old.drives nets.new.drives }
+    ensures same { result ≡ false → HasAt at (P.machine.drives (P.state part.now)) nets.old.drives }
+    ensures other { result ≡ true → HasAt at (P.machine.drives (P.state part.now)) nets.old.drives → ⊥ }
     ensures rest { nets.new ≡ record nets.old { drives = nets.new.drives } }
 {
     let to = span.to.min(part.pins());
     let from = span.from.min(to);
+    let mut changed = false;
     for pin in from..to {
         let drive = part.drive(pin);
+        changed = changed | drives_other(nets, at + pin as usize, drive);
         nets.set_drive(at + pin as usize, drive);
     }
+    changed
 }
 
-/// Sets which of a part's contacts are closed, from a place on.
-fn set_ports<P: Part>(part: &P, at: usize, nets: &mut Nets)
+/// Sets which of a part's contacts are closed, from a place on, and tells whether one changed.
+fn set_ports<P: Part>(part: &P, at: usize, nets: &mut Nets) -> bool
     requires room { at + length (P.machine.contacts (P.state part.now)) ≤ length nets.old.contacts }
     requires few { length nets.old.contacts < 2 ^ 63 }
     requires long { length nets.old.closed ≡ length nets.old.contacts }
     ensures put { Put at (length (P.machine.contacts (P.state part.now))) (P.machine.contacts (P.state part.now)) nets.old.closed nets.new.closed }
+    ensures same { result ≡ false → HasAt at (P.machine.contacts (P.state part.now)) nets.old.closed }
+    ensures other { result ≡ true → HasAt at (P.machine.contacts (P.state part.now)) nets.old.closed → ⊥ }
     ensures rest { nets.new ≡ record nets.old { closed = nets.new.closed } }
 {
     let contacts = part.contacts();
+    let mut changed = false;
     for i in 0..contacts {
         let closed = part.contact(i);
+        changed = changed | joins_other(nets, at + i as usize, closed);
         nets.set_contact(at + i as usize, closed);
     }
+    changed
 }
 
 /// Sets all that a part drives and connects.
@@ -91,26 +123,39 @@ fn first_contact<P: Part>(parts: &[P], i: usize) -> usize
     at
 }
 
-/// Tells which contacts of part `i` are closed, where it has any.
+/// Tells which contacts of part `i` are closed, where it has any, and answers whether one changed.
 #[inline]
-fn tell_contacts<P: Part>(parts: &[P], i: usize, nets: &mut Nets)
+fn tell_contacts<P: Part>(parts: &[P], i: usize, nets: &mut Nets) -> bool
     requires within { i < length parts.now }
     requires contacts { length nets.old.contacts ≡ length (contacts_of P.machine (map P.state parts.now)) }
     requires few { length nets.old.contacts < 2 ^ 63 }
     requires long { length nets.old.closed ≡ length nets.old.contacts }
     ensures put { (p : _) → slice_get parts.now i ≡ Some p → Put (length (contacts_of P.machine (take i (map P.state parts.now))))
         (length (P.machine.contacts (P.state p))) (P.machine.contacts (P.state p)) nets.old.closed nets.new.closed }
+    ensures same { (p : _) → slice_get parts.now i ≡ Some p → result ≡ false
+        → HasAt (length (contacts_of P.machine (take i (map P.state parts.now)))) (P.machine.contacts (P.state p)) nets.old.closed }
+    ensures other { (p : _) → slice_get parts.now i ≡ Some p → result ≡ true
+        → HasAt (length (contacts_of P.machine (take i (map P.state parts.now)))) (P.machine.contacts (P.state p)) nets.old.closed → ⊥ }
     ensures rest { nets.new ≡ record nets.old { closed = nets.new.closed } }
 {
     if parts[i].contacts() != 0 {
         let contact = first_contact(parts, i);
-        set_ports(&parts[i], contact, nets);
+        set_ports(&parts[i], contact, nets)
+    } else {
+        false
     }
 }
 
-/// Tells what part `i` drives and connects, whose pins begin at a place, where its last wake may have changed it.
+/// Tells what part `i` drives and connects, whose pins begin at a place, where its last wake may have changed it, and
+/// answers whether it did.
 #[inline]
-pub(crate) fn tell<P: Part>(moved: bool, parts: &[P], i: usize, first: usize, nets: &mut Nets)
+pub(crate) fn tell<P: Part>(
+    moved: bool,
+    parts: &[P],
+    i: usize,
+    first: usize,
+    nets: &mut Nets,
+) -> bool
     requires within { i < length parts.now }
     requires first { first ≡ length (drives_of P.machine (take i (map P.state parts.now))) }
     requires pins { length nets.old.net_of ≡ length (drives_of P.machine (map P.state parts.now)) }
@@ -125,11 +170,18 @@ pub(crate) fn tell<P: Part>(moved: bool, parts: &[P], i: usize, first: usize, ne
     ensures drives { (p : _) → slice_get parts.now i ≡ Some p → Put first (length (P.machine.drives (P.state p))) (P.machine.drives (P.state p)) nets.old.drives nets.new.drives }
     ensures closed { (p : _) → slice_get parts.now i ≡ Some p → Put (length (contacts_of P.machine (take i (map P.state parts.now))))
         (length (P.machine.contacts (P.state p))) (P.machine.contacts (P.state p)) nets.old.closed nets.new.closed }
+    ensures same { (p : _) → slice_get parts.now i ≡ Some p → result ≡ false → HasAt first (P.machine.drives (P.state p)) nets.old.drives
+        × HasAt (length (contacts_of P.machine (take i (map P.state parts.now)))) (P.machine.contacts (P.state p)) nets.old.closed }
+    ensures other { (p : _) → slice_get parts.now i ≡ Some p → result ≡ true → HasAt first (P.machine.drives (P.state p)) nets.old.drives
+        → HasAt (length (contacts_of P.machine (take i (map P.state parts.now)))) (P.machine.contacts (P.state p)) nets.old.closed → ⊥ }
     ensures rest { nets.new ≡ record nets.old { drives = nets.new.drives; closed = nets.new.closed } }
 {
     if moved {
         let span = parts[i].moved();
-        set_pins(&parts[i], span, first, nets);
-        tell_contacts(parts, i, nets);
+        let pins = set_pins(&parts[i], span, first, nets);
+        let contacts = tell_contacts(parts, i, nets);
+        pins | contacts
+    } else {
+        false
     }
 }

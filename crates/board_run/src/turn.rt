@@ -18,7 +18,7 @@ use part_law::Part;
 use sim_base::{Input, Level, MOST_CYCLES, Steps, Wiring};
 use std::sync::ledger::Ledger;
 
-/// Whether a drive or a contact may have changed where parts were woken, and whether one sent a byte.
+/// Whether a drive or a contact changed where parts were woken, and whether one sent a byte.
 #[derive(Clone, Copy, Debug, PartialEq, Eq)]
 pub(crate) struct Woken {
     pub(crate) changed: bool,
@@ -236,8 +236,8 @@ pub(crate) fn wake_active<P: Part, L: Ledger>(
         );
         dues.set(i as u8, due);
         answers[i] = byte;
-        tell(touched, parts, i, first, nets);
-        changed = changed | touched;
+        let moved = tell(touched, parts, i, first, nets);
+        changed = changed | moved;
         sent = sent | byte.is_some();
         i = next_part(marked, dues, t, i + 1, count);
     }

@@ -1,5 +1,5 @@
 -- What the run of a pair finds.
-use Rattle.std.specs.Prelude.{◌≡◌, ℕ, List, [], map, false, Option, None, Some}
+use Rattle.std.specs.Prelude.{◌≡◌, ℕ, List, [], map, false, Option, None, Some, true}
 use Rattle.sim_base.specs.declared.wiring.Wiring.{Wiring}
 use Rattle.board_laws.specs.FirstDiff.{Difference}
 use Rattle.twin_run.specs.declared.twin.TwinEnd.{TwinEnd}
@@ -27,7 +27,7 @@ beside budget pair = record { flash = pair.one.flash; chips = pair.other.chips; 
 -- a board at cycle 0 without a script, beside chips
 abbrev pub twin_view : {P : Type 0} → List P → List P → Wiring → TwinView P
 twin_view parts chips wiring = record {
-  board = record { parts = parts; wiring = wiring; inputs = []; cycle = 0; given_up = false; before = None };
+  board = record { parts = parts; wiring = wiring; inputs = []; cycle = 0; given_up = false; before = None; changed = true };
   chips = chips;
 }
 

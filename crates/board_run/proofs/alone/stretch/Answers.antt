@@ -9,7 +9,7 @@ use Rattle.board_model.proofs.Lists.{some_same, get_within, get_set_same}
 use Rattle.board_run.specs.Seen.{HasAt}
 use Rattle.board_run.proofs.TurnLemmas.{fits_set, turned_others}
 use Rattle.board_run.proofs.AloneLemmas.{went_room}
-use Rattle.board_run.proofs.ReadLemmas.{told_more, still_told, others_told}
+use Rattle.board_run.proofs.ReadLemmas.{told_more, still_told, told_still, others_told}
 use Rattle.board_run.specs.Lagging.{glided}
 use Rattle.board_run.specs.Legs.{WentAlone}
 use Rattle.board_run.proofs.HandLemmas.{one_byte, stops_whole}
@@ -22,14 +22,30 @@ pub go_alone-went-requires-clause-valid : goal.go_alone-went-requires-clause-val
 go_alone-went-requires-clause-valid g c = c.requires.valid c.args.who _ (get_within c.args.parts.now c.args.who c.index-parts-i.result c.requires.who)
 
 pub returns-in-Ok-clause-went : goal.returns-in-Ok-clause-went
-returns-in-Ok-clause-went g c = λ y ey.
+returns-in-Ok-clause-went g c = λ out out_is.
     let p = g.P.Part in
     let o = g.W.Watcher in
     let t = c.args.t in
     let w = c.go_alone-went in
     let x = get_or c.args.parts.now c.args.who c.index-parts-i.result in
+    let m = p.machine in
+    let who = c.args.who in
+    let parts = c.args.parts.now in
+    let y = w.new.part in
+    let here = get_within parts who c.index-parts-i.result c.requires.who in
+    let may = c.requires.may who x _ here c.due-due.ensures in
+    let v = c.requires.valid who x here in
+    let room = went_room m g.met.P.Part.laws p.state p.now p.wake_count t x y (w.result.to - t) w.ensures.state in
+    let new_is : slice_get (slice_set parts who y) who ≡ Some y = get_set_same parts who y c.requires.who in
+    let long : length (map p.state parts) ≡ length parts = simp length-map refl in
+    let place = ap (λ (l : List ℕ). get_or l who 0) c.as_slice.ensures ∙ c.requires.fits.places who (omega (arith, long, c.requires.who)) in
+    let ds_was = glide_drives m g.met.P.Part.laws (p.state x) (p.now x) (t - p.now x) v may.quiet in
+    let cs_was = glide_contacts m g.met.P.Part.laws (p.state x) (p.now x) (t - p.now x) v may.quiet in
+    let still = λ (none : c.tell-changed.result ≡ false).
+    let at = c.tell-changed.ensures.same y new_is none in
+    told_still m p.state parts who x y c.args.reading.now.circuit c.args.reading.now.circuit here c.requires.told room.0 room.1 _ place at.0 at.1 in
     let s = glided p.machine p.state p.now p.wake_count t x in
-    let alone : WentAlone p.machine p.state p.now p.wake_count c.args.who t w.result.to c.args.parts.now (slice_set c.args.parts.now c.args.who w.new.part) c.args.dues.now c.set.new.self w.result.changed c.args.steps.now w.new.steps x w.new.part w.new.due = record {
+    let alone : WentAlone p.machine p.state p.now p.wake_count c.args.who t w.result.to c.args.parts.now (slice_set c.args.parts.now c.args.who w.new.part) c.args.dues.now c.set.new.self c.tell-changed.result c.args.steps.now w.new.steps x w.new.part w.new.due = record {
       here = get_within c.args.parts.now c.args.who c.index-parts-i.result c.requires.who;
       new_is = refl;
       dues_are = c.set.ensures;
@@ -40,11 +56,14 @@ returns-in-Ok-clause-went g c = λ y ey.
       steps_are = w.ensures.steps;
       same = w.ensures.same;
       first = w.ensures.first;
-      drives = w.ensures.drives;
-      contacts = w.ensures.contacts;
+      drives = λ none. (still none).0 ∙ sym ds_was;
+      contacts = λ none. (still none).1 ∙ sym cs_was;
+      other = λ one ds cs.
+          let told = still_told m p.state parts who x y c.args.reading.now.circuit c.args.reading.now.circuit here c.requires.told room.0 room.1 _ place (ds ∙ ds_was) (cs ∙ cs_was) in
+          c.tell-changed.ensures.other y new_is one told.0 told.1;
     } in
     let bytes = one_byte w.result.byte ∙ sym w.ensures.sent in
-    let at : (w.result.changed, w.result.to) ≡ y = some_same ey in (
+    let at : (c.tell-changed.result, w.result.to) ≡ out = some_same out_is in (
       x,
       w.new.part,
       w.new.due,
@@ -60,7 +79,23 @@ returns-in-Failed-clause-failed g c = λ none.
     let t = c.args.t in
     let w = c.go_alone-went in
     let x = get_or c.args.parts.now c.args.who c.index-parts-i.result in
-    let alone : WentAlone p.machine p.state p.now p.wake_count c.args.who t w.result.to c.args.parts.now (slice_set c.args.parts.now c.args.who w.new.part) c.args.dues.now c.set.new.self w.result.changed c.args.steps.now w.new.steps x w.new.part w.new.due = record {
+    let m = p.machine in
+    let who = c.args.who in
+    let parts = c.args.parts.now in
+    let y = w.new.part in
+    let here = get_within parts who c.index-parts-i.result c.requires.who in
+    let may = c.requires.may who x _ here c.due-due.ensures in
+    let v = c.requires.valid who x here in
+    let room = went_room m g.met.P.Part.laws p.state p.now p.wake_count t x y (w.result.to - t) w.ensures.state in
+    let new_is : slice_get (slice_set parts who y) who ≡ Some y = get_set_same parts who y c.requires.who in
+    let long : length (map p.state parts) ≡ length parts = simp length-map refl in
+    let place = ap (λ (l : List ℕ). get_or l who 0) c.as_slice.ensures ∙ c.requires.fits.places who (omega (arith, long, c.requires.who)) in
+    let ds_was = glide_drives m g.met.P.Part.laws (p.state x) (p.now x) (t - p.now x) v may.quiet in
+    let cs_was = glide_contacts m g.met.P.Part.laws (p.state x) (p.now x) (t - p.now x) v may.quiet in
+    let still = λ (none : c.tell-changed.result ≡ false).
+    let at = c.tell-changed.ensures.same y new_is none in
+    told_still m p.state parts who x y c.args.reading.now.circuit c.args.reading.now.circuit here c.requires.told room.0 room.1 _ place at.0 at.1 in
+    let alone : WentAlone p.machine p.state p.now p.wake_count c.args.who t w.result.to c.args.parts.now (slice_set c.args.parts.now c.args.who w.new.part) c.args.dues.now c.set.new.self c.tell-changed.result c.args.steps.now w.new.steps x w.new.part w.new.due = record {
       here = get_within c.args.parts.now c.args.who c.index-parts-i.result c.requires.who;
       new_is = refl;
       dues_are = c.set.ensures;
@@ -71,15 +106,18 @@ returns-in-Failed-clause-failed g c = λ none.
       steps_are = w.ensures.steps;
       same = w.ensures.same;
       first = w.ensures.first;
-      drives = w.ensures.drives;
-      contacts = w.ensures.contacts;
+      drives = λ none. (still none).0 ∙ sym ds_was;
+      contacts = λ none. (still none).1 ∙ sym cs_was;
+      other = λ one ds cs.
+          let told = still_told m p.state parts who x y c.args.reading.now.circuit c.args.reading.now.circuit here c.requires.told room.0 room.1 _ place (ds ∙ ds_was) (cs ∙ cs_was) in
+          c.tell-changed.ensures.other y new_is one told.0 told.1;
     } in
     let bytes = one_byte w.result.byte ∙ sym w.ensures.sent in
     let f = c.in-Failed.ensures.failed refl in (
       f.0,
       w.result.to,
       w.ensures.within,
-      w.result.changed,
+      c.tell-changed.result,
       x,
       w.new.part,
       w.new.due,
@@ -87,8 +125,8 @@ returns-in-Failed-clause-failed g c = λ none.
       subst (λ (bs : List ℕ). StopsWithin (o.stands c.args.out.now) (o.stopped c.hand_byte.new.out) [] bs) bytes (stops_whole (o.stands c.args.out.now) (o.stopped c.hand_byte.new.out) [] _ f.1),
     )
 
-pub tell-requires-clause-within : goal.tell-requires-clause-within
-tell-requires-clause-within g c =
+pub tell-changed-requires-clause-within : goal.tell-changed-requires-clause-within
+tell-changed-requires-clause-within g c =
     let p = g.P.Part in
     let m = p.machine in
     let w = c.go_alone-went in
@@ -108,8 +146,8 @@ tell-requires-clause-within g c =
     let place = ap (λ (l : List ℕ). get_or l who 0) c.as_slice.ensures ∙ c.requires.fits.places who (omega (arith, long, c.requires.who)) in
     omega (arith, length-set parts who y, c.requires.who)
 
-pub tell-requires-clause-fits : goal.tell-requires-clause-fits
-tell-requires-clause-fits g c =
+pub tell-changed-requires-clause-fits : goal.tell-changed-requires-clause-fits
+tell-changed-requires-clause-fits g c =
     let p = g.P.Part in
     let m = p.machine in
     let w = c.go_alone-went in
@@ -129,8 +167,8 @@ tell-requires-clause-fits g c =
     let place = ap (λ (l : List ℕ). get_or l who 0) c.as_slice.ensures ∙ c.requires.fits.places who (omega (arith, long, c.requires.who)) in
     fits_new
 
-pub tell-requires-clause-first : goal.tell-requires-clause-first
-tell-requires-clause-first g c =
+pub tell-changed-requires-clause-first : goal.tell-changed-requires-clause-first
+tell-changed-requires-clause-first g c =
     let p = g.P.Part in
     let m = p.machine in
     let w = c.go_alone-went in
@@ -150,8 +188,8 @@ tell-requires-clause-first g c =
     let place = ap (λ (l : List ℕ). get_or l who 0) c.as_slice.ensures ∙ c.requires.fits.places who (omega (arith, long, c.requires.who)) in
     ap (λ (l : List ℕ). get_or l who 0) c.as_slice.ensures ∙ fits_new.places who (omega (arith, long_new, c.requires.who))
 
-pub tell-requires-clause-still : goal.tell-requires-clause-still
-tell-requires-clause-still g c =
+pub tell-changed-requires-clause-still : goal.tell-changed-requires-clause-still
+tell-changed-requires-clause-still g c =
     let p = g.P.Part in
     let m = p.machine in
     let w = c.go_alone-went in
@@ -178,8 +216,8 @@ tell-requires-clause-still g c =
       subst (λ (u : g.row.P.Denot). HasAt (length (contacts_of m (take who (map p.state (slice_set parts who y))))) (m.contacts (p.state u)) c.args.reading.now.circuit.closed) z_is told.1,
     )
 
-pub tell-requires-clause-others : goal.tell-requires-clause-others
-tell-requires-clause-others g c =
+pub tell-changed-requires-clause-others : goal.tell-changed-requires-clause-others
+tell-changed-requires-clause-others g c =
     let p = g.P.Part in
     let m = p.machine in
     let w = c.go_alone-went in
@@ -222,7 +260,7 @@ returns-in-Ok-clause-told g c =
     let long : length (map p.state parts) ≡ length parts = simp length-map refl in
     let long_new : length (map p.state (slice_set parts who y)) ≡ length parts = simp length-map (length-set parts who y) in
     let place = ap (λ (l : List ℕ). get_or l who 0) c.as_slice.ensures ∙ c.requires.fits.places who (omega (arith, long, c.requires.who)) in
-    told_more m p.state parts who x y c.args.reading.now.circuit c.tell.new.self.circuit here c.requires.told room.0 room.1 _ place (c.tell.ensures.drives y new_is) (c.tell.ensures.closed y new_is)
+    told_more m p.state parts who x y c.args.reading.now.circuit c.tell-changed.new.self.circuit here c.requires.told room.0 room.1 _ place (c.tell-changed.ensures.drives y new_is) (c.tell-changed.ensures.closed y new_is)
 
 pub returns-in-Failed-clause-told : goal.returns-in-Failed-clause-told
 returns-in-Failed-clause-told g c =
@@ -243,4 +281,4 @@ returns-in-Failed-clause-told g c =
     let long : length (map p.state parts) ≡ length parts = simp length-map refl in
     let long_new : length (map p.state (slice_set parts who y)) ≡ length parts = simp length-map (length-set parts who y) in
     let place = ap (λ (l : List ℕ). get_or l who 0) c.as_slice.ensures ∙ c.requires.fits.places who (omega (arith, long, c.requires.who)) in
-    told_more m p.state parts who x y c.args.reading.now.circuit c.tell.new.self.circuit here c.requires.told room.0 room.1 _ place (c.tell.ensures.drives y new_is) (c.tell.ensures.closed y new_is)
+    told_more m p.state parts who x y c.args.reading.now.circuit c.tell-changed.new.self.circuit here c.requires.told room.0 room.1 _ place (c.tell-changed.ensures.drives y new_is) (c.tell-changed.ensures.closed y new_is)

@@ -1,11 +1,12 @@
-use Rattle.std.proofs.Common.{◌+◌, ◌∙◌, sym, refl, subst, map}
+use Rattle.std.proofs.Common.{◌+◌, ◌-◌, ◌∙◌, sym, refl, subst, map}
 use Rattle.board_model.proofs.Lists.{some_same}
 use Rattle.board_run.specs.Lagging.{glided}
+use Rattle.board_run.specs.Changes.{LastTells}
 use Rattle.board_run.specs.Seen.{Seen}
 use Rattle.board_run.specs.Legs.{Kept, Lags, Leg}
 use Rattle.board_run.specs.declared.show.Next.{Next}
 use Rattle.board_run.proofs.HandLemmas.{handed_both, stopped_first, stopped_second}
-use Rattle.board_run.proofs.LagLemmas.{lags_stand, lags_await, lags_differ, event_lags, event_leg, event_rows, event_bytes}
+use Rattle.board_run.proofs.LagLemmas.{lags_stand, lags_await, lags_differ, event_lags, event_leg, event_tells, event_rows, event_bytes}
 use Rattle.board_run.proofs.engine.event.Goals as goal
 
 pub turn_read-woken-requires-clause-differ : goal.turn_read-woken-requires-clause-differ
@@ -99,6 +100,26 @@ returns-in-Failed-clause-leg g c =
     let answers_long = e.auto.answers ∙ c.requires.lags.answers_long in
     subst (λ (z : Seen). Leg m w p.state p.now p.wake_count inputs t (t + 1) old e.new.parts c.args.reading.now z c.args.steps.now e.new.steps) (sym e.ensures.rest)
     (event_leg m laws w p.state p.now p.wake_count inputs t old e.new.parts seen e.new.answers e.result.changed e.auto.parts s.of s.suits like turns c.args.reading.now e.new.reading.circuit.drives e.new.reading.circuit.closed c.args.steps.now e.new.steps (e.ensures.steps inputs (map (glided m p.state p.now p.wake_count t) old) awaits))
+
+pub returns-in-Ok-hand_sent-clause-moved : goal.returns-in-Ok-hand_sent-clause-moved
+returns-in-Ok-hand_sent-clause-moved g c = λ x ex.
+    let p = g.P.Part in
+    let m = p.machine in
+    let laws = g.met.P.Part.laws in
+    let w = c.args.wiring.now in
+    let inputs = c.args.inputs.now in
+    let t = c.args.t in
+    let old = c.args.parts.now in
+    let e = c.turn_read-woken in
+    let seen = c.show_cycle-shown.new.reading in
+    let s = c.show_cycle-shown.ensures in
+    let kept : Kept = record { input = c.args.next.input; stale = c.args.next.stale; dues = c.args.dues.now; seen = c.args.reading.now; answers = c.args.answers.now } in
+    let like = lags_stand m laws w p.state p.now p.wake_count t old kept c.requires.lags in
+    let awaits = lags_await m laws w p.state p.now p.wake_count inputs t c.args.next.input c.end_of_cycle-end.result old kept seen c.show_cycle-shown.result.1 c.requires.lags s.differ
+    c.end_of_cycle-end.ensures.from c.requires.behind c.end_of_cycle-end.ensures.behind in
+    let turns = e.ensures.turns inputs (map (glided m p.state p.now p.wake_count t) old) awaits in
+    subst (λ (n : Next). LastTells m w inputs n.stale (map (glided m p.state p.now p.wake_count t) old) t (t + 1 - t)) (some_same ex)
+    (event_tells m laws w p.state p.now p.wake_count inputs t old e.new.parts seen e.new.answers e.result.changed e.auto.parts s.of s.suits like turns)
 
 pub returns-in-Ok-hand_sent-clause-handed : goal.returns-in-Ok-hand_sent-clause-handed
 returns-in-Ok-hand_sent-clause-handed g c = λ x ex.

@@ -7,6 +7,7 @@ use Rattle.part_law.specs.Machine.{sent}
 use Rattle.board_model.specs.Board.{bytes}
 use Rattle.board_model.specs.Rows.{rows}
 use Rattle.board_model.proofs.Lists.{some_same}
+use Rattle.board_run.specs.Changes.{LastTells}
 use Rattle.board_run.specs.Seen.{Seen, IsTold, retold, shown_at}
 use Rattle.board_run.specs.Lagging.{glided}
 use Rattle.board_run.specs.Legs.{Kept, Lags, Leg, IsAlone}
@@ -196,6 +197,36 @@ returns-in-Some-stretch-clause-leg g c = λ y ey.
     let goes = alone_goes m g.met.P.Part.laws w p.state p.now p.wake_count c.args.inputs.now t u limit old new.parts kept new.dues changed c.args.steps.now new.steps who went.0 went.1 went.2 new.reading.circuit.drives new.reading.circuit.closed told lags fresh later within end alone went.3 in
     subst (λ (z : Next × ℕ). Leg m w p.state p.now p.wake_count c.args.inputs.now t z.1 old new.parts c.args.reading.now new.reading c.args.steps.now new.steps) (some_same ey)
     (subst (λ (v : Seen). Leg m w p.state p.now p.wake_count c.args.inputs.now t u old new.parts c.args.reading.now v c.args.steps.now new.steps) (sym c.stretch.ensures.rest) goes.leg)
+
+pub returns-in-Some-stretch-clause-moved : goal.returns-in-Some-stretch-clause-moved
+returns-in-Some-stretch-clause-moved g c = λ y ey.
+    let p = g.P.Part in
+    let m = p.machine in
+    let w = c.args.wiring.now in
+    let t = c.args.t in
+    let old = c.args.parts.now in
+    let who = c.in-Some.who in
+    let limit = c.in-Some.limit in
+    let found = c.in-Some.ensures in
+    let same = c.find_alone.ensures.same in
+    let kept : Kept = record { input = c.args.next.input; stale = c.args.next.stale; dues = c.find_alone.new.dues; seen = c.args.reading.now; answers = c.args.answers.now } in
+    let lags : Lags m w p.state p.now p.wake_count t old kept = subst (λ (ds : List (Option ℕ)). Lags m w p.state p.now p.wake_count t old (record { input = c.args.next.input; stale = c.args.next.stale; dues = ds; seen = c.args.reading.now; answers = c.args.answers.now })) (sym same) c.requires.lags in
+    let alone : IsAlone c.args.inputs.now c.find_alone.new.dues c.args.next.input who t limit = subst (λ (ds : List (Option ℕ)). IsAlone c.args.inputs.now ds c.args.next.input who t limit) (sym same) (found.alone (who, limit) refl) in
+    let most = found.within (who, limit) refl in
+    let end : limit ≤ MOST_CYCLES = omega (arith, most, c.requires.end) in
+    let fresh = found.fresh (who, limit) refl in
+    let later = found.after (who, limit) refl in
+    let new = c.stretch.new in
+    let u = c.in-Some-stretch.u in
+    let changed = c.in-Some-stretch.changed in
+    let s = c.in-Some-stretch.ensures in
+    let within = s.within (changed, u) refl in
+    let went = s.went (changed, u) refl in
+    let far = went.3.further in
+    let x : Next × ℕ = (record { input = c.args.next.input; stale = changed }, u) in
+    let told : IsTold m (map p.state new.parts) (retold c.args.reading.now new.reading.circuit.drives new.reading.circuit.closed).circuit = record { drives_are = c.stretch.ensures.told.drives_are; closed_are = c.stretch.ensures.told.closed_are } in
+    let goes = alone_goes m g.met.P.Part.laws w p.state p.now p.wake_count c.args.inputs.now t u limit old new.parts kept new.dues changed c.args.steps.now new.steps who went.0 went.1 went.2 new.reading.circuit.drives new.reading.circuit.closed told lags fresh later within end alone went.3 in
+    subst (λ (z : Next × ℕ). LastTells m w c.args.inputs.now z.0.stale (map (glided m p.state p.now p.wake_count t) old) t (z.1 - t)) (some_same ey) goes.tells
 
 pub returns-in-Some-stretch-clause-handed : goal.returns-in-Some-stretch-clause-handed
 returns-in-Some-stretch-clause-handed g c = λ y ey.

@@ -4,12 +4,13 @@ use Rattle.sim_base.specs.declared.limits.TheConstants.{MOST_CYCLES}
 use Rattle.board_model.specs.Board.{bytes}
 use Rattle.board_model.specs.Rows.{rows}
 use Rattle.board_model.proofs.Lists.{some_same}
+use Rattle.board_run.specs.Changes.{LastTells}
 use Rattle.board_run.specs.Seen.{shown_at}
 use Rattle.board_run.specs.Lagging.{glided}
 use Rattle.board_run.specs.Legs.{Kept, Lags, Leg}
 use Rattle.board_run.specs.declared.show.Next.{Next}
 use Rattle.board_run.proofs.HandLemmas.{nothing_more}
-use Rattle.board_run.proofs.LegLemmas.{jumps_to, leg_then, rows_on, bytes_on, shown_front}
+use Rattle.board_run.proofs.LegLemmas.{jumps_to, jumped_tells, leg_then, rows_on, bytes_on, shown_front}
 use Rattle.board_run.proofs.HandLemmas.{stops_more}
 use Rattle.board_run.proofs.NextLemmas.{lags_late}
 use Rattle.board_run.proofs.jump.event_and_jump.Goals as goal
@@ -54,6 +55,27 @@ returns-in-Some-clause-leg g c = λ x ex.
     let leg = c.event.ensures.leg in
     subst (λ (y : Next × ℕ). Leg m w p.state p.now p.wake_count inputs t y.1 old e.parts c.args.reading.now e.reading c.args.steps.now e.steps) (some_same ex)
     (leg_then m laws w p.state p.now p.wake_count inputs t (t + 1) u c.args.steps.now e.steps e.steps old e.parts e.parts c.args.reading.now e.reading e.reading leg j.leg)
+
+pub returns-in-Some-clause-moved : goal.returns-in-Some-clause-moved
+returns-in-Some-clause-moved g c = λ x ex.
+    let p = g.P.Part in
+    let m = p.machine in
+    let laws = g.met.P.Part.laws in
+    let w = c.args.wiring.now in
+    let inputs = c.args.inputs.now in
+    let t = c.args.t in
+    let old = c.args.parts.now in
+    let e = c.event.new in
+    let n = c.in-Some.after in
+    let u = c.next_cycle-u.result in
+    let nc = c.next_cycle-u.ensures in
+    let kept : Kept = record { input = n.input; stale = n.stale; dues = e.dues; seen = e.reading; answers = e.answers } in
+    let end : u ≤ MOST_CYCLES = omega (arith, nc.within, c.requires.end) in
+    let later : 0 < t + 1 = omega arith in
+    let j = jumps_to m laws w p.state p.now p.wake_count inputs (t + 1) u e.parts kept e.steps (c.in-Some.ensures.lags n refl) later nc.from end nc.stale nc.due nc.silent in
+    let leg = c.event.ensures.leg in
+    subst (λ (y : Next × ℕ). LastTells m w inputs y.0.stale (map (glided m p.state p.now p.wake_count t) old) t (y.1 - t)) (some_same ex)
+    (jumped_tells m laws w p.state p.now p.wake_count inputs n.stale t (t + 1) u c.args.steps.now e.steps old e.parts c.args.reading.now e.reading leg j.leg nc.stale j.tells (c.in-Some.ensures.moved n refl))
 
 pub returns-in-Some-clause-handed : goal.returns-in-Some-clause-handed
 returns-in-Some-clause-handed g c = λ x ex.

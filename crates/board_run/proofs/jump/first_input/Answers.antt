@@ -1,7 +1,7 @@
 use Rattle.std.proofs.Common.{arith, ◌<◌, get_or, length}
 use Rattle.sim_base.specs.declared.wiring.Input.{Input}
 use Rattle.board_model.proofs.Lists.{get_within}
-use Rattle.board_run.proofs.NextLemmas.{silent_until, behind_until}
+use Rattle.board_run.proofs.NextLemmas.{silent_until, behind_until, addresses}
 use Rattle.board_run.proofs.jump.first_input.Goals as goal
 use Rattle.board_run.proofs.jump.first_input.Goals.{else-input-inputs-via-then-input-inputs+else-inputs-input, else-input-inputs-via-else-input-inputs}
 
@@ -30,3 +30,9 @@ returns-else-input-inputs-clause-behind c =
       | else-input-inputs-via-then-input-inputs+else-inputs-input w ↦ behind_until c.args.inputs.now c.args.input c.args.t c.args.n d c.requires.order c.requires.behind c.requires.within (λ h. omega arith)
       | else-input-inputs-via-else-input-inputs w ↦ behind_until c.args.inputs.now c.args.input c.args.t c.args.n d c.requires.order c.requires.behind c.requires.within (λ (h : c.args.input < length c.args.inputs.now). absurd (omega arith))
     ]
+
+pub returns-then-inputs-input-clause-one : goal.returns-then-inputs-input-clause-one
+returns-then-inputs-input-clause-one c = λ less.
+    let d : Input = record { cycle = 0; part = 0; value = 0 } in
+    let x = get_or c.args.inputs.now c.args.input d in
+    (x.part, addresses c.args.inputs.now c.args.input x (get_within c.args.inputs.now c.args.input d (omega arith)))

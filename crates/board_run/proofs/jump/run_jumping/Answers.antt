@@ -1,9 +1,10 @@
-use Rattle.std.proofs.Common.{◌≡◌, ◌+◌, ◌-◌, ◌∙◌, ℕ, List, ap, sym, refl, subst, Some}
+use Rattle.std.proofs.Common.{◌≡◌, ◌+◌, ◌-◌, ◌∙◌, ℕ, List, map, ap, sym, refl, subst, Some}
 use Rattle.std.specs.Prelude.{slice_get}
 use Rattle.sim_base.specs.Rows.{Handed, StopsWithin}
 use Rattle.board_model.specs.Board.{states, bytes}
 use Rattle.board_model.specs.Rows.{rows, shown_before}
 use Rattle.board_laws.specs.Active.{active_cycles, active_pairs}
+use Rattle.board_run.specs.Changes.{LastTells}
 use Rattle.board_run.specs.Seen.{shown_at}
 use Rattle.board_run.specs.Legs.{Kept, Lags}
 use Rattle.board_run.specs.declared.show.Next.{Next}
@@ -123,6 +124,25 @@ returns-in-Some-clause-steps g c = λ y ey.
     let e = c.in-Some.ensures in
     let s = c.settle_all in
     (e.leg x refl).steps_are ∙ ap (λ (l : List p.State). c.args.steps.now + active_pairs m w inputs l from count) here
+
+pub returns-in-Some-clause-moved : goal.returns-in-Some-clause-moved
+returns-in-Some-clause-moved g c = λ y ey.
+    let p = g.P.Part in
+    let o = g.W.Watcher in
+    let m = p.machine in
+    let laws = g.met.P.Part.laws in
+    let w = c.args.wiring.now in
+    let inputs = c.args.inputs.now in
+    let from = c.args.from in
+    let count = c.args.n - c.args.from in
+    let old = c.args.parts.now in
+    let r = c.run_legs.new in
+    let here = at_here m laws w p.state p.now p.wake_count inputs from old c.requires.at in
+    let before = shown_at from c.args.reading.now in
+    let x = c.in-Some.after in
+    let e = c.in-Some.ensures in
+    let s = c.settle_all in
+    subst (λ (z : Next). LastTells m w inputs z.stale (map p.state old) from count) (some_same ey) (subst (λ (l : List p.State). LastTells m w inputs x.stale l from count) here (e.moved x refl))
 
 pub returns-in-Some-clause-handed : goal.returns-in-Some-clause-handed
 returns-in-Some-clause-handed g c = λ y ey.

@@ -1,10 +1,10 @@
-use Rattle.std.proofs.Common.{◌∙◌, refl, arith, map, ℕ}
+use Rattle.std.proofs.Common.{◌<◌, ◌∙◌, refl, arith, map, ℕ}
 use Rattle.board_run.specs.Seen.{shown_at}
 use Rattle.board_run.specs.Lagging.{glided}
 use Rattle.board_run.specs.declared.show.Next.{Next}
 use Rattle.board_run.proofs.HandLemmas.{handed_then}
 use Rattle.board_run.proofs.ShowLemmas.{none_handed}
-use Rattle.board_run.proofs.LegLemmas.{leg_none, leg_then, rows_on, bytes_on, legs_stop}
+use Rattle.board_run.proofs.LegLemmas.{leg_none, leg_then, tells_then, rows_on, bytes_on, legs_stop}
 use Rattle.board_run.proofs.jump.run_legs.Goals as goal
 
 pub loop-t-init : goal.loop-t-init
@@ -20,6 +20,7 @@ loop-t-init g c =
       leg = leg_none m g.met.P.Part.laws c.args.wiring.now p.state p.now p.wake_count c.args.inputs.now c.args.from c.args.steps.now c.args.parts.now c.args.reading.now;
       handed = none_handed m c.args.wiring.now c.args.inputs.now (shown_at c.args.from c.args.reading.now) ss c.args.from o.whole o.faults o.stands c.args.out.now c.requires.whole;
       later = c.requires.later;
+      moved = λ (h : c.args.from < c.args.from). absurd (omega arith);
       place = refl;
     }
 
@@ -47,6 +48,8 @@ loop-t-preserved g c =
           (rows_on m laws w p.state p.now p.wake_count c.args.inputs.now c.args.from c.loop-t.t u c.args.steps.now c.loop-t.steps c.args.parts.now c.loop-t.parts c.args.reading.now c.loop-t.reading i.leg leg.order)
           (bytes_on m laws w p.state p.now p.wake_count c.args.inputs.now c.args.from c.loop-t.t u c.args.steps.now c.loop-t.steps c.args.parts.now c.loop-t.parts c.args.reading.now c.loop-t.reading i.leg leg.order);
       later = e.last x refl;
+      moved = λ _. tells_then m laws w p.state p.now p.wake_count c.args.inputs.now c.args.from c.loop-t.t u c.args.steps.now c.loop-t.steps c.advance.new.steps
+          c.args.parts.now c.loop-t.parts c.advance.new.parts c.args.reading.now c.loop-t.reading c.advance.new.reading i.leg leg after.stale less (e.moved x refl);
       place = e.place ∙ i.place;
     }
 

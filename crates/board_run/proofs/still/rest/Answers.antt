@@ -1,4 +1,4 @@
-use Rattle.std.proofs.Common.{◌≤◌, ◌∙◌, ap, sym, refl, subst, arith, map, length, List, ℕ, Option}
+use Rattle.std.proofs.Common.{◌≡◌, ◌≤◌, ◌∙◌, ap, sym, refl, subst, arith, map, length, List, ℕ, Option}
 use Rattle.std.specs.Prelude.{slice_get}
 use Rattle.sim_base.specs.declared.limits.TheConstants.{MOST_CYCLES}
 use Rattle.board_run.specs.Seen.{Seen, IsTold, retold}
@@ -215,6 +215,62 @@ returns-in-Some-stretch-clause-steady g c =
     let goes = alone_goes m g.met.P.Part.laws w p.state p.now p.wake_count c.args.inputs.now t u limit old new.parts kept new.dues changed c.args.steps.now new.steps who went.0 went.1 went.2 new.reading.circuit.drives new.reading.circuit.closed told lags fresh later within end alone went.3 in
     λ _. goes.rests
 
+pub returns-in-Some-stretch-clause-moved : goal.returns-in-Some-stretch-clause-moved
+returns-in-Some-stretch-clause-moved g c =
+    let p = g.P.Part in
+    let m = p.machine in
+    let w = c.args.wiring.now in
+    let t = c.args.t in
+    let old = c.args.parts.now in
+    let who = c.in-Some.who in
+    let limit = c.in-Some.limit in
+    let found = c.in-Some.ensures in
+    let same = c.find_alone.ensures.same in
+    let kept : Kept = record { input = c.args.next.input; stale = c.args.next.stale; dues = c.find_alone.new.dues; seen = c.args.reading.now; answers = c.args.answers.now } in
+    let lags : Lags m w p.state p.now p.wake_count t old kept = subst (λ (ds : List (Option ℕ)). Lags m w p.state p.now p.wake_count t old (record { input = c.args.next.input; stale = c.args.next.stale; dues = ds; seen = c.args.reading.now; answers = c.args.answers.now })) (sym same) c.requires.lags in
+    let alone : IsAlone c.args.inputs.now c.find_alone.new.dues c.args.next.input who t limit = subst (λ (ds : List (Option ℕ)). IsAlone c.args.inputs.now ds c.args.next.input who t limit) (sym same) (found.alone (who, limit) refl) in
+    let most = found.within (who, limit) refl in
+    let end : limit ≤ MOST_CYCLES = omega (arith, most, c.requires.end) in
+    let fresh = found.fresh (who, limit) refl in
+    let later = found.after (who, limit) refl in
+    let new = c.stretch.new in
+    let u = c.in-Some-stretch.u in
+    let changed = c.in-Some-stretch.changed in
+    let s = c.in-Some-stretch.ensures in
+    let within = s.within (changed, u) refl in
+    let went = s.went (changed, u) refl in
+    let far = went.3.further in
+    let told : IsTold m (map p.state new.parts) (retold c.args.reading.now new.reading.circuit.drives new.reading.circuit.closed).circuit = record { drives_are = c.stretch.ensures.told.drives_are; closed_are = c.stretch.ensures.told.closed_are } in
+    let goes = alone_goes m g.met.P.Part.laws w p.state p.now p.wake_count c.args.inputs.now t u limit old new.parts kept new.dues changed c.args.steps.now new.steps who went.0 went.1 went.2 new.reading.circuit.drives new.reading.circuit.closed told lags fresh later within end alone went.3 in
+    λ _. goes.tells
+
+pub returns-in-Some-stretch-clause-stays : goal.returns-in-Some-stretch-clause-stays
+returns-in-Some-stretch-clause-stays g c =
+    let p = g.P.Part in
+    let m = p.machine in
+    let w = c.args.wiring.now in
+    let t = c.args.t in
+    let old = c.args.parts.now in
+    let who = c.in-Some.who in
+    let limit = c.in-Some.limit in
+    let found = c.in-Some.ensures in
+    let same = c.find_alone.ensures.same in
+    let kept : Kept = record { input = c.args.next.input; stale = c.args.next.stale; dues = c.find_alone.new.dues; seen = c.args.reading.now; answers = c.args.answers.now } in
+    let lags : Lags m w p.state p.now p.wake_count t old kept = subst (λ (ds : List (Option ℕ)). Lags m w p.state p.now p.wake_count t old (record { input = c.args.next.input; stale = c.args.next.stale; dues = ds; seen = c.args.reading.now; answers = c.args.answers.now })) (sym same) c.requires.lags in
+    let alone : IsAlone c.args.inputs.now c.find_alone.new.dues c.args.next.input who t limit = subst (λ (ds : List (Option ℕ)). IsAlone c.args.inputs.now ds c.args.next.input who t limit) (sym same) (found.alone (who, limit) refl) in
+    let most = found.within (who, limit) refl in
+    let end : limit ≤ MOST_CYCLES = omega (arith, most, c.requires.end) in
+    let fresh = found.fresh (who, limit) refl in
+    let later = found.after (who, limit) refl in
+    let new = c.stretch.new in
+    let u = c.in-Some-stretch.u in
+    let changed = c.in-Some-stretch.changed in
+    let s = c.in-Some-stretch.ensures in
+    let within = s.within (changed, u) refl in
+    let went = s.went (changed, u) refl in
+    let far = went.3.further in
+    λ (same : u ≡ t). absurd (omega (arith, far, same))
+
 pub returns-in-None-clause-lags : goal.returns-in-None-clause-lags
 returns-in-None-clause-lags g c =
     let p = g.P.Part in
@@ -262,3 +318,19 @@ returns-in-None-clause-steady g c =
     let end : u ≤ MOST_CYCLES = omega (arith, nc.within, c.requires.end) in
     let r = rests_to m g.met.P.Part.laws w p.state p.now p.wake_count c.args.inputs.now t u old kept c.args.steps.now lags nc.from end nc.stale nc.due nc.silent in
     r.steady
+
+pub returns-in-None-clause-moved : goal.returns-in-None-clause-moved
+returns-in-None-clause-moved g c =
+    let p = g.P.Part in
+    let m = p.machine in
+    let w = c.args.wiring.now in
+    let t = c.args.t in
+    let old = c.args.parts.now in
+    let same = c.find_alone.ensures.same in
+    let kept : Kept = record { input = c.args.next.input; stale = c.args.next.stale; dues = c.find_alone.new.dues; seen = c.args.reading.now; answers = c.args.answers.now } in
+    let lags : Lags m w p.state p.now p.wake_count t old kept = subst (λ (ds : List (Option ℕ)). Lags m w p.state p.now p.wake_count t old (record { input = c.args.next.input; stale = c.args.next.stale; dues = ds; seen = c.args.reading.now; answers = c.args.answers.now })) (sym same) c.requires.lags in
+    let nc = c.next_cycle-u.ensures in
+    let u = c.next_cycle-u.result in
+    let end : u ≤ MOST_CYCLES = omega (arith, nc.within, c.requires.end) in
+    let r = rests_to m g.met.P.Part.laws w p.state p.now p.wake_count c.args.inputs.now t u old kept c.args.steps.now lags nc.from end nc.stale nc.due nc.silent in
+    r.tells

@@ -4,6 +4,7 @@ use Rattle.board_model.specs.Board.{states}
 use Rattle.board_model.specs.Rows.{shown_before}
 use Rattle.board_laws.specs.Active.{active_cycles, active_pairs}
 use Rattle.board_laws.specs.Steady.{IsSteady}
+use Rattle.board_run.specs.Changes.{LastTells}
 use Rattle.board_run.specs.Seen.{shown_at}
 use Rattle.board_run.specs.Legs.{Kept}
 use Rattle.board_run.proofs.LegLemmas.{settled_lags, at_here, settled_are, may_settle, woken_settled, now_settled}
@@ -157,6 +158,24 @@ returns-clause-steady g c =
     let here = at_here m laws w p.state p.now p.wake_count inputs t old c.requires.at in
     let before = shown_at t c.args.reading.now in
     λ less. subst (λ (l : List p.State). IsSteady m w inputs l t count) here (e.steady less)
+
+pub returns-clause-moved : goal.returns-clause-moved
+returns-clause-moved g c =
+    let p = g.P.Part in
+    let m = p.machine in
+    let laws = g.met.P.Part.laws in
+    let w = c.args.wiring.now in
+    let inputs = c.args.inputs.now in
+    let t = c.args.t in
+    let old = c.args.parts.now in
+    let r = c.rest-after.new in
+    let e = c.rest-after.ensures in
+    let x = c.rest-after.result in
+    let count = x.1 - t in
+    let kept : Kept = record { input = x.0.input; stale = x.0.stale; dues = r.dues; seen = r.reading; answers = c.args.answers.now } in
+    let here = at_here m laws w p.state p.now p.wake_count inputs t old c.requires.at in
+    let before = shown_at t c.args.reading.now in
+    λ less. subst (λ (l : List p.State). LastTells m w inputs x.0.stale l t count) here (e.moved less)
 
 pub returns-clause-lags : goal.returns-clause-lags
 returns-clause-lags g c =

@@ -3,7 +3,9 @@ use Rattle.std.specs.Prelude.{slice_get, slice_set}
 use Rattle.sim_base.specs.declared.signal.Drive.{Drive}
 use Rattle.net_resolve.specs.Circuit.{Circuit}
 use Rattle.board_model.proofs.Lists.{lt_or_eq, get_set_same, get_set_other}
-use Rattle.board_run.proofs.ReadLemmas.{span_put}
+use Rattle.board_run.proofs.WakeLemmas.{or_none}
+use Rattle.board_run.proofs.TurnLemmas.{one_of}
+use Rattle.board_run.proofs.ReadLemmas.{span_put, span_there}
 use Rattle.board_run.proofs.tell.set_pins.Goals as goal
 
 pub overflow_add-at : goal.overflow_add-at
@@ -16,6 +18,8 @@ loop-pin-preserved g c =
     let i = c.loop-pin.invariant in
     let room : c.args.at + pin < length ds = omega (arith, i.long, c.requires.room, c.requires.long, c.pins.ensures) in
     let new = ap (λ (x : Circuit). x.drives) c.set_drive.ensures in
+    let was : slice_get ds (c.args.at + pin) ≡ slice_get c.args.nets.now.drives (c.args.at + pin) = i.rest (c.args.at + pin) (inr (omega arith)) in
+    let to : c.min-to.result ≤ c.pins.result = grind (arith, c.min-to.ensures) in
     record {
       long = ap length new ∙ length-set ds (c.args.at + pin) c.drive-drive.result ∙ i.long;
       told = λ j from h. elim (lt_or_eq j pin h) [
@@ -26,6 +30,17 @@ loop-pin-preserved g c =
       rest = λ x h. elim h [
         | inl less ↦ (let other : x ≢ c.args.at + pin = omega (arith, less) in ap (λ (l : List Drive). slice_get l x) new ∙ get_set_other ds (c.args.at + pin) x c.drive-drive.result other ∙ i.rest x (inl less))
         | inr more ↦ (let other : x ≢ c.args.at + pin = omega (arith, more) in ap (λ (l : List Drive). slice_get l x) new ∙ get_set_other ds (c.args.at + pin) x c.drive-drive.result other ∙ i.rest x (inr (omega (arith, more))))
+      ];
+      same = λ none j from h.
+          let both = or_none c.loop-pin.changed c.drives_other-changed.result none in
+          elim (lt_or_eq j pin h) [
+            | inl less ↦ i.same both.0 j from less
+            | inr same ↦ ap (λ (k : ℕ). slice_get c.args.nets.now.drives (c.args.at + k)) same ∙ sym was ∙ c.drives_other-changed.ensures.same both.1 ∙ sym c.drive-drive.ensures
+                ∙ ap (slice_get (g.P.Part.machine.drives (g.P.Part.state c.args.part.now))) (sym same)
+          ];
+      other = λ one has. elim (one_of c.loop-pin.changed c.drives_other-changed.result one) [
+        | inl before ↦ i.other before has
+        | inr here ↦ c.drives_other-changed.ensures.other here (was ∙ has pin (omega (arith, c.loop-pin-test.true, c.pins.ensures, c.min-to.ensures, to)) ∙ c.drive-drive.ensures)
       ];
       others = c.set_drive.ensures ∙ ap (λ (x : Circuit). record x { drives = slice_set ds (c.args.at + pin) c.drive-drive.result }) i.others ∙ ap (λ (xs : List Drive). record c.args.nets.now { drives = xs }) (sym new);
     }
@@ -39,3 +54,12 @@ returns-clause-put g c =
     span_put (g.P.Part.machine.drives (g.P.Part.state c.args.part.now)) c.args.nets.now.drives c.loop-pin.nets.drives c.args.span c.args.at c.pins.result c.min-from.result c.min-to.result
     c.pins.ensures (let few = c.pins.type_inv in omega (arith, few)) c.min-to.ensures c.min-from.ensures i.long (λ j from h. i.told j from (omega (arith, end, h)))
     (λ x h. elim h [ inl l ↦ i.rest x (inl l) | inr r ↦ i.rest x (inr (omega (arith, r, end))) ]) c.requires.others
+
+pub returns-clause-same : goal.returns-clause-same
+returns-clause-same g c = λ none.
+    let i = c.loop-pin.invariant in
+    let order : c.min-from.result ≤ c.min-to.result = grind (arith, c.min-from.ensures) in
+    let last = c.loop-pin.auto.pin-end order in
+    let end : c.loop-pin.pin ≡ c.min-to.result = omega (arith, last, c.loop-pin-test.false) in
+    span_there (g.P.Part.machine.drives (g.P.Part.state c.args.part.now)) c.args.nets.now.drives c.args.span c.args.at c.pins.result c.min-from.result c.min-to.result
+    c.pins.ensures (let few = c.pins.type_inv in omega (arith, few)) c.min-to.ensures c.min-from.ensures (λ j from h. i.same none j from (omega (arith, end, h))) c.requires.others

@@ -12,8 +12,8 @@ use Rattle.board_run.specs.Seen.{HasAt}
 use Rattle.board_run.proofs.StepLemmas.{fits_pins}
 use Rattle.board_run.proofs.GatherLemmas.{length_slice, slice_on_nets}
 use Rattle.board_run.proofs.WakeLemmas.{silent_more}
-use Rattle.board_run.proofs.ReadLemmas.{told_more, still_told, others_told}
-use Rattle.board_run.proofs.TurnLemmas.{some_there, awaited_turn, awaited_rest, turns_none, turns_more, turns_skip, less_or, due_set, dues_late, late_set, passed_set, count_more, sum_skip, turned_room, turned_still, turned_others, fits_set}
+use Rattle.board_run.proofs.ReadLemmas.{told_more, still_told, told_still, others_told}
+use Rattle.board_run.proofs.TurnLemmas.{some_there, awaited_turn, awaited_rest, turns_none, turns_more, turns_skip, step_still, still_step, less_or, due_set, dues_late, late_set, passed_set, count_more, sum_skip, turned_room, turned_still, turned_others, fits_set}
 use Rattle.board_run.proofs.turn.wake_active.Goals as goal
 
 pub loop-i-init : goal.loop-i-init
@@ -41,8 +41,8 @@ loop-i-init g c =
       due = λ k x d ex ed. (c.requires.may k x d ex ed).first;
       late = dues_late m p.state p.now p.wake_count c.args.t c.args.parts.now c.args.dues.now c.requires.dues c.requires.may;
       passed = λ k l. (e.passed k (omega arith) l).1;
-      turns = λ inputs ts awaits. turns_skip m laws w inputs p.state p.now p.wake_count ls c.args.t ts 0 j c.args.parts.now c.args.parts.now c.args.answers.now false
-          (turns_none m laws w inputs p.state p.now p.wake_count ls c.args.t ts c.args.parts.now c.args.answers.now false) awaits.stands.long inside (omega (arith, c.requires.answers)) (λ k l. refl) (λ k a l ea. c.requires.none k a ea)
+      turns = λ inputs ts awaits. turns_skip m laws w inputs p.state p.now p.wake_count ls c.args.t ts 0 j c.args.parts.now c.args.parts.now c.args.answers.now false (omega arith)
+          (turns_none m laws w inputs p.state p.now p.wake_count ls c.args.t ts c.args.parts.now c.args.answers.now) awaits.stands.long inside (omega (arith, c.requires.answers)) (λ k l. refl) (λ k a l ea. c.requires.none k a ea)
           (λ k x s l h ex es. (pass inputs ts awaits k x s l h ex es).0);
       fits = c.requires.fits;
       told = c.requires.told;
@@ -92,7 +92,7 @@ loop-i-preserved g c =
     let ps = slice_set c.loop-i.parts i y in
     let ds = slice_set c.loop-i.dues i c.take_turn_on-byte.new.due in
     let bs = slice_set c.loop-i.answers i byte in
-    let changed = c.loop-i.changed || c.take_turn_on-byte.result.1 in
+    let changed = c.loop-i.changed || c.tell-moved.result in
     let j = c.next_part-i-in-loop-i.result in
     let n = c.next_part-i-in-loop-i.ensures in
     let inside : j ≤ length c.args.parts.now = omega (arith, n.within) in
@@ -126,13 +126,20 @@ loop-i-preserved g c =
       ];
       turns = λ inputs ts awaits.
           let s = some_there ts i (omega (arith, awaits.stands.long, within, c.loop-i.auto.parts)) in
-          let more = turns_more m laws w inputs p.state p.now p.wake_count ls t ts i c.args.parts.now c.loop-i.parts c.loop-i.answers c.loop-i.changed c.take_turn_on-byte.result.1 x y s.0 byte
-          (inv.turns inputs ts awaits) old s.1 within room (turn inputs ts awaits).0 in
-          turns_skip m laws w inputs p.state p.now p.wake_count ls t ts (i + 1) j c.args.parts.now ps bs changed more awaits.stands.long inside
+          let had = (turn inputs ts awaits).0 in
+          let was = awaits.stands.each i x s.0 old s.1 in
+          let more = turns_more m laws w inputs p.state p.now p.wake_count ls t ts i c.args.parts.now c.loop-i.parts c.loop-i.answers c.loop-i.changed c.take_turn_on-byte.result.1 c.tell-moved.result x y s.0 byte
+          (inv.turns inputs ts awaits) old s.1 within room had
+          (λ none. let at = c.tell-moved.ensures.same y new_is none in
+          step_still m laws w inputs p.state p.now ls t i x y s.0 was had.stands (told_still m p.state c.loop-i.parts i x y c.loop-i.nets c.loop-i.nets here_is inv.told room_is.0 room_is.1 _ place at.0 at.1))
+          (λ one ds cs. let still = still_step m laws w inputs p.state p.now ls t i x y s.0 was had.stands ds cs in
+          let at = still_told m p.state c.loop-i.parts i x y c.loop-i.nets c.loop-i.nets here_is inv.told room_is.0 room_is.1 _ place still.0 still.1 in
+          c.tell-moved.ensures.other y new_is one at.0 at.1) in
+          turns_skip m laws w inputs p.state p.now p.wake_count ls t ts (i + 1) j c.args.parts.now ps bs changed n.from more awaits.stands.long inside
           (let l : length bs ≡ length c.loop-i.answers = length-set c.loop-i.answers i byte in omega (arith, l, c.loop-i.auto.answers, c.requires.answers)) rest_parts quiet (λ k z s l h ez es. (pass inputs ts awaits k z s l h ez es).0);
       fits = fits_new;
-      told = told_more m p.state c.loop-i.parts i x y c.loop-i.nets c.tell.new.nets here_is inv.told room_is.0 room_is.1 _ place (c.tell.ensures.drives y new_is) (c.tell.ensures.closed y new_is);
-      nets_rest = c.tell.ensures.rest ∙ ap (λ (z : Circuit). record z { drives = c.tell.new.nets.drives; closed = c.tell.new.nets.closed }) inv.nets_rest;
+      told = told_more m p.state c.loop-i.parts i x y c.loop-i.nets c.tell-moved.new.nets here_is inv.told room_is.0 room_is.1 _ place (c.tell-moved.ensures.drives y new_is) (c.tell-moved.ensures.closed y new_is);
+      nets_rest = c.tell-moved.ensures.rest ∙ ap (λ (z : Circuit). record z { drives = c.tell-moved.new.nets.drives; closed = c.tell-moved.new.nets.closed }) inv.nets_rest;
       quiet = λ k a l ea. quiet k a (omega (arith, l, n.from)) ea;
       silent = λ none. silent_more c.loop-i.answers i byte c.loop-i.sent _ room c.is_some-sent.ensures none inv.silent;
       steps = λ inputs ts awaits.
@@ -238,8 +245,8 @@ returns-clause-steps g c = λ inputs ts awaits.
     let e : c.loop-i.i ≡ length c.args.parts.now = omega (arith, c.loop-i.auto.parts, c.loop-i.invariant.within, c.loop-i-test.false) in
     subst (λ (n : ℕ). c.loop-i.steps ≡ c.args.steps.now + sum_below n (λ k. active_in p.machine c.args.wiring.now inputs c.args.nets.now.levels c.args.t k (slice_get ts k))) e (c.loop-i.invariant.steps inputs ts awaits)
 
-pub tell-requires-clause-within : goal.tell-requires-clause-within
-tell-requires-clause-within g c =
+pub tell-moved-requires-clause-within : goal.tell-moved-requires-clause-within
+tell-moved-requires-clause-within g c =
     let p = g.P.Part in
     let m = p.machine in
     let w = c.args.wiring.now in
@@ -256,8 +263,8 @@ tell-requires-clause-within g c =
     let place = ap (λ (l : List ℕ). get_or l i 0) c.as_slice.ensures ∙ inv.fits.places i inside_is in
     omega (arith, length-set c.loop-i.parts i y, within)
 
-pub tell-requires-clause-first : goal.tell-requires-clause-first
-tell-requires-clause-first g c =
+pub tell-moved-requires-clause-first : goal.tell-moved-requires-clause-first
+tell-moved-requires-clause-first g c =
     let p = g.P.Part in
     let m = p.machine in
     let w = c.args.wiring.now in
@@ -275,8 +282,8 @@ tell-requires-clause-first g c =
     let after : i < length (map p.state (slice_set c.loop-i.parts i y)) = (let l : length (map p.state (slice_set c.loop-i.parts i y)) ≡ length c.loop-i.parts = simp length-map (length-set c.loop-i.parts i y) in omega (arith, l, within)) in
     ap (λ (l : List ℕ). get_or l i 0) c.as_slice.ensures ∙ fits_new.places i after
 
-pub tell-requires-clause-pins : goal.tell-requires-clause-pins
-tell-requires-clause-pins g c =
+pub tell-moved-requires-clause-pins : goal.tell-moved-requires-clause-pins
+tell-moved-requires-clause-pins g c =
     let p = g.P.Part in
     let m = p.machine in
     let w = c.args.wiring.now in
@@ -293,8 +300,8 @@ tell-requires-clause-pins g c =
     let place = ap (λ (l : List ℕ). get_or l i 0) c.as_slice.ensures ∙ inv.fits.places i inside_is in
     ap (λ (z : Circuit). length z.net_of) inv.nets_rest ∙ ap length c.requires.wired.0 ∙ fits_new.pins
 
-pub tell-requires-clause-contacts : goal.tell-requires-clause-contacts
-tell-requires-clause-contacts g c =
+pub tell-moved-requires-clause-contacts : goal.tell-moved-requires-clause-contacts
+tell-moved-requires-clause-contacts g c =
     let p = g.P.Part in
     let m = p.machine in
     let w = c.args.wiring.now in
@@ -311,8 +318,8 @@ tell-requires-clause-contacts g c =
     let place = ap (λ (l : List ℕ). get_or l i 0) c.as_slice.ensures ∙ inv.fits.places i inside_is in
     ap (λ (z : Circuit). length z.contacts) inv.nets_rest ∙ ap length c.requires.wired.1 ∙ fits_new.contacts
 
-pub tell-requires-clause-few : goal.tell-requires-clause-few
-tell-requires-clause-few g c =
+pub tell-moved-requires-clause-few : goal.tell-moved-requires-clause-few
+tell-moved-requires-clause-few g c =
     let p = g.P.Part in
     let m = p.machine in
     let w = c.args.wiring.now in
@@ -333,8 +340,8 @@ tell-requires-clause-few g c =
       omega (arith, c.as_slice-contacts.type_inv.0, c.as_slice-contacts.type_inv.1, ap length c.as_slice-contacts.ensures, b),
     )
 
-pub tell-requires-clause-drives_long : goal.tell-requires-clause-drives_long
-tell-requires-clause-drives_long g c =
+pub tell-moved-requires-clause-drives_long : goal.tell-moved-requires-clause-drives_long
+tell-moved-requires-clause-drives_long g c =
     let p = g.P.Part in
     let m = p.machine in
     let w = c.args.wiring.now in
@@ -351,8 +358,8 @@ tell-requires-clause-drives_long g c =
     let place = ap (λ (l : List ℕ). get_or l i 0) c.as_slice.ensures ∙ inv.fits.places i inside_is in
     ap length inv.told.drives_are ∙ sym inv.fits.pins ∙ sym (ap length c.requires.wired.0) ∙ sym (ap (λ (z : Circuit). length z.net_of) inv.nets_rest)
 
-pub tell-requires-clause-closed_long : goal.tell-requires-clause-closed_long
-tell-requires-clause-closed_long g c =
+pub tell-moved-requires-clause-closed_long : goal.tell-moved-requires-clause-closed_long
+tell-moved-requires-clause-closed_long g c =
     let p = g.P.Part in
     let m = p.machine in
     let w = c.args.wiring.now in
@@ -369,8 +376,8 @@ tell-requires-clause-closed_long g c =
     let place = ap (λ (l : List ℕ). get_or l i 0) c.as_slice.ensures ∙ inv.fits.places i inside_is in
     ap length inv.told.closed_are ∙ sym inv.fits.contacts ∙ sym (ap length c.requires.wired.1) ∙ sym (ap (λ (z : Circuit). length z.contacts) inv.nets_rest)
 
-pub tell-requires-clause-still : goal.tell-requires-clause-still
-tell-requires-clause-still g c =
+pub tell-moved-requires-clause-still : goal.tell-moved-requires-clause-still
+tell-moved-requires-clause-still g c =
     let p = g.P.Part in
     let m = p.machine in
     let w = c.args.wiring.now in
@@ -398,8 +405,8 @@ tell-requires-clause-still g c =
       subst (λ (u : g.row.P.Denot). HasAt (length (contacts_of m (take i (map p.state (slice_set c.loop-i.parts i y))))) (m.contacts (p.state u)) c.loop-i.nets.closed) z_is told.1,
     )
 
-pub tell-requires-clause-others : goal.tell-requires-clause-others
-tell-requires-clause-others g c =
+pub tell-moved-requires-clause-others : goal.tell-moved-requires-clause-others
+tell-moved-requires-clause-others g c =
     let p = g.P.Part in
     let m = p.machine in
     let w = c.args.wiring.now in

@@ -8,6 +8,7 @@ use Rattle.board_model.proofs.Lists.{lent_whole}
 use Rattle.board_laws.specs.Active.{active_cycles, active_pairs}
 use Rattle.board_laws.specs.Steady.{IsSteady}
 use Rattle.board_run.specs.BoardView.{BoardView}
+use Rattle.board_run.specs.Changes.{LastTells}
 use Rattle.board_run.specs.Upcoming.{AreBehind}
 use Rattle.board_run.specs.Legs.{Lags, AreAt}
 use Rattle.board_run.specs.Seen.{shown_at}
@@ -74,6 +75,32 @@ returns-clause-steady g c =
     (subst (λ (xs : List g.row.P.Denot). at c.args.self.now.wiring c.args.self.now.inputs xs i.cycle) old
     (subst (λ (is : List Input). at c.args.self.now.wiring is c.as_mut_slice.result.now i.cycle) inputs
     (subst (λ (w : Wiring). at w c.as_slice.result.now c.as_mut_slice.result.now i.cycle) wiring e.steady)))
+
+pub returns-clause-changed : goal.returns-clause-changed
+returns-clause-changed g c =
+    let p = g.P.Part in
+    let m = p.machine in
+    let i = c.self.inside in
+    let alive = ap (λ (v : BoardView g.row.P.Denot). v.given_up) c.self.view_is ∙ c.requires.alive in
+    let r = c.stay-after in
+    let x = r.result in
+    let e = r.ensures in
+    let parts = lent_whole (length i.parts) i.parts r.new.parts refl (r.auto.parts ∙ ap length c.as_mut_slice.ensures.value) in
+    let ps = take (length i.parts) (r.new.parts ++ drop (length r.new.parts) i.parts) in
+    let inputs = c.as_slice.ensures ∙ ap (λ (v : BoardView g.row.P.Denot). v.inputs) c.self.view_is in
+    let wiring = ap (λ (v : BoardView g.row.P.Denot). v.wiring) c.self.view_is in
+    let cycle = ap (λ (v : BoardView g.row.P.Denot). v.cycle) c.self.view_is in
+    let old = c.as_mut_slice.ensures.value ∙ ap (λ (v : BoardView g.row.P.Denot). v.parts) c.self.view_is in
+    let at = λ (w : Wiring) (is : List Input) (xs : List g.row.P.Denot) (t : ℕ). t < x.1 → LastTells m w is x.0.stale (map p.state xs) t (x.1 - t) in
+    subst (λ (t : ℕ). at c.args.self.now.wiring c.args.self.now.inputs c.args.self.now.parts t) cycle
+    (subst (λ (xs : List g.row.P.Denot). at c.args.self.now.wiring c.args.self.now.inputs xs i.cycle) old
+    (subst (λ (is : List Input). at c.args.self.now.wiring is c.as_mut_slice.result.now i.cycle) inputs
+    (subst (λ (w : Wiring). at w c.as_slice.result.now c.as_mut_slice.result.now i.cycle) wiring e.moved)))
+
+pub returns-clause-stays : goal.returns-clause-stays
+returns-clause-stays g c = λ same.
+    let cycle = ap (λ (v : BoardView g.row.P.Denot). v.cycle) c.self.view_is in
+    c.stay-after.ensures.stays (same ∙ sym cycle) ∙ ap (λ (v : BoardView g.row.P.Denot). v.changed) c.self.view_is
 
 pub returns-clause-states : goal.returns-clause-states
 returns-clause-states g c =
