@@ -1,7 +1,7 @@
 #!/bin/bash
 # Measures `run` with its wave, on a board of an Uno, a resistor and an LED, beside `bare` on the same firmware: the two of
-# bare.sh, which change no pin, over 160,000,000 cycles (10 s of simulated time), and the one of examples/blink, which moves
-# pin 13 twice in six cycles, over 16,000,000. Then `check` on a project with the most parts and wires and a full flash.
+# bare.sh, which change no pin, and the sketch of examples/arduino-blink, which blinks for an eye, over 160,000,000 cycles
+# (10 s of simulated time), and the one of examples/blink, which moves pin 13 twice in six cycles, over 16,000,000. Then `check` on a project with the most parts and wires and a full flash.
 # Prints seconds of processor time, the least of five runs in turn, and the ratio of the two. The program runs in 64 MiB of
 # address space.
 set -euo pipefail
@@ -54,6 +54,7 @@ full() { # 16,384 times `add r16, r17`
 cp "$blink/wokwi.toml" "$blink/diagram.json" "$folder"
 compare spin "$here/spin.hex" 10000000
 compare crc "$here/crc.hex" 10000000
+compare arduino-blink "$here/../examples/arduino-blink/arduino-blink.hex" 10000000
 compare blink "$blink/blink.hex" 1000000
 
 most >"$folder/diagram.json"
