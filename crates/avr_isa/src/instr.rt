@@ -4,7 +4,7 @@
 /// Registers are numbers 0 to 31 (of a pair the lower one), `A` an I/O address, `b` and `s` a bit,
 /// `q` an offset, `K` a constant; `k` is a data address, a word address, or a distance in words
 /// mod 16,384, as PC counts them. Source: AVR Instruction Set Manual.
-#[derive(Clone, Copy, Debug, PartialEq, Eq)]
+#[derive(Clone, Copy, Debug)]
 pub enum Instr {
     Nop,
     Movw(u8, u8),
