@@ -6,6 +6,7 @@ mod Follows
 mod Folds
 mod Stacks
 mod StepLemmas
+mod FormLemmas
 mod CallLemmas
 mod ArgLemmas
 mod ByteLemmas
