@@ -1,12 +1,13 @@
 -- Nets that are cut into subcircuits.
-use Rattle.std.proofs.Common.{◌≡◌, ◌≢◌, ℕ, zero, suc, ◌+◌, ◌<◌, ◌≤◌, List, [], ◌∷◌, ◌++◌, length, map, take, drop, Bool, true, false, refl, ap, sym, ◌∙◌, arith, ◌⊎◌, inl, inr, subst, Some, get_or, add-one, append_assoc, drop-cons}
+use Rattle.std.proofs.Common.{◌≡◌, ◌≢◌, ℕ, zero, suc, ◌+◌, ◌<◌, ◌≤◌, List, [], ◌∷◌, ◌++◌, length, map, take, drop, Bool, true, false, refl, ap, sym, ◌∙◌, arith, ◌⊎◌, inl, inr, subst, Some, get_or, add-one, append_assoc, drop-cons, length-append}
 use Rattle.std.proofs.lemmas.Bool.Decides.{eqb_tells}
 use Rattle.std.proofs.lemmas.List.{length-map}
 use Rattle.std.proofs.lemmas.Option.{slice_get_within, get_or_from_slice_get}
 use Rattle.std.specs.Prelude.{◌==◌, if◌then◌else◌, slice_get, slice_index, slice_set}
-use Rattle.board_model.proofs.Lists.{some_same, some_map, get_map_some, get_within, get_set_same, get_set_other}
+use Rattle.board_model.proofs.Lists.{some_same, some_map, get_map_some, get_within, get_set_same, get_set_other, lent_whole, take_whole}
 use Rattle.net_resolve.specs.Wired.{Wired}
 use Rattle.net_resolve.specs.Subcircuits.{SubcircuitView, IsCut, IsSubcircuit, AreSubcircuits, AreOwn, picked, labels_of}
+use Rattle.net_resolve.specs.Sorted.{ArePicked}
 use Rattle.net_resolve.proofs.PickLemmas.{picked_key}
 use Rattle.net_resolve.proofs.SubcircuitLemmas.{net_there}
 
@@ -52,6 +53,19 @@ adding_done keys k lists h adding q l e = sym (append_nil l) ∙ ap (λ (x : Lis
     drop_all (suc n) [] h = refl
     drop_all zero (x ∷ xs) h = absurd (omega arith)
     drop_all (suc n) (x ∷ xs) h = drop_all n xs (omega arith)
+
+-- lists that were lent are those that were added to
+pub picked_lent : (count : ℕ) (keys : List ℕ) (lists new : List (List ℕ)) → length new ≡ length lists → length lists ≡ count →
+    ((q : ℕ) (l : List ℕ) → slice_get new q ≡ Some l → l ≡ picked q 0 keys) → ArePicked count keys (take (length lists) (new ++ drop (length new) lists))
+picked_lent count keys lists new kept long each =
+    subst (λ (ls : List (List ℕ)). ArePicked count keys ls) (sym (lent_whole (length lists) lists new refl kept)) (record { long = kept ∙ long; each = each })
+
+-- a list to which a place was added, where what stands past the end of the lists is another
+pub place_added : (lists : List (List ℕ)) (key place : ℕ) (past new : List ℕ) → key < length lists → new ≡ get_or lists key past ++ place ∷ [] →
+    slice_set lists key new ≡ slice_set lists key (get_or lists key [] ++ place ∷ [])
+place_added lists key place past new within e =
+    let same : get_or lists key past ≡ get_or lists key [] = some_same (sym (get_within lists key past within) ∙ get_within lists key [] within) in
+    ap (λ (l : List ℕ). slice_set lists key l) (e ∙ ap (λ (l : List ℕ). l ++ place ∷ []) same)
 
 -- lists that have nothing
 abbrev pub AreEmpty : List (List ℕ) → Type 0
@@ -102,6 +116,14 @@ map_more {A = A} {B = B} f xs i d h = rw add-one (more xs i h)
     more [] i h = absurd (omega arith)
     more (x ∷ xs) zero h = refl
     more (x ∷ xs) (suc i) h = ap (λ (l : List B). f x ∷ l) (more xs i (omega arith))
+
+-- all items of a list that was mapped from the front
+pub map_all : {A B : Type 0} (f : A → B) (xs : List A) (i : ℕ) (ys : List B) → length xs ≤ i → ys ≡ map f (take i xs) → ys ≡ map f xs
+map_all {A = A} f xs i ys h e = e ∙ ap (λ (l : List A). map f l) (take_whole i xs h)
+
+-- one more item was put behind those that were mapped
+pub map_next : {A B : Type 0} (f : A → B) (xs : List A) (i : ℕ) (d : A) (ys zs : List B) → i < length xs → ys ≡ map f (take i xs) → zs ≡ ys ++ f (get_or xs i d) ∷ [] → zs ≡ map f (take (i + 1) xs)
+map_next {B = B} f xs i d ys zs h e put = put ∙ ap (λ (l : List B). l ++ f (get_or xs i d) ∷ []) e ∙ sym (map_more f xs i d h)
 
 pub map_here : {A B : Type 0} (f g : A → B) (xs : List A) → ((j : ℕ) (x : A) → slice_get xs j ≡ Some x → f x ≡ g x) → map f xs ≡ map g xs
 map_here f g [] same = refl
@@ -220,3 +242,11 @@ subcircuits_more w labels subs q s long before is p t e = elim (snoc_cases subs 
       let here : q ≡ p = omega (arith, long, r.0) in
       subst (λ (z : ℕ). IsSubcircuit w labels z t) here (subst (λ (v : SubcircuitView). IsSubcircuit w labels q v) r.1 is)
 ]
+
+-- one more subcircuit was put behind the others
+pub subcircuits_next : (w : Wired) (labels : List ℕ) (subs all : List SubcircuitView) (q : ℕ) (s : SubcircuitView) → all ≡ subs ++ s ∷ [] → length subs ≡ q → AreSubcircuits w labels subs → IsSubcircuit w labels q s →
+    record { long : length all ≡ q + 1; subcircuits : AreSubcircuits w labels all }
+subcircuits_next w labels subs all q s e long before is = record {
+  long = omega (arith, ap length e, length-append subs (s ∷ []), long);
+  subcircuits = subst (λ (l : List SubcircuitView). AreSubcircuits w labels l) (sym e) (subcircuits_more w labels subs q s long before is);
+}

@@ -12,3 +12,4 @@ pub mod CutLemmas
 pub mod MarkLemmas
 pub mod RightLemmas
 pub mod ResolutionLemmas
+pub mod FirstLemmas

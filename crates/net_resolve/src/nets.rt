@@ -7,7 +7,7 @@ ghost use Rattle.board_model.specs.Resolve.{resolve};
 ghost use Rattle.net_resolve.specs.Circuit.{Circuit, AreChanged};
 ghost use Rattle.net_resolve.specs.Marked.{has, Noted};
 ghost use Rattle.net_resolve.specs.Wired.{Wired};
-ghost use Rattle.net_resolve.specs.Subcircuits.{SubcircuitView, IsCut, AreSubcircuits, AreRight, FitsIn, HasAllPins};
+ghost use Rattle.net_resolve.specs.Subcircuits.{SubcircuitView, IsCut, AreSubcircuits, AreRight, FitsIn, HasAllPins, circuit_of};
 
 use crate::cut::{cut_all, sort};
 use crate::marks::Marks;
@@ -15,7 +15,7 @@ use crate::resolution::{is_same_drive, is_same_flag};
 use crate::room::{all_z, no_drives, no_flags};
 use crate::subcircuit::Subcircuit;
 use sim_base::{Drive, Level, OutOfMemory, Wiring};
-use std::alloc::Global;
+use std::alloc::{AllocError, Global};
 use std::marker::Model;
 
 /// The nets of a board, with what joins them, what drives them and the levels that were resolved
@@ -155,6 +155,52 @@ fn resolve_subcircuits(
     }
 }
 
+/// The net of each pin of a wiring, its contacts and its resistors.
+fn copy_wiring(
+    alloc: Global,
+    wiring: &Wiring,
+) -> Result<(Vec<u16>, Vec<(u16, u16)>, Vec<(u16, u16)>), AllocError>
+    ensures net_of { IfOk result (λ v. v.0.items ≡ wiring.now.net_of) }
+    ensures contacts { IfOk result (λ v. v.1.items ≡ wiring.now.contacts) }
+    ensures resistors { IfOk result (λ v. v.2.items ≡ wiring.now.resistors) }
+{
+    let net_of = Vec::from_slice(alloc, wiring.net_of.as_slice())?;
+    let contacts = Vec::from_slice(alloc, wiring.contacts.as_slice())?;
+    let resistors = Vec::from_slice(alloc, wiring.resistors.as_slice())?;
+    Ok((net_of, contacts, resistors))
+}
+
+/// The number of each net's subcircuit, and the subcircuits.
+fn cut_wiring(alloc: Global, wiring: &Wiring) -> Result<(Vec<u16>, Vec<Subcircuit>), OutOfMemory>
+    requires { IsWiring wiring.now }
+    ensures cut { IfOk result (λ v. IsCut (circuit_of wiring.now) v.0.items) }
+    ensures long { IfOk result (λ v. length v.1.items ≡ wiring.now.nets) }
+    ensures subcircuits { IfOk result (λ v. AreSubcircuits (circuit_of wiring.now) v.0.items v.1.items) }
+{
+    let sorted = sort(alloc, wiring)?;
+    let labels = Vec::from_slice(alloc, sorted.labels.as_slice())?;
+    let subcircuits = cut_all(alloc, wiring, &sorted)?;
+    Ok((labels, subcircuits))
+}
+
+/// What the pins drive, which contacts are closed, and the levels of the nets and of the pins, before
+/// anything is set.
+fn first_state(
+    alloc: Global,
+    wiring: &Wiring,
+) -> Result<(Vec<Drive>, Vec<bool>, Vec<Level>, Vec<Level>), AllocError>
+    ensures drives { IfOk result (λ v. v.0.items ≡ replicate (length wiring.now.net_of) Drive.Z) }
+    ensures closed { IfOk result (λ v. v.1.items ≡ replicate (length wiring.now.contacts) false) }
+    ensures levels { IfOk result (λ v. v.2.items ≡ replicate wiring.now.nets Level.Z) }
+    ensures pin_levels { IfOk result (λ v. v.3.items ≡ replicate (length wiring.now.net_of) Level.Z) }
+{
+    let drives = no_drives(alloc, wiring.net_of.len())?;
+    let closed = no_flags(alloc, wiring.contacts.len())?;
+    let levels = all_z(alloc, wiring.nets as usize)?;
+    let pin_levels = all_z(alloc, wiring.net_of.len())?;
+    Ok((drives, closed, levels, pin_levels))
+}
+
 impl Nets {
     /// The nets of a wiring, with every drive and every level Z and all contacts open. All are to be
     /// resolved.
@@ -171,19 +217,20 @@ impl Nets {
           changed = [];
         }) }
     {
-        let count = wiring.nets as usize;
-        let sorted = sort(alloc, wiring)?;
+        let (net_of, contacts, resistors) = copy_wiring(alloc, wiring)?;
+        let (labels, subcircuits) = cut_wiring(alloc, wiring)?;
+        let (drives, closed, levels, pin_levels) = first_state(alloc, wiring)?;
         Ok(Nets {
-            net_of: Vec::from_slice(alloc, wiring.net_of.as_slice())?,
-            contacts: Vec::from_slice(alloc, wiring.contacts.as_slice())?,
-            resistors: Vec::from_slice(alloc, wiring.resistors.as_slice())?,
-            labels: Vec::from_slice(alloc, sorted.labels.as_slice())?,
-            subcircuits: cut_all(alloc, wiring, &sorted)?,
-            drives: no_drives(alloc, wiring.net_of.len())?,
-            closed: no_flags(alloc, wiring.contacts.len())?,
+            net_of,
+            contacts,
+            resistors,
+            labels,
+            subcircuits,
+            drives,
+            closed,
             marks: Marks::all(alloc, wiring.nets)?,
-            levels: all_z(alloc, count)?,
-            pin_levels: all_z(alloc, wiring.net_of.len())?,
+            levels,
+            pin_levels,
             changed: Marks::new(alloc, wiring.nets)?,
         })
     }

@@ -1,0 +1,87 @@
+-- Nets as they are made: nothing was resolved yet.
+use Rattle.std.proofs.Common.{◌≡◌, ℕ, ◌<◌, ◌≤◌, List, [], length, map, replicate, Bool, true, false, refl, ap, sym, ◌∙◌, subst, arith}
+use Rattle.std.proofs.lemmas.List.{length-replicate}
+use Rattle.sim_base.specs.declared.signal.Drive.{Drive}
+use Rattle.sim_base.specs.declared.signal.Drive.TheVariants as drives
+use Rattle.sim_base.specs.declared.signal.Level.{Level}
+use Rattle.sim_base.specs.declared.signal.Level.TheVariants as levels
+use Rattle.sim_base.specs.declared.wiring.Wiring.{Wiring}
+use Rattle.board_model.specs.Board.{level_at}
+use Rattle.net_resolve.specs.Circuit.{Circuit}
+use Rattle.net_resolve.specs.Marked.{has}
+use Rattle.net_resolve.specs.Subcircuits.{SubcircuitView, IsCut, AreSubcircuits, AreRight, unresolved, circuit_of}
+use Rattle.net_resolve.proofs.PinLemmas.{pins_z}
+use Rattle.net_resolve.proofs.RightLemmas.{cut_moved, subs_moved, right_none}
+
+abbrev circuit : ℕ → List ℕ → List (ℕ × ℕ) → List (ℕ × ℕ) → List Drive → List Bool → List Level → List ℕ → Circuit
+circuit n ns cs rs ds cl ls ch = record { nets = n; net_of = ns; contacts = cs; resistors = rs; drives = ds; closed = cl; levels = ls; changed = ch }
+
+-- there are as many levels as nets
+count_is : (n k : ℕ) (ls : List Level) → n ≡ length ls → ls ≡ replicate k levels.Z → n ≡ k
+count_is n k ls en el = en ∙ ap length el ∙ length-replicate k levels.Z
+
+-- what callers see
+pub first_circuit : (w : Wiring) (n : ℕ) (net_of : List ℕ) (contacts resistors : List (ℕ × ℕ)) (ds : List Drive) (cl : List Bool) (ls : List Level) (changed : List ℕ) →
+    n ≡ length ls → net_of ≡ w.net_of → contacts ≡ w.contacts → resistors ≡ w.resistors →
+    ds ≡ replicate (length w.net_of) drives.Z → cl ≡ replicate (length w.contacts) false → ls ≡ replicate w.nets levels.Z → changed ≡ [] →
+    circuit n net_of contacts resistors ds cl ls changed ≡ circuit w.nets w.net_of w.contacts w.resistors (replicate (length w.net_of) drives.Z) (replicate (length w.contacts) false) (replicate w.nets levels.Z) []
+first_circuit w n net_of contacts resistors ds cl ls changed en es ec er ed ef el eh =
+    let ds2 = replicate (length w.net_of) drives.Z in
+    let cl2 = replicate (length w.contacts) false in
+    let ls2 = replicate w.nets levels.Z in
+    ap (λ (x : ℕ). circuit x net_of contacts resistors ds cl ls changed) (count_is n w.nets ls en el)
+    ∙ ap (λ (x : List ℕ). circuit w.nets x contacts resistors ds cl ls changed) es
+    ∙ ap (λ (x : List (ℕ × ℕ)). circuit w.nets w.net_of x resistors ds cl ls changed) ec
+    ∙ ap (λ (x : List (ℕ × ℕ)). circuit w.nets w.net_of w.contacts x ds cl ls changed) er
+    ∙ ap (λ (x : List Drive). circuit w.nets w.net_of w.contacts w.resistors x cl ls changed) ed
+    ∙ ap (λ (x : List Bool). circuit w.nets w.net_of w.contacts w.resistors ds2 x ls changed) ef
+    ∙ ap (λ (x : List Level). circuit w.nets w.net_of w.contacts w.resistors ds2 cl2 x changed) el
+    ∙ ap (λ (x : List ℕ). circuit w.nets w.net_of w.contacts w.resistors ds2 cl2 ls2 x) eh
+
+-- what holds of them: all are marked
+module _ (w : Wiring) (n : ℕ) (net_of : List ℕ) (contacts resistors : List (ℕ × ℕ)) (ls : List Level)
+    (en : n ≡ length ls) (es : net_of ≡ w.net_of) (ec : contacts ≡ w.contacts) (er : resistors ≡ w.resistors) (els : ls ≡ replicate w.nets levels.Z)
+    (labels : List ℕ) (cut : IsCut (circuit_of w) labels) where
+  count : n ≡ w.nets
+  count = count_is n w.nets ls en els
+
+  first_cut : IsCut (unresolved n net_of contacts resistors) labels
+  first_cut =
+      subst (λ (rs : List (ℕ × ℕ)). IsCut (unresolved n net_of contacts rs) labels) (sym er)
+      (cut_moved w.resistors (sym count) (sym es) (sym ec) refl cut)
+
+  first_subs : (subs : List SubcircuitView) → AreSubcircuits (circuit_of w) labels subs → AreSubcircuits (unresolved n net_of contacts resistors) labels subs
+  first_subs subs are =
+      subst (λ (rs : List (ℕ × ℕ)). AreSubcircuits (unresolved n net_of contacts rs) labels subs) (sym er)
+      (subs_moved w.resistors (sym count) (sym es) (sym ec) refl refl are)
+
+  pub first_invariant : (subs : List SubcircuitView) → length subs ≡ w.nets → AreSubcircuits (circuit_of w) labels subs →
+      (room : ℕ) (marked : List ℕ) → room ≡ w.nets → room ≤ 65535 → ((q : ℕ) → q < w.nets → has marked q ≡ true) →
+      (changed_room : ℕ) → changed_room ≡ w.nets →
+      (net_count driven : ℕ) (ds : List Drive) → net_count ≡ length net_of → driven ≡ length ds → ds ≡ replicate (length w.net_of) drives.Z →
+      (pair_count flags : ℕ) (cl : List Bool) → pair_count ≡ length contacts → flags ≡ length cl → cl ≡ replicate (length w.contacts) false →
+      (pin_ls : List Level) → pin_ls ≡ replicate (length w.net_of) levels.Z →
+      record {
+        cut : IsCut (unresolved n net_of contacts resistors) labels;
+        subcircuits : AreSubcircuits (unresolved n net_of contacts resistors) labels subs;
+        right : AreRight (unresolved n net_of contacts resistors) labels marked cl ds ls;
+        few : n ≤ 65536;
+        subcircuits_long : length subs ≡ n;
+        marks_room : room ≡ n;
+        changed_room : changed_room ≡ n;
+        drives_long : driven ≡ net_count;
+        closed_long : flags ≡ pair_count;
+        pin_levels : pin_ls ≡ map (level_at ls) net_of;
+      }
+  first_invariant subs subs_long are room marked room_is few all changed_room changed_is net_count driven ds ek ed eds pair_count flags cl ep ef ecl pin_ls epl = record {
+    cut = first_cut;
+    subcircuits = first_subs subs are;
+    right = right_none (unresolved n net_of contacts resistors) labels first_cut marked cl ds ls (λ q l. all q (subst (λ (k : ℕ). q < k) count l));
+    few = omega (arith, few, room_is, count);
+    subcircuits_long = subs_long ∙ sym count;
+    marks_room = room_is ∙ sym count;
+    changed_room = changed_is ∙ sym count;
+    drives_long = ed ∙ ap length eds ∙ length-replicate (length w.net_of) drives.Z ∙ sym (ek ∙ ap length es);
+    closed_long = ef ∙ ap length ecl ∙ length-replicate (length w.contacts) false ∙ sym (ep ∙ ap length ec);
+    pin_levels = epl ∙ ap (λ (k : ℕ). replicate k levels.Z) (ap length (sym es)) ∙ pins_z w.nets net_of ∙ ap (λ (x : List Level). map (level_at x) net_of) (sym els);
+  }

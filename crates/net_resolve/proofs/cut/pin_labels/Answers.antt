@@ -1,0 +1,14 @@
+use Rattle.std.proofs.Common.{ℕ}
+use Rattle.std.specs.Prelude.{slice_index}
+use Rattle.net_resolve.proofs.CutLemmas.{map_next, map_all}
+use Rattle.net_resolve.proofs.cut.pin_labels.Goals as goal
+
+pub loop-k-preserved : goal.loop-k-preserved
+loop-k-preserved c =
+    let f : ℕ → ℕ = slice_index c.args.labels.now in
+    map_next f c.args.net_of.now c.loop-k.k 0 c.loop-k.keys.items c.push.new.self.items c.loop-k-test.true c.loop-k.invariant c.in_ok-push.ensures.items
+
+pub returns : goal.returns
+returns c =
+    let f : ℕ → ℕ = slice_index c.args.labels.now in
+    map_all f c.args.net_of.now c.loop-k.k c.loop-k.keys.items c.loop-k-test.false c.loop-k.invariant
