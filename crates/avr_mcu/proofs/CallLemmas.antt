@@ -31,6 +31,11 @@ module _ {D : Type 0} (m : UnitMachine D) (s v : UnitsAt D) (same : v ≡ s) whe
       sym (ap (λ (b : Bool). record v { units = if b then record (v.units) { sram = slice_set v.units.sram (a - 0x0100) x } else v.units }) beyond)
       ∙ ap (λ (y : UnitsAt D). record y { units = with_above y.units a x }) same
 
+  -- a register that only keeps what is written, by its address k
+  pub units_plain : (a x k : ℕ) → a ≡ k → record v { units = with_plain m v.units k x } ≡ record s { units = with_plain m s.units a x }
+  units_plain a x k e =
+      ap (λ (b : ℕ). record v { units = with_plain m v.units b x }) (sym e) ∙ ap (λ (y : UnitsAt D). record y { units = with_plain m y.units a x }) same
+
   -- an address at which there is no register
   pub units_noted : (a x : ℕ) (noted : List Bool) → noted ≡ slice_set v.units.ignored a true → (a == 0x3E) ≡ false → (a == 0x4A) ≡ false → (a == 0x4B) ≡ false → (a == 0x53) ≡ false →
       record v { units = record (v.units) { ignored = noted } } ≡ record s { units = with_plain m s.units a x }

@@ -5,6 +5,7 @@
 //! Only `Mcu::new` takes memory, and may fail for want of it.
 #![tactic(auto)]
 
+mod asking;
 mod devices;
 mod follow;
 mod mcu;

@@ -8,6 +8,7 @@ ghost use Rattle.avr_mcu.specs.Devices.{devices};
 ghost use Rattle.avr_mcu.specs.Units.{UnitsAt, unit_bus, reset, pins, request, units_step, above, above_in, with_above, plain, plain_of, with_plain, register, after_read, with_register, with_register_bit, at_port, one_pin, pins_of, pins_of_bit, touched_by};
 ghost use Rattle.part_law.specs.Spans.{no_pins};
 
+use crate::asking::{Next, begin, read, skip, step, taken, write, write_bit};
 use crate::devices::Devices;
 use crate::pins::UNO_PINS;
 use avr_core::DataBus;
@@ -15,7 +16,7 @@ use part_law::Span;
 use sim_base::{Drive, Level, MOST_CYCLES, OutOfMemory};
 use std::alloc::{AllocError, Global};
 use std::marker::Model;
-use unit_law::{Group, PORT_PINS, may_move, wait, with_bit};
+use unit_law::{Group, PORT_PINS, may_move, with_bit};
 
 /// General purpose I/O registers, which only keep what is written (data sheet, "Register Summary").
 const GPIOR0: u8 = 0x3E;
@@ -45,8 +46,7 @@ const SRAM: u16 = 0x0100;
 const SRAM_END: u16 = 0x0900;
 
 /// The units, before the step of `cycle`, with the levels of the Uno's pins in the cycle before. The devices may
-/// stand at an earlier cycle; `due` is the first in which one of them has an event, and `request` the least
-/// vector that is enabled and flagged.
+/// stand at an earlier cycle; `next` is what comes next of them.
 #[derive(Drop)]
 pub(crate) struct Units {
     devices: Devices,
@@ -58,8 +58,7 @@ pub(crate) struct Units {
     ignored: Vec<bool>,
     held: [Level; UNO_PINS],
     cycle: u32,
-    due: u32,
-    request: u8,
+    next: Next,
     touched: Span,
 }
 
@@ -67,7 +66,7 @@ impl Model for Units {
     ghost use Rattle.std.specs.Prelude.{◌≡◌, ◌≤◌, length, vec_len};
     ghost use Rattle.avr_mcu.specs.Devices.{Devices as State};
     ghost use Rattle.avr_mcu.specs.Units.{UnitsAt, pins};
-    ghost use Rattle.unit_law.specs.UnitMachine.{least};
+    ghost use Rattle.avr_mcu.specs.Ready.{Ready};
     ghost use Rattle.sim_base.specs.declared.limits.TheConstants.{MOST_CYCLES};
     ghost use Rattle.avr_mcu.specs.declared.pins.TheConstants.{UNO_PINS};
 
@@ -79,9 +78,7 @@ impl Model for Units {
       sram : vec_len u.sram ≡ 2048;
       ignored : vec_len u.ignored ≡ 256;
       held : length u.held ≡ UNO_PINS;
-      stands : ⟦<Devices as Group>⟧.stands u.devices (pins u.held) u.cycle;
-      due : u.due ≡ ⟦<Devices as Group>⟧.until u.devices;
-      request : u.request ≡ least (⟦<Devices as Group>⟧.machine.requests (⟦<Devices as Group>⟧.state u.devices u.cycle) (pins u.held));
+      ready : Ready ⟦<Devices as Group>⟧.machine (⟦<Devices as Group>⟧.state u.devices) (⟦<Devices as Group>⟧.until u.devices) (⟦<Devices as Group>⟧.stands u.devices) (pins u.held) u.cycle u.next.due u.next.request;
       end : u.cycle ≤ MOST_CYCLES;
     } };
 }
@@ -91,9 +88,7 @@ impl Units {
     pub(crate) fn new(alloc: Global) -> Result<Units, OutOfMemory>
         ensures { IfOk result (λ u. u ≡ record { units = reset devices; held = replicate UNO_PINS levels.Z; cycle = 0; touched = no_pins }) }
     {
-        let devices = Devices::new();
-        let due = devices.due();
-        let request = devices.request();
+        let (devices, next) = begin();
         Ok(Units {
             devices,
             sram: zeros(alloc, 2048)?,
@@ -104,8 +99,7 @@ impl Units {
             ignored: none_of(alloc, 256)?,
             held: [Level::Z; UNO_PINS],
             cycle: 0,
-            due,
-            request,
+            next,
             touched: Span::none(),
         })
     }
@@ -130,7 +124,7 @@ impl Units {
     pub(crate) fn due(&self) -> u32
         ensures { FirstDue devices self.now.units.devices self.now.cycle result }
     {
-        first_of(&self.devices, self.due, self.cycle, &self.held[..PORT_PINS])
+        self.next.due
     }
 
     /// The least vector that is enabled and flagged, or `VECTORS`.
@@ -138,7 +132,7 @@ impl Units {
     pub(crate) fn request(&self) -> u8
         ensures { result ≡ request devices self.now.units self.now.held }
     {
-        self.request
+        self.next.request
     }
 
     /// The pins of which a write since `begin` may have changed what they are asked for.
@@ -161,10 +155,13 @@ impl Units {
     pub(crate) fn taken(&mut self, vector: u8)
         ensures { self.new ≡ record self.old { units = record (self.old.units) { devices = devices.taken self.old.units.devices vector } } }
     {
-        self.devices
-            .taken(self.cycle, &self.held[..PORT_PINS], vector);
-        self.due = self.devices.due();
-        self.request = self.devices.request();
+        taken(
+            &mut self.devices,
+            &mut self.next,
+            self.cycle,
+            &self.held[..PORT_PINS],
+            vector,
+        );
     }
 
     /// Goes on to a cycle, before which no unit has an event.
@@ -175,7 +172,13 @@ impl Units {
         requires quiet { IsQuiet devices self.old.units.devices self.old.cycle (to - self.old.cycle) }
         ensures { self.new ≡ record self.old { units = record (self.old.units) { devices = steps devices self.old.units.devices self.old.cycle (to - self.old.cycle) }; cycle = to } }
     {
-        wait(&self.devices, self.cycle, to, &self.held[..PORT_PINS]);
+        skip(
+            &self.devices,
+            self.next,
+            self.cycle,
+            to,
+            &self.held[..PORT_PINS],
+        );
         self.cycle = to;
     }
 
@@ -186,7 +189,7 @@ impl Units {
     {
         may_move(
             &self.devices,
-            self.due,
+            self.next.due,
             self.cycle,
             &self.held[..PORT_PINS],
             seen(levels),
@@ -208,12 +211,14 @@ impl Units {
         ensures byte { result ≡ devices.sends self.old.units.devices self.old.cycle }
         ensures state { self.new ≡ record self.old { units = units_step devices self.old.units self.old.cycle self.old.held levels.now; held = levels.now; cycle = self.old.cycle + 1 } }
     {
-        let byte = self
-            .devices
-            .step(self.cycle, &self.held[..PORT_PINS], seen(levels));
+        let byte = step(
+            &mut self.devices,
+            &mut self.next,
+            self.cycle,
+            &self.held[..PORT_PINS],
+            seen(levels),
+        );
         self.held.copy_from_slice(levels);
-        self.due = self.devices.due();
-        self.request = self.devices.request();
         self.cycle += 1;
         byte
     }
@@ -225,9 +230,13 @@ impl Units {
         ensures byte { result ≡ devices.sends self.old.units.devices self.old.cycle }
         ensures state { self.new ≡ record self.old { units = units_step devices self.old.units self.old.cycle self.old.held self.old.held; cycle = self.old.cycle + 1 } }
     {
-        let byte = self.devices.step(self.cycle, &self.held[..PORT_PINS], &self.held[..PORT_PINS]);
-        self.due = self.devices.due();
-        self.request = self.devices.request();
+        let byte = step(
+            &mut self.devices,
+            &mut self.next,
+            self.cycle,
+            &self.held[..PORT_PINS],
+            &self.held[..PORT_PINS],
+        );
         self.cycle += 1;
         byte
     }
@@ -295,22 +304,17 @@ impl Units {
         ensures value { result ≡ register devices self.old.units self.old.cycle self.old.held reg }
         ensures state { self.new ≡ record self.old { units = after_read devices self.old.units self.old.cycle reg } }
     {
-        if Devices::has(reg) {
-            self.device_register(reg)
-        } else {
-            self.plain(reg)
+        let told = read(
+            &mut self.devices,
+            &mut self.next,
+            self.cycle,
+            &self.held[..PORT_PINS],
+            reg,
+        );
+        match told {
+            Some(value) => value,
+            None => self.plain(reg),
         }
-    }
-
-    fn device_register(&mut self, reg: u8) -> u8
-        requires { devices.has reg ≡ true }
-        ensures value { result ≡ devices.answers self.old.units.devices self.old.cycle (pins self.old.held) reg }
-        ensures state { self.new ≡ record self.old { units = record (self.old.units) { devices = devices.read self.old.units.devices self.old.cycle reg } } }
-    {
-        let value = self.devices.read(self.cycle, &self.held[..PORT_PINS], reg);
-        self.due = self.devices.due();
-        self.request = self.devices.request();
-        value
     }
 
     fn plain(&self, reg: u8) -> u8
@@ -323,23 +327,18 @@ impl Units {
     fn set_register(&mut self, reg: u8, value: u8)
         ensures { self.new ≡ record self.old { units = with_register devices self.old.units self.old.cycle reg value; touched = touched_by self.old.touched (if devices.has reg then devices.moves self.old.units.devices reg value else false) (pins_of reg) } }
     {
-        if Devices::has(reg) {
-            self.set_device_register(reg, value);
-        } else {
-            self.set_plain(reg, value);
+        let told = write(
+            &mut self.devices,
+            &mut self.next,
+            self.cycle,
+            &self.held[..PORT_PINS],
+            reg,
+            value,
+        );
+        match told {
+            Some(moves) => self.touched = touched_by(self.touched, moves, pins_of(reg)),
+            None => self.set_plain(reg, value),
         }
-    }
-
-    fn set_device_register(&mut self, reg: u8, value: u8)
-        requires { devices.has reg ≡ true }
-        ensures { self.new ≡ record self.old { units = record (self.old.units) { devices = devices.write self.old.units.devices self.old.cycle reg value }; touched = touched_by self.old.touched (devices.moves self.old.units.devices reg value) (pins_of reg) } }
-    {
-        let moves = self
-            .devices
-            .write(self.cycle, &self.held[..PORT_PINS], reg, value);
-        self.due = self.devices.due();
-        self.request = self.devices.request();
-        self.touched = touched_by(self.touched, moves, pins_of(reg));
     }
 
     fn set_plain(&mut self, reg: u8, value: u8)
@@ -363,25 +362,22 @@ impl Units {
         requires { bit < 8 }
         ensures { self.new ≡ record self.old { units = with_register_bit devices self.old.units self.old.cycle reg bit value; touched = touched_by self.old.touched (if devices.has reg then devices.bit_moves self.old.units.devices reg bit value else false) (pins_of_bit reg bit) } }
     {
-        if Devices::has(reg) {
-            self.set_device_bit(reg, bit, value);
-        } else {
-            let byte = with_bit(self.plain(reg), bit, value);
-            self.set_plain(reg, byte);
+        let told = write_bit(
+            &mut self.devices,
+            &mut self.next,
+            self.cycle,
+            &self.held[..PORT_PINS],
+            reg,
+            bit,
+            value,
+        );
+        match told {
+            Some(moves) => self.touched = touched_by(self.touched, moves, pins_of_bit(reg, bit)),
+            None => {
+                let byte = with_bit(self.plain(reg), bit, value);
+                self.set_plain(reg, byte);
+            }
         }
-    }
-
-    fn set_device_bit(&mut self, reg: u8, bit: u8, value: bool)
-        requires register { devices.has reg ≡ true }
-        requires bit { bit < 8 }
-        ensures { self.new ≡ record self.old { units = record (self.old.units) { devices = devices.write_bit self.old.units.devices self.old.cycle reg bit value }; touched = touched_by self.old.touched (devices.bit_moves self.old.units.devices reg bit value) (pins_of_bit reg bit) } }
-    {
-        let moves = self
-            .devices
-            .write_bit(self.cycle, &self.held[..PORT_PINS], reg, bit, value);
-        self.due = self.devices.due();
-        self.request = self.devices.request();
-        self.touched = touched_by(self.touched, moves, pins_of_bit(reg, bit));
     }
 }
 
@@ -470,19 +466,6 @@ fn plain_of(reg: u8, gpior0: u8, gpior1: u8, gpior2: u8, smcr: u8) -> u8
         SMCR => smcr,
         _ => 0,
     }
-}
-
-// The first cycle in which one of the units has an event, where they stand at a cycle.
-#[inline]
-fn first_of<G: Group>(group: &G, due: u32, cycle: u32, levels: &[Level]) -> u32
-    requires due { due ≡ G.until group.now }
-    requires here { G.stands group.now levels.now cycle }
-    ensures { FirstDue G.machine (G.state group.now cycle) cycle result }
-{
-    let _ = group;
-    let _ = cycle;
-    let _ = levels;
-    due
 }
 
 // The levels of the pins that units see.

@@ -7,5 +7,5 @@ use Rattle.avr_mcu.proofs.units.Units.drive.Goals as goal
 pub returns : goal.returns
 returns c =
     let i = c.self.inside in
-    c.drive.ensures ∙ ap driven (c.pad.ensures (pins i.held) i.cycle c.self.invariant.stands)
+    c.drive.ensures ∙ ap driven (c.pad.ensures (pins i.held) i.cycle c.self.invariant.ready.asked)
     ∙ ap (λ (x : UnitsAt Devices). driven (devices.pad x.units.devices c.args.pin)) c.self.view_is

@@ -5,6 +5,9 @@ use Rattle.avr_mcu.specs.contracts.units.Units.{the_view}
 use Rattle.avr_mcu.proofs.UnitsLemmas.{units_held}
 use Rattle.avr_mcu.proofs.units.Units.step.Goals as goal
 
+pub step-byte-requires-clause-ready : goal.step-byte-requires-clause-ready
+step-byte-requires-clause-ready c = c.self.invariant.ready
+
 pub returns-clause-state : goal.returns-clause-state
 returns-clause-state c =
     let v = the_view c.self.inside in
@@ -18,8 +21,6 @@ invariant_of-self c =
       sram = c.self.invariant.sram;
       ignored = c.self.invariant.ignored;
       held = ap length c.copy_from_slice.ensures.after ∙ c.requires.levels;
-      stands = rw e c.step-byte.ensures.stands;
-      due = c.due-self-inside.ensures;
-      request = rw e (c.request-self-inside.ensures c.seen.result.now (c.self.inside.cycle + 1) c.step-byte.ensures.stands);
+      ready = rw e c.step-byte.ensures.ready;
       end = omega (arith, c.requires.end);
     }

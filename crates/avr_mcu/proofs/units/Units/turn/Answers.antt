@@ -5,6 +5,9 @@ use Rattle.avr_mcu.specs.contracts.units.Units.{the_view}
 use Rattle.avr_mcu.proofs.UnitsLemmas.{units_at}
 use Rattle.avr_mcu.proofs.units.Units.turn.Goals as goal
 
+pub step-byte-requires-clause-ready : goal.step-byte-requires-clause-ready
+step-byte-requires-clause-ready c = c.self.invariant.ready
+
 pub returns-clause-state : goal.returns-clause-state
 returns-clause-state c =
     units_at devices c.args.self.now (the_view c.self.inside) c.self.view_is (λ (y : UnitsAt Devices). devices.step y.units.devices y.cycle (pins y.held) (pins y.held)) _ (λ (y : UnitsAt Devices). y.cycle + 1) c.step-byte.ensures.state
@@ -14,8 +17,6 @@ invariant_of-self c = record {
   sram = c.self.invariant.sram;
   ignored = c.self.invariant.ignored;
   held = c.self.invariant.held;
-  stands = c.step-byte.ensures.stands;
-  due = c.due-self-inside.ensures;
-  request = c.request-self-inside.ensures (pins c.self.inside.held) (c.self.inside.cycle + 1) c.step-byte.ensures.stands;
+  ready = c.step-byte.ensures.ready;
   end = omega (arith, c.requires);
 }

@@ -1,0 +1,167 @@
+//! Calls on a group of units, after each of which it is known what comes next.
+ghost use Rattle.std.specs.Prelude.{◌≡◌, ◌+◌, ◌-◌, ◌<◌, ◌≤◌, ℕ, List, length, replicate, Some, None, if◌then◌else◌};
+ghost use Rattle.sim_base.specs.declared.signal.Level.{Level};
+ghost use Rattle.sim_base.specs.declared.signal.Level.TheVariants as levels;
+ghost use Rattle.unit_law.specs.UnitMachine.{steps, IsQuiet};
+ghost use Rattle.avr_mcu.specs.Ready.{Ready};
+
+use sim_base::{Level, MOST_CYCLES};
+use unit_law::{Group, PORT_PINS, wait};
+
+/// The first cycle in which a unit has an event, or `MOST_CYCLES`, and the least vector that is enabled and flagged, or
+/// `VECTORS`.
+#[derive(Clone, Copy)]
+pub(crate) struct Next {
+    pub(crate) due: u32,
+    pub(crate) request: u8,
+}
+
+#[inline]
+fn next_of<G: Group>(group: &G) -> Next
+    ensures { (l : List Level) (t : ℕ) → G.stands group.now l t → Ready G.machine (G.state group.now) (G.until group.now) (G.stands group.now) l t result.due result.request }
+{
+    Next {
+        due: group.due(),
+        request: group.request(),
+    }
+}
+
+/// The group after reset, at cycle 0.
+pub(crate) fn begin<G: Group>() -> (G, Next)
+    ensures state { G.state result.0 0 ≡ G.machine.reset }
+    ensures ready { Ready G.machine (G.state result.0) (G.until result.0) (G.stands result.0) (replicate PORT_PINS levels.Z) 0 result.1.due result.1.request }
+{
+    let group = G::new();
+    let next = next_of(&group);
+    (group, next)
+}
+
+/// Reads a register, if the group has it.
+#[inline]
+pub(crate) fn read<G: Group>(
+    group: &mut G,
+    next: &mut Next,
+    cycle: u32,
+    levels: &[Level],
+    reg: u8,
+) -> Option<u8>
+    requires levels { length levels.now ≡ PORT_PINS }
+    requires ready { Ready G.machine (G.state group.old) (G.until group.old) (G.stands group.old) levels.now cycle next.old.due next.old.request }
+    ensures value { result ≡ (if G.machine.has reg then Some (G.machine.answers (G.state group.old cycle) cycle levels.now reg) else None) }
+    ensures state { G.state group.new cycle ≡ (if G.machine.has reg then G.machine.read (G.state group.old cycle) cycle reg else G.state group.old cycle) }
+    ensures ready { Ready G.machine (G.state group.new) (G.until group.new) (G.stands group.new) levels.now cycle next.new.due next.new.request }
+{
+    if G::has(reg) {
+        let value = group.read(cycle, levels, reg);
+        *next = next_of(group);
+        Some(value)
+    } else {
+        None
+    }
+}
+
+/// Writes a register, if the group has it: whether that may change what a pin is asked for.
+#[inline]
+pub(crate) fn write<G: Group>(
+    group: &mut G,
+    next: &mut Next,
+    cycle: u32,
+    levels: &[Level],
+    reg: u8,
+    value: u8,
+) -> Option<bool>
+    requires levels { length levels.now ≡ PORT_PINS }
+    requires ready { Ready G.machine (G.state group.old) (G.until group.old) (G.stands group.old) levels.now cycle next.old.due next.old.request }
+    ensures moves { result ≡ (if G.machine.has reg then Some (G.machine.moves (G.state group.old cycle) reg value) else None) }
+    ensures state { G.state group.new cycle ≡ (if G.machine.has reg then G.machine.write (G.state group.old cycle) cycle reg value else G.state group.old cycle) }
+    ensures ready { Ready G.machine (G.state group.new) (G.until group.new) (G.stands group.new) levels.now cycle next.new.due next.new.request }
+{
+    if G::has(reg) {
+        let moves = group.write(cycle, levels, reg, value);
+        *next = next_of(group);
+        Some(moves)
+    } else {
+        None
+    }
+}
+
+/// Writes one bit of a register alone, with the same answer.
+#[inline]
+pub(crate) fn write_bit<G: Group>(
+    group: &mut G,
+    next: &mut Next,
+    cycle: u32,
+    levels: &[Level],
+    reg: u8,
+    bit: u8,
+    value: bool,
+) -> Option<bool>
+    requires bit { bit < 8 }
+    requires levels { length levels.now ≡ PORT_PINS }
+    requires ready { Ready G.machine (G.state group.old) (G.until group.old) (G.stands group.old) levels.now cycle next.old.due next.old.request }
+    ensures moves { result ≡ (if G.machine.has reg then Some (G.machine.bit_moves (G.state group.old cycle) reg bit value) else None) }
+    ensures state { G.state group.new cycle ≡ (if G.machine.has reg then G.machine.write_bit (G.state group.old cycle) cycle reg bit value else G.state group.old cycle) }
+    ensures ready { Ready G.machine (G.state group.new) (G.until group.new) (G.stands group.new) levels.now cycle next.new.due next.new.request }
+{
+    if G::has(reg) {
+        let moves = group.write_bit(cycle, levels, reg, bit, value);
+        *next = next_of(group);
+        Some(moves)
+    } else {
+        None
+    }
+}
+
+/// Clears what entering a vector clears.
+#[inline]
+pub(crate) fn taken<G: Group>(
+    group: &mut G,
+    next: &mut Next,
+    cycle: u32,
+    levels: &[Level],
+    vector: u8,
+)
+    requires levels { length levels.now ≡ PORT_PINS }
+    requires ready { Ready G.machine (G.state group.old) (G.until group.old) (G.stands group.old) levels.now cycle next.old.due next.old.request }
+    ensures state { G.state group.new cycle ≡ G.machine.taken (G.state group.old cycle) vector }
+    ensures ready { Ready G.machine (G.state group.new) (G.until group.new) (G.stands group.new) levels.now cycle next.new.due next.new.request }
+{
+    group.taken(cycle, levels, vector);
+    *next = next_of(group);
+}
+
+/// One cycle, from the levels before to those now, and the byte that leaves.
+#[inline]
+pub(crate) fn step<G: Group>(
+    group: &mut G,
+    next: &mut Next,
+    cycle: u32,
+    before: &[Level],
+    now: &[Level],
+) -> Option<u8>
+    requires before { length before.now ≡ PORT_PINS }
+    requires levels { length now.now ≡ PORT_PINS }
+    requires end { cycle < MOST_CYCLES }
+    requires ready { Ready G.machine (G.state group.old) (G.until group.old) (G.stands group.old) before.now cycle next.old.due next.old.request }
+    ensures byte { result ≡ G.machine.sends (G.state group.old cycle) cycle }
+    ensures state { G.state group.new (cycle + 1) ≡ G.machine.step (G.state group.old cycle) cycle before.now now.now }
+    ensures ready { Ready G.machine (G.state group.new) (G.until group.new) (G.stands group.new) now.now (cycle + 1) next.new.due next.new.request }
+{
+    let byte = group.step(cycle, before, now);
+    *next = next_of(group);
+    byte
+}
+
+/// Goes on to a cycle, before which no unit has an event: nothing needs to be done.
+#[inline]
+pub(crate) fn skip<G: Group>(group: &G, next: Next, cycle: u32, to: u32, levels: &[Level])
+    requires ready { Ready G.machine (G.state group.now) (G.until group.now) (G.stands group.now) levels.now cycle next.due next.request }
+    requires forward { cycle ≤ to }
+    requires end { to ≤ MOST_CYCLES }
+    requires quiet { IsQuiet G.machine (G.state group.now cycle) cycle (to - cycle) }
+    ensures state { G.state group.now to ≡ steps G.machine (G.state group.now cycle) cycle (to - cycle) }
+    ensures ready { Ready G.machine (G.state group.now) (G.until group.now) (G.stands group.now) levels.now to next.due next.request }
+{
+    wait(group, cycle, to, levels);
+    let _ = next;
+}
