@@ -1,12 +1,12 @@
 //! Calls on a group of units, after each of which it is known what comes next.
-ghost use Rattle.std.specs.Prelude.{◌≡◌, ◌+◌, ◌-◌, ◌<◌, ◌≤◌, ℕ, List, length, replicate, Some, None, if◌then◌else◌};
+ghost use Rattle.std.specs.Prelude.{◌≡◌, ◌+◌, ◌-◌, ◌<◌, ◌≤◌, ℕ, List, length, replicate, Some, None, false, if◌then◌else◌};
 ghost use Rattle.sim_base.specs.declared.signal.Level.{Level};
 ghost use Rattle.sim_base.specs.declared.signal.Level.TheVariants as levels;
 ghost use Rattle.unit_law.specs.UnitMachine.{steps, IsQuiet};
 ghost use Rattle.avr_mcu.specs.Ready.{Ready};
 
 use sim_base::{Level, MOST_CYCLES};
-use unit_law::{Group, PORT_PINS, wait};
+use unit_law::{Group, PORT_PINS, may_move, wait};
 
 /// The first cycle in which a unit has an event, or `MOST_CYCLES`, and the least vector that is enabled and flagged, or
 /// `VECTORS`.
@@ -130,7 +130,8 @@ pub(crate) fn taken<G: Group>(
     *next = next_of(group);
 }
 
-/// One cycle, from the levels before to those now, and the byte that leaves.
+/// One cycle, from the levels before to those now: the byte that leaves, and whether it may change what a pin is asked
+/// for.
 #[inline]
 pub(crate) fn step<G: Group>(
     group: &mut G,
@@ -138,18 +139,42 @@ pub(crate) fn step<G: Group>(
     cycle: u32,
     before: &[Level],
     now: &[Level],
-) -> Option<u8>
+) -> (Option<u8>, bool)
     requires before { length before.now ≡ PORT_PINS }
     requires levels { length now.now ≡ PORT_PINS }
     requires end { cycle < MOST_CYCLES }
     requires ready { Ready G.machine (G.state group.old) (G.until group.old) (G.stands group.old) before.now cycle next.old.due next.old.request }
-    ensures byte { result ≡ G.machine.sends (G.state group.old cycle) cycle }
+    ensures byte { result.0 ≡ G.machine.sends (G.state group.old cycle) cycle }
+    ensures pads { result.1 ≡ false → (p : ℕ) → G.machine.pad (G.machine.step (G.state group.old cycle) cycle before.now now.now) p ≡ G.machine.pad (G.state group.old cycle) p }
     ensures state { G.state group.new (cycle + 1) ≡ G.machine.step (G.state group.old cycle) cycle before.now now.now }
     ensures ready { Ready G.machine (G.state group.new) (G.until group.new) (G.stands group.new) now.now (cycle + 1) next.new.due next.new.request }
 {
+    let moves = may_move(group, next.due, cycle, before, now);
     let byte = group.step(cycle, before, now);
     *next = next_of(group);
-    byte
+    (byte, moves)
+}
+
+/// The same on levels that stay.
+#[inline]
+pub(crate) fn turn<G: Group>(
+    group: &mut G,
+    next: &mut Next,
+    cycle: u32,
+    levels: &[Level],
+) -> (Option<u8>, bool)
+    requires levels { length levels.now ≡ PORT_PINS }
+    requires end { cycle < MOST_CYCLES }
+    requires ready { Ready G.machine (G.state group.old) (G.until group.old) (G.stands group.old) levels.now cycle next.old.due next.old.request }
+    ensures byte { result.0 ≡ G.machine.sends (G.state group.old cycle) cycle }
+    ensures pads { result.1 ≡ false → (p : ℕ) → G.machine.pad (G.machine.step (G.state group.old cycle) cycle levels.now levels.now) p ≡ G.machine.pad (G.state group.old cycle) p }
+    ensures state { G.state group.new (cycle + 1) ≡ G.machine.step (G.state group.old cycle) cycle levels.now levels.now }
+    ensures ready { Ready G.machine (G.state group.new) (G.until group.new) (G.stands group.new) levels.now (cycle + 1) next.new.due next.new.request }
+{
+    let moves = group.event_moves(cycle);
+    let byte = group.step(cycle, levels, levels);
+    *next = next_of(group);
+    (byte, moves)
 }
 
 /// Goes on to a cycle, before which no unit has an event: nothing needs to be done.

@@ -176,8 +176,7 @@ impl Part for Mcu {
 
     fn wake(&mut self, levels: &[Level], _input: Option<u16>) -> Option<u8> {
         self.act();
-        let moves = self.units.moves(levels);
-        let byte = self.units.step(levels);
+        let (byte, moves) = self.units.step(levels);
         self.cycle += 1;
         self.wakes += 1;
         self.moved = moved_by(self.moved, moves);
@@ -369,8 +368,7 @@ pub(crate) fn tick(units: &mut Units, cycle: u32) -> (Option<u8>, bool)
         units.skip(cycle + 1);
         (None, false)
     } else {
-        let moves = units.event_moves();
-        (units.turn(), moves)
+        units.turn()
     }
 }
 

@@ -8,7 +8,7 @@ ghost use Rattle.avr_mcu.specs.Devices.{devices};
 ghost use Rattle.avr_mcu.specs.Units.{UnitsAt, unit_bus, reset, pins, request, units_step, above, above_in, with_above, plain, plain_of, with_plain, register, after_read, with_register, with_register_bit, at_port, one_pin, pins_of, pins_of_bit, touched_by};
 ghost use Rattle.part_law.specs.Spans.{no_pins};
 
-use crate::asking::{Next, begin, read, skip, step, taken, write, write_bit};
+use crate::asking::{Next, begin, read, skip, step, taken, turn, write, write_bit};
 use crate::devices::Devices;
 use crate::pins::UNO_PINS;
 use avr_core::DataBus;
@@ -16,7 +16,7 @@ use part_law::Span;
 use sim_base::{Drive, Level, MOST_CYCLES, OutOfMemory};
 use std::alloc::{AllocError, Global};
 use std::marker::Model;
-use unit_law::{Group, PORT_PINS, may_move, with_bit};
+use unit_law::{Group, PORT_PINS, with_bit};
 
 /// General purpose I/O registers, which only keep what is written (data sheet, "Register Summary").
 const GPIOR0: u8 = 0x3E;
@@ -88,15 +88,17 @@ impl Units {
     pub(crate) fn new(alloc: Global) -> Result<Units, OutOfMemory>
         ensures { IfOk result (λ u. u ≡ record { units = reset devices; held = replicate UNO_PINS levels.Z; cycle = 0; touched = no_pins }) }
     {
+        let sram = zeros(alloc, 2048)?;
+        let ignored = none_of(alloc, 256)?;
         let (devices, next) = begin();
         Ok(Units {
             devices,
-            sram: zeros(alloc, 2048)?,
+            sram,
             gpior0: 0,
             gpior1: 0,
             gpior2: 0,
             smcr: 0,
-            ignored: none_of(alloc, 256)?,
+            ignored,
             held: [Level::Z; UNO_PINS],
             cycle: 0,
             next,
@@ -182,36 +184,16 @@ impl Units {
         self.cycle = to;
     }
 
-    /// Whether a cycle on these levels may change what a pin is asked for.
-    pub(crate) fn moves(&self, levels: &[Level]) -> bool
-        requires { length levels.now ≡ UNO_PINS }
-        ensures { result ≡ false → (p : ℕ) → devices.pad (devices.step self.now.units.devices self.now.cycle (pins self.now.held) (pins levels.now)) p ≡ devices.pad self.now.units.devices p }
-    {
-        may_move(
-            &self.devices,
-            self.next.due,
-            self.cycle,
-            &self.held[..PORT_PINS],
-            seen(levels),
-        )
-    }
-
-    /// Whether an event of its cycle may change what a pin is asked for.
-    #[inline]
-    pub(crate) fn event_moves(&self) -> bool
-        ensures { result ≡ false → (p : ℕ) → devices.pad (devices.step self.now.units.devices self.now.cycle (pins self.now.held) (pins self.now.held)) p ≡ devices.pad self.now.units.devices p }
-    {
-        self.devices.event_moves(self.cycle)
-    }
-
-    /// One cycle on these levels of the Uno's pins, and the byte that leaves.
-    pub(crate) fn step(&mut self, levels: &[Level]) -> Option<u8>
+    /// One cycle on these levels of the Uno's pins: the byte that leaves, and whether it may change what a pin is asked
+    /// for.
+    pub(crate) fn step(&mut self, levels: &[Level]) -> (Option<u8>, bool)
         requires levels { length levels.now ≡ UNO_PINS }
         requires end { self.old.cycle < MOST_CYCLES }
-        ensures byte { result ≡ devices.sends self.old.units.devices self.old.cycle }
+        ensures byte { result.0 ≡ devices.sends self.old.units.devices self.old.cycle }
+        ensures pads { result.1 ≡ false → (p : ℕ) → devices.pad (devices.step self.old.units.devices self.old.cycle (pins self.old.held) (pins levels.now)) p ≡ devices.pad self.old.units.devices p }
         ensures state { self.new ≡ record self.old { units = units_step devices self.old.units self.old.cycle self.old.held levels.now; held = levels.now; cycle = self.old.cycle + 1 } }
     {
-        let byte = step(
+        let told = step(
             &mut self.devices,
             &mut self.next,
             self.cycle,
@@ -220,25 +202,25 @@ impl Units {
         );
         self.held.copy_from_slice(levels);
         self.cycle += 1;
-        byte
+        told
     }
 
-    /// One cycle on the levels that it holds, and the byte that leaves.
+    /// The same on the levels that it holds.
     #[inline(never)]
-    pub(crate) fn turn(&mut self) -> Option<u8>
+    pub(crate) fn turn(&mut self) -> (Option<u8>, bool)
         requires end { self.old.cycle < MOST_CYCLES }
-        ensures byte { result ≡ devices.sends self.old.units.devices self.old.cycle }
+        ensures byte { result.0 ≡ devices.sends self.old.units.devices self.old.cycle }
+        ensures pads { result.1 ≡ false → (p : ℕ) → devices.pad (devices.step self.old.units.devices self.old.cycle (pins self.old.held) (pins self.old.held)) p ≡ devices.pad self.old.units.devices p }
         ensures state { self.new ≡ record self.old { units = units_step devices self.old.units self.old.cycle self.old.held self.old.held; cycle = self.old.cycle + 1 } }
     {
-        let byte = step(
+        let told = turn(
             &mut self.devices,
             &mut self.next,
             self.cycle,
             &self.held[..PORT_PINS],
-            &self.held[..PORT_PINS],
         );
         self.cycle += 1;
-        byte
+        told
     }
 }
 

@@ -21,4 +21,4 @@ returns-then-cycle-due-clause-pads c = λ h p.
 
 pub returns-else-cycle-due-clause-pads : goal.returns-else-cycle-due-clause-pads
 returns-else-cycle-due-clause-pads c = λ h p.
-    ap (λ (x : UnitsAt Devices). devices.pad x.units.devices p) c.turn.ensures.state ∙ c.event_moves-moves.ensures h p
+    ap (λ (x : UnitsAt Devices). devices.pad x.units.devices p) c.turn.ensures.state ∙ c.turn.ensures.pads h p

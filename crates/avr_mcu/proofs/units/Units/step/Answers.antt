@@ -3,16 +3,21 @@ use Rattle.avr_mcu.specs.Devices.{Devices, devices}
 use Rattle.avr_mcu.specs.Units.{UnitsAt, pins}
 use Rattle.avr_mcu.specs.contracts.units.Units.{the_view}
 use Rattle.avr_mcu.proofs.UnitsLemmas.{units_held}
+use Rattle.avr_mcu.proofs.CallLemmas.{units_still}
 use Rattle.avr_mcu.proofs.units.Units.step.Goals as goal
 
-pub step-byte-requires-clause-ready : goal.step-byte-requires-clause-ready
-step-byte-requires-clause-ready c = c.self.invariant.ready
+pub step-told-requires-clause-ready : goal.step-told-requires-clause-ready
+step-told-requires-clause-ready c = c.self.invariant.ready
 
 pub returns-clause-state : goal.returns-clause-state
 returns-clause-state c =
     let v = the_view c.self.inside in
     units_held devices c.args.self.now v c.self.view_is (λ (y : UnitsAt Devices). devices.step y.units.devices y.cycle (pins y.held) (pins c.args.levels.now)) _ c.args.levels.now _ (λ (y : UnitsAt Devices). y.cycle + 1)
-    (c.step-byte.ensures.state ∙ ap (devices.step v.units.devices v.cycle (pins v.held)) c.seen.ensures.value) c.copy_from_slice.ensures.after
+    (c.step-told.ensures.state ∙ ap (devices.step v.units.devices v.cycle (pins v.held)) c.seen.ensures.value) c.copy_from_slice.ensures.after
+
+pub returns-clause-pads : goal.returns-clause-pads
+returns-clause-pads c = λ e p.
+    units_still devices c.args.self.now (the_view c.self.inside) c.self.view_is c.args.levels.now c.seen.result.now p c.seen.ensures.value (c.step-told.ensures.pads e p)
 
 pub invariant_of-self : goal.invariant_of-self
 invariant_of-self c =
@@ -21,6 +26,6 @@ invariant_of-self c =
       sram = c.self.invariant.sram;
       ignored = c.self.invariant.ignored;
       held = ap length c.copy_from_slice.ensures.after ∙ c.requires.levels;
-      ready = rw e c.step-byte.ensures.ready;
+      ready = rw e c.step-told.ensures.ready;
       end = omega (arith, c.requires.end);
     }
