@@ -5,6 +5,10 @@ use Rattle.std.specs.Option.{option_to_list}
 use Rattle.sim_base.specs.Rows.{Row, Appends, StopsWithin, AreFronts, Handed}
 use Rattle.board_model.specs.Board.{options}
 
+-- something is not nothing
+pub some_none : {A B : Type 0} {x : A} → Some x ≡ None → B
+some_none e = absurd cc
+
 pub options-append : (xs ys : List (Option ℕ)) → options (xs ++ ys) ≡ options xs ++ options ys
 options-append [] ys = refl
 options-append (None ∷ xs) ys = options-append xs ys

@@ -289,3 +289,35 @@ module _ {S P : Type 0} (m : Machine S) (laws : Laws m) (w : Wiring) (state : P 
         answers_are =
             let there : length (map (λ (r : S × Option ℕ). r.1) (steps_from m w inputs seen.circuit.levels t 0 (Ts t old))) ≡ length old = simp (length-map, length-steps_from) in
             same_lists answers _ (answers_long ∙ sym there) (λ k x y ex ey. some_same (sym ex ∙ turns.answered k (omega (arith, slice_get_within answers k x ex, answers_long)) ∙ ey))
+
+  -- what a cycle does in which the active parts have their turn
+  pub record Happens (inputs : List Input) (t : ℕ) (old new : List P) (before after : Seen) (answers dues : List (Option ℕ)) (changed : Bool) (steps more : ℕ) : Type 0 where
+    pub leg : Leg m w state now wakes inputs t (t + 1) old new before after steps more
+    pub lags : (j : ℕ) (none : List (Option ℕ)) → length none ≡ length answers → AreNone none → Lags m w state now wakes (t + 1) new (record { input = j; stale = changed; dues = dues; seen = after; answers = none })
+    pub tells : LastTells m w inputs changed (Ts t old) t (t + 1 - t)
+    pub rows_are : row_if m w (shown_at t before) (map state old) t ≡ rows m w inputs (shown_at t before) (Ts t old) t (t + 1 - t)
+    pub bytes_are : options answers ≡ bytes m w inputs (Ts t old) t (t + 1 - t)
+
+  pub happens : (inputs : List Input) (t i j : ℕ) (old new : List P) (kept : Kept) (seen after : Seen) (set : PartSet) (answers dues : List (Option ℕ)) (changed : Bool) (steps more : ℕ) →
+      Lags m w state now wakes t old kept → AreDiffering m w kept.seen.circuit.levels seen.circuit.levels (map state old) set → i ≤ j → AreBehind inputs i t → AreBehind inputs j (t + 1) →
+      IsOf m w (map state old) seen → Suits w seen → length new ≡ length old → length answers ≡ length kept.answers → length dues ≡ length kept.dues →
+      ((ts : List S) → Awaits m w state now (take (j - i) (drop i inputs)) inputs seen.circuit.levels set t old ts → Turns m w inputs state now wakes seen.circuit.levels t ts (length old) old new answers changed) →
+      ((ts : List S) → Awaits m w state now (take (j - i) (drop i inputs)) inputs seen.circuit.levels set t old ts → more ≡ steps + sum_below (length old) (λ k. active_in m w inputs seen.circuit.levels t k (slice_get ts k))) →
+      AreDue m state now wakes new dues → IsTold m (map state new) after.circuit → after ≡ retold seen after.circuit.drives after.circuit.closed →
+      Happens inputs t old new kept.seen after answers dues changed steps more
+  happens inputs t i j old new kept seen after set answers dues changed steps more lags differ on before behind is suits long answers_long dues_long turns_of counted due told rest =
+      let like = lags_stand t old kept lags in
+      let awaits = lags_await inputs t i j old kept seen set lags differ on before behind in
+      let turns = turns_of (Ts t old) awaits in
+      let ds = after.circuit.drives in
+      let cs = after.circuit.closed in
+      let here : Happens inputs t old new kept.seen (retold seen ds cs) answers dues changed steps more = record {
+        leg = event_leg inputs t old new seen answers changed long is suits like turns kept.seen ds cs steps more (counted (Ts t old) awaits);
+        lags = λ k none none_long silent.
+            event_lags inputs t old new seen answers changed long is suits like turns k dues none ds cs lags.few lags.fits (dues_long ∙ lags.dues_long) (none_long ∙ answers_long ∙ lags.answers_long) due silent
+            (record { drives_are = told.drives_are; closed_are = told.closed_are });
+        tells = event_tells inputs t old new seen answers changed long is suits like turns;
+        rows_are = event_rows inputs t old new seen answers changed long is suits like turns kept.seen;
+        bytes_are = event_bytes inputs t old new seen answers changed long is suits like turns (answers_long ∙ lags.answers_long);
+      } in
+      subst (λ (v : Seen). Happens inputs t old new kept.seen v answers dues changed steps more) (sym rest) here

@@ -27,7 +27,7 @@ use Rattle.board_run.specs.Parts.{AreNone}
 use Rattle.board_run.specs.Changes.{Tells, LastTells}
 use Rattle.board_run.specs.Seen.{Seen, Suits, IsOf, IsTold, shown, shown_at}
 use Rattle.board_run.specs.Lagging.{glided, AreDue}
-use Rattle.board_run.specs.Legs.{Kept, Lags, Leg}
+use Rattle.board_run.specs.Legs.{Kept, Lags, Leg, AreAt}
 use Rattle.sim_base.specs.Rows.{StopsWithin, AreFronts, Handed}
 use Rattle.sim_base.specs.declared.limits.TheConstants.{MOST_CYCLES}
 use Rattle.board_run.proofs.NextLemmas.{below_or, quiet_until}
@@ -482,6 +482,31 @@ module _ {S P : Type 0} (m : Machine S) (laws : Laws m) (w : Wiring) (state : P 
             ap (λ (s : S). length (m.drives s)) (sym a.2) ∙ sym (ap length h.0) ∙ ap (λ (s : S). length (m.drives s)) b.2,
             ap (λ (s : S). length (m.contacts s)) (sym a.2) ∙ sym (ap length h.1) ∙ ap (λ (s : S). length (m.contacts s)) b.2,
           )
+
+  -- what a board whose parts stood at cycle t has at cycle u, where they are brought
+  pub record Settles (t u : ℕ) (old new : List P) (before : Seen) (kept : Kept) (steps more : ℕ) : Type 0 where
+    pub states_are : map state new ≡ states m w inputs (map state old) t (u - t)
+    pub lags : Lags m w state now wakes u new kept
+    pub at : AreAt now u new
+    pub before_is : shown_before m w inputs (shown_at t before) (map state old) t (u - t) ≡ shown_at u kept.seen
+    pub woken : (k : ℕ) (p q : P) → slice_get old k ≡ Some p → slice_get new k ≡ Some q → wakes q ≡ wakes p + active_cycles m w inputs (map state old) t (u - t) k
+    pub steps_are : more ≡ steps + active_pairs m w inputs (map state old) t (u - t)
+
+  pub settles : (t u : ℕ) (old mid new : List P) (before : Seen) (kept : Kept) (after : List (Option ℕ)) (steps more : ℕ) → AreAt now t old →
+      Leg m w state now wakes inputs t u old mid before kept.seen steps more → Lags m w state now wakes u mid kept → length new ≡ length mid → length after ≡ length kept.dues →
+      ((k : ℕ) (p q : P) → slice_get mid k ≡ Some p → slice_get new k ≡ Some q → (state q ≡ glided m state now wakes u p) × (now q ≡ u) × (wakes q ≡ wakes p)) → AreDue m state now wakes new after →
+      Settles t u old new before (record { input = kept.input; stale = kept.stale; dues = after; seen = kept.seen; answers = kept.answers }) steps more
+  settles t u old mid new before kept after steps more at leg lags long dues_long settled due =
+      let here = at_here t old at in
+      record {
+        states_are = settled_are u mid new long settled ∙ leg.states_are ∙ ap (λ (l : List S). states m w inputs l t (u - t)) here;
+        lags = settled_lags u mid new kept after lags long dues_long settled due;
+        at = now_settled u mid new long settled;
+        before_is = ap (λ (l : List S). shown_before m w inputs (shown_at t before) l t (u - t)) (sym here) ∙ leg.before_is;
+        woken = subst (λ (l : List S). (k : ℕ) (p q : P) → slice_get old k ≡ Some p → slice_get new k ≡ Some q → wakes q ≡ wakes p + active_cycles m w inputs l t (u - t) k) here
+            (woken_settled u old mid new _ long leg.woken settled);
+        steps_are = leg.steps_are ∙ ap (λ (l : List S). steps + active_pairs m w inputs l t (u - t)) here;
+      }
 
 -- a board at cycle 0 of which nothing was read
 pub lags_start : {S P : Type 0} (m : Machine S) (w : Wiring) (state : P → S) (now wakes : P → ℕ) (parts : List P) (kept : Kept) → kept.stale ≡ true → length parts ≤ 64 → AreFresh m state now wakes parts →

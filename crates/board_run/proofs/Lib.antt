@@ -12,3 +12,4 @@ pub mod LagLemmas
 pub mod LegLemmas
 pub mod NextLemmas
 pub mod AloneLemmas
+pub mod ViewLemmas

@@ -20,8 +20,8 @@ pub(crate) struct Next {
     pub(crate) stale: bool,
 }
 
-/// Reads what the parts show, where it may have changed, and tells whether rows show what they showed before, and
-/// which parts have a pin whose level is another one than before.
+/// Reads what the parts show, where a drive or a contact changed, and tells whether rows show what they showed before,
+/// and which parts have a pin whose level is another one than before.
 #[inline]
 fn refresh<P: Part>(
     stale: bool,

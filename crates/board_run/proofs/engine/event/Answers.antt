@@ -3,10 +3,13 @@ use Rattle.board_model.proofs.Lists.{some_same}
 use Rattle.board_run.specs.Lagging.{glided}
 use Rattle.board_run.specs.Changes.{LastTells}
 use Rattle.board_run.specs.Seen.{Seen}
-use Rattle.board_run.specs.Legs.{Kept, Lags, Leg}
+use Rattle.board_run.specs.Upcoming.{AreBehind}
+use Rattle.board_run.specs.Legs.{Kept, Lags}
 use Rattle.board_run.specs.declared.show.Next.{Next}
-use Rattle.board_run.proofs.HandLemmas.{handed_both, stopped_first, stopped_second}
-use Rattle.board_run.proofs.LagLemmas.{lags_stand, lags_await, lags_differ, event_lags, event_leg, event_tells, event_rows, event_bytes}
+use Rattle.board_run.proofs.HandLemmas.{some_none, handed_both, stopped_first, stopped_second}
+use Rattle.board_run.proofs.LagLemmas.{Happens, happens, lags_differ}
+use Rattle.board_run.proofs.engine.event.Given.{Over}
+use Rattle.board_run.proofs.engine.event.Goals.{After-turn_read-woken}
 use Rattle.board_run.proofs.engine.event.Goals as goal
 
 pub turn_read-woken-requires-clause-differ : goal.turn_read-woken-requires-clause-differ
@@ -16,177 +19,79 @@ turn_read-woken-requires-clause-differ g c =
     let kept : Kept = record { input = c.args.next.input; stale = c.args.next.stale; dues = c.args.dues.now; seen = c.args.reading.now; answers = c.args.answers.now } in
     lags_differ p.machine g.met.P.Part.laws c.args.wiring.now p.state p.now p.wake_count c.args.t c.args.parts.now kept c.show_cycle-shown.new.reading c.show_cycle-shown.result.1 c.requires.lags s.differ
 
-pub returns-in-Ok-hand_sent-clause-lags : goal.returns-in-Ok-hand_sent-clause-lags
-returns-in-Ok-hand_sent-clause-lags g c = λ x ex.
+-- the cycle up to its bytes
+cycle : (g : Over) (c : After-turn_read-woken g) → Happens g.P.Part.machine g.met.P.Part.laws c.args.wiring.now g.P.Part.state g.P.Part.now g.P.Part.wake_count c.args.inputs.now c.args.t
+    c.args.parts.now c.turn_read-woken.new.parts c.args.reading.now c.turn_read-woken.new.reading c.turn_read-woken.new.answers c.turn_read-woken.new.dues c.turn_read-woken.result.changed c.args.steps.now c.turn_read-woken.new.steps
+cycle g c =
     let p = g.P.Part in
-    let m = p.machine in
-    let laws = g.met.P.Part.laws in
-    let w = c.args.wiring.now in
-    let inputs = c.args.inputs.now in
-    let t = c.args.t in
-    let old = c.args.parts.now in
-    let e = c.turn_read-woken in
-    let seen = c.show_cycle-shown.new.reading in
+    let a = c.args in
     let s = c.show_cycle-shown.ensures in
-    let kept : Kept = record { input = c.args.next.input; stale = c.args.next.stale; dues = c.args.dues.now; seen = c.args.reading.now; answers = c.args.answers.now } in
-    let like = lags_stand m laws w p.state p.now p.wake_count t old kept c.requires.lags in
-    let awaits = lags_await m laws w p.state p.now p.wake_count inputs t c.args.next.input c.end_of_cycle-end.result old kept seen c.show_cycle-shown.result.1 c.requires.lags s.differ
-    c.end_of_cycle-end.ensures.from c.requires.behind c.end_of_cycle-end.ensures.behind in
-    let turns = e.ensures.turns inputs (map (glided m p.state p.now p.wake_count t) old) awaits in
-    let answers_long = c.hand_sent.auto.answers ∙ e.auto.answers ∙ c.requires.lags.answers_long in
-    subst (λ (n : Next). Lags m w p.state p.now p.wake_count (t + 1) e.new.parts (record { input = n.input; stale = n.stale; dues = e.new.dues; seen = e.new.reading; answers = c.hand_sent.new.answers })) (some_same ex)
-    (subst (λ (z : Seen). Lags m w p.state p.now p.wake_count (t + 1) e.new.parts (record { input = c.end_of_cycle-end.result; stale = e.result.changed; dues = e.new.dues; seen = z; answers = c.hand_sent.new.answers })) (sym e.ensures.rest)
-    (event_lags m laws w p.state p.now p.wake_count inputs t old e.new.parts seen e.new.answers e.result.changed e.auto.parts s.of s.suits like turns c.end_of_cycle-end.result e.new.dues c.hand_sent.new.answers e.new.reading.circuit.drives e.new.reading.circuit.closed c.requires.lags.few c.requires.lags.fits (e.ensures.dues ∙ c.requires.lags.dues_long) answers_long e.ensures.due c.hand_sent.ensures.none (record { drives_are = e.ensures.told.drives_are; closed_are = e.ensures.told.closed_are })))
+    let end = c.end_of_cycle-end in
+    let e = c.turn_read-woken in
+    let kept : Kept = record { input = a.next.input; stale = a.next.stale; dues = a.dues.now; seen = a.reading.now; answers = a.answers.now } in
+    happens p.machine g.met.P.Part.laws a.wiring.now p.state p.now p.wake_count a.inputs.now a.t a.next.input end.result a.parts.now e.new.parts kept c.show_cycle-shown.new.reading e.new.reading c.show_cycle-shown.result.1
+    e.new.answers e.new.dues e.result.changed a.steps.now e.new.steps c.requires.lags s.differ end.ensures.from c.requires.behind end.ensures.behind s.of s.suits e.auto.parts e.auto.answers e.ensures.dues
+    (e.ensures.turns a.inputs.now) (e.ensures.steps a.inputs.now) e.ensures.due e.ensures.told e.ensures.rest
 
-pub returns-in-Ok-hand_sent-clause-leg : goal.returns-in-Ok-hand_sent-clause-leg
-returns-in-Ok-hand_sent-clause-leg g c =
+pub returns-in-Ok-hand_sent : goal.returns-in-Ok-hand_sent
+returns-in-Ok-hand_sent g c =
     let p = g.P.Part in
-    let m = p.machine in
-    let laws = g.met.P.Part.laws in
-    let w = c.args.wiring.now in
-    let inputs = c.args.inputs.now in
-    let t = c.args.t in
-    let old = c.args.parts.now in
-    let e = c.turn_read-woken in
-    let seen = c.show_cycle-shown.new.reading in
-    let s = c.show_cycle-shown.ensures in
-    let kept : Kept = record { input = c.args.next.input; stale = c.args.next.stale; dues = c.args.dues.now; seen = c.args.reading.now; answers = c.args.answers.now } in
-    let like = lags_stand m laws w p.state p.now p.wake_count t old kept c.requires.lags in
-    let awaits = lags_await m laws w p.state p.now p.wake_count inputs t c.args.next.input c.end_of_cycle-end.result old kept seen c.show_cycle-shown.result.1 c.requires.lags s.differ
-    c.end_of_cycle-end.ensures.from c.requires.behind c.end_of_cycle-end.ensures.behind in
-    let turns = e.ensures.turns inputs (map (glided m p.state p.now p.wake_count t) old) awaits in
-    let answers_long = e.auto.answers ∙ c.requires.lags.answers_long in
-    subst (λ (z : Seen). Leg m w p.state p.now p.wake_count inputs t (t + 1) old e.new.parts c.args.reading.now z c.args.steps.now e.new.steps) (sym e.ensures.rest)
-    (event_leg m laws w p.state p.now p.wake_count inputs t old e.new.parts seen e.new.answers e.result.changed e.auto.parts s.of s.suits like turns c.args.reading.now e.new.reading.circuit.drives e.new.reading.circuit.closed c.args.steps.now e.new.steps (e.ensures.steps inputs (map (glided m p.state p.now p.wake_count t) old) awaits))
-
-pub returns-in-Failed-hand_sent-clause-leg : goal.returns-in-Failed-hand_sent-clause-leg
-returns-in-Failed-hand_sent-clause-leg g c =
-    let p = g.P.Part in
-    let m = p.machine in
-    let laws = g.met.P.Part.laws in
-    let w = c.args.wiring.now in
-    let inputs = c.args.inputs.now in
-    let t = c.args.t in
-    let old = c.args.parts.now in
-    let e = c.turn_read-woken in
-    let seen = c.show_cycle-shown.new.reading in
-    let s = c.show_cycle-shown.ensures in
-    let kept : Kept = record { input = c.args.next.input; stale = c.args.next.stale; dues = c.args.dues.now; seen = c.args.reading.now; answers = c.args.answers.now } in
-    let like = lags_stand m laws w p.state p.now p.wake_count t old kept c.requires.lags in
-    let awaits = lags_await m laws w p.state p.now p.wake_count inputs t c.args.next.input c.end_of_cycle-end.result old kept seen c.show_cycle-shown.result.1 c.requires.lags s.differ
-    c.end_of_cycle-end.ensures.from c.requires.behind c.end_of_cycle-end.ensures.behind in
-    let turns = e.ensures.turns inputs (map (glided m p.state p.now p.wake_count t) old) awaits in
-    let answers_long = e.auto.answers ∙ c.requires.lags.answers_long in
-    subst (λ (z : Seen). Leg m w p.state p.now p.wake_count inputs t (t + 1) old e.new.parts c.args.reading.now z c.args.steps.now e.new.steps) (sym e.ensures.rest)
-    (event_leg m laws w p.state p.now p.wake_count inputs t old e.new.parts seen e.new.answers e.result.changed e.auto.parts s.of s.suits like turns c.args.reading.now e.new.reading.circuit.drives e.new.reading.circuit.closed c.args.steps.now e.new.steps (e.ensures.steps inputs (map (glided m p.state p.now p.wake_count t) old) awaits))
-
-pub returns-in-Failed-clause-leg : goal.returns-in-Failed-clause-leg
-returns-in-Failed-clause-leg g c =
-    let p = g.P.Part in
-    let m = p.machine in
-    let laws = g.met.P.Part.laws in
-    let w = c.args.wiring.now in
-    let inputs = c.args.inputs.now in
-    let t = c.args.t in
-    let old = c.args.parts.now in
-    let e = c.turn_read-woken in
-    let seen = c.show_cycle-shown.new.reading in
-    let s = c.show_cycle-shown.ensures in
-    let kept : Kept = record { input = c.args.next.input; stale = c.args.next.stale; dues = c.args.dues.now; seen = c.args.reading.now; answers = c.args.answers.now } in
-    let like = lags_stand m laws w p.state p.now p.wake_count t old kept c.requires.lags in
-    let awaits = lags_await m laws w p.state p.now p.wake_count inputs t c.args.next.input c.end_of_cycle-end.result old kept seen c.show_cycle-shown.result.1 c.requires.lags s.differ
-    c.end_of_cycle-end.ensures.from c.requires.behind c.end_of_cycle-end.ensures.behind in
-    let turns = e.ensures.turns inputs (map (glided m p.state p.now p.wake_count t) old) awaits in
-    let answers_long = e.auto.answers ∙ c.requires.lags.answers_long in
-    subst (λ (z : Seen). Leg m w p.state p.now p.wake_count inputs t (t + 1) old e.new.parts c.args.reading.now z c.args.steps.now e.new.steps) (sym e.ensures.rest)
-    (event_leg m laws w p.state p.now p.wake_count inputs t old e.new.parts seen e.new.answers e.result.changed e.auto.parts s.of s.suits like turns c.args.reading.now e.new.reading.circuit.drives e.new.reading.circuit.closed c.args.steps.now e.new.steps (e.ensures.steps inputs (map (glided m p.state p.now p.wake_count t) old) awaits))
-
-pub returns-in-Ok-hand_sent-clause-moved : goal.returns-in-Ok-hand_sent-clause-moved
-returns-in-Ok-hand_sent-clause-moved g c = λ x ex.
-    let p = g.P.Part in
-    let m = p.machine in
-    let laws = g.met.P.Part.laws in
-    let w = c.args.wiring.now in
-    let inputs = c.args.inputs.now in
-    let t = c.args.t in
-    let old = c.args.parts.now in
-    let e = c.turn_read-woken in
-    let seen = c.show_cycle-shown.new.reading in
-    let s = c.show_cycle-shown.ensures in
-    let kept : Kept = record { input = c.args.next.input; stale = c.args.next.stale; dues = c.args.dues.now; seen = c.args.reading.now; answers = c.args.answers.now } in
-    let like = lags_stand m laws w p.state p.now p.wake_count t old kept c.requires.lags in
-    let awaits = lags_await m laws w p.state p.now p.wake_count inputs t c.args.next.input c.end_of_cycle-end.result old kept seen c.show_cycle-shown.result.1 c.requires.lags s.differ
-    c.end_of_cycle-end.ensures.from c.requires.behind c.end_of_cycle-end.ensures.behind in
-    let turns = e.ensures.turns inputs (map (glided m p.state p.now p.wake_count t) old) awaits in
-    subst (λ (n : Next). LastTells m w inputs n.stale (map (glided m p.state p.now p.wake_count t) old) t (t + 1 - t)) (some_same ex)
-    (event_tells m laws w p.state p.now p.wake_count inputs t old e.new.parts seen e.new.answers e.result.changed e.auto.parts s.of s.suits like turns)
-
-pub returns-in-Ok-hand_sent-clause-handed : goal.returns-in-Ok-hand_sent-clause-handed
-returns-in-Ok-hand_sent-clause-handed g c = λ x ex.
-    let p = g.P.Part in
-    let m = p.machine in
-    let laws = g.met.P.Part.laws in
-    let w = c.args.wiring.now in
-    let inputs = c.args.inputs.now in
-    let t = c.args.t in
-    let old = c.args.parts.now in
-    let e = c.turn_read-woken in
-    let seen = c.show_cycle-shown.new.reading in
-    let s = c.show_cycle-shown.ensures in
-    let kept : Kept = record { input = c.args.next.input; stale = c.args.next.stale; dues = c.args.dues.now; seen = c.args.reading.now; answers = c.args.answers.now } in
-    let like = lags_stand m laws w p.state p.now p.wake_count t old kept c.requires.lags in
-    let awaits = lags_await m laws w p.state p.now p.wake_count inputs t c.args.next.input c.end_of_cycle-end.result old kept seen c.show_cycle-shown.result.1 c.requires.lags s.differ
-    c.end_of_cycle-end.ensures.from c.requires.behind c.end_of_cycle-end.ensures.behind in
-    let turns = e.ensures.turns inputs (map (glided m p.state p.now p.wake_count t) old) awaits in
-    let answers_long = e.auto.answers ∙ c.requires.lags.answers_long in
     let o = g.W.Watcher in
-    handed_both o.whole o.faults o.stands c.args.out.now c.show_cycle-shown.new.out c.hand_sent.new.out _ _ _ _ (s.ok c.in-Ok.is) (c.in-Ok-hand_sent.ensures.ok refl)
-    (event_rows m laws w p.state p.now p.wake_count inputs t old e.new.parts seen e.new.answers e.result.changed e.auto.parts s.of s.suits like turns c.args.reading.now) (event_bytes m laws w p.state p.now p.wake_count inputs t old e.new.parts seen e.new.answers e.result.changed e.auto.parts s.of s.suits like turns answers_long)
-
-pub returns-in-Failed-hand_sent-clause-failed : goal.returns-in-Failed-hand_sent-clause-failed
-returns-in-Failed-hand_sent-clause-failed g c = λ none.
-    let p = g.P.Part in
     let m = p.machine in
-    let laws = g.met.P.Part.laws in
-    let w = c.args.wiring.now in
-    let inputs = c.args.inputs.now in
-    let t = c.args.t in
-    let old = c.args.parts.now in
-    let e = c.turn_read-woken in
-    let seen = c.show_cycle-shown.new.reading in
+    let a = c.args in
+    let w = a.wiring.now in
+    let inputs = a.inputs.now in
+    let t = a.t in
     let s = c.show_cycle-shown.ensures in
-    let kept : Kept = record { input = c.args.next.input; stale = c.args.next.stale; dues = c.args.dues.now; seen = c.args.reading.now; answers = c.args.answers.now } in
-    let like = lags_stand m laws w p.state p.now p.wake_count t old kept c.requires.lags in
-    let awaits = lags_await m laws w p.state p.now p.wake_count inputs t c.args.next.input c.end_of_cycle-end.result old kept seen c.show_cycle-shown.result.1 c.requires.lags s.differ
-    c.end_of_cycle-end.ensures.from c.requires.behind c.end_of_cycle-end.ensures.behind in
-    let turns = e.ensures.turns inputs (map (glided m p.state p.now p.wake_count t) old) awaits in
-    let answers_long = e.auto.answers ∙ c.requires.lags.answers_long in
-    let o = g.W.Watcher in
-    let h = s.ok c.in-Ok.is in
-    let f = c.in-Failed-hand_sent.ensures.failed refl in (
-      rw (← h.no_fault) f.0,
-      stopped_second o.whole o.faults o.stands o.stopped c.args.out.now c.show_cycle-shown.new.out c.hand_sent.new.out _ _ _ _ h f.1
-          (event_rows m laws w p.state p.now p.wake_count inputs t old e.new.parts seen e.new.answers e.result.changed e.auto.parts s.of s.suits like turns c.args.reading.now) (event_bytes m laws w p.state p.now p.wake_count inputs t old e.new.parts seen e.new.answers e.result.changed e.auto.parts s.of s.suits like turns answers_long),
-    )
+    let e = c.turn_read-woken.new in
+    let hand = c.in-Ok-hand_sent.ensures in
+    let h = cycle g (goal.at.returns-in-Ok-hand_sent g c).After-turn_read-woken in
+    let lags = h.lags c.end_of_cycle-end.result c.hand_sent.new.answers c.hand_sent.auto.answers c.hand_sent.ensures.none in
+    record {
+      lags = λ x ex. subst (λ (n : Next). Lags m w p.state p.now p.wake_count (t + 1) e.parts (record { input = n.input; stale = n.stale; dues = e.dues; seen = e.reading; answers = c.hand_sent.new.answers })) (some_same ex) lags;
+      behind = λ x ex. subst (λ (n : Next). AreBehind inputs n.input (t + 1)) (some_same ex) c.end_of_cycle-end.ensures.behind;
+      leg = h.leg;
+      handed = λ x ex. handed_both o.whole o.faults o.stands a.out.now c.show_cycle-shown.new.out c.hand_sent.new.out _ _ _ _ (s.ok c.in-Ok.is) (hand.ok refl) h.rows_are h.bytes_are;
+      moved = λ x ex. subst (λ (n : Next). LastTells m w inputs n.stale (map (glided m p.state p.now p.wake_count t) a.parts.now) t (t + 1 - t)) (some_same ex) h.tells;
+      last = λ x ex z ez.
+          let was = s.behind c.in-Ok.is z (sym (hand.last refl) ∙ ez) in
+          (was.0, subst (λ (v : Seen). o.seen c.hand_sent.new.out v.circuit.levels) (sym c.turn_read-woken.ensures.rest) (hand.seen refl c.show_cycle-shown.new.reading.circuit.levels was.1));
+      failed = λ none. some_none none;
+      place = c.hand_sent.ensures.place ∙ s.place;
+    }
 
-pub returns-in-Failed-clause-failed : goal.returns-in-Failed-clause-failed
-returns-in-Failed-clause-failed g c = λ none.
-    let p = g.P.Part in
-    let m = p.machine in
-    let laws = g.met.P.Part.laws in
-    let w = c.args.wiring.now in
-    let inputs = c.args.inputs.now in
-    let t = c.args.t in
-    let old = c.args.parts.now in
-    let e = c.turn_read-woken in
-    let seen = c.show_cycle-shown.new.reading in
-    let s = c.show_cycle-shown.ensures in
-    let kept : Kept = record { input = c.args.next.input; stale = c.args.next.stale; dues = c.args.dues.now; seen = c.args.reading.now; answers = c.args.answers.now } in
-    let like = lags_stand m laws w p.state p.now p.wake_count t old kept c.requires.lags in
-    let awaits = lags_await m laws w p.state p.now p.wake_count inputs t c.args.next.input c.end_of_cycle-end.result old kept seen c.show_cycle-shown.result.1 c.requires.lags s.differ
-    c.end_of_cycle-end.ensures.from c.requires.behind c.end_of_cycle-end.ensures.behind in
-    let turns = e.ensures.turns inputs (map (glided m p.state p.now p.wake_count t) old) awaits in
-    let answers_long = e.auto.answers ∙ c.requires.lags.answers_long in
+pub returns-in-Failed-hand_sent : goal.returns-in-Failed-hand_sent
+returns-in-Failed-hand_sent g c =
     let o = g.W.Watcher in
+    let h = cycle g (goal.at.returns-in-Failed-hand_sent g c).After-turn_read-woken in
+    let s = c.show_cycle-shown.ensures in
+    let ok = s.ok c.in-Ok.is in
+    let f = c.in-Failed-hand_sent.ensures.failed refl in
+    record {
+      lags = λ x ex. some_none (sym ex);
+      behind = λ x ex. some_none (sym ex);
+      leg = h.leg;
+      handed = λ x ex. some_none (sym ex);
+      moved = λ x ex. some_none (sym ex);
+      last = λ x ex. some_none (sym ex);
+      failed = λ none.
+          (rw (← ok.no_fault) f.0, stopped_second o.whole o.faults o.stands o.stopped c.args.out.now c.show_cycle-shown.new.out c.hand_sent.new.out _ _ _ _ ok f.1 h.rows_are h.bytes_are);
+      place = c.hand_sent.ensures.place ∙ s.place;
+    }
+
+pub returns-in-Failed : goal.returns-in-Failed
+returns-in-Failed g c =
+    let o = g.W.Watcher in
+    let h = cycle g (goal.at.returns-in-Failed g c).After-turn_read-woken in
+    let s = c.show_cycle-shown.ensures in
     let f = s.failed c.in-Failed.is in
-    (f.0, stopped_first (o.stands c.args.out.now) (o.stopped c.show_cycle-shown.new.out) _ _ _ f.1 (event_rows m laws w p.state p.now p.wake_count inputs t old e.new.parts seen e.new.answers e.result.changed e.auto.parts s.of s.suits like turns c.args.reading.now))
+    record {
+      lags = λ x ex. some_none (sym ex);
+      behind = λ x ex. some_none (sym ex);
+      leg = h.leg;
+      handed = λ x ex. some_none (sym ex);
+      moved = λ x ex. some_none (sym ex);
+      last = λ x ex. some_none (sym ex);
+      failed = λ none. (f.0, stopped_first (o.stands c.args.out.now) (o.stopped c.show_cycle-shown.new.out) _ _ _ f.1 h.rows_are);
+      place = s.place;
+    }

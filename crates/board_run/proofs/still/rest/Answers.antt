@@ -1,10 +1,9 @@
-use Rattle.std.proofs.Common.{◌≡◌, ◌≤◌, ◌∙◌, ap, sym, refl, subst, arith, map, length, List, ℕ, Option}
+use Rattle.std.proofs.Common.{◌≡◌, ◌∙◌, ap, sym, refl, subst, arith, length, List, ℕ, Option}
 use Rattle.std.specs.Prelude.{slice_get}
-use Rattle.sim_base.specs.declared.limits.TheConstants.{MOST_CYCLES}
-use Rattle.board_run.specs.Seen.{Seen, IsTold, retold}
-use Rattle.board_run.specs.Legs.{Kept, Lags, Leg, IsAlone}
+use Rattle.board_run.specs.Lagging.{AreLate}
+use Rattle.board_run.specs.Legs.{Kept, Lags}
 use Rattle.board_run.proofs.NextLemmas.{lags_late}
-use Rattle.board_run.proofs.AloneLemmas.{alone_goes, behind_between}
+use Rattle.board_run.proofs.AloneLemmas.{alone_goes}
 use Rattle.board_run.proofs.StretchLemmas.{rests_to}
 use Rattle.board_run.proofs.still.rest.Goals as goal
 
@@ -43,294 +42,52 @@ unreachable-requires g c =
 pub next_cycle-u-requires-clause-late : goal.next_cycle-u-requires-clause-late
 next_cycle-u-requires-clause-late g c =
     let p = g.P.Part in
-    lags_late p.machine c.args.wiring.now p.state p.now p.wake_count c.args.t c.args.parts.now (record { input = c.args.next.input; stale = c.args.next.stale; dues = c.find_alone.new.dues; seen = c.args.reading.now; answers = c.args.answers.now })
-    (subst (λ (ds : List (Option ℕ)). Lags p.machine c.args.wiring.now p.state p.now p.wake_count c.args.t c.args.parts.now (record { input = c.args.next.input; stale = c.args.next.stale; dues = ds; seen = c.args.reading.now; answers = c.args.answers.now })) (sym c.find_alone.ensures.same) c.requires.lags)
+    let a = c.args in
+    subst (λ (ds : List (Option ℕ)). AreLate ds a.t) (sym c.find_alone.ensures.same)
+    (lags_late p.machine a.wiring.now p.state p.now p.wake_count a.t a.parts.now (record { input = a.next.input; stale = a.next.stale; dues = a.dues.now; seen = a.reading.now; answers = a.answers.now }) c.requires.lags)
 
-pub returns-in-Some-stretch-clause-from : goal.returns-in-Some-stretch-clause-from
-returns-in-Some-stretch-clause-from g c =
+pub returns-in-Some-stretch : goal.returns-in-Some-stretch
+returns-in-Some-stretch g c =
     let p = g.P.Part in
-    let m = p.machine in
-    let w = c.args.wiring.now in
-    let t = c.args.t in
-    let old = c.args.parts.now in
-    let who = c.in-Some.who in
-    let limit = c.in-Some.limit in
+    let a = c.args in
+    let x : ℕ × ℕ = (c.in-Some.who, c.in-Some.limit) in
     let found = c.in-Some.ensures in
-    let same = c.find_alone.ensures.same in
-    let kept : Kept = record { input = c.args.next.input; stale = c.args.next.stale; dues = c.find_alone.new.dues; seen = c.args.reading.now; answers = c.args.answers.now } in
-    let lags : Lags m w p.state p.now p.wake_count t old kept = subst (λ (ds : List (Option ℕ)). Lags m w p.state p.now p.wake_count t old (record { input = c.args.next.input; stale = c.args.next.stale; dues = ds; seen = c.args.reading.now; answers = c.args.answers.now })) (sym same) c.requires.lags in
-    let alone : IsAlone c.args.inputs.now c.find_alone.new.dues c.args.next.input who t limit = subst (λ (ds : List (Option ℕ)). IsAlone c.args.inputs.now ds c.args.next.input who t limit) (sym same) (found.alone (who, limit) refl) in
-    let most = found.within (who, limit) refl in
-    let end : limit ≤ MOST_CYCLES = omega (arith, most, c.requires.end) in
-    let fresh = found.fresh (who, limit) refl in
-    let later = found.after (who, limit) refl in
     let new = c.stretch.new in
     let u = c.in-Some-stretch.u in
     let changed = c.in-Some-stretch.changed in
     let s = c.in-Some-stretch.ensures in
-    let within = s.within (changed, u) refl in
     let went = s.went (changed, u) refl in
-    let far = went.3.further in
-    omega (arith, far)
+    let kept : Kept = record { input = a.next.input; stale = a.next.stale; dues = a.dues.now; seen = a.reading.now; answers = a.answers.now } in
+    let goes = alone_goes p.machine g.met.P.Part.laws a.wiring.now p.state p.now p.wake_count a.inputs.now a.t u x.1 a.n a.parts.now new.parts kept c.find_alone.new.dues new.dues changed a.steps.now new.steps x.0 went.0 went.1 went.2 new.reading
+    c.find_alone.ensures.same c.stretch.ensures.rest c.stretch.ensures.told c.requires.lags (found.fresh x refl) (found.after x refl) c.requires.behind (s.within (changed, u) refl) (found.within x refl) c.requires.end (found.alone x refl) went.3 in
+    let further = goes.further in
+    record {
+      from = omega (arith, further);
+      within = goes.within;
+      lags = goes.lags;
+      behind = goes.behind;
+      leg = goes.leg;
+      steady = λ _. goes.rests;
+      moved = λ _. goes.tells;
+      stays = λ (same : u ≡ a.t). absurd (omega (arith, further, same));
+    }
 
-pub returns-in-Some-stretch-clause-within : goal.returns-in-Some-stretch-clause-within
-returns-in-Some-stretch-clause-within g c =
+pub returns-in-None : goal.returns-in-None
+returns-in-None g c =
     let p = g.P.Part in
-    let m = p.machine in
-    let w = c.args.wiring.now in
-    let t = c.args.t in
-    let old = c.args.parts.now in
-    let who = c.in-Some.who in
-    let limit = c.in-Some.limit in
-    let found = c.in-Some.ensures in
-    let same = c.find_alone.ensures.same in
-    let kept : Kept = record { input = c.args.next.input; stale = c.args.next.stale; dues = c.find_alone.new.dues; seen = c.args.reading.now; answers = c.args.answers.now } in
-    let lags : Lags m w p.state p.now p.wake_count t old kept = subst (λ (ds : List (Option ℕ)). Lags m w p.state p.now p.wake_count t old (record { input = c.args.next.input; stale = c.args.next.stale; dues = ds; seen = c.args.reading.now; answers = c.args.answers.now })) (sym same) c.requires.lags in
-    let alone : IsAlone c.args.inputs.now c.find_alone.new.dues c.args.next.input who t limit = subst (λ (ds : List (Option ℕ)). IsAlone c.args.inputs.now ds c.args.next.input who t limit) (sym same) (found.alone (who, limit) refl) in
-    let most = found.within (who, limit) refl in
-    let end : limit ≤ MOST_CYCLES = omega (arith, most, c.requires.end) in
-    let fresh = found.fresh (who, limit) refl in
-    let later = found.after (who, limit) refl in
-    let new = c.stretch.new in
-    let u = c.in-Some-stretch.u in
-    let changed = c.in-Some-stretch.changed in
-    let s = c.in-Some-stretch.ensures in
-    let within = s.within (changed, u) refl in
-    let went = s.went (changed, u) refl in
-    let far = went.3.further in
-    omega (arith, within, most)
-
-pub returns-in-Some-stretch-clause-lags : goal.returns-in-Some-stretch-clause-lags
-returns-in-Some-stretch-clause-lags g c =
-    let p = g.P.Part in
-    let m = p.machine in
-    let w = c.args.wiring.now in
-    let t = c.args.t in
-    let old = c.args.parts.now in
-    let who = c.in-Some.who in
-    let limit = c.in-Some.limit in
-    let found = c.in-Some.ensures in
-    let same = c.find_alone.ensures.same in
-    let kept : Kept = record { input = c.args.next.input; stale = c.args.next.stale; dues = c.find_alone.new.dues; seen = c.args.reading.now; answers = c.args.answers.now } in
-    let lags : Lags m w p.state p.now p.wake_count t old kept = subst (λ (ds : List (Option ℕ)). Lags m w p.state p.now p.wake_count t old (record { input = c.args.next.input; stale = c.args.next.stale; dues = ds; seen = c.args.reading.now; answers = c.args.answers.now })) (sym same) c.requires.lags in
-    let alone : IsAlone c.args.inputs.now c.find_alone.new.dues c.args.next.input who t limit = subst (λ (ds : List (Option ℕ)). IsAlone c.args.inputs.now ds c.args.next.input who t limit) (sym same) (found.alone (who, limit) refl) in
-    let most = found.within (who, limit) refl in
-    let end : limit ≤ MOST_CYCLES = omega (arith, most, c.requires.end) in
-    let fresh = found.fresh (who, limit) refl in
-    let later = found.after (who, limit) refl in
-    let new = c.stretch.new in
-    let u = c.in-Some-stretch.u in
-    let changed = c.in-Some-stretch.changed in
-    let s = c.in-Some-stretch.ensures in
-    let within = s.within (changed, u) refl in
-    let went = s.went (changed, u) refl in
-    let far = went.3.further in
-    let told : IsTold m (map p.state new.parts) (retold c.args.reading.now new.reading.circuit.drives new.reading.circuit.closed).circuit = record { drives_are = c.stretch.ensures.told.drives_are; closed_are = c.stretch.ensures.told.closed_are } in
-    let goes = alone_goes m g.met.P.Part.laws w p.state p.now p.wake_count c.args.inputs.now t u limit old new.parts kept new.dues changed c.args.steps.now new.steps who went.0 went.1 went.2 new.reading.circuit.drives new.reading.circuit.closed told lags fresh later within end alone went.3 in
-    subst (λ (v : Seen). Lags m w p.state p.now p.wake_count u new.parts (record { input = c.args.next.input; stale = changed; dues = new.dues; seen = v; answers = c.args.answers.now })) (sym c.stretch.ensures.rest) goes.lags
-
-pub returns-in-Some-stretch-clause-behind : goal.returns-in-Some-stretch-clause-behind
-returns-in-Some-stretch-clause-behind g c =
-    let p = g.P.Part in
-    let m = p.machine in
-    let w = c.args.wiring.now in
-    let t = c.args.t in
-    let old = c.args.parts.now in
-    let who = c.in-Some.who in
-    let limit = c.in-Some.limit in
-    let found = c.in-Some.ensures in
-    let same = c.find_alone.ensures.same in
-    let kept : Kept = record { input = c.args.next.input; stale = c.args.next.stale; dues = c.find_alone.new.dues; seen = c.args.reading.now; answers = c.args.answers.now } in
-    let lags : Lags m w p.state p.now p.wake_count t old kept = subst (λ (ds : List (Option ℕ)). Lags m w p.state p.now p.wake_count t old (record { input = c.args.next.input; stale = c.args.next.stale; dues = ds; seen = c.args.reading.now; answers = c.args.answers.now })) (sym same) c.requires.lags in
-    let alone : IsAlone c.args.inputs.now c.find_alone.new.dues c.args.next.input who t limit = subst (λ (ds : List (Option ℕ)). IsAlone c.args.inputs.now ds c.args.next.input who t limit) (sym same) (found.alone (who, limit) refl) in
-    let most = found.within (who, limit) refl in
-    let end : limit ≤ MOST_CYCLES = omega (arith, most, c.requires.end) in
-    let fresh = found.fresh (who, limit) refl in
-    let later = found.after (who, limit) refl in
-    let new = c.stretch.new in
-    let u = c.in-Some-stretch.u in
-    let changed = c.in-Some-stretch.changed in
-    let s = c.in-Some-stretch.ensures in
-    let within = s.within (changed, u) refl in
-    let went = s.went (changed, u) refl in
-    let far = went.3.further in
-    let order : t ≤ u = omega (arith, far) in
-    behind_between c.args.inputs.now c.args.next.input t u limit order within c.requires.behind alone.behind
-
-pub returns-in-Some-stretch-clause-leg : goal.returns-in-Some-stretch-clause-leg
-returns-in-Some-stretch-clause-leg g c =
-    let p = g.P.Part in
-    let m = p.machine in
-    let w = c.args.wiring.now in
-    let t = c.args.t in
-    let old = c.args.parts.now in
-    let who = c.in-Some.who in
-    let limit = c.in-Some.limit in
-    let found = c.in-Some.ensures in
-    let same = c.find_alone.ensures.same in
-    let kept : Kept = record { input = c.args.next.input; stale = c.args.next.stale; dues = c.find_alone.new.dues; seen = c.args.reading.now; answers = c.args.answers.now } in
-    let lags : Lags m w p.state p.now p.wake_count t old kept = subst (λ (ds : List (Option ℕ)). Lags m w p.state p.now p.wake_count t old (record { input = c.args.next.input; stale = c.args.next.stale; dues = ds; seen = c.args.reading.now; answers = c.args.answers.now })) (sym same) c.requires.lags in
-    let alone : IsAlone c.args.inputs.now c.find_alone.new.dues c.args.next.input who t limit = subst (λ (ds : List (Option ℕ)). IsAlone c.args.inputs.now ds c.args.next.input who t limit) (sym same) (found.alone (who, limit) refl) in
-    let most = found.within (who, limit) refl in
-    let end : limit ≤ MOST_CYCLES = omega (arith, most, c.requires.end) in
-    let fresh = found.fresh (who, limit) refl in
-    let later = found.after (who, limit) refl in
-    let new = c.stretch.new in
-    let u = c.in-Some-stretch.u in
-    let changed = c.in-Some-stretch.changed in
-    let s = c.in-Some-stretch.ensures in
-    let within = s.within (changed, u) refl in
-    let went = s.went (changed, u) refl in
-    let far = went.3.further in
-    let told : IsTold m (map p.state new.parts) (retold c.args.reading.now new.reading.circuit.drives new.reading.circuit.closed).circuit = record { drives_are = c.stretch.ensures.told.drives_are; closed_are = c.stretch.ensures.told.closed_are } in
-    let goes = alone_goes m g.met.P.Part.laws w p.state p.now p.wake_count c.args.inputs.now t u limit old new.parts kept new.dues changed c.args.steps.now new.steps who went.0 went.1 went.2 new.reading.circuit.drives new.reading.circuit.closed told lags fresh later within end alone went.3 in
-    subst (λ (v : Seen). Leg m w p.state p.now p.wake_count c.args.inputs.now t u old new.parts c.args.reading.now v c.args.steps.now new.steps) (sym c.stretch.ensures.rest) goes.leg
-
-pub returns-in-Some-stretch-clause-steady : goal.returns-in-Some-stretch-clause-steady
-returns-in-Some-stretch-clause-steady g c =
-    let p = g.P.Part in
-    let m = p.machine in
-    let w = c.args.wiring.now in
-    let t = c.args.t in
-    let old = c.args.parts.now in
-    let who = c.in-Some.who in
-    let limit = c.in-Some.limit in
-    let found = c.in-Some.ensures in
-    let same = c.find_alone.ensures.same in
-    let kept : Kept = record { input = c.args.next.input; stale = c.args.next.stale; dues = c.find_alone.new.dues; seen = c.args.reading.now; answers = c.args.answers.now } in
-    let lags : Lags m w p.state p.now p.wake_count t old kept = subst (λ (ds : List (Option ℕ)). Lags m w p.state p.now p.wake_count t old (record { input = c.args.next.input; stale = c.args.next.stale; dues = ds; seen = c.args.reading.now; answers = c.args.answers.now })) (sym same) c.requires.lags in
-    let alone : IsAlone c.args.inputs.now c.find_alone.new.dues c.args.next.input who t limit = subst (λ (ds : List (Option ℕ)). IsAlone c.args.inputs.now ds c.args.next.input who t limit) (sym same) (found.alone (who, limit) refl) in
-    let most = found.within (who, limit) refl in
-    let end : limit ≤ MOST_CYCLES = omega (arith, most, c.requires.end) in
-    let fresh = found.fresh (who, limit) refl in
-    let later = found.after (who, limit) refl in
-    let new = c.stretch.new in
-    let u = c.in-Some-stretch.u in
-    let changed = c.in-Some-stretch.changed in
-    let s = c.in-Some-stretch.ensures in
-    let within = s.within (changed, u) refl in
-    let went = s.went (changed, u) refl in
-    let far = went.3.further in
-    let told : IsTold m (map p.state new.parts) (retold c.args.reading.now new.reading.circuit.drives new.reading.circuit.closed).circuit = record { drives_are = c.stretch.ensures.told.drives_are; closed_are = c.stretch.ensures.told.closed_are } in
-    let goes = alone_goes m g.met.P.Part.laws w p.state p.now p.wake_count c.args.inputs.now t u limit old new.parts kept new.dues changed c.args.steps.now new.steps who went.0 went.1 went.2 new.reading.circuit.drives new.reading.circuit.closed told lags fresh later within end alone went.3 in
-    λ _. goes.rests
-
-pub returns-in-Some-stretch-clause-moved : goal.returns-in-Some-stretch-clause-moved
-returns-in-Some-stretch-clause-moved g c =
-    let p = g.P.Part in
-    let m = p.machine in
-    let w = c.args.wiring.now in
-    let t = c.args.t in
-    let old = c.args.parts.now in
-    let who = c.in-Some.who in
-    let limit = c.in-Some.limit in
-    let found = c.in-Some.ensures in
-    let same = c.find_alone.ensures.same in
-    let kept : Kept = record { input = c.args.next.input; stale = c.args.next.stale; dues = c.find_alone.new.dues; seen = c.args.reading.now; answers = c.args.answers.now } in
-    let lags : Lags m w p.state p.now p.wake_count t old kept = subst (λ (ds : List (Option ℕ)). Lags m w p.state p.now p.wake_count t old (record { input = c.args.next.input; stale = c.args.next.stale; dues = ds; seen = c.args.reading.now; answers = c.args.answers.now })) (sym same) c.requires.lags in
-    let alone : IsAlone c.args.inputs.now c.find_alone.new.dues c.args.next.input who t limit = subst (λ (ds : List (Option ℕ)). IsAlone c.args.inputs.now ds c.args.next.input who t limit) (sym same) (found.alone (who, limit) refl) in
-    let most = found.within (who, limit) refl in
-    let end : limit ≤ MOST_CYCLES = omega (arith, most, c.requires.end) in
-    let fresh = found.fresh (who, limit) refl in
-    let later = found.after (who, limit) refl in
-    let new = c.stretch.new in
-    let u = c.in-Some-stretch.u in
-    let changed = c.in-Some-stretch.changed in
-    let s = c.in-Some-stretch.ensures in
-    let within = s.within (changed, u) refl in
-    let went = s.went (changed, u) refl in
-    let far = went.3.further in
-    let told : IsTold m (map p.state new.parts) (retold c.args.reading.now new.reading.circuit.drives new.reading.circuit.closed).circuit = record { drives_are = c.stretch.ensures.told.drives_are; closed_are = c.stretch.ensures.told.closed_are } in
-    let goes = alone_goes m g.met.P.Part.laws w p.state p.now p.wake_count c.args.inputs.now t u limit old new.parts kept new.dues changed c.args.steps.now new.steps who went.0 went.1 went.2 new.reading.circuit.drives new.reading.circuit.closed told lags fresh later within end alone went.3 in
-    λ _. goes.tells
-
-pub returns-in-Some-stretch-clause-stays : goal.returns-in-Some-stretch-clause-stays
-returns-in-Some-stretch-clause-stays g c =
-    let p = g.P.Part in
-    let m = p.machine in
-    let w = c.args.wiring.now in
-    let t = c.args.t in
-    let old = c.args.parts.now in
-    let who = c.in-Some.who in
-    let limit = c.in-Some.limit in
-    let found = c.in-Some.ensures in
-    let same = c.find_alone.ensures.same in
-    let kept : Kept = record { input = c.args.next.input; stale = c.args.next.stale; dues = c.find_alone.new.dues; seen = c.args.reading.now; answers = c.args.answers.now } in
-    let lags : Lags m w p.state p.now p.wake_count t old kept = subst (λ (ds : List (Option ℕ)). Lags m w p.state p.now p.wake_count t old (record { input = c.args.next.input; stale = c.args.next.stale; dues = ds; seen = c.args.reading.now; answers = c.args.answers.now })) (sym same) c.requires.lags in
-    let alone : IsAlone c.args.inputs.now c.find_alone.new.dues c.args.next.input who t limit = subst (λ (ds : List (Option ℕ)). IsAlone c.args.inputs.now ds c.args.next.input who t limit) (sym same) (found.alone (who, limit) refl) in
-    let most = found.within (who, limit) refl in
-    let end : limit ≤ MOST_CYCLES = omega (arith, most, c.requires.end) in
-    let fresh = found.fresh (who, limit) refl in
-    let later = found.after (who, limit) refl in
-    let new = c.stretch.new in
-    let u = c.in-Some-stretch.u in
-    let changed = c.in-Some-stretch.changed in
-    let s = c.in-Some-stretch.ensures in
-    let within = s.within (changed, u) refl in
-    let went = s.went (changed, u) refl in
-    let far = went.3.further in
-    λ (same : u ≡ t). absurd (omega (arith, far, same))
-
-pub returns-in-None-clause-lags : goal.returns-in-None-clause-lags
-returns-in-None-clause-lags g c =
-    let p = g.P.Part in
-    let m = p.machine in
-    let w = c.args.wiring.now in
-    let t = c.args.t in
-    let old = c.args.parts.now in
-    let same = c.find_alone.ensures.same in
-    let kept : Kept = record { input = c.args.next.input; stale = c.args.next.stale; dues = c.find_alone.new.dues; seen = c.args.reading.now; answers = c.args.answers.now } in
-    let lags : Lags m w p.state p.now p.wake_count t old kept = subst (λ (ds : List (Option ℕ)). Lags m w p.state p.now p.wake_count t old (record { input = c.args.next.input; stale = c.args.next.stale; dues = ds; seen = c.args.reading.now; answers = c.args.answers.now })) (sym same) c.requires.lags in
+    let a = c.args in
     let nc = c.next_cycle-u.ensures in
     let u = c.next_cycle-u.result in
-    let end : u ≤ MOST_CYCLES = omega (arith, nc.within, c.requires.end) in
-    let r = rests_to m g.met.P.Part.laws w p.state p.now p.wake_count c.args.inputs.now t u old kept c.args.steps.now lags nc.from end nc.stale nc.due nc.silent in
-    r.lags
-
-pub returns-in-None-clause-leg : goal.returns-in-None-clause-leg
-returns-in-None-clause-leg g c =
-    let p = g.P.Part in
-    let m = p.machine in
-    let w = c.args.wiring.now in
-    let t = c.args.t in
-    let old = c.args.parts.now in
-    let same = c.find_alone.ensures.same in
-    let kept : Kept = record { input = c.args.next.input; stale = c.args.next.stale; dues = c.find_alone.new.dues; seen = c.args.reading.now; answers = c.args.answers.now } in
-    let lags : Lags m w p.state p.now p.wake_count t old kept = subst (λ (ds : List (Option ℕ)). Lags m w p.state p.now p.wake_count t old (record { input = c.args.next.input; stale = c.args.next.stale; dues = ds; seen = c.args.reading.now; answers = c.args.answers.now })) (sym same) c.requires.lags in
-    let nc = c.next_cycle-u.ensures in
-    let u = c.next_cycle-u.result in
-    let end : u ≤ MOST_CYCLES = omega (arith, nc.within, c.requires.end) in
-    let r = rests_to m g.met.P.Part.laws w p.state p.now p.wake_count c.args.inputs.now t u old kept c.args.steps.now lags nc.from end nc.stale nc.due nc.silent in
-    r.leg
-
-pub returns-in-None-clause-steady : goal.returns-in-None-clause-steady
-returns-in-None-clause-steady g c =
-    let p = g.P.Part in
-    let m = p.machine in
-    let w = c.args.wiring.now in
-    let t = c.args.t in
-    let old = c.args.parts.now in
-    let same = c.find_alone.ensures.same in
-    let kept : Kept = record { input = c.args.next.input; stale = c.args.next.stale; dues = c.find_alone.new.dues; seen = c.args.reading.now; answers = c.args.answers.now } in
-    let lags : Lags m w p.state p.now p.wake_count t old kept = subst (λ (ds : List (Option ℕ)). Lags m w p.state p.now p.wake_count t old (record { input = c.args.next.input; stale = c.args.next.stale; dues = ds; seen = c.args.reading.now; answers = c.args.answers.now })) (sym same) c.requires.lags in
-    let nc = c.next_cycle-u.ensures in
-    let u = c.next_cycle-u.result in
-    let end : u ≤ MOST_CYCLES = omega (arith, nc.within, c.requires.end) in
-    let r = rests_to m g.met.P.Part.laws w p.state p.now p.wake_count c.args.inputs.now t u old kept c.args.steps.now lags nc.from end nc.stale nc.due nc.silent in
-    r.steady
-
-pub returns-in-None-clause-moved : goal.returns-in-None-clause-moved
-returns-in-None-clause-moved g c =
-    let p = g.P.Part in
-    let m = p.machine in
-    let w = c.args.wiring.now in
-    let t = c.args.t in
-    let old = c.args.parts.now in
-    let same = c.find_alone.ensures.same in
-    let kept : Kept = record { input = c.args.next.input; stale = c.args.next.stale; dues = c.find_alone.new.dues; seen = c.args.reading.now; answers = c.args.answers.now } in
-    let lags : Lags m w p.state p.now p.wake_count t old kept = subst (λ (ds : List (Option ℕ)). Lags m w p.state p.now p.wake_count t old (record { input = c.args.next.input; stale = c.args.next.stale; dues = ds; seen = c.args.reading.now; answers = c.args.answers.now })) (sym same) c.requires.lags in
-    let nc = c.next_cycle-u.ensures in
-    let u = c.next_cycle-u.result in
-    let end : u ≤ MOST_CYCLES = omega (arith, nc.within, c.requires.end) in
-    let r = rests_to m g.met.P.Part.laws w p.state p.now p.wake_count c.args.inputs.now t u old kept c.args.steps.now lags nc.from end nc.stale nc.due nc.silent in
-    r.tells
+    let kept = λ (ds : List (Option ℕ)). let k : Kept = record { input = a.next.input; stale = a.next.stale; dues = ds; seen = a.reading.now; answers = a.answers.now } in k in
+    let lags = subst (λ (ds : List (Option ℕ)). Lags p.machine a.wiring.now p.state p.now p.wake_count a.t a.parts.now (kept ds)) (sym c.find_alone.ensures.same) c.requires.lags in
+    let r = rests_to p.machine g.met.P.Part.laws a.wiring.now p.state p.now p.wake_count a.inputs.now a.t u a.parts.now (kept c.find_alone.new.dues) a.steps.now lags nc.from (omega (arith, nc.within, c.requires.end)) nc.stale nc.due nc.silent in
+    record {
+      from = nc.from;
+      within = nc.within;
+      lags = r.lags;
+      behind = nc.behind;
+      leg = r.leg;
+      steady = r.steady;
+      moved = r.tells;
+      stays = λ _. refl;
+    }

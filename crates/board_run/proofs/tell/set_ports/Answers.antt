@@ -1,4 +1,4 @@
-use Rattle.std.proofs.Common.{◌≡◌, ◌<◌, ◌≤◌, ◌+◌, ◌∙◌, ap, sym, subst, arith, length, List, Bool, ℕ, inl, inr}
+use Rattle.std.proofs.Common.{◌≡◌, ◌<◌, ◌+◌, ◌∙◌, ap, sym, subst, arith, length, List, Bool, ℕ, inl, inr}
 use Rattle.std.specs.Prelude.{slice_get, slice_set}
 use Rattle.net_resolve.specs.Circuit.{Circuit}
 use Rattle.board_run.specs.Seen.{Put}

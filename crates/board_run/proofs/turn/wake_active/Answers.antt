@@ -233,20 +233,25 @@ take_turn_on-byte-requires-clause-differs g c = λ is later same.
     ∙ ap (λ (j : ℕ). map (level_at ls) (take j (drop at w.net_of))) count
     ∙ ap (λ (j : ℕ). map (level_at ls) (take n (drop j w.net_of))) first)
 
-pub returns-clause-turns : goal.returns-clause-turns
-returns-clause-turns g c = λ inputs ts awaits.
+pub returns : goal.returns
+returns g c =
     let p = g.P.Part in
-    let e : c.loop-i.i ≡ length c.args.parts.now = omega (arith, c.loop-i.auto.parts, c.loop-i.invariant.within, c.loop-i-test.false) in
-    subst (λ (n : ℕ). Turns p.machine c.args.wiring.now inputs p.state p.now p.wake_count c.args.nets.now.levels c.args.t ts n c.args.parts.now c.loop-i.parts c.loop-i.answers c.loop-i.changed) e (c.loop-i.invariant.turns inputs ts awaits)
+    let inv = c.loop-i.invariant in
+    let e : c.loop-i.i ≡ length c.args.parts.now = omega (arith, c.loop-i.auto.parts, inv.within, c.loop-i-test.false) in
+    record {
+      told = inv.told;
+      rest = inv.nets_rest;
+      turns = λ inputs ts awaits.
+          subst (λ (n : ℕ). Turns p.machine c.args.wiring.now inputs p.state p.now p.wake_count c.args.nets.now.levels c.args.t ts n c.args.parts.now c.loop-i.parts c.loop-i.answers c.loop-i.changed) e (inv.turns inputs ts awaits);
+      due = inv.due;
+      dues = inv.dues_long;
+      silent = inv.silent;
+      steps = λ inputs ts awaits.
+          subst (λ (n : ℕ). c.loop-i.steps ≡ c.args.steps.now + sum_below n (λ k. active_in p.machine c.args.wiring.now inputs c.args.nets.now.levels c.args.t k (slice_get ts k))) e (inv.steps inputs ts awaits);
+    }
 
-pub returns-clause-steps : goal.returns-clause-steps
-returns-clause-steps g c = λ inputs ts awaits.
-    let p = g.P.Part in
-    let e : c.loop-i.i ≡ length c.args.parts.now = omega (arith, c.loop-i.auto.parts, c.loop-i.invariant.within, c.loop-i-test.false) in
-    subst (λ (n : ℕ). c.loop-i.steps ≡ c.args.steps.now + sum_below n (λ k. active_in p.machine c.args.wiring.now inputs c.args.nets.now.levels c.args.t k (slice_get ts k))) e (c.loop-i.invariant.steps inputs ts awaits)
-
-pub tell-moved-requires-clause-within : goal.tell-moved-requires-clause-within
-tell-moved-requires-clause-within g c =
+pub tell-moved-requires : goal.tell-moved-requires
+tell-moved-requires g c =
     let p = g.P.Part in
     let m = p.machine in
     let w = c.args.wiring.now in
@@ -261,173 +266,34 @@ tell-moved-requires-clause-within g c =
     let fits_new = fits_set m w p.state c.loop-i.parts i x y here_is room_is inv.fits in
     let inside_is : i < length (map p.state c.loop-i.parts) = (let l : length (map p.state c.loop-i.parts) ≡ length c.loop-i.parts = simp length-map refl in omega (arith, l, within)) in
     let place = ap (λ (l : List ℕ). get_or l i 0) c.as_slice.ensures ∙ inv.fits.places i inside_is in
-    omega (arith, length-set c.loop-i.parts i y, within)
-
-pub tell-moved-requires-clause-first : goal.tell-moved-requires-clause-first
-tell-moved-requires-clause-first g c =
-    let p = g.P.Part in
-    let m = p.machine in
-    let w = c.args.wiring.now in
-    let i = c.loop-i.i in
-    let inv = c.loop-i.invariant in
-    let x = get_or c.loop-i.parts i c.index-parts-i-in-loop-i.result in
-    let y = c.take_turn_on-byte.new.part in
-    let within : i < length c.loop-i.parts = omega (arith, c.loop-i.auto.parts, c.loop-i-test.true) in
-    let here_is : slice_get c.loop-i.parts i ≡ Some x = get_within c.loop-i.parts i _ within in
-    let new_is : slice_get (slice_set c.loop-i.parts i y) i ≡ Some y = get_set_same c.loop-i.parts i y within in
-    let room_is = turned_room m g.met.P.Part.laws p.state p.now p.wake_count c.args.t x y _ _ _ _ _ c.take_turn_on-byte.ensures.turn in
-    let fits_new = fits_set m w p.state c.loop-i.parts i x y here_is room_is inv.fits in
-    let inside_is : i < length (map p.state c.loop-i.parts) = (let l : length (map p.state c.loop-i.parts) ≡ length c.loop-i.parts = simp length-map refl in omega (arith, l, within)) in
-    let place = ap (λ (l : List ℕ). get_or l i 0) c.as_slice.ensures ∙ inv.fits.places i inside_is in
+    let old = sym (inv.rest_parts i (omega arith)) ∙ here_is in
+    let due = sym (inv.rest i (omega arith)) ∙ c.due-due.ensures in
+    let may = c.requires.may i x _ old due in
+    let v = c.requires.valid i x old in
     let after : i < length (map p.state (slice_set c.loop-i.parts i y)) = (let l : length (map p.state (slice_set c.loop-i.parts i y)) ≡ length c.loop-i.parts = simp length-map (length-set c.loop-i.parts i y) in omega (arith, l, within)) in
-    ap (λ (l : List ℕ). get_or l i 0) c.as_slice.ensures ∙ fits_new.places i after
-
-pub tell-moved-requires-clause-pins : goal.tell-moved-requires-clause-pins
-tell-moved-requires-clause-pins g c =
-    let p = g.P.Part in
-    let m = p.machine in
-    let w = c.args.wiring.now in
-    let i = c.loop-i.i in
-    let inv = c.loop-i.invariant in
-    let x = get_or c.loop-i.parts i c.index-parts-i-in-loop-i.result in
-    let y = c.take_turn_on-byte.new.part in
-    let within : i < length c.loop-i.parts = omega (arith, c.loop-i.auto.parts, c.loop-i-test.true) in
-    let here_is : slice_get c.loop-i.parts i ≡ Some x = get_within c.loop-i.parts i _ within in
-    let new_is : slice_get (slice_set c.loop-i.parts i y) i ≡ Some y = get_set_same c.loop-i.parts i y within in
-    let room_is = turned_room m g.met.P.Part.laws p.state p.now p.wake_count c.args.t x y _ _ _ _ _ c.take_turn_on-byte.ensures.turn in
-    let fits_new = fits_set m w p.state c.loop-i.parts i x y here_is room_is inv.fits in
-    let inside_is : i < length (map p.state c.loop-i.parts) = (let l : length (map p.state c.loop-i.parts) ≡ length c.loop-i.parts = simp length-map refl in omega (arith, l, within)) in
-    let place = ap (λ (l : List ℕ). get_or l i 0) c.as_slice.ensures ∙ inv.fits.places i inside_is in
-    ap (λ (z : Circuit). length z.net_of) inv.nets_rest ∙ ap length c.requires.wired.0 ∙ fits_new.pins
-
-pub tell-moved-requires-clause-contacts : goal.tell-moved-requires-clause-contacts
-tell-moved-requires-clause-contacts g c =
-    let p = g.P.Part in
-    let m = p.machine in
-    let w = c.args.wiring.now in
-    let i = c.loop-i.i in
-    let inv = c.loop-i.invariant in
-    let x = get_or c.loop-i.parts i c.index-parts-i-in-loop-i.result in
-    let y = c.take_turn_on-byte.new.part in
-    let within : i < length c.loop-i.parts = omega (arith, c.loop-i.auto.parts, c.loop-i-test.true) in
-    let here_is : slice_get c.loop-i.parts i ≡ Some x = get_within c.loop-i.parts i _ within in
-    let new_is : slice_get (slice_set c.loop-i.parts i y) i ≡ Some y = get_set_same c.loop-i.parts i y within in
-    let room_is = turned_room m g.met.P.Part.laws p.state p.now p.wake_count c.args.t x y _ _ _ _ _ c.take_turn_on-byte.ensures.turn in
-    let fits_new = fits_set m w p.state c.loop-i.parts i x y here_is room_is inv.fits in
-    let inside_is : i < length (map p.state c.loop-i.parts) = (let l : length (map p.state c.loop-i.parts) ≡ length c.loop-i.parts = simp length-map refl in omega (arith, l, within)) in
-    let place = ap (λ (l : List ℕ). get_or l i 0) c.as_slice.ensures ∙ inv.fits.places i inside_is in
-    ap (λ (z : Circuit). length z.contacts) inv.nets_rest ∙ ap length c.requires.wired.1 ∙ fits_new.contacts
-
-pub tell-moved-requires-clause-few : goal.tell-moved-requires-clause-few
-tell-moved-requires-clause-few g c =
-    let p = g.P.Part in
-    let m = p.machine in
-    let w = c.args.wiring.now in
-    let i = c.loop-i.i in
-    let inv = c.loop-i.invariant in
-    let x = get_or c.loop-i.parts i c.index-parts-i-in-loop-i.result in
-    let y = c.take_turn_on-byte.new.part in
-    let within : i < length c.loop-i.parts = omega (arith, c.loop-i.auto.parts, c.loop-i-test.true) in
-    let here_is : slice_get c.loop-i.parts i ≡ Some x = get_within c.loop-i.parts i _ within in
-    let new_is : slice_get (slice_set c.loop-i.parts i y) i ≡ Some y = get_set_same c.loop-i.parts i y within in
-    let room_is = turned_room m g.met.P.Part.laws p.state p.now p.wake_count c.args.t x y _ _ _ _ _ c.take_turn_on-byte.ensures.turn in
-    let fits_new = fits_set m w p.state c.loop-i.parts i x y here_is room_is inv.fits in
-    let inside_is : i < length (map p.state c.loop-i.parts) = (let l : length (map p.state c.loop-i.parts) ≡ length c.loop-i.parts = simp length-map refl in omega (arith, l, within)) in
-    let place = ap (λ (l : List ℕ). get_or l i 0) c.as_slice.ensures ∙ inv.fits.places i inside_is in
-    let a = ap (λ (z : Circuit). length z.net_of) inv.nets_rest ∙ ap length c.requires.wired.0 in
-    let b = ap (λ (z : Circuit). length z.contacts) inv.nets_rest ∙ ap length c.requires.wired.1 in (
-      omega (arith, c.as_slice-net_of.type_inv.0, c.as_slice-net_of.type_inv.1, ap length c.as_slice-net_of.ensures, a),
-      omega (arith, c.as_slice-contacts.type_inv.0, c.as_slice-contacts.type_inv.1, ap length c.as_slice-contacts.ensures, b),
-    )
-
-pub tell-moved-requires-clause-drives_long : goal.tell-moved-requires-clause-drives_long
-tell-moved-requires-clause-drives_long g c =
-    let p = g.P.Part in
-    let m = p.machine in
-    let w = c.args.wiring.now in
-    let i = c.loop-i.i in
-    let inv = c.loop-i.invariant in
-    let x = get_or c.loop-i.parts i c.index-parts-i-in-loop-i.result in
-    let y = c.take_turn_on-byte.new.part in
-    let within : i < length c.loop-i.parts = omega (arith, c.loop-i.auto.parts, c.loop-i-test.true) in
-    let here_is : slice_get c.loop-i.parts i ≡ Some x = get_within c.loop-i.parts i _ within in
-    let new_is : slice_get (slice_set c.loop-i.parts i y) i ≡ Some y = get_set_same c.loop-i.parts i y within in
-    let room_is = turned_room m g.met.P.Part.laws p.state p.now p.wake_count c.args.t x y _ _ _ _ _ c.take_turn_on-byte.ensures.turn in
-    let fits_new = fits_set m w p.state c.loop-i.parts i x y here_is room_is inv.fits in
-    let inside_is : i < length (map p.state c.loop-i.parts) = (let l : length (map p.state c.loop-i.parts) ≡ length c.loop-i.parts = simp length-map refl in omega (arith, l, within)) in
-    let place = ap (λ (l : List ℕ). get_or l i 0) c.as_slice.ensures ∙ inv.fits.places i inside_is in
-    ap length inv.told.drives_are ∙ sym inv.fits.pins ∙ sym (ap length c.requires.wired.0) ∙ sym (ap (λ (z : Circuit). length z.net_of) inv.nets_rest)
-
-pub tell-moved-requires-clause-closed_long : goal.tell-moved-requires-clause-closed_long
-tell-moved-requires-clause-closed_long g c =
-    let p = g.P.Part in
-    let m = p.machine in
-    let w = c.args.wiring.now in
-    let i = c.loop-i.i in
-    let inv = c.loop-i.invariant in
-    let x = get_or c.loop-i.parts i c.index-parts-i-in-loop-i.result in
-    let y = c.take_turn_on-byte.new.part in
-    let within : i < length c.loop-i.parts = omega (arith, c.loop-i.auto.parts, c.loop-i-test.true) in
-    let here_is : slice_get c.loop-i.parts i ≡ Some x = get_within c.loop-i.parts i _ within in
-    let new_is : slice_get (slice_set c.loop-i.parts i y) i ≡ Some y = get_set_same c.loop-i.parts i y within in
-    let room_is = turned_room m g.met.P.Part.laws p.state p.now p.wake_count c.args.t x y _ _ _ _ _ c.take_turn_on-byte.ensures.turn in
-    let fits_new = fits_set m w p.state c.loop-i.parts i x y here_is room_is inv.fits in
-    let inside_is : i < length (map p.state c.loop-i.parts) = (let l : length (map p.state c.loop-i.parts) ≡ length c.loop-i.parts = simp length-map refl in omega (arith, l, within)) in
-    let place = ap (λ (l : List ℕ). get_or l i 0) c.as_slice.ensures ∙ inv.fits.places i inside_is in
-    ap length inv.told.closed_are ∙ sym inv.fits.contacts ∙ sym (ap length c.requires.wired.1) ∙ sym (ap (λ (z : Circuit). length z.contacts) inv.nets_rest)
-
-pub tell-moved-requires-clause-still : goal.tell-moved-requires-clause-still
-tell-moved-requires-clause-still g c =
-    let p = g.P.Part in
-    let m = p.machine in
-    let w = c.args.wiring.now in
-    let i = c.loop-i.i in
-    let inv = c.loop-i.invariant in
-    let x = get_or c.loop-i.parts i c.index-parts-i-in-loop-i.result in
-    let y = c.take_turn_on-byte.new.part in
-    let within : i < length c.loop-i.parts = omega (arith, c.loop-i.auto.parts, c.loop-i-test.true) in
-    let here_is : slice_get c.loop-i.parts i ≡ Some x = get_within c.loop-i.parts i _ within in
-    let new_is : slice_get (slice_set c.loop-i.parts i y) i ≡ Some y = get_set_same c.loop-i.parts i y within in
-    let room_is = turned_room m g.met.P.Part.laws p.state p.now p.wake_count c.args.t x y _ _ _ _ _ c.take_turn_on-byte.ensures.turn in
-    let fits_new = fits_set m w p.state c.loop-i.parts i x y here_is room_is inv.fits in
-    let inside_is : i < length (map p.state c.loop-i.parts) = (let l : length (map p.state c.loop-i.parts) ≡ length c.loop-i.parts = simp length-map refl in omega (arith, l, within)) in
-    let place = ap (λ (l : List ℕ). get_or l i 0) c.as_slice.ensures ∙ inv.fits.places i inside_is in
-    let old = sym (inv.rest_parts i (omega arith)) ∙ here_is in
-    let here : i < length c.loop-i.dues = omega (arith, inv.dues_long, c.requires.dues) in
-    let due = sym (inv.rest i (omega arith)) ∙ c.due-due.ensures in
-    let may = c.requires.may i x _ old due in
-    let v = c.requires.valid i x old in
-    λ z ez none.
-    let z_is : y ≡ z = some_same (sym new_is ∙ ez) in
-    let still = turned_still m g.met.P.Part.laws p.state p.now p.wake_count c.args.t x y _ _ _ _ _ v may.quiet c.take_turn_on-byte.ensures.turn none in
-    let told = still_told m p.state c.loop-i.parts i x y c.loop-i.nets c.loop-i.nets here_is inv.told room_is.0 room_is.1 _ place still.0 still.1 in (
-      subst (λ (u : g.row.P.Denot). HasAt (get_or c.as_slice.result.now i 0) (m.drives (p.state u)) c.loop-i.nets.drives) z_is told.0,
-      subst (λ (u : g.row.P.Denot). HasAt (length (contacts_of m (take i (map p.state (slice_set c.loop-i.parts i y))))) (m.contacts (p.state u)) c.loop-i.nets.closed) z_is told.1,
-    )
-
-pub tell-moved-requires-clause-others : goal.tell-moved-requires-clause-others
-tell-moved-requires-clause-others g c =
-    let p = g.P.Part in
-    let m = p.machine in
-    let w = c.args.wiring.now in
-    let i = c.loop-i.i in
-    let inv = c.loop-i.invariant in
-    let x = get_or c.loop-i.parts i c.index-parts-i-in-loop-i.result in
-    let y = c.take_turn_on-byte.new.part in
-    let within : i < length c.loop-i.parts = omega (arith, c.loop-i.auto.parts, c.loop-i-test.true) in
-    let here_is : slice_get c.loop-i.parts i ≡ Some x = get_within c.loop-i.parts i _ within in
-    let new_is : slice_get (slice_set c.loop-i.parts i y) i ≡ Some y = get_set_same c.loop-i.parts i y within in
-    let room_is = turned_room m g.met.P.Part.laws p.state p.now p.wake_count c.args.t x y _ _ _ _ _ c.take_turn_on-byte.ensures.turn in
-    let fits_new = fits_set m w p.state c.loop-i.parts i x y here_is room_is inv.fits in
-    let inside_is : i < length (map p.state c.loop-i.parts) = (let l : length (map p.state c.loop-i.parts) ≡ length c.loop-i.parts = simp length-map refl in omega (arith, l, within)) in
-    let place = ap (λ (l : List ℕ). get_or l i 0) c.as_slice.ensures ∙ inv.fits.places i inside_is in
-    let old = sym (inv.rest_parts i (omega arith)) ∙ here_is in
-    let here : i < length c.loop-i.dues = omega (arith, inv.dues_long, c.requires.dues) in
-    let due = sym (inv.rest i (omega arith)) ∙ c.due-due.ensures in
-    let may = c.requires.may i x _ old due in
-    let v = c.requires.valid i x old in
-    λ z ez some j within_pins none.
-    let z_is : y ≡ z = some_same (sym new_is ∙ ez) in
-    let same = turned_others m g.met.P.Part.laws p.state p.now p.wake_count c.args.t x y (p.moves y) v may.quiet (c.take_turn_on-byte.ensures.others some) in
-    subst (λ (u : g.row.P.Denot). j < length (m.drives (p.state u)) → p.moves u j ≡ false → slice_get c.loop-i.nets.drives (get_or c.as_slice.result.now i 0 + j) ≡ slice_get (m.drives (p.state u)) j) z_is
-    (others_told m p.state c.loop-i.parts i x y c.loop-i.nets c.loop-i.nets here_is inv.told room_is.0 room_is.1 _ place (p.moves y) same j) within_pins none
+    record {
+      within = omega (arith, length-set c.loop-i.parts i y, within);
+      first = ap (λ (l : List ℕ). get_or l i 0) c.as_slice.ensures ∙ fits_new.places i after;
+      pins = ap (λ (z : Circuit). length z.net_of) inv.nets_rest ∙ ap length c.requires.wired.0 ∙ fits_new.pins;
+      contacts = ap (λ (z : Circuit). length z.contacts) inv.nets_rest ∙ ap length c.requires.wired.1 ∙ fits_new.contacts;
+      few =
+          let a = ap (λ (z : Circuit). length z.net_of) inv.nets_rest ∙ ap length c.requires.wired.0 in
+          let b = ap (λ (z : Circuit). length z.contacts) inv.nets_rest ∙ ap length c.requires.wired.1 in (
+            omega (arith, c.as_slice-net_of.type_inv.0, c.as_slice-net_of.type_inv.1, ap length c.as_slice-net_of.ensures, a),
+            omega (arith, c.as_slice-contacts.type_inv.0, c.as_slice-contacts.type_inv.1, ap length c.as_slice-contacts.ensures, b),
+          );
+      drives_long = ap length inv.told.drives_are ∙ sym inv.fits.pins ∙ sym (ap length c.requires.wired.0) ∙ sym (ap (λ (z : Circuit). length z.net_of) inv.nets_rest);
+      closed_long = ap length inv.told.closed_are ∙ sym inv.fits.contacts ∙ sym (ap length c.requires.wired.1) ∙ sym (ap (λ (z : Circuit). length z.contacts) inv.nets_rest);
+      still = λ z ez none.
+          let z_is : y ≡ z = some_same (sym new_is ∙ ez) in
+          let still = turned_still m g.met.P.Part.laws p.state p.now p.wake_count c.args.t x y _ _ _ _ _ v may.quiet c.take_turn_on-byte.ensures.turn none in
+          let told = still_told m p.state c.loop-i.parts i x y c.loop-i.nets c.loop-i.nets here_is inv.told room_is.0 room_is.1 _ place still.0 still.1 in (
+            subst (λ (u : g.row.P.Denot). HasAt (get_or c.as_slice.result.now i 0) (m.drives (p.state u)) c.loop-i.nets.drives) z_is told.0,
+            subst (λ (u : g.row.P.Denot). HasAt (length (contacts_of m (take i (map p.state (slice_set c.loop-i.parts i y))))) (m.contacts (p.state u)) c.loop-i.nets.closed) z_is told.1,
+          );
+      others = λ z ez some j within_pins none.
+          let z_is : y ≡ z = some_same (sym new_is ∙ ez) in
+          let same = turned_others m g.met.P.Part.laws p.state p.now p.wake_count c.args.t x y (p.moves y) v may.quiet (c.take_turn_on-byte.ensures.others some) in
+          subst (λ (u : g.row.P.Denot). j < length (m.drives (p.state u)) → p.moves u j ≡ false → slice_get c.loop-i.nets.drives (get_or c.as_slice.result.now i 0 + j) ≡ slice_get (m.drives (p.state u)) j) z_is
+          (others_told m p.state c.loop-i.parts i x y c.loop-i.nets c.loop-i.nets here_is inv.told room_is.0 room_is.1 _ place (p.moves y) same j) within_pins none;
+    }

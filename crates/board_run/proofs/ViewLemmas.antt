@@ -1,0 +1,32 @@
+-- What a board did that went on from the cycle at which it stood, as its users see it.
+use Rattle.std.proofs.Common.{◌≡◌, ◌<◌, ℕ, ◌+◌, ◌-◌, List, length, map, Option, Some, refl, sym, subst}
+use Rattle.std.specs.Prelude.{slice_get}
+use Rattle.std.proofs.lemmas.List.{length-map}
+use Rattle.sim_base.specs.declared.wiring.Wiring.{Wiring}
+use Rattle.sim_base.specs.declared.wiring.Input.{Input}
+use Rattle.part_law.specs.Machine.{Machine}
+use Rattle.board_model.specs.Board.{states}
+use Rattle.board_model.specs.Rows.{Shown, shown_before}
+use Rattle.board_laws.specs.Active.{active_cycles, active_pairs}
+use Rattle.board_laws.specs.Orders.{IsOrder, SameInOrders}
+use Rattle.board_laws.proofs.OrdersLaw.{in_orders}
+use Rattle.board_run.specs.BoardView.{BoardView}
+use Rattle.board_run.specs.declared.board.RunEnd.TheVariants as ends
+
+-- a run that is done was not cut off
+pub not_cut_off : {B : Type 0} → ends.Done ≡ ends.WriteFault → B
+not_cut_off e = absurd cc
+
+-- it came to cycle u
+pub record Went {S P : Type 0} (m : Machine S) (state : P → S) (wakes : P → ℕ) (v : BoardView P) (u : ℕ) (new : List P) (after : Option Shown) (steps more : ℕ) : Type 0 where
+  pub states_are : map state new ≡ states m v.wiring v.inputs (map state v.parts) v.cycle (u - v.cycle)
+  pub before_is : after ≡ shown_before m v.wiring v.inputs v.before (map state v.parts) v.cycle (u - v.cycle)
+  pub woken : (k : ℕ) (p q : P) → slice_get v.parts k ≡ Some p → slice_get new k ≡ Some q → wakes q ≡ wakes p + active_cycles m v.wiring v.inputs (map state v.parts) v.cycle (u - v.cycle) k
+  pub steps_are : more ≡ steps + active_pairs m v.wiring v.inputs (map state v.parts) v.cycle (u - v.cycle)
+
+-- in whatever orders its parts are moved
+pub any_order : {S P : Type 0} (m : Machine S) (w : Wiring) (inputs : List Input) (state : P → S) (parts : List P) (orders : ℕ → List ℕ) (c : ℕ) (before : Option Shown) (n : ℕ) → ((k : ℕ) → k < n → IsOrder (length parts) (orders k)) →
+    SameInOrders m w inputs orders before (map state parts) c n
+any_order m w inputs state parts orders c before n are =
+    let long : length (map state parts) ≡ length parts = simp length-map refl in
+    in_orders m w inputs orders (map state parts) c before n (λ k h. subst (λ (count : ℕ). IsOrder count (orders k)) (sym long) (are k h))
