@@ -4,7 +4,7 @@ ghost use Rattle.std.specs.Int.{bit_at};
 ghost use Rattle.board_run.specs.Parts.{has_part};
 
 /// Some of the at most 64 parts of a board.
-#[derive(Clone, Copy, Debug, PartialEq, Eq, Drop)]
+#[derive(Clone, Copy, Drop)]
 pub(crate) struct PartSet {
     /// Bit i tells whether part i is among them.
     bits: u64,

@@ -14,7 +14,7 @@ use sim_base::{Watcher, Wiring, WriteEnd};
 
 /// Where a board goes on: at which script value, and whether a drive or a contact changed since the
 /// nets were resolved.
-#[derive(Clone, Copy, Debug, PartialEq, Eq, Drop)]
+#[derive(Clone, Copy, Drop)]
 pub(crate) struct Next {
     pub(crate) input: usize,
     pub(crate) stale: bool,
