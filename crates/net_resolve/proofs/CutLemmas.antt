@@ -77,23 +77,26 @@ empty_more [] h (suc q) l e = absurd cc
 empty_more (x ∷ lists) h zero l e = h 0 l e
 empty_more (x ∷ lists) h (suc q) l e = empty_more lists (λ k m f. h (suc k) m f) q l e
 
--- the labels of nets are numbers of nets
-pub net_labels_below : (w : Wired) (labels : List ℕ) → IsCut w labels → (ls : List ℕ) → ls ≡ labels → (ns : List ℕ) → ns ≡ w.net_of → (keys : List ℕ) → keys ≡ map (slice_index ls) ns →
-    (k key : ℕ) → slice_get keys k ≡ Some key → key < w.nets
-net_labels_below w labels cut ls el ns en keys ek k key e =
-    let n = get_map_some (slice_index ls) ns k key (ap (λ (l : List ℕ). slice_get l k) (sym ek) ∙ e) in
-    let l = cut.pins_within k n.0 (subst (λ (x : List ℕ). slice_get x k ≡ Some n.0) en n.1) in
-    let is : slice_index labels n.0 ≡ key = ap (λ (x : List ℕ). slice_index x n.0) (sym el) ∙ n.2 in
-    omega (arith, cut.below n.0, is, l)
+-- labels are below their count
+pub labels_below : {count : ℕ} (labels : List ℕ) → length labels ≡ count → ((n : ℕ) → slice_index labels n ≤ n) → (keys : List ℕ) → keys ≡ labels → (k key : ℕ) → slice_get keys k ≡ Some key → key < count
+labels_below labels long below keys same k key e =
+    let there : slice_get labels k ≡ Some key = ap (λ (l : List ℕ). slice_get l k) (sym same) ∙ e in
+    omega (arith, long, below k, get_or_from_slice_get labels k key 0 there, slice_get_within labels k key there)
 
-pub pair_labels_below : (w : Wired) (labels : List ℕ) → IsCut w labels → (ls : List ℕ) → ls ≡ labels → (whole ps : List (ℕ × ℕ)) → ps ≡ whole →
-    ((k : ℕ) (c : ℕ × ℕ) → slice_get whole k ≡ Some c → (c.0 < w.nets) × (c.1 < w.nets)) → (keys : List ℕ) → keys ≡ labels_of ls ps →
+-- the labels of nets are numbers of nets
+pub net_labels_below : (w : Wired) (labels : List ℕ) → IsCut w labels → (keys : List ℕ) → keys ≡ map (slice_index labels) w.net_of →
     (k key : ℕ) → slice_get keys k ≡ Some key → key < w.nets
-pair_labels_below w labels cut ls el whole ps ep within keys ek k key e =
-    let c = get_map_some (λ (x : ℕ × ℕ). slice_index ls x.0) ps k key (ap (λ (l : List ℕ). slice_get l k) (sym ek) ∙ e) in
-    let l = within k c.0 (subst (λ (x : List (ℕ × ℕ)). slice_get x k ≡ Some c.0) ep c.1) in
-    let is : slice_index labels c.0.0 ≡ key = ap (λ (x : List ℕ). slice_index x c.0.0) (sym el) ∙ c.2 in
-    omega (arith, cut.below c.0.0, is, l.0)
+net_labels_below w labels cut keys ek k key e =
+    let n = get_map_some (slice_index labels) w.net_of k key (ap (λ (l : List ℕ). slice_get l k) (sym ek) ∙ e) in
+    omega (arith, cut.below n.0, n.2, cut.pins_within k n.0 n.1)
+
+pub pair_labels_below : (labels : List ℕ) → ((n : ℕ) → slice_index labels n ≤ n) → (pairs : List (ℕ × ℕ)) (count : ℕ) →
+    ((k : ℕ) (c : ℕ × ℕ) → slice_get pairs k ≡ Some c → (c.0 < count) × (c.1 < count)) → (keys : List ℕ) → keys ≡ labels_of labels pairs →
+    (k key : ℕ) → slice_get keys k ≡ Some key → key < count
+pair_labels_below labels below pairs count within keys ek k key e =
+    let c = get_map_some (λ (x : ℕ × ℕ). slice_index labels x.0) pairs k key (ap (λ (l : List ℕ). slice_get l k) (sym ek) ∙ e) in
+    let l = within k c.0 c.1 in
+    omega (arith, below c.0.0, c.2, l.0)
 
 -- what is mapped stays below a bound
 pub mapped_below : {A : Type 0} (f : A → ℕ) (xs : List A) (ys : List ℕ) (count : ℕ) → ys ≡ map f xs → ((j : ℕ) (x : A) → slice_get xs j ≡ Some x → f x < count) → (k y : ℕ) → slice_get ys k ≡ Some y → y < count

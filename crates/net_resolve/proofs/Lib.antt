@@ -13,3 +13,4 @@ pub mod MarkLemmas
 pub mod RightLemmas
 pub mod ResolutionLemmas
 pub mod FirstLemmas
+pub mod WholeLemmas

@@ -14,3 +14,9 @@ pub resolution_moved : (w v : Wired) (a : Resolution) → v ≡ record w { level
 resolution_moved w v a same it =
     let moved : IsResolution (record w { levels = v.levels }) a = record { drives_long = it.drives_long; closed_long = it.closed_long; levels_long = it.levels_long; levels_are = it.levels_are } in
     subst (λ (x : Wired). IsResolution x a) (sym same) moved
+
+-- and back
+pub resolution_back : (w v : Wired) (a : Resolution) → v ≡ record w { levels = v.levels } → IsResolution v a → IsResolution w a
+resolution_back w v a same it =
+    let there : IsResolution (record w { levels = v.levels }) a = subst (λ (x : Wired). IsResolution x a) same it in
+    record { drives_long = there.drives_long; closed_long = there.closed_long; levels_long = there.levels_long; levels_are = there.levels_are }

@@ -108,6 +108,15 @@ pub driven_adds : (groups : List ℕ) (strong : List Level) (areas : List ℕ) (
     sum ≡ (if is_loose groups strong n && (slice_index areas n == a) then together sum x else sum)
 driven_adds groups strong areas n a sum x e = rw e refl
 
+-- the strong value at one end of a resistor adds to the area of its other end, or does not
+pub over_turns : (both here : Bool) (sum x : Level) → both ≡ true → (if here then together sum x else sum) ≡ (if both && here then together sum x else sum)
+over_turns true here sum x e = refl
+over_turns false here sum x e = absurd cc
+
+pub over_stays : (both here : Bool) (sum x : Level) → both ≡ false → sum ≡ (if both && here then together sum x else sum)
+over_stays true here sum x e = absurd cc
+over_stays false here sum x e = refl
+
 -- flags that do not differ
 pub same_flags : (xs ys : List Bool) → not (pointwise beq xs ys) ≡ false → xs ≡ ys
 same_flags [] [] h = refl

@@ -102,21 +102,52 @@ fn pair_labels(alloc: Global, labels: &[u16], pairs: &[(u16, u16)]) -> Result<Ve
     Ok(keys)
 }
 
+/// The pins of each label.
+fn sort_pins(
+    alloc: Global,
+    wiring: &Wiring,
+    labels: &[u16],
+) -> Result<List<List<usize>>, OutOfMemory>
+    requires { IsCut (circuit_of wiring.now) labels.now }
+    ensures { IfOk result (λ ls. ArePicked wiring.now.nets (map (slice_index labels.now) wiring.now.net_of) ls) }
+{
+    let keys = pin_labels(alloc, labels, wiring.net_of.as_slice())?;
+    sort_places(alloc, &keys, wiring.nets as usize)
+}
+
+/// The places of each label among pairs of nets.
+fn sort_pairs(
+    alloc: Global,
+    labels: &[u16],
+    pairs: &[(u16, u16)],
+    count: usize,
+) -> Result<List<List<usize>>, OutOfMemory>
+    requires labels { (n : ℕ) → slice_index labels.now n ≤ n }
+    requires long { length labels.now ≡ count }
+    requires pairs { (k : ℕ) (c : ℕ × ℕ) → slice_get pairs.now k ≡ Some c → (c.0 < count) × (c.1 < count) }
+    ensures { IfOk result (λ ls. ArePicked count (labels_of labels.now pairs.now) ls) }
+{
+    let keys = pair_labels(alloc, labels, pairs)?;
+    sort_places(alloc, &keys, count)
+}
+
 /// Sorts what a wiring has by labels of its nets.
 fn sort_by(alloc: Global, wiring: &Wiring, labels: List<u16>) -> Result<Sorted, OutOfMemory>
     requires { IsCut (circuit_of wiring.now) labels }
     ensures { IfOk result (λ s. IsSorted (circuit_of wiring.now) s) }
 {
     let count = wiring.nets as usize;
-    let of_pins = pin_labels(alloc, labels.as_slice(), wiring.net_of.as_slice())?;
-    let of_contacts = pair_labels(alloc, labels.as_slice(), wiring.contacts.as_slice())?;
-    let of_resistors = pair_labels(alloc, labels.as_slice(), wiring.resistors.as_slice())?;
+    let keys = labels.as_slice();
+    let nets = sort_places(alloc, keys, count)?;
+    let pins = sort_pins(alloc, wiring, keys)?;
+    let contacts = sort_pairs(alloc, keys, wiring.contacts.as_slice(), count)?;
+    let resistors = sort_pairs(alloc, keys, wiring.resistors.as_slice(), count)?;
     Ok(Sorted {
-        nets: sort_places(alloc, labels.as_slice(), count)?,
-        pins: sort_places(alloc, &of_pins, count)?,
-        contacts: sort_places(alloc, &of_contacts, count)?,
-        resistors: sort_places(alloc, &of_resistors, count)?,
         labels,
+        nets,
+        pins,
+        contacts,
+        resistors,
     })
 }
 

@@ -6,10 +6,11 @@ ghost use Rattle.board_model.specs.Board.{level_at};
 ghost use Rattle.board_model.specs.Resolve.{resolve};
 ghost use Rattle.net_resolve.specs.Circuit.{Circuit, AreChanged};
 ghost use Rattle.net_resolve.specs.Marked.{has, Noted};
+ghost use Rattle.net_resolve.specs.Sorted.{IsSorted};
 ghost use Rattle.net_resolve.specs.Wired.{Wired};
 ghost use Rattle.net_resolve.specs.Subcircuits.{SubcircuitView, IsCut, AreSubcircuits, AreRight, FitsIn, HasAllPins, circuit_of};
 
-use crate::cut::{cut_all, sort};
+use crate::cut::{Sorted, cut_all, sort};
 use crate::marks::Marks;
 use crate::resolution::{is_same_drive, is_same_flag};
 use crate::room::{all_z, no_drives, no_flags};
@@ -170,6 +171,23 @@ fn copy_wiring(
     Ok((net_of, contacts, resistors))
 }
 
+/// The number of each net's subcircuit, and the subcircuits, of a wiring that is sorted.
+fn cut_sorted(
+    alloc: Global,
+    wiring: &Wiring,
+    sorted: &Sorted,
+) -> Result<(Vec<u16>, Vec<Subcircuit>), OutOfMemory>
+    requires wiring { IsWiring wiring.now }
+    requires sorted { IsSorted (circuit_of wiring.now) sorted.now }
+    ensures cut { IfOk result (λ v. IsCut (circuit_of wiring.now) v.0.items) }
+    ensures long { IfOk result (λ v. length v.1.items ≡ wiring.now.nets) }
+    ensures subcircuits { IfOk result (λ v. AreSubcircuits (circuit_of wiring.now) v.0.items v.1.items) }
+{
+    let labels = Vec::from_slice(alloc, sorted.labels.as_slice())?;
+    let subcircuits = cut_all(alloc, wiring, sorted)?;
+    Ok((labels, subcircuits))
+}
+
 /// The number of each net's subcircuit, and the subcircuits.
 fn cut_wiring(alloc: Global, wiring: &Wiring) -> Result<(Vec<u16>, Vec<Subcircuit>), OutOfMemory>
     requires { IsWiring wiring.now }
@@ -178,9 +196,7 @@ fn cut_wiring(alloc: Global, wiring: &Wiring) -> Result<(Vec<u16>, Vec<Subcircui
     ensures subcircuits { IfOk result (λ v. AreSubcircuits (circuit_of wiring.now) v.0.items v.1.items) }
 {
     let sorted = sort(alloc, wiring)?;
-    let labels = Vec::from_slice(alloc, sorted.labels.as_slice())?;
-    let subcircuits = cut_all(alloc, wiring, &sorted)?;
-    Ok((labels, subcircuits))
+    cut_sorted(alloc, wiring, &sorted)
 }
 
 /// What the pins drive, which contacts are closed, and the levels of the nets and of the pins, before

@@ -12,7 +12,7 @@ use crate::resolution::Resolution;
 use crate::room::{no_drives, no_flags};
 use crate::whole::Whole;
 use sim_base::{Drive, Level, OutOfMemory};
-use std::alloc::Global;
+use std::alloc::{AllocError, Global};
 use std::marker::Model;
 use std::mem;
 
@@ -144,6 +144,41 @@ fn first_resolution(
     })
 }
 
+/// The same, twice.
+fn first_resolutions(
+    alloc: Global,
+    pins: usize,
+    contacts: usize,
+    whole: &mut Whole,
+) -> Result<(Resolution, Resolution), OutOfMemory>
+    requires pins { pins ≡ length whole.old.net_of }
+    requires contacts { contacts ≡ length whole.old.contacts }
+    ensures same { whole.new ≡ record whole.old { levels = whole.new.levels } }
+    ensures last { IfOk result (λ r. IsResolution whole.old r.0) }
+    ensures before { IfOk result (λ r. IsResolution whole.old r.1) }
+{
+    let last = first_resolution(alloc, pins, contacts, whole)?;
+    let before = first_resolution(alloc, pins, contacts, whole)?;
+    Ok((last, before))
+}
+
+/// The numbers of a subcircuit's nets, pins and contacts.
+fn copied(
+    alloc: Global,
+    nets: &[usize],
+    pins: &[usize],
+    contacts: &[usize],
+) -> Result<(Vec<usize>, Vec<usize>, Vec<usize>), AllocError>
+    ensures nets { IfOk result (λ v. v.0.items ≡ nets.now) }
+    ensures pins { IfOk result (λ v. v.1.items ≡ pins.now) }
+    ensures contacts { IfOk result (λ v. v.2.items ≡ contacts.now) }
+{
+    let own_nets = Vec::from_slice(alloc, nets)?;
+    let own_pins = Vec::from_slice(alloc, pins)?;
+    let own_contacts = Vec::from_slice(alloc, contacts)?;
+    Ok((own_nets, own_pins, own_contacts))
+}
+
 /// Resolves some nets of a board by the drives and contacts at some places.
 fn resolve_at(
     drives: &[Drive],
@@ -207,12 +242,12 @@ impl Subcircuit {
         ensures { IfOk result (λ s. s ≡ record { nets = nets.now; pins = pins.now; contacts = contacts.now; own_nets = whole.net_of; own_contacts = whole.contacts; own_resistors = whole.resistors }) }
     {
         let mut whole = whole;
-        let last = first_resolution(alloc, pins.len(), contacts.len(), &mut whole)?;
-        let before = first_resolution(alloc, pins.len(), contacts.len(), &mut whole)?;
+        let (last, before) = first_resolutions(alloc, pins.len(), contacts.len(), &mut whole)?;
+        let (nets, pins, contacts) = copied(alloc, nets, pins, contacts)?;
         Ok(Subcircuit {
-            nets: Vec::from_slice(alloc, nets)?,
-            pins: Vec::from_slice(alloc, pins)?,
-            contacts: Vec::from_slice(alloc, contacts)?,
+            nets,
+            pins,
+            contacts,
             whole,
             last,
             before,

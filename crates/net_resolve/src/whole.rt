@@ -73,6 +73,44 @@ fn first_groups(
     Ok(groups)
 }
 
+/// Which contacts are closed, none; the groups of so many nets with these; and room for which resistors connect groups.
+fn first_choices(
+    alloc: Global,
+    contacts: &[(u16, u16)],
+    resistors: &[(u16, u16)],
+    count: usize,
+) -> Result<(Vec<bool>, Vec<u16>, Vec<bool>), AllocError>
+    requires contacts { (k : ℕ) (c : ℕ × ℕ) → slice_get contacts.now k ≡ Some c → (c.0 < count) × (c.1 < count) }
+    requires few { count ≤ 65536 }
+    ensures closed { IfOk result (λ v. vec_len v.0 ≡ length contacts.now) }
+    ensures grouped { IfOk result (λ v. AreGroups contacts.now v.0.items v.1.items) }
+    ensures groups { IfOk result (λ v. vec_len v.1 ≡ count) }
+    ensures bridges { IfOk result (λ v. vec_len v.2 ≡ length resistors.now) }
+{
+    let closed = no_flags(alloc, contacts.len())?;
+    let groups = first_groups(alloc, contacts, &closed, count)?;
+    let bridges = no_flags(alloc, resistors.len())?;
+    Ok((closed, groups, bridges))
+}
+
+/// Room for the strong value of each of so many groups, for areas, for sums and for levels, which are Z.
+fn first_levels(
+    alloc: Global,
+    count: usize,
+) -> Result<(Vec<Level>, Vec<u16>, Vec<Level>, Vec<Level>), AllocError>
+    ensures strong { IfOk result (λ v. vec_len v.0 ≡ count) }
+    ensures areas { IfOk result (λ v. vec_len v.1 ≡ count) }
+    ensures sums { IfOk result (λ v. vec_len v.2 ≡ count) }
+    ensures len { IfOk result (λ v. vec_len v.3 ≡ count) }
+    ensures levels { IfOk result (λ v. v.3.items ≡ replicate count Level.Z) }
+{
+    let strong = all_z(alloc, count)?;
+    let areas = zeros(alloc, count)?;
+    let sums = all_z(alloc, count)?;
+    let levels = all_z(alloc, count)?;
+    Ok((strong, areas, sums, levels))
+}
+
 /// Groups the nets again where other contacts are closed than before.
 fn regroup(contacts: &[(u16, u16)], closed: &[bool], kept: &mut [bool], groups: &mut [u16])
     requires contacts { (k : ℕ) (c : ℕ × ℕ) → slice_get contacts.now k ≡ Some c → (c.0 < length groups.old) × (c.1 < length groups.old) }
@@ -104,20 +142,19 @@ impl Whole {
         requires resistors { (k : ℕ) (r : ℕ × ℕ) → slice_get resistors.items k ≡ Some r → (r.0 < count) × (r.1 < count) }
         ensures { IfOk result (λ n. n ≡ record { nets = count; net_of = net_of.items; contacts = contacts.items; resistors = resistors.items; levels = replicate count Level.Z }) }
     {
-        let closed = no_flags(alloc, contacts.len())?;
-        let groups = first_groups(alloc, &contacts, &closed, count)?;
-        let bridges = no_flags(alloc, resistors.len())?;
+        let (closed, groups, bridges) = first_choices(alloc, &contacts, &resistors, count)?;
+        let (strong, areas, sums, levels) = first_levels(alloc, count)?;
         Ok(Whole {
             net_of,
             contacts,
             resistors,
             closed,
             groups,
-            strong: all_z(alloc, count)?,
+            strong,
             bridges,
-            areas: zeros(alloc, count)?,
-            sums: all_z(alloc, count)?,
-            levels: all_z(alloc, count)?,
+            areas,
+            sums,
+            levels,
         })
     }
 

@@ -1,4 +1,5 @@
 use Rattle.std.proofs.Common.{◌≡◌, ◌∙◌, ℕ, List, length, map, arith, sym, ap, subst}
+use Rattle.std.proofs.lemmas.List.{length-map}
 use Rattle.std.proofs.lemmas.Option.{slice_get_within}
 use Rattle.std.proofs.lemmas.Result.{IfOk-weaker}
 use Rattle.std.specs.Prelude.{slice_get}
@@ -108,3 +109,30 @@ returns c =
       own_resistors_are = subst (λ (l : List ℕ). AreOwn nets w.resistors l whole.resistors) resistors_are mine_resistors;
     } in
     IfOk-weaker c.new.result _ _ (λ (v : SubcircuitView) e. subst (λ (x : SubcircuitView). IsSubcircuit w labels q x) (sym e) it) c.new.ensures
+
+pub list_at-nets-requires : goal.list_at-nets-requires
+list_at-nets-requires c = omega (arith, c.requires.q, c.requires.sorted.nets.long)
+
+pub list_at-pins-requires : goal.list_at-pins-requires
+list_at-pins-requires c = omega (arith, c.requires.q, c.requires.sorted.pins.long)
+
+pub list_at-contacts-requires : goal.list_at-contacts-requires
+list_at-contacts-requires c = omega (arith, c.requires.q, c.requires.sorted.contacts.long)
+
+pub list_at-resistors-requires : goal.list_at-resistors-requires
+list_at-resistors-requires c = omega (arith, c.requires.q, c.requires.sorted.resistors.long)
+
+pub own_whole-requires-clause-wiring : goal.own_whole-requires-clause-wiring
+own_whole-requires-clause-wiring c = c.requires.wiring
+
+pub own_whole-requires-clause-numbers : goal.own_whole-requires-clause-numbers
+own_whole-requires-clause-numbers c = c.number.auto.numbers ∙ c.requires.numbers
+
+pub new-requires-clause-nets : goal.new-requires-clause-nets
+new-requires-clause-nets c = sym c.in_ok-whole.ensures.nets
+
+pub new-requires-clause-pins : goal.new-requires-clause-pins
+new-requires-clause-pins c = sym (ap length c.in_ok-whole.ensures.net_of ∙ length-map c.list_at-pins.result.now _)
+
+pub new-requires-clause-contacts : goal.new-requires-clause-contacts
+new-requires-clause-contacts c = sym (ap length c.in_ok-whole.ensures.contacts ∙ length-map c.list_at-contacts.result.now _)

@@ -1,5 +1,6 @@
-use Rattle.std.proofs.Common.{ℕ}
+use Rattle.std.proofs.Common.{ℕ, get_or}
 use Rattle.std.specs.Prelude.{slice_index}
+use Rattle.board_model.proofs.Lists.{get_within}
 use Rattle.net_resolve.proofs.CutLemmas.{map_next, map_all}
 use Rattle.net_resolve.proofs.cut.own_nets.Goals as goal
 
@@ -12,3 +13,12 @@ pub returns : goal.returns
 returns c =
     let f : ℕ → ℕ = λ k. slice_index c.args.numbers.now (slice_index c.args.net_of.now k) in
     map_all f c.args.pins.now c.loop-j.j c.loop-j.own.items c.loop-j-test.false c.loop-j.invariant
+
+pub bounds-net_of-pins : goal.bounds-net_of-pins
+bounds-net_of-pins c = c.requires.pins c.loop-j.j _ (get_within c.args.pins.now c.loop-j.j 0 c.loop-j-test.true)
+
+pub bounds-numbers-net_of : goal.bounds-numbers-net_of
+bounds-numbers-net_of c =
+    let k = get_or c.args.pins.now c.loop-j.j 0 in
+    let there = c.requires.pins c.loop-j.j k (get_within c.args.pins.now c.loop-j.j 0 c.loop-j-test.true) in
+    c.requires.nets k _ (get_within c.args.net_of.now k 0 there)

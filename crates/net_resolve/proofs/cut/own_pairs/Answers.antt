@@ -1,5 +1,6 @@
-use Rattle.std.proofs.Common.{ℕ}
+use Rattle.std.proofs.Common.{ℕ, get_or}
 use Rattle.std.specs.Prelude.{slice_index, slice_index_or}
+use Rattle.board_model.proofs.Lists.{get_within}
 use Rattle.net_resolve.proofs.CutLemmas.{map_next, map_all}
 use Rattle.net_resolve.proofs.cut.own_pairs.Goals as goal
 
@@ -12,3 +13,24 @@ pub returns : goal.returns
 returns c =
     let f : ℕ → ℕ × ℕ = λ k. (slice_index c.args.numbers.now (slice_index_or c.args.pairs.now k (0, 0)).0, slice_index c.args.numbers.now (slice_index_or c.args.pairs.now k (0, 0)).1) in
     map_all f c.args.places.now c.loop-j.j c.loop-j.own.items c.loop-j-test.false c.loop-j.invariant
+
+pub bounds-places-j : goal.bounds-places-j
+bounds-places-j c = c.loop-j-test.true
+
+pub bounds-pairs-places : goal.bounds-pairs-places
+bounds-pairs-places c = c.requires.places c.loop-j.j _ (get_within c.args.places.now c.loop-j.j 0 c.loop-j-test.true)
+
+pub bounds-pairs-places-in-loop-j : goal.bounds-pairs-places-in-loop-j
+bounds-pairs-places-in-loop-j c = c.requires.places c.loop-j.j _ (get_within c.args.places.now c.loop-j.j 0 c.loop-j-test.true)
+
+pub bounds-numbers-a : goal.bounds-numbers-a
+bounds-numbers-a c =
+    let k = get_or c.args.places.now c.loop-j.j 0 in
+    let there = c.requires.places c.loop-j.j k (get_within c.args.places.now c.loop-j.j 0 c.loop-j-test.true) in
+    (c.requires.nets k _ (get_within c.args.pairs.now k (0, 0) there)).0
+
+pub bounds-numbers-b : goal.bounds-numbers-b
+bounds-numbers-b c =
+    let k = get_or c.args.places.now c.loop-j.j 0 in
+    let there = c.requires.places c.loop-j.j k (get_within c.args.places.now c.loop-j.j 0 c.loop-j-test.true) in
+    (c.requires.nets k _ (get_within c.args.pairs.now k (0, 0) there)).1

@@ -2,7 +2,7 @@ use Rattle.std.proofs.Common.{◌≤◌, ◌∙◌, sym, ap, arith, length, map,
 use Rattle.std.specs.Prelude.{◌&&◌}
 use Rattle.std.proofs.lemmas.List.{length-map}
 use Rattle.std.proofs.lemmas.Option.{slice_get-get_or, slice_get_within}
-use Rattle.board_model.proofs.Lists.{take_set_more, take_whole, some_map, all_taken}
+use Rattle.board_model.proofs.Lists.{get_within, take_set_more, take_whole, some_map, all_taken}
 use Rattle.net_resolve.specs.Sums.{is_loose}
 use Rattle.net_resolve.proofs.SumLemmas.{both_same, none_more}
 use Rattle.net_resolve.proofs.groups.put_bridges.Goals as goal
@@ -24,3 +24,16 @@ returns c =
       bridges = all_taken c.loop-i.i c.loop-i.bridges _ (omega (arith, c.loop-i.auto.bridges, c.requires.bridges, c.loop-i-test.false)) (c.loop-i.invariant.bridges ∙ take_whole c.loop-i.i _ long);
       none = λ off k e. c.loop-i.invariant.none off k (omega (arith, slice_get_within c.loop-i.bridges k true e, c.loop-i.auto.bridges, c.requires.bridges, c.loop-i-test.false)) e;
     }
+
+pub bounds-resistors-i : goal.bounds-resistors-i
+bounds-resistors-i c = c.loop-i-test.true
+
+pub is_net_loose-one-requires : goal.is_net_loose-one-requires
+is_net_loose-one-requires c =
+    let at = c.requires.resistors c.loop-i.i _ (get_within c.args.resistors.now c.loop-i.i (0, 0) c.loop-i-test.true) in
+    record { net = at.0; group = c.requires.groups _ at.0 }
+
+pub is_net_loose-other-requires : goal.is_net_loose-other-requires
+is_net_loose-other-requires c =
+    let at = c.requires.resistors c.loop-i.i _ (get_within c.args.resistors.now c.loop-i.i (0, 0) c.loop-i-test.true) in
+    record { net = at.1; group = c.requires.groups _ at.1 }

@@ -1,4 +1,5 @@
 use Rattle.std.proofs.Common.{◌<◌, ◌∙◌, arith, length}
+use Rattle.board_model.proofs.Lists.{get_within}
 use Rattle.net_resolve.proofs.AreaLemmas.{Grouped}
 use Rattle.net_resolve.proofs.ResolveLemmas.{levels_are, driven_are}
 use Rattle.net_resolve.proofs.levels.resolve_groups.Goals as goal
@@ -28,3 +29,43 @@ returns c = λ contacts closed grouped.
     c.put_levels.ensures
     ∙ levels_are c.args.net_of.now contacts c.args.resistors.now closed c.args.drives.now groups strong g c.find_areas.new.areas (omega (arith, c.find_areas.auto.areas, c.requires.areas)) c.find_areas.ensures.labels c.find_areas.ensures.joins
     c.sum_areas.new.sums (λ a (l : a < length groups). c.sum_areas.ensures a (omega (arith, c.requires.sums)))
+
+pub sum_groups-requires : goal.sum_groups-requires
+sum_groups-requires c = record {
+  pins = c.requires.pins;
+  nets = λ k l. c.requires.nets k _ (get_within c.args.net_of.now k 0 l);
+  groups = λ n l. omega (arith, l, c.requires.labels.forest n, c.requires.strong);
+}
+
+pub put_strong-requires : goal.put_strong-requires
+put_strong-requires c = record {
+  levels = c.requires.levels;
+  groups = λ n l. omega (arith, l, c.requires.labels.forest n, c.requires.strong, c.sum_groups.auto.strong);
+}
+
+pub find_areas-requires : goal.find_areas-requires
+find_areas-requires c = record {
+  resistors = c.requires.resistors;
+  groups = λ n l. omega (arith, l, c.requires.labels.forest n, c.requires.strong, c.sum_groups.auto.strong);
+  labels = c.requires.labels;
+  bridges = c.requires.bridges;
+  areas = c.requires.areas;
+}
+
+pub sum_areas-requires : goal.sum_areas-requires
+sum_areas-requires c = record {
+  pins = c.requires.pins;
+  nets = λ k l. c.requires.nets k _ (get_within c.args.net_of.now k 0 l);
+  resistors = c.requires.resistors;
+  groups = λ n l. omega (arith, l, c.requires.labels.forest n, c.requires.strong, c.sum_groups.auto.strong);
+  places = c.find_areas.auto.areas ∙ c.requires.areas;
+  areas = λ n l. omega (arith, l, c.find_areas.ensures.labels.forest n, c.find_areas.auto.areas, c.requires.areas, c.requires.sums);
+}
+
+pub put_levels-requires : goal.put_levels-requires
+put_levels-requires c = record {
+  places = c.find_areas.auto.areas ∙ c.requires.areas;
+  levels = c.put_strong.auto.levels ∙ c.requires.levels;
+  groups = λ n l. omega (arith, l, c.requires.labels.forest n, c.requires.strong, c.sum_groups.auto.strong);
+  areas = λ n l. omega (arith, l, c.find_areas.ensures.labels.forest n, c.find_areas.auto.areas, c.requires.areas, c.requires.sums, c.sum_areas.auto.sums);
+}

@@ -1,4 +1,4 @@
-use Rattle.std.proofs.Common.{◌≡◌, ◌∙◌, ap, sym, subst, false, Some}
+use Rattle.std.proofs.Common.{◌≡◌, ◌∙◌, ap, sym, subst, false, Some, arith}
 use Rattle.std.specs.Prelude.{slice_get, slice_index, slice_index_or}
 use Rattle.board_model.proofs.Lists.{get_within}
 use Rattle.net_resolve.specs.Marked.{MarksView, Noted}
@@ -14,3 +14,9 @@ pub returns-else-not-is_same_flag-clause-marks : goal.returns-else-not-is_same_f
 returns-else-not-is_same_flag-clause-marks c =
     noted_none (slice_get c.args.kept.now c.args.contact ≡ Some c.args.closed) (slice_index c.args.labels.now (slice_index_or c.args.contacts.now c.args.contact (0, 0)).0) c.args.marks.now.marked
     (get_within c.args.kept.now c.args.contact false c.requires.contact ∙ ap Some (c.is_same_flag.ensures c.if-not-is_same_flag.false))
+
+pub bounds-labels-first : goal.bounds-labels-first
+bounds-labels-first c = (c.requires.nets c.args.contact _ (get_within c.args.contacts.now c.args.contact (0, 0) (omega (arith, c.requires.contact, c.requires.contacts)))).0
+
+pub mark-requires : goal.mark-requires
+mark-requires c = c.requires.labels _ (c.requires.nets c.args.contact _ (get_within c.args.contacts.now c.args.contact (0, 0) (omega (arith, c.requires.contact, c.requires.contacts)))).0

@@ -15,3 +15,6 @@ loop-j-preserved c =
 
 pub returns : goal.returns
 returns c = λ _. gathered c.args.closed.now c.args.kept.now c.args.contacts.now c.loop-j.j c.loop-j-test.false c.requires.each c.loop-j.invariant
+
+pub bounds-closed-contacts : goal.bounds-closed-contacts
+bounds-closed-contacts c = c.requires.contacts c.loop-j.j _ (get_within c.args.contacts.now c.loop-j.j 0 c.loop-j-test.true)

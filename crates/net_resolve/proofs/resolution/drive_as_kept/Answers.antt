@@ -16,3 +16,6 @@ loop-j-preserved c =
 
 pub returns : goal.returns
 returns c = λ _. gathered c.args.drives.now c.args.kept.now c.args.pins.now c.loop-j.j c.loop-j-test.false c.requires.each c.loop-j.invariant
+
+pub bounds-drives-pins : goal.bounds-drives-pins
+bounds-drives-pins c = c.requires.pins c.loop-j.j _ (get_within c.args.pins.now c.loop-j.j 0 c.loop-j-test.true)

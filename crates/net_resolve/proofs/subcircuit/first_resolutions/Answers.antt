@@ -1,0 +1,14 @@
+use Rattle.std.proofs.Common.{◌∙◌, ap}
+use Rattle.net_resolve.specs.Wired.{Wired}
+use Rattle.net_resolve.proofs.ResolutionLemmas.{resolution_back}
+use Rattle.net_resolve.proofs.subcircuit.first_resolutions.Goals as goal
+
+pub returns-clause-same : goal.returns-clause-same
+returns-clause-same c =
+    let second = c.first_resolution-2 in
+    second.ensures.same ∙ ap (λ (x : Wired). record x { levels = second.new.whole.levels }) c.first_resolution.ensures.same
+
+pub returns-clause-before : goal.returns-clause-before
+returns-clause-before c =
+    let first = c.first_resolution in
+    resolution_back c.args.whole.now first.new.whole c.in_ok-before.before first.ensures.same c.in_ok-before.ensures.found

@@ -1,0 +1,80 @@
+use Rattle.std.proofs.Common.{◌≡◌, ◌∙◌, ℕ, List, length, arith, sym, ap, refl, subst, Some}
+use Rattle.std.specs.Prelude.{slice_get}
+use Rattle.board_model.specs.Resolve.{resolve}
+use Rattle.board_model.proofs.Lists.{lent_whole}
+use Rattle.sim_base.specs.declared.signal.Level.{Level}
+use Rattle.union_find.specs.Forest.{AreLabels}
+use Rattle.net_resolve.specs.Wired.{Wired}
+use Rattle.net_resolve.proofs.WholeLemmas.{pairs_moved, groups_moved, resolve_moved}
+use Rattle.net_resolve.proofs.whole.Whole.resolve.Goals as goal
+
+pub regroup-requires : goal.regroup-requires
+regroup-requires c =
+    let i = c.self.inside in
+    let v = c.self.invariant in
+    let contacts = c.deref.ensures.value in
+    let groups = c.deref_mut-2.ensures.value in
+    record {
+      contacts = pairs_moved (sym contacts) (i.groups.ok.0 ∙ ap length (sym groups)) v.contacts_within;
+      closed = c.requires.closed ∙ ap (λ (x : Wired). length x.contacts) (sym c.self.view_is) ∙ ap length (sym contacts);
+      kept = ap length c.deref_mut.ensures.value ∙ sym i.closed.ok.0 ∙ v.closed_long ∙ i.contacts.ok.0 ∙ ap length (sym contacts);
+      few = omega (arith, v.few, i.groups.ok.0, ap length groups);
+      grouped = groups_moved (sym contacts) (sym c.deref_mut.ensures.value) (sym groups) v.grouped;
+    }
+
+pub resolve_groups-requires : goal.resolve_groups-requires
+resolve_groups-requires c =
+    let i = c.self.inside in
+    let v = c.self.invariant in
+    let r = c.regroup in
+    let long = r.auto.groups ∙ ap length c.deref_mut-2.ensures.value in
+    let groups = c.deref-4.ensures.value ∙ lent_whole i.groups.len i.groups.items r.new.groups i.groups.ok.0 long in
+    let count : i.groups.len ≡ length c.deref-4.result.now = i.groups.ok.0 ∙ sym (ap length groups ∙ long) in
+    record {
+      pins = c.requires.drives ∙ ap (λ (x : Wired). length x.net_of) (sym c.self.view_is) ∙ ap length (sym c.deref-2.ensures.value);
+      nets = λ k n e. omega (arith, count, v.pins_within k n (subst (λ (l : List ℕ). slice_get l k ≡ Some n) c.deref-2.ensures.value e));
+      resistors = pairs_moved (sym c.deref-3.ensures.value) count v.resistors_within;
+      labels = subst (λ (l : List ℕ). AreLabels l) (sym groups) r.ensures.grouped.classes.labels;
+      strong = ap length c.deref_mut-3.ensures.value ∙ sym i.strong.ok.0 ∙ v.strong_long ∙ count;
+      bridges = ap length c.deref_mut-4.ensures.value ∙ sym i.bridges.ok.0 ∙ v.bridges_long ∙ i.resistors.ok.0 ∙ ap length (sym c.deref-3.ensures.value);
+      areas = ap length c.deref_mut-5.ensures.value ∙ sym i.areas.ok.0 ∙ v.areas_long ∙ count;
+      sums = ap length c.deref_mut-6.ensures.value ∙ sym i.sums.ok.0 ∙ v.sums_long ∙ count;
+      levels = ap length c.deref_mut-7.ensures.value ∙ sym i.levels.ok.0 ∙ v.levels_long ∙ count;
+    }
+
+pub invariant_of-self : goal.invariant_of-self
+invariant_of-self c =
+    let i = c.self.inside in
+    let v = c.self.invariant in
+    let r = c.regroup in
+    let groups = lent_whole i.groups.len i.groups.items r.new.groups i.groups.ok.0 (r.auto.groups ∙ ap length c.deref_mut-2.ensures.value) in
+    let closed = lent_whole i.closed.len i.closed.items r.new.kept i.closed.ok.0 (r.auto.kept ∙ ap length c.deref_mut.ensures.value) in
+    record {
+      few = v.few;
+      pins_within = v.pins_within;
+      contacts_within = v.contacts_within;
+      resistors_within = v.resistors_within;
+      grouped = groups_moved c.deref.ensures.value (sym (closed ∙ r.ensures.kept)) (sym groups) r.ensures.grouped;
+      closed_long = v.closed_long;
+      strong_long = v.strong_long;
+      bridges_long = v.bridges_long;
+      areas_long = v.areas_long;
+      sums_long = v.sums_long;
+      levels_long = v.levels_long;
+    }
+
+pub returns : goal.returns
+returns c =
+    let i = c.self.inside in
+    let r = c.regroup in
+    let q = c.resolve_groups in
+    let closed = c.args.closed.now in
+    let drives = c.args.drives.now in
+    let long = r.auto.groups ∙ ap length c.deref_mut-2.ensures.value in
+    let groups = c.deref-4.ensures.value ∙ lent_whole i.groups.len i.groups.items r.new.groups i.groups.ok.0 long in
+    let count : length c.deref-4.result.now ≡ i.groups.len = ap length groups ∙ long ∙ sym i.groups.ok.0 in
+    let found = q.ensures c.deref.result.now closed (groups_moved refl refl (sym groups) r.ensures.grouped) in
+    let levels = lent_whole i.levels.len i.levels.items q.new.levels i.levels.ok.0 (q.auto.levels ∙ ap length c.deref_mut-7.ensures.value) in
+    ap (λ (ls : List Level). record { nets = i.groups.len; net_of = i.net_of.items; contacts = i.contacts.items; resistors = i.resistors.items; levels = ls })
+    (levels ∙ found ∙ resolve_moved closed drives count c.deref-2.ensures.value c.deref.ensures.value c.deref-3.ensures.value)
+    ∙ ap (λ (x : Wired). record x { levels = resolve x.nets x.net_of x.contacts x.resistors closed drives }) c.self.view_is
