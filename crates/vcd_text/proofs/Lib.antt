@@ -1,5 +1,7 @@
 pub mod CallerLemmas
 mod ChainLemmas
+mod HeadLemmas
+mod LineLemmas
 pub mod ReadLemmas
 pub mod ReadingLemmas
 pub mod TrackLemmas

@@ -5,7 +5,7 @@ ghost use Rattle.text_model.specs.Wave.{time_line};
 ghost use Rattle.vcd_text.specs.Variables.{variables_of};
 ghost use Rattle.vcd_text.specs.Heads.{gathered, after_row, changed_by};
 ghost use Rattle.text_model.specs.Wave.{Net, head};
-ghost use Rattle.vcd_text.specs.Chains.{HasSeen, PinsRest, sources, values_at};
+ghost use Rattle.vcd_text.specs.Chains.{AreChains, AreNetsBut, HasSeen, PinsRest, sources, values_at};
 ghost use Rattle.sim_base.specs.Rows.{AreBut};
 ghost use Rattle.sim_base.specs.declared.signal.Level.{Level};
 
@@ -49,6 +49,39 @@ fn two_of(changed: &[u16]) -> Option<(u16, u16)>
     }
 }
 
+/// The values before any row, room for as many, and the text of the head.
+fn first_texts(
+    alloc: Global,
+    variables: &[Variable],
+) -> Result<(Vec<u8>, Vec<u8>, Vec<u8>), OutOfMemory>
+    requires { length variables.now ≤ 8930 }
+    ensures before { IfOk result (λ v. vec_len v.0 ≡ length variables.now) }
+    ensures current { IfOk result (λ v. vec_len v.1 ≡ length variables.now) }
+    ensures head { IfOk result (λ v. v.2.items ≡ head (variables_of variables.now)) }
+{
+    let before = unknown(alloc, variables.len())?;
+    let current = unknown(alloc, variables.len())?;
+    let head_bytes = head_text(alloc, variables)?;
+    Ok((before, current, head_bytes))
+}
+
+/// The first variable that shows each net and behind each variable the next that shows its net, and
+/// the variables that show pins.
+fn linked(
+    alloc: Global,
+    variables: &[Variable],
+) -> Result<(Vec<u16>, Vec<u16>, Vec<u16>), AllocError>
+    requires { length variables.now ≤ 8930 }
+    ensures chains { IfOk result (λ v. AreChains (sources (variables_of variables.now)) v.0.items v.1.items) }
+    ensures pins { IfOk result (λ v. AreNetsBut v.2.items (sources (variables_of variables.now))) }
+{
+    let mut first = numbers(alloc, variables.len() as u16, count_nets(variables))?;
+    let mut next = numbers(alloc, 0, variables.len())?;
+    link_all(variables, &mut first, &mut next);
+    let pins = pins_of(alloc, variables)?;
+    Ok((first, next, pins))
+}
+
 /// The variables of a wave and the text of its head, with the room for the values of the last row
 /// and for the text of rows, which is kept until it is much.
 #[derive(Drop)]
@@ -80,14 +113,15 @@ impl Model for WaveHead {
 
     ghost view = { λ a. record { variables = variables_of a.variables; values = a.before.items; text = a.text.text; started = a.started } };
 
-    ghost invariant = { λ a.
-        (length a.variables ≤ 8930)
-        × (a.head_bytes.items ≡ head (variables_of a.variables))
-        × (vec_len a.before ≡ length a.variables)
-        × (vec_len a.current ≡ length a.variables)
-        × (gathered + text_room (variables_of a.variables) ≤ a.text.room)
-        × AreChains (sources (variables_of a.variables)) a.first.items a.next.items
-        × AreNetsBut a.pins.items (sources (variables_of a.variables)) };
+    ghost invariant = { λ a. record {
+      few : length a.variables ≤ 8930;
+      head_is : a.head_bytes.items ≡ head (variables_of a.variables);
+      before_long : vec_len a.before ≡ length a.variables;
+      current_long : vec_len a.current ≡ length a.variables;
+      room_is : gathered + text_room (variables_of a.variables) ≤ a.text.room;
+      chains : AreChains (sources (variables_of a.variables)) a.first.items a.next.items;
+      pins_are : AreNetsBut a.pins.items (sources (variables_of a.variables));
+    } };
 }
 
 impl WaveHead {
@@ -97,17 +131,9 @@ impl WaveHead {
         requires { length variables ≤ 8930 }
         ensures { IfOk result (λ h. h.variables ≡ variables_of variables) }
     {
-        let before = unknown(alloc, variables.len())?;
-        let current = unknown(alloc, variables.len())?;
-        let head_bytes = head_text(alloc, variables.as_slice())?;
-        let mut first = numbers(
-            alloc,
-            variables.len() as u16,
-            count_nets(variables.as_slice()),
-        )?;
-        let mut next = numbers(alloc, 0, variables.len())?;
-        link_all(variables.as_slice(), &mut first, &mut next);
-        let pins = pins_of(alloc, variables.as_slice())?;
+        let list = variables.as_slice();
+        let (before, current, head_bytes) = first_texts(alloc, list)?;
+        let (first, next, pins) = linked(alloc, list)?;
         let text = Buffer::with_room(
             alloc,
             GATHERED + head_bytes.len() + 57 + 4 * variables.len(),

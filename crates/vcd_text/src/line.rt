@@ -1,9 +1,8 @@
 //! One line of a wave that is read.
-ghost use Rattle.std.specs.Prelude.{◌≡◌, ◌≤◌, ◌+◌, ◌*◌, true, false, min, Some, if◌then◌else◌, List, ℕ, IfSome, IfNone};
+ghost use Rattle.std.specs.Prelude.{◌≡◌, ◌≤◌, ◌+◌, ◌*◌, true, false, min, Some, if◌then◌else◌, IfSome, IfNone};
 ghost use Rattle.std.specs.List.{list_all};
 ghost use Rattle.std.specs.Char.{digit_value, is_ascii_digit};
 ghost use Rattle.numerals.specs.Numerals.{value_of};
-ghost use Rattle.text_model.specs.Wave.{Variable as WaveVariable};
 ghost use Rattle.sim_base.specs.declared.limits.TheConstants.{MOST_CYCLES};
 ghost use Rattle.vcd_text.specs.Variables.{source_of, variables_of};
 ghost use Rattle.std.specs.Str.{bytes_eq};
@@ -16,7 +15,7 @@ use crate::variable::{Source, Variable};
 use sim_base::refusals::{WAVE_LINE, WAVE_NAME, WAVE_TIME};
 
 /// What may come next in a wave behind its head.
-#[derive(Clone, Copy, Debug, PartialEq, Eq)]
+#[derive(Clone, Copy)]
 pub enum Stage {
     /// `#0`.
     Start,
@@ -33,7 +32,7 @@ pub enum Stage {
 }
 
 /// What a line says.
-#[derive(Clone, Copy, Debug, PartialEq, Eq)]
+#[derive(Clone, Copy)]
 pub enum Line {
     /// What may come next, and nothing else.
     Goes(Stage),
@@ -92,8 +91,7 @@ fn decimal(digits: &[u8]) -> Option<u64>
 
 fn judge(n: u32, cycle: u32, time: u64) -> Line
     requires { n ≤ MOST_CYCLES }
-    ensures judged { result ≡ judged n cycle time }
-    ensures fits { (variables : List WaveVariable) → IsFitting variables n cycle result }
+    ensures { result ≡ judged n cycle time }
 {
     if time % 625 == 0 && 625 * u64::from(cycle) < time && time <= 625 * u64::from(n) {
         Line::Time((time / 625) as u32)
@@ -104,8 +102,7 @@ fn judge(n: u32, cycle: u32, time: u64) -> Line
 
 fn read_time(n: u32, cycle: u32, line: &[u8]) -> Line
     requires { n ≤ MOST_CYCLES }
-    ensures said { result ≡ time_said n cycle line.now }
-    ensures fits { (variables : List WaveVariable) → IsFitting variables n cycle result }
+    ensures { result ≡ time_said n cycle line.now }
 {
     match line {
         [b'#', digits @ ..] => match decimal(digits) {
@@ -148,8 +145,7 @@ fn shows_net(shows: Source) -> bool
 }
 
 fn value_of_number(variables: &[Variable], value: u8, i: usize) -> Line
-    ensures said { result ≡ value_of_number (variables_of variables.now) value (Some i) }
-    ensures fits { (n cycle : ℕ) → IsFitting (variables_of variables.now) n cycle result }
+    ensures { result ≡ value_of_number (variables_of variables.now) value (Some i) }
 {
     if i >= variables.len() {
         return Line::Faulty(WAVE_NAME);
@@ -161,8 +157,7 @@ fn value_of_number(variables: &[Variable], value: u8, i: usize) -> Line
 }
 
 fn read_value(variables: &[Variable], line: &[u8]) -> Line
-    ensures said { result ≡ value_said (variables_of variables.now) line.now }
-    ensures fits { (n cycle : ℕ) → IsFitting (variables_of variables.now) n cycle result }
+    ensures { result ≡ value_said (variables_of variables.now) line.now }
 {
     match line {
         [value, code @ ..] if is_value(*value) => match number_of(code) {
@@ -175,8 +170,7 @@ fn read_value(variables: &[Variable], line: &[u8]) -> Line
 
 /// A line that has to be a certain text.
 fn exactly(line: &[u8], text: &[u8], next: Stage) -> Line
-    ensures said { result ≡ (if bytes_eq line.now text.now then Line.Goes next else Line.Faulty WaveLine) }
-    ensures fits { (variables : List WaveVariable) (n cycle : ℕ) → IsFitting variables n cycle result }
+    ensures { result ≡ (if bytes_eq line.now text.now then Line.Goes next else Line.Faulty WaveLine) }
 {
     if line == text {
         Line::Goes(next)

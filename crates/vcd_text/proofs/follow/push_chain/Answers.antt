@@ -137,3 +137,20 @@ loop-i-smaller c =
     let n : IsNext (sources (variables_of c.args.variables.now)) c.args.two (c.loop-i.i + 1) c.behind-b.result = c.behind-b.ensures all c.args.first.now c.args.two c.requires.chains inv.two inside in
     let order : c.loop-i.i + 1 ≤ c.min-i-in-loop-i.result = both_from c.behind-a.result c.behind-b.result c.min-i-in-loop-i.result (c.loop-i.i + 1) c.min-i-in-loop-i.ensures m.order n.order in
     omega (arith, order, less)
+
+pub bounds-variables-i : goal.bounds-variables-i
+bounds-variables-i c = c.loop-i-test.true
+
+pub push_change-more-requires : goal.push_change-more-requires
+push_change-more-requires c =
+    let inv = c.loop-i.invariant in
+    record {
+      few = omega (arith, c.loop-i-test.true, c.requires.few);
+      room = omega (arith, c.loop-i-test.true, c.requires.room, inv.room, inv.short);
+    }
+
+pub behind-a-requires : goal.behind-a-requires
+behind-a-requires c = λ here. omega (arith, c.loop-i-test.true, c.requires.chains.long, shown_long c.args.variables.now)
+
+pub behind-b-requires : goal.behind-b-requires
+behind-b-requires c = λ here. omega (arith, c.loop-i-test.true, c.requires.chains.long, shown_long c.args.variables.now)

@@ -1,4 +1,4 @@
-use Rattle.std.proofs.Common.{◌≡◌, ◌+◌, ◌∙◌, ℕ, length, drop, Ok, Err, sym, ap, arith}
+use Rattle.std.proofs.Common.{◌≡◌, ◌∙◌, ℕ, length, drop, Ok, sym, ap, arith}
 use Rattle.std.proofs.lemmas.List.{take_rest}
 use Rattle.vcd_text.proofs.ReadLemmas.{behind_line, behind_same, behind_other, behind_short, behind_done}
 use Rattle.vcd_text.proofs.read.behind.Goals as goal

@@ -1,4 +1,4 @@
-use Rattle.std.proofs.Common.{◌≡◌, ◌<◌, ◌+◌, ◌∙◌, ℕ, List, [], ◌∷◌, ◌++◌, length, get_or, map, replicate, false, Bool, Option, Some, Ok, Err, sym, ap, subst}
+use Rattle.std.proofs.Common.{◌≡◌, ◌<◌, ◌∙◌, ℕ, List, [], ◌∷◌, ◌++◌, length, get_or, replicate, false, Some, Ok, Err, sym, ap, subst}
 use Rattle.std.proofs.Common.{arith}
 use Rattle.std.specs.Prelude.{slice_get}
 use Rattle.std.specs.Option.{option_map}
@@ -7,12 +7,12 @@ use Rattle.std.proofs.lemmas.Option.{slice_get-map, slice_get-get_or}
 use Rattle.sim_base.specs.declared.fault.Refusal.{Refusal}
 use Rattle.text_model.specs.Wave.{Variable}
 use Rattle.vcd_text.specs.declared.line.Line.TheVariants as says
-use Rattle.vcd_text.specs.Variables.{variable_of, variables_of}
+use Rattle.vcd_text.specs.Variables.{variable_of}
 use Rattle.vcd_text.specs.Reading.{Change, behind, changes_behind, verdict}
 use Rattle.vcd_text.specs.Tracks.{DriveRows, tracks_of}
-use Rattle.vcd_text.specs.TrackStates.{TrackState, TrackStates, AreSaid}
+use Rattle.vcd_text.specs.TrackStates.{TrackStates, AreSaid}
 use Rattle.vcd_text.proofs.TrackLemmas.{said_none, said_later, said_more}
-use Rattle.vcd_text.proofs.ReadingLemmas.{from_here, line_read, read_well, read_badly}
+use Rattle.vcd_text.proofs.ReadingLemmas.{line_read, read_well, read_badly}
 use Rattle.vcd_text.proofs.read.read_wave.Goals as goal
 use Rattle.vcd_text.proofs.read.read_wave.Goals.{in-Goes, in-Time, in-Value+in_ok-change-in-Value}
 
