@@ -3,7 +3,7 @@ use std::fmt;
 use std::fmt::{Display, Formatter, Write};
 use wasm_num::{Trap, Value};
 
-#[derive(Clone, Copy, Debug, PartialEq, Eq)]
+#[derive(Clone, Copy)]
 pub enum Answer {
     Nothing,
     Value(Value),

@@ -4,7 +4,7 @@ use crate::operators::{BinaryOp, LoadOp, StoreOp, UnaryOp};
 use crate::types::ValType;
 
 /// The alignment, as a power of two, and the offset of an access to memory.
-#[derive(Clone, Copy, Debug, PartialEq, Eq)]
+#[derive(Clone, Copy)]
 pub struct MemArg {
     pub align: u32,
     pub offset: u32,
@@ -12,7 +12,7 @@ pub struct MemArg {
 
 /// An instruction of the table of float types. It is typed and never computed, so loads, stores and operations have their
 /// opcode: a name would say no more.
-#[derive(Clone, Copy, Debug, PartialEq, Eq)]
+#[derive(Clone, Copy)]
 pub enum FloatInstr {
     Load(u8, MemArg),
     Store(u8, MemArg),

@@ -2,7 +2,7 @@
 //! core specification).
 
 /// An operator on two integers of one width that never traps.
-#[derive(Clone, Copy, Debug, PartialEq, Eq)]
+#[derive(Clone, Copy)]
 pub enum Plain {
     Eq,
     Ne,
@@ -28,7 +28,7 @@ pub enum Plain {
 }
 
 /// An operator on two integers of one width that traps for some of them.
-#[derive(Clone, Copy, Debug, PartialEq, Eq)]
+#[derive(Clone, Copy)]
 pub enum Division {
     DivS,
     DivU,
@@ -37,14 +37,14 @@ pub enum Division {
 }
 
 /// An operator on two integers of one width.
-#[derive(Clone, Copy, Debug, PartialEq, Eq)]
+#[derive(Clone, Copy)]
 pub enum Binary {
     Plain(Plain),
     Division(Division),
 }
 
 /// An operator on an integer of 32 bits.
-#[derive(Clone, Copy, Debug, PartialEq, Eq)]
+#[derive(Clone, Copy)]
 pub enum Unary32 {
     Eqz,
     Clz,
@@ -58,7 +58,7 @@ pub enum Unary32 {
 }
 
 /// An operator on an integer of 64 bits.
-#[derive(Clone, Copy, Debug, PartialEq, Eq)]
+#[derive(Clone, Copy)]
 pub enum Unary64 {
     Eqz,
     Clz,
@@ -72,21 +72,21 @@ pub enum Unary64 {
 }
 
 /// An operator on one integer, by the type of its operand.
-#[derive(Clone, Copy, Debug, PartialEq, Eq)]
+#[derive(Clone, Copy)]
 pub enum UnaryOp {
     I32(Unary32),
     I64(Unary64),
 }
 
 /// An operator on two integers, by the type of its operands.
-#[derive(Clone, Copy, Debug, PartialEq, Eq)]
+#[derive(Clone, Copy)]
 pub enum BinaryOp {
     I32(Binary),
     I64(Binary),
 }
 
 /// A load from memory.
-#[derive(Clone, Copy, Debug, PartialEq, Eq)]
+#[derive(Clone, Copy)]
 pub enum LoadOp {
     I32Load,
     I64Load,
@@ -103,7 +103,7 @@ pub enum LoadOp {
 }
 
 /// A store to memory.
-#[derive(Clone, Copy, Debug, PartialEq, Eq)]
+#[derive(Clone, Copy)]
 pub enum StoreOp {
     I32Store,
     I64Store,

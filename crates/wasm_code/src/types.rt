@@ -2,7 +2,7 @@
 use sim_base::List;
 
 /// A value type.
-#[derive(Clone, Copy, Debug, PartialEq, Eq)]
+#[derive(Clone, Copy)]
 pub enum ValType {
     I32,
     I64,
@@ -11,7 +11,7 @@ pub enum ValType {
 }
 
 /// The type of a block: no result, or one.
-#[derive(Clone, Copy, Debug, PartialEq, Eq)]
+#[derive(Clone, Copy)]
 pub struct BlockType {
     pub result: Option<ValType>,
 }
@@ -24,14 +24,14 @@ pub struct FuncType {
 }
 
 /// The limits of a memory, in pages, or of a table, in entries.
-#[derive(Clone, Copy, Debug, PartialEq, Eq)]
+#[derive(Clone, Copy)]
 pub struct Limits {
     pub least: u32,
     pub greatest: Option<u32>,
 }
 
 /// The type of a global, and whether it may be changed.
-#[derive(Clone, Copy, Debug, PartialEq, Eq)]
+#[derive(Clone, Copy)]
 pub struct GlobalType {
     pub value: ValType,
     pub changeable: bool,

@@ -108,7 +108,7 @@ fn is_numeric(op: u8) -> bool
 }
 
 /// What stands behind an opcode.
-#[derive(Clone, Copy, Debug, PartialEq, Eq)]
+#[derive(Clone, Copy)]
 pub enum Shape {
     Bare,
     Block,

@@ -3,7 +3,7 @@ use sim_base::{List, Text};
 use wasm_code::{Expr, FuncType, GlobalType, Limits, ValType};
 
 /// What an import or an export is.
-#[derive(Clone, Copy, Debug, PartialEq, Eq)]
+#[derive(Clone, Copy)]
 pub enum Extern {
     Function,
     Table,
@@ -12,7 +12,7 @@ pub enum Extern {
 }
 
 /// What is imported: a function of the type with that number, or the type of the rest.
-#[derive(Clone, Copy, Debug, PartialEq, Eq)]
+#[derive(Clone, Copy)]
 pub enum ImportDesc {
     Function(u32),
     Table(Limits),
@@ -48,7 +48,7 @@ pub struct ElementSegment {
 }
 
 /// So many locals of one type.
-#[derive(Clone, Copy, Debug, PartialEq, Eq)]
+#[derive(Clone, Copy)]
 pub struct LocalRun {
     pub count: u32,
     pub value: ValType,

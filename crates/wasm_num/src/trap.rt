@@ -4,7 +4,7 @@ ghost use Rattle.wasm_num.specs.Traps.{number_of};
 
 /// A trap: of an instruction, of a run's limits (`Exhausted`, `Budget`), of a host call
 /// (`HostAddress` to `HostLimit`), or of code that would compute with floats (`Float`).
-#[derive(Clone, Copy, Debug, PartialEq, Eq)]
+#[derive(Clone, Copy)]
 pub enum Trap {
     Unreachable = 1,
     MemoryBounds = 2,

@@ -13,7 +13,7 @@ use std::alloc::Global;
 use wasm_code::{FloatInstr, Instr};
 
 /// An instruction that fails, and the rule that it breaks.
-#[derive(Clone, Copy, Debug, PartialEq, Eq)]
+#[derive(Clone, Copy)]
 pub struct Failure {
     pub at: usize,
     pub number: u8,

@@ -2,7 +2,7 @@
 use wasm_code::ValType;
 
 /// What an open block is.
-#[derive(Clone, Copy, Debug, PartialEq, Eq)]
+#[derive(Clone, Copy)]
 pub enum Frame {
     Block,
     Loop,

@@ -7,7 +7,7 @@ use std::alloc::Global;
 use wasm_decode::{Import, ImportDesc};
 
 /// What is imported; a function by the number of its type.
-#[derive(Clone, Copy, Debug, PartialEq, Eq)]
+#[derive(Clone, Copy)]
 pub enum ImportKind {
     Function(u32),
     Table,
