@@ -2,9 +2,9 @@
 use Rattle.std.proofs.Common.{◌≡◌, ℕ, List, Result, Ok, Err, sym, subst}
 use Rattle.sim_base.specs.declared.fault.Fault.{Fault}
 use Rattle.wasm_text.specs.declared.reader.Reader.{Reader}
-use Rattle.std.specs.Prelude.{◌%◌, ◌==◌, nat_lt, Bool, true, false}
+use Rattle.std.specs.Prelude.{◌%◌, ◌==◌, nat_lt}
 use Rattle.std.specs.Int.{w32, w64, from_le_bytes}
-use Rattle.wasm_text.specs.Form.{Form, give, byte, choose, judge_tag, ◌>>=◌}
+use Rattle.wasm_text.specs.Form.{Form, give, byte, judge_tag, ◌>>=◌}
 use Rattle.wasm_text.specs.Reads.{Reads, Fails, Decodes}
 use Rattle.wasm_text.proofs.Steps.{stops, then, then_reads, then_fails, given}
 use Rattle.wasm_text.specs.Proper.{Proper}

@@ -108,6 +108,19 @@ section_some s a x t = omega (arith, ap length t.3, length-append t.0 t.1, ap le
 pub section_shrinks : (s : Progress) (old new : Reader) (x : Section) → Reads (section s) old new x → length new.rest.now < length old.rest.now
 section_shrinks s old new x h = omega (arith, ap length h.2.parts, length-append h.0 new.rest.now, section_some s h.0 x h.1)
 
+-- the content of the section that an id says
+pub sect_reads : {X : Type 0} (p : Form X) (make : X → Section) (old new : Reader) (x : X) → Reads p old new x → Reads (p >>= (λ x. give (make x))) old new (make x)
+sect_reads p make old new x h = then_reads p (λ x. give (make x)) old new new x (make x) h (given (make x) new)
+
+pub sect_fails : {X : Type 0} (p : Form X) (make : X → Section) (old : Reader) (e : Fault) → Fails p old e → Fails (p >>= (λ x. give (make x))) old e
+sect_fails p make old e h = stops p (λ x. give (make x)) old e h
+
+pub content_is : (m : Module) (id k : ℕ) (old new : Reader) (x : Section) → id ≡ k → Reads (content m k) old new x → Reads (content m id) old new x
+content_is m id k old new x q h = subst (λ (z : ℕ). Reads (content m z) old new x) (sym q) h
+
+pub content_fails_as : (m : Module) (id k : ℕ) (old : Reader) (e : Fault) → id ≡ k → Fails (content m k) old e → Fails (content m id) old e
+content_fails_as m id k old e q h = subst (λ (z : ℕ). Fails (content m z) old e) (sym q) h
+
 -- the bodies of the module's functions
 pub content_bodies_fail : (m : Module) (id : ℕ) (ts : List FuncType) (fs : List ℕ) (old : Reader) (e : Fault) → id ≡ 10 → ts ≡ m.types → fs ≡ m.functions → Fails (bodies ts fs) old e → Fails (content m id) old e
 content_bodies_fail m id ts fs old e q t f h =

@@ -14,6 +14,10 @@ SectionsFail old faults.OutOfMemory = Unit {0}
 SectionsFail old (faults.Refused r) = (i : ℕ) × (r.place ≡ places.Byte (old.at + i)) × SectionsBreak old.rest.now i r.number
 
 -- all bytes are the sections that lead to this progress, or they break
+abbrev pub SectionsPut : Result (Unit {0}) Fault → Reader → Progress → Type 0
+SectionsPut (Ok u) old t = (xs : List Section) × Sections nothing old.rest.now xs t × (wants_bodies t ≡ false)
+SectionsPut (Err e) old t = SectionsFail old e
+
 abbrev pub SectionsRead : Result Progress Fault → Reader → Type 0
-SectionsRead (Ok t) old = (xs : List Section) × Sections nothing old.rest.now xs t × (wants_bodies t ≡ false)
+SectionsRead (Ok t) old = SectionsPut (Ok tt) old t
 SectionsRead (Err e) old = SectionsFail old e

@@ -1,7 +1,7 @@
 //! A whole module.
 ghost use Rattle.std.specs.Prelude.{◌≡◌, ◌<◌, length};
-ghost use Rattle.wasm_decode.specs.ModuleText.{IsDecoded, magic as magic_form, these_bytes as these_form};
-ghost use Rattle.wasm_decode.specs.SectionViews.{SectionsRead};
+ghost use Rattle.wasm_decode.specs.ModuleText.{IsDecoded, nothing, magic as magic_form, these_bytes as these_form};
+ghost use Rattle.wasm_decode.specs.SectionViews.{SectionsRead, SectionsPut};
 ghost use Rattle.wasm_text.specs.Form.{byte_or, judge_tag};
 ghost use Rattle.wasm_text.specs.Reads.{Decodes};
 ghost use Rattle.sim_base.specs.Refusals.{WasmMagic};
@@ -12,6 +12,7 @@ use crate::sections::section;
 use sim_base::Fault;
 use sim_base::refusals::{WASM_COUNT, WASM_MAGIC};
 use std::alloc::Global;
+use std::mem::drop;
 use wasm_text::{Reader, refused};
 
 /// The magic and the version.
@@ -65,12 +66,27 @@ fn sections(alloc: Global, reader: &mut Reader) -> Result<Progress, Fault>
     ensures { SectionsRead result reader.old }
 {
     let mut progress = Progress::new(alloc);
+    match put_sections(alloc, reader, &mut progress) {
+        Ok(()) => Ok(progress),
+        Err(fault) => {
+            // One call, where a drop at the end of the scope is proved list by list.
+            drop(progress);
+            Err(fault)
+        }
+    }
+}
+
+/// Puts all sections into their places.
+fn put_sections(alloc: Global, reader: &mut Reader, progress: &mut Progress) -> Result<(), Fault>
+    requires { progress.old ≡ nothing }
+    ensures { SectionsPut result reader.old progress.new }
+{
     while reader.rest.len() > 0 {
-        let section = section(alloc, reader, &progress)?;
+        let section = section(alloc, reader, progress)?;
         progress.put(section);
     }
     if progress.wants_bodies() {
         return Err(refused(WASM_COUNT, reader.at));
     }
-    Ok(progress)
+    Ok(())
 }

@@ -2,10 +2,10 @@ use Rattle.std.proofs.Common.{sym, ◌∙◌}
 use Rattle.std.proofs.lemmas.Result.{err_from_is_err_and}
 use Rattle.wasm_decode.proofs.SectionLemmas.{section_shrinks}
 use Rattle.wasm_decode.proofs.ModuleLemmas.{sections_begin, sections_go, section_breaks, sections_end}
-use Rattle.wasm_decode.proofs.decoding.sections.Goals as goal
+use Rattle.wasm_decode.proofs.decoding.put_sections.Goals as goal
 
 pub loop-reader-init : goal.loop-reader-init
-loop-reader-init c = sections_begin _ _ c.new-progress.ensures
+loop-reader-init c = sections_begin _ _ c.requires
 
 pub returns-in_err-section : goal.returns-in_err-section
 returns-in_err-section c =

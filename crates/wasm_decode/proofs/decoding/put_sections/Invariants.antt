@@ -1,6 +1,6 @@
 use Rattle.std.proofs.Common.{length}
 use Rattle.wasm_decode.proofs.ModuleLemmas.{SectionRun}
-use Rattle.wasm_decode.proofs.decoding.sections.Given as goal
+use Rattle.wasm_decode.proofs.decoding.put_sections.Given as goal
 
 abbrev pub invariant-loop-reader : goal.invariant-loop-reader
 invariant-loop-reader l = SectionRun l.fn.reader l.reader l.progress
