@@ -2,30 +2,45 @@
 ghost use Rattle.std.specs.Prelude.{◌≡◌, IfOk, MatchResult};
 ghost use Rattle.wasm_validate.specs.Answers.{IsValidated};
 ghost use Rattle.wasm_validate.specs.Rules.{outside as outside_form};
-ghost use Rattle.wasm_validate.specs.Validity.{IsValid, IsRefused};
+ghost use Rattle.wasm_validate.specs.Validity.{IsValid, IsRefused, import_texts};
 
 use crate::bodies::body_fault;
 use crate::collecting::spaces;
 use crate::constants::{constants, insides, names, sizes};
 use crate::forms::forms;
-use crate::import_text::texts;
+use crate::import_text::{ImportText, texts};
 use crate::indexes::indexes;
 use crate::init::chip_init;
 use crate::rules::or_then;
 use crate::space::Space;
 use crate::valid::Valid;
 use sim_base::refusals::CHIP_INIT;
-use sim_base::{Fault, Place, Refusal};
+use sim_base::{Fault, List, Place, Refusal};
 use std::alloc::Global;
+use std::mem::drop;
 use wasm_decode::Module;
 
 /// A module that keeps all rules as valid; the first rule that it breaks otherwise.
 pub fn validate(alloc: Global, module: Module) -> Result<Valid, Fault>
     ensures { IsValidated «module» result }
 {
-    let chip_init = verdict(alloc, &module)?;
+    match known(alloc, &module) {
+        Ok((imports, chip_init)) => Ok(Valid::new(module, imports, chip_init)),
+        Err(fault) => {
+            // One call, where a drop at the end of the scope is proved list by list.
+            drop(module);
+            Err(fault)
+        }
+    }
+}
+
+/// The imports by their names and the function that sets the chip up, of a module that keeps all rules.
+fn known(alloc: Global, module: &Module) -> Result<(List<ImportText>, u32), Fault>
+    ensures { MatchResult result (λ k. (k.0 ≡ import_texts «module».now.imports) × IsValid «module».now k.1) (λ e. IsRefused «module».now e) }
+{
+    let chip_init = verdict(alloc, module)?;
     let imports = texts(alloc, module.imports.as_slice())?;
-    Ok(Valid::new(module, imports, chip_init))
+    Ok((imports, chip_init))
 }
 
 /// The function that sets the chip up, of a module that keeps all rules.

@@ -1,4 +1,4 @@
-use Rattle.std.proofs.Common.{◌≡◌, ◌≤◌, ◌+◌, drop}
+use Rattle.std.proofs.Common.{◌≡◌, ◌≤◌, drop}
 use Rattle.wasm_validate.specs.Rules.{all_exist}
 use Rattle.wasm_validate.proofs.indexes.all_exist.Given as goal
 
