@@ -100,3 +100,12 @@ module _ (m : Module) (none : imported_globals m.imports ≡ []) (typed : HasTyp
         globals = subst (λ (vs : List Value). HasTypes vs (value_types (globals_of m))) (sym kept) all_typed;
         same = ap (map slot) kept ∙ sym g;
       }
+
+-- the same, of what was made of the module seen through its index spaces
+pub made_ready : (m x : Module) → x ≡ m → imported_globals m.imports ≡ [] → (init : ℕ) → IsValid m init → IsWhole m → (compiled : Compiled) (rows : List TypeRow) (room : ℕ) (store : Store) (slots : List ℕ) → CompiledOf x compiled rows room → store.globals ≡ map slot (constants x.globals) → HasTypes (constants x.globals) (value_types (kinds_of x.globals)) → length slots ≡ 256 * room → IsReady m compiled room store slots
+made_ready m x e none init valid whole compiled rows room store slots p g typed l =
+    ready m none (subst (λ (y : Module). HasTypes (constants y.globals) (value_types (kinds_of y.globals))) e typed) init compiled rows room store slots valid whole (subst (λ (y : Module). CompiledOf y compiled rows room) e p) (subst (λ (y : Module). store.globals ≡ map slot (constants y.globals)) e g) l
+
+pub made_first : (m x : Module) → x ≡ m → imported_globals m.imports ≡ [] → (slots : List ℕ) → slots ≡ map slot (constants x.globals) → HasTypes (constants x.globals) (value_types (kinds_of x.globals)) → globals_in m slots ≡ constants m.globals
+made_first m x e none slots g typed =
+    globals_kept m slots (constants m.globals) (all_typed m none (subst (λ (y : Module). HasTypes (constants y.globals) (value_types (kinds_of y.globals))) e typed)) (subst (λ (y : Module). slots ≡ map slot (constants y.globals)) e g)

@@ -13,6 +13,7 @@ use crate::parts::{Parts, parts_of};
 use sim_base::OutOfMemory;
 use std::alloc::Global;
 use std::marker::Model;
+use std::mem::drop;
 use wasm_eval::Host;
 use wasm_num::{Memory, Trap, Value};
 use wasm_validate::Valid;
@@ -49,8 +50,14 @@ impl Instance {
         ensures memory { IfOk result (λ instance. instance.memory ≡ memory_at_first valid.wasm) }
         ensures first { IfOk result (λ instance. instance.globals ≡ first_globals valid.wasm) }
     {
-        let parts = parts_of(alloc, valid.module())?;
-        Ok(Instance { valid, parts })
+        match parts_of(alloc, valid.module()) {
+            Ok(parts) => Ok(Instance { valid, parts }),
+            Err(error) => {
+                // One call, where a drop at the end of the scope is proved list by list.
+                drop(valid);
+                Err(error)
+            }
+        }
     }
 
     /// Calls a function, which is the first of at most 256 nested calls; each instruction costs one unit of fuel,
