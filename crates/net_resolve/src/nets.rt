@@ -217,6 +217,18 @@ fn first_state(
     Ok((drives, closed, levels, pin_levels))
 }
 
+/// The marks of so many subcircuits, all set, and those of as many nets, none set.
+fn first_marks(alloc: Global, count: u16) -> Result<(Marks, Marks), OutOfMemory>
+    ensures room { IfOk result (λ m. m.0.room ≡ count) }
+    ensures few { IfOk result (λ m. m.0.room ≤ 65535) }
+    ensures all { IfOk result (λ m. (n : ℕ) → n < count → has m.0.marked n ≡ true) }
+    ensures none { IfOk result (λ m. m.1 ≡ record { room = count; marked = [] }) }
+{
+    let marks = Marks::all(alloc, count)?;
+    let changed = Marks::new(alloc, count)?;
+    Ok((marks, changed))
+}
+
 impl Nets {
     /// The nets of a wiring, with every drive and every level Z and all contacts open. All are to be
     /// resolved.
@@ -233,8 +245,9 @@ impl Nets {
           changed = [];
         }) }
     {
-        let (net_of, contacts, resistors) = copy_wiring(alloc, wiring)?;
+        let (marks, changed) = first_marks(alloc, wiring.nets)?;
         let (labels, subcircuits) = cut_wiring(alloc, wiring)?;
+        let (net_of, contacts, resistors) = copy_wiring(alloc, wiring)?;
         let (drives, closed, levels, pin_levels) = first_state(alloc, wiring)?;
         Ok(Nets {
             net_of,
@@ -244,10 +257,10 @@ impl Nets {
             subcircuits,
             drives,
             closed,
-            marks: Marks::all(alloc, wiring.nets)?,
+            marks,
             levels,
             pin_levels,
-            changed: Marks::new(alloc, wiring.nets)?,
+            changed,
         })
     }
 

@@ -8,11 +8,11 @@ pub invariant_of-result : goal.invariant_of-result
 invariant_of-result c =
     let v = c.in_ok-net_of in
     let s = c.in_ok-drives in
+    let m = c.in_ok-marks in
     first_invariant c.args.wiring.now (vec_len s.levels) v.net_of.items v.contacts.items v.resistors.items s.levels.items
     s.levels.ok.0 v.ensures.net_of v.ensures.contacts v.ensures.resistors s.ensures.levels c.in_ok-labels.labels.items c.in_ok-labels.ensures.cut
     c.in_ok-labels.subcircuits.items c.in_ok-labels.ensures.long c.in_ok-labels.ensures.subcircuits
-    c.in_ok-all.field-0.room c.in_ok-all.field-0.marked c.in_ok-all.ensures.room c.in_ok-all.ensures.few c.in_ok-all.ensures.all
-    c.in_ok-new.field-0.room (ap (λ (m : MarksView). m.room) c.in_ok-new.ensures)
+    m.marks.room m.marks.marked m.ensures.room m.ensures.few m.ensures.all m.changed.room (ap (λ (x : MarksView). x.room) m.ensures.none)
     (vec_len v.net_of) (vec_len s.drives) s.drives.items v.net_of.ok.0 s.drives.ok.0 s.ensures.drives
     (vec_len v.contacts) (vec_len s.closed) s.closed.items v.contacts.ok.0 s.closed.ok.0 s.ensures.closed
     s.pin_levels.items s.ensures.pin_levels
@@ -21,5 +21,6 @@ pub returns : goal.returns
 returns c =
     let v = c.in_ok-net_of in
     let s = c.in_ok-drives in
-    first_circuit c.args.wiring.now (vec_len s.levels) v.net_of.items v.contacts.items v.resistors.items s.drives.items s.closed.items s.levels.items c.in_ok-new.field-0.marked
-    s.levels.ok.0 v.ensures.net_of v.ensures.contacts v.ensures.resistors s.ensures.drives s.ensures.closed s.ensures.levels (ap (λ (m : MarksView). m.marked) c.in_ok-new.ensures)
+    let m = c.in_ok-marks in
+    first_circuit c.args.wiring.now (vec_len s.levels) v.net_of.items v.contacts.items v.resistors.items s.drives.items s.closed.items s.levels.items m.changed.marked
+    s.levels.ok.0 v.ensures.net_of v.ensures.contacts v.ensures.resistors s.ensures.drives s.ensures.closed s.ensures.levels (ap (λ (x : MarksView). x.marked) m.ensures.none)
