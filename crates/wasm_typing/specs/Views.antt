@@ -2,7 +2,7 @@
 use Rattle.std.specs.Prelude.{◌≡◌, List, map, Option, Some, None, Bool, true, false, reverse, option_to_list}
 use Rattle.wasm_code.specs.declared.types.ValType.{ValType}
 use Rattle.wasm_typing.specs.Checking as checks
-use Rattle.wasm_typing.specs.Checking.{Operand, Frame, Around, State}
+use Rattle.wasm_typing.specs.Checking.{Operand, Operands, Frame, Around, State, stay, turn}
 use Rattle.wasm_typing.specs.declared.open.Frame.{Frame as Opened}
 use Rattle.wasm_typing.specs.declared.open.Frame.TheVariants as frames
 use Rattle.wasm_typing.specs.declared.open.Open.{Open}
@@ -24,6 +24,14 @@ arounds os = map around_of (reverse os)
 abbrev pub Follows : Bool → Option State → State → Type 0
 Follows true o new = o ≡ Some new
 Follows false o new = o ≡ None
+
+-- the operands of the innermost block go by this, and the blocks around stay
+abbrev pub Becomes : Bool → Option Operands → State → State → Type 0
+Becomes may os old = Follows may (stay old.around os)
+
+-- operands are taken, the first one topmost, and others are left
+abbrev pub Turns : Bool → List ValType → List ValType → State → State → Type 0
+Turns may takes leaves old = Becomes may (turn takes leaves old.known old.missing) old
 
 abbrev pub LabelIs : Option (Option ValType) → Option (List ValType) → Type 0
 LabelIs None o = o ≡ None

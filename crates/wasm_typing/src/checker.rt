@@ -1,7 +1,7 @@
 //! The validator's state: the operands of the innermost block and the blocks around.
 ghost use Rattle.std.specs.Prelude.{◌≡◌, true, false, None, Some, if◌then◌else◌, ◌++◌, [], ◌∷◌, slice_get, reverse, option_to_list, option_map, option_and_then, OnOk, IfOk, nat_le, ℕ};
 ghost use Rattle.wasm_typing.specs.Checking.{opened, parted, ended, labels_of, known as known_form, stay, turn, select as select_form, leaves_any, pop, pop_any, all_have as all_form, same_types, total, is_if as is_if_form};
-ghost use Rattle.wasm_typing.specs.Views.{state_of, frame_of, Follows, LabelIs, is_loop_form};
+ghost use Rattle.wasm_typing.specs.Views.{state_of, frame_of, Follows, Becomes, Turns, LabelIs, is_loop_form};
 
 use crate::open::{Frame, Open};
 use crate::operands::{
@@ -158,7 +158,7 @@ impl Checker {
     }
 
     pub fn branch(&mut self, l: u32) -> bool
-        ensures { Follows result (stay (state_of self.old).around (option_and_then (λ rs. leaves_any rs (state_of self.old).known self.old.missing) (slice_get (labels_of (state_of self.old).around) l))) (state_of self.new) }
+        ensures { Becomes result (option_and_then (λ rs. leaves_any rs (state_of self.old).known self.old.missing) (slice_get (labels_of (state_of self.old).around) l)) (state_of self.old) (state_of self.new) }
     {
         match self.label(l) {
             Some(label) => self.leave(label),
@@ -168,7 +168,7 @@ impl Checker {
 
     /// Takes a result and leaves the block.
     pub fn leave(&mut self, wanted: Option<ValType>) -> bool
-        ensures { Follows result (stay (state_of self.old).around (leaves_any (option_to_list wanted) (state_of self.old).known self.old.missing)) (state_of self.new) }
+        ensures { Becomes result (leaves_any (option_to_list wanted) (state_of self.old).known self.old.missing) (state_of self.old) (state_of self.new) }
     {
         let stands = take_result(&mut self.known, self.missing, wanted);
         self.forget();
@@ -176,7 +176,7 @@ impl Checker {
     }
 
     pub fn branch_if(&mut self, l: u32) -> Result<bool, OutOfMemory>
-        ensures { IfOk result (λ yes. Follows yes (stay (state_of self.old).around (option_and_then (λ rs. turn (ValType.I32 ∷ rs) rs (state_of self.old).known self.old.missing) (slice_get (labels_of (state_of self.old).around) l))) (state_of self.new)) }
+        ensures { IfOk result (λ yes. Becomes yes (option_and_then (λ rs. turn (ValType.I32 ∷ rs) rs (state_of self.old).known self.old.missing) (slice_get (labels_of (state_of self.old).around) l)) (state_of self.old) (state_of self.new)) }
     {
         match self.label(l) {
             Some(label) => {
@@ -193,7 +193,7 @@ impl Checker {
     }
 
     pub fn branch_table(&mut self, labels: &[u32], default: u32) -> bool
-        ensures { Follows result (stay (state_of self.old).around (option_and_then (λ rs. (if all_form (labels_of (state_of self.old).around) labels.now rs then leaves_any (ValType.I32 ∷ rs) (state_of self.old).known self.old.missing else None)) (slice_get (labels_of (state_of self.old).around) default))) (state_of self.new) }
+        ensures { Becomes result (option_and_then (λ rs. (if all_form (labels_of (state_of self.old).around) labels.now rs then leaves_any (ValType.I32 ∷ rs) (state_of self.old).known self.old.missing else None)) (slice_get (labels_of (state_of self.old).around) default)) (state_of self.old) (state_of self.new) }
     {
         match self.label(default) {
             Some(label) => {
@@ -227,13 +227,13 @@ impl Checker {
     }
 
     pub fn drop_one(&mut self) -> bool
-        ensures { Follows result (stay (state_of self.old).around (option_map (λ rest. record { known = rest; missing = self.old.missing }) (pop_any (state_of self.old).known self.old.missing))) (state_of self.new) }
+        ensures { Becomes result (option_map (λ rest. record { known = rest; missing = self.old.missing }) (pop_any (state_of self.old).known self.old.missing)) (state_of self.old) (state_of self.new) }
     {
         take_any(&mut self.known, self.missing)
     }
 
     pub fn select(&mut self) -> Result<bool, OutOfMemory>
-        ensures { IfOk result (λ yes. Follows yes (stay (state_of self.old).around (option_and_then (λ rest. select_form rest self.old.missing) (pop ValType.I32 (state_of self.old).known self.old.missing))) (state_of self.new)) }
+        ensures { IfOk result (λ yes. Becomes yes (option_and_then (λ rest. select_form rest self.old.missing) (pop ValType.I32 (state_of self.old).known self.old.missing)) (state_of self.old) (state_of self.new)) }
     {
         if !take_type(&mut self.known, self.missing, ValType::I32) {
             return Ok(false);
@@ -242,7 +242,7 @@ impl Checker {
     }
 
     fn select_two(&mut self) -> Result<bool, OutOfMemory>
-        ensures { IfOk result (λ yes. Follows yes (stay (state_of self.old).around (select_form (state_of self.old).known self.old.missing)) (state_of self.new)) }
+        ensures { IfOk result (λ yes. Becomes yes (select_form (state_of self.old).known self.old.missing) (state_of self.old) (state_of self.new)) }
     {
         let one = match (self.known.pop(), self.known.pop()) {
             (Some(a), Some(b)) => joined(a, b),
@@ -266,13 +266,13 @@ impl Checker {
     }
 
     pub fn take(&mut self, one: ValType) -> bool
-        ensures { Follows result (stay (state_of self.old).around (turn (one ∷ []) [] (state_of self.old).known self.old.missing)) (state_of self.new) }
+        ensures { Turns result (one ∷ []) [] (state_of self.old) (state_of self.new) }
     {
         take_type(&mut self.known, self.missing, one)
     }
 
     pub fn one_to(&mut self, one: ValType, gives: ValType) -> Result<bool, OutOfMemory>
-        ensures { IfOk result (λ yes. Follows yes (stay (state_of self.old).around (turn (one ∷ []) (gives ∷ []) (state_of self.old).known self.old.missing)) (state_of self.new)) }
+        ensures { IfOk result (λ yes. Turns yes (one ∷ []) (gives ∷ []) (state_of self.old) (state_of self.new)) }
     {
         if !take_type(&mut self.known, self.missing, one) {
             return Ok(false);
@@ -282,7 +282,7 @@ impl Checker {
     }
 
     pub fn two_to(&mut self, one: ValType, gives: ValType) -> Result<bool, OutOfMemory>
-        ensures { IfOk result (λ yes. Follows yes (stay (state_of self.old).around (turn (one ∷ one ∷ []) (gives ∷ []) (state_of self.old).known self.old.missing)) (state_of self.new)) }
+        ensures { IfOk result (λ yes. Turns yes (one ∷ one ∷ []) (gives ∷ []) (state_of self.old) (state_of self.new)) }
     {
         if !take_type(&mut self.known, self.missing, one)
             || !take_type(&mut self.known, self.missing, one)
@@ -295,7 +295,7 @@ impl Checker {
 
     /// Takes a value and the address below it.
     pub fn store(&mut self, value: ValType) -> bool
-        ensures { Follows result (stay (state_of self.old).around (turn (value ∷ ValType.I32 ∷ []) [] (state_of self.old).known self.old.missing)) (state_of self.new) }
+        ensures { Turns result (value ∷ ValType.I32 ∷ []) [] (state_of self.old) (state_of self.new) }
     {
         take_type(&mut self.known, self.missing, value)
             && take_type(&mut self.known, self.missing, ValType::I32)
@@ -303,7 +303,7 @@ impl Checker {
 
     /// Takes two addresses, or an address and a value, and a count of bytes.
     pub fn take_three(&mut self) -> bool
-        ensures { Follows result (stay (state_of self.old).around (turn (ValType.I32 ∷ ValType.I32 ∷ ValType.I32 ∷ []) [] (state_of self.old).known self.old.missing)) (state_of self.new) }
+        ensures { Turns result (ValType.I32 ∷ ValType.I32 ∷ ValType.I32 ∷ []) [] (state_of self.old) (state_of self.new) }
     {
         take_type(&mut self.known, self.missing, ValType::I32)
             && take_type(&mut self.known, self.missing, ValType::I32)
@@ -311,7 +311,7 @@ impl Checker {
     }
 
     pub fn call(&mut self, kind: &FuncType) -> Result<bool, OutOfMemory>
-        ensures { IfOk result (λ yes. Follows yes (stay (state_of self.old).around (turn (reverse kind.now.params) (reverse kind.now.results) (state_of self.old).known self.old.missing)) (state_of self.new)) }
+        ensures { IfOk result (λ yes. Turns yes (reverse kind.now.params) (reverse kind.now.results) (state_of self.old) (state_of self.new)) }
     {
         if !take_types(&mut self.known, self.missing, kind.params.as_slice()) {
             return Ok(false);
@@ -321,7 +321,7 @@ impl Checker {
     }
 
     pub fn call_indirect(&mut self, kind: &FuncType) -> Result<bool, OutOfMemory>
-        ensures { IfOk result (λ yes. Follows yes (stay (state_of self.old).around (turn (ValType.I32 ∷ reverse kind.now.params) (reverse kind.now.results) (state_of self.old).known self.old.missing)) (state_of self.new)) }
+        ensures { IfOk result (λ yes. Turns yes (ValType.I32 ∷ reverse kind.now.params) (reverse kind.now.results) (state_of self.old) (state_of self.new)) }
     {
         if !take_type(&mut self.known, self.missing, ValType::I32) {
             return Ok(false);
