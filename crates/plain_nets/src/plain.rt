@@ -5,6 +5,7 @@ ghost use Rattle.sim_base.specs.Signal.{value_of, strong_of, is_weak};
 ghost use Rattle.board_model.specs.Walks.{any_below, below, walk_within};
 ghost use Rattle.board_model.specs.Nets.{joins, joined_by};
 ghost use Rattle.board_model.specs.Resolve.{is_value, level_of_values, level_of_drives, contact_joins, is_one, has_strong, is_driven, passes, reaches, strong_values, collected, level_of, resolve};
+ghost use Rattle.plain_nets.specs.Sights.{over};
 
 use sim_base::{Drive, Level, List, OutOfMemory, Wiring};
 use std::alloc::{AllocError, Global};
@@ -134,7 +135,7 @@ impl<'a> Sight<'a> {
     fn has_strong_here(&self, n: u16, value: bool) -> bool
         requires closed { length self.now.closed.now ≡ length self.now.contacts.now }
         requires drives { length self.now.drives.now ≡ length self.now.net_of.now }
-        ensures { result ≡ has_strong self.now.nets self.now.net_of.now self.now.contacts.now self.now.resistors.now self.now.closed.now self.now.drives.now n value }
+        ensures { result ≡ over self.now has_strong n value }
     {
         let mut found = false;
         for i in 0..self.net_of.len() {
@@ -147,7 +148,7 @@ impl<'a> Sight<'a> {
     fn is_driven_here(&self, n: u16) -> bool
         requires closed { length self.now.closed.now ≡ length self.now.contacts.now }
         requires drives { length self.now.drives.now ≡ length self.now.net_of.now }
-        ensures { result ≡ is_driven self.now.nets self.now.net_of.now self.now.contacts.now self.now.resistors.now self.now.closed.now self.now.drives.now n }
+        ensures { result ≡ over self.now is_driven n }
     {
         self.has_strong_here(n, true) | self.has_strong_here(n, false)
     }
@@ -156,7 +157,7 @@ impl<'a> Sight<'a> {
     fn passes_to(&self, n: u16, m: u16) -> bool
         requires closed { length self.now.closed.now ≡ length self.now.contacts.now }
         requires drives { length self.now.drives.now ≡ length self.now.net_of.now }
-        ensures { result ≡ passes self.now.nets self.now.net_of.now self.now.contacts.now self.now.resistors.now self.now.closed.now self.now.drives.now n m }
+        ensures { result ≡ over self.now passes n m }
     {
         !self.is_driven_here(n)
             & (is_closed_over(self.contacts, self.closed, n, m) | is_joined(self.resistors, n, m))
@@ -166,7 +167,7 @@ impl<'a> Sight<'a> {
     fn walks(&self, k: u16, n: u16, m: u16) -> bool
         requires closed { length self.now.closed.now ≡ length self.now.contacts.now }
         requires drives { length self.now.drives.now ≡ length self.now.net_of.now }
-        ensures { result ≡ walk_within self.now.nets (passes self.now.nets self.now.net_of.now self.now.contacts.now self.now.resistors.now self.now.closed.now self.now.drives.now) k n m }
+        ensures { result ≡ walk_within self.now.nets (over self.now passes) k n m }
     {
         if k == 0 {
             return n == m;
@@ -183,7 +184,8 @@ impl<'a> Sight<'a> {
     fn collect_strong(&self, n: u16, into: &mut Vec<Drive>) -> Result<(), AllocError>
         requires closed { length self.now.closed.now ≡ length self.now.contacts.now }
         requires drives { length self.now.drives.now ≡ length self.now.net_of.now }
-        ensures { OnOk result (into.new.items ≡ into.old.items ++ flat_map (λ m. if reaches self.now.nets self.now.net_of.now self.now.contacts.now self.now.resistors.now self.now.closed.now self.now.drives.now n m then strong_values self.now.nets self.now.net_of.now self.now.contacts.now self.now.resistors.now self.now.closed.now self.now.drives.now m else []) (below self.now.nets)) }
+        ensures { OnOk result (into.new.items ≡ into.old.items ++ flat_map (λ m. if over self.now reaches n m
+            then over self.now strong_values m else []) (below self.now.nets)) }
     {
         for m in 0..self.nets {
             let reached = self.walks(self.nets, n, m);
@@ -197,7 +199,8 @@ impl<'a> Sight<'a> {
     fn collect_weak(&self, n: u16, into: &mut Vec<Drive>) -> Result<(), AllocError>
         requires closed { length self.now.closed.now ≡ length self.now.contacts.now }
         requires drives { length self.now.drives.now ≡ length self.now.net_of.now }
-        ensures { OnOk result (into.new.items ≡ into.old.items ++ map (λ p. p.1) (filter (λ p. reaches self.now.nets self.now.net_of.now self.now.contacts.now self.now.resistors.now self.now.closed.now self.now.drives.now n p.0 && not (is_driven self.now.nets self.now.net_of.now self.now.contacts.now self.now.resistors.now self.now.closed.now self.now.drives.now p.0) && is_weak p.1) (zip self.now.net_of.now self.now.drives.now))) }
+        ensures { OnOk result (into.new.items ≡ into.old.items ++ map (λ p. p.1) (filter (λ p. over self.now reaches n p.0 && not (over self.now is_driven p.0) && is_weak p.1)
+            (zip self.now.net_of.now self.now.drives.now))) }
     {
         for i in 0..self.net_of.len() {
             let net = self.net_of[i];
@@ -211,7 +214,7 @@ impl<'a> Sight<'a> {
     fn level_at(&self, alloc: Global, n: u16) -> Result<Level, AllocError>
         requires closed { length self.now.closed.now ≡ length self.now.contacts.now }
         requires drives { length self.now.drives.now ≡ length self.now.net_of.now }
-        ensures { IfOk result (λ l. l ≡ level_of self.now.nets self.now.net_of.now self.now.contacts.now self.now.resistors.now self.now.closed.now self.now.drives.now n) }
+        ensures { IfOk result (λ l. l ≡ over self.now level_of n) }
     {
         if self.is_driven_here(n) {
             return Ok(level_of_value(
