@@ -1,10 +1,10 @@
 //! The lines of a board's parts.
-ghost use Rattle.std.specs.Prelude.{◌≡◌, ◌++◌, ◌+◌, ◌<◌, ℕ, List, true, Some, map};
+ghost use Rattle.std.specs.Prelude.{◌≡◌, ◌+◌, ◌<◌, ℕ, List, true, Some, map};
 ghost use Rattle.sim_report.specs.declared.row.ReportRow.{ReportRow};
 ghost use Rattle.board_build.specs.declared.plan.PlanPart.{PlanPart};
 ghost use Rattle.board_build.specs.Parts.{is_chip};
-ghost use Rattle.sim_base.specs.Outside.{Outside, SameOthers};
-ghost use Rattle.outcome_model.specs.Work.{Wrote};
+ghost use Rattle.sim_base.specs.Outside.{SameOthers};
+ghost use Rattle.outcome_model.specs.Work.{Wrote, WroteOn};
 ghost use Rattle.any_part.specs.AnyBehaviour.{own_of};
 ghost use Rattle.sim_report.specs.Lines.{line_of};
 ghost use Rattle.board_report.specs.Report.{mode_of, is_input, ignored_row, uno_rows, own_rows, lcd_row, lcd_rows, chip_row, chosen_rows, parts_rows, text_of, shown_text};
@@ -23,7 +23,7 @@ use sim_report::{ReportRow, UnoMode, write_report};
 /// Writes a line where the writing so far has not failed.
 fn write_line<B: Bench>(end: WriteEnd, row: &ReportRow, bench: &mut B) -> WriteEnd
     requires { (B.outside bench.old).opened Port.Report ≡ true }
-    ensures next { (a : Outside) (text : List ℕ) → Wrote end Port.Report text a (B.outside bench.old) → Wrote result Port.Report (text ++ line_of row.now) a (B.outside bench.new) }
+    ensures next { WroteOn end result Port.Report (line_of row.now) (B.outside bench.old) (B.outside bench.new) }
     ensures named { (B.outside bench.new).name Port.Report ≡ (B.outside bench.old).name Port.Report }
     ensures opened { (B.outside bench.new).opened Port.Report ≡ true }
     ensures others { SameOthers Port.Report (B.outside bench.old) (B.outside bench.new) }
@@ -53,7 +53,7 @@ fn write_ignored<B: Bench>(
     bench: &mut B,
 ) -> WriteEnd
     requires { (B.outside bench.old).opened Port.Report ≡ true }
-    ensures next { (a : Outside) (text : List ℕ) → Wrote end Port.Report text a (B.outside bench.old) → Wrote result Port.Report (text ++ text_of (ignored_row written id.now address)) a (B.outside bench.new) }
+    ensures next { WroteOn end result Port.Report (text_of (ignored_row written id.now address)) (B.outside bench.old) (B.outside bench.new) }
     ensures named { (B.outside bench.new).name Port.Report ≡ (B.outside bench.old).name Port.Report }
     ensures opened { (B.outside bench.new).opened Port.Report ≡ true }
     ensures others { SameOthers Port.Report (B.outside bench.old) (B.outside bench.new) }
@@ -68,7 +68,7 @@ fn write_ignored<B: Bench>(
 /// Where the core of an Uno stands, and the addresses without a register that were written.
 fn write_uno<B: Bench>(end: WriteEnd, id: &Name, uno: &Mcu, bench: &mut B) -> WriteEnd
     requires { (B.outside bench.old).opened Port.Report ≡ true }
-    ensures next { (a : Outside) (text : List ℕ) → Wrote end Port.Report text a (B.outside bench.old) → Wrote result Port.Report (text ++ text_of (uno_rows id.now uno.now.mcu)) a (B.outside bench.new) }
+    ensures next { WroteOn end result Port.Report (text_of (uno_rows id.now uno.now.mcu)) (B.outside bench.old) (B.outside bench.new) }
     ensures named { (B.outside bench.new).name Port.Report ≡ (B.outside bench.old).name Port.Report }
     ensures opened { (B.outside bench.new).opened Port.Report ≡ true }
     ensures others { SameOthers Port.Report (B.outside bench.old) (B.outside bench.new) }
@@ -95,7 +95,7 @@ fn is_input(kind: PlanKind) -> bool
 fn write_lcd_line<B: Bench>(end: WriteEnd, id: &Name, lcd: &Lcd, row: u8, bench: &mut B) -> WriteEnd
     requires row { row < 2 }
     requires opened { (B.outside bench.old).opened Port.Report ≡ true }
-    ensures next { (a : Outside) (text : List ℕ) → Wrote end Port.Report text a (B.outside bench.old) → Wrote result Port.Report (text ++ line_of (lcd_row id.now lcd.now.screen row)) a (B.outside bench.new) }
+    ensures next { WroteOn end result Port.Report (line_of (lcd_row id.now lcd.now.screen row)) (B.outside bench.old) (B.outside bench.new) }
     ensures named { (B.outside bench.new).name Port.Report ≡ (B.outside bench.old).name Port.Report }
     ensures opened { (B.outside bench.new).opened Port.Report ≡ true }
     ensures others { SameOthers Port.Report (B.outside bench.old) (B.outside bench.new) }
@@ -107,7 +107,7 @@ fn write_lcd_line<B: Bench>(end: WriteEnd, id: &Name, lcd: &Lcd, row: u8, bench:
 /// The two lines of a text display.
 fn write_lcd<B: Bench>(end: WriteEnd, id: &Name, lcd: &Lcd, bench: &mut B) -> WriteEnd
     requires { (B.outside bench.old).opened Port.Report ≡ true }
-    ensures next { (a : Outside) (text : List ℕ) → Wrote end Port.Report text a (B.outside bench.old) → Wrote result Port.Report (text ++ text_of (lcd_rows id.now lcd.now.screen)) a (B.outside bench.new) }
+    ensures next { WroteOn end result Port.Report (text_of (lcd_rows id.now lcd.now.screen)) (B.outside bench.old) (B.outside bench.new) }
     ensures named { (B.outside bench.new).name Port.Report ≡ (B.outside bench.old).name Port.Report }
     ensures opened { (B.outside bench.new).opened Port.Report ≡ true }
     ensures others { SameOthers Port.Report (B.outside bench.old) (B.outside bench.new) }
@@ -125,7 +125,7 @@ fn write_own<B: Bench>(
     bench: &mut B,
 ) -> WriteEnd
     requires { (B.outside bench.old).opened Port.Report ≡ true }
-    ensures next { (a : Outside) (text : List ℕ) → Wrote end Port.Report text a (B.outside bench.old) → Wrote result Port.Report (text ++ text_of (own_rows part.now held.now (own_of own.now))) a (B.outside bench.new) }
+    ensures next { WroteOn end result Port.Report (text_of (own_rows part.now held.now (own_of own.now))) (B.outside bench.old) (B.outside bench.new) }
     ensures named { (B.outside bench.new).name Port.Report ≡ (B.outside bench.old).name Port.Report }
     ensures opened { (B.outside bench.new).opened Port.Report ≡ true }
     ensures others { SameOthers Port.Report (B.outside bench.old) (B.outside bench.new) }
@@ -181,7 +181,7 @@ pub trait Shown {
     /// Writes its lines where the writing so far has not failed.
     fn write_lines<B: Bench>(&self, end: WriteEnd, part: &PlanPart, bench: &mut B) -> WriteEnd
         requires { (B.outside bench.old).opened Port.Report ≡ true }
-        ensures next { (a : Outside) (text : List ℕ) → Wrote end Port.Report text a (B.outside bench.old) → Wrote result Port.Report (text ++ text_of (says part.now (stood self.now))) a (B.outside bench.new) }
+        ensures next { WroteOn end result Port.Report (text_of (says part.now (stood self.now))) (B.outside bench.old) (B.outside bench.new) }
         ensures named { (B.outside bench.new).name Port.Report ≡ (B.outside bench.old).name Port.Report }
         ensures opened { (B.outside bench.new).opened Port.Report ≡ true }
         ensures others { SameOthers Port.Report (B.outside bench.old) (B.outside bench.new) };
@@ -226,7 +226,7 @@ fn write_chosen<P: Shown, B: Bench>(
     bench: &mut B,
 ) -> WriteEnd
     requires { (B.outside bench.old).opened Port.Report ≡ true }
-    ensures next { (a : Outside) (text : List ℕ) → Wrote end Port.Report text a (B.outside bench.old) → Wrote result Port.Report (text ++ text_of (chosen_rows P.says chips part.now (P.stood state.now))) a (B.outside bench.new) }
+    ensures next { WroteOn end result Port.Report (text_of (chosen_rows P.says chips part.now (P.stood state.now))) (B.outside bench.old) (B.outside bench.new) }
     ensures named { (B.outside bench.new).name Port.Report ≡ (B.outside bench.old).name Port.Report }
     ensures opened { (B.outside bench.new).opened Port.Report ≡ true }
     ensures others { SameOthers Port.Report (B.outside bench.old) (B.outside bench.new) }
@@ -246,7 +246,7 @@ fn write_parts<P: Shown, B: Bench>(
     bench: &mut B,
 ) -> WriteEnd
     requires { (B.outside bench.old).opened Port.Report ≡ true }
-    ensures next { (a : Outside) (text : List ℕ) → Wrote end Port.Report text a (B.outside bench.old) → Wrote result Port.Report (text ++ text_of (parts_rows P.says chips plan.now (map P.stood parts.now))) a (B.outside bench.new) }
+    ensures next { WroteOn end result Port.Report (text_of (parts_rows P.says chips plan.now (map P.stood parts.now))) (B.outside bench.old) (B.outside bench.new) }
     ensures named { (B.outside bench.new).name Port.Report ≡ (B.outside bench.old).name Port.Report }
     ensures opened { (B.outside bench.new).opened Port.Report ≡ true }
     ensures others { SameOthers Port.Report (B.outside bench.old) (B.outside bench.new) }

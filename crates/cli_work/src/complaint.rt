@@ -1,9 +1,9 @@
 //! The line on Complaint.
-ghost use Rattle.std.specs.Prelude.{◌≡◌, ℕ, List, [], ◌∷◌, ◌++◌, decimal};
+ghost use Rattle.std.specs.Prelude.{◌≡◌, ℕ, List, [], ◌∷◌, decimal};
 ghost use Rattle.std.specs.List.{concat};
-ghost use Rattle.sim_base.specs.Outside.{Outside, SameOthers};
+ghost use Rattle.sim_base.specs.Outside.{SameOthers};
 ghost use Rattle.outcome_model.specs.Stop.{Refused};
-ghost use Rattle.outcome_model.specs.Work.{Wrote};
+ghost use Rattle.outcome_model.specs.Work.{Wrote, WroteOn};
 ghost use Rattle.outcome_model.specs.Outcome.{Accepted, Stopped, line_of, place_parts};
 ghost use Rattle.cli_work.specs.Outcomes.{outcome_of};
 
@@ -13,7 +13,7 @@ use itoa::Buffer;
 use sim_base::{Bench, Place, Port, Refusal, WriteEnd, refusal_name};
 
 fn tell_text<B: Bench>(end: WriteEnd, text: &str, bench: &mut B) -> WriteEnd
-    ensures next { (a : Outside) (said : List ℕ) → Wrote end Port.Complaint said a (B.outside bench.old) → Wrote result Port.Complaint (said ++ text.now) a (B.outside bench.new) }
+    ensures next { WroteOn end result Port.Complaint text.now (B.outside bench.old) (B.outside bench.new) }
     ensures others { SameOthers Port.Complaint (B.outside bench.old) (B.outside bench.new) }
 {
     write_next(end, bench, Port::Complaint, text.as_bytes())
@@ -21,7 +21,7 @@ fn tell_text<B: Bench>(end: WriteEnd, text: &str, bench: &mut B) -> WriteEnd
 
 /// A word before a number, and the number.
 fn tell_count<B: Bench>(end: WriteEnd, word: &str, n: u32, bench: &mut B) -> WriteEnd
-    ensures next { (a : Outside) (said : List ℕ) → Wrote end Port.Complaint said a (B.outside bench.old) → Wrote result Port.Complaint (said ++ concat (word.now ∷ decimal n ∷ [])) a (B.outside bench.new) }
+    ensures next { WroteOn end result Port.Complaint (concat (word.now ∷ decimal n ∷ [])) (B.outside bench.old) (B.outside bench.new) }
     ensures others { SameOthers Port.Complaint (B.outside bench.old) (B.outside bench.new) }
 {
     let mut buffer = Buffer::new();
@@ -30,7 +30,7 @@ fn tell_count<B: Bench>(end: WriteEnd, word: &str, n: u32, bench: &mut B) -> Wri
 }
 
 fn tell_place<B: Bench>(end: WriteEnd, place: Place, bench: &mut B) -> WriteEnd
-    ensures next { (a : Outside) (said : List ℕ) → Wrote end Port.Complaint said a (B.outside bench.old) → Wrote result Port.Complaint (said ++ concat (place_parts place)) a (B.outside bench.new) }
+    ensures next { WroteOn end result Port.Complaint (concat (place_parts place)) (B.outside bench.old) (B.outside bench.new) }
     ensures others { SameOthers Port.Complaint (B.outside bench.old) (B.outside bench.new) }
 {
     match place {

@@ -1,9 +1,9 @@
 //! Writing texts by their parts.
-ghost use Rattle.std.specs.Prelude.{◌≡◌, ℕ, List, ◌++◌, true, map};
+ghost use Rattle.std.specs.Prelude.{◌≡◌, ℕ, List, true, map};
 ghost use Rattle.std.specs.List.{concat};
-ghost use Rattle.sim_base.specs.Outside.{Outside, SameOthers, is_openable};
+ghost use Rattle.sim_base.specs.Outside.{SameOthers, is_openable};
 ghost use Rattle.outcome_model.specs.Stop.{printed};
-ghost use Rattle.outcome_model.specs.Work.{Wrote, RanOn};
+ghost use Rattle.outcome_model.specs.Work.{Wrote, WroteOn, RanOn};
 ghost use Rattle.cli_work.specs.Outcomes.{outcome_of};
 
 use crate::outcome::WorkEnd;
@@ -29,7 +29,7 @@ pub fn write_parts<B: Bench>(bench: &mut B, port: Port, parts: &[&[u8]]) -> Writ
 /// Writes more where the writing so far has not failed.
 pub fn write_next<B: Bench>(end: WriteEnd, bench: &mut B, port: Port, bytes: &[u8]) -> WriteEnd
     requires { (B.outside bench.old).opened port ≡ true }
-    ensures next { (a : Outside) (text : List ℕ) → Wrote end port text a (B.outside bench.old) → Wrote result port (text ++ bytes.now) a (B.outside bench.new) }
+    ensures next { WroteOn end result port bytes.now (B.outside bench.old) (B.outside bench.new) }
     ensures named { (B.outside bench.new).name port ≡ (B.outside bench.old).name port }
     ensures opened { (B.outside bench.new).opened port ≡ (B.outside bench.old).opened port }
     ensures others { SameOthers port (B.outside bench.old) (B.outside bench.new) }

@@ -1,5 +1,5 @@
 -- What the steps of a call do: writing on a port, reading a file.
-use Rattle.std.specs.Prelude.{◌≡◌, ◌⊎◌, List, ℕ, Result, Ok, Err, Some, IfSome}
+use Rattle.std.specs.Prelude.{◌≡◌, ◌⊎◌, ◌++◌, List, ℕ, Result, Ok, Err, Some, IfSome}
 use Rattle.std.specs.FinMap.{remove}
 use Rattle.sim_base.specs.declared.fault.Refusal.{Refusal}
 use Rattle.sim_base.specs.declared.bench.Port.{Port}
@@ -15,6 +15,10 @@ use Rattle.outcome_model.specs.Outcome.{Outcome, Accepted, NoRequest, Stopped, R
 abbrev pub Wrote : WriteEnd → Port → List ℕ → Outside → Outside → Type 0
 Wrote writes.Ok p text a b = Grows (a.written p) (b.written p) text × (b.faults p ≡ a.faults p)
 Wrote writes.Failed p text a b = ((front : List ℕ) × IsFront front text × Grows (a.written p) (b.written p) front) × Rose (a.faults p) (b.faults p)
+
+-- what was written on a port so far goes on by a text, or by a first part of it where a write failed
+abbrev pub WroteOn : WriteEnd → WriteEnd → Port → List ℕ → Outside → Outside → Type 0
+WroteOn end after p text b c = (a : Outside) (before : List ℕ) → Wrote end p before a b → Wrote after p (before ++ text) a c
 
 -- What reading files gives, or the first event that ends the work: a relation, since a module is judged by one.
 abbrev pub Reading : Type 0 → Type 1

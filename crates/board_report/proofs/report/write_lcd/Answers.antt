@@ -1,4 +1,4 @@
-use Rattle.std.proofs.Common.{◌++◌, ℕ, List}
+use Rattle.std.proofs.Common.{ℕ, List}
 use Rattle.sim_base.specs.declared.bench.Port.TheVariants as ports
 use Rattle.board_report.specs.Report.{lcd_row}
 use Rattle.board_report.proofs.ReportLemmas.{wrote_same, rows_both}

@@ -1,17 +1,18 @@
-use Rattle.std.proofs.Common.{◌≡◌, ◌++◌, ◌∷◌, true, List, ℕ}
+use Rattle.std.proofs.Common.{◌≡◌, ◌∷◌, true}
 use Rattle.std.specs.List.{flat_map}
 use Rattle.sim_base.specs.declared.bench.Port.TheVariants as ports
-use Rattle.sim_base.specs.Outside.{Outside, SameOthers}
+use Rattle.sim_base.specs.Outside.{SameOthers}
 use Rattle.board_model.specs.Walks.{below}
-use Rattle.outcome_model.specs.Work.{Wrote}
+use Rattle.outcome_model.specs.Work.{WroteOn}
 use Rattle.sim_report.specs.declared.row.ReportRow.TheVariants as lines
 use Rattle.board_report.specs.Report.{mode_of, ignored_rows, text_of}
 use Rattle.board_report.proofs.report.write_uno.Given as goal
 
 abbrev pub invariant-loop-address : goal.invariant-loop-address
 invariant-loop-address g l = record {
-  next : (a : Outside) (text : List ℕ) → Wrote l.fn.end ports.Report text a (g.B.Bench.outside l.fn.bench)
-      → Wrote l.end ports.Report (text ++ text_of (lines.Uno l.id l.uno.mcu.core.pc (mode_of l.uno.mcu.core.mode) ∷ flat_map (ignored_rows l.id l.uno.mcu.units.ignored) (below l.address))) a (g.B.Bench.outside l.bench);
+  next : WroteOn l.fn.end l.end ports.Report
+      (text_of (lines.Uno l.id l.uno.mcu.core.pc (mode_of l.uno.mcu.core.mode) ∷ flat_map (ignored_rows l.id l.uno.mcu.units.ignored) (below l.address)))
+      (g.B.Bench.outside l.fn.bench) (g.B.Bench.outside l.bench);
   named : (g.B.Bench.outside l.bench).name ports.Report ≡ (g.B.Bench.outside l.fn.bench).name ports.Report;
   opened : (g.B.Bench.outside l.bench).opened ports.Report ≡ true;
   others : SameOthers ports.Report (g.B.Bench.outside l.fn.bench) (g.B.Bench.outside l.bench);
