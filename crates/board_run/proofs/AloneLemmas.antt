@@ -1,6 +1,6 @@
 -- One part goes on by itself while the others are quiet: that is a leg of the board's way.
-use Rattle.std.proofs.Common.{◌≡◌, ◌≢◌, ℕ, zero, suc, ◌+◌, ◌-◌, ◌<◌, ◌≤◌, List, [], length, map, Bool, true, false, Option, None, Some, ap, sym, ◌∙◌, arith, subst, get_or, inl, inr, length-set}
-use Rattle.std.specs.Prelude.{slice_get, slice_set, if◌then◌else◌}
+use Rattle.std.proofs.Common.{◌≡◌, ◌≢◌, ℕ, zero, suc, ◌+◌, ◌-◌, ◌<◌, ◌≤◌, List, [], length, map, Bool, true, false, Option, None, Some, refl, ap, sym, ◌∙◌, arith, subst, get_or, inl, inr, length-set}
+use Rattle.std.specs.Prelude.{slice_get, slice_index, slice_set, take, if◌then◌else◌}
 use Rattle.std.specs.List.{flat_map}
 use Rattle.std.proofs.lemmas.Option.{slice_get_within}
 use Rattle.std.proofs.lemmas.List.{length-map}
@@ -12,7 +12,9 @@ use Rattle.sim_base.specs.declared.wiring.Input.{Input}
 use Rattle.sim_base.specs.declared.limits.TheConstants.{MOST_CYCLES}
 use Rattle.part_law.specs.Machine.{Machine, Laws, glide, dues, sent, IsQuiet, IsSame, IsFirstDue}
 use Rattle.part_law.proofs.MachineLemmas.{glide_valid, glide_drives, glide_contacts, glide_pins, glide_ports, glide_holds}
-use Rattle.board_model.specs.Board.{level_at, own_nets, input_at, states, bytes}
+use Rattle.board_model.specs.Board.{drives_of, contacts_of, level_at, own_nets, input_at, states, bytes}
+use Rattle.board_model.specs.Fits.{Fits}
+use Rattle.net_resolve.specs.Circuit.{Circuit}
 use Rattle.board_model.specs.Rows.{Shown, shown_of, shown_before, rows}
 use Rattle.board_model.proofs.Lists.{some_same, get_within, get_map_some, some_map, get_set_same, get_set_other, flat_map_same}
 use Rattle.board_laws.specs.Alike.{Alike}
@@ -21,17 +23,17 @@ use Rattle.board_laws.specs.Steady.{IsSteady}
 use Rattle.board_laws.proofs.StandsLaw.{stands_here, stands_shows, stands_holds, stands_valid}
 use Rattle.board_laws.proofs.SteadyLaw.{steady_states, steady_before, steady_rows, steady_cycles, steady_bytes, steady_pairs, quiet_dues}
 use Rattle.board_run.specs.Changes.{LastTells}
-use Rattle.board_run.specs.Seen.{Seen, IsOf, IsTold, retold, shown_at}
+use Rattle.board_run.specs.Seen.{Seen, IsOf, IsTold, HasAt, Put, retold, shown_at}
 use Rattle.board_run.specs.Lagging.{glided}
-use Rattle.board_run.specs.Legs.{Kept, Lags, Leg, WentAlone, IsAlone}
+use Rattle.board_run.specs.Legs.{Kept, Lags, Leg, Rests, WentAlone, IsAlone}
 use Rattle.board_run.proofs.ShowLemmas.{shown_is}
 use Rattle.board_model.proofs.RoomLemmas.{SameRoom, fits_room, chips_room}
 use Rattle.board_run.proofs.LagLemmas.{lags_stand, stand_show, stand_are, lag_of, Ts}
-use Rattle.board_run.proofs.ReadLemmas.{retold_suits, retold_is, flat_each}
+use Rattle.board_run.proofs.ReadLemmas.{retold_suits, retold_is, flat_each, told_more, still_told, told_still, others_told}
 use Rattle.board_run.proofs.ShowLemmas.{still_of}
 use Rattle.board_run.specs.Upcoming.{AreBehind}
 use Rattle.board_run.proofs.NextLemmas.{quiet_until}
-use Rattle.board_run.proofs.TurnLemmas.{due_set}
+use Rattle.board_run.proofs.TurnLemmas.{due_set, fits_set, turned_others}
 use Rattle.board_run.proofs.LegLemmas.{quiet_rest, stands_later, shown_later}
 
 one_more : (b : Bool) (x n : ℕ) → x ≤ n → x + (if b then 1 else 0) ≤ suc n
@@ -51,6 +53,44 @@ went_room m laws state now wakes t p q n is = (
   ap (λ s. length (m.drives s)) is ∙ glide_pins m laws (glided m state now wakes t p) t n ∙ glide_pins m laws (state p) (now p) (t - now p),
   ap (λ s. length (m.contacts s)) is ∙ glide_ports m laws (glided m state now wakes t p) t n ∙ glide_ports m laws (state p) (now p) (t - now p),
 )
+
+-- what nets that were told what the parts have, those of part `who` from a place on, have of it, which was p and went on to be q
+pub record Placed {S P : Type 0} (m : Machine S) (w : Wiring) (state : P → S) (now wakes : P → ℕ) (t who first : ℕ) (parts : List P) (p q : P) (c : Circuit) : Type 0 where
+  pub there : slice_get (slice_set parts who q) who ≡ Some q
+  pub fits : Fits m w (map state (slice_set parts who q))
+  pub place_after : first ≡ length (drives_of m (take who (map state (slice_set parts who q))))
+  pub drives_were : m.drives (glided m state now wakes t p) ≡ m.drives (state p)
+  pub contacts_were : m.contacts (glided m state now wakes t p) ≡ m.contacts (state p)
+  pub has : m.drives (state q) ≡ m.drives (state p) → m.contacts (state q) ≡ m.contacts (state p) →
+      HasAt first (m.drives (state q)) c.drives × HasAt (length (contacts_of m (take who (map state (slice_set parts who q))))) (m.contacts (state q)) c.closed
+  pub keeps : HasAt first (m.drives (state q)) c.drives → HasAt (length (contacts_of m (take who (map state (slice_set parts who q))))) (m.contacts (state q)) c.closed →
+      (m.drives (state q) ≡ m.drives (state p)) × (m.contacts (state q) ≡ m.contacts (state p))
+  pub others : (moves : ℕ → Bool) → ((j : ℕ) → moves j ≡ false → slice_get (m.drives (state q)) j ≡ slice_get (m.drives (glided m state now wakes t p)) j) →
+      (j : ℕ) → j < length (m.drives (state q)) → moves j ≡ false → slice_get c.drives (first + j) ≡ slice_get (m.drives (state q)) j
+  pub told : (new : Circuit) → Put first (length (m.drives (state q))) (m.drives (state q)) c.drives new.drives →
+      Put (length (contacts_of m (take who (map state (slice_set parts who q))))) (length (m.contacts (state q))) (m.contacts (state q)) c.closed new.closed → IsTold m (map state (slice_set parts who q)) new
+
+pub placed : {S P : Type 0} (m : Machine S) (laws : Laws m) (w : Wiring) (state : P → S) (now wakes : P → ℕ) (t n who first : ℕ) (parts : List P) (p q : P) (c : Circuit) → slice_get parts who ≡ Some p →
+    m.valid (state p) (now p) ≡ true → IsQuiet m (state p) (now p) (t - now p) → state q ≡ glide m (glided m state now wakes t p) t n → first ≡ slice_index w.first_pin who → Fits m w (map state parts) → IsTold m (map state parts) c →
+    Placed m w state now wakes t who first parts p q c
+placed m laws w state now wakes t n who first parts p q c here valid quiet is at fits told =
+    let room = went_room m laws state now wakes t p q n is in
+    let within = slice_get_within parts who p here in
+    let long : length (map state parts) ≡ length parts = simp length-map refl in
+    let long_after : length (map state (slice_set parts who q)) ≡ length parts = simp length-map (length-set parts who q) in
+    let place = at ∙ fits.places who (omega (arith, long, within)) in
+    let fits_after = fits_set m w state parts who p q here room fits in
+    record {
+      there = get_set_same parts who q within;
+      fits = fits_after;
+      place_after = at ∙ fits_after.places who (omega (arith, long_after, within));
+      drives_were = glide_drives m laws (state p) (now p) (t - now p) valid quiet;
+      contacts_were = glide_contacts m laws (state p) (now p) (t - now p) valid quiet;
+      has = still_told m state parts who p q c c here told room.0 room.1 first place;
+      keeps = told_still m state parts who p q c c here told room.0 room.1 first place;
+      others = λ moves same. others_told m state parts who p q c c here told room.0 room.1 first place moves (turned_others m laws state now wakes t p q moves valid quiet same);
+      told = λ new. told_more m state parts who p q c new here told room.0 room.1 first place;
+    }
 
 module _ {S P : Type 0} (m : Machine S) (laws : Laws m) (w : Wiring) (state : P → S) (now wakes : P → ℕ) (inputs : List Input)
     (t u : ℕ) (parts : List P) (kept : Kept) (lags : Lags m w state now wakes t parts kept) (fresh : kept.stale ≡ false) (after : 0 < t) (order : t ≤ u)
@@ -335,14 +375,9 @@ module _ {S P : Type 0} (m : Machine S) (laws : Laws m) (w : Wiring) (state : P 
   -- what a stretch of one part does that ends at cycle u, not after n
   pub record Goes (t u n : ℕ) (parts new : List P) (kept after : Kept) (steps more : ℕ) (bs : List ℕ) : Type 0 where
     pub further : t < u
-    pub within : u ≤ n
-    pub behind : AreBehind inputs after.input u
-    pub leg : Leg m w state now wakes inputs t u parts new kept.seen after.seen steps more
-    pub lags : Lags m w state now wakes u new after
+    pub rests : Rests m w state now wakes inputs t u n parts new kept after steps more
     pub row_none : rows m w inputs (shown_at t kept.seen) (Ts m laws w state now wakes t parts) t (u - t) ≡ []
     pub bytes_are : bytes m w inputs (Ts m laws w state now wakes t parts) t (u - t) ≡ bs
-    pub rests : IsSteady m w inputs (Ts m laws w state now wakes t parts) t (u - t)
-    pub tells : LastTells m w inputs after.stale (Ts m laws w state now wakes t parts) t (u - t)
 
   -- where a part was found that goes on alone up to a limit, and it did
   pub alone_goes : (t u limit n : ℕ) (parts new : List P) (kept : Kept) (before after : List (Option ℕ)) (changed : Bool) (steps more who : ℕ) (p q : P) (d : Option ℕ) (seen : Seen) →
@@ -366,14 +401,17 @@ module _ {S P : Type 0} (m : Machine S) (laws : Laws m) (w : Wiring) (state : P 
       let goes = λ (xs : List P) (es : List (Option ℕ)) (s : Seen). Goes t u n parts xs kept (record { input = kept.input; stale = changed; dues = es; seen = s; answers = kept.answers }) steps more (sent m (glided m state now wakes t p) t (u - t)) in
       let here : goes (slice_set parts who q) (slice_set kept.dues who d) (retold kept.seen ds cs) = record {
         further = further;
-        within = omega (arith, within, least);
-        behind = behind_between inputs kept.input t u limit order within behind alone.behind;
-        leg = alone_leg m laws w state now wakes inputs t u parts kept lags fresh later order who p q went.here quiet silent went.same went.state_is went.now_is went.woken_is ds cs steps more went.steps_are;
-        lags = alone_lags m laws w state now wakes inputs t u parts kept lags fresh later order who p q went.here quiet silent went.same went.state_is went.now_is went.woken_is changed d ds cs (subst (λ (xs : List P). IsTold m (map state xs) (retold kept.seen ds cs).circuit) went.new_is told) went.first went.drives went.contacts;
+        rests = record {
+          within = omega (arith, within, least);
+          lags = alone_lags m laws w state now wakes inputs t u parts kept lags fresh later order who p q went.here quiet silent went.same went.state_is went.now_is went.woken_is changed d ds cs (subst (λ (xs : List P). IsTold m (map state xs) (retold kept.seen ds cs).circuit) went.new_is told) went.first went.drives went.contacts;
+          behind = behind_between inputs kept.input t u limit order within behind alone.behind;
+          leg = alone_leg m laws w state now wakes inputs t u parts kept lags fresh later order who p q went.here quiet silent went.same went.state_is went.now_is went.woken_is ds cs steps more went.steps_are;
+          steady = λ _. steady m laws w state now wakes inputs t u parts kept lags fresh later order who p q went.here quiet silent went.same went.state_is went.now_is went.woken_is;
+          tells = λ _. alone_tells m laws w state now wakes inputs t u parts kept lags fresh later order who p q went.here quiet silent went.same went.state_is went.now_is went.woken_is changed further went.drives went.contacts went.other;
+          stays = λ is. absurd (omega (arith, further, is));
+        };
         row_none = alone_rows m laws w state now wakes inputs t u parts kept lags fresh later order who p q went.here quiet silent went.same went.state_is went.now_is went.woken_is;
         bytes_are = alone_bytes m laws w state now wakes inputs t u parts kept lags fresh later order who p q went.here quiet silent went.same went.state_is went.now_is went.woken_is;
-        rests = steady m laws w state now wakes inputs t u parts kept lags fresh later order who p q went.here quiet silent went.same went.state_is went.now_is went.woken_is;
-        tells = alone_tells m laws w state now wakes inputs t u parts kept lags fresh later order who p q went.here quiet silent went.same went.state_is went.now_is went.woken_is changed further went.drives went.contacts went.other;
       } in
       subst (λ (xs : List P). goes xs after seen) (sym went.new_is)
       (subst (λ (es : List (Option ℕ)). goes (slice_set parts who q) es seen) (sym went.dues_are)

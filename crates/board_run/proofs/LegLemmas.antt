@@ -1,5 +1,5 @@
 -- Legs that follow on each other, and legs over quiet cycles.
-use Rattle.std.proofs.Common.{◌≡◌, ℕ, zero, suc, ◌+◌, ◌-◌, ◌<◌, ◌≤◌, List, [], ◌++◌, length, map, Bool, true, false, Option, None, Some, refl, ap, sym, ◌∙◌, arith, subst, get_or, inl, inr}
+use Rattle.std.proofs.Common.{◌≡◌, ℕ, zero, suc, ◌+◌, ◌-◌, ◌<◌, ◌≤◌, List, [], ◌++◌, length, map, Bool, true, false, Option, None, Some, refl, ap, sym, ◌∙◌, arith, subst, get_or}
 use Rattle.std.specs.Prelude.{◌==◌, if◌then◌else◌, slice_get}
 use Rattle.std.proofs.lemmas.Option.{slice_get_within}
 use Rattle.std.proofs.lemmas.List.{length-map}
@@ -27,10 +27,10 @@ use Rattle.board_run.specs.Parts.{AreNone}
 use Rattle.board_run.specs.Changes.{Tells, LastTells}
 use Rattle.board_run.specs.Seen.{Seen, Suits, IsOf, IsTold, shown, shown_at}
 use Rattle.board_run.specs.Lagging.{glided, AreDue}
-use Rattle.board_run.specs.Legs.{Kept, Lags, Leg, AreAt}
+use Rattle.board_run.specs.Legs.{Kept, Lags, Leg}
 use Rattle.sim_base.specs.Rows.{StopsWithin, AreFronts, Handed}
 use Rattle.sim_base.specs.declared.limits.TheConstants.{MOST_CYCLES}
-use Rattle.board_run.proofs.NextLemmas.{below_or, quiet_until}
+use Rattle.board_run.proofs.NextLemmas.{quiet_until}
 use Rattle.board_run.proofs.HandLemmas.{stops_after, nothing_more}
 use Rattle.board_run.proofs.ShowLemmas.{fronts, still_of, still_same}
 use Rattle.board_run.proofs.ShowLemmas.{shown_is}
@@ -332,16 +332,6 @@ module _ {S P : Type 0} (m : Machine S) (laws : Laws m) (w : Wiring) (state : P 
         lags = jump_lags t u parts kept lags e after order quiet silent;
       }
 
-  -- what the last step changed, where a jump follows on a leg
-  pub jumped_tells : (stale : Bool) (t v u a b : ℕ) (old mid : List P) (before seen : Seen) → Leg m w state now wakes inputs t v old mid before seen a b → Leg m w state now wakes inputs v u mid mid seen seen b b →
-      (stale ≡ true → u ≡ v) → (stale ≡ false → LastTells m w inputs false (Ts m laws w state now wakes v mid) v (u - v)) →
-      LastTells m w inputs stale (Ts m laws w state now wakes t old) t (v - t) → LastTells m w inputs stale (Ts m laws w state now wakes t old) t (u - t)
-  jumped_tells true t v u a b old mid before seen leg jump stays later first = subst (λ (n : ℕ). LastTells m w inputs true (Ts m laws w state now wakes t old) t (n - t)) (sym (stays refl)) first
-  jumped_tells false t v u a b old mid before seen leg jump stays later first = elim (below_or v u) [
-    | inl less ↦ tells_then t v u a b b old mid mid before seen seen leg jump false less (later refl)
-    | inr more ↦ let e : v ≡ u = (let l = jump.order in omega (arith, l, more)) in subst (λ (n : ℕ). LastTells m w inputs false (Ts m laws w state now wakes t old) t (n - t)) e first
-  ]
-
   -- what is shown up to a cycle is the first part of what is shown up to a later one
   pub shown_front : (c u n : ℕ) (before : Option Shown) (ss : List S) → c ≤ u → u ≤ n → AreFronts (rows m w inputs before ss c (u - c)) (bytes m w inputs ss c (u - c)) (rows m w inputs before ss c (n - c)) (bytes m w inputs ss c (n - c))
   shown_front c u n before ss first last =
@@ -483,30 +473,18 @@ module _ {S P : Type 0} (m : Machine S) (laws : Laws m) (w : Wiring) (state : P 
             ap (λ (s : S). length (m.contacts s)) (sym a.2) ∙ sym (ap length h.1) ∙ ap (λ (s : S). length (m.contacts s)) b.2,
           )
 
-  -- what a board whose parts stood at cycle t has at cycle u, where they are brought
-  pub record Settles (t u : ℕ) (old new : List P) (before : Seen) (kept : Kept) (steps more : ℕ) : Type 0 where
-    pub states_are : map state new ≡ states m w inputs (map state old) t (u - t)
-    pub lags : Lags m w state now wakes u new kept
-    pub at : AreAt now u new
-    pub before_is : shown_before m w inputs (shown_at t before) (map state old) t (u - t) ≡ shown_at u kept.seen
-    pub woken : (k : ℕ) (p q : P) → slice_get old k ≡ Some p → slice_get new k ≡ Some q → wakes q ≡ wakes p + active_cycles m w inputs (map state old) t (u - t) k
-    pub steps_are : more ≡ steps + active_pairs m w inputs (map state old) t (u - t)
-
-  pub settles : (t u : ℕ) (old mid new : List P) (before : Seen) (kept : Kept) (after : List (Option ℕ)) (steps more : ℕ) → AreAt now t old →
-      Leg m w state now wakes inputs t u old mid before kept.seen steps more → Lags m w state now wakes u mid kept → length new ≡ length mid → length after ≡ length kept.dues →
-      ((k : ℕ) (p q : P) → slice_get mid k ≡ Some p → slice_get new k ≡ Some q → (state q ≡ glided m state now wakes u p) × (now q ≡ u) × (wakes q ≡ wakes p)) → AreDue m state now wakes new after →
-      Settles t u old new before (record { input = kept.input; stale = kept.stale; dues = after; seen = kept.seen; answers = kept.answers }) steps more
-  settles t u old mid new before kept after steps more at leg lags long dues_long settled due =
-      let here = at_here t old at in
-      record {
-        states_are = settled_are u mid new long settled ∙ leg.states_are ∙ ap (λ (l : List S). states m w inputs l t (u - t)) here;
-        lags = settled_lags u mid new kept after lags long dues_long settled due;
-        at = now_settled u mid new long settled;
-        before_is = ap (λ (l : List S). shown_before m w inputs (shown_at t before) l t (u - t)) (sym here) ∙ leg.before_is;
-        woken = subst (λ (l : List S). (k : ℕ) (p q : P) → slice_get old k ≡ Some p → slice_get new k ≡ Some q → wakes q ≡ wakes p + active_cycles m w inputs l t (u - t) k) here
-            (woken_settled u old mid new _ long leg.woken settled);
-        steps_are = leg.steps_are ∙ ap (λ (l : List S). steps + active_pairs m w inputs l t (u - t)) here;
-      }
+  -- and did what the leg did
+  pub settled_leg : (t u : ℕ) (old mid new : List P) (before seen : Seen) (steps more : ℕ) → length new ≡ length mid →
+      ((k : ℕ) (p q : P) → slice_get mid k ≡ Some p → slice_get new k ≡ Some q → (state q ≡ glided m state now wakes u p) × (now q ≡ u) × (wakes q ≡ wakes p)) →
+      Leg m w state now wakes inputs t u old mid before seen steps more → Leg m w state now wakes inputs t u old new before seen steps more
+  settled_leg t u old mid new before seen steps more long settled leg = record {
+    order = leg.order;
+    long = long ∙ leg.long;
+    states_are = at_here u new (now_settled u mid new long settled) ∙ settled_are u mid new long settled ∙ leg.states_are;
+    before_is = leg.before_is;
+    woken = woken_settled u old mid new _ long leg.woken settled;
+    steps_are = leg.steps_are;
+  }
 
 -- a board at cycle 0 of which nothing was read
 pub lags_start : {S P : Type 0} (m : Machine S) (w : Wiring) (state : P → S) (now wakes : P → ℕ) (parts : List P) (kept : Kept) → kept.stale ≡ true → length parts ≤ 64 → AreFresh m state now wakes parts →

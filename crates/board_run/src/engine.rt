@@ -1,18 +1,14 @@
 //! One cycle of a board in which only the active parts are woken.
-ghost use Rattle.std.specs.Prelude.{◌≡◌, ◌≢◌, ℕ, ◌+◌, ◌-◌, ◌<◌, ◌≤◌, List, [], length, map, true, false, Some, None, Option, slice_get};
-ghost use Rattle.sim_base.specs.Causes.{Rose};
-ghost use Rattle.sim_base.specs.Rows.{Handed, StopsWithin, IsBehind};
+ghost use Rattle.std.specs.Prelude.{◌≡◌, ◌≢◌, ℕ, ◌+◌, ◌-◌, ◌<◌, ◌≤◌, List, [], length, map, true, false, Some, None, Option, MatchOption, slice_get};
+ghost use Rattle.sim_base.specs.Rows.{IsBehind};
 ghost use Rattle.sim_base.specs.declared.wiring.Input.{Input};
-ghost use Rattle.board_model.specs.Board.{bytes, options};
-ghost use Rattle.board_model.specs.Rows.{rows};
 ghost use Rattle.board_model.specs.Fits.{Fits};
 ghost use Rattle.board_laws.specs.Active.{sum_below, active_in};
-ghost use Rattle.board_run.specs.Changes.{LastTells};
-ghost use Rattle.board_run.specs.Seen.{Suits, IsTold, levels_on, retold, shown_at};
+ghost use Rattle.board_run.specs.Seen.{Suits, IsTold, levels_on, retold};
 ghost use Rattle.board_run.specs.Parts.{has_part, AreNone};
 ghost use Rattle.board_run.specs.Upcoming.{AreBehind, IsInOrder};
 ghost use Rattle.board_run.specs.Lagging.{glided, MayTurn, Awaits, Turns, AreDue};
-ghost use Rattle.board_run.specs.Legs.{Lags, Leg};
+ghost use Rattle.board_run.specs.Legs.{Lags, Reached, CutOff};
 ghost use Rattle.board_run.specs.declared.show.Next.{Next};
 
 use crate::hand::hand_sent;
@@ -94,20 +90,12 @@ pub(crate) fn event<P: Part, W: Watcher, L: Ledger>(
         (record { input = next.input; stale = next.stale; dues = dues.old; seen = reading.old; answers = answers.old }) }
     requires whole { W.whole out.old ≡ true }
     requires later { IsBehind W.last W.seen out.old t reading.old.circuit.levels }
-    ensures lags { (x : Next) → result ≡ Some x → Lags P.machine wiring.now P.state P.now P.wake_count (t + 1) parts.new
-        (record { input = x.input; stale = x.stale; dues = dues.new; seen = reading.new; answers = answers.new }) }
-    ensures behind { (x : Next) → result ≡ Some x → AreBehind inputs.now x.input (t + 1) }
-    ensures leg { Leg P.machine wiring.now P.state P.now P.wake_count inputs.now t (t + 1) parts.old parts.new reading.old reading.new steps.old steps.new }
-    ensures handed { (x : Next) → result ≡ Some x → Handed W.whole W.faults W.stands out.old out.new
-        (rows P.machine wiring.now inputs.now (shown_at t reading.old) (map (glided P.machine P.state P.now P.wake_count t) parts.old) t (t + 1 - t))
-        (bytes P.machine wiring.now inputs.now (map (glided P.machine P.state P.now P.wake_count t) parts.old) t (t + 1 - t)) }
-    ensures moved { (x : Next) → result ≡ Some x
-        → LastTells P.machine wiring.now inputs.now x.stale (map (glided P.machine P.state P.now P.wake_count t) parts.old) t (t + 1 - t) }
-    ensures last { (x : Next) → result ≡ Some x → IsBehind W.last W.seen out.new (t + 1) reading.new.circuit.levels }
-    ensures failed { result ≡ None → Rose (W.faults out.old) (W.faults out.new)
-        × StopsWithin (W.stands out.old) (W.stopped out.new)
-        (rows P.machine wiring.now inputs.now (shown_at t reading.old) (map (glided P.machine P.state P.now P.wake_count t) parts.old) t (t + 1 - t))
-        (bytes P.machine wiring.now inputs.now (map (glided P.machine P.state P.now P.wake_count t) parts.old) t (t + 1 - t)) }
+    ensures ends { MatchOption result
+        (CutOff P.machine wiring.now P.state P.now P.wake_count W.whole W.faults W.stands W.stopped W.last W.seen
+        inputs.now t (t + 1) parts.old parts.new reading.old reading.new steps.old steps.new out.old out.new)
+        (λ x. Reached P.machine wiring.now P.state P.now P.wake_count W.whole W.faults W.stands W.stopped W.last W.seen
+        inputs.now t (t + 1) parts.old parts.new reading.old
+        (record { input = x.input; stale = x.stale; dues = dues.new; seen = reading.new; answers = answers.new }) steps.old steps.new out.old out.new) }
     ensures place { W.place out.new ≡ W.place out.old }
 {
     let (shown, differ) = show_cycle(next.stale, parts, wiring, t, reading, out);

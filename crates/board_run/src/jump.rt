@@ -1,16 +1,11 @@
 //! A board goes on from one cycle in which something may happen to the next.
-ghost use Rattle.std.specs.Prelude.{◌≡◌, ◌≢◌, ◌⊎◌, ℕ, ◌+◌, ◌-◌, ◌<◌, ◌≤◌, List, length, map, true, false, Some, None, Option, slice_get};
-ghost use Rattle.sim_base.specs.Causes.{Rose};
-ghost use Rattle.sim_base.specs.Rows.{Handed, StopsWithin, IsBehind};
-ghost use Rattle.board_model.specs.Board.{bytes, input_at, states};
-ghost use Rattle.board_model.specs.Rows.{rows, shown_before};
-ghost use Rattle.board_laws.specs.Active.{active_cycles, active_pairs};
-ghost use Rattle.board_run.specs.Changes.{LastTells};
-ghost use Rattle.board_run.specs.Seen.{shown_at};
+ghost use Rattle.std.specs.Prelude.{◌≡◌, ◌≢◌, ◌⊎◌, ℕ, ◌+◌, ◌-◌, ◌<◌, ◌≤◌, List, length, map, true, false, Some, None, Option, MatchOption, slice_get};
+ghost use Rattle.sim_base.specs.Rows.{IsBehind};
+ghost use Rattle.board_model.specs.Board.{input_at};
 ghost use Rattle.board_run.specs.Upcoming.{AreBehind, IsInOrder};
 ghost use Rattle.part_law.specs.Machine.{IsQuiet, IsFirstDue};
 ghost use Rattle.board_run.specs.Lagging.{glided, AreDue, AreLate};
-ghost use Rattle.board_run.specs.Legs.{Lags, Leg, IsAlone, AreAt};
+ghost use Rattle.board_run.specs.Legs.{Lags, Reached, CutOff, IsAlone, AreAt};
 ghost use Rattle.board_run.specs.declared.show.Next.{Next};
 
 use crate::alone::stretch;
@@ -167,23 +162,12 @@ fn event_and_jump<P: Part, W: Watcher, L: Ledger>(
         (record { input = next.input; stale = next.stale; dues = dues.old; seen = reading.old; answers = answers.old }) }
     requires whole { W.whole out.old ≡ true }
     requires later { IsBehind W.last W.seen out.old t reading.old.circuit.levels }
-    ensures from { (x : Next × ℕ) → result ≡ Some x → t < x.1 }
-    ensures within { (x : Next × ℕ) → result ≡ Some x → x.1 ≤ n }
-    ensures lags { (x : Next × ℕ) → result ≡ Some x → Lags P.machine wiring.now P.state P.now P.wake_count x.1 parts.new
-        (record { input = x.0.input; stale = x.0.stale; dues = dues.new; seen = reading.new; answers = answers.new }) }
-    ensures behind { (x : Next × ℕ) → result ≡ Some x → AreBehind inputs.now x.0.input x.1 }
-    ensures leg { (x : Next × ℕ) → result ≡ Some x → Leg P.machine wiring.now P.state P.now P.wake_count inputs.now t x.1 parts.old parts.new reading.old reading.new steps.old steps.new }
-    ensures handed { (x : Next × ℕ) → result ≡ Some x → Handed W.whole W.faults W.stands out.old out.new
-        (rows P.machine wiring.now inputs.now (shown_at t reading.old) (map (glided P.machine P.state P.now P.wake_count t) parts.old) t (x.1 - t))
-        (bytes P.machine wiring.now inputs.now (map (glided P.machine P.state P.now P.wake_count t) parts.old) t (x.1 - t)) }
-    ensures moved { (x : Next × ℕ) → result ≡ Some x
-        → LastTells P.machine wiring.now inputs.now x.0.stale (map (glided P.machine P.state P.now P.wake_count t) parts.old) t (x.1 - t) }
-    ensures last { (x : Next × ℕ) → result ≡ Some x → IsBehind W.last W.seen out.new x.1 reading.new.circuit.levels }
-    ensures failed { result ≡ None → Rose (W.faults out.old) (W.faults out.new)
-        × StopsWithin (W.stands out.old) (W.stopped out.new)
-        (rows P.machine wiring.now inputs.now (shown_at t reading.old) (map (glided P.machine P.state P.now P.wake_count t) parts.old) t (n - t))
-        (bytes P.machine wiring.now inputs.now (map (glided P.machine P.state P.now P.wake_count t) parts.old) t (n - t)) }
-    ensures stopped { result ≡ None → (u : ℕ) × (u ≤ n) × Leg P.machine wiring.now P.state P.now P.wake_count inputs.now t u parts.old parts.new reading.old reading.new steps.old steps.new }
+    ensures ends { MatchOption result
+        (CutOff P.machine wiring.now P.state P.now P.wake_count W.whole W.faults W.stands W.stopped W.last W.seen
+        inputs.now t n parts.old parts.new reading.old reading.new steps.old steps.new out.old out.new)
+        (λ x. (t < x.1) × (x.1 ≤ n) × Reached P.machine wiring.now P.state P.now P.wake_count W.whole W.faults W.stands W.stopped W.last W.seen
+        inputs.now t x.1 parts.old parts.new reading.old
+        (record { input = x.0.input; stale = x.0.stale; dues = dues.new; seen = reading.new; answers = answers.new }) steps.old steps.new out.old out.new) }
     ensures place { W.place out.new ≡ W.place out.old }
 {
     match event(
@@ -219,23 +203,12 @@ fn advance<P: Part, W: Watcher, L: Ledger>(
         (record { input = next.input; stale = next.stale; dues = dues.old; seen = reading.old; answers = answers.old }) }
     requires whole { W.whole out.old ≡ true }
     requires later { IsBehind W.last W.seen out.old t reading.old.circuit.levels }
-    ensures from { (x : Next × ℕ) → result ≡ Some x → t < x.1 }
-    ensures within { (x : Next × ℕ) → result ≡ Some x → x.1 ≤ n }
-    ensures lags { (x : Next × ℕ) → result ≡ Some x → Lags P.machine wiring.now P.state P.now P.wake_count x.1 parts.new
-        (record { input = x.0.input; stale = x.0.stale; dues = dues.new; seen = reading.new; answers = answers.new }) }
-    ensures behind { (x : Next × ℕ) → result ≡ Some x → AreBehind inputs.now x.0.input x.1 }
-    ensures leg { (x : Next × ℕ) → result ≡ Some x → Leg P.machine wiring.now P.state P.now P.wake_count inputs.now t x.1 parts.old parts.new reading.old reading.new steps.old steps.new }
-    ensures handed { (x : Next × ℕ) → result ≡ Some x → Handed W.whole W.faults W.stands out.old out.new
-        (rows P.machine wiring.now inputs.now (shown_at t reading.old) (map (glided P.machine P.state P.now P.wake_count t) parts.old) t (x.1 - t))
-        (bytes P.machine wiring.now inputs.now (map (glided P.machine P.state P.now P.wake_count t) parts.old) t (x.1 - t)) }
-    ensures moved { (x : Next × ℕ) → result ≡ Some x
-        → LastTells P.machine wiring.now inputs.now x.0.stale (map (glided P.machine P.state P.now P.wake_count t) parts.old) t (x.1 - t) }
-    ensures last { (x : Next × ℕ) → result ≡ Some x → IsBehind W.last W.seen out.new x.1 reading.new.circuit.levels }
-    ensures failed { result ≡ None → Rose (W.faults out.old) (W.faults out.new)
-        × StopsWithin (W.stands out.old) (W.stopped out.new)
-        (rows P.machine wiring.now inputs.now (shown_at t reading.old) (map (glided P.machine P.state P.now P.wake_count t) parts.old) t (n - t))
-        (bytes P.machine wiring.now inputs.now (map (glided P.machine P.state P.now P.wake_count t) parts.old) t (n - t)) }
-    ensures stopped { result ≡ None → (u : ℕ) × (u ≤ n) × Leg P.machine wiring.now P.state P.now P.wake_count inputs.now t u parts.old parts.new reading.old reading.new steps.old steps.new }
+    ensures ends { MatchOption result
+        (CutOff P.machine wiring.now P.state P.now P.wake_count W.whole W.faults W.stands W.stopped W.last W.seen
+        inputs.now t n parts.old parts.new reading.old reading.new steps.old steps.new out.old out.new)
+        (λ x. (t < x.1) × (x.1 ≤ n) × Reached P.machine wiring.now P.state P.now P.wake_count W.whole W.faults W.stands W.stopped W.last W.seen
+        inputs.now t x.1 parts.old parts.new reading.old
+        (record { input = x.0.input; stale = x.0.stale; dues = dues.new; seen = reading.new; answers = answers.new }) steps.old steps.new out.old out.new) }
     ensures place { W.place out.new ≡ W.place out.old }
 {
     match find_alone(next, dues, inputs, t, n) {
@@ -279,21 +252,12 @@ fn run_legs<P: Part, W: Watcher, L: Ledger>(
         (record { input = next.input; stale = next.stale; dues = dues.old; seen = reading.old; answers = answers.old }) }
     requires whole { W.whole out.old ≡ true }
     requires later { IsBehind W.last W.seen out.old from reading.old.circuit.levels }
-    ensures lags { (x : Next) → result ≡ Some x → Lags P.machine wiring.now P.state P.now P.wake_count n parts.new
-        (record { input = x.input; stale = x.stale; dues = dues.new; seen = reading.new; answers = answers.new }) }
-    ensures behind { (x : Next) → result ≡ Some x → AreBehind inputs.now x.input n }
-    ensures leg { (x : Next) → result ≡ Some x → Leg P.machine wiring.now P.state P.now P.wake_count inputs.now from n parts.old parts.new reading.old reading.new steps.old steps.new }
-    ensures handed { (x : Next) → result ≡ Some x → Handed W.whole W.faults W.stands out.old out.new
-        (rows P.machine wiring.now inputs.now (shown_at from reading.old) (map (glided P.machine P.state P.now P.wake_count from) parts.old) from (n - from))
-        (bytes P.machine wiring.now inputs.now (map (glided P.machine P.state P.now P.wake_count from) parts.old) from (n - from)) }
-    ensures moved { (x : Next) → result ≡ Some x
-        → LastTells P.machine wiring.now inputs.now x.stale (map (glided P.machine P.state P.now P.wake_count from) parts.old) from (n - from) }
-    ensures last { (x : Next) → result ≡ Some x → IsBehind W.last W.seen out.new n reading.new.circuit.levels }
-    ensures failed { result ≡ None → Rose (W.faults out.old) (W.faults out.new)
-        × StopsWithin (W.stands out.old) (W.stopped out.new)
-        (rows P.machine wiring.now inputs.now (shown_at from reading.old) (map (glided P.machine P.state P.now P.wake_count from) parts.old) from (n - from))
-        (bytes P.machine wiring.now inputs.now (map (glided P.machine P.state P.now P.wake_count from) parts.old) from (n - from)) }
-    ensures stopped { result ≡ None → (u : ℕ) × (u ≤ n) × Leg P.machine wiring.now P.state P.now P.wake_count inputs.now from u parts.old parts.new reading.old reading.new steps.old steps.new }
+    ensures ends { MatchOption result
+        (CutOff P.machine wiring.now P.state P.now P.wake_count W.whole W.faults W.stands W.stopped W.last W.seen
+        inputs.now from n parts.old parts.new reading.old reading.new steps.old steps.new out.old out.new)
+        (λ x. Reached P.machine wiring.now P.state P.now P.wake_count W.whole W.faults W.stands W.stopped W.last W.seen
+        inputs.now from n parts.old parts.new reading.old
+        (record { input = x.input; stale = x.stale; dues = dues.new; seen = reading.new; answers = answers.new }) steps.old steps.new out.old out.new) }
     ensures place { W.place out.new ≡ W.place out.old }
 {
     let mut at = next;
@@ -368,27 +332,12 @@ pub(crate) fn run_jumping<P: Part, W: Watcher, L: Ledger>(
         (record { input = next.input; stale = next.stale; dues = dues.old; seen = reading.old; answers = answers.old }) }
     requires whole { W.whole out.old ≡ true }
     requires later { IsBehind W.last W.seen out.old from reading.old.circuit.levels }
-    ensures states { (x : Next) → result ≡ Some x → map P.state parts.new ≡ states P.machine wiring.now inputs.now (map P.state parts.old) from (n - from) }
-    ensures lags { (x : Next) → result ≡ Some x → Lags P.machine wiring.now P.state P.now P.wake_count n parts.new
-        (record { input = x.input; stale = x.stale; dues = dues.new; seen = reading.new; answers = answers.new }) }
-    ensures at { (x : Next) → result ≡ Some x → AreAt P.now n parts.new }
-    ensures behind { (x : Next) → result ≡ Some x → AreBehind inputs.now x.input n }
-    ensures before { (x : Next) → result ≡ Some x → shown_before P.machine wiring.now inputs.now (shown_at from reading.old) (map P.state parts.old) from (n - from) ≡ shown_at n reading.new }
-    ensures woken { (x : Next) → result ≡ Some x → (k : ℕ) (p q : _) → slice_get parts.old k ≡ Some p → slice_get parts.new k ≡ Some q
-        → P.wake_count q ≡ P.wake_count p + active_cycles P.machine wiring.now inputs.now (map P.state parts.old) from (n - from) k }
-    ensures steps { (x : Next) → result ≡ Some x → steps.new ≡ steps.old + active_pairs P.machine wiring.now inputs.now (map P.state parts.old) from (n - from) }
-    ensures handed { (x : Next) → result ≡ Some x → Handed W.whole W.faults W.stands out.old out.new
-        (rows P.machine wiring.now inputs.now (shown_at from reading.old) (map P.state parts.old) from (n - from))
-        (bytes P.machine wiring.now inputs.now (map P.state parts.old) from (n - from)) }
-    ensures moved { (x : Next) → result ≡ Some x → LastTells P.machine wiring.now inputs.now x.stale (map P.state parts.old) from (n - from) }
-    ensures last { (x : Next) → result ≡ Some x → IsBehind W.last W.seen out.new n reading.new.circuit.levels }
-    ensures failed { result ≡ None → Rose (W.faults out.old) (W.faults out.new)
-        × StopsWithin (W.stands out.old) (W.stopped out.new)
-        (rows P.machine wiring.now inputs.now (shown_at from reading.old) (map P.state parts.old) from (n - from))
-        (bytes P.machine wiring.now inputs.now (map P.state parts.old) from (n - from)) }
-    ensures stopped { result ≡ None → (u : ℕ) × (u ≤ n) × (steps.new ≡ steps.old + active_pairs P.machine wiring.now inputs.now (map P.state parts.old) from (u - from))
-        × ((k : ℕ) (p q : _) → slice_get parts.old k ≡ Some p → slice_get parts.new k ≡ Some q
-        → P.wake_count q ≡ P.wake_count p + active_cycles P.machine wiring.now inputs.now (map P.state parts.old) from (u - from) k) }
+    ensures ends { MatchOption result
+        (CutOff P.machine wiring.now P.state P.now P.wake_count W.whole W.faults W.stands W.stopped W.last W.seen
+        inputs.now from n parts.old parts.new reading.old reading.new steps.old steps.new out.old out.new)
+        (λ x. AreAt P.now n parts.new × Reached P.machine wiring.now P.state P.now P.wake_count W.whole W.faults W.stands W.stopped W.last W.seen
+        inputs.now from n parts.old parts.new reading.old
+        (record { input = x.input; stale = x.stale; dues = dues.new; seen = reading.new; answers = answers.new }) steps.old steps.new out.old out.new) }
     ensures place { W.place out.new ≡ W.place out.old }
 {
     match run_legs(

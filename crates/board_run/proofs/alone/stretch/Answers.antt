@@ -1,15 +1,11 @@
-use Rattle.std.proofs.Common.{◌≡◌, ◌+◌, ◌-◌, ◌<◌, ◌∙◌, ap, arith, sym, refl, subst, ℕ, Bool, false, List, [], length, map, take, get_or, Some, length-set}
+use Rattle.std.proofs.Common.{◌≡◌, ◌+◌, ◌-◌, ◌<◌, ◌∙◌, ap, arith, sym, refl, subst, ℕ, Bool, false, List, [], length, map, take, get_or, length-set}
 use Rattle.std.specs.Prelude.{slice_get, slice_set}
 use Rattle.sim_base.specs.Rows.{Handed, StopsWithin}
 use Rattle.part_law.specs.Machine.{sent}
 use Rattle.board_model.specs.Board.{contacts_of}
-use Rattle.std.proofs.lemmas.List.{length-map}
-use Rattle.part_law.proofs.MachineLemmas.{glide_drives, glide_contacts}
-use Rattle.board_model.proofs.Lists.{some_same, get_within, get_set_same}
+use Rattle.board_model.proofs.Lists.{some_same, get_within}
 use Rattle.board_run.specs.Seen.{HasAt, IsTold}
-use Rattle.board_run.proofs.TurnLemmas.{fits_set, turned_others}
-use Rattle.board_run.proofs.AloneLemmas.{went_room}
-use Rattle.board_run.proofs.ReadLemmas.{told_more, still_told, told_still, others_told}
+use Rattle.board_run.proofs.AloneLemmas.{placed}
 use Rattle.board_run.specs.Lagging.{glided}
 use Rattle.board_run.specs.Legs.{WentAlone}
 use Rattle.board_run.proofs.HandLemmas.{one_byte, stops_whole}
@@ -28,40 +24,23 @@ tell-changed-requires g c =
     let p = g.P.Part in
     let m = p.machine in
     let w = c.go_alone-went in
-    let who = c.args.who in
-    let t = c.args.t in
-    let parts = c.args.parts.now in
-    let circuit = c.args.reading.now.circuit in
-    let x = get_or parts who c.index-parts-i.result in
-    let y = w.new.part in
-    let here = get_within parts who c.index-parts-i.result c.requires.who in
-    let may = c.requires.may who x _ here c.due-due.ensures in
-    let v = c.requires.valid who x here in
-    let room = went_room m g.met.P.Part.laws p.state p.now p.wake_count t x y (w.result.to - t) w.ensures.state in
-    let fits_new = fits_set m c.args.wiring.now p.state parts who x y here room c.requires.fits in
-    let new_is : slice_get (slice_set parts who y) who ≡ Some y = get_set_same parts who y c.requires.who in
-    let long : length (map p.state parts) ≡ length parts = simp length-map refl in
-    let long_new : length (map p.state (slice_set parts who y)) ≡ length parts = simp length-map (length-set parts who y) in
-    let first = ap (λ (l : List ℕ). get_or l who 0) c.as_slice.ensures in
-    let place = first ∙ c.requires.fits.places who (omega (arith, long, c.requires.who)) in
+    let a = c.args in
+    let x = get_or a.parts.now a.who c.index-parts-i.result in
+    let here = get_within a.parts.now a.who c.index-parts-i.result c.requires.who in
+    let at = placed m g.met.P.Part.laws a.wiring.now p.state p.now p.wake_count a.t (w.result.to - a.t) a.who (get_or c.as_slice.result.now a.who 0) a.parts.now x w.new.part a.reading.now.circuit
+    here (c.requires.valid a.who x here) (c.requires.may a.who x _ here c.due-due.ensures).quiet w.ensures.state (ap (λ (l : List ℕ). get_or l a.who 0) c.as_slice.ensures) c.requires.fits c.requires.told in
     record {
-      within = omega (arith, length-set parts who y, c.requires.who);
-      fits = fits_new;
+      within = omega (arith, length-set a.parts.now a.who w.new.part, c.requires.who);
+      fits = at.fits;
       suits = c.requires.suits;
-      first = first ∙ fits_new.places who (omega (arith, long_new, c.requires.who));
+      first = at.place_after;
       still = λ z ez none.
-          let z_is : y ≡ z = some_same (sym new_is ∙ ez) in
-          let ds = w.ensures.drives none ∙ glide_drives m g.met.P.Part.laws (p.state x) (p.now x) (t - p.now x) v may.quiet in
-          let cs = w.ensures.contacts none ∙ glide_contacts m g.met.P.Part.laws (p.state x) (p.now x) (t - p.now x) v may.quiet in
-          let told = still_told m p.state parts who x y circuit circuit here c.requires.told room.0 room.1 _ place ds cs in (
-            subst (λ (u : g.row.P.Denot). HasAt (get_or c.as_slice.result.now who 0) (m.drives (p.state u)) circuit.drives) z_is told.0,
-            subst (λ (u : g.row.P.Denot). HasAt (length (contacts_of m (take who (map p.state (slice_set parts who y))))) (m.contacts (p.state u)) circuit.closed) z_is told.1,
-          );
+          let told = at.has (w.ensures.drives none ∙ at.drives_were) (w.ensures.contacts none ∙ at.contacts_were) in
+          subst (λ (u : g.row.P.Denot). HasAt (get_or c.as_slice.result.now a.who 0) (m.drives (p.state u)) a.reading.now.circuit.drives
+          × HasAt (length (contacts_of m (take a.who (map p.state (slice_set a.parts.now a.who w.new.part))))) (m.contacts (p.state u)) a.reading.now.circuit.closed) (some_same (sym at.there ∙ ez)) told;
       others = λ z ez some j within none.
-          let z_is : y ≡ z = some_same (sym new_is ∙ ez) in
-          let same = turned_others m g.met.P.Part.laws p.state p.now p.wake_count t x y (p.moves y) v may.quiet w.ensures.others in
-          subst (λ (u : g.row.P.Denot). j < length (m.drives (p.state u)) → p.moves u j ≡ false → slice_get circuit.drives (get_or c.as_slice.result.now who 0 + j) ≡ slice_get (m.drives (p.state u)) j) z_is
-          (others_told m p.state parts who x y circuit circuit here c.requires.told room.0 room.1 _ place (p.moves y) same j) within none;
+          subst (λ (u : g.row.P.Denot). j < length (m.drives (p.state u)) → p.moves u j ≡ false → slice_get a.reading.now.circuit.drives (get_or c.as_slice.result.now a.who 0 + j) ≡ slice_get (m.drives (p.state u)) j) (some_same (sym at.there ∙ ez))
+          (at.others (p.moves w.new.part) w.ensures.others j) within none;
     }
 
 -- the part went on alone, and the nets were told what it drives and connects
@@ -71,28 +50,18 @@ went : (g : Over) (c : After-tell-changed g) → WentAlone g.P.Part.machine g.P.
     × IsTold g.P.Part.machine (map g.P.Part.state (slice_set c.args.parts.now c.args.who c.go_alone-went.new.part)) c.tell-changed.new.self.circuit
 went g c =
     let p = g.P.Part in
-    let m = p.machine in
     let w = c.go_alone-went in
-    let who = c.args.who in
-    let t = c.args.t in
-    let parts = c.args.parts.now in
-    let circuit = c.args.reading.now.circuit in
-    let x = get_or parts who c.index-parts-i.result in
-    let y = w.new.part in
-    let here = get_within parts who c.index-parts-i.result c.requires.who in
-    let may = c.requires.may who x _ here c.due-due.ensures in
-    let v = c.requires.valid who x here in
-    let room = went_room m g.met.P.Part.laws p.state p.now p.wake_count t x y (w.result.to - t) w.ensures.state in
-    let new_is : slice_get (slice_set parts who y) who ≡ Some y = get_set_same parts who y c.requires.who in
-    let long : length (map p.state parts) ≡ length parts = simp length-map refl in
-    let place = ap (λ (l : List ℕ). get_or l who 0) c.as_slice.ensures ∙ c.requires.fits.places who (omega (arith, long, c.requires.who)) in
-    let ds_was = glide_drives m g.met.P.Part.laws (p.state x) (p.now x) (t - p.now x) v may.quiet in
-    let cs_was = glide_contacts m g.met.P.Part.laws (p.state x) (p.now x) (t - p.now x) v may.quiet in
+    let e = c.tell-changed.ensures in
+    let a = c.args in
+    let x = get_or a.parts.now a.who c.index-parts-i.result in
+    let is = get_within a.parts.now a.who c.index-parts-i.result c.requires.who in
+    let at = placed p.machine g.met.P.Part.laws a.wiring.now p.state p.now p.wake_count a.t (w.result.to - a.t) a.who (get_or c.as_slice.result.now a.who 0) a.parts.now x w.new.part a.reading.now.circuit
+    is (c.requires.valid a.who x is) (c.requires.may a.who x _ is c.due-due.ensures).quiet w.ensures.state (ap (λ (l : List ℕ). get_or l a.who 0) c.as_slice.ensures) c.requires.fits c.requires.told in
     let still = λ (none : c.tell-changed.result ≡ false).
-    let at = c.tell-changed.ensures.same y new_is none in
-    told_still m p.state parts who x y circuit circuit here c.requires.told room.0 room.1 _ place at.0 at.1 in (
+    let told = e.same w.new.part at.there none in
+    at.keeps told.0 told.1 in (
       record {
-        here = here;
+        here = is;
         new_is = refl;
         dues_are = c.set.ensures;
         further = w.ensures.from;
@@ -102,13 +71,11 @@ went g c =
         steps_are = w.ensures.steps;
         same = w.ensures.same;
         first = w.ensures.first;
-        drives = λ none. (still none).0 ∙ sym ds_was;
-        contacts = λ none. (still none).1 ∙ sym cs_was;
-        other = λ one ds cs.
-            let told = still_told m p.state parts who x y circuit circuit here c.requires.told room.0 room.1 _ place (ds ∙ ds_was) (cs ∙ cs_was) in
-            c.tell-changed.ensures.other y new_is one told.0 told.1;
+        drives = λ none. (still none).0 ∙ sym at.drives_were;
+        contacts = λ none. (still none).1 ∙ sym at.contacts_were;
+        other = λ one ds cs. let told = at.has (ds ∙ at.drives_were) (cs ∙ at.contacts_were) in e.other w.new.part at.there one told.0 told.1;
       },
-      told_more m p.state parts who x y circuit c.tell-changed.new.self.circuit here c.requires.told room.0 room.1 _ place (c.tell-changed.ensures.drives y new_is) (c.tell-changed.ensures.closed y new_is),
+      at.told c.tell-changed.new.self.circuit (e.drives w.new.part at.there) (e.closed w.new.part at.there),
     )
 
 pub returns-in-Ok-clause-went : goal.returns-in-Ok-clause-went

@@ -1,12 +1,7 @@
-use Rattle.std.proofs.Common.{◌+◌, ◌-◌, ◌∙◌, sym, refl, subst, map}
-use Rattle.board_model.proofs.Lists.{some_same}
-use Rattle.board_run.specs.Lagging.{glided}
-use Rattle.board_run.specs.Changes.{LastTells}
+use Rattle.std.proofs.Common.{◌+◌, ◌∙◌, sym, refl, arith, subst}
 use Rattle.board_run.specs.Seen.{Seen}
-use Rattle.board_run.specs.Upcoming.{AreBehind}
-use Rattle.board_run.specs.Legs.{Kept, Lags}
-use Rattle.board_run.specs.declared.show.Next.{Next}
-use Rattle.board_run.proofs.HandLemmas.{some_none, handed_both, stopped_first, stopped_second}
+use Rattle.board_run.specs.Legs.{Kept}
+use Rattle.board_run.proofs.HandLemmas.{handed_both, stopped_first, stopped_second}
 use Rattle.board_run.proofs.LagLemmas.{Happens, happens, lags_differ}
 use Rattle.board_run.proofs.engine.event.Given.{Over}
 use Rattle.board_run.proofs.engine.event.Goals.{After-turn_read-woken}
@@ -35,28 +30,21 @@ cycle g c =
 
 pub returns-in-Ok-hand_sent : goal.returns-in-Ok-hand_sent
 returns-in-Ok-hand_sent g c =
-    let p = g.P.Part in
     let o = g.W.Watcher in
-    let m = p.machine in
-    let a = c.args in
-    let w = a.wiring.now in
-    let inputs = a.inputs.now in
-    let t = a.t in
     let s = c.show_cycle-shown.ensures in
-    let e = c.turn_read-woken.new in
     let hand = c.in-Ok-hand_sent.ensures in
     let h = cycle g (goal.at.returns-in-Ok-hand_sent g c).After-turn_read-woken in
-    let lags = h.lags c.end_of_cycle-end.result c.hand_sent.new.answers c.hand_sent.auto.answers c.hand_sent.ensures.none in
     record {
-      lags = λ x ex. subst (λ (n : Next). Lags m w p.state p.now p.wake_count (t + 1) e.parts (record { input = n.input; stale = n.stale; dues = e.dues; seen = e.reading; answers = c.hand_sent.new.answers })) (some_same ex) lags;
-      behind = λ x ex. subst (λ (n : Next). AreBehind inputs n.input (t + 1)) (some_same ex) c.end_of_cycle-end.ensures.behind;
-      leg = h.leg;
-      handed = λ x ex. handed_both o.whole o.faults o.stands a.out.now c.show_cycle-shown.new.out c.hand_sent.new.out _ _ _ _ (s.ok c.in-Ok.is) (hand.ok refl) h.rows_are h.bytes_are;
-      moved = λ x ex. subst (λ (n : Next). LastTells m w inputs n.stale (map (glided m p.state p.now p.wake_count t) a.parts.now) t (t + 1 - t)) (some_same ex) h.tells;
-      last = λ x ex z ez.
-          let was = s.behind c.in-Ok.is z (sym (hand.last refl) ∙ ez) in
-          (was.0, subst (λ (v : Seen). o.seen c.hand_sent.new.out v.circuit.levels) (sym c.turn_read-woken.ensures.rest) (hand.seen refl c.show_cycle-shown.new.reading.circuit.levels was.1));
-      failed = λ none. some_none none;
+      ends = record {
+        lags = h.lags c.end_of_cycle-end.result c.hand_sent.new.answers c.hand_sent.auto.answers c.hand_sent.ensures.none;
+        behind = c.end_of_cycle-end.ensures.behind;
+        leg = h.leg;
+        handed = handed_both o.whole o.faults o.stands c.args.out.now c.show_cycle-shown.new.out c.hand_sent.new.out _ _ _ _ (s.ok c.in-Ok.is) (hand.ok refl) h.rows_are h.bytes_are;
+        tells = λ _. h.tells;
+        later = λ z ez.
+            let was = s.behind c.in-Ok.is z (sym (hand.last refl) ∙ ez) in
+            (was.0, subst (λ (v : Seen). o.seen c.hand_sent.new.out v.circuit.levels) (sym c.turn_read-woken.ensures.rest) (hand.seen refl c.show_cycle-shown.new.reading.circuit.levels was.1));
+      };
       place = c.hand_sent.ensures.place ∙ s.place;
     }
 
@@ -68,14 +56,13 @@ returns-in-Failed-hand_sent g c =
     let ok = s.ok c.in-Ok.is in
     let f = c.in-Failed-hand_sent.ensures.failed refl in
     record {
-      lags = λ x ex. some_none (sym ex);
-      behind = λ x ex. some_none (sym ex);
-      leg = h.leg;
-      handed = λ x ex. some_none (sym ex);
-      moved = λ x ex. some_none (sym ex);
-      last = λ x ex. some_none (sym ex);
-      failed = λ none.
-          (rw (← ok.no_fault) f.0, stopped_second o.whole o.faults o.stands o.stopped c.args.out.now c.show_cycle-shown.new.out c.hand_sent.new.out _ _ _ _ ok f.1 h.rows_are h.bytes_are);
+      ends = record {
+        rose = rw (← ok.no_fault) f.0;
+        stops = stopped_second o.whole o.faults o.stands o.stopped c.args.out.now c.show_cycle-shown.new.out c.hand_sent.new.out _ _ _ _ ok f.1 h.rows_are h.bytes_are;
+        to = c.args.t + 1;
+        within = omega arith;
+        leg = h.leg;
+      };
       place = c.hand_sent.ensures.place ∙ s.place;
     }
 
@@ -86,12 +73,6 @@ returns-in-Failed g c =
     let s = c.show_cycle-shown.ensures in
     let f = s.failed c.in-Failed.is in
     record {
-      lags = λ x ex. some_none (sym ex);
-      behind = λ x ex. some_none (sym ex);
-      leg = h.leg;
-      handed = λ x ex. some_none (sym ex);
-      moved = λ x ex. some_none (sym ex);
-      last = λ x ex. some_none (sym ex);
-      failed = λ none. (f.0, stopped_first (o.stands c.args.out.now) (o.stopped c.show_cycle-shown.new.out) _ _ _ f.1 h.rows_are);
+      ends = record { rose = f.0; stops = stopped_first (o.stands c.args.out.now) (o.stopped c.show_cycle-shown.new.out) _ _ _ f.1 h.rows_are; to = c.args.t + 1; within = omega arith; leg = h.leg };
       place = s.place;
     }

@@ -1,7 +1,7 @@
-use Rattle.std.proofs.Common.{◌≡◌, ◌∙◌, ap, sym, refl, subst, arith, length, List, ℕ, Option}
+use Rattle.std.proofs.Common.{◌∙◌, ap, sym, refl, subst, arith, length, List, ℕ, Option}
 use Rattle.std.specs.Prelude.{slice_get}
 use Rattle.board_run.specs.Lagging.{AreLate}
-use Rattle.board_run.specs.Legs.{Kept, Lags}
+use Rattle.board_run.specs.Legs.{Kept, Lags, Rests}
 use Rattle.board_run.proofs.NextLemmas.{lags_late}
 use Rattle.board_run.proofs.AloneLemmas.{alone_goes}
 use Rattle.board_run.proofs.StretchLemmas.{rests_to}
@@ -60,17 +60,7 @@ returns-in-Some-stretch g c =
     let kept : Kept = record { input = a.next.input; stale = a.next.stale; dues = a.dues.now; seen = a.reading.now; answers = a.answers.now } in
     let goes = alone_goes p.machine g.met.P.Part.laws a.wiring.now p.state p.now p.wake_count a.inputs.now a.t u x.1 a.n a.parts.now new.parts kept c.find_alone.new.dues new.dues changed a.steps.now new.steps x.0 went.0 went.1 went.2 new.reading
     c.find_alone.ensures.same c.stretch.ensures.rest c.stretch.ensures.told c.requires.lags (found.fresh x refl) (found.after x refl) c.requires.behind (s.within (changed, u) refl) (found.within x refl) c.requires.end (found.alone x refl) went.3 in
-    let further = goes.further in
-    record {
-      from = omega (arith, further);
-      within = goes.within;
-      lags = goes.lags;
-      behind = goes.behind;
-      leg = goes.leg;
-      steady = λ _. goes.rests;
-      moved = λ _. goes.tells;
-      stays = λ (same : u ≡ a.t). absurd (omega (arith, further, same));
-    }
+    goes.rests
 
 pub returns-in-None : goal.returns-in-None
 returns-in-None g c =
@@ -80,14 +70,6 @@ returns-in-None g c =
     let u = c.next_cycle-u.result in
     let kept = λ (ds : List (Option ℕ)). let k : Kept = record { input = a.next.input; stale = a.next.stale; dues = ds; seen = a.reading.now; answers = a.answers.now } in k in
     let lags = subst (λ (ds : List (Option ℕ)). Lags p.machine a.wiring.now p.state p.now p.wake_count a.t a.parts.now (kept ds)) (sym c.find_alone.ensures.same) c.requires.lags in
-    let r = rests_to p.machine g.met.P.Part.laws a.wiring.now p.state p.now p.wake_count a.inputs.now a.t u a.parts.now (kept c.find_alone.new.dues) a.steps.now lags nc.from (omega (arith, nc.within, c.requires.end)) nc.stale nc.due nc.silent in
-    record {
-      from = nc.from;
-      within = nc.within;
-      lags = r.lags;
-      behind = nc.behind;
-      leg = r.leg;
-      steady = r.steady;
-      moved = r.tells;
-      stays = λ _. refl;
-    }
+    subst (λ (ds : List (Option ℕ)). Rests p.machine a.wiring.now p.state p.now p.wake_count a.inputs.now a.t u a.n a.parts.now a.parts.now (kept ds) (kept c.find_alone.new.dues) a.steps.now a.steps.now) c.find_alone.ensures.same
+    (rests_to p.machine g.met.P.Part.laws a.wiring.now p.state p.now p.wake_count a.inputs.now a.t u a.n a.parts.now (kept c.find_alone.new.dues) a.steps.now
+    lags nc.from nc.within (omega (arith, nc.within, c.requires.end)) nc.stale nc.due nc.silent nc.behind)

@@ -1,8 +1,6 @@
-use Rattle.std.proofs.Common.{◌-◌, List, subst}
-use Rattle.board_laws.specs.Steady.{IsSteady}
-use Rattle.board_run.specs.Changes.{LastTells}
+use Rattle.std.proofs.Common.{arith}
 use Rattle.board_run.specs.Legs.{Kept}
-use Rattle.board_run.proofs.LegLemmas.{at_here, may_settle, settles}
+use Rattle.board_run.proofs.LegLemmas.{may_settle, now_settled, settled_lags, settled_leg}
 use Rattle.board_run.proofs.still.stay.Goals as goal
 
 pub settle_all-requires-clause-later : goal.settle_all-requires-clause-later
@@ -21,29 +19,37 @@ settle_all-requires-clause-quiet g c = λ k z ez.
     let kept : Kept = record { input = x.0.input; stale = x.0.stale; dues = r.dues; seen = r.reading; answers = c.args.answers.now } in
     (may_settle p.machine g.met.P.Part.laws c.args.wiring.now p.state p.now p.wake_count c.args.inputs.now x.1 r.parts kept c.rest-after.ensures.lags k z ez).1
 
+pub settle_all-requires-clause-end : goal.settle_all-requires-clause-end
+settle_all-requires-clause-end g c = omega (arith, c.rest-after.ensures.within, c.requires.end)
+
+pub settle_all-requires-clause-few : goal.settle_all-requires-clause-few
+settle_all-requires-clause-few g c = c.rest-after.ensures.lags.few
+
+pub settle_all-requires-clause-dues : goal.settle_all-requires-clause-dues
+settle_all-requires-clause-dues g c = c.rest-after.ensures.lags.dues_long
+
 pub returns : goal.returns
 returns g c =
     let p = g.P.Part in
+    let m = p.machine in
+    let laws = g.met.P.Part.laws in
     let a = c.args in
+    let w = a.wiring.now in
+    let inputs = a.inputs.now in
     let e = c.rest-after.ensures in
     let r = c.rest-after.new in
     let x = c.rest-after.result in
     let s = c.settle_all in
     let kept : Kept = record { input = x.0.input; stale = x.0.stale; dues = r.dues; seen = r.reading; answers = a.answers.now } in
-    let here = at_here p.machine g.met.P.Part.laws a.wiring.now p.state p.now p.wake_count a.inputs.now a.t a.parts.now c.requires.at in
-    let settled = settles p.machine g.met.P.Part.laws a.wiring.now p.state p.now p.wake_count a.inputs.now a.t x.1 a.parts.now r.parts s.new.parts a.reading.now kept s.new.dues a.steps.now r.steps
-    c.requires.at e.leg e.lags s.auto.parts s.ensures.dues s.ensures.settled s.ensures.due in
     record {
-      from = e.from;
-      within = e.within;
-      states = settled.states_are;
-      lags = settled.lags;
-      at = settled.at;
-      behind = e.behind;
-      before = settled.before_is;
-      woken = settled.woken;
-      steps = settled.steps_are;
-      steady = λ less. subst (λ (l : List p.State). IsSteady p.machine a.wiring.now a.inputs.now l a.t (x.1 - a.t)) here (e.steady less);
-      moved = λ less. subst (λ (l : List p.State). LastTells p.machine a.wiring.now a.inputs.now x.0.stale l a.t (x.1 - a.t)) here (e.moved less);
-      stays = e.stays;
+      at = now_settled m laws w p.state p.now p.wake_count inputs x.1 r.parts s.new.parts s.auto.parts s.ensures.settled;
+      rests = record {
+        within = e.within;
+        lags = settled_lags m laws w p.state p.now p.wake_count inputs x.1 r.parts s.new.parts kept s.new.dues e.lags s.auto.parts s.ensures.dues s.ensures.settled s.ensures.due;
+        behind = e.behind;
+        leg = settled_leg m laws w p.state p.now p.wake_count inputs a.t x.1 a.parts.now r.parts s.new.parts a.reading.now r.reading a.steps.now r.steps s.auto.parts s.ensures.settled e.leg;
+        steady = e.steady;
+        tells = e.tells;
+        stays = e.stays;
+      };
     }
