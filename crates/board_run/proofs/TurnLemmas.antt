@@ -27,7 +27,7 @@ use Rattle.board_run.specs.Parts.{has_part}
 use Rattle.board_model.specs.Fits.{Fits}
 use Rattle.board_model.proofs.RoomLemmas.{SameRoom, fits_room}
 use Rattle.board_run.specs.Seen.{levels_on}
-use Rattle.board_run.specs.Lagging.{is_at, to_wake, glided, AreLate, MayTurn, Wakes, turned, Awaits, HadTurn, Turns, AreDue}
+use Rattle.board_run.specs.Lagging.{is_at, to_wake, glided, AreLate, MayTurn, turned, Awaits, HadTurn, Turns, AreDue}
 
 pub less_or : (j n : ℕ) → (j < n) ⊎ (n ≤ j)
 less_or j n = grind arith
@@ -400,18 +400,3 @@ sum_skip i j f least none =
 
 pub count_more : (i a b d : ℕ) (f : ℕ → ℕ) (one : ℕ) → b ≡ a + sum_below i f → d ≡ b + one → f i ≡ one → d ≡ a + sum_below (i + 1) f
 count_more i a b d f one h e g = rw add-one (omega (arith, h, e, g))
-
--- a part on which a level differs is to be woken
-pub differs_wakes : (due : Option ℕ) (t : ℕ) (input : Option ℕ) (differs : Bool) → differs ≡ true → to_wake due t input differs ≡ true
-differs_wakes due t input differs e = ap (to_wake due t input) e ∙ last (is_at due t) (is_some input)
-  where
-    last : (a b : Bool) → (a || (b || true)) ≡ true
-    last true b = refl
-    last false true = refl
-    last false false = refl
-
--- only a part that is woken sees the levels
-pub turned_on : {S P : Type 0} (m : Machine S) (state : P → S) (now wakes : P → ℕ) (wake : Bool) (t : ℕ) (own levels : List Level) (input : Option ℕ) (p q : P) (byte : Option ℕ) (changed : Bool) →
-    (wake ≡ true → own ≡ levels) → turned m state now wakes wake t own input p q byte changed → turned m state now wakes wake t levels input p q byte changed
-turned_on m state now wakes true t own levels input p q byte changed same turn = subst (λ (l : List Level). Wakes m state now wakes t l input p q byte changed) (same refl) turn
-turned_on m state now wakes false t own levels input p q byte changed same turn = turn

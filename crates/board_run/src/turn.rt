@@ -71,17 +71,6 @@ fn wake_late<P: Part, L: Ledger>(
     (byte, part.changed())
 }
 
-/// Writes the levels of a part's pins if it is to be woken on them.
-#[inline]
-fn put_own(wakes: bool, levels: &[Level], nets: &[u16], own: &mut [Level])
-    requires { length own.old ≡ length nets.now }
-    ensures { wakes ≡ true → own.new ≡ map (level_at levels.now) nets.now }
-{
-    if wakes {
-        put_levels(levels, nets, own);
-    }
-}
-
 /// A part's turn in a cycle: where it is active it is woken on the levels of its pins' nets, for which there is room.
 #[inline]
 pub fn take_turn<P: Part, L: Ledger>(
@@ -107,8 +96,12 @@ pub fn take_turn<P: Part, L: Ledger>(
         → slice_get (P.machine.drives (P.state part.new)) pin ≡ slice_get (P.machine.drives (glided P.machine P.state P.now P.wake_count t part.old)) pin }
     ensures steps { steps.new ≡ steps.old + (if to_wake due.old t input differs then 1 else 0) }
 {
-    put_own(is_to_wake(*due, t, input, differs), levels, nets, own);
-    take_turn_on(part, due, own, differs, input, t, steps)
+    if is_to_wake(*due, t, input, differs) {
+        put_levels(levels, nets, own);
+        wake_late(part, due, own, input, t, steps)
+    } else {
+        (None, false)
+    }
 }
 
 /// The same where the levels of its pins are at hand.

@@ -1,32 +1,10 @@
-use Rattle.std.proofs.Common.{◌≢◌, ◌∙◌, sym, subst, map, List}
+use Rattle.std.proofs.Common.{◌≢◌, ◌∙◌, sym, subst, List}
 use Rattle.sim_base.specs.declared.signal.Level.{Level}
-use Rattle.board_model.specs.Board.{level_at}
-use Rattle.board_run.specs.Lagging.{to_wake}
-use Rattle.board_run.proofs.TurnLemmas.{differs_wakes, turned_on}
+use Rattle.board_run.proofs.TurnLemmas.{may_wake}
 use Rattle.board_run.proofs.turn.take_turn.Goals as goal
 
-pub take_turn_on-requires : goal.take_turn_on-requires
-take_turn_on-requires g c =
+pub wake_late-requires-clause-active : goal.wake_late-requires-clause-active
+wake_late-requires-clause-active g c =
     let p = g.P.Part in
-    let a = c.args in
-    record {
-      end = c.requires.end;
-      may = c.requires.may;
-      pins = c.put_own.auto.own ∙ c.requires.room ∙ c.requires.pins;
-      differs = λ is later.
-          subst (λ (l : List Level). p.machine.held (p.state a.part.now) ≢ l) (sym (c.put_own.ensures (c.is_to_wake.ensures ∙ differs_wakes a.due.now a.t a.input a.differs is))) (c.requires.differs is later);
-    }
-
-pub returns : goal.returns
-returns g c =
-    let p = g.P.Part in
-    let a = c.args in
-    let e = c.take_turn_on.ensures in
-    record {
-      turn = turned_on p.machine p.state p.now p.wake_count (to_wake a.due.now a.t a.input a.differs) a.t c.put_own.new.own (map (level_at a.levels.now) a.nets.now) a.input a.part.now c.take_turn_on.new.part c.take_turn_on.result.0 c.take_turn_on.result.1
-          (λ is. c.put_own.ensures (c.is_to_wake.ensures ∙ is)) e.turn;
-      first = e.first;
-      later = e.later;
-      others = e.others;
-      steps = e.steps;
-    }
+    may_wake p.machine g.met.P.Part.laws p.state p.now p.wake_count c.args.t c.args.part.now c.args.due.now c.args.input c.put_levels.new.out c.args.differs c.requires.may
+    (λ is later. subst (λ (l : List Level). p.machine.held (p.state c.args.part.now) ≢ l) (sym c.put_levels.ensures) (c.requires.differs is later)) (sym c.is_to_wake.ensures ∙ c.if-is_to_wake.true)
