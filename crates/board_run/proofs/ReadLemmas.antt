@@ -291,13 +291,9 @@ module _ {S : Type 0} (m : Machine S) where
   -- what suits a wiring does so after the nets were told
   pub retold_suits : (w : Wiring) (ss : List S) (seen : Seen) (ds : List Drive) (cs : List Bool) → Fits m w ss → Suits w seen → IsTold m ss (retold seen ds cs).circuit → Suits w (retold seen ds cs)
   retold_suits w ss seen ds cs fits suits told = record {
-    nets = suits.nets;
-    net_of = suits.net_of;
-    contacts = suits.contacts;
-    resistors = suits.resistors;
+    wired = let c = suits.wired in record { nets = c.nets; net_of = c.net_of; contacts = c.contacts; resistors = c.resistors; levels_long = c.levels_long };
     drives_long = ap length told.drives_are ∙ sym fits.pins;
     closed_long = ap length told.closed_are ∙ sym fits.contacts;
-    levels_long = suits.levels_long;
     chips_long = suits.chips_long;
     on_long = suits.on_long;
     on_are = suits.on_are;

@@ -20,16 +20,16 @@ returns-clause-same g c =
     let suits = c.requires.suits in
     let old = c.args.nets.now in
     let new = c.resolve_marked.new.self in
-    let a : old.nets ≡ w.nets = suits.nets in
-    let b : old.net_of ≡ w.net_of = suits.net_of in
-    let d : old.contacts ≡ w.contacts = suits.contacts in
-    let e : old.resistors ≡ w.resistors = suits.resistors in
+    let a : old.nets ≡ w.nets = suits.wired.nets in
+    let b : old.net_of ≡ w.net_of = suits.wired.net_of in
+    let d : old.contacts ≡ w.contacts = suits.wired.contacts in
+    let e : old.resistors ≡ w.resistors = suits.wired.resistors in
     let ds = c.requires.told.drives_are in
     let cs = c.requires.told.closed_are in
     let resolved = ap (λ (x : Circuit). x.levels) c.resolve_marked.ensures.levels in
     let levels : new.levels ≡ levels_of m w ss = cc in
     let nets : new.nets ≡ w.nets = ap (λ (x : Circuit). x.nets) c.resolve_marked.ensures.levels ∙ a in
-    let long : length old.levels ≡ length new.levels = suits.levels_long ∙ sym nets ∙ sym c.levels-levels.ensures.nets ∙ ap length c.levels-levels.ensures.levels in
+    let long : length old.levels ≡ length new.levels = suits.wired.levels_long ∙ sym nets ∙ sym c.levels-levels.ensures.nets ∙ ap length c.levels-levels.ensures.levels in
     let are : AreChanged old.levels new.levels new.changed = c.resolve_marked.ensures.changed in
     let none = none_changed old.levels new.levels new.changed c.is_empty-same_levels.result long are (c.is_empty-same_levels.ensures ∙ ap (λ (ns : List ℕ). length ns == 0) c.changed.ensures.changed) in
     ap (λ (x : Bool). x && c.keep_chips-same_drives.result) none
@@ -44,15 +44,15 @@ returns-clause-differ g c =
     let ss = map p.state c.args.parts.now in
     let suits = c.requires.suits in
     let new = c.resolve_marked.new.self in
-    let nets : new.nets ≡ w.nets = ap (λ (x : Circuit). x.nets) c.resolve_marked.ensures.levels ∙ suits.nets in
+    let nets : new.nets ≡ w.nets = ap (λ (x : Circuit). x.nets) c.resolve_marked.ensures.levels ∙ suits.wired.nets in
     let later : length new.levels ≡ w.nets = sym (ap length c.levels-levels.ensures.levels) ∙ c.levels-levels.ensures.nets ∙ nets in
-    λ k s es. c.parts_on-differ.ensures k ∙ ap (list_any (λ (n : ℕ). has_part (get_or c.args.on.now n (record { bits = 0 })) k)) c.changed-2.ensures.changed ∙ differ_is m w ss c.requires.fits c.args.nets.now.levels new.levels new.changed c.args.on.now suits.levels_long later suits.on_long suits.on_are
+    λ k s es. c.parts_on-differ.ensures k ∙ ap (list_any (λ (n : ℕ). has_part (get_or c.args.on.now n (record { bits = 0 })) k)) c.changed-2.ensures.changed ∙ differ_is m w ss c.requires.fits c.args.nets.now.levels new.levels new.changed c.args.on.now suits.wired.levels_long later suits.on_long suits.on_are
     c.resolve_marked.ensures.changed (λ j n en. let there = c.changed-2.ensures.nets n (any_true (eqb n) c.changed-2.result.now j n (ap (λ (ns : List ℕ). slice_get ns j) c.changed-2.ensures.changed ∙ en) (eqb_self n n refl)) in omega (arith, there, nets)) (record { bits = 0 }) k s es
 
 pub parts_on-differ-requires : goal.parts_on-differ-requires
 parts_on-differ-requires g c = λ j n en.
     let suits = c.requires.suits in
-    let nets = ap (λ (x : Circuit). x.nets) c.resolve_marked.ensures.levels ∙ suits.nets in
+    let nets = ap (λ (x : Circuit). x.nets) c.resolve_marked.ensures.levels ∙ suits.wired.nets in
     let there = c.changed-2.ensures.nets n (any_true (eqb n) c.changed-2.result.now j n en (eqb_self n n refl)) in
     omega (arith, there, nets, suits.on_long)
 
@@ -61,15 +61,17 @@ returns-clause-suits g c =
     let suits = c.requires.suits in
     let r = c.resolve_marked.ensures.levels in
     let new = c.resolve_marked.new.self in
-    let nets : new.nets ≡ c.args.wiring.now.nets = ap (λ (x : Circuit). x.nets) r ∙ suits.nets in
+    let nets : new.nets ≡ c.args.wiring.now.nets = ap (λ (x : Circuit). x.nets) r ∙ suits.wired.nets in
     record {
-      nets = nets;
-      net_of = ap (λ (x : Circuit). x.net_of) r ∙ suits.net_of;
-      contacts = ap (λ (x : Circuit). x.contacts) r ∙ suits.contacts;
-      resistors = ap (λ (x : Circuit). x.resistors) r ∙ suits.resistors;
+      wired = record {
+        nets = nets;
+        net_of = ap (λ (x : Circuit). x.net_of) r ∙ suits.wired.net_of;
+        contacts = ap (λ (x : Circuit). x.contacts) r ∙ suits.wired.contacts;
+        resistors = ap (λ (x : Circuit). x.resistors) r ∙ suits.wired.resistors;
+        levels_long = sym (ap length c.levels-levels.ensures.levels) ∙ c.levels-levels.ensures.nets ∙ nets;
+      };
       drives_long = ap (λ (x : Circuit). length x.drives) r ∙ suits.drives_long;
       closed_long = ap (λ (x : Circuit). length x.closed) r ∙ suits.closed_long;
-      levels_long = sym (ap length c.levels-levels.ensures.levels) ∙ c.levels-levels.ensures.nets ∙ nets;
       chips_long = omega (arith, c.keep_chips-same_drives.auto, suits.chips_long);
       on_long = suits.on_long;
       on_are = suits.on_are;
