@@ -15,7 +15,7 @@ use Rattle.sim_base.specs.declared.signal.Level.{Level}
 use Rattle.sim_base.specs.declared.signal.Drive.{Drive}
 use Rattle.sim_base.specs.Rows.{Row, AreBut}
 use Rattle.vcd_text.specs.Heads.{HeadState, after_row}
-use Rattle.vcd_text.specs.Chains.{sources, values_at, IsNet, IsNext, AreLinked, AreNetsBut, PinsRest, HasSeen}
+use Rattle.vcd_text.specs.Chains.{sources, values_at, IsNet, IsNext, AreLinked, AreNetsBut, PinsRest, HasSeen, OthersRest}
 
 pub some_is : {A : Type 0} {x y : A} → Some x ≡ Some y → x ≡ y
 some_is e = cc
@@ -105,7 +105,7 @@ value_here (v ∷ vs) levels drives (suc k) n e = value_here vs levels drives k 
 -- where one net is told, or two, and the variables of pins have the values that they had, those of other nets have so too
 pub others_still : (vs : List Variable) (values : List ℕ) (before after : List Level) (drives : List Drive) (changed : List ℕ) (one two : ℕ) → ((n : ℕ) → n ≢ one → n ≢ two → list_any (eqb n) changed ≡ false) →
     PinsRest vs values after drives → HasSeen vs values before → AreBut changed before after →
-    (k : ℕ) → k < length vs → slice_get (sources vs) k ≢ Some (Net one) → slice_get (sources vs) k ≢ Some (Net two) → get_or values k 0 ≡ get_or (values_at after drives vs) k 0
+    OthersRest (one, two) vs values after drives
 others_still vs values before after drives changed one two told rest seen but k less first second =
     let within : k < length (sources vs) = omega (arith, less, length-map vs (λ (v : Variable). v.shows)) in
     let at : slice_get (sources vs) k ≡ Some (get_or (sources vs) k (Net 0)) = slice_get-get_or (sources vs) k (Net 0) within in
@@ -133,11 +133,26 @@ next_from all net from more at later order is = record {
   here = is.here;
 }
 
-pub both_within : (a b i n : ℕ) → i ≡ min a b → a ≤ n → b ≤ n → i ≤ n
-both_within a b i n e p q = omega (arith, e, p)
+-- From a place on the next variable of two nets is at this one, where those between have the values that they had.
+pub record Follows (vs : List Variable) (last new : List ℕ) (one two from a b i : ℕ) : Type 0 where
+  pub order : from ≤ i
+  pub within : i ≤ length vs
+  pub at_one : IsNext (sources vs) one i a
+  pub at_two : IsNext (sources vs) two i b
+  pub same : (k : ℕ) → from ≤ k → k < i → slice_index last k ≡ slice_index new k
 
-pub both_from : (a b i n : ℕ) → i ≡ min a b → n ≤ a → n ≤ b → n ≤ i
-both_from a b i n e p q = omega (arith, e, p, q)
+pub follows : (vs : List Variable) (levels : List Level) (drives : List Drive) (last : List ℕ) (one two from a b i : ℕ) → OthersRest (one, two) vs last levels drives → i ≡ min a b →
+    IsNext (sources vs) one from a → IsNext (sources vs) two from b → Follows vs last (values_at levels drives vs) one two from a b i
+follows vs levels drives last one two from a b i others e m n =
+    let order : from ≤ i = let p = m.order in let q = n.order in omega (arith, e, p, q) in
+    let within : i ≤ length vs = let p = m.within in omega (arith, e, p, length-map vs (λ (v : Variable). v.shows)) in
+    record {
+      order = order;
+      within = within;
+      at_one = next_from (sources vs) one from i a order (omega (arith, e)) m;
+      at_two = next_from (sources vs) two from i b order (omega (arith, e)) n;
+      same = λ k least less. others k (omega (arith, less, within)) (m.none k least (omega (arith, less, e))) (n.none k least (omega (arith, less, e)));
+    }
 
 -- ---- variables that show pins
 

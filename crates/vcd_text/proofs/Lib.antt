@@ -7,3 +7,4 @@ pub mod ReadingLemmas
 pub mod TrackLemmas
 mod WaveLemmas
 mod WriterLemmas
+mod WrittenLemmas

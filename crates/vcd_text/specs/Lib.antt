@@ -8,3 +8,4 @@ pub mod TrackStates
 pub mod Tracks
 pub mod Variables
 pub mod Writers
+pub mod Written

@@ -1,9 +1,16 @@
 //! Times and values as lines.
 ghost use Rattle.std.specs.Prelude.{◌≡◌, ℕ, List, [], ◌∷◌, ◌++◌, ◌+◌, ◌*◌, ◌<◌, ◌≤◌, ◌==◌, length, true, false, if◌then◌else◌, IfOk, replicate, vec_len, codes};
-ghost use Rattle.text_model.specs.Wave.{id_of, value_line, value_lines, time_line, changes, change_count, initial_values, value_changes, head};
+ghost use Rattle.text_model.specs.Wave.{value_line, value_lines, time_line, changes, change_count, initial_values};
+ghost use Rattle.vcd_text.specs.Buffers.{BufferState};
+ghost use Rattle.vcd_text.specs.Variables.{variables_of};
+ghost use Rattle.vcd_text.specs.Chains.{values_at};
+ghost use Rattle.vcd_text.specs.Written.{IsWritten};
 
 use crate::buffer::Buffer;
 use crate::declarations::identifier_code;
+use crate::value::of_source;
+use crate::variable::Variable;
+use sim_base::{Drive, Level};
 
 /// The line of variable `i`.
 #[inline]
@@ -18,7 +25,7 @@ fn push_value(i: usize, value: u8, out: &mut Buffer)
     out.push_byte(b'\n');
 }
 
-pub(crate) fn push_change(i: usize, before: u8, now: u8, out: &mut Buffer) -> u64
+fn push_change(i: usize, before: u8, now: u8, out: &mut Buffer) -> u64
     requires few { i < 8930 }
     requires room { length out.old.text + 4 ≤ out.old.room }
     ensures text { out.new ≡ record out.old { text = out.old.text ++ (if before == now then [] else value_line i now) } }
@@ -44,17 +51,50 @@ fn push_values(now: &[u8], out: &mut Buffer)
     }
 }
 
-/// The lines of the values that are not what they were before, and how many there are.
-fn push_changes(before: &[u8], now: &[u8], out: &mut Buffer) -> u64
-    requires same { length before.now ≡ length now.now }
-    requires few { length now.now ≤ 8930 }
-    requires room { length out.old.text + 4 * length now.now ≤ out.old.room }
-    ensures text { out.new ≡ record out.old { text = out.old.text ++ changes 0 before.now now.now } }
-    ensures count { result ≡ change_count before.now now.now }
+/// Puts the value of variable `i` in place of that of the last row, and writes its line where that was another; answers
+/// how many lines these are.
+#[inline]
+pub(crate) fn put_value(
+    i: usize,
+    variables: &[Variable],
+    levels: &[Level],
+    drives: &[Drive],
+    values: &mut [u8],
+    out: &mut Buffer,
+) -> u64
+    requires few { i < 8930 }
+    requires variable { i < length variables.now }
+    requires long { length values.old ≡ length variables.now }
+    requires room { length out.old.text + 4 ≤ out.old.room }
+    ensures written { (last : List ℕ) (from : BufferState) (count : ℕ) → IsWritten last (values_at levels.now drives.now (variables_of variables.now)) from i count values.old out.old
+        → IsWritten last (values_at levels.now drives.now (variables_of variables.now)) from (i + 1) (count + result) values.new out.new }
+    ensures few { result ≤ 1 }
+{
+    let value = of_source(variables[i].shows, levels, drives);
+    let more = push_change(i, values[i], value, out);
+    values[i] = value;
+    more
+}
+
+/// Puts the values of all variables in place of those of the last row, and writes the lines of those that are not what
+/// they were; answers how many these are.
+pub(crate) fn push_changes(
+    variables: &[Variable],
+    levels: &[Level],
+    drives: &[Drive],
+    values: &mut [u8],
+    out: &mut Buffer,
+) -> u64
+    requires few { length variables.now ≤ 8930 }
+    requires long { length values.old ≡ length variables.now }
+    requires room { length out.old.text + 4 * length variables.now ≤ out.old.room }
+    ensures values { values.new ≡ values_at levels.now drives.now (variables_of variables.now) }
+    ensures text { out.new ≡ record out.old { text = out.old.text ++ changes 0 values.old (values_at levels.now drives.now (variables_of variables.now)) } }
+    ensures count { result ≡ change_count values.old (values_at levels.now drives.now (variables_of variables.now)) }
 {
     let mut count = 0;
-    for i in 0..now.len() {
-        count += push_change(i, before[i], now[i], out);
+    for i in 0..variables.len() {
+        count += put_value(i, variables, levels, drives, values, out);
     }
     count
 }
@@ -89,21 +129,4 @@ pub(crate) fn push_first(cycle: u32, head: &[u8], now: &[u8], out: &mut Buffer)
 {
     out.push(head);
     push_initial_values(cycle, now, out);
-}
-
-/// The value changes of a cycle, and how many there are.
-pub fn push_value_changes(cycle: u32, before: &[u8], now: &[u8], out: &mut Buffer) -> u64
-    requires same { length before.now ≡ length now.now }
-    requires few { length now.now ≤ 8930 }
-    requires room { length out.old.text + 42 + 4 * length now.now ≤ out.old.room }
-    ensures text { out.new ≡ record out.old { text = out.old.text ++ value_changes cycle before.now now.now } }
-    ensures count { result ≡ change_count before.now now.now }
-{
-    let start = out.text().len();
-    push_time(cycle, out);
-    let count = push_changes(before, now, out);
-    if count == 0 {
-        out.truncate(start);
-    }
-    count
 }

@@ -1,15 +1,15 @@
-//! The value changes of one net or two.
-ghost use Rattle.std.specs.Prelude.{◌≡◌, ◌≢◌, ℕ, ◌+◌, ◌*◌, ◌<◌, ◌≤◌, ◌++◌, List, length, Some, eqb, true, slice_get, slice_index};
+//! The text of a row, which looks at all variables or at those of one net or two.
+ghost use Rattle.std.specs.Prelude.{◌≡◌, ℕ, ◌+◌, ◌*◌, ◌<◌, ◌≤◌, ◌++◌, List, length, Some, eqb, true, slice_index, if◌then◌else◌};
 ghost use Rattle.std.specs.List.{list_any};
 ghost use Rattle.text_model.specs.Wave as wave;
-ghost use Rattle.text_model.specs.Wave.{Net, changes, change_count, value_changes};
+ghost use Rattle.text_model.specs.Wave.{changes, change_count, initial_values, value_changes};
 ghost use Rattle.vcd_text.specs.Variables.{variables_of};
-ghost use Rattle.vcd_text.specs.Chains.{sources, values_at, AreChains, IsNext};
+ghost use Rattle.vcd_text.specs.Chains.{sources, values_at, AreChains, IsNext, OthersRest};
 
 use crate::buffer::Buffer;
 use crate::chains::first_of;
-use crate::changes::{push_change, push_time};
-use crate::value::of_source;
+use crate::changes::{push_changes, push_first, push_time, put_value};
+use crate::value::{fill_values, of_source};
 use crate::variable::Variable;
 use sim_base::{Drive, Level};
 
@@ -74,8 +74,7 @@ fn push_chain(
     requires few { length variables.now ≤ 8930 }
     requires long { length values.old ≡ length variables.now }
     requires chains { AreChains (sources (variables_of variables.now)) first.now next.now }
-    requires others { (k : ℕ) → k < length variables.now → slice_get (sources (variables_of variables.now)) k ≢ Some (Net one) → slice_get (sources (variables_of variables.now)) k ≢ Some (Net two)
-        → slice_index values.old k ≡ slice_index (values_at levels.now drives.now (variables_of variables.now)) k }
+    requires others { OthersRest (one, two) (variables_of variables.now) values.old levels.now drives.now }
     requires room { length out.old.text + 4 * length variables.now ≤ out.old.room }
     ensures values { values.new ≡ values_at levels.now drives.now (variables_of variables.now) }
     ensures text { out.new ≡ record out.old { text = out.old.text ++ changes 0 values.old (values_at levels.now drives.now (variables_of variables.now)) } }
@@ -86,10 +85,7 @@ fn push_chain(
     let mut b = first_of(two, first, variables.len());
     let mut i = a.min(b);
     while i < variables.len() {
-        let value = of_source(variables[i].shows, levels, drives);
-        let more = push_change(i, values[i], value, out);
-        count += more;
-        values[i] = value;
+        count += put_value(i, variables, levels, drives, values, out);
         a = behind(a, i, next);
         b = behind(b, i, next);
         i = a.min(b);
@@ -97,11 +93,9 @@ fn push_chain(
     count
 }
 
-/// The value changes of a cycle in which no net but these two has another level, and how many there are.
-pub(crate) fn push_net_changes(
-    cycle: u32,
-    one: u16,
-    two: u16,
+/// The same of the variables of two nets, where such are told, and else of all.
+fn push_lines(
+    nets: Option<(u16, u16)>,
     variables: &[Variable],
     first: &[u16],
     next: &[u16],
@@ -113,8 +107,36 @@ pub(crate) fn push_net_changes(
     requires few { length variables.now ≤ 8930 }
     requires long { length values.old ≡ length variables.now }
     requires chains { AreChains (sources (variables_of variables.now)) first.now next.now }
-    requires others { (k : ℕ) → k < length variables.now → slice_get (sources (variables_of variables.now)) k ≢ Some (Net one) → slice_get (sources (variables_of variables.now)) k ≢ Some (Net two)
-        → slice_index values.old k ≡ slice_index (values_at levels.now drives.now (variables_of variables.now)) k }
+    requires others { (p : ℕ × ℕ) → nets ≡ Some p → OthersRest p (variables_of variables.now) values.old levels.now drives.now }
+    requires room { length out.old.text + 4 * length variables.now ≤ out.old.room }
+    ensures values { values.new ≡ values_at levels.now drives.now (variables_of variables.now) }
+    ensures text { out.new ≡ record out.old { text = out.old.text ++ changes 0 values.old (values_at levels.now drives.now (variables_of variables.now)) } }
+    ensures count { result ≡ change_count values.old (values_at levels.now drives.now (variables_of variables.now)) }
+{
+    match nets {
+        Some((one, two)) => push_chain(
+            one, two, variables, first, next, levels, drives, values, out,
+        ),
+        None => push_changes(variables, levels, drives, values, out),
+    }
+}
+
+/// The value changes of a cycle, and how many there are.
+fn push_later(
+    cycle: u32,
+    nets: Option<(u16, u16)>,
+    variables: &[Variable],
+    first: &[u16],
+    next: &[u16],
+    levels: &[Level],
+    drives: &[Drive],
+    values: &mut [u8],
+    out: &mut Buffer,
+) -> u64
+    requires few { length variables.now ≤ 8930 }
+    requires long { length values.old ≡ length variables.now }
+    requires chains { AreChains (sources (variables_of variables.now)) first.now next.now }
+    requires others { (p : ℕ × ℕ) → nets ≡ Some p → OthersRest p (variables_of variables.now) values.old levels.now drives.now }
     requires room { length out.old.text + 42 + 4 * length variables.now ≤ out.old.room }
     ensures values { values.new ≡ values_at levels.now drives.now (variables_of variables.now) }
     ensures text { out.new ≡ record out.old { text = out.old.text ++ value_changes cycle values.old (values_at levels.now drives.now (variables_of variables.now)) } }
@@ -122,11 +144,47 @@ pub(crate) fn push_net_changes(
 {
     let start = out.text().len();
     push_time(cycle, out);
-    let count = push_chain(
-        one, two, variables, first, next, levels, drives, values, out,
-    );
+    let count = push_lines(nets, variables, first, next, levels, drives, values, out);
     if count == 0 {
         out.truncate(start);
     }
     count
+}
+
+/// The text of a row, behind another or the first, with its values in place of those of the last one; how many value
+/// changes there are.
+pub(crate) fn push_row(
+    started: bool,
+    cycle: u32,
+    nets: Option<(u16, u16)>,
+    head: &[u8],
+    variables: &[Variable],
+    first: &[u16],
+    next: &[u16],
+    levels: &[Level],
+    drives: &[Drive],
+    values: &mut [u8],
+    out: &mut Buffer,
+) -> u64
+    requires few { length variables.now ≤ 8930 }
+    requires long { length values.old ≡ length variables.now }
+    requires chains { AreChains (sources (variables_of variables.now)) first.now next.now }
+    requires others { (p : ℕ × ℕ) → nets ≡ Some p → OthersRest p (variables_of variables.now) values.old levels.now drives.now }
+    requires room { length out.old.text + length head.now + 57 + 4 * length variables.now ≤ out.old.room }
+    ensures values { values.new ≡ values_at levels.now drives.now (variables_of variables.now) }
+    ensures text { out.new ≡ record out.old {
+      text = out.old.text ++ (if started then value_changes cycle values.old (values_at levels.now drives.now (variables_of variables.now))
+          else head.now ++ initial_values cycle (values_at levels.now drives.now (variables_of variables.now)));
+    } }
+    ensures count { result ≡ (if started then change_count values.old (values_at levels.now drives.now (variables_of variables.now)) else 0) }
+{
+    if started {
+        push_later(
+            cycle, nets, variables, first, next, levels, drives, values, out,
+        )
+    } else {
+        fill_values(variables, levels, drives, values);
+        push_first(cycle, head, values, out);
+        0
+    }
 }

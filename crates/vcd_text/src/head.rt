@@ -1,32 +1,29 @@
 //! The variables of a wave, and the text of one row after another.
-ghost use Rattle.std.specs.Prelude.{◌≡◌, ◌≢◌, ℕ, ◌<◌, ◌≤◌, List, [], ◌++◌, Some, slice_get, slice_index, length, IfOk, replicate, vec_len, eqb, true, false};
+ghost use Rattle.std.specs.Prelude.{◌≡◌, ◌≢◌, ℕ, ◌≤◌, List, [], ◌++◌, Some, length, IfOk, replicate, vec_len, eqb, true, false};
 ghost use Rattle.std.specs.List.{list_any};
 ghost use Rattle.text_model.specs.Wave.{time_line};
 ghost use Rattle.vcd_text.specs.Variables.{variables_of};
 ghost use Rattle.vcd_text.specs.Heads.{gathered, after_row, changed_by};
-ghost use Rattle.text_model.specs.Wave.{Net, head};
-ghost use Rattle.vcd_text.specs.Chains.{AreChains, AreNetsBut, HasSeen, PinsRest, sources, values_at};
+ghost use Rattle.text_model.specs.Wave.{head};
+ghost use Rattle.vcd_text.specs.Chains.{AreChains, AreNetsBut, HasSeen, OthersRest, PinsRest, sources};
 ghost use Rattle.sim_base.specs.Rows.{AreBut};
 ghost use Rattle.sim_base.specs.declared.signal.Level.{Level};
 
 use crate::buffer::Buffer;
 use crate::chains::{count_nets, link_all, pins_of};
-use crate::changes::{push_first, push_time, push_value_changes};
+use crate::changes::push_time;
 use crate::declarations::head_text;
-use crate::follow::{have_same, push_net_changes};
-use crate::value::fill_values;
+use crate::follow::{have_same, push_row};
 use crate::variable::Variable;
 use sim_base::{Drive, Level, List, OutOfMemory};
 use std::alloc::{AllocError, Global};
 use std::marker::Model;
-use std::mem;
 
 /// How much text may be kept before a row, in bytes.
 const GATHERED: usize = 16_384;
 
 fn unknown(alloc: Global, count: usize) -> Result<Vec<u8>, AllocError>
-    ensures items { IfOk result (λ v. v.items ≡ replicate count 122) }
-    ensures len { IfOk result (λ v. vec_len v ≡ count) }
+    ensures { IfOk result (λ v. vec_len v ≡ count) }
 {
     vec![in alloc; b'z'; count]
 }
@@ -49,20 +46,15 @@ fn two_of(changed: &[u16]) -> Option<(u16, u16)>
     }
 }
 
-/// The values before any row, room for as many, and the text of the head.
-fn first_texts(
-    alloc: Global,
-    variables: &[Variable],
-) -> Result<(Vec<u8>, Vec<u8>, Vec<u8>), OutOfMemory>
+/// The values before any row, and the text of the head.
+fn first_texts(alloc: Global, variables: &[Variable]) -> Result<(Vec<u8>, Vec<u8>), OutOfMemory>
     requires { length variables.now ≤ 8930 }
-    ensures before { IfOk result (λ v. vec_len v.0 ≡ length variables.now) }
-    ensures current { IfOk result (λ v. vec_len v.1 ≡ length variables.now) }
-    ensures head { IfOk result (λ v. v.2.items ≡ head (variables_of variables.now)) }
+    ensures values { IfOk result (λ v. vec_len v.0 ≡ length variables.now) }
+    ensures head { IfOk result (λ v. v.1.items ≡ head (variables_of variables.now)) }
 {
-    let before = unknown(alloc, variables.len())?;
-    let current = unknown(alloc, variables.len())?;
+    let values = unknown(alloc, variables.len())?;
     let head_bytes = head_text(alloc, variables)?;
-    Ok((before, current, head_bytes))
+    Ok((values, head_bytes))
 }
 
 /// The first variable that shows each net and behind each variable the next that shows its net, and
@@ -94,9 +86,7 @@ pub struct WaveHead {
     /// The variables that show pins.
     pins: Vec<u16>,
     /// The values of the last row.
-    before: Vec<u8>,
-    /// Room for those of the row at hand.
-    current: Vec<u8>,
+    values: Vec<u8>,
     text: Buffer,
     started: bool,
 }
@@ -111,13 +101,12 @@ impl Model for WaveHead {
 
     ghost use Rattle.vcd_text.specs.Variables.{variables_of};
 
-    ghost view = { λ a. record { variables = variables_of a.variables; values = a.before.items; text = a.text.text; started = a.started } };
+    ghost view = { λ a. record { variables = variables_of a.variables; values = a.values.items; text = a.text.text; started = a.started } };
 
     ghost invariant = { λ a. record {
       few : length a.variables ≤ 8930;
       head_is : a.head_bytes.items ≡ head (variables_of a.variables);
-      before_long : vec_len a.before ≡ length a.variables;
-      current_long : vec_len a.current ≡ length a.variables;
+      values_long : vec_len a.values ≡ length a.variables;
       room_is : gathered + text_room (variables_of a.variables) ≤ a.text.room;
       chains : AreChains (sources (variables_of a.variables)) a.first.items a.next.items;
       pins_are : AreNetsBut a.pins.items (sources (variables_of a.variables));
@@ -132,7 +121,7 @@ impl WaveHead {
         ensures { IfOk result (λ h. h.variables ≡ variables_of variables) }
     {
         let list = variables.as_slice();
-        let (before, current, head_bytes) = first_texts(alloc, list)?;
+        let (values, head_bytes) = first_texts(alloc, list)?;
         let (first, next, pins) = linked(alloc, list)?;
         let text = Buffer::with_room(
             alloc,
@@ -144,8 +133,7 @@ impl WaveHead {
             first,
             next,
             pins,
-            before,
-            current,
+            values,
             text,
             started: false,
         })
@@ -188,73 +176,49 @@ impl WaveHead {
             self.variables.as_slice(),
             levels,
             drives,
-            &self.before,
+            &self.values,
         )
     }
 
-    /// Makes the text of the next row, looking at the variables of two nets alone.
-    fn take_nets(
+    /// The nets that are told behind a row, where the values of all variables but theirs are what they were.
+    fn told(&self, levels: &[Level], drives: &[Drive], changed: &[u16]) -> Option<(u16, u16)>
+        requires { self.now.started ≡ true → (before : List Level) × HasSeen self.now.variables self.now.values before × AreBut changed.now before levels.now }
+        ensures { (p : ℕ × ℕ) → result ≡ Some p → OthersRest p self.now.variables self.now.values levels.now drives.now }
+    {
+        match two_of(changed) {
+            Some(nets) if self.has_started() && self.pins_rest(levels, drives) => Some(nets),
+            _ => None,
+        }
+    }
+
+    /// Makes the text of the next row, looking at the variables of two nets alone where they are told.
+    fn take(
         &mut self,
         cycle: u32,
-        one: u16,
-        two: u16,
+        nets: Option<(u16, u16)>,
         levels: &[Level],
         drives: &[Drive],
     ) -> u64
         requires room { length self.old.text ≤ gathered }
-        requires started { self.old.started ≡ true }
-        requires others { (k : ℕ) → k < length self.old.variables → slice_get (sources self.old.variables) k ≢ Some (Net one) → slice_get (sources self.old.variables) k ≢ Some (Net two)
-            → slice_index self.old.values k ≡ slice_index (values_at levels.now drives.now self.old.variables) k }
+        requires others { (p : ℕ × ℕ) → nets ≡ Some p → OthersRest p self.old.variables self.old.values levels.now drives.now }
         ensures text { self.new ≡ after_row self.old (record { cycle = cycle; levels = levels.now; drives = drives.now }) }
         ensures count { result ≡ changed_by self.old (record { cycle = cycle; levels = levels.now; drives = drives.now }) }
     {
-        push_net_changes(
+        let count = push_row(
+            self.started,
             cycle,
-            one,
-            two,
+            nets,
+            &self.head_bytes,
             self.variables.as_slice(),
             &self.first,
             &self.next,
             levels,
             drives,
-            &mut self.before,
+            &mut self.values,
             &mut self.text,
-        )
-    }
-
-    /// Makes the text of a row behind another, looking at all variables.
-    fn take_changes(&mut self, cycle: u32, levels: &[Level], drives: &[Drive]) -> u64
-        requires room { length self.old.text ≤ gathered }
-        requires started { self.old.started ≡ true }
-        ensures text { self.new ≡ after_row self.old (record { cycle = cycle; levels = levels.now; drives = drives.now }) }
-        ensures count { result ≡ changed_by self.old (record { cycle = cycle; levels = levels.now; drives = drives.now }) }
-    {
-        fill_values(
-            self.variables.as_slice(),
-            levels,
-            drives,
-            self.current.as_mut_slice(),
         );
-        let count = push_value_changes(cycle, &self.before, &self.current, &mut self.text);
-        mem::swap(&mut self.before, &mut self.current);
-        count
-    }
-
-    /// Makes the text of the first row.
-    fn take_first(&mut self, cycle: u32, levels: &[Level], drives: &[Drive])
-        requires room { length self.old.text ≤ gathered }
-        requires fresh { self.old.started ≡ false }
-        ensures { self.new ≡ after_row self.old (record { cycle = cycle; levels = levels.now; drives = drives.now }) }
-    {
-        fill_values(
-            self.variables.as_slice(),
-            levels,
-            drives,
-            self.current.as_mut_slice(),
-        );
-        push_first(cycle, &self.head_bytes, &self.current, &mut self.text);
         self.started = true;
-        mem::swap(&mut self.before, &mut self.current);
+        count
     }
 
     /// Makes the text of the next row behind what is kept, and answers how many values it changes.
@@ -271,17 +235,8 @@ impl WaveHead {
         ensures text { self.new ≡ after_row self.old (record { cycle = cycle; levels = levels.now; drives = drives.now }) }
         ensures count { result ≡ changed_by self.old (record { cycle = cycle; levels = levels.now; drives = drives.now }) }
     {
-        if self.has_started() {
-            match two_of(changed) {
-                Some((one, two)) if self.pins_rest(levels, drives) => {
-                    self.take_nets(cycle, one, two, levels, drives)
-                }
-                _ => self.take_changes(cycle, levels, drives),
-            }
-        } else {
-            self.take_first(cycle, levels, drives);
-            0
-        }
+        let nets = self.told(levels, drives, changed);
+        self.take(cycle, nets, levels, drives)
     }
 
     /// Makes the text of the time at which the run ends behind what is kept.

@@ -1,24 +1,31 @@
-use Rattle.std.proofs.Common.{◌≡◌, ◌<◌, ◌∙◌, sym, ap, drop, ◌++◌, [], length, List, ℕ, arith}
-use Rattle.std.proofs.lemmas.List.{append-nil}
-use Rattle.text_model.specs.Wave.{changes, change_count}
-use Rattle.vcd_text.proofs.WaveLemmas.{changes_more, no_changes, count_more, no_count, state_is}
+use Rattle.std.proofs.Common.{◌∙◌, sym, arith}
+use Rattle.text_model.specs.Wave.{Variable, shown_value}
+use Rattle.vcd_text.specs.Chains.{values_at}
+use Rattle.vcd_text.specs.Variables.{variable_of, variables_of}
+use Rattle.vcd_text.proofs.WaveLemmas.{made_long}
+use Rattle.vcd_text.proofs.WrittenLemmas.{written_none, written_all}
 use Rattle.vcd_text.proofs.changes.push_changes.Goals as goal
 
-pub loop-i-preserved : goal.loop-i-preserved
-loop-i-preserved c =
-    let within : c.loop-i.i < length c.args.before.now = omega arith in
+pub loop-i-init : goal.loop-i-init
+loop-i-init c = written_none c.args.values.now (values_at c.args.levels.now c.args.drives.now (variables_of c.args.variables.now)) c.args.out.now
+
+pub put_value-count-requires : goal.put_value-count-requires
+put_value-count-requires c =
+    let inv = c.loop-i.invariant in
     record {
-      text = rw c.push_change-count.ensures.text (sym (changes_more c.loop-i.out.text c.loop-i.i c.args.before.now c.args.now.now within c.loop-i-test.true) ∙ c.loop-i.invariant.text);
-      room = rw c.push_change-count.ensures.text c.loop-i.invariant.room;
-      short = omega arith;
-      counted = omega (arith, count_more c.loop-i.i c.args.before.now c.args.now.now within c.loop-i-test.true, c.push_change-count.ensures.count);
-      few = omega arith;
+      few = omega (arith, c.loop-i-test.true, c.requires.few);
+      variable = c.loop-i-test.true;
+      long = inv.long ∙ c.requires.long;
+      room = let short = inv.short in omega (arith, c.loop-i-test.true, c.requires.room, inv.room, short);
     }
+
+pub loop-i-preserved : goal.loop-i-preserved
+loop-i-preserved c = c.put_value-count.ensures.written c.args.values.now c.args.out.now c.loop-i.count c.loop-i.invariant
 
 pub returns : goal.returns
 returns c =
-    let none : changes c.loop-i.i (drop c.loop-i.i c.args.before.now) (drop c.loop-i.i c.args.now.now) ≡ [] = no_changes c.loop-i.i c.args.before.now c.args.now.now c.loop-i-test.false in
-    let same : c.loop-i.out.text ≡ c.args.out.now.text ++ changes 0 c.args.before.now c.args.now.now =
-    sym (append-nil c.loop-i.out.text) ∙ ap (λ (l : List ℕ). c.loop-i.out.text ++ l) (sym none) ∙ c.loop-i.invariant.text in
-    let zero : change_count (drop c.loop-i.i c.args.before.now) (drop c.loop-i.i c.args.now.now) ≡ 0 = no_count c.loop-i.i c.args.before.now c.args.now.now c.loop-i-test.false in
-    record { text = state_is c.loop-i.out _ _ same c.loop-i.invariant.room; count = omega arith }
+    let vs = c.args.variables.now in
+    let long = made_long variable_of (λ (v : Variable). shown_value c.args.levels.now c.args.drives.now v.shows) vs in
+    let all = written_all c.args.values.now (values_at c.args.levels.now c.args.drives.now (variables_of vs)) c.args.out.now c.loop-i.i c.loop-i.count c.loop-i.values c.loop-i.out
+    (omega (arith, c.loop-i-test.false, c.requires.long)) (c.requires.long ∙ sym long) c.loop-i.invariant in
+    record { values = all.0; text = all.1; count = all.2 }

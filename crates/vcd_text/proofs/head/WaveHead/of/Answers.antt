@@ -10,15 +10,14 @@ use Rattle.vcd_text.proofs.head.WaveHead.of.Goals as goal
 
 pub invariant_of-result : goal.invariant_of-result
 invariant_of-result c =
-    let a = c.in_ok-before in
+    let a = c.in_ok-values in
     let b = c.in_ok-first in
     let vs = c.as_slice-list.ensures in
     let head_is = a.ensures.head ∙ ap (λ (l : List Variable). head (variables_of l)) vs in
     record {
       few = c.requires;
       head_is = head_is;
-      before_long = a.ensures.before ∙ ap length vs;
-      current_long = a.ensures.current ∙ ap length vs;
+      values_long = a.ensures.values ∙ ap length vs;
       room_is = omega (arith, ap (λ (t : BufferState). t.room) c.in_ok-text.ensures, ap length head_is, a.head_bytes.ok.0, length-map c.args.variables variable_of);
       chains = chains_moved vs refl refl b.ensures.chains;
       pins_are = subst (λ (l : List Variable). AreNetsBut b.pins.items (sources (variables_of l))) vs b.ensures.pins;

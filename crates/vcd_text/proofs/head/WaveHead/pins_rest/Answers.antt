@@ -8,7 +8,7 @@ use Rattle.vcd_text.proofs.HeadLemmas.{among_moved}
 use Rattle.vcd_text.proofs.head.WaveHead.pins_rest.Goals as goal
 
 pub have_same-requires : goal.have_same-requires
-have_same-requires c = let i = c.self.inside in ap length c.deref-2.ensures.value ∙ sym i.before.ok.0 ∙ c.self.invariant.before_long ∙ ap length (sym c.as_slice.ensures)
+have_same-requires c = let i = c.self.inside in ap length c.deref-2.ensures.value ∙ sym i.values.ok.0 ∙ c.self.invariant.values_long ∙ ap length (sym c.as_slice.ensures)
 
 pub returns : goal.returns
 returns c = λ on.
@@ -17,4 +17,4 @@ returns c = λ on.
     let drives = c.args.drives.now in
     let same = among_moved levels drives c.deref.ensures.value c.as_slice.ensures c.deref-2.ensures.value (c.have_same.ensures on) in
     subst (λ (x : HeadState). PinsRest x.variables x.values levels drives) c.self.view_is
-    (rests_by (variables_of i.variables) i.pins.items i.before.items levels drives c.self.invariant.pins_are (λ k among less. same k among (omega (arith, less, length-map i.variables variable_of))))
+    (rests_by (variables_of i.variables) i.pins.items i.values.items levels drives c.self.invariant.pins_are (λ k among less. same k among (omega (arith, less, length-map i.variables variable_of))))
