@@ -63,21 +63,14 @@ impl Buffer {
         self.len += 1;
     }
 
-    /// A text of two bytes at most, written byte by byte.
+    /// A short text, written byte by byte.
     #[inline]
     pub fn push_short(&mut self, text: &[u8])
-        requires short { length text.now ≤ 2 }
-        requires room { length self.old.text + length text.now ≤ self.old.room }
+        requires { length self.old.text + length text.now ≤ self.old.room }
         ensures { self.new ≡ record self.old { text = self.old.text ++ text.now } }
     {
-        match text {
-            [] => {}
-            [one] => self.push_byte(*one),
-            [one, two] => {
-                self.push_byte(*one);
-                self.push_byte(*two);
-            }
-            _ => unreachable!(),
+        for byte in text {
+            self.push_byte(*byte);
         }
     }
 
