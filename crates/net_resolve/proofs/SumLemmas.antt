@@ -1,15 +1,16 @@
 -- Sums of levels, place by place.
-use Rattle.std.proofs.Common.{◌≡◌, ◌≢◌, ℕ, zero, suc, ◌+◌, ◌<◌, ◌≤◌, List, [], ◌∷◌, length, drop, Bool, true, false, not, refl, ap, sym, ◌∙◌, arith, add-one, get_or, get_or-set_other, get_or-set_same, drop-cons, inl, inr, subst, Some}
+use Rattle.std.proofs.Common.{◌≡◌, ◌≢◌, ℕ, ◌+◌, ◌<◌, ◌≤◌, List, [], ◌∷◌, length, drop, Bool, true, false, not, refl, ap, sym, ◌∙◌, arith, add-one, get_or, get_or-set_other, get_or-set_same, drop-cons, inl, inr, subst, Some}
 use Rattle.std.specs.Cmp.Lexicographic.{pointwise}
 use Rattle.std.proofs.Math.Bool.{beq}
 use Rattle.std.proofs.lemmas.Bool.Decides.{eqb_tells}
+use Rattle.std.proofs.lemmas.List.{drop_all}
 use Rattle.std.specs.Prelude.{◌==◌, ◌&&◌, ◌||◌, if◌then◌else◌, slice_get, slice_set, slice_index}
 use Rattle.std.specs.List.{zip}
 use Rattle.sim_base.specs.declared.signal.Drive.{Drive}
 use Rattle.sim_base.specs.declared.signal.Drive.TheVariants as drives
 use Rattle.sim_base.specs.declared.signal.Level.{Level}
 use Rattle.sim_base.specs.declared.signal.Level.TheVariants as levels
-use Rattle.board_model.proofs.Lists.{get_set_same, get_set_other}
+use Rattle.board_model.proofs.Lists.{get_set_same, get_set_other, get_within}
 use Rattle.net_resolve.specs.Sums.{together, sum_at, added, is_loose, over_adds, resistors_add, level_here, is_z}
 
 -- a sum after something was added to one
@@ -37,24 +38,12 @@ pub added_end : (gives : Drive → Level) (counts : ℕ → Bool) (sum : Level) 
     added gives counts sum (zip (drop i ns) (drop i ds)) ≡ sum
 unfolding added
 added_end gives counts sum ns ds i h = rw (drop_all i ns h) refl
-  where
-    drop_all : {B : Type 0} (n : ℕ) (xs : List B) → length xs ≤ n → drop n xs ≡ []
-    drop_all zero [] h = refl
-    drop_all (suc n) [] h = refl
-    drop_all zero (x ∷ xs) h = absurd (omega arith)
-    drop_all (suc n) (x ∷ xs) h = drop_all n xs (omega arith)
 
 -- one pin adds
 pub added_one : (gives : Drive → Level) (counts : ℕ → Bool) (sum : Level) (n : ℕ) (d : Drive) →
     added gives counts sum ((n, d) ∷ []) ≡ (if counts n then together sum (gives d) else sum)
 unfolding added
 added_one gives counts sum n d = refl
-
-drop_all : {B : Type 0} (n : ℕ) (xs : List B) → length xs ≤ n → drop n xs ≡ []
-drop_all zero [] h = refl
-drop_all (suc n) [] h = refl
-drop_all zero (x ∷ xs) h = absurd (omega arith)
-drop_all (suc n) (x ∷ xs) h = drop_all n xs (omega arith)
 
 pub resistors_next : (groups : List ℕ) (strong : List Level) (areas : List ℕ) (a : ℕ) (sum : Level) (rs : List (ℕ × ℕ)) (i : ℕ) → i < length rs →
     resistors_add groups strong areas a sum (drop i rs)
@@ -66,6 +55,14 @@ pub resistors_end : (groups : List ℕ) (strong : List Level) (areas : List ℕ)
     resistors_add groups strong areas a sum (drop i rs) ≡ sum
 unfolding resistors_add
 resistors_end groups strong areas a sum rs i h = rw (drop_all i rs h) refl
+
+-- the ends of a resistor are nets, whose areas have sums
+pub ends_within : (groups areas : List ℕ) (count : ℕ) (rs : List (ℕ × ℕ)) (i : ℕ) → ((k : ℕ) (r : ℕ × ℕ) → slice_get rs k ≡ Some r → (r.0 < length groups) × (r.1 < length groups)) →
+    length areas ≡ length groups → ((n : ℕ) → n < length areas → slice_index areas n < count) → i < length rs →
+    ((get_or rs i (0, 0)).0 < length groups) × (slice_index areas (get_or rs i (0, 0)).0 < count) × ((get_or rs i (0, 0)).1 < length groups) × (slice_index areas (get_or rs i (0, 0)).1 < count)
+ends_within groups areas count rs i ends long sums less =
+    let (a, b) = ends i _ (get_within rs i (0, 0) less) in
+    (a, sums (get_or rs i (0, 0)).0 (omega (arith, a, long)), b, sums (get_or rs i (0, 0)).1 (omega (arith, b, long)))
 
 -- the level of a net, as it is chosen
 pub level_chosen : (groups : List ℕ) (strong : List Level) (areas : List ℕ) (sums : List Level) (n : ℕ) (b : Bool) → b ≡ is_z (sum_at strong (slice_index groups n)) →

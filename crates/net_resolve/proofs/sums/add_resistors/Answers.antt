@@ -1,8 +1,7 @@
 use Rattle.std.proofs.Common.{◌+◌, drop, ◌∙◌, sym, ap, get_or, arith}
 use Rattle.sim_base.specs.declared.signal.Level.{Level}
-use Rattle.board_model.proofs.Lists.{get_within}
 use Rattle.net_resolve.specs.Sums.{sum_at, over_adds, resistors_add}
-use Rattle.net_resolve.proofs.SumLemmas.{resistors_next, resistors_end}
+use Rattle.net_resolve.proofs.SumLemmas.{ends_within, resistors_next, resistors_end}
 use Rattle.net_resolve.proofs.sums.add_resistors.Goals as goal
 
 pub loop-i-preserved : goal.loop-i-preserved
@@ -24,22 +23,10 @@ bounds-resistors-i c = c.loop-i-test.true
 
 pub add_over-requires : goal.add_over-requires
 add_over-requires c =
-    let at = c.requires.resistors c.loop-i.i _ (get_within c.args.resistors.now c.loop-i.i (0, 0) c.loop-i-test.true) in
-    record {
-      from = at.1;
-      to = at.0;
-      groups = c.requires.groups;
-      places = c.requires.places;
-      area = omega (arith, c.loop-i.auto.sums, c.requires.areas (get_or c.args.resistors.now c.loop-i.i (0, 0)).0 (omega (arith, at.0, c.requires.places)));
-    }
+    let (a, a_area, b, b_area) = ends_within c.args.groups.now c.args.areas.now _ c.args.resistors.now c.loop-i.i c.requires.resistors c.requires.places c.requires.areas c.loop-i-test.true in
+    record { from = b; to = a; groups = c.requires.groups; places = c.requires.places; area = omega (arith, c.loop-i.auto.sums, a_area) }
 
 pub add_over-requires-in-loop-i : goal.add_over-requires-in-loop-i
 add_over-requires-in-loop-i c =
-    let at = c.requires.resistors c.loop-i.i _ (get_within c.args.resistors.now c.loop-i.i (0, 0) c.loop-i-test.true) in
-    record {
-      from = at.0;
-      to = at.1;
-      groups = c.requires.groups;
-      places = c.requires.places;
-      area = omega (arith, c.loop-i.auto.sums, c.add_over.auto.sums, c.requires.areas (get_or c.args.resistors.now c.loop-i.i (0, 0)).1 (omega (arith, at.1, c.requires.places)));
-    }
+    let (a, a_area, b, b_area) = ends_within c.args.groups.now c.args.areas.now _ c.args.resistors.now c.loop-i.i c.requires.resistors c.requires.places c.requires.areas c.loop-i-test.true in
+    record { from = a; to = b; groups = c.requires.groups; places = c.requires.places; area = omega (arith, c.loop-i.auto.sums, c.add_over.auto.sums, b_area) }

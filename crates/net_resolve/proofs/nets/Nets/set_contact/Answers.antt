@@ -7,6 +7,22 @@ use Rattle.net_resolve.specs.Subcircuits.{AreRight, unresolved}
 use Rattle.net_resolve.proofs.RightLemmas.{right_contact}
 use Rattle.net_resolve.proofs.nets.Nets.set_contact.Goals as goal
 
+pub keep_closed-requires : goal.keep_closed-requires
+keep_closed-requires c =
+    let i = c.self.inside in
+    let v = c.self.invariant in
+    let nets = ap length c.deref-2.ensures.value ∙ v.cut.long in
+    let contacts : length c.deref_mut.result.now ≡ length c.deref.result.now =
+    omega (arith, ap length c.deref_mut.ensures.value, ap length c.deref.ensures.value, v.closed_long, i.closed.ok.0, i.contacts.ok.0) in
+    record {
+      contact = omega (arith, contacts, ap length c.deref.ensures.value, c.requires, ap length (ap (λ (x : Circuit). x.contacts) c.self.view_is));
+      contacts = contacts;
+      nets = λ k p e. let ends = v.cut.contacts_within k p (subst (λ (ps : List (ℕ × ℕ)). slice_get ps k ≡ Some p) c.deref.ensures.value e) in
+          (omega (arith, nets, ends.0), omega (arith, nets, ends.1));
+      labels = λ n less. let low = v.cut.below n in
+          omega (arith, nets, less, low, ap (λ (l : List ℕ). slice_index l n) c.deref-2.ensures.value, v.marks_room);
+    }
+
 pub invariant_of-self : goal.invariant_of-self
 invariant_of-self c =
     let i = c.self.inside in
@@ -37,3 +53,12 @@ invariant_of-self c =
       closed_long = v.closed_long;
       pin_levels = v.pin_levels;
     }
+
+pub returns : goal.returns
+returns c =
+    let i = c.self.inside in
+    let r = c.keep_closed in
+    let are = lent_whole i.closed.len i.closed.items r.new.kept i.closed.ok.0 (r.auto.kept ∙ ap length c.deref_mut.ensures.value)
+    ∙ r.ensures.kept ∙ ap (λ (bs : List Bool). slice_set bs c.args.contact c.args.closed) c.deref_mut.ensures.value in
+    ap (λ (bs : List Bool). record { nets = i.levels.len; net_of = i.net_of.items; contacts = i.contacts.items; resistors = i.resistors.items; drives = i.drives.items; closed = bs; levels = i.levels.items; changed = i.changed.marked }) are
+    ∙ ap (λ (x : Circuit). record x { closed = slice_set x.closed c.args.contact c.args.closed }) c.self.view_is

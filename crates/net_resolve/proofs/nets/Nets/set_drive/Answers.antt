@@ -8,6 +8,21 @@ use Rattle.net_resolve.specs.Subcircuits.{AreRight, unresolved}
 use Rattle.net_resolve.proofs.RightLemmas.{right_drive}
 use Rattle.net_resolve.proofs.nets.Nets.set_drive.Goals as goal
 
+pub keep_drive-requires : goal.keep_drive-requires
+keep_drive-requires c =
+    let i = c.self.inside in
+    let v = c.self.invariant in
+    let nets = ap length c.deref-2.ensures.value ∙ v.cut.long in
+    let pins : length c.deref_mut.result.now ≡ length c.deref.result.now =
+    omega (arith, ap length c.deref_mut.ensures.value, ap length c.deref.ensures.value, v.drives_long, i.drives.ok.0, i.net_of.ok.0) in
+    record {
+      pin = omega (arith, pins, ap length c.deref.ensures.value, c.requires, ap length (ap (λ (x : Circuit). x.net_of) c.self.view_is));
+      pins = pins;
+      nets = λ k n e. omega (arith, nets, v.cut.pins_within k n (subst (λ (ns : List ℕ). slice_get ns k ≡ Some n) c.deref.ensures.value e));
+      labels = λ n less. let low = v.cut.below n in
+          omega (arith, nets, less, low, ap (λ (l : List ℕ). slice_index l n) c.deref-2.ensures.value, v.marks_room);
+    }
+
 pub invariant_of-self : goal.invariant_of-self
 invariant_of-self c =
     let i = c.self.inside in
@@ -38,3 +53,12 @@ invariant_of-self c =
       closed_long = v.closed_long;
       pin_levels = v.pin_levels;
     }
+
+pub returns : goal.returns
+returns c =
+    let i = c.self.inside in
+    let r = c.keep_drive in
+    let are = lent_whole i.drives.len i.drives.items r.new.drives i.drives.ok.0 (r.auto.drives ∙ ap length c.deref_mut.ensures.value)
+    ∙ r.ensures.drives ∙ ap (λ (ds : List Drive). slice_set ds c.args.pin c.args.drive) c.deref_mut.ensures.value in
+    ap (λ (ds : List Drive). record { nets = i.levels.len; net_of = i.net_of.items; contacts = i.contacts.items; resistors = i.resistors.items; drives = ds; closed = i.closed.items; levels = i.levels.items; changed = i.changed.marked }) are
+    ∙ ap (λ (x : Circuit). record x { drives = slice_set x.drives c.args.pin c.args.drive }) c.self.view_is
