@@ -1,6 +1,6 @@
 -- Sections are proper.
 use Rattle.std.proofs.Common.{◌≡◌, ℕ, ◌-◌, ◌<◌, List, [], ◌∷◌, ◌++◌, length, take, false, refl, sym, ap, subst, ◌∙◌, arith, ⊎_elim, append_assoc, length-append}
-use Rattle.std.specs.Prelude.{◌==◌}
+use Rattle.std.specs.Prelude.{◌==◌, Result, Ok, Err, IsOkAnd, MatchResult}
 use Rattle.sim_base.specs.declared.fault.Fault.{Fault}
 use Rattle.sim_base.specs.Refusals.{WasmCut, WasmLeb}
 use Rattle.wasm_text.specs.declared.reader.Reader.{Reader}
@@ -9,15 +9,13 @@ use Rattle.wasm_text.specs.Leb.{u32}
 use Rattle.wasm_text.specs.Lists.{vec, vec_to, sized}
 use Rattle.wasm_text.specs.Names.{name}
 use Rattle.wasm_text.specs.Proper.{Proper}
-use Rattle.wasm_text.specs.Reads.{Reads, Fails}
+use Rattle.wasm_text.specs.Reads.{Reads, Decodes}
 use Rattle.wasm_text.proofs.Steps.{stops, then_reads, given}
 use Rattle.wasm_text.proofs.Exact.{give_proper, byte_proper, then_proper, unsigned_proper, vec_proper, vec_to_proper, choose_proper, sized_proper, rest_is, recut, whole_is}
-use Rattle.wasm_code.specs.declared.types.FuncType.{FuncType}
 use Rattle.wasm_code.specs.TypeText.{func_type, limits, table_type}
 use Rattle.wasm_code.proofs.LimitsLemmas.{limits_proper}
 use Rattle.wasm_code.proofs.TypeLemmas.{func_type_proper, table_type_proper}
 use Rattle.wasm_decode.specs.declared.module.Module.{Module}
-use Rattle.wasm_decode.specs.declared.module.Body.{Body}
 use Rattle.wasm_decode.specs.declared.progress.Progress.{Progress}
 use Rattle.wasm_decode.specs.declared.progress.Section.{Section}
 use Rattle.wasm_decode.specs.declared.progress.Section.TheVariants as sections
@@ -108,30 +106,15 @@ section_some s a x t = omega (arith, ap length t.3, length-append t.0 t.1, ap le
 pub section_shrinks : (s : Progress) (old new : Reader) (x : Section) → Reads (section s) old new x → length new.rest.now < length old.rest.now
 section_shrinks s old new x h = omega (arith, ap length h.2.parts, length-append h.0 new.rest.now, section_some s h.0 x h.1)
 
+-- the section of what was read, or where that broke
+made : {X : Type 0} (p : Form X) (make : X → Section) (old new : Reader) (r : Result X Fault) (s : Result Section Fault) → Decodes p r old new → MatchResult r (λ x. IsOkAnd s (λ y. y ≡ make x)) (λ e. s ≡ Err e) → Decodes (p >>= (λ x. give (make x))) s old new
+made p make old new (Ok x) (Ok y) h e =
+    subst (λ (z : Section). Reads (p >>= (λ x. give (make x))) old new z) (sym e) (then_reads p (λ x. give (make x)) old new new x (make x) h (given (make x) new))
+made p make old new (Ok x) (Err f) h e = absurd e
+made p make old new (Err f) s h e =
+    subst (λ (z : Result Section Fault). Decodes (p >>= (λ x. give (make x))) z old new) (sym e) (stops p (λ x. give (make x)) old f h)
+
 -- the content of the section that an id says
-pub sect_reads : {X : Type 0} (p : Form X) (make : X → Section) (old new : Reader) (x : X) → Reads p old new x → Reads (p >>= (λ x. give (make x))) old new (make x)
-sect_reads p make old new x h = then_reads p (λ x. give (make x)) old new new x (make x) h (given (make x) new)
-
-pub sect_fails : {X : Type 0} (p : Form X) (make : X → Section) (old : Reader) (e : Fault) → Fails p old e → Fails (p >>= (λ x. give (make x))) old e
-sect_fails p make old e h = stops p (λ x. give (make x)) old e h
-
-pub content_is : (m : Module) (id k : ℕ) (old new : Reader) (x : Section) → id ≡ k → Reads (content m k) old new x → Reads (content m id) old new x
-content_is m id k old new x q h = subst (λ (z : ℕ). Reads (content m z) old new x) (sym q) h
-
-pub content_fails_as : (m : Module) (id k : ℕ) (old : Reader) (e : Fault) → id ≡ k → Fails (content m k) old e → Fails (content m id) old e
-content_fails_as m id k old e q h = subst (λ (z : ℕ). Fails (content m z) old e) (sym q) h
-
--- the bodies of the module's functions
-pub content_bodies_fail : (m : Module) (id : ℕ) (ts : List FuncType) (fs : List ℕ) (old : Reader) (e : Fault) → id ≡ 10 → ts ≡ m.types → fs ≡ m.functions → Fails (bodies ts fs) old e → Fails (content m id) old e
-content_bodies_fail m id ts fs old e q t f h =
-    let h1 = subst (λ (z : List FuncType). Fails (bodies z fs) old e) t h in
-    let h2 = subst (λ (z : List ℕ). Fails (bodies m.types z) old e) f h1 in
-    let g : Fails (content m 10) old e = stops (bodies m.types m.functions) (λ (xs : List Body). give (sections.Bodies xs)) old e h2 in
-    subst (λ (z : ℕ). Fails (content m z) old e) (sym q) g
-
-pub content_bodies : (m : Module) (id : ℕ) (ts : List FuncType) (fs : List ℕ) (old new : Reader) (xs : List Body) → id ≡ 10 → ts ≡ m.types → fs ≡ m.functions → Reads (bodies ts fs) old new xs → Reads (content m id) old new (sections.Bodies xs)
-content_bodies m id ts fs old new xs q t f h =
-    let h1 = subst (λ (z : List FuncType). Reads (bodies z fs) old new xs) t h in
-    let h2 = subst (λ (z : List ℕ). Reads (bodies m.types z) old new xs) f h1 in
-    let g : Reads (content m 10) old new (sections.Bodies xs) = then_reads (bodies m.types m.functions) (λ (xs : List Body). give (sections.Bodies xs)) old new new xs (sections.Bodies xs) h2 (given (sections.Bodies xs) new) in
-    subst (λ (z : ℕ). Reads (content m z) old new (sections.Bodies xs)) (sym q) g
+pub content_made : {X : Type 0} (p : Form X) (make : X → Section) (m : Module) (id k : ℕ) (old new : Reader) (r : Result X Fault) (s : Result Section Fault) → id ≡ k → content m k ≡ (p >>= (λ x. give (make x))) → Decodes p r old new → MatchResult r (λ x. IsOkAnd s (λ y. y ≡ make x)) (λ e. s ≡ Err e) → Decodes (content m id) s old new
+content_made p make m id k old new r s q f h e =
+    subst (λ (z : ℕ). Decodes (content m z) s old new) (sym q) (subst (λ (z : Form Section). Decodes z s old new) (sym f) (made p make old new r s h e))

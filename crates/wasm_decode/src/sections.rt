@@ -12,6 +12,7 @@ use crate::progress::{Progress, Section};
 use sim_base::Fault;
 use sim_base::refusals::{WASM_COUNT, WASM_CUT, WASM_SECTION};
 use std::alloc::Global;
+use std::mem::drop;
 use wasm_code::tables;
 use wasm_text::{Reader, close, index, list, list_to, read_name, refused};
 
@@ -80,63 +81,34 @@ fn sized(alloc: Global, reader: &mut Reader, known: &Module, id: u8) -> Result<S
     let size = index(reader)?;
     let mut inner = reader.window(size);
     let section = content(alloc, &mut inner, known, id)?;
-    close(reader, &inner, size, false)?;
-    Ok(section)
+    match close(reader, &inner, size, false) {
+        Ok(()) => Ok(section),
+        Err(fault) => {
+            // One call, where a drop at the end of the scope is proved section by section.
+            drop(section);
+            Err(fault)
+        }
+    }
 }
 
 fn content(alloc: Global, reader: &mut Reader, known: &Module, id: u8) -> Result<Section, Fault>
     ensures { Decodes (content_form known.now id) result reader.old reader.new }
 {
     match id {
-        1 => {
-            let types = list_to(alloc, reader, ITEMS)?;
-            Ok(Section::Types(types))
-        }
-        2 => {
-            let imports = imports(alloc, reader)?;
-            Ok(Section::Imports(imports))
-        }
-        3 => {
-            let functions = list_to(alloc, reader, room_for_functions(known))?;
-            Ok(Section::Functions(functions))
-        }
-        4 => {
-            let tables = tables(alloc, reader)?;
-            Ok(Section::Tables(tables))
-        }
-        5 => {
-            let memories = list(alloc, reader)?;
-            Ok(Section::Memories(memories))
-        }
-        6 => {
-            let globals = list_to(alloc, reader, ITEMS)?;
-            Ok(Section::Globals(globals))
-        }
-        7 => {
-            let exports = list_to(alloc, reader, ITEMS)?;
-            Ok(Section::Exports(exports))
-        }
-        8 => {
-            let function = index(reader)?;
-            Ok(Section::Start(function))
-        }
-        9 => {
-            let elements = list_to(alloc, reader, SEGMENTS)?;
-            Ok(Section::Elements(elements))
-        }
+        1 => list_to(alloc, reader, ITEMS).map(Section::Types),
+        2 => imports(alloc, reader).map(Section::Imports),
+        3 => list_to(alloc, reader, room_for_functions(known)).map(Section::Functions),
+        4 => tables(alloc, reader).map(Section::Tables),
+        5 => list(alloc, reader).map(Section::Memories),
+        6 => list_to(alloc, reader, ITEMS).map(Section::Globals),
+        7 => list_to(alloc, reader, ITEMS).map(Section::Exports),
+        8 => index(reader).map(Section::Start),
+        9 => list_to(alloc, reader, SEGMENTS).map(Section::Elements),
         10 => {
-            let bodies = bodies(
-                alloc,
-                reader,
-                known.types.as_slice(),
-                known.functions.as_slice(),
-            )?;
-            Ok(Section::Bodies(bodies))
+            let types = known.types.as_slice();
+            bodies(alloc, reader, types, known.functions.as_slice()).map(Section::Bodies)
         }
-        _ => {
-            let segments = list_to(alloc, reader, SEGMENTS)?;
-            Ok(Section::Segments(segments))
-        }
+        _ => list_to(alloc, reader, SEGMENTS).map(Section::Segments),
     }
 }
 

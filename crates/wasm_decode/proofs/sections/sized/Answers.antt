@@ -9,15 +9,14 @@ returns-in_err-section c =
     let p = err_from_is_err_and c.from_residual-in_err-section.result c.from_residual-in_err-section.ensures.1 in
     rw (p.1, p.2) (sized_fails false (content c.args.known.now c.args.id) c.args.reader.now c.index.new.reader c.window-inner.result _ c.in_ok-size.ensures c.window-inner.ensures.rest c.window-inner.ensures.at _ c.in_err-section.ensures)
 
-pub returns-in_err-close : goal.returns-in_err-close
-returns-in_err-close c =
-    let p = err_from_is_err_and c.from_residual-in_err-close.result c.from_residual-in_err-close.ensures.1 in
-    rw (p.1, p.2) (sized_short false (content c.args.known.now c.args.id) c.args.reader.now c.index.new.reader c.window-inner.result _ c.in_ok-size.ensures c.window-inner.ensures.rest c.window-inner.ensures.at _ _ _ c.in_ok-section.ensures c.in_err-close.ensures.0 c.in_err-close.ensures.1)
+pub returns-in-Err : goal.returns-in-Err
+returns-in-Err c =
+    sized_short false (content c.args.known.now c.args.id) c.args.reader.now c.index.new.reader c.window-inner.result _ c.in_ok-size.ensures c.window-inner.ensures.rest c.window-inner.ensures.at _ _ _ c.in_ok-section.ensures c.in-Err.ensures.0 c.in-Err.ensures.1
 
 pub close-requires : goal.close-requires
 close-requires c =
     let w = sized_inside false (content c.args.known.now c.args.id) c.args.reader.now c.index.new.reader c.window-inner.result _ c.in_ok-size.ensures c.window-inner.ensures.rest c.window-inner.ensures.at _ _ c.in_ok-section.ensures in
     record { behind = w.0; inside = w.1 }
 
-pub returns : goal.returns
-returns c = sized_reads false (content c.args.known.now c.args.id) c.args.reader.now c.index.new.reader c.window-inner.result _ c.in_ok-size.ensures c.window-inner.ensures.rest c.window-inner.ensures.at _ _ _ c.in_ok-section.ensures c.in_ok-close.ensures.0 c.in_ok-close.ensures.1
+pub returns-in-Ok : goal.returns-in-Ok
+returns-in-Ok c = sized_reads false (content c.args.known.now c.args.id) c.args.reader.now c.index.new.reader c.window-inner.result _ c.in_ok-size.ensures c.window-inner.ensures.rest c.window-inner.ensures.at _ _ _ c.in_ok-section.ensures c.in-Ok.ensures.0 c.in-Ok.ensures.1
