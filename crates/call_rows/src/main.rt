@@ -18,6 +18,7 @@ use answer::Answer;
 use ask::{Ask, read_ask};
 use operation::operate;
 use std::alloc::{AllocError, Global};
+use std::mem::drop;
 use std::{env, fs, io};
 use subject::{Subject, subject_of};
 
@@ -51,7 +52,10 @@ fn play_on(rt: &HostRuntime, bytes: &[u8], part: &str) -> io::Result<()> {
 }
 
 fn tell_of(rt: &HostRuntime, part: &str, mut subject: Subject) -> io::Result<()> {
-    tell(rt, part, &mut subject)
+    let end = tell(rt, part, &mut subject);
+    // One call, where a drop at the end of the scope is proved list by list.
+    drop(subject);
+    end
 }
 
 /// Says what each line behind the first answers.

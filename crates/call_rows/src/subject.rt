@@ -1,8 +1,8 @@
 //! A module that runs, and what its functions answer.
-ghost use Rattle.std.specs.Prelude.{◌≡◌, Some, true, map, slice_get};
+ghost use Rattle.std.specs.Prelude.{◌≡◌, [], IfSome, Some, true, map, slice_get};
 ghost use Rattle.wasm_code.specs.declared.types.FuncType.{FuncType};
 ghost use Rattle.wasm_eval.specs.Values.{HasTypes};
-ghost use Rattle.wasm_validate.specs.Rules.{functions_of, imported_functions, type_of};
+ghost use Rattle.wasm_validate.specs.Rules.{functions_of, imported_functions, imported_globals, imported_tables, type_of};
 ghost use Rattle.call_rows.specs.Desk.{imports_of};
 
 use crate::answer::{Answer, answer_of};
@@ -12,7 +12,8 @@ use crate::imports::{desk_imports, is_plain};
 use crate::signatures::{fits, signatures};
 use sim_base::List;
 use std::alloc::Global;
-use wasm_decode::{FuncType, decode};
+use std::mem::drop;
+use wasm_decode::{FuncType, Module, decode};
 use wasm_exec::Instance;
 use wasm_num::Value;
 use wasm_validate::{Valid, validate};
@@ -32,22 +33,57 @@ pub fn subject_of(alloc: Global, bytes: &[u8]) -> Option<Subject> {
     if bytes.len() > 1_048_576 {
         return None;
     }
-    let module = decode(alloc, bytes).ok()?;
-    made(alloc, validate(alloc, module).ok()?)
+    match decode(alloc, bytes) {
+        Ok(module) => match validate(alloc, module) {
+            Ok(valid) => made(alloc, valid),
+            Err(_) => None,
+        },
+        Err(_) => None,
+    }
 }
 
 fn made(alloc: Global, valid: Valid) -> Option<Subject> {
-    if !is_plain(valid.module().imports.as_slice()) {
+    match surroundings(alloc, valid.module()) {
+        Some((types, desk)) => instantiated(alloc, valid, types, desk),
+        None => {
+            // One call, where a drop at the end of the scope is proved list by list.
+            drop(valid);
+            None
+        }
+    }
+}
+
+/// The types of the functions of a module, and its host, where the rows have one for what it imports.
+fn surroundings(alloc: Global, module: &Module) -> Option<(List<FuncType>, Desk)>
+    ensures tables { IfSome result (λ s. imported_tables module.now.imports ≡ []) }
+    ensures globals { IfSome result (λ s. imported_globals module.now.imports ≡ []) }
+    ensures known { IfSome result (λ s. map (λ t. Some t) s.0 ≡ map (slice_get module.now.types) (functions_of module.now)) }
+    ensures hosted { IfSome result (λ s. map (λ t. Some t) (imports_of s.1.is_imported) ≡ map (slice_get module.now.types) (imported_functions module.now.imports)) }
+{
+    if !is_plain(module.imports.as_slice()) {
         return None;
     }
-    let desk = Desk::new(desk_imports(valid.module())?);
-    let types = signatures(alloc, valid.module()).ok()?;
-    let instance = Instance::new(alloc, valid).ok()?;
-    Some(Subject {
-        instance,
-        types,
-        desk,
-    })
+    let desk = Desk::new(desk_imports(module)?);
+    match signatures(alloc, module) {
+        Ok(types) => Some((types, desk)),
+        Err(_) => None,
+    }
+}
+
+fn instantiated(alloc: Global, valid: Valid, types: List<FuncType>, desk: Desk) -> Option<Subject>
+    requires tables { imported_tables valid.wasm.imports ≡ [] }
+    requires globals { imported_globals valid.wasm.imports ≡ [] }
+    requires known { map (λ t. Some t) types ≡ map (slice_get valid.wasm.types) (functions_of valid.wasm) }
+    requires hosted { map (λ t. Some t) (imports_of desk.is_imported) ≡ map (slice_get valid.wasm.types) (imported_functions valid.wasm.imports) }
+{
+    match Instance::new(alloc, valid) {
+        Ok(instance) => Some(Subject {
+            instance,
+            types,
+            desk,
+        }),
+        Err(_) => None,
+    }
 }
 
 impl Subject {
