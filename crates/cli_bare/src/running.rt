@@ -1,20 +1,44 @@
 //! `bare HEX --us N`: one Uno without wires.
-ghost use Rattle.std.specs.Prelude.{◌≡◌, ◌≤◌, ◌<◌, ◌+◌};
+ghost use Rattle.std.specs.Prelude.{◌≡◌, ◌≤◌, ◌<◌, ◌+◌, [], IfOk, None, false, map};
 ghost use Rattle.outcome_model.specs.Outcome as ends;
 ghost use Rattle.outcome_model.specs.Happens.{Ends, Counts};
 ghost use Rattle.outcome_model.specs.Work.{SaidNothing};
 ghost use Rattle.cli_work.specs.Outcomes.{outcome_of};
+ghost use Rattle.avr_mcu.specs.Mcu.{McuAt};
 ghost use Rattle.board_outputs.specs.Ran.{Ran};
 ghost use Rattle.cli_bare.specs.Answer.{BareAnswer};
-ghost use Rattle.cli_bare.specs.Bare.{bare_run};
+ghost use Rattle.cli_bare.specs.Bare.{uno_wiring, uno_plan, uno_starts, bare_run};
 
 use crate::uno::{make_parts, make_plan};
+use avr_mcu::Mcu;
+use board_build::Plan;
 use board_outputs::{Outputs, open_and_play, wave_head};
 use board_run::Board;
 use cli_work::{HexFile, WorkEnd, read_document};
-use sim_base::{Bench, Flash, MOST_CYCLES, Steps, WriteEnd};
+use sim_base::{Bench, Flash, MOST_CYCLES, OutOfMemory, Steps, WriteEnd};
 use std::alloc::Global;
+use std::mem::drop;
 use std::sync::ledger::Ledger;
+
+/// The board of the plan, whose Uno has this flash.
+fn make_board(alloc: Global, plan: Plan, flash: Flash) -> Result<Board<Mcu>, OutOfMemory>
+    requires { plan ≡ uno_plan }
+    ensures wiring { IfOk result (λ b. b.wiring ≡ uno_wiring) }
+    ensures inputs { IfOk result (λ b. b.inputs ≡ []) }
+    ensures states { IfOk result (λ b. map (λ (p : McuAt). p.mcu) b.parts ≡ uno_starts flash) }
+    ensures cycle { IfOk result (λ b. b.cycle ≡ 0) }
+    ensures alive { IfOk result (λ b. b.given_up ≡ false) }
+    ensures before { IfOk result (λ b. b.before ≡ None) }
+{
+    match make_parts(alloc, flash) {
+        Ok(parts) => Board::new(alloc, parts, plan.wiring, plan.inputs),
+        Err(error) => {
+            // One call, where a drop at the end of the scope is proved list by list.
+            drop(plan);
+            Err(error)
+        }
+    }
+}
 
 /// Takes all memory that the run needs, and runs the board with its wave on standard output.
 fn run_bare<B: Bench, L: Ledger>(
@@ -33,12 +57,11 @@ fn run_bare<B: Bench, L: Ledger>(
         return WorkEnd::OutOfMemory;
     };
     let Ok(mut head) = wave_head(alloc, &plan, &[]) else {
+        drop(plan);
         return WorkEnd::OutOfMemory;
     };
-    let Ok(parts) = make_parts(alloc, flash) else {
-        return WorkEnd::OutOfMemory;
-    };
-    let Ok(mut board) = Board::new(alloc, parts, plan.wiring, plan.inputs) else {
+    let Ok(mut board) = make_board(alloc, plan, flash) else {
+        drop(head);
         return WorkEnd::OutOfMemory;
     };
     let outputs = Outputs {
@@ -46,7 +69,10 @@ fn run_bare<B: Bench, L: Ledger>(
         wave: Some("-"),
         report: None,
     };
-    match open_and_play(&mut board, &mut head, n, outputs, bench, steps) {
+    let end = open_and_play(&mut board, &mut head, n, outputs, bench, steps);
+    drop(board);
+    drop(head);
+    match end {
         WriteEnd::Ok => WorkEnd::Accepted,
         WriteEnd::Failed => WorkEnd::WriteFailed,
     }
