@@ -15,6 +15,7 @@ use cli_work::WorkEnd;
 use document_model::ChipFile;
 use sim_base::{Bench, List};
 use std::alloc::Global;
+use std::mem::drop;
 
 /// The module of a file of a folder.
 fn read_binary<B: Bench>(
@@ -44,8 +45,14 @@ fn read_behind_binary<B: Bench>(
     ensures ports { SamePorts (B.outside bench.old) (B.outside bench.new) }
     ensures few { IfOk result HasFewPins }
 {
-    let pins = read_in::<PinsFile, B>(alloc, folder, path, bench)?;
-    Ok(ChipSource { binary, pins })
+    match read_in::<PinsFile, B>(alloc, folder, path, bench) {
+        Ok(pins) => Ok(ChipSource { binary, pins }),
+        Err(end) => {
+            // One call, where a drop at the end of the scope is proved list by list.
+            drop(binary);
+            Err(end)
+        }
+    }
 }
 
 /// A chip: its module, and then its pins.

@@ -1,5 +1,5 @@
 //! A project, from its folder, with a script and a wave.
-ghost use Rattle.std.specs.Prelude.{◌≡◌, ◌⊎◌, ◌≤◌, IfOk, length};
+ghost use Rattle.std.specs.Prelude.{◌≡◌, ◌⊎◌, ◌≤◌, ℕ, List, IfOk, length};
 ghost use Rattle.std.specs.List.{All};
 ghost use Rattle.std.specs.Option.{option_map};
 ghost use Rattle.sim_base.specs.Outside.{Outside, SamePorts};
@@ -23,6 +23,7 @@ use input_texts::Script;
 use sim_base::refusals::SCRIPT_PART;
 use sim_base::{Bench, Fault, Flash, List, Refusal};
 use std::alloc::Global;
+use std::mem::drop;
 
 /// What the project's file says, the firmware, the bytes of the diagram, the chips in the order of the project, the plan of its
 /// board, and the bytes of a wave.
@@ -117,7 +118,34 @@ fn read_wave_of<B: Bench>(
     }
 }
 
-/// The script, the wave, and then the rules of the board.
+/// The script, the wave, and then the rules of the board: the plan, and the bytes of the wave.
+fn read_plan<B: Bench>(
+    alloc: Global,
+    folder: &str,
+    script: Option<&str>,
+    wave: Option<&str>,
+    project: &Project,
+    diagram: &Diagram,
+    chips: &[ChipSource],
+    bench: &mut B,
+) -> Result<(Plan, Vec<u8>), WorkEnd>
+    requires chips { length project.now.chips ≤ 8 }
+    requires each { length chips.now ≡ length project.now.chips }
+    requires pins { All HasFewPins chips.now }
+    requires parts { length diagram.now.parts ≤ 64 }
+    ensures got { (flash bytes : List ℕ) → Got (λ r. record { project = project.now; flash = flash; diagram = bytes; chips = chips.now; plan = r.0; wave = r.1.items }) outcome_of result (BehindChips folder.now (option_map (λ s. s.now) script.entry) (option_map (λ s. s.now) wave.entry) project.now flash (diagram.now, bytes) chips.now) (B.outside bench.old) (B.outside bench.new) }
+    ensures ports { SamePorts (B.outside bench.old) (B.outside bench.new) }
+    ensures plan { IfOk result (λ r. IsPlan (pins_of chips.now) r.0) }
+    ensures inputs { IfOk result (λ r. AreInputs (length r.0.parts) r.0.inputs) }
+    ensures short { IfOk result (λ r. length r.1.items ≤ 16777216) }
+{
+    let rows = read_script_of(alloc, script, bench)?;
+    let wave = read_wave_of(alloc, wave, bench)?;
+    let plan = plan_board(alloc, folder, script, project, diagram, chips, &rows)?;
+    Ok((plan, wave))
+}
+
+/// What comes behind the chips.
 fn read_behind_chips<B: Bench>(
     alloc: Global,
     folder: &str,
@@ -141,26 +169,34 @@ fn read_behind_chips<B: Bench>(
     ensures short { IfOk result (λ w. length w.wave.items ≤ 16777216) }
     ensures each { IfOk result (λ w. length w.chips ≡ length w.project.chips) }
 {
-    let rows = read_script_of(alloc, script, bench)?;
-    let wave = read_wave_of(alloc, wave, bench)?;
     let (diagram, bytes) = drawn;
-    let plan = plan_board(
+    let read = read_plan(
         alloc,
         folder,
         script,
+        wave,
         &project,
         &diagram,
         chips.as_slice(),
-        &rows,
-    )?;
-    Ok(Work {
-        project,
-        flash,
-        diagram: bytes,
-        chips,
-        plan,
-        wave,
-    })
+        bench,
+    );
+    drop(diagram);
+    match read {
+        Ok((plan, wave)) => Ok(Work {
+            project,
+            flash,
+            diagram: bytes,
+            chips,
+            plan,
+            wave,
+        }),
+        Err(end) => {
+            // One call each, where a drop at the end of the scope is proved list by list.
+            drop(chips);
+            drop(project);
+            Err(end)
+        }
+    }
 }
 
 /// The chips, and what comes behind them.
@@ -184,10 +220,16 @@ fn read_behind_diagram<B: Bench>(
     ensures short { IfOk result (λ w. length w.wave.items ≤ 16777216) }
     ensures each { IfOk result (λ w. length w.chips ≡ length w.project.chips) }
 {
-    let chips = read_chips(alloc, folder, project.chips.as_slice(), bench)?;
-    read_behind_chips(
-        alloc, folder, script, wave, project, flash, drawn, chips, bench,
-    )
+    match read_chips(alloc, folder, project.chips.as_slice(), bench) {
+        Ok(chips) => read_behind_chips(
+            alloc, folder, script, wave, project, flash, drawn, chips, bench,
+        ),
+        Err(end) => {
+            drop(drawn);
+            drop(project);
+            Err(end)
+        }
+    }
 }
 
 /// The diagram, and what comes behind it.
@@ -209,8 +251,13 @@ fn read_behind_firmware<B: Bench>(
     ensures short { IfOk result (λ w. length w.wave.items ≤ 16777216) }
     ensures each { IfOk result (λ w. length w.chips ≡ length w.project.chips) }
 {
-    let drawn = read_in::<DiagramFile, B>(alloc, folder, "diagram.json", bench)?;
-    read_behind_diagram(alloc, folder, script, wave, project, flash, drawn, bench)
+    match read_in::<DiagramFile, B>(alloc, folder, "diagram.json", bench) {
+        Ok(drawn) => read_behind_diagram(alloc, folder, script, wave, project, flash, drawn, bench),
+        Err(end) => {
+            drop(project);
+            Err(end)
+        }
+    }
 }
 
 /// The firmware, and what comes behind it.
@@ -231,8 +278,13 @@ fn read_behind_project<B: Bench>(
     ensures short { IfOk result (λ w. length w.wave.items ≤ 16777216) }
     ensures each { IfOk result (λ w. length w.chips ≡ length w.project.chips) }
 {
-    let flash = read_in::<HexFile, B>(alloc, folder, project.firmware.as_str(), bench)?;
-    read_behind_firmware(alloc, folder, script, wave, project, flash, bench)
+    match read_in::<HexFile, B>(alloc, folder, project.firmware.as_str(), bench) {
+        Ok(flash) => read_behind_firmware(alloc, folder, script, wave, project, flash, bench),
+        Err(end) => {
+            drop(project);
+            Err(end)
+        }
+    }
 }
 
 /// The work that a folder, a script and a wave hold: the project file, the firmware, the diagram, of each chip

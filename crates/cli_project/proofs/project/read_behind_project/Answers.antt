@@ -1,6 +1,5 @@
 use Rattle.std.proofs.Common.{ℕ, List, Option, Bor}
 use Rattle.std.specs.Option.{option_map}
-use Rattle.std.proofs.lemmas.Result.{err_from_is_err_and}
 use Rattle.sim_base.specs.Outside.{Outside}
 use Rattle.text_model.specs.Hex.{hex_image}
 use Rattle.project_model.specs.Work.{in_folder, BehindFirmware}
@@ -10,23 +9,21 @@ use Rattle.cli_work.specs.Outcomes.{outcome_of}
 use Rattle.cli_project.specs.Works.{work_of}
 use Rattle.cli_project.proofs.project.read_behind_project.Goals as goal
 
-pub returns-in_err-flash-clause-got : goal.returns-in_err-flash-clause-got
-returns-in_err-flash-clause-got g c =
+pub returns-in-Err-clause-got : goal.returns-in-Err-clause-got
+returns-in-Err-clause-got g c =
     let a : Outside = g.B.Bench.outside c.args.bench.now in
     let b : Outside = g.B.Bench.outside c.read_in.new.bench in
     let folder : List ℕ = c.args.folder.now in
     let script : Option (List ℕ) = option_map (λ (s : Bor (List ℕ)). s.now) c.args.script in
     let wave : Option (List ℕ) = option_map (λ (s : Bor (List ℕ)). s.now) c.args.wave in
-    let q = err_from_is_err_and c.from_residual.result c.from_residual.ensures.1 in
-    let e = c.in_err-flash.field-0.0 in
-    rw (q.1, q.2) (first_stops (IsFile (in_folder folder c.args.project.firmware) hex_image) (BehindFirmware folder script wave c.args.project) (outcome_of e) a b (rw c.as_str.ensures at c.in_err-flash.ensures.got))
+    first_stops (IsFile (in_folder folder c.args.project.firmware) hex_image) (BehindFirmware folder script wave c.args.project) (outcome_of c.in-Err.end) a b (rw c.as_str.ensures at c.in-Err.ensures.got)
 
-pub returns-clause-got : goal.returns-clause-got
-returns-clause-got g c =
+pub returns-in-Ok-clause-got : goal.returns-in-Ok-clause-got
+returns-in-Ok-clause-got g c =
     let a : Outside = g.B.Bench.outside c.args.bench.now in
     let b : Outside = g.B.Bench.outside c.read_in.new.bench in
     let d : Outside = g.B.Bench.outside c.read_behind_firmware.new.bench in
     let folder : List ℕ = c.args.folder.now in
     let script : Option (List ℕ) = option_map (λ (s : Bor (List ℕ)). s.now) c.args.script in
     let wave : Option (List ℕ) = option_map (λ (s : Bor (List ℕ)). s.now) c.args.wave in
-    got_both (IsFile (in_folder folder c.args.project.firmware) hex_image) (BehindFirmware folder script wave c.args.project) (steady_file (in_folder folder c.args.project.firmware) hex_image) c.in_ok-flash.flash work_of outcome_of c.read_behind_firmware.result a b d c.in_ok-flash.ensures.ports (rw c.as_str.ensures at c.in_ok-flash.ensures.got) c.read_behind_firmware.ensures.got
+    got_both (IsFile (in_folder folder c.args.project.firmware) hex_image) (BehindFirmware folder script wave c.args.project) (steady_file (in_folder folder c.args.project.firmware) hex_image) c.in-Ok.flash work_of outcome_of c.read_behind_firmware.result a b d c.in-Ok.ensures.ports (rw c.as_str.ensures at c.in-Ok.ensures.got) c.read_behind_firmware.ensures.got
