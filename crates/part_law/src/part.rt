@@ -1,6 +1,6 @@
 //! What a part is to an engine.
-ghost use Rattle.std.specs.Prelude.{◌≡◌, ℕ, ◌+◌, ◌-◌, ◌<◌, ◌≤◌, Bool, true, false, List, length, slice_get, Some};
-ghost use Rattle.part_law.specs.Machine.{Machine, Laws, glide, dues, sent, IsQuiet, IsFirstDue, IsSame, MayWake};
+ghost use Rattle.std.specs.Prelude.{◌≡◌, ℕ, ◌+◌, ◌-◌, ◌<◌, ◌≤◌, Bool, true, false, List, length, take, slice_get, Option, None, Some};
+ghost use Rattle.part_law.specs.Machine.{Machine, Laws, glide, dues, sent, IsQuiet, IsFirstDue, IsSame, MayWake, Hears};
 ghost use Rattle.part_law.specs.Spans.{IsIn};
 ghost use Rattle.std.specs.Option.{option_to_list};
 
@@ -115,6 +115,27 @@ pub trait Part {
         ensures drives { changes self.new ≡ false → machine.drives (state self.new) ≡ machine.drives (state self.old) }
         ensures others { (pin : ℕ) → moves self.new pin ≡ false → slice_get (machine.drives (state self.new)) pin ≡ slice_get (machine.drives (state self.old)) pin }
         ensures contacts { changes self.new ≡ false → machine.contacts (state self.new) ≡ machine.contacts (state self.old) };
+
+    /// Goes on to cycle `t`, before which nothing is due, and does one step on the levels of its pins, behind which others may
+    /// stand: `settle`, `wake` and `due` in one call, of a part that sends no byte then and is due in no cycle behind it. It
+    /// answers whether a drive or a contact may have changed. A part may always answer None, and then stays as it is.
+    fn hear(&mut self, levels: &[Level], t: u32) -> Option<bool>
+        requires later { now self.old ≤ t }
+        requires end { t < MOST_CYCLES }
+        requires quiet { IsQuiet machine (state self.old) (now self.old) (t - now self.old) }
+        requires pins { length (machine.drives (state self.old)) ≤ length levels.now }
+        requires count { wake_count self.old ≤ now self.old }
+        requires may { MayWake machine (glide machine (state self.old) (now self.old) (t - now self.old)) t (take (length (machine.drives (state self.old))) levels.now) None }
+        ensures stays { result ≡ None → self.new ≡ self.old }
+        ensures hears { (changed : Bool) → result ≡ Some changed
+            → Hears machine (state self.old) (now self.old) t (take (length (machine.drives (state self.old))) levels.now) (state self.new) changed }
+        ensures now { (changed : Bool) → result ≡ Some changed → now self.new ≡ t + 1 }
+        ensures wake_count { (changed : Bool) → result ≡ Some changed → wake_count self.new ≡ wake_count self.old + 1 }
+        ensures others { (changed : Bool) → result ≡ Some changed → (pin : ℕ) → moves self.new pin ≡ false
+            → slice_get (machine.drives (state self.new)) pin ≡ slice_get (machine.drives (glide machine (state self.old) (now self.old) (t - now self.old))) pin }
+    {
+        None
+    }
 
     /// Goes on by itself on the levels that it holds, where no script value comes before cycle `limit`:
     /// it is woken in each cycle in which it is due, up to the first wake that may have changed a drive
