@@ -33,6 +33,7 @@ impl Model for Marks {
 }
 
 /// Writes a number behind others, for which there is room.
+#[inline(always)]
 fn put_last(list: &mut Vec<u16>, n: u16)
     requires { vec_len list.old < vec_capacity list.old }
     ensures items { list.new.items ≡ list.old.items ++ n ∷ [] }
@@ -45,6 +46,7 @@ fn put_last(list: &mut Vec<u16>, n: u16)
 }
 
 /// Takes the marks off the numbers of a list.
+#[inline(always)]
 fn clear_flags(list: &[u16], flags: &mut [bool])
     requires low { (n : ℕ) → has list.now n ≡ true → n < length flags.old }
     requires flagged { (n : ℕ) → n < length flags.old → slice_get flags.old n ≡ Some (has list.now n) }
@@ -79,6 +81,7 @@ impl Marks {
         Ok(marks)
     }
 
+    #[inline(always)]
     pub(crate) fn mark(&mut self, n: u16)
         requires { n < self.old.room }
         ensures { self.new ≡ record self.old { marked = with_mark n self.old.marked } }
@@ -89,6 +92,7 @@ impl Marks {
         }
     }
 
+    #[inline(always)]
     pub(crate) fn clear(&mut self)
         ensures { self.new ≡ record self.old { marked = [] } }
     {
@@ -97,6 +101,7 @@ impl Marks {
     }
 
     /// The numbers that are marked, in the order in which they were.
+    #[inline(always)]
     pub(crate) fn marked(&self) -> &[u16]
         ensures marked { result.now ≡ self.now.marked }
         ensures once { IsDistinct eqb result.now }

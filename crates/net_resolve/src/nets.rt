@@ -76,6 +76,7 @@ impl Model for Nets {
 }
 
 /// Keeps what a pin drives, and marks its subcircuit where it drove something else.
+#[inline]
 fn keep_drive(
     pin: usize,
     drive: Drive,
@@ -123,6 +124,7 @@ fn keep_closed(
 }
 
 /// Resolves the subcircuits that are marked, and keeps the levels of the pins.
+#[inline(always)]
 fn resolve_subcircuits(
     drives: &[Drive],
     closed: &[bool],

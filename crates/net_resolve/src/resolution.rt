@@ -1,5 +1,6 @@
 //! Resolutions that are kept: levels, with what was driven and closed when they were found.
 ghost use Rattle.std.specs.Prelude.{◌≡◌, ℕ, ◌<◌, length, map, Some, slice_get, vec_len, true};
+ghost use Rattle.net_resolve.specs.Resolutions.{last_of};
 
 use sim_base::{Drive, Level};
 
@@ -11,12 +12,22 @@ pub(crate) struct Resolution {
     pub(crate) levels: Vec<Level>,
 }
 
+/// Two resolutions, and which of them was asked for last.
+#[derive(Drop)]
+pub(crate) struct Kept {
+    pub(crate) first: Resolution,
+    pub(crate) second: Resolution,
+    pub(crate) flipped: bool,
+}
+
+#[inline(always)]
 pub(crate) fn is_same_drive(a: Drive, b: Drive) -> bool
     ensures { result ≡ true → a ≡ b }
 {
     a == b
 }
 
+#[inline(always)]
 pub(crate) fn is_same_flag(a: bool, b: bool) -> bool
     ensures { result ≡ true → a ≡ b }
 {
@@ -24,6 +35,7 @@ pub(crate) fn is_same_flag(a: bool, b: bool) -> bool
 }
 
 /// Whether the pins at these places drive what was kept.
+#[inline(always)]
 fn drive_as_kept(drives: &[Drive], pins: &[usize], kept: &[Drive]) -> bool
     requires pins { (j k : ℕ) → slice_get pins.now j ≡ Some k → k < length drives.now }
     requires each { length kept.now ≡ length pins.now }
@@ -38,6 +50,7 @@ fn drive_as_kept(drives: &[Drive], pins: &[usize], kept: &[Drive]) -> bool
 }
 
 /// Whether of the contacts at these places those are closed that were kept as closed.
+#[inline(always)]
 fn are_closed_as_kept(closed: &[bool], contacts: &[usize], kept: &[bool]) -> bool
     requires contacts { (j k : ℕ) → slice_get contacts.now j ≡ Some k → k < length closed.now }
     requires each { length kept.now ≡ length contacts.now }
@@ -53,6 +66,7 @@ fn are_closed_as_kept(closed: &[bool], contacts: &[usize], kept: &[bool]) -> boo
 
 impl Resolution {
     /// Whether it holds for what the pins at some places drive and the contacts at some places that are closed.
+    #[inline(always)]
     pub(crate) fn holds(
         &self,
         drives: &[Drive],
@@ -69,5 +83,19 @@ impl Resolution {
     {
         drive_as_kept(drives, pins, &self.drives)
             && are_closed_as_kept(closed, contacts, &self.closed)
+    }
+}
+
+impl Kept {
+    /// The resolution that was asked for last.
+    #[inline(always)]
+    pub(crate) fn last(&self) -> &Resolution
+        ensures { result.now ≡ last_of self.now }
+    {
+        if self.flipped {
+            &self.second
+        } else {
+            &self.first
+        }
     }
 }

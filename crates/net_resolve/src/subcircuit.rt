@@ -5,16 +5,15 @@ ghost use Rattle.board_model.specs.Resolve.{resolve};
 ghost use Rattle.net_resolve.specs.Marked.{Moves};
 ghost use Rattle.board_model.specs.Board.{level_at};
 ghost use Rattle.net_resolve.specs.Subcircuits.{SubcircuitView, Lacks, AreOnce, HasAllPins};
-ghost use Rattle.net_resolve.specs.Resolutions.{IsResolution};
+ghost use Rattle.net_resolve.specs.Resolutions.{IsResolution, AreResolutions, last_of};
 
 use crate::marks::Marks;
-use crate::resolution::Resolution;
+use crate::resolution::{Kept, Resolution};
 use crate::room::{no_drives, no_flags};
 use crate::whole::Whole;
 use sim_base::{Drive, Level, OutOfMemory};
 use std::alloc::{AllocError, Global};
 use std::marker::Model;
-use std::mem;
 
 /// Some nets of a board, which are numbered anew from 0, with the pins, contacts and resistors on them.
 #[derive(Drop)]
@@ -24,15 +23,13 @@ pub(crate) struct Subcircuit {
     pins: Vec<usize>,
     contacts: Vec<usize>,
     whole: Whole,
-    /// The resolution that was asked for last, and the other one that is kept.
-    last: Resolution,
-    before: Resolution,
+    kept: Kept,
 }
 
 impl Model for Subcircuit {
     ghost use Rattle.std.specs.Prelude.{◌≡◌, length, vec_len};
     ghost use Rattle.net_resolve.specs.Subcircuits.{SubcircuitView};
-    ghost use Rattle.net_resolve.specs.Resolutions.{IsResolution};
+    ghost use Rattle.net_resolve.specs.Resolutions.{AreResolutions};
 
     ghost Value = { SubcircuitView };
 
@@ -42,8 +39,7 @@ impl Model for Subcircuit {
       nets_long : vec_len a.nets ≡ a.whole.nets;
       pins_long : vec_len a.pins ≡ length a.whole.net_of;
       contacts_long : vec_len a.contacts ≡ length a.whole.contacts;
-      last : IsResolution a.whole a.last;
-      before : IsResolution a.whole a.before;
+      kept : AreResolutions a.whole a.kept;
     } };
 }
 
@@ -58,6 +54,7 @@ fn gather<T: Copy>(from: &[T], places: &[usize], into: &mut [T])
     }
 }
 
+#[inline(always)]
 fn is_same_level(a: Level, b: Level) -> bool
     ensures same { result ≡ true → a ≡ b }
     ensures differs { result ≡ false → a ≢ b }
@@ -66,6 +63,7 @@ fn is_same_level(a: Level, b: Level) -> bool
 }
 
 /// Puts a level in its place, and marks the place where that had another.
+#[inline(always)]
 fn put_level(level: Level, place: usize, into: &mut [Level], changed: &mut Marks)
     requires place { place < length into.old }
     requires few { length into.old ≤ 65536 }
@@ -81,6 +79,7 @@ fn put_level(level: Level, place: usize, into: &mut [Level], changed: &mut Marks
 }
 
 /// Puts each level in its place, and marks the places that had others.
+#[inline(always)]
 fn scatter(levels: &[Level], places: &[usize], into: &mut [Level], changed: &mut Marks)
     requires places { (j k : ℕ) → slice_get places.now j ≡ Some k → k < length into.old }
     requires each { length levels.now ≡ length places.now }
@@ -109,6 +108,7 @@ fn put_pin(pin: usize, net_of: &[u16], levels: &[Level], into: &mut [Level])
 }
 
 /// Puts the level of its net in the place of each of these pins.
+#[inline(always)]
 fn put_pins(pins: &[usize], net_of: &[u16], levels: &[Level], into: &mut [Level])
     requires pins { (j k : ℕ) → slice_get pins.now j ≡ Some k → k < length net_of.now }
     requires nets { (k n : ℕ) → slice_get net_of.now k ≡ Some n → n < length levels.now }
@@ -150,16 +150,19 @@ fn first_resolutions(
     pins: usize,
     contacts: usize,
     whole: &mut Whole,
-) -> Result<(Resolution, Resolution), OutOfMemory>
+) -> Result<Kept, OutOfMemory>
     requires pins { pins ≡ length whole.old.net_of }
     requires contacts { contacts ≡ length whole.old.contacts }
     ensures same { whole.new ≡ record whole.old { levels = whole.new.levels } }
-    ensures last { IfOk result (λ r. IsResolution whole.old r.0) }
-    ensures before { IfOk result (λ r. IsResolution whole.old r.1) }
+    ensures kept { IfOk result (λ k. AreResolutions whole.old k) }
 {
-    let last = first_resolution(alloc, pins, contacts, whole)?;
-    let before = first_resolution(alloc, pins, contacts, whole)?;
-    Ok((last, before))
+    let first = first_resolution(alloc, pins, contacts, whole)?;
+    let second = first_resolution(alloc, pins, contacts, whole)?;
+    Ok(Kept {
+        first,
+        second,
+        flipped: false,
+    })
 }
 
 /// The numbers of a subcircuit's nets, pins and contacts.
@@ -180,6 +183,7 @@ fn copied(
 }
 
 /// Resolves some nets of a board by the drives and contacts at some places.
+#[inline(never)]
 fn resolve_at(
     drives: &[Drive],
     closed: &[bool],
@@ -205,6 +209,7 @@ fn resolve_at(
 }
 
 /// Resolves some nets of a board by the drives and contacts at some places, where the resolution is one by others.
+#[inline(always)]
 fn resolve_unless_known(
     drives: &[Drive],
     closed: &[bool],
@@ -228,6 +233,34 @@ fn resolve_unless_known(
     }
 }
 
+/// Turns to the other one of two resolutions, which is found anew where it is one by other drives and contacts.
+#[inline(always)]
+fn resolve_other(
+    drives: &[Drive],
+    closed: &[bool],
+    pins: &[usize],
+    contacts: &[usize],
+    kept: &mut Kept,
+    whole: &mut Whole,
+)
+    requires pins { (j k : ℕ) → slice_get pins.now j ≡ Some k → k < length drives.now }
+    requires contacts { (j k : ℕ) → slice_get contacts.now j ≡ Some k → k < length closed.now }
+    requires pins_long { length pins.now ≡ length whole.old.net_of }
+    requires contacts_long { length contacts.now ≡ length whole.old.contacts }
+    requires kept { AreResolutions whole.old kept.old }
+    ensures same { whole.new ≡ record whole.old { levels = whole.new.levels } }
+    ensures kept { AreResolutions whole.old kept.new }
+    ensures drives { map Some (last_of kept.new).drives.items ≡ map (slice_get drives.now) pins.now }
+    ensures closed { map Some (last_of kept.new).closed.items ≡ map (slice_get closed.now) contacts.now }
+{
+    kept.flipped = !kept.flipped;
+    if kept.flipped {
+        resolve_unless_known(drives, closed, pins, contacts, &mut kept.second, whole);
+    } else {
+        resolve_unless_known(drives, closed, pins, contacts, &mut kept.first, whole);
+    }
+}
+
 impl Subcircuit {
     pub(crate) fn new(
         alloc: Global,
@@ -242,20 +275,20 @@ impl Subcircuit {
         ensures { IfOk result (λ s. s ≡ record { nets = nets.now; pins = pins.now; contacts = contacts.now; own_nets = whole.net_of; own_contacts = whole.contacts; own_resistors = whole.resistors }) }
     {
         let mut whole = whole;
-        let (last, before) = first_resolutions(alloc, pins.len(), contacts.len(), &mut whole)?;
+        let kept = first_resolutions(alloc, pins.len(), contacts.len(), &mut whole)?;
         let (nets, pins, contacts) = copied(alloc, nets, pins, contacts)?;
         Ok(Subcircuit {
             nets,
             pins,
             contacts,
             whole,
-            last,
-            before,
+            kept,
         })
     }
 
     /// Finds the levels of its nets, by what the pins of the board drive and which contacts are closed,
     /// marks the nets whose levels change, and keeps the levels of the pins, which are those of their nets.
+    #[inline(always)]
     pub(crate) fn resolve(
         &mut self,
         drives: &[Drive],
@@ -283,16 +316,15 @@ impl Subcircuit {
         ensures moves { Moves levels.old levels.new changed.old.marked changed.new.marked }
         ensures pin_levels { pin_levels.new ≡ map (level_at levels.new) net_of.now }
     {
-        mem::swap(&mut self.last, &mut self.before);
-        resolve_unless_known(
+        resolve_other(
             drives,
             closed,
             &self.pins,
             &self.contacts,
-            &mut self.last,
+            &mut self.kept,
             &mut self.whole,
         );
-        scatter(&self.last.levels, &self.nets, levels, changed);
+        scatter(&self.kept.last().levels, &self.nets, levels, changed);
         put_pins(&self.pins, net_of, levels, pin_levels);
     }
 }

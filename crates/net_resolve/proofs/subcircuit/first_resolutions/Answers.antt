@@ -8,7 +8,7 @@ returns-clause-same c =
     let second = c.first_resolution-2 in
     second.ensures.same ∙ ap (λ (x : Wired). record x { levels = second.new.whole.levels }) c.first_resolution.ensures.same
 
-pub returns-clause-before : goal.returns-clause-before
-returns-clause-before c =
+pub returns-clause-kept : goal.returns-clause-kept
+returns-clause-kept c =
     let first = c.first_resolution in
-    resolution_back c.args.whole.now first.new.whole c.in_ok-before.before first.ensures.same c.in_ok-before.ensures.found
+    record { first = c.in_ok-first.ensures.found; second = resolution_back c.args.whole.now first.new.whole c.in_ok-second.second first.ensures.same c.in_ok-second.ensures.found }

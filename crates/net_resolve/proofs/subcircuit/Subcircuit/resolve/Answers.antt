@@ -3,29 +3,26 @@ use Rattle.std.specs.Prelude.{slice_get}
 use Rattle.sim_base.specs.declared.signal.Level.{Level}
 use Rattle.board_model.specs.Resolve.{resolve}
 use Rattle.net_resolve.specs.Wired.{Wired}
-use Rattle.net_resolve.specs.Resolutions.{IsResolution}
+use Rattle.net_resolve.specs.Resolutions.{last_of}
 use Rattle.net_resolve.specs.declared.resolution.Resolution.{Resolution}
 use Rattle.std.proofs.lemmas.List.{length-map}
 use Rattle.net_resolve.specs.Subcircuits.{Lacks, SubcircuitView}
-use Rattle.net_resolve.proofs.ResolutionLemmas.{resolution_moved, resolve_same}
+use Rattle.net_resolve.proofs.ResolutionLemmas.{resolutions_moved, last_is, resolve_same}
 use Rattle.net_resolve.proofs.PlaceLemmas.{same_somes}
 use Rattle.net_resolve.proofs.PinLemmas.{pins_follow}
 use Rattle.net_resolve.proofs.subcircuit.Subcircuit.resolve.Goals as goal
 
-pub resolve_unless_known-requires-clause-pins : goal.resolve_unless_known-requires-clause-pins
-resolve_unless_known-requires-clause-pins c = λ j k e. c.requires.pins j k (subst (λ (l : List ℕ). slice_get l j ≡ Some k) (c.deref.ensures.value ∙ ap (λ (v : SubcircuitView). v.pins) c.self.view_is) e)
+pub resolve_other-requires-clause-pins : goal.resolve_other-requires-clause-pins
+resolve_other-requires-clause-pins c = λ j k e. c.requires.pins j k (subst (λ (l : List ℕ). slice_get l j ≡ Some k) (c.deref.ensures.value ∙ ap (λ (v : SubcircuitView). v.pins) c.self.view_is) e)
 
-pub resolve_unless_known-requires-clause-contacts : goal.resolve_unless_known-requires-clause-contacts
-resolve_unless_known-requires-clause-contacts c = λ j k e. c.requires.contacts j k (subst (λ (l : List ℕ). slice_get l j ≡ Some k) (c.deref-2.ensures.value ∙ ap (λ (v : SubcircuitView). v.contacts) c.self.view_is) e)
-
-pub resolve_unless_known-requires-clause-found : goal.resolve_unless_known-requires-clause-found
-resolve_unless_known-requires-clause-found c = subst (λ (a : Resolution). IsResolution c.self.inside.whole a) (sym c.swap.ensures.x_after) c.self.invariant.before
+pub resolve_other-requires-clause-contacts : goal.resolve_other-requires-clause-contacts
+resolve_other-requires-clause-contacts c = λ j k e. c.requires.contacts j k (subst (λ (l : List ℕ). slice_get l j ≡ Some k) (c.deref-2.ensures.value ∙ ap (λ (v : SubcircuitView). v.contacts) c.self.view_is) e)
 
 pub scatter-requires-clause-places : goal.scatter-requires-clause-places
 scatter-requires-clause-places c = λ j k e. c.requires.nets j k (subst (λ (l : List ℕ). slice_get l j ≡ Some k) (c.deref-4.ensures.value ∙ ap (λ (v : SubcircuitView). v.nets) c.self.view_is) e)
 
 pub scatter-requires-clause-each : goal.scatter-requires-clause-each
-scatter-requires-clause-each c = omega (arith, c.deref-3.ensures.len, c.resolve_unless_known.ensures.found.levels_long, c.self.invariant.nets_long, c.deref-4.ensures.len)
+scatter-requires-clause-each c = omega (arith, c.deref-3.ensures.len, ap (λ (a : Resolution). a.levels.len) c.last.ensures, (last_is c.self.inside.whole c.resolve_other.new.kept c.resolve_other.ensures.kept).levels_long, c.self.invariant.nets_long, c.deref-4.ensures.len)
 
 pub scatter-requires-clause-once : goal.scatter-requires-clause-once
 scatter-requires-clause-once c = λ i j n a b.
@@ -36,13 +33,12 @@ pub invariant_of-self : goal.invariant_of-self
 invariant_of-self c =
     let v = c.self.invariant in
     let w = c.self.inside.whole in
-    let same = c.resolve_unless_known.ensures.same in
+    let same = c.resolve_other.ensures.same in
     record {
       nets_long = v.nets_long ∙ sym (ap (λ (x : Wired). x.nets) same);
       pins_long = v.pins_long ∙ sym (ap (λ (x : Wired). length x.net_of) same);
       contacts_long = v.contacts_long ∙ sym (ap (λ (x : Wired). length x.contacts) same);
-      last = resolution_moved w c.resolve_unless_known.new.whole c.resolve_unless_known.new.found same c.resolve_unless_known.ensures.found;
-      before = resolution_moved w c.resolve_unless_known.new.whole c.swap.new.y same (subst (λ (a : Resolution). IsResolution w a) (sym c.swap.ensures.y_after) v.last);
+      kept = resolutions_moved w c.resolve_other.new.whole c.resolve_other.new.kept same c.resolve_other.ensures.kept;
     }
 
 pub returns-clause-others : goal.returns-clause-others
@@ -53,16 +49,16 @@ pub returns-clause-put : goal.returns-clause-put
 returns-clause-put c = λ cs ds ec ed j n e.
     let v = c.self.view_is in
     let w = c.self.inside.whole in
-    let found = c.resolve_unless_known.new.found in
+    let found = last_of c.resolve_other.new.kept in
     let nets = c.deref-4.ensures.value ∙ ap (λ (v : SubcircuitView). v.nets) v in
     let pins = c.deref.ensures.value ∙ ap (λ (v : SubcircuitView). v.pins) v in
     let contacts = c.deref-2.ensures.value ∙ ap (λ (v : SubcircuitView). v.contacts) v in
     let put = c.scatter.ensures.put j n (subst (λ (l : List ℕ). slice_get l j ≡ Some n) (sym nets) e) in
     let at_pins = ed ∙ ap (λ (l : List ℕ). map (slice_get c.args.drives.now) l) (sym pins) in
     let at_contacts = ec ∙ ap (λ (l : List ℕ). map (slice_get c.args.closed.now) l) (sym contacts) in
-    let same_cs : found.closed.items ≡ cs = same_somes found.closed.items cs (c.resolve_unless_known.ensures.closed ∙ sym at_contacts) in
-    let same_ds : found.drives.items ≡ ds = same_somes found.drives.items ds (c.resolve_unless_known.ensures.drives ∙ sym at_pins) in
-    let levels = c.deref-3.ensures.value ∙ c.resolve_unless_known.ensures.found.levels_are ∙ resolve_same w same_cs same_ds in
+    let same_cs : found.closed.items ≡ cs = same_somes found.closed.items cs (c.resolve_other.ensures.closed ∙ sym at_contacts) in
+    let same_ds : found.drives.items ≡ ds = same_somes found.drives.items ds (c.resolve_other.ensures.drives ∙ sym at_pins) in
+    let levels = c.deref-3.ensures.value ∙ ap (λ (a : Resolution). a.levels.items) c.last.ensures ∙ (last_is w c.resolve_other.new.kept c.resolve_other.ensures.kept).levels_are ∙ resolve_same w same_cs same_ds in
     let count : w.nets ≡ length c.args.self.now.nets = omega (arith, c.self.invariant.nets_long, c.deref-4.ensures.len, ap length nets) in
     put ∙ ap (λ (l : List Level). slice_get l j) levels
     ∙ ap (λ (x : ℕ). slice_get (resolve x w.net_of w.contacts w.resistors cs ds) j) count
