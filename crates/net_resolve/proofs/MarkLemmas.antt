@@ -133,6 +133,19 @@ moves_then a b c before between after n first same second only = record {
       (early.0, late.1 ∙ early.1);
 }
 
+-- a number that was not marked, and whose level stands, is not marked
+pub still_fresh : (old new : List Level) (before after : List ℕ) (n : ℕ) → Moves old new before after → has before n ≡ false → slice_get new n ≡ slice_get old n → has after n ≡ false
+still_fresh old new before after n moves off same = elim (cases_Bool (has after n)) [
+  | inl on ↦ elim (moves.differ n on) [
+    | inl earlier ↦ absurd cc
+    | inr moved ↦ absurd (moved same)
+  ]
+  | inr none ↦ none
+]
+
+pub has_rest : (ns : List ℕ) (n m : ℕ) → has ns m ≡ true → has (n ∷ ns) m ≡ true
+has_rest ns n m h = elim (cases_Bool (eqb m n)) [ inl t ↦ rw t refl | inr f ↦ rw (f, h) refl ]
+
 pub noted_none : (Same : Type 0) (q : ℕ) (ns : List ℕ) → Same → Noted Same q ns ns
 noted_none Same q ns same = record { more = λ p h. h; same = λ h. same }
 

@@ -13,9 +13,9 @@ use Rattle.board_model.proofs.Lists.{some_same, some_map, get_map_some, get_with
 use Rattle.net_resolve.specs.Wired.{Wired}
 use Rattle.net_resolve.specs.Circuit.{AreChanged}
 use Rattle.net_resolve.specs.Marked.{has, Moves, Noted}
-use Rattle.net_resolve.specs.Subcircuits.{Lacks, SubcircuitView, IsCut, IsSubcircuit, AreSubcircuits, AreRight, FitsIn, unresolved, labels_of, level_now}
-use Rattle.net_resolve.proofs.SubcircuitLemmas.{nets_once, net_labelled, net_there, others_lack, own_level}
-use Rattle.net_resolve.proofs.MarkLemmas.{has_first}
+use Rattle.net_resolve.specs.Subcircuits.{Lacks, SubcircuitView, IsCut, IsSubcircuit, AreSubcircuits, AreRight, FitsIn, AreApart, unresolved, labels_of, level_now}
+use Rattle.net_resolve.proofs.SubcircuitLemmas.{nets_once, net_label, net_labelled, net_there, others_lack, own_level}
+use Rattle.net_resolve.proofs.MarkLemmas.{has_first, has_rest, still_fresh}
 use Rattle.net_resolve.proofs.CutLemmas.{map_here, map-map, picked_within, pin_places, pair_places}
 
 -- a list with an item put where it stands
@@ -28,6 +28,22 @@ set_same {A = A} (y ∷ xs) (suc i) x e = ap (λ (l : List A). y ∷ l) (set_sam
 pub record Begun (labels rest : List ℕ) (first now : List Level) (moved : List ℕ) : Type 0 where
   pub changed : AreChanged first now moved
   pub waits : (n : ℕ) → has rest (slice_index labels n) ≡ true → slice_get now n ≡ slice_get first n
+
+-- of the subcircuits that are left no net is listed
+abbrev pub AreFresh : List SubcircuitView → List ℕ → List ℕ → Type 0
+AreFresh subs rest moved = (q j n : ℕ) (s : SubcircuitView) → has rest q ≡ true → slice_get subs q ≡ Some s → slice_get s.nets j ≡ Some n → has moved n ≡ false
+
+pub fresh_step : (subs : List SubcircuitView) (q : ℕ) (s : SubcircuitView) (rest before after : List ℕ) (old new : List Level) → AreApart subs → slice_get subs q ≡ Some s → has rest q ≡ false →
+    ((n : ℕ) → Lacks s.nets n → slice_get new n ≡ slice_get old n) → Moves old new before after → AreFresh subs (q ∷ rest) before → AreFresh subs rest after
+fresh_step subs q s rest before after old new apart at once others moves fresh p j n t left there e =
+    still_fresh old new before after n moves (fresh p j n t (has_rest rest q p left) there e) (others n (λ k f.
+    let same : q ≡ p = apart q p k j n s t at there f e in
+    let on : has rest q ≡ true = ap (has rest) same ∙ left in
+    absurd cc))
+
+pub subs_apart : (w : Wired) (labels : List ℕ) (subs : List SubcircuitView) → AreSubcircuits w labels subs → AreApart subs
+subs_apart w labels subs are p q j k n s t at there e f =
+    sym (net_label labels p s.nets (are p s at).nets_are j n e) ∙ net_label labels q t.nets (are q t there).nets_are k n f
 
 item_there : {A : Type 0} (xs : List A) (i : ℕ) → i < length xs → (x : A) × (slice_get xs i ≡ Some x)
 item_there [] i h = absurd (omega arith)

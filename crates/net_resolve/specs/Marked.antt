@@ -7,7 +7,7 @@ use Rattle.sim_base.specs.declared.signal.Level.{Level}
 abbrev pub has : List ℕ → ℕ → Bool
 has ns n = list_any (eqb n) ns
 
--- marks below `room`
+-- numbers below `room`
 pub record MarksView : Type 0 where
   pub room : ℕ
   pub marked : List ℕ

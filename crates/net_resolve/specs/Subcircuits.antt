@@ -82,6 +82,10 @@ AreRight w labels marked closed ds levels = (n : ℕ) → n < w.nets → has mar
 abbrev pub AreSubcircuits : Wired → List ℕ → List SubcircuitView → Type 0
 AreSubcircuits w labels subs = (q : ℕ) (s : SubcircuitView) → slice_get subs q ≡ Some s → IsSubcircuit w labels q s
 
+-- no net is in two subcircuits
+abbrev pub AreApart : List SubcircuitView → Type 0
+AreApart subs = (p q j k n : ℕ) (s t : SubcircuitView) → slice_get subs p ≡ Some s → slice_get subs q ≡ Some t → slice_get s.nets j ≡ Some n → slice_get t.nets k ≡ Some n → p ≡ q
+
 -- the numbers that a subcircuit has are of a board's pins, contacts and nets
 pub record FitsIn (pins_count contacts_count nets_count : ℕ) (s : SubcircuitView) : Type 0 where
   pub pins : (j k : ℕ) → slice_get s.pins j ≡ Some k → k < pins_count

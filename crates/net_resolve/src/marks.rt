@@ -1,4 +1,4 @@
-//! Numbers that are marked.
+//! Numbers that are listed, and numbers that are marked.
 ghost use Rattle.std.specs.Prelude.{◌≡◌, ℕ, ◌<◌, ◌≤◌, List, [], ◌∷◌, ◌++◌, length, eqb, true, false, Some, slice_get, IfOk, vec_len, vec_capacity};
 ghost use Rattle.std.specs.List.{IsDistinct};
 ghost use Rattle.net_resolve.specs.Marked.{has, with_mark};
@@ -8,27 +8,47 @@ use sim_base::OutOfMemory;
 use std::alloc::Global;
 use std::marker::Model;
 
-/// Numbers below a count that are marked, each once. To mark one takes no memory.
+/// Numbers below a count, each once. To add one takes no memory.
 #[derive(Drop)]
-pub(crate) struct Marks {
-    flags: Vec<bool>,
+pub(crate) struct Numbers {
+    room: u16,
     list: Vec<u16>,
 }
 
-impl Model for Marks {
-    ghost use Rattle.std.specs.Prelude.{◌≡◌, ℕ, ◌<◌, ◌≤◌, eqb, true, Some, slice_get, vec_len, vec_capacity};
+impl Model for Numbers {
+    ghost use Rattle.std.specs.Prelude.{◌≡◌, ℕ, ◌<◌, ◌≤◌, eqb, true, vec_capacity};
     ghost use Rattle.std.specs.List.{IsDistinct};
     ghost use Rattle.net_resolve.specs.Marked.{MarksView, has};
 
     ghost Value = { MarksView };
 
-    ghost view = { λ a. record { room = vec_len a.flags; marked = a.list.items } };
+    ghost view = { λ a. record { room = a.room; marked = a.list.items } };
 
     ghost invariant = { λ a. record {
-      flagged : (n : ℕ) → n < vec_len a.flags → slice_get a.flags.items n ≡ Some (has a.list.items n);
-      low : (n : ℕ) → has a.list.items n ≡ true → n < vec_len a.flags;
+      low : (n : ℕ) → has a.list.items n ≡ true → n < a.room;
       once : IsDistinct eqb a.list.items;
-      room : vec_len a.flags ≤ vec_capacity a.list;
+      capacity : a.room ≤ vec_capacity a.list;
+    } };
+}
+
+/// Numbers below a count that are marked, each once. To mark one takes no memory.
+#[derive(Drop)]
+pub(crate) struct Marks {
+    flags: Vec<bool>,
+    numbers: Numbers,
+}
+
+impl Model for Marks {
+    ghost use Rattle.std.specs.Prelude.{◌≡◌, ℕ, ◌<◌, Some, slice_get, vec_len};
+    ghost use Rattle.net_resolve.specs.Marked.{MarksView, has};
+
+    ghost Value = { MarksView };
+
+    ghost view = { λ a. a.numbers };
+
+    ghost invariant = { λ a. record {
+      room : vec_len a.flags ≡ a.numbers.room;
+      flagged : (n : ℕ) → n < vec_len a.flags → slice_get a.flags.items n ≡ Some (has a.numbers.marked n);
     } };
 }
 
@@ -42,6 +62,46 @@ fn put_last(list: &mut Vec<u16>, n: u16)
     match list.push(n) {
         Ok(()) => {}
         Err(_) => unreachable!(),
+    }
+}
+
+impl Numbers {
+    /// No numbers, with room for so many.
+    pub(crate) fn new(alloc: Global, room: u16) -> Result<Numbers, OutOfMemory>
+        ensures { IfOk result (λ m. m ≡ record { room = room; marked = [] }) }
+    {
+        Ok(Numbers {
+            room,
+            list: Vec::with_capacity(alloc, room as usize)?,
+        })
+    }
+
+    /// Adds a number that is not there.
+    #[inline(always)]
+    pub(crate) fn add(&mut self, n: u16)
+        requires low { n < self.old.room }
+        requires fresh { has self.old.marked n ≡ false }
+        ensures { self.new ≡ record self.old { marked = with_mark n self.old.marked } }
+    {
+        put_last(&mut self.list, n);
+    }
+
+    /// Takes all numbers out.
+    #[inline(always)]
+    pub(crate) fn clear(&mut self)
+        ensures { self.new ≡ record self.old { marked = [] } }
+    {
+        self.list.clear();
+    }
+
+    /// The numbers, in the order in which they were added.
+    #[inline(always)]
+    pub(crate) fn items(&self) -> &[u16]
+        ensures marked { result.now ≡ self.now.marked }
+        ensures once { IsDistinct eqb result.now }
+        ensures low { (n : ℕ) → has result.now n ≡ true → n < self.now.room }
+    {
+        &self.list
     }
 }
 
@@ -64,7 +124,7 @@ impl Marks {
     {
         Ok(Marks {
             flags: no_flags(alloc, room as usize)?,
-            list: Vec::with_capacity(alloc, room as usize)?,
+            numbers: Numbers::new(alloc, room)?,
         })
     }
 
@@ -88,7 +148,7 @@ impl Marks {
     {
         if !self.flags[n as usize] {
             self.flags[n as usize] = true;
-            put_last(&mut self.list, n);
+            self.numbers.add(n);
         }
     }
 
@@ -96,8 +156,8 @@ impl Marks {
     pub(crate) fn clear(&mut self)
         ensures { self.new ≡ record self.old { marked = [] } }
     {
-        clear_flags(&self.list, &mut self.flags);
-        self.list.clear();
+        clear_flags(self.numbers.items(), &mut self.flags);
+        self.numbers.clear();
     }
 
     /// The numbers that are marked, in the order in which they were.
@@ -107,6 +167,6 @@ impl Marks {
         ensures once { IsDistinct eqb result.now }
         ensures low { (n : ℕ) → has result.now n ≡ true → n < self.now.room }
     {
-        &self.list
+        self.numbers.items()
     }
 }

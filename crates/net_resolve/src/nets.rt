@@ -8,10 +8,10 @@ ghost use Rattle.net_resolve.specs.Circuit.{Circuit, AreChanged};
 ghost use Rattle.net_resolve.specs.Marked.{has, Noted};
 ghost use Rattle.net_resolve.specs.Sorted.{IsSorted};
 ghost use Rattle.net_resolve.specs.Wired.{Wired};
-ghost use Rattle.net_resolve.specs.Subcircuits.{SubcircuitView, IsCut, AreSubcircuits, AreRight, FitsIn, HasAllPins, circuit_of};
+ghost use Rattle.net_resolve.specs.Subcircuits.{SubcircuitView, IsCut, AreSubcircuits, AreApart, AreRight, FitsIn, HasAllPins, circuit_of};
 
 use crate::cut::{Sorted, cut_all, sort};
-use crate::marks::Marks;
+use crate::marks::{Marks, Numbers};
 use crate::resolution::{is_same_drive, is_same_flag};
 use crate::room::{all_z, no_drives, no_flags};
 use crate::subcircuit::Subcircuit;
@@ -39,7 +39,7 @@ pub struct Nets {
     /// The level of each pin's net.
     pin_levels: Vec<Level>,
     /// The nets whose levels the last resolution changed.
-    changed: Marks,
+    changed: Numbers,
 }
 
 impl Model for Nets {
@@ -133,12 +133,14 @@ fn resolve_subcircuits(
     subcircuits: &mut [Subcircuit],
     levels: &mut [Level],
     pin_levels: &mut [Level],
-    changed: &mut Marks,
+    changed: &mut Numbers,
 )
     requires marked { (q : ℕ) → has marked.now q ≡ true → q < length subcircuits.old }
     requires once { IsDistinct eqb marked.now }
     requires few { length levels.old ≤ 65536 }
     requires room { changed.old.room ≡ length levels.old }
+    requires none { changed.old.marked ≡ [] }
+    requires apart { AreApart subcircuits.old }
     requires fits { (q : ℕ) (s : SubcircuitView) → slice_get subcircuits.old q ≡ Some s → FitsIn (length drives.now) (length closed.now) (length levels.old) s }
     requires each { length net_of.now ≡ length drives.now }
     requires nets { (k n : ℕ) → slice_get net_of.now k ≡ Some n → n < length levels.old }
@@ -148,7 +150,7 @@ fn resolve_subcircuits(
     ensures room { changed.new.room ≡ changed.old.room }
     ensures right { (w : Wired) (labels : List ℕ) → IsCut w labels → AreSubcircuits w labels subcircuits.old → length closed.now ≡ length w.contacts → length drives.now ≡ length w.net_of →
         AreRight w labels marked.now closed.now drives.now levels.old → AreRight w labels [] closed.now drives.now levels.new }
-    ensures changed { (w : Wired) (labels : List ℕ) → IsCut w labels → AreSubcircuits w labels subcircuits.old → length levels.old ≡ w.nets → changed.old.marked ≡ [] → AreChanged levels.old levels.new changed.new.marked }
+    ensures changed { (w : Wired) (labels : List ℕ) → IsCut w labels → AreSubcircuits w labels subcircuits.old → length levels.old ≡ w.nets → AreChanged levels.old levels.new changed.new.marked }
     ensures pin_levels { pin_levels.new ≡ map (level_at levels.new) net_of.now }
 {
     for i in 0..marked.len() {
@@ -219,15 +221,15 @@ fn first_state(
     Ok((drives, closed, levels, pin_levels))
 }
 
-/// The marks of so many subcircuits, all set, and those of as many nets, none set.
-fn first_marks(alloc: Global, count: u16) -> Result<(Marks, Marks), OutOfMemory>
+/// The marks of so many subcircuits, all set, and room for the numbers of as many nets.
+fn first_marks(alloc: Global, count: u16) -> Result<(Marks, Numbers), OutOfMemory>
     ensures room { IfOk result (λ m. m.0.room ≡ count) }
     ensures few { IfOk result (λ m. m.0.room ≤ 65535) }
     ensures all { IfOk result (λ m. (n : ℕ) → n < count → has m.0.marked n ≡ true) }
     ensures none { IfOk result (λ m. m.1 ≡ record { room = count; marked = [] }) }
 {
     let marks = Marks::all(alloc, count)?;
-    let changed = Marks::new(alloc, count)?;
+    let changed = Numbers::new(alloc, count)?;
     Ok((marks, changed))
 }
 
@@ -362,7 +364,7 @@ impl Nets {
         ensures once { IsDistinct eqb result.now }
         ensures nets { (n : ℕ) → has result.now n ≡ true → n < self.now.nets }
     {
-        self.changed.marked()
+        self.changed.items()
     }
 }
 

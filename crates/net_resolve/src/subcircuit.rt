@@ -2,12 +2,12 @@
 ghost use Rattle.std.specs.Prelude.{◌≡◌, ◌≢◌, ℕ, ◌<◌, ◌≤◌, List, length, map, Some, slice_get, slice_set, slice_index, IfOk, vec_len, Bool, true, false};
 ghost use Rattle.sim_base.specs.declared.signal.Drive.{Drive};
 ghost use Rattle.board_model.specs.Resolve.{resolve};
-ghost use Rattle.net_resolve.specs.Marked.{Moves};
+ghost use Rattle.net_resolve.specs.Marked.{Moves, has};
 ghost use Rattle.board_model.specs.Board.{level_at};
 ghost use Rattle.net_resolve.specs.Subcircuits.{SubcircuitView, Lacks, AreOnce, HasAllPins};
 ghost use Rattle.net_resolve.specs.Resolutions.{IsResolution, AreResolutions, last_of};
 
-use crate::marks::Marks;
+use crate::marks::Numbers;
 use crate::resolution::{Kept, Resolution};
 use crate::room::{no_drives, no_flags};
 use crate::whole::Whole;
@@ -62,30 +62,32 @@ fn is_same_level(a: Level, b: Level) -> bool
     a == b
 }
 
-/// Puts a level in its place, and marks the place where that had another.
+/// Puts a level in its place, and lists the place where that had another.
 #[inline(always)]
-fn put_level(level: Level, place: usize, into: &mut [Level], changed: &mut Marks)
+fn put_level(level: Level, place: usize, into: &mut [Level], changed: &mut Numbers)
     requires place { place < length into.old }
     requires few { length into.old ≤ 65536 }
     requires room { changed.old.room ≡ length into.old }
+    requires fresh { has changed.old.marked place ≡ false }
     ensures put { into.new ≡ slice_set into.old place level }
     ensures room { changed.new.room ≡ changed.old.room }
     ensures moves { Moves into.old into.new changed.old.marked changed.new.marked }
 {
     if !is_same_level(into[place], level) {
         into[place] = level;
-        changed.mark(place as u16);
+        changed.add(place as u16);
     }
 }
 
-/// Puts each level in its place, and marks the places that had others.
+/// Puts each level in its place, and lists the places that had others.
 #[inline(always)]
-fn scatter(levels: &[Level], places: &[usize], into: &mut [Level], changed: &mut Marks)
+fn scatter(levels: &[Level], places: &[usize], into: &mut [Level], changed: &mut Numbers)
     requires places { (j k : ℕ) → slice_get places.now j ≡ Some k → k < length into.old }
     requires each { length levels.now ≡ length places.now }
     requires once { AreOnce places.now }
     requires few { length into.old ≤ 65536 }
     requires room { changed.old.room ≡ length into.old }
+    requires fresh { (j k : ℕ) → slice_get places.now j ≡ Some k → has changed.old.marked k ≡ false }
     ensures put { (j k : ℕ) → slice_get places.now j ≡ Some k → slice_get into.new k ≡ slice_get levels.now j }
     ensures others { (k : ℕ) → Lacks places.now k → slice_get into.new k ≡ slice_get into.old k }
     ensures room { changed.new.room ≡ changed.old.room }
@@ -287,7 +289,7 @@ impl Subcircuit {
     }
 
     /// Finds the levels of its nets, by what the pins of the board drive and which contacts are closed,
-    /// marks the nets whose levels change, and keeps the levels of the pins, which are those of their nets.
+    /// lists the nets whose levels change, and keeps the levels of the pins, which are those of their nets.
     #[inline(always)]
     pub(crate) fn resolve(
         &mut self,
@@ -296,7 +298,7 @@ impl Subcircuit {
         net_of: &[u16],
         levels: &mut [Level],
         pin_levels: &mut [Level],
-        changed: &mut Marks,
+        changed: &mut Numbers,
     )
         requires pins { (j k : ℕ) → slice_get self.old.pins j ≡ Some k → k < length drives.now }
         requires contacts { (j k : ℕ) → slice_get self.old.contacts j ≡ Some k → k < length closed.now }
@@ -304,6 +306,7 @@ impl Subcircuit {
         requires once { AreOnce self.old.nets }
         requires few { length levels.old ≤ 65536 }
         requires room { changed.old.room ≡ length levels.old }
+        requires fresh { (j n : ℕ) → slice_get self.old.nets j ≡ Some n → has changed.old.marked n ≡ false }
         requires each { length net_of.now ≡ length drives.now }
         requires within { (k n : ℕ) → slice_get net_of.now k ≡ Some n → n < length levels.old }
         requires whole { HasAllPins net_of.now self.old }

@@ -1,10 +1,11 @@
-use Rattle.std.proofs.Common.{◌≡◌, ◌<◌, ◌+◌, ◌∙◌, ℕ, List, drop, arith, get_or, length, ap, subst, Some, eqb}
+use Rattle.std.proofs.Common.{◌≡◌, ◌<◌, ◌+◌, ◌∙◌, ℕ, List, drop, arith, get_or, length, ap, sym, refl, subst, true, Some, eqb}
 use Rattle.std.proofs.lemmas.Option.{slice_get-get_or}
 use Rattle.std.specs.List.{IsDistinct}
 use Rattle.std.specs.Prelude.{slice_get, slice_set}
 use Rattle.net_resolve.specs.Subcircuits.{SubcircuitView, AreRight}
-use Rattle.net_resolve.proofs.MarkLemmas.{has_at, drop_more, drop_all, distinct_first, distinct_drop}
-use Rattle.net_resolve.proofs.RightLemmas.{Begun, set_same, right_step, changed_step}
+use Rattle.net_resolve.specs.Marked.{has}
+use Rattle.net_resolve.proofs.MarkLemmas.{has_at, has_first, drop_more, drop_all, distinct_first, distinct_drop}
+use Rattle.net_resolve.proofs.RightLemmas.{Begun, AreFresh, fresh_step, set_same, right_step, changed_step}
 use Rattle.net_resolve.proofs.nets.resolve_subcircuits.Goals as goal
 
 pub bounds-subcircuits-marked : goal.bounds-subcircuits-marked
@@ -58,6 +59,17 @@ resolve-requires-clause-whole c =
     let first = subst (λ (x : List SubcircuitView). slice_get x q ≡ Some (get_or l.subcircuits q d)) l.invariant.same (slice_get-get_or l.subcircuits q d inside) in
     c.requires.whole q (get_or l.subcircuits q d) first
 
+pub resolve-requires-clause-fresh : goal.resolve-requires-clause-fresh
+resolve-requires-clause-fresh c =
+    let l = c.loop-i in
+    let marked = c.args.marked.now in
+    let q = get_or marked l.i 0 in
+    let d = c.index-subcircuits-marked.result in
+    let inside : q < length l.subcircuits = omega (arith, c.requires.marked q (has_at marked l.i c.loop-i-test.true), l.auto.subcircuits) in
+    let first = subst (λ (x : List SubcircuitView). slice_get x q ≡ Some (get_or l.subcircuits q d)) l.invariant.same (slice_get-get_or l.subcircuits q d inside) in
+    let left = subst (λ (ns : List ℕ). has ns q ≡ true) (sym (drop_more marked l.i 0 c.loop-i-test.true)) (has_first (drop (l.i + 1) marked) q q refl) in
+    λ j n e. l.invariant.fresh q j n (get_or l.subcircuits q d) left first e
+
 pub loop-i-preserved : goal.loop-i-preserved
 loop-i-preserved c =
     let l = c.loop-i in
@@ -75,11 +87,15 @@ loop-i-preserved c =
       right = λ w labels cut are lc ld right.
           right_step w labels cut q s (are q s first) (drop (l.i + 1) marked) c.args.closed.now c.args.drives.now l.levels c.resolve.new.levels lc ld c.resolve.ensures.put c.resolve.ensures.others
           (subst (λ (ns : List ℕ). AreRight w labels ns c.args.closed.now c.args.drives.now l.levels) more (l.invariant.right w labels cut are lc ld right));
-      changed = λ w labels cut are ll none.
+      changed = λ w labels cut are ll.
           changed_step w labels cut q s (are q s first) (drop (l.i + 1) marked) l.changed.marked c.resolve.new.changed.marked c.args.levels.now l.levels c.resolve.new.levels ll (l.auto.levels ∙ ll)
           (distinct_first q (drop (l.i + 1) marked) (subst (λ (ns : List ℕ). IsDistinct eqb ns) more (distinct_drop marked l.i c.requires.once)))
           c.resolve.ensures.others c.resolve.ensures.moves
-          (subst (λ (ns : List ℕ). Begun labels ns c.args.levels.now l.levels l.changed.marked) more (l.invariant.changed w labels cut are ll none));
+          (subst (λ (ns : List ℕ). Begun labels ns c.args.levels.now l.levels l.changed.marked) more (l.invariant.changed w labels cut are ll));
+      fresh = fresh_step c.args.subcircuits.now q s (drop (l.i + 1) marked) l.changed.marked c.resolve.new.changed.marked l.levels c.resolve.new.levels c.requires.apart first
+          (distinct_first q (drop (l.i + 1) marked) (subst (λ (ns : List ℕ). IsDistinct eqb ns) more (distinct_drop marked l.i c.requires.once)))
+          c.resolve.ensures.others c.resolve.ensures.moves
+          (subst (λ (ns : List ℕ). AreFresh c.args.subcircuits.now ns l.changed.marked) more l.invariant.fresh);
       pin_levels = c.resolve.ensures.pin_levels;
     }
 
@@ -92,6 +108,6 @@ returns c =
       room = l.invariant.room;
       right = λ w labels cut are lc ld right.
           subst (λ (ns : List ℕ). AreRight w labels ns c.args.closed.now c.args.drives.now l.levels) end (l.invariant.right w labels cut are lc ld right);
-      changed = λ w labels cut are ll none. (l.invariant.changed w labels cut are ll none).changed;
+      changed = λ w labels cut are ll. (l.invariant.changed w labels cut are ll).changed;
       pin_levels = l.invariant.pin_levels;
     }

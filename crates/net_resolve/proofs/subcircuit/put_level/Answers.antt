@@ -10,6 +10,6 @@ pub returns-then-not-is_same_level-clause-moves : goal.returns-then-not-is_same_
 returns-then-not-is_same_level-clause-moves c =
     let into = c.args.into.now in
     let at = get_within into c.args.place levels.Low c.requires.place in
-    subst (λ (m : MarksView). Moves into (slice_set into c.args.place c.args.level) c.args.changed.now.marked m.marked) (sym c.mark.ensures)
+    subst (λ (m : MarksView). Moves into (slice_set into c.args.place c.args.level) c.args.changed.now.marked m.marked) (sym c.add.ensures)
     (moves_put into c.args.changed.now.marked c.args.place c.args.level c.requires.place
     (λ same. c.is_same_level.ensures.differs c.if-not-is_same_level.true (some_same (sym at ∙ same))))

@@ -5,8 +5,17 @@ use Rattle.sim_base.specs.declared.signal.Level.{Level}
 use Rattle.sim_base.specs.declared.signal.Level.TheVariants as levels
 use Rattle.board_model.proofs.Lists.{get_within, get_set_other}
 use Rattle.net_resolve.proofs.PlaceLemmas.{Put, put_more}
-use Rattle.net_resolve.proofs.MarkLemmas.{moves_then}
+use Rattle.net_resolve.proofs.MarkLemmas.{moves_then, still_fresh}
 use Rattle.net_resolve.proofs.subcircuit.scatter.Goals as goal
+
+pub put_level-requires-clause-fresh : goal.put_level-requires-clause-fresh
+put_level-requires-clause-fresh c =
+    let places = c.args.places.now in
+    let j = c.loop-j.j in
+    let m = get_or places j 0 in
+    let at = get_within places j 0 c.loop-j-test.true in
+    still_fresh c.args.into.now c.loop-j.into c.args.changed.now.marked c.loop-j.changed.marked m c.loop-j.invariant.moves (c.requires.fresh j m at)
+    (c.loop-j.invariant.put.others m (λ i l e. let same : i ≡ j = c.requires.once i j m e at in omega (arith, l, same)))
 
 pub loop-j-preserved : goal.loop-j-preserved
 loop-j-preserved c =

@@ -1,20 +1,23 @@
-use Rattle.std.proofs.Common.{◌≡◌, ◌∙◌, ℕ, List, Bool, ap, sym, arith, subst, length, false, true, Some, eqb}
-use Rattle.std.specs.List.{IsDistinct}
+use Rattle.std.proofs.Common.{◌∙◌, ap, sym, arith, length, List, ℕ, Bool, Some}
 use Rattle.std.specs.Prelude.{slice_get}
 use Rattle.board_model.proofs.Lists.{lent_whole}
-use Rattle.net_resolve.specs.Marked.{has}
-use Rattle.net_resolve.proofs.MarkLemmas.{distinct_none}
+use Rattle.net_resolve.specs.Marked.{MarksView, has}
 use Rattle.net_resolve.proofs.marks.Marks.clear.Goals as goal
+
+pub clear_flags-requires-clause-low : goal.clear_flags-requires-clause-low
+clear_flags-requires-clause-low c = λ n h. omega (arith, c.items.ensures.low n h, c.self.invariant.room, ap length c.deref_mut.ensures.value, c.self.inside.flags.ok.0)
+
+pub clear_flags-requires-clause-flagged : goal.clear_flags-requires-clause-flagged
+clear_flags-requires-clause-flagged c = λ n l.
+    ap (λ (fs : List Bool). slice_get fs n) c.deref_mut.ensures.value ∙ c.self.invariant.flagged n (omega (arith, l, ap length c.deref_mut.ensures.value, c.self.inside.flags.ok.0))
+    ∙ ap (λ (ns : List ℕ). Some (has ns n)) (sym c.items.ensures.marked)
 
 pub invariant_of-self : goal.invariant_of-self
 invariant_of-self c =
     let i = c.self.inside in
     let r = c.clear_flags in
-    let none = c.clear.ensures.items in
     let flags = lent_whole i.flags.len i.flags.items r.new.flags i.flags.ok.0 (r.auto.flags ∙ ap length c.deref_mut.ensures.value) in
     record {
-      flagged = λ n l. ap (λ (fs : List Bool). slice_get fs n) flags ∙ r.ensures n (omega (arith, l, i.flags.ok.0, ap length c.deref_mut.ensures.value)) ∙ ap (λ (ns : List ℕ). Some (has ns n)) (sym none);
-      low = λ n h. let off : false ≡ true = ap (λ (ns : List ℕ). has ns n) (sym none) ∙ h in absurd cc;
-      once = subst (λ (ns : List ℕ). IsDistinct eqb ns) (sym none) distinct_none;
-      room = omega (arith, c.self.invariant.room, c.clear.ensures.capacity);
+      room = c.self.invariant.room ∙ sym (ap (λ (m : MarksView). m.room) c.clear.ensures);
+      flagged = λ n l. ap (λ (fs : List Bool). slice_get fs n) flags ∙ r.ensures n (omega (arith, l, i.flags.ok.0, ap length c.deref_mut.ensures.value)) ∙ ap (λ (m : MarksView). Some (has m.marked n)) (sym c.clear.ensures);
     }

@@ -7,9 +7,9 @@ use Rattle.board_model.specs.Resolve.{resolve}
 use Rattle.board_model.proofs.Lists.{lent_whole}
 use Rattle.net_resolve.specs.Circuit.{Circuit, AreChanged}
 use Rattle.net_resolve.specs.Marked.{MarksView}
-use Rattle.net_resolve.specs.Subcircuits.{SubcircuitView, AreRight, HasAllPins, unresolved}
+use Rattle.net_resolve.specs.Subcircuits.{SubcircuitView, AreRight, AreApart, HasAllPins, unresolved}
 use Rattle.net_resolve.proofs.PinLemmas.{all_pins}
-use Rattle.net_resolve.proofs.RightLemmas.{right_moved, right_all, subs_moved, fits_in}
+use Rattle.net_resolve.proofs.RightLemmas.{right_moved, right_all, subs_moved, fits_in, subs_apart}
 use Rattle.net_resolve.proofs.nets.Nets.resolve_marked.Goals as goal
 
 pub resolve_subcircuits-requires-clause-fits : goal.resolve_subcircuits-requires-clause-fits
@@ -40,6 +40,15 @@ resolve_subcircuits-requires-clause-whole c = λ q s e.
     let w = unresolved i.levels.len i.net_of.items i.contacts.items i.resistors.items in
     subst (λ (ns : List ℕ). HasAllPins ns s) (sym c.deref-3.ensures.value)
     (all_pins w i.labels.items q s (v.subcircuits q s (subst (λ (ss : List SubcircuitView). slice_get ss q ≡ Some s) c.deref_mut.ensures.value e)))
+
+pub resolve_subcircuits-requires-clause-none : goal.resolve_subcircuits-requires-clause-none
+resolve_subcircuits-requires-clause-none c = ap (λ (m : MarksView). m.marked) c.clear.ensures
+
+pub resolve_subcircuits-requires-clause-apart : goal.resolve_subcircuits-requires-clause-apart
+resolve_subcircuits-requires-clause-apart c =
+    let i = c.self.inside in
+    let w = unresolved i.levels.len i.net_of.items i.contacts.items i.resistors.items in
+    subst (λ (ss : List SubcircuitView). AreApart ss) (sym c.deref_mut.ensures.value) (subs_apart w i.labels.items i.subcircuits.items c.self.invariant.subcircuits)
 
 pub resolve_subcircuits-requires-clause-pin_levels : goal.resolve_subcircuits-requires-clause-pin_levels
 resolve_subcircuits-requires-clause-pin_levels c =
@@ -101,6 +110,6 @@ returns-clause-changed c =
     let w = unresolved i.levels.len i.net_of.items i.contacts.items rs in
     let levels = lent_whole i.levels.len i.levels.items r.new.levels i.levels.ok.0 (r.auto.levels ∙ ap length c.deref_mut-2.ensures.value) in
     let found = r.ensures.changed w i.labels.items v.cut (subs_moved rs refl refl refl refl (sym c.deref_mut.ensures.value) v.subcircuits)
-    (omega (arith, ap length c.deref_mut-2.ensures.value, i.levels.ok.0)) (ap (λ (m : MarksView). m.marked) c.clear.ensures) in
+    (omega (arith, ap length c.deref_mut-2.ensures.value, i.levels.ok.0)) in
     subst (λ (ls : List Level). AreChanged c.args.self.now.levels ls r.new.changed.marked) (sym levels)
     (subst (λ (ls : List Level). AreChanged ls r.new.levels r.new.changed.marked) (c.deref_mut-2.ensures.value ∙ ap (λ (x : Circuit). x.levels) c.self.view_is) found)

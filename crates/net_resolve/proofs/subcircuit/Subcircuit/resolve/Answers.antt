@@ -21,6 +21,9 @@ resolve_other-requires-clause-contacts c = λ j k e. c.requires.contacts j k (su
 pub scatter-requires-clause-places : goal.scatter-requires-clause-places
 scatter-requires-clause-places c = λ j k e. c.requires.nets j k (subst (λ (l : List ℕ). slice_get l j ≡ Some k) (c.deref-4.ensures.value ∙ ap (λ (v : SubcircuitView). v.nets) c.self.view_is) e)
 
+pub scatter-requires-clause-fresh : goal.scatter-requires-clause-fresh
+scatter-requires-clause-fresh c = λ j n e. c.requires.fresh j n (subst (λ (l : List ℕ). slice_get l j ≡ Some n) (c.deref-4.ensures.value ∙ ap (λ (v : SubcircuitView). v.nets) c.self.view_is) e)
+
 pub scatter-requires-clause-each : goal.scatter-requires-clause-each
 scatter-requires-clause-each c = omega (arith, c.deref-3.ensures.len, ap (λ (a : Resolution). a.levels.len) c.last.ensures, (last_is c.self.inside.whole c.resolve_other.new.kept c.resolve_other.ensures.kept).levels_long, c.self.invariant.nets_long, c.deref-4.ensures.len)
 
