@@ -63,15 +63,15 @@ impl Buffer {
         self.len += 1;
     }
 
-    /// A short text, written byte by byte.
+    /// So many bytes at once.
     #[inline]
-    pub fn push_short(&mut self, text: &[u8])
-        requires { length self.old.text + length text.now ≤ self.old.room }
-        ensures { self.new ≡ record self.old { text = self.old.text ++ text.now } }
+    pub fn push_array<const N: usize>(&mut self, bytes: [u8; N])
+        requires { length self.old.text + N ≤ self.old.room }
+        ensures { self.new ≡ record self.old { text = self.old.text ++ bytes.entry } }
     {
-        for byte in text {
-            self.push_byte(*byte);
-        }
+        let end = self.len + N;
+        self.bytes[self.len..end].copy_from_slice(&bytes);
+        self.len = end;
     }
 
     pub fn push(&mut self, text: &[u8])

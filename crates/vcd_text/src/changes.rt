@@ -7,7 +7,6 @@ ghost use Rattle.vcd_text.specs.Chains.{values_at};
 ghost use Rattle.vcd_text.specs.Written.{IsWritten};
 
 use crate::buffer::Buffer;
-use crate::declarations::identifier_code;
 use crate::value::of_source;
 use crate::variable::Variable;
 use sim_base::{Drive, Level};
@@ -20,9 +19,12 @@ fn push_value(i: usize, value: u8, out: &mut Buffer)
     ensures text { out.new ≡ record out.old { text = out.old.text ++ value_line i value } }
     ensures short { length out.new.text ≤ length out.old.text + 4 }
 {
-    out.push_byte(value);
-    out.push_short(&identifier_code(i));
-    out.push_byte(b'\n');
+    if i < 94 {
+        out.push_array([value, 33 + i as u8, b'\n']);
+    } else {
+        let (high, low) = ((i - 94) / 94, (i - 94) % 94);
+        out.push_array([value, 33 + high as u8, 33 + low as u8, b'\n']);
+    }
 }
 
 fn push_change(i: usize, before: u8, now: u8, out: &mut Buffer) -> u64
