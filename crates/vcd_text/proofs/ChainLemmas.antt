@@ -102,6 +102,12 @@ value_here [] levels drives k n e = absurd cc
 value_here (v ∷ vs) levels drives zero n e = let s : v.shows ≡ Net n = some_is e in ap (shown_value levels drives) s
 value_here (v ∷ vs) levels drives (suc k) n e = value_here vs levels drives k n e
 
+-- what the variable at the next place of a net has
+pub next_value : (vs : List Variable) (levels : List Level) (drives : List Drive) (net from at i v : ℕ) → at ≡ i → i < length (sources vs) → v ≡ option_map_or level_value (slice_get levels net) 122 →
+    IsNext (sources vs) net from at → v ≡ slice_index (values_at levels drives vs) i
+next_value vs levels drives net from at i v same inside is n =
+    is ∙ sym (value_here vs levels drives i net (subst (λ (m : ℕ). slice_get (sources vs) m ≡ Some (Net net)) same (n.here (omega (arith, same, inside)))))
+
 -- where one net is told, or two, and the variables of pins have the values that they had, those of other nets have so too
 pub others_still : (vs : List Variable) (values : List ℕ) (before after : List Level) (drives : List Drive) (changed : List ℕ) (one two : ℕ) → ((n : ℕ) → n ≢ one → n ≢ two → list_any (eqb n) changed ≡ false) →
     PinsRest vs values after drives → HasSeen vs values before → AreBut changed before after →

@@ -1,5 +1,5 @@
 -- The values of a row, one more written at a time.
-use Rattle.std.proofs.Common.{◌≡◌, ◌<◌, ◌≤◌, ◌+◌, ◌++◌, ◌∙◌, ◌==◌, ℕ, List, [], length, drop, get_or, if◌then◌else◌, refl, ap, sym, subst, inl, inr, arith}
+use Rattle.std.proofs.Common.{◌≡◌, ◌≢◌, ◌<◌, ◌≤◌, ◌+◌, ◌++◌, ◌∙◌, ◌==◌, ℕ, false, List, [], length, drop, get_or, if◌then◌else◌, refl, ap, sym, subst, inl, inr, arith}
 use Rattle.std.specs.Prelude.{slice_set, slice_index}
 use Rattle.std.proofs.lemmas.Bool.{cases_lt}
 use Rattle.std.proofs.lemmas.Bool.Decides.{eqb_tells}
@@ -38,31 +38,43 @@ written_far last new from i j count values out order long same w = record {
   rest = λ k least. w.rest k (omega (arith, least, order));
 }
 
--- a value is put in place, and its line written where it is not what it was
-pub written_more : (last new : List ℕ) (from : BufferState) (i count more v : ℕ) (values : List ℕ) (a b : BufferState) → i < length last → length last ≡ length new → v ≡ slice_index new i →
-    b ≡ record a { text = a.text ++ (if slice_index values i == v then [] else value_line i v) } → length b.text ≤ length a.text + 4 → more ≡ (if slice_index values i == v then 0 else 1) → more ≤ 1 →
-    IsWritten last new from i count values a → IsWritten last new from (i + 1) (count + more) (slice_set values i v) b
-written_more last new from i count more v values a b less long value text short counted few w =
-    let new_long : i < length new = omega (arith, less, long) in
+-- a value that is what it was is left
+pub written_same : (last new : List ℕ) (from : BufferState) (i count : ℕ) (values : List ℕ) (out : BufferState) → length last ≡ length new → slice_index values i ≡ slice_index new i →
+    IsWritten last new from i count values out → IsWritten last new from (i + 1) (count + 0) values out
+written_same last new from i count values out long same w =
+    let none : count ≡ count + 0 = omega arith in
+    let here : (k : ℕ) → i ≤ k → k < i + 1 → slice_index last k ≡ slice_index new k = λ k least less.
+    let at : i ≡ k = omega (arith, least, less) in
+    subst (λ (m : ℕ). slice_index last m ≡ slice_index new m) at (sym (w.rest i (omega arith)) ∙ same) in
+    subst (λ (n : ℕ). IsWritten last new from (i + 1) n values out) none (written_far last new from i (i + 1) count values out (omega arith) long here w)
+
+-- another value is put in place, and its line written
+pub written_more : (last new : List ℕ) (from : BufferState) (i count v : ℕ) (values : List ℕ) (a b : BufferState) → i < length values → length last ≡ length new → v ≡ slice_index new i →
+    slice_index values i ≢ v → b ≡ record a { text = a.text ++ value_line i v } → length b.text ≤ length a.text + 4 →
+    IsWritten last new from i count values a → IsWritten last new from (i + 1) (count + 1) (slice_set values i v) b
+written_more last new from i count v values a b less long value other text short w =
     let long_now = w.long in
-    let now_long : i < length values = omega (arith, less, long_now) in
+    let old_long : i < length last = omega (arith, less, long_now) in
+    let new_long : i < length new = omega (arith, old_long, long) in
     let before : get_or values i 0 ≡ get_or last i 0 = w.rest i (omega arith) in
-    let more_is : ◌≡◌ {A = ℕ} more (if get_or last i 0 == get_or new i 0 then 0 else 1) =
-    counted ∙ ap (λ (u : ℕ). if u == v then 0 else 1) before ∙ ap (λ (x : ℕ). if get_or last i 0 == x then 0 else 1) value in
-    let line : (if get_or values i 0 == v then [] else value_line i v) ≡ (if get_or last i 0 == get_or new i 0 then [] else value_line i (get_or new i 0)) =
-    ap (λ (u : ℕ). if u == v then [] else value_line i v) before ∙ ap (λ (x : ℕ). if get_or last i 0 == x then [] else value_line i x) value in
+    let off : (get_or last i 0 == get_or new i 0) ≡ false = elim (eqb_tells (get_or last i 0) (get_or new i 0)) [
+      | inl same ↦ absurd (other (before ∙ same.1 ∙ sym value))
+      | inr far ↦ far.0
+    ] in
+    let one : ◌≡◌ {A = ℕ} 1 (if get_or last i 0 == get_or new i 0 then 0 else 1) = rw off refl in
+    let line : value_line i v ≡ (if get_or last i 0 == get_or new i 0 then [] else value_line i (get_or new i 0)) = ap (λ (x : ℕ). value_line i x) value ∙ rw off refl in
     record {
       text = ap (λ (s : BufferState). s.text ++ changes (i + 1) (drop (i + 1) last) (drop (i + 1) new)) text
           ∙ ap (λ (l : List ℕ). (a.text ++ l) ++ changes (i + 1) (drop (i + 1) last) (drop (i + 1) new)) line
-          ∙ sym (changes_more a.text i last new less new_long)
+          ∙ sym (changes_more a.text i last new old_long new_long)
           ∙ w.text;
       room = ap (λ (s : BufferState). s.room) text ∙ w.room;
       short = let was = w.short in omega (arith, short, was);
-      counted = let was = w.counted in omega (arith, more_is, count_more i last new less new_long, was);
-      few = let was = w.few in omega (arith, few, was);
+      counted = let was = w.counted in omega (arith, one, count_more i last new old_long new_long, was);
+      few = let was = w.few in omega (arith, was);
       long = length-set values i v ∙ w.long;
       done = λ k to. elim (eqb_tells k i) [
-        | inl at ↦ subst (λ (m : ℕ). slice_index (slice_set values i v) m ≡ slice_index new m) (sym at.1) (get_or-set_same values i v 0 now_long ∙ value)
+        | inl at ↦ subst (λ (m : ℕ). slice_index (slice_set values i v) m ≡ slice_index new m) (sym at.1) (get_or-set_same values i v 0 less ∙ value)
         | inr off ↦ let apart = off.1 in get_or-set_other values i k v 0 off.1 ∙ w.done k (omega (arith, to, apart))
       ];
       rest = λ k least. get_or-set_other values i k v 0 (λ (e : k ≡ i). omega (arith, e, least)) ∙ w.rest k (omega (arith, least));

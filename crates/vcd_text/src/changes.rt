@@ -1,5 +1,5 @@
 //! Times and values as lines.
-ghost use Rattle.std.specs.Prelude.{◌≡◌, ℕ, List, [], ◌∷◌, ◌++◌, ◌+◌, ◌*◌, ◌<◌, ◌≤◌, ◌==◌, length, true, false, if◌then◌else◌, IfOk, replicate, vec_len, codes};
+ghost use Rattle.std.specs.Prelude.{◌≡◌, ℕ, List, ◌++◌, ◌+◌, ◌*◌, ◌<◌, ◌≤◌, length, slice_index};
 ghost use Rattle.text_model.specs.Wave.{value_line, value_lines, time_line, changes, change_count, initial_values};
 ghost use Rattle.vcd_text.specs.Buffers.{BufferState};
 ghost use Rattle.vcd_text.specs.Variables.{variables_of};
@@ -27,21 +27,6 @@ fn push_value(i: usize, value: u8, out: &mut Buffer)
     }
 }
 
-fn push_change(i: usize, before: u8, now: u8, out: &mut Buffer) -> u64
-    requires few { i < 8930 }
-    requires room { length out.old.text + 4 ≤ out.old.room }
-    ensures text { out.new ≡ record out.old { text = out.old.text ++ (if before == now then [] else value_line i now) } }
-    ensures short { length out.new.text ≤ length out.old.text + 4 }
-    ensures count { result ≡ (if before == now then 0 else 1) }
-    ensures few { result ≤ 1 }
-{
-    if before == now {
-        return 0;
-    }
-    push_value(i, now, out);
-    1
-}
-
 fn push_values(now: &[u8], out: &mut Buffer)
     requires few { length now.now ≤ 8930 }
     requires room { length out.old.text + 4 * length now.now ≤ out.old.room }
@@ -56,26 +41,20 @@ fn push_values(now: &[u8], out: &mut Buffer)
 /// Puts the value of variable `i` in place of that of the last row, and writes its line where that was another; answers
 /// how many lines these are.
 #[inline]
-pub(crate) fn put_value(
-    i: usize,
-    variables: &[Variable],
-    levels: &[Level],
-    drives: &[Drive],
-    values: &mut [u8],
-    out: &mut Buffer,
-) -> u64
+pub(crate) fn put_value(i: usize, value: u8, values: &mut [u8], out: &mut Buffer) -> u64
     requires few { i < 8930 }
-    requires variable { i < length variables.now }
-    requires long { length values.old ≡ length variables.now }
+    requires place { i < length values.old }
     requires room { length out.old.text + 4 ≤ out.old.room }
-    ensures written { (last : List ℕ) (from : BufferState) (count : ℕ) → IsWritten last (values_at levels.now drives.now (variables_of variables.now)) from i count values.old out.old
-        → IsWritten last (values_at levels.now drives.now (variables_of variables.now)) from (i + 1) (count + result) values.new out.new }
+    ensures written { (last new : List ℕ) (from : BufferState) (count : ℕ) → length last ≡ length new → value ≡ slice_index new i
+        → IsWritten last new from i count values.old out.old → IsWritten last new from (i + 1) (count + result) values.new out.new }
     ensures few { result ≤ 1 }
 {
-    let value = of_source(variables[i].shows, levels, drives);
-    let more = push_change(i, values[i], value, out);
+    if values[i] == value {
+        return 0;
+    }
     values[i] = value;
-    more
+    push_value(i, value, out);
+    1
 }
 
 /// Puts the values of all variables in place of those of the last row, and writes the lines of those that are not what
@@ -96,7 +75,8 @@ pub(crate) fn push_changes(
 {
     let mut count = 0;
     for i in 0..variables.len() {
-        count += put_value(i, variables, levels, drives, values, out);
+        let value = of_source(variables[i].shows, levels, drives);
+        count += put_value(i, value, values, out);
     }
     count
 }

@@ -9,7 +9,7 @@ ghost use Rattle.vcd_text.specs.Chains.{sources, values_at, AreChains, IsNext, O
 use crate::buffer::Buffer;
 use crate::chains::first_of;
 use crate::changes::{push_changes, push_first, push_time, put_value};
-use crate::value::{fill_values, of_source};
+use crate::value::{fill_values, of_net, of_source};
 use crate::variable::Variable;
 use sim_base::{Drive, Level};
 
@@ -80,12 +80,15 @@ fn push_chain(
     ensures text { out.new ≡ record out.old { text = out.old.text ++ changes 0 values.old (values_at levels.now drives.now (variables_of variables.now)) } }
     ensures count { result ≡ change_count values.old (values_at levels.now drives.now (variables_of variables.now)) }
 {
+    let value_one = of_net(one, levels);
+    let value_two = of_net(two, levels);
     let mut count = 0;
     let mut a = first_of(one, first, variables.len());
     let mut b = first_of(two, first, variables.len());
     let mut i = a.min(b);
-    while i < variables.len() {
-        count += put_value(i, variables, levels, drives, values, out);
+    while i < values.len() {
+        let value = if a == i { value_one } else { value_two };
+        count += put_value(i, value, values, out);
         a = behind(a, i, next);
         b = behind(b, i, next);
         i = a.min(b);

@@ -1,7 +1,8 @@
 //! The value of a variable as a character: `0`, `1`, `x` or `z`.
 ghost use Rattle.std.specs.Prelude.{◌≡◌, Bool, List, length, map, slice_get};
+ghost use Rattle.std.specs.Option.{option_map_or};
 ghost use Rattle.sim_base.specs.Signal.{is_weak, strong_of, value_of};
-ghost use Rattle.text_model.specs.Wave.{bit_value, level_value, strong_value, weak_value, shown_value};
+ghost use Rattle.text_model.specs.Wave.{bit_value, char_z, level_value, strong_value, weak_value, shown_value};
 ghost use Rattle.vcd_text.specs.Variables.{source_of, variable_of};
 
 use crate::variable::{Source, Variable};
@@ -58,11 +59,18 @@ fn drive_at(drives: &[Drive], pin: u16) -> Option<Drive>
     drives.get(pin as usize).copied()
 }
 
+/// The value of the variables of a net.
+pub(crate) fn of_net(net: u16, levels: &[Level]) -> u8
+    ensures { result ≡ option_map_or level_value (slice_get levels.now net) char_z }
+{
+    level_at(levels, net).map_or(b'z', of_level)
+}
+
 pub(crate) fn of_source(shows: Source, levels: &[Level], drives: &[Drive]) -> u8
     ensures { result ≡ shown_value levels.now drives.now (source_of shows) }
 {
     match shows {
-        Source::Net(net) => level_at(levels, net).map_or(b'z', of_level),
+        Source::Net(net) => of_net(net, levels),
         Source::Strong(pin) => drive_at(drives, pin).map_or(b'z', of_strong),
         Source::Weak(pin) => drive_at(drives, pin).map_or(b'z', of_weak),
     }

@@ -2,7 +2,7 @@ use Rattle.std.proofs.Common.{◌∙◌, sym, arith}
 use Rattle.text_model.specs.Wave.{Variable, shown_value}
 use Rattle.vcd_text.specs.Chains.{values_at}
 use Rattle.vcd_text.specs.Variables.{variable_of, variables_of}
-use Rattle.vcd_text.proofs.WaveLemmas.{made_long}
+use Rattle.vcd_text.proofs.WaveLemmas.{made_at, made_long}
 use Rattle.vcd_text.proofs.WrittenLemmas.{written_none, written_all}
 use Rattle.vcd_text.proofs.changes.push_changes.Goals as goal
 
@@ -12,15 +12,21 @@ loop-i-init c = written_none c.args.values.now (values_at c.args.levels.now c.ar
 pub put_value-count-requires : goal.put_value-count-requires
 put_value-count-requires c =
     let inv = c.loop-i.invariant in
+    let long = inv.long in
+    let short = inv.short in
     record {
       few = omega (arith, c.loop-i-test.true, c.requires.few);
-      variable = c.loop-i-test.true;
-      long = inv.long ∙ c.requires.long;
-      room = let short = inv.short in omega (arith, c.loop-i-test.true, c.requires.room, inv.room, short);
+      place = omega (arith, c.loop-i-test.true, long, c.requires.long);
+      room = omega (arith, c.loop-i-test.true, c.requires.room, inv.room, short);
     }
 
 pub loop-i-preserved : goal.loop-i-preserved
-loop-i-preserved c = c.put_value-count.ensures.written c.args.values.now c.args.out.now c.loop-i.count c.loop-i.invariant
+loop-i-preserved c =
+    let vs = c.args.variables.now in
+    let shown = λ (v : Variable). shown_value c.args.levels.now c.args.drives.now v.shows in
+    c.put_value-count.ensures.written c.args.values.now (values_at c.args.levels.now c.args.drives.now (variables_of vs)) c.args.out.now c.loop-i.count
+    (c.requires.long ∙ sym (made_long variable_of shown vs))
+    (c.of_source-value.ensures ∙ sym (made_at variable_of shown vs c.loop-i.i c.index-variables-i.result c.loop-i-test.true)) c.loop-i.invariant
 
 pub returns : goal.returns
 returns c =
