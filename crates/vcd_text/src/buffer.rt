@@ -1,5 +1,5 @@
 //! A text of bounded length that is built without memory being taken.
-ghost use Rattle.std.specs.Prelude.{◌≡◌, ℕ, List, [], ◌∷◌, ◌++◌, ◌+◌, ◌<◌, ◌≤◌, take, length, IfOk, vec_len};
+ghost use Rattle.std.specs.Prelude.{◌≡◌, ℕ, List, [], ◌++◌, ◌+◌, ◌≤◌, take, length, IfOk, vec_len};
 
 use sim_base::OutOfMemory;
 use std::alloc::{AllocError, Global};
@@ -52,15 +52,6 @@ impl Buffer {
         ensures { self.new ≡ record self.old { text = take len self.old.text } }
     {
         self.len = len;
-    }
-
-    #[inline]
-    pub fn push_byte(&mut self, byte: u8)
-        requires { length self.old.text < self.old.room }
-        ensures { self.new ≡ record self.old { text = self.old.text ++ byte ∷ [] } }
-    {
-        self.bytes[self.len] = byte;
-        self.len += 1;
     }
 
     /// So many bytes at once.

@@ -87,9 +87,9 @@ pub fn push_time(cycle: u32, out: &mut Buffer)
     ensures short { length out.new.text ≤ length out.old.text + 42 }
 {
     let mut digits = itoa::Buffer::new();
-    out.push(b"#");
+    out.push_array([b'#']);
     out.push(digits.format(625 * u64::from(cycle)).as_bytes());
-    out.push(b"\n");
+    out.push_array([b'\n']);
 }
 
 pub fn push_initial_values(cycle: u32, now: &[u8], out: &mut Buffer)
