@@ -37,6 +37,21 @@ impl<B: Behaviour> Model for Reactive<B> {
     } };
 }
 
+/// Keeps these levels in place of those of the step before.
+#[inline]
+fn keep(levels: &[Level], held: &mut [Level])
+    requires { length held.old ≡ length levels.now }
+    ensures { held.new ≡ levels.now }
+{
+    // most parts have two pins, and two moves cost less than a call that copies
+    if levels.len() == 2 {
+        held[0] = levels[0];
+        held[1] = levels[1];
+    } else {
+        held.copy_from_slice(levels);
+    }
+}
+
 impl<B: Behaviour> Reactive<B> {
     /// A part with this behaviour at cycle 0, when nothing has driven its pins yet.
     pub fn new(behaviour: B) -> Self
@@ -119,10 +134,22 @@ impl<B: Behaviour> Part for Reactive<B> {
     fn wake(&mut self, levels: &[Level], input: Option<u16>) -> Option<u8> {
         let pins = usize::from(self.pins);
         self.changed = self.behaviour.react(&self.held[..pins], levels, input);
-        self.held[..pins].copy_from_slice(levels);
+        keep(levels, &mut self.held[..pins]);
         self.cycle += 1;
         self.wakes += 1;
         None
+    }
+
+    #[inline]
+    fn hear(&mut self, levels: &[Level], t: u32) -> Option<bool> {
+        let pins = usize::from(self.pins);
+        let levels = &levels[..pins];
+        let changed = self.behaviour.react(&self.held[..pins], levels, None);
+        self.changed = changed;
+        keep(levels, &mut self.held[..pins]);
+        self.cycle = t + 1;
+        self.wakes += 1;
+        Some(changed)
     }
 
     fn wake_held(&mut self, input: Option<u16>) -> Option<u8> {
