@@ -1,5 +1,5 @@
 //! A cycle in which only the active parts are woken.
-ghost use Rattle.std.specs.Prelude.{◌≡◌, ◌≢◌, ℕ, ◌+◌, ◌<◌, ◌≤◌, List, length, map, Some, None, Option, true, false, if◌then◌else◌, slice_get};
+ghost use Rattle.std.specs.Prelude.{◌≡◌, ◌≢◌, ℕ, ◌+◌, ◌<◌, ◌≤◌, Bool, List, length, map, take, Some, None, Option, true, false, if◌then◌else◌, slice_get, slice_set};
 ghost use Rattle.part_law.specs.Machine.{IsFirstDue, MayWake};
 ghost use Rattle.sim_base.specs.declared.wiring.Input.{Input};
 ghost use Rattle.board_model.specs.Board.{level_at, input_at};
@@ -133,6 +133,81 @@ fn take_turn_on<P: Part, L: Ledger>(
     }
 }
 
+/// Has a part hear its levels, where one differs from the one that it holds, it is never due and the script is silent; None
+/// where it has to take its turn.
+#[inline]
+fn hear_levels<P: Part, L: Ledger>(
+    part: &mut P,
+    due: Option<u32>,
+    levels: &[Level],
+    differs: bool,
+    silent: bool,
+    t: u32,
+    steps: &mut Steps<L>,
+) -> Option<bool>
+    requires end { t < MOST_CYCLES }
+    requires may { MayTurn P.machine P.state P.now P.wake_count t due part.old }
+    requires pins { length (P.machine.drives (P.state part.old)) ≤ length levels.now }
+    requires differs { differs ≡ true → 0 < t → P.machine.held (P.state part.old) ≢ take (length (P.machine.drives (P.state part.old))) levels.now }
+    ensures stays { result ≡ None → (part.new ≡ part.old) × (steps.new ≡ steps.old) }
+    ensures asked { (touched : Bool) → result ≡ Some touched → (due ≡ None) × (silent ≡ true) × (differs ≡ true) }
+    ensures wakes { (touched : Bool) → result ≡ Some touched → Wakes P.machine P.state P.now P.wake_count t (take (length (P.machine.drives (P.state part.old))) levels.now) None part.old part.new None touched }
+    ensures first { (touched : Bool) → result ≡ Some touched → IsFirstDue P.machine (P.state part.new) (P.now part.new) None }
+    ensures others { (touched : Bool) → result ≡ Some touched → (pin : ℕ) → P.moves part.new pin ≡ false
+        → slice_get (P.machine.drives (P.state part.new)) pin ≡ slice_get (P.machine.drives (glided P.machine P.state P.now P.wake_count t part.old)) pin }
+    ensures steps { (touched : Bool) → result ≡ Some touched → steps.new ≡ steps.old + 1 }
+{
+    if !differs || !silent || due.is_some() {
+        return None;
+    }
+    let heard = part.hear(levels, t);
+    if heard.is_some() {
+        steps.tick();
+    }
+    heard
+}
+
+/// The turn of part `i`, with its due cycle and its byte where they are kept; of the levels the first are those of its pins.
+#[inline]
+fn take_turn_at<P: Part, L: Ledger>(
+    part: &mut P,
+    i: usize,
+    dues: &mut DueTree,
+    levels: &[Level],
+    differs: bool,
+    given: &[Input],
+    answers: &mut [Option<u8>],
+    t: u32,
+    steps: &mut Steps<L>,
+) -> (Option<u8>, bool)
+    requires end { t < MOST_CYCLES }
+    requires part { i < length dues.old }
+    requires few { length dues.old ≤ 64 }
+    requires answer { i < length answers.old }
+    requires none { slice_get answers.old i ≡ Some None }
+    requires may { (d : Option ℕ) → slice_get dues.old i ≡ Some d → MayTurn P.machine P.state P.now P.wake_count t d part.old }
+    requires pins { length (P.machine.drives (P.state part.old)) ≤ length levels.now }
+    requires differs { differs ≡ true → 0 < t → P.machine.held (P.state part.old) ≢ take (length (P.machine.drives (P.state part.old))) levels.now }
+    ensures turn { (d : Option ℕ) → slice_get dues.old i ≡ Some d → turned P.machine P.state P.now P.wake_count (to_wake d t (input_at given.now t i) differs) t
+        (take (length (P.machine.drives (P.state part.old))) levels.now) (input_at given.now t i) part.old part.new result.0 result.1 }
+    ensures due { (d : Option ℕ) × (dues.new ≡ slice_set dues.old i d) × IsFirstDue P.machine (P.state part.new) (P.now part.new) d × ((u : ℕ) → d ≡ Some u → t < u) }
+    ensures answers { answers.new ≡ slice_set answers.old i result.0 }
+    ensures others { result.1 ≡ true → (pin : ℕ) → P.moves part.new pin ≡ false
+        → slice_get (P.machine.drives (P.state part.new)) pin ≡ slice_get (P.machine.drives (glided P.machine P.state P.now P.wake_count t part.old)) pin }
+    ensures steps { (d : Option ℕ) → slice_get dues.old i ≡ Some d → steps.new ≡ steps.old + (if to_wake d t (input_at given.now t i) differs then 1 else 0) }
+{
+    let mut due = dues.due(i as u8);
+    if let Some(touched) = hear_levels(part, due, levels, differs, given.is_empty(), t, steps) {
+        return (None, touched);
+    }
+    let pins = part.pins() as usize;
+    let input = find_input(given, t, i);
+    let (byte, touched) = take_turn_on(part, &mut due, &levels[..pins], differs, input, t, steps);
+    dues.set(i as u8, due);
+    answers[i] = byte;
+    (byte, touched)
+}
+
 /// These parts and those that the script addresses.
 fn with_given(parts: PartSet, given: &[Input]) -> PartSet
     ensures { (t k : ℕ) → k < 64 → has_part result k ≡ false → (has_part parts k ≡ false) × (input_at given.now t k ≡ None) }
@@ -222,20 +297,17 @@ pub(crate) fn wake_active<P: Part, L: Ledger>(
     let mut i = next_part(marked, dues, t, 0, count);
     while i < count {
         let first = wiring.first_pin.as_slice()[i] as usize;
-        let pins = parts[i].pins() as usize;
-        let input = find_input(given, t, i);
-        let mut due = dues.due(i as u8);
-        let (byte, touched) = take_turn_on(
+        let (byte, touched) = take_turn_at(
             &mut parts[i],
-            &mut due,
-            &nets.pin_levels()[first..first + pins],
+            i,
+            dues,
+            &nets.pin_levels()[first..],
             differ.has(i),
-            input,
+            given,
+            answers,
             t,
             steps,
         );
-        dues.set(i as u8, due);
-        answers[i] = byte;
         let moved = tell(touched, parts, i, first, nets);
         changed = changed | moved;
         sent = sent | byte.is_some();
