@@ -1,14 +1,14 @@
 -- Numbers that are marked, each once.
-use Rattle.std.proofs.Common.{◌≡◌, ◌≢◌, ℕ, zero, suc, ◌+◌, ◌<◌, ◌≤◌, List, [], ◌∷◌, ◌++◌, length, drop, Bool, true, false, ◌||◌, refl, ap, sym, ◌∙◌, arith, inl, inr, Some, eqb, eq-eqb, get_or, length-append}
+use Rattle.std.proofs.Common.{◌≡◌, ◌≢◌, ℕ, ◌+◌, ◌<◌, ◌≤◌, List, [], ◌∷◌, ◌++◌, length, Bool, true, false, ◌||◌, refl, ap, sym, ◌∙◌, arith, inl, inr, Some, eqb, eq-eqb, length-append, subst}
 use Rattle.std.proofs.lemmas.Bool.{cases_Bool}
 use Rattle.std.proofs.lemmas.Bool.Decides.{eqb_tells}
 use Rattle.std.proofs.lemmas.List.Folds.{list_any-append}
 use Rattle.std.proofs.lemmas.Map.Steps.{length-le_from_distinct_below}
 use Rattle.std.specs.List.{IsDistinct, AllByRecursion}
-use Rattle.std.specs.Prelude.{slice_get, slice_set}
+use Rattle.std.specs.Prelude.{slice_get, slice_set, option_to_list, Option, None, MatchOption, IfSome}
 use Rattle.sim_base.specs.declared.signal.Level.{Level}
 use Rattle.board_model.proofs.Lists.{get_set_same, get_set_other}
-use Rattle.net_resolve.specs.Marked.{has, with_mark, Moves, Noted}
+use Rattle.net_resolve.specs.Marked.{has, with_mark, Taken, Moves, Noted}
 
 has_more : (ns : List ℕ) (n m : ℕ) → has (ns ++ n ∷ []) m ≡ (has ns m || (eqb m n || false))
 has_more ns n m = list_any-append (eqb m) ns (n ∷ [])
@@ -61,37 +61,6 @@ distinct_push (x ∷ ns) n h once = (all ns once.0, distinct_push ns n (later (e
     all : (ys : List ℕ) → AllByRecursion (λ y. eqb x y ≡ false) ys → AllByRecursion (λ y. eqb x y ≡ false) (ys ++ n ∷ [])
     all [] h = (apart, h)
     all (y ∷ ys) h = (h.0, all ys h.1)
-
--- the first number is not among the others
-pub distinct_first : (n : ℕ) (ns : List ℕ) → IsDistinct eqb (n ∷ ns) → has ns n ≡ false
-unfolding IsDistinct
-distinct_first n ns once = none ns once.0
-  where
-    none : (ys : List ℕ) → AllByRecursion (λ y. eqb n y ≡ false) ys → has ys n ≡ false
-    none [] h = refl
-    none (y ∷ ys) h = rw h.0 (none ys h.1)
-
-pub distinct_rest : (n : ℕ) (ns : List ℕ) → IsDistinct eqb (n ∷ ns) → IsDistinct eqb ns
-unfolding IsDistinct
-distinct_rest n ns once = once.1
-
-pub drop_more : {A : Type 0} (xs : List A) (i : ℕ) (d : A) → i < length xs → drop i xs ≡ get_or xs i d ∷ drop (i + 1) xs
-drop_more [] i d h = absurd (omega arith)
-drop_more (x ∷ xs) zero d h = refl
-drop_more (x ∷ xs) (suc i) d h =
-    let e : suc (i + 1) ≡ suc i + 1 = omega arith in
-    drop_more xs i d (omega arith) ∙ ap (λ (k : ℕ). get_or xs i d ∷ drop k (x ∷ xs)) e
-
-pub drop_all : {A : Type 0} (xs : List A) (i : ℕ) → length xs ≤ i → drop i xs ≡ []
-drop_all [] zero h = refl
-drop_all [] (suc i) h = refl
-drop_all (x ∷ xs) zero h = absurd (omega arith)
-drop_all (x ∷ xs) (suc i) h = drop_all xs i (omega arith)
-
-pub distinct_drop : (ns : List ℕ) (i : ℕ) → IsDistinct eqb ns → IsDistinct eqb (drop i ns)
-distinct_drop ns zero once = once
-distinct_drop [] (suc i) once = once
-distinct_drop (n ∷ ns) (suc i) once = distinct_drop ns i (distinct_rest n ns once)
 
 -- a level was put in its place, or was there
 pub moves_none : (levels : List Level) (ns : List ℕ) → Moves levels levels ns ns
@@ -155,26 +124,8 @@ noted_mark Same q ns = record {
   same = λ h. let on = with_has ns q in absurd cc;
 }
 
--- what a list has is somewhere in it
-pub has_at : (ns : List ℕ) (i : ℕ) → i < length ns → has ns (get_or ns i 0) ≡ true
-has_at [] i h = absurd (omega arith)
-has_at (n ∷ ns) zero h = let same : eqb n n ≡ true = eq-eqb n n refl in rw same refl
-has_at (n ∷ ns) (suc i) h =
-    let rest = has_at ns i (omega arith) in
-    elim (cases_Bool (eqb (get_or ns i 0) n)) [ inl t ↦ rw t refl | inr f ↦ rw (f, rest) refl ]
-
 pub has_first : (ns : List ℕ) (n m : ℕ) → m ≡ n → has (n ∷ ns) m ≡ true
 has_first ns n m e = let same : eqb m n ≡ true = eq-eqb m n e in rw same refl
-
--- one flag more is off
-pub flag_off : (list : List ℕ) (flags : List Bool) (i : ℕ) → i < length list → get_or list i 0 < length flags → ((n : ℕ) → n < length flags → has (drop i list) n ≡ false → slice_get flags n ≡ Some false) →
-    (n : ℕ) → n < length flags → has (drop (i + 1) list) n ≡ false → slice_get (slice_set flags (get_or list i 0) false) n ≡ Some false
-flag_off list flags i l inside off n h e = elim (eqb_tells n (get_or list i 0)) [
-  | inl t ↦ ap (slice_get (slice_set flags (get_or list i 0) false)) t.1 ∙ get_set_same flags (get_or list i 0) false inside
-  | inr f ↦
-      let none : has (get_or list i 0 ∷ drop (i + 1) list) n ≡ false = rw f.0 e in
-      get_set_other flags (get_or list i 0) n false f.1 ∙ off n h (ap (λ (ns : List ℕ). has ns n) (drop_more list i 0 l) ∙ none)
-]
 
 -- there is room for a number that is not marked
 pub room_left : (ns : List ℕ) (room n : ℕ) → n < room → has ns n ≡ false → IsDistinct eqb ns → ((m : ℕ) → has ns m ≡ true → m < room) → length ns < room
@@ -201,3 +152,59 @@ low_more ns n room l low m h = elim (eqb_tells m n) [
 pub distinct_none : IsDistinct eqb []
 unfolding IsDistinct
 distinct_none = cc
+
+-- a list without its last number
+distinct_left : (ns : List ℕ) (n : ℕ) → IsDistinct eqb (ns ++ n ∷ []) → IsDistinct eqb ns × (has ns n ≡ false)
+unfolding IsDistinct
+distinct_left [] n once = (cc, refl)
+distinct_left (x ∷ ns) n once =
+    let rest = distinct_left ns n once.1 in (
+      (front ns once.0, rest.0),
+      elim (eqb_tells n x) [
+        | inl e ↦
+            let on : eqb x n ≡ true = eq-eqb x n (sym e.1) in
+            let off : eqb x n ≡ false = last ns once.0 in
+            absurd cc
+        | inr f ↦ rw f.0 rest.1
+      ],
+    )
+  where
+    front : (ys : List ℕ) → AllByRecursion (λ y. eqb x y ≡ false) (ys ++ n ∷ []) → AllByRecursion (λ y. eqb x y ≡ false) ys
+    front [] h = cc
+    front (y ∷ ys) h = (h.0, front ys h.1)
+
+    last : (ys : List ℕ) → AllByRecursion (λ y. eqb x y ≡ false) (ys ++ n ∷ []) → eqb x n ≡ false
+    last [] h = h.0
+    last (y ∷ ys) h = last ys h.1
+
+first_or_last : (ns : List ℕ) (n m : ℕ) → has (n ∷ ns) m ≡ has (ns ++ n ∷ []) m
+first_or_last ns n m = elim (eqb_tells m n) [
+  | inl e ↦ has_first ns n m e.1 ∙ sym (ap (has (ns ++ n ∷ [])) e.1 ∙ has_last ns n)
+  | inr f ↦ rw f.0 (sym (has_other ns n m f.1))
+]
+
+no_numbers : (ns : List ℕ) → length ns ≡ 0 → ns ≡ []
+no_numbers [] e = refl
+no_numbers (n ∷ ns) e = absurd (omega (arith, e))
+
+-- what a pop leaves of numbers, each once
+module _ (old new : List ℕ) where
+  pub popped : (r : Option ℕ) (was is : ℕ) → old ≡ new ++ option_to_list r → MatchOption r ((was ≡ 0) × (is ≡ 0)) (λ _. is + 1 ≡ was) → was ≡ length old → is ≡ length new → IsDistinct eqb old →
+      MatchOption r ((old ≡ []) × (new ≡ [])) (λ n. Taken n old new)
+  popped None was is e cases lo ln once = (no_numbers old (sym lo ∙ cases.0), no_numbers new (sym ln ∙ cases.1))
+  popped (Some n) was is e cases lo ln once = record {
+    rest = λ m. first_or_last new n m ∙ ap (λ (ns : List ℕ). has ns m) (sym e);
+    gone = (distinct_left new n (subst (λ (ns : List ℕ). IsDistinct eqb ns) e once)).1;
+    fewer = omega (arith, cases, lo, ln);
+  }
+
+  pub popped_had : (r : Option ℕ) → old ≡ new ++ option_to_list r → (m : ℕ) → has new m ≡ true → has old m ≡ true
+  popped_had r e m h = ap (λ (ns : List ℕ). has ns m) e ∙ list_any-append (eqb m) new (option_to_list r) ∙ rw h refl
+
+  pub popped_once : (r : Option ℕ) (was is : ℕ) → old ≡ new ++ option_to_list r → MatchOption r ((was ≡ 0) × (is ≡ 0)) (λ _. is + 1 ≡ was) → is ≡ length new → IsDistinct eqb old → IsDistinct eqb new
+  popped_once None was is e cases ln once = subst (λ (ns : List ℕ). IsDistinct eqb ns) (sym (no_numbers new (sym ln ∙ cases.1))) distinct_none
+  popped_once (Some n) was is e cases ln once = (distinct_left new n (subst (λ (ns : List ℕ). IsDistinct eqb ns) e once)).0
+
+  pub popped_low : (r : Option ℕ) (room : ℕ) → old ≡ new ++ option_to_list r → ((m : ℕ) → has old m ≡ true → m < room) → IfSome r (λ n. n < room)
+  popped_low None room e low = cc
+  popped_low (Some n) room e low = low n (ap (λ (ns : List ℕ). has ns n) e ∙ has_last new n)

@@ -1,7 +1,7 @@
 //! Numbers that are listed, and numbers that are marked.
-ghost use Rattle.std.specs.Prelude.{◌≡◌, ℕ, ◌<◌, ◌≤◌, List, [], ◌∷◌, ◌++◌, length, eqb, true, false, Some, slice_get, IfOk, vec_len, vec_capacity};
+ghost use Rattle.std.specs.Prelude.{◌≡◌, ℕ, ◌<◌, ◌≤◌, List, [], ◌∷◌, ◌++◌, length, eqb, true, false, Some, slice_get, IfOk, IfSome, MatchOption, vec_len, vec_capacity};
 ghost use Rattle.std.specs.List.{IsDistinct};
-ghost use Rattle.net_resolve.specs.Marked.{has, with_mark};
+ghost use Rattle.net_resolve.specs.Marked.{has, with_mark, Taken};
 
 use crate::room::no_flags;
 use sim_base::OutOfMemory;
@@ -94,6 +94,16 @@ impl Numbers {
         self.list.clear();
     }
 
+    /// Takes out the number that was added last.
+    #[inline(always)]
+    pub(crate) fn take(&mut self) -> Option<u16>
+        ensures room { self.new.room ≡ self.old.room }
+        ensures taken { MatchOption result ((self.old.marked ≡ []) × (self.new.marked ≡ [])) (λ n. Taken n self.old.marked self.new.marked) }
+        ensures low { IfSome result (λ n. n < self.old.room) }
+    {
+        self.list.pop()
+    }
+
     /// The numbers, in the order in which they were added.
     #[inline(always)]
     pub(crate) fn items(&self) -> &[u16]
@@ -102,18 +112,6 @@ impl Numbers {
         ensures low { (n : ℕ) → has result.now n ≡ true → n < self.now.room }
     {
         &self.list
-    }
-}
-
-/// Takes the marks off the numbers of a list.
-#[inline(always)]
-fn clear_flags(list: &[u16], flags: &mut [bool])
-    requires low { (n : ℕ) → has list.now n ≡ true → n < length flags.old }
-    requires flagged { (n : ℕ) → n < length flags.old → slice_get flags.old n ≡ Some (has list.now n) }
-    ensures { (n : ℕ) → n < length flags.old → slice_get flags.new n ≡ Some false }
-{
-    for i in 0..list.len() {
-        flags[list[i] as usize] = false;
     }
 }
 
@@ -152,21 +150,19 @@ impl Marks {
         }
     }
 
+    /// Takes the mark off the number that was marked last.
     #[inline(always)]
-    pub(crate) fn clear(&mut self)
-        ensures { self.new ≡ record self.old { marked = [] } }
+    pub(crate) fn take(&mut self) -> Option<u16>
+        ensures room { self.new.room ≡ self.old.room }
+        ensures taken { MatchOption result ((self.old.marked ≡ []) × (self.new.marked ≡ [])) (λ n. Taken n self.old.marked self.new.marked) }
+        ensures low { IfSome result (λ n. n < self.old.room) }
     {
-        clear_flags(self.numbers.items(), &mut self.flags);
-        self.numbers.clear();
-    }
-
-    /// The numbers that are marked, in the order in which they were.
-    #[inline(always)]
-    pub(crate) fn marked(&self) -> &[u16]
-        ensures marked { result.now ≡ self.now.marked }
-        ensures once { IsDistinct eqb result.now }
-        ensures low { (n : ℕ) → has result.now n ≡ true → n < self.now.room }
-    {
-        self.numbers.items()
+        match self.numbers.take() {
+            Some(n) => {
+                self.flags[n as usize] = false;
+                Some(n)
+            }
+            None => None,
+        }
     }
 }

@@ -123,20 +123,19 @@ fn keep_closed(
     }
 }
 
-/// Resolves the subcircuits that are marked, and keeps the levels of the pins.
+/// Resolves the subcircuits that are marked, takes their marks off, and keeps the levels of the pins.
 #[inline(always)]
 fn resolve_subcircuits(
     drives: &[Drive],
     closed: &[bool],
     net_of: &[u16],
-    marked: &[u16],
+    marks: &mut Marks,
     subcircuits: &mut [Subcircuit],
     levels: &mut [Level],
     pin_levels: &mut [Level],
     changed: &mut Numbers,
 )
-    requires marked { (q : ℕ) → has marked.now q ≡ true → q < length subcircuits.old }
-    requires once { IsDistinct eqb marked.now }
+    requires marks_room { marks.old.room ≡ length subcircuits.old }
     requires few { length levels.old ≤ 65536 }
     requires room { changed.old.room ≡ length levels.old }
     requires none { changed.old.marked ≡ [] }
@@ -147,16 +146,16 @@ fn resolve_subcircuits(
     requires whole { (q : ℕ) (s : SubcircuitView) → slice_get subcircuits.old q ≡ Some s → HasAllPins net_of.now s }
     requires pin_levels { pin_levels.old ≡ map (level_at levels.old) net_of.now }
     ensures same { subcircuits.new ≡ subcircuits.old }
+    ensures none { marks.new.marked ≡ [] }
+    ensures marks_room { marks.new.room ≡ marks.old.room }
     ensures room { changed.new.room ≡ changed.old.room }
     ensures right { (w : Wired) (labels : List ℕ) → IsCut w labels → AreSubcircuits w labels subcircuits.old → length closed.now ≡ length w.contacts → length drives.now ≡ length w.net_of →
-        AreRight w labels marked.now closed.now drives.now levels.old → AreRight w labels [] closed.now drives.now levels.new }
+        AreRight w labels marks.old.marked closed.now drives.now levels.old → AreRight w labels [] closed.now drives.now levels.new }
     ensures changed { (w : Wired) (labels : List ℕ) → IsCut w labels → AreSubcircuits w labels subcircuits.old → length levels.old ≡ w.nets → AreChanged levels.old levels.new changed.new.marked }
     ensures pin_levels { pin_levels.new ≡ map (level_at levels.new) net_of.now }
 {
-    for i in 0..marked.len() {
-        subcircuits[marked[i] as usize].resolve(
-            drives, closed, net_of, levels, pin_levels, changed,
-        );
+    while let Some(q) = marks.take() {
+        subcircuits[q as usize].resolve(drives, closed, net_of, levels, pin_levels, changed);
     }
 }
 
@@ -309,13 +308,12 @@ impl Nets {
             &self.drives,
             &self.closed,
             &self.net_of,
-            self.marks.marked(),
+            &mut self.marks,
             &mut self.subcircuits,
             &mut self.levels,
             &mut self.pin_levels,
             &mut self.changed,
         );
-        self.marks.clear();
     }
 
     /// What each pin drives.

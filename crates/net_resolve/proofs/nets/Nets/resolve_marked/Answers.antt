@@ -41,6 +41,9 @@ resolve_subcircuits-requires-clause-whole c = λ q s e.
     subst (λ (ns : List ℕ). HasAllPins ns s) (sym c.deref-3.ensures.value)
     (all_pins w i.labels.items q s (v.subcircuits q s (subst (λ (ss : List SubcircuitView). slice_get ss q ≡ Some s) c.deref_mut.ensures.value e)))
 
+pub resolve_subcircuits-requires-clause-marks_room : goal.resolve_subcircuits-requires-clause-marks_room
+resolve_subcircuits-requires-clause-marks_room c = omega (arith, c.self.invariant.marks_room, c.self.invariant.subcircuits_long, ap length c.deref_mut.ensures.value)
+
 pub resolve_subcircuits-requires-clause-none : goal.resolve_subcircuits-requires-clause-none
 resolve_subcircuits-requires-clause-none c = ap (λ (m : MarksView). m.marked) c.clear.ensures
 
@@ -68,14 +71,14 @@ invariant_of-self c =
     let same = subs ∙ r.ensures.same ∙ c.deref_mut.ensures.value in
     let found = r.ensures.right w i.labels.items v.cut (subs_moved rs refl refl refl refl (sym c.deref_mut.ensures.value) v.subcircuits)
     (omega (arith, ap length c.deref-2.ensures.value, v.closed_long, i.closed.ok.0, i.contacts.ok.0)) (omega (arith, ap length c.deref.ensures.value, v.drives_long, i.drives.ok.0, i.net_of.ok.0))
-    (right_moved rs refl refl refl refl (sym c.marked.ensures.marked) (sym c.deref-2.ensures.value) (sym c.deref.ensures.value) (sym c.deref_mut-2.ensures.value) v.right) in
+    (right_moved {ls = i.labels.items} {st = i.marks.marked} rs refl refl refl refl refl (sym c.deref-2.ensures.value) (sym c.deref.ensures.value) (sym c.deref_mut-2.ensures.value) v.right) in
     record {
       cut = v.cut;
       subcircuits = subs_moved rs refl refl refl refl (sym same) v.subcircuits;
-      right = right_moved rs refl refl refl refl (sym (ap (λ (m : MarksView). m.marked) c.clear-2.ensures)) c.deref-2.ensures.value c.deref.ensures.value (sym levels) found;
+      right = right_moved rs refl refl refl refl (sym r.ensures.none) c.deref-2.ensures.value c.deref.ensures.value (sym levels) found;
       few = v.few;
       subcircuits_long = ap length same ∙ v.subcircuits_long;
-      marks_room = ap (λ (m : MarksView). m.room) c.clear-2.ensures ∙ v.marks_room;
+      marks_room = r.ensures.marks_room ∙ v.marks_room;
       changed_room = r.ensures.room ∙ ap (λ (m : MarksView). m.room) c.clear.ensures ∙ v.changed_room;
       drives_long = v.drives_long;
       closed_long = v.closed_long;
@@ -94,7 +97,7 @@ returns-clause-levels c =
     let levels = lent_whole i.levels.len i.levels.items r.new.levels i.levels.ok.0 (r.auto.levels ∙ ap length c.deref_mut-2.ensures.value) in
     let found = r.ensures.right w i.labels.items v.cut (subs_moved rs refl refl refl refl (sym c.deref_mut.ensures.value) v.subcircuits)
     (omega (arith, ap length c.deref-2.ensures.value, v.closed_long, i.closed.ok.0, i.contacts.ok.0)) (omega (arith, ap length c.deref.ensures.value, v.drives_long, i.drives.ok.0, i.net_of.ok.0))
-    (right_moved rs refl refl refl refl (sym c.marked.ensures.marked) (sym c.deref-2.ensures.value) (sym c.deref.ensures.value) (sym c.deref_mut-2.ensures.value) v.right) in
+    (right_moved {ls = i.labels.items} {st = i.marks.marked} rs refl refl refl refl refl (sym c.deref-2.ensures.value) (sym c.deref.ensures.value) (sym c.deref_mut-2.ensures.value) v.right) in
     let are = right_all w i.labels.items v.cut i.closed.items i.drives.items r.new.levels (omega (arith, r.auto.levels, ap length c.deref_mut-2.ensures.value, i.levels.ok.0))
     (subst (λ (ds : List Drive). AreRight w i.labels.items [] i.closed.items ds r.new.levels) c.deref.ensures.value
     (subst (λ (cs : List Bool). AreRight w i.labels.items [] cs c.deref.result.now r.new.levels) c.deref-2.ensures.value found)) in
