@@ -39,22 +39,27 @@ impl Behaviour for AnyBehaviour {
 
     ghost own = { own_of };
 
+    #[inline]
     fn pins(&self) -> u8 {
         on_behaviour!(self, behaviour => behaviour.pins())
     }
 
+    #[inline]
     fn contacts(&self) -> u8 {
         on_behaviour!(self, behaviour => behaviour.contacts())
     }
 
+    #[inline]
     fn drive(&self, pin: u8) -> Drive {
         on_behaviour!(self, behaviour => behaviour.drive(pin))
     }
 
+    #[inline]
     fn contact(&self, i: u8) -> bool {
         on_behaviour!(self, behaviour => behaviour.contact(i))
     }
 
+    #[inline]
     fn react(&mut self, before: &[Level], now: &[Level], input: Option<u16>) -> bool {
         on_behaviour!(self, behaviour => behaviour.react(before, now, input))
     }

@@ -44,50 +44,70 @@ impl Part for AnyPart {
 
     ghost moves = { moves_of };
 
+    #[inline]
     fn pins(&self) -> u8 {
         on_part!(self, part => part.pins())
     }
 
+    #[inline]
     fn contacts(&self) -> u8 {
         on_part!(self, part => part.contacts())
     }
 
+    #[inline]
     fn drive(&self, pin: u8) -> Drive {
         on_part!(self, part => part.drive(pin))
     }
 
+    #[inline]
     fn contact(&self, i: u8) -> bool {
         on_part!(self, part => part.contact(i))
     }
 
+    #[inline]
     fn due(&self) -> Option<u32> {
         on_part!(self, part => part.due())
     }
 
+    #[inline]
     fn woken(&self) -> u32 {
         on_part!(self, part => part.woken())
     }
 
+    #[inline]
     fn changed(&self) -> bool {
         on_part!(self, part => part.changed())
     }
 
+    #[inline]
     fn moved(&self) -> Span {
         on_part!(self, part => part.moved())
     }
 
+    #[inline]
     fn settle(&mut self, to: u32) {
         on_part!(self, part => part.settle(to))
     }
 
+    #[inline]
     fn wake(&mut self, levels: &[Level], input: Option<u16>) -> Option<u8> {
         on_part!(self, part => part.wake(levels, input))
     }
 
+    #[inline]
     fn wake_held(&mut self, input: Option<u16>) -> Option<u8> {
         on_part!(self, part => part.wake_held(input))
     }
 
+    #[inline]
+    fn hear(&mut self, levels: &[Level], t: u32) -> Option<bool> {
+        match self {
+            AnyPart::Reactive(part) => part.hear(levels, t),
+            AnyPart::Uno(_) | AnyPart::Chip(_) => None,
+        }
+    }
+
+    #[inline]
     fn go_on<L: Ledger>(&mut self, limit: u32, steps: &mut Steps<L>) -> Went {
         on_part!(self, part => part.go_on(limit, steps))
     }
