@@ -87,6 +87,13 @@ impl Part for PlayedPart {
         on_part!(self, part => part.wake_held(input))
     }
 
+    fn hear(&mut self, levels: &[Level], t: u32) -> Option<bool> {
+        match self {
+            PlayedPart::Part(part) => part.hear(levels, t),
+            PlayedPart::Player(_) => None,
+        }
+    }
+
     fn go_on<L: Ledger>(&mut self, limit: u32, steps: &mut Steps<L>) -> Went {
         on_part!(self, part => part.go_on(limit, steps))
     }
