@@ -59,7 +59,7 @@ impl Behaviour for AnyBehaviour {
         on_behaviour!(self, behaviour => behaviour.contact(i))
     }
 
-    #[inline]
+    #[inline(always)]
     fn react(&mut self, before: &[Level], now: &[Level], input: Option<u16>) -> bool {
         on_behaviour!(self, behaviour => behaviour.react(before, now, input))
     }

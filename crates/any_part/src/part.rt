@@ -44,17 +44,17 @@ impl Part for AnyPart {
 
     ghost moves = { moves_of };
 
-    #[inline]
+    #[inline(always)]
     fn pins(&self) -> u8 {
         on_part!(self, part => part.pins())
     }
 
-    #[inline]
+    #[inline(always)]
     fn contacts(&self) -> u8 {
         on_part!(self, part => part.contacts())
     }
 
-    #[inline]
+    #[inline(always)]
     fn drive(&self, pin: u8) -> Drive {
         on_part!(self, part => part.drive(pin))
     }
@@ -64,7 +64,7 @@ impl Part for AnyPart {
         on_part!(self, part => part.contact(i))
     }
 
-    #[inline]
+    #[inline(always)]
     fn due(&self) -> Option<u32> {
         on_part!(self, part => part.due())
     }
@@ -74,22 +74,22 @@ impl Part for AnyPart {
         on_part!(self, part => part.woken())
     }
 
-    #[inline]
+    #[inline(always)]
     fn changed(&self) -> bool {
         on_part!(self, part => part.changed())
     }
 
-    #[inline]
+    #[inline(always)]
     fn moved(&self) -> Span {
         on_part!(self, part => part.moved())
     }
 
-    #[inline]
+    #[inline(always)]
     fn settle(&mut self, to: u32) {
         on_part!(self, part => part.settle(to))
     }
 
-    #[inline]
+    #[inline(always)]
     fn wake(&mut self, levels: &[Level], input: Option<u16>) -> Option<u8> {
         on_part!(self, part => part.wake(levels, input))
     }
@@ -99,7 +99,7 @@ impl Part for AnyPart {
         on_part!(self, part => part.wake_held(input))
     }
 
-    #[inline]
+    #[inline(always)]
     fn hear(&mut self, levels: &[Level], t: u32) -> Option<bool> {
         match self {
             AnyPart::Reactive(part) => part.hear(levels, t),
@@ -107,7 +107,7 @@ impl Part for AnyPart {
         }
     }
 
-    #[inline]
+    #[inline(always)]
     fn go_on<L: Ledger>(&mut self, limit: u32, steps: &mut Steps<L>) -> Went {
         on_part!(self, part => part.go_on(limit, steps))
     }

@@ -18,7 +18,7 @@ use sim_base::{MOST_CYCLES, Steps, Watcher, Wiring, WriteEnd};
 use std::sync::ledger::Ledger;
 
 /// A part that was left behind goes on by itself from cycle t, up to the limit or its first wake that may show something.
-#[inline]
+#[inline(always)]
 fn go_alone<P: Part, L: Ledger>(
     part: &mut P,
     due: &mut Option<u32>,

@@ -23,7 +23,7 @@ use sim_base::{Input, MOST_CYCLES, Steps, Watcher, Wiring, WriteEnd};
 use std::sync::ledger::Ledger;
 
 /// Gives the parts that may be active their turn on the levels that were read.
-#[inline]
+#[inline(always)]
 fn turn_read<P: Part, L: Ledger>(
     parts: &mut [P],
     dues: &mut DueTree,

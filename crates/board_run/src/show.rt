@@ -22,7 +22,7 @@ pub(crate) struct Next {
 
 /// Reads what the parts show, where a drive or a contact changed, and tells whether rows show what they showed before,
 /// and which parts have a pin whose level is another one than before.
-#[inline]
+#[inline(always)]
 fn refresh<P: Part>(
     stale: bool,
     parts: &[P],

@@ -148,7 +148,7 @@ fn tell_contacts<P: Part>(parts: &[P], i: usize, nets: &mut Nets) -> bool
 
 /// Tells what part `i` drives and connects, whose pins begin at a place, where its last wake may have changed it, and
 /// answers whether it did.
-#[inline]
+#[inline(always)]
 pub(crate) fn tell<P: Part>(
     moved: bool,
     parts: &[P],

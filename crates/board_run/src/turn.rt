@@ -45,7 +45,7 @@ fn is_to_wake(due: Option<u32>, t: u32, input: Option<u16>, differs: bool) -> bo
 }
 
 /// Wakes a part that was left behind; answers its byte, and whether a drive or a contact may have changed.
-#[inline]
+#[inline(always)]
 fn wake_late<P: Part, L: Ledger>(
     part: &mut P,
     due: &mut Option<u32>,
@@ -135,7 +135,7 @@ fn take_turn_on<P: Part, L: Ledger>(
 
 /// Has a part hear its levels, where one differs from the one that it holds, it is never due and the script is silent; None
 /// where it has to take its turn.
-#[inline]
+#[inline(always)]
 fn hear_levels<P: Part, L: Ledger>(
     part: &mut P,
     due: Option<u32>,
@@ -168,7 +168,7 @@ fn hear_levels<P: Part, L: Ledger>(
 }
 
 /// The turn of part `i`, with its due cycle and its byte where they are kept; of the levels the first are those of its pins.
-#[inline]
+#[inline(always)]
 fn take_turn_at<P: Part, L: Ledger>(
     part: &mut P,
     i: usize,

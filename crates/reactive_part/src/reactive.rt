@@ -140,7 +140,7 @@ impl<B: Behaviour> Part for Reactive<B> {
         None
     }
 
-    #[inline]
+    #[inline(always)]
     fn hear(&mut self, levels: &[Level], t: u32) -> Option<bool> {
         let pins = usize::from(self.pins);
         let levels = &levels[..pins];
