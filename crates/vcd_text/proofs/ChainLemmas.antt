@@ -15,7 +15,7 @@ use Rattle.sim_base.specs.declared.signal.Level.{Level}
 use Rattle.sim_base.specs.declared.signal.Drive.{Drive}
 use Rattle.sim_base.specs.Rows.{Row, AreBut}
 use Rattle.vcd_text.specs.Heads.{HeadState, after_row}
-use Rattle.vcd_text.specs.Chains.{sources, values_at, IsNet, IsNext, AreLinked, AreNetsBut, PinsRest, HasSeen, OthersRest}
+use Rattle.vcd_text.specs.Chains.{sources, values_at, other_of, IsNet, IsNext, AreLinked, AreChains, OnChain, IsRun, AreNetsBut, PinsRest, HasSeen, OthersRest}
 
 pub some_is : {A : Type 0} {x y : A} → Some x ≡ Some y → x ≡ y
 some_is e = cc
@@ -102,12 +102,6 @@ value_here [] levels drives k n e = absurd cc
 value_here (v ∷ vs) levels drives zero n e = let s : v.shows ≡ Net n = some_is e in ap (shown_value levels drives) s
 value_here (v ∷ vs) levels drives (suc k) n e = value_here vs levels drives k n e
 
--- what the variable at the next place of a net has
-pub next_value : (vs : List Variable) (levels : List Level) (drives : List Drive) (net from at i v : ℕ) → at ≡ i → i < length (sources vs) → v ≡ option_map_or level_value (slice_get levels net) 122 →
-    IsNext (sources vs) net from at → v ≡ slice_index (values_at levels drives vs) i
-next_value vs levels drives net from at i v same inside is n =
-    is ∙ sym (value_here vs levels drives i net (subst (λ (m : ℕ). slice_get (sources vs) m ≡ Some (Net net)) same (n.here (omega (arith, same, inside)))))
-
 -- where one net is told, or two, and the variables of pins have the values that they had, those of other nets have so too
 pub others_still : (vs : List Variable) (values : List ℕ) (before after : List Level) (drives : List Drive) (changed : List ℕ) (one two : ℕ) → ((n : ℕ) → n ≢ one → n ≢ two → list_any (eqb n) changed ≡ false) →
     PinsRest vs values after drives → HasSeen vs values before → AreBut changed before after →
@@ -159,6 +153,55 @@ follows vs levels drives last one two from a b i others e m n =
       at_two = next_from (sources vs) two from i b order (omega (arith, e)) n;
       same = λ k least less. others k (omega (arith, less, within)) (m.none k least (omega (arith, less, e))) (n.none k least (omega (arith, less, e)));
     }
+
+-- behind the place of a chain it goes on at the next variable of the net
+pub chain_on : (next : List ℕ) (from at i bound : ℕ) (c : OnChain next from at) → i < bound → bound ≤ length next → IsNext c.shows c.net (min i bound) i → IsNext c.shows c.net (i + 1) (slice_index next i)
+chain_on next from at i bound c less inside n = let long = c.chains.long in c.chains.linked.nexts i c.net (omega arith) (n.here (omega (arith, less, inside, long)))
+
+-- a run of one net up to the next variable of another, where the variables of other nets have the values that they had
+pub run_of : (vs : List Variable) (levels : List Level) (drives : List Drive) (last : List ℕ) (net other from at bound value : ℕ) → length last ≡ length vs → from ≤ at →
+    ((k : ℕ) → k < length vs → slice_get (sources vs) k ≢ Some (Net net) → slice_get (sources vs) k ≢ Some (Net other) → slice_index last k ≡ slice_index (values_at levels drives vs) k) →
+    ((k : ℕ) → slice_get (sources vs) k ≡ Some (Net net) → value ≡ option_map_or level_value (slice_get levels net) 122) →
+    IsNext (sources vs) other from bound → IsRun (sources vs) net last (values_at levels drives vs) at bound value
+run_of vs levels drives last net other from at bound value long order rest is n = record {
+  long = long ∙ sym (length-map vs (λ (v : Variable). shown_value levels drives v.shows));
+  own = λ k shown. is k shown ∙ sym (value_here vs levels drives k net shown);
+  others = λ k least less off. let within = n.within in
+      rest k (omega (arith, less, within, length-map vs (λ (v : Variable). v.shows))) off (n.none k (omega (arith, order, least)) less);
+}
+
+other_is : (one two : ℕ) (first : List ℕ) → ((two ≡ one) × (other_of one two first ≡ length first)) ⊎ ((two ≢ one) × (other_of one two first ≡ two))
+other_is one two first = elim (eqb_tells two one) [
+  | inl same ↦ inl (same.1, rw same.0 refl)
+  | inr far ↦ inr (far.1, rw far.0 refl)
+]
+
+net_below : (all : List Source) (first next : List ℕ) (k n : ℕ) → AreChains all first next → slice_get all k ≡ Some (Net n) → n ≢ length first
+net_below all first next k n chains shown same = let less = chains.nets k n shown in omega (arith, less, same)
+
+-- where a variable shows the second of two nets, that is another
+pub other_shown : (all : List Source) (first next : List ℕ) (one two k : ℕ) → AreChains all first next → slice_get all k ≡ Some (Net (other_of one two first)) → other_of one two first ≡ two
+other_shown all first next one two k chains shown = elim (other_is one two first) [
+  | inl same ↦ absurd (net_below all first next k (other_of one two first) chains shown same.1)
+  | inr far ↦ far.1
+]
+
+pub other_apart : (all : List Source) (first next : List ℕ) (one two k : ℕ) → AreChains all first next → slice_get all k ≡ Some (Net one) → slice_get all k ≢ Some (Net (other_of one two first))
+other_apart all first next one two k chains shown more =
+    let is : one ≡ other_of one two first = net_is one (other_of one two first) (some_is (sym shown ∙ more)) in
+    elim (other_is one two first) [
+      | inl same ↦ net_below all first next k one chains shown (is ∙ same.1)
+      | inr far ↦ far.0 (sym (is ∙ far.1))
+    ]
+  where
+    net_is : (a b : ℕ) → Net a ≡ Net b → a ≡ b
+    net_is a b same = cc
+
+pub other_rest : (vs : List Variable) (levels : List Level) (drives : List Drive) (last first : List ℕ) (one two : ℕ) → OthersRest (one, two) vs last levels drives → OthersRest (one, other_of one two first) vs last levels drives
+other_rest vs levels drives last first one two rest k less off more = rest k less off (elim (other_is one two first) [
+  | inl same ↦ λ shown. off (shown ∙ ap (λ (n : ℕ). Some (Net n)) same.0)
+  | inr far ↦ λ shown. more (shown ∙ ap (λ (n : ℕ). Some (Net n)) (sym far.1))
+])
 
 -- ---- variables that show pins
 

@@ -47,6 +47,9 @@ pub(crate) fn put_value(i: usize, value: u8, values: &mut [u8], out: &mut Buffer
     requires room { length out.old.text + 4 ≤ out.old.room }
     ensures written { (last new : List ℕ) (from : BufferState) (count : ℕ) → length last ≡ length new → value ≡ slice_index new i
         → IsWritten last new from i count values.old out.old → IsWritten last new from (i + 1) (count + result) values.new out.new }
+    ensures long { length values.new ≡ length values.old }
+    ensures room { out.new.room ≡ out.old.room }
+    ensures short { length out.new.text ≤ length out.old.text + 4 }
     ensures few { result ≤ 1 }
 {
     if values[i] == value {

@@ -1,10 +1,12 @@
 //! The text of a row, which looks at all variables or at those of one net or two.
-ghost use Rattle.std.specs.Prelude.{◌≡◌, ℕ, ◌+◌, ◌*◌, ◌<◌, ◌≤◌, ◌++◌, List, length, Some, eqb, true, slice_index, if◌then◌else◌};
+ghost use Rattle.std.specs.Prelude.{◌≡◌, ℕ, ◌+◌, ◌-◌, ◌*◌, ◌^◌, ◌<◌, ◌≤◌, ◌++◌, min, List, length, Some, eqb, true, slice_index, if◌then◌else◌};
 ghost use Rattle.std.specs.List.{list_any};
 ghost use Rattle.text_model.specs.Wave as wave;
 ghost use Rattle.text_model.specs.Wave.{changes, change_count, initial_values, value_changes};
 ghost use Rattle.vcd_text.specs.Variables.{variables_of};
-ghost use Rattle.vcd_text.specs.Chains.{sources, values_at, AreChains, IsNext, OthersRest};
+ghost use Rattle.vcd_text.specs.Buffers.{BufferState};
+ghost use Rattle.vcd_text.specs.Chains.{sources, values_at, other_of, AreChains, IsNext, OnChain, IsRun, OthersRest};
+ghost use Rattle.vcd_text.specs.Written.{IsWritten};
 
 use crate::buffer::Buffer;
 use crate::chains::first_of;
@@ -49,13 +51,48 @@ pub(crate) fn have_same(
     }
 }
 
-/// Where a net's variables go on behind variable i, of which the next from there on is at a place.
-#[inline]
-fn behind(at: usize, i: usize, next: &[u16]) -> usize
-    requires { at ≡ i → i < length next.now }
-    ensures { (all : List wave.Source) (first : List ℕ) (net : ℕ) → AreChains all first next.now → IsNext all net i at → i < length all → IsNext all net (i + 1) result }
+/// Puts the value of a net's variables in place of those of the last row, from the one at a place on up to a bound, and
+/// writes and counts the lines of those that are not what they were; answers where the next one is.
+#[inline(always)]
+fn push_run(
+    at: usize,
+    bound: usize,
+    value: u8,
+    next: &[u16],
+    values: &mut [u8],
+    out: &mut Buffer,
+    count: &mut u64,
+) -> usize
+    requires few { length values.old ≤ 8930 }
+    requires inside { bound ≤ length values.old }
+    requires long { length next.now ≡ length values.old }
+    requires chain { OnChain next.now (min at bound) at }
+    requires room { length out.old.text + 4 * (bound - at) ≤ out.old.room }
+    requires counts { count.old + (bound - at) < 2 ^ 64 }
+    ensures written { (c : OnChain next.now (min at bound) at) (last new : List ℕ) (from : BufferState) → IsRun c.shows c.net last new at bound value
+        → IsWritten last new from (min at bound) count.old values.old out.old → IsWritten last new from bound count.new values.new out.new }
+    ensures next { (c : OnChain next.now (min at bound) at) → IsNext c.shows c.net bound result }
+    ensures order { at ≤ result }
 {
-    if at == i { next[i] as usize } else { at }
+    let mut at = at;
+    while at < bound {
+        *count += put_value(at, value, values, out);
+        at = next[at] as usize;
+    }
+    at
+}
+
+/// The first variable that shows the second of two nets, or how many variables there are, which stands too where that
+/// is the first net again.
+#[inline]
+fn first_of_other(one: u16, two: u16, first: &[u16], count: usize) -> usize
+    ensures { (all : List wave.Source) (next : List ℕ) → AreChains all first.now next → length all ≡ count → IsNext all (other_of one two first.now) 0 result }
+{
+    if two == one {
+        count
+    } else {
+        first_of(two, first, count)
+    }
 }
 
 /// Puts the values of the variables that show one of two nets in place of those of the last row, and writes the
@@ -84,14 +121,10 @@ fn push_chain(
     let value_two = of_net(two, levels);
     let mut count = 0;
     let mut a = first_of(one, first, variables.len());
-    let mut b = first_of(two, first, variables.len());
-    let mut i = a.min(b);
-    while i < values.len() {
-        let value = if a == i { value_one } else { value_two };
-        count += put_value(i, value, values, out);
-        a = behind(a, i, next);
-        b = behind(b, i, next);
-        i = a.min(b);
+    let mut b = first_of_other(one, two, first, variables.len());
+    while a != b {
+        a = push_run(a, b, value_one, next, values, out, &mut count);
+        b = push_run(b, a, value_two, next, values, out, &mut count);
     }
     count
 }
