@@ -54,17 +54,7 @@ impl Buffer {
         self.len = len;
     }
 
-    /// So many bytes at once.
-    #[inline]
-    pub fn push_array<const N: usize>(&mut self, bytes: [u8; N])
-        requires { length self.old.text + N ≤ self.old.room }
-        ensures { self.new ≡ record self.old { text = self.old.text ++ bytes.entry } }
-    {
-        let end = self.len + N;
-        self.bytes[self.len..end].copy_from_slice(&bytes);
-        self.len = end;
-    }
-
+    #[inline(always)]
     pub fn push(&mut self, text: &[u8])
         requires { length self.old.text + length text.now ≤ self.old.room }
         ensures { self.new ≡ record self.old { text = self.old.text ++ text.now } }

@@ -20,10 +20,10 @@ fn push_value(i: usize, value: u8, out: &mut Buffer)
     ensures short { length out.new.text ≤ length out.old.text + 4 }
 {
     if i < 94 {
-        out.push_array([value, 33 + i as u8, b'\n']);
+        out.push(&[value, 33 + i as u8, b'\n']);
     } else {
         let (high, low) = ((i - 94) / 94, (i - 94) % 94);
-        out.push_array([value, 33 + high as u8, 33 + low as u8, b'\n']);
+        out.push(&[value, 33 + high as u8, 33 + low as u8, b'\n']);
     }
 }
 
@@ -90,9 +90,9 @@ pub fn push_time(cycle: u32, out: &mut Buffer)
     ensures short { length out.new.text ≤ length out.old.text + 42 }
 {
     let mut digits = itoa::Buffer::new();
-    out.push_array([b'#']);
+    out.push(b"#");
     out.push(digits.format(625 * u64::from(cycle)).as_bytes());
-    out.push_array([b'\n']);
+    out.push(b"\n");
 }
 
 pub fn push_initial_values(cycle: u32, now: &[u8], out: &mut Buffer)
