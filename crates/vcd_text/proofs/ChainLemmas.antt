@@ -2,6 +2,7 @@
 use Rattle.std.proofs.Common.{◌≡◌, ◌≢◌, ◌⊎◌, ℕ, zero, suc, ◌+◌, ◌<◌, ◌≤◌, min, List, [], ◌∷◌, ◌++◌, length, get_or, refl, ap, sym, ◌∙◌, arith, inl, inr, subst, Option, Some, Bool, true, false, ◌||◌}
 use Rattle.std.specs.Prelude.{eqb, slice_get, slice_index, slice_set}
 use Rattle.std.specs.List.{list_any}
+use Rattle.std.proofs.lemmas.Bool.{cases_lt}
 use Rattle.std.proofs.lemmas.Bool.Decides.{eqb_tells}
 use Rattle.std.proofs.lemmas.List.Folds.{list_any-append}
 use Rattle.std.proofs.lemmas.List.{get_or-set_same, get_or-set_other, length-set, length-map}
@@ -15,7 +16,7 @@ use Rattle.sim_base.specs.declared.signal.Level.{Level}
 use Rattle.sim_base.specs.declared.signal.Drive.{Drive}
 use Rattle.sim_base.specs.Rows.{Row, AreBut}
 use Rattle.vcd_text.specs.Heads.{HeadState, after_row}
-use Rattle.vcd_text.specs.Chains.{sources, values_at, other_of, IsNet, IsNext, AreLinked, AreChains, OnChain, IsRun, AreNetsBut, PinsRest, HasSeen, OthersRest}
+use Rattle.vcd_text.specs.Chains.{sources, values_at, IsNet, IsNext, AreLinked, OnChain, IsRun, AreNetsBut, PinsRest, HasSeen, OthersRest}
 
 pub some_is : {A : Type 0} {x y : A} → Some x ≡ Some y → x ≡ y
 some_is e = cc
@@ -158,49 +159,42 @@ follows vs levels drives last one two from a b i others e m n =
 pub chain_on : (next : List ℕ) (from at i bound : ℕ) (c : OnChain next from at) → i < bound → bound ≤ length next → IsNext c.shows c.net (min i bound) i → IsNext c.shows c.net (i + 1) (slice_index next i)
 chain_on next from at i bound c less inside n = let long = c.chains.long in c.chains.linked.nexts i c.net (omega arith) (n.here (omega (arith, less, inside, long)))
 
--- a run of one net up to the next variable of another, where the variables of other nets have the values that they had
-pub run_of : (vs : List Variable) (levels : List Level) (drives : List Drive) (last : List ℕ) (net other from at bound value : ℕ) → length last ≡ length vs → from ≤ at →
-    ((k : ℕ) → k < length vs → slice_get (sources vs) k ≢ Some (Net net) → slice_get (sources vs) k ≢ Some (Net other) → slice_index last k ≡ slice_index (values_at levels drives vs) k) →
-    ((k : ℕ) → slice_get (sources vs) k ≡ Some (Net net) → value ≡ option_map_or level_value (slice_get levels net) 122) →
-    IsNext (sources vs) other from bound → IsRun (sources vs) net last (values_at levels drives vs) at bound value
-run_of vs levels drives last net other from at bound value long order rest is n = record {
+-- a run of a net, where the variables of other nets have the values that they had
+pub run_of : (vs : List Variable) (levels : List Level) (drives : List Drive) (last : List ℕ) (net at bound value : ℕ) → length last ≡ length vs → value ≡ option_map_or level_value (slice_get levels net) 122 → bound ≤ length vs →
+    ((k : ℕ) → at ≤ k → k < bound → k < length vs → slice_get (sources vs) k ≢ Some (Net net) → slice_index last k ≡ slice_index (values_at levels drives vs) k) →
+    IsRun (sources vs) net last (values_at levels drives vs) at bound value
+run_of vs levels drives last net at bound value long is inside rest = record {
   long = long ∙ sym (length-map vs (λ (v : Variable). shown_value levels drives v.shows));
-  own = λ k shown. is k shown ∙ sym (value_here vs levels drives k net shown);
-  others = λ k least less off. let within = n.within in
-      rest k (omega (arith, less, within, length-map vs (λ (v : Variable). v.shows))) off (n.none k (omega (arith, order, least)) less);
+  own = λ k shown. is ∙ sym (value_here vs levels drives k net shown);
+  others = λ k least less off. rest k least less (omega (arith, less, inside)) off;
 }
 
-other_is : (one two : ℕ) (first : List ℕ) → ((two ≡ one) × (other_of one two first ≡ length first)) ⊎ ((two ≢ one) × (other_of one two first ≡ two))
-other_is one two first = elim (eqb_tells two one) [
-  | inl same ↦ inl (same.1, rw same.0 refl)
-  | inr far ↦ inr (far.1, rw far.0 refl)
+-- the next place of a net is one place
+pub next_same : (all : List Source) (net from a b : ℕ) → IsNext all net from a → IsNext all net from b → a ≡ b
+next_same all net from a b m n = elim (cases_lt a b) [
+  | inl less ↦ let within = n.within in absurd (n.none a m.order less (m.here (omega (arith, less, within))))
+  | inr over ↦ elim (cases_lt b a) [
+    | inl less ↦ let within = m.within in absurd (m.none b n.order less (n.here (omega (arith, less, within))))
+    | inr more ↦ omega (arith, over, more)
+  ]
 ]
 
-net_below : (all : List Source) (first next : List ℕ) (k n : ℕ) → AreChains all first next → slice_get all k ≡ Some (Net n) → n ≢ length first
-net_below all first next k n chains shown same = let less = chains.nets k n shown in omega (arith, less, same)
-
--- where a variable shows the second of two nets, that is another
-pub other_shown : (all : List Source) (first next : List ℕ) (one two k : ℕ) → AreChains all first next → slice_get all k ≡ Some (Net (other_of one two first)) → other_of one two first ≡ two
-other_shown all first next one two k chains shown = elim (other_is one two first) [
-  | inl same ↦ absurd (net_below all first next k (other_of one two first) chains shown same.1)
-  | inr far ↦ far.1
+-- where the next places of two nets are one place, the nets are one, or nothing is there
+pub nets_meet : (all : List Source) (one two from at : ℕ) → IsNext all one from at → IsNext all two from at → (two ≡ one) ⊎ (at ≡ length all)
+nets_meet all one two from at m n = elim (cases_lt at (length all)) [
+  | inl less ↦ inl (net_is two one (some_is (sym (n.here less) ∙ m.here less)))
+  | inr past ↦ let within = m.within in inr (omega (arith, past, within))
 ]
-
-pub other_apart : (all : List Source) (first next : List ℕ) (one two k : ℕ) → AreChains all first next → slice_get all k ≡ Some (Net one) → slice_get all k ≢ Some (Net (other_of one two first))
-other_apart all first next one two k chains shown more =
-    let is : one ≡ other_of one two first = net_is one (other_of one two first) (some_is (sym shown ∙ more)) in
-    elim (other_is one two first) [
-      | inl same ↦ net_below all first next k one chains shown (is ∙ same.1)
-      | inr far ↦ far.0 (sym (is ∙ far.1))
-    ]
   where
     net_is : (a b : ℕ) → Net a ≡ Net b → a ≡ b
     net_is a b same = cc
 
-pub other_rest : (vs : List Variable) (levels : List Level) (drives : List Drive) (last first : List ℕ) (one two : ℕ) → OthersRest (one, two) vs last levels drives → OthersRest (one, other_of one two first) vs last levels drives
-other_rest vs levels drives last first one two rest k less off more = rest k less off (elim (other_is one two first) [
-  | inl same ↦ λ shown. off (shown ∙ ap (λ (n : ℕ). Some (Net n)) same.0)
-  | inr far ↦ λ shown. more (shown ∙ ap (λ (n : ℕ). Some (Net n)) (sym far.1))
+-- then the variables of nets but the first have the values that they had
+pub rest_alone : (vs : List Variable) (levels : List Level) (drives : List Drive) (last : List ℕ) (one two at : ℕ) → OthersRest (one, two) vs last levels drives → IsNext (sources vs) one 0 at → IsNext (sources vs) two 0 at →
+    (k : ℕ) → k < length vs → slice_get (sources vs) k ≢ Some (Net one) → slice_index last k ≡ slice_index (values_at levels drives vs) k
+rest_alone vs levels drives last one two at rest m n k less off = rest k less off (elim (nets_meet (sources vs) one two 0 at m n) [
+  | inl same ↦ λ shown. off (shown ∙ ap (λ (i : ℕ). Some (Net i)) same)
+  | inr end ↦ n.none k (omega arith) (omega (arith, less, end, length-map vs (λ (v : Variable). v.shows)))
 ])
 
 -- ---- variables that show pins

@@ -1,5 +1,5 @@
 -- The variables by the nets that they show. No public clause cites this.
-use Rattle.std.specs.Prelude.{◌≡◌, ◌≢◌, ◌⊎◌, ℕ, ◌+◌, ◌<◌, ◌≤◌, List, length, map, Some, false, eqb, slice_get, slice_index, if◌then◌else◌}
+use Rattle.std.specs.Prelude.{◌≡◌, ◌≢◌, ◌⊎◌, ℕ, ◌+◌, ◌<◌, ◌≤◌, List, length, map, Some, false, eqb, slice_get, slice_index}
 use Rattle.std.specs.List.{list_any}
 use Rattle.sim_base.specs.declared.signal.Level.{Level}
 use Rattle.sim_base.specs.declared.signal.Drive.{Drive}
@@ -47,10 +47,6 @@ pub record IsRun (shows : List Source) (net : ℕ) (last new : List ℕ) (from b
   pub long : length last ≡ length new
   pub own : (k : ℕ) → slice_get shows k ≡ Some (Net net) → value ≡ slice_index new k
   pub others : (k : ℕ) → from ≤ k → k < bound → slice_get shows k ≢ Some (Net net) → slice_index last k ≡ slice_index new k
-
--- the second of two nets, or a number that no variable shows where that is the first again
-abbrev pub other_of : ℕ → ℕ → List ℕ → ℕ
-other_of one two first = if eqb two one then length first else two
 
 -- each variable that shows no net is among these
 pub record AreNetsBut (pins : List ℕ) (shows : List Source) : Type 0 where

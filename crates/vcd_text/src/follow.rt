@@ -5,7 +5,7 @@ ghost use Rattle.text_model.specs.Wave as wave;
 ghost use Rattle.text_model.specs.Wave.{changes, change_count, initial_values, value_changes};
 ghost use Rattle.vcd_text.specs.Variables.{variables_of};
 ghost use Rattle.vcd_text.specs.Buffers.{BufferState};
-ghost use Rattle.vcd_text.specs.Chains.{sources, values_at, other_of, AreChains, IsNext, OnChain, IsRun, OthersRest};
+ghost use Rattle.vcd_text.specs.Chains.{sources, values_at, AreChains, IsNext, OnChain, IsRun, OthersRest};
 ghost use Rattle.vcd_text.specs.Written.{IsWritten};
 
 use crate::buffer::Buffer;
@@ -82,19 +82,6 @@ fn push_run(
     at
 }
 
-/// The first variable that shows the second of two nets, or how many variables there are, which stands too where that
-/// is the first net again.
-#[inline]
-fn first_of_other(one: u16, two: u16, first: &[u16], count: usize) -> usize
-    ensures { (all : List wave.Source) (next : List ℕ) → AreChains all first.now next → length all ≡ count → IsNext all (other_of one two first.now) 0 result }
-{
-    if two == one {
-        count
-    } else {
-        first_of(two, first, count)
-    }
-}
-
 /// Puts the values of the variables that show one of two nets in place of those of the last row, and writes the
 /// lines of those that are not what they were; answers how many these are.
 fn push_chain(
@@ -118,10 +105,15 @@ fn push_chain(
     ensures count { result ≡ change_count values.old (values_at levels.now drives.now (variables_of variables.now)) }
 {
     let value_one = of_net(one, levels);
-    let value_two = of_net(two, levels);
     let mut count = 0;
     let mut a = first_of(one, first, variables.len());
-    let mut b = first_of_other(one, two, first, variables.len());
+    let mut b = first_of(two, first, variables.len());
+    if a == b {
+        // one net, or two that no variable shows
+        push_run(a, values.len(), value_one, next, values, out, &mut count);
+        return count;
+    }
+    let value_two = of_net(two, levels);
     while a != b {
         a = push_run(a, b, value_one, next, values, out, &mut count);
         b = push_run(b, a, value_two, next, values, out, &mut count);

@@ -1,6 +1,6 @@
 use Rattle.std.proofs.Common.{◌-◌, min, length}
 use Rattle.vcd_text.specs.Variables.{variables_of}
-use Rattle.vcd_text.specs.Chains.{sources, values_at, other_of, IsNext}
+use Rattle.vcd_text.specs.Chains.{sources, values_at, IsNext}
 use Rattle.vcd_text.specs.Written.{IsWritten}
 use Rattle.vcd_text.proofs.follow.push_chain.Given as goal
 
@@ -8,7 +8,7 @@ abbrev pub invariant-loop-a : goal.invariant-loop-a
 invariant-loop-a l = record {
   written : IsWritten l.fn.values (values_at l.levels l.drives (variables_of l.variables)) l.fn.out (min l.a l.b) l.count l.values l.out;
   one : IsNext (sources (variables_of l.variables)) l.one (min l.a l.b) l.a;
-  two : IsNext (sources (variables_of l.variables)) (other_of l.one l.two l.first) (min l.a l.b) l.b;
+  two : IsNext (sources (variables_of l.variables)) l.two (min l.a l.b) l.b;
 }
 
 abbrev pub decreases-loop-a : goal.decreases-loop-a
