@@ -29,7 +29,7 @@ pub or_true : (b : Bool) → (b || true) ≡ true
 or_true true = refl
 or_true false = refl
 
-or_false : (b : Bool) → (b || false) ≡ b
+pub or_false : (b : Bool) → (b || false) ≡ b
 or_false true = refl
 or_false false = refl
 
@@ -65,6 +65,10 @@ none_from n from k none least =
     let e : from + (k - from) ≡ k = omega arith in
     let z : bit_at n k ≡ 0 = ap (bit_at n) (sym e) ∙ ap (λ x. x % 2) (sym (shr-shr n from (k - from))) ∙ ap (λ x. bit_at x (k - from)) none ∙ bit_at-zero (k - from) in
     ap (λ (b : ℕ). b == 1) z
+
+-- the part at a place from a number on, where the bit there is set
+pub one_at : (n from p : ℕ) → bit_at (n / 2 ^ from) p ≡ 1 → (bit_at n (from + p) == 1) ≡ true
+one_at n from p set = ap (λ (b : ℕ). b == 1) (ap (λ (x : ℕ). x % 2) (sym (shr-shr n from p)) ∙ set)
 
 -- and none before the least one that is
 pub none_before : (n from p k : ℕ) → ((i : ℕ) → i < p → bit_at (n / 2 ^ from) i ≡ 0) → from ≤ k → k < from + p → (bit_at n k == 1) ≡ false

@@ -1,9 +1,10 @@
 -- A part's turn is the step of the state that it stands for.
-use Rattle.std.proofs.Common.{◌≡◌, ◌≢◌, ℕ, ◌+◌, ◌-◌, ◌<◌, ◌≤◌, List, length, map, take, drop, Bool, true, false, Option, None, Some, refl, ap, sym, ◌∙◌, arith, subst, zero, suc, [], ◌∷◌, inl, inr, ◌⊎◌, get_or, add-one, length-set}
-use Rattle.std.specs.Prelude.{◌||◌, not, if◌then◌else◌, slice_get, slice_index, slice_set}
+use Rattle.std.proofs.Common.{◌≡◌, ◌≢◌, ℕ, ◌+◌, ◌-◌, ◌<◌, ◌≤◌, List, length, map, Bool, true, false, Option, None, Some, refl, ap, sym, ◌∙◌, arith, subst, zero, suc, [], ◌∷◌, inl, inr, ◌⊎◌, get_or, add-one, length-set}
+use Rattle.std.specs.Prelude.{◌||◌, not, if◌then◌else◌, slice_get, slice_set}
 use Rattle.std.specs.Option.{is_some}
 use Rattle.std.proofs.lemmas.Bool.Decides.{eqb_tells}
 use Rattle.sim_base.specs.declared.signal.Level.{Level}
+use Rattle.sim_base.specs.declared.signal.Drive.{Drive}
 use Rattle.sim_base.specs.declared.wiring.Wiring.{Wiring}
 use Rattle.sim_base.specs.declared.wiring.Input.{Input}
 use Rattle.part_law.specs.Machine.{Machine, Laws, IsQuiet, IsFirstDue, MayWake}
@@ -26,8 +27,9 @@ use Rattle.board_run.specs.declared.part_set.PartSet.{PartSet}
 use Rattle.board_run.specs.Parts.{has_part}
 use Rattle.board_model.specs.Fits.{Fits}
 use Rattle.board_model.proofs.RoomLemmas.{SameRoom, fits_room}
-use Rattle.board_run.specs.Seen.{levels_on}
-use Rattle.board_run.specs.Lagging.{is_at, to_wake, glided, AreLate, MayTurn, turned, Awaits, HadTurn, Turns, AreDue}
+use Rattle.board_run.specs.Seen.{IsTold, levels_on}
+use Rattle.net_resolve.specs.Circuit.{Circuit}
+use Rattle.board_run.specs.Lagging.{is_at, to_wake, glided, AreLate, MayTurn, turned, Awaits, HadTurn, Turns, AreDue, Replaced, TookTurn, Begun}
 
 pub less_or : (j n : ℕ) → (j < n) ⊎ (n ≤ j)
 less_or j n = grind arith
@@ -302,6 +304,34 @@ fits_set {S} {P} m w state parts i p q ep room fits = fits_room m w (map state p
               (ap (λ (s : S). length (m.drives s)) x_is, ap (λ (s : S). length (m.contacts s)) x_is)
         ]
 
+-- a turn puts a part in place of another
+pub turn_replaces : {S P : Type 0} (m : Machine S) (laws : Laws m) (w : Wiring) (state : P → S) (now wakes : P → ℕ) (t i : ℕ) (parts : List P) (c : Circuit) (p q : P) (b : Bool) (own : List Level) (input byte : Option ℕ) (changed : Bool) →
+    slice_get parts i ≡ Some p → Fits m w (map state parts) → IsTold m (map state parts) c → turned m state now wakes b t own input p q byte changed → Replaced m w state i parts (slice_set parts i q) c p q
+turn_replaces m laws w state now wakes t i parts c p q b own input byte changed ep fits told turn =
+    let room = turned_room m laws state now wakes t p q b own input byte changed turn in
+    record { was = ep; new_is = refl; pins = room.0; ports = room.1; fits = fits; told = told }
+
+-- and tells what the nets may be told of it
+pub turn_tells : {S P : Type 0} (m : Machine S) (laws : Laws m) (w : Wiring) (state : P → S) (now wakes : P → ℕ) (t i : ℕ) (parts : List P) (c : Circuit) (p q : P) (b : Bool) (own : List Level) (input byte : Option ℕ) (changed : Bool) (moves : ℕ → Bool) →
+    slice_get parts i ≡ Some p → Fits m w (map state parts) → IsTold m (map state parts) c → m.valid (state p) (now p) ≡ true → IsQuiet m (state p) (now p) (t - now p) → turned m state now wakes b t own input p q byte changed →
+    (changed ≡ true → (j : ℕ) → moves j ≡ false → slice_get (m.drives (state q)) j ≡ slice_get (m.drives (glided m state now wakes t p)) j) →
+    Replaced m w state i parts (slice_set parts i q) c p q
+    × (changed ≡ false → (m.drives (state q) ≡ m.drives (state p)) × (m.contacts (state q) ≡ m.contacts (state p)))
+    × (changed ≡ true → (j : ℕ) → moves j ≡ false → slice_get (m.drives (state q)) j ≡ slice_get (m.drives (state p)) j)
+turn_tells m laws w state now wakes t i parts c p q b own input byte changed moves ep fits told valid quiet turn others = (
+  turn_replaces m laws w state now wakes t i parts c p q b own input byte changed ep fits told turn,
+  (λ none. turned_still m laws state now wakes t p q b own input byte changed valid quiet turn none),
+  (λ some. turned_others m laws state now wakes t p q moves valid quiet (others some)),
+)
+
+-- what fits where a part was replaced
+pub replaced_fits : {S P : Type 0} (m : Machine S) (w : Wiring) (state : P → S) (i : ℕ) (old new : List P) (c : Circuit) (p q : P) → Replaced m w state i old new c p q → Fits m w (map state new)
+replaced_fits m w state i old new c p q h = subst (λ (l : List _). Fits m w (map state l)) (sym h.new_is) (fits_set m w state old i p q h.was (h.pins, h.ports) h.fits)
+
+-- and the part in its place
+pub replaced_here : {S P : Type 0} (m : Machine S) (w : Wiring) (state : P → S) (i : ℕ) (old new : List P) (c : Circuit) (p q : P) → Replaced m w state i old new c p q → slice_get new i ≡ Some q
+replaced_here m w state i old new c p q h = ap (λ (l : List _). slice_get l i) h.new_is ∙ get_set_same old i q (slice_get_within old i p h.was)
+
 -- the due cycles of all parts, where one was renewed
 pub due_set : {S P : Type 0} (m : Machine S) (state : P → S) (now wakes : P → ℕ) (parts : List P) (dues : List (Option ℕ)) (i : ℕ) (q : P) (d : Option ℕ) →
     i < length parts → i < length dues → AreDue m state now wakes parts dues → IsFirstDue m (state q) (now q) d → AreDue m state now wakes (slice_set parts i q) (slice_set dues i d)
@@ -317,20 +347,17 @@ due_set m state now wakes parts dues i q d hp hd are first k p e ep ee = elim (e
 module _ {S P : Type 0} (m : Machine S) (laws : Laws m) (w : Wiring) (given inputs : List Input) (state : P → S) (now wakes : P → ℕ) (ls : List Level) (differ : PartSet) (t : ℕ) (parts : List P) (ts : List S)
     (end : t < MOST_CYCLES) (awaits : Awaits m w state now given inputs ls differ t parts ts) where
   -- its turn
-  pub awaited_turn : (k : ℕ) (p q : P) (s : S) (due input byte : Option ℕ) (first pins : ℕ) (differs changed : Bool) → slice_get parts k ≡ Some p → slice_get ts k ≡ Some s → differs ≡ has_part differ k →
-      MayTurn m state now wakes t due p → first ≡ slice_index w.first_pin k → pins ≡ length (m.drives (state p)) → input ≡ input_at given t k →
-      turned m state now wakes (to_wake due t input differs) t (map (level_at ls) (take (first + pins - first) (drop first w.net_of))) input p q byte changed →
+  pub awaited_turn : (k : ℕ) (p q : P) (s : S) (due byte : Option ℕ) (changed : Bool) → slice_get parts k ≡ Some p → slice_get ts k ≡ Some s → MayTurn m state now wakes t due p →
+      turned m state now wakes (to_wake due t (input_at given t k) (has_part differ k)) t (levels_on m w ls k (state p)) (input_at given t k) p q byte changed →
       HadTurn m w inputs state now wakes ls t k p q s byte changed
-      × (active_in m w inputs ls t k (Some s) ≡ (if to_wake due t input differs then 1 else 0))
-  awaited_turn k p q s due input byte first pins differs changed ep es ed may is_first is_pins is_input turn =
+      × (active_in m w inputs ls t k (Some s) ≡ (if to_wake due t (input_at given t k) (has_part differ k) then 1 else 0))
+  awaited_turn k p q s due byte changed ep es may turn =
       let stands = awaits.stands.each k p s ep es in
-      let n : pins ≡ length (m.drives s) = is_pins ∙ ap length (stands_shows m laws t (now p) (state p) s stands).drives in
-      let count : first + pins - first ≡ length (m.drives s) = omega (arith, n) in
-      let own_is = ap (λ (j : ℕ). map (level_at ls) (take j (drop first w.net_of))) count ∙ ap (λ (j : ℕ). map (level_at ls) (take (length (m.drives s)) (drop j w.net_of))) is_first in
-      let differs_is = λ (l : 0 < t). ed ∙ awaits.differs k s es l in
-      let input_is = is_input ∙ awaits.values k in (
-        had_turn m laws w inputs state now wakes ls t k p q s due input byte _ differs changed end may stands own_is differs_is input_is turn,
-        ap (λ (b : Bool). if b then 1 else 0) (sym (wake_is m laws w inputs state now wakes ls t k p s due input differs end may stands differs_is input_is)),
+      let own_is = ap (λ (l : List Drive). map (level_at ls) (own_nets w k (length l))) (stands_shows m laws t (now p) (state p) s stands).drives in
+      let differs_is = awaits.differs k s es in
+      let input_is = awaits.values k in (
+        had_turn m laws w inputs state now wakes ls t k p q s due (input_at given t k) byte _ (has_part differ k) changed end may stands own_is differs_is input_is turn,
+        ap (λ (b : Bool). if b then 1 else 0) (sym (wake_is m laws w inputs state now wakes ls t k p s due (input_at given t k) (has_part differ k) end may stands differs_is input_is)),
       )
 
   -- and that it is passed over, where it is not due and nothing comes
@@ -400,3 +427,65 @@ sum_skip i j f least none =
 
 pub count_more : (i a b d : ℕ) (f : ℕ → ℕ) (one : ℕ) → b ≡ a + sum_below i f → d ≡ b + one → f i ≡ one → d ≡ a + sum_below (i + 1) f
 count_more i a b d f one h e g = rw add-one (omega (arith, h, e, g))
+
+-- Parts of which those before a number had their turn.
+module _ {S P : Type 0} (m : Machine S) (laws : Laws m) (w : Wiring) (given inputs : List Input) (state : P → S) (now wakes : P → ℕ) (ls : List Level) (marked differ : PartSet) (silent : Bool) (t : ℕ) (old : List P) (ts : List S)
+    (end : t < MOST_CYCLES) where
+  -- one more had its turn
+  pub begun_turn : (i : ℕ) (parts : List P) (answers : List (Option ℕ)) (changed moved : Bool) (x y : P) (d input byte : Option ℕ) (differs : Bool) → Begun m w state now given inputs ls marked differ silent t old ts i parts answers →
+      Turns m w inputs state now wakes ls t ts i old parts answers changed → slice_get parts i ≡ Some x → MayTurn m state now wakes t d x → input ≡ input_at given t i → differs ≡ has_part differ i →
+      TookTurn m w state now wakes ls t i input differs d x y byte moved →
+      Begun m w state now given inputs ls marked differ silent t old ts (i + 1) (slice_set parts i y) (slice_set answers i byte)
+      × Turns m w inputs state now wakes ls t ts (i + 1) old (slice_set parts i y) (slice_set answers i byte) (changed || moved)
+      × (sum_below (i + 1) (λ k. active_in m w inputs ls t k (slice_get ts k)) ≡ sum_below i (λ k. active_in m w inputs ls t k (slice_get ts k)) + (if to_wake d t input differs then 1 else 0))
+  begun_turn i parts answers changed moved x y d input byte differs begun turns ex may input_is differs_is took =
+      let within : i < length parts = slice_get_within parts i x ex in
+      let ep = sym (begun.rest i (omega arith)) ∙ ex in
+      let s = some_there ts i (omega (arith, begun.long, begun.awaits.stands.long, within)) in
+      let turn = subst (λ (o : Option ℕ). turned m state now wakes (to_wake d t o (has_part differ i)) t (levels_on m w ls i (state x)) o x y byte took.touched) input_is
+      (subst (λ (b : Bool). turned m state now wakes (to_wake d t input b) t (levels_on m w ls i (state x)) input x y byte took.touched) differs_is took.turn) in
+      let had = awaited_turn m laws w given inputs state now wakes ls differ t old ts end begun.awaits i x y s.0 d byte took.touched ep s.1 may turn in
+      let was = begun.awaits.stands.each i x s.0 ep s.1 in
+      let one : active_in m w inputs ls t i (slice_get ts i) ≡ (if to_wake d t input differs then 1 else 0) = ap (active_in m w inputs ls t i) s.1 ∙ had.1 ∙ ap (λ (o : Option ℕ). if to_wake d t o (has_part differ i) then 1 else 0) (sym input_is)
+      ∙ ap (λ (b : Bool). if to_wake d t input b then 1 else 0) (sym differs_is) in (
+        record {
+          awaits = begun.awaits;
+          marks = begun.marks;
+          nothing = begun.nothing;
+          long = length-set parts i y ∙ begun.long;
+          rest = λ k l. get_set_other parts i k y (omega (arith, l)) ∙ begun.rest k (omega (arith, l));
+          answers_long = length-set answers i byte ∙ begun.answers_long;
+          quiet = λ k a l ea. begun.quiet k a (omega (arith, l)) (sym (get_set_other answers i k byte (omega (arith, l))) ∙ ea);
+        },
+        turns_more m laws w inputs state now wakes ls t ts i old parts answers changed took.touched moved x y s.0 byte turns ep s.1 within (omega (arith, begun.answers_long, begun.long, within)) had.0
+            (λ none. step_still m laws w inputs state now ls t i x y s.0 was had.0.stands (took.shifted.same none))
+            (λ other ds cs. let still = still_step m laws w inputs state now ls t i x y s.0 was had.0.stands ds cs in took.shifted.other other still.0 still.1),
+        rw add-one (omega (arith, one)),
+      )
+
+  -- some are passed over
+  pub begun_pass : (i j : ℕ) (parts : List P) (answers : List (Option ℕ)) (changed : Bool) → Begun m w state now given inputs ls marked differ silent t old ts i parts answers → i ≤ j → j ≤ length parts → length parts ≤ 64 →
+      ((k : ℕ) (p : P) → i ≤ k → k < j → slice_get parts k ≡ Some p → (has_part marked k ≡ false) × (d : Option ℕ) × MayTurn m state now wakes t d p × (d ≢ Some t)) →
+      Turns m w inputs state now wakes ls t ts i old parts answers changed →
+      Begun m w state now given inputs ls marked differ silent t old ts j parts answers × Turns m w inputs state now wakes ls t ts j old parts answers changed × (sum_below j (λ k. active_in m w inputs ls t k (slice_get ts k)) ≡ sum_below i (λ k. active_in m w inputs ls t k (slice_get ts k)))
+  begun_pass i j parts answers changed begun order within few pass turns =
+      let rest = λ (k : ℕ) (p : P) (s : S) (l : i ≤ k) (h : k < j) (ep : slice_get old k ≡ Some p) (es : slice_get ts k ≡ Some s).
+      let a = pass k p l h (begun.rest k l ∙ ep) in
+      let none = begun.marks k (omega (arith, h, within, few)) a.0 in
+      awaited_rest m laws w given inputs state now wakes ls differ t old ts end begun.awaits k p s a.1 ep es none.0 a.2 a.3 none.1 in (
+        record {
+          awaits = begun.awaits;
+          marks = begun.marks;
+          nothing = begun.nothing;
+          long = begun.long;
+          rest = λ k l. begun.rest k (omega (arith, l, order));
+          answers_long = begun.answers_long;
+          quiet = λ k a l ea. begun.quiet k a (omega (arith, l, order)) ea;
+        },
+        turns_skip m laws w inputs state now wakes ls t ts i j old parts answers changed order turns begun.awaits.stands.long (omega (arith, within, begun.long)) (omega (arith, begun.answers_long)) begun.rest begun.quiet
+            (λ k p s l h ep es. (rest k p s l h ep es).0),
+        sum_skip i j (λ k. active_in m w inputs ls t k (slice_get ts k)) order (λ k l h.
+            let x = some_there old k (omega (arith, h, within, begun.long)) in
+            let s = some_there ts k (omega (arith, h, within, begun.long, begun.awaits.stands.long)) in
+            ap (active_in m w inputs ls t k) s.1 ∙ (rest k x.0 s.0 l h x.1 s.1).1),
+      )

@@ -1,5 +1,5 @@
 -- Parts that lag behind their board, and their turn in a cycle.
-use Rattle.std.specs.Prelude.{◌≡◌, ◌≢◌, ℕ, ◌+◌, ◌-◌, ◌<◌, ◌≤◌, List, map, Bool, true, false, not, ◌||◌, ◌==◌, Option, None, Some, slice_get}
+use Rattle.std.specs.Prelude.{◌≡◌, ◌≢◌, ℕ, ◌+◌, ◌-◌, ◌<◌, ◌≤◌, List, length, map, Bool, true, false, not, ◌||◌, ◌==◌, Option, None, Some, slice_get, slice_set}
 use Rattle.std.specs.Option.{is_some}
 use Rattle.sim_base.specs.declared.signal.Level.{Level}
 use Rattle.sim_base.specs.declared.wiring.Wiring.{Wiring}
@@ -7,12 +7,14 @@ use Rattle.sim_base.specs.declared.wiring.Input.{Input}
 use Rattle.part_law.specs.Machine.{Machine, glide, IsQuiet, IsFirstDue}
 use Rattle.board_model.specs.Board.{input_at, part_step, steps_from}
 use Rattle.board_model.specs.Rows.{same_list, same_level}
+use Rattle.board_model.specs.Fits.{Fits}
+use Rattle.net_resolve.specs.Circuit.{Circuit}
 use Rattle.board_laws.specs.Alike.{Alike, SameShow}
 use Rattle.board_laws.specs.Active.{active_in}
 use Rattle.board_laws.specs.Stands.{Stands}
 use Rattle.board_run.specs.declared.part_set.PartSet.{PartSet}
 use Rattle.board_run.specs.Parts.{has_part}
-use Rattle.board_run.specs.Seen.{levels_on}
+use Rattle.board_run.specs.Seen.{IsTold, levels_on}
 
 abbrev pub is_at : Option ℕ → ℕ → Bool
 is_at None t = false
@@ -77,3 +79,34 @@ pub record Turns {S P : Type 0} (m : Machine S) (w : Wiring) (inputs : List Inpu
   pub answered : (k : ℕ) → k < i → slice_get answers k ≡ slice_get (map (λ r. r.1) (steps_from m w inputs ls t 0 ts)) k
   pub still : changed ≡ false → (k : ℕ) (s : S) → k < i → slice_get ts k ≡ Some s → SameShow m m (part_step m w inputs ls t k s).0 s
   pub moved : changed ≡ true → (k : ℕ) × (s : S) × (k < i) × (slice_get ts k ≡ Some s) × (m.drives (part_step m w inputs ls t k s).0 ≡ m.drives s → m.contacts (part_step m w inputs ls t k s).0 ≢ m.contacts s)
+
+-- Part i of some parts was p and is q, which has as many pins and contacts; the nets were told what those before show.
+pub record Replaced {S P : Type 0} (m : Machine S) (w : Wiring) (state : P → S) (i : ℕ) (old new : List P) (c : Circuit) (p q : P) : Type 0 where
+  pub was : slice_get old i ≡ Some p
+  pub new_is : new ≡ slice_set old i q
+  pub pins : length (m.drives (state q)) ≡ length (m.drives (state p))
+  pub ports : length (m.contacts (state q)) ≡ length (m.contacts (state p))
+  pub fits : Fits m w (map state old)
+  pub told : IsTold m (map state old) c
+
+-- whether a part that was p and is q drives or connects something else
+pub record Shifted {S P : Type 0} (m : Machine S) (state : P → S) (p q : P) (changed : Bool) : Type 0 where
+  pub same : changed ≡ false → (m.drives (state q) ≡ m.drives (state p)) × (m.contacts (state q) ≡ m.contacts (state p))
+  pub other : changed ≡ true → m.drives (state q) ≡ m.drives (state p) → m.contacts (state q) ≢ m.contacts (state p)
+
+-- part i, which was p and due at d, is q after its turn on the levels of the nets
+pub record TookTurn {S P : Type 0} (m : Machine S) (w : Wiring) (state : P → S) (now wakes : P → ℕ) (ls : List Level) (t i : ℕ) (input : Option ℕ) (differs : Bool) (d : Option ℕ) (p q : P) (byte : Option ℕ) (changed : Bool) : Type 0 where
+  pub touched : Bool
+  pub turn : turned m state now wakes (to_wake d t input differs) t (levels_on m w ls i (state p)) input p q byte touched
+  pub shifted : Shifted m state p q changed
+
+-- Of parts that lag behind a board those before number i had their turn in cycle t, and the others are as they were. Those are
+-- marked that differ or that the script addresses, which is none where it is silent.
+pub record Begun {S P : Type 0} (m : Machine S) (w : Wiring) (state : P → S) (now : P → ℕ) (given inputs : List Input) (ls : List Level) (marked differ : PartSet) (silent : Bool) (t : ℕ) (old : List P) (ts : List S) (i : ℕ) (new : List P) (answers : List (Option ℕ)) : Type 0 where
+  pub awaits : Awaits m w state now given inputs ls differ t old ts
+  pub marks : (k : ℕ) → k < 64 → has_part marked k ≡ false → (has_part differ k ≡ false) × (input_at given t k ≡ None)
+  pub nothing : silent ≡ true → (marked ≡ differ) × ((k : ℕ) → input_at given t k ≡ None)
+  pub long : length new ≡ length old
+  pub rest : (k : ℕ) → i ≤ k → slice_get new k ≡ slice_get old k
+  pub answers_long : length answers ≡ length old
+  pub quiet : (k : ℕ) (a : Option ℕ) → i ≤ k → slice_get answers k ≡ Some a → a ≡ None

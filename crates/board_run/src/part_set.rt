@@ -1,5 +1,5 @@
 //! Sets of a board's parts.
-ghost use Rattle.std.specs.Prelude.{◌≡◌, ℕ, ◌<◌, ◌≤◌, ◌||◌, ◌==◌, false};
+ghost use Rattle.std.specs.Prelude.{◌≡◌, ℕ, ◌<◌, ◌≤◌, ◌||◌, ◌==◌, true, false};
 ghost use Rattle.std.specs.Int.{bit_at};
 ghost use Rattle.board_run.specs.Parts.{has_part};
 
@@ -15,6 +15,7 @@ pub(crate) struct PartSet {
 fn lowest(bits: u64) -> usize
     requires { 0 < bits }
     ensures within { result < 64 }
+    ensures here { bit_at bits result ≡ 1 }
     ensures passed { (k : ℕ) → k < result → bit_at bits k ≡ 0 }
 {
     bits.trailing_zeros() as usize
@@ -64,6 +65,7 @@ impl PartSet {
         requires end { end ≤ 64 }
         ensures from { from ≤ result }
         ensures within { result ≤ end }
+        ensures here { result < end → has_part self result ≡ true }
         ensures passed { (k : ℕ) → from ≤ k → k < result → has_part self k ≡ false }
     {
         if from == end {

@@ -30,6 +30,7 @@ fn joins_other(nets: &Nets, contact: usize, closed: bool) -> bool
 }
 
 /// Sets what the pins of a span drive, and tells whether one drives something else; the part's pins begin at a place.
+#[inline(always)]
 fn set_pins<P: Part>(part: &P, span: Span, at: usize, nets: &mut Nets) -> bool
     requires room { at + length (P.machine.drives (P.state part.now)) ≤ length nets.old.net_of }
     requires few { length nets.old.net_of < 2 ^ 63 }

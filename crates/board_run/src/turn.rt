@@ -1,11 +1,11 @@
 //! A cycle in which only the active parts are woken.
-ghost use Rattle.std.specs.Prelude.{◌≡◌, ◌≢◌, ℕ, ◌+◌, ◌<◌, ◌≤◌, Bool, List, length, map, take, Some, None, Option, true, false, if◌then◌else◌, slice_get, slice_set};
+ghost use Rattle.std.specs.Prelude.{◌≡◌, ◌≢◌, ℕ, ◌+◌, ◌<◌, ◌≤◌, ◌||◌, Bool, List, [], length, map, take, Some, None, Option, true, false, if◌then◌else◌, slice_get, slice_set, slice_index};
 ghost use Rattle.part_law.specs.Machine.{IsFirstDue, MayWake};
 ghost use Rattle.sim_base.specs.declared.wiring.Input.{Input};
 ghost use Rattle.board_model.specs.Board.{level_at, input_at};
 ghost use Rattle.board_model.specs.Fits.{Fits};
 ghost use Rattle.board_laws.specs.Active.{sum_below, active_in};
-ghost use Rattle.board_run.specs.Lagging.{is_at, to_wake, glided, AreLate, MayTurn, Wakes, turned, Awaits, Turns, AreDue};
+ghost use Rattle.board_run.specs.Lagging.{is_at, to_wake, glided, AreLate, MayTurn, Wakes, turned, Awaits, Turns, AreDue, Replaced, Shifted, TookTurn, Begun};
 ghost use Rattle.board_run.specs.Parts.{has_part, AreNone};
 ghost use Rattle.board_run.specs.Seen.{IsTold, levels_on};
 
@@ -133,31 +133,29 @@ fn take_turn_on<P: Part, L: Ledger>(
     }
 }
 
-/// Has a part hear its levels, where one differs from the one that it holds, it is never due and the script is silent; None
-/// where it has to take its turn.
+/// Has a part hear its levels, of which one differs from the one that it holds, where it is never due; None where it has to
+/// take its turn.
 #[inline(always)]
 fn hear_levels<P: Part, L: Ledger>(
     part: &mut P,
     due: Option<u32>,
     levels: &[Level],
-    differs: bool,
-    silent: bool,
     t: u32,
     steps: &mut Steps<L>,
 ) -> Option<bool>
     requires end { t < MOST_CYCLES }
     requires may { MayTurn P.machine P.state P.now P.wake_count t due part.old }
     requires pins { length (P.machine.drives (P.state part.old)) ≤ length levels.now }
-    requires differs { differs ≡ true → 0 < t → P.machine.held (P.state part.old) ≢ take (length (P.machine.drives (P.state part.old))) levels.now }
+    requires differs { 0 < t → P.machine.held (P.state part.old) ≢ take (length (P.machine.drives (P.state part.old))) levels.now }
     ensures stays { result ≡ None → (part.new ≡ part.old) × (steps.new ≡ steps.old) }
-    ensures asked { (touched : Bool) → result ≡ Some touched → (due ≡ None) × (silent ≡ true) × (differs ≡ true) }
+    ensures asked { (touched : Bool) → result ≡ Some touched → due ≡ None }
     ensures wakes { (touched : Bool) → result ≡ Some touched → Wakes P.machine P.state P.now P.wake_count t (take (length (P.machine.drives (P.state part.old))) levels.now) None part.old part.new None touched }
     ensures first { (touched : Bool) → result ≡ Some touched → IsFirstDue P.machine (P.state part.new) (P.now part.new) None }
     ensures others { (touched : Bool) → result ≡ Some touched → (pin : ℕ) → P.moves part.new pin ≡ false
         → slice_get (P.machine.drives (P.state part.new)) pin ≡ slice_get (P.machine.drives (glided P.machine P.state P.now P.wake_count t part.old)) pin }
     ensures steps { (touched : Bool) → result ≡ Some touched → steps.new ≡ steps.old + 1 }
 {
-    if !differs || !silent || due.is_some() {
+    if due.is_some() {
         return None;
     }
     let heard = part.hear(levels, t);
@@ -184,7 +182,6 @@ fn take_turn_at<P: Part, L: Ledger>(
     requires part { i < length dues.old }
     requires few { length dues.old ≤ 64 }
     requires answer { i < length answers.old }
-    requires none { slice_get answers.old i ≡ Some None }
     requires may { (d : Option ℕ) → slice_get dues.old i ≡ Some d → MayTurn P.machine P.state P.now P.wake_count t d part.old }
     requires pins { length (P.machine.drives (P.state part.old)) ≤ length levels.now }
     requires differs { differs ≡ true → 0 < t → P.machine.held (P.state part.old) ≢ take (length (P.machine.drives (P.state part.old))) levels.now }
@@ -197,9 +194,6 @@ fn take_turn_at<P: Part, L: Ledger>(
     ensures steps { (d : Option ℕ) → slice_get dues.old i ≡ Some d → steps.new ≡ steps.old + (if to_wake d t (input_at given.now t i) differs then 1 else 0) }
 {
     let mut due = dues.due(i as u8);
-    if let Some(touched) = hear_levels(part, due, levels, differs, given.is_empty(), t, steps) {
-        return (None, touched);
-    }
     let pins = part.pins() as usize;
     let input = find_input(given, t, i);
     let (byte, touched) = take_turn_on(part, &mut due, &levels[..pins], differs, input, t, steps);
@@ -210,7 +204,8 @@ fn take_turn_at<P: Part, L: Ledger>(
 
 /// These parts and those that the script addresses.
 fn with_given(parts: PartSet, given: &[Input]) -> PartSet
-    ensures { (t k : ℕ) → k < 64 → has_part result k ≡ false → (has_part parts k ≡ false) × (input_at given.now t k ≡ None) }
+    ensures marked { (t k : ℕ) → k < 64 → has_part result k ≡ false → (has_part parts k ≡ false) × (input_at given.now t k ≡ None) }
+    ensures silent { given.now ≡ [] → result ≡ parts }
 {
     let mut set = parts;
     for input in given {
@@ -236,20 +231,209 @@ fn first_at(dues: &DueTree, t: u32, end: usize) -> usize
     }
 }
 
-/// The next part from a number on that is among these or due in cycle t, or the end where none is.
+/// The least part that is due in cycle t, or the end, behind the turn of part `i`: where that stood before it, it is as
+/// before.
 #[inline]
-fn next_part(parts: PartSet, dues: &DueTree, t: u32, from: usize, end: usize) -> usize
-    requires order { from ≤ end }
-    requires few { end ≤ 64 }
+fn first_again(dues: &DueTree, t: u32, i: usize, before: usize, end: usize) -> usize
+    requires before { before ≤ end }
     requires end { end ≡ length dues.now }
     requires late { AreLate dues.now t }
-    requires before { (k : ℕ) → k < from → slice_get dues.now k ≢ Some (Some t) }
-    ensures from { from ≤ result }
+    requires passed { (k : ℕ) → k < i + 1 → slice_get dues.now k ≢ Some (Some t) }
+    requires rest { i < before → (k : ℕ) → k < before → slice_get dues.now k ≢ Some (Some t) }
+    ensures behind { i < end → i + 1 ≤ result }
     ensures within { result ≤ end }
-    ensures passed { (k : ℕ) → from ≤ k → k < result → (has_part parts k ≡ false) × (slice_get dues.now k ≢ Some (Some t)) }
+    ensures passed { (k : ℕ) → k < result → slice_get dues.now k ≢ Some (Some t) }
 {
-    let due = first_at(dues, t, end);
-    parts.next(from, due)
+    if i < before {
+        before
+    } else {
+        first_at(dues, t, end)
+    }
+}
+
+/// Tells the nets what part `i`, whose pins begin at a place, drives and connects after its turn, where that may be
+/// something else, and answers whether it is.
+#[inline(always)]
+fn tell_turn<P: Part>(
+    touched: bool,
+    parts: &[P],
+    i: usize,
+    first: usize,
+    wiring: &Wiring,
+    nets: &mut Nets,
+) -> bool
+    requires first { first ≡ slice_index wiring.now.first_pin i }
+    requires wired { (nets.old.net_of ≡ wiring.now.net_of) × (nets.old.contacts ≡ wiring.now.contacts) }
+    requires before { (old : List _) × (p q : _) × Replaced P.machine wiring.now P.state i old parts.now nets.old p q
+        × (touched ≡ false → (P.machine.drives (P.state q) ≡ P.machine.drives (P.state p)) × (P.machine.contacts (P.state q) ≡ P.machine.contacts (P.state p)))
+        × (touched ≡ true → (j : ℕ) → P.moves q j ≡ false → slice_get (P.machine.drives (P.state q)) j ≡ slice_get (P.machine.drives (P.state p)) j) }
+    ensures fits { Fits P.machine wiring.now (map P.state parts.now) }
+    ensures told { IsTold P.machine (map P.state parts.now) nets.new }
+    ensures rest { nets.new ≡ record nets.old { drives = nets.new.drives; closed = nets.new.closed } }
+    ensures shifted { (old : List _) (p q : _) → Replaced P.machine wiring.now P.state i old parts.now nets.old p q → Shifted P.machine P.state p q result }
+{
+    let _net_of = wiring.net_of.as_slice(); // lists that are lent have lengths that numbers hold
+    let _contacts = wiring.contacts.as_slice();
+    tell(touched, parts, i, first, nets)
+}
+
+/// The turn of part `i`, where it is active; the nets are told what it drives and connects then. It answers its byte, and
+/// whether a drive or a contact changed.
+#[inline(always)]
+fn turn_part<P: Part, L: Ledger>(
+    parts: &mut [P],
+    i: usize,
+    dues: &mut DueTree,
+    wiring: &Wiring,
+    differ: PartSet,
+    given: &[Input],
+    answers: &mut [Option<u8>],
+    t: u32,
+    nets: &mut Nets,
+    steps: &mut Steps<L>,
+) -> (Option<u8>, bool)
+    requires end { t < MOST_CYCLES }
+    requires part { i < length parts.old }
+    requires dues { length dues.old ≡ length parts.old }
+    requires few { length parts.old ≤ 64 }
+    requires answers { length answers.old ≡ length parts.old }
+    requires fits { Fits P.machine wiring.now (map P.state parts.old) }
+    requires may { (p : _) (d : Option ℕ) → slice_get parts.old i ≡ Some p → slice_get dues.old i ≡ Some d → MayTurn P.machine P.state P.now P.wake_count t d p }
+    requires valid { (p : _) → slice_get parts.old i ≡ Some p → P.machine.valid (P.state p) (P.now p) ≡ true }
+    requires differs { (p : _) → slice_get parts.old i ≡ Some p → has_part differ i ≡ true → 0 < t
+        → P.machine.held (P.state p) ≢ levels_on P.machine wiring.now nets.old.levels i (P.state p) }
+    requires wired { (nets.old.net_of ≡ wiring.now.net_of) × (nets.old.contacts ≡ wiring.now.contacts) }
+    requires told { IsTold P.machine (map P.state parts.old) nets.old }
+    ensures part { (q : _) × (parts.new ≡ slice_set parts.old i q)
+        × ((p : _) (d : Option ℕ) → slice_get parts.old i ≡ Some p → slice_get dues.old i ≡ Some d → TookTurn P.machine wiring.now P.state P.now P.wake_count
+        nets.old.levels t i (input_at given.now t i) (has_part differ i) d p q result.0 result.1) }
+    ensures due { (d : Option ℕ) × (dues.new ≡ slice_set dues.old i d) × ((q : _) → slice_get parts.new i ≡ Some q → IsFirstDue P.machine (P.state q) (P.now q) d)
+        × ((u : ℕ) → d ≡ Some u → t < u) }
+    ensures answers { answers.new ≡ slice_set answers.old i result.0 }
+    ensures fits { Fits P.machine wiring.now (map P.state parts.new) }
+    ensures told { IsTold P.machine (map P.state parts.new) nets.new }
+    ensures rest { nets.new ≡ record nets.old { drives = nets.new.drives; closed = nets.new.closed } }
+    ensures steps { (d : Option ℕ) → slice_get dues.old i ≡ Some d
+        → steps.new ≡ steps.old + (if to_wake d t (input_at given.now t i) (has_part differ i) then 1 else 0) }
+{
+    let first = wiring.first_pin.as_slice()[i] as usize;
+    let (byte, touched) = take_turn_at(
+        &mut parts[i],
+        i,
+        dues,
+        &nets.pin_levels()[first..],
+        differ.has(i),
+        given,
+        answers,
+        t,
+        steps,
+    );
+    let moved = tell_turn(touched, parts, i, first, wiring, nets);
+    (byte, moved)
+}
+
+/// Has part `i` hear its levels, of which one differs from the one that it holds, where it can, and tells the nets what it
+/// drives and connects then; answers whether a drive or a contact changed.
+#[inline(always)]
+fn hear_part<P: Part, L: Ledger>(
+    parts: &mut [P],
+    i: usize,
+    dues: &DueTree,
+    wiring: &Wiring,
+    t: u32,
+    nets: &mut Nets,
+    steps: &mut Steps<L>,
+) -> Option<bool>
+    requires end { t < MOST_CYCLES }
+    requires part { i < length parts.old }
+    requires dues { length dues.now ≡ length parts.old }
+    requires few { length parts.old ≤ 64 }
+    requires fits { Fits P.machine wiring.now (map P.state parts.old) }
+    requires may { (p : _) (d : Option ℕ) → slice_get parts.old i ≡ Some p → slice_get dues.now i ≡ Some d → MayTurn P.machine P.state P.now P.wake_count t d p }
+    requires valid { (p : _) → slice_get parts.old i ≡ Some p → P.machine.valid (P.state p) (P.now p) ≡ true }
+    requires differs { (p : _) → slice_get parts.old i ≡ Some p → 0 < t
+        → P.machine.held (P.state p) ≢ levels_on P.machine wiring.now nets.old.levels i (P.state p) }
+    requires wired { (nets.old.net_of ≡ wiring.now.net_of) × (nets.old.contacts ≡ wiring.now.contacts) }
+    requires told { IsTold P.machine (map P.state parts.old) nets.old }
+    ensures stays { result ≡ None → (parts.new ≡ parts.old) × (nets.new ≡ nets.old) × (steps.new ≡ steps.old) }
+    ensures asked { (moved : Bool) → result ≡ Some moved → slice_get dues.now i ≡ Some None }
+    ensures part { (moved : Bool) → result ≡ Some moved → (q : _) × (parts.new ≡ slice_set parts.old i q) × IsFirstDue P.machine (P.state q) (P.now q) None
+        × ((p : _) → slice_get parts.old i ≡ Some p → TookTurn P.machine wiring.now P.state P.now P.wake_count nets.old.levels t i None true None p q None moved) }
+    ensures fits { Fits P.machine wiring.now (map P.state parts.new) }
+    ensures told { IsTold P.machine (map P.state parts.new) nets.new }
+    ensures rest { nets.new ≡ record nets.old { drives = nets.new.drives; closed = nets.new.closed } }
+    ensures steps { (moved : Bool) → result ≡ Some moved → steps.new ≡ steps.old + 1 }
+{
+    let first = wiring.first_pin.as_slice()[i] as usize;
+    let heard = hear_levels(
+        &mut parts[i],
+        dues.due(i as u8),
+        &nets.pin_levels()[first..],
+        t,
+        steps,
+    );
+    match heard {
+        Some(touched) => Some(tell_turn(touched, parts, i, first, wiring, nets)),
+        None => None,
+    }
+}
+
+/// Goes on from a part to the next one that has to take its turn. Where the script is silent, the parts before it hear their
+/// levels of which one differs, as long as they can and none is due. It answers which part it came to, and whether a drive
+/// or a contact changed.
+#[inline(always)]
+fn hear_all<P: Part, L: Ledger>(
+    silent: bool,
+    parts: &mut [P],
+    dues: &DueTree,
+    wiring: &Wiring,
+    marked: PartSet,
+    from: usize,
+    least: usize,
+    t: u32,
+    nets: &mut Nets,
+    steps: &mut Steps<L>,
+) -> (usize, bool)
+    requires end { t < MOST_CYCLES }
+    requires dues { length dues.now ≡ length parts.old }
+    requires few { length parts.old ≤ 64 }
+    requires order { from ≤ least }
+    requires within { least ≤ length parts.old }
+    requires passed { (k : ℕ) → k < least → slice_get dues.now k ≢ Some (Some t) }
+    requires due { AreDue P.machine P.state P.now P.wake_count parts.old dues.now }
+    requires fits { Fits P.machine wiring.now (map P.state parts.old) }
+    requires may { (k : ℕ) (p : _) (d : Option ℕ) → from ≤ k → slice_get parts.old k ≡ Some p → slice_get dues.now k ≡ Some d → MayTurn P.machine P.state P.now P.wake_count t d p }
+    requires valid { (k : ℕ) (p : _) → from ≤ k → slice_get parts.old k ≡ Some p → P.machine.valid (P.state p) (P.now p) ≡ true }
+    requires differs { silent ≡ true → (k : ℕ) (p : _) → from ≤ k → slice_get parts.old k ≡ Some p → has_part marked k ≡ true → 0 < t
+        → P.machine.held (P.state p) ≢ levels_on P.machine wiring.now nets.old.levels k (P.state p) }
+    requires wired { (nets.old.net_of ≡ wiring.now.net_of) × (nets.old.contacts ≡ wiring.now.contacts) }
+    requires told { IsTold P.machine (map P.state parts.old) nets.old }
+    ensures from { from ≤ result.0 }
+    ensures within { result.0 ≤ least }
+    ensures long { length parts.new ≡ length parts.old }
+    ensures rest { (k : ℕ) → result.0 ≤ k → slice_get parts.new k ≡ slice_get parts.old k }
+    ensures due { AreDue P.machine P.state P.now P.wake_count parts.new dues.now }
+    ensures fits { Fits P.machine wiring.now (map P.state parts.new) }
+    ensures told { IsTold P.machine (map P.state parts.new) nets.new }
+    ensures nets { nets.new ≡ record nets.old { drives = nets.new.drives; closed = nets.new.closed } }
+    ensures turns { (given inputs : List Input) (differ : PartSet) (old : List _) (ts : List P.State) (answers : List (Option ℕ)) (changed : Bool)
+        → Begun P.machine wiring.now P.state P.now given inputs nets.old.levels marked differ silent t old ts from parts.old answers
+        → Turns P.machine wiring.now inputs P.state P.now P.wake_count nets.old.levels t ts from old parts.old answers changed
+        → Begun P.machine wiring.now P.state P.now given inputs nets.old.levels marked differ silent t old ts result.0 parts.new answers
+        × Turns P.machine wiring.now inputs P.state P.now P.wake_count nets.old.levels t ts result.0 old parts.new answers (changed || result.1)
+        × (steps.new + sum_below from (λ k. active_in P.machine wiring.now inputs nets.old.levels t k (slice_get ts k))
+        ≡ steps.old + sum_below result.0 (λ k. active_in P.machine wiring.now inputs nets.old.levels t k (slice_get ts k))) }
+{
+    let mut changed = false;
+    let mut i = marked.next(from, least);
+    while silent && i < least {
+        match hear_part(parts, i, dues, wiring, t, nets, steps) {
+            Some(moved) => changed = changed | moved,
+            None => return (i, changed),
+        }
+        i = marked.next(i + 1, least);
+    }
+    (i, changed)
 }
 
 /// Gives each part its turn that is due, addressed by the script, or on a net whose level changed: where it is active
@@ -288,30 +472,34 @@ pub(crate) fn wake_active<P: Part, L: Ledger>(
     ensures steps { (inputs : List Input) (ts : List P.State) → Awaits P.machine wiring.now P.state P.now given.now inputs nets.old.levels differ t parts.old ts
         → steps.new ≡ steps.old + sum_below (length parts.old) (λ k. active_in P.machine wiring.now inputs nets.old.levels t k (slice_get ts k)) }
 {
-    let _net_of = wiring.net_of.as_slice(); // lists that are lent have lengths that numbers hold
-    let _contacts = wiring.contacts.as_slice();
     let marked = with_given(differ, given);
-    let mut changed = false;
+    let silent = given.is_empty();
     let mut sent = false;
     let count = parts.len();
-    let mut i = next_part(marked, dues, t, 0, count);
+    let mut least = first_at(dues, t, count);
+    let (mut i, mut changed) = hear_all(
+        silent, parts, dues, wiring, marked, 0, least, t, nets, steps,
+    );
     while i < count {
-        let first = wiring.first_pin.as_slice()[i] as usize;
-        let (byte, touched) = take_turn_at(
-            &mut parts[i],
-            i,
+        let (byte, moved) = turn_part(
+            parts, i, dues, wiring, differ, given, answers, t, nets, steps,
+        );
+        sent = sent | byte.is_some();
+        least = first_again(dues, t, i, least, count);
+        let (to, heard) = hear_all(
+            silent,
+            parts,
             dues,
-            &nets.pin_levels()[first..],
-            differ.has(i),
-            given,
-            answers,
+            wiring,
+            marked,
+            i + 1,
+            least,
             t,
+            nets,
             steps,
         );
-        let moved = tell(touched, parts, i, first, nets);
-        changed = changed | moved;
-        sent = sent | byte.is_some();
-        i = next_part(marked, dues, t, i + 1, count);
+        changed = changed | moved | heard;
+        i = to;
     }
     Woken { changed, sent }
 }

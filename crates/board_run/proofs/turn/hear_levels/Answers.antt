@@ -1,5 +1,5 @@
-use Rattle.std.proofs.Common.{take, length}
-use Rattle.std.specs.Prelude.{None}
+use Rattle.std.proofs.Common.{take, length, refl}
+use Rattle.std.specs.Prelude.{None, true}
 use Rattle.std.proofs.lemmas.Bool.{or_right}
 use Rattle.board_run.specs.Lagging.{is_at}
 use Rattle.board_run.proofs.TurnLemmas.{may_wake}
@@ -9,5 +9,5 @@ pub hear-heard-requires-clause-may : goal.hear-heard-requires-clause-may
 hear-heard-requires-clause-may g c =
     let p = g.P.Part in
     let x = c.args.part.now in
-    may_wake p.machine g.met.P.Part.laws p.state p.now p.wake_count c.args.t x c.args.due None (take (length (p.machine.drives (p.state x))) c.args.levels.now) c.args.differs
-    c.requires.may c.requires.differs (or_right (is_at c.args.due c.args.t) _ c.if-not-differs.false)
+    may_wake p.machine g.met.P.Part.laws p.state p.now p.wake_count c.args.t x c.args.due None (take (length (p.machine.drives (p.state x))) c.args.levels.now) true
+    c.requires.may (λ is. c.requires.differs) (or_right (is_at c.args.due c.args.t) _ refl)
