@@ -8,11 +8,11 @@ use crate::pad::Pad;
 use crate::pins::PORT_PINS;
 use sim_base::Level;
 
-/// Two groups side by side: a register is read from the first that has it, and a write goes to each.
+/// Two groups side by side: a register is read from the first that has it, and a write goes to each. Each can be asked alone.
 #[derive(Drop)]
 pub struct Both<A, B> {
-    first: A,
-    second: B,
+    pub first: A,
+    pub second: B,
 }
 
 impl<A: Group, B: Group> Group for Both<A, B> {
