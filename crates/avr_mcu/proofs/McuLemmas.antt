@@ -11,7 +11,7 @@ use Rattle.sim_base.specs.declared.signal.Level.{Level}
 use Rattle.sim_base.specs.declared.limits.TheConstants.{MOST_CYCLES}
 use Rattle.part_law.specs.Machine.{glide, idle, IsQuiet, IsFirstDue}
 use Rattle.part_law.specs.declared.span.Span.{Span}
-use Rattle.part_law.specs.Spans.{IsIn, all_pins, no_pins}
+use Rattle.part_law.specs.Spans.{IsIn, no_pins}
 use Rattle.part_law.proofs.SpanLemmas.{none_in, not_joined}
 use Rattle.avr_core.specs.CoreState.{Core}
 use Rattle.avr_core.specs.AvrStep.{Did}
@@ -23,6 +23,8 @@ use Rattle.unit_law.specs.UnitMachine as unit
 use Rattle.unit_law.proofs.UnitLemmas.{step_none, step_last, quiet_requests}
 use Rattle.avr_mcu.specs.declared.pins.TheConstants.{UNO_PINS}
 use Rattle.avr_mcu.specs.Units.{Units, UnitsAt, unit_bus, pins, request, units_step, plain, with_plain, with_register, data_at, touches, bit_touches, pins_of, pins_of_bit, touched_by}
+use Rattle.avr_mcu.specs.Placed.{hull}
+use Rattle.avr_mcu.proofs.HullLemmas.{apart}
 use Rattle.avr_mcu.proofs.ReachLemmas.{Reaches}
 use Rattle.avr_mcu.specs.McuOf.{Mcu, mcu, mcu_step, ready, enters, starts, performed, acted, core_acted, uno_drive, uno_drives}
 use Rattle.avr_mcu.specs.McuLawsOf.{drive_same, drives_same, length-uno_drives, rests}
@@ -185,22 +187,21 @@ module _ {D : Type 0} (m : UnitMachine D) (laws : unit.Laws m) where
       ap (λ (x : Mcu D). record x { units = units_step m x.units t x.held x.held }) e
       ∙ ap (λ (l : List Level). record b { units = units_step m b.units t b.held l; held = l }) (acted_holds s t)
 
-  -- the drives after what the core does and a step of the units that change nothing of the pins
-  pub wake_drives : (old mid new : D) (touched : Span) (moves : Bool) →
-      ((p : ℕ) → p < PORT_PINS → ¬ IsIn touched p → m.pad mid p ≡ m.pad old p) → (moves ≡ false → (p : ℕ) → m.pad new p ≡ m.pad mid p) →
-      (span : Span) → span ≡ (if moves then all_pins else touched) → nat_lt span.from span.to ≡ false → uno_drives m new ≡ uno_drives m old
-  wake_drives old mid new touched true did stepped span is none = absurd (let e : nat_lt span.from span.to ≡ true = ap (λ (x : Span). nat_lt x.from x.to) is in cc)
-  wake_drives old mid new touched false did stepped span is none =
-      drives_same m new old (λ p l. stepped refl p ∙ did p l (none_in touched p (sym (ap (λ (x : Span). nat_lt x.from x.to) is) ∙ none)))
+  -- after what the core does and a step of the units, each of which may change what is asked of some pins
+  module _ (old mid new : D) (touched moved : Span) (did : (p : ℕ) → p < PORT_PINS → ¬ IsIn touched p → m.pad mid p ≡ m.pad old p)
+      (stepped : (p : ℕ) → p < PORT_PINS → ¬ IsIn moved p → m.pad new p ≡ m.pad mid p) (span : Span) (is : span ≡ hull touched moved) where
+    woken_pad : (p : ℕ) → p < PORT_PINS → ¬ IsIn span p → m.pad new p ≡ m.pad old p
+    woken_pad p l out =
+        let both = apart span touched moved p is out in
+        stepped p l both.1 ∙ did p l both.0
 
-  -- one of them, where that may change others
-  pub wake_drive : (old mid new : D) (touched : Span) (moves : Bool) →
-      ((p : ℕ) → p < PORT_PINS → ¬ IsIn touched p → m.pad mid p ≡ m.pad old p) → (moves ≡ false → (p : ℕ) → m.pad new p ≡ m.pad mid p) →
-      (span : Span) → span ≡ (if moves then all_pins else touched) → (p : ℕ) → ¬ IsIn span p → slice_get (uno_drives m new) p ≡ slice_get (uno_drives m old) p
-  wake_drive old mid new touched true did stepped span is p out =
-      drive_get new old p (λ l. absurd (out (subst (λ (x : Span). IsIn x p) (sym is) (omega arith, omega (arith, l)))))
-  wake_drive old mid new touched false did stepped span is p out =
-      drive_get new old p (λ l. stepped refl p ∙ did p l (λ h. out (subst (λ (x : Span). IsIn x p) (sym is) h)))
+    -- all drives are what they were, if these are no pins
+    pub wake_drives : nat_lt span.from span.to ≡ false → uno_drives m new ≡ uno_drives m old
+    wake_drives none = drives_same m new old (λ p l. woken_pad p l (none_in span p none))
+
+    -- one of another pin is
+    pub wake_drive : (p : ℕ) → ¬ IsIn span p → slice_get (uno_drives m new) p ≡ slice_get (uno_drives m old) p
+    wake_drive p out = drive_get new old p (λ l. woken_pad p l out)
 
   -- one cycle of the units without an event
   pub rest_is : (s : UnitsAt D) (t d : ℕ) → s.cycle ≡ t → FirstDue m s.units.devices s.cycle d → t < d →

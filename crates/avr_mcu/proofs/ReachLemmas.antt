@@ -13,8 +13,16 @@ use Rattle.unit_law.specs.Both.{both}
 use Rattle.unit_law.proofs.BitLemmas.{bit_keeps, toggle_keeps}
 use Rattle.avr_ports.specs.declared.registers.Register.TheVariants.{PINB, PORTB, PINC, PORTC, PIND, PORTD}
 use Rattle.avr_ports.specs.Ports.{Ports, ports, bit_pad, port_pad, with_register, with_register_bit}
-use Rattle.avr_mcu.specs.Devices.{devices}
-use Rattle.avr_mcu.specs.Units.{at_port, one_pin, pins_of, pins_of_bit}
+use Rattle.avr_timer8.specs.declared.registers.Which.TheVariants.{Zero, Two}
+use Rattle.avr_timer8.specs.Timer8.{timer8}
+use Rattle.avr_timer16.specs.Timer16.{timer16}
+use Rattle.avr_adc.specs.Adc.{adc}
+use Rattle.avr_usart.specs.Usart.{usart}
+use Rattle.avr_spi.specs.Spi.{Spi, spi}
+use Rattle.avr_twi.specs.Twi.{Twi, twi}
+use Rattle.avr_mcu.specs.Devices.{Devices, devices}
+use Rattle.avr_mcu.specs.Units.{at_port, wire_pins, one_pin, pins_of, pins_of_bit}
+use Rattle.avr_mcu.proofs.PlacedLemmas.{below, spi_placed, twi_placed}
 
 -- a write of a register, or of one bit of it, leaves alone what is asked of the pins that it does not reach
 pub record Reaches {D : Type 0} (m : UnitMachine D) : Type 0 where
@@ -87,16 +95,16 @@ one_of true v u p h = h
 one_of false v u p h = refl
 
 others : (a : ℕ) → (a == 0x23) ≡ false → (a == 0x25) ≡ false → (a == 0x26) ≡ false → (a == 0x28) ≡ false → (a == 0x29) ≡ false → (a == 0x2B) ≡ false →
-    (x y z : Span) → at_port a x y z ≡ all_pins
-others a h i j k l m x y z = by (a == 0x23) (a == 0x25) (a == 0x26) (a == 0x28) (a == 0x29) (a == 0x2B) h i j k l m
+    (x y z o : Span) → at_port a x y z o ≡ o
+others a h i j k l m x y z o = by (a == 0x23) (a == 0x25) (a == 0x26) (a == 0x28) (a == 0x29) (a == 0x2B) h i j k l m
   where
     by : (b c d e f g : Bool) → b ≡ false → c ≡ false → d ≡ false → e ≡ false → f ≡ false → g ≡ false →
-        (if b || c then x else if d || e then y else if f || g then z else all_pins) ≡ all_pins
+        (if b || c then x else if d || e then y else if f || g then z else o) ≡ o
     by b c d e f g h i j k l m = rw (h, i, j, k, l, m) refl
 
 -- by the addresses of the registers that reach one port alone
 by_address : (G : ℕ → Type 0) → G 0x23 → G 0x25 → G 0x26 → G 0x28 → G 0x29 → G 0x2B →
-    ((a : ℕ) → ((x y z : Span) → at_port a x y z ≡ all_pins) → G a) → (a : ℕ) → G a
+    ((a : ℕ) → ((x y z o : Span) → at_port a x y z o ≡ o) → G a) → (a : ℕ) → G a
 by_address G b c d e f g other a = elim (eqb_tells a 0x23) [
   | inl is ↦ subst G (sym is.1) b
   | inr n23 ↦ elim (eqb_tells a 0x25) [
@@ -129,8 +137,9 @@ module _ {E : Type 0} (rest : UnitMachine E) where
 
   pub ports_reach : rest.has 0x23 ≡ false → rest.has 0x25 ≡ false → rest.has 0x26 ≡ false →
       rest.has 0x28 ≡ false → rest.has 0x29 ≡ false → rest.has 0x2B ≡ false →
+      ((s : Ports × E) (t a x p : ℕ) → p < PORT_PINS → ¬ IsIn (wire_pins a) p → (both ports rest).pad ((both ports rest).write s t a x) p ≡ (both ports rest).pad s p) →
       Reaches (both ports rest)
-  ports_reach n23 n25 n26 n28 n29 n2B = record {
+  ports_reach n23 n25 n26 n28 n29 n2B wires = record {
     writes = λ s t a x p less. by_address (λ a. ¬ IsIn (pins_of a) p → (both ports rest).pad ((both ports rest).write s t a x) p ≡ (both ports rest).pad s p)
         (λ out. sides (with_register s.0 PINB x) s (rest.has 0x23) _ p (all_b s.0 _ p less out) n23)
         (λ out. sides (with_register s.0 PORTB x) s (rest.has 0x25) _ p (all_b s.0 _ p less out) n25)
@@ -138,7 +147,7 @@ module _ {E : Type 0} (rest : UnitMachine E) where
         (λ out. sides (with_register s.0 PORTC x) s (rest.has 0x28) _ p (all_c s.0 _ p less out) n28)
         (λ out. sides (with_register s.0 PIND x) s (rest.has 0x29) _ p (all_d s.0 _ p less out) n29)
         (λ out. sides (with_register s.0 PORTD x) s (rest.has 0x2B) _ p (all_d s.0 _ p less out) n2B)
-        (λ a is out. absurd (out (any_in (pins_of a) p less (is _ _ _)))) a;
+        (λ a is out. wires s t a x p less (λ h. out (subst (λ (s : Span). IsIn s p) (sym (is _ _ _ _)) h))) a;
     bits = λ s t a k x p less. by_address (λ a. ¬ IsIn (pins_of_bit a k) p →
         (both ports rest).pad ((both ports rest).write_bit s t a k x) p ≡ (both ports rest).pad s p)
         (λ out. sides (with_register_bit s.0 PINB k x) s (rest.has 0x23) _ p
@@ -153,8 +162,35 @@ module _ {E : Type 0} (rest : UnitMachine E) where
         (one_of x (with_register s.0 PIND (2 ^ k)) s.0 p (one_d s.0 (bit_xor s.0.portd (2 ^ k)) k p (toggle_keeps s.0.portd k) out)) n29)
         (λ out. sides (with_register_bit s.0 PORTD k x) s (rest.has 0x2B) _ p
         (one_d s.0 (with_bit s.0.portd k x) k p (λ j. bit_keeps s.0.portd k j x) out) n2B)
-        (λ a is out. absurd (out (any_in (pins_of_bit a k) p less (is _ _ _)))) a;
+        (λ a is out. absurd (out (any_in (pins_of_bit a k) p less (is _ _ _ _)))) a;
   }
 
+-- The SPI alone has SPDR, and the TWI TWCR: what is asked of a pin stays where that unit asks the same.
+spi_wrote : (s : Devices) (y : Spi) (p : ℕ) → spi.pad y p ≡ spi.pad s.1.1.1.1.1.1.0 p →
+    devices.pad (s.0, (s.1.0, (s.1.1.0, (s.1.1.1.0, (s.1.1.1.1.0, (s.1.1.1.1.1.0, (y, s.1.1.1.1.1.1.1))))))) p ≡ devices.pad s p
+spi_wrote s y p e =
+    below (ports.pad s.0 p) (below ((timer8 Zero).pad s.1.0 p) (below (timer16.pad s.1.1.0 p) (below ((timer8 Two).pad s.1.1.1.0 p)
+    (below (adc.pad s.1.1.1.1.0 p) (below (usart.pad s.1.1.1.1.1.0 p) (ap (λ (q : Pad). joined q (twi.pad s.1.1.1.1.1.1.1 p)) e))))))
+
+twi_wrote : (s : Devices) (y : Twi) (p : ℕ) → twi.pad y p ≡ twi.pad s.1.1.1.1.1.1.1 p →
+    devices.pad (s.0, (s.1.0, (s.1.1.0, (s.1.1.1.0, (s.1.1.1.1.0, (s.1.1.1.1.1.0, (s.1.1.1.1.1.1.0, y))))))) p ≡ devices.pad s p
+twi_wrote s y p e =
+    below (ports.pad s.0 p) (below ((timer8 Zero).pad s.1.0 p) (below (timer16.pad s.1.1.0 p) (below ((timer8 Two).pad s.1.1.1.0 p)
+    (below (adc.pad s.1.1.1.1.0 p) (below (usart.pad s.1.1.1.1.1.0 p) (below (spi.pad s.1.1.1.1.1.1.0 p) e))))))
+
+devices_wires : (s : Devices) (t a x p : ℕ) → p < PORT_PINS → ¬ IsIn (wire_pins a) p → devices.pad (devices.write s t a x) p ≡ devices.pad s p
+devices_wires s t a x p less = elim (eqb_tells a 0x4E) [
+  | inl is ↦ subst G (sym is.1) (λ out. let y : Spi = spi.write s.1.1.1.1.1.1.0 t 0x4E x in spi_wrote s y p (spi_placed y p out ∙ sym (spi_placed s.1.1.1.1.1.1.0 p out)))
+  | inr n4E ↦ elim (eqb_tells a 0xBC) [
+    | inl is ↦ subst G (sym is.1) (λ out. let y : Twi = twi.write s.1.1.1.1.1.1.1 t 0xBC x in twi_wrote s y p (twi_placed y p out ∙ sym (twi_placed s.1.1.1.1.1.1.1 p out)))
+    | inr nBC ↦
+        let all : wire_pins a ≡ all_pins = rw (n4E.0, nBC.0) refl in
+        λ out. absurd (out (subst (λ (s : Span). IsIn s p) (sym all) (omega arith, omega (arith, less))))
+  ]
+]
+  where
+    G : ℕ → Type 0
+    G a = ¬ IsIn (wire_pins a) p → devices.pad (devices.write s t a x) p ≡ devices.pad s p
+
 pub devices_reach : Reaches devices
-devices_reach = ports_reach _ refl refl refl refl refl refl
+devices_reach = ports_reach _ refl refl refl refl refl refl devices_wires

@@ -28,18 +28,25 @@ pub record UnitsAt (D : Type 0) : Type 0 where
   -- the pins of which a write in the cycle may have changed what they are asked for
   pub touched : Span
 
--- what is given for the port whose PINx or PORTx a register is, and all pins where it is none
-abbrev pub at_port : ℕ → Span → Span → Span → Span
-at_port a b c d =
+-- what is given for the port whose PINx or PORTx a register is, and what else where it is none
+abbrev pub at_port : ℕ → Span → Span → Span → Span → Span
+at_port a b c d other =
     if a == 0x23 || a == 0x25 then b
     else if a == 0x26 || a == 0x28 then c
     else if a == 0x29 || a == 0x2B then d
+    else other
+
+-- SPDR and TWCR, which begin what goes over wires, reach MOSI to SCK, and SDA and SCL; another register may reach all.
+abbrev pub wire_pins : ℕ → Span
+wire_pins a =
+    if a == 0x4E then record { from = 11; to = 14 }
+    else if a == 0xBC then record { from = 18; to = 20 }
     else all_pins
 
 -- The pins that a write of a register may reach: PINx and PORTx reach those of their port, of which the Uno has 0 to 7
 -- for D, 8 to 13 for B and A0 to A5, numbered from 14, for C (data sheet, "I/O-Ports", "Register Description").
 abbrev pub pins_of : ℕ → Span
-pins_of a = at_port a (record { from = 8; to = 14 }) (record { from = 14; to = 20 }) (record { from = 0; to = 8 })
+pins_of a = at_port a (record { from = 8; to = 14 }) (record { from = 14; to = 20 }) (record { from = 0; to = 8 }) (wire_pins a)
 
 -- a pin alone
 abbrev pub one_pin : ℕ → Span
@@ -47,7 +54,7 @@ one_pin p = record { from = p; to = p + 1 }
 
 -- the pins that a write of bit k alone may reach: of a port that bit's
 abbrev pub pins_of_bit : ℕ → ℕ → Span
-pins_of_bit a k = at_port a (one_pin (8 + k)) (one_pin (14 + k)) (one_pin k)
+pins_of_bit a k = at_port a (one_pin (8 + k)) (one_pin (14 + k)) (one_pin k) all_pins
 
 -- what was touched, after a write that may move the pins that it reaches or none
 abbrev pub touched_by : Span → Bool → Span → Span

@@ -6,7 +6,7 @@ ghost use Rattle.unit_law.specs.UnitMachine.{steps, IsQuiet};
 ghost use Rattle.avr_mcu.specs.Ready.{Ready};
 
 use sim_base::{Level, MOST_CYCLES};
-use unit_law::{Group, PORT_PINS, may_move, wait};
+use unit_law::{Group, PORT_PINS, wait};
 
 /// The first cycle in which a unit has an event, or `MOST_CYCLES`, and the least vector that is enabled and flagged, or
 /// `VECTORS`.
@@ -130,8 +130,7 @@ pub(crate) fn taken<G: Group>(
     *next = next_of(group);
 }
 
-/// One cycle, from the levels before to those now: the byte that leaves, and whether it may change what a pin is asked
-/// for.
+/// One cycle, from the levels before to those now: the byte that leaves.
 #[inline]
 pub(crate) fn step<G: Group>(
     group: &mut G,
@@ -139,42 +138,66 @@ pub(crate) fn step<G: Group>(
     cycle: u32,
     before: &[Level],
     now: &[Level],
-) -> (Option<u8>, bool)
+) -> Option<u8>
     requires before { length before.now ≡ PORT_PINS }
     requires levels { length now.now ≡ PORT_PINS }
     requires end { cycle < MOST_CYCLES }
     requires ready { Ready G.machine (G.state group.old) (G.until group.old) (G.stands group.old) before.now cycle next.old.due next.old.request }
-    ensures byte { result.0 ≡ G.machine.sends (G.state group.old cycle) cycle }
-    ensures pads { result.1 ≡ false → (p : ℕ) → G.machine.pad (G.machine.step (G.state group.old cycle) cycle before.now now.now) p ≡ G.machine.pad (G.state group.old cycle) p }
+    ensures byte { result ≡ G.machine.sends (G.state group.old cycle) cycle }
     ensures state { G.state group.new (cycle + 1) ≡ G.machine.step (G.state group.old cycle) cycle before.now now.now }
     ensures ready { Ready G.machine (G.state group.new) (G.until group.new) (G.stands group.new) now.now (cycle + 1) next.new.due next.new.request }
 {
-    let moves = may_move(group, next.due, cycle, before, now);
     let byte = group.step(cycle, before, now);
     *next = next_of(group);
-    (byte, moves)
+    byte
 }
 
-/// The same on levels that stay.
+/// Whether a unit has an event or takes notice of the change of the levels; `due` is the first cycle with an event.
 #[inline]
-pub(crate) fn turn<G: Group>(
+pub(crate) fn notices<G: Group>(
+    group: &G,
+    due: u32,
+    cycle: u32,
+    before: &[Level],
+    now: &[Level],
+) -> bool
+    requires due { due ≡ G.until group.now }
+    requires before { length before.now ≡ PORT_PINS }
+    requires levels { length now.now ≡ PORT_PINS }
+    requires here { G.stands group.now before.now cycle }
+    ensures quiet { result ≡ false → cycle < due }
+    ensures deaf { result ≡ false → G.machine.hears (G.state group.now cycle) before.now now.now ≡ false }
+    ensures pads { result ≡ false → (p : ℕ) → G.machine.pad (G.machine.step (G.state group.now cycle) cycle before.now now.now) p ≡ G.machine.pad (G.state group.now cycle) p }
+{
+    (due <= cycle) | group.hears(before, now)
+}
+
+/// One cycle, in which nothing needs to be done if no unit notices.
+#[inline]
+pub(crate) fn hear<G: Group>(
     group: &mut G,
     next: &mut Next,
     cycle: u32,
-    levels: &[Level],
-) -> (Option<u8>, bool)
-    requires levels { length levels.now ≡ PORT_PINS }
+    before: &[Level],
+    now: &[Level],
+    notices: bool,
+) -> Option<u8>
+    requires before { length before.now ≡ PORT_PINS }
+    requires levels { length now.now ≡ PORT_PINS }
     requires end { cycle < MOST_CYCLES }
-    requires ready { Ready G.machine (G.state group.old) (G.until group.old) (G.stands group.old) levels.now cycle next.old.due next.old.request }
-    ensures byte { result.0 ≡ G.machine.sends (G.state group.old cycle) cycle }
-    ensures pads { result.1 ≡ false → (p : ℕ) → G.machine.pad (G.machine.step (G.state group.old cycle) cycle levels.now levels.now) p ≡ G.machine.pad (G.state group.old cycle) p }
-    ensures state { G.state group.new (cycle + 1) ≡ G.machine.step (G.state group.old cycle) cycle levels.now levels.now }
-    ensures ready { Ready G.machine (G.state group.new) (G.until group.new) (G.stands group.new) levels.now (cycle + 1) next.new.due next.new.request }
+    requires ready { Ready G.machine (G.state group.old) (G.until group.old) (G.stands group.old) before.now cycle next.old.due next.old.request }
+    requires quiet { notices ≡ false → cycle < next.old.due }
+    requires deaf { notices ≡ false → G.machine.hears (G.state group.old cycle) before.now now.now ≡ false }
+    requires passes { cycle < G.until group.old → G.machine.hears (G.state group.old cycle) before.now now.now ≡ false → G.stands group.old now.now (cycle + 1) }
+    ensures byte { result ≡ G.machine.sends (G.state group.old cycle) cycle }
+    ensures state { G.state group.new (cycle + 1) ≡ G.machine.step (G.state group.old cycle) cycle before.now now.now }
+    ensures ready { Ready G.machine (G.state group.new) (G.until group.new) (G.stands group.new) now.now (cycle + 1) next.new.due next.new.request }
 {
-    let moves = group.event_moves(cycle);
-    let byte = group.step(cycle, levels, levels);
-    *next = next_of(group);
-    (byte, moves)
+    if notices {
+        step(group, next, cycle, before, now)
+    } else {
+        None
+    }
 }
 
 /// Goes on to a cycle, before which no unit has an event: nothing needs to be done.

@@ -9,6 +9,7 @@ ghost use Rattle.avr_mcu.specs.Units.{unit_bus, request, units_step};
 ghost use Rattle.part_law.specs.Machine.{IsFirstDue};
 ghost use Rattle.part_law.specs.Spans.{IsIn, all_pins, no_pins};
 
+use crate::devices::hull;
 use crate::follow::follow;
 use crate::pins::UNO_PINS;
 use crate::units::Units;
@@ -176,20 +177,20 @@ impl Part for Mcu {
 
     fn wake(&mut self, levels: &[Level], _input: Option<u16>) -> Option<u8> {
         self.act();
-        let (byte, moves) = self.units.step(levels);
+        let (byte, moved) = self.units.step(levels);
         self.cycle += 1;
         self.wakes += 1;
-        self.moved = moved_by(self.moved, moves);
+        self.moved = hull(self.moved, moved);
         byte
     }
 
     #[inline]
     fn wake_held(&mut self, _input: Option<u16>) -> Option<u8> {
         self.act();
-        let (byte, moves) = tick(&mut self.units, self.cycle);
+        let (byte, moved) = tick(&mut self.units, self.cycle);
         self.cycle += 1;
         self.wakes += 1;
-        self.moved = moved_by(self.moved, moves);
+        self.moved = hull(self.moved, moved);
         byte
     }
 
@@ -355,29 +356,21 @@ fn enter(core: &mut Core, units: &mut Units) -> u8
     cycles
 }
 
-// One cycle of the units on the levels that they hold: the byte that leaves, and whether a drive may have changed.
+// One cycle of the units on the levels that they hold: the byte that leaves, and the pins whose drives may have changed.
 #[inline]
-pub(crate) fn tick(units: &mut Units, cycle: u32) -> (Option<u8>, bool)
+pub(crate) fn tick(units: &mut Units, cycle: u32) -> (Option<u8>, Span)
     requires here { units.old.cycle ≡ cycle }
     requires end { cycle < MOST_CYCLES }
     ensures byte { result.0 ≡ devices.sends units.old.units.devices cycle }
     ensures state { units.new ≡ record units.old { units = units_step devices units.old.units cycle units.old.held units.old.held; cycle = cycle + 1 } }
-    ensures pads { result.1 ≡ false → (p : ℕ) → devices.pad units.new.units.devices p ≡ devices.pad units.old.units.devices p }
+    ensures pads { (p : ℕ) → p < PORT_PINS → ¬ IsIn result.1 p → devices.pad units.new.units.devices p ≡ devices.pad units.old.units.devices p }
 {
     if cycle < units.due() {
         units.skip(cycle + 1);
-        (None, false)
+        (None, Span::none())
     } else {
         units.turn()
     }
-}
-
-// The pins whose drives may have changed, where what the core did may have changed these, and the units any or none.
-#[inline]
-pub(crate) fn moved_by(touched: Span, moves: bool) -> Span
-    ensures { result ≡ (if moves then all_pins else touched) }
-{
-    if moves { Span::all() } else { touched }
 }
 
 // The first cycle from `cycle` on in which the microcontroller is due, `MOST_CYCLES` where there is none.

@@ -5,11 +5,11 @@ ghost use Rattle.sim_base.specs.declared.signal.Level.TheVariants as levels;
 ghost use Rattle.unit_law.specs.Pad.{driven};
 ghost use Rattle.unit_law.specs.UnitMachine.{steps, IsQuiet, FirstDue};
 ghost use Rattle.avr_mcu.specs.Devices.{devices};
-ghost use Rattle.avr_mcu.specs.Units.{UnitsAt, unit_bus, reset, pins, request, units_step, above, above_in, with_above, plain, plain_of, with_plain, register, after_read, with_register, with_register_bit, at_port, one_pin, pins_of, pins_of_bit, touched_by};
-ghost use Rattle.part_law.specs.Spans.{no_pins};
+ghost use Rattle.avr_mcu.specs.Units.{UnitsAt, unit_bus, reset, pins, request, units_step, above, above_in, with_above, plain, plain_of, with_plain, register, after_read, with_register, with_register_bit, at_port, wire_pins, one_pin, pins_of, pins_of_bit, touched_by};
+ghost use Rattle.part_law.specs.Spans.{IsIn, no_pins};
 
-use crate::asking::{Next, begin, read, skip, step, taken, turn, write, write_bit};
-use crate::devices::Devices;
+use crate::asking::{Next, begin, hear, notices, read, skip, step, taken, write, write_bit};
+use crate::devices::{Devices, SPI_PINS, TWI_PINS, moved_pins, pad_of};
 use crate::pins::UNO_PINS;
 use avr_core::DataBus;
 use part_law::Span;
@@ -39,6 +39,11 @@ const PORTC: u8 = 0x28;
 const PIND: u8 = 0x29;
 
 const PORTD: u8 = 0x2B;
+
+/// What begins a transfer of the SPI and an action of the TWI.
+const SPDR: u8 = 0x4E;
+
+const TWCR: u8 = 0xBC;
 
 /// Where SRAM begins in the data space, and where it has ended.
 const SRAM: u16 = 0x0100;
@@ -111,7 +116,7 @@ impl Units {
         requires { pin < PORT_PINS }
         ensures { result ≡ driven (devices.pad self.now.units.devices pin) }
     {
-        self.devices.pad(pin).drive()
+        pad_of(&self.devices, pin).drive()
     }
 
     /// Whether this address below 0x0100 was written though no register is there.
@@ -184,43 +189,47 @@ impl Units {
         self.cycle = to;
     }
 
-    /// One cycle on these levels of the Uno's pins: the byte that leaves, and whether it may change what a pin is asked
-    /// for.
-    pub(crate) fn step(&mut self, levels: &[Level]) -> (Option<u8>, bool)
+    /// One cycle on these levels of the Uno's pins: the byte that leaves, and the pins of which it may change what they
+    /// are asked for.
+    pub(crate) fn step(&mut self, levels: &[Level]) -> (Option<u8>, Span)
         requires levels { length levels.now ≡ UNO_PINS }
         requires end { self.old.cycle < MOST_CYCLES }
         ensures byte { result.0 ≡ devices.sends self.old.units.devices self.old.cycle }
-        ensures pads { result.1 ≡ false → (p : ℕ) → devices.pad (devices.step self.old.units.devices self.old.cycle (pins self.old.held) (pins levels.now)) p ≡ devices.pad self.old.units.devices p }
+        ensures pads { (p : ℕ) → p < PORT_PINS → ¬ IsIn result.1 p → devices.pad (devices.step self.old.units.devices self.old.cycle (pins self.old.held) (pins levels.now)) p ≡ devices.pad self.old.units.devices p }
         ensures state { self.new ≡ record self.old { units = units_step devices self.old.units self.old.cycle self.old.held levels.now; held = levels.now; cycle = self.old.cycle + 1 } }
     {
-        let told = step(
+        let seen = seen(levels);
+        let before = &self.held[..PORT_PINS];
+        let due = self.next.due;
+        let notices = notices(&self.devices, due, self.cycle, before, seen);
+        let moved = moved_pins(&self.devices, self.cycle, before, seen, false, notices);
+        let byte = hear(
             &mut self.devices,
             &mut self.next,
             self.cycle,
-            &self.held[..PORT_PINS],
-            seen(levels),
+            before,
+            seen,
+            notices,
         );
         self.held.copy_from_slice(levels);
         self.cycle += 1;
-        told
+        (byte, moved)
     }
 
     /// The same on the levels that it holds.
     #[inline(never)]
-    pub(crate) fn turn(&mut self) -> (Option<u8>, bool)
+    pub(crate) fn turn(&mut self) -> (Option<u8>, Span)
         requires end { self.old.cycle < MOST_CYCLES }
         ensures byte { result.0 ≡ devices.sends self.old.units.devices self.old.cycle }
-        ensures pads { result.1 ≡ false → (p : ℕ) → devices.pad (devices.step self.old.units.devices self.old.cycle (pins self.old.held) (pins self.old.held)) p ≡ devices.pad self.old.units.devices p }
+        ensures pads { (p : ℕ) → p < PORT_PINS → ¬ IsIn result.1 p → devices.pad (devices.step self.old.units.devices self.old.cycle (pins self.old.held) (pins self.old.held)) p ≡ devices.pad self.old.units.devices p }
         ensures state { self.new ≡ record self.old { units = units_step devices self.old.units self.old.cycle self.old.held self.old.held; cycle = self.old.cycle + 1 } }
     {
-        let told = turn(
-            &mut self.devices,
-            &mut self.next,
-            self.cycle,
-            &self.held[..PORT_PINS],
-        );
+        let held = &self.held[..PORT_PINS];
+        let moves = self.devices.event_moves(self.cycle);
+        let moved = moved_pins(&self.devices, self.cycle, held, held, true, moves);
+        let byte = step(&mut self.devices, &mut self.next, self.cycle, held, held);
         self.cycle += 1;
-        told
+        (byte, moved)
     }
 }
 
@@ -363,15 +372,27 @@ impl Units {
     }
 }
 
-// What is given for the port whose PINx or PORTx a register is, and all pins where it is none.
+// What is given for the port whose PINx or PORTx a register is, and what else where it is none.
 #[inline]
-fn at_port(reg: u8, b: Span, c: Span, d: Span) -> Span
-    ensures { result ≡ at_port reg b c d }
+fn at_port(reg: u8, b: Span, c: Span, d: Span, other: Span) -> Span
+    ensures { result ≡ at_port reg b c d other }
 {
     match reg {
         PINB | PORTB => b,
         PINC | PORTC => c,
         PIND | PORTD => d,
+        _ => other,
+    }
+}
+
+// The pins that SPDR and TWCR reach, and all pins for another register.
+#[inline]
+fn wire_pins(reg: u8) -> Span
+    ensures { result ≡ wire_pins reg }
+{
+    match reg {
+        SPDR => SPI_PINS,
+        TWCR => TWI_PINS,
         _ => Span::all(),
     }
 }
@@ -398,6 +419,7 @@ fn pins_of(reg: u8) -> Span
         Span { from: 8, to: 14 },
         Span { from: 14, to: 20 },
         Span { from: 0, to: 8 },
+        wire_pins(reg),
     )
 }
 
@@ -407,7 +429,13 @@ fn pins_of_bit(reg: u8, bit: u8) -> Span
     requires { bit < 8 }
     ensures { result ≡ pins_of_bit reg bit }
 {
-    at_port(reg, one_pin(8 + bit), one_pin(14 + bit), one_pin(bit))
+    at_port(
+        reg,
+        one_pin(8 + bit),
+        one_pin(14 + bit),
+        one_pin(bit),
+        Span::all(),
+    )
 }
 
 // The pins that were touched, after a write that may move those that it reaches or none.

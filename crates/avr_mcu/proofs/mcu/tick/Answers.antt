@@ -15,10 +15,10 @@ returns-then-cycle-due-clause-state c =
     c.skip.ensures ∙ rest_turn devices devices_laws c.args.units.now c.args.cycle c.due.result c.requires.here c.due.ensures c.if-cycle-due.true
 
 pub returns-then-cycle-due-clause-pads : goal.returns-then-cycle-due-clause-pads
-returns-then-cycle-due-clause-pads c = λ h p.
+returns-then-cycle-due-clause-pads c = λ p l out.
     ap (λ (x : UnitsAt Devices). devices.pad x.units.devices p) (c.skip.ensures ∙ rest_turn devices devices_laws c.args.units.now c.args.cycle c.due.result c.requires.here c.due.ensures c.if-cycle-due.true)
     ∙ rest_pads devices devices_laws c.args.units.now c.args.cycle c.due.result p c.requires.here c.due.ensures c.if-cycle-due.true
 
 pub returns-else-cycle-due-clause-pads : goal.returns-else-cycle-due-clause-pads
-returns-else-cycle-due-clause-pads c = λ h p.
-    ap (λ (x : UnitsAt Devices). devices.pad x.units.devices p) c.turn.ensures.state ∙ c.turn.ensures.pads h p
+returns-else-cycle-due-clause-pads c = λ p l out.
+    ap (λ (x : UnitsAt Devices). devices.pad x.units.devices p) c.turn.ensures.state ∙ c.turn.ensures.pads p l out

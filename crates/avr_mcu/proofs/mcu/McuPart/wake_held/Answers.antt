@@ -23,11 +23,11 @@ returns-clause-drives c =
     let i = c.self.inside in
     wake_drives devices devices_laws c.args.self.now.mcu.units.devices i.units.units.devices c.tick-byte.new.units.units.devices i.moved c.tick-byte.result.1
     (λ p l out. ap (λ (x : McuAt Devices). devices.pad x.mcu.units.devices p) c.self.view_is ∙ c.act.ensures.pads p l (λ h. out (subst (λ (x : McuAt Devices). IsIn x.moved p) (sym c.self.view_is) h)))
-    c.tick-byte.ensures.pads _ c.moved_by-self-inside.ensures
+    c.tick-byte.ensures.pads _ c.hull-self-inside.ensures
 
 pub returns-clause-others : goal.returns-clause-others
 returns-clause-others c = λ pin out.
     let i = c.self.inside in
     wake_drive devices devices_laws c.args.self.now.mcu.units.devices i.units.units.devices c.tick-byte.new.units.units.devices i.moved c.tick-byte.result.1
     (λ p l out. ap (λ (x : McuAt Devices). devices.pad x.mcu.units.devices p) c.self.view_is ∙ c.act.ensures.pads p l (λ h. out (subst (λ (x : McuAt Devices). IsIn x.moved p) (sym c.self.view_is) h)))
-    c.tick-byte.ensures.pads _ c.moved_by-self-inside.ensures pin (not_in_span _ pin out)
+    c.tick-byte.ensures.pads _ c.hull-self-inside.ensures pin (not_in_span _ pin out)
