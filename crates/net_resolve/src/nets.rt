@@ -299,6 +299,7 @@ impl Nets {
 
     /// Finds the levels by what the pins drive and which contacts are closed. Only the subcircuits in
     /// which one of these was set to something else are looked at.
+    #[inline(always)]
     pub fn resolve_marked(&mut self)
         ensures levels { self.new ≡ record self.old { levels = resolve self.old.nets self.old.net_of self.old.contacts self.old.resistors self.old.closed self.old.drives; changed = self.new.changed } }
         ensures changed { AreChanged self.old.levels self.new.levels self.new.changed }
