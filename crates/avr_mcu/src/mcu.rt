@@ -7,7 +7,9 @@ ghost use Rattle.avr_mcu.specs.McuOf.{mcu, start, ready, enters, starts, enterin
 ghost use Rattle.avr_mcu.specs.McuState.{state_of};
 ghost use Rattle.avr_mcu.specs.Units.{unit_bus, request, units_step};
 ghost use Rattle.part_law.specs.Machine.{IsFirstDue};
+ghost use Rattle.part_law.specs.declared.span.Span.{Span};
 ghost use Rattle.part_law.specs.Spans.{IsIn, all_pins, no_pins};
+ghost use Rattle.avr_mcu.specs.Placed.{hull};
 
 use crate::devices::hull;
 use crate::follow::follow;
@@ -187,10 +189,10 @@ impl Part for Mcu {
     #[inline]
     fn wake_held(&mut self, _input: Option<u16>) -> Option<u8> {
         self.act();
-        let (byte, moved) = tick(&mut self.units, self.cycle);
+        let (byte, moved) = tick(&mut self.units, self.cycle, self.moved);
         self.cycle += 1;
         self.wakes += 1;
-        self.moved = hull(self.moved, moved);
+        self.moved = moved;
         byte
     }
 
@@ -356,20 +358,23 @@ fn enter(core: &mut Core, units: &mut Units) -> u8
     cycles
 }
 
-// One cycle of the units on the levels that they hold: the byte that leaves, and the pins whose drives may have changed.
+// One cycle of the units on the levels that they hold: the byte that leaves, and the pins whose drives may have changed,
+// with those that were touched before.
 #[inline]
-pub(crate) fn tick(units: &mut Units, cycle: u32) -> (Option<u8>, Span)
+pub(crate) fn tick(units: &mut Units, cycle: u32, touched: Span) -> (Option<u8>, Span)
     requires here { units.old.cycle ≡ cycle }
     requires end { cycle < MOST_CYCLES }
     ensures byte { result.0 ≡ devices.sends units.old.units.devices cycle }
     ensures state { units.new ≡ record units.old { units = units_step devices units.old.units cycle units.old.held units.old.held; cycle = cycle + 1 } }
-    ensures pads { (p : ℕ) → p < PORT_PINS → ¬ IsIn result.1 p → devices.pad units.new.units.devices p ≡ devices.pad units.old.units.devices p }
+    ensures pads { (moved : Span) × (result.1 ≡ hull touched moved)
+        × ((p : ℕ) → p < PORT_PINS → ¬ IsIn moved p → devices.pad units.new.units.devices p ≡ devices.pad units.old.units.devices p) }
 {
     if cycle < units.due() {
         units.skip(cycle + 1);
-        (None, Span::none())
+        (None, touched)
     } else {
-        units.turn()
+        let (byte, moved) = units.turn();
+        (byte, hull(touched, moved))
     }
 }
 

@@ -1,4 +1,5 @@
-use Rattle.std.proofs.Common.{◌∙◌, ap}
+use Rattle.std.proofs.Common.{◌∙◌, ap, refl}
+use Rattle.part_law.specs.Spans.{no_pins}
 use Rattle.avr_mcu.specs.Devices.{Devices, devices, devices_laws}
 use Rattle.avr_mcu.specs.Units.{UnitsAt}
 use Rattle.avr_mcu.proofs.McuLemmas.{rest_is, rest_turn, rest_pads, rest_silent}
@@ -15,10 +16,17 @@ returns-then-cycle-due-clause-state c =
     c.skip.ensures ∙ rest_turn devices devices_laws c.args.units.now c.args.cycle c.due.result c.requires.here c.due.ensures c.if-cycle-due.true
 
 pub returns-then-cycle-due-clause-pads : goal.returns-then-cycle-due-clause-pads
-returns-then-cycle-due-clause-pads c = λ p l out.
-    ap (λ (x : UnitsAt Devices). devices.pad x.units.devices p) (c.skip.ensures ∙ rest_turn devices devices_laws c.args.units.now c.args.cycle c.due.result c.requires.here c.due.ensures c.if-cycle-due.true)
-    ∙ rest_pads devices devices_laws c.args.units.now c.args.cycle c.due.result p c.requires.here c.due.ensures c.if-cycle-due.true
+returns-then-cycle-due-clause-pads c = (
+  no_pins,
+  refl,
+  λ p l out.
+      ap (λ (x : UnitsAt Devices). devices.pad x.units.devices p) (c.skip.ensures ∙ rest_turn devices devices_laws c.args.units.now c.args.cycle c.due.result c.requires.here c.due.ensures c.if-cycle-due.true)
+      ∙ rest_pads devices devices_laws c.args.units.now c.args.cycle c.due.result p c.requires.here c.due.ensures c.if-cycle-due.true,
+)
 
 pub returns-else-cycle-due-clause-pads : goal.returns-else-cycle-due-clause-pads
-returns-else-cycle-due-clause-pads c = λ p l out.
-    ap (λ (x : UnitsAt Devices). devices.pad x.units.devices p) c.turn.ensures.state ∙ c.turn.ensures.pads p l out
+returns-else-cycle-due-clause-pads c = (
+  c.turn-byte.result.1,
+  c.hull.ensures,
+  λ p l out. ap (λ (x : UnitsAt Devices). devices.pad x.units.devices p) c.turn-byte.ensures.state ∙ c.turn-byte.ensures.pads p l out,
+)

@@ -21,13 +21,13 @@ returns-clause-state c =
 pub returns-clause-drives : goal.returns-clause-drives
 returns-clause-drives c =
     let i = c.self.inside in
-    wake_drives devices devices_laws c.args.self.now.mcu.units.devices i.units.units.devices c.tick-byte.new.units.units.devices i.moved c.tick-byte.result.1
+    wake_drives devices devices_laws c.args.self.now.mcu.units.devices i.units.units.devices c.tick-byte.new.units.units.devices i.moved c.tick-byte.ensures.pads.0
     (λ p l out. ap (λ (x : McuAt Devices). devices.pad x.mcu.units.devices p) c.self.view_is ∙ c.act.ensures.pads p l (λ h. out (subst (λ (x : McuAt Devices). IsIn x.moved p) (sym c.self.view_is) h)))
-    c.tick-byte.ensures.pads _ c.hull-self-inside.ensures
+    c.tick-byte.ensures.pads.2 _ c.tick-byte.ensures.pads.1
 
 pub returns-clause-others : goal.returns-clause-others
 returns-clause-others c = λ pin out.
     let i = c.self.inside in
-    wake_drive devices devices_laws c.args.self.now.mcu.units.devices i.units.units.devices c.tick-byte.new.units.units.devices i.moved c.tick-byte.result.1
+    wake_drive devices devices_laws c.args.self.now.mcu.units.devices i.units.units.devices c.tick-byte.new.units.units.devices i.moved c.tick-byte.ensures.pads.0
     (λ p l out. ap (λ (x : McuAt Devices). devices.pad x.mcu.units.devices p) c.self.view_is ∙ c.act.ensures.pads p l (λ h. out (subst (λ (x : McuAt Devices). IsIn x.moved p) (sym c.self.view_is) h)))
-    c.tick-byte.ensures.pads _ c.hull-self-inside.ensures pin (not_in_span _ pin out)
+    c.tick-byte.ensures.pads.2 _ c.tick-byte.ensures.pads.1 pin (not_in_span _ pin out)
