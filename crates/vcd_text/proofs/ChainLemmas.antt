@@ -16,7 +16,7 @@ use Rattle.sim_base.specs.declared.signal.Level.{Level}
 use Rattle.sim_base.specs.declared.signal.Drive.{Drive}
 use Rattle.sim_base.specs.Rows.{Row, AreBut}
 use Rattle.vcd_text.specs.Heads.{HeadState, after_row}
-use Rattle.vcd_text.specs.Chains.{sources, values_at, IsNet, IsNext, AreLinked, OnChain, IsRun, AreNetsBut, PinsRest, HasSeen, OthersRest}
+use Rattle.vcd_text.specs.Chains.{sources, values_at, IsNet, IsNext, AreLinked, OnChain, IsRun, AreNetsBut, PinsRest, HasSeen, OthersRest, NetsRest}
 
 pub some_is : {A : Type 0} {x y : A} → Some x ≡ Some y → x ≡ y
 some_is e = cc
@@ -103,18 +103,22 @@ value_here [] levels drives k n e = absurd cc
 value_here (v ∷ vs) levels drives zero n e = let s : v.shows ≡ Net n = some_is e in ap (shown_value levels drives) s
 value_here (v ∷ vs) levels drives (suc k) n e = value_here vs levels drives k n e
 
--- where one net is told, or two, and the variables of pins have the values that they had, those of other nets have so too
-pub others_still : (vs : List Variable) (values : List ℕ) (before after : List Level) (drives : List Drive) (changed : List ℕ) (one two : ℕ) → ((n : ℕ) → n ≢ one → n ≢ two → list_any (eqb n) changed ≡ false) →
-    PinsRest vs values after drives → HasSeen vs values before → AreBut changed before after →
-    OthersRest (one, two) vs values after drives
-others_still vs values before after drives changed one two told rest seen but k less first second =
+-- where one net is told, or two, the variables of other nets have the values that they had
+pub nets_still : (vs : List Variable) (values : List ℕ) (before after : List Level) (drives : List Drive) (changed : List ℕ) (one two : ℕ) → ((n : ℕ) → n ≢ one → n ≢ two → list_any (eqb n) changed ≡ false) →
+    HasSeen vs values before → AreBut changed before after → NetsRest (one, two) vs values after drives
+nets_still vs values before after drives changed one two told seen but k n here first second =
+    let level : slice_get after n ≡ slice_get before n = but n (told n first second) in
+    seen k n here ∙ ap (λ (o : Option Level). option_map_or level_value o 122) (sym level) ∙ sym (value_here vs after drives k n here)
+
+-- and so have all others, where those of pins have
+pub others_still : (vs : List Variable) (values : List ℕ) (levels : List Level) (drives : List Drive) (one two : ℕ) → PinsRest vs values levels drives → NetsRest (one, two) vs values levels drives → OthersRest (one, two) vs values levels drives
+others_still vs values levels drives one two rest nets k less first second =
     let within : k < length (sources vs) = omega (arith, less, length-map vs (λ (v : Variable). v.shows)) in
     let at : slice_get (sources vs) k ≡ Some (get_or (sources vs) k (Net 0)) = slice_get-get_or (sources vs) k (Net 0) within in
     elim (rest k (get_or (sources vs) k (Net 0)) at) [
       | inl net ↦
           let here : slice_get (sources vs) k ≡ Some (Net net.0) = at ∙ ap (λ (s : Source). Some s) net.1 in
-          let level : slice_get after net.0 ≡ slice_get before net.0 = but net.0 (told net.0 (λ same. first (here ∙ ap (λ (m : ℕ). Some (Net m)) same)) (λ same. second (here ∙ ap (λ (m : ℕ). Some (Net m)) same))) in
-          seen k net.0 here ∙ ap (λ (o : Option Level). option_map_or level_value o 122) (sym level) ∙ sym (value_here vs after drives k net.0 here)
+          nets k net.0 here (λ same. first (here ∙ ap (λ (m : ℕ). Some (Net m)) same)) (λ same. second (here ∙ ap (λ (m : ℕ). Some (Net m)) same))
       | inr same ↦ same
     ]
 

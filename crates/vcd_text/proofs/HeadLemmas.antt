@@ -10,7 +10,7 @@ use Rattle.sim_base.specs.declared.signal.Drive.{Drive}
 use Rattle.text_model.specs.Wave.{Variable, values, head, initial_values, value_changes}
 use Rattle.vcd_text.specs.declared.variable.Variable as declared
 use Rattle.vcd_text.specs.Variables.{variables_of}
-use Rattle.vcd_text.specs.Chains.{sources, values_at, AreChains, OthersRest}
+use Rattle.vcd_text.specs.Chains.{sources, values_at, AreChains, OthersRest, NetsRest}
 use Rattle.vcd_text.specs.Heads.{HeadState, after_row}
 
 -- a list that was lent whole is what was put into it
@@ -28,6 +28,10 @@ chains_moved {vs = vs} {ws = ws} {xs = xs} {ys = ys} {ns = ns} {ms = ms} ev ex e
 pub others_moved : (nets : ℕ × ℕ) (levels : List Level) (drives : List Drive) {vs ws : List Variable} {xs ys : List ℕ} → vs ≡ ws → xs ≡ ys → OthersRest nets vs xs levels drives → OthersRest nets ws ys levels drives
 others_moved nets levels drives {vs = vs} {ws = ws} {xs = xs} {ys = ys} ev ex it =
     subst (λ (l : List Variable). OthersRest nets l ys levels drives) ev (subst (λ (l : List ℕ). OthersRest nets vs l levels drives) ex it)
+
+pub nets_moved : (nets : ℕ × ℕ) (levels : List Level) (drives : List Drive) {vs ws : List Variable} {xs ys : List ℕ} → vs ≡ ws → xs ≡ ys → NetsRest nets vs xs levels drives → NetsRest nets ws ys levels drives
+nets_moved nets levels drives {vs = vs} {ws = ws} {xs = xs} {ys = ys} ev ex it =
+    subst (λ (l : List Variable). NetsRest nets l ys levels drives) ev (subst (λ (l : List ℕ). NetsRest nets vs l levels drives) ex it)
 
 -- each variable among some has the value that it had
 abbrev pub SameAmong : List ℕ → List declared.Variable → List ℕ → List Level → List Drive → Type 0

@@ -61,6 +61,10 @@ PinsRest variables values levels drives =
 abbrev pub HasSeen : List Variable → List ℕ → List Level → Type 0
 HasSeen variables values levels = (k n : ℕ) → slice_get (sources variables) k ≡ Some (Net n) → slice_index values k ≡ option_map_or level_value (slice_get levels n) 122
 
+-- the variables that show nets, but not two of them, have the values that they had
+abbrev pub NetsRest : ℕ × ℕ → List Variable → List ℕ → List Level → List Drive → Type 0
+NetsRest nets variables values levels drives = (k n : ℕ) → slice_get (sources variables) k ≡ Some (Net n) → n ≢ nets.0 → n ≢ nets.1 → slice_index values k ≡ slice_index (values_at levels drives variables) k
+
 -- the variables of other nets than two have the values that they had
 abbrev pub OthersRest : ℕ × ℕ → List Variable → List ℕ → List Level → List Drive → Type 0
 OthersRest nets variables values levels drives = (k : ℕ) → k < length variables → slice_get (sources variables) k ≢ Some (Net nets.0) → slice_get (sources variables) k ≢ Some (Net nets.1)

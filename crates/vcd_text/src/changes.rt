@@ -1,14 +1,14 @@
 //! Times and values as lines.
-ghost use Rattle.std.specs.Prelude.{◌≡◌, ℕ, List, ◌++◌, ◌+◌, ◌*◌, ◌<◌, ◌≤◌, length, slice_index};
-ghost use Rattle.text_model.specs.Wave.{value_line, value_lines, time_line, changes, change_count, initial_values};
+ghost use Rattle.std.specs.Prelude.{◌≡◌, ◌≢◌, ℕ, List, ◌++◌, ◌+◌, ◌*◌, ◌<◌, ◌≤◌, length, slice_index, Some, true};
+ghost use Rattle.text_model.specs.Wave.{Net, value_line, value_lines, time_line, changes, change_count, initial_values, shown_value};
 ghost use Rattle.vcd_text.specs.Buffers.{BufferState};
-ghost use Rattle.vcd_text.specs.Variables.{variables_of};
-ghost use Rattle.vcd_text.specs.Chains.{values_at};
+ghost use Rattle.vcd_text.specs.Variables.{source_of, variables_of};
+ghost use Rattle.vcd_text.specs.Chains.{values_at, NetsRest};
 ghost use Rattle.vcd_text.specs.Written.{IsWritten};
 
 use crate::buffer::Buffer;
 use crate::value::of_source;
-use crate::variable::Variable;
+use crate::variable::{Source, Variable};
 use sim_base::{Drive, Level};
 
 /// The line of variable `i`.
@@ -60,9 +60,47 @@ pub(crate) fn put_value(i: usize, value: u8, values: &mut [u8], out: &mut Buffer
     1
 }
 
+/// Whether a variable shows a net, and another one than the two that alone changed, where such are told.
+#[inline(always)]
+fn is_passed(nets: Option<(u16, u16)>, shows: Source) -> bool
+    ensures { result ≡ true → (p : ℕ × ℕ) × (n : ℕ) × (nets ≡ Some p) × (source_of shows ≡ Net n) × (n ≢ p.0) × (n ≢ p.1) }
+{
+    match (nets, shows) {
+        (Some((one, two)), Source::Net(net)) => net != one && net != two,
+        _ => false,
+    }
+}
+
+/// Puts the value of variable `i`, which shows this, in place of that of the last row, unless it is passed over, and writes
+/// its line where that was another; answers how many lines these are.
+#[inline(always)]
+fn put_shown(
+    i: usize,
+    nets: Option<(u16, u16)>,
+    shows: Source,
+    levels: &[Level],
+    drives: &[Drive],
+    values: &mut [u8],
+    out: &mut Buffer,
+) -> u64
+    requires few { i < 8930 }
+    requires place { i < length values.old }
+    requires room { length out.old.text + 4 ≤ out.old.room }
+    requires rests { (p : ℕ × ℕ) (n : ℕ) → nets ≡ Some p → source_of shows ≡ Net n → n ≢ p.0 → n ≢ p.1 → slice_index values.old i ≡ shown_value levels.now drives.now (source_of shows) }
+    ensures written { (last new : List ℕ) (from : BufferState) (count : ℕ) → length last ≡ length new → shown_value levels.now drives.now (source_of shows) ≡ slice_index new i
+        → IsWritten last new from i count values.old out.old → IsWritten last new from (i + 1) (count + result) values.new out.new }
+    ensures few { result ≤ 1 }
+{
+    if is_passed(nets, shows) {
+        return 0;
+    }
+    put_value(i, of_source(shows, levels, drives), values, out)
+}
+
 /// Puts the values of all variables in place of those of the last row, and writes the lines of those that are not what
-/// they were; answers how many these are.
+/// they were; answers how many these are. Where two nets are told that alone changed, variables of others are passed over.
 pub(crate) fn push_changes(
+    nets: Option<(u16, u16)>,
     variables: &[Variable],
     levels: &[Level],
     drives: &[Drive],
@@ -71,6 +109,7 @@ pub(crate) fn push_changes(
 ) -> u64
     requires few { length variables.now ≤ 8930 }
     requires long { length values.old ≡ length variables.now }
+    requires nets { (p : ℕ × ℕ) → nets ≡ Some p → NetsRest p (variables_of variables.now) values.old levels.now drives.now }
     requires room { length out.old.text + 4 * length variables.now ≤ out.old.room }
     ensures values { values.new ≡ values_at levels.now drives.now (variables_of variables.now) }
     ensures text { out.new ≡ record out.old { text = out.old.text ++ changes 0 values.old (values_at levels.now drives.now (variables_of variables.now)) } }
@@ -78,8 +117,7 @@ pub(crate) fn push_changes(
 {
     let mut count = 0;
     for i in 0..variables.len() {
-        let value = of_source(variables[i].shows, levels, drives);
-        count += put_value(i, value, values, out);
+        count += put_shown(i, nets, variables[i].shows, levels, drives, values, out);
     }
     count
 }

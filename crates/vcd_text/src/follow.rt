@@ -5,7 +5,7 @@ ghost use Rattle.text_model.specs.Wave as wave;
 ghost use Rattle.text_model.specs.Wave.{changes, change_count, initial_values, value_changes};
 ghost use Rattle.vcd_text.specs.Variables.{variables_of};
 ghost use Rattle.vcd_text.specs.Buffers.{BufferState};
-ghost use Rattle.vcd_text.specs.Chains.{sources, values_at, AreChains, IsNext, OnChain, IsRun, OthersRest};
+ghost use Rattle.vcd_text.specs.Chains.{sources, values_at, AreChains, IsNext, OnChain, IsRun, OthersRest, NetsRest};
 ghost use Rattle.vcd_text.specs.Written.{IsWritten};
 
 use crate::buffer::Buffer;
@@ -124,6 +124,7 @@ fn push_chain(
 /// The same of the variables of two nets, where such are told, and else of all.
 fn push_lines(
     nets: Option<(u16, u16)>,
+    still: bool,
     variables: &[Variable],
     first: &[u16],
     next: &[u16],
@@ -135,17 +136,18 @@ fn push_lines(
     requires few { length variables.now ≤ 8930 }
     requires long { length values.old ≡ length variables.now }
     requires chains { AreChains (sources (variables_of variables.now)) first.now next.now }
-    requires others { (p : ℕ × ℕ) → nets ≡ Some p → OthersRest p (variables_of variables.now) values.old levels.now drives.now }
+    requires others { (p : ℕ × ℕ) → nets ≡ Some p → still ≡ true → OthersRest p (variables_of variables.now) values.old levels.now drives.now }
+    requires nets { (p : ℕ × ℕ) → nets ≡ Some p → NetsRest p (variables_of variables.now) values.old levels.now drives.now }
     requires room { length out.old.text + 4 * length variables.now ≤ out.old.room }
     ensures values { values.new ≡ values_at levels.now drives.now (variables_of variables.now) }
     ensures text { out.new ≡ record out.old { text = out.old.text ++ changes 0 values.old (values_at levels.now drives.now (variables_of variables.now)) } }
     ensures count { result ≡ change_count values.old (values_at levels.now drives.now (variables_of variables.now)) }
 {
     match nets {
-        Some((one, two)) => push_chain(
+        Some((one, two)) if still => push_chain(
             one, two, variables, first, next, levels, drives, values, out,
         ),
-        None => push_changes(variables, levels, drives, values, out),
+        _ => push_changes(nets, variables, levels, drives, values, out),
     }
 }
 
@@ -153,6 +155,7 @@ fn push_lines(
 fn push_later(
     cycle: u32,
     nets: Option<(u16, u16)>,
+    still: bool,
     variables: &[Variable],
     first: &[u16],
     next: &[u16],
@@ -164,7 +167,8 @@ fn push_later(
     requires few { length variables.now ≤ 8930 }
     requires long { length values.old ≡ length variables.now }
     requires chains { AreChains (sources (variables_of variables.now)) first.now next.now }
-    requires others { (p : ℕ × ℕ) → nets ≡ Some p → OthersRest p (variables_of variables.now) values.old levels.now drives.now }
+    requires others { (p : ℕ × ℕ) → nets ≡ Some p → still ≡ true → OthersRest p (variables_of variables.now) values.old levels.now drives.now }
+    requires nets { (p : ℕ × ℕ) → nets ≡ Some p → NetsRest p (variables_of variables.now) values.old levels.now drives.now }
     requires room { length out.old.text + 42 + 4 * length variables.now ≤ out.old.room }
     ensures values { values.new ≡ values_at levels.now drives.now (variables_of variables.now) }
     ensures text { out.new ≡ record out.old { text = out.old.text ++ value_changes cycle values.old (values_at levels.now drives.now (variables_of variables.now)) } }
@@ -172,7 +176,9 @@ fn push_later(
 {
     let start = out.text().len();
     push_time(cycle, out);
-    let count = push_lines(nets, variables, first, next, levels, drives, values, out);
+    let count = push_lines(
+        nets, still, variables, first, next, levels, drives, values, out,
+    );
     if count == 0 {
         out.truncate(start);
     }
@@ -185,6 +191,7 @@ pub(crate) fn push_row(
     started: bool,
     cycle: u32,
     nets: Option<(u16, u16)>,
+    still: bool,
     head: &[u8],
     variables: &[Variable],
     first: &[u16],
@@ -197,7 +204,8 @@ pub(crate) fn push_row(
     requires few { length variables.now ≤ 8930 }
     requires long { length values.old ≡ length variables.now }
     requires chains { AreChains (sources (variables_of variables.now)) first.now next.now }
-    requires others { (p : ℕ × ℕ) → nets ≡ Some p → OthersRest p (variables_of variables.now) values.old levels.now drives.now }
+    requires others { (p : ℕ × ℕ) → nets ≡ Some p → still ≡ true → OthersRest p (variables_of variables.now) values.old levels.now drives.now }
+    requires nets { (p : ℕ × ℕ) → nets ≡ Some p → NetsRest p (variables_of variables.now) values.old levels.now drives.now }
     requires room { length out.old.text + length head.now + 57 + 4 * length variables.now ≤ out.old.room }
     ensures values { values.new ≡ values_at levels.now drives.now (variables_of variables.now) }
     ensures text { out.new ≡ record out.old {
@@ -208,7 +216,7 @@ pub(crate) fn push_row(
 {
     if started {
         push_later(
-            cycle, nets, variables, first, next, levels, drives, values, out,
+            cycle, nets, still, variables, first, next, levels, drives, values, out,
         )
     } else {
         fill_values(variables, levels, drives, values);

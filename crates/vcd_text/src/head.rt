@@ -5,7 +5,7 @@ ghost use Rattle.text_model.specs.Wave.{time_line};
 ghost use Rattle.vcd_text.specs.Variables.{variables_of};
 ghost use Rattle.vcd_text.specs.Heads.{gathered, after_row, changed_by};
 ghost use Rattle.text_model.specs.Wave.{head};
-ghost use Rattle.vcd_text.specs.Chains.{AreChains, AreNetsBut, HasSeen, OthersRest, PinsRest, sources};
+ghost use Rattle.vcd_text.specs.Chains.{AreChains, AreNetsBut, HasSeen, NetsRest, OthersRest, PinsRest, sources};
 ghost use Rattle.sim_base.specs.Rows.{AreBut};
 ghost use Rattle.sim_base.specs.declared.signal.Level.{Level};
 
@@ -180,27 +180,36 @@ impl WaveHead {
         )
     }
 
-    /// The nets that are told behind a row, where the values of all variables but theirs are what they were.
-    fn told(&self, levels: &[Level], drives: &[Drive], changed: &[u16]) -> Option<(u16, u16)>
+    /// The nets that are told behind a row, and whether the variables that show pins have the values that they had.
+    fn told(
+        &self,
+        levels: &[Level],
+        drives: &[Drive],
+        changed: &[u16],
+    ) -> (Option<(u16, u16)>, bool)
         requires { self.now.started ≡ true → (before : List Level) × HasSeen self.now.variables self.now.values before × AreBut changed.now before levels.now }
-        ensures { (p : ℕ × ℕ) → result ≡ Some p → OthersRest p self.now.variables self.now.values levels.now drives.now }
+        ensures others { (p : ℕ × ℕ) → result.0 ≡ Some p → result.1 ≡ true → OthersRest p self.now.variables self.now.values levels.now drives.now }
+        ensures nets { (p : ℕ × ℕ) → result.0 ≡ Some p → NetsRest p self.now.variables self.now.values levels.now drives.now }
     {
         match two_of(changed) {
-            Some(nets) if self.has_started() && self.pins_rest(levels, drives) => Some(nets),
-            _ => None,
+            Some(nets) if self.has_started() => (Some(nets), self.pins_rest(levels, drives)),
+            _ => (None, false),
         }
     }
 
-    /// Makes the text of the next row, looking at the variables of two nets alone where they are told.
+    /// Makes the text of the next row. Where two nets are told it looks at the variables of these alone, and at those of pins
+    /// where one has another value than it had.
     fn take(
         &mut self,
         cycle: u32,
         nets: Option<(u16, u16)>,
+        still: bool,
         levels: &[Level],
         drives: &[Drive],
     ) -> u64
         requires room { length self.old.text ≤ gathered }
-        requires others { (p : ℕ × ℕ) → nets ≡ Some p → OthersRest p self.old.variables self.old.values levels.now drives.now }
+        requires others { (p : ℕ × ℕ) → nets ≡ Some p → still ≡ true → OthersRest p self.old.variables self.old.values levels.now drives.now }
+        requires nets { (p : ℕ × ℕ) → nets ≡ Some p → NetsRest p self.old.variables self.old.values levels.now drives.now }
         ensures text { self.new ≡ after_row self.old (record { cycle = cycle; levels = levels.now; drives = drives.now }) }
         ensures count { result ≡ changed_by self.old (record { cycle = cycle; levels = levels.now; drives = drives.now }) }
     {
@@ -208,6 +217,7 @@ impl WaveHead {
             self.started,
             cycle,
             nets,
+            still,
             &self.head_bytes,
             self.variables.as_slice(),
             &self.first,
@@ -222,7 +232,7 @@ impl WaveHead {
     }
 
     /// Makes the text of the next row behind what is kept, and answers how many values it changes.
-    /// Where one net is told, or two, it looks at the variables of these and of pins alone, unless a pin's has another value.
+    /// Where one net is told, or two, only the variables of these and of pins may have other values.
     pub(crate) fn take_row(
         &mut self,
         cycle: u32,
@@ -235,8 +245,8 @@ impl WaveHead {
         ensures text { self.new ≡ after_row self.old (record { cycle = cycle; levels = levels.now; drives = drives.now }) }
         ensures count { result ≡ changed_by self.old (record { cycle = cycle; levels = levels.now; drives = drives.now }) }
     {
-        let nets = self.told(levels, drives, changed);
-        self.take(cycle, nets, levels, drives)
+        let (nets, still) = self.told(levels, drives, changed);
+        self.take(cycle, nets, still, levels, drives)
     }
 
     /// Makes the text of the time at which the run ends behind what is kept.

@@ -6,7 +6,7 @@ use Rattle.vcd_text.specs.Buffers.{BufferState}
 use Rattle.vcd_text.specs.Heads.{HeadState, gathered, text_room, changed_by}
 use Rattle.vcd_text.specs.Variables.{variable_of, variables_of}
 use Rattle.vcd_text.specs.Chains.{values_at}
-use Rattle.vcd_text.proofs.HeadLemmas.{lent, chains_moved, others_moved, row_made}
+use Rattle.vcd_text.proofs.HeadLemmas.{lent, chains_moved, nets_moved, others_moved, row_made}
 use Rattle.vcd_text.proofs.head.WaveHead.take.Goals as goal
 
 pub push_row-count-requires : goal.push_row-count-requires
@@ -19,8 +19,10 @@ push_row-count-requires c =
       few = omega (arith, v.few, ap length vs);
       long = ap length c.deref_mut.ensures.value ∙ sym i.values.ok.0 ∙ v.values_long ∙ ap length (sym vs);
       chains = chains_moved (sym vs) (sym c.deref-2.ensures.value) (sym c.deref-3.ensures.value) v.chains;
-      others = λ p is. others_moved p c.args.levels.now c.args.drives.now (ap (λ (x : HeadState). x.variables) (sym s) ∙ ap variables_of (sym vs))
-          (ap (λ (x : HeadState). x.values) (sym s) ∙ sym c.deref_mut.ensures.value) (c.requires.others p is);
+      others = λ p is still. others_moved p c.args.levels.now c.args.drives.now (ap (λ (x : HeadState). x.variables) (sym s) ∙ ap variables_of (sym vs))
+          (ap (λ (x : HeadState). x.values) (sym s) ∙ sym c.deref_mut.ensures.value) (c.requires.others p is still);
+      nets = λ p is. nets_moved p c.args.levels.now c.args.drives.now (ap (λ (x : HeadState). x.variables) (sym s) ∙ ap variables_of (sym vs))
+          (ap (λ (x : HeadState). x.values) (sym s) ∙ sym c.deref_mut.ensures.value) (c.requires.nets p is);
       room = omega (arith, v.room_is, c.requires.room, ap (λ (x : HeadState). length x.text) s, length-map i.variables variable_of, ap length vs, ap length (c.deref.ensures.value ∙ v.head_is));
     }
 
