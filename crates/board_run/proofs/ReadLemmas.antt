@@ -294,7 +294,6 @@ module _ {S : Type 0} (m : Machine S) where
     wired = let c = suits.wired in record { nets = c.nets; net_of = c.net_of; contacts = c.contacts; resistors = c.resistors; levels_long = c.levels_long };
     drives_long = ap length told.drives_are ∙ sym fits.pins;
     closed_long = ap length told.closed_are ∙ sym fits.contacts;
-    chips_long = suits.chips_long;
     on_long = suits.on_long;
     on_are = suits.on_are;
   }

@@ -72,7 +72,6 @@ returns-clause-suits g c =
       };
       drives_long = ap (λ (x : Circuit). length x.drives) r ∙ suits.drives_long;
       closed_long = ap (λ (x : Circuit). length x.closed) r ∙ suits.closed_long;
-      chips_long = omega (arith, c.keep_chips-same_drives.auto, suits.chips_long);
       on_long = suits.on_long;
       on_are = suits.on_are;
     }
