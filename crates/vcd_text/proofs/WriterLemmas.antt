@@ -13,7 +13,7 @@ use Rattle.sim_base.specs.Rows.{Row}
 use Rattle.text_model.specs.Wave.{Variable, values, head, initial_values, value_changes, change_count, later_text, begun_text, later_count, wave_count}
 use Rattle.vcd_text.specs.Heads.{HeadState, gathered, row_text, after_row, changed_by}
 use Rattle.vcd_text.specs.Ports.{texts, IsOn, BeginsOn, Leaves, BreaksOff, Writes}
-use Rattle.vcd_text.specs.Writers.{last_values, IsAfter, capped}
+use Rattle.vcd_text.specs.Writers.{last_values, IsAfter, looks_at_rows, capped}
 
 later_push : (vs : List Variable) (before : List ℕ) (rows : List Row) (row : Row) →
     later_text vs before (rows ++ row ∷ []) ≡ later_text vs before rows ++ value_changes row.cycle (last_values vs before rows) (values vs row)
@@ -101,6 +101,29 @@ wave_on wave true t u bytes a m b p q ports.Serial = q.written ports.Serial ∙ 
 wave_on wave false t u bytes a m b p q ports.Serial = q.written ports.Serial ∙ p.written ports.Serial
 wave_on wave serial t u bytes a m b p q ports.Report = q.written ports.Report ∙ p.written ports.Report
 wave_on wave serial t u bytes a m b p q ports.Complaint = q.written ports.Complaint ∙ p.written ports.Complaint
+
+-- where rows are not looked at, Wave gets nothing, whatever their text
+pub unseen_wave : (wave serial : Bool) (t u bytes : List ℕ) (a b : Outside) → looks_at_rows wave serial ≡ false → Leaves (texts wave serial t bytes) a b → Leaves (texts wave serial u bytes) a b
+unseen_wave true serial t u bytes a b blind h = absurd cc
+unseen_wave false serial t u bytes a b blind h = record { files = h.files; name = h.name; opened = h.opened; reads = h.reads; written = written serial h; faults = h.faults }
+  where
+    written : (serial : Bool) → Leaves (texts false serial t bytes) a b → (p : Port) → IsOn (texts false serial u bytes p) (a.written p) (b.written p)
+    written serial h ports.Wave = h.written ports.Wave
+    written true h ports.Serial = h.written ports.Serial
+    written false h ports.Serial = h.written ports.Serial
+    written serial h ports.Report = h.written ports.Report
+    written serial h ports.Complaint = h.written ports.Complaint
+
+pub both_ways : (wave serial : Bool) → looks_at_rows wave serial ≡ true → looks_at_rows wave serial ≡ false → ⊥
+both_ways true serial e f = cc
+both_ways false true e f = cc
+both_ways false false e f = cc
+
+-- where neither is wanted, rows are looked at
+pub counts_look : (wave serial : Bool) → looks_at_rows wave serial ≡ false → wave ≡ false → serial ≡ false → ⊥
+counts_look true serial e f h = cc
+counts_look false true e f h = cc
+counts_look false false e f h = cc
 
 -- more of the wave is written
 pub leaves_more : (wave serial : Bool) (t u bytes : List ℕ) (a m b : Outside) → Leaves (texts wave serial t bytes) a m → Leaves (texts wave false u []) m b → Leaves (texts wave serial (t ++ u) bytes) a b

@@ -54,9 +54,13 @@ outside_of outside w = outside w.bench.now
 abbrev pub last_of : {B : Type 0} → WaveWriter B → Option ℕ
 last_of w = if w.head.now.started then Some w.last else None
 
--- the values that it has of nets are those of these levels
+-- rows are written, or counted where neither they nor bytes are
+abbrev pub looks_at_rows : Bool → Bool → Bool
+looks_at_rows wave serial = wave || not serial
+
+-- the values that it has of nets are those of these levels, if it looks at any
 abbrev pub has_seen : {B : Type 0} → WaveWriter B → List Level → Type 0
-has_seen w levels = HasSeen w.head.now.variables w.head.now.values levels
+has_seen w levels = looks_at_rows w.wave w.serial ≡ true → HasSeen w.head.now.variables w.head.now.values levels
 
 -- no call has failed, the wave has not ended, a wanted Wave is open, and there is room for a row
 abbrev pub is_whole : {B : Type 0} → (B → Outside) → WaveWriter B → Bool
@@ -67,13 +71,14 @@ faults_of outside w = (outside w.bench.now).faults ports.Wave + (outside w.bench
 
 -- Since the environment was lent, a wanted Wave has got a text that is, with what is kept, the text of the
 -- rows, but for the wave's last line; a wanted Serial has got the bytes, and nothing else has changed;
--- what is not wanted is counted.
+-- where neither is wanted, both are counted.
 pub record Stands {B : Type 0} (outside : B → Outside) (w : WaveWriter B) (rows : List Row) (bytes : List ℕ) : Type 0 where
   pub gone : List ℕ
   pub kept : gone ++ w.head.now.text ≡ begun_text w.head.now.variables rows
   pub leaves : Leaves (texts w.wave w.serial gone bytes) (outside w.start.now.value) (outside w.bench.now)
-  pub follows : IsAfter w.head.now rows
-  pub changed : w.wave ≡ false → w.changes ≡ capped (wave_count w.head.now.variables rows)
+  pub none : looks_at_rows w.wave w.serial ≡ false → w.head.now.text ≡ []
+  pub follows : looks_at_rows w.wave w.serial ≡ true → IsAfter w.head.now rows
+  pub changed : w.wave ≡ false → w.serial ≡ false → w.changes ≡ capped (wave_count w.head.now.variables rows)
   pub sent : w.serial ≡ false → w.sent ≡ capped (length bytes)
 
 -- Since the environment was lent, first parts of these were written, and a write failed.

@@ -167,6 +167,13 @@ impl WaveHead {
         self.started
     }
 
+    /// Counts a row that nobody looks at: the next one is not the first.
+    pub(crate) fn pass_row(&mut self)
+        ensures { self.new ≡ record self.old { started = true } }
+    {
+        self.started = true;
+    }
+
     /// Whether each variable that shows a pin has the value that it had.
     fn pins_rest(&self, levels: &[Level], drives: &[Drive]) -> bool
         ensures { result ≡ true → PinsRest self.now.variables self.now.values levels.now drives.now }

@@ -8,15 +8,15 @@ ghost use Rattle.sim_base.specs.Rows.{Row};
 ghost use Rattle.text_model.specs.Wave.{wave_text, wave_count};
 ghost use Rattle.vcd_text.specs.Heads.{gathered};
 ghost use Rattle.vcd_text.specs.Ports.{texts, Writes};
-ghost use Rattle.vcd_text.specs.Writers.{Tied, texts_of, place_of, outside_of, last_of, has_seen, is_whole, faults_of, Stands, HasStopped, capped};
+ghost use Rattle.vcd_text.specs.Writers.{Tied, texts_of, place_of, outside_of, last_of, has_seen, looks_at_rows, is_whole, faults_of, Stands, HasStopped, capped};
 
 use crate::head::WaveHead;
 use sim_base::{Bench, Drive, Level, Port, Watcher, WriteEnd};
 use std::snapshot::Snapshot;
 
-/// Writes the wave of the rows on Wave and the bytes on Serial, each where it is wanted, and counts
-/// what is not. Rows after the first are kept until they are much, or the wave ends; bytes are written
-/// as they come.
+/// Writes the wave of the rows on Wave and the bytes on Serial, each where it is wanted; where neither
+/// is, it counts both, and where bytes alone are wanted, it looks at no row. Rows after the first are
+/// kept until they are much, or the wave ends; bytes are written as they come.
 #[derive(Drop)]
 pub struct WaveWriter<'a, B: Bench> {
     head: &'a mut WaveHead,
@@ -66,6 +66,14 @@ fn write_serial<B: Bench>(wanted: bool, byte: u8, bench: &mut B) -> WriteEnd
     bench.write(Port::Serial, &[byte])
 }
 
+/// Whether rows are looked at: they are written, or counted.
+#[inline(always)]
+fn looks_at_rows(wave: bool, serial: bool) -> bool
+    ensures { result ≡ looks_at_rows wave serial }
+{
+    wave || !serial
+}
+
 /// A count of what is not wanted, with this much more.
 fn counted(count: u64, wanted: bool, more: u64) -> u64
     ensures { result ≡ (if wanted then count else capped (count + more)) }
@@ -105,6 +113,11 @@ impl<'a, B: Bench> Watcher for WaveWriter<'a, B> {
     ghost place = { place_of B.outside };
 
     fn row(&mut self, t: u32, levels: &[Level], drives: &[Drive], changed: &[u16]) -> WriteEnd {
+        if !looks_at_rows(self.wave, self.serial) {
+            self.head.pass_row();
+            self.last = t;
+            return WriteEnd::Ok;
+        }
         let first = !self.head.has_started();
         let more = self.head.take_row(t, levels, drives, changed);
         self.changes = counted(self.changes, self.wave, more);

@@ -10,7 +10,8 @@ returns-clause-stands g c = record {
   gone = [];
   kept = ap (λ (s : HeadState). s.text) c.restart.ensures;
   leaves = rw c.requires.lent (leaves_nothing c.args.wave c.args.serial (g.B.Bench.outside c.args.bench.now));
-  follows = ap (λ (s : HeadState). s.started) c.restart.ensures;
-  changed = λ e. refl;
+  none = λ e. ap (λ (s : HeadState). s.text) c.restart.ensures;
+  follows = λ e. ap (λ (s : HeadState). s.started) c.restart.ensures;
+  changed = λ e f. refl;
   sent = λ e. refl;
 }
