@@ -228,7 +228,7 @@ impl DueTree {
     }
 
     /// Part i is due in this cycle, or not at all.
-    #[inline]
+    #[inline(always)]
     pub fn set(&mut self, i: u8, due: Option<u32>)
         requires { i < length self.old }
         ensures { self.new ≡ slice_set self.old i due }
@@ -244,6 +244,7 @@ impl DueTree {
     }
 
     /// The same for a part that may meet others.
+    #[inline(never)]
     fn renew(&mut self, i: u8, due: Option<u32>)
         requires { i < length self.old }
         ensures { self.new ≡ slice_set self.old i due }
