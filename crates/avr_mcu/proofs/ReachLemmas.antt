@@ -22,7 +22,8 @@ use Rattle.avr_spi.specs.Spi.{Spi, spi}
 use Rattle.avr_twi.specs.Twi.{Twi, twi}
 use Rattle.avr_mcu.specs.Devices.{Devices, devices}
 use Rattle.avr_mcu.specs.Units.{at_port, wire_pins, one_pin, pins_of, pins_of_bit}
-use Rattle.avr_mcu.proofs.PlacedLemmas.{below, spi_placed, twi_placed}
+use Rattle.avr_mcu.proofs.PadLemmas.{below}
+use Rattle.avr_mcu.proofs.PlacedLemmas.{spi_placed, twi_placed}
 
 -- a write of a register, or of one bit of it, leaves alone what is asked of the pins that it does not reach
 pub record Reaches {D : Type 0} (m : UnitMachine D) : Type 0 where
@@ -180,9 +181,9 @@ twi_wrote s y p e =
 
 devices_wires : (s : Devices) (t a x p : ℕ) → p < PORT_PINS → ¬ IsIn (wire_pins a) p → devices.pad (devices.write s t a x) p ≡ devices.pad s p
 devices_wires s t a x p less = elim (eqb_tells a 0x4E) [
-  | inl is ↦ subst G (sym is.1) (λ out. let y : Spi = spi.write s.1.1.1.1.1.1.0 t 0x4E x in spi_wrote s y p (spi_placed y p out ∙ sym (spi_placed s.1.1.1.1.1.1.0 p out)))
+  | inl is ↦ subst G (sym is.1) (λ out. let y : Spi = spi.write s.1.1.1.1.1.1.0 t 0x4E x in spi_wrote s y p (spi_placed y p less out ∙ sym (spi_placed s.1.1.1.1.1.1.0 p less out)))
   | inr n4E ↦ elim (eqb_tells a 0xBC) [
-    | inl is ↦ subst G (sym is.1) (λ out. let y : Twi = twi.write s.1.1.1.1.1.1.1 t 0xBC x in twi_wrote s y p (twi_placed y p out ∙ sym (twi_placed s.1.1.1.1.1.1.1 p out)))
+    | inl is ↦ subst G (sym is.1) (λ out. let y : Twi = twi.write s.1.1.1.1.1.1.1 t 0xBC x in twi_wrote s y p (twi_placed y p less out ∙ sym (twi_placed s.1.1.1.1.1.1.1 p less out)))
     | inr nBC ↦
         let all : wire_pins a ≡ all_pins = rw (n4E.0, nBC.0) refl in
         λ out. absurd (out (subst (λ (s : Span). IsIn s p) (sym all) (omega arith, omega (arith, less))))

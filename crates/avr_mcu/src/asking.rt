@@ -5,6 +5,7 @@ ghost use Rattle.sim_base.specs.declared.signal.Level.TheVariants as levels;
 ghost use Rattle.unit_law.specs.UnitMachine.{steps, IsQuiet};
 ghost use Rattle.avr_mcu.specs.Ready.{Ready};
 
+use crate::placed::WiredGroup;
 use sim_base::{Level, MOST_CYCLES};
 use unit_law::{Group, PORT_PINS, wait};
 
@@ -174,7 +175,7 @@ pub(crate) fn notices<G: Group>(
 
 /// One cycle, in which nothing needs to be done if no unit notices.
 #[inline]
-pub(crate) fn hear<G: Group>(
+pub(crate) fn hear<G: WiredGroup>(
     group: &mut G,
     next: &mut Next,
     cycle: u32,
@@ -188,7 +189,6 @@ pub(crate) fn hear<G: Group>(
     requires ready { Ready G.machine (G.state group.old) (G.until group.old) (G.stands group.old) before.now cycle next.old.due next.old.request }
     requires quiet { notices ≡ false → cycle < next.old.due }
     requires deaf { notices ≡ false → G.machine.hears (G.state group.old cycle) before.now now.now ≡ false }
-    requires passes { cycle < G.until group.old → G.machine.hears (G.state group.old cycle) before.now now.now ≡ false → G.stands group.old now.now (cycle + 1) }
     ensures byte { result ≡ G.machine.sends (G.state group.old cycle) cycle }
     ensures state { G.state group.new (cycle + 1) ≡ G.machine.step (G.state group.old cycle) cycle before.now now.now }
     ensures ready { Ready G.machine (G.state group.new) (G.until group.new) (G.stands group.new) now.now (cycle + 1) next.new.due next.new.request }
@@ -196,6 +196,7 @@ pub(crate) fn hear<G: Group>(
     if notices {
         step(group, next, cycle, before, now)
     } else {
+        group.pass(cycle, before, now);
         None
     }
 }

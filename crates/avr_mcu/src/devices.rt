@@ -1,12 +1,11 @@
-//! The units of the microcontroller, and of which pins each may ask something: one more unit is one more `Both`, here and in
-//! `specs/Devices.antt`, and one more line of `pins_of_units` and of `pad_of`.
+//! The units of the microcontroller and their pins: one more unit is one more `Both`, here and in `specs/Devices.antt`, and
+//! an `impl Wired` that says of which pins it may ask something.
 ghost use Rattle.std.specs.Prelude.{◌≡◌, ◌<◌, ℕ, List, true, false, length};
 ghost use Rattle.sim_base.specs.declared.signal.Level.{Level};
-ghost use Rattle.part_law.specs.Spans.{IsIn, is_in};
-ghost use Rattle.unit_law.specs.Pad.{joined};
 ghost use Rattle.avr_mcu.specs.Devices.{Devices as State, devices};
-ghost use Rattle.avr_mcu.specs.Placed.{Placed, hull};
+ghost use Rattle.avr_mcu.specs.Placed.{StepMoves};
 
+use crate::placed::{Wired, WiredGroup};
 use avr_adc::Adc;
 use avr_ports::Ports;
 use avr_spi::Spi;
@@ -16,28 +15,7 @@ use avr_twi::Twi;
 use avr_usart::Usart;
 use part_law::Span;
 use sim_base::Level;
-use unit_law::{Both, Group, Late, PORT_PINS, Pad, may_move};
-
-// The pins of which each unit may ask something (data sheet, "Alternate Port Functions"). The ADC asks nothing, and the
-// ports, which may ask something of each, move none in a step.
-
-/// OC0B and OC0A.
-const TIMER0_PINS: Span = Span { from: 5, to: 7 };
-
-/// OC1A and OC1B.
-const TIMER1_PINS: Span = Span { from: 9, to: 11 };
-
-/// OC2B and OC2A, with those between.
-const TIMER2_PINS: Span = Span { from: 3, to: 12 };
-
-/// RXD and TXD.
-const USART_PINS: Span = Span { from: 0, to: 2 };
-
-/// MOSI, MISO and SCK: SS is read alone.
-pub(crate) const SPI_PINS: Span = Span { from: 11, to: 14 };
-
-/// SDA and SCL, on A4 and A5.
-pub(crate) const TWI_PINS: Span = Span { from: 18, to: 20 };
+use unit_law::{Both, Group, Late, PORT_PINS, Pad};
 
 /// The ports come first, since firmware uses them most.
 pub(crate) type Devices = Both<
@@ -50,6 +28,88 @@ pub(crate) type Devices = Both<
         >,
     >,
 >;
+
+/// Each pin; a cycle changes nothing of DDRx and PORTx.
+impl Wired for Ports {
+    #[inline(always)]
+    #[tactic(auto, using(crate::proofs::PlacedLemmas::ports_placed))]
+    fn pins() -> Span {
+        Span::all()
+    }
+
+    #[inline(always)]
+    #[tactic(auto, using(crate::proofs::PlacedLemmas::ports_still))]
+    fn moved() -> Span {
+        Span::none()
+    }
+}
+
+/// OC0B and OC0A.
+impl Wired for Timer0 {
+    #[inline(always)]
+    #[tactic(auto, using(crate::proofs::PlacedLemmas::timer0_placed))]
+    fn pins() -> Span {
+        Span { from: 5, to: 7 }
+    }
+}
+
+/// OC1A and OC1B.
+impl Wired for Timer16 {
+    #[inline(always)]
+    #[tactic(auto, using(crate::proofs::PlacedLemmas::timer1_placed))]
+    fn pins() -> Span {
+        Span { from: 9, to: 11 }
+    }
+}
+
+/// OC2B and OC2A, with those between.
+impl Wired for Timer2 {
+    #[inline(always)]
+    #[tactic(auto, using(crate::proofs::PlacedLemmas::timer2_placed))]
+    fn pins() -> Span {
+        Span { from: 3, to: 12 }
+    }
+}
+
+/// It asks nothing.
+impl Wired for Adc {
+    #[inline(always)]
+    #[tactic(auto, using(crate::proofs::PlacedLemmas::adc_placed))]
+    fn pins() -> Span {
+        Span::none()
+    }
+}
+
+/// RXD and TXD.
+impl Wired for Usart {
+    #[inline(always)]
+    #[tactic(auto, using(crate::proofs::PlacedLemmas::usart_placed))]
+    fn pins() -> Span {
+        Span { from: 0, to: 2 }
+    }
+}
+
+/// MOSI, MISO and SCK: SS is read alone.
+impl Wired for Spi {
+    #[inline(always)]
+    #[tactic(auto, using(crate::proofs::PlacedLemmas::spi_placed))]
+    fn pins() -> Span {
+        SPI_PINS
+    }
+}
+
+/// SDA and SCL, on A4 and A5.
+impl Wired for Twi {
+    #[inline(always)]
+    #[tactic(auto, using(crate::proofs::PlacedLemmas::twi_placed))]
+    fn pins() -> Span {
+        TWI_PINS
+    }
+}
+
+pub(crate) const SPI_PINS: Span = Span { from: 11, to: 14 };
+
+pub(crate) const TWI_PINS: Span = Span { from: 18, to: 20 };
 
 /// The pins of which the step of a cycle, from the levels before to those now, may change what they are asked for, if it may
 /// change that at all (`moves`); `same` tells that these levels are those.
@@ -67,7 +127,7 @@ pub(crate) fn moved_pins(
     requires here { ⟦<Devices as Group>⟧.stands units.now before.now cycle }
     requires same { same ≡ true → now.now ≡ before.now }
     requires moves { moves ≡ false → (p : ℕ) → devices.pad (devices.step (⟦<Devices as Group>⟧.state units.now cycle) cycle before.now now.now) p ≡ devices.pad (⟦<Devices as Group>⟧.state units.now cycle) p }
-    ensures { (u : State) → u ≡ ⟦<Devices as Group>⟧.state units.now cycle → (p : ℕ) → ¬ IsIn result p → devices.pad (devices.step u cycle before.now now.now) p ≡ devices.pad u p }
+    ensures { (u : State) → u ≡ ⟦<Devices as Group>⟧.state units.now cycle → StepMoves devices u cycle before.now now.now result }
 {
     if moves {
         pins_of_units(units, cycle, before, now, same)
@@ -83,108 +143,15 @@ fn pins_of_units(units: &Devices, cycle: u32, before: &[Level], now: &[Level], s
     requires levels { length now.now ≡ PORT_PINS }
     requires here { ⟦<Devices as Group>⟧.stands units.now before.now cycle }
     requires same { same ≡ true → now.now ≡ before.now }
-    ensures { (u : State) → u ≡ ⟦<Devices as Group>⟧.state units.now cycle → (p : ℕ) → ¬ IsIn result p → devices.pad (devices.step u cycle before.now now.now) p ≡ devices.pad u p }
+    ensures { (u : State) → u ≡ ⟦<Devices as Group>⟧.state units.now cycle → StepMoves devices u cycle before.now now.now result }
 {
-    let timers = &units.second;
-    let timer0 = told(&timers.first, cycle, before, now, same, TIMER0_PINS);
-    let timers = &timers.second;
-    let timer1 = told(&timers.first, cycle, before, now, same, TIMER1_PINS);
-    let timers = &timers.second;
-    let timer2 = told(&timers.first, cycle, before, now, same, TIMER2_PINS);
-    let serials = &timers.second.second;
-    let usart = told(&serials.first, cycle, before, now, same, USART_PINS);
-    let serials = &serials.second;
-    let spi = told(&serials.first, cycle, before, now, same, SPI_PINS);
-    let twi = told(&serials.second, cycle, before, now, same, TWI_PINS);
-    let wires = hull(hull(spi, twi), usart);
-    hull(hull(hull(wires, timer0), timer1), timer2)
+    units.moved(cycle, before, now, same)
 }
 
-/// The least span that has the pins of both.
-#[inline]
-pub(crate) fn hull(a: Span, b: Span) -> Span
-    ensures { result ≡ hull a b }
-{
-    if b.has_any() { a.joined(b) } else { a }
-}
-
-// These pins, where the cycle may change what a unit asks of one of them; it asks nothing of others.
-#[inline(always)]
-fn told<G: Group>(
-    group: &G,
-    cycle: u32,
-    before: &[Level],
-    now: &[Level],
-    same: bool,
-    pins: Span,
-) -> Span
-    requires placed { Placed G.machine pins }
-    requires before { length before.now ≡ PORT_PINS }
-    requires levels { length now.now ≡ PORT_PINS }
-    requires here { G.stands group.now before.now cycle }
-    requires same { same ≡ true → now.now ≡ before.now }
-    ensures { (p : ℕ) → ¬ IsIn result p → G.machine.pad (G.machine.step (G.state group.now cycle) cycle before.now now.now) p ≡ G.machine.pad (G.state group.now cycle) p }
-{
-    if moves(group, cycle, before, now, same) {
-        pins
-    } else {
-        Span::none()
-    }
-}
-
-// Whether the cycle may change what a unit asks of a pin.
-#[inline(always)]
-fn moves<G: Group>(group: &G, cycle: u32, before: &[Level], now: &[Level], same: bool) -> bool
-    requires before { length before.now ≡ PORT_PINS }
-    requires levels { length now.now ≡ PORT_PINS }
-    requires here { G.stands group.now before.now cycle }
-    requires same { same ≡ true → now.now ≡ before.now }
-    ensures { result ≡ false → (p : ℕ) → G.machine.pad (G.machine.step (G.state group.now cycle) cycle before.now now.now) p ≡ G.machine.pad (G.state group.now cycle) p }
-{
-    if same {
-        group.event_moves(cycle)
-    } else {
-        may_move(group, group.due(), cycle, before, now)
-    }
-}
-
-/// What the units ask together of a pin, 14 to 19 being A0 to A5: each is asked where it may ask something of it.
+/// What the units ask together of a pin, 14 to 19 being A0 to A5.
 pub(crate) fn pad_of(units: &Devices, pin: u8) -> Pad
     requires { pin < PORT_PINS }
     ensures { (l : List Level) (t : ℕ) (u : State) → ⟦<Devices as Group>⟧.stands units.now l t → u ≡ ⟦<Devices as Group>⟧.state units.now t → result ≡ devices.pad u pin }
 {
-    let timers = &units.second;
-    let others = &timers.second;
-    let last = &others.second;
-    let serials = &last.second.second;
-    let wires = &serials.second;
-    let twi = asked(&wires.second, pin, TWI_PINS, Pad::untouched());
-    let spi = asked(&wires.first, pin, SPI_PINS, twi);
-    let usart = asked(&serials.first, pin, USART_PINS, spi);
-    let timer2 = asked(&last.first, pin, TIMER2_PINS, usart);
-    let timer1 = asked(&others.first, pin, TIMER1_PINS, timer2);
-    let timer0 = asked(&timers.first, pin, TIMER0_PINS, timer1);
-    units.first.pad(pin).joined(timer0)
-}
-
-// What a unit, which asks something of these pins alone, and others ask together of a pin.
-#[inline(always)]
-fn asked<G: Group>(group: &G, pin: u8, pins: Span, others: Pad) -> Pad
-    requires pin { pin < PORT_PINS }
-    requires placed { Placed G.machine pins }
-    ensures { (l : List Level) (t : ℕ) → G.stands group.now l t → result ≡ joined (G.machine.pad (G.state group.now t) pin) others }
-{
-    if has_pin(pins, pin) {
-        group.pad(pin).joined(others)
-    } else {
-        others
-    }
-}
-
-// Whether a pin is one of the span.
-#[inline]
-fn has_pin(pins: Span, pin: u8) -> bool
-    ensures { result ≡ is_in pins pin }
-{
-    (pins.from <= pin) & (pin < pins.to)
+    units.asked(pin, Pad::untouched())
 }

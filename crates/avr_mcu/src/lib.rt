@@ -10,6 +10,7 @@ mod devices;
 mod follow;
 mod mcu;
 mod pins;
+mod placed;
 mod units;
 
 pub use mcu::Mcu;

@@ -11,9 +11,9 @@ ghost use Rattle.part_law.specs.declared.span.Span.{Span};
 ghost use Rattle.part_law.specs.Spans.{IsIn, all_pins, no_pins};
 ghost use Rattle.avr_mcu.specs.Placed.{hull};
 
-use crate::devices::hull;
 use crate::follow::follow;
 use crate::pins::UNO_PINS;
+use crate::placed::hull;
 use crate::units::Units;
 use avr_core::{Core, Mode, decode_all};
 use avr_isa::Instr;

@@ -3,6 +3,15 @@ use Rattle.unit_law.specs.UnitMachine.{FirstDue}
 use Rattle.avr_mcu.proofs.PassLemmas.{pass_silent, pass_state, pass_request}
 use Rattle.avr_mcu.proofs.asking.hear.Goals as goal
 
+pub pass-requires-clause-here : goal.pass-requires-clause-here
+pass-requires-clause-here g c = c.requires.ready.asked
+
+pub pass-requires-clause-early : goal.pass-requires-clause-early
+pass-requires-clause-early g c = let near = c.requires.quiet c.if-notices.false in let due = c.requires.ready.due_is in omega (arith, near, due)
+
+pub pass-requires-clause-deaf : goal.pass-requires-clause-deaf
+pass-requires-clause-deaf g c = c.requires.deaf c.if-notices.false
+
 pub returns-else-notices : goal.returns-else-notices
 returns-else-notices g c =
     let o = g.G.Group in
@@ -16,7 +25,7 @@ returns-else-notices g c =
     let later : t ≤ t + 1 = omega arith in
     let soon : t + 1 ≤ o.until s = omega (arith, less) in
     let waits = (g.met.G.Group.waits s c.args.before.now t (t + 1) r.asked later soon).1 in
-    let asked = c.requires.passes less none in
+    let asked = c.pass.ensures in
     record {
       byte = pass_silent o.machine g.met.G.Group.laws (o.state s) t (o.until s) first less;
       state = pass_state o.machine g.met.G.Group.laws (o.state s) t (o.until s) first less c.args.before.now c.args.now.now none waits;

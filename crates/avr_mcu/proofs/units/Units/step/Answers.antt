@@ -4,7 +4,6 @@ use Rattle.avr_mcu.specs.Units.{UnitsAt, pins}
 use Rattle.avr_mcu.specs.contracts.units.Units.{the_view}
 use Rattle.avr_mcu.proofs.UnitsLemmas.{units_held}
 use Rattle.avr_mcu.proofs.CallLemmas.{units_still}
-use Rattle.avr_mcu.proofs.PassLemmas.{devices_pass}
 use Rattle.avr_mcu.proofs.units.Units.step.Goals as goal
 
 pub notices-notices-requires-clause-due : goal.notices-notices-requires-clause-due
@@ -15,9 +14,6 @@ notices-notices-requires-clause-here c = c.self.invariant.ready.asked
 
 pub moved_pins-moved-requires-clause-here : goal.moved_pins-moved-requires-clause-here
 moved_pins-moved-requires-clause-here c = c.self.invariant.ready.asked
-
-pub hear-byte-requires-clause-passes : goal.hear-byte-requires-clause-passes
-hear-byte-requires-clause-passes c = λ less none. devices_pass c.self.invariant.ready.asked less none
 
 pub hear-byte-requires-clause-ready : goal.hear-byte-requires-clause-ready
 hear-byte-requires-clause-ready c = c.self.invariant.ready
@@ -30,7 +26,7 @@ returns-clause-state c =
 
 pub returns-clause-pads : goal.returns-clause-pads
 returns-clause-pads c = λ p l out.
-    units_still devices c.args.self.now (the_view c.self.inside) c.self.view_is c.args.levels.now c.seen-seen.result.now p c.seen-seen.ensures.value (c.moved_pins-moved.ensures _ refl p out)
+    units_still devices c.args.self.now (the_view c.self.inside) c.self.view_is c.args.levels.now c.seen-seen.result.now p c.seen-seen.ensures.value (c.moved_pins-moved.ensures _ refl p l out)
 
 pub invariant_of-self : goal.invariant_of-self
 invariant_of-self c =

@@ -20,7 +20,7 @@ returns-clause-state c =
 
 pub returns-clause-pads : goal.returns-clause-pads
 returns-clause-pads c = λ p l out.
-    subst (λ (y : UnitsAt Devices). devices.pad (devices.step y.units.devices y.cycle (pins y.held) (pins y.held)) p ≡ devices.pad y.units.devices p) c.self.view_is (c.moved_pins-moved.ensures _ refl p out)
+    subst (λ (y : UnitsAt Devices). devices.pad (devices.step y.units.devices y.cycle (pins y.held) (pins y.held)) p ≡ devices.pad y.units.devices p) c.self.view_is (c.moved_pins-moved.ensures _ refl p l out)
 
 pub invariant_of-self : goal.invariant_of-self
 invariant_of-self c = record {
