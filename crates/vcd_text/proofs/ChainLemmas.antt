@@ -1,10 +1,9 @@
 -- Variables that are linked by the nets that they show.
-use Rattle.std.proofs.Common.{◌≡◌, ◌≢◌, ◌⊎◌, ℕ, zero, suc, ◌+◌, ◌<◌, ◌≤◌, min, List, [], ◌∷◌, ◌++◌, length, get_or, refl, ap, sym, ◌∙◌, arith, inl, inr, subst, Option, Some, Bool, true, false, ◌||◌}
+use Rattle.std.proofs.Common.{◌≡◌, ◌≢◌, ◌⊎◌, ℕ, zero, suc, ◌+◌, ◌<◌, ◌≤◌, min, List, [], ◌∷◌, length, get_or, ap, sym, ◌∙◌, arith, inl, inr, subst, Option, Some, false}
 use Rattle.std.specs.Prelude.{eqb, slice_get, slice_index, slice_set}
 use Rattle.std.specs.List.{list_any}
 use Rattle.std.proofs.lemmas.Bool.{cases_lt}
 use Rattle.std.proofs.lemmas.Bool.Decides.{eqb_tells}
-use Rattle.std.proofs.lemmas.List.Folds.{list_any-append}
 use Rattle.std.proofs.lemmas.List.{get_or-set_same, get_or-set_other, length-set, length-map}
 use Rattle.std.proofs.lemmas.Option.{slice_get_within, slice_get-map, slice_get-get_or}
 use Rattle.std.specs.Option.{option_map}
@@ -16,7 +15,7 @@ use Rattle.sim_base.specs.declared.signal.Level.{Level}
 use Rattle.sim_base.specs.declared.signal.Drive.{Drive}
 use Rattle.sim_base.specs.Rows.{Row, AreBut}
 use Rattle.vcd_text.specs.Heads.{HeadState, after_row}
-use Rattle.vcd_text.specs.Chains.{sources, values_at, IsNet, IsNext, AreLinked, OnChain, IsRun, AreNetsBut, PinsRest, HasSeen, OthersRest, NetsRest}
+use Rattle.vcd_text.specs.Chains.{sources, values_at, IsNext, AreLinked, OnChain, IsRun, PinsRest, HasSeen, OthersRest, NetsRest}
 
 pub some_is : {A : Type 0} {x y : A} → Some x ≡ Some y → x ≡ y
 some_is e = cc
@@ -97,18 +96,18 @@ linked_none all first next i end blank = record {
   nexts = λ k n from at. let w = slice_get_within all k (Net n) at in absurd (omega (arith, from, w, end));
 }
 
--- what a variable of a net has
-pub value_here : (vs : List Variable) (levels : List Level) (drives : List Drive) (k n : ℕ) → slice_get (sources vs) k ≡ Some (Net n) → get_or (values_at levels drives vs) k 0 ≡ option_map_or level_value (slice_get levels n) 122
-value_here [] levels drives k n e = absurd cc
-value_here (v ∷ vs) levels drives zero n e = let s : v.shows ≡ Net n = some_is e in ap (shown_value levels drives) s
-value_here (v ∷ vs) levels drives (suc k) n e = value_here vs levels drives k n e
+-- what a variable has
+pub value_at : (vs : List Variable) (levels : List Level) (drives : List Drive) (k : ℕ) (s : Source) → slice_get (sources vs) k ≡ Some s → get_or (values_at levels drives vs) k 0 ≡ shown_value levels drives s
+value_at [] levels drives k s e = absurd cc
+value_at (v ∷ vs) levels drives zero s e = let same : v.shows ≡ s = some_is e in ap (shown_value levels drives) same
+value_at (v ∷ vs) levels drives (suc k) s e = value_at vs levels drives k s e
 
 -- where one net is told, or two, the variables of other nets have the values that they had
 pub nets_still : (vs : List Variable) (values : List ℕ) (before after : List Level) (drives : List Drive) (changed : List ℕ) (one two : ℕ) → ((n : ℕ) → n ≢ one → n ≢ two → list_any (eqb n) changed ≡ false) →
     HasSeen vs values before → AreBut changed before after → NetsRest (one, two) vs values after drives
 nets_still vs values before after drives changed one two told seen but k n here first second =
     let level : slice_get after n ≡ slice_get before n = but n (told n first second) in
-    seen k n here ∙ ap (λ (o : Option Level). option_map_or level_value o 122) (sym level) ∙ sym (value_here vs after drives k n here)
+    seen k n here ∙ ap (λ (o : Option Level). option_map_or level_value o 122) (sym level) ∙ sym (value_at vs after drives k (Net n) here)
 
 -- and so have all others, where those of pins have
 pub others_still : (vs : List Variable) (values : List ℕ) (levels : List Level) (drives : List Drive) (one two : ℕ) → PinsRest vs values levels drives → NetsRest (one, two) vs values levels drives → OthersRest (one, two) vs values levels drives
@@ -127,7 +126,7 @@ pub seen_after : (s h k : HeadState) (row : Row) → h ≡ after_row s row → k
 seen_after s h k row e f = λ i n here.
     let variables : k.variables ≡ s.variables = ap (λ (x : HeadState). x.variables) f ∙ ap (λ (x : HeadState). x.variables) e in
     let values : k.values ≡ values_at row.levels row.drives s.variables = ap (λ (x : HeadState). x.values) f ∙ ap (λ (x : HeadState). x.values) e in
-    ap (λ (l : List ℕ). get_or l i 0) values ∙ value_here s.variables row.levels row.drives i n (subst (λ (vs : List Variable). slice_get (sources vs) i ≡ Some (Net n)) variables here)
+    ap (λ (l : List ℕ). get_or l i 0) values ∙ value_at s.variables row.levels row.drives i (Net n) (subst (λ (vs : List Variable). slice_get (sources vs) i ≡ Some (Net n)) variables here)
 
 -- the next place is so from a later one on
 pub next_from : (all : List Source) (net from more at : ℕ) → from ≤ more → more ≤ at → IsNext all net from at → IsNext all net more at
@@ -169,7 +168,7 @@ pub run_of : (vs : List Variable) (levels : List Level) (drives : List Drive) (l
     IsRun (sources vs) net last (values_at levels drives vs) at bound value
 run_of vs levels drives last net at bound value long is inside rest = record {
   long = long ∙ sym (length-map vs (λ (v : Variable). shown_value levels drives v.shows));
-  own = λ k shown. is ∙ sym (value_here vs levels drives k net shown);
+  own = λ k shown. is ∙ sym (value_at vs levels drives k (Net net) shown);
   others = λ k least less off. rest k least less (omega (arith, less, inside)) off;
 }
 
@@ -200,49 +199,3 @@ rest_alone vs levels drives last one two at rest m n k less off = rest k less of
   | inl same ↦ λ shown. off (shown ∙ ap (λ (i : ℕ). Some (Net i)) same)
   | inr end ↦ n.none k (omega arith) (omega (arith, less, end, length-map vs (λ (v : Variable). v.shows)))
 ])
-
--- ---- variables that show pins
-
-or_off : (a b : Bool) → (a || b) ≡ false → (a ≡ false) × (b ≡ false)
-or_off true b h = absurd cc
-or_off false b h = (refl, h)
-
-or_on : (a b : Bool) → (a || b) ≡ true → (a ≡ true) ⊎ (b ≡ true)
-or_on true b h = inl refl
-or_on false b h = inr h
-
-pub eqb_is : (a b : ℕ) → eqb a b ≡ true → a ≡ b
-eqb_is a b e = elim (eqb_tells a b) [
-  | inl same ↦ same.1
-  | inr far ↦ absurd (let f = far.0 in cc)
-]
-
--- a number that is added is there, and so are those that were
-pub added_others : (pins : List ℕ) (i k : ℕ) → list_any (eqb k) (pins ++ i ∷ []) ≡ false → list_any (eqb k) pins ≡ false
-added_others pins i k none = (or_off (list_any (eqb k) pins) (list_any (eqb k) (i ∷ [])) (sym (list_any-append (eqb k) pins (i ∷ [])) ∙ none)).0
-
-pub added_own : (pins : List ℕ) (i : ℕ) → list_any (eqb i) (pins ++ i ∷ []) ≢ false
-added_own pins i none =
-    let off = (or_off (list_any (eqb i) pins) (list_any (eqb i) (i ∷ [])) (sym (list_any-append (eqb i) pins (i ∷ [])) ∙ none)).1 in
-    elim (eqb_tells i i) [
-      | inl same ↦ absurd (let e = same.0 in cc)
-      | inr far ↦ far.1 refl
-    ]
-
--- the first of some variables has the value that it had, and so have the others
-pub same_more : (pin k n : ℕ) (pins values target : List ℕ) → (pin < n → slice_index values pin ≡ slice_index target pin) → (list_any (eqb k) pins ≡ true → k < n → slice_index values k ≡ slice_index target k)
-    → list_any (eqb k) (pin ∷ pins) ≡ true → k < n → slice_index values k ≡ slice_index target k
-same_more pin k n pins values target own others among less =
-    elim (or_on (eqb k pin) (list_any (eqb k) pins) among) [
-      | inl e ↦ let is : pin ≡ k = sym (eqb_is k pin e) in subst (λ (j : ℕ). j < n → slice_index values j ≡ slice_index target j) is own less
-      | inr e ↦ others e less
-    ]
-
--- where all that show pins have the values that they had
-pub rests_by : (vs : List Variable) (pins values : List ℕ) (levels : List Level) (drives : List Drive) → AreNetsBut pins (sources vs)
-    → ((k : ℕ) → list_any (eqb k) pins ≡ true → k < length vs → slice_index values k ≡ slice_index (values_at levels drives vs) k) → PinsRest vs values levels drives
-rests_by vs pins values levels drives nets same k s at = by (list_any (eqb k) pins) refl
-  where
-    by : (b : Bool) → list_any (eqb k) pins ≡ b → IsNet s ⊎ (slice_index values k ≡ slice_index (values_at levels drives vs) k)
-    by false e = inl (nets.others k s at e)
-    by true e = let w = slice_get_within (sources vs) k s at in inr (same k e (omega (arith, w, length-map vs (λ (v : Variable). v.shows))))

@@ -2,15 +2,15 @@
 use Rattle.std.proofs.Common.{◌≡◌, ℕ, ◌<◌, ◌++◌, List, length, take, drop, Bool, true, ap, sym, ◌∙◌, subst, if◌then◌else◌}
 use Rattle.std.proofs.Math.Seq.{take-append_seam}
 use Rattle.std.proofs.lemmas.List.{get_or-replicate}
-use Rattle.std.specs.Prelude.{eqb, replicate, slice_index}
-use Rattle.std.specs.List.{list_any}
+use Rattle.std.specs.Prelude.{replicate, slice_index}
 use Rattle.sim_base.specs.Rows.{Row}
 use Rattle.sim_base.specs.declared.signal.Level.{Level}
 use Rattle.sim_base.specs.declared.signal.Drive.{Drive}
 use Rattle.text_model.specs.Wave.{Variable, values, head, initial_values, value_changes}
+use Rattle.vcd_text.specs.declared.follow.Scope.{Scope}
 use Rattle.vcd_text.specs.declared.variable.Variable as declared
 use Rattle.vcd_text.specs.Variables.{variables_of}
-use Rattle.vcd_text.specs.Chains.{sources, values_at, AreChains, OthersRest, NetsRest}
+use Rattle.vcd_text.specs.Chains.{sources, AreChains, RestBut}
 use Rattle.vcd_text.specs.Heads.{HeadState, after_row}
 
 -- a list that was lent whole is what was put into it
@@ -25,22 +25,9 @@ chains_moved {vs = vs} {ws = ws} {xs = xs} {ys = ys} {ns = ns} {ms = ms} ev ex e
     subst (λ (l : List declared.Variable). AreChains (sources (variables_of l)) ys ms) ev
     (subst (λ (l : List ℕ). AreChains (sources (variables_of vs)) l ms) ex (subst (λ (l : List ℕ). AreChains (sources (variables_of vs)) xs l) en it))
 
-pub others_moved : (nets : ℕ × ℕ) (levels : List Level) (drives : List Drive) {vs ws : List Variable} {xs ys : List ℕ} → vs ≡ ws → xs ≡ ys → OthersRest nets vs xs levels drives → OthersRest nets ws ys levels drives
-others_moved nets levels drives {vs = vs} {ws = ws} {xs = xs} {ys = ys} ev ex it =
-    subst (λ (l : List Variable). OthersRest nets l ys levels drives) ev (subst (λ (l : List ℕ). OthersRest nets vs l levels drives) ex it)
-
-pub nets_moved : (nets : ℕ × ℕ) (levels : List Level) (drives : List Drive) {vs ws : List Variable} {xs ys : List ℕ} → vs ≡ ws → xs ≡ ys → NetsRest nets vs xs levels drives → NetsRest nets ws ys levels drives
-nets_moved nets levels drives {vs = vs} {ws = ws} {xs = xs} {ys = ys} ev ex it =
-    subst (λ (l : List Variable). NetsRest nets l ys levels drives) ev (subst (λ (l : List ℕ). NetsRest nets vs l levels drives) ex it)
-
--- each variable among some has the value that it had
-abbrev pub SameAmong : List ℕ → List declared.Variable → List ℕ → List Level → List Drive → Type 0
-SameAmong pins vs values levels drives = (k : ℕ) → list_any (eqb k) pins ≡ true → k < length vs → slice_index values k ≡ slice_index (values_at levels drives (variables_of vs)) k
-
-pub among_moved : (levels : List Level) (drives : List Drive) {ps qs xs ys : List ℕ} {vs ws : List declared.Variable} → ps ≡ qs → vs ≡ ws → xs ≡ ys → SameAmong ps vs xs levels drives → SameAmong qs ws ys levels drives
-among_moved levels drives {ps = ps} {qs = qs} {xs = xs} {ys = ys} {vs = vs} {ws = ws} ep ev ex it =
-    subst (λ (l : List ℕ). SameAmong l ws ys levels drives) ep
-    (subst (λ (l : List declared.Variable). SameAmong ps l ys levels drives) ev (subst (λ (l : List ℕ). SameAmong ps vs l levels drives) ex it))
+pub rest_moved : (on : Scope) (levels : List Level) (drives : List Drive) {vs ws : List Variable} {xs ys : List ℕ} → vs ≡ ws → xs ≡ ys → RestBut on vs xs levels drives → RestBut on ws ys levels drives
+rest_moved on levels drives {vs = vs} {ws = ws} {xs = xs} {ys = ys} ev ex it =
+    subst (λ (l : List Variable). RestBut on l ys levels drives) ev (subst (λ (l : List ℕ). RestBut on vs l levels drives) ex it)
 
 abbrev state : List Variable → List ℕ → List ℕ → Bool → HeadState
 state vs values text started = record { variables = vs; values = values; text = text; started = started }

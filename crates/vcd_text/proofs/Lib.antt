@@ -2,6 +2,7 @@ pub mod CallerLemmas
 mod ChainLemmas
 mod HeadLemmas
 mod LineLemmas
+mod PinLemmas
 pub mod ReadLemmas
 pub mod ReadingLemmas
 pub mod TrackLemmas

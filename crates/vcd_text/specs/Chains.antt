@@ -1,10 +1,11 @@
 -- The variables by the nets that they show. No public clause cites this.
-use Rattle.std.specs.Prelude.{◌≡◌, ◌≢◌, ◌⊎◌, ℕ, ◌+◌, ◌<◌, ◌≤◌, List, length, map, Some, false, eqb, slice_get, slice_index}
-use Rattle.std.specs.List.{list_any}
+use Rattle.std.specs.Prelude.{◌≡◌, ◌≢◌, ◌⊎◌, ℕ, ◌+◌, ◌<◌, ◌≤◌, List, length, map, Some, slice_get, slice_index}
 use Rattle.sim_base.specs.declared.signal.Level.{Level}
 use Rattle.sim_base.specs.declared.signal.Drive.{Drive}
 use Rattle.std.specs.Option.{option_map_or}
 use Rattle.text_model.specs.Wave.{Source, Net, Variable, level_value, shown_value}
+use Rattle.vcd_text.specs.declared.follow.Scope.{Scope}
+use Rattle.vcd_text.specs.declared.follow.Scope.TheVariants as scope
 
 abbrev pub sources : List Variable → List Source
 sources = map (λ v. v.shows)
@@ -48,10 +49,6 @@ pub record IsRun (shows : List Source) (net : ℕ) (last new : List ℕ) (from b
   pub own : (k : ℕ) → slice_get shows k ≡ Some (Net net) → value ≡ slice_index new k
   pub others : (k : ℕ) → from ≤ k → k < bound → slice_get shows k ≢ Some (Net net) → slice_index last k ≡ slice_index new k
 
--- each variable that shows no net is among these
-pub record AreNetsBut (pins : List ℕ) (shows : List Source) : Type 0 where
-  pub others : (k : ℕ) (s : Source) → slice_get shows k ≡ Some s → list_any (eqb k) pins ≡ false → IsNet s
-
 -- each variable that shows no net has the value that it had
 abbrev pub PinsRest : List Variable → List ℕ → List Level → List Drive → Type 0
 PinsRest variables values levels drives =
@@ -69,3 +66,9 @@ NetsRest nets variables values levels drives = (k n : ℕ) → slice_get (source
 abbrev pub OthersRest : ℕ × ℕ → List Variable → List ℕ → List Level → List Drive → Type 0
 OthersRest nets variables values levels drives = (k : ℕ) → k < length variables → slice_get (sources variables) k ≢ Some (Net nets.0) → slice_get (sources variables) k ≢ Some (Net nets.1)
     → slice_index values k ≡ slice_index (values_at levels drives variables) k
+
+-- the variables that a row need not look at have the values that they had
+abbrev pub RestBut : Scope → List Variable → List ℕ → List Level → List Drive → Type 0
+RestBut scope.All variables values levels drives = Unit {0}
+RestBut (scope.NetsAndPins one two) variables values levels drives = NetsRest (one, two) variables values levels drives
+RestBut (scope.Nets one two) variables values levels drives = OthersRest (one, two) variables values levels drives

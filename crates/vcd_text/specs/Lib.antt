@@ -2,6 +2,7 @@ pub mod Buffers
 pub mod Chains
 pub mod Heads
 pub mod Lines
+pub mod Pins
 pub mod Ports
 pub mod Reading
 pub mod TrackStates

@@ -1,13 +1,11 @@
 //! The variables by the nets that they show.
-ghost use Rattle.std.specs.Prelude.{◌≡◌, ℕ, ◌+◌, ◌<◌, ◌≤◌, List, length, map, IfOk, OnOk, Some, eqb, false, true, slice_get, slice_index};
-ghost use Rattle.std.specs.List.{list_any};
+ghost use Rattle.std.specs.Prelude.{◌≡◌, ℕ, ◌+◌, ◌<◌, ◌≤◌, List, length, map, Some, slice_get, slice_index};
 ghost use Rattle.text_model.specs.Wave as wave;
 ghost use Rattle.text_model.specs.Wave.{Net};
 ghost use Rattle.vcd_text.specs.Variables.{source_of, variables_of};
-ghost use Rattle.vcd_text.specs.Chains.{sources, IsNet, IsNext, AreLinked, AreChains, AreNetsBut};
+ghost use Rattle.vcd_text.specs.Chains.{sources, IsNext, AreLinked, AreChains};
 
 use crate::variable::{Source, Variable};
-use std::alloc::{AllocError, Global};
 
 /// A count of nets that has room for what a variable shows.
 fn with_net(count: usize, shows: Source) -> usize
@@ -61,40 +59,6 @@ pub(crate) fn link_all(variables: &[Variable], first: &mut [u16], next: &mut [u1
         i -= 1;
         link(i, variables[i].shows, first, next);
     }
-}
-
-fn is_net(shows: Source) -> bool
-    ensures { result ≡ true → IsNet (source_of shows) }
-{
-    match shows {
-        Source::Net(_) => true,
-        Source::Strong(_) | Source::Weak(_) => false,
-    }
-}
-
-/// Adds a variable that shows a pin.
-fn add_pin(i: usize, shows: Source, pins: &mut Vec<u16>) -> Result<(), AllocError>
-    requires { i < 8930 }
-    ensures others { OnOk result ((k : ℕ) → list_any (eqb k) pins.new.items ≡ false → list_any (eqb k) pins.old.items ≡ false) }
-    ensures own { OnOk result (list_any (eqb i) pins.new.items ≡ false → IsNet (source_of shows)) }
-{
-    if is_net(shows) {
-        return Ok(());
-    }
-    pins.push(i as u16)?;
-    Ok(())
-}
-
-/// The variables that show pins.
-pub(crate) fn pins_of(alloc: Global, variables: &[Variable]) -> Result<Vec<u16>, AllocError>
-    requires { length variables.now ≤ 8930 }
-    ensures { IfOk result (λ v. AreNetsBut v.items (sources (variables_of variables.now))) }
-{
-    let mut pins = Vec::new(alloc);
-    for i in 0..variables.len() {
-        add_pin(i, variables[i].shows, &mut pins)?;
-    }
-    Ok(pins)
 }
 
 /// The first variable that shows a net, or how many variables there are.

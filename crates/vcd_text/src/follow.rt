@@ -1,54 +1,28 @@
 //! The text of a row, which looks at all variables or at those of one net or two.
-ghost use Rattle.std.specs.Prelude.{◌≡◌, ℕ, ◌+◌, ◌-◌, ◌*◌, ◌^◌, ◌<◌, ◌≤◌, ◌++◌, min, List, length, Some, eqb, true, slice_index, if◌then◌else◌};
-ghost use Rattle.std.specs.List.{list_any};
+ghost use Rattle.std.specs.Prelude.{◌≡◌, ℕ, ◌+◌, ◌-◌, ◌*◌, ◌^◌, ◌<◌, ◌≤◌, ◌++◌, min, List, length, Some, slice_index, if◌then◌else◌};
 ghost use Rattle.text_model.specs.Wave as wave;
 ghost use Rattle.text_model.specs.Wave.{changes, change_count, initial_values, value_changes};
 ghost use Rattle.vcd_text.specs.Variables.{variables_of};
 ghost use Rattle.vcd_text.specs.Buffers.{BufferState};
-ghost use Rattle.vcd_text.specs.Chains.{sources, values_at, AreChains, IsNext, OnChain, IsRun, OthersRest, NetsRest};
+ghost use Rattle.vcd_text.specs.Chains.{sources, values_at, AreChains, IsNext, OnChain, IsRun, OthersRest, RestBut};
 ghost use Rattle.vcd_text.specs.Written.{IsWritten};
 
 use crate::buffer::Buffer;
 use crate::chains::first_of;
 use crate::changes::{push_changes, push_first, push_time, put_value};
-use crate::value::{fill_values, of_net, of_source};
+use crate::value::{fill_values, of_net};
 use crate::variable::Variable;
 use sim_base::{Drive, Level};
 
-/// Whether a variable has the value that it had.
-fn has_same(
-    i: u16,
-    variables: &[Variable],
-    levels: &[Level],
-    drives: &[Drive],
-    values: &[u8],
-) -> bool
-    requires { length values.now ≡ length variables.now }
-    ensures { result ≡ true → i < length variables.now → slice_index values.now i ≡ slice_index (values_at levels.now drives.now (variables_of variables.now)) i }
-{
-    let i = i as usize;
-    i >= variables.len() || values[i] == of_source(variables[i].shows, levels, drives)
-}
-
-/// Whether each of these variables has the value that it had.
-pub(crate) fn have_same(
-    pins: &[u16],
-    variables: &[Variable],
-    levels: &[Level],
-    drives: &[Drive],
-    values: &[u8],
-) -> bool
-    requires { length values.now ≡ length variables.now }
-    ensures { result ≡ true → (k : ℕ) → list_any (eqb k) pins.now ≡ true → k < length variables.now
-        → slice_index values.now k ≡ slice_index (values_at levels.now drives.now (variables_of variables.now)) k }
-{
-    match pins {
-        [] => true,
-        [pin, rest @ ..] => {
-            has_same(*pin, variables, levels, drives, values)
-                && have_same(rest, variables, levels, drives, values)
-        }
-    }
+/// The variables that may have other values in a row than in the one before.
+#[derive(Clone, Copy)]
+pub(crate) enum Scope {
+    /// All.
+    All,
+    /// Those of two nets, and those of pins.
+    NetsAndPins(u16, u16),
+    /// Those of two nets.
+    Nets(u16, u16),
 }
 
 /// Puts the value of a net's variables in place of those of the last row, from the one at a place on up to a bound, and
@@ -121,10 +95,9 @@ fn push_chain(
     count
 }
 
-/// The same of the variables of two nets, where such are told, and else of all.
+/// The same of the variables of a scope.
 fn push_lines(
-    nets: Option<(u16, u16)>,
-    still: bool,
+    scope: Scope,
     variables: &[Variable],
     first: &[u16],
     next: &[u16],
@@ -136,26 +109,27 @@ fn push_lines(
     requires few { length variables.now ≤ 8930 }
     requires long { length values.old ≡ length variables.now }
     requires chains { AreChains (sources (variables_of variables.now)) first.now next.now }
-    requires others { (p : ℕ × ℕ) → nets ≡ Some p → still ≡ true → OthersRest p (variables_of variables.now) values.old levels.now drives.now }
-    requires nets { (p : ℕ × ℕ) → nets ≡ Some p → NetsRest p (variables_of variables.now) values.old levels.now drives.now }
+    requires rest { RestBut scope (variables_of variables.now) values.old levels.now drives.now }
     requires room { length out.old.text + 4 * length variables.now ≤ out.old.room }
     ensures values { values.new ≡ values_at levels.now drives.now (variables_of variables.now) }
     ensures text { out.new ≡ record out.old { text = out.old.text ++ changes 0 values.old (values_at levels.now drives.now (variables_of variables.now)) } }
     ensures count { result ≡ change_count values.old (values_at levels.now drives.now (variables_of variables.now)) }
 {
-    match nets {
-        Some((one, two)) if still => push_chain(
+    match scope {
+        Scope::All => push_changes(None, variables, levels, drives, values, out),
+        Scope::NetsAndPins(one, two) => {
+            push_changes(Some((one, two)), variables, levels, drives, values, out)
+        }
+        Scope::Nets(one, two) => push_chain(
             one, two, variables, first, next, levels, drives, values, out,
         ),
-        _ => push_changes(nets, variables, levels, drives, values, out),
     }
 }
 
 /// The value changes of a cycle, and how many there are.
 fn push_later(
     cycle: u32,
-    nets: Option<(u16, u16)>,
-    still: bool,
+    scope: Scope,
     variables: &[Variable],
     first: &[u16],
     next: &[u16],
@@ -167,8 +141,7 @@ fn push_later(
     requires few { length variables.now ≤ 8930 }
     requires long { length values.old ≡ length variables.now }
     requires chains { AreChains (sources (variables_of variables.now)) first.now next.now }
-    requires others { (p : ℕ × ℕ) → nets ≡ Some p → still ≡ true → OthersRest p (variables_of variables.now) values.old levels.now drives.now }
-    requires nets { (p : ℕ × ℕ) → nets ≡ Some p → NetsRest p (variables_of variables.now) values.old levels.now drives.now }
+    requires rest { RestBut scope (variables_of variables.now) values.old levels.now drives.now }
     requires room { length out.old.text + 42 + 4 * length variables.now ≤ out.old.room }
     ensures values { values.new ≡ values_at levels.now drives.now (variables_of variables.now) }
     ensures text { out.new ≡ record out.old { text = out.old.text ++ value_changes cycle values.old (values_at levels.now drives.now (variables_of variables.now)) } }
@@ -176,9 +149,7 @@ fn push_later(
 {
     let start = out.text().len();
     push_time(cycle, out);
-    let count = push_lines(
-        nets, still, variables, first, next, levels, drives, values, out,
-    );
+    let count = push_lines(scope, variables, first, next, levels, drives, values, out);
     if count == 0 {
         out.truncate(start);
     }
@@ -190,8 +161,7 @@ fn push_later(
 pub(crate) fn push_row(
     started: bool,
     cycle: u32,
-    nets: Option<(u16, u16)>,
-    still: bool,
+    scope: Scope,
     head: &[u8],
     variables: &[Variable],
     first: &[u16],
@@ -204,8 +174,7 @@ pub(crate) fn push_row(
     requires few { length variables.now ≤ 8930 }
     requires long { length values.old ≡ length variables.now }
     requires chains { AreChains (sources (variables_of variables.now)) first.now next.now }
-    requires others { (p : ℕ × ℕ) → nets ≡ Some p → still ≡ true → OthersRest p (variables_of variables.now) values.old levels.now drives.now }
-    requires nets { (p : ℕ × ℕ) → nets ≡ Some p → NetsRest p (variables_of variables.now) values.old levels.now drives.now }
+    requires rest { RestBut scope (variables_of variables.now) values.old levels.now drives.now }
     requires room { length out.old.text + length head.now + 57 + 4 * length variables.now ≤ out.old.room }
     ensures values { values.new ≡ values_at levels.now drives.now (variables_of variables.now) }
     ensures text { out.new ≡ record out.old {
@@ -216,7 +185,7 @@ pub(crate) fn push_row(
 {
     if started {
         push_later(
-            cycle, nets, still, variables, first, next, levels, drives, values, out,
+            cycle, scope, variables, first, next, levels, drives, values, out,
         )
     } else {
         fill_values(variables, levels, drives, values);

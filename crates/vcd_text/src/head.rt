@@ -4,16 +4,18 @@ ghost use Rattle.std.specs.List.{list_any};
 ghost use Rattle.text_model.specs.Wave.{time_line};
 ghost use Rattle.vcd_text.specs.Variables.{variables_of};
 ghost use Rattle.vcd_text.specs.Heads.{gathered, after_row, changed_by};
-ghost use Rattle.text_model.specs.Wave.{head};
-ghost use Rattle.vcd_text.specs.Chains.{AreChains, AreNetsBut, HasSeen, NetsRest, OthersRest, PinsRest, sources};
+ghost use Rattle.text_model.specs.Wave.{char_z, head};
+ghost use Rattle.vcd_text.specs.Chains.{AreChains, HasSeen, NetsRest, PinsRest, RestBut, sources};
+ghost use Rattle.vcd_text.specs.Pins.{AreAmong, drive_as_kept};
 ghost use Rattle.sim_base.specs.Rows.{AreBut};
 ghost use Rattle.sim_base.specs.declared.signal.Level.{Level};
 
 use crate::buffer::Buffer;
-use crate::chains::{count_nets, link_all, pins_of};
+use crate::chains::{count_nets, link_all};
 use crate::changes::push_time;
 use crate::declarations::head_text;
-use crate::follow::{have_same, push_row};
+use crate::follow::{Scope, push_row};
+use crate::pins::{drive_as_kept, keep, pins_of};
 use crate::variable::Variable;
 use sim_base::{Drive, Level, List, OutOfMemory};
 use std::alloc::{AllocError, Global};
@@ -23,7 +25,7 @@ use std::marker::Model;
 const GATHERED: usize = 16_384;
 
 fn unknown(alloc: Global, count: usize) -> Result<Vec<u8>, AllocError>
-    ensures { IfOk result (λ v. vec_len v ≡ count) }
+    ensures { IfOk result (λ v. v.items ≡ replicate count char_z) }
 {
     vec![in alloc; b'z'; count]
 }
@@ -49,7 +51,7 @@ fn two_of(changed: &[u16]) -> Option<(u16, u16)>
 /// The values before any row, and the text of the head.
 fn first_texts(alloc: Global, variables: &[Variable]) -> Result<(Vec<u8>, Vec<u8>), OutOfMemory>
     requires { length variables.now ≤ 8930 }
-    ensures values { IfOk result (λ v. vec_len v.0 ≡ length variables.now) }
+    ensures values { IfOk result (λ v. v.0.items ≡ replicate (length variables.now) char_z) }
     ensures head { IfOk result (λ v. v.1.items ≡ head (variables_of variables.now)) }
 {
     let values = unknown(alloc, variables.len())?;
@@ -58,14 +60,15 @@ fn first_texts(alloc: Global, variables: &[Variable]) -> Result<(Vec<u8>, Vec<u8
 }
 
 /// The first variable that shows each net and behind each variable the next that shows its net, and
-/// the variables that show pins.
+/// the pins that variables show.
 fn linked(
     alloc: Global,
     variables: &[Variable],
-) -> Result<(Vec<u16>, Vec<u16>, Vec<u16>), AllocError>
+) -> Result<(Vec<u16>, Vec<u16>, Vec<(u16, Drive)>), AllocError>
     requires { length variables.now ≤ 8930 }
     ensures chains { IfOk result (λ v. AreChains (sources (variables_of variables.now)) v.0.items v.1.items) }
-    ensures pins { IfOk result (λ v. AreNetsBut v.2.items (sources (variables_of variables.now))) }
+    ensures among { IfOk result (λ v. AreAmong v.2.items (sources (variables_of variables.now))) }
+    ensures kept { IfOk result (λ v. drive_as_kept [] v.2.items ≡ true) }
 {
     let mut first = numbers(alloc, variables.len() as u16, count_nets(variables))?;
     let mut next = numbers(alloc, 0, variables.len())?;
@@ -83,8 +86,8 @@ pub struct WaveHead {
     /// The first variable that shows each net, and behind each variable the next that shows its net.
     first: Vec<u16>,
     next: Vec<u16>,
-    /// The variables that show pins.
-    pins: Vec<u16>,
+    /// The pins that variables show, each with what it drove in the last row.
+    pins: Vec<(u16, Drive)>,
     /// The values of the last row.
     values: Vec<u8>,
     text: Buffer,
@@ -95,7 +98,8 @@ impl Model for WaveHead {
     ghost use Rattle.std.specs.Prelude.{◌≡◌, ◌≤◌, ◌+◌, length, vec_len};
     ghost use Rattle.text_model.specs.Wave.{head};
     ghost use Rattle.vcd_text.specs.Heads.{HeadState, gathered, text_room};
-    ghost use Rattle.vcd_text.specs.Chains.{sources, AreChains, AreNetsBut};
+    ghost use Rattle.vcd_text.specs.Chains.{sources, AreChains};
+    ghost use Rattle.vcd_text.specs.Pins.{AreAmong, AreKept};
 
     ghost Value = { HeadState };
 
@@ -109,7 +113,8 @@ impl Model for WaveHead {
       values_long : vec_len a.values ≡ length a.variables;
       room_is : gathered + text_room (variables_of a.variables) ≤ a.text.room;
       chains : AreChains (sources (variables_of a.variables)) a.first.items a.next.items;
-      pins_are : AreNetsBut a.pins.items (sources (variables_of a.variables));
+      among : AreAmong a.pins.items (sources (variables_of a.variables));
+      kept : AreKept a.pins.items (variables_of a.variables) a.values.items;
     } };
 }
 
@@ -175,56 +180,46 @@ impl WaveHead {
     }
 
     /// Whether each variable that shows a pin has the value that it had.
-    fn pins_rest(&self, levels: &[Level], drives: &[Drive]) -> bool
-        ensures { result ≡ true → PinsRest self.now.variables self.now.values levels.now drives.now }
+    fn pins_rest(&self, drives: &[Drive]) -> bool
+        ensures { result ≡ true → (levels : List Level) → PinsRest self.now.variables self.now.values levels drives.now }
     {
-        have_same(
-            &self.pins,
-            self.variables.as_slice(),
-            levels,
-            drives,
-            &self.values,
-        )
+        drive_as_kept(drives, &self.pins)
     }
 
-    /// The nets that are told behind a row, and whether the variables that show pins have the values that they had.
-    fn told(
-        &self,
-        levels: &[Level],
-        drives: &[Drive],
-        changed: &[u16],
-    ) -> (Option<(u16, u16)>, bool)
-        requires { self.now.started ≡ true → (before : List Level) × HasSeen self.now.variables self.now.values before × AreBut changed.now before levels.now }
-        ensures others { (p : ℕ × ℕ) → result.0 ≡ Some p → result.1 ≡ true → OthersRest p self.now.variables self.now.values levels.now drives.now }
-        ensures nets { (p : ℕ × ℕ) → result.0 ≡ Some p → NetsRest p self.now.variables self.now.values levels.now drives.now }
+    /// The scope of a row behind another, of which these nets are told.
+    fn scope_of_nets(&self, one: u16, two: u16, drives: &[Drive]) -> Scope
+        ensures { (levels : List Level) → NetsRest (one, two) self.now.variables self.now.values levels drives.now
+            → RestBut result self.now.variables self.now.values levels drives.now }
     {
-        match two_of(changed) {
-            Some(nets) if self.has_started() => (Some(nets), self.pins_rest(levels, drives)),
-            _ => (None, false),
+        if self.pins_rest(drives) {
+            Scope::Nets(one, two)
+        } else {
+            Scope::NetsAndPins(one, two)
         }
     }
 
-    /// Makes the text of the next row. Where two nets are told it looks at the variables of these alone, and at those of pins
-    /// where one has another value than it had.
-    fn take(
-        &mut self,
-        cycle: u32,
-        nets: Option<(u16, u16)>,
-        still: bool,
-        levels: &[Level],
-        drives: &[Drive],
-    ) -> u64
+    /// The variables that may have other values in a row than in the one before.
+    fn scope_of(&self, levels: &[Level], drives: &[Drive], changed: &[u16]) -> Scope
+        requires { self.now.started ≡ true → (before : List Level) × HasSeen self.now.variables self.now.values before × AreBut changed.now before levels.now }
+        ensures { RestBut result self.now.variables self.now.values levels.now drives.now }
+    {
+        match two_of(changed) {
+            Some((one, two)) if self.has_started() => self.scope_of_nets(one, two, drives),
+            _ => Scope::All,
+        }
+    }
+
+    /// Makes the text of the next row, for which it looks at the variables of a scope alone.
+    fn take(&mut self, cycle: u32, scope: Scope, levels: &[Level], drives: &[Drive]) -> u64
         requires room { length self.old.text ≤ gathered }
-        requires others { (p : ℕ × ℕ) → nets ≡ Some p → still ≡ true → OthersRest p self.old.variables self.old.values levels.now drives.now }
-        requires nets { (p : ℕ × ℕ) → nets ≡ Some p → NetsRest p self.old.variables self.old.values levels.now drives.now }
+        requires rest { RestBut scope self.old.variables self.old.values levels.now drives.now }
         ensures text { self.new ≡ after_row self.old (record { cycle = cycle; levels = levels.now; drives = drives.now }) }
         ensures count { result ≡ changed_by self.old (record { cycle = cycle; levels = levels.now; drives = drives.now }) }
     {
         let count = push_row(
             self.started,
             cycle,
-            nets,
-            still,
+            scope,
             &self.head_bytes,
             self.variables.as_slice(),
             &self.first,
@@ -234,6 +229,7 @@ impl WaveHead {
             &mut self.values,
             &mut self.text,
         );
+        keep(scope, drives, &mut self.pins);
         self.started = true;
         count
     }
@@ -252,8 +248,8 @@ impl WaveHead {
         ensures text { self.new ≡ after_row self.old (record { cycle = cycle; levels = levels.now; drives = drives.now }) }
         ensures count { result ≡ changed_by self.old (record { cycle = cycle; levels = levels.now; drives = drives.now }) }
     {
-        let (nets, still) = self.told(levels, drives, changed);
-        self.take(cycle, nets, still, levels, drives)
+        let scope = self.scope_of(levels, drives, changed);
+        self.take(cycle, scope, levels, drives)
     }
 
     /// Makes the text of the time at which the run ends behind what is kept.

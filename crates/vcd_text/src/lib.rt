@@ -12,6 +12,7 @@ mod declarations;
 mod follow;
 mod head;
 mod line;
+mod pins;
 mod read;
 mod tracks;
 mod value;

@@ -2,7 +2,7 @@
 ghost use Rattle.std.specs.Prelude.{◌≡◌, ◌<◌, length, map, replicate, slice_get, Some, false, IfOk, OnOk};
 ghost use Rattle.std.specs.List.{list_all};
 ghost use Rattle.vcd_text.specs.Variables.{source_of};
-ghost use Rattle.vcd_text.specs.Tracks.{drive_of, same_drive};
+ghost use Rattle.vcd_text.specs.Tracks.{drive_of};
 ghost use Rattle.vcd_text.specs.TrackStates.{at_pin, blank, ends_at, ends_in, given_after, pins_after, strongly, weakly, with_drive, with_row, without_row};
 
 use crate::variable::Source;
@@ -23,20 +23,6 @@ fn drive_of(strong: u8, weak: u8) -> Drive
     }
 }
 
-fn is_same(a: Drive, b: Drive) -> bool
-    ensures { result ≡ same_drive a b }
-{
-    match (a, b) {
-        (Drive::Z, Drive::Z)
-        | (Drive::Low, Drive::Low)
-        | (Drive::High, Drive::High)
-        | (Drive::PullLow, Drive::PullLow)
-        | (Drive::PullHigh, Drive::PullHigh) => true,
-        (Drive::Wiper(v), Drive::Wiper(w)) => v == w,
-        _ => false,
-    }
-}
-
 fn ends_at(rows: &[(u32, Drive)], cycle: u32) -> bool
     ensures { result ≡ ends_at rows.now cycle }
 {
@@ -50,7 +36,7 @@ fn ends_in(rows: &[(u32, Drive)], drive: Drive) -> bool
     ensures { result ≡ ends_in rows.now drive }
 {
     match rows.last() {
-        Some(row) => is_same(row.1, drive),
+        Some(row) => row.1 == drive,
         None => false,
     }
 }

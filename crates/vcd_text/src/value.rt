@@ -4,6 +4,7 @@ ghost use Rattle.std.specs.Option.{option_map_or};
 ghost use Rattle.sim_base.specs.Signal.{is_weak, strong_of, value_of};
 ghost use Rattle.text_model.specs.Wave.{bit_value, char_z, level_value, strong_value, weak_value, shown_value};
 ghost use Rattle.vcd_text.specs.Variables.{source_of, variable_of};
+ghost use Rattle.vcd_text.specs.Pins.{drive_at};
 
 use crate::variable::{Source, Variable};
 use sim_base::{Drive, Level, reads_one};
@@ -53,10 +54,12 @@ fn level_at(levels: &[Level], net: u16) -> Option<Level>
     levels.get(net as usize).copied()
 }
 
-fn drive_at(drives: &[Drive], pin: u16) -> Option<Drive>
-    ensures { result ≡ slice_get drives.now pin }
+/// What a pin drives.
+#[inline]
+pub(crate) fn drive_at(drives: &[Drive], pin: u16) -> Drive
+    ensures { result ≡ drive_at drives.now pin }
 {
-    drives.get(pin as usize).copied()
+    drives.get(pin as usize).copied().unwrap_or(Drive::Z)
 }
 
 /// The value of the variables of a net.
@@ -71,8 +74,8 @@ pub(crate) fn of_source(shows: Source, levels: &[Level], drives: &[Drive]) -> u8
 {
     match shows {
         Source::Net(net) => of_net(net, levels),
-        Source::Strong(pin) => drive_at(drives, pin).map_or(b'z', of_strong),
-        Source::Weak(pin) => drive_at(drives, pin).map_or(b'z', of_weak),
+        Source::Strong(pin) => of_strong(drive_at(drives, pin)),
+        Source::Weak(pin) => of_weak(drive_at(drives, pin)),
     }
 }
 
