@@ -26,6 +26,11 @@ length_set [] k x = refl
 length_set (y ∷ ys) zero x = refl
 length_set (y ∷ ys) (suc k) x = ap (λ (n : ℕ). suc n) (length_set ys k x)
 
+pub get_set : {X : Type 0} (xs : List X) (k : ℕ) (x : X) → k < length xs → slice_get (slice_set xs k x) k ≡ Some x
+get_set [] k x l = absurd (omega (arith, l))
+get_set (y ∷ ys) zero x l = refl
+get_set (y ∷ ys) (suc k) x l = get_set ys k x (omega (arith, l))
+
 -- what is found of the engines between the first and the last one
 pub driven_is : (os es : List (Option Engine)) (first end i n : ℕ) (r : Option Drive) → r ≡ driven n (take (end - first) (drop first es)) → n ≡ i → es ≡ os → first ≤ end
     → ((k : ℕ) → k < first → HasNone os k) → ((k : ℕ) → end ≤ k → HasNone os k) → r ≡ driven i os

@@ -3,5 +3,6 @@ mod CallLemmas
 mod DueLemmas
 mod ChipLemmas
 mod SetupLemmas
+mod MovedLemmas
 mod TurnLemmas
 mod ShownLemmas

@@ -1,25 +1,20 @@
 -- What a chip's pins drive, as it is kept.
 use Rattle.std.proofs.Common.{◌≡◌, ◌≢◌, ◌<◌, ◌≤◌, ◌+◌, ◌⊎◌, inl, inr, ℕ, zero, suc, List, [], ◌∷◌, length, map, false, Some, refl, ap, sym, ◌∙◌, arith}
 use Rattle.std.proofs.Common.{get_or}
-use Rattle.std.specs.Prelude.{nat_lt, slice_get, slice_set}
+use Rattle.std.specs.Prelude.{min, nat_lt, slice_get, slice_set}
 use Rattle.std.specs.List.{range_with_len}
 use Rattle.std.proofs.lemmas.Option.{slice_get_past, slice_get_read}
 use Rattle.sim_base.specs.declared.signal.Drive.{Drive}
 use Rattle.part_law.specs.declared.span.Span.{Span}
 use Rattle.sim_base.specs.declared.signal.Level.{Level}
-use Rattle.part_law.specs.Spans.{IsIn, is_in, no_pins}
+use Rattle.part_law.specs.Spans.{IsIn, is_in}
 use Rattle.part_law.proofs.SpanLemmas.{none_in, not_in_span}
 use Rattle.chip_host.specs.Chip.{Chip, ChipAt, chip, chip_drive, chip_step}
 use Rattle.chip_host.specs.Inventory.{Given}
 use Rattle.chip_host.specs.ChipLaws.{Fixed, drive_count, step_fixed}
-use Rattle.chip_host.specs.Shown.{Shows}
-use Rattle.chip_host.proofs.HostLemmas.{length_set}
+use Rattle.chip_host.specs.Shown.{Shows, DrivesBut}
+use Rattle.chip_host.proofs.HostLemmas.{get_set, length_set}
 use Rattle.chip_host.proofs.ChipLemmas.{drive_at, keeping, waking}
-
-get_set : (ds : List Drive) (i : ℕ) (d : Drive) → i < length ds → slice_get (slice_set ds i d) i ≡ Some d
-get_set [] i d l = absurd (omega (arith, l))
-get_set (x ∷ xs) zero d l = refl
-get_set (x ∷ xs) (suc i) d l = get_set xs i d (omega (arith, l))
 
 get_other : (ds : List Drive) (i k : ℕ) (d : Drive) → k ≢ i → slice_get (slice_set ds i d) k ≡ slice_get ds k
 get_other [] i k d other = refl
@@ -28,44 +23,45 @@ get_other (x ∷ xs) zero (suc k) d other = refl
 get_other (x ∷ xs) (suc i) zero d other = refl
 get_other (x ∷ xs) (suc i) (suc k) d other = get_other xs i k d (λ e. other (ap (λ (n : ℕ). suc n) e))
 
--- what was kept at first and is now, where the first i pins were found anew
-pub record Kept (s : Chip) (old now : List Drive) (moved : Span) (i : ℕ) : Type 0 where
+-- What was kept at first and is now, where the pins of a span are still to be found.
+pub record Kept (s : Chip) (old now : List Drive) (moved rest : Span) : Type 0 where
   pub room : length now ≡ length old
-  pub found : (k : ℕ) → k < i → slice_get now k ≡ Some (chip_drive s k)
-  pub rest : (k : ℕ) → i ≤ k → slice_get now k ≡ slice_get old k
-  pub same : (k : ℕ) → k < i → ¬ IsIn moved k → slice_get now k ≡ slice_get old k
+  pub found : (k : ℕ) → k < length old → ¬ IsIn rest k → slice_get now k ≡ Some (chip_drive s k)
+  pub same : (k : ℕ) → k < length old → ¬ IsIn moved k → slice_get now k ≡ slice_get old k
 
-pub kept_none : (s : Chip) (ds : List Drive) → Kept s ds ds no_pins 0
-kept_none s ds = record {
+pub kept_first : (s : Chip) (ds : List Drive) (moved span : Span) (from : ℕ) → ((k : ℕ) → k < length ds → ¬ IsIn span k → slice_get ds k ≡ Some (chip_drive s k)) → from ≡ span.from → Kept s ds ds moved (record { from = from; to = span.to })
+kept_first s ds moved span from others first = record {
   room = refl;
-  found = λ k (l : k < 0). absurd (omega (arith, l));
-  rest = λ k l. refl;
+  found = λ k (l : k < length ds) (left : ¬ IsIn (record { from = from; to = span.to }) k). others k l (λ (h : IsIn span k). left (omega (arith, first, h.0), h.1));
   same = λ k l out. refl;
 }
 
-below_or : (k i : ℕ) → k < suc i → (k ≡ i) ⊎ (k < i)
-below_or k i l = grind (arith, l)
+is_or : (k i : ℕ) → (k ≡ i) ⊎ (k ≢ i)
+is_or k i = grind arith
 
-other_of : (k i : ℕ) → k < i → k ≢ i
-other_of k i l e = absurd (omega (arith, l, e))
-
-pub kept_more : (s : Chip) (old now after : List Drive) (moved span : Span) (i : ℕ) (d : Drive) → Kept s old now moved i → i < length now → d ≡ chip_drive s i → after ≡ slice_set now i d
-    → ((k : ℕ) → ¬ IsIn span k → (¬ IsIn moved k) × (k ≡ i → slice_get now i ≡ Some d)) → Kept s old after span (i + 1)
-kept_more s old now after moved span i d kept l is put out =
+pub kept_more : (s : Chip) (old now after : List Drive) (moved span : Span) (i to : ℕ) (d : Drive) → Kept s old now moved (record { from = i; to = to }) → i < length now → d ≡ chip_drive s i → after ≡ slice_set now i d
+    → ((k : ℕ) → ¬ IsIn span k → (¬ IsIn moved k) × (k ≡ i → slice_get now i ≡ Some d)) → Kept s old after span (record { from = i + 1; to = to })
+kept_more s old now after moved span i to d kept l is put out =
     let here : slice_get after i ≡ Some d = ap (λ (ds : List Drive). slice_get ds i) put ∙ get_set now i d l in
     let there : (k : ℕ) → k ≢ i → slice_get after k ≡ slice_get now k = λ k other. ap (λ (ds : List Drive). slice_get ds k) put ∙ get_other now i k d other in
     record {
       room = ap (λ (ds : List Drive). length ds) put ∙ length_set now i d ∙ kept.room;
-      found = λ k (b : k < i + 1). elim (below_or k i (omega (arith, b))) [
+      found = λ k (b : k < length old) (left : ¬ IsIn (record { from = i + 1; to = to }) k). elim (is_or k i) [
         | inl e ↦ ap (λ (n : ℕ). slice_get after n) e ∙ here ∙ ap (λ (x : Drive). Some x) is ∙ ap (λ (n : ℕ). Some (chip_drive s n)) (sym e)
-        | inr b ↦ there k (other_of k i b) ∙ kept.found k b
+        | inr other ↦ there k other ∙ kept.found k b (λ (h : IsIn (record { from = i; to = to }) k). left (omega (arith, h.0, other), h.1))
       ];
-      rest = λ k (b : i + 1 ≤ k). there k (λ e. absurd (omega (arith, b, e))) ∙ kept.rest k (omega (arith, b));
-      same = λ k (b : k < i + 1) un. elim (below_or k i (omega (arith, b))) [
-        | inl e ↦ ap (λ (n : ℕ). slice_get after n) e ∙ here ∙ sym ((out k un).1 e) ∙ kept.rest i (omega arith) ∙ ap (λ (n : ℕ). slice_get old n) (sym e)
-        | inr b ↦ there k (other_of k i b) ∙ kept.same k b (out k un).0
+      same = λ k (b : k < length old) un. elim (is_or k i) [
+        | inl e ↦ ap (λ (n : ℕ). slice_get after n) e ∙ here ∙ sym ((out k un).1 e) ∙ ap (λ (n : ℕ). slice_get now n) (sym e) ∙ kept.same k b (out k un).0
+        | inr other ↦ there k other ∙ kept.same k b (out k un).0
       ];
     }
+
+pub below_both : (i n a b : ℕ) → i < n → n ≡ min a b → i < a
+below_both i n a b l e = grind (arith, l, e)
+
+-- pins that drive what they drove are kept well
+pub kept_but : (s r : Chip) (ds : List Drive) (span : Span) → Shows s ds → length ds ≤ 64 → DrivesBut span r s → (k : ℕ) → k < length ds → ¬ IsIn span k → slice_get ds k ≡ Some (chip_drive r k)
+kept_but s r ds span shows few but k l out = shows k l ∙ ap (λ (d : Drive). Some d) (sym (but k (omega (arith, few, l)) out))
 
 some_same : (a b : Drive) → Some a ≡ Some b → a ≡ b
 some_same a b e = cc

@@ -1,24 +1,23 @@
 -- The turns of a chip's cycle, and what they leave of what its pins drive.
 use Rattle.std.proofs.Common.{◌≡◌, ◌<◌, ◌≤◌, ◌+◌, ◌-◌, ℕ, zero, suc, Bool, true, false, List, length, ◌++◌, Option, None, Some, refl, ap, sym, subst, ◌∙◌, arith}
-use Rattle.std.specs.Prelude.{◌||◌, ◌&&◌, if◌then◌else◌, slice_get, slice_set, unwrap_or}
-use Rattle.sim_base.specs.declared.signal.Drive.{Drive}
-use Rattle.sim_base.specs.declared.signal.Drive.TheVariants as drives
+use Rattle.std.specs.Prelude.{◌&&◌, if◌then◌else◌, slice_get, slice_set}
 use Rattle.sim_base.specs.declared.signal.Level.{Level}
 use Rattle.chip_engines.specs.declared.engine.Engine.{Engine}
 use Rattle.slave_law.specs.declared.request.EngineRequest.{EngineRequest}
 use Rattle.wasm_exec.specs.Instances.{Running}
 use Rattle.std.specs.Option.{is_some, option_to_list}
 use Rattle.chip_engines.specs.declared.engine.Turn.{Turn}
-use Rattle.chip_engines.specs.Engine.{HasNone, out_drives, engine_turned}
-use Rattle.chip_engines.specs.Serial.{serial_output}
+use Rattle.chip_engines.specs.Engine.{HasNone, engine_turned}
 use Rattle.chip_engines.specs.Turned.{HasTurnedAt}
 use Rattle.chip_engines.proofs.EngineLemmas.{set_same}
-use Rattle.chip_engines.proofs.PlaceLemmas.{driven_same}
 use Rattle.chip_host.specs.declared.death.Death.{Death}
 use Rattle.chip_host.specs.declared.watch.Watch.{Watch}
 use Rattle.chip_host.specs.Turned.{HasGone, HasTurned}
-use Rattle.chip_host.specs.Inventory.{HostState, joined, left, watch_at, engine_at, pin_at, drive_of}
-use Rattle.chip_host.specs.Chip.{Chip, ChipAt, DrivesAs, chip_from, chip_drive, is_live_by, is_live, with_engine, all_served, takes_turn, engine_turn, engine_turns, engines_last, reading, watch_fires, watched, watch_turn, watch_turns}
+use Rattle.part_law.specs.Spans.{IsIn}
+use Rattle.chip_host.specs.Shown.{moved_span}
+use Rattle.chip_host.proofs.MovedLemmas.{set_there, turned_but}
+use Rattle.chip_host.specs.Inventory.{HostState, joined, left, watch_at, engine_at}
+use Rattle.chip_host.specs.Chip.{Chip, ChipAt, chip_from, chip_drive, is_live_by, is_live, with_engine, all_served, takes_turn, engine_turn, engine_turns, engines_last, reading, watch_fires, watched, watch_turn, watch_turns}
 
 if_same : {X : Type 0} (b : Bool) (x : X) → (if b then x else x) ≡ x
 if_same true x = refl
@@ -32,10 +31,6 @@ none_found {X = X} os k none = by (slice_get os k) refl
     by None e = refl
     by (Some None) e = refl
     by (Some (Some g)) e = absurd (none g e)
-
-pub engine_there : (o : Option (Option Engine)) (e : Engine) → joined o ≡ Some e → o ≡ Some (Some e)
-engine_there None e h = absurd cc
-engine_there (Some p) e h = ap (λ (x : Option Engine). Some x) h
 
 no_turn : (s : Chip) (t : ℕ) (before : List Level) (k : ℕ) → engine_at s.inventory k ≡ None → engine_turn s t before k ≡ s
 no_turn s t before k none = ap (λ (o : Option Engine). if is_live s then takes_turn s t before k o else s) none ∙ if_same (is_live s) s
@@ -82,22 +77,6 @@ all_behind a b n e l h count =
     let all : n ≡ length a.chip.inventory.engines = omega (arith, l, h, count) in
     e ∙ ap (behind a) all
 
-pub or_none : (a b : Bool) → (a || b) ≡ false → a ≡ false
-or_none true b e = absurd cc
-or_none false b e = refl
-
-pub or_neither : (a b : Bool) → (a || b) ≡ false → b ≡ false
-or_neither true b e = absurd cc
-or_neither false b e = e
-
--- an engine that goes on and drives what it drove
-pub goes_same : (s : Chip) (k : ℕ) (e g : Engine) → engine_at s.inventory k ≡ Some e → g.pins ≡ e.pins → serial_output g.serial g.early ≡ serial_output e.serial e.early → DrivesAs (with_engine s k g) s
-goes_same s k e g at pins out i =
-    let there : slice_get s.inventory.engines k ≡ Some (Some e) = engine_there (slice_get s.inventory.engines k) e at in
-    let same : out_drives i g.pins.out (serial_output g.serial g.early) ≡ out_drives i e.pins.out (serial_output e.serial e.early) =
-    ap (λ (p : _). out_drives i p.out (serial_output g.serial g.early)) pins ∙ ap (out_drives i e.pins.out) out in
-    ap (λ (d : Option Drive). if is_live s then unwrap_or d (drive_of (pin_at s.inventory i)) else drives.Z) (driven_same i s.inventory.engines k e g there same)
-
 -- ---- the turn of the engine at a place, as the host takes it
 
 -- the turn that is taken at its place
@@ -139,11 +118,14 @@ module _ (m : Running) (h r : HostState) (budget : ℕ) (dead : Option Death) (w
       ∙ ap (λ (rs : List EngineRequest). record (at_host m h budget dead wakes before) { chip = all_served (with_engine s place g) h.moment.now place rs }) gone.told.asks
       ∙ sym (ap (λ (x : Chip). record (at_host m h budget dead wakes before) { chip = x }) (live_turn (Some e) at))
 
-  pub goes_as : (e : Engine) (turn : Turn) → engine_at h.inventory place ≡ Some e → HasGone place before h r e turn → turn.moved ≡ false → DrivesAs (chip_from m r budget dead) (chip_from m h budget dead)
-  goes_as e turn at gone still i =
+  -- the pins that an engine's turn leaves alone
+  pub goes_but : (e : Engine) (turn : Turn) → engine_at h.inventory place ≡ Some e → HasGone place before h r e turn → (i : ℕ) → i < 64 → ¬ IsIn (moved_span turn.moved (engine_at r.inventory place)) i → chip_drive (chip_from m r budget dead) i ≡ chip_drive (chip_from m h budget dead) i
+  goes_but e turn at gone i l out =
       let s : Chip = chip_from m h budget dead in
       let g : Engine = (engine_turned e h.moment.now before h.moment.levels).0 in
-      ap (λ (x : HostState). chip_drive (chip_from m x budget dead) i) gone.host ∙ goes_same s place e g at refl (gone.told.drives still) i
+      let there : engine_at r.inventory place ≡ Some g = ap (λ (x : HostState). engine_at x.inventory place) gone.host ∙ set_there s place e g at in
+      ap (λ (x : HostState). chip_drive (chip_from m x budget dead) i) gone.host
+      ∙ turned_but s place e g turn.moved i at gone.told.drives l (subst (λ (o : Option Engine). ¬ IsIn (moved_span turn.moved o) i) there out) refl
 
   pub goes_none : r ≡ h → engine_at h.inventory place ≡ None → at_host m r budget dead wakes before ≡ taking (at_host m h budget dead wakes before) place
   goes_none same at =

@@ -1,6 +1,6 @@
 -- A chip as a machine: in a cycle each due timer calls back by its id, then each watch whose edge came, by its pin, and then each
 -- engine has its turn, by kind and id (profile).
-use Rattle.std.specs.Prelude.{◌≡◌, ℕ, zero, suc, ◌+◌, ◌%◌, ◌^◌, ◌==◌, ◌&&◌, ◌||◌, nat_lt, List, [], ◌∷◌, length, map, replicate, slice_get, slice_set, unwrap_or, Bool, true, false, if◌then◌else◌, Option, None, Some, option_map}
+use Rattle.std.specs.Prelude.{ℕ, zero, suc, ◌+◌, ◌%◌, ◌^◌, ◌==◌, ◌&&◌, ◌||◌, nat_lt, List, [], ◌∷◌, length, map, replicate, slice_get, slice_set, unwrap_or, Bool, true, false, if◌then◌else◌, Option, None, Some, option_map}
 use Rattle.std.specs.List.{range_with_len}
 use Rattle.sim_base.specs.declared.signal.Drive.{Drive}
 use Rattle.sim_base.specs.declared.signal.Drive.TheVariants as drives
@@ -272,10 +272,6 @@ turned a =
 
 abbrev pub chip_drive : Chip → ℕ → Drive
 chip_drive s i = if is_live s then pin_drives s.inventory i else drives.Z
-
--- that each pin drives in one state what it does in the other
-abbrev pub DrivesAs : Chip → Chip → Type 0
-DrivesAs s r = (i : ℕ) → chip_drive s i ≡ chip_drive r i
 
 abbrev pub any_due : ℕ → List Timer → Bool
 any_due t [] = false

@@ -76,6 +76,11 @@ watch_at d i = joined (slice_get d.watches i)
 abbrev pub engine_at : Inventory → ℕ → Option Engine
 engine_at d k = joined (slice_get d.engines k)
 
+-- the pin that an engine drives
+abbrev pub out_pin : Option Engine → Option ℕ
+out_pin None = None
+out_pin (Some e) = e.pins.out
+
 -- The first engine that drives a pin counts before the pin's mode.
 abbrev pub pin_drives : Inventory → ℕ → Drive
 pin_drives d i = unwrap_or (driven i d.engines) (drive_of (pin_at d i))

@@ -63,7 +63,7 @@ impl Chip {
     {
         let mut shown = no_drives(alloc, pins.len())?;
         let turns = Turns::new(alloc, valid, map, pins, attrs, budget)?;
-        let moved = show(&turns, &mut shown);
+        let moved = show(&turns, &mut shown, Span::all());
         Ok(Chip {
             turns,
             shown,

@@ -3,7 +3,7 @@ ghost use Rattle.std.specs.Prelude.{◌≡◌, ℕ, ◌<◌, ◌≤◌, ◌==◌
 ghost use Rattle.std.specs.List.{position_from};
 ghost use Rattle.wasm_code.specs.declared.types.ValType.TheVariants as types;
 ghost use Rattle.wasm_eval.specs.Values.{HasTypes};
-ghost use Rattle.chip_host.specs.Inventory.{HostState, left, pin_at, watch_at, engine_at, with_mode, drive_of, pin_drives};
+ghost use Rattle.chip_host.specs.Inventory.{HostState, left, pin_at, watch_at, engine_at, out_pin, with_mode, drive_of, pin_drives};
 ghost use Rattle.chip_abi.specs.HostNames.{type_of_name};
 ghost use Rattle.chip_abi.specs.Reading.{word_at};
 ghost use Rattle.chip_host.specs.FirstDue.{first_due};
@@ -545,6 +545,16 @@ impl ChipHost {
         match self.place(place) {
             Some(engine) => engine,
             None => None,
+        }
+    }
+
+    /// The pin that the engine at a place drives.
+    pub fn out_pin(&self, place: usize) -> Option<u32>
+        ensures { result ≡ out_pin (engine_at self.now.inventory place) }
+    {
+        match self.engines.as_slice().get(place) {
+            Some(Some(engine)) => engine.pins.out,
+            _ => None,
         }
     }
 

@@ -12,6 +12,7 @@ mod engines;
 mod host;
 mod pin;
 mod shown;
+mod span;
 mod timer;
 mod turns;
 mod watch;

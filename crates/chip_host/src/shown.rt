@@ -1,10 +1,11 @@
 //! What a chip's pins drive, kept from wake to wake.
-ghost use Rattle.std.specs.Prelude.{◌≡◌, ◌≢◌, ◌<◌, ◌≤◌, ℕ, true, Some, length, slice_get, slice_set};
+ghost use Rattle.std.specs.Prelude.{◌≡◌, ◌<◌, ◌≤◌, ℕ, true, Some, length, slice_get, slice_set};
 ghost use Rattle.part_law.specs.Spans.{IsIn};
-ghost use Rattle.chip_host.specs.Chip.{turned};
+ghost use Rattle.chip_host.specs.Chip.{turned, chip_drive};
 ghost use Rattle.chip_host.specs.Shown.{Shows};
 ghost use Rattle.sim_base.specs.declared.limits.TheConstants.{MOST_CYCLES};
 
+use crate::span::with_pin;
 use crate::turns::Turns;
 use part_law::Span;
 use sim_base::Drive;
@@ -23,17 +24,6 @@ fn is_same(a: Drive, b: Drive) -> bool
     }
 }
 
-/// Some pins, and one more.
-fn with_pin(moved: Span, pin: u8) -> Span
-    requires { pin < 64 }
-    ensures { (k : ℕ) → ¬ IsIn result k → (¬ IsIn moved k) × (k ≢ pin) }
-{
-    moved.joined(Span {
-        from: pin,
-        to: pin + 1,
-    })
-}
-
 /// Keeps what a pin drives, which is one more of the pins that moved where it drove something else.
 fn show_pin(pin: usize, drive: Drive, shown: &mut Vec<Drive>, moved: Span) -> Span
     requires few { length shown.old.items ≤ 64 }
@@ -50,15 +40,17 @@ fn show_pin(pin: usize, drive: Drive, shown: &mut Vec<Drive>, moved: Span) -> Sp
     }
 }
 
-/// Finds what each pin drives, and tells those that drove something else.
-pub(crate) fn show(turns: &Turns, shown: &mut Vec<Drive>) -> Span
+/// Finds what each pin of a span drives, beside which all drive what they drove, and tells those that drove something else.
+pub(crate) fn show(turns: &Turns, shown: &mut Vec<Drive>, span: Span) -> Span
     requires few { length shown.old.items ≤ 64 }
+    requires others { (k : ℕ) → k < length shown.old.items → ¬ IsIn span k → slice_get shown.old.items k ≡ Some (chip_drive turns.now.chip k) }
     ensures room { length shown.new.items ≡ length shown.old.items }
     ensures shown { Shows turns.now.chip shown.new.items }
     ensures moved { (k : ℕ) → k < length shown.old.items → ¬ IsIn result k → slice_get shown.new.items k ≡ slice_get shown.old.items k }
 {
     let mut moved = Span::none();
-    for pin in 0..shown.len() {
+    let end = shown.len().min(usize::from(span.to));
+    for pin in usize::from(span.from)..end {
         let drive = turns.pin_drive(pin as u8);
         moved = show_pin(pin, drive, shown, moved);
     }
@@ -76,8 +68,9 @@ pub(crate) fn turn(turns: &mut Turns, shown: &mut Vec<Drive>) -> Span
     ensures shown { Shows turns.new.chip shown.new.items }
     ensures moved { (k : ℕ) → k < length shown.old.items → ¬ IsIn result k → slice_get shown.new.items k ≡ slice_get shown.old.items k }
 {
-    if turns.take_turns() {
-        show(turns, shown)
+    let span = turns.take_turns();
+    if span.has_any() {
+        show(turns, shown, span)
     } else {
         Span::none()
     }

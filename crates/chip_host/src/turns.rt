@@ -3,18 +3,21 @@ ghost use Rattle.std.specs.Option.{option_to_list};
 ghost use Rattle.std.specs.Prelude.{◌≡◌, ◌++◌, ◌<◌, ◌≤◌, ◌+◌, List, ℕ, true, false, None, Some, Ok, IfOk, length, slice_get};
 ghost use Rattle.chip_abi.specs.HostNames.{type_of_name};
 ghost use Rattle.chip_abi.specs.Imports.{imports_of};
-ghost use Rattle.chip_host.specs.Chip.{called, replied, is_live, timer_turn, watch_turn, watch_turns, takes_byte, takes_answer, byte_in, stored, serves, served, all_served, engine_turn, engines_last, seeing, timers_first, turned, chip_drive, start_state, DrivesAs};
+ghost use Rattle.chip_host.specs.Chip.{called, replied, is_live, timer_turn, watch_turn, watch_turns, takes_byte, takes_answer, byte_in, stored, serves, served, all_served, engine_turn, engines_last, seeing, timers_first, turned, chip_drive, start_state};
 ghost use Rattle.chip_host.specs.NextDue.{next_due};
+ghost use Rattle.chip_host.specs.Shown.{DrivesBut, moved_span};
 ghost use Rattle.chip_host.specs.Inventory.{engine_at};
 ghost use Rattle.chip_engines.specs.Engine.{IsEngine};
 
 use crate::calls::{ask_slot, call_slot, init_of, run_both, start_of};
 use crate::death::Death;
 use crate::host::{ChipHost, levels_z};
+use crate::span::{all_if, both, out_span, request_span};
 use crate::timer::{again, is_at};
 use crate::watch::{is_edge, reading};
 use chip_abi::ImportMap;
 use chip_engines::{Engine, Turn};
+use part_law::Span;
 use sim_base::{Drive, Level, List, MOST_CYCLES, Name, OutOfMemory, Text};
 use slave_law::EngineRequest;
 use std::alloc::Global;
@@ -298,57 +301,75 @@ impl Turns {
         }
     }
 
-    /// A request of the engine at a place, if any, behind which it may ask for a further one.
+    /// A request of the engine at a place, if any, behind which it may ask for a further one; tells the pins that may be driven
+    /// otherwise then.
     fn serve_next(
         &mut self,
         place: usize,
         request: Option<EngineRequest>,
         later: Option<EngineRequest>,
-    )
+    ) -> Span
         requires { place < 24 }
-        ensures { self.new ≡ record self.old { chip = served self.old.chip self.old.cycle place request later } }
+        ensures state { self.new ≡ record self.old { chip = served self.old.chip self.old.cycle place request later } }
+        ensures drives { DrivesBut result self.new.chip self.old.chip }
     {
         if let Some(request) = request {
             if self.dead.is_some() {
-                return;
+                return Span::none();
             }
             if let Some(engine) = self.host.engine(place) {
                 let waiting = Engine { later, ..engine };
                 self.host.set_engine(place, waiting);
                 self.serve(place, waiting, request);
+                return request_span(request, engine.pins.out);
             }
         }
+        Span::none()
     }
 
-    /// Serves what an engine asks for in its turn, and tells whether a pin may be driven otherwise then.
-    fn serve_turn(&mut self, place: usize, turn: Turn) -> bool
+    /// Serves what an engine asks for in its turn, and tells the pins that may be driven otherwise then.
+    fn serve_turn(&mut self, place: usize, turn: Turn) -> Span
         requires { place < 24 }
         ensures state { self.new ≡ record self.old { chip = all_served self.old.chip self.old.cycle place (option_to_list turn.first ++ option_to_list turn.second) } }
-        ensures drives { result ≡ false → (turn.moved ≡ false) × (self.new ≡ self.old) }
+        ensures drives { DrivesBut result self.new.chip self.old.chip }
     {
         match (turn.first, turn.second) {
-            (None, None) => turn.moved,
+            (None, None) => Span::none(),
             (first, second) => {
-                self.serve_next(place, first, second);
-                self.serve_next(place, second, None);
-                true
+                let by_first = self.serve_next(place, first, second);
+                let by_second = self.serve_next(place, second, None);
+                both(by_first, by_second)
             }
         }
     }
 
-    /// The turn of the engine at a place, and whether a pin may be driven otherwise then.
-    fn engine_turn(&mut self, place: usize) -> bool
+    /// The pin of the engine at a place, where that may be driven otherwise.
+    fn moved_at(&self, place: usize, moved: bool) -> Span
+        ensures { result ≡ moved_span moved (engine_at self.now.chip.inventory place) }
+    {
+        if moved {
+            out_span(self.host.out_pin(place))
+        } else {
+            Span::none()
+        }
+    }
+
+    /// The turn of the engine at a place, and the pins that may be driven otherwise then.
+    fn engine_turn(&mut self, place: usize) -> Span
         requires within { place < 24 }
         requires end { self.old.cycle < MOST_CYCLES }
         ensures state { self.new ≡ record self.old { chip = engine_turn self.old.chip self.old.cycle self.old.before place } }
-        ensures drives { result ≡ false → DrivesAs self.new.chip self.old.chip }
+        ensures drives { DrivesBut result self.new.chip self.old.chip }
     {
         if self.dead.is_some() {
-            return false;
+            return Span::none();
         }
         match self.host.turn(place, self.before.as_slice()) {
-            Some(turn) => self.serve_turn(place, turn),
-            None => false,
+            Some(turn) => {
+                let own = self.moved_at(place, turn.moved);
+                both(own, self.serve_turn(place, turn))
+            }
+            None => Span::none(),
         }
     }
 
@@ -363,16 +384,16 @@ impl Turns {
         self.host.next_place(from)
     }
 
-    /// The turns of the engines, and whether a pin may be driven otherwise then.
-    fn engine_turns(&mut self) -> bool
+    /// The turns of the engines, and the pins that may be driven otherwise then.
+    fn engine_turns(&mut self) -> Span
         requires end { self.old.cycle < MOST_CYCLES }
         ensures state { self.new ≡ record self.old { chip = engines_last self.old.chip self.old.cycle self.old.before } }
-        ensures drives { result ≡ false → DrivesAs self.new.chip self.old.chip }
+        ensures drives { DrivesBut result self.new.chip self.old.chip }
     {
-        let mut moved = false;
+        let mut moved = Span::none();
         let mut place = self.next_place(0);
         while place < 24 {
-            moved = moved | self.engine_turn(place);
+            moved = both(moved, self.engine_turn(place));
             place = self.next_place(place + 1);
         }
         moved
@@ -418,12 +439,12 @@ impl Turns {
         self.host.see(levels);
     }
 
-    /// All turns of its cycle, and whether a pin may be driven otherwise then.
-    pub(crate) fn take_turns(&mut self) -> bool
+    /// All turns of its cycle, and the pins that may be driven otherwise then.
+    pub(crate) fn take_turns(&mut self) -> Span
         requires end { self.old.cycle < MOST_CYCLES }
         requires count { self.old.wakes ≤ self.old.cycle }
         ensures state { self.new ≡ turned self.old }
-        ensures drives { result ≡ false → DrivesAs self.new.chip self.old.chip }
+        ensures drives { DrivesBut result self.new.chip self.old.chip }
     {
         let fired = self.timer_turns();
         let called = self.watch_turns();
@@ -431,7 +452,7 @@ impl Turns {
         let cycle = self.host.cycle();
         self.host.pass_to(cycle + 1);
         self.wakes += 1;
-        fired | called | moved
+        all_if(fired, called, moved)
     }
 
     pub(crate) fn pass_to(&mut self, to: u32)
