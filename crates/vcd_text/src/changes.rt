@@ -122,6 +122,7 @@ pub(crate) fn push_changes(
     count
 }
 
+#[inline(always)]
 pub fn push_time(cycle: u32, out: &mut Buffer)
     requires room { length out.old.text + 42 ≤ out.old.room }
     ensures text { out.new ≡ record out.old { text = out.old.text ++ time_line cycle } }
