@@ -17,6 +17,7 @@ pub(crate) struct Next {
     pub(crate) request: u8,
 }
 
+// What comes next: found anew only behind a call that may change it.
 #[inline]
 fn next_of<G: Group>(group: &G) -> Next
     ensures { (l : List Level) (t : ℕ) → G.stands group.now l t → Ready G.machine (G.state group.now) (G.until group.now) (G.stands group.now) l t result.due result.request }
@@ -39,7 +40,7 @@ pub(crate) fn begin<G: Group>() -> (G, Next)
 
 /// Reads a register, if the group has it.
 #[inline]
-pub(crate) fn read<G: Group>(
+pub(crate) fn read<G: WiredGroup>(
     group: &mut G,
     next: &mut Next,
     cycle: u32,
@@ -54,7 +55,9 @@ pub(crate) fn read<G: Group>(
 {
     if G::has(reg) {
         let value = group.read(cycle, levels, reg);
-        *next = next_of(group);
+        if !G::reading_keeps(reg) {
+            *next = next_of(group);
+        }
         Some(value)
     } else {
         None
@@ -63,7 +66,7 @@ pub(crate) fn read<G: Group>(
 
 /// Writes a register, if the group has it: whether that may change what a pin is asked for.
 #[inline]
-pub(crate) fn write<G: Group>(
+pub(crate) fn write<G: WiredGroup>(
     group: &mut G,
     next: &mut Next,
     cycle: u32,
@@ -79,7 +82,9 @@ pub(crate) fn write<G: Group>(
 {
     if G::has(reg) {
         let moves = group.write(cycle, levels, reg, value);
-        *next = next_of(group);
+        if !G::writing_keeps_next(reg) {
+            *next = next_of(group);
+        }
         Some(moves)
     } else {
         None
@@ -88,7 +93,7 @@ pub(crate) fn write<G: Group>(
 
 /// Writes one bit of a register alone, with the same answer.
 #[inline]
-pub(crate) fn write_bit<G: Group>(
+pub(crate) fn write_bit<G: WiredGroup>(
     group: &mut G,
     next: &mut Next,
     cycle: u32,
@@ -106,7 +111,9 @@ pub(crate) fn write_bit<G: Group>(
 {
     if G::has(reg) {
         let moves = group.write_bit(cycle, levels, reg, bit, value);
-        *next = next_of(group);
+        if !G::writing_keeps_next(reg) {
+            *next = next_of(group);
+        }
         Some(moves)
     } else {
         None

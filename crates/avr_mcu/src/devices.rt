@@ -1,11 +1,12 @@
 //! The units of the microcontroller and their pins: one more unit is one more `Both`, here and in `specs/Devices.antt`, and
-//! an `impl Wired` that says of which pins it may ask something.
+//! an `impl Wired` that says of which pins it may ask something, and which writes leave its events and requests.
 ghost use Rattle.std.specs.Prelude.{◌≡◌, ◌<◌, ℕ, List, true, false, length};
 ghost use Rattle.sim_base.specs.declared.signal.Level.{Level};
 ghost use Rattle.avr_mcu.specs.Devices.{Devices as State, devices};
 ghost use Rattle.avr_mcu.specs.Placed.{StepMoves};
 
 use crate::placed::{Wired, WiredGroup};
+use crate::units::{PINB, PORTD};
 use avr_adc::Adc;
 use avr_ports::Ports;
 use avr_spi::Spi;
@@ -29,7 +30,7 @@ pub(crate) type Devices = Both<
     >,
 >;
 
-/// Each pin; a cycle changes nothing of DDRx and PORTx.
+/// Each pin; a cycle changes nothing of DDRx and PORTx, and neither these nor PINx have a part in what is requested.
 impl Wired for Ports {
     #[inline(always)]
     #[tactic(auto, using(crate::proofs::PlacedLemmas::ports_placed))]
@@ -41,6 +42,12 @@ impl Wired for Ports {
     #[tactic(auto, using(crate::proofs::PlacedLemmas::ports_still))]
     fn moved() -> Span {
         Span::none()
+    }
+
+    #[inline(always)]
+    #[tactic(auto, using(crate::proofs::NextLemmas::ports_writes))]
+    fn writing_keeps_next(reg: u8) -> bool {
+        (PINB <= reg) & (reg <= PORTD)
     }
 }
 

@@ -1,9 +1,11 @@
-//! Units that know their pins: of which each may ask something, and of which a cycle may change that.
+//! Units that know their pins, of which each may ask something and of which a cycle may change that, and the registers of
+//! which an access leaves what comes next.
 ghost use Rattle.std.specs.Prelude.{◌≡◌, ◌+◌, ◌<◌, ℕ, List, true, false, length};
 ghost use Rattle.sim_base.specs.declared.signal.Level.{Level};
 ghost use Rattle.part_law.specs.Spans.{is_in};
 ghost use Rattle.unit_law.specs.Pad.{joined};
 ghost use Rattle.avr_mcu.specs.Placed.{Placed, Moves, StepMoves, hull};
+ghost use Rattle.avr_mcu.specs.Next.{WritesKeepNext};
 
 use part_law::Span;
 use sim_base::Level;
@@ -21,6 +23,15 @@ pub(crate) trait Wired: Unit {
         ensures { Moves Self.machine result }
     {
         Self::pins()
+    }
+
+    /// Whether a write of the register, or of one bit of it, leaves its events to come and what it requests.
+    #[inline(always)]
+    fn writing_keeps_next(reg: u8) -> bool
+        ensures { result ≡ true → WritesKeepNext Self.machine reg }
+    {
+        let _ = reg;
+        false
     }
 }
 
@@ -46,6 +57,14 @@ pub(crate) trait WiredGroup: Group {
         requires early { cycle < Self.until self.now }
         requires deaf { Self.machine.hears (Self.state self.now cycle) before.now now.now ≡ false }
         ensures { Self.stands self.now now.now (cycle + 1) };
+
+    /// Whether a read of the register leaves them as they are.
+    fn reading_keeps(reg: u8) -> bool
+        ensures { result ≡ true → (s : Self.State) (t : ℕ) → Self.machine.read s t reg ≡ s };
+
+    /// Whether a write of the register, or of one bit of it, leaves their events to come and what they request.
+    fn writing_keeps_next(reg: u8) -> bool
+        ensures { result ≡ true → WritesKeepNext Self.machine reg };
 }
 
 impl<U: Wired> WiredGroup for Late<U> {
@@ -66,6 +85,16 @@ impl<U: Wired> WiredGroup for Late<U> {
 
     #[inline(always)]
     fn pass(&self, _cycle: u32, _before: &[Level], _now: &[Level]) {}
+
+    #[inline(always)]
+    fn reading_keeps(reg: u8) -> bool {
+        U::reading_keeps(reg)
+    }
+
+    #[inline(always)]
+    fn writing_keeps_next(reg: u8) -> bool {
+        U::writing_keeps_next(reg)
+    }
 }
 
 impl<A: WiredGroup, B: WiredGroup> WiredGroup for Both<A, B> {
@@ -86,6 +115,28 @@ impl<A: WiredGroup, B: WiredGroup> WiredGroup for Both<A, B> {
     fn pass(&self, cycle: u32, before: &[Level], now: &[Level]) {
         self.first.pass(cycle, before, now);
         self.second.pass(cycle, before, now);
+    }
+
+    #[inline(always)]
+    fn reading_keeps(reg: u8) -> bool {
+        if A::has(reg) {
+            A::reading_keeps(reg)
+        } else {
+            B::reading_keeps(reg)
+        }
+    }
+
+    #[inline(always)]
+    fn writing_keeps_next(reg: u8) -> bool {
+        if A::has(reg) {
+            if B::has(reg) {
+                A::writing_keeps_next(reg) & B::writing_keeps_next(reg)
+            } else {
+                A::writing_keeps_next(reg)
+            }
+        } else {
+            B::writing_keeps_next(reg)
+        }
     }
 }
 

@@ -28,7 +28,7 @@ const GPIOR2: u8 = 0x4B;
 const SMCR: u8 = 0x53;
 
 /// The ports' input pins and data registers.
-const PINB: u8 = 0x23;
+pub(crate) const PINB: u8 = 0x23;
 
 const PORTB: u8 = 0x25;
 
@@ -38,7 +38,7 @@ const PORTC: u8 = 0x28;
 
 const PIND: u8 = 0x29;
 
-const PORTD: u8 = 0x2B;
+pub(crate) const PORTD: u8 = 0x2B;
 
 /// What begins a transfer of the SPI and an action of the TWI.
 const SPDR: u8 = 0x4E;
