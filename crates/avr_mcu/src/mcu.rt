@@ -313,7 +313,7 @@ fn is_ready(mode: Mode, enters: bool) -> bool
 }
 
 // An entry or an instruction: answers its cycles, and the pins whose drives may have changed.
-#[inline]
+#[inline(always)]
 fn perform(
     core: &mut Core,
     program: &[Instr],
