@@ -150,25 +150,25 @@ module _ {D : Type 0} (m : UnitMachine D) (laws : unit.Laws m) where
 
     -- the core does something
     pub act_is : (flash : List ℕ) (core : Core) (next : ℕ) (s : UnitsAt D) (cycle : ℕ) (b : Bool) (d : Did (UnitsAt D)) → d ≡ performed m b flash core (record s { touched = no_pins }) →
-        s.cycle ≡ cycle → next ≤ cycle → b ≡ enters m (state_of flash core next s.units s.held) → ready core.mode b ≡ true →
-        state_of flash d.core (cycle + d.cycles) d.bus.units d.bus.held ≡ core_acted m (state_of flash core next s.units s.held) cycle
+        s.cycle ≡ cycle → next ≤ cycle → b ≡ enters m (state_of flash core next s) → ready core.mode b ≡ true →
+        state_of flash d.core (cycle + d.cycles) d.bus ≡ core_acted m (state_of flash core next s) cycle
     act_is flash core next s cycle b d e here l is go =
-        let x : Mcu D = state_of flash core next s.units s.held in
+        let x : Mcu D = state_of flash core next s in
         let late : nat_lt cycle next ≡ false = grind (arith, nat_tests) in
         let run : ready core.mode (enters m x) ≡ true = ap (ready core.mode) (sym is) ∙ go in
         let starts_is : starts m x cycle ≡ true = rw late run in
         let at : ℕ → UnitsAt D = λ u. record { units = s.units; held = s.held; cycle = u; touched = no_pins } in
-        let by : Did (UnitsAt D) → Mcu D = λ y. state_of flash y.core (cycle + y.cycles) y.bus.units s.held in
-        ap (state_of flash d.core (cycle + d.cycles) d.bus.units) (did_leads b flash core (at s.cycle) d e).held
+        let by : Did (UnitsAt D) → Mcu D = λ y. record { flash = flash; core = y.core; next = cycle + y.cycles; units = y.bus.units; held = s.held } in
+        ap (λ (l : List Level). record x { core = d.core; next = cycle + d.cycles; units = d.bus.units; held = l }) (did_leads b flash core (at s.cycle) d e).held
         ∙ ap by e ∙ ap (λ (u : ℕ). by (performed m b flash core (at u))) here
         ∙ ap (λ (c : Bool). by (performed m c flash core (at cycle))) is
         ∙ sym (ap (λ (c : Bool). if c then acted m x cycle else x) starts_is)
 
   -- or not
-  pub act_not : (flash : List ℕ) (core : Core) (next : ℕ) (s : UnitsAt D) (cycle : ℕ) (b c : Bool) → b ≡ enters m (state_of flash core next s.units s.held) →
-      c ≡ ready core.mode b → (not (nat_lt cycle next) && c) ≡ false → state_of flash core next s.units s.held ≡ core_acted m (state_of flash core next s.units s.held) cycle
+  pub act_not : (flash : List ℕ) (core : Core) (next : ℕ) (s : UnitsAt D) (cycle : ℕ) (b c : Bool) → b ≡ enters m (state_of flash core next s) →
+      c ≡ ready core.mode b → (not (nat_lt cycle next) && c) ≡ false → state_of flash core next s ≡ core_acted m (state_of flash core next s) cycle
   act_not flash core next s cycle b c is e h =
-      let x : Mcu D = state_of flash core next s.units s.held in
+      let x : Mcu D = state_of flash core next s in
       let none : starts m x cycle ≡ false = ap (λ (y : Bool). not (nat_lt cycle next) && y) (sym (e ∙ ap (ready core.mode) is)) ∙ h in
       sym (ap (λ (y : Bool). if y then acted m x cycle else x) none)
 

@@ -4,6 +4,7 @@ ghost use Rattle.sim_base.specs.declared.signal.Level.{Level};
 ghost use Rattle.sim_base.specs.declared.signal.Level.TheVariants as levels;
 ghost use Rattle.unit_law.specs.UnitMachine.{steps, IsQuiet};
 ghost use Rattle.avr_mcu.specs.Ready.{Ready};
+ghost use Rattle.avr_mcu.specs.Placed.{StepStays};
 
 use crate::placed::WiredGroup;
 use sim_base::{Level, MOST_CYCLES};
@@ -175,7 +176,7 @@ pub(crate) fn notices<G: Group>(
     requires here { G.stands group.now before.now cycle }
     ensures quiet { result ≡ false → cycle < due }
     ensures deaf { result ≡ false → G.machine.hears (G.state group.now cycle) before.now now.now ≡ false }
-    ensures pads { result ≡ false → (p : ℕ) → G.machine.pad (G.machine.step (G.state group.now cycle) cycle before.now now.now) p ≡ G.machine.pad (G.state group.now cycle) p }
+    ensures pads { result ≡ false → StepStays G.machine (G.state group.now cycle) cycle before.now now.now }
 {
     (due <= cycle) | group.hears(before, now)
 }

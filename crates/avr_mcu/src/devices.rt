@@ -3,7 +3,7 @@
 ghost use Rattle.std.specs.Prelude.{◌≡◌, ◌<◌, ℕ, List, true, false, length};
 ghost use Rattle.sim_base.specs.declared.signal.Level.{Level};
 ghost use Rattle.avr_mcu.specs.Devices.{Devices as State, devices};
-ghost use Rattle.avr_mcu.specs.Placed.{StepMoves};
+ghost use Rattle.avr_mcu.specs.Placed.{StepMoves, StepStays};
 
 use crate::placed::{Wired, WiredGroup};
 use crate::units::{PINB, PORTD};
@@ -133,7 +133,7 @@ pub(crate) fn moved_pins(
     requires levels { length now.now ≡ PORT_PINS }
     requires here { ⟦<Devices as Group>⟧.stands units.now before.now cycle }
     requires same { same ≡ true → now.now ≡ before.now }
-    requires moves { moves ≡ false → (p : ℕ) → devices.pad (devices.step (⟦<Devices as Group>⟧.state units.now cycle) cycle before.now now.now) p ≡ devices.pad (⟦<Devices as Group>⟧.state units.now cycle) p }
+    requires moves { moves ≡ false → StepStays devices (⟦<Devices as Group>⟧.state units.now cycle) cycle before.now now.now }
     ensures { (u : State) → u ≡ ⟦<Devices as Group>⟧.state units.now cycle → StepMoves devices u cycle before.now now.now result }
 {
     if moves {

@@ -8,8 +8,8 @@ ghost use Rattle.avr_mcu.specs.McuState.{state_of};
 ghost use Rattle.avr_mcu.specs.Units.{unit_bus, request, units_step};
 ghost use Rattle.part_law.specs.Machine.{IsFirstDue};
 ghost use Rattle.part_law.specs.declared.span.Span.{Span};
-ghost use Rattle.part_law.specs.Spans.{IsIn, all_pins, no_pins};
-ghost use Rattle.avr_mcu.specs.Placed.{hull};
+ghost use Rattle.part_law.specs.Spans.{all_pins, no_pins};
+ghost use Rattle.avr_mcu.specs.Placed.{hull, SameBut};
 
 use crate::follow::follow;
 use crate::pins::UNO_PINS;
@@ -22,7 +22,7 @@ use sim_base::{Drive, Flash, Level, MOST_CYCLES, OutOfMemory, Steps};
 use std::alloc::Global;
 use std::marker::Model;
 use std::sync::ledger::Ledger;
-use unit_law::{PORT_PINS, VECTORS};
+use unit_law::VECTORS;
 
 /// The microcontroller, before the step of `cycle`.
 #[derive(Drop)]
@@ -102,7 +102,7 @@ impl Mcu {
         ensures acted { self.new.mcu ≡ core_acted devices self.old.mcu self.old.cycle }
         ensures cycle { self.new.cycle ≡ self.old.cycle }
         ensures wakes { self.new.wakes ≡ self.old.wakes }
-        ensures pads { (p : ℕ) → p < PORT_PINS → ¬ IsIn self.new.moved p → devices.pad self.new.mcu.units.devices p ≡ devices.pad self.old.mcu.units.devices p }
+        ensures pads { SameBut devices self.new.moved self.new.mcu.units.devices self.old.mcu.units.devices }
     {
         let (next, touched) = act_core(
             &mut self.core,
@@ -235,9 +235,9 @@ pub(crate) fn act_core(
     requires program { IsProgram flash.now program.now }
     requires here { units.old.cycle ≡ cycle }
     requires end { cycle < MOST_CYCLES }
-    ensures acted { state_of flash.now core.new result.0 units.new.units units.new.held ≡ core_acted devices (state_of flash.now core.old next units.old.units units.old.held) cycle }
+    ensures acted { state_of flash.now core.new result.0 units.new ≡ core_acted devices (state_of flash.now core.old next units.old) cycle }
     ensures here { units.new.cycle ≡ cycle }
-    ensures pads { (p : ℕ) → p < PORT_PINS → ¬ IsIn result.1 p → devices.pad units.new.units.devices p ≡ devices.pad units.old.units.devices p }
+    ensures pads { SameBut devices result.1 units.new.units.devices units.old.units.devices }
 {
     let enters = enters(core, units);
     if starts(core.mode(), enters, next, cycle) {
@@ -264,10 +264,10 @@ pub(crate) fn act_at(
     requires end { cycle < MOST_CYCLES }
     requires late { plain ≡ true → next ≤ cycle }
     requires runs { plain ≡ true → core.old.mode ≡ Run }
-    requires passes { plain ≡ true → enters devices (state_of flash.now core.old next units.old.units units.old.held) ≡ false }
-    ensures acted { state_of flash.now core.new result.0 units.new.units units.new.held ≡ core_acted devices (state_of flash.now core.old next units.old.units units.old.held) cycle }
+    requires passes { plain ≡ true → enters devices (state_of flash.now core.old next units.old) ≡ false }
+    ensures acted { state_of flash.now core.new result.0 units.new ≡ core_acted devices (state_of flash.now core.old next units.old) cycle }
     ensures here { units.new.cycle ≡ cycle }
-    ensures pads { (p : ℕ) → p < PORT_PINS → ¬ IsIn result.1 p → devices.pad units.new.units.devices p ≡ devices.pad units.old.units.devices p }
+    ensures pads { SameBut devices result.1 units.new.units.devices units.old.units.devices }
 {
     if plain {
         let (cycles, touched) = perform(core, program, flash, units, false);
@@ -295,7 +295,7 @@ fn starts(mode: Mode, enters: bool, next: u32, cycle: u32) -> bool
 // Whether an interrupt is entered where an instruction would start.
 #[inline]
 pub(crate) fn enters(core: &Core, units: &Units) -> bool
-    ensures { (flash : List ℕ) (next : ℕ) → result ≡ enters devices (state_of flash core.now next units.now.units units.now.held) }
+    ensures { (flash : List ℕ) (next : ℕ) → result ≡ enters devices (state_of flash core.now next units.now) }
 {
     core.may_enter() & (units.request() < VECTORS)
 }
@@ -325,7 +325,7 @@ fn perform(
     requires awake { ¬ HasHalted core.old.mode }
     requires enters { enters ≡ true → request devices units.old.units units.old.held < 26 }
     ensures did { record { core = core.new; bus = units.new; cycles = result.0 } ≡ performed devices enters flash.now core.old (record units.old { touched = no_pins }) }
-    ensures pads { (p : ℕ) → p < PORT_PINS → ¬ IsIn result.1 p → devices.pad units.new.units.devices p ≡ devices.pad units.old.units.devices p }
+    ensures pads { SameBut devices result.1 units.new.units.devices units.old.units.devices }
 {
     units.begin();
     let cycles = do_one(core, program, flash, units, enters);
@@ -367,7 +367,7 @@ pub(crate) fn tick(units: &mut Units, cycle: u32, touched: Span) -> (Option<u8>,
     ensures byte { result.0 ≡ devices.sends units.old.units.devices cycle }
     ensures state { units.new ≡ record units.old { units = units_step devices units.old.units cycle units.old.held units.old.held; cycle = cycle + 1 } }
     ensures pads { (moved : Span) × (result.1 ≡ hull touched moved)
-        × ((p : ℕ) → p < PORT_PINS → ¬ IsIn moved p → devices.pad units.new.units.devices p ≡ devices.pad units.old.units.devices p) }
+        × (SameBut devices moved units.new.units.devices units.old.units.devices) }
 {
     if cycle < units.due() {
         units.skip(cycle + 1);
@@ -382,8 +382,8 @@ pub(crate) fn tick(units: &mut Units, cycle: u32, touched: Span) -> (Option<u8>,
 #[inline]
 pub(crate) fn next_due(core: &Core, units: &Units, next: u32, cycle: u32) -> u32
     requires here { units.now.cycle ≡ cycle }
-    ensures soon { (flash : List ℕ) → result < MOST_CYCLES → IsFirstDue (mcu devices) (state_of flash core.now next units.now.units units.now.held) cycle (Some result) }
-    ensures never { (flash : List ℕ) → MOST_CYCLES ≤ result → IsFirstDue (mcu devices) (state_of flash core.now next units.now.units units.now.held) cycle None }
+    ensures soon { (flash : List ℕ) → result < MOST_CYCLES → IsFirstDue (mcu devices) (state_of flash core.now next units.now) cycle (Some result) }
+    ensures never { (flash : List ℕ) → MOST_CYCLES ≤ result → IsFirstDue (mcu devices) (state_of flash core.now next units.now) cycle None }
 {
     if cycle == 0 {
         return 0;
@@ -395,7 +395,7 @@ pub(crate) fn next_due(core: &Core, units: &Units, next: u32, cycle: u32) -> u32
 // The same, None where there is none.
 fn first_due(core: &Core, units: &Units, next: u32, cycle: u32) -> Option<u32>
     requires here { units.now.cycle ≡ cycle }
-    ensures { (flash : List ℕ) → IsFirstDue (mcu devices) (state_of flash core.now next units.now.units units.now.held) cycle result }
+    ensures { (flash : List ℕ) → IsFirstDue (mcu devices) (state_of flash core.now next units.now) cycle result }
 {
     let due = next_due(core, units, next, cycle);
     if due < MOST_CYCLES { Some(due) } else { None }

@@ -4,7 +4,7 @@ ghost use Rattle.std.specs.Prelude.{◌≡◌, ◌+◌, ◌<◌, ℕ, List, true
 ghost use Rattle.sim_base.specs.declared.signal.Level.{Level};
 ghost use Rattle.part_law.specs.Spans.{is_in};
 ghost use Rattle.unit_law.specs.Pad.{joined};
-ghost use Rattle.avr_mcu.specs.Placed.{Placed, Moves, StepMoves, hull};
+ghost use Rattle.avr_mcu.specs.Placed.{Placed, Moves, StepMoves, StepStays, hull};
 ghost use Rattle.avr_mcu.specs.Next.{WritesKeepNext};
 
 use part_law::Span;
@@ -180,7 +180,7 @@ fn moves<G: Group>(group: &G, cycle: u32, before: &[Level], now: &[Level], same:
     requires levels { length now.now ≡ PORT_PINS }
     requires here { G.stands group.now before.now cycle }
     requires same { same ≡ true → now.now ≡ before.now }
-    ensures { result ≡ false → (p : ℕ) → G.machine.pad (G.machine.step (G.state group.now cycle) cycle before.now now.now) p ≡ G.machine.pad (G.state group.now cycle) p }
+    ensures { result ≡ false → StepStays G.machine (G.state group.now cycle) cycle before.now now.now }
 {
     if same {
         group.event_moves(cycle)

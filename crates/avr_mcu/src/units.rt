@@ -6,7 +6,8 @@ ghost use Rattle.unit_law.specs.Pad.{driven};
 ghost use Rattle.unit_law.specs.UnitMachine.{steps, IsQuiet, FirstDue};
 ghost use Rattle.avr_mcu.specs.Devices.{devices};
 ghost use Rattle.avr_mcu.specs.Units.{UnitsAt, unit_bus, reset, pins, request, units_step, above, above_in, with_above, plain, plain_of, with_plain, register, after_read, with_register, with_register_bit, at_port, wire_pins, one_pin, pins_of, pins_of_bit, touched_by};
-ghost use Rattle.part_law.specs.Spans.{IsIn, no_pins};
+ghost use Rattle.part_law.specs.Spans.{no_pins};
+ghost use Rattle.avr_mcu.specs.Placed.{SameBut};
 
 use crate::asking::{Next, begin, hear, notices, read, skip, step, taken, write, write_bit};
 use crate::devices::{Devices, SPI_PINS, TWI_PINS, moved_pins, pad_of};
@@ -195,7 +196,7 @@ impl Units {
         requires levels { length levels.now ≡ UNO_PINS }
         requires end { self.old.cycle < MOST_CYCLES }
         ensures byte { result.0 ≡ devices.sends self.old.units.devices self.old.cycle }
-        ensures pads { (p : ℕ) → p < PORT_PINS → ¬ IsIn result.1 p → devices.pad (devices.step self.old.units.devices self.old.cycle (pins self.old.held) (pins levels.now)) p ≡ devices.pad self.old.units.devices p }
+        ensures pads { SameBut devices result.1 (devices.step self.old.units.devices self.old.cycle (pins self.old.held) (pins levels.now)) self.old.units.devices }
         ensures state { self.new ≡ record self.old { units = units_step devices self.old.units self.old.cycle self.old.held levels.now; held = levels.now; cycle = self.old.cycle + 1 } }
     {
         let seen = seen(levels);
@@ -221,7 +222,7 @@ impl Units {
     pub(crate) fn turn(&mut self) -> (Option<u8>, Span)
         requires end { self.old.cycle < MOST_CYCLES }
         ensures byte { result.0 ≡ devices.sends self.old.units.devices self.old.cycle }
-        ensures pads { (p : ℕ) → p < PORT_PINS → ¬ IsIn result.1 p → devices.pad (devices.step self.old.units.devices self.old.cycle (pins self.old.held) (pins self.old.held)) p ≡ devices.pad self.old.units.devices p }
+        ensures pads { SameBut devices result.1 (devices.step self.old.units.devices self.old.cycle (pins self.old.held) (pins self.old.held)) self.old.units.devices }
         ensures state { self.new ≡ record self.old { units = units_step devices self.old.units self.old.cycle self.old.held self.old.held; cycle = self.old.cycle + 1 } }
     {
         let held = &self.held[..PORT_PINS];

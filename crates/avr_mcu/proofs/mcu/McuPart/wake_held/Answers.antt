@@ -14,7 +14,7 @@ returns-clause-state c =
     let i = c.self.inside in
     let s = c.args.self.now in
     let a = (the_view i).mcu in
-    ap (λ (x : UnitsAt Devices). state_of i.flash i.core i.next x.units x.held) c.tick-byte.ensures.state
+    ap (λ (x : UnitsAt Devices). state_of i.flash i.core i.next x) c.tick-byte.ensures.state
     ∙ ap (λ (t : ℕ). record a { units = units_step devices a.units t a.held a.held }) (ap (λ (x : McuAt Devices). x.cycle) c.self.view_is ∙ c.act.ensures.cycle)
     ∙ held_woken devices devices_laws s.mcu a s.cycle (ap (λ (x : McuAt Devices). x.mcu) c.self.view_is ∙ c.act.ensures.acted)
 
