@@ -404,7 +404,7 @@ module _ {S P : Type 0} (m : Machine S) (laws : Laws m) (w : Wiring) (state : P 
   -- settled parts may go on from there
   pub settled_lags : (n : ℕ) (mid new : List P) (kept : Kept) (after : List (Option ℕ)) → Lags m w state now wakes n mid kept → length new ≡ length mid → length after ≡ length kept.dues →
       ((k : ℕ) (p q : P) → slice_get mid k ≡ Some p → slice_get new k ≡ Some q → (state q ≡ glided m state now wakes n p) × (now q ≡ n) × (wakes q ≡ wakes p)) →
-      AreDue m state now wakes new after → Lags m w state now wakes n new (record { input = kept.input; stale = kept.stale; dues = after; seen = kept.seen; answers = kept.answers })
+      AreDue m state now wakes new after → Lags m w state now wakes n new (record kept { dues = after })
   settled_lags n mid new kept after lags long dues_long settled due = record {
     few = subst (λ j. j ≤ 64) (sym long) lags.few;
     may = λ k q d eq ed.

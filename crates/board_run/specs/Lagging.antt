@@ -10,7 +10,7 @@ use Rattle.board_model.specs.Rows.{same_list, same_level}
 use Rattle.board_model.specs.Fits.{Fits}
 use Rattle.net_resolve.specs.Circuit.{Circuit}
 use Rattle.board_laws.specs.Alike.{Alike, SameShow}
-use Rattle.board_laws.specs.Active.{active_in}
+use Rattle.board_laws.specs.Active.{active_in, sum_below}
 use Rattle.board_laws.specs.Stands.{Stands}
 use Rattle.board_run.specs.declared.part_set.PartSet.{PartSet}
 use Rattle.board_run.specs.Parts.{has_part}
@@ -39,6 +39,10 @@ module _ {S P : Type 0} (m : Machine S) (state : P → S) (now wakes : P → ℕ
     pub count : wakes p ≤ now p
     pub quiet : IsQuiet m (state p) (now p) (t - now p)
     pub first : IsFirstDue m (state p) (now p) due
+
+  -- part k, with its due cycle
+  abbrev pub MayTurnAt : ℕ → List P → List (Option ℕ) → ℕ → Type 0
+  MayTurnAt t parts dues k = (p : P) (d : Option ℕ) → slice_get parts k ≡ Some p → slice_get dues k ≡ Some d → MayTurn t d p
 
   pub record Wakes (t : ℕ) (own : List Level) (input : Option ℕ) (p q : P) (byte : Option ℕ) (changed : Bool) : Type 0 where
     pub state_is : state q ≡ (m.step (glided t p) t own input).0
@@ -79,6 +83,18 @@ pub record Turns {S P : Type 0} (m : Machine S) (w : Wiring) (inputs : List Inpu
   pub answered : (k : ℕ) → k < i → slice_get answers k ≡ slice_get (map (λ r. r.1) (steps_from m w inputs ls t 0 ts)) k
   pub still : changed ≡ false → (k : ℕ) (s : S) → k < i → slice_get ts k ≡ Some s → SameShow m m (part_step m w inputs ls t k s).0 s
   pub moved : changed ≡ true → (k : ℕ) × (s : S) × (k < i) × (slice_get ts k ≡ Some s) × (m.drives (part_step m w inputs ls t k s).0 ≡ m.drives s → m.contacts (part_step m w inputs ls t k s).0 ≢ m.contacts s)
+
+-- whatever board the parts lag behind
+module _ {S P : Type 0} (m : Machine S) (w : Wiring) (state : P → S) (now wakes : P → ℕ) where
+  -- each had its turn in cycle t
+  abbrev pub AllTurn : List Input → List Level → PartSet → ℕ → List P → List P → List (Option ℕ) → Bool → Type 0
+  AllTurn given ls differ t old new answers changed = (inputs : List Input) (ts : List S) → Awaits m w state now given inputs ls differ t old ts
+      → Turns m w inputs state now wakes ls t ts (length old) old new answers changed
+
+  -- and those were counted that are active
+  abbrev pub AreCounted : List Input → List Level → PartSet → ℕ → List P → ℕ → ℕ → Type 0
+  AreCounted given ls differ t old steps more = (inputs : List Input) (ts : List S) → Awaits m w state now given inputs ls differ t old ts
+      → more ≡ steps + sum_below (length old) (λ k. active_in m w inputs ls t k (slice_get ts k))
 
 -- Part i of some parts was p and is q, which has as many pins and contacts; the nets were told what those before show.
 pub record Replaced {S P : Type 0} (m : Machine S) (w : Wiring) (state : P → S) (i : ℕ) (old new : List P) (c : Circuit) (p q : P) : Type 0 where

@@ -15,7 +15,8 @@ use Rattle.board_run.specs.Changes.{LastTells}
 use Rattle.board_run.specs.Upcoming.{AreBehind}
 use Rattle.board_run.specs.Seen.{Seen, Suits, IsOf, IsTold, levels_on, shown_at}
 use Rattle.board_run.specs.Parts.{AreNone}
-use Rattle.board_run.specs.Lagging.{glided, MayTurn}
+use Rattle.board_run.specs.Lagging.{glided, MayTurnAt}
+use Rattle.board_run.specs.declared.show.Next.{Next}
 
 -- what an engine keeps beside the parts
 pub record Kept : Type 0 where
@@ -28,6 +29,10 @@ pub record Kept : Type 0 where
   pub seen : Seen
   pub answers : List (Option ℕ)
 
+-- that, of where the board goes on and what was found last
+abbrev pub kept_of : Next → List (Option ℕ) → Seen → List (Option ℕ) → Kept
+kept_of next dues seen answers = record { input = next.input; stale = next.stale; dues = dues; seen = seen; answers = answers }
+
 -- each part stands at the cycle
 abbrev pub AreAt : {P : Type 0} → (P → ℕ) → ℕ → List P → Type 0
 AreAt {P = P} now t parts = (k : ℕ) (p : P) → slice_get parts k ≡ Some p → now p ≡ t
@@ -36,7 +41,7 @@ module _ {S P : Type 0} (m : Machine S) (w : Wiring) (state : P → S) (now wake
   -- The invariant of the engine at cycle t. The states of the board are `map (glided t) parts`.
   pub record Lags (t : ℕ) (parts : List P) (kept : Kept) : Type 0 where
     pub few : length parts ≤ 64
-    pub may : (k : ℕ) (p : P) (d : Option ℕ) → slice_get parts k ≡ Some p → slice_get kept.dues k ≡ Some d → MayTurn m state now wakes t d p
+    pub may : (k : ℕ) → MayTurnAt m state now wakes t parts kept.dues k
     pub valid : (k : ℕ) (p : P) → slice_get parts k ≡ Some p → m.valid (state p) (now p) ≡ true
     pub dues_long : length kept.dues ≡ length parts
     pub answers_long : length kept.answers ≡ length parts

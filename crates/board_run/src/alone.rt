@@ -7,7 +7,7 @@ ghost use Rattle.sim_base.specs.Rows.{Handed, StopsWithin};
 ghost use Rattle.sim_base.specs.declared.signal.Level.{Level};
 ghost use Rattle.board_model.specs.Fits.{Fits};
 ghost use Rattle.board_run.specs.Seen.{Suits, IsTold, retold};
-ghost use Rattle.board_run.specs.Lagging.{glided, MayTurn};
+ghost use Rattle.board_run.specs.Lagging.{glided, MayTurn, MayTurnAt};
 ghost use Rattle.board_run.specs.Legs.{WentAlone};
 
 use crate::hand::hand_byte;
@@ -70,7 +70,7 @@ pub(crate) fn stretch<P: Part, W: Watcher, L: Ledger>(
     requires fits { Fits P.machine wiring.now (map P.state parts.old) }
     requires suits { Suits wiring.now reading.old }
     requires told { IsTold P.machine (map P.state parts.old) reading.old.circuit }
-    requires may { (k : ℕ) (p : _) (d : Option ℕ) → slice_get parts.old k ≡ Some p → slice_get dues.old k ≡ Some d → MayTurn P.machine P.state P.now P.wake_count t d p }
+    requires may { (k : ℕ) → MayTurnAt P.machine P.state P.now P.wake_count t parts.old dues.old k }
     requires valid { (k : ℕ) (p : _) → slice_get parts.old k ≡ Some p → P.machine.valid (P.state p) (P.now p) ≡ true }
     requires whole { W.whole out.old ≡ true }
     ensures within { (x : Bool × ℕ) → result ≡ Some x → x.1 ≤ limit }

@@ -3,12 +3,11 @@ ghost use Rattle.std.specs.Prelude.{◌≡◌, ◌≢◌, ℕ, ◌+◌, ◌-◌,
 ghost use Rattle.sim_base.specs.Rows.{IsBehind};
 ghost use Rattle.sim_base.specs.declared.wiring.Input.{Input};
 ghost use Rattle.board_model.specs.Fits.{Fits};
-ghost use Rattle.board_laws.specs.Active.{sum_below, active_in};
 ghost use Rattle.board_run.specs.Seen.{Suits, IsTold, levels_on, retold};
 ghost use Rattle.board_run.specs.Parts.{has_part, AreNone};
 ghost use Rattle.board_run.specs.Upcoming.{AreBehind, IsInOrder};
-ghost use Rattle.board_run.specs.Lagging.{glided, MayTurn, Awaits, Turns, AreDue};
-ghost use Rattle.board_run.specs.Legs.{Lags, Reached, CutOff};
+ghost use Rattle.board_run.specs.Lagging.{glided, MayTurnAt, AllTurn, AreCounted, AreDue};
+ghost use Rattle.board_run.specs.Legs.{kept_of, Lags, Reached, CutOff};
 ghost use Rattle.board_run.specs.declared.show.Next.{Next};
 
 use crate::hand::hand_sent;
@@ -38,7 +37,7 @@ fn turn_read<P: Part, L: Ledger>(
     requires end { t < MOST_CYCLES }
     requires few { length parts.old ≤ 64 }
     requires fits { Fits P.machine wiring.now (map P.state parts.old) }
-    requires may { (k : ℕ) (p : _) (d : Option ℕ) → slice_get parts.old k ≡ Some p → slice_get dues.old k ≡ Some d → MayTurn P.machine P.state P.now P.wake_count t d p }
+    requires may { (k : ℕ) → MayTurnAt P.machine P.state P.now P.wake_count t parts.old dues.old k }
     requires valid { (k : ℕ) (p : _) → slice_get parts.old k ≡ Some p → P.machine.valid (P.state p) (P.now p) ≡ true }
     requires dues { length dues.old ≡ length parts.old }
     requires suits { Suits wiring.now reading.old }
@@ -47,15 +46,13 @@ fn turn_read<P: Part, L: Ledger>(
         → P.machine.held (P.state p) ≢ levels_on P.machine wiring.now reading.old.circuit.levels k (P.state p) }
     requires answers { length answers.old ≡ length parts.old }
     requires none { AreNone answers.old }
-    ensures turns { (inputs : List Input) (ts : List P.State) → Awaits P.machine wiring.now P.state P.now given.now inputs reading.old.circuit.levels differ t parts.old ts
-        → Turns P.machine wiring.now inputs P.state P.now P.wake_count reading.old.circuit.levels t ts (length parts.old) parts.old parts.new answers.new result.changed }
+    ensures turns { AllTurn P.machine wiring.now P.state P.now P.wake_count given.now reading.old.circuit.levels differ t parts.old parts.new answers.new result.changed }
     ensures told { IsTold P.machine (map P.state parts.new) reading.new.circuit }
     ensures rest { reading.new ≡ retold reading.old reading.new.circuit.drives reading.new.circuit.closed }
     ensures due { AreDue P.machine P.state P.now P.wake_count parts.new dues.new }
     ensures dues { length dues.new ≡ length dues.old }
     ensures silent { result.sent ≡ false → AreNone answers.new }
-    ensures steps { (inputs : List Input) (ts : List P.State) → Awaits P.machine wiring.now P.state P.now given.now inputs reading.old.circuit.levels differ t parts.old ts
-        → steps.new ≡ steps.old + sum_below (length parts.old) (λ k. active_in P.machine wiring.now inputs reading.old.circuit.levels t k (slice_get ts k)) }
+    ensures steps { AreCounted P.machine wiring.now P.state P.now P.wake_count given.now reading.old.circuit.levels differ t parts.old steps.old steps.new }
 {
     wake_active(
         parts,
@@ -86,8 +83,7 @@ pub(crate) fn event<P: Part, W: Watcher, L: Ledger>(
     requires end { t < MOST_CYCLES }
     requires order { IsInOrder inputs.now }
     requires behind { AreBehind inputs.now next.input t }
-    requires lags { Lags P.machine wiring.now P.state P.now P.wake_count t parts.old
-        (record { input = next.input; stale = next.stale; dues = dues.old; seen = reading.old; answers = answers.old }) }
+    requires lags { Lags P.machine wiring.now P.state P.now P.wake_count t parts.old (kept_of next dues.old reading.old answers.old) }
     requires whole { W.whole out.old ≡ true }
     requires later { IsBehind W.last W.seen out.old t reading.old.circuit.levels }
     ensures ends { MatchOption result
@@ -95,7 +91,7 @@ pub(crate) fn event<P: Part, W: Watcher, L: Ledger>(
         inputs.now t (t + 1) parts.old parts.new reading.old reading.new steps.old steps.new out.old out.new)
         (λ x. Reached P.machine wiring.now P.state P.now P.wake_count W.whole W.faults W.stands W.stopped W.last W.seen
         inputs.now t (t + 1) parts.old parts.new reading.old
-        (record { input = x.input; stale = x.stale; dues = dues.new; seen = reading.new; answers = answers.new }) steps.old steps.new out.old out.new) }
+        (kept_of x dues.new reading.new answers.new) steps.old steps.new out.old out.new) }
     ensures place { W.place out.new ≡ W.place out.old }
 {
     let (shown, differ) = show_cycle(next.stale, parts, wiring, t, reading, out);

@@ -5,7 +5,7 @@ ghost use Rattle.board_model.specs.Board.{input_at};
 ghost use Rattle.board_run.specs.Upcoming.{AreBehind, IsInOrder};
 ghost use Rattle.part_law.specs.Machine.{IsQuiet, IsFirstDue};
 ghost use Rattle.board_run.specs.Lagging.{glided, AreDue, AreLate};
-ghost use Rattle.board_run.specs.Legs.{Lags, Reached, CutOff, IsAlone, AreAt};
+ghost use Rattle.board_run.specs.Legs.{kept_of, Lags, Reached, CutOff, IsAlone, AreAt};
 ghost use Rattle.board_run.specs.declared.show.Next.{Next};
 
 use crate::alone::stretch;
@@ -158,8 +158,7 @@ fn event_and_jump<P: Part, W: Watcher, L: Ledger>(
     requires end { n ≤ MOST_CYCLES }
     requires order { IsInOrder inputs.now }
     requires behind { AreBehind inputs.now next.input t }
-    requires lags { Lags P.machine wiring.now P.state P.now P.wake_count t parts.old
-        (record { input = next.input; stale = next.stale; dues = dues.old; seen = reading.old; answers = answers.old }) }
+    requires lags { Lags P.machine wiring.now P.state P.now P.wake_count t parts.old (kept_of next dues.old reading.old answers.old) }
     requires whole { W.whole out.old ≡ true }
     requires later { IsBehind W.last W.seen out.old t reading.old.circuit.levels }
     ensures ends { MatchOption result
@@ -167,7 +166,7 @@ fn event_and_jump<P: Part, W: Watcher, L: Ledger>(
         inputs.now t n parts.old parts.new reading.old reading.new steps.old steps.new out.old out.new)
         (λ x. (t < x.1) × (x.1 ≤ n) × Reached P.machine wiring.now P.state P.now P.wake_count W.whole W.faults W.stands W.stopped W.last W.seen
         inputs.now t x.1 parts.old parts.new reading.old
-        (record { input = x.0.input; stale = x.0.stale; dues = dues.new; seen = reading.new; answers = answers.new }) steps.old steps.new out.old out.new) }
+        (kept_of x.0 dues.new reading.new answers.new) steps.old steps.new out.old out.new) }
     ensures place { W.place out.new ≡ W.place out.old }
 {
     match event(
@@ -199,8 +198,7 @@ fn advance<P: Part, W: Watcher, L: Ledger>(
     requires end { n ≤ MOST_CYCLES }
     requires order { IsInOrder inputs.now }
     requires behind { AreBehind inputs.now next.input t }
-    requires lags { Lags P.machine wiring.now P.state P.now P.wake_count t parts.old
-        (record { input = next.input; stale = next.stale; dues = dues.old; seen = reading.old; answers = answers.old }) }
+    requires lags { Lags P.machine wiring.now P.state P.now P.wake_count t parts.old (kept_of next dues.old reading.old answers.old) }
     requires whole { W.whole out.old ≡ true }
     requires later { IsBehind W.last W.seen out.old t reading.old.circuit.levels }
     ensures ends { MatchOption result
@@ -208,7 +206,7 @@ fn advance<P: Part, W: Watcher, L: Ledger>(
         inputs.now t n parts.old parts.new reading.old reading.new steps.old steps.new out.old out.new)
         (λ x. (t < x.1) × (x.1 ≤ n) × Reached P.machine wiring.now P.state P.now P.wake_count W.whole W.faults W.stands W.stopped W.last W.seen
         inputs.now t x.1 parts.old parts.new reading.old
-        (record { input = x.0.input; stale = x.0.stale; dues = dues.new; seen = reading.new; answers = answers.new }) steps.old steps.new out.old out.new) }
+        (kept_of x.0 dues.new reading.new answers.new) steps.old steps.new out.old out.new) }
     ensures place { W.place out.new ≡ W.place out.old }
 {
     match find_alone(next, dues, inputs, t, n) {
@@ -248,8 +246,7 @@ fn run_legs<P: Part, W: Watcher, L: Ledger>(
     requires end { n ≤ MOST_CYCLES }
     requires order { IsInOrder inputs.now }
     requires behind { AreBehind inputs.now next.input from }
-    requires lags { Lags P.machine wiring.now P.state P.now P.wake_count from parts.old
-        (record { input = next.input; stale = next.stale; dues = dues.old; seen = reading.old; answers = answers.old }) }
+    requires lags { Lags P.machine wiring.now P.state P.now P.wake_count from parts.old (kept_of next dues.old reading.old answers.old) }
     requires whole { W.whole out.old ≡ true }
     requires later { IsBehind W.last W.seen out.old from reading.old.circuit.levels }
     ensures ends { MatchOption result
@@ -257,7 +254,7 @@ fn run_legs<P: Part, W: Watcher, L: Ledger>(
         inputs.now from n parts.old parts.new reading.old reading.new steps.old steps.new out.old out.new)
         (λ x. Reached P.machine wiring.now P.state P.now P.wake_count W.whole W.faults W.stands W.stopped W.last W.seen
         inputs.now from n parts.old parts.new reading.old
-        (record { input = x.input; stale = x.stale; dues = dues.new; seen = reading.new; answers = answers.new }) steps.old steps.new out.old out.new) }
+        (kept_of x dues.new reading.new answers.new) steps.old steps.new out.old out.new) }
     ensures place { W.place out.new ≡ W.place out.old }
 {
     let mut at = next;
@@ -328,8 +325,7 @@ pub(crate) fn run_jumping<P: Part, W: Watcher, L: Ledger>(
     requires order { IsInOrder inputs.now }
     requires behind { AreBehind inputs.now next.input from }
     requires at { AreAt P.now from parts.old }
-    requires lags { Lags P.machine wiring.now P.state P.now P.wake_count from parts.old
-        (record { input = next.input; stale = next.stale; dues = dues.old; seen = reading.old; answers = answers.old }) }
+    requires lags { Lags P.machine wiring.now P.state P.now P.wake_count from parts.old (kept_of next dues.old reading.old answers.old) }
     requires whole { W.whole out.old ≡ true }
     requires later { IsBehind W.last W.seen out.old from reading.old.circuit.levels }
     ensures ends { MatchOption result
@@ -337,7 +333,7 @@ pub(crate) fn run_jumping<P: Part, W: Watcher, L: Ledger>(
         inputs.now from n parts.old parts.new reading.old reading.new steps.old steps.new out.old out.new)
         (λ x. AreAt P.now n parts.new × Reached P.machine wiring.now P.state P.now P.wake_count W.whole W.faults W.stands W.stopped W.last W.seen
         inputs.now from n parts.old parts.new reading.old
-        (record { input = x.input; stale = x.stale; dues = dues.new; seen = reading.new; answers = answers.new }) steps.old steps.new out.old out.new) }
+        (kept_of x dues.new reading.new answers.new) steps.old steps.new out.old out.new) }
     ensures place { W.place out.new ≡ W.place out.old }
 {
     match run_legs(

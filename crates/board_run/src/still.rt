@@ -1,7 +1,7 @@
 //! A board goes on while nothing new is shown.
 ghost use Rattle.std.specs.Prelude.{◌<◌, ◌≤◌};
 ghost use Rattle.board_run.specs.Upcoming.{AreBehind, IsInOrder};
-ghost use Rattle.board_run.specs.Legs.{Lags, Rests, AreAt};
+ghost use Rattle.board_run.specs.Legs.{kept_of, Lags, Rests, AreAt};
 
 use crate::alone::stretch;
 use crate::jump::{find_alone, next_cycle, settle_all};
@@ -31,11 +31,10 @@ fn rest<P: Part, L: Ledger>(
     requires end { n ≤ MOST_CYCLES }
     requires order { IsInOrder inputs.now }
     requires behind { AreBehind inputs.now next.input t }
-    requires lags { Lags P.machine wiring.now P.state P.now P.wake_count t parts.old
-        (record { input = next.input; stale = next.stale; dues = dues.old; seen = reading.old; answers = answers.now }) }
+    requires lags { Lags P.machine wiring.now P.state P.now P.wake_count t parts.old (kept_of next dues.old reading.old answers.now) }
     ensures { Rests P.machine wiring.now P.state P.now P.wake_count inputs.now t result.1 n parts.old parts.new
-        (record { input = next.input; stale = next.stale; dues = dues.old; seen = reading.old; answers = answers.now })
-        (record { input = result.0.input; stale = result.0.stale; dues = dues.new; seen = reading.new; answers = answers.now }) steps.old steps.new }
+        (kept_of next dues.old reading.old answers.now)
+        (kept_of result.0 dues.new reading.new answers.now) steps.old steps.new }
 {
     let mut out = Unwatched::new();
     match find_alone(next, dues, inputs, t, n) {
@@ -76,12 +75,11 @@ pub(crate) fn stay<P: Part, L: Ledger>(
     requires order { IsInOrder inputs.now }
     requires behind { AreBehind inputs.now next.input t }
     requires at { AreAt P.now t parts.old }
-    requires lags { Lags P.machine wiring.now P.state P.now P.wake_count t parts.old
-        (record { input = next.input; stale = next.stale; dues = dues.old; seen = reading.old; answers = answers.now }) }
+    requires lags { Lags P.machine wiring.now P.state P.now P.wake_count t parts.old (kept_of next dues.old reading.old answers.now) }
     ensures at { AreAt P.now result.1 parts.new }
     ensures rests { Rests P.machine wiring.now P.state P.now P.wake_count inputs.now t result.1 n parts.old parts.new
-        (record { input = next.input; stale = next.stale; dues = dues.old; seen = reading.old; answers = answers.now })
-        (record { input = result.0.input; stale = result.0.stale; dues = dues.new; seen = reading.new; answers = answers.now }) steps.old steps.new }
+        (kept_of next dues.old reading.old answers.now)
+        (kept_of result.0 dues.new reading.new answers.now) steps.old steps.new }
 {
     let after = rest(
         next, parts, dues, wiring, inputs, t, n, reading, answers, steps,

@@ -5,7 +5,7 @@ ghost use Rattle.sim_base.specs.declared.wiring.Input.{Input};
 ghost use Rattle.board_model.specs.Board.{level_at, input_at};
 ghost use Rattle.board_model.specs.Fits.{Fits};
 ghost use Rattle.board_laws.specs.Active.{sum_below, active_in};
-ghost use Rattle.board_run.specs.Lagging.{is_at, to_wake, glided, AreLate, MayTurn, Wakes, turned, Awaits, Turns, AreDue, Replaced, Shifted, TookTurn, Begun};
+ghost use Rattle.board_run.specs.Lagging.{is_at, to_wake, glided, AreLate, MayTurn, MayTurnAt, Wakes, turned, Turns, AllTurn, AreCounted, AreDue, Replaced, Shifted, TookTurn, Begun};
 ghost use Rattle.board_run.specs.Parts.{has_part, AreNone};
 ghost use Rattle.board_run.specs.Seen.{IsTold, levels_on};
 
@@ -298,7 +298,7 @@ fn turn_part<P: Part, L: Ledger>(
     requires few { length parts.old ≤ 64 }
     requires answers { length answers.old ≡ length parts.old }
     requires fits { Fits P.machine wiring.now (map P.state parts.old) }
-    requires may { (p : _) (d : Option ℕ) → slice_get parts.old i ≡ Some p → slice_get dues.old i ≡ Some d → MayTurn P.machine P.state P.now P.wake_count t d p }
+    requires may { MayTurnAt P.machine P.state P.now P.wake_count t parts.old dues.old i }
     requires valid { (p : _) → slice_get parts.old i ≡ Some p → P.machine.valid (P.state p) (P.now p) ≡ true }
     requires differs { (p : _) → slice_get parts.old i ≡ Some p → has_part differ i ≡ true → 0 < t
         → P.machine.held (P.state p) ≢ levels_on P.machine wiring.now nets.old.levels i (P.state p) }
@@ -349,7 +349,7 @@ fn hear_part<P: Part, L: Ledger>(
     requires dues { length dues.now ≡ length parts.old }
     requires few { length parts.old ≤ 64 }
     requires fits { Fits P.machine wiring.now (map P.state parts.old) }
-    requires may { (p : _) (d : Option ℕ) → slice_get parts.old i ≡ Some p → slice_get dues.now i ≡ Some d → MayTurn P.machine P.state P.now P.wake_count t d p }
+    requires may { MayTurnAt P.machine P.state P.now P.wake_count t parts.old dues.now i }
     requires valid { (p : _) → slice_get parts.old i ≡ Some p → P.machine.valid (P.state p) (P.now p) ≡ true }
     requires differs { (p : _) → slice_get parts.old i ≡ Some p → 0 < t
         → P.machine.held (P.state p) ≢ levels_on P.machine wiring.now nets.old.levels i (P.state p) }
@@ -402,7 +402,7 @@ fn hear_all<P: Part, L: Ledger>(
     requires passed { (k : ℕ) → k < least → slice_get dues.now k ≢ Some (Some t) }
     requires due { AreDue P.machine P.state P.now P.wake_count parts.old dues.now }
     requires fits { Fits P.machine wiring.now (map P.state parts.old) }
-    requires may { (k : ℕ) (p : _) (d : Option ℕ) → from ≤ k → slice_get parts.old k ≡ Some p → slice_get dues.now k ≡ Some d → MayTurn P.machine P.state P.now P.wake_count t d p }
+    requires may { (k : ℕ) → from ≤ k → MayTurnAt P.machine P.state P.now P.wake_count t parts.old dues.now k }
     requires valid { (k : ℕ) (p : _) → from ≤ k → slice_get parts.old k ≡ Some p → P.machine.valid (P.state p) (P.now p) ≡ true }
     requires differs { silent ≡ true → (k : ℕ) (p : _) → from ≤ k → slice_get parts.old k ≡ Some p → has_part marked k ≡ true → 0 < t
         → P.machine.held (P.state p) ≢ levels_on P.machine wiring.now nets.old.levels k (P.state p) }
@@ -453,7 +453,7 @@ pub(crate) fn wake_active<P: Part, L: Ledger>(
     requires end { t < MOST_CYCLES }
     requires few { length parts.old ≤ 64 }
     requires fits { Fits P.machine wiring.now (map P.state parts.old) }
-    requires may { (k : ℕ) (p : _) (d : Option ℕ) → slice_get parts.old k ≡ Some p → slice_get dues.old k ≡ Some d → MayTurn P.machine P.state P.now P.wake_count t d p }
+    requires may { (k : ℕ) → MayTurnAt P.machine P.state P.now P.wake_count t parts.old dues.old k }
     requires valid { (k : ℕ) (p : _) → slice_get parts.old k ≡ Some p → P.machine.valid (P.state p) (P.now p) ≡ true }
     requires dues { length dues.old ≡ length parts.old }
     requires differ { (k : ℕ) (p : _) → slice_get parts.old k ≡ Some p → has_part differ k ≡ true → 0 < t
@@ -464,13 +464,11 @@ pub(crate) fn wake_active<P: Part, L: Ledger>(
     requires told { IsTold P.machine (map P.state parts.old) nets.old }
     ensures told { IsTold P.machine (map P.state parts.new) nets.new }
     ensures rest { nets.new ≡ record nets.old { drives = nets.new.drives; closed = nets.new.closed } }
-    ensures turns { (inputs : List Input) (ts : List P.State) → Awaits P.machine wiring.now P.state P.now given.now inputs nets.old.levels differ t parts.old ts
-        → Turns P.machine wiring.now inputs P.state P.now P.wake_count nets.old.levels t ts (length parts.old) parts.old parts.new answers.new result.changed }
+    ensures turns { AllTurn P.machine wiring.now P.state P.now P.wake_count given.now nets.old.levels differ t parts.old parts.new answers.new result.changed }
     ensures due { AreDue P.machine P.state P.now P.wake_count parts.new dues.new }
     ensures dues { length dues.new ≡ length dues.old }
     ensures silent { result.sent ≡ false → AreNone answers.new }
-    ensures steps { (inputs : List Input) (ts : List P.State) → Awaits P.machine wiring.now P.state P.now given.now inputs nets.old.levels differ t parts.old ts
-        → steps.new ≡ steps.old + sum_below (length parts.old) (λ k. active_in P.machine wiring.now inputs nets.old.levels t k (slice_get ts k)) }
+    ensures steps { AreCounted P.machine wiring.now P.state P.now P.wake_count given.now nets.old.levels differ t parts.old steps.old steps.new }
 {
     let marked = with_given(differ, given);
     let silent = given.is_empty();

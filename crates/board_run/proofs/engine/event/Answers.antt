@@ -1,6 +1,6 @@
 use Rattle.std.proofs.Common.{◌+◌, ◌∙◌, sym, refl, arith, subst}
 use Rattle.board_run.specs.Seen.{Seen}
-use Rattle.board_run.specs.Legs.{Kept}
+use Rattle.board_run.specs.Legs.{Kept, kept_of}
 use Rattle.board_run.proofs.HandLemmas.{handed_both, stopped_first, stopped_second}
 use Rattle.board_run.proofs.LagLemmas.{Happens, happens, lags_differ}
 use Rattle.board_run.proofs.engine.event.Given.{Over}
@@ -11,7 +11,7 @@ pub turn_read-woken-requires-clause-differ : goal.turn_read-woken-requires-claus
 turn_read-woken-requires-clause-differ g c =
     let p = g.P.Part in
     let s = c.show_cycle-shown.ensures in
-    let kept : Kept = record { input = c.args.next.input; stale = c.args.next.stale; dues = c.args.dues.now; seen = c.args.reading.now; answers = c.args.answers.now } in
+    let kept : Kept = kept_of c.args.next c.args.dues.now c.args.reading.now c.args.answers.now in
     lags_differ p.machine g.met.P.Part.laws c.args.wiring.now p.state p.now p.wake_count c.args.t c.args.parts.now kept c.show_cycle-shown.new.reading c.show_cycle-shown.result.1 c.requires.lags s.differ
 
 -- the cycle up to its bytes
@@ -23,7 +23,7 @@ cycle g c =
     let s = c.show_cycle-shown.ensures in
     let end = c.end_of_cycle-end in
     let e = c.turn_read-woken in
-    let kept : Kept = record { input = a.next.input; stale = a.next.stale; dues = a.dues.now; seen = a.reading.now; answers = a.answers.now } in
+    let kept : Kept = kept_of a.next a.dues.now a.reading.now a.answers.now in
     happens p.machine g.met.P.Part.laws a.wiring.now p.state p.now p.wake_count a.inputs.now a.t a.next.input end.result a.parts.now e.new.parts kept c.show_cycle-shown.new.reading e.new.reading c.show_cycle-shown.result.1
     e.new.answers e.new.dues e.result.changed a.steps.now e.new.steps c.requires.lags s.differ end.ensures.from c.requires.behind end.ensures.behind s.of s.suits e.auto.parts e.auto.answers e.ensures.dues
     (e.ensures.turns a.inputs.now) (e.ensures.steps a.inputs.now) e.ensures.due e.ensures.told e.ensures.rest

@@ -3,7 +3,7 @@ use Rattle.std.specs.Prelude.{slice_get}
 use Rattle.part_law.specs.Machine.{sent}
 use Rattle.board_run.specs.Seen.{Seen}
 use Rattle.board_run.specs.Lagging.{glided}
-use Rattle.board_run.specs.Legs.{Kept, Lags}
+use Rattle.board_run.specs.Legs.{Kept, Lags, kept_of}
 use Rattle.board_run.proofs.NextLemmas.{lags_late}
 use Rattle.board_run.proofs.AloneLemmas.{alone_goes}
 use Rattle.board_run.proofs.ReachLemmas.{reached_alone, cut_alone}
@@ -12,7 +12,7 @@ use Rattle.board_run.proofs.jump.advance.Goals as goal
 pub find_alone-requires-clause-late : goal.find_alone-requires-clause-late
 find_alone-requires-clause-late g c =
     let p = g.P.Part in
-    lags_late p.machine c.args.wiring.now p.state p.now p.wake_count c.args.t c.args.parts.now (record { input = c.args.next.input; stale = c.args.next.stale; dues = c.args.dues.now; seen = c.args.reading.now; answers = c.args.answers.now }) c.requires.lags
+    lags_late p.machine c.args.wiring.now p.state p.now p.wake_count c.args.t c.args.parts.now (kept_of c.args.next c.args.dues.now c.args.reading.now c.args.answers.now) c.requires.lags
 
 pub stretch-requires-clause-end : goal.stretch-requires-clause-end
 stretch-requires-clause-end g c =
@@ -39,7 +39,7 @@ stretch-requires-clause-valid g c =
 pub event_and_jump-requires-clause-lags : goal.event_and_jump-requires-clause-lags
 event_and_jump-requires-clause-lags g c =
     let p = g.P.Part in
-    subst (λ (ds : List (Option ℕ)). Lags p.machine c.args.wiring.now p.state p.now p.wake_count c.args.t c.args.parts.now (record { input = c.args.next.input; stale = c.args.next.stale; dues = ds; seen = c.args.reading.now; answers = c.args.answers.now })) (sym c.find_alone.ensures.same) c.requires.lags
+    subst (λ (ds : List (Option ℕ)). Lags p.machine c.args.wiring.now p.state p.now p.wake_count c.args.t c.args.parts.now (kept_of c.args.next ds c.args.reading.now c.args.answers.now)) (sym c.find_alone.ensures.same) c.requires.lags
 
 pub returns-in-Some-stretch : goal.returns-in-Some-stretch
 returns-in-Some-stretch g c =
@@ -55,7 +55,7 @@ returns-in-Some-stretch g c =
     let changed = c.in-Some-stretch.changed in
     let s = c.in-Some-stretch.ensures in
     let went = s.went (changed, u) refl in
-    let kept : Kept = record { input = a.next.input; stale = a.next.stale; dues = a.dues.now; seen = a.reading.now; answers = a.answers.now } in
+    let kept : Kept = kept_of a.next a.dues.now a.reading.now a.answers.now in
     let after : Kept = record { input = a.next.input; stale = changed; dues = new.dues; seen = new.reading; answers = a.answers.now } in
     let goes = alone_goes m laws a.wiring.now p.state p.now p.wake_count a.inputs.now a.t u x.1 a.n a.parts.now new.parts kept c.find_alone.new.dues new.dues changed a.steps.now new.steps x.0 went.0 went.1 went.2 new.reading
     c.find_alone.ensures.same c.stretch.ensures.rest c.stretch.ensures.told c.requires.lags (found.fresh x refl) (found.after x refl) c.requires.behind (s.within (changed, u) refl) (found.within x refl) c.requires.end (found.alone x refl) went.3 in
@@ -85,7 +85,7 @@ returns-in-None-stretch g c =
     let new = c.stretch.new in
     let f = c.in-None-stretch.ensures.failed refl in
     let u = f.1 in
-    let kept : Kept = record { input = a.next.input; stale = a.next.stale; dues = a.dues.now; seen = a.reading.now; answers = a.answers.now } in
+    let kept : Kept = kept_of a.next a.dues.now a.reading.now a.answers.now in
     let after : Kept = record { input = a.next.input; stale = f.3; dues = new.dues; seen = new.reading; answers = a.answers.now } in
     let goes = alone_goes m laws a.wiring.now p.state p.now p.wake_count a.inputs.now a.t u x.1 a.n a.parts.now new.parts kept c.find_alone.new.dues new.dues f.3 a.steps.now new.steps x.0 f.4 f.5 f.6 new.reading
     c.find_alone.ensures.same c.stretch.ensures.rest c.stretch.ensures.told c.requires.lags (found.fresh x refl) (found.after x refl) c.requires.behind f.2 (found.within x refl) c.requires.end (found.alone x refl) f.7 in

@@ -1,5 +1,5 @@
 use Rattle.std.proofs.Common.{◌+◌, arith}
-use Rattle.board_run.specs.Legs.{Kept}
+use Rattle.board_run.specs.Legs.{Kept, kept_of}
 use Rattle.board_run.proofs.NextLemmas.{lags_late}
 use Rattle.board_run.proofs.ReachLemmas.{reached_quiet, cut_longer}
 use Rattle.board_run.proofs.jump.event_and_jump.Goals as goal
@@ -9,7 +9,7 @@ next_cycle-u-requires-clause-late g c =
     let p = g.P.Part in
     let e = c.event.new in
     let n = c.in-Some.after in
-    lags_late p.machine c.args.wiring.now p.state p.now p.wake_count (c.args.t + 1) e.parts (record { input = n.input; stale = n.stale; dues = e.dues; seen = e.reading; answers = e.answers }) c.in-Some.ensures.ends.lags
+    lags_late p.machine c.args.wiring.now p.state p.now p.wake_count (c.args.t + 1) e.parts (kept_of n e.dues e.reading e.answers) c.in-Some.ensures.ends.lags
 
 pub next_cycle-u-requires-clause-behind : goal.next_cycle-u-requires-clause-behind
 next_cycle-u-requires-clause-behind g c = c.in-Some.ensures.ends.behind
@@ -21,7 +21,7 @@ returns-in-Some g c =
     let a = c.args in
     let e = c.event.new in
     let n = c.in-Some.after in
-    let kept : Kept = record { input = n.input; stale = n.stale; dues = e.dues; seen = e.reading; answers = e.answers } in
+    let kept : Kept = kept_of n e.dues e.reading e.answers in
     let nc = c.next_cycle-u.ensures in
     let from = nc.from in
     record {

@@ -1,4 +1,4 @@
-use Rattle.board_run.specs.Legs.{Kept}
+use Rattle.board_run.specs.Legs.{Kept, kept_of}
 use Rattle.board_run.proofs.LegLemmas.{may_settle, now_settled, settled_lags, settled_leg}
 use Rattle.board_run.proofs.jump.run_jumping.Goals as goal
 
@@ -7,7 +7,7 @@ settle_all-requires-clause-later g c = λ k x ex.
     let p = g.P.Part in
     let r = c.run_legs.new in
     let n = c.in-Some.after in
-    let kept : Kept = record { input = n.input; stale = n.stale; dues = r.dues; seen = r.reading; answers = r.answers } in
+    let kept : Kept = kept_of n r.dues r.reading r.answers in
     (may_settle p.machine g.met.P.Part.laws c.args.wiring.now p.state p.now p.wake_count c.args.inputs.now c.args.n r.parts kept c.in-Some.ensures.ends.lags k x ex).0
 
 pub settle_all-requires-clause-quiet : goal.settle_all-requires-clause-quiet
@@ -15,7 +15,7 @@ settle_all-requires-clause-quiet g c = λ k x ex.
     let p = g.P.Part in
     let r = c.run_legs.new in
     let n = c.in-Some.after in
-    let kept : Kept = record { input = n.input; stale = n.stale; dues = r.dues; seen = r.reading; answers = r.answers } in
+    let kept : Kept = kept_of n r.dues r.reading r.answers in
     (may_settle p.machine g.met.P.Part.laws c.args.wiring.now p.state p.now p.wake_count c.args.inputs.now c.args.n r.parts kept c.in-Some.ensures.ends.lags k x ex).1
 
 pub settle_all-requires-clause-few : goal.settle_all-requires-clause-few
@@ -36,7 +36,7 @@ returns-in-Some g c =
     let e = c.in-Some.ensures.ends in
     let r = c.run_legs.new in
     let s = c.settle_all in
-    let kept : Kept = record { input = x.input; stale = x.stale; dues = r.dues; seen = r.reading; answers = r.answers } in
+    let kept : Kept = kept_of x r.dues r.reading r.answers in
     record {
       ends = (
         now_settled m laws w p.state p.now p.wake_count inputs a.n r.parts s.new.parts s.auto.parts s.ensures.settled,

@@ -1,5 +1,5 @@
 use Rattle.std.proofs.Common.{◌≡◌, ◌∙◌, refl, subst, arith, ℕ}
-use Rattle.board_run.specs.Legs.{Kept, Reached}
+use Rattle.board_run.specs.Legs.{Kept, Reached, kept_of}
 use Rattle.board_run.proofs.ReachLemmas.{reached_here, reached_then, cut_then}
 use Rattle.board_run.proofs.jump.run_legs.Goals as goal
 
@@ -8,7 +8,7 @@ loop-t-init g c =
     let p = g.P.Part in
     let o = g.W.Watcher in
     let a = c.args in
-    let kept : Kept = record { input = a.next.input; stale = a.next.stale; dues = a.dues.now; seen = a.reading.now; answers = a.answers.now } in
+    let kept : Kept = kept_of a.next a.dues.now a.reading.now a.answers.now in
     record {
       within = omega (arith, c.requires.before);
       reached = reached_here p.machine g.met.P.Part.laws a.wiring.now p.state p.now p.wake_count o.whole o.faults o.stands o.stopped o.last o.seen a.inputs.now a.from a.steps.now a.parts.now kept a.out.now
@@ -37,8 +37,8 @@ loop-t-preserved g c =
     let new = c.advance.new in
     let e = c.in-Some.ensures in
     let after = c.in-Some.after in
-    let kept : Kept = record { input = l.at.input; stale = l.at.stale; dues = l.dues; seen = l.reading; answers = l.answers } in
-    let end : Kept = record { input = after.input; stale = after.stale; dues = new.dues; seen = new.reading; answers = new.answers } in
+    let kept : Kept = kept_of l.at l.dues l.reading l.answers in
+    let end : Kept = kept_of after new.dues new.reading new.answers in
     record {
       within = e.ends.1;
       reached = reached_then p.machine g.met.P.Part.laws a.wiring.now p.state p.now p.wake_count o.whole o.faults o.stands o.stopped o.last o.seen a.inputs.now a.from l.t a.steps.now l.steps a.parts.now l.parts a.reading.now kept a.out.now l.out
@@ -53,7 +53,7 @@ returns-in-None g c =
     let a = c.args in
     let l = c.loop-t in
     let new = c.advance.new in
-    let kept : Kept = record { input = l.at.input; stale = l.at.stale; dues = l.dues; seen = l.reading; answers = l.answers } in
+    let kept : Kept = kept_of l.at l.dues l.reading l.answers in
     record {
       ends = cut_then p.machine g.met.P.Part.laws a.wiring.now p.state p.now p.wake_count o.whole o.faults o.stands o.stopped o.last o.seen a.inputs.now a.from l.t a.steps.now l.steps a.parts.now l.parts a.reading.now kept a.out.now l.out
           l.invariant.reached a.n new.steps new.parts new.reading new.out (omega (arith, c.loop-t-test.true)) c.in-None.ensures.ends;
@@ -68,5 +68,5 @@ returns g c =
     let l = c.loop-t in
     let end : l.t ≡ a.n = omega (arith, l.invariant.within, c.loop-t-test.false) in
     let reached = λ (t : ℕ). Reached p.machine a.wiring.now p.state p.now p.wake_count o.whole o.faults o.stands o.stopped o.last o.seen a.inputs.now a.from t a.parts.now l.parts a.reading.now
-    (record { input = l.at.input; stale = l.at.stale; dues = l.dues; seen = l.reading; answers = l.answers }) a.steps.now l.steps a.out.now l.out in
+    (kept_of l.at l.dues l.reading l.answers) a.steps.now l.steps a.out.now l.out in
     record { ends = subst (λ (t : ℕ). reached t) end l.invariant.reached; place = l.invariant.place }

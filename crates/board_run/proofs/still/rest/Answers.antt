@@ -1,7 +1,7 @@
 use Rattle.std.proofs.Common.{◌∙◌, ap, sym, refl, subst, arith, length, List, ℕ, Option}
 use Rattle.std.specs.Prelude.{slice_get}
 use Rattle.board_run.specs.Lagging.{AreLate}
-use Rattle.board_run.specs.Legs.{Kept, Lags, Rests}
+use Rattle.board_run.specs.Legs.{Kept, Lags, Rests, kept_of}
 use Rattle.board_run.proofs.NextLemmas.{lags_late}
 use Rattle.board_run.proofs.AloneLemmas.{alone_goes}
 use Rattle.board_run.proofs.StretchLemmas.{rests_to}
@@ -10,7 +10,7 @@ use Rattle.board_run.proofs.still.rest.Goals as goal
 pub find_alone-requires-clause-late : goal.find_alone-requires-clause-late
 find_alone-requires-clause-late g c =
     let p = g.P.Part in
-    lags_late p.machine c.args.wiring.now p.state p.now p.wake_count c.args.t c.args.parts.now (record { input = c.args.next.input; stale = c.args.next.stale; dues = c.args.dues.now; seen = c.args.reading.now; answers = c.args.answers.now }) c.requires.lags
+    lags_late p.machine c.args.wiring.now p.state p.now p.wake_count c.args.t c.args.parts.now (kept_of c.args.next c.args.dues.now c.args.reading.now c.args.answers.now) c.requires.lags
 
 pub stretch-requires-clause-end : goal.stretch-requires-clause-end
 stretch-requires-clause-end g c =
@@ -44,7 +44,7 @@ next_cycle-u-requires-clause-late g c =
     let p = g.P.Part in
     let a = c.args in
     subst (λ (ds : List (Option ℕ)). AreLate ds a.t) (sym c.find_alone.ensures.same)
-    (lags_late p.machine a.wiring.now p.state p.now p.wake_count a.t a.parts.now (record { input = a.next.input; stale = a.next.stale; dues = a.dues.now; seen = a.reading.now; answers = a.answers.now }) c.requires.lags)
+    (lags_late p.machine a.wiring.now p.state p.now p.wake_count a.t a.parts.now (kept_of a.next a.dues.now a.reading.now a.answers.now) c.requires.lags)
 
 pub returns-in-Some-stretch : goal.returns-in-Some-stretch
 returns-in-Some-stretch g c =
@@ -57,7 +57,7 @@ returns-in-Some-stretch g c =
     let changed = c.in-Some-stretch.changed in
     let s = c.in-Some-stretch.ensures in
     let went = s.went (changed, u) refl in
-    let kept : Kept = record { input = a.next.input; stale = a.next.stale; dues = a.dues.now; seen = a.reading.now; answers = a.answers.now } in
+    let kept : Kept = kept_of a.next a.dues.now a.reading.now a.answers.now in
     let goes = alone_goes p.machine g.met.P.Part.laws a.wiring.now p.state p.now p.wake_count a.inputs.now a.t u x.1 a.n a.parts.now new.parts kept c.find_alone.new.dues new.dues changed a.steps.now new.steps x.0 went.0 went.1 went.2 new.reading
     c.find_alone.ensures.same c.stretch.ensures.rest c.stretch.ensures.told c.requires.lags (found.fresh x refl) (found.after x refl) c.requires.behind (s.within (changed, u) refl) (found.within x refl) c.requires.end (found.alone x refl) went.3 in
     goes.rests
@@ -68,7 +68,7 @@ returns-in-None g c =
     let a = c.args in
     let nc = c.next_cycle-u.ensures in
     let u = c.next_cycle-u.result in
-    let kept = λ (ds : List (Option ℕ)). let k : Kept = record { input = a.next.input; stale = a.next.stale; dues = ds; seen = a.reading.now; answers = a.answers.now } in k in
+    let kept = λ (ds : List (Option ℕ)). let k : Kept = kept_of a.next ds a.reading.now a.answers.now in k in
     let lags = subst (λ (ds : List (Option ℕ)). Lags p.machine a.wiring.now p.state p.now p.wake_count a.t a.parts.now (kept ds)) (sym c.find_alone.ensures.same) c.requires.lags in
     subst (λ (ds : List (Option ℕ)). Rests p.machine a.wiring.now p.state p.now p.wake_count a.inputs.now a.t u a.n a.parts.now a.parts.now (kept ds) (kept c.find_alone.new.dues) a.steps.now a.steps.now) c.find_alone.ensures.same
     (rests_to p.machine g.met.P.Part.laws a.wiring.now p.state p.now p.wake_count a.inputs.now a.t u a.n a.parts.now (kept c.find_alone.new.dues) a.steps.now

@@ -1,5 +1,5 @@
 use Rattle.std.proofs.Common.{arith}
-use Rattle.board_run.specs.Legs.{Kept}
+use Rattle.board_run.specs.Legs.{Kept, kept_of}
 use Rattle.board_run.proofs.LegLemmas.{may_settle, now_settled, settled_lags, settled_leg}
 use Rattle.board_run.proofs.still.stay.Goals as goal
 
@@ -8,7 +8,7 @@ settle_all-requires-clause-later g c = λ k z ez.
     let p = g.P.Part in
     let r = c.rest-after.new in
     let x = c.rest-after.result in
-    let kept : Kept = record { input = x.0.input; stale = x.0.stale; dues = r.dues; seen = r.reading; answers = c.args.answers.now } in
+    let kept : Kept = kept_of x.0 r.dues r.reading c.args.answers.now in
     (may_settle p.machine g.met.P.Part.laws c.args.wiring.now p.state p.now p.wake_count c.args.inputs.now x.1 r.parts kept c.rest-after.ensures.lags k z ez).0
 
 pub settle_all-requires-clause-quiet : goal.settle_all-requires-clause-quiet
@@ -16,7 +16,7 @@ settle_all-requires-clause-quiet g c = λ k z ez.
     let p = g.P.Part in
     let r = c.rest-after.new in
     let x = c.rest-after.result in
-    let kept : Kept = record { input = x.0.input; stale = x.0.stale; dues = r.dues; seen = r.reading; answers = c.args.answers.now } in
+    let kept : Kept = kept_of x.0 r.dues r.reading c.args.answers.now in
     (may_settle p.machine g.met.P.Part.laws c.args.wiring.now p.state p.now p.wake_count c.args.inputs.now x.1 r.parts kept c.rest-after.ensures.lags k z ez).1
 
 pub settle_all-requires-clause-end : goal.settle_all-requires-clause-end
@@ -40,7 +40,7 @@ returns g c =
     let r = c.rest-after.new in
     let x = c.rest-after.result in
     let s = c.settle_all in
-    let kept : Kept = record { input = x.0.input; stale = x.0.stale; dues = r.dues; seen = r.reading; answers = a.answers.now } in
+    let kept : Kept = kept_of x.0 r.dues r.reading a.answers.now in
     record {
       at = now_settled m laws w p.state p.now p.wake_count inputs x.1 r.parts s.new.parts s.auto.parts s.ensures.settled;
       rests = record {

@@ -36,7 +36,7 @@ loop-marked-init g c =
       turns = λ given inputs differ old ts answers changed begun turns.
           let passed = begun_pass m g.met.P.Part.laws w given inputs p.state p.now p.wake_count ls c.args.marked differ c.args.silent t old ts c.requires.end c.args.from j parts answers changed begun e.from inside c.requires.few
           (λ k x l h ex. let d = some_there c.args.dues.now k (omega (arith, h, inside, c.requires.dues)) in
-          (e.passed k l h, d.0, c.requires.may k x d.0 l ex d.1, λ same. c.requires.passed k (omega (arith, h, e.within)) (d.1 ∙ ap Some same))) turns in (
+          (e.passed k l h, d.0, c.requires.may k l x d.0 ex d.1, λ same. c.requires.passed k (omega (arith, h, e.within)) (d.1 ∙ ap Some same))) turns in (
             passed.0,
             subst (λ (b : Bool). Turns m w inputs p.state p.now p.wake_count ls t ts j old parts answers b) (sym (or_false changed)) passed.1,
             ap (λ (n : ℕ). c.args.steps.now + n) (sym passed.2),
@@ -46,7 +46,7 @@ loop-marked-init g c =
 pub hear_part-requires-clause-may : goal.hear_part-requires-clause-may
 hear_part-requires-clause-may g c = λ x d ex ed.
     let inv = c.loop-marked.invariant in
-    c.requires.may c.loop-marked.i x d inv.from (sym (inv.rest c.loop-marked.i (omega arith)) ∙ ex) ed
+    c.requires.may c.loop-marked.i inv.from x d (sym (inv.rest c.loop-marked.i (omega arith)) ∙ ex) ed
 
 pub loop-marked-preserved : goal.loop-marked-preserved
 loop-marked-preserved g c =
@@ -65,7 +65,7 @@ loop-marked-preserved g c =
     let dues_is : slice_get c.args.dues.now i ≡ Some None = e.asked moved c.in-Some.is in
     let within : i < length parts = omega (arith, c.if-i-least.true, c.requires.within, inv.long) in
     let x = some_there parts i within in
-    let may = c.requires.may i x.0 None inv.from (sym (inv.rest i (omega arith)) ∙ x.1) dues_is in
+    let may = c.requires.may i inv.from x.0 None (sym (inv.rest i (omega arith)) ∙ x.1) dues_is in
     let j = c.next-i-in-loop-marked.result in
     let n = c.next-i-in-loop-marked.ensures in
     let new_long : length c.hear_part.new.parts ≡ length c.args.parts.now = ap length part.1 ∙ length-set parts i y ∙ inv.long in
@@ -99,7 +99,7 @@ loop-marked-preserved g c =
           let passed = begun_pass m g.met.P.Part.laws w given inputs p.state p.now p.wake_count ls c.args.marked differ c.args.silent t old ts c.requires.end (i + 1) j c.hear_part.new.parts answers _ begun_one n.from inside
           (omega (arith, new_long, c.requires.few))
           (λ k z l h ez. let d = some_there c.args.dues.now k (omega (arith, h, inside, c.requires.dues, new_long)) in
-          (n.passed k l h, d.0, c.requires.may k z d.0 (omega (arith, l, inv.from)) (sym (rest k l) ∙ ez) d.1, λ due. c.requires.passed k (omega (arith, h, n.within)) (d.1 ∙ ap Some due))) turns_one in
+          (n.passed k l h, d.0, c.requires.may k (omega (arith, l, inv.from)) z d.0 (sym (rest k l) ∙ ez) d.1, λ due. c.requires.passed k (omega (arith, h, n.within)) (d.1 ∙ ap Some due))) turns_one in
           let step = e.steps moved c.in-Some.is in (
             passed.0,
             subst (λ (b : Bool). Turns m w inputs p.state p.now p.wake_count ls t ts j old c.hear_part.new.parts answers b) (or_assoc changed c.loop-marked.changed moved) passed.1,

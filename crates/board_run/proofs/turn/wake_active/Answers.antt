@@ -20,7 +20,7 @@ first_at-least-requires-clause-late g c =
     dues_late p.machine p.state p.now p.wake_count c.args.t c.args.parts.now c.args.dues.now c.requires.dues c.requires.may
 
 pub hear_all-i-requires-clause-may : goal.hear_all-i-requires-clause-may
-hear_all-i-requires-clause-may g c = λ k x d l ex ed. c.requires.may k x d ex ed
+hear_all-i-requires-clause-may g c = λ k l. c.requires.may k
 
 pub loop-i-init : goal.loop-i-init
 loop-i-init g c =
@@ -105,7 +105,7 @@ hear_all-to-requires-clause-due g c =
     (due_set p.machine p.state p.now p.wake_count c.loop-i.parts c.loop-i.dues i y _ within here inv.due (e.due.2 y new_is)))
 
 pub hear_all-to-requires-clause-may : goal.hear_all-to-requires-clause-may
-hear_all-to-requires-clause-may g c = λ k x d l ex ed.
+hear_all-to-requires-clause-may g c = λ k l x d ex ed.
     let inv = c.loop-i.invariant in
     let i = c.loop-i.i in
     let e = c.turn_part-byte.ensures in

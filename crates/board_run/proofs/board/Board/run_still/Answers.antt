@@ -5,7 +5,7 @@ use Rattle.board_laws.specs.Steady.{IsSteady}
 use Rattle.board_run.specs.BoardView.{BoardView}
 use Rattle.board_run.specs.Changes.{LastTells}
 use Rattle.board_run.specs.Upcoming.{AreBehind}
-use Rattle.board_run.specs.Legs.{Lags, AreAt}
+use Rattle.board_run.specs.Legs.{Lags, AreAt, kept_of}
 use Rattle.board_run.specs.Seen.{shown_at}
 use Rattle.board_run.proofs.LegLemmas.{at_here}
 use Rattle.board_run.proofs.ViewLemmas.{Went, went_to}
@@ -25,7 +25,7 @@ stay-after-requires-clause-lags g c =
     let m = p.machine in
     let i = c.self.inside in
     let alive = ap (λ (v : BoardView g.row.P.Denot). v.given_up) c.self.view_is ∙ c.requires.alive in
-    let lags = λ (xs : List g.row.P.Denot) (answers : List (Option ℕ)). Lags m i.wiring p.state p.now p.wake_count i.cycle xs (record { input = i.next.input; stale = i.next.stale; dues = i.dues; seen = i.reading; answers = answers }) in
+    let lags = λ (xs : List g.row.P.Denot) (answers : List (Option ℕ)). Lags m i.wiring p.state p.now p.wake_count i.cycle xs (kept_of i.next i.dues i.reading answers) in
     subst (λ (a : List (Option ℕ)). lags c.as_mut_slice.result.now a) (sym c.as_slice-2.ensures.value)
     (subst (λ (xs : List g.row.P.Denot). lags xs i.answers.items) (sym c.as_mut_slice.ensures.value) (c.self.invariant.lags alive))
 
@@ -38,7 +38,7 @@ invariant_of-self g c =
     let e = r.ensures in
     let parts = lent_whole (length i.parts) i.parts r.new.parts refl (r.auto.parts ∙ ap length c.as_mut_slice.ensures.value) in
     let ps = take (length i.parts) (r.new.parts ++ drop (length r.new.parts) i.parts) in
-    let lags = λ (xs : List g.row.P.Denot) (answers : List (Option ℕ)). Lags p.machine i.wiring p.state p.now p.wake_count x.1 xs (record { input = x.0.input; stale = x.0.stale; dues = r.new.dues; seen = r.new.reading; answers = answers }) in
+    let lags = λ (xs : List g.row.P.Denot) (answers : List (Option ℕ)). Lags p.machine i.wiring p.state p.now p.wake_count x.1 xs (kept_of x.0 r.new.dues r.new.reading answers) in
     record {
       at = λ _. subst (λ (xs : List g.row.P.Denot). AreAt p.now x.1 xs) (sym parts) e.at;
       lags = λ _. subst (λ (a : List (Option ℕ)). lags ps a) c.as_slice-2.ensures.value (subst (λ (xs : List g.row.P.Denot). lags xs c.as_slice-2.result.now) (sym parts) e.rests.lags);
