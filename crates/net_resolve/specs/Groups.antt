@@ -2,7 +2,8 @@
 use Rattle.std.specs.Prelude.{◌≡◌, ℕ, ◌<◌, List, length, Bool, slice_get, Some}
 use Rattle.board_model.specs.Resolve.{contact_joins}
 use Rattle.union_find.specs.Forest.{AreClasses}
+use Rattle.net_resolve.specs.Pairs.{ArePairs}
 
 pub record AreGroups (contacts : List (ℕ × ℕ)) (closed : List Bool) (groups : List ℕ) : Type 0 where
-  pub contacts_within : (k : ℕ) (c : ℕ × ℕ) → slice_get contacts k ≡ Some c → (c.0 < length groups) × (c.1 < length groups)
+  pub contacts_within : ArePairs (length groups) contacts
   pub classes : AreClasses (contact_joins contacts closed) groups

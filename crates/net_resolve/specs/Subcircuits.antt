@@ -7,6 +7,7 @@ use Rattle.board_model.specs.Resolve.{level_of}
 use Rattle.sim_base.specs.declared.wiring.Wiring.{Wiring}
 use Rattle.net_resolve.specs.Wired.{Wired}
 use Rattle.net_resolve.specs.Marked.{has}
+use Rattle.net_resolve.specs.Pairs.{ArePairs}
 
 -- no place of a list has n
 abbrev pub Lacks : List ℕ → ℕ → Type 0
@@ -44,8 +45,8 @@ pub record IsCut (w : Wired) (labels : List ℕ) : Type 0 where
   pub long : length labels ≡ w.nets
   pub below : (n : ℕ) → slice_index labels n ≤ n
   pub pins_within : (k n : ℕ) → slice_get w.net_of k ≡ Some n → n < w.nets
-  pub contacts_within : (k : ℕ) (c : ℕ × ℕ) → slice_get w.contacts k ≡ Some c → (c.0 < w.nets) × (c.1 < w.nets)
-  pub resistors_within : (k : ℕ) (r : ℕ × ℕ) → slice_get w.resistors k ≡ Some r → (r.0 < w.nets) × (r.1 < w.nets)
+  pub contacts_within : ArePairs w.nets w.contacts
+  pub resistors_within : ArePairs w.nets w.resistors
   pub contacts_joined : (k : ℕ) (c : ℕ × ℕ) → slice_get w.contacts k ≡ Some c → slice_index labels c.0 ≡ slice_index labels c.1
   pub resistors_joined : (k : ℕ) (r : ℕ × ℕ) → slice_get w.resistors k ≡ Some r → slice_index labels r.0 ≡ slice_index labels r.1
 

@@ -4,6 +4,7 @@ ghost use Rattle.board_model.specs.Fits.{IsWiring};
 ghost use Rattle.union_find.specs.Forest.{AreLabels};
 ghost use Rattle.net_resolve.specs.Subcircuits.{IsCut, IsSubcircuit, AreSubcircuits, AreOnce, picked, labels_of, circuit_of};
 ghost use Rattle.net_resolve.specs.Sorted.{ArePicked, IsSorted};
+ghost use Rattle.net_resolve.specs.Pairs.{ArePairs};
 
 use crate::room::zeros;
 use crate::subcircuit::Subcircuit;
@@ -26,8 +27,8 @@ pub(crate) struct Sorted {
 /// Labels each net; those that a contact or a resistor joins get the same label.
 fn label_nets(contacts: &[(u16, u16)], resistors: &[(u16, u16)], labels: &mut [u16])
     requires few { length labels.old ≤ 65536 }
-    requires contacts { (k : ℕ) (c : ℕ × ℕ) → slice_get contacts.now k ≡ Some c → (c.0 < length labels.old) × (c.1 < length labels.old) }
-    requires resistors { (k : ℕ) (r : ℕ × ℕ) → slice_get resistors.now k ≡ Some r → (r.0 < length labels.old) × (r.1 < length labels.old) }
+    requires contacts { ArePairs (length labels.old) contacts.now }
+    requires resistors { ArePairs (length labels.old) resistors.now }
     ensures labels { AreLabels labels.new }
     ensures contacts { (k : ℕ) (c : ℕ × ℕ) → slice_get contacts.now k ≡ Some c → slice_index labels.new c.0 ≡ slice_index labels.new c.1 }
     ensures resistors { (k : ℕ) (r : ℕ × ℕ) → slice_get resistors.now k ≡ Some r → slice_index labels.new r.0 ≡ slice_index labels.new r.1 }
@@ -91,7 +92,7 @@ fn pin_labels(alloc: Global, labels: &[u16], net_of: &[u16]) -> Result<Vec<u16>,
 
 /// The label of each pair's first net.
 fn pair_labels(alloc: Global, labels: &[u16], pairs: &[(u16, u16)]) -> Result<Vec<u16>, AllocError>
-    requires { (k : ℕ) (c : ℕ × ℕ) → slice_get pairs.now k ≡ Some c → (c.0 < length labels.now) × (c.1 < length labels.now) }
+    requires { ArePairs (length labels.now) pairs.now }
     ensures { IfOk result (λ v. v.items ≡ labels_of labels.now pairs.now) }
 {
     let mut keys = Vec::new(alloc);
@@ -124,7 +125,7 @@ fn sort_pairs(
 ) -> Result<List<List<usize>>, OutOfMemory>
     requires labels { (n : ℕ) → slice_index labels.now n ≤ n }
     requires long { length labels.now ≡ count }
-    requires pairs { (k : ℕ) (c : ℕ × ℕ) → slice_get pairs.now k ≡ Some c → (c.0 < count) × (c.1 < count) }
+    requires pairs { ArePairs count pairs.now }
     ensures { IfOk result (λ ls. ArePicked count (labels_of labels.now pairs.now) ls) }
 {
     let keys = pair_labels(alloc, labels, pairs)?;
@@ -203,7 +204,7 @@ fn own_pairs(
     numbers: &[u16],
 ) -> Result<Vec<(u16, u16)>, AllocError>
     requires places { (j k : ℕ) → slice_get places.now j ≡ Some k → k < length pairs.now }
-    requires nets { (k : ℕ) (c : ℕ × ℕ) → slice_get pairs.now k ≡ Some c → (c.0 < length numbers.now) × (c.1 < length numbers.now) }
+    requires nets { ArePairs (length numbers.now) pairs.now }
     ensures { IfOk result (λ v. v.items ≡ map (λ k. (slice_index numbers.now (slice_index_or pairs.now k (0, 0)).0, slice_index numbers.now (slice_index_or pairs.now k (0, 0)).1)) places.now) }
 {
     let mut own = Vec::new(alloc);

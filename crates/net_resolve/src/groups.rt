@@ -1,6 +1,7 @@
 //! Loose nets, and which of them resistors connect.
 ghost use Rattle.std.specs.Prelude.{◌≡◌, ◌≢◌, ℕ, ◌<◌, ◌&&◌, List, length, map, Some, true, false, slice_get, slice_index};
 ghost use Rattle.net_resolve.specs.Sums.{is_loose};
+ghost use Rattle.net_resolve.specs.Pairs.{ArePairs};
 
 use crate::sums::is_level_z;
 use sim_base::Level;
@@ -21,7 +22,7 @@ pub(crate) fn put_bridges(
     strong: &[Level],
     bridges: &mut [bool],
 ) -> bool
-    requires resistors { (k : ℕ) (r : ℕ × ℕ) → slice_get resistors.now k ≡ Some r → (r.0 < length groups.now) × (r.1 < length groups.now) }
+    requires resistors { ArePairs (length groups.now) resistors.now }
     requires groups { (n : ℕ) → n < length groups.now → slice_index groups.now n < length strong.now }
     requires bridges { length bridges.old ≡ length resistors.now }
     ensures bridges { bridges.new ≡ map (λ r. is_loose groups.now strong.now r.0 && is_loose groups.now strong.now r.1) resistors.now }

@@ -7,6 +7,7 @@ ghost use Rattle.sim_base.specs.declared.signal.Level.{Level};
 ghost use Rattle.union_find.specs.Forest.{AreLabels, Joins};
 ghost use Rattle.net_resolve.specs.Groups.{AreGroups};
 ghost use Rattle.net_resolve.specs.Sums.{sum_at, added, strong_level, weak_level, is_loose, resistors_add};
+ghost use Rattle.net_resolve.specs.Pairs.{ArePairs};
 
 use crate::groups::put_bridges;
 use crate::sums::{add_resistors, add_strong, add_weak, put_levels, put_strong};
@@ -24,7 +25,7 @@ fn clear(sums: &mut [Level])
 
 /// Groups the nets over the contacts that are closed.
 pub(crate) fn group_nets(contacts: &[(u16, u16)], closed: &[bool], groups: &mut [u16])
-    requires contacts { (k : ℕ) (c : ℕ × ℕ) → slice_get contacts.now k ≡ Some c → (c.0 < length groups.old) × (c.1 < length groups.old) }
+    requires contacts { ArePairs (length groups.old) contacts.now }
     requires closed { length closed.now ≡ length contacts.now }
     requires few { length groups.old ≤ 65536 }
     ensures { AreGroups contacts.now closed.now groups.new }
@@ -51,7 +52,7 @@ fn find_areas(
     bridges: &mut [bool],
     areas: &mut [u16],
 )
-    requires resistors { (k : ℕ) (r : ℕ × ℕ) → slice_get resistors.now k ≡ Some r → (r.0 < length groups.now) × (r.1 < length groups.now) }
+    requires resistors { ArePairs (length groups.now) resistors.now }
     requires groups { (n : ℕ) → n < length groups.now → slice_index groups.now n < length strong.now }
     requires labels { AreLabels groups.now }
     requires bridges { length bridges.old ≡ length resistors.now }
@@ -77,7 +78,7 @@ fn sum_areas(
 )
     requires pins { length drives.now ≡ length net_of.now }
     requires nets { (k : ℕ) → k < length net_of.now → slice_index net_of.now k < length groups.now }
-    requires resistors { (k : ℕ) (r : ℕ × ℕ) → slice_get resistors.now k ≡ Some r → (r.0 < length groups.now) × (r.1 < length groups.now) }
+    requires resistors { ArePairs (length groups.now) resistors.now }
     requires groups { (n : ℕ) → n < length groups.now → slice_index groups.now n < length strong.now }
     requires places { length areas.now ≡ length groups.now }
     requires areas { (n : ℕ) → n < length areas.now → slice_index areas.now n < length sums.old }
@@ -104,7 +105,7 @@ pub(crate) fn resolve_groups(
 )
     requires pins { length drives.now ≡ length net_of.now }
     requires nets { (k n : ℕ) → slice_get net_of.now k ≡ Some n → n < length groups.now }
-    requires resistors { (k : ℕ) (r : ℕ × ℕ) → slice_get resistors.now k ≡ Some r → (r.0 < length groups.now) × (r.1 < length groups.now) }
+    requires resistors { ArePairs (length groups.now) resistors.now }
     requires labels { AreLabels groups.now }
     requires strong { length strong.old ≡ length groups.now }
     requires bridges { length bridges.old ≡ length resistors.now }

@@ -9,6 +9,7 @@ ghost use Rattle.net_resolve.specs.Marked.{has, Noted};
 ghost use Rattle.net_resolve.specs.Sorted.{IsSorted};
 ghost use Rattle.net_resolve.specs.Wired.{Wired};
 ghost use Rattle.net_resolve.specs.Subcircuits.{SubcircuitView, IsCut, AreSubcircuits, AreApart, AreRight, FitsIn, HasAllPins, circuit_of};
+ghost use Rattle.net_resolve.specs.Pairs.{ArePairs};
 
 use crate::cut::{Sorted, cut_all, sort};
 use crate::marks::{Marks, Numbers};
@@ -110,7 +111,7 @@ fn keep_closed(
 )
     requires contact { contact < length kept.old }
     requires contacts { length kept.old ≡ length contacts.now }
-    requires nets { (k : ℕ) (c : ℕ × ℕ) → slice_get contacts.now k ≡ Some c → (c.0 < length labels.now) × (c.1 < length labels.now) }
+    requires nets { ArePairs (length labels.now) contacts.now }
     requires labels { (n : ℕ) → n < length labels.now → slice_index labels.now n < marks.old.room }
     ensures kept { kept.new ≡ slice_set kept.old contact closed }
     ensures room { marks.new.room ≡ marks.old.room }

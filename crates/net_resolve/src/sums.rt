@@ -4,6 +4,7 @@ ghost use Rattle.std.specs.List.{zip};
 ghost use Rattle.board_model.specs.Resolve.{level_of_values};
 ghost use Rattle.board_model.specs.Walks.{below};
 ghost use Rattle.net_resolve.specs.Sums.{has_high, has_low, is_z, together, strong_level, weak_level, sum_at, added, is_loose, own_level, over_adds, resistors_add, level_here};
+ghost use Rattle.net_resolve.specs.Pairs.{ArePairs};
 
 use crate::groups::is_net_loose;
 use sim_base::{Drive, Level};
@@ -177,7 +178,7 @@ pub(crate) fn add_resistors(
     areas: &[u16],
     sums: &mut [Level],
 )
-    requires resistors { (k : ℕ) (r : ℕ × ℕ) → slice_get resistors.now k ≡ Some r → (r.0 < length groups.now) × (r.1 < length groups.now) }
+    requires resistors { ArePairs (length groups.now) resistors.now }
     requires groups { (n : ℕ) → n < length groups.now → slice_index groups.now n < length strong.now }
     requires places { length areas.now ≡ length groups.now }
     requires areas { (n : ℕ) → n < length areas.now → slice_index areas.now n < length sums.old }

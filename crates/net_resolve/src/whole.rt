@@ -3,6 +3,7 @@ ghost use Rattle.std.specs.Prelude.{◌≡◌, ℕ, ◌<◌, ◌≤◌, List, le
 ghost use Rattle.board_model.specs.Resolve.{resolve};
 ghost use Rattle.net_resolve.specs.Wired.{Wired};
 ghost use Rattle.net_resolve.specs.Groups.{AreGroups};
+ghost use Rattle.net_resolve.specs.Pairs.{ArePairs};
 
 use crate::levels::{group_nets, resolve_groups};
 use crate::room::{all_z, no_flags, zeros};
@@ -33,6 +34,7 @@ pub(crate) struct Whole {
 
 impl Model for Whole {
     ghost use Rattle.std.specs.Prelude.{◌≡◌, ℕ, ◌<◌, ◌≤◌, length, Some, slice_get, vec_len};
+    ghost use Rattle.net_resolve.specs.Pairs.{ArePairs};
     ghost use Rattle.net_resolve.specs.Wired.{Wired};
     ghost use Rattle.net_resolve.specs.Groups.{AreGroups};
 
@@ -43,8 +45,8 @@ impl Model for Whole {
     ghost invariant = { λ a. record {
       few : vec_len a.groups ≤ 65536;
       pins_within : (k n : ℕ) → slice_get a.net_of.items k ≡ Some n → n < vec_len a.groups;
-      contacts_within : (k : ℕ) (c : ℕ × ℕ) → slice_get a.contacts.items k ≡ Some c → (c.0 < vec_len a.groups) × (c.1 < vec_len a.groups);
-      resistors_within : (k : ℕ) (r : ℕ × ℕ) → slice_get a.resistors.items k ≡ Some r → (r.0 < vec_len a.groups) × (r.1 < vec_len a.groups);
+      contacts_within : ArePairs (vec_len a.groups) a.contacts.items;
+      resistors_within : ArePairs (vec_len a.groups) a.resistors.items;
       grouped : AreGroups a.contacts.items a.closed.items a.groups.items;
       closed_long : vec_len a.closed ≡ vec_len a.contacts;
       strong_long : vec_len a.strong ≡ vec_len a.groups;
@@ -62,7 +64,7 @@ fn first_groups(
     closed: &[bool],
     count: usize,
 ) -> Result<Vec<u16>, AllocError>
-    requires contacts { (k : ℕ) (c : ℕ × ℕ) → slice_get contacts.now k ≡ Some c → (c.0 < count) × (c.1 < count) }
+    requires contacts { ArePairs count contacts.now }
     requires closed { length closed.now ≡ length contacts.now }
     requires few { count ≤ 65536 }
     ensures grouped { IfOk result (λ v. AreGroups contacts.now closed.now v.items) }
@@ -80,7 +82,7 @@ fn first_choices(
     resistors: &[(u16, u16)],
     count: usize,
 ) -> Result<(Vec<bool>, Vec<u16>, Vec<bool>), AllocError>
-    requires contacts { (k : ℕ) (c : ℕ × ℕ) → slice_get contacts.now k ≡ Some c → (c.0 < count) × (c.1 < count) }
+    requires contacts { ArePairs count contacts.now }
     requires few { count ≤ 65536 }
     ensures closed { IfOk result (λ v. vec_len v.0 ≡ length contacts.now) }
     ensures grouped { IfOk result (λ v. AreGroups contacts.now v.0.items v.1.items) }
@@ -113,7 +115,7 @@ fn first_levels(
 
 /// Groups the nets again where other contacts are closed than before.
 fn regroup(contacts: &[(u16, u16)], closed: &[bool], kept: &mut [bool], groups: &mut [u16])
-    requires contacts { (k : ℕ) (c : ℕ × ℕ) → slice_get contacts.now k ≡ Some c → (c.0 < length groups.old) × (c.1 < length groups.old) }
+    requires contacts { ArePairs (length groups.old) contacts.now }
     requires closed { length closed.now ≡ length contacts.now }
     requires kept { length kept.old ≡ length contacts.now }
     requires few { length groups.old ≤ 65536 }
@@ -138,8 +140,8 @@ impl Whole {
     ) -> Result<Whole, OutOfMemory>
         requires few { count ≤ 65536 }
         requires pins { (k n : ℕ) → slice_get net_of.items k ≡ Some n → n < count }
-        requires contacts { (k : ℕ) (c : ℕ × ℕ) → slice_get contacts.items k ≡ Some c → (c.0 < count) × (c.1 < count) }
-        requires resistors { (k : ℕ) (r : ℕ × ℕ) → slice_get resistors.items k ≡ Some r → (r.0 < count) × (r.1 < count) }
+        requires contacts { ArePairs count contacts.items }
+        requires resistors { ArePairs count resistors.items }
         ensures { IfOk result (λ n. n ≡ record { nets = count; net_of = net_of.items; contacts = contacts.items; resistors = resistors.items; levels = replicate count Level.Z }) }
     {
         let (closed, groups, bridges) = first_choices(alloc, &contacts, &resistors, count)?;

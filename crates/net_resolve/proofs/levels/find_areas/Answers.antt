@@ -1,10 +1,14 @@
-use Rattle.std.proofs.Common.{sym, subst, map, ℕ, List, Bool}
+use Rattle.std.proofs.Common.{sym, subst, length, map, ℕ, List, Bool}
 use Rattle.std.specs.Prelude.{◌&&◌}
 use Rattle.board_model.specs.Resolve.{contact_joins}
 use Rattle.union_find.specs.Forest.{Joins}
 use Rattle.net_resolve.specs.Sums.{is_loose}
+use Rattle.net_resolve.specs.Pairs.{ArePairs}
 use Rattle.net_resolve.proofs.AreaLemmas.{joins_unchosen}
 use Rattle.net_resolve.proofs.levels.find_areas.Goals as goal
+
+pub join_chosen-requires-clause-pairs : goal.join_chosen-requires-clause-pairs
+join_chosen-requires-clause-pairs c = subst (λ (l : List ℕ). ArePairs (length l) c.args.resistors.now) (sym c.copy_from_slice.ensures.after) c.requires.resistors
 
 pub returns-else-put_bridges-clause-joins : goal.returns-else-put_bridges-clause-joins
 returns-else-put_bridges-clause-joins c =

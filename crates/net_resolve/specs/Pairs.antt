@@ -1,0 +1,6 @@
+-- Contacts and resistors, each by the numbers of the two nets that it is between.
+use Rattle.std.specs.Prelude.{◌≡◌, ℕ, ◌<◌, List, Some, slice_get}
+
+-- all these numbers are below n
+abbrev pub ArePairs : ℕ → List (ℕ × ℕ) → Type 0
+ArePairs n pairs = (k : ℕ) (c : ℕ × ℕ) → slice_get pairs k ≡ Some c → (c.0 < n) × (c.1 < n)
