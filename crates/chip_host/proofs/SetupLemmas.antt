@@ -17,6 +17,7 @@ use Rattle.wasm_exec.proofs.ValidLemmas.{Keeps, keeps_of, kept, function_import}
 use Rattle.chip_abi.specs.HostNames.{type_of_name}
 use Rattle.chip_abi.specs.Imports.{imports_of}
 use Rattle.chip_abi.proofs.ImportLemmas.{known_imports}
+use Rattle.chip_host.specs.Hosts.{AreHosts}
 use Rattle.chip_host.specs.Inventory.{Given, Moment}
 
 -- a function of a valid module has a type
@@ -92,7 +93,7 @@ init_all m init f e q = subst (Takes m) (sym q) (init_typed m init e)
 
 -- the types of the functions that a host has are those that a module with known imports asks for
 pub hosts_known : (m n : Module) (given : Given) (moment : Moment) → imports_of m ≡ Ok given.table → n ≡ m → moment.given ≡ given →
-    map {B = Option FuncType} (λ t. Some t) (map type_of_name moment.given.table) ≡ map (slice_get n.types) (imported_functions n.imports)
+    AreHosts moment.given.table n
 hosts_known m n given moment known is at =
     let functions = (known_imports m given.table known).functions in
     rw (is, at) functions

@@ -1,3 +1,4 @@
+pub mod Hosts
 pub mod Inventory
 pub mod Attributes
 pub mod HostCall

@@ -1,10 +1,10 @@
 //! Calls into a chip's module.
 ghost use Rattle.std.specs.Prelude.{◌≡◌, List, [], true, false, None, Some, IfSome, map, slice_get};
 ghost use Rattle.std.specs.Option.{option_to_list};
-ghost use Rattle.wasm_validate.specs.Rules.{imported_functions, type_of};
+ghost use Rattle.wasm_validate.specs.Rules.{type_of};
 ghost use Rattle.wasm_code.specs.declared.types.FuncType.{FuncType};
 ghost use Rattle.wasm_eval.specs.Values.{HasTypes};
-ghost use Rattle.chip_abi.specs.HostNames.{type_of_name};
+ghost use Rattle.chip_host.specs.Hosts.{AreHosts};
 ghost use Rattle.chip_host.specs.Chip.{chip_from, called, replied, value_of, set_up, started, then_set_up};
 
 use crate::death::Death;
@@ -21,7 +21,7 @@ pub(crate) fn call_slot(
     slot: u32,
     args: &[Value],
 ) -> Option<Death>
-    requires hosts { map (λ t. Some t) (map type_of_name host.old.moment.given.table) ≡ map (slice_get instance.old.wasm.types) (imported_functions instance.old.wasm.imports) }
+    requires hosts { AreHosts host.old.moment.given.table instance.old.wasm }
     requires set { host.old.moment.init ≡ false }
     ensures chip { chip_from instance.new host.new budget result ≡ called (chip_from instance.old host.old budget None) host.old.moment.now slot args.now }
     ensures wasm { instance.new.wasm ≡ instance.old.wasm }
@@ -56,7 +56,7 @@ pub(crate) fn ask_slot(
     args: &[Value],
     absent: u32,
 ) -> (Option<u32>, Option<Death>)
-    requires hosts { map (λ t. Some t) (map type_of_name host.old.moment.given.table) ≡ map (slice_get instance.old.wasm.types) (imported_functions instance.old.wasm.imports) }
+    requires hosts { AreHosts host.old.moment.given.table instance.old.wasm }
     requires set { host.old.moment.init ≡ false }
     ensures chip { chip_from instance.new host.new budget result.1 ≡ (replied (chip_from instance.old host.old budget None) host.old.moment.now slot args.now absent).0 }
     ensures answer { result.0 ≡ (replied (chip_from instance.old host.old budget None) host.old.moment.now slot args.now absent).1 }
@@ -75,7 +75,7 @@ pub(crate) fn ask_slot(
 
 /// A function without parameters, at time 0 while the chip is set up.
 fn set_up(instance: &mut Instance, host: &mut ChipHost, budget: u32, f: u32) -> Option<Death>
-    requires hosts { map (λ t. Some t) (map type_of_name host.old.moment.given.table) ≡ map (slice_get instance.old.wasm.types) (imported_functions instance.old.wasm.imports) }
+    requires hosts { AreHosts host.old.moment.given.table instance.old.wasm }
     requires set { host.old.moment.init ≡ true }
     requires zero { host.old.moment.now ≡ 0 }
     requires typed { (t : FuncType) × (type_of instance.old.wasm f ≡ Some t) × HasTypes [] t.params }
@@ -96,7 +96,7 @@ fn run_start(
     budget: u32,
     start: Option<u32>,
 ) -> Option<Death>
-    requires hosts { map (λ t. Some t) (map type_of_name host.old.moment.given.table) ≡ map (slice_get instance.old.wasm.types) (imported_functions instance.old.wasm.imports) }
+    requires hosts { AreHosts host.old.moment.given.table instance.old.wasm }
     requires set { host.old.moment.init ≡ true }
     requires zero { host.old.moment.now ≡ 0 }
     requires typed { IfSome start (λ f. (t : FuncType) × (type_of instance.old.wasm f ≡ Some t) × HasTypes [] t.params) }
@@ -118,7 +118,7 @@ pub(crate) fn run_both(
     start: Option<u32>,
     init: u32,
 ) -> Option<Death>
-    requires hosts { map (λ t. Some t) (map type_of_name host.old.moment.given.table) ≡ map (slice_get instance.old.wasm.types) (imported_functions instance.old.wasm.imports) }
+    requires hosts { AreHosts host.old.moment.given.table instance.old.wasm }
     requires set { host.old.moment.init ≡ true }
     requires zero { host.old.moment.now ≡ 0 }
     requires start { IfSome start (λ f. (t : FuncType) × (type_of instance.old.wasm f ≡ Some t) × HasTypes [] t.params) }

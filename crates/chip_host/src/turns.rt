@@ -1,7 +1,6 @@
 //! A chip that takes its turns.
 ghost use Rattle.std.specs.Option.{option_to_list};
 ghost use Rattle.std.specs.Prelude.{◌≡◌, ◌++◌, ◌<◌, ◌≤◌, ◌+◌, List, ℕ, true, false, None, Some, Ok, IfOk, length, slice_get};
-ghost use Rattle.chip_abi.specs.HostNames.{type_of_name};
 ghost use Rattle.chip_abi.specs.Imports.{imports_of};
 ghost use Rattle.chip_host.specs.Chip.{called, replied, is_live, timer_turn, watch_turn, watch_turns, takes_byte, takes_answer, byte_in, stored, serves, served, all_served, engine_turn, engines_last, seeing, timers_first, turned, chip_drive, start_state};
 ghost use Rattle.chip_host.specs.NextDue.{next_due};
@@ -39,8 +38,7 @@ pub(crate) struct Turns {
 
 impl Model for Turns {
     ghost use Rattle.std.specs.Prelude.{◌≡◌, ◌≤◌, Some, false, length, map, slice_get};
-    ghost use Rattle.wasm_validate.specs.Rules.{imported_functions};
-    ghost use Rattle.chip_abi.specs.HostNames.{type_of_name};
+    ghost use Rattle.chip_host.specs.Hosts.{AreHosts};
     ghost use Rattle.chip_host.specs.Chip.{ChipAt, chip_from};
     ghost use Rattle.sim_base.specs.declared.limits.TheConstants.{MOST_CYCLES};
 
@@ -49,7 +47,7 @@ impl Model for Turns {
     ghost view = { λ p. record { chip = chip_from p.instance p.host p.budget p.dead; cycle = p.host.moment.now; wakes = p.wakes; before = p.before.items } };
 
     ghost invariant = { λ p. record {
-      hosts : map (λ t. Some t) (map type_of_name p.host.moment.given.table) ≡ map (slice_get p.instance.wasm.types) (imported_functions p.instance.wasm.imports);
+      hosts : AreHosts p.host.moment.given.table p.instance.wasm;
       set : p.host.moment.init ≡ false;
       before : length p.before.items ≡ length p.host.moment.given.names;
       levels : length p.host.moment.levels ≡ length p.host.moment.given.names;
