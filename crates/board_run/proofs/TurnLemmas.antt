@@ -24,12 +24,12 @@ use Rattle.board_run.proofs.StepLemmas.{get_answer}
 use Rattle.board_run.proofs.WakeLemmas.{or_none}
 use Rattle.board_run.proofs.NextLemmas.{due_late}
 use Rattle.board_run.specs.declared.part_set.PartSet.{PartSet}
-use Rattle.board_run.specs.Parts.{has_part}
+use Rattle.board_run.specs.Parts.{has_part, AreNone}
 use Rattle.board_model.specs.Fits.{Fits}
 use Rattle.board_model.proofs.RoomLemmas.{SameRoom, fits_room}
 use Rattle.board_run.specs.Seen.{IsTold, levels_on}
 use Rattle.net_resolve.specs.Circuit.{Circuit}
-use Rattle.board_run.specs.Lagging.{is_at, to_wake, glided, AreLate, MayTurn, turned, Awaits, HadTurn, Turns, AreDue, Replaced, TookTurn, Begun}
+use Rattle.board_run.specs.Lagging.{is_at, to_wake, glided, AreLate, MayTurn, MayTurnAt, turned, Awaits, HadTurn, Turns, AreDue, Replaced, TookTurn}
 
 pub less_or : (j n : ℕ) → (j < n) ⊎ (n ≤ j)
 less_or j n = grind arith
@@ -394,21 +394,22 @@ dues_late m state now wakes t parts dues long may k u ed =
     due_late m state now wakes t u p.0 (may k p.0 (Some u) p.1 ed)
 
 -- where one part's due cycle was renewed, and comes later
-pub late_set : (dues : List (Option ℕ)) (i t : ℕ) (d : Option ℕ) → i < length dues → AreLate dues t → ((u : ℕ) → d ≡ Some u → t < u) → AreLate (slice_set dues i d) t
-late_set dues i t d within late later k u ed = elim (eqb_tells k i) [
+pub late_set : (dues new : List (Option ℕ)) (i t : ℕ) (d : Option ℕ) → i < length dues → new ≡ slice_set dues i d → AreLate dues t → ((u : ℕ) → d ≡ Some u → t < u) → AreLate new t
+late_set dues new i t d within new_is late later k u ed = elim (eqb_tells k i) [
   | inl same ↦
-      let l = later u (some_same (sym (get_set_same dues i d within) ∙ ap (slice_get (slice_set dues i d)) (sym same.1) ∙ ed)) in
+      let l = later u (some_same (sym (get_set_same dues i d within) ∙ ap (slice_get (slice_set dues i d)) (sym same.1) ∙ ap (λ (q : List (Option ℕ)). slice_get q k) (sym new_is) ∙ ed)) in
       omega (arith, l)
-  | inr other ↦ late k u (sym (get_set_other dues i k d other.1) ∙ ed)
+  | inr other ↦ late k u (sym (ap (λ (q : List (Option ℕ)). slice_get q k) new_is ∙ get_set_other dues i k d other.1) ∙ ed)
 ]
 
-pub passed_set : (dues : List (Option ℕ)) (i t : ℕ) (d : Option ℕ) → i < length dues → ((k : ℕ) → k < i → slice_get dues k ≢ Some (Some t)) → ((u : ℕ) → d ≡ Some u → t < u) →
-    (k : ℕ) → k < i + 1 → slice_get (slice_set dues i d) k ≢ Some (Some t)
-passed_set dues i t d within passed later k l e = elim (lt_or_eq k i l) [
-  | inl less ↦ passed k less (sym (get_set_other dues i k d (omega (arith, less))) ∙ e)
-  | inr same ↦
-      let h = later t (some_same (sym (get_set_same dues i d within) ∙ ap (slice_get (slice_set dues i d)) (sym same) ∙ e)) in
+-- no part is due that was not before, and that one is not either
+pub passed_set : (dues new : List (Option ℕ)) (i n t : ℕ) (d : Option ℕ) → i < length dues → new ≡ slice_set dues i d → ((k : ℕ) → k < n → slice_get dues k ≢ Some (Some t)) → ((u : ℕ) → d ≡ Some u → t < u) →
+    (k : ℕ) → (k ≢ i → k < n) → slice_get new k ≢ Some (Some t)
+passed_set dues new i n t d within new_is passed later k less e = elim (eqb_tells k i) [
+  | inl same ↦
+      let h = later t (some_same (sym (get_set_same dues i d within) ∙ ap (slice_get (slice_set dues i d)) (sym same.1) ∙ ap (λ (q : List (Option ℕ)). slice_get q k) (sym new_is) ∙ e)) in
       absurd (omega (arith, h))
+  | inr other ↦ passed k (less other.1) (sym (ap (λ (q : List (Option ℕ)). slice_get q k) new_is ∙ get_set_other dues i k d other.1) ∙ e)
 ]
 
 sum_none : (i n : ℕ) (f : ℕ → ℕ) → ((k : ℕ) → i ≤ k → k < i + n → f k ≡ 0) → sum_below (i + n) f ≡ sum_below i f
@@ -425,67 +426,78 @@ sum_skip i j f least none =
     let e : i + (j - i) ≡ j = omega arith in
     ap (λ (n : ℕ). sum_below n f) (sym e) ∙ sum_none i (j - i) f (λ k l h. none k l (omega (arith, h, e)))
 
-pub count_more : (i a b d : ℕ) (f : ℕ → ℕ) (one : ℕ) → b ≡ a + sum_below i f → d ≡ b + one → f i ≡ one → d ≡ a + sum_below (i + 1) f
-count_more i a b d f one h e g = rw add-one (omega (arith, h, e, g))
+-- Of some parts those before number i had their turn; the others are as they were, due when they were, and did not answer.
+pub record Begun {P : Type 0} (old : List P) (was : List (Option ℕ)) (i : ℕ) (parts : List P) (dues answers : List (Option ℕ)) : Type 0 where
+  pub long : length parts ≡ length old
+  pub rest : (k : ℕ) → i ≤ k → slice_get parts k ≡ slice_get old k
+  pub dues_long : length dues ≡ length was
+  pub due_rest : (k : ℕ) → i ≤ k → slice_get dues k ≡ slice_get was k
+  pub answers_long : length answers ≡ length old
+  pub quiet : (k : ℕ) (a : Option ℕ) → i ≤ k → slice_get answers k ≡ Some a → a ≡ None
 
--- Parts of which those before a number had their turn.
-module _ {S P : Type 0} (m : Machine S) (laws : Laws m) (w : Wiring) (given inputs : List Input) (state : P → S) (now wakes : P → ℕ) (ls : List Level) (marked differ : PartSet) (silent : Bool) (t : ℕ) (old : List P) (ts : List S)
-    (end : t < MOST_CYCLES) where
-  -- one more had its turn
-  pub begun_turn : (i : ℕ) (parts : List P) (answers : List (Option ℕ)) (changed moved : Bool) (x y : P) (d input byte : Option ℕ) (differs : Bool) → Begun m w state now given inputs ls marked differ silent t old ts i parts answers →
-      Turns m w inputs state now wakes ls t ts i old parts answers changed → slice_get parts i ≡ Some x → MayTurn m state now wakes t d x → input ≡ input_at given t i → differs ≡ has_part differ i →
-      TookTurn m w state now wakes ls t i input differs d x y byte moved →
-      Begun m w state now given inputs ls marked differ silent t old ts (i + 1) (slice_set parts i y) (slice_set answers i byte)
-      × Turns m w inputs state now wakes ls t ts (i + 1) old (slice_set parts i y) (slice_set answers i byte) (changed || moved)
-      × (sum_below (i + 1) (λ k. active_in m w inputs ls t k (slice_get ts k)) ≡ sum_below i (λ k. active_in m w inputs ls t k (slice_get ts k)) + (if to_wake d t input differs then 1 else 0))
-  begun_turn i parts answers changed moved x y d input byte differs begun turns ex may input_is differs_is took =
-      let within : i < length parts = slice_get_within parts i x ex in
-      let ep = sym (begun.rest i (omega arith)) ∙ ex in
-      let s = some_there ts i (omega (arith, begun.long, begun.awaits.stands.long, within)) in
-      let turn = subst (λ (o : Option ℕ). turned m state now wakes (to_wake d t o (has_part differ i)) t (levels_on m w ls i (state x)) o x y byte took.touched) input_is
-      (subst (λ (b : Bool). turned m state now wakes (to_wake d t input b) t (levels_on m w ls i (state x)) input x y byte took.touched) differs_is took.turn) in
-      let had = awaited_turn m laws w given inputs state now wakes ls differ t old ts end begun.awaits i x y s.0 d byte took.touched ep s.1 may turn in
-      let was = begun.awaits.stands.each i x s.0 ep s.1 in
-      let one : active_in m w inputs ls t i (slice_get ts i) ≡ (if to_wake d t input differs then 1 else 0) = ap (active_in m w inputs ls t i) s.1 ∙ had.1 ∙ ap (λ (o : Option ℕ). if to_wake d t o (has_part differ i) then 1 else 0) (sym input_is)
-      ∙ ap (λ (b : Bool). if to_wake d t input b then 1 else 0) (sym differs_is) in (
-        record {
-          awaits = begun.awaits;
-          marks = begun.marks;
-          nothing = begun.nothing;
-          long = length-set parts i y ∙ begun.long;
-          rest = λ k l. get_set_other parts i k y (omega (arith, l)) ∙ begun.rest k (omega (arith, l));
-          answers_long = length-set answers i byte ∙ begun.answers_long;
-          quiet = λ k a l ea. begun.quiet k a (omega (arith, l)) (sym (get_set_other answers i k byte (omega (arith, l))) ∙ ea);
-        },
-        turns_more m laws w inputs state now wakes ls t ts i old parts answers changed took.touched moved x y s.0 byte turns ep s.1 within (omega (arith, begun.answers_long, begun.long, within)) had.0
-            (λ none. step_still m laws w inputs state now ls t i x y s.0 was had.0.stands (took.shifted.same none))
-            (λ other ds cs. let still = still_step m laws w inputs state now ls t i x y s.0 was had.0.stands ds cs in took.shifted.other other still.0 still.1),
-        rw add-one (omega (arith, one)),
-      )
+-- no turn has begun
+pub begun_none : {P : Type 0} (parts : List P) (dues answers : List (Option ℕ)) (i : ℕ) → length answers ≡ length parts → AreNone answers → Begun parts dues i parts dues answers
+begun_none parts dues answers i long none = record {
+  long = refl;
+  rest = λ k l. refl;
+  dues_long = refl;
+  due_rest = λ k l. refl;
+  answers_long = long;
+  quiet = λ k a l ea. none k a ea;
+}
 
-  -- some are passed over
-  pub begun_pass : (i j : ℕ) (parts : List P) (answers : List (Option ℕ)) (changed : Bool) → Begun m w state now given inputs ls marked differ silent t old ts i parts answers → i ≤ j → j ≤ length parts → length parts ≤ 64 →
-      ((k : ℕ) (p : P) → i ≤ k → k < j → slice_get parts k ≡ Some p → (has_part marked k ≡ false) × (d : Option ℕ) × MayTurn m state now wakes t d p × (d ≢ Some t)) →
-      Turns m w inputs state now wakes ls t ts i old parts answers changed →
-      Begun m w state now given inputs ls marked differ silent t old ts j parts answers × Turns m w inputs state now wakes ls t ts j old parts answers changed × (sum_below j (λ k. active_in m w inputs ls t k (slice_get ts k)) ≡ sum_below i (λ k. active_in m w inputs ls t k (slice_get ts k)))
-  begun_pass i j parts answers changed begun order within few pass turns =
+-- part i had its turn, and those up to number j are passed over
+pub begun_on : {P : Type 0} (old : List P) (was : List (Option ℕ)) (i j : ℕ) (parts new : List P) (dues later answers after : List (Option ℕ)) (y : P) (d byte : Option ℕ) → Begun old was i parts dues answers → i < j →
+    new ≡ slice_set parts i y → later ≡ slice_set dues i d → after ≡ slice_set answers i byte → Begun old was j new later after
+begun_on {P} old was i j parts new dues later answers after y d byte begun order new_is later_is after_is = record {
+  long = ap length new_is ∙ length-set parts i y ∙ begun.long;
+  rest = λ k l. ap (λ (q : List P). slice_get q k) new_is ∙ get_set_other parts i k y (omega (arith, l, order)) ∙ begun.rest k (omega (arith, l, order));
+  dues_long = ap length later_is ∙ length-set dues i d ∙ begun.dues_long;
+  due_rest = λ k l. ap (λ (q : List (Option ℕ)). slice_get q k) later_is ∙ get_set_other dues i k d (omega (arith, l, order)) ∙ begun.due_rest k (omega (arith, l, order));
+  answers_long = ap length after_is ∙ length-set answers i byte ∙ begun.answers_long;
+  quiet = λ k a l ea. begun.quiet k a (omega (arith, l, order)) (sym (ap (λ (q : List (Option ℕ)). slice_get q k) after_is ∙ get_set_other answers i k byte (omega (arith, l, order))) ∙ ea);
+}
+
+-- The turns of parts that lag behind a board, where those are marked that differ or that the script addresses.
+module _ {S P : Type 0} (m : Machine S) (laws : Laws m) (w : Wiring) (given inputs : List Input) (state : P → S) (now wakes : P → ℕ) (ls : List Level) (marked differ : PartSet) (t : ℕ) (old : List P) (was : List (Option ℕ)) (ts : List S)
+    (end : t < MOST_CYCLES) (few : length old ≤ 64) (long : length was ≡ length old) (may : (k : ℕ) → MayTurnAt m state now wakes t old was k)
+    (marks : (k : ℕ) → k < 64 → has_part marked k ≡ false → (has_part differ k ≡ false) × (input_at given t k ≡ None)) (awaits : Awaits m w state now given inputs ls differ t old ts) where
+  -- those up to number j are passed over
+  pub turns_pass : (i j : ℕ) (parts : List P) (dues answers : List (Option ℕ)) (changed : Bool) → Begun old was i parts dues answers → Turns m w inputs state now wakes ls t ts i old parts answers changed → i ≤ j → j ≤ length old →
+      ((k : ℕ) → i ≤ k → k < j → has_part marked k ≡ false) → ((k : ℕ) → k < j → slice_get dues k ≢ Some (Some t)) →
+      Turns m w inputs state now wakes ls t ts j old parts answers changed × (sum_below j (λ k. active_in m w inputs ls t k (slice_get ts k)) ≡ sum_below i (λ k. active_in m w inputs ls t k (slice_get ts k)))
+  turns_pass i j parts dues answers changed begun turns order within unmarked passed =
       let rest = λ (k : ℕ) (p : P) (s : S) (l : i ≤ k) (h : k < j) (ep : slice_get old k ≡ Some p) (es : slice_get ts k ≡ Some s).
-      let a = pass k p l h (begun.rest k l ∙ ep) in
-      let none = begun.marks k (omega (arith, h, within, few)) a.0 in
-      awaited_rest m laws w given inputs state now wakes ls differ t old ts end begun.awaits k p s a.1 ep es none.0 a.2 a.3 none.1 in (
-        record {
-          awaits = begun.awaits;
-          marks = begun.marks;
-          nothing = begun.nothing;
-          long = begun.long;
-          rest = λ k l. begun.rest k (omega (arith, l, order));
-          answers_long = begun.answers_long;
-          quiet = λ k a l ea. begun.quiet k a (omega (arith, l, order)) ea;
-        },
-        turns_skip m laws w inputs state now wakes ls t ts i j old parts answers changed order turns begun.awaits.stands.long (omega (arith, within, begun.long)) (omega (arith, begun.answers_long)) begun.rest begun.quiet
+      let none = marks k (omega (arith, h, within, few)) (unmarked k l h) in
+      let d = some_there was k (omega (arith, h, within, long)) in
+      awaited_rest m laws w given inputs state now wakes ls differ t old ts end awaits k p s d.0 ep es none.0 (may k p d.0 ep d.1) (λ same. passed k h (begun.due_rest k l ∙ d.1 ∙ ap Some same)) none.1 in (
+        turns_skip m laws w inputs state now wakes ls t ts i j old parts answers changed order turns awaits.stands.long within (omega (arith, begun.answers_long)) begun.rest begun.quiet
             (λ k p s l h ep es. (rest k p s l h ep es).0),
         sum_skip i j (λ k. active_in m w inputs ls t k (slice_get ts k)) order (λ k l h.
-            let x = some_there old k (omega (arith, h, within, begun.long)) in
-            let s = some_there ts k (omega (arith, h, within, begun.long, begun.awaits.stands.long)) in
+            let x = some_there old k (omega (arith, h, within)) in
+            let s = some_there ts k (omega (arith, h, within, awaits.stands.long)) in
             ap (active_in m w inputs ls t k) s.1 ∙ (rest k x.0 s.0 l h x.1 s.1).1),
       )
+
+  -- part i has its turn before
+  pub turns_on : (i j : ℕ) (parts new : List P) (dues later answers after : List (Option ℕ)) (changed moved : Bool) (x y : P) (d e byte : Option ℕ) → Begun old was i parts dues answers →
+      Turns m w inputs state now wakes ls t ts i old parts answers changed → slice_get parts i ≡ Some x → slice_get dues i ≡ Some d → new ≡ slice_set parts i y → later ≡ slice_set dues i e → after ≡ slice_set answers i byte →
+      TookTurn m w state now wakes ls t i (input_at given t i) (has_part differ i) d x y byte moved → i < j → j ≤ length old → ((k : ℕ) → i + 1 ≤ k → k < j → has_part marked k ≡ false) → ((k : ℕ) → k < j → slice_get later k ≢ Some (Some t)) →
+      Turns m w inputs state now wakes ls t ts j old new after (changed || moved)
+      × (sum_below j (λ k. active_in m w inputs ls t k (slice_get ts k)) ≡ sum_below i (λ k. active_in m w inputs ls t k (slice_get ts k)) + (if to_wake d t (input_at given t i) (has_part differ i) then 1 else 0))
+  turns_on i j parts new dues later answers after changed moved x y d e byte begun turns ex ed new_is later_is after_is took order within unmarked passed =
+      let inside : i < length parts = slice_get_within parts i x ex in
+      let ep = sym (begun.rest i (omega arith)) ∙ ex in
+      let s = some_there ts i (omega (arith, begun.long, awaits.stands.long, inside)) in
+      let had = awaited_turn m laws w given inputs state now wakes ls differ t old ts end awaits i x y s.0 d byte took.touched ep s.1 (may i x d ep (sym (begun.due_rest i (omega arith)) ∙ ed)) took.turn in
+      let stood = awaits.stands.each i x s.0 ep s.1 in
+      let here : active_in m w inputs ls t i (slice_get ts i) ≡ (if to_wake d t (input_at given t i) (has_part differ i) then 1 else 0) = ap (active_in m w inputs ls t i) s.1 ∙ had.1 in
+      let one = turns_more m laws w inputs state now wakes ls t ts i old parts answers changed took.touched moved x y s.0 byte turns ep s.1 inside (omega (arith, begun.answers_long, begun.long, inside)) had.0
+      (λ none. step_still m laws w inputs state now ls t i x y s.0 stood had.0.stands (took.shifted.same none))
+      (λ other ds cs. let still = still_step m laws w inputs state now ls t i x y s.0 stood had.0.stands ds cs in took.shifted.other other still.0 still.1) in
+      let count : sum_below (i + 1) (λ k. active_in m w inputs ls t k (slice_get ts k)) ≡ sum_below i (λ k. active_in m w inputs ls t k (slice_get ts k)) + (if to_wake d t (input_at given t i) (has_part differ i) then 1 else 0) = rw add-one (omega (arith, here)) in
+      let pass = turns_pass (i + 1) j new later after (changed || moved) (begun_on old was i (i + 1) parts new dues later answers after y e byte begun (omega arith) new_is later_is after_is)
+      (subst (λ (q : List P). Turns m w inputs state now wakes ls t ts (i + 1) old q after (changed || moved)) (sym new_is)
+      (subst (λ (a : List (Option ℕ)). Turns m w inputs state now wakes ls t ts (i + 1) old (slice_set parts i y) a (changed || moved)) (sym after_is) one))
+      (omega (arith, order)) within unmarked passed in
+      (pass.0, pass.1 ∙ count)

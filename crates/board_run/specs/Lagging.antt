@@ -57,6 +57,10 @@ module _ {S P : Type 0} (m : Machine S) (state : P → S) (now wakes : P → ℕ
   turned true t own input p q byte changed = Wakes t own input p q byte changed
   turned false t own input p q byte changed = (q ≡ p) × (byte ≡ None)
 
+  -- the pins that its turn in cycle t did not move drive what they would if nothing came
+  abbrev pub OthersStay : (P → ℕ → Bool) → ℕ → P → P → Type 0
+  OthersStay moves t p q = (pin : ℕ) → moves q pin ≡ false → slice_get (m.drives (state q)) pin ≡ slice_get (m.drives (glided t p)) pin
+
   -- each part of the list, with its due cycle
   abbrev pub AreDue : List P → List (Option ℕ) → Type 0
   AreDue parts dues = (k : ℕ) (p : P) (d : Option ℕ) → slice_get parts k ≡ Some p → slice_get dues k ≡ Some d → IsFirstDue m (state p) (now p) d
@@ -115,14 +119,3 @@ pub record TookTurn {S P : Type 0} (m : Machine S) (w : Wiring) (state : P → S
   pub touched : Bool
   pub turn : turned m state now wakes (to_wake d t input differs) t (levels_on m w ls i (state p)) input p q byte touched
   pub shifted : Shifted m state p q changed
-
--- Of parts that lag behind a board those before number i had their turn in cycle t, and the others are as they were. Those are
--- marked that differ or that the script addresses, which is none where it is silent.
-pub record Begun {S P : Type 0} (m : Machine S) (w : Wiring) (state : P → S) (now : P → ℕ) (given inputs : List Input) (ls : List Level) (marked differ : PartSet) (silent : Bool) (t : ℕ) (old : List P) (ts : List S) (i : ℕ) (new : List P) (answers : List (Option ℕ)) : Type 0 where
-  pub awaits : Awaits m w state now given inputs ls differ t old ts
-  pub marks : (k : ℕ) → k < 64 → has_part marked k ≡ false → (has_part differ k ≡ false) × (input_at given t k ≡ None)
-  pub nothing : silent ≡ true → (marked ≡ differ) × ((k : ℕ) → input_at given t k ≡ None)
-  pub long : length new ≡ length old
-  pub rest : (k : ℕ) → i ≤ k → slice_get new k ≡ slice_get old k
-  pub answers_long : length answers ≡ length old
-  pub quiet : (k : ℕ) (a : Option ℕ) → i ≤ k → slice_get answers k ≡ Some a → a ≡ None

@@ -1,11 +1,10 @@
 //! A cycle in which only the active parts are woken.
-ghost use Rattle.std.specs.Prelude.{◌≡◌, ◌≢◌, ℕ, ◌+◌, ◌<◌, ◌≤◌, ◌||◌, Bool, List, [], length, map, take, Some, None, Option, true, false, if◌then◌else◌, slice_get, slice_set, slice_index};
+ghost use Rattle.std.specs.Prelude.{◌≡◌, ◌≢◌, ℕ, ◌+◌, ◌<◌, ◌≤◌, ◌||◌, Bool, List, [], length, map, take, Some, None, Option, is_some, true, false, if◌then◌else◌, slice_get, slice_set, slice_index};
 ghost use Rattle.part_law.specs.Machine.{IsFirstDue, MayWake};
 ghost use Rattle.sim_base.specs.declared.wiring.Input.{Input};
 ghost use Rattle.board_model.specs.Board.{level_at, input_at};
 ghost use Rattle.board_model.specs.Fits.{Fits};
-ghost use Rattle.board_laws.specs.Active.{sum_below, active_in};
-ghost use Rattle.board_run.specs.Lagging.{is_at, to_wake, glided, AreLate, MayTurn, MayTurnAt, Wakes, turned, Turns, AllTurn, AreCounted, AreDue, Replaced, Shifted, TookTurn, Begun};
+ghost use Rattle.board_run.specs.Lagging.{is_at, to_wake, glided, AreLate, MayTurn, MayTurnAt, Wakes, turned, Turns, AllTurn, AreCounted, AreDue, Replaced, Shifted, TookTurn, OthersStay};
 ghost use Rattle.board_run.specs.Parts.{has_part, AreNone};
 ghost use Rattle.board_run.specs.Seen.{IsTold, levels_on};
 
@@ -60,8 +59,7 @@ fn wake_late<P: Part, L: Ledger>(
     requires active { MayWake P.machine (glided P.machine P.state P.now P.wake_count t part.old) t own.now input }
     ensures wakes { Wakes P.machine P.state P.now P.wake_count t own.now input part.old part.new result.0 result.1 }
     ensures first { IsFirstDue P.machine (P.state part.new) (P.now part.new) due.new }
-    ensures others { (pin : ℕ) → P.moves part.new pin ≡ false
-        → slice_get (P.machine.drives (P.state part.new)) pin ≡ slice_get (P.machine.drives (glided P.machine P.state P.now P.wake_count t part.old)) pin }
+    ensures others { OthersStay P.machine P.state P.now P.wake_count P.moves t part.old part.new }
     ensures steps { steps.new ≡ steps.old + 1 }
 {
     part.settle(t);
@@ -92,8 +90,7 @@ pub fn take_turn<P: Part, L: Ledger>(
     ensures turn { turned P.machine P.state P.now P.wake_count (to_wake due.old t input differs) t (map (level_at levels.now) nets.now) input part.old part.new result.0 result.1 }
     ensures first { IsFirstDue P.machine (P.state part.new) (P.now part.new) due.new }
     ensures later { (u : ℕ) → due.new ≡ Some u → t < u }
-    ensures others { result.1 ≡ true → (pin : ℕ) → P.moves part.new pin ≡ false
-        → slice_get (P.machine.drives (P.state part.new)) pin ≡ slice_get (P.machine.drives (glided P.machine P.state P.now P.wake_count t part.old)) pin }
+    ensures others { result.1 ≡ true → OthersStay P.machine P.state P.now P.wake_count P.moves t part.old part.new }
     ensures steps { steps.new ≡ steps.old + (if to_wake due.old t input differs then 1 else 0) }
 {
     if is_to_wake(*due, t, input, differs) {
@@ -122,8 +119,7 @@ fn take_turn_on<P: Part, L: Ledger>(
     ensures turn { turned P.machine P.state P.now P.wake_count (to_wake due.old t input differs) t own.now input part.old part.new result.0 result.1 }
     ensures first { IsFirstDue P.machine (P.state part.new) (P.now part.new) due.new }
     ensures later { (u : ℕ) → due.new ≡ Some u → t < u }
-    ensures others { result.1 ≡ true → (pin : ℕ) → P.moves part.new pin ≡ false
-        → slice_get (P.machine.drives (P.state part.new)) pin ≡ slice_get (P.machine.drives (glided P.machine P.state P.now P.wake_count t part.old)) pin }
+    ensures others { result.1 ≡ true → OthersStay P.machine P.state P.now P.wake_count P.moves t part.old part.new }
     ensures steps { steps.new ≡ steps.old + (if to_wake due.old t input differs then 1 else 0) }
 {
     if is_to_wake(*due, t, input, differs) {
@@ -133,10 +129,11 @@ fn take_turn_on<P: Part, L: Ledger>(
     }
 }
 
-/// Has a part hear its levels, of which one differs from the one that it holds, where it is never due; None where it has to
-/// take its turn.
+/// Has a part hear its levels, of which one differs from the one that it holds, where it may and is never due; None where it
+/// has to take its turn.
 #[inline(always)]
 fn hear_levels<P: Part, L: Ledger>(
+    may_hear: bool,
     part: &mut P,
     due: Option<u32>,
     levels: &[Level],
@@ -146,16 +143,16 @@ fn hear_levels<P: Part, L: Ledger>(
     requires end { t < MOST_CYCLES }
     requires may { MayTurn P.machine P.state P.now P.wake_count t due part.old }
     requires pins { length (P.machine.drives (P.state part.old)) ≤ length levels.now }
-    requires differs { 0 < t → P.machine.held (P.state part.old) ≢ take (length (P.machine.drives (P.state part.old))) levels.now }
+    requires differs { may_hear ≡ true → 0 < t → P.machine.held (P.state part.old) ≢ take (length (P.machine.drives (P.state part.old))) levels.now }
     ensures stays { result ≡ None → (part.new ≡ part.old) × (steps.new ≡ steps.old) }
-    ensures asked { (touched : Bool) → result ≡ Some touched → due ≡ None }
-    ensures wakes { (touched : Bool) → result ≡ Some touched → Wakes P.machine P.state P.now P.wake_count t (take (length (P.machine.drives (P.state part.old))) levels.now) None part.old part.new None touched }
+    ensures asked { (touched : Bool) → result ≡ Some touched → (may_hear ≡ true) × (due ≡ None) }
+    ensures wakes { (touched : Bool) → result ≡ Some touched
+        → Wakes P.machine P.state P.now P.wake_count t (take (length (P.machine.drives (P.state part.old))) levels.now) None part.old part.new None touched }
     ensures first { (touched : Bool) → result ≡ Some touched → IsFirstDue P.machine (P.state part.new) (P.now part.new) None }
-    ensures others { (touched : Bool) → result ≡ Some touched → (pin : ℕ) → P.moves part.new pin ≡ false
-        → slice_get (P.machine.drives (P.state part.new)) pin ≡ slice_get (P.machine.drives (glided P.machine P.state P.now P.wake_count t part.old)) pin }
+    ensures others { (touched : Bool) → result ≡ Some touched → OthersStay P.machine P.state P.now P.wake_count P.moves t part.old part.new }
     ensures steps { (touched : Bool) → result ≡ Some touched → steps.new ≡ steps.old + 1 }
 {
-    if due.is_some() {
+    if !may_hear || due.is_some() {
         return None;
     }
     let heard = part.hear(levels, t);
@@ -166,18 +163,22 @@ fn hear_levels<P: Part, L: Ledger>(
 }
 
 /// The turn of part `i`, with its due cycle and its byte where they are kept; of the levels the first are those of its pins.
+/// It may hear them where one of these differs from the one that it holds and no value comes, and does if it can. It answers
+/// whether a drive or a contact may have changed.
 #[inline(always)]
 fn take_turn_at<P: Part, L: Ledger>(
     part: &mut P,
     i: usize,
+    may_hear: bool,
     dues: &mut DueTree,
     levels: &[Level],
     differs: bool,
     given: &[Input],
     answers: &mut [Option<u8>],
+    sent: &mut bool,
     t: u32,
     steps: &mut Steps<L>,
-) -> (Option<u8>, bool)
+) -> bool
     requires end { t < MOST_CYCLES }
     requires part { i < length dues.old }
     requires few { length dues.old ≤ 64 }
@@ -185,21 +186,25 @@ fn take_turn_at<P: Part, L: Ledger>(
     requires may { (d : Option ℕ) → slice_get dues.old i ≡ Some d → MayTurn P.machine P.state P.now P.wake_count t d part.old }
     requires pins { length (P.machine.drives (P.state part.old)) ≤ length levels.now }
     requires differs { differs ≡ true → 0 < t → P.machine.held (P.state part.old) ≢ take (length (P.machine.drives (P.state part.old))) levels.now }
-    ensures turn { (d : Option ℕ) → slice_get dues.old i ≡ Some d → turned P.machine P.state P.now P.wake_count (to_wake d t (input_at given.now t i) differs) t
-        (take (length (P.machine.drives (P.state part.old))) levels.now) (input_at given.now t i) part.old part.new result.0 result.1 }
+    requires hears { may_hear ≡ true → (differs ≡ true) × (input_at given.now t i ≡ None) × (slice_get answers.old i ≡ Some None) }
+    ensures turn { (byte : Option ℕ) × (answers.new ≡ slice_set answers.old i byte) × (sent.new ≡ (sent.old || is_some byte))
+        × ((d : Option ℕ) → slice_get dues.old i ≡ Some d → turned P.machine P.state P.now P.wake_count (to_wake d t (input_at given.now t i) differs) t
+        (take (length (P.machine.drives (P.state part.old))) levels.now) (input_at given.now t i) part.old part.new byte result) }
     ensures due { (d : Option ℕ) × (dues.new ≡ slice_set dues.old i d) × IsFirstDue P.machine (P.state part.new) (P.now part.new) d × ((u : ℕ) → d ≡ Some u → t < u) }
-    ensures answers { answers.new ≡ slice_set answers.old i result.0 }
-    ensures others { result.1 ≡ true → (pin : ℕ) → P.moves part.new pin ≡ false
-        → slice_get (P.machine.drives (P.state part.new)) pin ≡ slice_get (P.machine.drives (glided P.machine P.state P.now P.wake_count t part.old)) pin }
+    ensures others { result ≡ true → OthersStay P.machine P.state P.now P.wake_count P.moves t part.old part.new }
     ensures steps { (d : Option ℕ) → slice_get dues.old i ≡ Some d → steps.new ≡ steps.old + (if to_wake d t (input_at given.now t i) differs then 1 else 0) }
 {
     let mut due = dues.due(i as u8);
+    if let Some(touched) = hear_levels(may_hear, part, due, levels, t, steps) {
+        return touched;
+    }
     let pins = part.pins() as usize;
     let input = find_input(given, t, i);
     let (byte, touched) = take_turn_on(part, &mut due, &levels[..pins], differs, input, t, steps);
     dues.set(i as u8, due);
     answers[i] = byte;
-    (byte, touched)
+    *sent = *sent | byte.is_some();
+    touched
 }
 
 /// These parts and those that the script addresses.
@@ -277,21 +282,23 @@ fn tell_turn<P: Part>(
     tell(touched, parts, i, first, nets)
 }
 
-/// The turn of part `i`, where it is active; the nets are told what it drives and connects then. It answers its byte, and
-/// whether a drive or a contact changed.
+/// The turn of part `i`, where it is active; the nets are told what it drives and connects then. It answers whether a drive
+/// or a contact changed.
 #[inline(always)]
 fn turn_part<P: Part, L: Ledger>(
     parts: &mut [P],
     i: usize,
+    may_hear: bool,
     dues: &mut DueTree,
     wiring: &Wiring,
     differ: PartSet,
     given: &[Input],
     answers: &mut [Option<u8>],
+    sent: &mut bool,
     t: u32,
     nets: &mut Nets,
     steps: &mut Steps<L>,
-) -> (Option<u8>, bool)
+) -> bool
     requires end { t < MOST_CYCLES }
     requires part { i < length parts.old }
     requires dues { length dues.old ≡ length parts.old }
@@ -302,14 +309,15 @@ fn turn_part<P: Part, L: Ledger>(
     requires valid { (p : _) → slice_get parts.old i ≡ Some p → P.machine.valid (P.state p) (P.now p) ≡ true }
     requires differs { (p : _) → slice_get parts.old i ≡ Some p → has_part differ i ≡ true → 0 < t
         → P.machine.held (P.state p) ≢ levels_on P.machine wiring.now nets.old.levels i (P.state p) }
+    requires hears { may_hear ≡ true → (has_part differ i ≡ true) × (input_at given.now t i ≡ None) × (slice_get answers.old i ≡ Some None) }
     requires wired { (nets.old.net_of ≡ wiring.now.net_of) × (nets.old.contacts ≡ wiring.now.contacts) }
     requires told { IsTold P.machine (map P.state parts.old) nets.old }
-    ensures part { (q : _) × (parts.new ≡ slice_set parts.old i q)
+    ensures part { (q : _) × (byte : Option ℕ) × (parts.new ≡ slice_set parts.old i q) × (answers.new ≡ slice_set answers.old i byte)
+        × (sent.new ≡ (sent.old || is_some byte))
         × ((p : _) (d : Option ℕ) → slice_get parts.old i ≡ Some p → slice_get dues.old i ≡ Some d → TookTurn P.machine wiring.now P.state P.now P.wake_count
-        nets.old.levels t i (input_at given.now t i) (has_part differ i) d p q result.0 result.1) }
+        nets.old.levels t i (input_at given.now t i) (has_part differ i) d p q byte result) }
     ensures due { (d : Option ℕ) × (dues.new ≡ slice_set dues.old i d) × ((q : _) → slice_get parts.new i ≡ Some q → IsFirstDue P.machine (P.state q) (P.now q) d)
         × ((u : ℕ) → d ≡ Some u → t < u) }
-    ensures answers { answers.new ≡ slice_set answers.old i result.0 }
     ensures fits { Fits P.machine wiring.now (map P.state parts.new) }
     ensures told { IsTold P.machine (map P.state parts.new) nets.new }
     ensures rest { nets.new ≡ record nets.old { drives = nets.new.drives; closed = nets.new.closed } }
@@ -317,123 +325,20 @@ fn turn_part<P: Part, L: Ledger>(
         → steps.new ≡ steps.old + (if to_wake d t (input_at given.now t i) (has_part differ i) then 1 else 0) }
 {
     let first = wiring.first_pin.as_slice()[i] as usize;
-    let (byte, touched) = take_turn_at(
+    let touched = take_turn_at(
         &mut parts[i],
         i,
+        may_hear,
         dues,
         &nets.pin_levels()[first..],
         differ.has(i),
         given,
         answers,
+        sent,
         t,
         steps,
     );
-    let moved = tell_turn(touched, parts, i, first, wiring, nets);
-    (byte, moved)
-}
-
-/// Has part `i` hear its levels, of which one differs from the one that it holds, where it can, and tells the nets what it
-/// drives and connects then; answers whether a drive or a contact changed.
-#[inline(always)]
-fn hear_part<P: Part, L: Ledger>(
-    parts: &mut [P],
-    i: usize,
-    dues: &DueTree,
-    wiring: &Wiring,
-    t: u32,
-    nets: &mut Nets,
-    steps: &mut Steps<L>,
-) -> Option<bool>
-    requires end { t < MOST_CYCLES }
-    requires part { i < length parts.old }
-    requires dues { length dues.now ≡ length parts.old }
-    requires few { length parts.old ≤ 64 }
-    requires fits { Fits P.machine wiring.now (map P.state parts.old) }
-    requires may { MayTurnAt P.machine P.state P.now P.wake_count t parts.old dues.now i }
-    requires valid { (p : _) → slice_get parts.old i ≡ Some p → P.machine.valid (P.state p) (P.now p) ≡ true }
-    requires differs { (p : _) → slice_get parts.old i ≡ Some p → 0 < t
-        → P.machine.held (P.state p) ≢ levels_on P.machine wiring.now nets.old.levels i (P.state p) }
-    requires wired { (nets.old.net_of ≡ wiring.now.net_of) × (nets.old.contacts ≡ wiring.now.contacts) }
-    requires told { IsTold P.machine (map P.state parts.old) nets.old }
-    ensures stays { result ≡ None → (parts.new ≡ parts.old) × (nets.new ≡ nets.old) × (steps.new ≡ steps.old) }
-    ensures asked { (moved : Bool) → result ≡ Some moved → slice_get dues.now i ≡ Some None }
-    ensures part { (moved : Bool) → result ≡ Some moved → (q : _) × (parts.new ≡ slice_set parts.old i q) × IsFirstDue P.machine (P.state q) (P.now q) None
-        × ((p : _) → slice_get parts.old i ≡ Some p → TookTurn P.machine wiring.now P.state P.now P.wake_count nets.old.levels t i None true None p q None moved) }
-    ensures fits { Fits P.machine wiring.now (map P.state parts.new) }
-    ensures told { IsTold P.machine (map P.state parts.new) nets.new }
-    ensures rest { nets.new ≡ record nets.old { drives = nets.new.drives; closed = nets.new.closed } }
-    ensures steps { (moved : Bool) → result ≡ Some moved → steps.new ≡ steps.old + 1 }
-{
-    let first = wiring.first_pin.as_slice()[i] as usize;
-    let heard = hear_levels(
-        &mut parts[i],
-        dues.due(i as u8),
-        &nets.pin_levels()[first..],
-        t,
-        steps,
-    );
-    match heard {
-        Some(touched) => Some(tell_turn(touched, parts, i, first, wiring, nets)),
-        None => None,
-    }
-}
-
-/// Goes on from a part to the next one that has to take its turn. Where the script is silent, the parts before it hear their
-/// levels of which one differs, as long as they can and none is due. It answers which part it came to, and whether a drive
-/// or a contact changed.
-#[inline(always)]
-fn hear_all<P: Part, L: Ledger>(
-    silent: bool,
-    parts: &mut [P],
-    dues: &DueTree,
-    wiring: &Wiring,
-    marked: PartSet,
-    from: usize,
-    least: usize,
-    t: u32,
-    nets: &mut Nets,
-    steps: &mut Steps<L>,
-) -> (usize, bool)
-    requires end { t < MOST_CYCLES }
-    requires dues { length dues.now ≡ length parts.old }
-    requires few { length parts.old ≤ 64 }
-    requires order { from ≤ least }
-    requires within { least ≤ length parts.old }
-    requires passed { (k : ℕ) → k < least → slice_get dues.now k ≢ Some (Some t) }
-    requires due { AreDue P.machine P.state P.now P.wake_count parts.old dues.now }
-    requires fits { Fits P.machine wiring.now (map P.state parts.old) }
-    requires may { (k : ℕ) → from ≤ k → MayTurnAt P.machine P.state P.now P.wake_count t parts.old dues.now k }
-    requires valid { (k : ℕ) (p : _) → from ≤ k → slice_get parts.old k ≡ Some p → P.machine.valid (P.state p) (P.now p) ≡ true }
-    requires differs { silent ≡ true → (k : ℕ) (p : _) → from ≤ k → slice_get parts.old k ≡ Some p → has_part marked k ≡ true → 0 < t
-        → P.machine.held (P.state p) ≢ levels_on P.machine wiring.now nets.old.levels k (P.state p) }
-    requires wired { (nets.old.net_of ≡ wiring.now.net_of) × (nets.old.contacts ≡ wiring.now.contacts) }
-    requires told { IsTold P.machine (map P.state parts.old) nets.old }
-    ensures from { from ≤ result.0 }
-    ensures within { result.0 ≤ least }
-    ensures long { length parts.new ≡ length parts.old }
-    ensures rest { (k : ℕ) → result.0 ≤ k → slice_get parts.new k ≡ slice_get parts.old k }
-    ensures due { AreDue P.machine P.state P.now P.wake_count parts.new dues.now }
-    ensures fits { Fits P.machine wiring.now (map P.state parts.new) }
-    ensures told { IsTold P.machine (map P.state parts.new) nets.new }
-    ensures nets { nets.new ≡ record nets.old { drives = nets.new.drives; closed = nets.new.closed } }
-    ensures turns { (given inputs : List Input) (differ : PartSet) (old : List _) (ts : List P.State) (answers : List (Option ℕ)) (changed : Bool)
-        → Begun P.machine wiring.now P.state P.now given inputs nets.old.levels marked differ silent t old ts from parts.old answers
-        → Turns P.machine wiring.now inputs P.state P.now P.wake_count nets.old.levels t ts from old parts.old answers changed
-        → Begun P.machine wiring.now P.state P.now given inputs nets.old.levels marked differ silent t old ts result.0 parts.new answers
-        × Turns P.machine wiring.now inputs P.state P.now P.wake_count nets.old.levels t ts result.0 old parts.new answers (changed || result.1)
-        × (steps.new + sum_below from (λ k. active_in P.machine wiring.now inputs nets.old.levels t k (slice_get ts k))
-        ≡ steps.old + sum_below result.0 (λ k. active_in P.machine wiring.now inputs nets.old.levels t k (slice_get ts k))) }
-{
-    let mut changed = false;
-    let mut i = marked.next(from, least);
-    while silent && i < least {
-        match hear_part(parts, i, dues, wiring, t, nets, steps) {
-            Some(moved) => changed = changed | moved,
-            None => return (i, changed),
-        }
-        i = marked.next(i + 1, least);
-    }
-    (i, changed)
+    tell_turn(touched, parts, i, first, wiring, nets)
 }
 
 /// Gives each part its turn that is due, addressed by the script, or on a net whose level changed: where it is active
@@ -473,31 +378,18 @@ pub(crate) fn wake_active<P: Part, L: Ledger>(
     let marked = with_given(differ, given);
     let silent = given.is_empty();
     let mut sent = false;
+    let mut changed = false;
     let count = parts.len();
     let mut least = first_at(dues, t, count);
-    let (mut i, mut changed) = hear_all(
-        silent, parts, dues, wiring, marked, 0, least, t, nets, steps,
-    );
+    let mut i = marked.next(0, least);
     while i < count {
-        let (byte, moved) = turn_part(
-            parts, i, dues, wiring, differ, given, answers, t, nets, steps,
+        let may_hear = silent && i < least;
+        let moved = turn_part(
+            parts, i, may_hear, dues, wiring, differ, given, answers, &mut sent, t, nets, steps,
         );
-        sent = sent | byte.is_some();
+        changed = changed | moved;
         least = first_again(dues, t, i, least, count);
-        let (to, heard) = hear_all(
-            silent,
-            parts,
-            dues,
-            wiring,
-            marked,
-            i + 1,
-            least,
-            t,
-            nets,
-            steps,
-        );
-        changed = changed | moved | heard;
-        i = to;
+        i = marked.next(i + 1, least);
     }
     Woken { changed, sent }
 }

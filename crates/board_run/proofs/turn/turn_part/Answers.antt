@@ -22,11 +22,11 @@ slice_bounds-take_turn_at-count g c =
 pub slice_bounds-take_turn_at-start : goal.slice_bounds-take_turn_at-start
 slice_bounds-take_turn_at-start g c = slice_bounds-take_turn_at-count g c
 
-pub take_turn_at-byte-requires-clause-may : goal.take_turn_at-byte-requires-clause-may
-take_turn_at-byte-requires-clause-may g c = λ d ed. c.requires.may _ d (get_within c.args.parts.now c.args.i c.index-parts-i.result c.requires.part) ed
+pub take_turn_at-touched-requires-clause-may : goal.take_turn_at-touched-requires-clause-may
+take_turn_at-touched-requires-clause-may g c = λ d ed. c.requires.may _ d (get_within c.args.parts.now c.args.i c.index-parts-i.result c.requires.part) ed
 
-pub take_turn_at-byte-requires-clause-pins : goal.take_turn_at-byte-requires-clause-pins
-take_turn_at-byte-requires-clause-pins g c =
+pub take_turn_at-touched-requires-clause-pins : goal.take_turn_at-touched-requires-clause-pins
+take_turn_at-touched-requires-clause-pins g c =
     let p = g.P.Part in
     let i = c.args.i in
     let here_is : slice_get c.args.parts.now i ≡ Some (get_or c.args.parts.now i c.index-parts-i.result) = get_within c.args.parts.now i c.index-parts-i.result c.requires.part in
@@ -35,8 +35,8 @@ take_turn_at-byte-requires-clause-pins g c =
     let rest = length_rest c.pin_levels.result.now at in
     omega (arith, room, rest, c.pin_levels.ensures.pins, ap length c.requires.wired.0, ap (λ (l : List ℕ). get_or l i 0) c.as_slice.ensures)
 
-pub take_turn_at-byte-requires-clause-differs : goal.take_turn_at-byte-requires-clause-differs
-take_turn_at-byte-requires-clause-differs g c = λ is later same.
+pub take_turn_at-touched-requires-clause-differs : goal.take_turn_at-touched-requires-clause-differs
+take_turn_at-touched-requires-clause-differs g c = λ is later same.
     let p = g.P.Part in
     let m = p.machine in
     let w = c.args.wiring.now in
@@ -47,16 +47,19 @@ take_turn_at-byte-requires-clause-differs g c = λ is later same.
     let own_is = own_levels m w ls i at (p.state x) c.args.nets.now c.pin_levels.result.now c.pin_levels.ensures.levels refl c.requires.wired.0 (ap (λ (l : List ℕ). get_or l i 0) c.as_slice.ensures) in
     c.requires.differs x (get_within c.args.parts.now i _ c.requires.part) (sym c.has.ensures ∙ is) later (same ∙ own_is)
 
-pub tell_turn-moved-requires-clause-before : goal.tell_turn-moved-requires-clause-before
-tell_turn-moved-requires-clause-before g c =
+pub take_turn_at-touched-requires-clause-hears : goal.take_turn_at-touched-requires-clause-hears
+take_turn_at-touched-requires-clause-hears g c = λ may. let hears = c.requires.hears may in (c.has.ensures ∙ hears.0, hears.1, hears.2)
+
+pub tell_turn-requires-clause-before : goal.tell_turn-requires-clause-before
+tell_turn-requires-clause-before g c =
     let p = g.P.Part in
     let i = c.args.i in
     let x = get_or c.args.parts.now i c.index-parts-i.result in
-    let y = c.take_turn_at-byte.new.part in
+    let y = c.take_turn_at-touched.new.part in
     let old = get_within c.args.parts.now i c.index-parts-i.result c.requires.part in
     let due = some_there c.args.dues.now i (omega (arith, c.requires.dues, c.requires.part)) in
     let told = turn_tells p.machine g.met.P.Part.laws c.args.wiring.now p.state p.now p.wake_count c.args.t i c.args.parts.now c.args.nets.now x y _ _ _ _ _ (p.moves y) old c.requires.fits c.requires.told (c.requires.valid x old)
-    (c.requires.may x due.0 old due.1).quiet (c.take_turn_at-byte.ensures.turn due.0 due.1) c.take_turn_at-byte.ensures.others in
+    (c.requires.may x due.0 old due.1).quiet (c.take_turn_at-touched.ensures.turn.3 due.0 due.1) c.take_turn_at-touched.ensures.others in
     (c.args.parts.now, x, y, told.0, told.1, told.2)
 
 pub returns : goal.returns
@@ -67,31 +70,33 @@ returns g c =
     let i = c.args.i in
     let t = c.args.t in
     let ls = c.args.nets.now.levels in
-    let e = c.take_turn_at-byte.ensures in
+    let e = c.take_turn_at-touched.ensures in
     let x = get_or c.args.parts.now i c.index-parts-i.result in
-    let y = c.take_turn_at-byte.new.part in
+    let y = c.take_turn_at-touched.new.part in
     let old : slice_get c.args.parts.now i ≡ Some x = get_within c.args.parts.now i _ c.requires.part in
     let due = some_there c.args.dues.now i (omega (arith, c.requires.dues, c.requires.part)) in
     let own_is = own_levels m w ls i (get_or c.as_slice.result.now i 0) (p.state x) c.args.nets.now c.pin_levels.result.now c.pin_levels.ensures.levels refl c.requires.wired.0 (ap (λ (l : List ℕ). get_or l i 0) c.as_slice.ensures) in
     let input = input_at c.args.given.now t i in
     let differs = has_part c.args.differ i in
-    let byte = c.take_turn_at-byte.result.0 in
-    let touched = c.take_turn_at-byte.result.1 in
-    let told = c.tell_turn-moved.ensures in
+    let byte = e.turn.0 in
+    let touched = c.take_turn_at-touched.result in
+    let told = c.tell_turn.ensures in
     record {
       part = (
         y,
+        byte,
         refl,
+        e.turn.1,
+        e.turn.2,
         λ z d ez ed.
-            subst (λ (u : g.row.P.Denot). TookTurn m w p.state p.now p.wake_count ls t i input differs d u y byte c.tell_turn-moved.result) (some_same (sym old ∙ ez)) (record {
+            subst (λ (u : g.row.P.Denot). TookTurn m w p.state p.now p.wake_count ls t i input differs d u y byte c.tell_turn.result) (some_same (sym old ∙ ez)) (record {
               touched = touched;
               turn = subst (λ (b : Bool). turned m p.state p.now p.wake_count (to_wake d t input b) t (levels_on m w ls i (p.state x)) input x y byte touched) c.has.ensures
-                  (subst (λ (l : List Level). turned m p.state p.now p.wake_count (to_wake d t input c.has.result) t l input x y byte touched) own_is (e.turn d ed));
-              shifted = told.shifted c.args.parts.now x y (turn_replaces m g.met.P.Part.laws w p.state p.now p.wake_count t i c.args.parts.now c.args.nets.now x y _ _ _ _ _ old c.requires.fits c.requires.told (e.turn due.0 due.1));
+                  (subst (λ (l : List Level). turned m p.state p.now p.wake_count (to_wake d t input c.has.result) t l input x y byte touched) own_is (e.turn.3 d ed));
+              shifted = told.shifted c.args.parts.now x y (turn_replaces m g.met.P.Part.laws w p.state p.now p.wake_count t i c.args.parts.now c.args.nets.now x y _ _ _ _ _ old c.requires.fits c.requires.told (e.turn.3 due.0 due.1));
             }),
       );
       due = (e.due.0, e.due.1, (λ z ez. subst (λ (u : g.row.P.Denot). IsFirstDue m (p.state u) (p.now u) e.due.0) (some_same (sym (get_set_same c.args.parts.now i y c.requires.part) ∙ ez)) e.due.2), e.due.3);
-      answers = e.answers;
       fits = told.fits;
       told = told.told;
       rest = told.rest;
