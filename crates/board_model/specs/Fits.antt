@@ -1,5 +1,6 @@
 -- Wirings that name only nets and parts that there are.
 use Rattle.std.specs.Prelude.{◌≡◌, ℕ, ◌<◌, ◌≤◌, List, length, take, Some, slice_get, slice_index}
+use Rattle.board_model.specs.Pairs.{ArePairs}
 use Rattle.sim_base.specs.declared.wiring.Wiring.{Wiring}
 use Rattle.sim_base.specs.declared.wiring.Input.{Input}
 use Rattle.part_law.specs.Machine.{Machine}
@@ -8,8 +9,8 @@ use Rattle.board_model.specs.Board.{drives_of, contacts_of}
 -- each net number in the wiring is that of a net
 pub record IsWiring (w : Wiring) : Type 0 where
   pub pins : (k n : ℕ) → slice_get w.net_of k ≡ Some n → n < w.nets
-  pub contacts : (k : ℕ) (c : ℕ × ℕ) → slice_get w.contacts k ≡ Some c → (c.0 < w.nets) × (c.1 < w.nets)
-  pub resistors : (k : ℕ) (r : ℕ × ℕ) → slice_get w.resistors k ≡ Some r → (r.0 < w.nets) × (r.1 < w.nets)
+  pub contacts : ArePairs w.nets w.contacts
+  pub resistors : ArePairs w.nets w.resistors
 
 -- the parts with these states have the wiring's pins and contacts
 pub record Fits {S : Type 0} (m : Machine S) (w : Wiring) (ss : List S) : Type 0 where

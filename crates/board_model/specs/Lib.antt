@@ -1,5 +1,6 @@
 pub mod Walks
 pub mod Nets
+pub mod Pairs
 pub mod Resolve
 pub mod Board
 pub mod Rows

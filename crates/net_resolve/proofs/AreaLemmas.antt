@@ -4,6 +4,7 @@ use Rattle.std.proofs.lemmas.Bool.{eqb-true}
 use Rattle.std.proofs.lemmas.Bool.Decides.{nat_tests}
 use Rattle.std.specs.Prelude.{◌==◌, ◌&&◌, ◌||◌, slice_get, slice_index, nat_lt}
 use Rattle.std.specs.List.{zip}
+use Rattle.board_model.specs.Pairs.{ArePairs}
 use Rattle.sim_base.specs.declared.signal.Drive.{Drive}
 use Rattle.sim_base.specs.declared.signal.Level.{Level}
 use Rattle.sim_base.specs.declared.signal.Level.TheVariants as levels
@@ -23,7 +24,7 @@ use Rattle.net_resolve.proofs.ReachLemmas.{both_ways, any_at, any_some, one_labe
 pub record Grouped (net_of : List ℕ) (contacts resistors : List (ℕ × ℕ)) (closed : List Bool) (ds : List Drive) (groups : List ℕ) (strong : List Level) : Type 0 where
   pub groups_are : AreGroups contacts closed groups
   pub pins_within : (k n : ℕ) → slice_get net_of k ≡ Some n → n < length groups
-  pub resistors_within : (k : ℕ) (r : ℕ × ℕ) → slice_get resistors k ≡ Some r → (r.0 < length groups) × (r.1 < length groups)
+  pub resistors_within : ArePairs (length groups) resistors
   pub strong_are : (x : ℕ) → x < length groups → sum_at strong x ≡ added strong_level (λ n. slice_index groups n == x) levels.Z (zip net_of ds)
 
 -- whether a resistor connects two loose nets

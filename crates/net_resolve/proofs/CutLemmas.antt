@@ -4,6 +4,7 @@ use Rattle.std.proofs.lemmas.Bool.Decides.{eqb_tells}
 use Rattle.std.proofs.lemmas.List.{length-map}
 use Rattle.std.proofs.lemmas.Option.{slice_get_within, get_or_from_slice_get}
 use Rattle.std.specs.Prelude.{◌==◌, if◌then◌else◌, slice_get, slice_index, slice_set}
+use Rattle.board_model.specs.Pairs.{ArePairs}
 use Rattle.board_model.proofs.Lists.{some_same, some_map, get_map_some, get_within, get_set_same, get_set_other, lent_whole, take_whole}
 use Rattle.net_resolve.specs.Wired.{Wired}
 use Rattle.net_resolve.specs.Subcircuits.{SubcircuitView, IsCut, IsSubcircuit, AreSubcircuits, AreOwn, picked, labels_of}
@@ -91,7 +92,7 @@ net_labels_below w labels cut keys ek k key e =
     omega (arith, cut.below n.0, n.2, cut.pins_within k n.0 n.1)
 
 pub pair_labels_below : (labels : List ℕ) → ((n : ℕ) → slice_index labels n ≤ n) → (pairs : List (ℕ × ℕ)) (count : ℕ) →
-    ((k : ℕ) (c : ℕ × ℕ) → slice_get pairs k ≡ Some c → (c.0 < count) × (c.1 < count)) → (keys : List ℕ) → keys ≡ labels_of labels pairs →
+    ArePairs count pairs → (keys : List ℕ) → keys ≡ labels_of labels pairs →
     (k key : ℕ) → slice_get keys k ≡ Some key → key < count
 pair_labels_below labels below pairs count within keys ek k key e =
     let c = get_map_some (λ (x : ℕ × ℕ). slice_index labels x.0) pairs k key (ap (λ (l : List ℕ). slice_get l k) (sym ek) ∙ e) in
@@ -105,7 +106,7 @@ mapped_below f xs ys count are each k y e =
     omega (arith, each k x.0 x.1, x.2)
 
 pub pairs_below : {A : Type 0} (f : A → ℕ × ℕ) (xs : List A) (ys : List (ℕ × ℕ)) (count : ℕ) → ys ≡ map f xs → ((j : ℕ) (x : A) → slice_get xs j ≡ Some x → ((f x).0 < count) × ((f x).1 < count)) →
-    (k : ℕ) (y : ℕ × ℕ) → slice_get ys k ≡ Some y → (y.0 < count) × (y.1 < count)
+    ArePairs count ys
 pairs_below f xs ys count are each k y e =
     let x = get_map_some f xs k y (ap (λ (l : List (ℕ × ℕ)). slice_get l k) (sym are) ∙ e) in
     let at = each k x.0 x.1 in
@@ -196,7 +197,7 @@ module _ (w : Wired) (labels : List ℕ) (cut : IsCut w labels) (q : ℕ) (nets 
       let is : slice_index w.net_of k ≡ n.0 = get_or_from_slice_get w.net_of k n.0 0 n.1 in
       subst (λ (z : ℕ). slice_index numbers z < length nets) (sym is) (slice_get_within nets (slice_index numbers n.0) n.0 (number_of n.0 (cut.pins_within k n.0 n.1) n.2))
 
-  pub own_pairs_are : (whole : List (ℕ × ℕ)) → ((k : ℕ) (c : ℕ × ℕ) → slice_get whole k ≡ Some c → (c.0 < w.nets) × (c.1 < w.nets)) →
+  pub own_pairs_are : (whole : List (ℕ × ℕ)) → ArePairs w.nets whole →
       ((k : ℕ) (c : ℕ × ℕ) → slice_get whole k ≡ Some c → slice_index labels c.0 ≡ slice_index labels c.1) →
       (places : List ℕ) → places ≡ picked q 0 (labels_of labels whole) →
       AreOwn nets whole places (map (λ k. (slice_index numbers (get_or whole k (0, 0)).0, slice_index numbers (get_or whole k (0, 0)).1)) places)
@@ -217,7 +218,7 @@ module _ (w : Wired) (labels : List ℕ) (cut : IsCut w labels) (q : ℕ) (nets 
         (ap (slice_get nets) zero_is ∙ number_of c.0 at.0 first, ap (slice_get nets) one_is ∙ number_of c.1 at.1 second);
   }
 
-  pub own_pair_below : (whole : List (ℕ × ℕ)) → ((k : ℕ) (c : ℕ × ℕ) → slice_get whole k ≡ Some c → (c.0 < w.nets) × (c.1 < w.nets)) →
+  pub own_pair_below : (whole : List (ℕ × ℕ)) → ArePairs w.nets whole →
       ((k : ℕ) (c : ℕ × ℕ) → slice_get whole k ≡ Some c → slice_index labels c.0 ≡ slice_index labels c.1) →
       (places : List ℕ) → places ≡ picked q 0 (labels_of labels whole) → (j k : ℕ) → slice_get places j ≡ Some k →
       (slice_index numbers (get_or whole k (0, 0)).0 < length nets) × (slice_index numbers (get_or whole k (0, 0)).1 < length nets)

@@ -5,6 +5,7 @@ use Rattle.std.proofs.lemmas.List.Folds.{list_any-append}
 use Rattle.std.proofs.lemmas.List.{length-map}
 use Rattle.std.specs.Prelude.{◌==◌, ◌&&◌, ◌||◌, if◌then◌else◌, slice_get, slice_index}
 use Rattle.std.specs.List.{zip, list_any, flat_map}
+use Rattle.board_model.specs.Pairs.{ArePairs}
 use Rattle.sim_base.specs.declared.signal.Drive.{Drive}
 use Rattle.sim_base.specs.declared.signal.Drive.TheVariants as drives
 use Rattle.sim_base.specs.declared.signal.Level.{Level}
@@ -155,7 +156,7 @@ module _ (net_of : List ℕ) (contacts resistors : List (ℕ × ℕ)) (closed : 
       go true e s = rw e (ap (together (level_of_values h l)) s ∙ values_together h l (has_strong (length groups) net_of contacts resistors closed ds from true) (has_strong (length groups) net_of contacts resistors closed ds from false))
       go false e s = rw e (or_end h l)
 
-  resistors_are : (a : ℕ) (rs : List (ℕ × ℕ)) (h l : Bool) → ((k : ℕ) (r : ℕ × ℕ) → slice_get rs k ≡ Some r → (r.0 < length groups) × (r.1 < length groups)) →
+  resistors_are : (a : ℕ) (rs : List (ℕ × ℕ)) (h l : Bool) → ArePairs (length groups) rs →
       resistors_add groups strong areas a (level_of_values h l) rs ≡ level_of_values (h || list_any (adds true a) rs) (l || list_any (adds false a) rs)
   unfolding resistors_add
   resistors_are a [] h l inside = or_end h l

@@ -6,6 +6,7 @@ use Rattle.std.proofs.lemmas.Bool.Decides.{eqb_tells}
 use Rattle.std.proofs.lemmas.List.{drop_all}
 use Rattle.std.specs.Prelude.{◌==◌, ◌&&◌, ◌||◌, if◌then◌else◌, slice_get, slice_set, slice_index}
 use Rattle.std.specs.List.{zip}
+use Rattle.board_model.specs.Pairs.{ArePairs}
 use Rattle.sim_base.specs.declared.signal.Drive.{Drive}
 use Rattle.sim_base.specs.declared.signal.Drive.TheVariants as drives
 use Rattle.sim_base.specs.declared.signal.Level.{Level}
@@ -57,7 +58,7 @@ unfolding resistors_add
 resistors_end groups strong areas a sum rs i h = rw (drop_all i rs h) refl
 
 -- the ends of a resistor are nets, whose areas have sums
-pub ends_within : (groups areas : List ℕ) (count : ℕ) (rs : List (ℕ × ℕ)) (i : ℕ) → ((k : ℕ) (r : ℕ × ℕ) → slice_get rs k ≡ Some r → (r.0 < length groups) × (r.1 < length groups)) →
+pub ends_within : (groups areas : List ℕ) (count : ℕ) (rs : List (ℕ × ℕ)) (i : ℕ) → ArePairs (length groups) rs →
     length areas ≡ length groups → ((n : ℕ) → n < length areas → slice_index areas n < count) → i < length rs →
     ((get_or rs i (0, 0)).0 < length groups) × (slice_index areas (get_or rs i (0, 0)).0 < count) × ((get_or rs i (0, 0)).1 < length groups) × (slice_index areas (get_or rs i (0, 0)).1 < count)
 ends_within groups areas count rs i ends long sums less =

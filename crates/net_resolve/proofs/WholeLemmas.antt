@@ -1,15 +1,15 @@
 -- What holds of nets holds of what is the same.
-use Rattle.std.proofs.Common.{◌≡◌, ℕ, ◌<◌, List, Bool, Some, ap, subst, ◌∙◌}
-use Rattle.std.specs.Prelude.{slice_get}
+use Rattle.std.proofs.Common.{◌≡◌, ℕ, List, Bool, ap, subst, ◌∙◌}
+use Rattle.board_model.specs.Pairs.{ArePairs}
 use Rattle.sim_base.specs.declared.signal.Drive.{Drive}
 use Rattle.board_model.specs.Resolve.{resolve}
 use Rattle.net_resolve.specs.Groups.{AreGroups}
 
 pub pairs_moved : {ps qs : List (ℕ × ℕ)} {m n : ℕ} → ps ≡ qs → m ≡ n →
-    ((k : ℕ) (c : ℕ × ℕ) → slice_get ps k ≡ Some c → (c.0 < m) × (c.1 < m)) → (k : ℕ) (c : ℕ × ℕ) → slice_get qs k ≡ Some c → (c.0 < n) × (c.1 < n)
+    ArePairs m ps → ArePairs n qs
 pairs_moved {ps = ps} {qs = qs} {m = m} {n = n} es en it =
-    subst (λ (l : List (ℕ × ℕ)). (k : ℕ) (c : ℕ × ℕ) → slice_get l k ≡ Some c → (c.0 < n) × (c.1 < n)) es
-    (subst (λ (x : ℕ). (k : ℕ) (c : ℕ × ℕ) → slice_get ps k ≡ Some c → (c.0 < x) × (c.1 < x)) en it)
+    subst (ArePairs n) es
+    (subst (λ (x : ℕ). ArePairs x ps) en it)
 
 pub groups_moved : {cs ds : List (ℕ × ℕ)} {cl dl : List Bool} {gs hs : List ℕ} → cs ≡ ds → cl ≡ dl → gs ≡ hs → AreGroups cs cl gs → AreGroups ds dl hs
 groups_moved {cs = cs} {ds = ds} {cl = cl} {dl = dl} {gs = gs} {hs = hs} ec el eg it =

@@ -1,4 +1,3 @@
-pub mod Pairs
 pub mod Groups
 pub mod Sums
 pub mod Marked

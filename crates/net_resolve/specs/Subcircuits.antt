@@ -7,7 +7,7 @@ use Rattle.board_model.specs.Resolve.{level_of}
 use Rattle.sim_base.specs.declared.wiring.Wiring.{Wiring}
 use Rattle.net_resolve.specs.Wired.{Wired}
 use Rattle.net_resolve.specs.Marked.{has}
-use Rattle.net_resolve.specs.Pairs.{ArePairs}
+use Rattle.board_model.specs.Pairs.{ArePairs}
 
 -- no place of a list has n
 abbrev pub Lacks : List ℕ → ℕ → Type 0

@@ -4,7 +4,7 @@ ghost use Rattle.board_model.specs.Fits.{IsWiring};
 ghost use Rattle.union_find.specs.Forest.{AreLabels};
 ghost use Rattle.net_resolve.specs.Subcircuits.{IsCut, IsSubcircuit, AreSubcircuits, AreOnce, picked, labels_of, circuit_of};
 ghost use Rattle.net_resolve.specs.Sorted.{ArePicked, IsSorted};
-ghost use Rattle.net_resolve.specs.Pairs.{ArePairs};
+ghost use Rattle.board_model.specs.Pairs.{ArePairs};
 
 use crate::room::zeros;
 use crate::subcircuit::Subcircuit;

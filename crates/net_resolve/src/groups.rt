@@ -1,7 +1,7 @@
 //! Loose nets, and which of them resistors connect.
 ghost use Rattle.std.specs.Prelude.{◌≡◌, ◌≢◌, ℕ, ◌<◌, ◌&&◌, List, length, map, Some, true, false, slice_get, slice_index};
 ghost use Rattle.net_resolve.specs.Sums.{is_loose};
-ghost use Rattle.net_resolve.specs.Pairs.{ArePairs};
+ghost use Rattle.board_model.specs.Pairs.{ArePairs};
 
 use crate::sums::is_level_z;
 use sim_base::Level;

@@ -7,7 +7,7 @@ ghost use Rattle.sim_base.specs.declared.signal.Level.{Level};
 ghost use Rattle.union_find.specs.Forest.{AreLabels, Joins};
 ghost use Rattle.net_resolve.specs.Groups.{AreGroups};
 ghost use Rattle.net_resolve.specs.Sums.{sum_at, added, strong_level, weak_level, is_loose, resistors_add};
-ghost use Rattle.net_resolve.specs.Pairs.{ArePairs};
+ghost use Rattle.board_model.specs.Pairs.{ArePairs};
 
 use crate::groups::put_bridges;
 use crate::sums::{add_resistors, add_strong, add_weak, put_levels, put_strong};

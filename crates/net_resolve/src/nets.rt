@@ -9,7 +9,7 @@ ghost use Rattle.net_resolve.specs.Marked.{has, Noted};
 ghost use Rattle.net_resolve.specs.Sorted.{IsSorted};
 ghost use Rattle.net_resolve.specs.Wired.{Wired};
 ghost use Rattle.net_resolve.specs.Subcircuits.{SubcircuitView, IsCut, AreSubcircuits, AreApart, AreRight, FitsIn, HasAllPins, circuit_of};
-ghost use Rattle.net_resolve.specs.Pairs.{ArePairs};
+ghost use Rattle.board_model.specs.Pairs.{ArePairs};
 
 use crate::cut::{Sorted, cut_all, sort};
 use crate::marks::{Marks, Numbers};

@@ -4,7 +4,7 @@ ghost use Rattle.std.specs.List.{zip};
 ghost use Rattle.board_model.specs.Resolve.{level_of_values};
 ghost use Rattle.board_model.specs.Walks.{below};
 ghost use Rattle.net_resolve.specs.Sums.{has_high, has_low, is_z, together, strong_level, weak_level, sum_at, added, is_loose, own_level, over_adds, resistors_add, level_here};
-ghost use Rattle.net_resolve.specs.Pairs.{ArePairs};
+ghost use Rattle.board_model.specs.Pairs.{ArePairs};
 
 use crate::groups::is_net_loose;
 use sim_base::{Drive, Level};

@@ -3,7 +3,7 @@ ghost use Rattle.std.specs.Prelude.{◌≡◌, ℕ, ◌<◌, ◌≤◌, List, le
 ghost use Rattle.board_model.specs.Resolve.{resolve};
 ghost use Rattle.net_resolve.specs.Wired.{Wired};
 ghost use Rattle.net_resolve.specs.Groups.{AreGroups};
-ghost use Rattle.net_resolve.specs.Pairs.{ArePairs};
+ghost use Rattle.board_model.specs.Pairs.{ArePairs};
 
 use crate::levels::{group_nets, resolve_groups};
 use crate::room::{all_z, no_flags, zeros};
@@ -34,7 +34,7 @@ pub(crate) struct Whole {
 
 impl Model for Whole {
     ghost use Rattle.std.specs.Prelude.{◌≡◌, ℕ, ◌<◌, ◌≤◌, length, Some, slice_get, vec_len};
-    ghost use Rattle.net_resolve.specs.Pairs.{ArePairs};
+    ghost use Rattle.board_model.specs.Pairs.{ArePairs};
     ghost use Rattle.net_resolve.specs.Wired.{Wired};
     ghost use Rattle.net_resolve.specs.Groups.{AreGroups};
 

@@ -1,12 +1,13 @@
 -- Labels that tell the nets of pairs give the numbers of the definition.
-use Rattle.std.proofs.Common.{◌≡◌, ◌≢◌, ℕ, zero, suc, ◌+◌, ◌<◌, ◌≤◌, List, [], ◌∷◌, ◌++◌, length, map, filter, Bool, true, false, get_or, set, Some, refl, ap, sym, ◌∙◌, subst, arith, inl, inr, ◌⊎◌, eq-eqb, add-one, length-append}
-use Rattle.std.specs.Prelude.{◌==◌, if◌then◌else◌, slice_get}
+use Rattle.std.proofs.Common.{◌≡◌, ◌≢◌, ℕ, zero, suc, ◌+◌, ◌<◌, ◌≤◌, List, [], ◌∷◌, ◌++◌, length, map, filter, Bool, true, false, get_or, set, refl, ap, sym, ◌∙◌, subst, arith, inl, inr, ◌⊎◌, eq-eqb, add-one, length-append}
+use Rattle.std.specs.Prelude.{◌==◌, if◌then◌else◌}
 use Rattle.std.specs.List.{All, position_or_len}
 use Rattle.std.proofs.lemmas.Bool.{eqb-true, eqb-false, cases_lt, cases_Bool}
 use Rattle.std.proofs.lemmas.List.{get_or-map, length-map, append-nil, map-append, ext_get_or}
 use Rattle.std.proofs.lemmas.List.Elements.{filter-append}
 use Rattle.std.proofs.lemmas.List.Folds.{position_or_len_push}
 use Rattle.std.proofs.lemmas.Option.{get_or_from_slice_get, slice_get_within}
+use Rattle.board_model.specs.Pairs.{ArePairs}
 use Rattle.board_model.specs.Walks.{Walk, here, further, below, any_below}
 use Rattle.board_model.specs.Nets.{joined_by}
 use Rattle.board_model.proofs.WalkLemmas.{some_below, any_below_some, walk_sound, walk_complete}
@@ -96,7 +97,7 @@ found_at f t x fx tx none (suc m) l = elim (cases_lt x m) [
     ]
 
 -- a step joins the two pins of one of the pairs
-pub pairs_below : (count : ℕ) (pairs : List (ℕ × ℕ)) → All (IsBelow count) pairs → (k : ℕ) (c : ℕ × ℕ) → slice_get pairs k ≡ Some c → (c.0 < count) × (c.1 < count)
+pub pairs_below : (count : ℕ) (pairs : List (ℕ × ℕ)) → All (IsBelow count) pairs → ArePairs count pairs
 pairs_below count pairs inside k c e =
     let l = slice_get_within pairs k c e in
     subst (IsBelow count) (some_same (sym (get_within pairs k (0, 0) l) ∙ e)) (inside k (0, 0) l)

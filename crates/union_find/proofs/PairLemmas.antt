@@ -4,6 +4,7 @@ use Rattle.std.proofs.lemmas.Bool.{eqb-true}
 use Rattle.std.proofs.lemmas.Bool.Decides.{eqb_tells, nat_tests}
 use Rattle.std.proofs.lemmas.Option.{slice_get_within}
 use Rattle.std.specs.Prelude.{◌==◌, ◌&&◌, ◌||◌, slice_get, slice_index, nat_lt, replicate}
+use Rattle.board_model.specs.Pairs.{ArePairs}
 use Rattle.board_model.specs.Walks.{Walk, here, further}
 use Rattle.board_model.specs.Nets.{joins, joined_by}
 use Rattle.board_model.specs.Resolve.{contact_joins}
@@ -230,7 +231,7 @@ joins_labels step old p labels j long long' flat forest bounds are = record {
     root x l = let in_labels : x < length labels = omega arith in let in_p : x < length p = omega arith in label_root labels flat x in_labels ∙ are x in_p
 
 -- steps over chosen pairs are between places that there are
-pub contact_bounds : (n : ℕ) (cs : List (ℕ × ℕ)) (chosen : List Bool) → ((k : ℕ) (c : ℕ × ℕ) → slice_get cs k ≡ Some c → (c.0 < n) × (c.1 < n)) →
+pub contact_bounds : (n : ℕ) (cs : List (ℕ × ℕ)) (chosen : List Bool) → ArePairs n cs →
     (x y : ℕ) → contact_joins cs chosen x y ≡ true → (x < n) × (y < n)
 contact_bounds n cs chosen each x y h =
     let s = contact_of cs chosen x y h in
@@ -260,7 +261,7 @@ joined_is cs k c x y e h = sym (joined_chosen cs x y) ∙ contact_is cs (replica
 pub joined_swap : (cs : List (ℕ × ℕ)) (x y : ℕ) → joined_by cs x y ≡ true → joined_by cs y x ≡ true
 joined_swap cs x y h = sym (joined_chosen cs y x) ∙ contact_swap cs (replicate (length cs) true) x y (joined_chosen cs x y ∙ h)
 
-pub joined_bounds : (n : ℕ) (cs : List (ℕ × ℕ)) → ((k : ℕ) (c : ℕ × ℕ) → slice_get cs k ≡ Some c → (c.0 < n) × (c.1 < n)) → (x y : ℕ) → joined_by cs x y ≡ true → (x < n) × (y < n)
+pub joined_bounds : (n : ℕ) (cs : List (ℕ × ℕ)) → ArePairs n cs → (x y : ℕ) → joined_by cs x y ≡ true → (x < n) × (y < n)
 joined_bounds n cs each x y h = contact_bounds n cs (replicate (length cs) true) each x y (joined_chosen cs x y ∙ h)
 
 -- steps that are the same join the same

@@ -1,6 +1,7 @@
 //! Labels of places.
-ghost use Rattle.std.specs.Prelude.{◌≡◌, ℕ, ◌<◌, ◌≤◌, List, length, Some, slice_get};
+ghost use Rattle.std.specs.Prelude.{◌≡◌, ◌≤◌, length};
 ghost use Rattle.board_model.specs.Nets.{joined_by};
+ghost use Rattle.board_model.specs.Pairs.{ArePairs};
 ghost use Rattle.board_model.specs.Resolve.{contact_joins};
 ghost use Rattle.union_find.specs.Forest.{IsForest, AreLabels, AreClasses, Joins};
 
@@ -9,7 +10,7 @@ use crate::forest::{flatten, join, put_alone};
 /// Joins the trees of the pairs that are chosen.
 fn join_trees(pairs: &[(u16, u16)], chosen: &[bool], parents: &mut [u16])
     requires forest { IsForest parents.old }
-    requires pairs { (k : ℕ) (c : ℕ × ℕ) → slice_get pairs.now k ≡ Some c → (c.0 < length parents.old) × (c.1 < length parents.old) }
+    requires pairs { ArePairs (length parents.old) pairs.now }
     requires chosen { length chosen.now ≡ length pairs.now }
     ensures forest { IsForest parents.new }
     ensures joins { Joins (contact_joins pairs.now chosen.now) parents.old parents.new }
@@ -25,7 +26,7 @@ fn join_trees(pairs: &[(u16, u16)], chosen: &[bool], parents: &mut [u16])
 /// Gives one label to the places of one label, and to those that a chosen pair names: the least of them.
 pub fn join_chosen(pairs: &[(u16, u16)], chosen: &[bool], labels: &mut [u16])
     requires labels { AreLabels labels.old }
-    requires pairs { (k : ℕ) (c : ℕ × ℕ) → slice_get pairs.now k ≡ Some c → (c.0 < length labels.old) × (c.1 < length labels.old) }
+    requires pairs { ArePairs (length labels.old) pairs.now }
     requires chosen { length chosen.now ≡ length pairs.now }
     ensures labels { AreLabels labels.new }
     ensures joins { Joins (contact_joins pairs.now chosen.now) labels.old labels.new }
@@ -37,7 +38,7 @@ pub fn join_chosen(pairs: &[(u16, u16)], chosen: &[bool], labels: &mut [u16])
 /// Joins the trees of all pairs.
 fn join_each(pairs: &[(u16, u16)], parents: &mut [u16])
     requires forest { IsForest parents.old }
-    requires pairs { (k : ℕ) (c : ℕ × ℕ) → slice_get pairs.now k ≡ Some c → (c.0 < length parents.old) × (c.1 < length parents.old) }
+    requires pairs { ArePairs (length parents.old) pairs.now }
     ensures forest { IsForest parents.new }
     ensures joins { Joins (joined_by pairs.now) parents.old parents.new }
 {
@@ -50,7 +51,7 @@ fn join_each(pairs: &[(u16, u16)], parents: &mut [u16])
 /// Gives one label to the places of one label, and to those that a pair names: the least of them.
 pub fn join_pairs(pairs: &[(u16, u16)], labels: &mut [u16])
     requires labels { AreLabels labels.old }
-    requires pairs { (k : ℕ) (c : ℕ × ℕ) → slice_get pairs.now k ≡ Some c → (c.0 < length labels.old) × (c.1 < length labels.old) }
+    requires pairs { ArePairs (length labels.old) pairs.now }
     ensures labels { AreLabels labels.new }
     ensures joins { Joins (joined_by pairs.now) labels.old labels.new }
 {
@@ -61,7 +62,7 @@ pub fn join_pairs(pairs: &[(u16, u16)], labels: &mut [u16])
 /// Labels places by the pairs that join them.
 pub fn label_pairs(pairs: &[(u16, u16)], labels: &mut [u16])
     requires few { length labels.old ≤ 65536 }
-    requires pairs { (k : ℕ) (c : ℕ × ℕ) → slice_get pairs.now k ≡ Some c → (c.0 < length labels.old) × (c.1 < length labels.old) }
+    requires pairs { ArePairs (length labels.old) pairs.now }
     ensures { AreClasses (joined_by pairs.now) labels.new }
 {
     put_alone(labels);
@@ -71,7 +72,7 @@ pub fn label_pairs(pairs: &[(u16, u16)], labels: &mut [u16])
 /// Labels places by the chosen pairs, which join them.
 pub fn label_chosen(pairs: &[(u16, u16)], chosen: &[bool], labels: &mut [u16])
     requires few { length labels.old ≤ 65536 }
-    requires pairs { (k : ℕ) (c : ℕ × ℕ) → slice_get pairs.now k ≡ Some c → (c.0 < length labels.old) × (c.1 < length labels.old) }
+    requires pairs { ArePairs (length labels.old) pairs.now }
     requires chosen { length chosen.now ≡ length pairs.now }
     ensures { AreClasses (contact_joins pairs.now chosen.now) labels.new }
 {

@@ -1,4 +1,4 @@
--- Contacts and resistors, each by the numbers of the two nets that it is between.
+-- Contacts, resistors and wires, each by the two numbers that it is between.
 use Rattle.std.specs.Prelude.{◌≡◌, ℕ, ◌<◌, List, Some, slice_get}
 
 -- all these numbers are below n
