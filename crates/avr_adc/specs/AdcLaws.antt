@@ -1,16 +1,16 @@
 -- A cycle without an event leaves the ADC as it is, and none asks anything of a pin.
 use Rattle.std.specs.Prelude.{◌≡◌, ◌==◌, ℕ, false, List, Option, Some, None}
 use Rattle.std.proofs.Common.{refl, ap, sym, ◌∙◌}
+use Rattle.std.proofs.lemmas.Bool.{cond-false}
 use Rattle.sim_base.specs.declared.signal.Level.{Level}
 use Rattle.unit_law.specs.Coming.{comes}
 use Rattle.unit_law.specs.UnitMachine.{Laws}
-use Rattle.unit_law.proofs.StillLemmas.{chosen}
 use Rattle.avr_adc.specs.declared.adc.Conversion.{Conversion}
 use Rattle.avr_adc.specs.Adc.{Adc, adc, requests, end_of, ended, stepped}
 
 pub quiet : (u : Adc) (o : Option Conversion) (t : ℕ) (l : List Level) → comes (end_of o) t ≡ false → stepped u o t l ≡ u
 quiet u None t l h = refl
-quiet u (Some c) t l h = chosen (c.end == t) (ended u c t l) u h
+quiet u (Some c) t l h = cond-false (c.end == t) (ended u c t l) u h
 
 pub adc_laws : Laws adc
 adc_laws = record {

@@ -2,6 +2,8 @@
 use Rattle.std.proofs.Common.{◌≡◌, ℕ, zero, suc, ◌+◌, ◌-◌, ◌<◌, ◌≤◌, ◌∙◌, ◌⊎◌, inl, inr, Bool, true, false, refl, arith, ap, sym, subst, ◌&&◌, ◌||◌, nat_lt}
 use Rattle.std.specs.Prelude.{◌==◌, not, if◌then◌else◌}
 use Rattle.std.proofs.lemmas.Bool.Decides.{nat_tests}
+use Rattle.std.proofs.lemmas.Bool.{cases_Bool}
+use Rattle.sim_base.proofs.BoolLemmas.{or_off}
 use Rattle.avr_count.specs.declared.mode.Kind.{Kind}
 use Rattle.avr_count.specs.declared.mode.Kind.TheVariants.{Normal, Ctc, Fast, Phase, PhaseFrequency}
 use Rattle.avr_count.specs.declared.mode.Top.{Top}
@@ -17,10 +19,6 @@ use Rattle.avr_count.specs.Counted.{Fits, FixedFits, IsMode, Holds, IsRow, lesse
 use Rattle.avr_count.specs.Modes.{is_phase}
 
 -- Bool
-
-or_no : (a b : Bool) → b ≡ false → (a || b) ≡ a
-or_no true b h = refl
-or_no false b h = h
 
 -- five tests of which none holds, or one
 pub record None5 (a b c d e : Bool) : Type 0 where
@@ -102,7 +100,7 @@ channel_quiet : (kind : Kind) (how : Com) (top c : ℕ) (down : Bool) (ch : Chan
 channel_quiet kind how top c down ch none still =
     ap (λ (x : Bool). record ch { flag = ch.flag || x; latch = pin_act kind how x (c == top) down ch.latch; active = if loads kind top c then ch.written else ch.active }) none
     ∙ ap (λ (x : Bool). record ch { flag = ch.flag || false; latch = pin_act kind how false (c == top) down ch.latch; active = if x then ch.written else ch.active }) still
-    ∙ ap (λ (x : Bool). record ch { flag = x; latch = pin_act kind how false (c == top) down ch.latch }) (or_no ch.flag false refl)
+    ∙ ap (λ (x : Bool). record ch { flag = x; latch = pin_act kind how false (c == top) down ch.latch }) (or_off ch.flag false refl)
     ∙ ap (λ (x : Bool). record ch { latch = x }) (pin_quiet kind how top c down ch.latch still)
 
 -- It changes the count and the direction alone.
@@ -122,8 +120,8 @@ quiet_tick m s h =
     let b = compared m.kind m.com_b top c down s.b in
     ap (λ (x : Channel). go x b icf tov) (channel_quiet m.kind m.com_a top c down s.a none.i none.v)
     ∙ ap (λ (x : Channel). go s.a x icf tov) (channel_quiet m.kind m.com_b top c down s.b none.ii none.v)
-    ∙ ap (λ (x : Bool). go s.a s.b x tov) (or_no s.icf (is_icr m.top && (c == s.icr)) none.iii)
-    ∙ ap (λ (x : Bool). go s.a s.b s.icf x) (or_no s.tov (overflows m.kind m.greatest top c) none.iv)
+    ∙ ap (λ (x : Bool). go s.a s.b x tov) (or_off s.icf (is_icr m.top && (c == s.icr)) none.iii)
+    ∙ ap (λ (x : Bool). go s.a s.b s.icf x) (or_off s.tov (overflows m.kind m.greatest top c) none.iv)
 
 -- arithmetic of the wheel
 
@@ -705,21 +703,17 @@ pub record Runs (m : Mode) (s : Counter) : Type 0 where
   pub counts : ℕ → ℕ
   pub run : Run m s counts (wait m s)
 
-is_or_not : (b : Bool) → (b ≡ true) ⊎ (b ≡ false)
-is_or_not true = inl refl
-is_or_not false = inr refl
-
 run_for : (m : Mode) (s : Counter) (p : ℕ → ℕ) (n : ℕ) → wait m s ≡ n → Run m s p n → Runs m s
 run_for m s p n h run = record { counts = p; run = subst (λ (x : ℕ). Run m s p x) (sym h) run }
 
 pub runs : (m : Mode) (s : Counter) → Fits m s → Runs m s
-runs m s fits = elim (is_or_not (has_event m s)) [
+runs m s fits = elim (cases_Bool (has_event m s)) [
   | inl h ↦ run_for m s (λ k. s.count) 0 (rw h refl) (held_run m s h)
-  | inr quiet ↦ elim (is_or_not (is_phase m.kind)) [
+  | inr quiet ↦ elim (cases_Bool (is_phase m.kind)) [
     | inr flat ↦
         let up : is_back m s ≡ false = rw flat refl in
         run_for m s (forward m.greatest s.count) (wait_up m s) (rw quiet (rw up refl)) (flat_run m s fits flat up)
-    | inl phase ↦ elim (is_or_not (direction m.kind (top_of m s) s.count s.down)) [
+    | inl phase ↦ elim (cases_Bool (direction m.kind (top_of m s) s.count s.down)) [
       | inr up ↦
           let ahead : is_back m s ≡ false = rw phase up in
           run_for m s (forward m.greatest s.count) (wait_up m s) (rw quiet (rw ahead refl)) (rise_run m s fits phase quiet up)
@@ -751,7 +745,7 @@ event_there m s fits = let r = runs m s fits in run_event m s r.counts (wait m s
 
 -- a run back does not pass 0
 pub back_low : (m : Mode) (s : Counter) (k : ℕ) → k ≤ wait m s → is_back m s ≡ true → (top_of m s ≡ 0 → ⊥) → k ≤ s.count
-back_low m s k le back some = elim (is_or_not (has_event m s)) [
+back_low m s k le back some = elim (cases_Bool (has_event m s)) [
   | inl h ↦ let w : wait m s ≡ 0 = rw h refl in omega (arith, le, w)
   | inr quiet ↦ elim (zero_or (top_of m s)) [
     | inl none ↦ absurd (some none)
@@ -780,9 +774,9 @@ fits_from m s mode holds = record {
 
 -- the numbers stay in range
 upward_fits : (g t c : ℕ) → c ≤ g → upward g t c ≤ g
-upward_fits g t c h = elim (is_or_not (c == t)) [
+upward_fits g t c h = elim (cases_Bool (c == t)) [
   | inl x ↦ let e : upward g t c ≡ 0 = rw x refl in omega (arith, e)
-  | inr x ↦ elim (is_or_not (c == g)) [
+  | inr x ↦ elim (cases_Bool (c == g)) [
     | inl y ↦ let e : upward g t c ≡ 0 = rw x (rw y refl) in omega (arith, e)
     | inr y ↦ let e : upward g t c ≡ c + 1 = rw x (rw y refl) in less g t c h y e
   ]
@@ -839,9 +833,9 @@ pub wait_short : (m : Mode) (s : Counter) → IsMode m → Holds m.greatest s �
 wait_short m s mode holds =
     let fits = fits_from m s mode holds in
     let short : m.greatest < 65536 = mode.short in
-    elim (is_or_not (has_event m s)) [
+    elim (cases_Bool (has_event m s)) [
       | inl h ↦ let w : wait m s ≡ 0 = rw h refl in omega (arith, w)
-      | inr quiet ↦ elim (is_or_not (is_back m s)) [
+      | inr quiet ↦ elim (cases_Bool (is_back m s)) [
         | inr ahead ↦ let w : wait m s ≡ wait_up m s = rw quiet (rw ahead refl) in let l : wait_up m s ≤ m.greatest = up_low m s fits in omega (arith, w, l)
         | inl back ↦ elim (zero_or (top_of m s)) [
           | inl none ↦

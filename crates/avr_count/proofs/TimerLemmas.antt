@@ -1,12 +1,12 @@
 -- A unit whose cycles move a counter and nothing else.
 use Rattle.std.proofs.Common.{◌≡◌, ℕ, zero, suc, ◌+◌, ◌-◌, ◌∙◌, [], List, Bool, true, false, Option, None, Some, ap, sym, subst, refl}
 use Rattle.std.specs.Prelude.{◌==◌, if◌then◌else◌}
+use Rattle.std.proofs.lemmas.Bool.{or_parts}
 use Rattle.sim_base.specs.declared.signal.Level.{Level}
 use Rattle.sim_base.specs.declared.limits.TheConstants.{MOST_CYCLES}
 use Rattle.unit_law.specs.UnitMachine.{UnitMachine, At, steps, IsQuiet, IsFirstDue}
 use Rattle.unit_law.specs.Pad.{untouched, valued}
 use Rattle.unit_law.specs.declared.pad.Pad.{Pad}
-use Rattle.unit_law.proofs.StillLemmas.{neither}
 use Rattle.avr_count.specs.declared.channel.Channel.{Channel}
 use Rattle.avr_count.specs.declared.counter.Counter.{Counter}
 use Rattle.avr_count.specs.declared.mode.Mode.{Mode}
@@ -86,7 +86,7 @@ no_pin k how a b h = by (has_pin k how) h
 -- a timer whose channels leave their pins alone asks the same whatever its counter is
 pub no_pins : (oca ocb : ℕ) (m : Mode) (x c : Counter) (pin : ℕ) → has_pins m ≡ false → compare_pads oca ocb m x pin ≡ compare_pads oca ocb m c pin
 no_pins oca ocb m x c pin h =
-    let d = neither (has_pin m.kind m.com_a) (has_pin m.kind m.com_b) h in
+    let d = or_parts (has_pin m.kind m.com_a) (has_pin m.kind m.com_b) h in
     choose_pad (pin == oca) (pin == ocb) _ _ _ _ untouched (no_pin m.kind m.com_a x.a.latch c.a.latch d.0) (no_pin m.kind m.com_b x.b.latch c.b.latch d.1)
 
 pub keeps_latches : (s x : Counter) → Keeps s x → Latches x s

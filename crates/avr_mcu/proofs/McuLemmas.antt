@@ -5,6 +5,8 @@ use Rattle.std.specs.List.{range_with_len}
 use Rattle.std.proofs.lemmas.Bool.Decides.{nat_tests}
 use Rattle.std.proofs.lemmas.Option.{slice_get-get_or, slice_get_past}
 use Rattle.std.proofs.lemmas.List.FromFn.{length-map-range_with_len, get_or-map-range_with_len}
+use Rattle.std.proofs.lemmas.Bool.{or_left, or_right, or_from, and_parts}
+use Rattle.std.proofs.Math.Bool.{and-false}
 use Rattle.sim_base.specs.declared.signal.Drive.{Drive}
 use Rattle.sim_base.specs.declared.signal.Drive.TheVariants as drives
 use Rattle.sim_base.specs.declared.signal.Level.{Level}
@@ -32,22 +34,6 @@ use Rattle.avr_mcu.specs.McuState.{state_of}
 
 le_or : (a b : ℕ) → (a ≤ b) ⊎ (b ≤ a)
 le_or a b = grind arith
-
-or_first : (a b : Bool) → a ≡ true → (a || b) ≡ true
-or_first true b h = refl
-or_first false b h = cc
-
-or_second : (a b : Bool) → b ≡ true → (a || b) ≡ true
-or_second true b h = refl
-or_second false b h = h
-
-and_no : (b : Bool) → (b && false) ≡ false
-and_no true = refl
-and_no false = refl
-
-or_two : (a b : Bool) → a ≡ false → b ≡ false → (a || b) ≡ false
-or_two true b h k = cc
-or_two false b h k = k
 
 module _ {D : Type 0} (m : UnitMachine D) (laws : unit.Laws m) where
   -- the drive of one pin of the Uno
@@ -271,7 +257,7 @@ module _ {D : Type 0} (m : UnitMachine D) (laws : unit.Laws m) where
         ap (λ (b : Bool). not b && ready s.core.mode (enters m (waited s t k))) l
     no_start k less events false is is_a =
         ap (λ (b : Bool). not (nat_lt (t + k) s.next) && ready s.core.mode b) (waited_enters s t k events)
-        ∙ ap (λ (b : Bool). not (nat_lt (t + k) s.next) && b) (sym is) ∙ and_no (not (nat_lt (t + k) s.next))
+        ∙ ap (λ (b : Bool). not (nat_lt (t + k) s.next) && b) (sym is) ∙ and-false (not (nat_lt (t + k) s.next))
 
     quiet_to : (k : ℕ) → t + k < min a e → (mcu m).due (waited s t k) (t + k) ≡ false
     quiet_to k less =
@@ -279,7 +265,7 @@ module _ {D : Type 0} (m : UnitMachine D) (laws : unit.Laws m) where
         let events : unit.IsQuiet m s.units.devices t k = λ j (h : j < k). first.quiet j (omega (arith, h, soon)) in
         let none : m.due (steps m s.units.devices t k) (t + k) ≡ false = first.quiet k (omega (arith, soon)) in
         let positive : (t + k == 0) ≡ false = grind (arith, nat_tests, later) in
-        or_two (t + k == 0) _ positive (or_two (starts m (waited s t k) (t + k)) _ (no_start k less events r is is_a) none)
+        or_from (t + k == 0) _ positive (or_from (starts m (waited s t k) (t + k)) _ (no_start k less events r is is_a) none)
 
     from_is : (r : Bool) → a ≡ (if r then max s.next t else MOST_CYCLES) → t ≤ min a e
     from_is true is_a = grind (arith, is_a, first.later)
@@ -294,11 +280,11 @@ module _ {D : Type 0} (m : UnitMachine D) (laws : unit.Laws m) where
     by_ready l le false is is_a = absurd (grind (arith, is_a, le, l))
 
     event : min a e < MOST_CYCLES → (a ≤ e) ⊎ (e ≤ a) → (starts m (waited s t (min a e - t)) (min a e) || m.due (steps m s.units.devices t (min a e - t)) (min a e)) ≡ true
-    event l (inl le) = or_first _ _ (by_ready l le r is is_a)
+    event l (inl le) = or_left _ _ (by_ready l le r is is_a)
     event l (inr le) =
         let u : min a e ≡ e = grind (arith, le) in
         let i : e < MOST_CYCLES = omega (arith, u, l) in
-        or_second _ _ (subst (λ (x : ℕ). m.due (steps m s.units.devices t (x - t)) x ≡ true) (sym u) (first.event i))
+        or_right _ _ (subst (λ (x : ℕ). m.due (steps m s.units.devices t (x - t)) x ≡ true) (sym u) (first.event i))
 
     pub due_some : (d : ℕ) → d ≡ min a e → d < MOST_CYCLES → IsFirstDue (mcu m) s t (Some d)
     due_some d is_d less =
@@ -309,7 +295,7 @@ module _ {D : Type 0} (m : UnitMachine D) (laws : unit.Laws m) where
           from,
           l,
           waits_quiet s t (min a e - t) quiet,
-          ap (λ (x : Mcu D). (mcu m).due x (min a e)) (waits_glide s t (min a e - t) quiet) ∙ or_second (min a e == 0) _ (event l (le_or a e)),
+          ap (λ (x : Mcu D). (mcu m).due x (min a e)) (waits_glide s t (min a e - t) quiet) ∙ or_right (min a e == 0) _ (event l (le_or a e)),
         )
 
     pub due_none : (d : ℕ) → d ≡ min a e → MOST_CYCLES ≤ d → IsFirstDue (mcu m) s t None
@@ -329,9 +315,5 @@ module _ {D : Type 0} (m : UnitMachine D) (laws : unit.Laws m) where
   -- a requested vector that is entered is one
   pub enters_some : (s : Mcu D) (b : Bool) → b ≡ enters m s → b ≡ true → request m s.units s.held < 26
   enters_some s b is h =
-      let x : nat_lt (request m s.units s.held) 26 ≡ true = and_right _ _ (sym is ∙ h) in
+      let x : nat_lt (request m s.units s.held) 26 ≡ true = (and_parts _ _ (sym is ∙ h)).1 in
       grind (arith, nat_tests, x)
-    where
-      and_right : (a c : Bool) → (a && c) ≡ true → c ≡ true
-      and_right true c h = h
-      and_right false c h = cc

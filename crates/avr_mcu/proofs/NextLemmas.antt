@@ -1,7 +1,7 @@
 -- What comes next of units behind an access to one of their registers.
 use Rattle.std.proofs.Common.{◌≡◌, ◌∙◌, ℕ, ◌+◌, ◌≤◌, List, [], Bool, true, false, Some, Option, ◌⊎◌, inl, inr, arith, ap, sym, subst, refl}
 use Rattle.std.specs.Prelude.{if◌then◌else◌, ◌^◌, ◌&&◌, ◌||◌, ◌++◌, nat_le}
-use Rattle.std.proofs.lemmas.Bool.{leb-true}
+use Rattle.std.proofs.lemmas.Bool.{leb-true, and_parts}
 use Rattle.std.proofs.lemmas.Bool.Decides.{eqb_tells}
 use Rattle.sim_base.specs.declared.signal.Level.{Level}
 use Rattle.unit_law.specs.Bits.{with_bit}
@@ -16,10 +16,6 @@ use Rattle.avr_ports.specs.declared.registers.Register.TheVariants.{PINB, DDRB, 
 use Rattle.avr_ports.specs.Ports.{Ports, ports, requests, register, acts_by_ones, with_register, with_register_bit}
 use Rattle.avr_mcu.specs.Next.{SameNext, WritesKeepNext}
 use Rattle.avr_mcu.specs.Ready.{Ready}
-
-pub and_true : (a b : Bool) → (a && b) ≡ true → (a ≡ true) × (b ≡ true)
-and_true true b h = (refl, h)
-and_true false b h = cc
 
 -- units that are as before, and units that an access has left as others
 same_next : {U : Type 0} (m : UnitMachine U) (t : ℕ) (s : U) → SameNext m t s s
@@ -130,4 +126,4 @@ port_keeps =
     G = WritesKeepNext ports
 
 pub ports_writes : (a : ℕ) → (nat_le 0x23 a && nat_le a 0x2B) ≡ true → WritesKeepNext ports a
-ports_writes a h = let within = and_true _ _ h in port_keeps a (leb-true 0x23 a within.0) (leb-true a 0x2B within.1)
+ports_writes a h = let within = and_parts _ _ h in port_keeps a (leb-true 0x23 a within.0) (leb-true a 0x2B within.1)

@@ -1,9 +1,10 @@
 -- The laws of a part hold of the microcontroller.
-use Rattle.std.proofs.Common.{◌≡◌, ◌<◌, ◌∙◌, ℕ, arith, Bool, true, false, ◌||◌, List, [], ◌∷◌, map, length, refl, sym, ap}
+use Rattle.std.proofs.Common.{◌≡◌, ◌<◌, ◌∙◌, ℕ, arith, Bool, true, false, List, [], ◌∷◌, map, length, refl, sym, ap}
 use Rattle.std.specs.Prelude.{if◌then◌else◌, ◌==◌, nat_lt}
 use Rattle.std.specs.List.{range_with_len}
 use Rattle.std.proofs.lemmas.List.FromFn.{length-map-range_with_len}
 use Rattle.std.proofs.lemmas.Bool.Decides.{nat_tests}
+use Rattle.std.proofs.lemmas.Bool.{or_parts}
 use Rattle.sim_base.specs.declared.signal.Drive.{Drive}
 use Rattle.sim_base.specs.declared.signal.Drive.TheVariants as drives
 use Rattle.part_law.specs.Machine.{Laws}
@@ -18,10 +19,6 @@ use Rattle.avr_mcu.specs.McuOf.{Mcu, mcu, uno_drive, uno_drives, starts, acted, 
 map_same : {A B : Type 0} (f g : A → B) (xs : List A) → ((x : A) → f x ≡ g x) → map f xs ≡ map g xs
 map_same f g [] h = refl
 map_same f g (x ∷ xs) h = ap (λ y. y ∷ map f xs) (h x) ∙ ap (λ ys. g x ∷ ys) (map_same f g xs h)
-
-pub or_false : (a b : Bool) → (a || b) ≡ false → (a ≡ false) × (b ≡ false)
-or_false true b h = cc
-or_false false b h = (refl, h)
 
 module _ {D : Type 0} (m : UnitMachine D) where
   -- the pins of an Uno
@@ -48,8 +45,8 @@ module _ {D : Type 0} (m : UnitMachine D) where
   -- a cycle in which nothing is due
   pub rests : (s : Mcu D) (t : ℕ) → (mcu m).due s t ≡ false → (core_acted m s t ≡ s) × (m.due s.units.devices t ≡ false)
   rests s t h =
-      let a = or_false (t == 0) _ h in
-      let b = or_false (starts m s t) (m.due s.units.devices t) a.1 in
+      let a = or_parts (t == 0) _ h in
+      let b = or_parts (starts m s t) (m.due s.units.devices t) a.1 in
       (ap (λ (x : Bool). if x then acted m s t else s) b.0, b.1)
 
   pub mcu_laws : unit.Laws m → Laws (mcu m)

@@ -3,6 +3,8 @@ use Rattle.std.proofs.Common.{Option, None, Some, ◌≡◌, ℕ, ◌%◌, ◌�
 use Rattle.std.specs.Prelude.{bit_and, bit_xor, if◌then◌else◌, ◌==◌, ◌^◌, min}
 use Rattle.std.specs.Int.Bits.{xor_self, xor_zero_r, and_zero_r}
 use Rattle.std.proofs.lemmas.Bool.Decides.{nat_tests}
+use Rattle.std.proofs.lemmas.Bool.{not-false, not-true}
+use Rattle.sim_base.proofs.BoolLemmas.{or_off}
 use Rattle.sim_base.specs.declared.signal.Level.{Level}
 use Rattle.unit_law.specs.Bits.{is_set, with_bit}
 use Rattle.unit_law.specs.UnitMachine.{Laws, least, at_register}
@@ -10,10 +12,6 @@ use Rattle.avr_ports.specs.Registers.{register_at}
 use Rattle.avr_ports.specs.declared.registers.Register.{Register}
 use Rattle.avr_ports.specs.declared.registers.Register.TheVariants.{PINB, DDRB, PORTB, PINC, DDRC, PORTC, PIND, DDRD, PORTD, PCIFR, EIFR, EIMSK, PCICR, EICRA, PCMSK0, PCMSK1, PCMSK2}
 use Rattle.avr_ports.specs.Ports.{Ports, ports, port_pad, is_deaf, requests_int, register, with_register, with_register_bit, acts_by_ones, moves, bit_moves, taken, is_edge, is_change, isc0, isc1, on, pinb, pinc, pind, requests, edges_sensed, changes_sensed, ports_step}
-
-or_no : (a b : Bool) → b ≡ false → (a || b) ≡ a
-or_no true b h = refl
-or_no false b h = h
 
 -- a reading that stays makes no edge
 no_edge : (sense : ℕ) (b : Bool) → is_edge sense b b ≡ false
@@ -36,13 +34,13 @@ no_change : (mask a : ℕ) → is_change mask a a ≡ false
 no_change mask a = none_set (bit_and (bit_xor a a) mask) (ap (λ (x : ℕ). bit_and x mask) (xor_self a))
 
 edges_still : (u : Ports) (l : List Level) → edges_sensed u l l ≡ u
-edges_still u l = rw (or_no u.intf0 _ (no_edge (isc0 u) (on l 2))) (rw (or_no u.intf1 _ (no_edge (isc1 u) (on l 3))) refl)
+edges_still u l = rw (or_off u.intf0 _ (no_edge (isc0 u) (on l 2))) (rw (or_off u.intf1 _ (no_edge (isc1 u) (on l 3))) refl)
 
 changes_still : (u : Ports) (l : List Level) → changes_sensed u l l ≡ u
 changes_still u l = by _ _ _ (no_change u.pcmsk0 (pinb l)) (no_change u.pcmsk1 (pinc l)) (no_change u.pcmsk2 (pind l))
   where
     by : (x y z : Bool) → x ≡ false → y ≡ false → z ≡ false → record u { pcif0 = u.pcif0 || x; pcif1 = u.pcif1 || y; pcif2 = u.pcif2 || z } ≡ u
-    by x y z e f g = rw (or_no u.pcif0 x e) (rw (or_no u.pcif1 y f) (rw (or_no u.pcif2 z g) refl))
+    by x y z e f g = rw (or_off u.pcif0 x e) (rw (or_off u.pcif1 y f) (rw (or_off u.pcif2 z g) refl))
 
 -- levels that stay leave the ports as they are
 pub ports_still : (u : Ports) (l : List Level) → ports_step u l l ≡ u
@@ -60,14 +58,6 @@ all_six false b c d e f h = cc
 
 is_none : (x : ℕ) → (x == 0) ≡ true → x ≡ 0
 is_none x h = grind (arith, nat_tests)
-
-heard : (b : Bool) → not b ≡ false → b ≡ true
-heard true h = refl
-heard false h = cc
-
-unset : (b : Bool) → not b ≡ true → b ≡ false
-unset true h = cc
-unset false h = refl
 
 no_mask : (x y m : ℕ) (b : Bool) → m ≡ 0 → (b || is_change m x y) ≡ b
 no_mask x y m true h = refl
@@ -99,7 +89,7 @@ deaf_step u before now h =
 deaf_requests : (u : Ports) (before now : List Level) → is_deaf u ≡ true → least (requests u before) ≡ least (requests u now)
 deaf_requests u before now h =
     let p = all_six (u.eicra % 16 == 0) (u.pcmsk0 == 0) (u.pcmsk1 == 0) (u.pcmsk2 == 0) (not (is_set u.eimsk 0)) (not (is_set u.eimsk 1)) h in
-    by (is_set u.eimsk 0) (is_set u.eimsk 1) (unset _ p.4) (unset _ p.5)
+    by (is_set u.eimsk 0) (is_set u.eimsk 1) (not-true _ p.4) (not-true _ p.5)
   where
     rest : ℕ
     rest = min (if is_set u.pcicr 0 && u.pcif0 then 3 else 26) (min (if is_set u.pcicr 1 && u.pcif1 then 4 else 26) (min (if is_set u.pcicr 2 && u.pcif2 then 5 else 26) 26))
@@ -169,8 +159,8 @@ ports_laws = record {
   keeps_hears = λ s t l b n h. ap (λ (u : Ports). not (is_deaf u)) (ports_still s l);
   keeps_silent = λ s t h. refl;
   deaf = λ s t l k h. ports_still s l ∙ sym (ports_still s k);
-  unheard = λ s t b n d h. deaf_step s b n (heard (is_deaf s) h) ∙ sym (ports_still s n);
-  unheard_requests = λ s b n h. deaf_requests s b n (heard (is_deaf s) h);
+  unheard = λ s t b n d h. deaf_step s b n (not-false (is_deaf s) h) ∙ sym (ports_still s n);
+  unheard_requests = λ s b n h. deaf_requests s b n (not-false (is_deaf s) h);
   reads_pad = λ s t a p. refl;
   writes_pad = λ s t a x p h. at_pad s p (λ r. with_register s r x) (λ r. moves s r x) (register_at a) (register_pad s p x) h;
   bits_pad = λ s t a k x p h. at_pad s p (λ r. with_register_bit s r k x) (λ r. bit_moves s r k x) (register_at a) (register_bit_pad s p k x) h;

@@ -1,11 +1,12 @@
 -- A cycle without an event leaves the SPI as it is, unless SS falls.
 use Rattle.std.specs.Prelude.{◌≡◌, ℕ, ◌==◌, Bool, true, false, ◌&&◌, ◌||◌, not, if◌then◌else◌, List, Option, Some, None}
 use Rattle.std.proofs.Common.{refl, ap, sym, ◌∙◌}
+use Rattle.std.proofs.lemmas.Bool.{or_parts, cond-false}
+use Rattle.sim_base.proofs.BoolLemmas.{and_opposite}
 use Rattle.sim_base.specs.declared.signal.Level.{Level}
 use Rattle.unit_law.specs.Bits.{with_bit}
 use Rattle.unit_law.specs.Coming.{comes}
 use Rattle.unit_law.specs.UnitMachine.{Laws, at_register}
-use Rattle.unit_law.proofs.StillLemmas.{neither, chosen}
 use Rattle.avr_spi.specs.declared.registers.Register.{Register}
 use Rattle.avr_spi.specs.declared.registers.Register.TheVariants.{DDRB, SPCR, SPSR, SPDR}
 use Rattle.avr_spi.specs.declared.shifter.Transfer.{Transfer}
@@ -16,7 +17,7 @@ use Rattle.avr_spi.specs.Spi.{Spi, spi, spi_pad, requests, stepped, watches, is_
 
 quiet_clock : (s : Shifter) (o : Option Transfer) (t : ℕ) (b : Bool) → comes (next_event o) t ≡ false → shifted s o t b ≡ s
 quiet_clock s None t b h = refl
-quiet_clock s (Some x) t b h = chosen (x.event == t) (acted s x x.phase t b) s h
+quiet_clock s (Some x) t b h = cond-false (x.event == t) (acted s x x.phase t b) s h
 
 -- what SS does is of no effect where it is not looked at and does not fall
 unselected : (w before now looks : Bool) → looks ≡ false → (w && (now && not before)) ≡ false → (w && (now && (looks || not before))) ≡ false
@@ -24,28 +25,23 @@ unselected w before now true h none = cc
 unselected w before now false h none = none
 
 unlooked : (u : Spi) (t : ℕ) → comes u.look t ≡ false → looked u t ≡ u
-unlooked u t h = ap (λ (o : Option ℕ). record u { look = o }) (chosen (comes u.look t) None u.look h)
+unlooked u t h = ap (λ (o : Option ℕ). record u { look = o }) (cond-false (comes u.look t) None u.look h)
 
 quiet_by : (u : Spi) (t : ℕ) (before now b : Bool) → comes (next_event u.shifter.transfer) t ≡ false → comes u.look t ≡ false →
     (watches u && (now && not before)) ≡ false → stepped u t before now b ≡ u
 quiet_by u t before now b h k none =
-    chosen (is_selected u t before now) (deselected (looked u t)) (record (looked u t) { shifter = shifted u.shifter u.shifter.transfer t b }) (unselected (watches u) before now (comes u.look t) k none)
+    cond-false (is_selected u t before now) (deselected (looked u t)) (record (looked u t) { shifter = shifted u.shifter u.shifter.transfer t b }) (unselected (watches u) before now (comes u.look t) k none)
     ∙ ap (λ (s : Shifter). record (looked u t) { shifter = s }) (quiet_clock u.shifter u.shifter.transfer t b h)
     ∙ unlooked u t k
 
-no_fall : (w b : Bool) → (w && (b && not b)) ≡ false
-no_fall true true = refl
-no_fall true false = refl
-no_fall false b = refl
-
 pub quiet : (u : Spi) (t : ℕ) (l : List Level) → spi.due u t ≡ false → spi.step u t l l ≡ u
 quiet u t l h =
-    let d = neither (comes (next_event u.shifter.transfer) t) (comes u.look t) h in
-    quiet_by u t (ss_low l) (ss_low l) (miso l) d.0 d.1 (no_fall (watches u) (ss_low l))
+    let d = or_parts (comes (next_event u.shifter.transfer) t) (comes u.look t) h in
+    quiet_by u t (ss_low l) (ss_low l) (miso l) d.0 d.1 (and_opposite (watches u) (ss_low l))
 
 unheard : (u : Spi) (t : ℕ) (before now : List Level) → spi.due u t ≡ false → spi.hears u before now ≡ false → spi.step u t before now ≡ u
 unheard u t before now h none =
-    let d = neither (comes (next_event u.shifter.transfer) t) (comes u.look t) h in
+    let d = or_parts (comes (next_event u.shifter.transfer) t) (comes u.look t) h in
     quiet_by u t (ss_low before) (ss_low now) (miso now) d.0 d.1 none
 
 read_pad : (u : Spi) (o : Option Register) (p : ℕ) → spi_pad (at_register o u (after_read u)) p ≡ spi_pad u p

@@ -1,11 +1,11 @@
 -- A cycle without an event leaves the TWI as it is.
 use Rattle.std.specs.Prelude.{◌≡◌, ℕ, ◌==◌, Bool, false, List, Option, Some, None}
 use Rattle.std.proofs.Common.{refl, ap, sym, ◌∙◌}
+use Rattle.std.proofs.lemmas.Bool.{cond-false}
 use Rattle.sim_base.specs.declared.signal.Level.{Level}
 use Rattle.unit_law.specs.Bits.{with_bit}
 use Rattle.unit_law.specs.Coming.{comes}
 use Rattle.unit_law.specs.UnitMachine.{Laws, at_register}
-use Rattle.unit_law.proofs.StillLemmas.{chosen}
 use Rattle.avr_twi.specs.declared.registers.Register.{Register}
 use Rattle.avr_twi.specs.declared.registers.Register.TheVariants.{TWBR, TWSR, TWDR, TWCR}
 use Rattle.avr_twi.specs.declared.master.Action.{Action}
@@ -16,7 +16,7 @@ use Rattle.avr_twi.specs.Twi.{Twi, twi, twi_pad, requests, half_period, with_reg
 
 quiet_lines : (m : Master) (o : Option Action) (t : ℕ) (a b : Bool) (next : ℕ) → comes (next_event o) t ≡ false → advanced m o t a b next ≡ m
 quiet_lines m None t a b next h = refl
-quiet_lines m (Some x) t a b next h = chosen (x.event == t) (acted m x.stage x.half t a b next) m h
+quiet_lines m (Some x) t a b next h = cond-false (x.event == t) (acted m x.stage x.half t a b next) m h
 
 pub quiet : (u : Twi) (t : ℕ) (before now : List Level) → twi.due u t ≡ false → twi.step u t before now ≡ u
 quiet u t before now h = ap (λ (m : Master). record u { master = m }) (quiet_lines u.master u.master.action t (sda now) (scl now) (half_period u) h)

@@ -1,11 +1,12 @@
 -- A cycle without an event leaves the USART as it is, unless RXD falls.
 use Rattle.std.specs.Prelude.{◌≡◌, ℕ, Bool, true, false, ◌&&◌, ◌||◌, not, if◌then◌else◌, List, Option, Some, None, ◌==◌, ◌+◌, is_some}
 use Rattle.std.proofs.Common.{refl, ap, sym, ◌∙◌}
+use Rattle.std.proofs.lemmas.Bool.{or_parts, cond-false}
+use Rattle.sim_base.proofs.BoolLemmas.{and_opposite}
 use Rattle.sim_base.specs.declared.signal.Level.{Level}
 use Rattle.unit_law.specs.Bits.{with_bit}
 use Rattle.unit_law.specs.Coming.{comes}
 use Rattle.unit_law.specs.UnitMachine.{Laws, at_register}
-use Rattle.unit_law.proofs.StillLemmas.{neither, chosen}
 use Rattle.avr_usart.specs.declared.format.Format.{Format}
 use Rattle.avr_usart.specs.declared.transmitter.Frame.{Frame}
 use Rattle.avr_usart.specs.declared.transmitter.Transmitter.{Transmitter}
@@ -23,7 +24,7 @@ use Rattle.avr_usart.specs.Usart.{Usart, usart, usart_pad, requests, stepped, wi
 
 quiet_line : (s : Transmitter) (o : Option Frame) (format : Format) (t : ℕ) → comes (bit_end o) t ≡ false → transmitted s o format t ≡ s
 quiet_line s None format t h = refl
-quiet_line s (Some f) format t h = chosen (f.end == t) (bit_over s f format t) s h
+quiet_line s (Some f) format t h = cond-false (f.end == t) (bit_over s f format t) s h
 
 no_byte : (o : Option Frame) (t : ℕ) → comes (bit_end o) t ≡ false → emitted o t ≡ None
 no_byte None t h = refl
@@ -36,13 +37,8 @@ no_byte (Some f) t h = by (f.end == t) (is_last f) h
 -- what RXD does is of no effect where nobody listens, and where it does not fall
 quiet_ear : (s : Receiver) (o : Option Reception) (on : Bool) (format : Format) (t : ℕ) (before now : Bool) →
     comes (next_sample o) t ≡ false → (listens o on && (before && not now)) ≡ false → received s o on format t before now ≡ s
-quiet_ear s None on format t before now h none = chosen (is_start on before now) (record s { reception = Some (heard format t) }) s none
-quiet_ear s (Some r) on format t before now h none = chosen (r.sample == t) (sampled s r t now) s h
-
-no_fall : (on b : Bool) → (on && (b && not b)) ≡ false
-no_fall true true = refl
-no_fall true false = refl
-no_fall false b = refl
+quiet_ear s None on format t before now h none = cond-false (is_start on before now) (record s { reception = Some (heard format t) }) s none
+quiet_ear s (Some r) on format t before now h none = cond-false (r.sample == t) (sampled s r t now) s h
 
 quiet_by : (u : Usart) (t : ℕ) (before now : Bool) → comes (bit_end u.transmitter.frame) t ≡ false → comes (next_sample u.receiver.reception) t ≡ false →
     (listens u.receiver.reception (rxen u) && (before && not now)) ≡ false → stepped u t before now ≡ u
@@ -52,12 +48,12 @@ quiet_by u t before now h k none =
 
 pub quiet : (u : Usart) (t : ℕ) (l : List Level) → usart.due u t ≡ false → usart.step u t l l ≡ u
 quiet u t l h =
-    let d = neither (comes (bit_end u.transmitter.frame) t) (comes (next_sample u.receiver.reception) t) h in
-    quiet_by u t (rxd l) (rxd l) d.0 d.1 (no_fall (listens u.receiver.reception (rxen u)) (rxd l))
+    let d = or_parts (comes (bit_end u.transmitter.frame) t) (comes (next_sample u.receiver.reception) t) h in
+    quiet_by u t (rxd l) (rxd l) d.0 d.1 (and_opposite (listens u.receiver.reception (rxen u)) (rxd l))
 
 unheard : (u : Usart) (t : ℕ) (before now : List Level) → usart.due u t ≡ false → usart.hears u before now ≡ false → usart.step u t before now ≡ u
 unheard u t before now h none =
-    let d = neither (comes (bit_end u.transmitter.frame) t) (comes (next_sample u.receiver.reception) t) h in
+    let d = or_parts (comes (bit_end u.transmitter.frame) t) (comes (next_sample u.receiver.reception) t) h in
     quiet_by u t (rxd before) (rxd now) d.0 d.1 none
 
 same_bit : (a b : Bool) → differ a b ≡ false → b ≡ a
@@ -77,7 +73,7 @@ txd_kept s None format t txen e h = refl
 txd_kept s (Some f) format t txen e h = by (f.end == t)
   where
     d : (is_last f ≡ false) × (differ (frame_bit f.format f.byte f.place) (frame_bit f.format f.byte (f.place + 1)) ≡ false)
-    d = neither (is_last f) (differ (frame_bit f.format f.byte f.place) (frame_bit f.format f.byte (f.place + 1))) h
+    d = or_parts (is_last f) (differ (frame_bit f.format f.byte f.place) (frame_bit f.format f.byte (f.place + 1))) h
 
     next : Frame
     next = record f { place = f.place + 1; end = t + f.format.bit }
@@ -85,7 +81,7 @@ txd_kept s (Some f) format t txen e h = by (f.end == t)
     by : (b : Bool) → txd (if b then bit_over s f format t else s) txen ≡ txd s txen
     by false = refl
     by true =
-        ap (λ (x : Transmitter). txd x txen) (chosen (is_last f) (frame_over s s.buffer format t) (record s { frame = Some next }) d.0)
+        ap (λ (x : Transmitter). txd x txen) (cond-false (is_last f) (frame_over s s.buffer format t) (record s { frame = Some next }) d.0)
         ∙ ap (λ (b : Bool). record untouched { ddoe = txen || true; ddov = txen || true; pvoe = txen || true; pvov = (txen || true) && b }) (same_bit _ _ d.1)
         ∙ ap (λ (x : Option Frame). shown x txen) (sym e)
 
@@ -118,7 +114,7 @@ usart_laws = record {
   keeps_event_moves = λ s t l h. ap (λ (u : Usart). changes_line u.transmitter.frame) (quiet s t l h);
   keeps_requests = λ s t l h. ap requests (quiet s t l h);
   keeps_hears = λ s t l before now h. ap (λ (u : Usart). usart.hears u before now) (quiet s t l h);
-  keeps_silent = λ s t h. no_byte s.transmitter.frame t (neither (comes (bit_end s.transmitter.frame) t) (comes (next_sample s.receiver.reception) t) h).0;
+  keeps_silent = λ s t h. no_byte s.transmitter.frame t (or_parts (comes (bit_end s.transmitter.frame) t) (comes (next_sample s.receiver.reception) t) h).0;
   deaf = λ s t l k h. quiet s t l h ∙ sym (quiet s t k h);
   unheard = λ s t before now h none. unheard s t before now h none ∙ sym (quiet s t now h);
   unheard_requests = λ s before now h. refl;

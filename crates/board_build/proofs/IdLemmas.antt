@@ -6,6 +6,7 @@ use Rattle.std.specs.Str.{bytes_eq}
 use Rattle.std.specs.Borrow.{Bor}
 use Rattle.std.proofs.lemmas.List.{map-append, drop_all}
 use Rattle.std.proofs.lemmas.Iterator.Adapters.{position_from-zero}
+use Rattle.sim_base.proofs.BoolLemmas.{not_swap}
 use Rattle.indexmap.specs.IndexSet.{keys, insert_key}
 use Rattle.sim_base.specs.declared.fault.Refusal.{Refusal}
 use Rattle.sim_base.specs.declared.fault.Place.TheVariants as places
@@ -36,11 +37,7 @@ pub among : (bytes id : List ℕ) (keys : List (Bor (List ℕ))) (new : Bool) �
 among bytes id keys new e h =
     any_mapped (bytes_eq id) (λ (k : Bor (List ℕ)). k.now) keys
     ∙ ap (λ (b : List ℕ). list_any (λ (k : Bor (List ℕ)). bytes_eq b k.now) keys) (sym e)
-    ∙ double (list_any (λ (k : Bor (List ℕ)). bytes_eq bytes k.now) keys) new h
-  where
-    double : (a b : Bool) → b ≡ not a → a ≡ not b
-    double true b h = sym (ap not h)
-    double false b h = sym (ap not h)
+    ∙ not_swap (list_any (λ (k : Bor (List ℕ)). bytes_eq bytes k.now) keys) new h
 
 -- the ids after another one was inserted
 pub added : (k : Bor (List ℕ)) (id : List ℕ) (old new : List (Bor (List ℕ))) → k.now ≡ id → new ≡ insert_key (λ (a b : Bor (List ℕ)). bytes_eq a.now b.now) old k →

@@ -2,6 +2,7 @@
 use Rattle.std.proofs.Common.{◌≡◌, ℕ, zero, suc, ◌+◌, List, ◌∙◌, length, map, false, Option, None, Some, refl, ap, sym, arith}
 use Rattle.std.specs.Prelude.{slice_get}
 use Rattle.std.specs.Option.{is_some}
+use Rattle.std.proofs.lemmas.Bool.{or_parts, not-false}
 use Rattle.sim_base.specs.declared.signal.Level.{Level}
 use Rattle.sim_base.specs.declared.wiring.Wiring.{Wiring}
 use Rattle.sim_base.specs.declared.wiring.Input.{Input}
@@ -9,7 +10,7 @@ use Rattle.part_law.specs.Machine.{Machine, Laws}
 use Rattle.board_model.specs.Board.{level_at, own_nets, levels_of, input_at, part_step, states}
 use Rattle.board_laws.specs.Active.{sum_below, is_active, active_at, active_cycles, active_pairs}
 use Rattle.board_model.proofs.Steps.{get_from}
-use Rattle.board_model.proofs.SameLemmas.{levels_mean, or_left, or_right, not_false}
+use Rattle.board_model.proofs.SameLemmas.{levels_mean}
 
 sum_none : (n : ℕ) → sum_below n (λ k. 0) ≡ 0
 sum_none zero = refl
@@ -35,13 +36,13 @@ module _ {S : Type 0} (m : Machine S) (w : Wiring) (inputs : List Input) where
 
   -- a part that is not active is not due, and steps on the levels that it holds, with nothing from the script
   pub asleep_due : (ls : List Level) (t i : ℕ) (s : S) → is_active m w inputs ls t i s ≡ false → m.due s t ≡ false
-  asleep_due ls t i s h = or_left _ _ h
+  asleep_due ls t i s h = (or_parts _ _ h).0
 
   pub asleep_step : (ls : List Level) (t i : ℕ) (s : S) → is_active m w inputs ls t i s ≡ false → part_step m w inputs ls t i s ≡ m.step s t (m.held s) None
   asleep_step ls t i s h =
-      let rest = or_right (m.due s t) _ h in
-      let input : input_at inputs t i ≡ None = is_none _ (or_left _ _ rest) in
-      let own : map (level_at ls) (own_nets w i (length (m.drives s))) ≡ m.held s = levels_mean _ _ (not_false _ (or_right _ _ rest)) in
+      let rest = (or_parts (m.due s t) _ h).1 in
+      let input : input_at inputs t i ≡ None = is_none _ (or_parts _ _ rest).0 in
+      let own : map (level_at ls) (own_nets w i (length (m.drives s))) ≡ m.held s = levels_mean _ _ (not-false _ (or_parts _ _ rest).1) in
       ap (λ (l : List Level). m.step s t l (input_at inputs t i)) own ∙ ap (λ (o : Option ℕ). m.step s t (m.held s) o) input
 
   -- A part holds the levels that its pins had in the cycle before.

@@ -17,16 +17,17 @@ use Rattle.std.proofs.Math.Seq.{take-append_seam}
 use Rattle.board_laws.specs.Worlds.{is_chip}
 use Rattle.board_model.proofs.Steps.{length-states, pins_of_states, state_before}
 use Rattle.board_laws.specs.InForce.{row_from, row_at, part_drives}
-use Rattle.board_model.proofs.SameLemmas.{levels_mean, drives_mean, and_left, and_right, not_false}
+use Rattle.board_model.proofs.SameLemmas.{levels_mean, drives_mean}
 use Rattle.board_laws.proofs.OwnRows.{is_le, is_gt}
 use Rattle.std.proofs.lemmas.List.{append-nil}
+use Rattle.std.proofs.lemmas.Bool.{and_parts, not-false}
 
 -- what is not new is as it was
 old_is : (a b : Shown) → is_new (Some a) b ≡ false → a ≡ b
 old_is a b h =
-    let both = not_false _ h in
-    let l : a.levels ≡ b.levels = levels_mean a.levels b.levels (and_left _ _ both) in
-    let d : a.chip_drives ≡ b.chip_drives = drives_mean a.chip_drives b.chip_drives (and_right _ _ both) in
+    let both = not-false _ h in
+    let l : a.levels ≡ b.levels = levels_mean a.levels b.levels (and_parts _ _ both).0 in
+    let d : a.chip_drives ≡ b.chip_drives = drives_mean a.chip_drives b.chip_drives (and_parts _ _ both).1 in
     ap (λ (x : List Level). record { levels = x; chip_drives = a.chip_drives }) l ∙ ap (λ (x : List Drive). record { levels = b.levels; chip_drives = x }) d
 
 row_more : (rs : List Row) (found : Option Row) (row : Row) (t : ℕ) → row_from found (rs ++ row ∷ []) t ≡ (if nat_le row.cycle t then Some row else row_from found rs t)

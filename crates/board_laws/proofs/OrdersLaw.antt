@@ -7,6 +7,7 @@ use Rattle.std.proofs.lemmas.Option.{slice_get_within}
 use Rattle.std.proofs.lemmas.List.{length-map}
 use Rattle.std.proofs.lemmas.List.Sorted.{list_any-IsPermutation}
 use Rattle.std.proofs.lemmas.Map.Keys.{IsDistinct-IsPermutation, IsDistinct-from_apart, IsDistinct-head, IsDistinct-tail}
+use Rattle.std.proofs.Math.Bool.{or-true}
 use Rattle.sim_base.specs.declared.signal.Level.{Level}
 use Rattle.sim_base.specs.declared.wiring.Wiring.{Wiring}
 use Rattle.sim_base.specs.declared.wiring.Input.{Input}
@@ -35,11 +36,7 @@ less_differ x y h = grind (arith, nat_tests)
 has_at : (xs : List ℕ) (j k : ℕ) → slice_get xs j ≡ Some k → has k xs ≡ true
 has_at [] j k e = absurd cc
 has_at (x ∷ xs) zero k e = ap (λ (b : Bool). b || has k xs) (ap (λ (y : ℕ). k == y) (some_same e) ∙ same_number k)
-has_at (x ∷ xs) (suc j) k e = ap (λ (b : Bool). (k == x) || b) (has_at xs j k e) ∙ or_true (k == x)
-  where
-    or_true : (b : Bool) → (b || true) ≡ true
-    or_true true = refl
-    or_true false = refl
+has_at (x ∷ xs) (suc j) k e = ap (λ (b : Bool). (k == x) || b) (has_at xs j k e) ∙ or-true (k == x)
 
 absent : (k : ℕ) (xs : List ℕ) → AllByRecursion (λ y. (k == y) ≡ false) xs → has k xs ≡ false
 absent k [] h = refl

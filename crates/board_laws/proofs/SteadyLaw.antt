@@ -3,6 +3,7 @@ use Rattle.std.proofs.Common.{◌≡◌, ◌≢◌, ℕ, zero, suc, ◌+◌, ◌
 use Rattle.std.specs.Prelude.{slice_get, ◌||◌, not, if◌then◌else◌}
 use Rattle.std.specs.Option.{is_some, option_to_list}
 use Rattle.std.proofs.lemmas.Option.{slice_get_within}
+use Rattle.std.proofs.Math.Bool.{or-false}
 use Rattle.sim_base.specs.declared.signal.Level.{Level}
 use Rattle.sim_base.specs.declared.signal.Drive.{Drive}
 use Rattle.sim_base.specs.declared.wiring.Wiring.{Wiring}
@@ -40,10 +41,6 @@ sum_one (suc n) who f h none = elim (lt_suc who n h) [
   | inl less ↦ let o : n ≢ who = omega arith in omega (arith, sum_one n who f less (λ k (l : k < n) p. none k (omega arith) p), none n (omega arith) o)
   | inr same ↦ let e : f who ≡ f n = ap f same in omega (arith, e, sum_zero n f (λ k (l : k < n). let o : k ≢ who = omega arith in none k (omega arith) o))
 ]
-
-or_false : (b : Bool) → (b || false) ≡ b
-or_false true = refl
-or_false false = refl
 
 module _ {S : Type 0} (m : Machine S) (laws : Laws m) where
   -- one that is never due emits nothing, and is due in no cycle
@@ -125,7 +122,7 @@ module _ {S : Type 0} (m : Machine S) (laws : Laws m) (w : Wiring) (inputs : Lis
       ∙ ap (λ (o : Option ℕ). if due || (is_some o || not (same_list same_level (map (level_at (levels_of m w (states m w inputs ss c t))) (own_nets w k (length (m.drives (glide m s c t))))) (m.held (glide m s c t)))) then 1 else 0) (steady.silent t k l)
       ∙ ap (λ (ls : List Level). if due || not (same_list same_level ls (m.held (glide m s c t))) then 1 else 0) own
       ∙ ap (λ (b : Bool). if due || not b then 1 else 0) (levels_are (m.held (glide m s c t)))
-      ∙ ap (λ (b : Bool). if b then 1 else 0) (or_false due)
+      ∙ ap (λ (b : Bool). if b then 1 else 0) (or-false due)
 
   pub steady_active : (t k : ℕ) (s : S) → t < n → slice_get ss k ≡ Some s → active_at m w inputs ss c k t ≡ (if m.due (glide m s c t) (c + t) then 1 else 0)
   steady_active t k s l es =

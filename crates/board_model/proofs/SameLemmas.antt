@@ -1,32 +1,13 @@
 -- Tests that tell levels and drives apart.
-use Rattle.std.proofs.Common.{◌≡◌, ℕ, List, [], ◌∷◌, ◌∙◌, Bool, true, false, refl, ap, arith}
-use Rattle.std.specs.Prelude.{◌==◌, ◌||◌, ◌&&◌, not}
+use Rattle.std.proofs.Common.{◌≡◌, ℕ, List, [], ◌∷◌, ◌∙◌, Bool, true, refl, ap, arith}
+use Rattle.std.specs.Prelude.{◌==◌, ◌&&◌}
 use Rattle.std.proofs.lemmas.Bool.Decides.{nat_tests}
+use Rattle.std.proofs.lemmas.Bool.{and_parts}
 use Rattle.sim_base.specs.declared.signal.Level.{Level}
 use Rattle.sim_base.specs.declared.signal.Level.TheVariants as levels
 use Rattle.sim_base.specs.declared.signal.Drive.{Drive}
 use Rattle.sim_base.specs.declared.signal.Drive.TheVariants as drives
 use Rattle.board_model.specs.Rows.{same_list, same_level, same_drive}
-
-pub and_left : (a b : Bool) → (a && b) ≡ true → a ≡ true
-and_left true b h = refl
-and_left false b h = absurd cc
-
-pub and_right : (a b : Bool) → (a && b) ≡ true → b ≡ true
-and_right true b h = h
-and_right false b h = absurd cc
-
-pub or_left : (a b : Bool) → (a || b) ≡ false → a ≡ false
-or_left true b h = h
-or_left false b h = refl
-
-pub or_right : (a b : Bool) → (a || b) ≡ false → b ≡ false
-or_right true b h = absurd cc
-or_right false b h = h
-
-pub not_false : (b : Bool) → not b ≡ false → b ≡ true
-not_false true h = refl
-not_false false h = absurd cc
 
 eqb_same : (v : ℕ) → (v == v) ≡ true
 eqb_same v = grind (arith, nat_tests)
@@ -75,8 +56,8 @@ lists_mean same means [] [] h = refl
 lists_mean same means [] (y ∷ ys) h = absurd cc
 lists_mean same means (x ∷ xs) [] h = absurd cc
 lists_mean same means (x ∷ xs) (y ∷ ys) h =
-    let a : x ≡ y = means x y (and_left _ _ h) in
-    let b : xs ≡ ys = lists_mean same means xs ys (and_right (same x y) (same_list same xs ys) h) in
+    let a : x ≡ y = means x y (and_parts _ _ h).0 in
+    let b : xs ≡ ys = lists_mean same means xs ys (and_parts (same x y) (same_list same xs ys) h).1 in
     cc
 
 -- lists that are told to be the same are

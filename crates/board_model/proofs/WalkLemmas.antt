@@ -1,29 +1,8 @@
 -- Walks of any length: the definition by at most so many steps finds them all.
-use Rattle.std.proofs.Common.{◌≡◌, ℕ, zero, suc, ◌+◌, ◌<◌, ◌≤◌, Bool, true, false, not, ◌&&◌, ◌||◌, ◌⊎◌, inl, inr, refl, ap, subst, arith, eq-eqb}
-use Rattle.std.proofs.lemmas.Bool.{eqb-true}
+use Rattle.std.proofs.Common.{◌≡◌, ℕ, zero, suc, ◌+◌, ◌<◌, ◌≤◌, Bool, true, false, not, ◌&&◌, ◌⊎◌, inl, inr, refl, ap, subst, arith, eq-eqb}
+use Rattle.std.proofs.lemmas.Bool.{eqb-true, or_left, or_right, or_cases, and_from, and_parts, cases_Bool}
 use Rattle.std.specs.Prelude.{if◌then◌else◌}
 use Rattle.board_model.specs.Walks.{Walk, here, further, any_below, walk_within, leads}
-
-or_left : (a b : Bool) → a ≡ true → (a || b) ≡ true
-or_left a b h = grind arith
-
-or_right : (a b : Bool) → b ≡ true → (a || b) ≡ true
-or_right a b h = grind arith
-
-or_cases : (a b : Bool) → (a || b) ≡ true → (a ≡ true) ⊎ (b ≡ true)
-or_cases true b h = inl refl
-or_cases false b h = inr h
-
-and_both : (a b : Bool) → a ≡ true → b ≡ true → (a && b) ≡ true
-and_both a b h i = grind arith
-
-and_first : (a b : Bool) → (a && b) ≡ true → (a ≡ true) × (b ≡ true)
-and_first true b h = (refl, h)
-and_first false b h = absurd cc
-
-either_way : (b : Bool) → (b ≡ true) ⊎ (b ≡ false)
-either_way true = inl refl
-either_way false = inr refl
 
 lt_split : (j c : ℕ) → j < suc c → (j < c) ⊎ (j ≡ c)
 lt_split j c h = grind arith
@@ -103,7 +82,7 @@ module _ (count : ℕ) (step : ℕ → ℕ → Bool) where
     | inl l ↦ walk_sound k n m l
     | inr r ↦
         let s = some_below count (λ j. walk_within count step k n j && step j m) r in
-        let both = and_first (walk_within count step k n s.0) (step s.0 m) s.2 in
+        let both = and_parts (walk_within count step k n s.0) (step s.0 m) s.2 in
         further s.0 m (walk_sound k n s.0 both.0) both.1
   ]
 
@@ -114,7 +93,7 @@ module _ (count : ℕ) (step : ℕ → ℕ → Bool) where
   within_step : (k n j m : ℕ) → j < count → walk_within count step k n j ≡ true → step j m ≡ true → walk_within count step (suc k) n m ≡ true
   unfolding walk_within
   within_step k n j m l w s =
-      or_right (walk_within count step k n m) _ (any_below_some count (λ i. walk_within count step k n i && step i m) j l (and_both (walk_within count step k n j) (step j m) w s))
+      or_right (walk_within count step k n m) _ (any_below_some count (λ i. walk_within count step k n i && step i m) j l (and_from (walk_within count step k n j) (step j m) w s))
 
   within_here : (k n : ℕ) → walk_within count step k n n ≡ true
   unfolding walk_within
@@ -131,17 +110,17 @@ module _ (count : ℕ) (step : ℕ → ℕ → Bool) where
     | inl a ↦ a
     | inr r ↦
         let s = some_below count (λ j. walk_within count step (suc k) n j && step j m) r in
-        let both = and_first (walk_within count step (suc k) n s.0) (step s.0 m) s.2 in
+        let both = and_parts (walk_within count step (suc k) n s.0) (step s.0 m) s.2 in
         within_step k n s.0 m s.1 (stable s.0 s.1 both.0) both.1
   ]
 
   nothing_new : (k n : ℕ) → any_below count (λ j. walk_within count step (suc k) n j && not (walk_within count step k n j)) ≡ false → IsStable k n
   unfolding IsStable
-  nothing_new k n none m l h = elim (either_way (walk_within count step k n m)) [
+  nothing_new k n none m l h = elim (cases_Bool (walk_within count step k n m)) [
     | inl did ↦ did
     | inr lacks ↦
         let not_it : not (walk_within count step k n m) ≡ true = ap not lacks in
-        let some = any_below_some count (λ j. walk_within count step (suc k) n j && not (walk_within count step k n j)) m l (and_both (walk_within count step (suc k) n m) (not (walk_within count step k n m)) h not_it) in
+        let some = any_below_some count (λ j. walk_within count step (suc k) n j && not (walk_within count step k n j)) m l (and_from (walk_within count step (suc k) n m) (not (walk_within count step k n m)) h not_it) in
         absurd cc
   ]
 
@@ -152,10 +131,10 @@ module _ (count : ℕ) (step : ℕ → ℕ → Bool) where
       omega (arith, h))
   grows (suc k) n l = elim (grows k n l) [
     | inr stable ↦ inr (stable_next k n stable)
-    | inl many ↦ elim (either_way (any_below count (λ j. walk_within count step (suc k) n j && not (walk_within count step k n j)))) [
+    | inl many ↦ elim (cases_Bool (any_below count (λ j. walk_within count step (suc k) n j && not (walk_within count step k n j)))) [
       | inl new ↦
           let s = some_below count (λ j. walk_within count step (suc k) n j && not (walk_within count step k n j)) new in
-          let both = and_first (walk_within count step (suc k) n s.0) (not (walk_within count step k n s.0)) s.2 in
+          let both = and_parts (walk_within count step (suc k) n s.0) (not (walk_within count step k n s.0)) s.2 in
           let lacks : walk_within count step k n s.0 ≡ false = grind (arith, both.1) in
           let h = count_more count (walk_within count step k n) (walk_within count step (suc k) n) (within_more k n) s.0 s.1 lacks both.0 in
           inl (omega (arith, h, many))

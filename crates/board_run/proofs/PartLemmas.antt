@@ -8,6 +8,8 @@ use Rattle.std.proofs.lemmas.List.Folds.{list_any_more}
 use Rattle.std.proofs.lemmas.Nat.Bits.{bit_at_or, bit_at-zero, bit_at-lt, bit_at_set_same, bit_at_set_other}
 use Rattle.std.proofs.lemmas.Nat.{shr-shr}
 use Rattle.std.proofs.lemmas.Option.{slice_get_within}
+use Rattle.std.proofs.lemmas.Bool.{or_parts, and_right}
+use Rattle.std.proofs.Math.Bool.{or-true, or-false}
 use Rattle.sim_base.specs.declared.signal.Level.{Level}
 use Rattle.sim_base.specs.declared.signal.Level.TheVariants as levels
 use Rattle.sim_base.specs.declared.wiring.Wiring.{Wiring}
@@ -17,21 +19,13 @@ use Rattle.board_model.specs.Board.{level_at, own_nets, input_from}
 use Rattle.board_model.specs.Rows.{same_list, same_level}
 use Rattle.board_model.specs.Fits.{Fits}
 use Rattle.board_model.proofs.Lists.{some_same, get_within, get_set_same, get_set_other, some_map, take_whole}
-use Rattle.board_model.proofs.SameLemmas.{or_left, or_right, level_same, list_same, levels_mean}
+use Rattle.board_model.proofs.SameLemmas.{level_same, list_same, levels_mean}
 use Rattle.net_resolve.specs.Circuit.{AreChanged}
 use Rattle.net_resolve.specs.Marked.{has}
 use Rattle.board_run.specs.declared.part_set.PartSet.{PartSet}
 use Rattle.board_run.specs.Parts.{has_part, end_of, part_nets, AreOn}
 use Rattle.board_run.specs.Seen.{levels_on}
 use Rattle.board_run.proofs.ReadLemmas.{place_more}
-
-pub or_true : (b : Bool) → (b || true) ≡ true
-or_true true = refl
-or_true false = refl
-
-pub or_false : (b : Bool) → (b || false) ≡ b
-or_false true = refl
-or_false false = refl
 
 or_bits : (a b : ℕ) → a < 2 → b < 2 → (max a b == 1) ≡ ((a == 1) || (b == 1))
 or_bits zero zero ha hb = refl
@@ -51,9 +45,9 @@ pub with_is : (n i k : ℕ) → i < 64 → (bit_at (bit_or n (1 * 2 ^ i % 2 ^ 64
 with_is n i k within = elim (eqb_tells k i) [
   | inl same ↦
       let set : bit_at (bit_or n (1 * 2 ^ i % 2 ^ 64)) k ≡ 1 = ap (bit_at (bit_or n (1 * 2 ^ i % 2 ^ 64))) same.1 ∙ bit_at_set_same w64 n i within in
-      ap (λ (b : ℕ). b == 1) set ∙ sym (ap (λ (b : Bool). (bit_at n k == 1) || b) same.0 ∙ or_true (bit_at n k == 1))
+      ap (λ (b : ℕ). b == 1) set ∙ sym (ap (λ (b : Bool). (bit_at n k == 1) || b) same.0 ∙ or-true (bit_at n k == 1))
   | inr other ↦
-      ap (λ (b : ℕ). b == 1) (bit_at_set_other w64 n i within k other.1) ∙ sym (ap (λ (b : Bool). (bit_at n k == 1) || b) other.0 ∙ or_false (bit_at n k == 1))
+      ap (λ (b : ℕ). b == 1) (bit_at_set_other w64 n i within k other.1) ∙ sym (ap (λ (b : Bool). (bit_at n k == 1) || b) other.0 ∙ or-false (bit_at n k == 1))
 ]
 
 pub none_has : (k : ℕ) → (bit_at 0 k == 1) ≡ false
@@ -79,13 +73,13 @@ none_before n from p k none least more =
 
 any_false : {A : Type 0} (f : A → Bool) (xs : List A) → list_any f xs ≡ false → (j : ℕ) (x : A) → slice_get xs j ≡ Some x → f x ≡ false
 any_false f [] e j x ex = absurd cc
-any_false f (y ∷ xs) e zero x ex = ap f (sym (some_same ex)) ∙ or_left (f y) (list_any f xs) e
-any_false f (y ∷ xs) e (suc j) x ex = any_false f xs (or_right (f y) (list_any f xs) e) j x ex
+any_false f (y ∷ xs) e zero x ex = ap f (sym (some_same ex)) ∙ (or_parts (f y) (list_any f xs) e).0
+any_false f (y ∷ xs) e (suc j) x ex = any_false f xs (or_parts (f y) (list_any f xs) e).1 j x ex
 
 pub any_true : {A : Type 0} (f : A → Bool) (xs : List A) (j : ℕ) (x : A) → slice_get xs j ≡ Some x → f x ≡ true → list_any f xs ≡ true
 any_true f [] j x ex fx = absurd cc
 any_true f (y ∷ xs) zero x ex fx = ap (λ (b : Bool). b || list_any f xs) (ap f (some_same ex) ∙ fx)
-any_true f (y ∷ xs) (suc j) x ex fx = ap (λ (b : Bool). f y || b) (any_true f xs j x ex fx) ∙ or_true (f y)
+any_true f (y ∷ xs) (suc j) x ex fx = ap (λ (b : Bool). f y || b) (any_true f xs j x ex fx) ∙ or-true (f y)
 
 any_some : {A : Type 0} (f : A → Bool) (xs : List A) → list_any f xs ≡ true → (j : ℕ) × (x : A) × (slice_get xs j ≡ Some x) × (f x ≡ true)
 any_some f [] e = absurd cc
@@ -131,12 +125,12 @@ put_more on nets i j n0 n k a b c d within is_net ec ed before eb = elim (eqb_te
   | inr other ↦
       let this : eqb n (get_or nets j 0) ≡ false = ap (eqb n) (sym is_net) ∙ other.0 in
       before b (sym (get_set_other on n0 n d other.1) ∙ eb)
-      ∙ sym (ap (λ (x : Bool). has_part a k || ((k == i) && x)) (list_any_more (eqb n) nets j 0 within ∙ ap (λ (x : Bool). list_any (eqb n) (take j nets) || x) this ∙ or_false (list_any (eqb n) (take j nets))))
+      ∙ sym (ap (λ (x : Bool). has_part a k || ((k == i) && x)) (list_any_more (eqb n) nets j 0 within ∙ ap (λ (x : Bool). list_any (eqb n) (take j nets) || x) this ∙ or-false (list_any (eqb n) (take j nets))))
 ]
   where
     both : (a i x : Bool) → ((a || (i && x)) || i) ≡ (a || (i && (x || true)))
     both true i x = refl
-    both false true x = or_true x ∙ sym (or_true x)
+    both false true x = or-true x ∙ sym (or-true x)
     both false false x = refl
 
 module _ {S : Type 0} (m : Machine S) (w : Wiring) (ss : List S) (fits : Fits m w ss) where
@@ -221,15 +215,11 @@ drop_item [] j x e = absurd cc
 drop_item {A} (y ∷ xs) zero x e = ap (λ (z : A). z ∷ xs) (some_same e)
 drop_item {A} (y ∷ xs) (suc j) x e = let n : suc j + 1 ≡ suc (j + 1) = omega arith in drop_item xs j x e ∙ ap (λ (k : ℕ). x ∷ drop k (y ∷ xs)) (sym n)
 
-and_none : (a b : Bool) → b ≡ false → (a && b) ≡ false
-and_none true b e = e
-and_none false b e = refl
-
 -- a script's value for another part
 pub given_next : (given : List Input) (j t k : ℕ) (x : Input) → slice_get given j ≡ Some x → x.part ≢ k → input_from None (drop (j + 1) given) t k ≡ input_from None (drop j given) t k
 given_next given j t k x e other =
     let apart : (x.part == k) ≡ false = elim (eqb_tells x.part k) [ inl same ↦ absurd (other same.1) | inr different ↦ different.0 ] in
-    let none : (x.cycle == t && x.part == k) ≡ false = and_none (x.cycle == t) (x.part == k) apart in
+    let none : (x.cycle == t && x.part == k) ≡ false = and_right (x.cycle == t) (x.part == k) apart in
     sym (ap (λ (l : List Input). input_from None l t k) (drop_item given j x e) ∙ ap (λ (b : Bool). input_from (if b then Some x.value else None) (drop (j + 1) given) t k) none)
 
 -- a part that is put or not
@@ -239,7 +229,7 @@ put_here a i x none = ap (λ (b : Bool). b || ((i == i) && x)) none ∙ ap (λ (
 pub put_elsewhere : (a : Bool) (k i : ℕ) (x : Bool) → k ≢ i → (a || ((k == i) && x)) ≡ a
 put_elsewhere a k i x other = elim (eqb_tells k i) [
   | inl same ↦ absurd (other same.1)
-  | inr apart ↦ ap (λ (b : Bool). a || (b && x)) apart.0 ∙ or_false a
+  | inr apart ↦ ap (λ (b : Bool). a || (b && x)) apart.0 ∙ or-false a
 ]
 
 -- the nets of part i's pins, as they are read

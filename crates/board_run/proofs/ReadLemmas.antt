@@ -42,10 +42,6 @@ put_more at n items old mid x put ex room = record {
 pub put_there : {A : Type 0} (at : ℕ) (items xs : List A) → HasAt at items xs → Put at (length items) items xs xs
 put_there at items xs has = record { long = refl; here = has; before = λ j h. refl; after = λ j h. refl }
 
-pub not_so : (b : Bool) → ¬ (b ≡ true) → b ≡ false
-not_so true h = absurd (h refl)
-not_so false h = refl
-
 less_or : (j n : ℕ) → (j < n) ⊎ (n ≤ j)
 less_or j n = grind arith
 

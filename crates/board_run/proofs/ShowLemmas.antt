@@ -3,6 +3,7 @@ use Rattle.std.proofs.Common.{◌≡◌, ℕ, zero, suc, ◌+◌, ◌-◌, ◌<�
 use Rattle.std.specs.Prelude.{◌==◌, ◌||◌, ◌&&◌, if◌then◌else◌, replicate, slice_get}
 use Rattle.std.specs.List.{flat_map}
 use Rattle.std.proofs.lemmas.List.{length-map, append-nil}
+use Rattle.std.proofs.lemmas.Bool.{and_parts}
 use Rattle.sim_base.specs.declared.signal.Level.{Level}
 use Rattle.sim_base.specs.declared.signal.Drive.{Drive}
 use Rattle.sim_base.specs.declared.wiring.Wiring.{Wiring}
@@ -13,7 +14,7 @@ use Rattle.board_model.specs.Resolve.{resolve}
 use Rattle.board_model.specs.Board.{drives_of, contacts_of, levels_of, bytes_of, states, bytes}
 use Rattle.board_model.specs.Rows.{Shown, same_level, same_drive, same_list, same_shown, chip_drives_of, shown_of, is_new, row_if, shown_before, rows}
 use Rattle.board_model.proofs.Lists.{some_same, get_map_some, flat_map_same}
-use Rattle.board_model.proofs.SameLemmas.{level_same, drive_same, list_same, and_left, levels_mean}
+use Rattle.board_model.proofs.SameLemmas.{level_same, drive_same, list_same, levels_mean}
 use Rattle.board_run.specs.Seen.{Seen, IsOf, AreStill, shown, shown_at}
 use Rattle.board_run.specs.Upcoming.{AreBehind}
 use Rattle.board_run.proofs.HandLemmas.{appends_none}
@@ -40,7 +41,7 @@ new_is t seen now same e = go (t == 0) refl
 -- where the same is shown, levels are as before
 pub same_still : {S : Type 0} (m : Machine S) (w : Wiring) (ss : List S) (old new : Seen) (same : Bool) → same ≡ same_shown (shown old) (shown_of m w ss) → same ≡ true → IsOf m w ss new → old.circuit.levels ≡ new.circuit.levels
 same_still m w ss old new same e f is =
-    levels_mean old.circuit.levels (levels_of m w ss) (and_left _ _ (sym e ∙ f)) ∙ sym is.levels_are
+    levels_mean old.circuit.levels (levels_of m w ss) (and_parts _ _ (sym e ∙ f)).0 ∙ sym is.levels_are
 
 pub levels_shown : (t : ℕ) (seen : Seen) (s : Shown) → shown_at t seen ≡ Some s → s.levels ≡ seen.circuit.levels
 levels_shown t seen s e = go (t == 0) e

@@ -17,11 +17,11 @@ use Rattle.board_laws.specs.Stands.{Stands}
 use Rattle.board_laws.proofs.StandsLaw.{stands_here, stands_shows, stands_valid, stands_sleeps, stands_silent}
 use Rattle.std.proofs.lemmas.Option.{slice_get_within}
 use Rattle.std.proofs.lemmas.List.{length-map}
+use Rattle.std.proofs.lemmas.Bool.{or_cases, or_parts}
 use Rattle.sim_base.specs.declared.limits.TheConstants.{MOST_CYCLES}
 use Rattle.board_model.proofs.Lists.{some_same, lt_or_eq, get_set_same, get_set_other, get_within, get_map_some}
 use Rattle.board_model.proofs.Steps.{length-steps_from, get_step}
 use Rattle.board_run.proofs.StepLemmas.{get_answer}
-use Rattle.board_run.proofs.WakeLemmas.{or_none}
 use Rattle.board_run.proofs.NextLemmas.{due_late}
 use Rattle.board_run.specs.declared.part_set.PartSet.{PartSet}
 use Rattle.board_run.specs.Parts.{has_part, AreNone}
@@ -38,10 +38,6 @@ pub some_there : {A : Type 0} (xs : List A) (k : ℕ) → k < length xs → (a :
 some_there [] k h = absurd (omega arith)
 some_there (x ∷ xs) zero h = (x, refl)
 some_there (x ∷ xs) (suc k) h = some_there xs k (omega arith)
-
-pub one_of : (a b : Bool) → (a || b) ≡ true → (a ≡ true) ⊎ (b ≡ true)
-one_of true b e = inl refl
-one_of false b e = inr e
 
 zero_or_more : (t : ℕ) → (t ≡ 0) ⊎ (0 < t)
 zero_or_more t = grind arith
@@ -175,14 +171,14 @@ module _ {S P : Type 0} (m : Machine S) (laws : Laws m) (w : Wiring) (inputs : L
           subst (λ (j : ℕ). slice_get (slice_set answers i byte) j ≡ slice_get (map (λ r. r.1) (steps_from m w inputs ls t 0 ts)) j) (sym same)
           (get_set_same answers i byte room ∙ ap Some turn.byte_is ∙ sym (get_answer m w inputs ls t i ts s es))
     ];
-    still = λ none k u l eu. let both = or_none changed more none in elim (lt_or_eq k i l) [
+    still = λ none k u l eu. let both = or_parts changed more none in elim (lt_or_eq k i l) [
       | inl less ↦ turns.still both.0 k u less eu
       | inr same ↦
           let u_is : s ≡ u = some_same (sym es ∙ subst (λ (j : ℕ). slice_get ts j ≡ Some u) same eu) in
           subst (λ (j : ℕ). SameShow m m (part_step m w inputs ls t j u).0 u) (sym same)
           (subst (λ (x : S). SameShow m m (part_step m w inputs ls t i x).0 x) u_is (still both.1))
     ];
-    moved = λ one. elim (one_of changed more one) [
+    moved = λ one. elim (or_cases changed more one) [
       | inl before ↦ let x = turns.moved before in (x.0, x.1, (let l = x.2 in omega (arith, l)), x.3, x.4)
       | inr here ↦ (i, s, omega arith, es, moved here)
     ];

@@ -1,9 +1,10 @@
 -- Engines that have no event, on levels that stay, stay as they are and ask for nothing.
-use Rattle.std.proofs.Common.{◌≡◌, ℕ, zero, suc, List, [], ◌∷◌, Bool, true, false, Option, None, Some, refl, ap, sym, subst, ◌∙◌}
+use Rattle.std.proofs.Common.{◌≡◌, ℕ, zero, suc, List, [], ◌∷◌, Bool, false, Option, None, Some, refl, ap, sym, subst, ◌∙◌}
 use Rattle.std.specs.Prelude.{◌==◌, ◌&&◌, not, IfSome, slice_get, slice_set, replicate}
+use Rattle.std.proofs.Math.Bool.{and-true}
+use Rattle.std.proofs.lemmas.Bool.{or_parts, cond-false}
 use Rattle.sim_base.specs.declared.signal.Level.{Level}
 use Rattle.unit_law.specs.Coming.{comes}
-use Rattle.unit_law.proofs.StillLemmas.{neither, chosen}
 use Rattle.slave_law.specs.declared.request.EngineRequest.{EngineRequest}
 use Rattle.slave_serial.specs.declared.transaction.Transaction.{Transaction}
 use Rattle.slave_serial.specs.declared.transaction.Transaction.TheVariants.{Idle, Opening, Between, Shifting, Stopped}
@@ -29,14 +30,10 @@ begun (Stopped n d) t h = refl
 pub serial_rests : (s : Serial) (l : Inputs) (t : ℕ) → serial_due s t ≡ false → serial_step s t l l ≡ (s, [])
 serial_rests (serials.Uart u) l t h = ap (by serials.Uart) (uarts.rests u l.first t h)
 serial_rests (serials.Spi s) l t h =
-    let d = neither (is_opening s.transaction) (comes (next_turn s.transaction) t) h in
+    let d = or_parts (is_opening s.transaction) (comes (next_turn s.transaction) t) h in
     ap (λ (x : Transaction). by serials.Spi (spi_step (record s { transaction = x }) t (wires_of l) (wires_of l))) (begun s.transaction t d.0)
     ∙ ap (by serials.Spi) (spis.rests s (wires_of l) t d.1)
 serial_rests (serials.I2c s) l t h = ap (by serials.I2c) (i2cs.rests s (lines_of l))
-
-and_true : (b : Bool) → (b && true) ≡ b
-and_true true = refl
-and_true false = refl
 
 -- the turn of an engine in a later cycle than the first one
 pub engine_rests : (e : Engine) (t : ℕ) (ls : List Level) → (t == 0) ≡ false → serial_due e.serial t ≡ false → engine_turned e t ls ls ≡ (e, [])
@@ -44,9 +41,9 @@ engine_rests e t ls later h =
     let now : Inputs = inputs_of e.pins ls in
     let turned : Inputs → Bool → Engine × List EngineRequest =
     λ (before : Inputs) (first : Bool). (record e { serial = (serial_step e.serial t before now).0; early = e.early && not first }, (serial_step e.serial t before now).1) in
-    ap (λ (before : Inputs). turned before (t == 0)) (chosen (t == 0) (record { first = false; second = false }) now later)
+    ap (λ (before : Inputs). turned before (t == 0)) (cond-false (t == 0) (record { first = false; second = false }) now later)
     ∙ ap (λ (first : Bool). turned now first) later
-    ∙ ap (λ (b : Bool). (record e { serial = (serial_step e.serial t now now).0; early = b }, (serial_step e.serial t now now).1)) (and_true e.early)
+    ∙ ap (λ (b : Bool). (record e { serial = (serial_step e.serial t now now).0; early = b }, (serial_step e.serial t now now).1)) (and-true e.early)
     ∙ ap (λ (p : Serial × List EngineRequest). (record e { serial = p.0 }, p.1)) (serial_rests e.serial now t h)
 
 -- where none is due, that at a place is not
@@ -54,8 +51,8 @@ pub none_due : (t : ℕ) (os : List (Option Engine)) (k : ℕ) (e : Engine) → 
 none_due t [] k e h at = absurd cc
 none_due t (o ∷ os) zero e h at =
     let here : o ≡ Some e = cc in
-    subst (λ (x : Option Engine). engine_due t x ≡ false) here (neither (engine_due t o) (any_engine_due t os) h).0
-none_due t (o ∷ os) (suc k) e h at = none_due t os k e (neither (engine_due t o) (any_engine_due t os) h).1 at
+    subst (λ (x : Option Engine). engine_due t x ≡ false) here (or_parts (engine_due t o) (any_engine_due t os) h).0
+none_due t (o ∷ os) (suc k) e h at = none_due t os k e (or_parts (engine_due t o) (any_engine_due t os) h).1 at
 
 -- what stands at a place, put there again, changes nothing
 pub set_same : {X : Type 0} (xs : List X) (k : ℕ) (x : X) → slice_get xs k ≡ Some x → slice_set xs k x ≡ xs

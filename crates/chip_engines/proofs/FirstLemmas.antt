@@ -2,6 +2,7 @@
 use Rattle.std.proofs.Common.{◌≡◌, ◌≢◌, ◌<◌, ◌≤◌, ◌⊎◌, inl, inr, ℕ, suc, ◌&&◌, ◌||◌, List, [], ◌∷◌, Bool, true, false, Option, None, Some, refl, subst, arith}
 use Rattle.std.specs.Prelude.{◌==◌, nat_le, nat_lt, min, if◌then◌else◌}
 use Rattle.std.proofs.lemmas.Bool.Decides.{leb_tells, eqb_tells}
+use Rattle.std.proofs.lemmas.Bool.{or_from, or_left, or_right}
 use Rattle.sim_base.specs.declared.limits.TheConstants.{MOST_CYCLES}
 use Rattle.unit_law.specs.Coming.{comes}
 use Rattle.slave_serial.specs.Reception.{next_sample}
@@ -19,34 +20,23 @@ abbrev pub First : ℕ → (ℕ → Bool) → Option ℕ → Type 0
 First t f None = (v : ℕ) → t ≤ v → v < MOST_CYCLES → f v ≡ false
 First t f (Some u) = (t ≤ u) × (u < MOST_CYCLES) × (f u ≡ true) × ((v : ℕ) → t ≤ v → v < u → f v ≡ false)
 
-or_no : (a b : Bool) → a ≡ false → b ≡ false → (a || b) ≡ false
-or_no a b p q = cc
-
-or_left : (a b : Bool) → a ≡ true → (a || b) ≡ true
-or_left true b e = refl
-or_left false b e = absurd cc
-
-or_right : (a b : Bool) → b ≡ true → (a || b) ≡ true
-or_right true b e = refl
-or_right false b e = e
-
 le_or : (a b : ℕ) → (a ≤ b) ⊎ (b < a)
 le_or a b = grind arith
 
 module _ (t : ℕ) (f g : ℕ → Bool) where
   pub first_or : (a b : Option ℕ) → First t f a → First t g b → First t (λ v. f v || g v) (earlier a b)
-  first_or None None p q = λ v l e. or_no (f v) (g v) (p v l e) (q v l e)
-  first_or (Some a) None p q = (p.0, p.1, or_left (f a) (g a) p.2, λ v l (h : v < a). or_no (f v) (g v) (p.3 v l h) (q v l (omega (arith, p.1))))
-  first_or None (Some b) p q = (q.0, q.1, or_right (f b) (g b) q.2, λ v l (h : v < b). or_no (f v) (g v) (p v l (omega (arith, q.1))) (q.3 v l h))
+  first_or None None p q = λ v l e. or_from (f v) (g v) (p v l e) (q v l e)
+  first_or (Some a) None p q = (p.0, p.1, or_left (f a) (g a) p.2, λ v l (h : v < a). or_from (f v) (g v) (p.3 v l h) (q v l (omega (arith, p.1))))
+  first_or None (Some b) p q = (q.0, q.1, or_right (f b) (g b) q.2, λ v l (h : v < b). or_from (f v) (g v) (p v l (omega (arith, q.1))) (q.3 v l h))
   first_or (Some a) (Some b) p q =
       elim (le_or a b) [
         | inl h ↦
             let m : a ≡ min a b = omega arith in
-            let w : First t (λ v. f v || g v) (Some a) = (p.0, p.1, or_left (f a) (g a) p.2, λ v l (k : v < a). or_no (f v) (g v) (p.3 v l k) (q.3 v l (omega arith))) in
+            let w : First t (λ v. f v || g v) (Some a) = (p.0, p.1, or_left (f a) (g a) p.2, λ v l (k : v < a). or_from (f v) (g v) (p.3 v l k) (q.3 v l (omega arith))) in
             subst (λ (n : ℕ). First t (λ v. f v || g v) (Some n)) m w
         | inr h ↦
             let m : b ≡ min a b = omega arith in
-            let w : First t (λ v. f v || g v) (Some b) = (q.0, q.1, or_right (f b) (g b) q.2, λ v l (k : v < b). or_no (f v) (g v) (p.3 v l (omega arith)) (q.3 v l k)) in
+            let w : First t (λ v. f v || g v) (Some b) = (q.0, q.1, or_right (f b) (g b) q.2, λ v l (k : v < b). or_from (f v) (g v) (p.3 v l (omega arith)) (q.3 v l k)) in
             subst (λ (n : ℕ). First t (λ v. f v || g v) (Some n)) m w
       ]
 

@@ -1,6 +1,7 @@
 -- What a call into a module leaves of a chip.
 use Rattle.std.proofs.Common.{◌≡◌, ◌≢◌, ℕ, zero, suc, List, [], ◌∷◌, length, reverse, Bool, true, false, Option, None, Some, Result, Ok, Err, refl, sym, ap, subst, ◌∙◌}
-use Rattle.std.specs.Prelude.{if◌then◌else◌, option_to_list}
+use Rattle.std.specs.Prelude.{option_to_list}
+use Rattle.std.proofs.lemmas.Bool.{cond-false, cond-true}
 use Rattle.wasm_num.specs.declared.trap.Trap.{Trap}
 use Rattle.wasm_num.specs.declared.value.Value.{Value}
 use Rattle.wasm_num.specs.declared.value.Value.TheVariants.{I32}
@@ -65,14 +66,6 @@ module _ (r : Running) (h : HostState) (budget : ℕ) (r' : Running) (h' : HostS
       → chip_from r' h' budget (death_of t result) ≡ ended (chip_from r h budget None) t e
   ends_as t result e a w k =
       same_ended t result w.state a w.memory w.globals w.host (around_of r h budget result r' h' e w k) ∙ ap (ended (chip_from r h budget None) t) (sym w.whole)
-
-chosen_second : (b : Bool) (x y : Chip) → b ≡ false → (if b then x else y) ≡ y
-chosen_second true x y e = absurd cc
-chosen_second false x y e = refl
-
-chosen_first : (b : Bool) (x y : Chip) → b ≡ true → (if b then x else y) ≡ x
-chosen_first true x y e = refl
-chosen_first false x y e = absurd cc
 
 host_same : (r : Running) (h : HostState) (budget : ℕ) (init : Bool) (t : ℕ) → h.moment.init ≡ init → h.moment.now ≡ t → host_of (chip_from r h budget None) init t ≡ h
 host_same r h budget init t e q =
@@ -190,10 +183,10 @@ module _ (r : Running) (h : HostState) (budget f : ℕ) (result : Result (Option
 
 -- the start function, and then chipInit where the chip lives
 pub both_set_up : (a b c : Chip) (init : ℕ) → b ≡ a → is_live b ≡ true → c ≡ set_up b init → c ≡ then_set_up a init
-both_set_up a b c init e live q = q ∙ sym (chosen_first (is_live b) (set_up b init) b live) ∙ ap (λ (x : Chip). then_set_up x init) e
+both_set_up a b c init e live q = q ∙ sym (cond-true (is_live b) (set_up b init) b live) ∙ ap (λ (x : Chip). then_set_up x init) e
 
 pub one_set_up : (a b : Chip) (init : ℕ) → b ≡ a → is_live b ≡ false → b ≡ then_set_up a init
-one_set_up a b init e dead = sym (chosen_second (is_live b) (set_up b init) b dead) ∙ ap (λ (x : Chip). then_set_up x init) e
+one_set_up a b init e dead = sym (cond-false (is_live b) (set_up b init) b dead) ∙ ap (λ (x : Chip). then_set_up x init) e
 
 pub started_in : (start : Option ℕ) (s c : Chip) (f : ℕ) → start ≡ Some f → c ≡ set_up s f → c ≡ started start s
 started_in None s c f e q = absurd cc

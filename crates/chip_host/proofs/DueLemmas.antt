@@ -2,6 +2,7 @@
 use Rattle.std.proofs.Common.{◌≡◌, ◌≢◌, ◌<◌, ◌≤◌, ℕ, ◌+◌, ◌-◌, ◌&&◌, ◌||◌, List, [], ◌∷◌, Bool, true, false, Option, None, Some, refl, sym, ap, subst, ◌∙◌, arith}
 use Rattle.std.specs.Prelude.{◌==◌, if◌then◌else◌}
 use Rattle.std.proofs.lemmas.Bool.Decides.{eqb_tells}
+use Rattle.std.proofs.lemmas.Bool.{or_from, or_right, and_right}
 use Rattle.sim_base.specs.declared.limits.TheConstants.{MOST_CYCLES}
 use Rattle.part_law.specs.Machine.{IsFirstDue}
 use Rattle.part_law.proofs.MachineLemmas.{quiet_still, first_still}
@@ -13,13 +14,6 @@ use Rattle.chip_host.specs.FirstDue.{first_due}
 use Rattle.chip_engines.specs.Engine.{any_engine_due}
 use Rattle.chip_engines.specs.FirstDue.{due_from, earlier, first_engine}
 use Rattle.chip_engines.proofs.FirstLemmas.{First, first_or, due_first, engine_first}
-
-or_no : (a b : Bool) → a ≡ false → b ≡ false → (a || b) ≡ false
-or_no a b p q = cc
-
-or_right : (a b : Bool) → b ≡ true → (a || b) ≡ true
-or_right true b e = refl
-or_right false b e = e
 
 eq_no : (u v : ℕ) → u ≢ v → (u == v) ≡ false
 eq_no u v h = grind (arith, eqb_tells u v)
@@ -45,20 +39,16 @@ all_first s t =
     (first_is t s.inventory.timers) (engine_first t s.inventory.engines)
 
 later_due : (s : Chip) (v : ℕ) → v ≢ 0 → (is_live s && its_due s v) ≡ false → chip.due s v ≡ false
-later_due s v h e = or_no (v == 0) (is_live s && its_due s v) (eq_no v 0 h) e
-
-and_no : (a b : Bool) → b ≡ false → (a && b) ≡ false
-and_no true b e = e
-and_no false b e = refl
+later_due s v h e = or_from (v == 0) (is_live s && its_due s v) (eq_no v 0 h) e
 
 by_first : (s : Chip) (t : ℕ) (d : Option ℕ) → t ≢ 0 → t ≤ MOST_CYCLES → is_live s ≡ true → First t (its_due s) d → IsFirstDue chip s t d
 by_first s t None some end live f =
     quiet_still chip (chip_still) s t (MOST_CYCLES - t)
-    (λ k (h : k < MOST_CYCLES - t). later_due s (t + k) (λ e. some (omega (arith, e))) (and_no (is_live s) (its_due s (t + k)) (f (t + k) (omega arith) (omega arith))))
+    (λ k (h : k < MOST_CYCLES - t). later_due s (t + k) (λ e. some (omega (arith, e))) (and_right (is_live s) (its_due s (t + k)) (f (t + k) (omega arith) (omega arith))))
 by_first s t (Some u) some end live f =
     let due : (is_live s && its_due s u) ≡ true = ap (λ (b : Bool). b && its_due s u) live ∙ f.2 in
     first_still chip (chip_still) s t u f.0 f.1
-    (λ k (h : k < u - t). later_due s (t + k) (λ e. some (omega (arith, e))) (and_no (is_live s) (its_due s (t + k)) (f.3 (t + k) (omega arith) (omega (arith, f.0)))))
+    (λ k (h : k < u - t). later_due s (t + k) (λ e. some (omega (arith, e))) (and_right (is_live s) (its_due s (t + k)) (f.3 (t + k) (omega arith) (omega (arith, f.0)))))
     (or_right (u == 0) (is_live s && its_due s u) due)
 
 -- the first due cycle of a live chip behind cycle 0, of a dead one, and of any at cycle 0

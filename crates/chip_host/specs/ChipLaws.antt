@@ -2,6 +2,7 @@
 use Rattle.std.proofs.Common.{◌≡◌, ℕ, zero, suc, List, [], ◌∷◌, length, Bool, true, false, ◌&&◌, ◌||◌, Option, None, Some, refl, sym, ap, ◌∙◌}
 use Rattle.std.specs.Prelude.{◌==◌, if◌then◌else◌, slice_get}
 use Rattle.std.proofs.lemmas.List.FromFn.{length-map-range_with_len}
+use Rattle.std.proofs.lemmas.Bool.{or_parts, and_right, cond-false}
 use Rattle.sim_base.specs.declared.signal.Level.{Level}
 use Rattle.wasm_num.specs.declared.value.Value.{Value}
 use Rattle.wasm_num.specs.declared.value.Value.TheVariants.{I32}
@@ -127,30 +128,14 @@ step_fixed s t ls =
 
 -- ---- cycles in which nothing comes
 
-if_false : (b : Bool) (x y : Chip) → b ≡ false → (if b then x else y) ≡ y
-if_false true x y e = absurd cc
-if_false false x y e = refl
-
-or_first : (a b : Bool) → (a || b) ≡ false → a ≡ false
-or_first true b e = absurd cc
-or_first false b e = refl
-
-or_second : (a b : Bool) → (a || b) ≡ false → b ≡ false
-or_second true b e = absurd cc
-or_second false b e = e
-
 none_due : (t : ℕ) (xs : List Timer) (i : ℕ) → any_due t xs ≡ false → timer_due t (slice_get xs i) ≡ false
 none_due t [] i e = refl
-none_due t (x ∷ xs) zero e = or_first (is_at t x.due) (any_due t xs) e
-none_due t (x ∷ xs) (suc i) e = none_due t xs i (or_second (is_at t x.due) (any_due t xs) e)
+none_due t (x ∷ xs) zero e = (or_parts (is_at t x.due) (any_due t xs) e).0
+none_due t (x ∷ xs) (suc i) e = none_due t xs i (or_parts (is_at t x.due) (any_due t xs) e).1
 
 and_false : (a b c : Bool) → (a && b) ≡ false → (b ≡ false → c ≡ false) → (a && c) ≡ false
 and_false true b c e k = k e
 and_false false b c e k = refl
-
-no_and : (a b : Bool) → b ≡ false → (a && b) ≡ false
-no_and true b e = e
-no_and false b e = refl
 
 no_edge : (e : ℕ) (b : Bool) → is_edge e b b ≡ false
 no_edge e true = refl
@@ -163,13 +148,13 @@ no_fires (Some w) b = no_edge w.edge b
 timers_rest : (s : Chip) (t n : ℕ) → (is_live s && any_due t s.inventory.timers) ≡ false → timer_turns s t n ≡ s
 timers_rest s t zero h = refl
 timers_rest s t (suc n) h =
-    let one : timer_turn s t n ≡ s = if_false _ _ s (and_false (is_live s) (any_due t s.inventory.timers) (timer_due t (slice_get s.inventory.timers n)) h (none_due t s.inventory.timers n)) in
+    let one : timer_turn s t n ≡ s = cond-false _ _ s (and_false (is_live s) (any_due t s.inventory.timers) (timer_due t (slice_get s.inventory.timers n)) h (none_due t s.inventory.timers n)) in
     ap (λ (r : Chip). timer_turn r t n) (timers_rest s t n h) ∙ one
 
 watches_rest : (s : Chip) (t n : ℕ) → watch_turns s t s.held n ≡ s
 watches_rest s t zero = refl
 watches_rest s t (suc n) =
-    let one : watch_turn s t s.held n ≡ s = if_false _ _ s (no_and (is_live s) _ (no_fires (watch_at s.inventory n) (reading s.held n))) in
+    let one : watch_turn s t s.held n ≡ s = cond-false _ _ s (and_right (is_live s) _ (no_fires (watch_at s.inventory n) (reading s.held n))) in
     ap (λ (r : Chip). watch_turn r t s.held n) (watches_rest s t n) ∙ one
 
 no_turn : (s : Chip) (t k : ℕ) (o : Option Engine) → engine_at s.inventory k ≡ o → (t == 0) ≡ false → any_engine_due t s.inventory.engines ≡ false → takes_turn s t s.held k o ≡ s
@@ -194,18 +179,18 @@ engines_rest s t (suc n) later h =
     by false live = refl
 
 and_or_first : (a b c : Bool) → (a && (b || c)) ≡ false → (a && b) ≡ false
-and_or_first true b c h = or_first b c h
+and_or_first true b c h = (or_parts b c h).0
 and_or_first false b c h = refl
 
 and_or_second : (a b c : Bool) → (a && (b || c)) ≡ false → (a && c) ≡ false
-and_or_second true b c h = or_second b c h
+and_or_second true b c h = (or_parts b c h).1
 and_or_second false b c h = refl
 
 -- a cycle in which no timer and no engine is due, on held levels, changes nothing
 pub chip_still : (s : Chip) (t : ℕ) → chip.due s t ≡ false → idle chip s t ≡ s
 chip_still s t h =
-    let later : (t == 0) ≡ false = or_first (t == 0) (is_live s && (any_due t s.inventory.timers || any_engine_due t s.inventory.engines)) h in
-    let none = or_second (t == 0) (is_live s && (any_due t s.inventory.timers || any_engine_due t s.inventory.engines)) h in
+    let later : (t == 0) ≡ false = (or_parts (t == 0) (is_live s && (any_due t s.inventory.timers || any_engine_due t s.inventory.engines)) h).0 in
+    let none = (or_parts (t == 0) (is_live s && (any_due t s.inventory.timers || any_engine_due t s.inventory.engines)) h).1 in
     let timers : timers_first s t ≡ s = timers_rest s t (length s.inventory.timers) (and_or_first (is_live s) (any_due t s.inventory.timers) (any_engine_due t s.inventory.engines) none) in
     ap (λ (r : Chip). engines_last (watch_turns r t s.held (length s.given.names)) t s.held) timers
     ∙ ap (λ (r : Chip). engines_last r t s.held) (watches_rest s t (length s.given.names))
@@ -217,13 +202,13 @@ dead_timers s t n e = timers_rest s t n (ap (λ (b : Bool). b && any_due t s.inv
 dead_watches : (s : Chip) (t : ℕ) (before : List Level) (n : ℕ) → is_live s ≡ false → watch_turns s t before n ≡ s
 dead_watches s t before zero e = refl
 dead_watches s t before (suc n) e =
-    let one : watch_turn s t before n ≡ s = if_false _ _ s (ap (λ (b : Bool). b && watch_fires (watch_at s.inventory n) (reading before n) (reading s.held n)) e) in
+    let one : watch_turn s t before n ≡ s = cond-false _ _ s (ap (λ (b : Bool). b && watch_fires (watch_at s.inventory n) (reading before n) (reading s.held n)) e) in
     ap (λ (r : Chip). watch_turn r t before n) (dead_watches s t before n e) ∙ one
 
 dead_engines : (s : Chip) (t : ℕ) (before : List Level) (n : ℕ) → is_live s ≡ false → engine_turns s t before n ≡ s
 dead_engines s t before zero e = refl
 dead_engines s t before (suc n) e =
-    let one : engine_turn s t before n ≡ s = if_false (is_live s) _ s e in
+    let one : engine_turn s t before n ≡ s = cond-false (is_live s) _ s e in
     ap (λ (r : Chip). engine_turn r t before n) (dead_engines s t before n e) ∙ one
 
 -- a dead chip's step changes nothing but the held levels

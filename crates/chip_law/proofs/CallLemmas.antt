@@ -1,10 +1,10 @@
 -- A pin without a name is never given, and no engine drives it, whatever the host is called for.
-use Rattle.std.proofs.Common.{◌≡◌, ◌≢◌, ◌+◌, ◌==◌, ℕ, zero, suc, List, [], ◌∷◌, length, drop, Bool, true, false, not, ◌&&◌, ◌||◌}
+use Rattle.std.proofs.Common.{◌≡◌, ◌≢◌, ◌+◌, ◌==◌, ℕ, zero, suc, List, [], ◌∷◌, length, drop, Bool, true, false, not, ◌||◌}
 use Rattle.std.proofs.Common.{if◌then◌else◌, Option, None, Some, Result, Ok, Err, refl, ap, sym, ◌∙◌, subst, arith}
 use Rattle.std.specs.Prelude.{nat_lt, slice_get, slice_set, option_map}
 use Rattle.std.specs.List.{list_all, position_from}
 use Rattle.std.specs.Str.{bytes_eq}
-use Rattle.std.proofs.lemmas.Bool.{and_parts, ne_eqb}
+use Rattle.std.proofs.lemmas.Bool.{and_parts, ne_eqb, and_from, not_from_false, both_ways}
 use Rattle.board_model.proofs.Lists.{get_set_other}
 use Rattle.sim_base.specs.declared.signal.Level.{Level}
 use Rattle.wasm_num.specs.declared.trap.Trap.{Trap}
@@ -29,18 +29,6 @@ use Rattle.chip_host.specs.HostCall as calls
 use Rattle.chip_host.specs.HostCall.{Done, and_then, given_pin, uart_from, spi_from, i2c_from, engine_of, set_engine, set_pin, host_at, host_does, answers, kept}
 use Rattle.chip_law.specs.Named.{has_name, is_named, is_at, is_off, IsFree}
 
-and_on : (a b : Bool) → a ≡ true → b ≡ true → (a && b) ≡ true
-and_on true b e f = f
-and_on false b e f = e
-
-pub not_on : (a : Bool) → not a ≡ true → a ≡ false
-not_on true e = absurd cc
-not_on false e = refl
-
-not_off : (a : Bool) → a ≡ false → not a ≡ true
-not_off true e = absurd cc
-not_off false e = refl
-
 -- ---- lists
 
 all_at : {A : Type 0} (p : A → Bool) (xs : List A) (k : ℕ) (x : A) → list_all p xs ≡ true → slice_get xs k ≡ Some x → p x ≡ true
@@ -53,9 +41,9 @@ all_at p (y ∷ xs) (suc k) x all at = all_at p xs k x (and_parts (p y) (list_al
 
 all_set : {A : Type 0} (p : A → Bool) (xs : List A) (k : ℕ) (y : A) → list_all p xs ≡ true → p y ≡ true → list_all p (slice_set xs k y) ≡ true
 all_set p [] k y all new = refl
-all_set p (x ∷ xs) zero y all new = and_on (p y) (list_all p xs) new (and_parts (p x) (list_all p xs) all).1
+all_set p (x ∷ xs) zero y all new = and_from (p y) (list_all p xs) new (and_parts (p x) (list_all p xs) all).1
 all_set p (x ∷ xs) (suc k) y all new =
-    and_on (p x) (list_all p (slice_set xs k y)) (and_parts (p x) (list_all p xs) all).0 (all_set p xs k y (and_parts (p x) (list_all p xs) all).1 new)
+    and_from (p x) (list_all p (slice_set xs k y)) (and_parts (p x) (list_all p xs) all).0 (all_set p xs k y (and_parts (p x) (list_all p xs) all).1 new)
 
 -- the place that a name is found at has a name
 found_named : (text : List ℕ) (names whole : List (Option (List ℕ))) (a i : ℕ) → ((j : ℕ) → slice_get whole (a + j) ≡ slice_get names j) →
@@ -85,10 +73,7 @@ found_named text (Some name ∷ names) whole a i from e = go (bytes_eq text name
 module _ (named : List (Option (List ℕ))) (i : ℕ) (un : is_named named i ≡ false) where
   -- a position that has a name is another
   named_other : (j : ℕ) → is_named named j ≡ true → i ≢ j
-  named_other j is e = both (subst (λ (k : ℕ). is_named named k ≡ false) e un) is
-    where
-      both : {b : Bool} → b ≡ false → b ≡ true → ⊥
-      both p q = cc
+  named_other j is e = both_ways _ (subst (λ (k : ℕ). is_named named k ≡ false) e un) is
 
   -- and so is a pin that was given
   given_other : (d : Inventory) → IsFree i d → (j : ℕ) (p : Pin) → pin_at d j ≡ Some p → i ≢ j
@@ -211,7 +196,7 @@ module _ (named : List (Option (List ℕ))) (i : ℕ) (un : is_named named i ≡
     where
       go : (o : Option Pin) → pin_at d j ≡ o → not (is_at i (option_map (λ (p : Pin). j) o)) ≡ true
       go None e = refl
-      go (Some p) e = not_off (j == i) (ne_eqb j i (λ same. given_other d on j p e (sym same)))
+      go (Some p) e = not_from_false (j == i) (ne_eqb j i (λ same. given_other d on j p e (sym same)))
 
   uart_off : (m : Mem) (addr : ℕ) (d : Inventory) → IsFree i d → IsReadOff (uart_from m addr d)
   uart_off m addr d on =

@@ -3,7 +3,7 @@ use Rattle.std.proofs.Common.{◌≡◌, ◌≢◌, ◌%◌, ◌==◌, ℕ, zero
 use Rattle.std.proofs.Common.{if◌then◌else◌, Option, None, Some, refl, ap, ◌∙◌}
 use Rattle.std.specs.Prelude.{reverse, slice_get, unwrap_or, option_map}
 use Rattle.std.specs.List.{list_all}
-use Rattle.std.proofs.lemmas.Bool.{and_parts}
+use Rattle.std.proofs.lemmas.Bool.{and_parts, not-true}
 use Rattle.sim_base.specs.declared.signal.Drive.{Drive}
 use Rattle.sim_base.specs.declared.signal.Drive.TheVariants as drives
 use Rattle.sim_base.specs.declared.signal.Level.{Level}
@@ -36,7 +36,7 @@ use Rattle.chip_host.specs.Chip.{Chip, chip_step, chip_drive, is_live, host_of, 
 use Rattle.chip_host.specs.Chip.{timer_due, again, with_timer, fired, timer_turns, watch_fires, reading, watched, watch_turns, seeing, timers_first}
 use Rattle.chip_host.specs.Chip.{with_engine, change_by, takes_byte, takes_answer, serves, serves_at, served, next_of, all_served, takes_turn, engine_turns}
 use Rattle.chip_law.specs.Named.{is_named, is_at, is_off, HasFree}
-use Rattle.chip_law.proofs.CallLemmas.{not_on, state_at, free_state, state_is, state_free, host_keeps, engine_off, set_engine_free}
+use Rattle.chip_law.proofs.CallLemmas.{state_at, free_state, state_is, state_free, host_keeps, engine_off, set_engine_free}
 
 module _ (names : List (Option (List ℕ))) (i : ℕ) (un : is_named names i ≡ false) where
   -- ---- calls into the module
@@ -201,7 +201,7 @@ start_named m init given budget i un = if_named given.names i un (is_live s) (se
 module _ (i : ℕ) where
   out_none : (out : Option ℕ) (d : Option Drive) → not (is_at i out) ≡ true → out_drives i out d ≡ None
   out_none None d off = refl
-  out_none (Some out) d off = ap (λ (b : Bool). if b then d else None) (not_on (out == i) off)
+  out_none (Some out) d off = ap (λ (b : Bool). if b then d else None) (not-true (out == i) off)
 
   place_none : (o : Option Engine) → is_off i o ≡ true → place_drives i o ≡ None
   place_none None off = refl

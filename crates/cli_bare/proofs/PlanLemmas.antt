@@ -1,8 +1,8 @@
 -- The plan of one Uno is one that can be run, and the Uno begins in it.
-use Rattle.std.proofs.Common.{◌≡◌, ◌<◌, ◌∙◌, ℕ, zero, suc, List, [], ◌∷◌, ◌++◌, length, take, Bool, true, false, Some, slice_get, nat_lt, refl, ap, sym, subst, ◌&&◌, arith, lit≤}
+use Rattle.std.proofs.Common.{◌≡◌, ◌<◌, ◌∙◌, ℕ, zero, suc, List, [], ◌∷◌, ◌++◌, length, take, true, Some, slice_get, nat_lt, refl, ap, sym, subst, arith, lit≤}
 use Rattle.std.specs.Prelude.{slice_index}
 use Rattle.std.specs.List.{list_all}
-use Rattle.std.proofs.lemmas.Bool.{ltb-true}
+use Rattle.std.proofs.lemmas.Bool.{ltb-true, and_parts}
 use Rattle.std.proofs.lemmas.List.{append-nil}
 use Rattle.sim_base.specs.declared.signal.Drive.{Drive}
 use Rattle.part_catalog.specs.Pins.{pin_names, contacts_in}
@@ -15,14 +15,6 @@ use Rattle.board_build.specs.Pins.{starts_from}
 use Rattle.board_build.specs.IsPlan.{IsPlan}
 use Rattle.cli_bare.specs.Bare.{uno_wiring, uno_plan, uno_starts}
 
-and_left : (a b : Bool) → a && b ≡ true → a ≡ true
-and_left true b h = refl
-and_left false b h = h
-
-and_right : (a b : Bool) → a && b ≡ true → b ≡ true
-and_right true b h = h
-and_right false b h = absurd (cc)
-
 all_below : (bound : ℕ) (xs : List ℕ) → list_all (λ n. nat_lt n bound) xs ≡ true → (k n : ℕ) → slice_get xs k ≡ Some n → n < bound
 all_below bound [] h k n e = absurd (none k e)
   where
@@ -30,10 +22,10 @@ all_below bound [] h k n e = absurd (none k e)
     none zero e = cc
     none (suc k) e = cc
 all_below bound (x ∷ xs) h zero n e =
-    let small : nat_lt x bound ≡ true = and_left (nat_lt x bound) (list_all (λ n. nat_lt n bound) xs) h in
+    let small : nat_lt x bound ≡ true = (and_parts (nat_lt x bound) (list_all (λ n. nat_lt n bound) xs) h).0 in
     let same : x ≡ n = cc in
     subst (λ (y : ℕ). y < bound) same (ltb-true x bound small)
-all_below bound (x ∷ xs) h (suc k) n e = all_below bound xs (and_right (nat_lt x bound) (list_all (λ n. nat_lt n bound) xs) h) k n e
+all_below bound (x ∷ xs) h (suc k) n e = all_below bound xs (and_parts (nat_lt x bound) (list_all (λ n. nat_lt n bound) xs) h).1 k n e
 
 pub is_wiring : IsWiring uno_wiring
 is_wiring = record {

@@ -7,6 +7,7 @@ use Rattle.std.proofs.lemmas.Bool.Decides.{nat_tests}
 use Rattle.std.proofs.lemmas.List.{drop_all, drop_more, length-map, same_lists}
 use Rattle.std.proofs.lemmas.Option.{same_Some, slice_get-get_or}
 use Rattle.std.proofs.lemmas.Slice.Eq.{bytes_eq-Decides}
+use Rattle.std.proofs.Math.Bool.{and-false}
 use Rattle.document_model.specs.declared.project.ChipFile.{ChipFile}
 use Rattle.board_model.specs.Rows.{same_list}
 use Rattle.chip_module.specs.declared.source.ChipSource.{ChipSource}
@@ -78,16 +79,12 @@ unfolding same_below
 below_other zero k a b less other = absurd (omega (arith, less))
 below_other (suc n) k a b less other = elim (last_or k n less) [
   | inl here ↦ let at : (slice_index a n == slice_index b n) ≡ false = other_number (slice_index a n) (slice_index b n) (λ e. other (rw here e)) in
-      ap (λ (x : Bool). same_below n a b && x) at ∙ and_false (same_below n a b)
+      ap (λ (x : Bool). same_below n a b && x) at ∙ and-false (same_below n a b)
   | inr before ↦ ap (λ (x : Bool). x && (slice_index a n == slice_index b n)) (below_other n k a b before other)
 ]
   where
     last_or : (k n : ℕ) → k < suc n → (k ≡ n) ⊎ (k < n)
     last_or k n less = grind (arith, less)
-
-    and_false : (b : Bool) → (b && false) ≡ false
-    and_false true = refl
-    and_false false = refl
 
 -- the same byte at one more address
 pub below_more : (n : ℕ) (a b : List ℕ) → same_below n a b ≡ true → slice_index a n ≡ slice_index b n → same_below (n + 1) a b ≡ true

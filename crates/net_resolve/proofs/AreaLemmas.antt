@@ -1,9 +1,10 @@
 -- Areas: nets without a strong value that contacts and resistors connect.
 use Rattle.std.proofs.Common.{◌≡◌, ◌≢◌, ℕ, ◌<◌, List, length, map, Bool, true, not, refl, ap, sym, ◌∙◌, arith, inl, inr, subst, Some, eq-eqb}
-use Rattle.std.proofs.lemmas.Bool.{eqb-true}
+use Rattle.std.proofs.lemmas.Bool.{eqb-true, or_cases, or_right, and_from, and_parts}
 use Rattle.std.proofs.lemmas.Bool.Decides.{nat_tests}
 use Rattle.std.specs.Prelude.{◌==◌, ◌&&◌, ◌||◌, slice_get, slice_index, nat_lt}
 use Rattle.std.specs.List.{zip}
+use Rattle.std.specs.Cmp.{both_ways}
 use Rattle.board_model.specs.Pairs.{ArePairs}
 use Rattle.sim_base.specs.declared.signal.Drive.{Drive}
 use Rattle.sim_base.specs.declared.signal.Level.{Level}
@@ -17,8 +18,8 @@ use Rattle.union_find.specs.Forest.{AreLabels, IsForest, root_of, same_or, Joins
 use Rattle.net_resolve.specs.Groups.{AreGroups}
 use Rattle.net_resolve.specs.Sums.{is_loose, sum_at, added, strong_level}
 use Rattle.union_find.proofs.ForestLemmas.{label_root}
-use Rattle.union_find.proofs.PairLemmas.{or_cases, or_right, and_both, and_first, joins_cases, contact_of, contact_is, contact_bounds, same_or_swap, walks_start, all_joined}
-use Rattle.net_resolve.proofs.ReachLemmas.{both_ways, any_at, any_some, one_label, loose_is, loose_group, contact_passes}
+use Rattle.union_find.proofs.PairLemmas.{joins_cases, contact_of, contact_is, contact_bounds, same_or_swap, walks_start, all_joined}
+use Rattle.net_resolve.proofs.ReachLemmas.{any_at, any_some, one_label, loose_is, loose_group, contact_passes}
 
 -- What holds once the strong drives are summed by group.
 pub record Grouped (net_of : List ℕ) (contacts resistors : List (ℕ × ℕ)) (closed : List Bool) (ds : List Drive) (groups : List ℕ) (strong : List Level) : Type 0 where
@@ -51,7 +52,7 @@ bridge_of : (groups : List ℕ) (strong : List Level) (rs : List (ℕ × ℕ)) (
 bridge_of groups strong rs x y h =
     let s = contact_of rs (bridges_of groups strong rs) x y h in
     let on : is_bridge groups strong s.1 ≡ true = some_same (sym (some_map (is_bridge groups strong) rs s.0 s.1 s.2) ∙ s.3) in
-    let both = and_first (is_loose groups strong s.1.0) (is_loose groups strong s.1.1) on in
+    let both = and_parts (is_loose groups strong s.1.0) (is_loose groups strong s.1.1) on in
     let by = any_at (λ pair. joins pair x y) rs s.0 s.1 s.2 s.4 in
     elim (joins_cases s.1 x y s.4) [
       | inl same ↦ (by, subst (λ (z : ℕ). is_loose groups strong z ≡ true) same.0 both.0, subst (λ (z : ℕ). is_loose groups strong z ≡ true) same.1 both.1)
@@ -63,8 +64,8 @@ is_over_bridge : (groups : List ℕ) (strong : List Level) (rs : List (ℕ × �
 is_over_bridge groups strong rs x y h lx ly =
     let s = any_some (λ pair. joins pair x y) rs h in
     let on : is_bridge groups strong s.1 ≡ true = elim (joins_cases s.1 x y s.3) [
-      | inl same ↦ and_both (is_loose groups strong s.1.0) (is_loose groups strong s.1.1) (subst (λ (z : ℕ). is_loose groups strong z ≡ true) (sym same.0) lx) (subst (λ (z : ℕ). is_loose groups strong z ≡ true) (sym same.1) ly)
-      | inr back ↦ and_both (is_loose groups strong s.1.0) (is_loose groups strong s.1.1) (subst (λ (z : ℕ). is_loose groups strong z ≡ true) (sym back.0) ly) (subst (λ (z : ℕ). is_loose groups strong z ≡ true) (sym back.1) lx)
+      | inl same ↦ and_from (is_loose groups strong s.1.0) (is_loose groups strong s.1.1) (subst (λ (z : ℕ). is_loose groups strong z ≡ true) (sym same.0) lx) (subst (λ (z : ℕ). is_loose groups strong z ≡ true) (sym same.1) ly)
+      | inr back ↦ and_from (is_loose groups strong s.1.0) (is_loose groups strong s.1.1) (subst (λ (z : ℕ). is_loose groups strong z ≡ true) (sym back.0) ly) (subst (λ (z : ℕ). is_loose groups strong z ≡ true) (sym back.1) lx)
     ] in
     contact_is rs (bridges_of groups strong rs) s.0 s.1 x y s.2 (some_map (is_bridge groups strong) rs s.0 s.1 s.2 ∙ ap Some on) s.3
 
@@ -90,7 +91,7 @@ module _ (net_of : List ℕ) (contacts resistors : List (ℕ × ℕ)) (closed : 
 
   pub passes_within : (x y : ℕ) → passes (length groups) net_of contacts resistors closed ds x y ≡ true → (x < length groups) × (y < length groups)
   passes_within x y h =
-      let both = and_first (not (is_driven (length groups) net_of contacts resistors closed ds x)) (contact_joins contacts closed x y || joined_by resistors x y) h in
+      let both = and_parts (not (is_driven (length groups) net_of contacts resistors closed ds x)) (contact_joins contacts closed x y || joined_by resistors x y) h in
       elim (or_cases (contact_joins contacts closed x y) (joined_by resistors x y) both.1) [
         | inl l ↦ contact_bounds (length groups) contacts closed g.groups_are.contacts_within x y l
         | inr r ↦ joined_within x y r
@@ -106,8 +107,8 @@ module _ (net_of : List ℕ) (contacts resistors : List (ℕ × ℕ)) (closed : 
       let before = bridge_walk n j l loose w in
       elim (or_cases (nat_lt j count && nat_lt m count && (root_of groups j == root_of groups m)) (contact_joins resistors (bridges_of groups strong resistors) j m) s) [
         | inl a ↦
-            let b = and_first (nat_lt j count && nat_lt m count) (root_of groups j == root_of groups m) a in
-            let d = and_first (nat_lt j count) (nat_lt m count) b.0 in
+            let b = and_parts (nat_lt j count && nat_lt m count) (root_of groups j == root_of groups m) a in
+            let d = and_parts (nat_lt j count) (nat_lt m count) b.0 in
             let mn : m < count = lt_of m count d.1 in
             let e : slice_index groups j ≡ slice_index groups m = sym (label_here j before.0) ∙ eqb-true (root_of groups j) (root_of groups m) b.1 ∙ label_here m mn in
             let free : is_loose groups strong m ≡ true = sym (loose_with j m e) ∙ before.1 in
@@ -119,7 +120,7 @@ module _ (net_of : List ℕ) (contacts resistors : List (ℕ × ℕ)) (closed : 
               at.1,
               b.2,
               further j m before.2
-                  (and_both (not (is_driven count net_of contacts resistors closed ds j)) (contact_joins contacts closed j m || joined_by resistors j m)
+                  (and_from (not (is_driven count net_of contacts resistors closed ds j)) (contact_joins contacts closed j m || joined_by resistors j m)
                   (sym (loose_here j before.0) ∙ before.1) (or_right (contact_joins contacts closed j m) (joined_by resistors j m) b.0)),
             )
       ]
@@ -133,7 +134,7 @@ module _ (net_of : List ℕ) (contacts resistors : List (ℕ × ℕ)) (closed : 
     area_same n _ l ln lm here = refl
     area_same n _ l ln lm (further i m w s) =
         let at = passes_within i m s in
-        let both = and_first (not (is_driven (length groups) net_of contacts resistors closed ds i)) (contact_joins contacts closed i m || joined_by resistors i m) s in
+        let both = and_parts (not (is_driven (length groups) net_of contacts resistors closed ds i)) (contact_joins contacts closed i m || joined_by resistors i m) s in
         let li : is_loose groups strong i ≡ true = loose_here i at.0 ∙ both.0 in
         let before = area_same n i l ln li w in
         elim (or_cases (contact_joins contacts closed i m) (joined_by resistors i m) both.1) [

@@ -4,6 +4,8 @@ use Rattle.std.proofs.lemmas.Option.{slice_get_within}
 use Rattle.std.proofs.lemmas.List.Folds.{list_any-append}
 use Rattle.std.specs.Prelude.{◌&&◌, ◌||◌, if◌then◌else◌, filter, slice_get}
 use Rattle.std.specs.List.{zip, list_any, flat_map}
+use Rattle.std.specs.Cmp.{both_ways}
+use Rattle.std.proofs.lemmas.Bool.{cases_Bool, or_cases, or_left, or_right, and_from, and_parts}
 use Rattle.sim_base.specs.declared.signal.Drive.{Drive}
 use Rattle.sim_base.specs.declared.signal.Level.{Level}
 use Rattle.sim_base.specs.Signal.{value_of, strong_of, is_weak}
@@ -13,8 +15,6 @@ use Rattle.board_model.specs.Resolve.{contact_joins, has_strong, is_driven, pass
 use Rattle.board_model.proofs.WalkLemmas.{walk_sound, walk_complete}
 use Rattle.board_model.proofs.Lists.{some_same, get_within, get-below, length-below}
 use Rattle.net_resolve.specs.Subcircuits.{Lacks, AreOnce}
-use Rattle.union_find.proofs.PairLemmas.{or_cases, or_left, or_right, and_both, and_first}
-use Rattle.net_resolve.proofs.ReachLemmas.{both_ways, either_way}
 use Rattle.net_resolve.proofs.ValueLemmas.{any_value}
 use Rattle.net_resolve.proofs.ResolveLemmas.{two_values, AreStrong, values_any, strong_flat, strong_first, any_flat_some, any_flat_at}
 
@@ -52,7 +52,7 @@ module _ (nets : List ℕ) (once : AreOnce nets) (step own : ℕ → ℕ → Boo
       (λ h. walk_complete count step within n m l (walk_in i j n m en em (walk_sound (length nets) own (length nets) i j h)))
 
   pub leads_within : (i n m : ℕ) → slice_get nets i ≡ Some n → Lacks nets m → leads count step n m ≡ false
-  leads_within i n m en lacks = elim (either_way (leads count step n m)) [
+  leads_within i n m en lacks = elim (cases_Bool (leads count step n m)) [
     | inl h ↦ let a = walk_out i n m en (walk_sound count step count n m h) in absurd (lacks a.0 a.1)
     | inr h ↦ h
   ]
@@ -181,29 +181,29 @@ module _ (count : ℕ) (net_of : List ℕ) (contacts resistors : List (ℕ × �
 
   passes_to : (i n m : ℕ) → slice_get nets i ≡ Some n → passes_out n m ≡ true → (j : ℕ) × (slice_get nets j ≡ Some m) × (passes_in i j ≡ true)
   passes_to i n m e h =
-      let both = and_first (not (driven_out n)) (contact_joins contacts closed n m || joined_by resistors n m) h in
+      let both = and_parts (not (driven_out n)) (contact_joins contacts closed n m || joined_by resistors n m) h in
       let free : not (driven_in i) ≡ true = ap not (sym (driven_same i n e)) ∙ both.0 in
       elim (or_cases (contact_joins contacts closed n m) (joined_by resistors n m) both.1) [
         | inl c ↦
             let s = inner.contact_out i n m e c in
-            (s.0, s.1, and_both (not (driven_in i)) (contact_joins own_contacts own_closed i s.0 || joined_by own_resistors i s.0) free (or_left (contact_joins own_contacts own_closed i s.0) (joined_by own_resistors i s.0) s.2))
+            (s.0, s.1, and_from (not (driven_in i)) (contact_joins own_contacts own_closed i s.0 || joined_by own_resistors i s.0) free (or_left (contact_joins own_contacts own_closed i s.0) (joined_by own_resistors i s.0) s.2))
         | inr r ↦
             let s = inner.resistor_out i n m e r in
-            (s.0, s.1, and_both (not (driven_in i)) (contact_joins own_contacts own_closed i s.0 || joined_by own_resistors i s.0) free (or_right (contact_joins own_contacts own_closed i s.0) (joined_by own_resistors i s.0) s.2))
+            (s.0, s.1, and_from (not (driven_in i)) (contact_joins own_contacts own_closed i s.0 || joined_by own_resistors i s.0) free (or_right (contact_joins own_contacts own_closed i s.0) (joined_by own_resistors i s.0) s.2))
       ]
 
   passes_back : (i j n m : ℕ) → slice_get nets i ≡ Some n → slice_get nets j ≡ Some m → passes_in i j ≡ true → passes_out n m ≡ true
   passes_back i j n m e f h =
-      let both = and_first (not (driven_in i)) (contact_joins own_contacts own_closed i j || joined_by own_resistors i j) h in
+      let both = and_parts (not (driven_in i)) (contact_joins own_contacts own_closed i j || joined_by own_resistors i j) h in
       let free : not (driven_out n) ≡ true = ap not (driven_same i n e) ∙ both.0 in
       elim (or_cases (contact_joins own_contacts own_closed i j) (joined_by own_resistors i j) both.1) [
-        | inl c ↦ and_both (not (driven_out n)) (contact_joins contacts closed n m || joined_by resistors n m) free (or_left (contact_joins contacts closed n m) (joined_by resistors n m) (inner.contact_back i j n m e f c))
-        | inr r ↦ and_both (not (driven_out n)) (contact_joins contacts closed n m || joined_by resistors n m) free (or_right (contact_joins contacts closed n m) (joined_by resistors n m) (inner.resistor_back i j n m e f r))
+        | inl c ↦ and_from (not (driven_out n)) (contact_joins contacts closed n m || joined_by resistors n m) free (or_left (contact_joins contacts closed n m) (joined_by resistors n m) (inner.contact_back i j n m e f c))
+        | inr r ↦ and_from (not (driven_out n)) (contact_joins contacts closed n m || joined_by resistors n m) free (or_right (contact_joins contacts closed n m) (joined_by resistors n m) (inner.resistor_back i j n m e f r))
       ]
 
   passes_in_within : (i j : ℕ) → passes_in i j ≡ true → (i < length nets) × (j < length nets)
   passes_in_within i j h =
-      let both = and_first (not (driven_in i)) (contact_joins own_contacts own_closed i j || joined_by own_resistors i j) h in
+      let both = and_parts (not (driven_in i)) (contact_joins own_contacts own_closed i j || joined_by own_resistors i j) h in
       elim (or_cases (contact_joins own_contacts own_closed i j) (joined_by own_resistors i j) both.1) [
         | inl c ↦ inner.own_contacts_within i j c
         | inr r ↦ inner.own_resistors_within i j r
@@ -211,7 +211,7 @@ module _ (count : ℕ) (net_of : List ℕ) (contacts resistors : List (ℕ × �
 
   passes_out_within : (a b : ℕ) → passes_out a b ≡ true → (a < count) × (b < count)
   passes_out_within a b h =
-      let both = and_first (not (driven_out a)) (contact_joins contacts closed a b || joined_by resistors a b) h in
+      let both = and_parts (not (driven_out a)) (contact_joins contacts closed a b || joined_by resistors a b) h in
       elim (or_cases (contact_joins contacts closed a b) (joined_by resistors a b) both.1) [
         | inl c ↦ inner.contacts_within a b c
         | inr r ↦ inner.resistors_within a b r

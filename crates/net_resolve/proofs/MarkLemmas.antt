@@ -1,6 +1,6 @@
 -- Numbers that are marked, each once.
 use Rattle.std.proofs.Common.{◌≡◌, ◌≢◌, ℕ, ◌+◌, ◌<◌, ◌≤◌, List, [], ◌∷◌, ◌++◌, length, Bool, true, false, ◌||◌, refl, ap, sym, ◌∙◌, arith, inl, inr, Some, eqb, eq-eqb, length-append, subst}
-use Rattle.std.proofs.lemmas.Bool.{cases_Bool}
+use Rattle.std.proofs.lemmas.Bool.{cases_Bool, or_parts}
 use Rattle.std.proofs.lemmas.Bool.Decides.{eqb_tells}
 use Rattle.std.proofs.lemmas.List.Folds.{list_any-append}
 use Rattle.std.proofs.lemmas.Map.Steps.{length-le_from_distinct_below}
@@ -43,12 +43,8 @@ with_less ns n m h = elim (eqb_tells m n) [
 pub distinct_push : (ns : List ℕ) (n : ℕ) → has ns n ≡ false → IsDistinct eqb ns → IsDistinct eqb (ns ++ n ∷ [])
 unfolding IsDistinct
 distinct_push [] n h once = (cc, cc)
-distinct_push (x ∷ ns) n h once = (all ns once.0, distinct_push ns n (later (eqb n x) (has ns n) h) once.1)
+distinct_push (x ∷ ns) n h once = (all ns once.0, distinct_push ns n (or_parts (eqb n x) (has ns n) h).1 once.1)
   where
-    later : (a b : Bool) → (a || b) ≡ false → b ≡ false
-    later true b e = absurd cc
-    later false b e = e
-
     apart : eqb x n ≡ false
     apart = elim (eqb_tells x n) [
       | inl e ↦

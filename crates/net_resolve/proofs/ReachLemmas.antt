@@ -1,8 +1,9 @@
 -- Groups are what closed contacts lead to, and areas what is reached over nets without a strong value.
-use Rattle.std.proofs.Common.{◌≡◌, ℕ, zero, suc, ◌<◌, List, [], ◌∷◌, length, Bool, true, false, not, refl, ap, sym, ◌∙◌, arith, ◌⊎◌, inl, inr, Some, eq-eqb}
-use Rattle.std.proofs.lemmas.Bool.{eqb-true}
+use Rattle.std.proofs.Common.{◌≡◌, ℕ, zero, suc, ◌<◌, List, [], ◌∷◌, length, Bool, true, false, not, refl, ap, sym, ◌∙◌, arith, inl, inr, Some, eq-eqb}
+use Rattle.std.proofs.lemmas.Bool.{eqb-true, or_cases, or_left, or_right, and_from}
 use Rattle.std.specs.Prelude.{◌==◌, ◌&&◌, ◌||◌, slice_get, slice_index}
 use Rattle.std.specs.List.{zip, list_any}
+use Rattle.std.specs.Cmp.{both_ways}
 use Rattle.sim_base.specs.declared.signal.Drive.{Drive}
 use Rattle.sim_base.specs.declared.signal.Level.{Level}
 use Rattle.sim_base.specs.declared.signal.Level.TheVariants as levels
@@ -14,22 +15,8 @@ use Rattle.board_model.proofs.WalkLemmas.{walk_sound, walk_complete}
 use Rattle.board_model.proofs.Lists.{some_same}
 use Rattle.net_resolve.specs.Groups.{AreGroups}
 use Rattle.net_resolve.specs.Sums.{is_loose, is_z, sum_at, added, strong_level}
-use Rattle.union_find.proofs.PairLemmas.{or_cases, or_left, or_right, and_both, contact_bounds}
+use Rattle.union_find.proofs.PairLemmas.{contact_bounds}
 use Rattle.net_resolve.proofs.ValueLemmas.{is_z_values, strong_added}
-
--- tests that follow from each other are the same
-pub both_ways : (a b : Bool) → (a ≡ true → b ≡ true) → (b ≡ true → a ≡ true) → a ≡ b
-both_ways true b f g = sym (f refl)
-both_ways false true f g = g refl
-both_ways false false f g = refl
-
-pub either_way : (b : Bool) → (b ≡ true) ⊎ (b ≡ false)
-either_way true = inl refl
-either_way false = inr refl
-
-pub not_false : (b : Bool) → not b ≡ true → b ≡ false
-not_false true h = absurd cc
-not_false false h = refl
 
 -- an item that passes the test
 pub any_at : {A : Type 0} (test : A → Bool) (xs : List A) (k : ℕ) (x : A) → slice_get xs k ≡ Some x → test x ≡ true → list_any test xs ≡ true
@@ -106,5 +93,5 @@ module _ (contacts : List (ℕ × ℕ)) (closed : List Bool) (groups : List ℕ)
         let free : is_loose groups strong j ≡ true = sym (loose_group n j (same_label n j w)) ∙ loose in
         let at = contact_within j m s in
         further j m (contact_passes n j l loose w)
-        (and_both (not (is_driven (length groups) net_of contacts resistors closed ds j)) (contact_joins contacts closed j m || joined_by resistors j m)
+        (and_from (not (is_driven (length groups) net_of contacts resistors closed ds j)) (contact_joins contacts closed j m || joined_by resistors j m)
         (sym (loose_is j at.0) ∙ free) (or_left (contact_joins contacts closed j m) (joined_by resistors j m) s))

@@ -5,6 +5,9 @@ use Rattle.std.proofs.lemmas.List.Folds.{list_any-append}
 use Rattle.std.proofs.lemmas.List.{length-map}
 use Rattle.std.specs.Prelude.{◌==◌, ◌&&◌, ◌||◌, if◌then◌else◌, slice_get, slice_index}
 use Rattle.std.specs.List.{zip, list_any, flat_map}
+use Rattle.std.specs.Cmp.{both_ways}
+use Rattle.std.proofs.lemmas.Bool.{cases_Bool, not-false, or_cases, or_left, or_right, and_from, and_parts}
+use Rattle.std.proofs.Math.Bool.{or-true, and-true, and-false}
 use Rattle.board_model.specs.Pairs.{ArePairs}
 use Rattle.sim_base.specs.declared.signal.Drive.{Drive}
 use Rattle.sim_base.specs.declared.signal.Drive.TheVariants as drives
@@ -18,8 +21,8 @@ use Rattle.board_model.proofs.WalkLemmas.{walk_sound, walk_complete}
 use Rattle.board_model.proofs.Lists.{some_same, get-below, length-below, get_map_some, same_lists}
 use Rattle.union_find.specs.Forest.{AreLabels, Joins}
 use Rattle.net_resolve.specs.Sums.{is_loose, sum_at, added, weak_level, over_adds, resistors_add, together, own_level, level_here}
-use Rattle.union_find.proofs.PairLemmas.{or_cases, or_left, or_right, and_both, and_first, joins_cases, joins_is, joins_swap}
-use Rattle.net_resolve.proofs.ReachLemmas.{both_ways, either_way, any_at, any_some, one_label, strong_is}
+use Rattle.union_find.proofs.PairLemmas.{joins_cases, joins_is, joins_swap}
+use Rattle.net_resolve.proofs.ReachLemmas.{any_at, any_some, one_label, strong_is}
 use Rattle.net_resolve.proofs.AreaLemmas.{Grouped, bridges_of, loose_here, passes_within, area_is}
 use Rattle.net_resolve.proofs.ValueLemmas.{values_together, any_value, weak_of, weak_added, weak_alone}
 
@@ -84,16 +87,12 @@ pub strong_flat : (c a b : ℕ → Bool) (ns : List ℕ) → AreStrong (flat_map
 strong_flat c a b [] = tt
 strong_flat c a b (n ∷ ns) = strong_maybe (c n) (a n) (b n) (flat_map (λ m. if c m then two_values (a m) (b m) else []) ns) (strong_flat c a b ns)
 
-or_true : (b : Bool) → (b || true) ≡ true
-or_true true = refl
-or_true false = refl
-
 -- strong values are none, or more than a lone wiper
 pub strong_first : (ds : List Drive) → AreStrong ds → ((ds ≡ []) × ((any_value true ds || any_value false ds) ≡ false))
     ⊎ (((any_value true ds || any_value false ds) ≡ true) × ((ws : List Drive) → level_of_drives (ds ++ ws) ≡ level_of_all (ds ++ ws)))
 strong_first [] s = inl (refl, refl)
 strong_first (drives.High ∷ ds) s = inr (refl, λ ws. refl)
-strong_first (drives.Low ∷ ds) s = inr (or_true (any_value true ds), λ ws. refl)
+strong_first (drives.Low ∷ ds) s = inr (or-true (any_value true ds), λ ws. refl)
 strong_first (drives.Z ∷ ds) s = absurd s
 strong_first (drives.PullLow ∷ ds) s = absurd s
 strong_first (drives.PullHigh ∷ ds) s = absurd s
@@ -190,12 +189,12 @@ module _ (net_of : List ℕ) (contacts resistors : List (ℕ × ℕ)) (closed : 
       brings v (slice_index areas n) from to ≡ true → any_value v (reached_values n) ≡ true
   brought n from to v ln lf lt free by h =
       let step = passes (length groups) net_of contacts resistors closed ds in
-      let a = and_first ((not (is_loose groups strong from) && is_loose groups strong to) && (slice_index areas to == slice_index areas n)) (has_strong (length groups) net_of contacts resistors closed ds from v) h in
-      let b = and_first (not (is_loose groups strong from) && is_loose groups strong to) (slice_index areas to == slice_index areas n) a.0 in
-      let d = and_first (not (is_loose groups strong from)) (is_loose groups strong to) b.0 in
+      let a = and_parts ((not (is_loose groups strong from) && is_loose groups strong to) && (slice_index areas to == slice_index areas n)) (has_strong (length groups) net_of contacts resistors closed ds from v) h in
+      let b = and_parts (not (is_loose groups strong from) && is_loose groups strong to) (slice_index areas to == slice_index areas n) a.0 in
+      let d = and_parts (not (is_loose groups strong from)) (is_loose groups strong to) b.0 in
       let at_to : reaches (length groups) net_of contacts resistors closed ds n to ≡ true = sym (area n to ln lt free d.1) ∙ b.1 in
       let way = walk_sound (length groups) step (length groups) n to at_to in
-      let pass : step to from ≡ true = and_both (not (is_driven (length groups) net_of contacts resistors closed ds to)) (contact_joins contacts closed to from || joined_by resistors to from)
+      let pass : step to from ≡ true = and_from (not (is_driven (length groups) net_of contacts resistors closed ds to)) (contact_joins contacts closed to from || joined_by resistors to from)
       (sym (loose to lt) ∙ d.1) (or_right (contact_joins contacts closed to from) (joined_by resistors to from) by) in
       let at_from : reaches (length groups) net_of contacts resistors closed ds n from ≡ true = walk_complete (length groups) step within n from ln (further to from way pass) in
       any_flat_at (λ (e : Drive). is_value v (value_of e)) (λ (m : ℕ). if reaches (length groups) net_of contacts resistors closed ds n m then strong_values (length groups) net_of contacts resistors closed ds m else [])
@@ -207,7 +206,7 @@ module _ (net_of : List ℕ) (contacts resistors : List (ℕ × ℕ)) (closed : 
   last_step n _ ln free driven here = absurd cc
   last_step n _ ln free driven (further i m w s) =
       let at = within i m s in
-      let both = and_first (not (is_driven (length groups) net_of contacts resistors closed ds i)) (contact_joins contacts closed i m || joined_by resistors i m) s in
+      let both = and_parts (not (is_driven (length groups) net_of contacts resistors closed ds i)) (contact_joins contacts closed i m || joined_by resistors i m) s in
       let free_i : is_loose groups strong i ≡ true = loose i at.0 ∙ both.0 in
       elim (or_cases (contact_joins contacts closed i m) (joined_by resistors i m) both.1) [
         | inl c ↦
@@ -233,8 +232,8 @@ module _ (net_of : List ℕ) (contacts resistors : List (ℕ × ℕ)) (closed : 
       let at_i : reaches (length groups) net_of contacts resistors closed ds n s.0 ≡ true = walk_complete (length groups) step within n s.0 ln s.3 in
       let same : (slice_index areas s.0 == slice_index areas n) ≡ true = area n s.0 ln s.1 free s.2 ∙ at_i in
       let it : brings v (slice_index areas n) m s.0 ≡ true =
-      and_both ((not (is_loose groups strong m) && is_loose groups strong s.0) && (slice_index areas s.0 == slice_index areas n)) (has_strong (length groups) net_of contacts resistors closed ds m v)
-      (and_both (not (is_loose groups strong m) && is_loose groups strong s.0) (slice_index areas s.0 == slice_index areas n) (and_both (not (is_loose groups strong m)) (is_loose groups strong s.0) (ap not driven) s.2) same) h in
+      and_from ((not (is_loose groups strong m) && is_loose groups strong s.0) && (slice_index areas s.0 == slice_index areas n)) (has_strong (length groups) net_of contacts resistors closed ds m v)
+      (and_from (not (is_loose groups strong m) && is_loose groups strong s.0) (slice_index areas s.0 == slice_index areas n) (and_from (not (is_loose groups strong m)) (is_loose groups strong s.0) (ap not driven) s.2) same) h in
       let r = any_some (λ pair. joins pair s.0 m) resistors s.4 in
       any_at (adds v (slice_index areas n)) resistors r.0 r.1 r.2 (elim (joins_cases r.1 s.0 m r.3) [
         | inl e ↦ or_left (brings v (slice_index areas n) r.1.1 r.1.0) (brings v (slice_index areas n) r.1.0 r.1.1)
@@ -288,23 +287,15 @@ module _ (net_of : List ℕ) (contacts resistors : List (ℕ × ℕ)) (closed : 
     abbrev counts : ℕ → ℕ → Bool
     counts n m = reaches (length groups) net_of contacts resistors closed ds n m && not (is_driven (length groups) net_of contacts resistors closed ds m)
 
-    and_true : (b : Bool) → (b && true) ≡ b
-    and_true true = refl
-    and_true false = refl
-
-    and_false : (b : Bool) → (b && false) ≡ false
-    and_false true = refl
-    and_false false = refl
-
     counts_are : (n m : ℕ) → n < length groups → m < length groups → is_loose groups strong n ≡ true →
         (is_loose groups strong m && (slice_index areas m == slice_index areas n)) ≡ counts n m
-    counts_are n m ln lm free = elim (either_way (is_loose groups strong m)) [
+    counts_are n m ln lm free = elim (cases_Bool (is_loose groups strong m)) [
       | inl e ↦
           ap (λ (b : Bool). b && (slice_index areas m == slice_index areas n)) e ∙ area n m ln lm free e
-          ∙ sym (ap (λ (b : Bool). reaches (length groups) net_of contacts resistors closed ds n m && b) (sym (loose m lm) ∙ e) ∙ and_true (reaches (length groups) net_of contacts resistors closed ds n m))
+          ∙ sym (ap (λ (b : Bool). reaches (length groups) net_of contacts resistors closed ds n m && b) (sym (loose m lm) ∙ e) ∙ and-true (reaches (length groups) net_of contacts resistors closed ds n m))
       | inr e ↦
           ap (λ (b : Bool). b && (slice_index areas m == slice_index areas n)) e
-          ∙ sym (ap (λ (b : Bool). reaches (length groups) net_of contacts resistors closed ds n m && b) (sym (loose m lm) ∙ e) ∙ and_false (reaches (length groups) net_of contacts resistors closed ds n m))
+          ∙ sym (ap (λ (b : Bool). reaches (length groups) net_of contacts resistors closed ds n m && b) (sym (loose m lm) ∙ e) ∙ and-false (reaches (length groups) net_of contacts resistors closed ds n m))
     ]
 
     area_within : (n : ℕ) → n < length groups → slice_index areas n < length groups
@@ -338,7 +329,7 @@ module _ (net_of : List ℕ) (contacts resistors : List (ℕ × ℕ)) (closed : 
         ]
 
     level_is : (n : ℕ) → n < length groups → level_here groups strong areas sums n ≡ level_of (length groups) net_of contacts resistors closed ds n
-    level_is n ln = elim (either_way (is_driven (length groups) net_of contacts resistors closed ds n)) [
+    level_is n ln = elim (cases_Bool (is_driven (length groups) net_of contacts resistors closed ds n)) [
       | inl driven ↦
           let e : is_loose groups strong n ≡ false = loose n ln ∙ ap not driven in
           ap (λ (b : Bool). if b then sum_at sums (slice_index areas n) else sum_at strong (slice_index groups n)) e
@@ -364,11 +355,7 @@ module _ (net_of : List ℕ) (contacts resistors : List (ℕ × ℕ)) (closed : 
       let free : not (is_driven (length groups) net_of contacts resistors closed ds n) ≡ false = sym (loose_here net_of contacts resistors closed ds groups strong g n ln) ∙ driven n ln in
       strong_is contacts closed groups g.groups_are net_of resistors ds strong g.pins_within g.strong_are n ln
       ∙ sym (ap (λ (b : Bool). if b then level_of_values (has_strong (length groups) net_of contacts resistors closed ds n true) (has_strong (length groups) net_of contacts resistors closed ds n false) else level_of_drives (collected (length groups) net_of contacts resistors closed ds n))
-      (not_loose (is_driven (length groups) net_of contacts resistors closed ds n) free))
-    where
-      not_loose : (b : Bool) → not b ≡ false → b ≡ true
-      not_loose true h = refl
-      not_loose false h = absurd cc
+      (not-false (is_driven (length groups) net_of contacts resistors closed ds n) free))
 
   pub driven_are : map (own_level groups strong) (below (length groups)) ≡ resolve (length groups) net_of contacts resistors closed ds
   unfolding resolve

@@ -2,6 +2,8 @@
 use Rattle.std.proofs.Common.{◌≡◌, ℕ, List, [], ◌∷◌, ◌++◌, map, Bool, true, false, not, refl, ap, sym, ◌∙◌, arith, append_assoc}
 use Rattle.std.specs.Prelude.{◌&&◌, ◌||◌, if◌then◌else◌, filter}
 use Rattle.std.specs.List.{list_any}
+use Rattle.std.proofs.Math.Bool.{or_assoc, or-not_self, or-false}
+use Rattle.std.proofs.lemmas.Bool.{not_from_true}
 use Rattle.sim_base.specs.declared.signal.Drive.{Drive}
 use Rattle.sim_base.specs.declared.signal.Drive.TheVariants as drives
 use Rattle.sim_base.specs.declared.signal.Level.{Level}
@@ -42,10 +44,6 @@ is_z_values true false = refl
 is_z_values false true = refl
 is_z_values false false = refl
 
-pub or_again : (a b c : Bool) → ((a || b) || c) ≡ (a || (b || c))
-or_again true b c = refl
-or_again false b c = refl
-
 -- the strong drives of pins, some of which count
 pub strong_added : (counts : ℕ → Bool) (ps : List (ℕ × Drive)) (a b : Bool) →
     added strong_level counts (level_of_values a b) ps
@@ -69,8 +67,8 @@ strong_added counts (p ∷ ps) a b = go (strong_added counts ps) (counts p.0) re
         ap (λ (l : Level). added strong_level counts (together (level_of_values a b) l) ps) (strong_values_of p.1)
         ∙ ap (λ (l : Level). added strong_level counts l ps) (values_together a b (is_value true (strong_of p.1)) (is_value false (strong_of p.1)))
         ∙ ih (a || is_value true (strong_of p.1)) (b || is_value false (strong_of p.1))
-        ∙ ap (λ (x : Bool). level_of_values x ((b || is_value false (strong_of p.1)) || list_any (λ q. counts q.0 && is_value false (strong_of q.1)) ps)) (or_again a (is_value true (strong_of p.1)) _)
-        ∙ ap (λ (y : Bool). level_of_values (a || (is_value true (strong_of p.1) || list_any (λ q. counts q.0 && is_value true (strong_of q.1)) ps)) y) (or_again b (is_value false (strong_of p.1)) _))
+        ∙ ap (λ (x : Bool). level_of_values x ((b || is_value false (strong_of p.1)) || list_any (λ q. counts q.0 && is_value false (strong_of q.1)) ps)) (or_assoc a (is_value true (strong_of p.1)) _)
+        ∙ ap (λ (y : Bool). level_of_values (a || (is_value true (strong_of p.1) || list_any (λ q. counts q.0 && is_value true (strong_of q.1)) ps)) y) (or_assoc b (is_value false (strong_of p.1)) _))
     go ih false e = rw e (ih a b)
 
 -- whether some drive of a list has the value
@@ -113,17 +111,13 @@ other_none drives.PullLow h = absurd cc
 other_none drives.PullHigh h = absurd cc
 other_none (drives.Wiper w) h = absurd cc
 
-not_or : (b : Bool) → (b || not b) ≡ true
-not_or true = refl
-not_or false = refl
-
 some_value : (d : Drive) → is_weak d ≡ true → (is_value true (value_of d) || is_value false (value_of d)) ≡ true
 some_value drives.Z h = absurd cc
 some_value drives.Low h = absurd cc
 some_value drives.High h = absurd cc
 some_value drives.PullLow h = refl
 some_value drives.PullHigh h = refl
-some_value (drives.Wiper w) h = not_or (is_upper w)
+some_value (drives.Wiper w) h = or-not_self (is_upper w)
 
 plus_z : (l : Level) → together l levels.Z ≡ l
 plus_z levels.Low = refl
@@ -153,9 +147,6 @@ or_some a b c d h = grind arith
 or_some_left : (a b c d : Bool) → (a || b) ≡ true → ((a || c) || (b || d)) ≡ true
 or_some_left a b c d h = grind arith
 
-not_true : (b : Bool) → b ≡ true → not b ≡ false
-not_true b e = ap not e
-
 -- weak drives that join values
 pub weak_added : (counts : ℕ → Bool) (ps : List (ℕ × Drive)) (a b : Bool) → (a || b) ≡ true →
     added weak_level counts (level_of_values a b) ps ≡ level_of_values (a || any_value true (weak_of counts ps)) (b || any_value false (weak_of counts ps))
@@ -181,7 +172,7 @@ weak_added counts (p ∷ ps) a b h = go (weak_added counts ps) (counts p.0) refl
     go ih true e true f = rw e (rw f (
         let hi = is_value true (value_of p.1) in
         let lo = is_value false (value_of p.1) in
-        let there : is_z (level_of_values a b) ≡ false = is_z_values a b ∙ not_true (a || b) h in
+        let there : is_z (level_of_values a b) ≡ false = is_z_values a b ∙ not_from_true (a || b) h in
         let sum : together (level_of_values a b) (weak_level p.1) ≡ level_of_values (a || hi) (b || lo) =
         both_there (level_of_values a b) (weak_level p.1) there (weak_there p.1 f)
         ∙ ap (λ (x : Bool). level_of_values (x || has_high (weak_level p.1)) (has_low (level_of_values a b) || has_low (weak_level p.1))) (has_high_values a b)
@@ -190,8 +181,8 @@ weak_added counts (p ∷ ps) a b h = go (weak_added counts ps) (counts p.0) refl
         ∙ ap (λ (x : Bool). level_of_values (a || hi) (b || x)) (weak_low p.1 f) in
         ap (λ (l : Level). added weak_level counts l ps) sum
         ∙ ih (a || hi) (b || lo) (or_some_left a b hi lo h)
-        ∙ ap (λ (x : Bool). level_of_values x ((b || lo) || any_value false (weak_of counts ps))) (or_again a hi (any_value true (weak_of counts ps)))
-        ∙ ap (λ (y : Bool). level_of_values (a || (hi || any_value true (weak_of counts ps))) y) (or_again b lo (any_value false (weak_of counts ps)))))
+        ∙ ap (λ (x : Bool). level_of_values x ((b || lo) || any_value false (weak_of counts ps))) (or_assoc a hi (any_value true (weak_of counts ps)))
+        ∙ ap (λ (y : Bool). level_of_values (a || (hi || any_value true (weak_of counts ps))) y) (or_assoc b lo (any_value false (weak_of counts ps)))))
 
 -- a level that some drives give
 record IsSum (es : List Drive) (sum : Level) : Type 0 where
@@ -201,12 +192,8 @@ record IsSum (es : List Drive) (sum : Level) : Type 0 where
   is : sum ≡ level_of_drives es
 
 any_value_end : (v : Bool) (es : List Drive) (d : Drive) → any_value v (es ++ d ∷ []) ≡ (any_value v es || is_value v (value_of d))
-any_value_end v [] d = or_false (is_value v (value_of d))
-  where
-    or_false : (b : Bool) → (b || false) ≡ b
-    or_false true = refl
-    or_false false = refl
-any_value_end v (e ∷ es) d = ap (λ (x : Bool). is_value v (value_of e) || x) (any_value_end v es d) ∙ sym (or_again (is_value v (value_of e)) (any_value v es) (is_value v (value_of d)))
+any_value_end v [] d = or-false (is_value v (value_of d))
+any_value_end v (e ∷ es) d = ap (λ (x : Bool). is_value v (value_of e) || x) (any_value_end v es d) ∙ sym (or_assoc (is_value v (value_of e)) (any_value v es) (is_value v (value_of d)))
 
 -- two drives or more go by their values
 more_by_values : (e : Drive) (es : List Drive) (d : Drive) → level_of_drives (e ∷ es ++ d ∷ []) ≡ level_of_all (e ∷ es ++ d ∷ [])
@@ -224,11 +211,7 @@ first_sum drives.Low h = absurd cc
 first_sum drives.High h = absurd cc
 first_sum drives.PullLow h = record { there = refl; high = refl; low = refl; is = refl }
 first_sum drives.PullHigh h = record { there = refl; high = refl; low = refl; is = refl }
-first_sum (drives.Wiper w) h = record { there = refl; high = sym (or_false (is_upper w)); low = sym (or_false (not (is_upper w))); is = refl }
-  where
-    or_false : (b : Bool) → (b || false) ≡ b
-    or_false true = refl
-    or_false false = refl
+first_sum (drives.Wiper w) h = record { there = refl; high = sym (or-false (is_upper w)); low = sym (or-false (not (is_upper w))); is = refl }
 
 more_sum : (e : Drive) (es : List Drive) (sum : Level) (d : Drive) → IsSum (e ∷ es) sum → is_weak d ≡ true → IsSum (e ∷ es ++ d ∷ []) (together sum (weak_level d))
 more_sum e es sum d s h =
@@ -246,7 +229,7 @@ more_sum e es sum d s h =
     ap (λ (x : Bool). x || lo) (any_value_end true (e ∷ es) d) ∙ ap (λ (y : Bool). (any_value true (e ∷ es) || is_value true (value_of d)) || y) (any_value_end false (e ∷ es) d)
     ∙ or_some (any_value true (e ∷ es)) (any_value false (e ∷ es)) (is_value true (value_of d)) (is_value false (value_of d)) (some_value d h) in
     record {
-      there = ap is_z is ∙ is_z_values hi lo ∙ not_true (hi || lo) some;
+      there = ap is_z is ∙ is_z_values hi lo ∙ not_from_true (hi || lo) some;
       high = ap has_high is ∙ has_high_values hi lo;
       low = ap has_low is ∙ has_low_values hi lo;
       is = is ∙ sym (more_by_values e es d);

@@ -1,5 +1,5 @@
 -- A part that goes on by itself from due cycle to due cycle.
-use Rattle.std.proofs.Common.{◌≡◌, ℕ, zero, suc, ◌+◌, ◌-◌, ◌<◌, ◌≤◌, List, ◌++◌, Bool, ◌||◌, true, false, Option, None, Some, refl, ap, sym, ◌∙◌, arith, subst, ◌⊎◌, inl, inr}
+use Rattle.std.proofs.Common.{◌≡◌, ℕ, zero, suc, ◌+◌, ◌-◌, ◌<◌, ◌≤◌, List, ◌++◌, true, false, Option, None, Some, refl, ap, sym, ◌∙◌, arith, subst, ◌⊎◌, inl, inr}
 use Rattle.std.specs.Prelude.{if◌then◌else◌}
 use Rattle.std.specs.Option.{option_to_list, is_some}
 use Rattle.sim_base.specs.declared.limits.TheConstants.{MOST_CYCLES}
@@ -120,10 +120,6 @@ module _ {S : Type 0} (m : Machine S) where
     silent = w.sent_is ∙ ap option_to_list none;
     dues_are = w.dues_are;
   }
-
-pub neither : (a b : Bool) → (a || b) ≡ false → (a ≡ false) × (b ≡ false)
-neither true b h = absurd cc
-neither false b h = (refl, h)
 
 pub none_there : (o : Option ℕ) → is_some o ≡ false → o ≡ None
 none_there None h = refl

@@ -1,8 +1,8 @@
 -- The wave of a board tells each pin of a chip that has a name, and it has few variables.
-use Rattle.std.proofs.Common.{◌≡◌, ◌≤◌, ◌+◌, ◌*◌, ◌==◌, ℕ, zero, suc, List, [], ◌∷◌, ◌++◌, length, map, take, Bool, true, false, ◌||◌, Option, None, Some, refl, ap, sym, ◌∙◌, subst, arith}
+use Rattle.std.proofs.Common.{◌≡◌, ◌≤◌, ◌+◌, ◌*◌, ◌==◌, ℕ, zero, suc, List, [], ◌∷◌, ◌++◌, length, map, take, Bool, true, false, Option, None, Some, refl, ap, sym, ◌∙◌, subst, arith}
 use Rattle.std.specs.Prelude.{if◌then◌else◌, slice_get}
 use Rattle.std.specs.List.{All, count_by}
-use Rattle.std.proofs.lemmas.Bool.{eq-eqb}
+use Rattle.std.proofs.lemmas.Bool.{eq-eqb, or_left, or_right}
 use Rattle.std.proofs.lemmas.List.{length-append, length-map, length-take}
 use Rattle.std.proofs.lemmas.List.Elements.{All-map}
 use Rattle.std.proofs.lemmas.List.Folds.{list_any-append}
@@ -24,14 +24,6 @@ use Rattle.chip_module.specs.Sources.{HasFewPins, pins_of}
 use Rattle.board_outputs.specs.Variables.{shown_names, pin_variables, pins_variables, part_variables, parts_variables, board_variables}
 use Rattle.chip_law.specs.Named.{is_named}
 use Rattle.wave_law.specs.Written.{IsTold, is_shown}
-
-or_left : (a b : Bool) → a ≡ true → (a || b) ≡ true
-or_left true b e = refl
-or_left false b e = absurd cc
-
-or_right : (a b : Bool) → b ≡ true → (a || b) ≡ true
-or_right true b e = refl
-or_right false b e = e
 
 shown_left : (test : Source → Bool) (xs ys : List Variable) → is_shown test xs ≡ true → is_shown test (xs ++ ys) ≡ true
 shown_left test xs ys e = list_any-append (λ (v : Variable). test v.shows) xs ys ∙ or_left (is_shown test xs) (is_shown test ys) e

@@ -1,2 +1,3 @@
+pub mod BoolLemmas
 mod MemLemmas
 mod NameLemmas

@@ -1,10 +1,11 @@
 -- What the calls of a bench in memory leave of the environment.
-use Rattle.std.proofs.Common.{◌≡◌, ℕ, List, Bool, true, false, refl, inl, sym, ◌∙◌, Some, Option, ap, cond, ◌∷◌, [], subst, ◌||◌}
+use Rattle.std.proofs.Common.{◌≡◌, ℕ, List, Bool, true, false, refl, inl, sym, ◌∙◌, Some, Option, ap, cond, ◌∷◌, [], subst}
 use Rattle.std.specs.Cmp.Lexicographic.{slice_cmp}
 use Rattle.std.specs.Ordering.{nat_cmp, eq_by_cmp}
 use Rattle.std.specs.FinMap.{from_entries, get, get-empty, get-insert}
 use Rattle.std.proofs.lemmas.Map.Text.{is_eq-slice_cmp}
 use Rattle.std.proofs.lemmas.Cmp.{nat_list_cmp_total}
+use Rattle.std.proofs.Math.Bool.{or-true, or-false}
 use Rattle.sim_base.specs.declared.bench.Port.{Port}
 use Rattle.sim_base.specs.declared.bench.Port.TheVariants as ports
 use Rattle.sim_base.specs.declared.bench.ReadEnd.{ReadEnd}
@@ -13,26 +14,18 @@ use Rattle.sim_base.specs.Causes.{WriteCause}
 use Rattle.sim_base.specs.Outside.{Opens, ReadsFile, ReadsTold}
 use Rattle.sim_base.specs.Mem.{MemState, port_of, with_port, with_open, called, opened, write_end, outside_of, file_in}
 
-or_true : (b : Bool) → b || true ≡ true
-or_true true = refl
-or_true false = refl
-
-or_false : (b : Bool) → b || false ≡ b
-or_false true = refl
-or_false false = refl
-
 -- what a bench is after a port was opened, or failed to open
 abbrev after : MemState → Port → List ℕ → Bool → MemState
 after a p name done = with_open (with_port a p (opened done (port_of a p) name)) p done
 
 opens_here : (s : MemState) (p : Port) (name : List ℕ) (done : Bool) → WriteCause (write_end done) (port_of (called s) p).faults (port_of (after (called s) p name done) p).faults → Opens (write_end done) p name (outside_of s) (outside_of (after (called s) p name done))
 opens_here s ports.Serial name false cause = (inl refl, inl (refl, refl), cause.0, cause.1)
-opens_here s ports.Wave name false cause = (inl (or_false s.wave_open), inl (refl, refl), cause.0, cause.1)
-opens_here s ports.Report name false cause = (inl (or_false s.report_open), inl (refl, refl), cause.0, cause.1)
+opens_here s ports.Wave name false cause = (inl (or-false s.wave_open), inl (refl, refl), cause.0, cause.1)
+opens_here s ports.Report name false cause = (inl (or-false s.report_open), inl (refl, refl), cause.0, cause.1)
 opens_here s ports.Complaint name false cause = (inl refl, inl (refl, refl), cause.0, cause.1)
 opens_here s ports.Serial name true cause = (refl, refl, refl, cause)
-opens_here s ports.Wave name true cause = (or_true s.wave_open, refl, refl, cause)
-opens_here s ports.Report name true cause = (or_true s.report_open, refl, refl, cause)
+opens_here s ports.Wave name true cause = (or-true s.wave_open, refl, refl, cause)
+opens_here s ports.Report name true cause = (or-true s.report_open, refl, refl, cause)
 opens_here s ports.Complaint name true cause = (refl, refl, refl, cause)
 
 -- opening a port, where its count of faults has this cause

@@ -1,11 +1,12 @@
 -- An engine that stays as it is between its events.
 use Rattle.std.proofs.Common.{◌≡◌, ℕ, zero, suc, ◌+◌, ◌-◌, ◌<◌, ◌≤◌, ◌∙◌, Bool, true, false, Option, None, Some, refl, arith, ap, sym, subst}
 use Rattle.std.specs.Prelude.{nat_lt, if◌then◌else◌}
+use Rattle.std.proofs.lemmas.Bool.{cond-false}
 use Rattle.std.proofs.lemmas.Bool.Decides.{nat_tests}
 use Rattle.sim_base.specs.declared.limits.TheConstants.{MOST_CYCLES}
 use Rattle.slave_law.specs.Request.{first_of, rest_of, wants_of}
 use Rattle.unit_law.specs.Coming.{comes, IsAhead, within_run}
-use Rattle.unit_law.proofs.StillLemmas.{still_ahead, chosen}
+use Rattle.unit_law.proofs.StillLemmas.{still_ahead}
 use Rattle.slave_law.specs.Slave.{SlaveMachine, SlaveAt, steps, IsQuiet, IsFirstDue, turned, edged, asked}
 
 not_less : (a b : ℕ) → b ≤ a → nat_lt a b ≡ false
@@ -67,14 +68,14 @@ module _ {S L : Type 0} (m : SlaveMachine S L) (stays : (s : S) (l : L) (t : ℕ
     edged_is l =
         let before = steps m s.slave s.held s.next (t - s.next) in
         ap (λ (x : S). turned m s x t l) (sym (still s.slave s.held s.next (t - s.next) quiet))
-        ∙ sym (chosen (nat_lt t s.next) (record s { asks = rest_of s.asks; wants = wants_of (first_of s.asks) }) (turned m s before t l) in_turn)
+        ∙ sym (cond-false (nat_lt t s.next) (record s { asks = rest_of s.asks; wants = wants_of (first_of s.asks) }) (turned m s before t l) in_turn)
 
     -- what it answers
     pub asked_is : (l : L) → first_of (m.step s.slave t s.held l).1 ≡ asked m s t l
     asked_is l =
         let before = steps m s.slave s.held s.next (t - s.next) in
         ap (λ (x : S). first_of (m.step x t s.held l).1) (sym (still s.slave s.held s.next (t - s.next) quiet))
-        ∙ sym (chosen (nat_lt t s.next) (first_of s.asks) (first_of (m.step before t s.held l).1) in_turn)
+        ∙ sym (cond-false (nat_lt t s.next) (first_of s.asks) (first_of (m.step before t s.held l).1) in_turn)
 
     -- and what is to come is still ahead
     pub ahead_is : (event : S → Option ℕ) → ((u : S) (t : ℕ) → m.due u t ≡ false → comes (event u) t ≡ false) → IsAhead (event s.slave) s.next → IsAhead (event s.slave) t

@@ -1,8 +1,9 @@
 -- A cycle without an event, on wires that stay, leaves an SPI slave as it is, and it asks for nothing.
 use Rattle.std.proofs.Common.{◌≡◌, ℕ, ◌-◌, ◌≤◌, List, [], ◌∷◌, Bool, true, false, not, ◌&&◌, if◌then◌else◌, Option, None, ◌==◌, refl, ap, ◌∙◌, subst}
+use Rattle.std.proofs.lemmas.Bool.{cond-false}
 use Rattle.sim_base.specs.declared.limits.TheConstants.{MOST_CYCLES}
 use Rattle.unit_law.specs.Coming.{comes, IsAhead, or_end, within_run}
-use Rattle.unit_law.proofs.StillLemmas.{chosen, before_it, at_it, ahead_of}
+use Rattle.unit_law.proofs.StillLemmas.{before_it, at_it, ahead_of}
 use Rattle.slave_law.specs.declared.request.EngineRequest.{EngineRequest}
 use Rattle.slave_law.specs.declared.request.EngineRequest.TheVariants as requests
 use Rattle.slave_law.specs.Slave.{SlaveAt, IsQuiet, IsFirstDue}
@@ -22,10 +23,10 @@ no_edge false false = refl
 
 unmoved : (s : Spi) (x : Transaction) (t : ℕ) (mosi : Bool) → comes (next_turn x) t ≡ false → moved s x t false false mosi ≡ (s, [])
 unmoved s Idle t mosi h = refl
-unmoved s (Opening b d) t mosi h = chosen (d == t) (loaded s b false mosi) (s, []) h
+unmoved s (Opening b d) t mosi h = cond-false (d == t) (loaded s b false mosi) (s, []) h
 unmoved s (Between b) t mosi h = refl
 unmoved s (Shifting b x) t mosi h = refl
-unmoved s (Stopped n d) t mosi h = chosen (d == t) (record s { miso = None; transaction = Idle }, requests.Done n ∷ []) (s, []) h
+unmoved s (Stopped n d) t mosi h = cond-false (d == t) (record s { miso = None; transaction = Idle }, requests.Done n ∷ []) (s, []) h
 
 pub rests : (s : Spi) (l : Wires) (t : ℕ) → spi.due s t ≡ false → spi.step s t l l ≡ (s, [])
 rests s l t h =

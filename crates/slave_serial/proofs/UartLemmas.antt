@@ -2,9 +2,10 @@
 use Rattle.std.proofs.Common.{◌≡◌, ℕ, ◌+◌, ◌-◌, ◌≤◌, Bool, true, false, Option, None, Some, ◌==◌, refl, ap, ◌∙◌, subst}
 use Rattle.std.specs.Prelude.{min, if◌then◌else◌, ◌++◌, ◌&&◌, []}
 use Rattle.std.specs.Option.{option_to_list}
+use Rattle.std.proofs.lemmas.Bool.{or_parts, cond-false}
 use Rattle.sim_base.specs.declared.limits.TheConstants.{MOST_CYCLES}
 use Rattle.unit_law.specs.Coming.{comes, IsAhead, or_end, within_run}
-use Rattle.unit_law.proofs.StillLemmas.{neither, chosen, before_both, at_both, ahead_both}
+use Rattle.unit_law.proofs.StillLemmas.{before_both, at_both, ahead_both}
 use Rattle.slave_law.specs.declared.request.EngineRequest.{EngineRequest}
 use Rattle.slave_law.specs.declared.request.EngineRequest.TheVariants as requests
 use Rattle.slave_law.specs.Slave.{SlaveAt, IsQuiet, IsFirstDue}
@@ -20,17 +21,17 @@ use Rattle.slave_serial.specs.Uart.{uart}
 quiet_ear : (o : Option Reception) (bit t : ℕ) (l : Bool) → comes (next_sample o) t ≡ false → received o bit t l l ≡ o
 quiet_ear None bit t true h = refl
 quiet_ear None bit t false h = refl
-quiet_ear (Some r) bit t l h = chosen (r.sample == t) (sampled r bit t l) (Some r) h
+quiet_ear (Some r) bit t l h = cond-false (r.sample == t) (sampled r bit t l) (Some r) h
 
 quiet_line : (s : Sending) (bit t : ℕ) → comes (bit_end s) t ≡ false → sent s bit t ≡ s
 quiet_line Idle bit t h = refl
-quiet_line (Empty d) bit t h = chosen (d == t) Idle (Empty d) h
-quiet_line (Start b d) bit t h = chosen (d == t) (Bits b (record { byte = 0; place = 0; end = t + bit - 1 })) (Start b d) h
-quiet_line (Bits b f) bit t h = chosen (f.end == t) (bit_over b f bit t) (Bits b f) h
+quiet_line (Empty d) bit t h = cond-false (d == t) Idle (Empty d) h
+quiet_line (Start b d) bit t h = cond-false (d == t) (Bits b (record { byte = 0; place = 0; end = t + bit - 1 })) (Start b d) h
+quiet_line (Bits b f) bit t h = cond-false (f.end == t) (bit_over b f bit t) (Bits b f) h
 
 pub stays : (u : Uart) (l : Bool) (t : ℕ) → uart.due u t ≡ false → (uart.step u t l l).0 ≡ u
 stays u l t h =
-    let d = neither (comes (bit_end u.sending) t) (comes (next_sample u.reception) t) h in
+    let d = or_parts (comes (bit_end u.sending) t) (comes (next_sample u.reception) t) h in
     ap (λ (o : Option Reception). record u { reception = o; sending = sent u.sending u.bit t }) (quiet_ear u.reception u.bit t l d.1)
     ∙ ap (λ (s : Sending). record u { sending = s }) (quiet_line u.sending u.bit t d.0)
 
@@ -40,13 +41,13 @@ hears_none (Some r) t l h = ap (λ (b : Bool). if b && (r.place == 9 && l) then 
 
 asks_none : (s : Sending) (t : ℕ) → comes (bit_end s) t ≡ false → put_out s t ≡ None
 asks_none Idle t h = refl
-asks_none (Empty d) t h = chosen (d == t) (Some requests.Sent) None h
-asks_none (Start b d) t h = chosen (d == t) (Some (requests.Fetch b.index)) None h
+asks_none (Empty d) t h = cond-false (d == t) (Some requests.Sent) None h
+asks_none (Start b d) t h = cond-false (d == t) (Some (requests.Fetch b.index)) None h
 asks_none (Bits b f) t h = ap (λ (c : Bool). if c && (f.place == 9 && b.index + 1 == b.count) then Some requests.Sent else None) h
 
 pub rests : (u : Uart) (l : Bool) (t : ℕ) → uart.due u t ≡ false → uart.step u t l l ≡ (u, [])
 rests u l t h =
-    let d = neither (comes (bit_end u.sending) t) (comes (next_sample u.reception) t) h in
+    let d = or_parts (comes (bit_end u.sending) t) (comes (next_sample u.reception) t) h in
     let after : (uart.step u t l l).0 ≡ u = stays u l t h in
     ap (λ (v : Uart). (v, option_to_list (taken_in u.reception t l) ++ option_to_list (put_out u.sending t))) after
     ∙ ap (λ (o : Option EngineRequest). (u, option_to_list o ++ option_to_list (put_out u.sending t))) (hears_none u.reception t l d.1)
@@ -58,12 +59,12 @@ module _ (v s : SlaveAt Uart Bool) (same : v ≡ s) where
     pub sends_then : Sends v.slave.sending v.next → Sends s.slave.sending t
     sends_then h =
         let stands : Sends s.slave.sending s.next = subst (λ (x : SlaveAt Uart Bool). Sends x.slave.sending x.next) same h in
-        record { sound = stands.sound; ahead = ahead_is uart stays v s same t here quiet (λ u. bit_end u.sending) (λ u t due. (neither _ _ due).0) stands.ahead }
+        record { sound = stands.sound; ahead = ahead_is uart stays v s same t here quiet (λ u. bit_end u.sending) (λ u t due. (or_parts _ _ due).0) stands.ahead }
 
     pub receives_then : Receives v.slave.reception v.next → Receives s.slave.reception t
     receives_then h =
         let stands : Receives s.slave.reception s.next = subst (λ (x : SlaveAt Uart Bool). Receives x.slave.reception x.next) same h in
-        ahead_is uart stays v s same t here quiet (λ u. next_sample u.reception) (λ u t due. (neither _ _ due).1) stands
+        ahead_is uart stays v s same t here quiet (λ u. next_sample u.reception) (λ u t due. (or_parts _ _ due).1) stands
 
   -- the answer of `due`
   pub first_by : (r : Option ℕ) → r ≡ within_run (min (or_end (bit_end v.slave.sending)) (or_end (next_sample v.slave.reception))) →

@@ -1,15 +1,11 @@
 -- Nets that are noted one after another.
 use Rattle.std.proofs.Common.{◌≡◌, ℕ, ◌+◌, ◌<◌, ◌≤◌, List, [], ◌∷◌, ◌++◌, length, Bool, true, false, ◌||◌, refl, ap, sym, ◌∙◌, arith, inl, inr, eqb, subst, ◌≢◌}
-use Rattle.std.proofs.lemmas.Bool.{cases_lt}
+use Rattle.std.proofs.lemmas.Bool.{cases_lt, or_parts}
 use Rattle.std.proofs.lemmas.Option.{slice_get_past}
 use Rattle.std.proofs.lemmas.Bool.Decides.{eqb_tells}
 use Rattle.std.proofs.lemmas.List.Folds.{list_any-append}
 use Rattle.std.specs.List.{list_any}
 use Rattle.std.specs.Prelude.{if◌then◌else◌, slice_get}
-
-or_first : (a b : Bool) → (a || b) ≡ false → a ≡ false
-or_first true b h = h
-or_first false b h = refl
 
 or_second : (a b : Bool) → (a || (b || false)) ≡ false → b ≡ false
 or_second true b h = absurd cc
@@ -28,7 +24,7 @@ note_more nets new i other P e here before n less none = elim (eqb_tells n i) [
     both = list_any-append (eqb n) nets (i ∷ [])
 
     still : (other : Bool) → new ≡ (if other then nets ++ i ∷ [] else nets) → list_any (eqb n) nets ≡ false
-    still true f = or_first _ _ (sym both ∙ ap (list_any (eqb n)) (sym f) ∙ none)
+    still true f = (or_parts _ _ (sym both ∙ ap (list_any (eqb n)) (sym f) ∙ none)).0
     still false f = ap (list_any (eqb n)) (sym f) ∙ none
 
     off : (other : Bool) → eqb n i ≡ true → new ≡ (if other then nets ++ i ∷ [] else nets) → other ≡ false

@@ -4,11 +4,12 @@ use Rattle.std.specs.Prelude.{replicate, slice_get, slice_index, slice_set}
 use Rattle.std.proofs.lemmas.Bool.Decides.{eqb_tells}
 use Rattle.std.proofs.lemmas.List.{drop_more, get_or-set_other, get_or-set_same, length-set}
 use Rattle.std.proofs.lemmas.Option.{get_or_from_slice_get, slice_get_read, slice_get_within}
+use Rattle.std.proofs.lemmas.Bool.{or_parts}
 use Rattle.part_law.specs.declared.span.Span.{Span}
 use Rattle.part_law.specs.Spans.{IsIn, no_pins}
 use Rattle.board_laws.specs.Player.{DriveRows, has_row}
 use Rattle.trace_run.specs.Rows.{AreAllPast, AreCounts, ArePast, IsCount, IsNext, any_row, earlier}
-use Rattle.trace_run.proofs.RowLemmas.{count_later, neither, next_earlier}
+use Rattle.trace_run.proofs.RowLemmas.{count_later, next_earlier}
 
 some_is : (a b : DriveRows) → Some a ≡ Some b → a ≡ b
 some_is a b e = cc
@@ -33,8 +34,8 @@ still_past pins c t counts later are i rows at =
 own_none : (pins : List DriveRows) (v i : ℕ) (rows : DriveRows) → slice_get pins i ≡ Some rows → any_row pins v ≡ false → has_row rows v ≡ false
 own_none [] v zero rows at none = absurd cc
 own_none [] v (suc i) rows at none = absurd cc
-own_none (pin ∷ pins) v zero rows at none = ap (λ (x : DriveRows). has_row x v) (sym (some_is pin rows at)) ∙ (neither (has_row pin v) (any_row pins v) none).0
-own_none (pin ∷ pins) v (suc i) rows at none = own_none pins v i rows at (neither (has_row pin v) (any_row pins v) none).1
+own_none (pin ∷ pins) v zero rows at none = ap (λ (x : DriveRows). has_row x v) (sym (some_is pin rows at)) ∙ (or_parts (has_row pin v) (any_row pins v) none).0
+own_none (pin ∷ pins) v (suc i) rows at none = own_none pins v i rows at (or_parts (has_row pin v) (any_row pins v) none).1
 
 pub counts_later : (pins : List DriveRows) (c to : ℕ) (counts : List ℕ) → c ≤ to → ((v : ℕ) → c < v → v ≤ to → any_row pins v ≡ false) → AreCounts pins c counts → AreCounts pins to counts
 counts_later pins c to counts later none are i rows at = count_later rows c (slice_index counts i) (are i rows at) to later (λ v h l. own_none pins v i rows at (none v h l))

@@ -1,7 +1,7 @@
 -- What rows say at a cycle, how many are past, and the next of them.
 use Rattle.std.proofs.Common.{◌≡◌, ◌<◌, ◌≤◌, ◌⊎◌, inl, inr, ℕ, zero, suc, ◌+◌, List, [], ◌∷◌, length, map, Bool, true, false, Option, None, Some, refl, sym, ap, ◌∙◌, arith, subst, get_or}
 use Rattle.std.specs.Prelude.{◌==◌, ◌||◌, nat_le, min, if◌then◌else◌, slice_get, slice_index, option_map}
-use Rattle.std.proofs.lemmas.Bool.{cases_lt}
+use Rattle.std.proofs.lemmas.Bool.{cases_lt, or_from, or_left, or_right}
 use Rattle.std.proofs.lemmas.List.{get_or_default}
 use Rattle.std.proofs.lemmas.Option.{slice_get-map}
 use Rattle.std.proofs.lemmas.Bool.Decides.{leb_tells, eqb_tells}
@@ -33,30 +33,16 @@ eq_no u v h = grind (arith, eqb_tells u v)
 pub eq_yes : (u v : ℕ) → u ≡ v → (u == v) ≡ true
 eq_yes u v h = grind (arith, eqb_tells u v)
 
-pub or_none : (a b : Bool) → a ≡ false → b ≡ false → (a || b) ≡ false
-or_none a b p q = cc
-
-or_first : (a b : Bool) → a ≡ true → (a || b) ≡ true
-or_first a b p = cc
-
-pub or_second : (a b : Bool) → b ≡ true → (a || b) ≡ true
-or_second true b p = refl
-or_second false b p = p
-
-pub neither : (a b : Bool) → (a || b) ≡ false → (a ≡ false) × (b ≡ false)
-neither false b h = (refl, h)
-neither true b h = absurd cc
-
 -- none of the rows stands at v
 no_row : (rows : DriveRows) (v : ℕ) → ((k : ℕ) (d : ℕ × Drive) → k < length rows → ¬ ((get_or rows k d).0 ≡ v)) → has_row rows v ≡ false
 no_row [] v h = refl
-no_row (row ∷ rows) v h = or_none (row.0 == v) (has_row rows v) (eq_no row.0 v (h 0 row (omega arith))) (no_row rows v (λ k d l. h (suc k) d (omega (arith, l))))
+no_row (row ∷ rows) v h = or_from (row.0 == v) (has_row rows v) (eq_no row.0 v (h 0 row (omega arith))) (no_row rows v (λ k d l. h (suc k) d (omega (arith, l))))
 
 -- row k stands at v
 a_row : (rows : DriveRows) (v k : ℕ) (d : ℕ × Drive) → k < length rows → (get_or rows k d).0 ≡ v → has_row rows v ≡ true
 a_row [] v k d l e = absurd (omega (arith, l))
-a_row (row ∷ rows) v zero d l e = or_first (row.0 == v) (has_row rows v) (eq_yes row.0 v e)
-a_row (row ∷ rows) v (suc k) d l e = or_second (row.0 == v) (has_row rows v) (a_row rows v k d (omega (arith, l)) e)
+a_row (row ∷ rows) v zero d l e = or_left (row.0 == v) (has_row rows v) (eq_yes row.0 v e)
+a_row (row ∷ rows) v (suc k) d l e = or_right (row.0 == v) (has_row rows v) (a_row rows v k d (omega (arith, l)) e)
 
 le_yes : (a b : ℕ) → a ≤ b → nat_le a b ≡ true
 le_yes a b l = grind (arith, leb_tells a b)
@@ -146,10 +132,10 @@ same_driven pins c t old new k was are same =
 
 -- the next row of one of two
 pub next_earlier : (f g : ℕ → Bool) (c : ℕ) (a b : Option ℕ) → IsNext f c a → IsNext g c b → IsNext (λ v. f v || g v) c (earlier a b)
-next_earlier f g c None None p q = λ v h. or_none (f v) (g v) (p v h) (q v h)
-next_earlier f g c None (Some v) p q = (q.0, or_second (f v) (g v) q.1, λ w h l. or_none (f w) (g w) (p w h) (q.2 w h l))
-next_earlier f g c (Some u) None p q = (p.0, or_first (f u) (g u) p.1, λ w h l. or_none (f w) (g w) (p.2 w h l) (q w h))
+next_earlier f g c None None p q = λ v h. or_from (f v) (g v) (p v h) (q v h)
+next_earlier f g c None (Some v) p q = (q.0, or_right (f v) (g v) q.1, λ w h l. or_from (f w) (g w) (p w h) (q.2 w h l))
+next_earlier f g c (Some u) None p q = (p.0, or_left (f u) (g u) p.1, λ w h l. or_from (f w) (g w) (p.2 w h l) (q w h))
 next_earlier f g c (Some u) (Some v) p q = elim (cases_lt u v) [
-  | inl h ↦ let e : min u v ≡ u = omega arith in rw e (p.0, or_first (f u) (g u) p.1, λ w k l. or_none (f w) (g w) (p.2 w k l) (q.2 w k (omega (arith, l, h))))
-  | inr h ↦ let e : min u v ≡ v = omega arith in rw e (q.0, or_second (f v) (g v) q.1, λ w k l. or_none (f w) (g w) (p.2 w k (omega (arith, l, h))) (q.2 w k l))
+  | inl h ↦ let e : min u v ≡ u = omega arith in rw e (p.0, or_left (f u) (g u) p.1, λ w k l. or_from (f w) (g w) (p.2 w k l) (q.2 w k (omega (arith, l, h))))
+  | inr h ↦ let e : min u v ≡ v = omega arith in rw e (q.0, or_right (f v) (g v) q.1, λ w k l. or_from (f w) (g w) (p.2 w k (omega (arith, l, h))) (q.2 w k l))
 ]

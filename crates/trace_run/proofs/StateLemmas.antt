@@ -3,7 +3,7 @@ use Rattle.std.proofs.Common.{◌≡◌, ◌<◌, ◌≤◌, inl, inr, ℕ, suc,
 use Rattle.std.specs.Prelude.{◌==◌, ◌||◌, nat_lt, slice_get}
 use Rattle.std.proofs.lemmas.List.{take-replicate}
 use Rattle.std.proofs.lemmas.Simd.{splat_is_map}
-use Rattle.std.proofs.lemmas.Bool.{cases_lt}
+use Rattle.std.proofs.lemmas.Bool.{cases_lt, or_from, or_right, or_parts}
 use Rattle.sim_base.specs.declared.signal.Drive.{Drive}
 use Rattle.sim_base.specs.declared.signal.Level.TheVariants as levels
 use Rattle.sim_base.specs.declared.limits.TheConstants.{MOST_CYCLES}
@@ -14,19 +14,19 @@ use Rattle.part_law.proofs.SpanLemmas.{none_in}
 use Rattle.board_laws.specs.Player.{DriveRows, PlayerState, player}
 use Rattle.board_laws.proofs.PlayerLemmas.{player_glides, player_quiet}
 use Rattle.trace_run.specs.Rows.{AreCounts, IsNext, any_row}
-use Rattle.trace_run.proofs.RowLemmas.{eq_no, neither, or_none, or_second}
+use Rattle.trace_run.proofs.RowLemmas.{eq_no}
 use Rattle.trace_run.proofs.CountLemmas.{counts_later}
 
 -- it is quiet before a cycle, where no row comes up to it
 quiet_to : (s : PlayerState) (to : ℕ) → ¬ (s.cycle ≡ 0) → ((v : ℕ) → s.cycle < v → v ≤ to → any_row s.rows v ≡ false) → IsQuiet player s s.cycle (to - s.cycle)
 quiet_to s to some none = player_quiet s (to - s.cycle)
-    (λ k (h : k < to - s.cycle). or_none (s.cycle + k == 0) (any_row s.rows (s.cycle + k + 1)) (eq_no (s.cycle + k) 0 (λ e. some (omega (arith, e)))) (none (s.cycle + k + 1) (omega arith) (omega arith)))
+    (λ k (h : k < to - s.cycle). or_from (s.cycle + k == 0) (any_row s.rows (s.cycle + k + 1)) (eq_no (s.cycle + k) 0 (λ e. some (omega (arith, e)))) (none (s.cycle + k + 1) (omega arith) (omega arith)))
 
 pub first_at : (s : PlayerState) (u : ℕ) → ¬ (s.cycle ≡ 0) → u ≤ MOST_CYCLES → IsNext (any_row s.rows) s.cycle (Some u) → IsFirstDue player s s.cycle (Some (u - 1))
 first_at s u some end next =
     let late : s.cycle < u = next.0 in
     let here : u ≡ u - 1 + 1 = omega arith in
-    let due : (u - 1 == 0 || any_row s.rows (u - 1 + 1)) ≡ true = or_second (u - 1 == 0) _ (subst (λ (v : ℕ). any_row s.rows v ≡ true) here next.1) in (
+    let due : (u - 1 == 0 || any_row s.rows (u - 1 + 1)) ≡ true = or_right (u - 1 == 0) _ (subst (λ (v : ℕ). any_row s.rows v ≡ true) here next.1) in (
       omega (arith, late),
       omega (arith, late, end),
       quiet_to s (u - 1) some (λ v h l. next.2 v h (omega (arith, l, late))),
@@ -56,7 +56,7 @@ none_over now to quiet v h m =
     let within : k < to - now.cycle = omega (arith, h, m) in
     let at : now.cycle + k + 1 ≡ v = omega (arith, h) in
     let due : ((now.cycle + k == 0) || any_row now.rows (now.cycle + k + 1)) ≡ false = sym (ap (λ (p : PlayerState). player.due p (now.cycle + k)) (player_glides now k)) ∙ quiet k within in
-    subst (λ (w : ℕ). any_row now.rows w ≡ false) at (neither (now.cycle + k == 0) (any_row now.rows (now.cycle + k + 1)) due).1
+    subst (λ (w : ℕ). any_row now.rows w ≡ false) at (or_parts (now.cycle + k == 0) (any_row now.rows (now.cycle + k + 1)) due).1
 
 -- the next row stays so over them, and as many are past
 pub next_later : (s now : PlayerState) (to : ℕ) (next : Option ℕ) → s ≡ now → now.cycle ≤ to → IsQuiet player now now.cycle (to - now.cycle) → IsNext (any_row s.rows) s.cycle next → IsNext (any_row s.rows) to next
@@ -80,7 +80,7 @@ settled s now to e l =
 none_after : (s : PlayerState) → player.due s s.cycle ≡ false → (v : ℕ) → s.cycle < v → v ≤ s.cycle + 1 → any_row s.rows v ≡ false
 none_after s due v h m =
     let at : s.cycle + 1 ≡ v = omega (arith, h, m) in
-    subst (λ (w : ℕ). any_row s.rows w ≡ false) at (neither (s.cycle == 0) (any_row s.rows (s.cycle + 1)) due).1
+    subst (λ (w : ℕ). any_row s.rows w ≡ false) at (or_parts (s.cycle == 0) (any_row s.rows (s.cycle + 1)) due).1
 
 -- the next row stays so over it, and as many are past
 pub next_after : (s : PlayerState) (next : Option ℕ) → player.due s s.cycle ≡ false → IsNext (any_row s.rows) s.cycle next → IsNext (any_row s.rows) (s.cycle + 1) next

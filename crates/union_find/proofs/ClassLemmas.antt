@@ -1,6 +1,6 @@
 -- Labels of places that were alone before pairs joined them.
 use Rattle.std.proofs.Common.{◌≡◌, ℕ, ◌<◌, ◌≤◌, List, length, Bool, true, ap, sym, ◌∙◌, arith, ◌⊎◌, inl, inr, subst}
-use Rattle.std.proofs.lemmas.Bool.{eqb-true}
+use Rattle.std.proofs.lemmas.Bool.{eqb-true, or_cases, and_parts}
 use Rattle.std.proofs.lemmas.Bool.Decides.{nat_tests}
 use Rattle.std.proofs.lemmas.List.{get_or_past}
 use Rattle.std.proofs.lemmas.Option.{get_or_from_slice_get}
@@ -10,7 +10,6 @@ use Rattle.board_model.proofs.WalkLemmas.{walk_join, walk_back}
 use Rattle.board_model.proofs.Lists.{get-below, length-below}
 use Rattle.union_find.specs.Forest.{AreLabels, AreClasses, Joins, root_of, same_or}
 use Rattle.union_find.proofs.ForestLemmas.{label_root, own_root}
-use Rattle.union_find.proofs.PairLemmas.{or_cases, and_first}
 
 -- an index in a list
 below_index : (n x : ℕ) → x < n → slice_index (below n) x ≡ x
@@ -61,8 +60,8 @@ module _ (step : ℕ → ℕ → Bool) (n : ℕ) (bounds : (x y : ℕ) → step 
       let count = length (below n) in
       elim (or_cases (nat_lt k count && nat_lt m count && (root_of (below n) k == root_of (below n) m)) (step k m) s) [
         | inl l ↦
-            let a = and_first (nat_lt k count && nat_lt m count) (root_of (below n) k == root_of (below n) m) l in
-            let b = and_first (nat_lt k count) (nat_lt m count) a.0 in
+            let a = and_parts (nat_lt k count && nat_lt m count) (root_of (below n) k == root_of (below n) m) l in
+            let b = and_parts (nat_lt k count) (nat_lt m count) a.0 in
             let kn : k < n = omega (arith, lt_of k count b.0, length-below n) in
             let mn : m < n = omega (arith, lt_of m count b.1, length-below n) in
             let e : k ≡ m = sym (alone_root n k kn) ∙ eqb-true (root_of (below n) k) (root_of (below n) m) a.1 ∙ alone_root n m mn in

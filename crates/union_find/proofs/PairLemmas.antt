@@ -1,6 +1,6 @@
 -- Pairs that join, some of them chosen.
 use Rattle.std.proofs.Common.{◌≡◌, ℕ, zero, suc, ◌+◌, ◌<◌, ◌≤◌, List, [], ◌∷◌, length, Bool, true, false, refl, ap, sym, ◌∙◌, arith, ◌⊎◌, inl, inr, subst, Some, eq-eqb, min}
-use Rattle.std.proofs.lemmas.Bool.{eqb-true}
+use Rattle.std.proofs.lemmas.Bool.{eqb-true, or_cases, or_left, or_right, and_from, and_parts}
 use Rattle.std.proofs.lemmas.Bool.Decides.{eqb_tells, nat_tests}
 use Rattle.std.proofs.lemmas.Option.{slice_get_within}
 use Rattle.std.specs.Prelude.{◌==◌, ◌&&◌, ◌||◌, slice_get, slice_index, nat_lt, replicate}
@@ -13,37 +13,20 @@ use Rattle.board_model.proofs.Lists.{some_same, lt_or_eq}
 use Rattle.union_find.specs.Forest.{IsForest, AreLabels, root_of, root_joined, same_or, Joins}
 use Rattle.union_find.proofs.ForestLemmas.{own_root, root_is_own, root_below, label_root}
 
-pub or_cases : (a b : Bool) → (a || b) ≡ true → (a ≡ true) ⊎ (b ≡ true)
-or_cases true b h = inl refl
-or_cases false b h = inr h
-
-pub or_left : (a b : Bool) → a ≡ true → (a || b) ≡ true
-or_left a b h = grind arith
-
-pub or_right : (a b : Bool) → b ≡ true → (a || b) ≡ true
-or_right a b h = grind arith
-
-pub and_both : (a b : Bool) → a ≡ true → b ≡ true → (a && b) ≡ true
-and_both a b h i = grind arith
-
-pub and_first : (a b : Bool) → (a && b) ≡ true → (a ≡ true) × (b ≡ true)
-and_first true b h = (refl, h)
-and_first false b h = absurd cc
-
 -- what a pair that joins two names
 pub joins_cases : (c : ℕ × ℕ) (x y : ℕ) → joins c x y ≡ true → ((c.0 ≡ x) × (c.1 ≡ y)) ⊎ ((c.0 ≡ y) × (c.1 ≡ x))
 joins_cases c x y h = elim (or_cases ((c.0 == x) && (c.1 == y)) ((c.1 == x) && (c.0 == y)) h) [
-  | inl l ↦ let b = and_first (c.0 == x) (c.1 == y) l in inl (eqb-true c.0 x b.0, eqb-true c.1 y b.1)
-  | inr r ↦ let b = and_first (c.1 == x) (c.0 == y) r in inr (eqb-true c.0 y b.1, eqb-true c.1 x b.0)
+  | inl l ↦ let b = and_parts (c.0 == x) (c.1 == y) l in inl (eqb-true c.0 x b.0, eqb-true c.1 y b.1)
+  | inr r ↦ let b = and_parts (c.1 == x) (c.0 == y) r in inr (eqb-true c.0 y b.1, eqb-true c.1 x b.0)
 ]
 
 pub joins_is : (c : ℕ × ℕ) → joins c c.0 c.1 ≡ true
-joins_is c = or_left ((c.0 == c.0) && (c.1 == c.1)) ((c.1 == c.0) && (c.0 == c.1)) (and_both (c.0 == c.0) (c.1 == c.1) (eq-eqb c.0 c.0 refl) (eq-eqb c.1 c.1 refl))
+joins_is c = or_left ((c.0 == c.0) && (c.1 == c.1)) ((c.1 == c.0) && (c.0 == c.1)) (and_from (c.0 == c.0) (c.1 == c.1) (eq-eqb c.0 c.0 refl) (eq-eqb c.1 c.1 refl))
 
 pub joins_swap : (c : ℕ × ℕ) (x y : ℕ) → joins c x y ≡ true → joins c y x ≡ true
 joins_swap c x y h = elim (or_cases ((c.0 == x) && (c.1 == y)) ((c.1 == x) && (c.0 == y)) h) [
-  | inl l ↦ let b = and_first (c.0 == x) (c.1 == y) l in or_right ((c.0 == y) && (c.1 == x)) ((c.1 == y) && (c.0 == x)) (and_both (c.1 == y) (c.0 == x) b.1 b.0)
-  | inr r ↦ let b = and_first (c.1 == x) (c.0 == y) r in or_left ((c.0 == y) && (c.1 == x)) ((c.1 == y) && (c.0 == x)) (and_both (c.0 == y) (c.1 == x) b.1 b.0)
+  | inl l ↦ let b = and_parts (c.0 == x) (c.1 == y) l in or_right ((c.0 == y) && (c.1 == x)) ((c.1 == y) && (c.0 == x)) (and_from (c.1 == y) (c.0 == x) b.1 b.0)
+  | inr r ↦ let b = and_parts (c.1 == x) (c.0 == y) r in or_left ((c.0 == y) && (c.1 == x)) ((c.1 == y) && (c.0 == x)) (and_from (c.0 == y) (c.1 == x) b.1 b.0)
 ]
 
 -- a step over chosen pairs is over one of them
@@ -52,7 +35,7 @@ pub contact_of : (cs : List (ℕ × ℕ)) (chosen : List Bool) (x y : ℕ) → c
 contact_of [] chosen x y h = absurd cc
 contact_of (c ∷ cs) [] x y h = absurd cc
 contact_of (c ∷ cs) (b ∷ bs) x y h = elim (or_cases (b && joins c x y) (contact_joins cs bs x y) h) [
-  | inl l ↦ let both = and_first b (joins c x y) l in (0, c, refl, ap Some both.0, both.1)
+  | inl l ↦ let both = and_parts b (joins c x y) l in (0, c, refl, ap Some both.0, both.1)
   | inr r ↦ let s = contact_of cs bs x y r in (suc s.0, s.1, s.2, s.3, s.4)
 ]
 
@@ -62,7 +45,7 @@ contact_is (d ∷ cs) [] k c x y ec eb j = absurd cc
 contact_is (d ∷ cs) (b ∷ bs) zero c x y ec eb j =
     let e : d ≡ c = some_same ec in
     let t : b ≡ true = some_same eb in
-    or_left (b && joins d x y) (contact_joins cs bs x y) (and_both b (joins d x y) t (subst (λ (z : ℕ × ℕ). joins z x y ≡ true) (sym e) j))
+    or_left (b && joins d x y) (contact_joins cs bs x y) (and_from b (joins d x y) t (subst (λ (z : ℕ × ℕ). joins z x y ≡ true) (sym e) j))
 contact_is (d ∷ cs) (b ∷ bs) (suc k) c x y ec eb j =
     or_right (b && joins d x y) (contact_joins cs bs x y) (contact_is cs bs k c x y ec eb j)
 
@@ -73,11 +56,11 @@ contact_swap cs chosen x y h = let s = contact_of cs chosen x y h in contact_is 
 pub same_or_swap : (old : List ℕ) (cs : List (ℕ × ℕ)) (chosen : List Bool) (x y : ℕ) → same_or old (contact_joins cs chosen) x y ≡ true → same_or old (contact_joins cs chosen) y x ≡ true
 same_or_swap old cs chosen x y h = elim (or_cases (nat_lt x (length old) && nat_lt y (length old) && (root_of old x == root_of old y)) (contact_joins cs chosen x y) h) [
   | inl l ↦
-      let a = and_first (nat_lt x (length old) && nat_lt y (length old)) (root_of old x == root_of old y) l in
-      let b = and_first (nat_lt x (length old)) (nat_lt y (length old)) a.0 in
+      let a = and_parts (nat_lt x (length old) && nat_lt y (length old)) (root_of old x == root_of old y) l in
+      let b = and_parts (nat_lt x (length old)) (nat_lt y (length old)) a.0 in
       let e : (root_of old y == root_of old x) ≡ true = eq-eqb (root_of old y) (root_of old x) (sym (eqb-true (root_of old x) (root_of old y) a.1)) in
       or_left (nat_lt y (length old) && nat_lt x (length old) && (root_of old y == root_of old x)) (contact_joins cs chosen y x)
-      (and_both (nat_lt y (length old) && nat_lt x (length old)) (root_of old y == root_of old x) (and_both (nat_lt y (length old)) (nat_lt x (length old)) b.1 b.0) e)
+      (and_from (nat_lt y (length old) && nat_lt x (length old)) (root_of old y == root_of old x) (and_from (nat_lt y (length old)) (nat_lt x (length old)) b.1 b.0) e)
   | inr r ↦ or_right (nat_lt y (length old) && nat_lt x (length old) && (root_of old y == root_of old x)) (contact_joins cs chosen y x) (contact_swap cs chosen x y r)
 ]
 
@@ -171,7 +154,7 @@ walks_start old forest step x l =
     let in_r : nat_lt r (length old) ≡ true = lt_test r (length old) lower in
     let pass : same_or old step x r ≡ true =
     or_left (nat_lt x (length old) && nat_lt r (length old) && (root_of old x == root_of old r)) (step x r)
-    (and_both (nat_lt x (length old) && nat_lt r (length old)) (root_of old x == root_of old r) (and_both (nat_lt x (length old)) (nat_lt r (length old)) in_x in_r) (eq-eqb (root_of old x) (root_of old r) (sym own))) in
+    (and_from (nat_lt x (length old) && nat_lt r (length old)) (root_of old x == root_of old r) (and_from (nat_lt x (length old)) (nat_lt r (length old)) in_x in_r) (eq-eqb (root_of old x) (root_of old r) (sym own))) in
     further x r here pass
   where
     lt_test : (a b : ℕ) → a < b → nat_lt a b ≡ true

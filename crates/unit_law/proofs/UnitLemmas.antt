@@ -1,5 +1,6 @@
 -- Stretches of cycles, and a unit that lags behind by quiet ones.
-use Rattle.std.proofs.Common.{◌⊎◌, inl, inr, Bool, true, Some, None, false, zero, suc, ◌≡◌, ℕ, ◌+◌, ◌-◌, ◌<◌, ◌≤◌, ◌∙◌, List, [], arith, ap, sym, subst, refl}
+use Rattle.std.proofs.Common.{◌⊎◌, inl, inr, true, Some, None, false, zero, suc, ◌≡◌, ℕ, ◌+◌, ◌-◌, ◌<◌, ◌≤◌, ◌∙◌, List, [], arith, ap, sym, subst, refl}
+use Rattle.std.proofs.lemmas.Bool.{both_ways}
 use Rattle.sim_base.specs.declared.signal.Level.{Level}
 use Rattle.sim_base.specs.declared.limits.TheConstants.{MOST_CYCLES}
 use Rattle.unit_law.specs.UnitMachine.{UnitMachine, At, Laws, least, steps, IsQuiet, IsFirstDue, FirstDue}
@@ -8,10 +9,6 @@ use Rattle.unit_law.specs.Late.{late_state, Lags, LateStands}
 
 le_or : (a b : ℕ) → (a ≤ b) ⊎ (b < a)
 le_or a b = grind arith
-
-clash : (b : Bool) → b ≡ true → b ≡ false → ⊥
-clash true h k = cc
-clash false h k = cc
 
 module _ {U : Type 0} (m : UnitMachine U) where
   -- no cycle, and the last one
@@ -64,7 +61,7 @@ module _ {U : Type 0} (m : UnitMachine U) where
         let e : t + (d - t) ≡ d = omega (arith, first.later) in
         let no : m.due (steps m s t (d - t)) d ≡ false = ap (m.due (steps m s t (d - t))) (sym e) ∙ quiet (d - t) (omega (arith, less, first.later)) in
         let yes_due : m.due (steps m s t (d - t)) d ≡ true = first.event (omega (arith, less, end)) in
-        absurd (clash (m.due (steps m s t (d - t)) d) yes_due no)
+        absurd (both_ways (m.due (steps m s t (d - t)) d) no yes_due)
   ]
 
   -- a unit at its own cycle

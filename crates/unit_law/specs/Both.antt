@@ -2,6 +2,7 @@
 -- each that has it. Nested, this is any number of units.
 use Rattle.std.specs.Prelude.{◌≡◌, ℕ, min, List, [], ◌∷◌, ◌++◌, Bool, true, false, if◌then◌else◌, ◌||◌, Option, None, Some}
 use Rattle.std.proofs.Common.{ap, ◌∙◌, refl, sym, arith}
+use Rattle.std.proofs.lemmas.Bool.{or_parts}
 use Rattle.unit_law.specs.declared.request.Request.{Request}
 use Rattle.unit_law.specs.declared.pad.Pad.{Pad}
 use Rattle.unit_law.specs.Pad.{joined}
@@ -45,39 +46,35 @@ module _ {A B : Type 0} (m : UnitMachine A) (n : UnitMachine B) where
     reset = (m.reset, n.reset);
   }
 
-  pub neither : (a b : Bool) → (a || b) ≡ false → (a ≡ false) × (b ≡ false)
-  neither true b h = cc
-  neither false b h = (refl, h)
-
   pub pads : (a c : Pad) (b d : Pad) → a ≡ c → b ≡ d → joined a b ≡ joined c d
   pads a c b d e f = ap (λ x. joined x b) e ∙ ap (joined c) f
 
   pub both_laws : Laws m → Laws n → Laws both
   both_laws p q = record {
-    keeps_pad = λ s t l i h. let d = neither (m.due s.0 t) (n.due s.1 t) h in
+    keeps_pad = λ s t l i h. let d = or_parts (m.due s.0 t) (n.due s.1 t) h in
         pads _ _ _ _ (p.keeps_pad s.0 t l i d.0) (q.keeps_pad s.1 t l i d.1);
-    event_pad = λ s t l i h. let d = neither (m.event_moves s.0) (n.event_moves s.1) h in
+    event_pad = λ s t l i h. let d = or_parts (m.event_moves s.0) (n.event_moves s.1) h in
         pads _ _ _ _ (p.event_pad s.0 t l i d.0) (q.event_pad s.1 t l i d.1);
-    keeps_event_moves = λ s t l h. let d = neither (m.due s.0 t) (n.due s.1 t) h in
+    keeps_event_moves = λ s t l h. let d = or_parts (m.due s.0 t) (n.due s.1 t) h in
         ap (λ x. x || n.event_moves (n.step s.1 t l l)) (p.keeps_event_moves s.0 t l d.0) ∙ ap (λ x. m.event_moves s.0 || x) (q.keeps_event_moves s.1 t l d.1);
-    keeps_requests = λ s t l h. let d = neither (m.due s.0 t) (n.due s.1 t) h in
+    keeps_requests = λ s t l h. let d = or_parts (m.due s.0 t) (n.due s.1 t) h in
         ap (λ x. x ++ n.requests (n.step s.1 t l l) l) (p.keeps_requests s.0 t l d.0) ∙ ap (λ x. m.requests s.0 l ++ x) (q.keeps_requests s.1 t l d.1);
-    keeps_hears = λ s t l k o h. let d = neither (m.due s.0 t) (n.due s.1 t) h in
+    keeps_hears = λ s t l k o h. let d = or_parts (m.due s.0 t) (n.due s.1 t) h in
         ap (λ x. x || n.hears (n.step s.1 t l l) k o) (p.keeps_hears s.0 t l k o d.0) ∙ ap (λ x. m.hears s.0 k o || x) (q.keeps_hears s.1 t l k o d.1);
-    keeps_silent = λ s t h. let d = neither (m.due s.0 t) (n.due s.1 t) h in
+    keeps_silent = λ s t h. let d = or_parts (m.due s.0 t) (n.due s.1 t) h in
         ap (λ x. first_of_two x (n.sends s.1 t)) (p.keeps_silent s.0 t d.0) ∙ q.keeps_silent s.1 t d.1;
-    deaf = λ s t l k h. let d = neither (m.due s.0 t) (n.due s.1 t) h in
+    deaf = λ s t l k h. let d = or_parts (m.due s.0 t) (n.due s.1 t) h in
         ap (λ (x : A). (x, n.step s.1 t l l)) (p.deaf s.0 t l k d.0) ∙ ap (λ (y : B). (m.step s.0 t k k, y)) (q.deaf s.1 t l k d.1);
-    unheard = λ s t l k h o. let d = neither (m.due s.0 t) (n.due s.1 t) h in let e = neither (m.hears s.0 l k) (n.hears s.1 l k) o in
+    unheard = λ s t l k h o. let d = or_parts (m.due s.0 t) (n.due s.1 t) h in let e = or_parts (m.hears s.0 l k) (n.hears s.1 l k) o in
         ap (λ (x : A). (x, n.step s.1 t l k)) (p.unheard s.0 t l k d.0 e.0) ∙ ap (λ (y : B). (m.step s.0 t k k, y)) (q.unheard s.1 t l k d.1 e.1);
-    unheard_requests = λ s l k o. let e = neither (m.hears s.0 l k) (n.hears s.1 l k) o in
+    unheard_requests = λ s l k o. let e = or_parts (m.hears s.0 l k) (n.hears s.1 l k) o in
         least-append (m.requests s.0 l) (n.requests s.1 l)
         ∙ ap (λ x. min x (least (n.requests s.1 l))) (p.unheard_requests s.0 l k e.0) ∙ ap (min (least (m.requests s.0 k))) (q.unheard_requests s.1 l k e.1)
         ∙ sym (least-append (m.requests s.0 k) (n.requests s.1 k));
     reads_pad = λ s t a i. by_first (m.has a) s t a i;
-    writes_pad = λ s t a x i h. let d = neither (if m.has a then m.moves s.0 a x else false) (if n.has a then n.moves s.1 a x else false) h in
+    writes_pad = λ s t a x i h. let d = or_parts (if m.has a then m.moves s.0 a x else false) (if n.has a then n.moves s.1 a x else false) h in
         pads _ _ _ _ (by_has A m.pad (m.has a) (m.moves s.0 a x) s.0 (m.write s.0 t a x) i (p.writes_pad s.0 t a x i) d.0) (by_has B n.pad (n.has a) (n.moves s.1 a x) s.1 (n.write s.1 t a x) i (q.writes_pad s.1 t a x i) d.1);
-    bits_pad = λ s t a k x i h. let d = neither (if m.has a then m.bit_moves s.0 a k x else false) (if n.has a then n.bit_moves s.1 a k x else false) h in
+    bits_pad = λ s t a k x i h. let d = or_parts (if m.has a then m.bit_moves s.0 a k x else false) (if n.has a then n.bit_moves s.1 a k x else false) h in
         pads _ _ _ _ (by_has A m.pad (m.has a) (m.bit_moves s.0 a k x) s.0 (m.write_bit s.0 t a k x) i (p.bits_pad s.0 t a k x i) d.0) (by_has B n.pad (n.has a) (n.bit_moves s.1 a k x) s.1 (n.write_bit s.1 t a k x) i (q.bits_pad s.1 t a k x i) d.1);
     taken_pad = λ s v i. pads _ _ _ _ (p.taken_pad s.0 v i) (q.taken_pad s.1 v i);
   }

@@ -1,10 +1,11 @@
 -- Pins that are shown, and what is kept of their drives.
-use Rattle.std.proofs.Common.{◌≡◌, ◌⊎◌, ℕ, List, [], ◌∷◌, ◌==◌, length, refl, ap, sym, ◌∙◌, subst, arith, inl, inr, Option, None, Some, Bool, true, false, ◌||◌, ◌&&◌}
+use Rattle.std.proofs.Common.{◌≡◌, ◌⊎◌, ℕ, List, [], ◌∷◌, ◌==◌, length, refl, ap, sym, ◌∙◌, subst, arith, inl, inr, Option, None, Some, Bool, true, ◌||◌, ◌&&◌}
 use Rattle.std.specs.Prelude.{replicate, slice_get, slice_index, unwrap_or}
 use Rattle.std.specs.Option.{option_map_or}
 use Rattle.std.proofs.lemmas.Bool.Decides.{eqb_tells}
 use Rattle.std.proofs.lemmas.List.{get_or-replicate, length-map}
 use Rattle.std.proofs.lemmas.Option.{slice_get_within}
+use Rattle.std.proofs.lemmas.Bool.{or_cases, and_parts}
 use Rattle.sim_base.specs.declared.signal.Drive.{Drive}
 use Rattle.sim_base.specs.declared.signal.Drive.TheVariants as drives
 use Rattle.sim_base.specs.declared.signal.Level.{Level}
@@ -17,19 +18,11 @@ use Rattle.vcd_text.specs.Pins.{drive_at, has_pin, is_among, AreAmong, drive_as_
 use Rattle.vcd_text.proofs.ChainLemmas.{value_at}
 use Rattle.vcd_text.proofs.TrackLemmas.{same_means, same_refl}
 
-or_on : (a b : Bool) → (a || b) ≡ true → (a ≡ true) ⊎ (b ≡ true)
-or_on true b h = inl refl
-or_on false b h = inr h
-
 eqb_is : (a b : ℕ) → (a == b) ≡ true → a ≡ b
 eqb_is a b e = elim (eqb_tells a b) [
   | inl same ↦ same.1
   | inr far ↦ absurd (let f = far.0 in cc)
 ]
-
-and_both : (a b : Bool) → (a && b) ≡ true → (a ≡ true) × (b ≡ true)
-and_both true b h = (refl, h)
-and_both false b h = absurd cc
 
 set_kept : (ds : List Drive) (pins : List (ℕ × Drive)) → drive_as_kept ds (with_drives ds pins) ≡ true
 set_kept ds [] = refl
@@ -48,9 +41,9 @@ among_set ds pins (Weak p) = has_set ds pins p
 pin_drives : (pins : List (ℕ × Drive)) (ds es : List Drive) (p : ℕ) → drive_as_kept ds pins ≡ true → drive_as_kept es pins ≡ true → has_pin pins p ≡ true → drive_at ds p ≡ drive_at es p
 pin_drives [] ds es p a b h = absurd cc
 pin_drives (k ∷ ks) ds es p a b h =
-    let da = and_both (same_drive (drive_at ds k.0) k.1) (drive_as_kept ds ks) a in
-    let ea = and_both (same_drive (drive_at es k.0) k.1) (drive_as_kept es ks) b in
-    elim (or_on (k.0 == p) (has_pin ks p) h) [
+    let da = and_parts (same_drive (drive_at ds k.0) k.1) (drive_as_kept ds ks) a in
+    let ea = and_parts (same_drive (drive_at es k.0) k.1) (drive_as_kept es ks) b in
+    elim (or_cases (k.0 == p) (has_pin ks p) h) [
       | inl e ↦ subst (λ (q : ℕ). drive_at ds q ≡ drive_at es q) (eqb_is k.0 p e) (same_means (drive_at ds k.0) k.1 da.0 ∙ sym (same_means (drive_at es k.0) k.1 ea.0))
       | inr e ↦ pin_drives ks ds es p da.1 ea.1 e
     ]

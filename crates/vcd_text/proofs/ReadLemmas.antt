@@ -1,8 +1,8 @@
 -- Lines of a text, and what stands behind its head.
-use Rattle.std.proofs.Common.{◌≡◌, ◌≢◌, ◌<◌, ◌≤◌, ◌+◌, ℕ, zero, suc, List, [], ◌∷◌, ◌++◌, length, get_or, take, drop, Bool, true, false, ◌==◌, ◌||◌}
+use Rattle.std.proofs.Common.{◌≡◌, ◌≢◌, ◌<◌, ◌≤◌, ◌+◌, ℕ, zero, suc, List, [], ◌∷◌, ◌++◌, length, get_or, take, drop, true, false, ◌==◌}
 use Rattle.std.proofs.Common.{if◌then◌else◌, Ok, Err, refl, ap, arith, ◌∙◌, sym}
 use Rattle.std.specs.List.{list_any}
-use Rattle.std.proofs.lemmas.Bool.{ne_eqb, eq-eqb}
+use Rattle.std.proofs.lemmas.Bool.{ne_eqb, eq-eqb, or_right}
 use Rattle.std.proofs.lemmas.List.{take-append-drop, drop_more, drop_all, length-take-le, get_or-take}
 use Rattle.sim_base.specs.declared.fault.Place.TheVariants as places
 use Rattle.sim_base.specs.Refusals.{WaveHead}
@@ -23,18 +23,14 @@ unfolding ended_lines
 ended_at [] rest unbroken = refl
 ended_at (b ∷ l) rest unbroken = rw (first_unbroken b l unbroken) (ap (before_line b) (ended_at l rest (rest_unbroken b l unbroken)))
 
-or_true : (a b : Bool) → b ≡ true → (a || b) ≡ true
-or_true true b e = refl
-or_true false b e = e
-
 has_lf : (l rest : List ℕ) → list_any (λ (a : ℕ). a == 10) (l ++ 10 ∷ rest) ≡ true
 has_lf [] rest = refl
-has_lf (b ∷ l) rest = or_true (b == 10) (list_any (λ (a : ℕ). a == 10) (l ++ 10 ∷ rest)) (has_lf l rest)
+has_lf (b ∷ l) rest = or_right (b == 10) (list_any (λ (a : ℕ). a == 10) (l ++ 10 ∷ rest)) (has_lf l rest)
 
 pub unended_at : (l rest : List ℕ) → unended (l ++ 10 ∷ rest) ≡ unended rest
 unfolding unended
 unended_at [] rest = refl
-unended_at (b ∷ l) rest = rw (or_true (b == 10) (list_any (λ (a : ℕ). a == 10) (l ++ 10 ∷ rest)) (has_lf l rest)) (unended_at l rest)
+unended_at (b ∷ l) rest = rw (or_right (b == 10) (list_any (λ (a : ℕ). a == 10) (l ++ 10 ∷ rest)) (has_lf l rest)) (unended_at l rest)
 
 no_lf : (l : List ℕ) → IsUnbroken l → list_any (λ (a : ℕ). a == 10) l ≡ false
 no_lf [] unbroken = refl

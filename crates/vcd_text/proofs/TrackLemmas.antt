@@ -13,6 +13,7 @@ use Rattle.std.proofs.lemmas.List.Elements.{All-append}
 use Rattle.std.proofs.lemmas.List.FromFn.{get_or-map-range_with_len, length-map-range_with_len}
 use Rattle.std.proofs.lemmas.Option.{slice_get_within, slice_get-get_or, get_or_from_slice_get}
 use Rattle.std.proofs.Math.Seq.{take-append_seam, get_or-append_seam}
+use Rattle.std.proofs.Math.Bool.{or-false, or-true}
 use Rattle.sim_base.specs.declared.signal.Drive.{Drive}
 use Rattle.sim_base.specs.declared.signal.Drive.TheVariants as drives
 use Rattle.text_model.specs.Wave.{Source, Net, Strong, Weak, Variable, char_z}
@@ -317,14 +318,6 @@ module _ (vs : List Variable) (said : List Change) (c : Change) (v : Variable) (
         ∙ ap Some (sym (track_other vs said c p (shows_is (is_strong p) ∙ ap (is_strong p) e) (shows_is (is_weak p) ∙ ap (is_weak p) e ∙ ne_eqb q p far)))
   ]
 
-or_false : (b : Bool) → (b || false) ≡ b
-or_false true = refl
-or_false false = refl
-
-or_all : (b : Bool) → (b || true) ≡ true
-or_all true = refl
-or_all false = refl
-
 both_on : (a b : Bool) → a ≡ true → b ≡ true → ((a && b) || false) ≡ true
 both_on true true e f = refl
 both_on true false e f = f
@@ -349,14 +342,14 @@ given_push said c given j at =
       | inl now ↦ ap (λ (b : Bool). slice_get (if b then slice_set given c.variable true else given) j) now ∙ elim (cases_eq c.variable j) [
         | inl same ↦ ap (λ (k : ℕ). slice_get (slice_set given k true) j) same ∙ set_same given j true less
             ∙ ap (λ (b : Bool). Some b) (sym (more
-            ∙ ap (λ (b : Bool). is_given said j || b) (both_on (c.cycle == 0) (c.variable == j) now (eq-eqb c.variable j same)) ∙ or_all (is_given said j)))
+            ∙ ap (λ (b : Bool). is_given said j || b) (both_on (c.cycle == 0) (c.variable == j) now (eq-eqb c.variable j same)) ∙ or-true (is_given said j)))
         | inr far ↦ set_other given c.variable j true less (λ e. far (sym e)) ∙ at
             ∙ ap (λ (b : Bool). Some b) (sym (more
-            ∙ ap (λ (b : Bool). is_given said j || b) (off_second (c.cycle == 0) (c.variable == j) (ne_eqb c.variable j far)) ∙ or_false (is_given said j)))
+            ∙ ap (λ (b : Bool). is_given said j || b) (off_second (c.cycle == 0) (c.variable == j) (ne_eqb c.variable j far)) ∙ or-false (is_given said j)))
       ]
       | inr later ↦ ap (λ (b : Bool). slice_get (if b then slice_set given c.variable true else given) j) later ∙ at
           ∙ ap (λ (b : Bool). Some b) (sym (more ∙ ap (λ (b : Bool). is_given said j || b) (off_first (c.cycle == 0) (c.variable == j) later)
-          ∙ or_false (is_given said j)))
+          ∙ or-false (is_given said j)))
     ]
 
 given_long : (given : List Bool) (i cycle : ℕ) → length (given_after given i cycle) ≡ length given

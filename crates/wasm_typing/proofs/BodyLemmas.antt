@@ -5,6 +5,7 @@ use Rattle.std.proofs.lemmas.Nat.{pow-add}
 use Rattle.std.proofs.lemmas.Bool.{leb-true}
 use Rattle.std.proofs.lemmas.Bool.Decides.{leb_tells}
 use Rattle.std.proofs.lemmas.Option.{slice_get_past, slice_get-get_or}
+use Rattle.std.proofs.Math.Bool.{and-false}
 use Rattle.sim_base.specs.Refusals.{ValidIndex, ValidType, ValidLimit}
 use Rattle.wasm_code.specs.declared.types.ValType.{ValType}
 use Rattle.wasm_code.specs.declared.types.ValType.TheVariants.{I32}
@@ -59,13 +60,8 @@ labels_long (f ∷ fs) = omega (arith, labels_long fs)
 label_past : (fs : List Around) (l : ℕ) → nat_lt l (length fs) ≡ false → slice_get (labels_of fs) l ≡ None
 label_past fs l e = slice_get_past (labels_of fs) l (omega (arith, labels_long fs, not_lt l (length fs) e))
 
--- labels that do not all exist do not all have the operands
-and_false : (b : Bool) → (b && false) ≡ false
-and_false true = refl
-and_false false = refl
-
 not_next : (fs : List Around) (ls : List ℕ) (rs : List ValType) (l : ℕ) (b : Bool) → nat_lt l (length fs) ≡ b → (all_below (length fs) ls ≡ false → all_have (labels_of fs) ls rs ≡ false) → (b && all_below (length fs) ls) ≡ false → (has_label (labels_of fs) l rs && all_have (labels_of fs) ls rs) ≡ false
-not_next fs ls rs l true q h e = ap (λ b. has_label (labels_of fs) l rs && b) (h e) ∙ and_false (has_label (labels_of fs) l rs)
+not_next fs ls rs l true q h e = ap (λ b. has_label (labels_of fs) l rs && b) (h e) ∙ and-false (has_label (labels_of fs) l rs)
 not_next fs ls rs l false q h e = ap (λ o. is_same o rs && all_have (labels_of fs) ls rs) (label_past fs l q)
 
 -- labels that do not all exist do not all have the operands

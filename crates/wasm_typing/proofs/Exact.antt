@@ -1,6 +1,7 @@
 -- The validator's operands stand for exactly the operand lists with which the code so far is typed.
 use Rattle.std.proofs.Common.{◌≡◌, ℕ, ◌≤◌, List, [], ◌∷◌, ◌++◌, length, Option, Some, None, Bool, true, false, ◌&&◌, refl, sym, ap, subst, ◌∙◌, arith}
 use Rattle.std.specs.Prelude.{slice_get, option_to_list, option_map, option_and_then, if◌then◌else◌}
+use Rattle.std.proofs.lemmas.Bool.{and_parts, and_from}
 use Rattle.wasm_code.specs.declared.types.ValType.{ValType}
 use Rattle.wasm_code.specs.declared.types.ValType.TheVariants.{I32, I64, F32, F64}
 use Rattle.wasm_code.specs.declared.instr.Instr.{Instr}
@@ -26,14 +27,6 @@ chosen false x y e = absurd cc
 chosen_from : {A : Type 0} (b : Bool) (x : Option A) (y : A) → (if b then x else None) ≡ Some y → (b ≡ true) × (x ≡ Some y)
 chosen_from true x y e = (refl, e)
 chosen_from false x y e = absurd cc
-
-pub both : (a b : Bool) → (a && b) ≡ true → (a ≡ true) × (b ≡ true)
-both true b e = (refl, e)
-both false b e = absurd cc
-
-and_is : (a b : Bool) → a ≡ true → b ≡ true → (a && b) ≡ true
-and_is true b p q = q
-and_is false b p q = absurd cc
 
 append-nil : {X : Type 0} (xs : List X) → xs ++ [] ≡ xs
 append-nil [] = refl
@@ -72,14 +65,14 @@ type_is F64 F64 e = refl
 
 types_refl : (ts : List ValType) → same_types ts ts ≡ true
 types_refl [] = refl
-types_refl (t ∷ ts) = and_is (same_type t t) (same_types ts ts) (type_refl t) (types_refl ts)
+types_refl (t ∷ ts) = and_from (same_type t t) (same_types ts ts) (type_refl t) (types_refl ts)
 
 types_is : (ts us : List ValType) → same_types ts us ≡ true → ts ≡ us
 types_is [] [] e = refl
 types_is [] (u ∷ us) e = absurd cc
 types_is (t ∷ ts) [] e = absurd cc
 types_is (t ∷ ts) (u ∷ us) e =
-    let b = both (same_type t u) (same_types ts us) e in
+    let b = and_parts (same_type t u) (same_types ts us) e in
     ap (λ x. x ∷ ts) (type_is t u b.0) ∙ ap (λ (x : List ValType). u ∷ x) (types_is ts us b.1)
 
 some_type : (o : Operand) → (t : ValType) × (is_type t o ≡ true)
@@ -237,12 +230,12 @@ label_is (Some ts) rs e = ap (λ (x : List ValType). Some x) (types_is ts rs e)
 
 all_to : (labels : List (List ValType)) (ls : List ℕ) (rs : List ValType) → AllHave labels ls rs → all_have labels ls rs ≡ true
 all_to labels [] rs h = refl
-all_to labels (l ∷ ls) rs h = and_is (has_label labels l rs) (all_have labels ls rs) (label_has labels l rs h.0) (all_to labels ls rs h.1)
+all_to labels (l ∷ ls) rs h = and_from (has_label labels l rs) (all_have labels ls rs) (label_has labels l rs h.0) (all_to labels ls rs h.1)
 
 all_back : (labels : List (List ValType)) (ls : List ℕ) (rs : List ValType) → all_have labels ls rs ≡ true → AllHave labels ls rs
 all_back labels [] rs e = tt
 all_back labels (l ∷ ls) rs e =
-    let b = both (has_label labels l rs) (all_have labels ls rs) e in
+    let b = and_parts (has_label labels l rs) (all_have labels ls rs) e in
     (label_is (slice_get labels l) rs b.0, all_back labels ls rs b.1)
 
 -- ---- one instruction
@@ -424,12 +417,12 @@ module _ (c : Context) where
   pub closes : (s : State) (f : Around) (fs : List Around) → s.around ≡ f ∷ fs → may_end f.frame f.results ≡ true → Denotes s.known s.missing f.results → step c instrs.End s ≡ Some (behind f fs)
   closes s f fs e m d =
       ap (λ (x : List Around). ended x s.known s.missing) e
-      ∙ ap (λ b. if b then Some (behind f fs) else None) (and_is (may_end f.frame f.results) (no_more (pops f.results s.known s.missing)) m (no_more_to f.results s.known s.missing d))
+      ∙ ap (λ b. if b then Some (behind f fs) else None) (and_from (may_end f.frame f.results) (no_more (pops f.results s.known s.missing)) m (no_more_to f.results s.known s.missing d))
 
   pub closed_by : (s t : State) (f : Around) (fs : List Around) → s.around ≡ f ∷ fs → step c instrs.End s ≡ Some t → (t ≡ behind f fs) × (may_end f.frame f.results ≡ true) × Denotes s.known s.missing f.results
   closed_by s t f fs e h =
       let x = chosen (may_end f.frame f.results && no_more (pops f.results s.known s.missing)) (behind f fs) t (sym (ap (λ (x : List Around). ended x s.known s.missing) e) ∙ h) in
-      let b = both (may_end f.frame f.results) (no_more (pops f.results s.known s.missing)) x.0 in
+      let b = and_parts (may_end f.frame f.results) (no_more (pops f.results s.known s.missing)) x.0 in
       (sym x.1, b.0, no_more_back f.results s.known s.missing b.1)
 
   pub parts : (s : State) (rs : List ValType) (os : List Operand) (m : Bool) (fs : List Around) → s.around ≡ around_is checks.If rs os m ∷ fs → Denotes s.known s.missing rs → step c instrs.Else s ≡ Some (opened checks.Else rs os m fs)

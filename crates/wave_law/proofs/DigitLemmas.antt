@@ -4,7 +4,7 @@ use Rattle.std.proofs.Common.{Bool, true, false, not, ◌&&◌, ◌||◌, nat_le
 use Rattle.std.specs.Prelude.{decimal, nat_lt}
 use Rattle.std.specs.List.{list_all, list_any}
 use Rattle.std.specs.Char.{digit_value, is_ascii_digit}
-use Rattle.std.proofs.lemmas.Bool.{and_parts, cases_lt, eq-eqb, ne_eqb, lt-ltb}
+use Rattle.std.proofs.lemmas.Bool.{and_parts, cases_lt, eq-eqb, ne_eqb, lt-ltb, or_parts, both_ways, and_from, not_from_false}
 use Rattle.std.proofs.lemmas.Fmt.{decimal_by_steps}
 use Rattle.std.proofs.lemmas.List.Folds.{list_all-append}
 use Rattle.std.proofs.lemmas.List.Sums.{fold-append}
@@ -28,15 +28,8 @@ unbroken_more b l other rest (suc k) less = rest k (omega (arith, less))
 pub by_test : (l : List ℕ) → list_any (λ (b : ℕ). b == 10) l ≡ false → IsUnbroken l
 by_test [] none = unbroken_none
 by_test (b ∷ l) none =
-    let both = neither (b == 10) (list_any (λ (b : ℕ). b == 10) l) none in
-    unbroken_more b l (λ e. absurd (off (b == 10) both.0 (eq-eqb b 10 e))) (by_test l both.1)
-  where
-    neither : (x y : Bool) → (x || y) ≡ false → (x ≡ false) × (y ≡ false)
-    neither true y e = absurd cc
-    neither false y e = (refl, e)
-
-    off : (x : Bool) → x ≡ false → x ≡ true → ⊥
-    off x e f = cc
+    let both = or_parts (b == 10) (list_any (λ (b : ℕ). b == 10) l) none in
+    unbroken_more b l (λ e. absurd (both_ways (b == 10) both.0 (eq-eqb b 10 e))) (by_test l both.1)
 
 pub digits_unbroken : (ds : List ℕ) → list_all is_ascii_digit ds ≡ true → IsUnbroken ds
 digits_unbroken [] all = unbroken_none
@@ -83,14 +76,6 @@ all_on : (a : Bool) → a ≡ true → (a && true) ≡ true
 all_on true e = refl
 all_on false e = e
 
-and_on : (a b : Bool) → a ≡ true → b ≡ true → (a && b) ≡ true
-and_on true b e f = f
-and_on false b e f = e
-
-not_off : (a : Bool) → a ≡ false → not a ≡ true
-not_off true e = absurd cc
-not_off false e = refl
-
 one_digit : (m : ℕ) → m < 10 → Writes m ((48 + m) ∷ [])
 one_digit m less =
     let digit : is_ascii_digit (48 + m) ≡ true = digit_is (48 + m) (omega arith) (omega (arith, less)) in
@@ -98,7 +83,7 @@ one_digit m less =
     record {
       digits = all;
       value = (let e = digit_of m less in omega (arith, e));
-      first = λ some. not_off (48 + m == char_0) (ne_eqb (48 + m) char_0 (λ e. omega (arith, e, some)));
+      first = λ some. not_from_false (48 + m == char_0) (ne_eqb (48 + m) char_0 (λ e. omega (arith, e, some)));
       short = last_on (not (48 + m == char_0)) (list_all is_ascii_digit ((48 + m) ∷ [])) all;
     }
 
@@ -117,7 +102,7 @@ next_digit m ds large w =
     let high = high_still ds (48 + m % 10) (w.first some) in
     let digit : is_ascii_digit (48 + m % 10) ≡ true = digit_is (48 + m % 10) (omega arith) (omega (arith, low)) in
     let all : list_all is_ascii_digit (ds ++ ((48 + m % 10) ∷ [])) ≡ true = list_all-append is_ascii_digit ds ((48 + m % 10) ∷ [])
-    ∙ and_on (list_all is_ascii_digit ds) (list_all is_ascii_digit ((48 + m % 10) ∷ [])) w.digits (all_on (is_ascii_digit (48 + m % 10)) digit) in
+    ∙ and_from (list_all is_ascii_digit ds) (list_all is_ascii_digit ((48 + m % 10) ∷ [])) w.digits (all_on (is_ascii_digit (48 + m % 10)) digit) in
     let value : value_of 10 (ds ++ ((48 + m % 10) ∷ [])) ≡ 10 * value_of 10 ds + digit_value (48 + m % 10) =
     fold-append (λ (n d : ℕ). 10 * n + digit_value d) 0 ds ((48 + m % 10) ∷ []) in
     let e = w.value in
@@ -131,7 +116,7 @@ written m small = let w = decimal_by_steps Writes one_digit next_digit m small i
 -- ---- identifier codes
 
 printable_is : (a : ℕ) → first_printable ≤ a → a < first_printable + printable → is_printable a ≡ true
-printable_is a low high = and_on (nat_le first_printable a) (nat_lt a (first_printable + printable)) (is_le first_printable a low)
+printable_is a low high = and_from (nat_le first_printable a) (nat_lt a (first_printable + printable)) (is_le first_printable a low)
     (lt-ltb a (first_printable + printable) high)
 
 one_char : (a : ℕ) → first_printable ≤ a → a < first_printable + printable → number_of (a ∷ []) ≡ Some (a - first_printable)
@@ -141,7 +126,7 @@ abbrev pair_number : ℕ → ℕ → ℕ
 pair_number a b = printable + (printable * (a - first_printable) + (b - first_printable))
 
 two_chars : (a b : ℕ) → is_printable a ≡ true → is_printable b ≡ true → number_of (a ∷ b ∷ []) ≡ Some (pair_number a b)
-two_chars a b p q = ap (λ (x : Bool). if x then Some (pair_number a b) else None) (and_on (is_printable a) (is_printable b) p q)
+two_chars a b p q = ap (λ (x : Bool). if x then Some (pair_number a b) else None) (and_from (is_printable a) (is_printable b) p q)
 
 abbrev high_code : ℕ → ℕ
 high_code i = first_printable + (i - printable) / printable

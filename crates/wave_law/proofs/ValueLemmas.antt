@@ -4,11 +4,12 @@ use Rattle.std.proofs.Common.{if◌then◌else◌, Option, None, Some, refl, ap,
 use Rattle.std.specs.Prelude.{slice_get}
 use Rattle.std.specs.List.{list_all, range_with_len}
 use Rattle.std.specs.Option.{option_map_or}
-use Rattle.std.proofs.lemmas.Bool.{cases_eq, cases_lt, eq-eqb, eqb-true}
+use Rattle.std.proofs.lemmas.Bool.{cases_eq, cases_lt, eq-eqb, eqb-true, or_left, or_right}
 use Rattle.std.proofs.lemmas.List.{length-map}
 use Rattle.std.proofs.lemmas.List.Folds.{list_any-append}
 use Rattle.std.proofs.lemmas.List.FromFn.{get_or-range_with_len, length-range_with_len}
 use Rattle.std.proofs.lemmas.List.Sums.{list_all-from_AllPass}
+use Rattle.std.proofs.Math.Bool.{and-true, and-false}
 use Rattle.sim_base.specs.Rows.{Row}
 use Rattle.board_laws.specs.InForce.{row_from}
 use Rattle.board_laws.proofs.OwnRows.{is_le, is_gt}
@@ -19,14 +20,6 @@ use Rattle.vcd_text.proofs.TrackLemmas.{value_push}
 use Rattle.wave_law.specs.Said.{told, all_told, some_told, later_told, rows_told}
 use Rattle.wave_law.specs.Written.{AreLater, AreOfRun, is_shown, value_in, written_value}
 use Rattle.wave_law.proofs.TextLemmas.{AreFrom, first_from, rest_from, all_from}
-
-and_true : (b : Bool) → (b && true) ≡ b
-and_true true = refl
-and_true false = refl
-
-and_false : (b : Bool) → (b && false) ≡ false
-and_false true = refl
-and_false false = refl
 
 -- the last of several that has a value decides
 either_value : (a b : Bool) (v now found : ℕ) → (a ≡ true → v ≡ now) → (if b then now else (if a then v else found)) ≡ (if a || b then now else found)
@@ -66,13 +59,13 @@ module _ (vs : List Variable) (test : Source → Bool) (source : Source) (only :
   told_at said c i v t w here early =
       value_push (shows vs test) said char_z (record { cycle = c; variable = i; value = v }) t
       ∙ ap (λ (b : Bool). if b then v else value_at said t) (ap (λ (o : Option Variable). option_map_or (λ (x : Variable). test x.shows) o false && nat_le c t) here
-      ∙ ap (λ (b : Bool). test w.shows && b) (is_le c t early) ∙ and_true (test w.shows))
+      ∙ ap (λ (b : Bool). test w.shows && b) (is_le c t early) ∙ and-true (test w.shows))
 
   told_before : (said : List Change) (c i v t : ℕ) → t < c → value_at (told said c i v) t ≡ value_at said t
   told_before said c i v t later =
       let change : Change = record { cycle = c; variable = i; value = v } in
       value_push (shows vs test) said char_z change t
-      ∙ ap (λ (b : Bool). if b then v else value_at said t) (ap (λ (b : Bool). shows vs test change && b) (is_gt c t later) ∙ and_false (shows vs test change))
+      ∙ ap (λ (b : Bool). if b then v else value_at said t) (ap (λ (b : Bool). shows vs test change && b) (is_gt c t later) ∙ and-false (shows vs test change))
 
   all_at : (row : Row) (c t : ℕ) → c ≤ t → (ws : List Variable) (i : ℕ) (said : List Change) → AreFrom vs i ws →
       value_at (all_told said c i (values ws row)) t ≡ (if is_shown test ws then row_value row else value_at said t)
@@ -100,10 +93,10 @@ module _ (vs : List Variable) (test : Source → Bool) (source : Source) (only :
       one : (b : Bool) → (u == v) ≡ b → value_at (if u == v then said else told said c i v) t ≡ (if test w.shows && not (u == v) then v else value_at said t)
       one true e =
           ap (λ (b : Bool). value_at (if b then said else told said c i v) t) e
-          ∙ sym (ap (λ (b : Bool). if test w.shows && not b then v else value_at said t) e ∙ ap (λ (b : Bool). if b then v else value_at said t) (and_false (test w.shows)))
+          ∙ sym (ap (λ (b : Bool). if test w.shows && not b then v else value_at said t) e ∙ ap (λ (b : Bool). if b then v else value_at said t) (and-false (test w.shows)))
       one false e =
           ap (λ (b : Bool). value_at (if b then said else told said c i v) t) e ∙ told_at said c i v t w (first_from vs i w ws from) early
-          ∙ sym (ap (λ (b : Bool). if test w.shows && not b then v else value_at said t) e ∙ ap (λ (b : Bool). if b then v else value_at said t) (and_true (test w.shows)))
+          ∙ sym (ap (λ (b : Bool). if test w.shows && not b then v else value_at said t) e ∙ ap (λ (b : Bool). if b then v else value_at said t) (and-true (test w.shows)))
 
       same : test w.shows ≡ true → not (u == v) ≡ not (row_value was == row_value row)
       same e = ap (λ (x : ℕ). not (x == v)) (row_value_is was w e) ∙ ap (λ (x : ℕ). not (row_value was == x)) (row_value_is row w e)
@@ -169,14 +162,6 @@ module _ (vs : List Variable) (test : Source → Bool) (source : Source) (only :
       ∙ ap in_row (sym (ap (λ (b : Bool). row_from (if b then Some row else None) rows t) (is_le row.cycle t (omega (arith, first)))))
 
 -- ---- first values
-
-or_left : (a b : Bool) → a ≡ true → (a || b) ≡ true
-or_left true b e = refl
-or_left false b e = absurd cc
-
-or_right : (a b : Bool) → b ≡ true → (a || b) ≡ true
-or_right true b e = refl
-or_right false b e = e
 
 told_adds : (said : List Change) (c i v j : ℕ) → is_given (told said c i v) j ≡ (is_given said j || ((c == 0 && i == j) || false))
 told_adds said c i v j = list_any-append (λ (d : Change). d.cycle == 0 && d.variable == j) said (record { cycle = c; variable = i; value = v } ∷ [])

@@ -1,10 +1,9 @@
 use Rattle.std.proofs.Common.{◌≡◌, ◌≢◌, ◌<◌, ◌≤◌, ◌+◌, ◌∙◌, inl, inr, ℕ, ap, sym, arith, length, List, length-set}
 use Rattle.std.specs.Prelude.{slice_get, slice_set}
+use Rattle.std.proofs.lemmas.Bool.{or_cases, or_parts}
 use Rattle.sim_base.specs.declared.signal.Drive.{Drive}
 use Rattle.net_resolve.specs.Circuit.{Circuit}
 use Rattle.board_model.proofs.Lists.{lt_or_eq, get_set_same, get_set_other}
-use Rattle.board_run.proofs.WakeLemmas.{or_none}
-use Rattle.board_run.proofs.TurnLemmas.{one_of}
 use Rattle.board_run.proofs.ReadLemmas.{span_put, span_there}
 use Rattle.board_run.proofs.tell.set_pins.Goals as goal
 
@@ -32,13 +31,13 @@ loop-pin-preserved g c =
         | inr more ↦ (let other : x ≢ c.args.at + pin = omega (arith, more) in ap (λ (l : List Drive). slice_get l x) new ∙ get_set_other ds (c.args.at + pin) x c.drive-drive.result other ∙ i.rest x (inr (omega (arith, more))))
       ];
       same = λ none j from h.
-          let both = or_none c.loop-pin.changed c.drives_other-changed.result none in
+          let both = or_parts c.loop-pin.changed c.drives_other-changed.result none in
           elim (lt_or_eq j pin h) [
             | inl less ↦ i.same both.0 j from less
             | inr same ↦ ap (λ (k : ℕ). slice_get c.args.nets.now.drives (c.args.at + k)) same ∙ sym was ∙ c.drives_other-changed.ensures.same both.1 ∙ sym c.drive-drive.ensures
                 ∙ ap (slice_get (g.P.Part.machine.drives (g.P.Part.state c.args.part.now))) (sym same)
           ];
-      other = λ one has. elim (one_of c.loop-pin.changed c.drives_other-changed.result one) [
+      other = λ one has. elim (or_cases c.loop-pin.changed c.drives_other-changed.result one) [
         | inl before ↦ i.other before has
         | inr here ↦ c.drives_other-changed.ensures.other here (was ∙ has pin (omega (arith, c.loop-pin-test.true, c.pins.ensures, c.min-to.ensures, to)) ∙ c.drive-drive.ensures)
       ];

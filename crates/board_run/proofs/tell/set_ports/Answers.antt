@@ -1,10 +1,9 @@
 use Rattle.std.proofs.Common.{◌≡◌, ◌<◌, ◌+◌, ◌∙◌, ap, sym, subst, arith, length, List, Bool, ℕ, inl, inr}
 use Rattle.std.specs.Prelude.{slice_get, slice_set}
+use Rattle.std.proofs.lemmas.Bool.{or_cases, or_parts}
 use Rattle.net_resolve.specs.Circuit.{Circuit}
 use Rattle.board_run.specs.Seen.{Put}
 use Rattle.board_model.proofs.Lists.{lt_or_eq}
-use Rattle.board_run.proofs.WakeLemmas.{or_none}
-use Rattle.board_run.proofs.TurnLemmas.{one_of}
 use Rattle.board_run.proofs.ReadLemmas.{put_more}
 use Rattle.board_run.proofs.tell.set_ports.Goals as goal
 
@@ -24,12 +23,12 @@ loop-i-preserved g c =
       put = subst (λ (xs : List Bool). Put c.args.at (c.loop-i.i + 1) cs c.args.nets.now.closed xs) (sym new)
           (put_more c.args.at c.loop-i.i cs c.args.nets.now.closed c.loop-i.nets.closed c.contact-closed.result i.put (c.contact-closed.ensures (omega (arith, c.contacts-contacts.ensures))) room);
       same = λ none j h.
-          let both = or_none c.loop-i.changed c.joins_other-changed.result none in
+          let both = or_parts c.loop-i.changed c.joins_other-changed.result none in
           elim (lt_or_eq j c.loop-i.i h) [
             | inl less ↦ i.same both.0 j less
             | inr same ↦ ap (λ (k : ℕ). slice_get c.args.nets.now.closed (c.args.at + k)) same ∙ sym was ∙ c.joins_other-changed.ensures.same both.1 ∙ sym there ∙ ap (slice_get cs) (sym same)
           ];
-      other = λ one has. elim (one_of c.loop-i.changed c.joins_other-changed.result one) [
+      other = λ one has. elim (or_cases c.loop-i.changed c.joins_other-changed.result one) [
         | inl before ↦ i.other before has
         | inr here ↦ c.joins_other-changed.ensures.other here (was ∙ has c.loop-i.i (omega (arith, c.loop-i-test.true, c.contacts-contacts.ensures)) ∙ there)
       ];

@@ -1,12 +1,9 @@
-use Rattle.std.proofs.Common.{◌≡◌, ◌∙◌, ◌||◌, true, false, ℕ, Bool, Option, Some, None, take, length, refl, ap, sym, subst}
+use Rattle.std.proofs.Common.{◌∙◌, ℕ, Bool, Option, Some, None, take, length, refl, ap, sym, subst}
 use Rattle.std.proofs.lemmas.Bool.{or_right}
+use Rattle.std.proofs.Math.Bool.{or-false}
 use Rattle.event_queue.proofs.TreeLemmas.{set_same}
 use Rattle.board_run.specs.Lagging.{is_at, to_wake, turned, MayTurn}
 use Rattle.board_run.proofs.turn.take_turn_at.Goals as goal
-
-unsent : (b : Bool) → (b || false) ≡ b
-unsent true = refl
-unsent false = refl
 
 pub hear_levels-requires-clause-may : goal.hear_levels-requires-clause-may
 hear_levels-requires-clause-may g c = c.requires.may c.due-due.result c.due-due.ensures
@@ -31,7 +28,7 @@ returns-in-Some-clause-turn g c =
     let own = take (length (m.drives (p.state x))) c.args.levels.now in (
       None,
       sym (set_same c.args.answers.now c.args.i None hears.2),
-      sym (unsent c.args.sent.now),
+      sym (or-false c.args.sent.now),
       λ d ed.
           subst (λ (v : Option ℕ). turned m p.state p.now p.wake_count (to_wake d c.args.t v c.args.differs) c.args.t own v x y None touched) (sym hears.1)
           (subst (λ (b : Bool). turned m p.state p.now p.wake_count (to_wake d c.args.t None b) c.args.t own None x y None touched) (sym hears.0)

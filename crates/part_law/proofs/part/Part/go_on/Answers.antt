@@ -1,7 +1,8 @@
 use Rattle.std.proofs.Common.{◌≡◌, ◌∙◌, ◌+◌, ◌-◌, refl, arith, sym, ap}
 use Rattle.std.specs.Prelude.{slice_get}
+use Rattle.std.proofs.lemmas.Bool.{or_parts}
 use Rattle.part_law.specs.Going.{Gone}
-use Rattle.part_law.proofs.GoingLemmas.{jumped, jumped_on, gone_to, neither, none_there, due_at, quiet_to}
+use Rattle.part_law.proofs.GoingLemmas.{jumped, jumped_on, gone_to, none_there, due_at, quiet_to}
 use Rattle.part_law.proofs.part.Part.go_on.Goals as goal
 
 pub settle-requires-clause-later : goal.settle-requires-clause-later
@@ -42,7 +43,7 @@ loop-u-preserved g c =
     let w = jumped p.machine g.met.Self.Part.laws (p.state c.args.self.now) (p.now c.args.self.now) (p.now c.loop-u.self) c.in-Some.u (p.wake_count c.loop-u.self - p.wake_count c.args.self.now)
     (p.state c.loop-u.self) (p.state c.settle.new.self) (p.now c.settle.new.self) (p.state c.wake_held-byte.new.self) c.wake_held-byte.result
     i.begun d.0 c.requires.valid i.gone d.2 d.3 c.settle.ensures.state c.settle.ensures.now c.wake_held-byte.ensures.state c.wake_held-byte.ensures.byte in
-    let n = neither c.changed-changed.result c.is_some.result c.if-changed-is_some.false in
+    let n = or_parts c.changed-changed.result c.is_some.result c.if-changed-is_some.false in
     let still = sym c.changed-changed.ensures ∙ n.0 in
     let t = p.now c.args.self.now in
     let e : c.in-Some.u + 1 - t ≡ p.now c.wake_held-byte.new.self - t = omega (arith, c.wake_held-byte.ensures.now, c.settle.ensures.now) in
