@@ -112,6 +112,21 @@ ends "a reader that ends" 6 "write failed"
 echo $? >status
 : >said
 ends "a closed standard error" 4 ""
+# no file may take the number of an output that is closed, or what goes there would stand in it
+"$program" run p --us 1 --vcd w.vcd --report - >&- 2>said
+echo $? >status
+ends "a report on a closed standard output" 6 "write failed"
+holds "the file of the wave beside it" w.vcd "$wave"
+"$program" run "$examples/serial-hello" --us 20000 --report r.txt >&- 2>said
+echo $? >status
+ends "bytes on a closed standard output" 6 "write failed"
+: >nothing
+holds "the file of the report beside them" r.txt nothing
+"$program" run p --us 1 --vcd w.vcd --report none/r.txt >/dev/null 2>&-
+echo $? >status
+: >said
+ends "a complaint on a closed standard error" 6 ""
+! grep -q failed w.vcd || { echo "the complaint stands in the file of the wave"; bad=1; }
 
 # an unreadable file and a folder that takes no file: only for a user to whom the system refuses them
 chmod 000 p/blink.hex

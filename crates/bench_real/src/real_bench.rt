@@ -23,6 +23,8 @@ enum Sink<F> {
 #[derive(Drop)]
 pub struct RealBench<R: Runtime> {
     rt: R,
+    // What stands where standard input, output or error is closed.
+    stands: (Option<R::File>, Option<R::File>, Option<R::File>),
     wave: Sink<R::File>,
     report: Sink<R::File>,
     read_faults: u64,
@@ -35,8 +37,10 @@ pub struct RealBench<R: Runtime> {
 impl<R: Runtime> RealBench<R> {
     /// A bench over the runtime that `main` was given, with no port of its own open.
     pub fn new(rt: R) -> RealBench<R> {
+        let stands = (stand(&rt), stand(&rt), stand(&rt));
         RealBench {
             rt,
+            stands,
             wave: Sink::Closed,
             report: Sink::Closed,
             read_faults: 0,
@@ -46,6 +50,12 @@ impl<R: Runtime> RealBench<R> {
             complaint_faults: 0,
         }
     }
+}
+
+/// A file that can only be read. The system gives a file the least number that is free, so where standard output is closed an
+/// output would take its number, and the bytes that are sent would go into it; with this one there, writing them fails.
+fn stand<R: Runtime>(rt: &R) -> Option<R::File> {
+    File::open(rt, "/dev/null").ok()
 }
 
 fn open_sink<R: Runtime>(rt: &R, name: &str) -> Option<Sink<R::File>>
