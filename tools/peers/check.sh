@@ -85,6 +85,7 @@ if have cc && cc -O2 -o "$folder/uno" "$here/uno.c"; then
     for name in sram general read-sbi read-out read-nop int0 int0-sleep int0-reti; do
         row "mcu-$name" 3
     done
+    row adc-idle 25
     row adc 240 14~700 15=high pot1.GND:z pot1.SIG:14 pot1.VCC:z
     row one-byte 86
     row usart 1700 1=0

@@ -16,19 +16,22 @@ use Rattle.part_law.specs.declared.span.Span.{Span}
 use Rattle.part_law.specs.Spans.{IsIn, no_pins}
 use Rattle.part_law.proofs.SpanLemmas.{none_in, not_joined}
 use Rattle.avr_core.specs.CoreState.{Core}
-use Rattle.avr_core.specs.AvrStep.{Did}
+use Rattle.avr_core.specs.AvrStep.{Did, avr_step}
+use Rattle.avr_core.specs.declared.state.Mode.{Mode}
+use Rattle.avr_core.specs.declared.state.Mode.TheVariants as modes
 use Rattle.avr_core.proofs.BusLemmas.{step_leads, entered_leads}
 use Rattle.unit_law.specs.Bits.{with_bit}
 use Rattle.unit_law.specs.declared.pins.TheConstants.{PORT_PINS}
 use Rattle.unit_law.specs.UnitMachine.{UnitMachine, least, steps, FirstDue}
 use Rattle.unit_law.specs.UnitMachine as unit
 use Rattle.unit_law.proofs.UnitLemmas.{step_none, step_last, quiet_requests}
+use Rattle.avr_adc.specs.declared.registers.TheConstants.{ADCSRA, ADSC}
 use Rattle.avr_mcu.specs.declared.pins.TheConstants.{UNO_PINS}
 use Rattle.avr_mcu.specs.Units.{Units, UnitsAt, unit_bus, pins, request, units_step, plain, with_plain, with_register, data_at, touches, bit_touches, pins_of, pins_of_bit, touched_by}
 use Rattle.avr_mcu.specs.Placed.{hull}
 use Rattle.avr_mcu.proofs.HullLemmas.{apart}
 use Rattle.avr_mcu.proofs.ReachLemmas.{Reaches}
-use Rattle.avr_mcu.specs.McuOf.{Mcu, mcu, mcu_step, ready, enters, starts, performed, acted, core_acted, uno_drive, uno_drives}
+use Rattle.avr_mcu.specs.McuOf.{Mcu, mcu, mcu_step, ready, enters, starts, with_sleep, performed, acted, core_acted, uno_drive, uno_drives}
 use Rattle.avr_mcu.specs.McuLawsOf.{drive_same, drives_same, length-uno_drives, rests}
 use Rattle.avr_mcu.specs.McuState.{state_of}
 
@@ -123,9 +126,16 @@ module _ {D : Type 0} (m : UnitMachine D) (laws : unit.Laws m) where
         by false c true y z p l h = refl
         by false c false y z p l h = refl
 
+    sleep_leads : (mode : Mode) (s : UnitsAt D) → Leads s (with_sleep m mode s)
+    sleep_leads modes.Run s = leads_same s
+    sleep_leads modes.Sleep s = bits_lead s ADCSRA ADSC true
+    sleep_leads (modes.Halt w) s = leads_same s
+
     -- an instruction or an entry leads there too
     performed_leads : (b : Bool) (flash : List ℕ) (core : Core) (s : UnitsAt D) → Leads s (performed m b flash core s).bus
-    performed_leads false flash core s = step_leads (unit_bus m) Leads leads_same leads_on read_leads write_leads bits_lead flash core s
+    performed_leads false flash core s =
+        let d = avr_step (unit_bus m) flash core s in
+        leads_on s d.bus _ (step_leads (unit_bus m) Leads leads_same leads_on read_leads write_leads bits_lead flash core s) (sleep_leads d.core.mode d.bus)
     performed_leads true flash core s =
         let v = request m s.units s.held in
         let g = entered_leads (unit_bus m) Leads leads_same leads_on read_leads write_leads bits_lead v core s in

@@ -16,6 +16,7 @@ use Rattle.avr_core.specs.declared.state.Mode.TheVariants as modes
 use Rattle.unit_law.specs.Pad.{driven}
 use Rattle.unit_law.specs.declared.pins.TheConstants.{PORT_PINS}
 use Rattle.unit_law.specs.UnitMachine.{UnitMachine}
+use Rattle.avr_adc.specs.declared.registers.TheConstants.{ADCSRA, ADSC}
 use Rattle.avr_mcu.specs.declared.pins.TheConstants.{UNO_PINS}
 use Rattle.avr_mcu.specs.Units.{Units, UnitsAt, reset, request, units_step, unit_bus}
 
@@ -78,10 +79,21 @@ module _ {D : Type 0} (m : UnitMachine D) where
       let d = entered (unit_bus m) v c s in
       record d { bus = record (d.bus) { units = record (d.bus.units) { devices = m.taken d.bus.units.devices v } } }
 
+  -- Entering idle sleep begins a conversion of the ADC where that is enabled and none is on the way (data sheet, "Idle
+  -- Mode"), which is what writing 1 to ADSC alone does.
+  abbrev pub with_sleep : Mode → UnitsAt D → UnitsAt D
+  with_sleep modes.Run s = s
+  with_sleep modes.Sleep s = (unit_bus m).write_bit s ADCSRA ADSC true
+  with_sleep (modes.Halt w) s = s
+
+  -- an instruction of a core that runs
+  abbrev pub instructed : List ℕ → Core → UnitsAt D → Did (UnitsAt D)
+  instructed flash c s = let d = avr_step (unit_bus m) flash c s in record d { bus = with_sleep d.core.mode d.bus }
+
   -- an entry or an instruction, all of whose effects come in its first cycle
   abbrev pub performed : Bool → List ℕ → Core → UnitsAt D → Did (UnitsAt D)
   performed true flash c s = entering c s
-  performed false flash c s = avr_step (unit_bus m) flash c s
+  performed false flash c s = instructed flash c s
 
   -- the units as the core finds them in cycle t
   abbrev pub bus_at : Mcu D → ℕ → UnitsAt D

@@ -3,7 +3,7 @@ ghost use Rattle.std.specs.Prelude.{◌≡◌, ◌+◌, ◌-◌, ◌<◌, ◌≤
 ghost use Rattle.avr_core.specs.AvrStep.{IsProgram, HasHalted, Did, avr_step};
 ghost use Rattle.avr_core.specs.declared.state.Mode.TheVariants.{Run};
 ghost use Rattle.avr_mcu.specs.Devices.{devices};
-ghost use Rattle.avr_mcu.specs.McuOf.{mcu, start, ready, enters, starts, entering, performed, core_acted, uno_drive};
+ghost use Rattle.avr_mcu.specs.McuOf.{mcu, start, ready, enters, starts, entering, instructed, performed, core_acted, uno_drive};
 ghost use Rattle.avr_mcu.specs.McuState.{state_of};
 ghost use Rattle.avr_mcu.specs.Units.{unit_bus, request, units_step};
 ghost use Rattle.part_law.specs.Machine.{IsFirstDue};
@@ -332,7 +332,7 @@ fn perform(
     (cycles, units.touched())
 }
 
-#[inline]
+#[inline(always)]
 fn do_one(core: &mut Core, program: &[Instr], flash: &Flash, units: &mut Units, enters: bool) -> u8
     requires program { IsProgram flash.now program.now }
     requires awake { ¬ HasHalted core.old.mode }
@@ -342,8 +342,21 @@ fn do_one(core: &mut Core, program: &[Instr], flash: &Flash, units: &mut Units, 
     if enters {
         enter(core, units)
     } else {
-        core.exec_decoded(program, flash, units)
+        instruct(core, program, flash, units)
     }
+}
+
+// An instruction, by which the core may fall asleep.
+#[inline(always)]
+fn instruct(core: &mut Core, program: &[Instr], flash: &Flash, units: &mut Units) -> u8
+    requires { IsProgram flash.now program.now }
+    ensures { record { core = core.new; bus = units.new; cycles = result } ≡ instructed devices flash.now core.old units.old }
+{
+    let cycles = core.exec_decoded(program, flash, units);
+    if let Mode::Sleep = core.mode() {
+        units.sleep();
+    }
+    cycles
 }
 
 // Enters the least vector that is enabled and flagged.

@@ -7,11 +7,14 @@ ghost use Rattle.unit_law.specs.UnitMachine.{steps, IsQuiet, FirstDue};
 ghost use Rattle.avr_mcu.specs.Devices.{devices};
 ghost use Rattle.avr_mcu.specs.Units.{UnitsAt, unit_bus, reset, pins, request, units_step, above, above_in, with_above, plain, plain_of, with_plain, register, after_read, with_register, with_register_bit, at_port, wire_pins, one_pin, pins_of, pins_of_bit, touched_by};
 ghost use Rattle.part_law.specs.Spans.{no_pins};
+ghost use Rattle.avr_core.specs.declared.state.Mode.TheVariants.{Sleep};
+ghost use Rattle.avr_mcu.specs.McuOf.{with_sleep};
 ghost use Rattle.avr_mcu.specs.Placed.{SameBut};
 
 use crate::asking::{Next, begin, hear, notices, read, skip, step, taken, write, write_bit};
 use crate::devices::{Devices, SPI_PINS, TWI_PINS, moved_pins, pad_of};
 use crate::pins::UNO_PINS;
+use avr_adc::{ADCSRA, ADSC};
 use avr_core::DataBus;
 use part_law::Span;
 use sim_base::{Drive, Level, MOST_CYCLES, OutOfMemory};
@@ -170,6 +173,14 @@ impl Units {
             &self.held[..PORT_PINS],
             vector,
         );
+    }
+
+    /// Entering idle sleep: sets ADSC alone.
+    #[inline(never)]
+    pub(crate) fn sleep(&mut self)
+        ensures { self.new ≡ with_sleep devices Sleep self.old }
+    {
+        self.write_bit(u16::from(ADCSRA), ADSC, true);
     }
 
     /// Goes on to a cycle, before which no unit has an event.
