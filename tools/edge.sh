@@ -87,6 +87,8 @@ mkdir out.vcd
 try run p --us 1 --vcd out.vcd
 ends "a folder in place of an output" 6 "write failed"
 
+(trap '' XFSZ && ulimit -f 1 && try run p --us 1 --vcd past.vcd)
+ends "a file past the caller's limit" 6 "write failed"
 if [ -c /dev/full ]; then
     try run p --us 1 --vcd /dev/full
     ends "a full device" 6 "write failed"

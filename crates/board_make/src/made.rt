@@ -30,7 +30,7 @@ fn inverter(alloc: Global) -> Result<Vec<u8>, AllocError>
     Ok(bytes)
 }
 
-/// The project of a seed: an Uno whose firmware writes drawn values to pins 2 to 13 without an end, a resistor and an LED on
+/// The project of a seed: an Uno whose firmware writes drawn values to pins 0 to 13 without an end, a resistor and an LED on
 /// each of pins 2 to 9, two inverters, which are chips, on two drawn pins, and a gate behind them.
 pub fn make(alloc: Global, seed: u32) -> Result<Made, OutOfMemory>
     ensures project { IfOk result (λ m. m.project ≡ project) }

@@ -1,5 +1,5 @@
--- A module text has one module, and bytes that are one do not break.
-use Rattle.std.proofs.Common.{◌≡◌, ℕ, zero, suc, ◌+◌, ◌-◌, ◌<◌, ◌≤◌, List, [], ◌∷◌, ◌++◌, length, take, drop, true, false, Result, Ok, refl, sym, ap, subst, ◌∙◌, arith, inl, inr, ⊎_elim, append_assoc, length-append}
+-- A module text has one module, bytes that are one do not break, and others break once.
+use Rattle.std.proofs.Common.{◌≡◌, ℕ, zero, suc, ◌+◌, ◌-◌, ◌<◌, ◌≤◌, List, [], ◌∷◌, ◌++◌, length, take, drop, true, false, Result, Ok, refl, sym, ap, subst, ◌∙◌, arith, ◌⊎◌, inl, inr, ⊎_elim, append_assoc, length-append}
 use Rattle.std.specs.Prelude.{slice_index}
 use Rattle.sim_base.specs.declared.fault.Fault.{Fault}
 use Rattle.sim_base.specs.declared.fault.Fault.TheVariants as faults
@@ -8,16 +8,18 @@ use Rattle.sim_base.specs.declared.fault.Place.TheVariants as places
 use Rattle.sim_base.specs.Refusals.{WasmMagic, WasmCount}
 use Rattle.wasm_text.specs.declared.reader.Reader.{Reader}
 use Rattle.wasm_text.specs.Form.{byte_or, judge_tag}
-use Rattle.wasm_text.specs.Proper.{Proper}
+use Rattle.wasm_text.specs.Proper.{IsOnce, Proper}
 use Rattle.wasm_text.specs.Reads.{Reads, Fails, Decodes}
 use Rattle.wasm_text.proofs.Steps.{append-nil, is_nil, then}
 use Rattle.wasm_text.proofs.Runs.{HasRun, begins, goes}
-use Rattle.wasm_text.proofs.Exact.{give_proper, byte_proper, then_proper, rest_is}
+use Rattle.wasm_text.proofs.Exact.{give_proper, byte_proper, then_proper}
+use Rattle.wasm_text.proofs.Cuts.{rest_is}
+use Rattle.wasm_text.proofs.Once.{BreaksBehind, then_once, run_once}
 use Rattle.wasm_decode.specs.declared.module.Module.{Module}
 use Rattle.wasm_decode.specs.declared.progress.Progress.{Progress}
 use Rattle.wasm_decode.specs.declared.progress.Section.{Section}
 use Rattle.wasm_decode.specs.SectionText.{wants_bodies, section, with_section}
-use Rattle.wasm_decode.specs.ModuleText.{these_bytes, magic, nothing, never, Sections, ModuleText, NextBreaks, ModuleBreaks, IsBroken, IsDecoded}
+use Rattle.wasm_decode.specs.ModuleText.{these_bytes, magic, nothing, never, Sections, ModuleText, NextBreaks, SectionsBreak, ModuleBreaks, IsBroken, IsDecoded}
 use Rattle.wasm_decode.specs.SectionViews.{SectionsFail, SectionsRead}
 use Rattle.wasm_decode.proofs.SectionLemmas.{section_proper, section_some}
 
@@ -81,8 +83,30 @@ module_excludes bytes m i k h b =
     breaks_not nothing h.1 f.0 f.1 h.2 f.2 h.3 f.3 f.4 k (rest_is h.0 g.0 h.1 g.1 o.0 e ∙ f.5) h.6 h.7 f.6 f.8)
     b
 
+next_once : (s : Progress) → IsOnce (NextBreaks s)
+next_once s [] i j m n h k = (h.1 ∙ sym k.1, h.2 ∙ sym k.2)
+next_once s (b ∷ bytes) i j m n h k = (section_proper s).once (b ∷ bytes) i j m n h k
+
+no_section : (s : Progress) (a r : List ℕ) (x : Section) (i k : ℕ) → (section s).text a x → NextBreaks s (a ++ r) i k → ⊥
+no_section s a r x i k t b = next_not s (a ++ r) a r x i k refl t b
+
+sections_once : IsOnce SectionsBreak
+sections_once bytes i j m n f g =
+    let w = run_once section with_section never NextBreaks section_proper next_once no_section nothing f.3 g.3 f.0 f.1 g.0 g.1 f.2 g.2 f.4 g.4 m n (sym f.5 ∙ g.5) f.6 f.8 g.6 g.8 in
+    (f.7 ∙ w.0 ∙ sym g.7, w.1)
+
+abbrev Behind : List ℕ → ℕ → ℕ → Type 0
+Behind = BreaksBehind magic (λ x. SectionsBreak)
+
+as_behind : (bytes : List ℕ) (i k : ℕ) → ModuleBreaks bytes i k → magic.breaks bytes i k ⊎ Behind bytes i k
+as_behind bytes i k b = ⊎_elim (λ u. inl u) (λ u. inr (u.0, u.1, tt, u.2, u.3, u.4, u.5, u.6)) b
+
+module_once : IsOnce ModuleBreaks
+module_once bytes i j m n h k =
+    then_once magic (λ x. SectionsBreak) magic_proper (λ x. sections_once) bytes i j m n (as_behind bytes i m h) (as_behind bytes j n k)
+
 broken : (bytes : List ℕ) (r : Refusal) (i : ℕ) → r.place ≡ places.Byte i → ModuleBreaks bytes i r.number → IsBroken bytes (faults.Refused r)
-broken bytes r i p b = (λ m t. module_excludes bytes m i r.number t b, (i, p, b))
+broken bytes r i p b = (λ m t. module_excludes bytes m i r.number t b, (i, p, b, λ j n c. module_once bytes j i n r.number c b))
 
 pub magic_fails : (old : Reader) (e : Fault) → old.at ≡ 0 → Fails magic old e → IsBroken old.rest.now e
 magic_fails old faults.OutOfMemory z f = tt

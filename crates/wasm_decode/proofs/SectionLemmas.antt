@@ -1,5 +1,5 @@
 -- Sections are proper.
-use Rattle.std.proofs.Common.{◌≡◌, ℕ, ◌-◌, ◌<◌, List, [], ◌∷◌, ◌++◌, length, take, false, refl, sym, ap, subst, ◌∙◌, arith, ⊎_elim, append_assoc, length-append}
+use Rattle.std.proofs.Common.{◌≡◌, ℕ, ◌-◌, ◌<◌, List, ◌++◌, length, take, false, sym, ap, subst, ◌∙◌, arith, ◌⊎◌, ⊎_elim, append_assoc, length-append}
 use Rattle.std.specs.Prelude.{◌==◌, Result, Ok, Err, IsOkAnd, MatchResult}
 use Rattle.sim_base.specs.declared.fault.Fault.{Fault}
 use Rattle.sim_base.specs.Refusals.{WasmCut, WasmLeb}
@@ -8,10 +8,12 @@ use Rattle.wasm_text.specs.Form.{Form, give, byte, ◌>>=◌}
 use Rattle.wasm_text.specs.Leb.{u32}
 use Rattle.wasm_text.specs.Lists.{vec, vec_to, sized}
 use Rattle.wasm_text.specs.Names.{name}
-use Rattle.wasm_text.specs.Proper.{Proper}
+use Rattle.wasm_text.specs.Proper.{IsOnce, Proper}
 use Rattle.wasm_text.specs.Reads.{Reads, Decodes}
 use Rattle.wasm_text.proofs.Steps.{stops, then_reads, given}
-use Rattle.wasm_text.proofs.Exact.{give_proper, byte_proper, then_proper, unsigned_proper, vec_proper, vec_to_proper, choose_proper, sized_proper, rest_is, recut, whole_is}
+use Rattle.wasm_text.proofs.Exact.{give_proper, byte_proper, then_proper, unsigned_proper, vec_proper, vec_to_proper, choose_proper, sized_proper}
+use Rattle.wasm_text.proofs.Cuts.{take_front, rest_is, recut, whole_is, same_length}
+use Rattle.wasm_text.proofs.Once.{then_once}
 use Rattle.wasm_code.specs.TypeText.{func_type, limits, table_type}
 use Rattle.wasm_code.proofs.LimitsLemmas.{limits_proper}
 use Rattle.wasm_code.proofs.TypeLemmas.{func_type_proper, table_type_proper}
@@ -25,26 +27,6 @@ use Rattle.wasm_decode.proofs.ItemLemmas.{name_proper, imports_proper, global_pr
 
 u32_proper : Proper u32
 u32_proper = unsigned_proper 32 0 4294967295 WasmLeb
-
-take_front : (a r : List ℕ) → take (length a) (a ++ r) ≡ a
-take_front [] r = refl
-take_front (x ∷ a) r = ap (λ (z : List ℕ). x ∷ z) (take_front a r)
-
-abbrev head_of : ℕ → List ℕ → ℕ
-head_of d [] = d
-head_of d (x ∷ xs) = x
-
-abbrev tail_of : List ℕ → List ℕ
-tail_of [] = []
-tail_of (x ∷ xs) = xs
-
-same_length : (a b r s : List ℕ) → length a ≡ length b → a ++ r ≡ b ++ s → a ≡ b
-same_length [] [] r s l e = refl
-same_length [] (y ∷ b) r s l e = absurd (omega arith)
-same_length (x ∷ a) [] r s l e = absurd (omega arith)
-same_length (x ∷ a) (y ∷ b) r s l e =
-    let q : x ≡ y = ap (head_of 0) e in
-    ap (λ (z : ℕ). z ∷ a) q ∙ ap (λ (z : List ℕ). y ∷ z) (same_length a b r s (omega arith) (ap tail_of e))
 
 custom_one : (a b r s : List ℕ) (x y : Section) → IsCustom a x → IsCustom b y → a ++ r ≡ b ++ s → (a ≡ b) × (x ≡ y)
 custom_one a b r s x y h k e =
@@ -72,8 +54,25 @@ custom_excludes a r x i number h b =
     f.7)
     b
 
+-- behind a whole name the bytes end before the size does
+abbrev IsShort : ℕ → List ℕ → ℕ → ℕ → Type 0
+IsShort size b j number = (c d n : List ℕ) × (take size b ≡ c ++ d) × name.text c n × (length b < size) × (j ≡ length b) × (number ≡ WasmCut)
+
+not_short : (size : ℕ) (bytes : List ℕ) (i j m n : ℕ) → name.breaks (take size bytes) i m → IsShort size bytes j n → ⊥
+not_short size bytes i j m n u v = name_proper.excludes v.0 v.1 v.2 i m v.4 (subst (λ (z : List ℕ). name.breaks z i m) v.3 u)
+
+named_once : (size : ℕ) → IsOnce (λ b j number. name.breaks (take size b) j number ⊎ IsShort size b j number)
+named_once size bytes i j m n h k =
+    ⊎_elim
+    (λ u. ⊎_elim (λ v. name_proper.once (take size bytes) i j m n u v) (λ v. absurd (not_short size bytes i j m n u v)) k)
+    (λ u. ⊎_elim (λ v. absurd (not_short size bytes j i n m v u)) (λ v. (u.6 ∙ sym v.6, u.7 ∙ sym v.7)) k)
+    h
+
+custom_once : IsOnce CustomBreaks
+custom_once = then_once u32 (λ size b j number. name.breaks (take size b) j number ⊎ IsShort size b j number) u32_proper named_once
+
 pub custom_proper : Proper custom
-custom_proper = record { one = custom_one; excludes = custom_excludes }
+custom_proper = record { one = custom_one; excludes = custom_excludes; once = custom_once }
 
 sect : {X : Type 0} (p : Form X) (make : X → Section) → Proper p → Proper (p >>= (λ x. give (make x)))
 sect p make h = then_proper p (λ x. give (make x)) h (λ x. give_proper (make x))

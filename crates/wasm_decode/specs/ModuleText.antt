@@ -54,11 +54,12 @@ ModuleBreaks bytes i number =
     magic.breaks bytes i number
     ⊎ ((a b : List ℕ) × (j : ℕ) × (bytes ≡ a ++ b) × magic.text a tt × (i ≡ length a + j) × SectionsBreak b j number)
 
--- What is refused: the bytes are the text of no module, and break there by that rule.
+-- What is refused: the bytes are the text of no module, and break there by that rule, and nowhere else and by no other.
 abbrev pub IsBroken : List ℕ → Fault → Type 0
 IsBroken bytes faults.OutOfMemory = Unit {0}
 IsBroken bytes (faults.Refused r) =
-    ((m : Module) → ModuleText bytes m → ⊥) × ((i : ℕ) × (r.place ≡ places.Byte i) × ModuleBreaks bytes i r.number)
+    ((m : Module) → ModuleText bytes m → ⊥)
+    × ((i : ℕ) × (r.place ≡ places.Byte i) × ModuleBreaks bytes i r.number × ((j n : ℕ) → ModuleBreaks bytes j n → (j ≡ i) × (n ≡ r.number)))
 
 -- Ok: the bytes are the text of this module and of no other. Out of memory alone is free.
 abbrev pub IsDecoded : List ℕ → Result Module Fault → Type 0

@@ -20,6 +20,7 @@ const MAGIC: [u8; 8] = [0x00, 0x61, 0x73, 0x6D, 0x01, 0x00, 0x00, 0x00];
 
 /// The module of these bytes. Refuses with 60 WasmMagic to 69 WasmLimit at the byte, from 0, at which
 /// the bytes break.
+#[tactic(auto, using(crate::proofs::ModuleLemmas::magic_fails))]
 pub fn decode(alloc: Global, bytes: &[u8]) -> Result<Module, Fault>
     requires { length bytes.now < 4294967295 }
     ensures { IsDecoded bytes.now result }

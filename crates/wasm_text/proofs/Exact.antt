@@ -1,45 +1,22 @@
--- Forms are proper: no text begins another, a text has one value, and bytes that begin with a text do not break.
+-- Forms are proper: no text begins another, a text has one value, bytes that begin with a text do not break, and others break
+-- once.
 use Rattle.std.proofs.Common.{◌≡◌, ℕ, zero, suc, ◌+◌, ◌-◌, ◌*◌, ◌^◌, ◌<◌, ◌≤◌, List, [], ◌∷◌, ◌++◌, length, Result, Ok, Err, Bool, true, false, refl, sym, ap, subst, ◌∙◌, arith, ◌⊎◌, append_assoc, ⊎_elim, length-append}
 use Rattle.std.specs.Prelude.{take}
 use Rattle.sim_base.specs.Refusals.{WasmLeb, WasmLimit}
 use Rattle.wasm_text.specs.Form.{Form, give, byte_or, ByteBreaks, ◌>>=◌, choose}
 use Rattle.wasm_text.specs.Leb.{IsUnsigned, ByteIsFaulty, high_least, high_greatest, BreaksUnsigned, unsigned, u32, at_most, IsSigned, IsUnlikeSign, BreaksSigned, signed}
-use Rattle.wasm_text.specs.Lists.{Run, repeated, is_zero, items, vec, vec_to, bytes_of_length, byte_vec, sized}
-use Rattle.wasm_text.specs.Proper.{Proper}
+use Rattle.wasm_text.specs.Lists.{Run, repeated, is_zero, items, vec, vec_to, bytes_of_length, byte_vec, short_number, ContentBreaks, sized}
+use Rattle.wasm_text.specs.Proper.{IsOnce, Proper}
+use Rattle.wasm_text.proofs.Cuts.{head_of, tail_of, take_front, rest_is, recut, whole_is, same_length}
+use Rattle.wasm_text.proofs.Once.{then_once, run_once, going_fine, unsigned_once, signed_once}
 use Rattle.wasm_text.proofs.Steps.{append-nil}
 use Rattle.wasm_text.proofs.Numbers.{high_allowed}
-
-abbrev head_of : ℕ → List ℕ → ℕ
-head_of d [] = d
-head_of d (x ∷ xs) = x
-
-abbrev tail_of : List ℕ → List ℕ
-tail_of [] = []
-tail_of (x ∷ xs) = xs
-
-take_front : (a r : List ℕ) → take (length a) (a ++ r) ≡ a
-take_front [] r = refl
-take_front (x ∷ a) r = ap (λ (z : List ℕ). x ∷ z) (take_front a r)
-
--- equal fronts leave equal rests
-pub rest_is : (a b r s : List ℕ) → a ≡ b → a ++ r ≡ b ++ s → r ≡ s
-rest_is [] [] r s q e = e
-rest_is [] (y ∷ b) r s q e = absurd cc
-rest_is (x ∷ a) [] r s q e = absurd cc
-rest_is (x ∷ a) (y ∷ b) r s q e = rest_is a b r s (ap tail_of q) (ap tail_of e)
-
--- the same bytes, cut in two ways
-pub recut : (whole1 whole2 a b a' b' r s : List ℕ) → whole1 ≡ a ++ b → whole2 ≡ a' ++ b' → whole1 ++ r ≡ whole2 ++ s → a ++ (b ++ r) ≡ a' ++ (b' ++ s)
-recut whole1 whole2 a b a' b' r s p q e =
-    sym (append_assoc a b r) ∙ sym (ap (λ (z : List ℕ). z ++ r) p) ∙ e ∙ ap (λ (z : List ℕ). z ++ s) q ∙ append_assoc a' b' s
-
-pub whole_is : (whole1 whole2 a b a' b' : List ℕ) → whole1 ≡ a ++ b → whole2 ≡ a' ++ b' → a ≡ a' → b ≡ b' → whole1 ≡ whole2
-whole_is whole1 whole2 a b a' b' p q e f = p ∙ ap (λ (z : List ℕ). z ++ b) e ∙ ap (λ (z : List ℕ). a' ++ z) f ∙ sym q
 
 pub give_proper : {X : Type 0} (x : X) → Proper (give x)
 give_proper x = record {
   one = λ a b r s y z h k e. (h.0 ∙ sym k.0, h.1 ∙ sym k.1);
   excludes = λ a r y i k h b. b;
+  once = λ bytes i j m n h k. absurd h;
 }
 
 module _ {X : Type 0} (cut : ℕ) (judge : ℕ → Result X ℕ) where
@@ -49,6 +26,12 @@ module _ {X : Type 0} (cut : ℕ) (judge : ℕ → Result X ℕ) where
       let e : Ok x ≡ Err k = sym h.2 ∙ b'.1 in
       absurd cc
 
+  byte_once : IsOnce (ByteBreaks cut judge)
+  byte_once [] i j m n h k = (h.0 ∙ sym k.0, h.1 ∙ sym k.1)
+  byte_once (b ∷ bytes) i j m n h k =
+      let e : Err m ≡ Err n = sym h.1 ∙ k.1 in
+      (h.0 ∙ sym k.0, cc)
+
   pub byte_proper : Proper (byte_or cut judge)
   byte_proper = record {
     one = λ a b r s x y h k e.
@@ -56,6 +39,7 @@ module _ {X : Type 0} (cut : ℕ) (judge : ℕ → Result X ℕ) where
         let v : Ok x ≡ Ok y = sym h.2 ∙ ap judge q ∙ k.2 in
         (h.1 ∙ ap (λ (z : ℕ). z ∷ []) q ∙ sym k.1, cc);
     excludes = byte_excludes;
+    once = byte_once;
   }
 
 module _ {X Y : Type 0} (p : Form X) (f : X → Form Y) (pp : Proper p) (pf : (x : X) → Proper (f x)) where
@@ -77,6 +61,7 @@ module _ {X Y : Type 0} (p : Form X) (f : X → Form Y) (pp : Proper p) (pf : (x
         let b' = subst (λ z. (f z).breaks g.1 g.3 k) o.1 g.7 in
         (pf h.2).excludes h.1 r y g.3 k h.5 (subst (λ (z : List ℕ). (f h.2).breaks z g.3 k) (rest_is g.0 h.0 g.1 (h.1 ++ r) o.0 e') b'))
         b;
+    once = then_once p (λ x. (f x).breaks) pp (λ x. (pf x).once);
   }
 
 module _ {S X : Type 0} (item : S → Form X) (next : S → X → S) (done : S → Bool) (pi : (s : S) → Proper (item s)) where
@@ -107,10 +92,23 @@ module _ {S X : Type 0} (item : S → Form X) (next : S → X → S) (done : S �
       let h5 = subst (λ z. Run item next done (next s z) h.2 xs t) o.1 h.5 in
       run_excludes (next s y) h.2 r g.2 c xs ys t u j k h5 d (rest_is h.1 g.1 (h.2 ++ r) (g.2 ++ c) o.0 e') g.5 f br
 
+  -- an item that is wanted and breaks
+  abbrev Wanted : S → List ℕ → ℕ → ℕ → Type 0
+  Wanted s bytes i m = (done s ≡ false) × (item s).breaks bytes i m
+
+  wanted_once : (s : S) → IsOnce (Wanted s)
+  wanted_once s bytes i j m n h k = (pi s).once bytes i j m n h.1 k.1
+
+  wanted_not : (s : S) (a r : List ℕ) (x : X) (i m : ℕ) → (item s).text a x → Wanted s (a ++ r) i m → ⊥
+  wanted_not s a r x i m t w = (pi s).excludes a r x i m t w.1
+
   pub repeated_proper : (s : S) → Proper (repeated item next done s)
   repeated_proper s = record {
     one = λ a b r q xs ys h k e. run_one s a b r q xs ys h.0 k.0 h.1 h.2 k.1 k.2 e;
     excludes = λ a r xs i k h b. run_excludes s a r b.1 b.2 xs b.0 h.0 b.3 b.4 k h.1 h.2 b.5 b.6 b.7 b.9;
+    once = λ bytes i j m n h k.
+        let w = run_once item next done Wanted pi wanted_once wanted_not s h.3 k.3 h.1 h.2 k.1 k.2 h.0 k.0 h.4 k.4 m n (sym h.5 ∙ k.5) h.6 (h.7, h.9) k.6 (k.7, k.9) in
+        (h.8 ∙ w.0 ∙ sym k.8, w.1);
   }
 
 unsigned_one : (bits : ℕ) (a b r s : List ℕ) (m n : ℕ) → IsUnsigned bits a m → IsUnsigned bits b n → a ++ r ≡ b ++ s → (a ≡ b) × (m ≡ n)
@@ -136,7 +134,7 @@ last_fine bits least greatest rule b k h1 h2 h3 h4 f =
 more_fine : (bits least greatest rule b high n k : ℕ) → 128 ≤ b → 7 < bits → n ≡ b - 128 + 128 * high → least ≤ n → n ≤ greatest → ByteIsFaulty bits least greatest rule b k → ⊥
 more_fine bits least greatest rule b high n k h1 h2 e l g f =
     let w = high_allowed least greatest (b - 128) high n e l g in
-    ⊎_elim (λ p. omega (arith, p.0, h1)) (λ q. ⊎_elim (λ p. omega (arith, p.1, h2)) (λ q'. ⊎_elim (λ p. omega (arith, p.0, h1)) (λ p. ⊎_elim (λ z. omega (arith, z, e, g)) (λ z. omega (arith, z, w.0, w.1)) p.2) q') q) f
+    going_fine bits least greatest rule b k h1 h2 (omega (arith, e, g), omega (arith, w.0, w.1)) f
 
 unsigned_excludes : (bits least greatest rule : ℕ) (a r : List ℕ) (n i k : ℕ) → IsUnsigned bits a n → least ≤ n → n ≤ greatest → BreaksUnsigned bits least greatest rule (a ++ r) i k → ⊥
 unsigned_excludes bits least greatest rule [] r n i k h l g b = h
@@ -145,12 +143,13 @@ unsigned_excludes bits least greatest rule (x ∷ []) r n (suc i) k h l g b = om
 unsigned_excludes bits least greatest rule (x ∷ y ∷ a) r n zero k h l g b = more_fine bits least greatest rule x h.2 n k h.0 h.1 (omega (arith, h.0, h.3)) l g b
 unsigned_excludes bits least greatest rule (x ∷ y ∷ a) r n (suc i) k h l g b =
     let w = high_allowed least greatest (x - 128) h.2 n (omega (arith, h.0, h.3)) l g in
-    unsigned_excludes (bits - 7) (high_least least (x - 128)) (high_greatest greatest (x - 128)) rule (y ∷ a) r h.2 i k h.4 w.0 w.1 b.2
+    unsigned_excludes (bits - 7) (high_least least (x - 128)) (high_greatest greatest (x - 128)) rule (y ∷ a) r h.2 i k h.4 w.0 w.1 b.3
 
 pub unsigned_proper : (bits least greatest rule : ℕ) → Proper (unsigned bits least greatest rule)
 unsigned_proper bits least greatest rule = record {
   one = λ a b r s x y h k e. unsigned_one bits a b r s x y h.0 k.0 e;
   excludes = λ a r x i k h b. unsigned_excludes bits least greatest rule a r x i k h.0 h.1 h.2 b;
+  once = unsigned_once bits least greatest rule;
 }
 
 signed_one : (bits : ℕ) (a b r s : List ℕ) (m n : ℕ) → IsSigned bits a m → IsSigned bits b n → a ++ r ≡ b ++ s → (a ≡ b) × (m ≡ n)
@@ -185,7 +184,7 @@ signed_excludes bits (x ∷ y ∷ a) r n zero k h b =
 signed_excludes bits (x ∷ y ∷ a) r n (suc i) k h b = signed_excludes (bits - 7) (y ∷ a) r h.2 i k h.4 b.2
 
 pub signed_proper : (bits : ℕ) → Proper (signed bits)
-signed_proper bits = record { one = signed_one bits; excludes = signed_excludes bits }
+signed_proper bits = record { one = signed_one bits; excludes = signed_excludes bits; once = signed_once bits }
 
 pub items_proper : {X : Type 0} (p : Form X) (n : ℕ) → Proper p → Proper (items p n)
 items_proper p n h = repeated_proper (λ (left : ℕ). p) (λ left x. left - 1) is_zero (λ s. h) n
@@ -201,6 +200,25 @@ choose_proper true p q h k = h
 choose_proper false p q h k = k
 
 module _ {X : Type 0} (wanted : Bool) (p : Form X) (pp : Proper p) where
+  abbrev Complete : ℕ → List ℕ → ℕ → ℕ → Type 0
+  Complete size bytes i number = (a b : List ℕ) × (x : X) × (take size bytes ≡ a ++ b) × p.text a x × (length a < size) × (i ≡ length a) × (number ≡ short_number wanted b)
+
+  not_complete : (size : ℕ) (bytes : List ℕ) (i j m n : ℕ) → p.breaks (take size bytes) i m → Complete size bytes j n → ⊥
+  not_complete size bytes i j m n u v = pp.excludes v.0 v.1 v.2 i m v.4 (subst (λ (z : List ℕ). p.breaks z i m) v.3 u)
+
+  complete_once : (size : ℕ) → IsOnce (Complete size)
+  complete_once size bytes i j m n u v =
+      let e : u.0 ++ u.1 ≡ v.0 ++ v.1 = sym u.3 ∙ v.3 in
+      let o = pp.one u.0 v.0 u.1 v.1 u.2 v.2 u.4 v.4 e in
+      (u.6 ∙ ap length o.0 ∙ sym v.6, u.7 ∙ ap (short_number wanted) (rest_is u.0 v.0 u.1 v.1 o.0 e) ∙ sym v.7)
+
+  content_once : (size : ℕ) → IsOnce (ContentBreaks wanted p size)
+  content_once size bytes i j m n h k =
+      ⊎_elim
+      (λ u. ⊎_elim (λ v. pp.once (take size bytes) i j m n u v) (λ v. absurd (not_complete size bytes i j m n u v)) k)
+      (λ u. ⊎_elim (λ v. absurd (not_complete size bytes j i n m v u)) (λ v. complete_once size bytes i j m n u v) k)
+      h
+
   pub sized_proper : Proper (sized wanted p)
   sized_proper = record {
     one = λ a b r s x y h k e.
@@ -224,18 +242,11 @@ module _ {X : Type 0} (wanted : Bool) (p : Form X) (pp : Proper p) where
         omega (arith, ap length o.0, g.5, q.1))
         f.7)
         b;
+    once = then_once u32 (ContentBreaks wanted p) (unsigned_proper 32 0 4294967295 WasmLeb) content_once;
   }
 
 bytes_excludes : (n : ℕ) (a r xs : List ℕ) (i k : ℕ) → (bytes_of_length n).text a xs → (bytes_of_length n).breaks (a ++ r) i k → ⊥
 bytes_excludes n a r xs i k h b = omega (arith, ap length h.0, h.1, b.0, length-append a r)
-
-same_length : (a b r s : List ℕ) → length a ≡ length b → a ++ r ≡ b ++ s → a ≡ b
-same_length [] [] r s l e = refl
-same_length [] (y ∷ b) r s l e = absurd (omega arith)
-same_length (x ∷ a) [] r s l e = absurd (omega arith)
-same_length (x ∷ a) (y ∷ b) r s l e =
-    let q : x ≡ y = ap (head_of 0) e in
-    ap (λ (z : ℕ). z ∷ a) q ∙ ap (λ (z : List ℕ). y ∷ z) (same_length a b r s (omega arith) (ap tail_of e))
 
 pub bytes_proper : (n : ℕ) → Proper (bytes_of_length n)
 bytes_proper n = record {
@@ -243,6 +254,7 @@ bytes_proper n = record {
       let q = same_length a b r s (omega (arith, ap length h.0, ap length k.0, h.1, k.1)) e in
       (q, sym h.0 ∙ q ∙ k.0);
   excludes = bytes_excludes n;
+  once = λ bytes i j m n h k. (h.1 ∙ sym k.1, h.2 ∙ sym k.2);
 }
 
 pub byte_vec_proper : Proper byte_vec

@@ -7,7 +7,7 @@ use Rattle.sim_base.specs.declared.fault.Place.TheVariants as places
 use Rattle.sim_base.specs.Refusals.{WasmLeb}
 use Rattle.wasm_text.specs.declared.reader.Reader.{Reader}
 use Rattle.wasm_text.specs.Reads.{Took, Reads, Fails}
-use Rattle.wasm_text.specs.Leb.{IsUnsigned, BreaksUnsigned, ByteIsFaulty, high_least, high_greatest, unsigned, IsSigned, BreaksSigned, IsUnlikeSign, signed}
+use Rattle.wasm_text.specs.Leb.{IsUnsigned, BreaksUnsigned, ByteIsFaulty, some_high, high_least, high_greatest, unsigned, IsSigned, BreaksSigned, IsUnlikeSign, signed}
 use Rattle.wasm_text.proofs.Steps.{fails_on, took_then}
 
 pub unsigned_more : (bits b high : ℕ) (text : List ℕ) (n : ℕ) → 128 ≤ b → 7 < bits → n + 128 ≡ b + 128 * high → IsUnsigned (bits - 7) text high → IsUnsigned bits (b ∷ text) n
@@ -26,12 +26,12 @@ unsigned_reads bits least greatest rule b high n hl hg old mid new el eg hb hw l
     let w = allowed_back least greatest (b - 128) high le (omega (arith, el, h.1.1)) (omega (arith, eg, h.1.2)) in
     (b ∷ h.0, (unsigned_more bits b high h.0 n hb hw (omega arith) h.1.0, omega (arith, w.0), omega (arith, w.1)), took_then old mid new (b ∷ []) h.0 t h.2)
 
-pub unsigned_fails : (bits least greatest rule b hl hg : ℕ) (old mid : Reader) (e : Fault) → hl ≡ high_least least (b - 128) → hg ≡ high_greatest greatest (b - 128) → 128 ≤ b → 7 < bits → Took old mid (b ∷ []) → Fails (unsigned (bits - 7) hl hg rule) mid e → Fails (unsigned bits least greatest rule) old e
-unsigned_fails bits least greatest rule b hl hg old mid e el eg hb hw t h =
+pub unsigned_fails : (bits least greatest rule b hl hg : ℕ) (old mid : Reader) (e : Fault) → hl ≡ high_least least (b - 128) → hg ≡ high_greatest greatest (b - 128) → 128 ≤ b → 7 < bits → some_high least greatest (b - 128) → Took old mid (b ∷ []) → Fails (unsigned (bits - 7) hl hg rule) mid e → Fails (unsigned bits least greatest rule) old e
+unsigned_fails bits least greatest rule b hl hg old mid e el eg hb hw s t h =
     fails_on (unsigned (bits - 7) hl hg rule) (unsigned bits least greatest rule) old mid (b ∷ []) e t (λ j k br.
     let q : suc j ≡ length (b ∷ []) + j = omega arith in
     let br' = subst (λ x. BreaksUnsigned (bits - 7) x (high_greatest greatest (b - 128)) rule mid.rest.now j k) el (subst (λ x. BreaksUnsigned (bits - 7) hl x rule mid.rest.now j k) eg br) in
-    subst (λ (i : ℕ). BreaksUnsigned bits least greatest rule (b ∷ mid.rest.now) i k) q (hb, hw, br')) h
+    subst (λ (i : ℕ). BreaksUnsigned bits least greatest rule (b ∷ mid.rest.now) i k) q (hb, hw, s, br')) h
 
 -- the byte that was read is faulty
 pub unsigned_faulty : (bits least greatest rule b k : ℕ) (old mid : Reader) → Took old mid (b ∷ []) → ByteIsFaulty bits least greatest rule b k → Fails (unsigned bits least greatest rule) old (faults.Refused (record { number = k; place = places.Byte old.at }))

@@ -16,9 +16,12 @@ high_least least low = (least - low + 127) / 128
 abbrev pub high_greatest : ℕ → ℕ → ℕ
 high_greatest greatest low = (greatest - low) / 128
 
--- whether no number from least to greatest has these low bits
+-- whether no number from least to greatest has these low bits, and whether some has
 abbrev pub no_high : ℕ → ℕ → ℕ → Type 0
 no_high least greatest low = (greatest < low) ⊎ (high_greatest greatest low < high_least least low)
+
+abbrev pub some_high : ℕ → ℕ → ℕ → Type 0
+some_high least greatest low = (low ≤ greatest) × (high_least least low ≤ high_greatest greatest low)
 
 -- The rule that a byte breaks: it has unused bits (62), or no allowed number is left with it (the limit's rule).
 abbrev pub ByteIsFaulty : ℕ → ℕ → ℕ → ℕ → ℕ → ℕ → Type 0
@@ -32,7 +35,8 @@ abbrev pub BreaksUnsigned : ℕ → ℕ → ℕ → ℕ → List ℕ → ℕ →
 BreaksUnsigned bits least greatest rule [] i number = (i ≡ 0) × (number ≡ WasmCut)
 BreaksUnsigned bits least greatest rule (b ∷ bs) zero number = ByteIsFaulty bits least greatest rule b number
 BreaksUnsigned bits least greatest rule (b ∷ bs) (suc i) number =
-    (128 ≤ b) × (7 < bits) × BreaksUnsigned (bits - 7) (high_least least (b - 128)) (high_greatest greatest (b - 128)) rule bs i number
+    (128 ≤ b) × (7 < bits) × some_high least greatest (b - 128)
+    × BreaksUnsigned (bits - 7) (high_least least (b - 128)) (high_greatest greatest (b - 128)) rule bs i number
 
 -- a number of so many bits from least to greatest; where no such number is left it breaks by this rule
 abbrev pub unsigned : ℕ → ℕ → ℕ → ℕ → Form ℕ

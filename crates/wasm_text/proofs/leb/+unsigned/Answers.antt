@@ -7,7 +7,7 @@ use Rattle.wasm_text.proofs.leb.+unsigned.Goals as goal
 pub returns-in_err-high-clause-decodes : goal.returns-in_err-high-clause-decodes
 returns-in_err-high-clause-decodes t c =
     let p = err_from_is_err_and c.from_residual-in_err-high.result c.from_residual-in_err-high.ensures.1 in
-    rw (p.1, p.2) (unsigned_fails c.args.bits c.args.least c.args.greatest c.args.rule c.in_ok-byte.field-0 _ _ c.args.reader.now c.byte.new.self c.in_err-high.field-0.0 (omega arith) (omega arith) (omega arith) (omega arith) (took_byte _ _ _ c.in_ok-byte.ensures) c.in_err-high.ensures.decodes)
+    rw (p.1, p.2) (unsigned_fails c.args.bits c.args.least c.args.greatest c.args.rule c.in_ok-byte.field-0 _ _ c.args.reader.now c.byte.new.self c.in_err-high.field-0.0 (omega arith) (omega arith) (omega arith) (omega arith) (omega arith, omega arith) (took_byte _ _ _ c.in_ok-byte.ensures) c.in_err-high.ensures.decodes)
 
 pub returns-clause-decodes : goal.returns-clause-decodes
 returns-clause-decodes t c =
