@@ -11,14 +11,15 @@ use Rattle.outcome_model.specs.Work.{Reading, Is, ReadStops, RanOn, SaidNothing,
 use Rattle.outcome_model.specs.Happens.{Answer, Ends}
 use Rattle.outcome_model.specs.Promises.{IsOne}
 use Rattle.outcome_model.proofs.ReadLemmas.{if_some, one_both, one_function}
+use Rattle.outcome_model.proofs.JudgeLemmas.{once_as}
 use Rattle.outcome_model.proofs.EndLemmas.{answered, answer_stops, one_answer, alone_ran, on_after, begins_after, kept_after}
 use Rattle.document_model.specs.declared.project.Project.{Project}
 use Rattle.board_make.specs.Board.{chip_file, diagram, lamps_parts}
 use Rattle.board_make.specs.Inverter.{inverter}
 use Rattle.board_build.specs.declared.plan.Plan.{Plan}
 use Rattle.chip_module.specs.declared.source.ChipSource.{ChipSource}
-use Rattle.chip_module.specs.Binary.{Binary}
-use Rattle.chip_module.proofs.BinaryLemmas.{one_binary, not_both}
+use Rattle.chip_module.specs.Binary.{Binary, Judges}
+use Rattle.chip_module.proofs.BinaryLemmas.{one_binary, not_both, one_refusal}
 use Rattle.project_model.specs.Work.{Work, in_folder}
 use Rattle.vcd_text.specs.Writers.{capped}
 use Rattle.cli_board.specs.Counted.{run_changes}
@@ -30,19 +31,17 @@ use Rattle.cli_make.specs.Answer.{JudgedBytes, MadeIn, MakeAnswer, contents, fol
 pub steady_bytes : (name bytes : List ℕ) → IsSteady (JudgedBytes name bytes)
 steady_bytes name bytes files n x e = inl e
 
--- bytes are worth one thing or refused, and not both
+-- bytes are worth one thing or refused once, and not both
 pub one_bytes : (name bytes : List ℕ) → IsOneReading (JudgedBytes name bytes)
-one_bytes name bytes = record { one_sided = sided; one_given = λ files x y e f. one_binary bytes x y e f; one_status = statuses }
+one_bytes name bytes = record {
+  one_sided = sided;
+  one_given = λ files x y e f. one_binary bytes x y e f;
+  one_stop = λ files t s e f. once_as name Judges one_refusal bytes t s e f;
+}
   where
     sided : (files : Files) (x : Binary) (s : Stop) → JudgedBytes name bytes files (Ok x) → JudgedBytes name bytes files (Err s) → ⊥
     sided files x (Missing n) e f = f
     sided files x (Refused n r) e f = not_both bytes x r e f.1
-
-    statuses : (files : Files) (t s : Stop) → JudgedBytes name bytes files (Err t) → JudgedBytes name bytes files (Err s) →
-        status_of (Stopped t) ≡ status_of (Stopped s)
-    statuses files (Missing n) s e f = absurd e
-    statuses files (Refused n r) (Missing m) e f = absurd f
-    statuses files (Refused n r) (Refused m q) e f = refl
 
 -- what comes behind the plan
 abbrev pub with_plan : Project → List ℕ → ChipSource → Plan → Reading Work

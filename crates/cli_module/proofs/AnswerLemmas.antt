@@ -9,7 +9,7 @@ use Rattle.outcome_model.specs.Promises.{IsOne}
 use Rattle.outcome_model.proofs.EndLemmas.{answered, answer_stops, only_texts, one_answer}
 use Rattle.outcome_model.proofs.JudgeLemmas.{one_judged}
 use Rattle.chip_module.specs.Binary.{Binary, Judges}
-use Rattle.chip_module.proofs.BinaryLemmas.{one_binary, not_both}
+use Rattle.chip_module.proofs.BinaryLemmas.{one_binary, not_both, one_refusal}
 use Rattle.cli_module.specs.Answer.{ModuleAnswer}
 
 module _ (name : List ℕ) where
@@ -18,7 +18,7 @@ module _ (name : List ℕ) where
 
   pub one_module : IsOne (ModuleAnswer name)
   unfolding ModuleAnswer
-  one_module = one_answer (JudgedFile name Judges) texts_by (one_judged name Judges one_binary not_both)
+  one_module = one_answer (JudgedFile name Judges) texts_by (one_judged name Judges one_binary not_both one_refusal)
 
   pub module_answer : (told : Option Files) (binary : Binary) → IfSome told (λ files. JudgedFile name Judges files (Ok binary)) → IfSome told (λ files. ModuleAnswer name files (Ok accepted))
   unfolding ModuleAnswer

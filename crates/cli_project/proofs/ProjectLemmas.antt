@@ -11,7 +11,7 @@ use Rattle.document_model.specs.Diagram.{diagram_text}
 use Rattle.chip_json.specs.ChipJson.{chip_text}
 use Rattle.chip_module.specs.Binary.{Binary, Judges}
 use Rattle.chip_module.specs.declared.source.ChipSource.{ChipSource}
-use Rattle.chip_module.proofs.BinaryLemmas.{one_binary, not_both}
+use Rattle.chip_module.proofs.BinaryLemmas.{one_binary, not_both, one_refusal}
 use Rattle.script_text.specs.Script.{script_of}
 use Rattle.outcome_model.specs.Stop.{Stop, Texts, accepted}
 use Rattle.outcome_model.specs.Outcome.{Outcome, Stopped, OutOfMemory}
@@ -115,7 +115,7 @@ drawn_is bytes d e = bytes_beside bytes (diagram_text bytes) d e
 module _ (folder : List ℕ) (script wave : Option (List ℕ)) where
   one_chip : (chip : ChipFile) → IsOneReading (ChipIn folder chip)
   one_chip chip =
-      one_both _ _ (one_judged (in_folder folder chip.binary) Judges one_binary not_both) (λ binary.
+      one_both _ _ (one_judged (in_folder folder chip.binary) Judges one_binary not_both one_refusal) (λ binary.
       one_both _ _ (one_file _ chip_text) (λ pins. one_function _))
 
   one_chips : (read : List ChipSource) (chips : List ChipFile) → IsOneReading (ChipsAfter folder read chips)

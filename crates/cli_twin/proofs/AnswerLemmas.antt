@@ -8,7 +8,7 @@ use Rattle.outcome_model.specs.Stop.{Stop, Texts, printed, report_alone}
 use Rattle.outcome_model.specs.Outcome.{Outcome, Stopped, status_of}
 use Rattle.outcome_model.specs.Work.{Is, ReadStops, RanOn, SaidNothing, IsOneReading, Then}
 use Rattle.outcome_model.specs.Happens.{Counts, Ends}
-use Rattle.outcome_model.specs.Promises.{IsOne}
+use Rattle.outcome_model.specs.Promises.{AreSame, IsOne}
 use Rattle.outcome_model.proofs.ReadLemmas.{if_some, one_both, one_function}
 use Rattle.outcome_model.proofs.EndLemmas.{alone_ran, stopped_by}
 use Rattle.project_model.specs.Work.{WorkIn}
@@ -25,7 +25,7 @@ risen : (before after : ℕ) → before ≤ after → after ≡ before + (after 
 risen before after rose = omega (arith, rose)
 
 module _ (folder other : List ℕ) where
-  -- two folders hold one pair, or stop with one status
+  -- two folders hold one pair, or stop once
   one_pair : IsOneReading (PairIn folder other)
   one_pair = one_both _ _ (one_work folder None None) (λ a. one_both _ _ (one_work other None None) (λ b. one_function _))
 
@@ -54,16 +54,26 @@ module _ (folder other : List ℕ) (us budget : ℕ) where
   sided files t s (Ok p, e, g) (Err u, f, h) = (one_pair folder other).one_sided files p u e f
   sided files t s (Err u, e, g) x = let bad : ◌≡◌ {A = Result Texts Stop} (Err u) (Ok t) = g in absurd (cc)
 
-  statuses : (files : Files) (t s : Stop) → TwinAnswer folder other us budget files (Err t) → TwinAnswer folder other us budget files (Err s) →
-      status_of (Stopped t) ≡ status_of (Stopped s)
+  once : (files : Files) (t s : Stop) → TwinAnswer folder other us budget files (Err t) → TwinAnswer folder other us budget files (Err s) → t ≡ s
   unfolding TwinAnswer
-  statuses files t s (Ok p, e, g) x = absurd g
-  statuses files t s (Err u, e, g) (Ok q, f, h) = absurd h
-  statuses files t s (Err u, e, g) (Err v, f, h) =
-      sym (ap (λ (y : Stop). status_of (Stopped y)) (err_same u t g)) ∙ (one_pair folder other).one_status files u v e f ∙ ap (λ (y : Stop). status_of (Stopped y)) (err_same v s h)
+  once files t s (Ok p, e, g) x = absurd g
+  once files t s (Err u, e, g) (Ok q, f, h) = absurd h
+  once files t s (Err u, e, g) (Err v, f, h) = sym (err_same u t g) ∙ (one_pair folder other).one_stop files u v e f ∙ err_same v s h
+
+  same_texts : (files : Files) (t u : Texts) → TwinAnswer folder other us budget files (Ok t) → TwinAnswer folder other us budget files (Ok u) → AreSame t u
+  unfolding TwinAnswer
+  same_texts files t u (Ok p, e, g) (Ok q, f, h) =
+      let is : p ≡ q = (one_pair folder other).one_given files p q e f in
+      let k = subst (λ (z : Pair). IsLineOf budget (16 * us) z u) (sym is) h in (
+        ap (λ (x : Texts). x.serial) g.says ∙ sym (ap (λ (x : Texts). x.serial) k.says),
+        ap (λ (x : Texts). x.wave) g.says ∙ sym (ap (λ (x : Texts). x.wave) k.says),
+        ap (λ (x : Texts). x.report) g.says ∙ sym (ap (λ (x : Texts). x.report) k.says),
+      )
+  same_texts files t u (Ok p, e, g) (Err s, f, h) = let bad : ◌≡◌ {A = Result Texts Stop} (Err s) (Ok u) = h in absurd (cc)
+  same_texts files t u (Err s, e, g) x = let bad : ◌≡◌ {A = Result Texts Stop} (Err s) (Ok t) = g in absurd (cc)
 
   pub one_twin : IsOne (TwinAnswer folder other us budget)
-  one_twin = record { one_sided = sided; one_status = statuses }
+  one_twin = record { one_sided = sided; one_text = same_texts; one_stop = once }
 
   stop_told : (files : Files) (s : Stop) → PairIn folder other files (Err s) → TwinAnswer folder other us budget files (Err s)
   unfolding TwinAnswer

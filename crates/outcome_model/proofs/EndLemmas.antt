@@ -55,7 +55,11 @@ module _ {X : Type 0} (reading : Reading X) (texts : X → Texts) where
   pub one_answer : IsOneReading reading → IsOne (AnswerOf reading texts)
   one_answer one =
       let both = one_both reading (λ x. Is (λ (files : Files). Ok (texts x))) one (λ x. one_function (λ (files : Files). Ok (texts x))) in
-      record { one_sided = both.one_sided; one_status = both.one_status }
+      record {
+        one_sided = both.one_sided;
+        one_text = λ files t u e f. (let same : t ≡ u = both.one_given files t u e f in (ap (λ (x : Texts). x.serial) same, ap (λ (x : Texts). x.wave) same, ap (λ (x : Texts). x.report) same));
+        one_stop = both.one_stop;
+      }
 
 -- a request whose texts are the acceptance alone counts no wakes
 pub accepted_counts : (answer : Answer) → ((files : Files) (t : Texts) → answer files (Ok t) → t ≡ accepted) → (o : Outcome) (a b : Outside) (n : ℕ) → Ends answer o a b → Counts answer o a n n

@@ -9,7 +9,7 @@ use Rattle.sim_base.specs.declared.fault.Place.TheVariants as places
 use Rattle.sim_base.specs.Refusals.{FileTooLong}
 use Rattle.sim_base.specs.Outside.{Outside, Files}
 use Rattle.outcome_model.specs.Stop.{Stop, Missing, Refused, file_within, read_from, JudgedAs, JudgedWithin, JudgedFrom}
-use Rattle.outcome_model.specs.Outcome.{Outcome, Accepted, NoRequest, Stopped, ReadFailed, WriteFailed, OutOfMemory, status_of}
+use Rattle.outcome_model.specs.Outcome.{Outcome, Accepted, NoRequest, Stopped, ReadFailed, WriteFailed, OutOfMemory}
 use Rattle.outcome_model.specs.Work.{IsFile, JudgedFile, ReadStops, IsSteady, IsOneReading}
 use Rattle.outcome_model.proofs.ReadLemmas.{if_some, gone}
 
@@ -33,21 +33,28 @@ module _ {X : Type 0} (name : List ℕ) (judges : List ℕ → Result X Refusal 
           let kept : get (remove files n) name ≡ get files name = get-remove nat_list_cmp_total files n name ∙ ap (λ (b : Bool). cond b None (get files name)) other in
           inl (subst (λ (told : Option (List ℕ)). JudgedFrom name judges told (Ok x)) (sym kept) e)
 
-  same_stop : (t s u : Stop) → ◌≡◌ {A = Result X Stop} (Err u) (Err t) → ◌≡◌ {A = Result X Stop} (Err u) (Err s) → status_of (Stopped t) ≡ status_of (Stopped s)
-  same_stop t s u e g = let it : t ≡ s = cc in ap (λ (y : Stop). status_of (Stopped y)) it
+  same_stop : (t s u : Stop) → ◌≡◌ {A = Result X Stop} (Err u) (Err t) → ◌≡◌ {A = Result X Stop} (Err u) (Err s) → t ≡ s
+  same_stop t s u e g = cc
 
-  status_within : (b : Bool) (bytes : List ℕ) (t s : Stop) → JudgedWithin b name (judges bytes) (Err t) → JudgedWithin b name (judges bytes) (Err s) → status_of (Stopped t) ≡ status_of (Stopped s)
-  status_within true bytes t s e g = same_stop t s _ e g
-  status_within false bytes (Missing n) s e g = absurd e
-  status_within false bytes (Refused n r) (Missing m) e g = absurd g
-  status_within false bytes (Refused n r) (Refused m q) e g = refl
+  -- it stops once, where bytes are refused once
+  module _ (once : (bytes : List ℕ) (r q : Refusal) → judges bytes (Err r) → judges bytes (Err q) → r ≡ q) where
+    pub once_as : (bytes : List ℕ) (t s : Stop) → JudgedAs name (judges bytes) (Err t) → JudgedAs name (judges bytes) (Err s) → t ≡ s
+    once_as bytes (Missing n) s e g = absurd e
+    once_as bytes (Refused n r) (Missing m) e g = absurd g
+    once_as bytes (Refused n r) (Refused m q) e g =
+        ap (λ (l : List ℕ). Refused l r) (e.0 ∙ sym g.0) ∙ ap (λ (z : Refusal). Refused m z) (once bytes r q e.1 g.1)
 
-  status_from : (told : Option (List ℕ)) (t s : Stop) → JudgedFrom name judges told (Err t) → JudgedFrom name judges told (Err s) → status_of (Stopped t) ≡ status_of (Stopped s)
-  status_from None t s e g = same_stop t s _ e g
-  status_from (Some bytes) t s e g = status_within (nat_lt 1048576 (length bytes)) bytes t s e g
+    once_within : (b : Bool) (bytes : List ℕ) (t s : Stop) → JudgedWithin b name (judges bytes) (Err t) → JudgedWithin b name (judges bytes) (Err s) → t ≡ s
+    once_within true bytes t s e g = same_stop t s _ e g
+    once_within false bytes t s e g = once_as bytes t s e g
 
-  -- it is one thing, or stops with one status, where bytes are worth one thing or refused, and not both
-  module _ (same : (bytes : List ℕ) (x y : X) → judges bytes (Ok x) → judges bytes (Ok y) → x ≡ y) (apart : (bytes : List ℕ) (x : X) (r : Refusal) → judges bytes (Ok x) → judges bytes (Err r) → ⊥) where
+    once_from : (told : Option (List ℕ)) (t s : Stop) → JudgedFrom name judges told (Err t) → JudgedFrom name judges told (Err s) → t ≡ s
+    once_from None t s e g = same_stop t s _ e g
+    once_from (Some bytes) t s e g = once_within (nat_lt 1048576 (length bytes)) bytes t s e g
+
+  -- it is one thing or one stop, where bytes are worth one thing or refused once, and not both
+  module _ (same : (bytes : List ℕ) (x y : X) → judges bytes (Ok x) → judges bytes (Ok y) → x ≡ y) (apart : (bytes : List ℕ) (x : X) (r : Refusal) → judges bytes (Ok x) → judges bytes (Err r) → ⊥)
+      (once : (bytes : List ℕ) (r q : Refusal) → judges bytes (Err r) → judges bytes (Err q) → r ≡ q) where
     value_within : (b : Bool) (bytes : List ℕ) (x y : X) → JudgedWithin b name (judges bytes) (Ok x) → JudgedWithin b name (judges bytes) (Ok y) → x ≡ y
     value_within true bytes x y e g = absurd (cc)
     value_within false bytes x y e g = same bytes x y e g
@@ -69,7 +76,7 @@ module _ {X : Type 0} (name : List ℕ) (judges : List ℕ → Result X Refusal 
     one_judged = record {
       one_sided = λ files. side_from (get files name);
       one_given = λ files. value_from (get files name);
-      one_status = λ files. status_from (get files name);
+      one_stop = λ files. once_from once (get files name);
     }
 
   stop_within : (b : Bool) (bytes : List ℕ) (s : Stop) → cond {A = Result (List ℕ) Stop} b (Err (Refused name too_long)) (Ok bytes) ≡ Err s → JudgedWithin b name (judges bytes) (Err s)

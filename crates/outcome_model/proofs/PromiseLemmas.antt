@@ -1,12 +1,12 @@
 -- What follows from what a call does.
-use Rattle.std.proofs.Common.{◌≡◌, ℕ, refl, sym, ◌∙◌, Option, Some, None, Ok, Err, inl, inr, ◌⊎◌, IfSome, subst, arith}
+use Rattle.std.proofs.Common.{◌≡◌, ℕ, List, refl, sym, ap, ◌∙◌, Option, Some, None, Ok, Err, inl, inr, ◌⊎◌, IfSome, subst, arith}
 use Rattle.sim_base.specs.declared.bench.Port.TheVariants as ports
 use Rattle.sim_base.specs.Causes.{Rose}
-use Rattle.sim_base.specs.Outside.{Outside, Files}
-use Rattle.outcome_model.specs.Stop.{Stop, Missing, Refused, Texts}
-use Rattle.outcome_model.specs.Outcome.{Outcome, Accepted, NoRequest, Stopped, ReadFailed, WriteFailed, OutOfMemory, Hold, Begin, OutputRose, status_of}
+use Rattle.sim_base.specs.Outside.{Outside, Files, Grows}
+use Rattle.outcome_model.specs.Stop.{Stop, Missing, Refused, Output, Texts}
+use Rattle.outcome_model.specs.Outcome.{Outcome, Accepted, NoRequest, Stopped, ReadFailed, WriteFailed, OutOfMemory, Hold, Begin, OutputRose, IsOn, status_of, line_of, Complains}
 use Rattle.outcome_model.specs.Happens.{Answer, Ends, EndsUnasked, Happens}
-use Rattle.outcome_model.specs.Promises.{IsOne, NoneRose, WordsAlone, IsAnswered, IsComplete, HoldsAnswer, IsStopped, IsTrueStop, HasCause, HoldsFront, ComplainsAlone, IsStatus}
+use Rattle.outcome_model.specs.Promises.{AreSame, IsOne, NoneRose, WordsAlone, IsAnswered, IsComplete, HoldsAnswer, IsStopped, IsTrueStop, HasCause, HoldsFront, ComplainsAlone, IsStatus}
 use Rattle.outcome_model.proofs.ReadLemmas.{if_some, if_always}
 
 -- what holds of told files, once these are known
@@ -44,26 +44,37 @@ module _ (answer : Answer) (a b : Outside) where
   not_two WriteFailed h e = omega arith
   not_two OutOfMemory h e = omega arith
 
-  complete_one : IsOne answer → (o : Outcome) → Ends answer o a b → NoneRose a b → (files : Files) (t : Texts) → a.files ≡ Some files → answer files (Ok t) → (status_of o ≡ 0) ⊎ (status_of o ≡ 7)
-  complete_one one Accepted h none files t f g = inl refl
+  held_same : (t u : Texts) → AreSame t u → Hold t a b → Hold u a b
+  held_same t u same h = record {
+    serial = subst (λ (l : List ℕ). Grows (a.written ports.Serial) (b.written ports.Serial) l) same.0 h.serial;
+    wave = subst (λ (x : Option Output). IsOn x ports.Wave a b) same.1 h.wave;
+    report = subst (λ (x : Option Output). IsOn x ports.Report a b) same.2 h.report;
+  }
+
+  complete_one : IsOne answer → (o : Outcome) → Ends answer o a b → NoneRose a b → (files : Files) (t : Texts) → a.files ≡ Some files → answer files (Ok t) → ((status_of o ≡ 0) × Hold t a b) ⊎ (status_of o ≡ 7)
+  complete_one one Accepted h none files t f g =
+      let x = at_told a.files (λ files. (t : Texts) × answer files (Ok t) × Hold t a b) h.1 files f in
+      inl (refl, held_same x.0 t (one.one_text files x.0 t x.1 g) x.2)
   complete_one one NoRequest h none files t f g = absurd h
   complete_one one (Stopped s) h none files t f g = absurd (one.one_sided files t s g (at_told a.files (λ files. answer files (Err s)) h.0 files f))
   complete_one one (ReadFailed name) h none files t f g = absurd (none.0 h.1)
   complete_one one WriteFailed h none files t f g = absurd (no_output a b none h.0)
   complete_one one OutOfMemory h none files t f g = inr refl
 
-  stopped_one : IsOne answer → (o : Outcome) → Ends answer o a b → (files : Files) (s : Stop) → a.files ≡ Some files → answer files (Err s) →
-      (status_of o ≡ status_of (Stopped s)) ⊎ (((status_of o ≡ 5) × Rose a.read_faults b.read_faults) ⊎ (status_of o ≡ 7))
-  stopped_one one Accepted h files s f g =
+  stopped_one : IsOne answer → (o : Outcome) → Ends answer o a b → Complains (line_of o) a b → (files : Files) (s : Stop) → a.files ≡ Some files → answer files (Err s) →
+      ((status_of o ≡ status_of (Stopped s)) × Complains (line_of (Stopped s)) a b) ⊎ (((status_of o ≡ 5) × Rose a.read_faults b.read_faults) ⊎ (status_of o ≡ 7))
+  stopped_one one Accepted h said files s f g =
       let x = at_told a.files (λ files. (t : Texts) × answer files (Ok t) × Hold t a b) h.1 files f in
       absurd (one.one_sided files x.0 s x.1 g)
-  stopped_one one NoRequest h files s f g = absurd h
-  stopped_one one (Stopped t) h files s f g = inl (one.one_status files t s (at_told a.files (λ files. answer files (Err t)) h.0 files f) g)
-  stopped_one one (ReadFailed name) h files s f g = inr (inl (refl, h.1))
-  stopped_one one WriteFailed h files s f g =
+  stopped_one one NoRequest h said files s f g = absurd h
+  stopped_one one (Stopped t) h said files s f g =
+      let is : t ≡ s = one.one_stop files t s (at_told a.files (λ files. answer files (Err t)) h.0 files f) g in
+      inl (ap (λ (y : Stop). status_of (Stopped y)) is, subst (λ (y : Stop). Complains (line_of (Stopped y)) a b) is said)
+  stopped_one one (ReadFailed name) h said files s f g = inr (inl (refl, h.1))
+  stopped_one one WriteFailed h said files s f g =
       let x = at_told a.files (λ files. (t : Texts) × answer files (Ok t) × Begin t a b) h.1 files f in
       absurd (one.one_sided files x.0 s x.1 g)
-  stopped_one one OutOfMemory h files s f g = inr (inr refl)
+  stopped_one one OutOfMemory h said files s f g = inr (inr refl)
 
 module _ {R : Type 0} (answers : R → Answer) (a b : Outside) where
   pub words_alone : (o : Outcome) (asked : Option R) → Happens answers o asked a b → WordsAlone (status_of o) asked
@@ -76,11 +87,11 @@ module _ {R : Type 0} (answers : R → Answer) (a b : Outside) where
       let is : q ≡ r = cc in
       complete_one (answers r) a b (one r) o (subst (λ (x : R). Ends (answers x) o a b) is h) none files t f g
 
-  pub stopped : ((r : R) → IsOne (answers r)) → (o : Outcome) (asked : Option R) → Happens answers o asked a b → IsStopped answers (status_of o) asked a b
-  stopped one o None h r files s e f g = absurd (cc)
-  stopped one o (Some q) h r files s e f g =
+  pub stopped : ((r : R) → IsOne (answers r)) → (o : Outcome) (asked : Option R) → Happens answers o asked a b → Complains (line_of o) a b → IsStopped answers (status_of o) asked a b
+  stopped one o None h said r files s e f g = absurd (cc)
+  stopped one o (Some q) h said r files s e f g =
       let is : q ≡ r = cc in
-      stopped_one (answers r) a b (one r) o (subst (λ (x : R). Ends (answers x) o a b) is h) files s f g
+      stopped_one (answers r) a b (one r) o (subst (λ (x : R). Ends (answers x) o a b) is h) said files s f g
 
   pub answered : (o : Outcome) (asked : Option R) → Happens answers o asked a b → IsAnswered answers (status_of o) asked a b
   answered Accepted None h none seven = absurd h

@@ -8,7 +8,7 @@ use Rattle.std.specs.Cmp.{eq_by_cmp_equiv}
 use Rattle.sim_base.specs.declared.fault.Refusal.{Refusal}
 use Rattle.sim_base.specs.Outside.{Outside, SamePorts, Files}
 use Rattle.outcome_model.specs.Stop.{Stop, Missing, file_within, read_from}
-use Rattle.outcome_model.specs.Outcome.{Outcome, Accepted, NoRequest, Stopped, ReadFailed, WriteFailed, OutOfMemory, status_of}
+use Rattle.outcome_model.specs.Outcome.{Outcome, Accepted, NoRequest, Stopped, ReadFailed, WriteFailed, OutOfMemory}
 use Rattle.outcome_model.specs.Work.{Reading, Is, IsFileWithin, IsFile, Then, ReadStops, Got, IsSteady, IsOneReading}
 
 pub if_some : {X : Type 0} (o : Option X) (P Q : X → Type 0) → ((x : X) → P x → Q x) → IfSome o P → IfSome o Q
@@ -101,7 +101,7 @@ pub one_function : {X : Type 0} (reading : Files → Result X Stop) → IsOneRea
 one_function {X = X} reading = record {
   one_sided = λ files x s good fails. (let bad : ◌≡◌ {A = Result X Stop} (Ok x) (Err s) = sym good ∙ fails in absurd (cc));
   one_given = λ files x y e f. (let same : ◌≡◌ {A = Result X Stop} (Ok x) (Ok y) = sym e ∙ f in cc);
-  one_status = λ files t s e f. (let same : ◌≡◌ {A = Result X Stop} (Err t) (Err s) = sym e ∙ f in let it : t ≡ s = cc in ap (λ (y : Stop). status_of (Stopped y)) it);
+  one_stop = λ files t s e f. (let same : ◌≡◌ {A = Result X Stop} (Err t) (Err s) = sym e ∙ f in cc);
 }
 
 pub one_within : {X : Type 0} (limit : ℕ) (name : List ℕ) (reading : List ℕ → Result X Refusal) → IsOneReading (IsFileWithin limit name reading)
@@ -122,15 +122,14 @@ module _ {X Y : Type 0} (first : Reading X) (next : X → Reading Y) (one : IsOn
   both_given files y z (Ok x, e, g) (Err t, f, h) = let bad : ◌≡◌ {A = Result Y Stop} (Err t) (Ok z) = h in absurd (cc)
   both_given files y z (Err t, e, g) q = let bad : ◌≡◌ {A = Result Y Stop} (Err t) (Ok y) = g in absurd (cc)
 
-  one_stop : (t s : Stop) → ◌≡◌ {A = Result Y Stop} (Err t) (Err s) → t ≡ s
-  one_stop t s e = cc
+  same_stop : (t s : Stop) → ◌≡◌ {A = Result Y Stop} (Err t) (Err s) → t ≡ s
+  same_stop t s e = cc
 
-  both_status : (files : Files) (t s : Stop) → Then first next files (Err t) → Then first next files (Err s) → status_of (Stopped t) ≡ status_of (Stopped s)
-  both_status files t s (Ok x, e, g) (Ok z, f, h) = (two x).one_status files t s g (subst (λ (w : X). next w files (Err s)) (one.one_given files z x f e) h)
-  both_status files t s (Ok x, e, g) (Err u, f, h) = absurd (one.one_sided files x u e f)
-  both_status files t s (Err u, e, g) (Ok z, f, h) = absurd (one.one_sided files z u f e)
-  both_status files t s (Err u, e, g) (Err v, f, h) =
-      sym (ap (λ (y : Stop). status_of (Stopped y)) (one_stop u t g)) ∙ one.one_status files u v e f ∙ ap (λ (y : Stop). status_of (Stopped y)) (one_stop v s h)
+  both_stop : (files : Files) (t s : Stop) → Then first next files (Err t) → Then first next files (Err s) → t ≡ s
+  both_stop files t s (Ok x, e, g) (Ok z, f, h) = (two x).one_stop files t s g (subst (λ (w : X). next w files (Err s)) (one.one_given files z x f e) h)
+  both_stop files t s (Ok x, e, g) (Err u, f, h) = absurd (one.one_sided files x u e f)
+  both_stop files t s (Err u, e, g) (Ok z, f, h) = absurd (one.one_sided files z u f e)
+  both_stop files t s (Err u, e, g) (Err v, f, h) = sym (same_stop u t g) ∙ one.one_stop files u v e f ∙ same_stop v s h
 
   pub one_both : IsOneReading (Then first next)
-  one_both = record { one_sided = both_sided; one_given = both_given; one_status = both_status }
+  one_both = record { one_sided = both_sided; one_given = both_given; one_stop = both_stop }

@@ -5,12 +5,17 @@ use Rattle.sim_base.specs.Causes.{Rose}
 use Rattle.sim_base.specs.Outside.{Outside, Files}
 use Rattle.outcome_model.specs.Stop.{Stop, Texts}
 use Rattle.outcome_model.specs.Happens.{Answer}
-use Rattle.outcome_model.specs.Outcome.{Outcome, Accepted, NoRequest, Stopped, status_of, Hold, Begin, IsFaultless, IsSilent, OutputRose}
+use Rattle.outcome_model.specs.Outcome.{Outcome, Accepted, NoRequest, Stopped, status_of, line_of, Complains, Hold, Begin, IsFaultless, IsSilent, OutputRose}
 
--- A request is answered by texts or by a stop, and not by both, and its stops have one status.
+-- the same on the ports, whatever they cost
+abbrev pub AreSame : Texts → Texts → Type 0
+AreSame t u = (t.serial ≡ u.serial) × (t.wave ≡ u.wave) × (t.report ≡ u.report)
+
+-- A request is answered by its texts or by one stop, and not by both.
 pub record IsOne (answer : Answer) : Type 0 where
   pub one_sided : (files : Files) (t : Texts) (s : Stop) → answer files (Ok t) → answer files (Err s) → ⊥
-  pub one_status : (files : Files) (t s : Stop) → answer files (Err t) → answer files (Err s) → status_of (Stopped t) ≡ status_of (Stopped s)
+  pub one_text : (files : Files) (t u : Texts) → answer files (Ok t) → answer files (Ok u) → AreSame t u
+  pub one_stop : (files : Files) (t s : Stop) → answer files (Err t) → answer files (Err s) → t ≡ s
 
 -- no count of faults rose, so that none was answered
 abbrev pub NoneRose : Outside → Outside → Type 0
@@ -33,17 +38,20 @@ WordsAlone status asked = (status ≡ 2 → asked ≡ None) × (asked ≡ None �
 abbrev pub IsAnswered : {R : Type 0} → (R → Answer) → ℕ → Option R → Outside → Outside → Type 0
 IsAnswered answers status asked a b = NoneRose a b → status ≢ 7 → IfSome a.files (λ files. IsExpected answers status asked files)
 
--- A good request over told files, of which none is refused, is answered unless memory runs out or a fault comes.
+-- A good request over told files, of which none is refused, is answered unless memory runs out or a fault comes: each told port
+-- holds its text.
 abbrev pub IsComplete : {R : Type 0} → (R → Answer) → ℕ → Option R → Outside → Outside → Type 0
-IsComplete {R = R} answers status asked a b = NoneRose a b → (r : R) (files : Files) (t : Texts) → asked ≡ Some r → a.files ≡ Some files → answers r files (Ok t) → (status ≡ 0) ⊎ (status ≡ 7)
+IsComplete {R = R} answers status asked a b = NoneRose a b → (r : R) (files : Files) (t : Texts) → asked ≡ Some r → a.files ≡ Some files → answers r files (Ok t)
+    → ((status ≡ 0) × Hold t a b) ⊎ (status ≡ 7)
 
 -- With status 0 no count of faults changed, and each told port holds its text, all of it.
 abbrev pub HoldsAnswer : {R : Type 0} → (R → Answer) → ℕ → Option R → Outside → Outside → Type 0
 HoldsAnswer {R = R} answers status asked a b = status ≡ 0 → IsFaultless a b × ((files : Files) → a.files ≡ Some files → (r : R) × (t : Texts) × (asked ≡ Some r) × (answers r files (Ok t)) × Hold t a b)
 
--- Where the answer is a missing file or a refusal, its status comes, or 5 after a failed read, or 7.
+-- Where the answer is a missing file or a refusal, its status comes with its line on Complaint, or 5 after a failed read, or 7.
 abbrev pub IsStopped : {R : Type 0} → (R → Answer) → ℕ → Option R → Outside → Outside → Type 0
-IsStopped {R = R} answers status asked a b = (r : R) (files : Files) (s : Stop) → asked ≡ Some r → a.files ≡ Some files → answers r files (Err s) → (status ≡ status_of (Stopped s)) ⊎ (((status ≡ 5) × Rose a.read_faults b.read_faults) ⊎ (status ≡ 7))
+IsStopped {R = R} answers status asked a b = (r : R) (files : Files) (s : Stop) → asked ≡ Some r → a.files ≡ Some files → answers r files (Err s)
+    → ((status ≡ status_of (Stopped s)) × Complains (line_of (Stopped s)) a b) ⊎ (((status ≡ 5) × Rose a.read_faults b.read_faults) ⊎ (status ≡ 7))
 
 -- 3 and 4 come only where the answer is a refusal, or a missing file.
 abbrev pub IsTrueStop : {R : Type 0} → (R → Answer) → ℕ → Option R → Outside → Type 0

@@ -9,7 +9,7 @@ use Rattle.sim_base.specs.declared.bench.WriteEnd.TheVariants as writes
 use Rattle.sim_base.specs.Causes.{Rose}
 use Rattle.sim_base.specs.Outside.{Outside, Files, Grows, IsFront, IsKept}
 use Rattle.outcome_model.specs.Stop.{Stop, Missing, Output, file_within, Judged}
-use Rattle.outcome_model.specs.Outcome.{Outcome, Accepted, NoRequest, Stopped, ReadFailed, WriteFailed, OutOfMemory, status_of, IsOn, BeginsOn}
+use Rattle.outcome_model.specs.Outcome.{Outcome, Accepted, NoRequest, Stopped, ReadFailed, WriteFailed, OutOfMemory, IsOn, BeginsOn}
 
 -- a text was written on a port, or a first part of it where a write failed
 abbrev pub Wrote : WriteEnd → Port → List ℕ → Outside → Outside → Type 0
@@ -80,8 +80,8 @@ RanOn p OutOfMemory out a b = IsKept p a b × (b.faults p ≡ a.faults p)
 abbrev pub IsSteady : {X : Type 0} → Reading X → Type 0
 IsSteady {X = X} reading = (files : Files) (name : List ℕ) (x : X) → reading files (Ok x) → reading (remove files name) (Ok x) ⊎ reading (remove files name) (Err (Missing name))
 
--- A reading gives one thing or a stop, and not both; what it gives is one, and its stops have one status.
+-- A reading gives one thing or one stop, and not both.
 pub record IsOneReading {X : Type 0} (reading : Reading X) : Type 0 where
   pub one_sided : (files : Files) (x : X) (s : Stop) → reading files (Ok x) → reading files (Err s) → ⊥
   pub one_given : (files : Files) (x y : X) → reading files (Ok x) → reading files (Ok y) → x ≡ y
-  pub one_status : (files : Files) (t s : Stop) → reading files (Err t) → reading files (Err s) → status_of (Stopped t) ≡ status_of (Stopped s)
+  pub one_stop : (files : Files) (t s : Stop) → reading files (Err t) → reading files (Err s) → t ≡ s

@@ -104,7 +104,8 @@ returns-clause-stopped g c =
     let m = g.B.Bench.outside c.work-outcome.new.bench in
     let b = g.B.Bench.outside c.tell-end.new.bench in
     rw c.status.ensures (stopped Answers a b one (outcome_of c.work-outcome.result) (request_of words)
-    (told Answers (outcome_of c.work-outcome.result) (request_of words) a m b c.tell-end.ensures.quiet c.work-outcome.ensures.happens c.tell-end.ensures.others))
+    (told Answers (outcome_of c.work-outcome.result) (request_of words) a m b c.tell-end.ensures.quiet c.work-outcome.ensures.happens c.tell-end.ensures.others)
+    (complains_since _ a m b c.work-outcome.ensures.silent (complains c.tell-end.result _ m b c.tell-end.ensures.wrote)))
 
 pub returns-clause-true_stop : goal.returns-clause-true_stop
 returns-clause-true_stop g c =
