@@ -13,10 +13,10 @@ use Rattle.sim_base.specs.declared.signal.Level.{Level}
 use Rattle.sim_base.specs.declared.limits.TheConstants.{MOST_CYCLES}
 use Rattle.part_law.specs.Machine.{glide, idle, IsQuiet, IsFirstDue}
 use Rattle.part_law.specs.declared.span.Span.{Span}
-use Rattle.part_law.specs.Spans.{IsIn, no_pins}
+use Rattle.part_law.specs.Spans.{IsIn, no_pins, all_pins}
 use Rattle.part_law.proofs.SpanLemmas.{none_in, not_joined}
 use Rattle.avr_core.specs.CoreState.{Core}
-use Rattle.avr_core.specs.AvrStep.{Did, avr_step}
+use Rattle.avr_core.specs.AvrStep.{Did, avr_step, flash_word}
 use Rattle.avr_core.specs.declared.state.Mode.{Mode}
 use Rattle.avr_core.specs.declared.state.Mode.TheVariants as modes
 use Rattle.avr_core.proofs.BusLemmas.{step_leads, entered_leads}
@@ -27,12 +27,12 @@ use Rattle.unit_law.specs.UnitMachine as unit
 use Rattle.unit_law.proofs.UnitLemmas.{step_none, step_last, quiet_requests}
 use Rattle.avr_adc.specs.declared.registers.TheConstants.{ADCSRA, ADSC}
 use Rattle.avr_mcu.specs.declared.pins.TheConstants.{UNO_PINS}
-use Rattle.avr_mcu.specs.Units.{Units, UnitsAt, unit_bus, pins, request, units_step, plain, with_plain, with_register, data_at, touches, bit_touches, pins_of, pins_of_bit, touched_by}
-use Rattle.avr_mcu.specs.Placed.{hull}
-use Rattle.avr_mcu.proofs.HullLemmas.{apart}
+use Rattle.avr_mcu.specs.Units.{Units, UnitsAt, unit_bus, with_smcr, pins, request, units_step, plain, with_plain, with_register, data_at, touches, bit_touches, pins_of, pins_of_bit, touched_by}
+use Rattle.unit_law.specs.Placed.{hull, SameBut}
+use Rattle.unit_law.proofs.HullLemmas.{apart}
 use Rattle.avr_mcu.proofs.ReachLemmas.{Reaches}
-use Rattle.avr_mcu.specs.McuOf.{Mcu, mcu, mcu_step, ready, enters, starts, with_sleep, performed, acted, core_acted, uno_drive, uno_drives}
-use Rattle.avr_mcu.specs.McuLawsOf.{drive_same, drives_same, length-uno_drives, rests}
+use Rattle.avr_mcu.specs.McuOf.{Mcu, mcu, mcu_step, ready, enters, starts, with_sleep, with_wdr, with_doze, is_deep, dozed, idled, reset_watchdog, instructed, performed, acted, core_acted, units_acted, restarted, uno_drive, uno_drives}
+use Rattle.avr_mcu.specs.McuLawsOf.{drive_same, drives_same, length-uno_drives, rests, rested}
 use Rattle.avr_mcu.specs.McuState.{state_of}
 
 le_or : (a b : ℕ) → (a ≤ b) ⊎ (b ≤ a)
@@ -131,11 +131,39 @@ module _ {D : Type 0} (m : UnitMachine D) (laws : unit.Laws m) where
     sleep_leads modes.Sleep s = bits_lead s ADCSRA ADSC true
     sleep_leads (modes.Halt w) s = leads_same s
 
-    -- an instruction or an entry leads there too
+    smcr_leads : (x : ℕ) (s : UnitsAt D) → Leads s (with_smcr x s)
+    smcr_leads x s = record { cycle = refl; held = refl; steady = λ p l out. (out, refl) }
+
+    wdr_leads : (s : UnitsAt D) → Leads s (with_wdr m s)
+    wdr_leads s = record { cycle = refl; held = refl; steady = λ p l out. (out, laws.power_laws.wdr_pad s.units.devices s.cycle p) }
+
+    doze_leads : (s : UnitsAt D) → Leads s (with_doze m s)
+    doze_leads s = record { cycle = refl; held = refl; steady = λ p l out. (out, laws.power_laws.doze_pad s.units.devices p) }
+
+    core_leads : (flash : List ℕ) (core : Core) (s : UnitsAt D) → Leads s (avr_step (unit_bus m) flash core s).bus
+    core_leads flash core s = step_leads (unit_bus m) Leads leads_same leads_on read_leads write_leads bits_lead flash core s
+
+    -- an instruction leads there too
+    instructed_leads : (flash : List ℕ) (core : Core) (s : UnitsAt D) → Leads s (instructed m flash core s).bus
+    instructed_leads flash core s = by (flash_word flash core.pc == 0x95A8) (flash_word flash core.pc == 0x9588) (is_deep m s)
+      where
+        d : Did (UnitsAt D)
+        d = avr_step (unit_bus m) flash core s
+
+        e : Did (UnitsAt D)
+        e = avr_step (unit_bus m) flash core (with_smcr 1 s)
+
+        by : (x y z : Bool) → Leads s (if x then reset_watchdog m flash core s else if y then (if z then dozed m flash core s else idled m flash core s) else d).bus
+        by true y z = leads_on s d.bus _ (core_leads flash core s) (wdr_leads d.bus)
+        by false true true =
+            leads_on s (with_smcr 1 s) _ (smcr_leads 1 s) (leads_on (with_smcr 1 s) e.bus _ (core_leads flash core (with_smcr 1 s))
+            (leads_on e.bus (with_smcr s.units.smcr e.bus) _ (smcr_leads s.units.smcr e.bus) (doze_leads (with_smcr s.units.smcr e.bus))))
+        by false true false = leads_on s d.bus _ (core_leads flash core s) (sleep_leads d.core.mode d.bus)
+        by false false z = core_leads flash core s
+
+    -- and so does an entry
     performed_leads : (b : Bool) (flash : List ℕ) (core : Core) (s : UnitsAt D) → Leads s (performed m b flash core s).bus
-    performed_leads false flash core s =
-        let d = avr_step (unit_bus m) flash core s in
-        leads_on s d.bus _ (step_leads (unit_bus m) Leads leads_same leads_on read_leads write_leads bits_lead flash core s) (sleep_leads d.core.mode d.bus)
+    performed_leads false flash core s = instructed_leads flash core s
     performed_leads true flash core s =
         let v = request m s.units s.held in
         let g = entered_leads (unit_bus m) Leads leads_same leads_on read_leads write_leads bits_lead v core s in
@@ -177,11 +205,32 @@ module _ {D : Type 0} (m : UnitMachine D) (laws : unit.Laws m) where
       by false = refl
 
   -- on the levels that are held a cycle is what the core does, and then the units on those
-  pub held_woken : (s a : Mcu D) (t : ℕ) → a ≡ core_acted m s t → record a { units = units_step m a.units t a.held a.held } ≡ mcu_step m s t s.held
+  pub held_woken : (s a : Mcu D) (t : ℕ) → a ≡ core_acted m s t → units_acted m a t a.held ≡ mcu_step m s t s.held
   held_woken s a t e =
       let b = core_acted m s t in
-      ap (λ (x : Mcu D). record x { units = units_step m x.units t x.held x.held }) e
-      ∙ ap (λ (l : List Level). record b { units = units_step m b.units t b.held l; held = l }) (acted_holds s t)
+      ap (λ (x : Mcu D). units_acted m x t x.held) e ∙ ap (λ (l : List Level). units_acted m b t l) (acted_holds s t)
+
+  -- where no unit has an event, the units' part is their step
+  pub rest_acts : (a : Mcu D) (t : ℕ) → m.due a.units.devices t ≡ false → record a { units = units_step m a.units t a.held a.held } ≡ units_acted m a t a.held
+  rest_acts a t none =
+      let b = record a { units = units_step m a.units t a.held a.held } in
+      sym (ap (λ (x : Bool). if x then restarted m b (t + 1) else b) (laws.power_laws.resets_due a.units.devices t none))
+
+  -- where one has, it is their step and perhaps a reset, as the code does it
+  pub turned_is : (flash : List ℕ) (core : Core) (next : ℕ) (u v : UnitsAt D) (t : ℕ) (b : Bool) (l : List Level) (y : Mcu D) → u.cycle ≡ t → b ≡ m.power.resets u.units.devices u.cycle →
+      v ≡ record u { units = units_step m u.units u.cycle u.held l; held = l; cycle = u.cycle + 1 } →
+      y ≡ (if b then restarted m (state_of flash core next v) (t + 1) else state_of flash core next v) → y ≡ units_acted m (state_of flash core next u) t l
+  turned_is flash core next u v t b l y here is_b is_v is_y =
+      let by : Bool → UnitsAt D → Mcu D = λ c x. if c then restarted m (state_of flash core next x) (t + 1) else state_of flash core next x in
+      is_y ∙ ap (by b) is_v ∙ ap (λ c. by c (record u { units = units_step m u.units u.cycle u.held l; held = l; cycle = u.cycle + 1 })) is_b
+      ∙ ap (λ (k : ℕ). if m.power.resets u.units.devices k then restarted m (state_of flash core next (record u { units = units_step m u.units k u.held l; held = l })) (t + 1)
+      else state_of flash core next (record u { units = units_step m u.units k u.held l; held = l })) here
+
+  -- and what it may change of a pin
+  pub turned_pads : (u v w : D) (b : Bool) (moved span : Span) → span ≡ (if b then all_pins else moved) → (b ≡ false → w ≡ v) → SameBut m moved v u → SameBut m span w u
+  turned_pads u v w true moved span is stays same p less out = absurd (out (subst (λ (s : Span). IsIn s p) (sym is) (omega arith, omega (arith, less))))
+  turned_pads u v w false moved span is stays same p less out =
+      ap (λ (x : D). m.pad x p) (stays refl) ∙ same p less (λ h. out (subst (λ (s : Span). IsIn s p) (sym is) h))
 
   -- after what the core does and a step of the units, each of which may change what is asked of some pins
   module _ (old mid new : D) (touched moved : Span) (did : (p : ℕ) → p < PORT_PINS → ¬ IsIn touched p → m.pad mid p ≡ m.pad old p)
@@ -226,7 +275,7 @@ module _ {D : Type 0} (m : UnitMachine D) (laws : unit.Laws m) where
       let r = rests m w (t + n) h in
       let d = steps m s.units.devices t n in
       let e : suc n ≡ n + 1 = omega arith in
-      ap (λ (x : Mcu D). record x { units = units_step m x.units (t + n) x.held s.held; held = s.held }) r.0
+      rested m laws w (t + n) h
       ∙ ap (λ (x : D). record s { units = record (s.units) { devices = x } }) (laws.deaf d (t + n) (pins s.held) [] r.1 ∙ sym (step_last m s.units.devices t n (suc n) e))
 
   -- it goes on like this as long as nothing is due

@@ -1,19 +1,12 @@
 -- A cycle in which no unit has an event or takes notice of a change of the levels.
 use Rattle.std.proofs.Common.{◌≡◌, ◌∙◌, ℕ, ◌+◌, ◌-◌, ◌<◌, List, [], false, None, arith, ap, sym, refl}
 use Rattle.sim_base.specs.declared.signal.Level.{Level}
-use Rattle.unit_law.specs.UnitMachine.{UnitMachine, At, Laws, FirstDue, least, steps}
-use Rattle.unit_law.specs.Late.{LateStands, late_state}
-use Rattle.unit_law.proofs.UnitLemmas.{step_none, step_last, late_quiet, quiet_hears, rest_stands}
-
--- a unit that may be asked here may be asked there
-pub late_passes : {U : Type 0} (m : UnitMachine U) → Laws m → (t : ℕ) (before now : List Level) {s : At U} {due request : ℕ} →
-    LateStands m s due request before t → t < due → m.hears (late_state m s t) before now ≡ false → LateStands m s due request now (t + 1)
-late_passes m laws t before now {s} {due} {request} h less none =
-    rest_stands m laws s due request t before now h less (sym (quiet_hears m laws s.unit s.cycle (t - s.cycle) before now (late_quiet m s due t h.late)) ∙ none)
+use Rattle.unit_law.specs.UnitMachine.{UnitMachine, Laws, FirstDue, least, steps}
+use Rattle.unit_law.proofs.UnitLemmas.{step_none, step_last}
 
 -- what they show in the next cycle
 module _ {U : Type 0} (m : UnitMachine U) (laws : Laws m) (state : ℕ → U) (t d : ℕ) (first : FirstDue m (state t) t d) (less : t < d) where
-  pass_due : m.due (state t) t ≡ false
+  pub pass_due : m.due (state t) t ≡ false
   pass_due =
       let z : t + 0 ≡ t = omega arith in
       ap (λ (x : U). m.due x t) (sym (step_none m (state t) t 0 refl)) ∙ ap (m.due (steps m (state t) t 0)) (sym z) ∙ first.quiet 0 (omega (arith, less))

@@ -10,6 +10,9 @@ use Rattle.unit_law.specs.declared.pad.Pad.{Pad}
 use Rattle.unit_law.specs.declared.pins.TheConstants.{PORT_PINS}
 use Rattle.unit_law.specs.UnitMachine.{UnitMachine}
 use Rattle.unit_law.specs.Both.{both}
+use Rattle.unit_law.specs.Clocked.{Clocked}
+use Rattle.unit_law.specs.Power.{powered}
+use Rattle.avr_keep.specs.Keep.{Keep, keep}
 use Rattle.unit_law.proofs.BitLemmas.{bit_keeps, toggle_keeps}
 use Rattle.avr_ports.specs.declared.registers.Register.TheVariants.{PINB, PORTB, PINC, PORTC, PIND, PORTD}
 use Rattle.avr_ports.specs.Ports.{Ports, ports, bit_pad, port_pad, with_register, with_register_bit}
@@ -20,10 +23,11 @@ use Rattle.avr_adc.specs.Adc.{adc}
 use Rattle.avr_usart.specs.Usart.{usart}
 use Rattle.avr_spi.specs.Spi.{Spi, spi}
 use Rattle.avr_twi.specs.Twi.{Twi, twi}
-use Rattle.avr_mcu.specs.Devices.{Devices, devices}
+use Rattle.avr_mcu.specs.Devices.{Devices, devices, clocked_units}
 use Rattle.avr_mcu.specs.Units.{at_port, wire_pins, one_pin, pins_of, pins_of_bit}
-use Rattle.avr_mcu.proofs.PadLemmas.{below}
-use Rattle.avr_mcu.proofs.PlacedLemmas.{spi_placed, twi_placed}
+use Rattle.unit_law.proofs.PadLemmas.{below}
+use Rattle.avr_spi.proofs.PlacedLemmas.{spi_placed}
+use Rattle.avr_twi.proofs.PlacedLemmas.{twi_placed}
 
 -- a write of a register, or of one bit of it, leaves alone what is asked of the pins that it does not reach
 pub record Reaches {D : Type 0} (m : UnitMachine D) : Type 0 where
@@ -126,64 +130,69 @@ by_address G b c d e f g other a = elim (eqb_tells a 0x23) [
   ]
 ]
 
--- the ports beside units that have none of their registers
+-- the ports, with the watchdog and the EEPROM, over units that have none of their registers
 module _ {E : Type 0} (rest : UnitMachine E) where
-  sides : (v : Ports) (u : Ports × E) (b : Bool) (y : E) (p : ℕ) → port_pad v p ≡ port_pad u.0 p → b ≡ false →
-      joined (port_pad v p) (rest.pad (if b then y else u.1) p) ≡ joined (port_pad u.0 p) (rest.pad u.1 p)
-  sides v u b y p e none = ap (λ (q : Pad). joined q (rest.pad (if b then y else u.1) p)) e
-      ∙ ap (λ (c : Bool). joined (port_pad u.0 p) (rest.pad (if c then y else u.1) p)) none
+  abbrev all : UnitMachine ((Ports × Keep) × Clocked E)
+  all = powered (both ports keep) rest
+
+  sides : (v : Ports) (u : (Ports × Keep) × Clocked E) (b : Bool) (y : Clocked E) (p : ℕ) → port_pad v p ≡ port_pad u.0.0 p → b ≡ false →
+      joined (joined (port_pad v p) untouched) (rest.pad (if b then y else u.1).unit p) ≡ joined (joined (port_pad u.0.0 p) untouched) (rest.pad u.1.unit p)
+  sides v u b y p e none = ap (λ (q : Pad). joined (joined q untouched) (rest.pad (if b then y else u.1).unit p)) e
+      ∙ ap (λ (c : Bool). joined (joined (port_pad u.0.0 p) untouched) (rest.pad (if c then y else u.1).unit p)) none
 
   any_in : (s : Span) (p : ℕ) → p < PORT_PINS → s ≡ all_pins → IsIn s p
   any_in s p less is = subst (λ s. IsIn s p) (sym is) (omega arith, omega (arith, less))
 
   pub ports_reach : rest.has 0x23 ≡ false → rest.has 0x25 ≡ false → rest.has 0x26 ≡ false →
       rest.has 0x28 ≡ false → rest.has 0x29 ≡ false → rest.has 0x2B ≡ false →
-      ((s : Ports × E) (t a x p : ℕ) → p < PORT_PINS → ¬ IsIn (wire_pins a) p → (both ports rest).pad ((both ports rest).write s t a x) p ≡ (both ports rest).pad s p) →
-      Reaches (both ports rest)
+      ((s : (Ports × Keep) × Clocked E) (t a x p : ℕ) → p < PORT_PINS → ¬ IsIn (wire_pins a) p → all.pad (all.write s t a x) p ≡ all.pad s p) →
+      Reaches all
   ports_reach n23 n25 n26 n28 n29 n2B wires = record {
-    writes = λ s t a x p less. by_address (λ a. ¬ IsIn (pins_of a) p → (both ports rest).pad ((both ports rest).write s t a x) p ≡ (both ports rest).pad s p)
-        (λ out. sides (with_register s.0 PINB x) s (rest.has 0x23) _ p (all_b s.0 _ p less out) n23)
-        (λ out. sides (with_register s.0 PORTB x) s (rest.has 0x25) _ p (all_b s.0 _ p less out) n25)
-        (λ out. sides (with_register s.0 PINC x) s (rest.has 0x26) _ p (all_c s.0 _ p less out) n26)
-        (λ out. sides (with_register s.0 PORTC x) s (rest.has 0x28) _ p (all_c s.0 _ p less out) n28)
-        (λ out. sides (with_register s.0 PIND x) s (rest.has 0x29) _ p (all_d s.0 _ p less out) n29)
-        (λ out. sides (with_register s.0 PORTD x) s (rest.has 0x2B) _ p (all_d s.0 _ p less out) n2B)
+    writes = λ s t a x p less. by_address (λ a. ¬ IsIn (pins_of a) p → all.pad (all.write s t a x) p ≡ all.pad s p)
+        (λ out. sides (with_register s.0.0 PINB x) s (rest.has 0x23) _ p (all_b s.0.0 _ p less out) n23)
+        (λ out. sides (with_register s.0.0 PORTB x) s (rest.has 0x25) _ p (all_b s.0.0 _ p less out) n25)
+        (λ out. sides (with_register s.0.0 PINC x) s (rest.has 0x26) _ p (all_c s.0.0 _ p less out) n26)
+        (λ out. sides (with_register s.0.0 PORTC x) s (rest.has 0x28) _ p (all_c s.0.0 _ p less out) n28)
+        (λ out. sides (with_register s.0.0 PIND x) s (rest.has 0x29) _ p (all_d s.0.0 _ p less out) n29)
+        (λ out. sides (with_register s.0.0 PORTD x) s (rest.has 0x2B) _ p (all_d s.0.0 _ p less out) n2B)
         (λ a is out. wires s t a x p less (λ h. out (subst (λ (s : Span). IsIn s p) (sym (is _ _ _ _)) h))) a;
     bits = λ s t a k x p less. by_address (λ a. ¬ IsIn (pins_of_bit a k) p →
-        (both ports rest).pad ((both ports rest).write_bit s t a k x) p ≡ (both ports rest).pad s p)
-        (λ out. sides (with_register_bit s.0 PINB k x) s (rest.has 0x23) _ p
-        (one_of x (with_register s.0 PINB (2 ^ k)) s.0 p (one_b s.0 (bit_xor s.0.portb (2 ^ k)) k p (toggle_keeps s.0.portb k) out)) n23)
-        (λ out. sides (with_register_bit s.0 PORTB k x) s (rest.has 0x25) _ p
-        (one_b s.0 (with_bit s.0.portb k x) k p (λ j. bit_keeps s.0.portb k j x) out) n25)
-        (λ out. sides (with_register_bit s.0 PINC k x) s (rest.has 0x26) _ p
-        (one_of x (with_register s.0 PINC (2 ^ k)) s.0 p (one_c s.0 (bit_xor s.0.portc (2 ^ k)) k p (toggle_keeps s.0.portc k) out)) n26)
-        (λ out. sides (with_register_bit s.0 PORTC k x) s (rest.has 0x28) _ p
-        (one_c s.0 (with_bit s.0.portc k x) k p (λ j. bit_keeps s.0.portc k j x) out) n28)
-        (λ out. sides (with_register_bit s.0 PIND k x) s (rest.has 0x29) _ p
-        (one_of x (with_register s.0 PIND (2 ^ k)) s.0 p (one_d s.0 (bit_xor s.0.portd (2 ^ k)) k p (toggle_keeps s.0.portd k) out)) n29)
-        (λ out. sides (with_register_bit s.0 PORTD k x) s (rest.has 0x2B) _ p
-        (one_d s.0 (with_bit s.0.portd k x) k p (λ j. bit_keeps s.0.portd k j x) out) n2B)
+        all.pad (all.write_bit s t a k x) p ≡ all.pad s p)
+        (λ out. sides (with_register_bit s.0.0 PINB k x) s (rest.has 0x23) _ p
+        (one_of x (with_register s.0.0 PINB (2 ^ k)) s.0.0 p (one_b s.0.0 (bit_xor s.0.0.portb (2 ^ k)) k p (toggle_keeps s.0.0.portb k) out)) n23)
+        (λ out. sides (with_register_bit s.0.0 PORTB k x) s (rest.has 0x25) _ p
+        (one_b s.0.0 (with_bit s.0.0.portb k x) k p (λ j. bit_keeps s.0.0.portb k j x) out) n25)
+        (λ out. sides (with_register_bit s.0.0 PINC k x) s (rest.has 0x26) _ p
+        (one_of x (with_register s.0.0 PINC (2 ^ k)) s.0.0 p (one_c s.0.0 (bit_xor s.0.0.portc (2 ^ k)) k p (toggle_keeps s.0.0.portc k) out)) n26)
+        (λ out. sides (with_register_bit s.0.0 PORTC k x) s (rest.has 0x28) _ p
+        (one_c s.0.0 (with_bit s.0.0.portc k x) k p (λ j. bit_keeps s.0.0.portc k j x) out) n28)
+        (λ out. sides (with_register_bit s.0.0 PIND k x) s (rest.has 0x29) _ p
+        (one_of x (with_register s.0.0 PIND (2 ^ k)) s.0.0 p (one_d s.0.0 (bit_xor s.0.0.portd (2 ^ k)) k p (toggle_keeps s.0.0.portd k) out)) n29)
+        (λ out. sides (with_register_bit s.0.0 PORTD k x) s (rest.has 0x2B) _ p
+        (one_d s.0.0 (with_bit s.0.0.portd k x) k p (λ j. bit_keeps s.0.0.portd k j x) out) n2B)
         (λ a is out. absurd (out (any_in (pins_of_bit a k) p less (is _ _ _ _)))) a;
   }
 
 -- The SPI alone has SPDR, and the TWI TWCR: what is asked of a pin stays where that unit asks the same.
-spi_wrote : (s : Devices) (y : Spi) (p : ℕ) → spi.pad y p ≡ spi.pad s.1.1.1.1.1.1.0 p →
-    devices.pad (s.0, (s.1.0, (s.1.1.0, (s.1.1.1.0, (s.1.1.1.1.0, (s.1.1.1.1.1.0, (y, s.1.1.1.1.1.1.1))))))) p ≡ devices.pad s p
+spi_wrote : (s : Devices) (y : Spi) (p : ℕ) → spi.pad y p ≡ spi.pad s.1.unit.1.1.1.1.1.0 p →
+    devices.pad (s.0, record (s.1) { unit = (s.1.unit.0, (s.1.unit.1.0, (s.1.unit.1.1.0, (s.1.unit.1.1.1.0, (s.1.unit.1.1.1.1.0, (y, s.1.unit.1.1.1.1.1.1)))))) }) p ≡ devices.pad s p
 spi_wrote s y p e =
-    below (ports.pad s.0 p) (below ((timer8 Zero).pad s.1.0 p) (below (timer16.pad s.1.1.0 p) (below ((timer8 Two).pad s.1.1.1.0 p)
-    (below (adc.pad s.1.1.1.1.0 p) (below (usart.pad s.1.1.1.1.1.0 p) (ap (λ (q : Pad). joined q (twi.pad s.1.1.1.1.1.1.1 p)) e))))))
+    let u = s.1.unit in
+    below (joined (ports.pad s.0.0 p) (keep.pad s.0.1 p)) (below ((timer8 Zero).pad u.0 p) (below (timer16.pad u.1.0 p) (below ((timer8 Two).pad u.1.1.0 p)
+    (below (adc.pad u.1.1.1.0 p) (below (usart.pad u.1.1.1.1.0 p) (ap (λ (q : Pad). joined q (twi.pad u.1.1.1.1.1.1 p)) e))))))
 
-twi_wrote : (s : Devices) (y : Twi) (p : ℕ) → twi.pad y p ≡ twi.pad s.1.1.1.1.1.1.1 p →
-    devices.pad (s.0, (s.1.0, (s.1.1.0, (s.1.1.1.0, (s.1.1.1.1.0, (s.1.1.1.1.1.0, (s.1.1.1.1.1.1.0, y))))))) p ≡ devices.pad s p
+twi_wrote : (s : Devices) (y : Twi) (p : ℕ) → twi.pad y p ≡ twi.pad s.1.unit.1.1.1.1.1.1 p →
+    devices.pad (s.0, record (s.1) { unit = (s.1.unit.0, (s.1.unit.1.0, (s.1.unit.1.1.0, (s.1.unit.1.1.1.0, (s.1.unit.1.1.1.1.0, (s.1.unit.1.1.1.1.1.0, y)))))) }) p ≡ devices.pad s p
 twi_wrote s y p e =
-    below (ports.pad s.0 p) (below ((timer8 Zero).pad s.1.0 p) (below (timer16.pad s.1.1.0 p) (below ((timer8 Two).pad s.1.1.1.0 p)
-    (below (adc.pad s.1.1.1.1.0 p) (below (usart.pad s.1.1.1.1.1.0 p) (below (spi.pad s.1.1.1.1.1.1.0 p) e))))))
+    let u = s.1.unit in
+    below (joined (ports.pad s.0.0 p) (keep.pad s.0.1 p)) (below ((timer8 Zero).pad u.0 p) (below (timer16.pad u.1.0 p) (below ((timer8 Two).pad u.1.1.0 p)
+    (below (adc.pad u.1.1.1.0 p) (below (usart.pad u.1.1.1.1.0 p) (below (spi.pad u.1.1.1.1.1.0 p) e))))))
 
 devices_wires : (s : Devices) (t a x p : ℕ) → p < PORT_PINS → ¬ IsIn (wire_pins a) p → devices.pad (devices.write s t a x) p ≡ devices.pad s p
 devices_wires s t a x p less = elim (eqb_tells a 0x4E) [
-  | inl is ↦ subst G (sym is.1) (λ out. let y : Spi = spi.write s.1.1.1.1.1.1.0 t 0x4E x in spi_wrote s y p (spi_placed y p less out ∙ sym (spi_placed s.1.1.1.1.1.1.0 p less out)))
+  | inl is ↦ subst G (sym is.1) (λ out. let u : Spi = s.1.unit.1.1.1.1.1.0 in let y : Spi = spi.write u s.1.cycle 0x4E x in spi_wrote s y p (spi_placed y p less out ∙ sym (spi_placed u p less out)))
   | inr n4E ↦ elim (eqb_tells a 0xBC) [
-    | inl is ↦ subst G (sym is.1) (λ out. let y : Twi = twi.write s.1.1.1.1.1.1.1 t 0xBC x in twi_wrote s y p (twi_placed y p less out ∙ sym (twi_placed s.1.1.1.1.1.1.1 p less out)))
+    | inl is ↦ subst G (sym is.1) (λ out. let u : Twi = s.1.unit.1.1.1.1.1.1 in let y : Twi = twi.write u s.1.cycle 0xBC x in twi_wrote s y p (twi_placed y p less out ∙ sym (twi_placed u p less out)))
     | inr nBC ↦
         let all : wire_pins a ≡ all_pins = rw (n4E.0, nBC.0) refl in
         λ out. absurd (out (subst (λ (s : Span). IsIn s p) (sym all) (omega arith, omega (arith, less))))
@@ -194,4 +203,4 @@ devices_wires s t a x p less = elim (eqb_tells a 0x4E) [
     G a = ¬ IsIn (wire_pins a) p → devices.pad (devices.write s t a x) p ≡ devices.pad s p
 
 pub devices_reach : Reaches devices
-devices_reach = ports_reach _ refl refl refl refl refl refl devices_wires
+devices_reach = ports_reach clocked_units refl refl refl refl refl refl devices_wires

@@ -6,11 +6,12 @@
 #![tactic(auto)]
 
 mod asking;
+mod attended;
 mod devices;
 mod follow;
 mod mcu;
 mod pins;
-mod placed;
+mod turned;
 mod units;
 
 pub use mcu::Mcu;

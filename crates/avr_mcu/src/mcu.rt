@@ -1,19 +1,22 @@
 //! The microcontroller as a part.
-ghost use Rattle.std.specs.Prelude.{◌≡◌, ◌+◌, ◌-◌, ◌<◌, ◌≤◌, List, ℕ, true, false, slice_index_or, slice_get, Some, None, IfOk, max, if◌then◌else◌, ◌&&◌, not, nat_lt};
-ghost use Rattle.avr_core.specs.AvrStep.{IsProgram, HasHalted, Did, avr_step};
+ghost use Rattle.std.specs.Prelude.{◌≡◌, ◌+◌, ◌-◌, ◌<◌, ◌≤◌, List, ℕ, true, false, slice_index_or, slice_get, Some, None, IfOk, max, if◌then◌else◌, ◌&&◌, not, nat_lt, ◌==◌, length};
+ghost use Rattle.avr_isa.specs.declared.instr.Instr.TheVariants.{Wdr, Sleep};
+ghost use Rattle.avr_core.specs.AvrStep.{IsProgram, HasHalted, Did, avr_step, flash_word, instr_at};
 ghost use Rattle.avr_core.specs.declared.state.Mode.TheVariants.{Run};
 ghost use Rattle.avr_mcu.specs.Devices.{devices};
-ghost use Rattle.avr_mcu.specs.McuOf.{mcu, start, ready, enters, starts, entering, instructed, performed, core_acted, uno_drive};
+ghost use Rattle.avr_mcu.specs.McuOf.{mcu, start, ready, enters, starts, entering, instructed, reset_watchdog, is_deep, dozed, idled, performed, core_acted, units_acted, restarted, uno_drive};
 ghost use Rattle.avr_mcu.specs.McuState.{state_of};
-ghost use Rattle.avr_mcu.specs.Units.{unit_bus, request, units_step};
+ghost use Rattle.avr_mcu.specs.Units.{unit_bus, request};
+ghost use Rattle.avr_mcu.specs.declared.pins.TheConstants.{UNO_PINS};
 ghost use Rattle.part_law.specs.Machine.{IsFirstDue};
 ghost use Rattle.part_law.specs.declared.span.Span.{Span};
 ghost use Rattle.part_law.specs.Spans.{all_pins, no_pins};
-ghost use Rattle.avr_mcu.specs.Placed.{hull, SameBut};
+ghost use Rattle.unit_law.specs.Placed.{hull, SameBut};
 
+use crate::attended::instruct;
 use crate::follow::follow;
 use crate::pins::UNO_PINS;
-use crate::placed::hull;
+use crate::turned::{hear, tick};
 use crate::units::Units;
 use avr_core::{Core, Mode, decode_all};
 use avr_isa::Instr;
@@ -22,7 +25,7 @@ use sim_base::{Drive, Flash, Level, MOST_CYCLES, OutOfMemory, Steps};
 use std::alloc::Global;
 use std::marker::Model;
 use std::sync::ledger::Ledger;
-use unit_law::VECTORS;
+use unit_law::{VECTORS, hull};
 
 /// The microcontroller, before the step of `cycle`.
 #[derive(Drop)]
@@ -179,21 +182,36 @@ impl Part for Mcu {
 
     fn wake(&mut self, levels: &[Level], _input: Option<u16>) -> Option<u8> {
         self.act();
-        let (byte, moved) = self.units.step(levels);
+        let turned = hear(
+            &mut self.core,
+            &mut self.units,
+            self.next,
+            self.cycle,
+            levels,
+            self.moved,
+        );
+        self.next = turned.next;
         self.cycle += 1;
         self.wakes += 1;
-        self.moved = hull(self.moved, moved);
-        byte
+        self.moved = turned.span;
+        turned.byte
     }
 
     #[inline]
     fn wake_held(&mut self, _input: Option<u16>) -> Option<u8> {
         self.act();
-        let (byte, moved) = tick(&mut self.units, self.cycle, self.moved);
+        let turned = tick(
+            &mut self.core,
+            &mut self.units,
+            self.next,
+            self.cycle,
+            self.moved,
+        );
+        self.next = turned.next;
         self.cycle += 1;
         self.wakes += 1;
-        self.moved = moved;
-        byte
+        self.moved = turned.span;
+        turned.byte
     }
 
     fn go_on<L: Ledger>(&mut self, limit: u32, steps: &mut Steps<L>) -> Went {
@@ -346,19 +364,6 @@ fn do_one(core: &mut Core, program: &[Instr], flash: &Flash, units: &mut Units, 
     }
 }
 
-// An instruction, by which the core may fall asleep.
-#[inline(always)]
-fn instruct(core: &mut Core, program: &[Instr], flash: &Flash, units: &mut Units) -> u8
-    requires { IsProgram flash.now program.now }
-    ensures { record { core = core.new; bus = units.new; cycles = result } ≡ instructed devices flash.now core.old units.old }
-{
-    let cycles = core.exec_decoded(program, flash, units);
-    if let Mode::Sleep = core.mode() {
-        units.sleep();
-    }
-    cycles
-}
-
 // Enters the least vector that is enabled and flagged.
 fn enter(core: &mut Core, units: &mut Units) -> u8
     requires awake { ¬ HasHalted core.old.mode }
@@ -369,26 +374,6 @@ fn enter(core: &mut Core, units: &mut Units) -> u8
     let cycles = core.enter(units, vector);
     units.taken(vector);
     cycles
-}
-
-// One cycle of the units on the levels that they hold: the byte that leaves, and the pins whose drives may have changed,
-// with those that were touched before.
-#[inline]
-pub(crate) fn tick(units: &mut Units, cycle: u32, touched: Span) -> (Option<u8>, Span)
-    requires here { units.old.cycle ≡ cycle }
-    requires end { cycle < MOST_CYCLES }
-    ensures byte { result.0 ≡ devices.sends units.old.units.devices cycle }
-    ensures state { units.new ≡ record units.old { units = units_step devices units.old.units cycle units.old.held units.old.held; cycle = cycle + 1 } }
-    ensures pads { (moved : Span) × (result.1 ≡ hull touched moved)
-        × (SameBut devices moved units.new.units.devices units.old.units.devices) }
-{
-    if cycle < units.due() {
-        units.skip(cycle + 1);
-        (None, touched)
-    } else {
-        let (byte, moved) = units.turn();
-        (byte, hull(touched, moved))
-    }
 }
 
 // The first cycle from `cycle` on in which the microcontroller is due, `MOST_CYCLES` where there is none.

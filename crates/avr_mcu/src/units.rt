@@ -1,26 +1,33 @@
 //! The units with SRAM and the plain registers: the data bus of the core.
-ghost use Rattle.std.specs.Prelude.{◌≡◌, ◌+◌, ◌-◌, ◌<◌, ◌≤◌, ℕ, List, length, true, false, replicate, slice_index_or, IfOk, vec_len, if◌then◌else◌};
+ghost use Rattle.std.specs.Prelude.{◌≡◌, ◌+◌, ◌-◌, ◌<◌, ◌≤◌, ℕ, List, length, true, false, replicate, slice_index_or, IfOk, vec_len, if◌then◌else◌, ◌%◌, ◌==◌, ◌&&◌, not};
 ghost use Rattle.sim_base.specs.declared.signal.Level.{Level};
 ghost use Rattle.sim_base.specs.declared.signal.Level.TheVariants as levels;
+ghost use Rattle.unit_law.specs.Bits.{is_set};
 ghost use Rattle.unit_law.specs.Pad.{driven};
 ghost use Rattle.unit_law.specs.UnitMachine.{steps, IsQuiet, FirstDue};
+ghost use Rattle.avr_adc.specs.declared.registers.TheConstants.{ADSC};
 ghost use Rattle.avr_mcu.specs.Devices.{devices};
-ghost use Rattle.avr_mcu.specs.Units.{UnitsAt, unit_bus, reset, pins, request, units_step, above, above_in, with_above, plain, plain_of, with_plain, register, after_read, with_register, with_register_bit, at_port, wire_pins, one_pin, pins_of, pins_of_bit, touched_by};
+ghost use Rattle.avr_mcu.specs.Units.{UnitsAt, unit_bus, reset, pins, request, units_step, units_restarted, with_smcr, above, above_in, with_above, plain, plain_of, with_plain, register, after_read, with_register, with_register_bit, at_port, wire_pins, one_pin, pins_of, pins_of_bit, touched_by};
 ghost use Rattle.part_law.specs.Spans.{no_pins};
 ghost use Rattle.avr_core.specs.declared.state.Mode.TheVariants.{Sleep};
-ghost use Rattle.avr_mcu.specs.McuOf.{with_sleep};
-ghost use Rattle.avr_mcu.specs.Placed.{SameBut};
+ghost use Rattle.avr_mcu.specs.McuOf.{with_sleep, with_wdr, with_doze, is_deep};
+ghost use Rattle.unit_law.specs.Placed.{SameBut};
+ghost use Rattle.avr_mcu.specs.Signals.{signalled};
 
-use crate::asking::{Next, begin, hear, notices, read, skip, step, taken, write, write_bit};
-use crate::devices::{Devices, SPI_PINS, TWI_PINS, moved_pins, pad_of};
+use crate::asking::{
+    Next, Signal, begin, hand, hear, pad_of, read, skip, taken, turn, write, write_bit,
+};
+use crate::devices::Devices;
 use crate::pins::UNO_PINS;
 use avr_adc::{ADCSRA, ADSC};
 use avr_core::DataBus;
+use avr_spi::SPI_PINS;
+use avr_twi::TWI_PINS;
 use part_law::Span;
 use sim_base::{Drive, Level, MOST_CYCLES, OutOfMemory};
 use std::alloc::{AllocError, Global};
 use std::marker::Model;
-use unit_law::{Group, PORT_PINS, with_bit};
+use unit_law::{Group, PORT_PINS, has_bit, with_bit};
 
 /// General purpose I/O registers, which only keep what is written (data sheet, "Register Summary").
 const GPIOR0: u8 = 0x3E;
@@ -32,7 +39,7 @@ const GPIOR2: u8 = 0x4B;
 const SMCR: u8 = 0x53;
 
 /// The ports' input pins and data registers.
-pub(crate) const PINB: u8 = 0x23;
+const PINB: u8 = 0x23;
 
 const PORTB: u8 = 0x25;
 
@@ -42,7 +49,7 @@ const PORTC: u8 = 0x28;
 
 const PIND: u8 = 0x29;
 
-pub(crate) const PORTD: u8 = 0x2B;
+const PORTD: u8 = 0x2B;
 
 /// What begins a transfer of the SPI and an action of the TWI.
 const SPDR: u8 = 0x4E;
@@ -175,6 +182,68 @@ impl Units {
         );
     }
 
+    /// What WDR does.
+    pub(crate) fn wdr(&mut self)
+        ensures { self.new ≡ with_wdr devices self.old }
+    {
+        self.give(Signal::Wdr);
+    }
+
+    /// Whether SLEEP enters power-down: SMCR has SE and that mode, and no conversion of the ADC is on the way.
+    pub(crate) fn is_deep(&mut self) -> bool
+        ensures value { result ≡ is_deep devices self.old }
+        ensures state { self.new ≡ self.old }
+    {
+        let smcr = self.smcr();
+        let control = self.register(ADCSRA);
+        is_power_down(smcr, control)
+    }
+
+    /// SMCR.
+    pub(crate) fn smcr(&self) -> u8
+        ensures { result ≡ self.now.units.smcr }
+    {
+        self.smcr
+    }
+
+    pub(crate) fn set_smcr(&mut self, value: u8)
+        ensures { self.new ≡ with_smcr value self.old }
+    {
+        self.smcr = value;
+    }
+
+    /// Entering power-down.
+    pub(crate) fn doze(&mut self)
+        ensures { self.new ≡ with_doze devices self.old }
+    {
+        self.give(Signal::Doze);
+    }
+
+    // Hands a signal to the devices.
+    fn give(&mut self, given: Signal)
+        ensures { self.new ≡ record self.old { units = record (self.old.units) { devices = signalled devices given self.old.units.devices self.old.cycle } } }
+    {
+        hand(
+            &mut self.devices,
+            &mut self.next,
+            self.cycle,
+            &self.held[..PORT_PINS],
+            given,
+        );
+    }
+
+    /// What a reset of the watchdog leaves in the cycle behind it.
+    #[inline(never)]
+    pub(crate) fn restart(&mut self)
+        ensures { self.new ≡ record self.old { units = units_restarted devices self.old.units } }
+    {
+        self.give(Signal::Restart);
+        self.gpior0 = 0;
+        self.gpior1 = 0;
+        self.gpior2 = 0;
+        self.smcr = 0;
+    }
+
     /// Entering idle sleep: sets ADSC alone.
     #[inline(never)]
     pub(crate) fn sleep(&mut self)
@@ -201,47 +270,45 @@ impl Units {
         self.cycle = to;
     }
 
-    /// One cycle on these levels of the Uno's pins: the byte that leaves, and the pins of which it may change what they
-    /// are asked for.
-    pub(crate) fn step(&mut self, levels: &[Level]) -> (Option<u8>, Span)
+    /// One cycle on these levels of the Uno's pins: the byte that leaves, whether it ends in a reset of the watchdog, and
+    /// the pins of which it may change what they are asked for.
+    pub(crate) fn step(&mut self, levels: &[Level]) -> (Option<u8>, bool, Span)
         requires levels { length levels.now ≡ UNO_PINS }
         requires end { self.old.cycle < MOST_CYCLES }
         ensures byte { result.0 ≡ devices.sends self.old.units.devices self.old.cycle }
-        ensures pads { SameBut devices result.1 (devices.step self.old.units.devices self.old.cycle (pins self.old.held) (pins levels.now)) self.old.units.devices }
+        ensures resets { result.1 ≡ devices.power.resets self.old.units.devices self.old.cycle }
+        ensures pads { SameBut devices result.2 (devices.step self.old.units.devices self.old.cycle (pins self.old.held) (pins levels.now)) self.old.units.devices }
         ensures state { self.new ≡ record self.old { units = units_step devices self.old.units self.old.cycle self.old.held levels.now; held = levels.now; cycle = self.old.cycle + 1 } }
     {
-        let seen = seen(levels);
-        let before = &self.held[..PORT_PINS];
-        let due = self.next.due;
-        let notices = notices(&self.devices, due, self.cycle, before, seen);
-        let moved = moved_pins(&self.devices, self.cycle, before, seen, false, notices);
-        let byte = hear(
+        let told = hear(
             &mut self.devices,
             &mut self.next,
             self.cycle,
-            before,
-            seen,
-            notices,
+            &self.held[..PORT_PINS],
+            seen(levels),
         );
         self.held.copy_from_slice(levels);
         self.cycle += 1;
-        (byte, moved)
+        told
     }
 
     /// The same on the levels that it holds.
     #[inline(never)]
-    pub(crate) fn turn(&mut self) -> (Option<u8>, Span)
+    pub(crate) fn turn(&mut self) -> (Option<u8>, bool, Span)
         requires end { self.old.cycle < MOST_CYCLES }
         ensures byte { result.0 ≡ devices.sends self.old.units.devices self.old.cycle }
-        ensures pads { SameBut devices result.1 (devices.step self.old.units.devices self.old.cycle (pins self.old.held) (pins self.old.held)) self.old.units.devices }
+        ensures resets { result.1 ≡ devices.power.resets self.old.units.devices self.old.cycle }
+        ensures pads { SameBut devices result.2 (devices.step self.old.units.devices self.old.cycle (pins self.old.held) (pins self.old.held)) self.old.units.devices }
         ensures state { self.new ≡ record self.old { units = units_step devices self.old.units self.old.cycle self.old.held self.old.held; cycle = self.old.cycle + 1 } }
     {
-        let held = &self.held[..PORT_PINS];
-        let moves = self.devices.event_moves(self.cycle);
-        let moved = moved_pins(&self.devices, self.cycle, held, held, true, moves);
-        let byte = step(&mut self.devices, &mut self.next, self.cycle, held, held);
+        let told = turn(
+            &mut self.devices,
+            &mut self.next,
+            self.cycle,
+            &self.held[..PORT_PINS],
+        );
         self.cycle += 1;
-        (byte, moved)
+        told
     }
 }
 
@@ -382,6 +449,13 @@ impl Units {
             }
         }
     }
+}
+
+// Whether SMCR has SE and the mode of power-down, while ADCSRA reads ADSC 0.
+fn is_power_down(smcr: u8, control: u8) -> bool
+    ensures { result ≡ (smcr % 16 == 5 && not (is_set control ADSC)) }
+{
+    smcr % 16 == 5 && !has_bit(control, ADSC)
 }
 
 // What is given for the port whose PINx or PORTx a register is, and what else where it is none.

@@ -1,12 +1,12 @@
 -- The ports of the ATmega328P, cycle by cycle (data sheet, "I/O-Ports" and "External Interrupts").
-use Rattle.std.specs.Prelude.{ℕ, ◌+◌, ◌-◌, ◌*◌, ◌/◌, ◌%◌, ◌^◌, ◌==◌, ◌&&◌, ◌||◌, not, nat_lt, Bool, true, false, if◌then◌else◌, List, [], ◌∷◌, slice_index_or, None, Some, is_some, bit_and, bit_xor}
+use Rattle.std.specs.Prelude.{ℕ, ◌+◌, ◌-◌, ◌*◌, ◌/◌, ◌%◌, ◌^◌, ◌==◌, ◌&&◌, ◌||◌, not, nat_lt, Bool, true, false, if◌then◌else◌, List, [], ◌∷◌, slice_index_or, None, is_some, bit_and, bit_xor}
 use Rattle.sim_base.specs.Signal.{reads}
 use Rattle.sim_base.specs.declared.signal.Level.{Level}
 use Rattle.sim_base.specs.declared.signal.Level.TheVariants as levels
 use Rattle.unit_law.specs.declared.pad.Pad.{Pad}
 use Rattle.unit_law.specs.Pad.{untouched}
 use Rattle.unit_law.specs.Bits.{is_set, one, with_bit}
-use Rattle.unit_law.specs.UnitMachine.{UnitMachine, at_register}
+use Rattle.unit_law.specs.UnitMachine.{UnitMachine, powerless, at_register}
 use Rattle.unit_law.specs.declared.request.Request.{Request}
 use Rattle.avr_ports.specs.Registers.{register_at}
 use Rattle.avr_ports.specs.declared.registers.Register.{Register}
@@ -138,6 +138,14 @@ requests u l =
     ∷ record { vector = 5; enabled = is_set u.pcicr 2; flag = u.pcif2 }
     ∷ []
 
+-- What ends power-down ("Active Clock Domains and Wake-up Sources in the Different Sleep Modes"): an external interrupt by
+-- its low level, and a change of a pin.
+abbrev pub rouses : Ports → List Level → Bool
+rouses u l =
+    (is_set u.eimsk 0 && (isc0 u == 0 && requests_int u.intf0 (isc0 u) (on l 2)))
+    || ((is_set u.eimsk 1 && (isc1 u == 0 && requests_int u.intf1 (isc1 u) (on l 3)))
+    || ((is_set u.pcicr 0 && u.pcif0) || ((is_set u.pcicr 1 && u.pcif1) || (is_set u.pcicr 2 && u.pcif2))))
+
 -- An entered vector's flag is cleared.
 abbrev pub taken : Ports → ℕ → Ports
 taken u v =
@@ -240,4 +248,5 @@ ports = record {
   write_bit = λ u t a k x. at_register (register_at a) u (λ r. with_register_bit u r k x);
   taken = taken;
   reset = reset;
+  power = record powerless { rouses = rouses; restart = λ u. reset };
 }

@@ -1,14 +1,21 @@
 //! The ports with their interrupts.
-ghost use Rattle.std.specs.Prelude.{◌≡◌, ◌+◌, ◌-◌, ◌<◌, ◌≤◌, ℕ, [], length, true, false, not};
+ghost use Rattle.std.specs.Prelude.{◌≡◌, ◌+◌, ◌-◌, ◌<◌, ◌≤◌, ◌==◌, ◌&&◌, ◌||◌, ℕ, [], length, true, false, not};
+ghost use Rattle.unit_law.specs.Bits.{is_set};
 ghost use Rattle.unit_law.specs.UnitMachine.{least, steps};
-ghost use Rattle.avr_ports.specs.Ports.{requests, acts_by_ones, register, with_register, with_register_bit, moves, bit_moves, edges_sensed, changes_sensed, ports_step, is_deaf};
+ghost use Rattle.avr_ports.specs.Ports.{requests, requests_int, acts_by_ones, register, with_register, with_register_bit, moves, bit_moves, edges_sensed, changes_sensed, ports_step, is_deaf};
 ghost use Rattle.avr_ports.specs.declared.registers.Register.TheVariants.{PCIFR, EIFR, EICRA};
 
 use crate::pins::{bit_pad, is_change, is_edge, on, pinb, pinc, pind, requests_int};
 use crate::registers::{Register, named, register_at};
+use part_law::Span;
 use sim_base::{Level, MOST_CYCLES};
 use std::marker::Model;
 use unit_law::{PORT_PINS, Pad, Request, Unit, VECTORS, has_bit, least, mask, one, with_bit};
+
+/// The first and the last address of PINx, DDRx and PORTx.
+const PINB: u8 = 0x23;
+
+const PORTD: u8 = 0x2B;
 
 /// The ports, before the step of `cycle`.
 #[derive(Drop)]
@@ -77,6 +84,27 @@ impl Unit for Ports {
             pcif2: false,
             cycle: 0,
         }
+    }
+
+    /// Each pin.
+    #[inline(always)]
+    #[tactic(auto, using(crate::proofs::PlacedLemmas::ports_placed))]
+    fn pins() -> Span {
+        Span::all()
+    }
+
+    /// A cycle changes nothing of DDRx and PORTx.
+    #[inline(always)]
+    #[tactic(auto, using(crate::proofs::PlacedLemmas::ports_still))]
+    fn moved() -> Span {
+        Span::none()
+    }
+
+    /// PINx, DDRx and PORTx have no part in what is requested.
+    #[inline(always)]
+    #[tactic(auto, using(crate::proofs::NextLemmas::ports_writes))]
+    fn writing_keeps_next(reg: u8) -> bool {
+        (PINB <= reg) & (reg <= PORTD)
     }
 
     #[inline(always)]
@@ -166,6 +194,28 @@ impl Unit for Ports {
         }
     }
 
+    fn rouses(&self, levels: &[Level]) -> bool {
+        let int0 = has_bit(self.eimsk, 0) & calls_int(self.intf0, self.eicra % 4, on(levels, 2));
+        let int1 = has_bit(self.eimsk, 1)
+            & calls_int(self.intf1, self.eicra / 4 % 4, on(levels, 3));
+        int0 | (int1 | self.has_change())
+    }
+
+    fn wdr(&mut self) {}
+
+    fn resets(&self, _cycle: u32) -> bool {
+        false
+    }
+
+    fn restart(&mut self) {
+        *self = Ports {
+            cycle: self.cycle,
+            ..Ports::new()
+        };
+    }
+
+    fn doze(&mut self) {}
+
     #[inline]
     fn pad(&self, pin: u8) -> Pad {
         if pin < 8 {
@@ -180,7 +230,23 @@ impl Unit for Ports {
     ghost laws = { ports_laws };
 }
 
+// Whether an external interrupt requests by its low level.
+fn calls_int(flag: bool, sense: u8, high: bool) -> bool
+    ensures { result ≡ (sense == 0 && requests_int flag sense high) }
+{
+    sense == 0 && requests_int(flag, sense, high)
+}
+
 impl Ports {
+    // Whether a pin has changed and its interrupt is enabled.
+    fn has_change(&self) -> bool
+        ensures { result ≡ ((is_set self.now.unit.pcicr 0 && self.now.unit.pcif0) || ((is_set self.now.unit.pcicr 1 && self.now.unit.pcif1) || (is_set self.now.unit.pcicr 2 && self.now.unit.pcif2))) }
+    {
+        let first = has_bit(self.pcicr, 0) & self.pcif0;
+        let second = has_bit(self.pcicr, 1) & self.pcif1;
+        first | (second | has_bit(self.pcicr, 2) & self.pcif2)
+    }
+
     // What it requests where something is enabled.
     fn requested(&self, levels: &[Level]) -> u8
         requires { length levels.now ≡ PORT_PINS }

@@ -6,7 +6,7 @@ use Rattle.sim_base.specs.declared.signal.Level.TheVariants as levels
 use Rattle.unit_law.specs.Bits.{is_set, one, with_bit}
 use Rattle.unit_law.specs.Coming.{comes}
 use Rattle.unit_law.specs.Pad.{untouched, valued}
-use Rattle.unit_law.specs.UnitMachine.{UnitMachine, at_register}
+use Rattle.unit_law.specs.UnitMachine.{UnitMachine, powerless, at_register}
 use Rattle.unit_law.specs.declared.pad.Pad.{Pad}
 use Rattle.unit_law.specs.declared.request.Request.{Request}
 use Rattle.avr_spi.specs.declared.registers.Register.{Register}
@@ -14,7 +14,7 @@ use Rattle.avr_spi.specs.declared.registers.Register.TheVariants.{DDRB, SPCR, SP
 use Rattle.avr_spi.specs.declared.shifter.Transfer.{Transfer}
 use Rattle.avr_spi.specs.declared.shifter.Shifter.{Shifter}
 use Rattle.avr_spi.specs.Registers.{register_at, moves_pad}
-use Rattle.avr_spi.specs.Shifter.{begun, going, shifted, next_event, sck, still}
+use Rattle.avr_spi.specs.Shifter.{begun, started, given_up, shifted, next_event, sck, still}
 
 -- DDRB, SPCR and bits 5:0 of SPSR as they were written, WCOL, whether SPSR was read with a flag set, the cycle in which SS
 -- is looked at because a register was written, and the shift register.
@@ -72,7 +72,7 @@ after_read u SPDR = accessed u
 -- SPDR is written: a transfer begins in master mode; during one the write is a collision.
 abbrev pub loaded : Spi → Option Transfer → ℕ → ℕ → Spi
 loaded u (Some y) t x = record u { wcol = true }
-loaded u None t x = if is_master u.spcr then record u { shifter = going u.shifter (begun (is_set u.spsr 0) u.spcr t x) } else u
+loaded u None t x = if is_master u.spcr then record u { shifter = started u.shifter (begun (is_set u.spsr 0) u.spcr t x) } else u
 
 -- SS is looked at in the cycle of a write after which it may end master mode.
 abbrev pub looking : Spi → ℕ → Spi
@@ -106,8 +106,8 @@ taken u v = record u { shifter = record (u.shifter) { spif = u.shifter.spif && n
 abbrev pub is_selected : Spi → ℕ → Bool → Bool → Bool
 is_selected u t before now = watches u && (now && (comes u.look t || not before))
 
-abbrev pub deselected : Spi → Spi
-deselected u = record u { spcr = with_bit u.spcr 4 false; shifter = record (u.shifter) { transfer = None; spif = true } }
+abbrev pub deselected : Spi → ℕ → Spi
+deselected u t = record u { spcr = with_bit u.spcr 4 false; shifter = record (given_up u.shifter u.shifter.transfer t) { spif = true } }
 
 abbrev pub looked : Spi → ℕ → Spi
 looked u t = record u { look = if comes u.look t then None else u.look }
@@ -115,7 +115,7 @@ looked u t = record u { look = if comes u.look t then None else u.look }
 -- One cycle, from whether SS is Low in the cycle before and in this one, and from what MISO reads.
 abbrev pub stepped : Spi → ℕ → Bool → Bool → Bool → Spi
 stepped u t before now in_bit =
-    if is_selected u t before now then deselected (looked u t)
+    if is_selected u t before now then deselected (looked u t) t
     else record (looked u t) { shifter = shifted u.shifter u.shifter.transfer t in_bit }
 
 -- In master mode MOSI and SCK have values where DDRB makes them outputs, and MISO is an input whatever DDRB is ("Alternate
@@ -146,6 +146,7 @@ spi = record {
   read = λ u t a. at_register (register_at a) u (after_read u);
   write = λ u t a x. at_register (register_at a) u (λ r. with_register u t r x);
   write_bit = λ u t a k x. at_register (register_at a) u (λ r. with_register u t r (with_bit (kept u r) k x));
+  power = powerless;
   taken = taken;
   reset = record { ddrb = 0; spcr = 0; spsr = 0; wcol = false; seen = false; look = None; shifter = still };
 }

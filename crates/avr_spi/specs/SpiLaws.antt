@@ -1,12 +1,12 @@
 -- A cycle without an event leaves the SPI as it is, unless SS falls.
-use Rattle.std.specs.Prelude.{◌≡◌, ℕ, ◌==◌, Bool, true, false, ◌&&◌, ◌||◌, not, if◌then◌else◌, List, Option, Some, None}
+use Rattle.std.specs.Prelude.{◌≡◌, ℕ, ◌==◌, Bool, true, false, ◌&&◌, ◌||◌, not, List, Option, Some, None}
 use Rattle.std.proofs.Common.{refl, ap, sym, ◌∙◌}
 use Rattle.std.proofs.lemmas.Bool.{or_parts, cond-false}
 use Rattle.sim_base.proofs.BoolLemmas.{and_opposite}
 use Rattle.sim_base.specs.declared.signal.Level.{Level}
 use Rattle.unit_law.specs.Bits.{with_bit}
 use Rattle.unit_law.specs.Coming.{comes}
-use Rattle.unit_law.specs.UnitMachine.{Laws, at_register}
+use Rattle.unit_law.specs.UnitMachine.{Laws, powerless_laws, at_register}
 use Rattle.avr_spi.specs.declared.registers.Register.{Register}
 use Rattle.avr_spi.specs.declared.registers.Register.TheVariants.{DDRB, SPCR, SPSR, SPDR}
 use Rattle.avr_spi.specs.declared.shifter.Transfer.{Transfer}
@@ -30,7 +30,7 @@ unlooked u t h = ap (λ (o : Option ℕ). record u { look = o }) (cond-false (co
 quiet_by : (u : Spi) (t : ℕ) (before now b : Bool) → comes (next_event u.shifter.transfer) t ≡ false → comes u.look t ≡ false →
     (watches u && (now && not before)) ≡ false → stepped u t before now b ≡ u
 quiet_by u t before now b h k none =
-    cond-false (is_selected u t before now) (deselected (looked u t)) (record (looked u t) { shifter = shifted u.shifter u.shifter.transfer t b }) (unselected (watches u) before now (comes u.look t) k none)
+    cond-false (is_selected u t before now) (deselected (looked u t) t) (record (looked u t) { shifter = shifted u.shifter u.shifter.transfer t b }) (unselected (watches u) before now (comes u.look t) k none)
     ∙ ap (λ (s : Shifter). record (looked u t) { shifter = s }) (quiet_clock u.shifter u.shifter.transfer t b h)
     ∙ unlooked u t k
 
@@ -77,4 +77,5 @@ spi_laws = record {
   writes_pad = λ s t a x p h. at_pad s t (register_at a) (λ r. x) p h;
   bits_pad = λ s t a k x p h. at_pad s t (register_at a) (λ r. with_bit (kept s r) k x) p h;
   taken_pad = λ s v p. refl;
+  power_laws = powerless_laws spi refl;
 }

@@ -46,6 +46,19 @@ module _ {U : Type 0} (m : UnitMachine U) where
   quiet_hears laws s t (suc n) before now quiet =
       laws.keeps_hears (steps m s t n) (t + n) [] before now (quiet n (omega arith)) ∙ quiet_hears laws s t n before now (λ k (h : k < n). quiet k (omega arith))
 
+  -- and so does what ends power-down, or resets
+  pub quiet_rouses : Laws m → (s : U) (t n : ℕ) (l : List Level) → IsQuiet m s t n → m.power.rouses (steps m s t n) l ≡ m.power.rouses s l
+  unfolding steps
+  quiet_rouses laws s t zero l quiet = refl
+  quiet_rouses laws s t (suc n) l quiet =
+      laws.power_laws.keeps_rouses (steps m s t n) (t + n) [] l (quiet n (omega arith)) ∙ quiet_rouses laws s t n l (λ k (h : k < n). quiet k (omega arith))
+
+  pub quiet_resets : Laws m → (s : U) (t n u : ℕ) → IsQuiet m s t n → m.power.resets (steps m s t n) u ≡ m.power.resets s u
+  unfolding steps
+  quiet_resets laws s t zero u quiet = refl
+  quiet_resets laws s t (suc n) u quiet =
+      laws.power_laws.keeps_resets (steps m s t n) (t + n) u [] (quiet n (omega arith)) ∙ quiet_resets laws s t n u (λ k (h : k < n). quiet k (omega arith))
+
   -- the first event as a number
   pub first_none : (s : U) (t : ℕ) → t ≤ MOST_CYCLES → IsFirstDue m s t None → FirstDue m s t MOST_CYCLES
   first_none s t end quiet = record { later = end; end = omega arith; quiet = quiet; event = λ (h : MOST_CYCLES < MOST_CYCLES). absurd (omega arith) }
@@ -109,6 +122,14 @@ module _ {U : Type 0} (m : UnitMachine U) where
   event_pad laws s due t l p h none =
       laws.event_pad (late_state m s t) t l p (quiet_event_moves laws s.unit s.cycle (t - s.cycle) (late_quiet s due t h) ∙ none)
 
+  -- nor where it takes no notice of the change
+  pub unheard_pad : Laws m → (s : At U) (due t : ℕ) (before now : List Level) (p : ℕ) → Lags m s due t → t < due → m.hears s.unit before now ≡ false →
+      m.pad (m.step (late_state m s t) t before now) p ≡ m.pad (late_state m s t) p
+  unheard_pad laws s due t before now p h less none =
+      let d = late_due s due t h less in
+      ap (λ (x : U). m.pad x p) (laws.unheard (late_state m s t) t before now d (quiet_hears laws s.unit s.cycle (t - s.cycle) before now (late_quiet s due t h) ∙ none))
+      ∙ laws.keeps_pad (late_state m s t) t now p d
+
   pub rest_silent : Laws m → (s : At U) (due t : ℕ) → Lags m s due t → t < due → None ≡ m.sends (late_state m s t) t
   rest_silent laws s due t h less = sym (laws.keeps_silent (late_state m s t) t (late_due s due t h less))
 
@@ -135,3 +156,11 @@ module _ {U : Type 0} (m : UnitMachine U) (laws : Laws m) (t d : ℕ) (state : �
   move_none less before now none p =
       let h = group_due less in
       ap (λ (x : U). m.pad x p) (laws.unheard (state t) t before now h none) ∙ laws.keeps_pad (state t) t now p h
+
+-- a unit that may be asked on these levels may be asked on those
+pub late_stays : {U : Type 0} (m : UnitMachine U) → Laws m → (t : ℕ) (before now : List Level) {s : At U} {due request : ℕ} →
+    LateStands m s due request before t → m.hears (late_state m s t) before now ≡ false → LateStands m s due request now t
+late_stays m laws t before now {s} {due} {request} h none = record {
+  late = h.late;
+  requests = h.requests ∙ laws.unheard_requests s.unit before now (sym (quiet_hears m laws s.unit s.cycle (t - s.cycle) before now (late_quiet m s due t h.late)) ∙ none);
+}

@@ -5,4 +5,10 @@ pub mod Coming
 pub mod Lagging
 pub mod Both
 pub mod BothLaws
+pub mod Placed
+pub mod Next
 pub mod Late
+pub mod Clocked
+pub mod Power
+pub mod Clock
+pub mod PowerLaws

@@ -1,46 +1,52 @@
-//! Two groups of units as one.
+//! A unit beside a group of units.
 ghost use Rattle.std.specs.Prelude.{◌≡◌, ℕ, ◌+◌, ◌-◌, ◌<◌, ◌≤◌, List, true, false, length, if◌then◌else◌};
 ghost use Rattle.sim_base.specs.declared.signal.Level.{Level};
 ghost use Rattle.unit_law.specs.Both.{first_of_two};
+ghost use Rattle.unit_law.specs.Placed.{hull};
 
 use crate::group::Group;
+use crate::late::Late;
 use crate::pad::Pad;
 use crate::pins::PORT_PINS;
+use crate::unit::Unit;
+use part_law::Span;
 use sim_base::Level;
 
-/// Two groups side by side: a register is read from the first that has it, and a write goes to each. Each can be asked alone.
+/// A unit beside a group of units, as a group: a register is read from the first that has it, and a write goes to each.
+/// Each can be asked alone. Nested, this is any number of units, of which each is one bound for a caller.
 #[derive(Drop)]
-pub struct Both<A, B> {
-    pub first: A,
-    pub second: B,
+pub struct Both<U, G> {
+    pub first: Late<U>,
+    pub second: G,
 }
 
-impl<A: Group, B: Group> Group for Both<A, B> {
+impl<U: Unit, G: Group> Group for Both<U, G> {
     ghost use Rattle.std.specs.Prelude.{◌≡◌, min};
     ghost use Rattle.unit_law.specs.Both.{both, both_laws};
     ghost use Rattle.unit_law.specs.BothLaws.{both_wait, first_both};
+    ghost use Rattle.unit_law.specs.Late.{late_waits, late_first};
 
-    ghost State = { A.State × B.State };
+    ghost State = { U.State × G.State };
 
-    ghost machine = { both A.machine B.machine };
+    ghost machine = { both U.machine G.machine };
 
-    ghost state = { λ s t. (A.state s.first t, B.state s.second t) };
+    ghost state = { λ s t. (⟦<Late<U> as Group>⟧.state s.first t, G.state s.second t) };
 
-    ghost until = { λ s. min (A.until s.first) (B.until s.second) };
+    ghost until = { λ s. min (⟦<Late<U> as Group>⟧.until s.first) (G.until s.second) };
 
-    ghost stands = { λ s l t. A.stands s.first l t × B.stands s.second l t };
+    ghost stands = { λ s l t. ⟦<Late<U> as Group>⟧.stands s.first l t × G.stands s.second l t };
 
-    fn new() -> Both<A, B> {
+    fn new() -> Both<U, G> {
         Both {
-            first: A::new(),
-            second: B::new(),
+            first: Late::new(),
+            second: G::new(),
         }
     }
 
     // Each `has` is a set of constants: so put, they become one jump by the address, however many units there are.
     #[inline(always)]
     fn has(reg: u8) -> bool {
-        A::has(reg) || B::has(reg)
+        U::has(reg) || G::has(reg)
     }
 
     #[inline]
@@ -53,9 +59,38 @@ impl<A: Group, B: Group> Group for Both<A, B> {
         self.first.event_moves(cycle) | self.second.event_moves(cycle)
     }
 
+    #[inline(always)]
+    fn moved(&self, cycle: u32, before: &[Level], now: &[Level], same: bool) -> Span {
+        let first = self.first.moved(cycle, before, now, same);
+        let second = self.second.moved(cycle, before, now, same);
+        hull(second, first)
+    }
+
+    #[inline(always)]
+    fn reading_keeps(reg: u8) -> bool {
+        if U::has(reg) {
+            U::reading_keeps(reg)
+        } else {
+            G::reading_keeps(reg)
+        }
+    }
+
+    #[inline(always)]
+    fn writing_keeps_next(reg: u8) -> bool {
+        if U::has(reg) {
+            if G::has(reg) {
+                U::writing_keeps_next(reg) & G::writing_keeps_next(reg)
+            } else {
+                U::writing_keeps_next(reg)
+            }
+        } else {
+            G::writing_keeps_next(reg)
+        }
+    }
+
     #[inline]
     fn read(&mut self, cycle: u32, levels: &[Level], reg: u8) -> u8 {
-        if A::has(reg) {
+        if U::has(reg) {
             self.first.read(cycle, levels, reg)
         } else {
             self.second.read(cycle, levels, reg)
@@ -82,14 +117,25 @@ impl<A: Group, B: Group> Group for Both<A, B> {
         first_of_two(byte, other)
     }
 
+    #[inline(always)]
+    fn stay(&self, cycle: u32, before: &[Level], now: &[Level]) {
+        self.first.stay(cycle, before, now);
+        self.second.stay(cycle, before, now);
+    }
+
     #[inline]
     fn due(&self) -> u32 {
         self.first.due().min(self.second.due())
     }
 
     #[inline]
-    fn request(&self) -> u8 {
-        self.first.request().min(self.second.request())
+    fn request(&self, levels: &[Level]) -> u8 {
+        self.first.request(levels).min(self.second.request(levels))
+    }
+
+    fn see(&mut self, levels: &[Level]) {
+        self.first.see(levels);
+        self.second.see(levels);
     }
 
     fn taken(&mut self, cycle: u32, levels: &[Level], vector: u8) {
@@ -98,18 +144,44 @@ impl<A: Group, B: Group> Group for Both<A, B> {
     }
 
     #[inline]
-    fn pad(&self, pin: u8) -> Pad {
-        self.first.pad(pin).joined(self.second.pad(pin))
+    fn rouses(&self, levels: &[Level]) -> bool {
+        self.first.rouses(levels) | self.second.rouses(levels)
     }
 
-    ghost laws = { both_laws A.machine B.machine A.laws B.laws };
+    fn wdr(&mut self, cycle: u32, levels: &[Level]) {
+        self.first.wdr(cycle, levels);
+        self.second.wdr(cycle, levels);
+    }
 
-    ghost waits = { λ s l t u h le soon. both_wait A.machine B.machine (A.until s.first) (B.until s.second) (A.state s.first) (B.state s.second) (A.stands s.first) (B.stands s.second) l t u (A.waits s.first) (B.waits s.second) h le soon };
+    #[inline]
+    fn resets(&self, cycle: u32) -> bool {
+        self.first.resets(cycle) | self.second.resets(cycle)
+    }
 
-    ghost first = { λ s l t h. first_both A.machine B.machine (A.state s.first t, B.state s.second t) t (A.until s.first) (B.until s.second) (A.first s.first l t h.0) (B.first s.second l t h.1) };
+    fn restart(&mut self, cycle: u32, levels: &[Level]) {
+        self.first.restart(cycle, levels);
+        self.second.restart(cycle, levels);
+    }
+
+    fn doze(&mut self, cycle: u32, levels: &[Level]) {
+        self.first.doze(cycle, levels);
+        self.second.doze(cycle, levels);
+    }
+
+    #[inline(always)]
+    fn asked(&self, pin: u8, others: Pad) -> Pad {
+        let more = self.second.asked(pin, others);
+        self.first.asked(pin, more)
+    }
+
+    ghost laws = { both_laws U.machine G.machine U.laws G.laws };
+
+    ghost waits = { λ s l t u h le soon. both_wait U.machine G.machine (⟦<Late<U> as Group>⟧.until s.first) (G.until s.second) (⟦<Late<U> as Group>⟧.state s.first) (G.state s.second) (⟦<Late<U> as Group>⟧.stands s.first) (G.stands s.second) l t u (λ l t u h le soon. late_waits U.machine (U.shows s.first.unit) s.first.due s.first.request l t u h le soon) (G.waits s.second) h le soon };
+
+    ghost first = { λ s l t h. first_both U.machine G.machine (⟦<Late<U> as Group>⟧.state s.first t, G.state s.second t) t (⟦<Late<U> as Group>⟧.until s.first) (G.until s.second) (late_first U.machine (U.shows s.first.unit) s.first.due s.first.request l t h.0) (G.first s.second l t h.1) };
 }
 
-fn first_of_two(first: Option<u8>, second: Option<u8>) -> Option<u8>
+pub(crate) fn first_of_two(first: Option<u8>, second: Option<u8>) -> Option<u8>
     ensures { result ≡ first_of_two first second }
 {
     match first {
@@ -120,7 +192,13 @@ fn first_of_two(first: Option<u8>, second: Option<u8>) -> Option<u8>
 
 // Writes a register where the group has it, and answers whether that may change what it asks of a pin.
 #[inline]
-fn write_where<G: Group>(group: &mut G, cycle: u32, levels: &[Level], reg: u8, value: u8) -> bool
+pub(crate) fn write_where<G: Group>(
+    group: &mut G,
+    cycle: u32,
+    levels: &[Level],
+    reg: u8,
+    value: u8,
+) -> bool
     requires levels { length levels.now ≡ PORT_PINS }
     requires here { G.stands group.old levels.now cycle }
     ensures moves { result ≡ (if G.machine.has reg then G.machine.moves (G.state group.old cycle) reg value else false) }
@@ -136,7 +214,7 @@ fn write_where<G: Group>(group: &mut G, cycle: u32, levels: &[Level], reg: u8, v
 
 // Writes one bit of a register where the group has it, with the same answer.
 #[inline]
-fn write_bit_where<G: Group>(
+pub(crate) fn write_bit_where<G: Group>(
     group: &mut G,
     cycle: u32,
     levels: &[Level],
@@ -156,4 +234,13 @@ fn write_bit_where<G: Group>(
     } else {
         false
     }
+}
+
+/// The least span that has the pins of both. `Span::joined` is that only where its second has any, since it takes the
+/// bounds of one without pins, from 0 up to 0, as they are.
+#[inline]
+pub fn hull(a: Span, b: Span) -> Span
+    ensures { result ≡ hull a b }
+{
+    if b.has_any() { a.joined(b) } else { a }
 }

@@ -3,9 +3,13 @@ ghost use Rattle.std.specs.Prelude.{◌≡◌, ℕ, ◌+◌, ◌-◌, ◌<◌, �
 ghost use Rattle.sim_base.specs.declared.signal.Level.{Level};
 ghost use Rattle.sim_base.specs.declared.signal.Level.TheVariants as levels;
 ghost use Rattle.unit_law.specs.UnitMachine.{UnitMachine, Laws, least, steps, IsQuiet, FirstDue};
+ghost use Rattle.unit_law.specs.Pad.{joined};
+ghost use Rattle.unit_law.specs.Placed.{StepMoves, StepStays};
+ghost use Rattle.unit_law.specs.Next.{WritesKeepNext};
 
 use crate::pad::Pad;
 use crate::pins::PORT_PINS;
+use part_law::Span;
 use sim_base::{Level, MOST_CYCLES};
 
 /// Any number of units as one machine, which an owner asks at its own cycle, and which holds the levels of the
@@ -40,7 +44,24 @@ pub trait Group {
 
     /// Whether an event of this cycle may change what they ask of a pin.
     fn event_moves(&self, cycle: u32) -> bool
-        ensures { (l : List Level) → stands self.now l cycle → result ≡ false → (p : ℕ) → machine.pad (machine.step (state self.now cycle) cycle l l) p ≡ machine.pad (state self.now cycle) p };
+        ensures { (l : List Level) → stands self.now l cycle → result ≡ false → StepStays machine (state self.now cycle) cycle l l };
+
+    /// The pins of which the step of a cycle, from the levels before to those now, may change what they are asked for;
+    /// `same` tells that these levels are those.
+    fn moved(&self, cycle: u32, before: &[Level], now: &[Level], same: bool) -> Span
+        requires before { length before.now ≡ PORT_PINS }
+        requires levels { length now.now ≡ PORT_PINS }
+        requires here { stands self.now before.now cycle }
+        requires same { same ≡ true → now.now ≡ before.now }
+        ensures { StepMoves machine (state self.now cycle) cycle before.now now.now result };
+
+    /// Whether a read of the register leaves them as they are.
+    fn reading_keeps(reg: u8) -> bool
+        ensures { result ≡ true → (s : State) (t : ℕ) → machine.read s t reg ≡ s };
+
+    /// Whether a write of the register, or of one bit of it, leaves their events to come and what they request.
+    fn writing_keeps_next(reg: u8) -> bool
+        ensures { result ≡ true → WritesKeepNext machine reg };
 
     /// Reads a register in a cycle.
     fn read(&mut self, cycle: u32, levels: &[Level], reg: u8) -> u8
@@ -81,13 +102,27 @@ pub trait Group {
         ensures state { state self.new (cycle + 1) ≡ machine.step (state self.old cycle) cycle before.now now.now }
         ensures stands { stands self.new now.now (cycle + 1) };
 
+    /// Levels change of which they take no notice: nothing needs to be done.
+    fn stay(&self, cycle: u32, before: &[Level], now: &[Level])
+        requires here { stands self.now before.now cycle }
+        requires deaf { machine.hears (state self.now cycle) before.now now.now ≡ false }
+        ensures { stands self.now now.now cycle };
+
     /// The first cycle with an event, or `MOST_CYCLES`.
     fn due(&self) -> u32
         ensures { result ≡ until self.now };
 
     /// The least vector that is enabled and flagged, or `VECTORS`.
-    fn request(&self) -> u8
-        ensures { (l : List Level) (t : ℕ) → stands self.now l t → result ≡ least (machine.requests (state self.now t) l) };
+    fn request(&self, levels: &[Level]) -> u8
+        requires { length levels.now ≡ PORT_PINS }
+        ensures { (t : ℕ) → stands self.now levels.now t → result ≡ least (machine.requests (state self.now t) levels.now) };
+
+    /// Other levels stand on the pins, and they take no step: what stood on the others stands on these.
+    fn see(&mut self, levels: &[Level])
+        requires { length levels.now ≡ PORT_PINS }
+        ensures until { until self.new ≡ until self.old }
+        ensures state { (t : ℕ) → state self.new t ≡ state self.old t }
+        ensures stands { (l : List Level) (t : ℕ) → stands self.old l t → stands self.new levels.now t };
 
     /// Clears what entering a vector in a cycle clears.
     fn taken(&mut self, cycle: u32, levels: &[Level], vector: u8)
@@ -96,10 +131,40 @@ pub trait Group {
         ensures state { state self.new cycle ≡ machine.taken (state self.old cycle) vector }
         ensures stands { stands self.new levels.now cycle };
 
-    /// What they ask of an Uno pin, 14 to 19 being A0 to A5.
-    fn pad(&self, pin: u8) -> Pad
+    /// Whether something that ends power-down is enabled and flagged.
+    fn rouses(&self, levels: &[Level]) -> bool
+        requires { length levels.now ≡ PORT_PINS }
+        ensures { (t : ℕ) → stands self.now levels.now t → result ≡ machine.power.rouses (state self.now t) levels.now };
+
+    /// What WDR does in a cycle.
+    fn wdr(&mut self, cycle: u32, levels: &[Level])
+        requires levels { length levels.now ≡ PORT_PINS }
+        requires here { stands self.old levels.now cycle }
+        ensures state { state self.new cycle ≡ machine.power.wdr (state self.old cycle) cycle }
+        ensures stands { stands self.new levels.now cycle };
+
+    /// Whether the step of a cycle ends in a reset.
+    fn resets(&self, cycle: u32) -> bool
+        ensures { (l : List Level) → stands self.now l cycle → result ≡ machine.power.resets (state self.now cycle) cycle };
+
+    /// What a reset leaves in the cycle after it.
+    fn restart(&mut self, cycle: u32, levels: &[Level])
+        requires levels { length levels.now ≡ PORT_PINS }
+        requires here { stands self.old levels.now cycle }
+        ensures state { state self.new cycle ≡ machine.power.restart (state self.old cycle) }
+        ensures stands { stands self.new levels.now cycle };
+
+    /// What entering power-down in a cycle does.
+    fn doze(&mut self, cycle: u32, levels: &[Level])
+        requires levels { length levels.now ≡ PORT_PINS }
+        requires here { stands self.old levels.now cycle }
+        ensures state { state self.new cycle ≡ machine.power.doze (state self.old cycle) }
+        ensures stands { stands self.new levels.now cycle };
+
+    /// What they and others ask together of an Uno pin, 14 to 19 being A0 to A5.
+    fn asked(&self, pin: u8, others: Pad) -> Pad
         requires { pin < PORT_PINS }
-        ensures { (l : List Level) (t : ℕ) → stands self.now l t → result ≡ machine.pad (state self.now t) pin };
+        ensures { (l : List Level) (t : ℕ) → stands self.now l t → result ≡ joined (machine.pad (state self.now t) pin) others };
 
     ghost laws: { Laws machine };
 
@@ -124,16 +189,4 @@ pub fn wait<G: Group>(group: &G, cycle: u32, to: u32, levels: &[Level])
     let _ = cycle;
     let _ = to;
     let _ = levels;
-}
-
-/// Whether the step of a cycle may change what the units ask of a pin; `due` is their first cycle with an event.
-#[inline]
-pub fn may_move<G: Group>(group: &G, due: u32, cycle: u32, before: &[Level], now: &[Level]) -> bool
-    requires due { due ≡ G.until group.now }
-    requires before { length before.now ≡ PORT_PINS }
-    requires levels { length now.now ≡ PORT_PINS }
-    requires here { G.stands group.now before.now cycle }
-    ensures { result ≡ false → (p : ℕ) → G.machine.pad (G.machine.step (G.state group.now cycle) cycle before.now now.now) p ≡ G.machine.pad (G.state group.now cycle) p }
-{
-    (due <= cycle) | group.hears(before, now)
 }

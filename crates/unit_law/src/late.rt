@@ -1,13 +1,17 @@
 //! A unit that lags behind.
-ghost use Rattle.std.specs.Prelude.{◌≡◌, ℕ, ◌+◌, ◌-◌, ◌<◌, ◌≤◌, List, true, length};
+ghost use Rattle.std.specs.Prelude.{◌≡◌, ℕ, ◌+◌, ◌-◌, ◌<◌, ◌≤◌, List, true, false, length};
 ghost use Rattle.sim_base.specs.declared.signal.Level.{Level};
 ghost use Rattle.unit_law.specs.UnitMachine.{At, FirstDue};
 ghost use Rattle.unit_law.specs.Late.{LateStands, late_state, Lags};
+ghost use Rattle.unit_law.specs.Pad.{joined};
+ghost use Rattle.unit_law.specs.Placed.{Moves, StepMoves, StepStays};
+ghost use Rattle.part_law.specs.Spans.{is_in};
 
 use crate::group::Group;
 use crate::pad::Pad;
 use crate::pins::PORT_PINS;
 use crate::unit::Unit;
+use part_law::Span;
 use sim_base::{Level, MOST_CYCLES};
 
 /// A unit that stands at its own cycle, until it is asked or has an event. Its first cycle with an event and
@@ -51,7 +55,27 @@ impl<U: Unit> Group for Late<U> {
 
     #[inline]
     fn event_moves(&self, cycle: u32) -> bool {
-        (self.due <= cycle) & self.unit.event_moves()
+        stirs(&self.unit, self.due, cycle)
+    }
+
+    #[inline(always)]
+    fn moved(&self, cycle: u32, before: &[Level], now: &[Level], same: bool) -> Span {
+        let pins = U::moved();
+        if pins.has_any() {
+            told(&self.unit, self.due, cycle, before, now, same, pins)
+        } else {
+            pins
+        }
+    }
+
+    #[inline(always)]
+    fn reading_keeps(reg: u8) -> bool {
+        U::reading_keeps(reg)
+    }
+
+    #[inline(always)]
+    fn writing_keeps_next(reg: u8) -> bool {
+        U::writing_keeps_next(reg)
     }
 
     fn read(&mut self, cycle: u32, levels: &[Level], reg: u8) -> u8 {
@@ -93,14 +117,21 @@ impl<U: Unit> Group for Late<U> {
         byte
     }
 
+    #[inline(always)]
+    fn stay(&self, _cycle: u32, _before: &[Level], _now: &[Level]) {}
+
     #[inline]
     fn due(&self) -> u32 {
         self.due
     }
 
     #[inline]
-    fn request(&self) -> u8 {
+    fn request(&self, _levels: &[Level]) -> u8 {
         self.request
+    }
+
+    fn see(&mut self, levels: &[Level]) {
+        self.request = self.unit.request(levels);
     }
 
     fn taken(&mut self, cycle: u32, levels: &[Level], vector: u8) {
@@ -111,8 +142,39 @@ impl<U: Unit> Group for Late<U> {
     }
 
     #[inline]
-    fn pad(&self, pin: u8) -> Pad {
-        self.unit.pad(pin)
+    fn rouses(&self, levels: &[Level]) -> bool {
+        self.unit.rouses(levels)
+    }
+
+    fn wdr(&mut self, cycle: u32, levels: &[Level]) {
+        catch_up(&mut self.unit, self.due, cycle);
+        self.unit.wdr();
+        self.due = first_due(&self.unit);
+        self.request = self.unit.request(levels);
+    }
+
+    #[inline]
+    fn resets(&self, cycle: u32) -> bool {
+        self.unit.resets(cycle)
+    }
+
+    fn restart(&mut self, cycle: u32, levels: &[Level]) {
+        catch_up(&mut self.unit, self.due, cycle);
+        self.unit.restart();
+        self.due = first_due(&self.unit);
+        self.request = self.unit.request(levels);
+    }
+
+    fn doze(&mut self, cycle: u32, levels: &[Level]) {
+        catch_up(&mut self.unit, self.due, cycle);
+        self.unit.doze();
+        self.due = first_due(&self.unit);
+        self.request = self.unit.request(levels);
+    }
+
+    #[inline(always)]
+    fn asked(&self, pin: u8, others: Pad) -> Pad {
+        asked(&self.unit, pin, others)
     }
 
     ghost laws = { U.laws };
@@ -142,4 +204,81 @@ fn first_due<U: Unit>(unit: &U) -> u32
         Some(cycle) => cycle,
         None => MOST_CYCLES,
     }
+}
+
+// Whether an event of this cycle may change what the unit asks of a pin.
+#[inline]
+fn stirs<U: Unit>(unit: &U, due: u32, cycle: u32) -> bool
+    ensures { Lags U.machine (U.shows unit.now) due cycle → result ≡ false → (l : List Level) → StepStays U.machine (late_state U.machine (U.shows unit.now) cycle) cycle l l }
+{
+    (due <= cycle) & unit.event_moves()
+}
+
+// Whether the cycle may change what the unit asks of a pin.
+#[inline(always)]
+fn moves<U: Unit>(
+    unit: &U,
+    due: u32,
+    cycle: u32,
+    before: &[Level],
+    now: &[Level],
+    same: bool,
+) -> bool
+    requires before { length before.now ≡ PORT_PINS }
+    requires levels { length now.now ≡ PORT_PINS }
+    requires here { Lags U.machine (U.shows unit.now) due cycle }
+    requires same { same ≡ true → now.now ≡ before.now }
+    ensures { result ≡ false → StepStays U.machine (late_state U.machine (U.shows unit.now) cycle) cycle before.now now.now }
+{
+    if same {
+        stirs(unit, due, cycle)
+    } else {
+        (due <= cycle) | unit.hears(before, now)
+    }
+}
+
+// These pins, where the cycle may change what the unit asks of one of them; it changes nothing of others.
+#[inline(always)]
+fn told<U: Unit>(
+    unit: &U,
+    due: u32,
+    cycle: u32,
+    before: &[Level],
+    now: &[Level],
+    same: bool,
+    pins: Span,
+) -> Span
+    requires pins { Moves U.machine pins }
+    requires before { length before.now ≡ PORT_PINS }
+    requires levels { length now.now ≡ PORT_PINS }
+    requires here { Lags U.machine (U.shows unit.now) due cycle }
+    requires same { same ≡ true → now.now ≡ before.now }
+    ensures { StepMoves U.machine (late_state U.machine (U.shows unit.now) cycle) cycle before.now now.now result }
+{
+    if moves(unit, due, cycle, before, now, same) {
+        pins
+    } else {
+        Span::none()
+    }
+}
+
+// What the unit, which asks something of its pins alone, and others ask together of a pin.
+#[inline(always)]
+fn asked<U: Unit>(unit: &U, pin: u8, others: Pad) -> Pad
+    requires { pin < PORT_PINS }
+    ensures { result ≡ joined (U.machine.pad (U.shows unit.now).unit pin) others }
+{
+    if has_pin(U::pins(), pin) {
+        unit.pad(pin).joined(others)
+    } else {
+        others
+    }
+}
+
+// Whether a pin is one of the span.
+#[inline]
+fn has_pin(pins: Span, pin: u8) -> bool
+    ensures { result ≡ is_in pins pin }
+{
+    (pins.from <= pin) & (pin < pins.to)
 }

@@ -6,20 +6,24 @@
 
 mod bits;
 mod both;
+mod clock;
 mod coming;
 mod group;
 mod late;
 mod pad;
 mod pins;
+mod powered;
 mod request;
 mod unit;
 
 pub use bits::{has_bit, mask, one, with_bit};
-pub use both::Both;
+pub use both::{Both, hull};
+pub use clock::Clock;
 pub use coming::{comes, or_end, within_run};
-pub use group::{Group, may_move, wait};
+pub use group::{Group, wait};
 pub use late::Late;
 pub use pad::Pad;
 pub use pins::PORT_PINS;
+pub use powered::Powered;
 pub use request::{Request, VECTORS, least};
 pub use unit::Unit;

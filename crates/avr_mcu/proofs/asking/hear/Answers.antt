@@ -1,38 +1,10 @@
-use Rattle.std.proofs.Common.{◌+◌, ◌<◌, ◌≤◌, ℕ, sym, subst, arith}
-use Rattle.unit_law.specs.UnitMachine.{FirstDue}
-use Rattle.avr_mcu.proofs.PassLemmas.{pass_silent, pass_state, pass_request}
 use Rattle.avr_mcu.proofs.asking.hear.Goals as goal
 
-pub pass-requires-clause-here : goal.pass-requires-clause-here
-pass-requires-clause-here g c = c.requires.ready.asked
+pub notices-notices-requires-clause-due : goal.notices-notices-requires-clause-due
+notices-notices-requires-clause-due g c = c.requires.ready.due_is
 
-pub pass-requires-clause-early : goal.pass-requires-clause-early
-pass-requires-clause-early g c = let near = c.requires.quiet c.if-notices.false in let due = c.requires.ready.due_is in omega (arith, near, due)
+pub notices-notices-requires-clause-here : goal.notices-notices-requires-clause-here
+notices-notices-requires-clause-here g c = c.requires.ready.asked
 
-pub pass-requires-clause-deaf : goal.pass-requires-clause-deaf
-pass-requires-clause-deaf g c = c.requires.deaf c.if-notices.false
-
-pub returns-else-notices : goal.returns-else-notices
-returns-else-notices g c =
-    let o = g.G.Group in
-    let s = c.args.group.now in
-    let t = c.args.cycle in
-    let r = c.requires.ready in
-    let near = c.requires.quiet c.if-notices.false in
-    let less : t < o.until s = omega (arith, near, r.due_is) in
-    let none = c.requires.deaf c.if-notices.false in
-    let first = g.met.G.Group.first s c.args.before.now t r.asked in
-    let later : t ≤ t + 1 = omega arith in
-    let soon : t + 1 ≤ o.until s = omega (arith, less) in
-    let waits = (g.met.G.Group.waits s c.args.before.now t (t + 1) r.asked later soon).1 in
-    let asked = c.pass.ensures in
-    record {
-      byte = pass_silent o.machine g.met.G.Group.laws (o.state s) t (o.until s) first less;
-      state = pass_state o.machine g.met.G.Group.laws (o.state s) t (o.until s) first less c.args.before.now c.args.now.now none waits;
-      ready = record {
-        asked = asked;
-        due_is = r.due_is;
-        first = subst (λ (d : ℕ). FirstDue o.machine (o.state s (t + 1)) (t + 1) d) (sym r.due_is) (g.met.G.Group.first s c.args.now.now (t + 1) asked);
-        request_is = pass_request o.machine g.met.G.Group.laws (o.state s) t (o.until s) first less c.args.before.now c.args.now.now none waits _ r.request_is;
-      };
-    }
+pub moved_pins-moved-requires-clause-here : goal.moved_pins-moved-requires-clause-here
+moved_pins-moved-requires-clause-here g c = c.requires.ready.asked

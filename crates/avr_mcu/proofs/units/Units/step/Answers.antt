@@ -1,40 +1,38 @@
-use Rattle.std.proofs.Common.{◌≡◌, ◌∙◌, ◌+◌, length, refl, ap, sym, arith}
-use Rattle.avr_mcu.specs.Devices.{Devices, devices}
+use Rattle.std.proofs.Common.{◌≡◌, ◌∙◌, ◌+◌, length, ap, sym, arith}
+use Rattle.avr_mcu.specs.Devices.{devices}
 use Rattle.avr_mcu.specs.Units.{UnitsAt, pins}
+use Rattle.avr_mcu.specs.Devices.{Devices}
 use Rattle.avr_mcu.specs.contracts.units.Units.{the_view}
 use Rattle.avr_mcu.proofs.UnitsLemmas.{units_held}
 use Rattle.avr_mcu.proofs.CallLemmas.{units_still}
 use Rattle.avr_mcu.proofs.units.Units.step.Goals as goal
 
-pub notices-notices-requires-clause-due : goal.notices-notices-requires-clause-due
-notices-notices-requires-clause-due c = c.self.invariant.ready.due_is
+pub hear-told-requires-clause-ready : goal.hear-told-requires-clause-ready
+hear-told-requires-clause-ready c = c.self.invariant.ready
 
-pub notices-notices-requires-clause-here : goal.notices-notices-requires-clause-here
-notices-notices-requires-clause-here c = c.self.invariant.ready.asked
-
-pub moved_pins-moved-requires-clause-here : goal.moved_pins-moved-requires-clause-here
-moved_pins-moved-requires-clause-here c = c.self.invariant.ready.asked
-
-pub hear-byte-requires-clause-ready : goal.hear-byte-requires-clause-ready
-hear-byte-requires-clause-ready c = c.self.invariant.ready
+pub returns-clause-byte : goal.returns-clause-byte
+returns-clause-byte c = c.hear-told.ensures.byte ∙ ap (λ (y : UnitsAt Devices). devices.sends y.units.devices y.cycle) c.self.view_is
 
 pub returns-clause-state : goal.returns-clause-state
 returns-clause-state c =
     let v = the_view c.self.inside in
     units_held devices c.args.self.now v c.self.view_is (λ (y : UnitsAt Devices). devices.step y.units.devices y.cycle (pins y.held) (pins c.args.levels.now)) _ c.args.levels.now _ (λ (y : UnitsAt Devices). y.cycle + 1)
-    (c.hear-byte.ensures.state ∙ ap (devices.step v.units.devices v.cycle (pins v.held)) c.seen-seen.ensures.value) c.copy_from_slice.ensures.after
+    (c.hear-told.ensures.state ∙ ap (devices.step v.units.devices v.cycle (pins v.held)) c.seen.ensures.value) c.copy_from_slice.ensures.after
 
 pub returns-clause-pads : goal.returns-clause-pads
 returns-clause-pads c = λ p l out.
-    units_still devices c.args.self.now (the_view c.self.inside) c.self.view_is c.args.levels.now c.seen-seen.result.now p c.seen-seen.ensures.value (c.moved_pins-moved.ensures _ refl p l out)
+    units_still devices c.args.self.now (the_view c.self.inside) c.self.view_is c.args.levels.now c.seen.result.now p c.seen.ensures.value (c.hear-told.ensures.pads p l out)
 
 pub invariant_of-self : goal.invariant_of-self
 invariant_of-self c =
-    let e : pins c.copy_from_slice.new.self ≡ c.seen-seen.result.now = ap pins c.copy_from_slice.ensures.after ∙ sym c.seen-seen.ensures.value in
+    let e : pins c.copy_from_slice.new.self ≡ c.seen.result.now = ap pins c.copy_from_slice.ensures.after ∙ sym c.seen.ensures.value in
     record {
       sram = c.self.invariant.sram;
       ignored = c.self.invariant.ignored;
       held = ap length c.copy_from_slice.ensures.after ∙ c.requires.levels;
-      ready = rw e c.hear-byte.ensures.ready;
+      ready = rw e c.hear-told.ensures.ready;
       end = omega (arith, c.requires.end);
     }
+
+pub returns-clause-resets : goal.returns-clause-resets
+returns-clause-resets c = c.hear-told.ensures.resets ∙ ap (λ (y : UnitsAt Devices). devices.power.resets y.units.devices y.cycle) c.self.view_is

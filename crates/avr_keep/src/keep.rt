@@ -1,0 +1,224 @@
+//! Both as one unit.
+ghost use Rattle.std.specs.Prelude.{◌≡◌, ℕ, ◌+◌, ◌-◌, ◌<◌, ◌≤◌, min, true};
+ghost use Rattle.unit_law.specs.Bits.{with_bit};
+ghost use Rattle.avr_keep.specs.Keep.{register, with_register, kept};
+ghost use Rattle.avr_keep.specs.Watchdog.{has_reset};
+
+use crate::eeprom::{Eeprom, end_of};
+use crate::registers::{Register, named, register_at};
+use crate::watchdog::Watchdog;
+use part_law::Span;
+use sim_base::{Level, MOST_CYCLES};
+use std::marker::Model;
+use unit_law::{Pad, Request, Unit, least, or_end, with_bit, within_run};
+
+/// The watchdog and the EEPROM, before the step of `cycle`.
+#[derive(Drop)]
+pub struct Keep {
+    watchdog: Watchdog,
+    eeprom: Eeprom,
+    cycle: u32,
+}
+
+impl Model for Keep {
+    ghost use Rattle.std.specs.Prelude.{◌<◌, ◌≤◌};
+    ghost use Rattle.unit_law.specs.UnitMachine.{At};
+    ghost use Rattle.unit_law.specs.Coming.{IsAhead};
+    ghost use Rattle.avr_keep.specs.EepromState.{Suits};
+    ghost use Rattle.avr_keep.specs.Keep.{Keep as State};
+    ghost use Rattle.sim_base.specs.declared.limits.TheConstants.{MOST_CYCLES};
+
+    ghost Value = { At State };
+
+    ghost view = { λ u. record { unit = record { watchdog = u.watchdog; eeprom = u.eeprom }; cycle = u.cycle } };
+
+    ghost invariant = { λ u. record {
+      end : u.cycle ≤ MOST_CYCLES;
+      since : u.watchdog.since ≤ MOST_CYCLES;
+      wdp : u.watchdog.wdp < 16;
+      opens : IsAhead u.watchdog.window u.cycle;
+      suits : Suits u.eeprom u.cycle;
+    } };
+}
+
+impl Unit for Keep {
+    ghost use Rattle.avr_keep.specs.Keep.{Keep as State, keep};
+    ghost use Rattle.avr_keep.specs.KeepLaws.{keep_laws};
+
+    ghost State = { State };
+
+    ghost machine = { keep };
+
+    ghost shows = { λ u. u };
+
+    fn new() -> Keep {
+        Keep {
+            watchdog: Watchdog::new(),
+            eeprom: Eeprom::new(),
+            cycle: 0,
+        }
+    }
+
+    /// It asks nothing.
+    #[inline(always)]
+    #[tactic(auto, using(crate::proofs::PlacedLemmas::keep_placed))]
+    fn pins() -> Span {
+        Span::none()
+    }
+
+    #[inline(always)]
+    fn has(reg: u8) -> bool {
+        register_at(reg).is_some()
+    }
+
+    #[inline(always)]
+    fn reading_keeps(_reg: u8) -> bool {
+        true
+    }
+
+    #[inline]
+    fn moves(&self, _reg: u8, _value: u8) -> bool {
+        false
+    }
+
+    #[inline]
+    fn bit_moves(&self, _reg: u8, _bit: u8, _value: bool) -> bool {
+        false
+    }
+
+    #[inline]
+    fn hears(&self, _before: &[Level], _now: &[Level]) -> bool {
+        false
+    }
+
+    #[inline]
+    fn event_moves(&self) -> bool {
+        false
+    }
+
+    fn read(&mut self, _levels: &[Level], reg: u8) -> u8 {
+        self.register(named(reg))
+    }
+
+    fn write(&mut self, reg: u8, value: u8) {
+        self.set_register(named(reg), value);
+    }
+
+    fn write_bit(&mut self, reg: u8, bit: u8, value: bool) {
+        let register = named(reg);
+        self.set_register(register, with_bit(self.kept(register), bit, value));
+    }
+
+    fn skip(&mut self, to: u32) {
+        self.cycle = to;
+    }
+
+    fn step(&mut self, _before: &[Level], _now: &[Level]) -> Option<u8> {
+        self.watchdog.step(self.cycle);
+        self.eeprom.step(self.cycle);
+        self.cycle += 1;
+        None
+    }
+
+    fn due(&self) -> Option<u32> {
+        let windows = or_end(self.watchdog.window).min(or_end(self.eeprom.window));
+        let ends = or_end(end_of(self.eeprom.programming));
+        let time_out = self.watchdog.time_out().max(self.cycle);
+        within_run(windows.min(ends).min(time_out))
+    }
+
+    fn request(&self, _levels: &[Level]) -> u8 {
+        least(&[
+            Request {
+                vector: 6,
+                enabled: self.watchdog.wdie,
+                flag: self.watchdog.wdif,
+            },
+            Request {
+                vector: 22,
+                enabled: self.eeprom.eerie,
+                flag: self.eeprom.programming.is_none(),
+            },
+        ])
+    }
+
+    fn taken(&mut self, vector: u8) {
+        if vector == 6 {
+            self.watchdog.taken();
+        }
+    }
+
+    fn rouses(&self, _levels: &[Level]) -> bool {
+        self.watchdog.wdie & self.watchdog.wdif
+    }
+
+    fn wdr(&mut self) {
+        self.watchdog.clear(self.cycle);
+    }
+
+    fn resets(&self, cycle: u32) -> bool {
+        self.watchdog.resets(cycle)
+    }
+
+    fn restart(&mut self) {
+        self.watchdog.restart();
+        self.eeprom.restart();
+    }
+
+    fn doze(&mut self) {}
+
+    #[inline]
+    fn pad(&self, _pin: u8) -> Pad {
+        Pad::untouched()
+    }
+
+    ghost laws = { keep_laws };
+}
+
+impl Keep {
+    /// Whether the last step ended in a watchdog reset.
+    pub fn reset(&self) -> bool
+        ensures { result ≡ has_reset self.now.unit.watchdog self.now.cycle }
+    {
+        self.watchdog.has_reset(self.cycle)
+    }
+
+    fn register(&self, reg: Register) -> u8
+        ensures { result ≡ register self.now.unit reg }
+    {
+        match reg {
+            Register::EECR => self.eeprom.eecr(),
+            Register::EEDR => self.eeprom.eedr,
+            Register::EEARL => (self.eeprom.eear % 256) as u8,
+            Register::EEARH => (self.eeprom.eear / 256) as u8,
+            Register::MCUSR => self.watchdog.mcusr,
+            Register::WDTCSR => self.watchdog.wdtcsr(),
+        }
+    }
+
+    fn kept(&self, reg: Register) -> u8
+        ensures { result ≡ kept self.now.unit reg }
+    {
+        match reg {
+            Register::EECR => self.eeprom.kept(),
+            Register::EEDR => self.eeprom.eedr,
+            Register::EEARL => (self.eeprom.eear % 256) as u8,
+            Register::EEARH => (self.eeprom.eear / 256) as u8,
+            Register::MCUSR => self.watchdog.mcusr,
+            Register::WDTCSR => self.watchdog.kept(),
+        }
+    }
+
+    fn set_register(&mut self, reg: Register, value: u8)
+        ensures { self.new ≡ record self.old { unit = with_register self.old.unit self.old.cycle reg value } }
+    {
+        match reg {
+            Register::EECR => self.eeprom.set_eecr(self.cycle, value),
+            Register::EEDR => self.eeprom.eedr = value,
+            Register::EEARL => self.eeprom.set_eearl(value),
+            Register::EEARH => self.eeprom.set_eearh(value),
+            Register::MCUSR => self.watchdog.set_mcusr(value),
+            Register::WDTCSR => self.watchdog.set_wdtcsr(self.cycle, value),
+        }
+    }
+}

@@ -1,0 +1,10 @@
+use Rattle.std.proofs.Common.{◌∙◌, ap}
+use Rattle.unit_law.specs.UnitMachine.{At}
+use Rattle.unit_law.proofs.UnitLemmas.{late_here}
+use Rattle.unit_law.proofs.late.LateGroup.doze.Goals as goal
+
+pub returns-clause-state : goal.returns-clause-state
+returns-clause-state g c =
+    let m = g.U.Unit.machine in
+    late_here m (g.U.Unit.shows c.doze.new.self) c.args.cycle _
+    (c.doze.ensures ∙ ap (λ (x : At g.U.Unit.State). record x { unit = m.power.doze x.unit }) c.catch_up.ensures)

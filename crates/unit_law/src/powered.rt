@@ -1,0 +1,249 @@
+//! All units of the microcontroller: those that go on in power-down, and the others, whose clock stands in it.
+ghost use Rattle.std.specs.Prelude.{◌≡◌, ℕ, ◌+◌, ◌-◌, ◌<◌, ◌≤◌, ◌||◌, List, true, false, length};
+ghost use Rattle.sim_base.specs.declared.signal.Level.{Level};
+ghost use Rattle.unit_law.specs.Clock.{IsBegun, own_cycle, does_run, clocked_at};
+ghost use Rattle.unit_law.specs.Clocked.{clocked};
+ghost use Rattle.unit_law.specs.UnitMachine.{least};
+ghost use Rattle.unit_law.specs.Placed.{StepMoves};
+
+use crate::both::{first_of_two, hull, write_bit_where, write_where};
+use crate::clock::Clock;
+use crate::group::Group;
+use crate::pad::Pad;
+use crate::pins::PORT_PINS;
+use crate::request::VECTORS;
+use part_law::Span;
+use sim_base::{Level, MOST_CYCLES};
+
+/// Units of which `awake` go on in power-down. The others count cycles of their own by `clock`.
+#[derive(Drop)]
+pub struct Powered<A, B> {
+    pub awake: A,
+    pub clocked: B,
+    pub clock: Clock,
+}
+
+impl<A: Group, B: Group + Drop> Group for Powered<A, B> {
+    ghost use Rattle.std.specs.Prelude.{min};
+    ghost use Rattle.unit_law.specs.Clock.{board_cycle, clocked_at};
+    ghost use Rattle.unit_law.specs.Clocked.{Clocked};
+    ghost use Rattle.unit_law.specs.Power.{powered, powered_laws};
+    ghost use Rattle.unit_law.specs.PowerLaws.{PowerStands, power_waits, power_first};
+
+    ghost State = { A.State × Clocked B.State };
+
+    ghost machine = { powered A.machine B.machine };
+
+    ghost state = { λ s t. (A.state s.awake t, clocked_at s.clock (B.state s.clocked) t) };
+
+    ghost until = { λ s. min (A.until s.awake) (board_cycle s.clock (B.until s.clocked)) };
+
+    ghost stands = { λ s l t. PowerStands s.clock (A.stands s.awake) (B.stands s.clocked) l t };
+
+    fn new() -> Powered<A, B> {
+        Powered {
+            awake: A::new(),
+            clocked: B::new(),
+            clock: Clock::Runs(0),
+        }
+    }
+
+    #[inline(always)]
+    fn has(reg: u8) -> bool {
+        A::has(reg) || B::has(reg)
+    }
+
+    #[inline]
+    fn hears(&self, before: &[Level], now: &[Level]) -> bool {
+        self.awake.hears(before, now) | self.clocked.hears(before, now)
+    }
+
+    #[inline]
+    fn event_moves(&self, cycle: u32) -> bool {
+        self.awake.event_moves(cycle) | self.clocked.event_moves(self.clock.own(cycle))
+    }
+
+    #[inline(always)]
+    fn moved(&self, cycle: u32, before: &[Level], now: &[Level], same: bool) -> Span {
+        let first = self.awake.moved(cycle, before, now, same);
+        let second = moved_clocked(&self.clocked, self.clock, cycle, before, now, same);
+        hull(second, first)
+    }
+
+    #[inline(always)]
+    fn reading_keeps(reg: u8) -> bool {
+        if A::has(reg) {
+            A::reading_keeps(reg)
+        } else {
+            B::reading_keeps(reg)
+        }
+    }
+
+    #[inline(always)]
+    fn writing_keeps_next(reg: u8) -> bool {
+        if A::has(reg) {
+            if B::has(reg) {
+                A::writing_keeps_next(reg) & B::writing_keeps_next(reg)
+            } else {
+                A::writing_keeps_next(reg)
+            }
+        } else {
+            B::writing_keeps_next(reg)
+        }
+    }
+
+    #[inline]
+    fn read(&mut self, cycle: u32, levels: &[Level], reg: u8) -> u8 {
+        if A::has(reg) {
+            self.awake.read(cycle, levels, reg)
+        } else {
+            self.clocked.read(self.clock.own(cycle), levels, reg)
+        }
+    }
+
+    #[inline]
+    fn write(&mut self, cycle: u32, levels: &[Level], reg: u8, value: u8) -> bool {
+        let own = self.clock.own(cycle);
+        let first = write_where(&mut self.awake, cycle, levels, reg, value);
+        let second = write_where(&mut self.clocked, own, levels, reg, value);
+        first | second
+    }
+
+    #[inline]
+    fn write_bit(&mut self, cycle: u32, levels: &[Level], reg: u8, bit: u8, value: bool) -> bool {
+        let own = self.clock.own(cycle);
+        let first = write_bit_where(&mut self.awake, cycle, levels, reg, bit, value);
+        let second = write_bit_where(&mut self.clocked, own, levels, reg, bit, value);
+        first | second
+    }
+
+    fn step(&mut self, cycle: u32, before: &[Level], now: &[Level]) -> Option<u8> {
+        let byte = self.awake.step(cycle, before, now);
+        let other = step_clocked(&mut self.clocked, self.clock, cycle, before, now);
+        first_of_two(byte, other)
+    }
+
+    #[inline(always)]
+    fn stay(&self, cycle: u32, before: &[Level], now: &[Level]) {
+        self.awake.stay(cycle, before, now);
+        self.clocked.stay(self.clock.own(cycle), before, now);
+    }
+
+    #[inline]
+    fn due(&self) -> u32 {
+        self.awake.due().min(self.clock.board(self.clocked.due()))
+    }
+
+    #[inline]
+    fn request(&self, levels: &[Level]) -> u8 {
+        if is_heard(&self.awake, self.clock, levels) {
+            self.awake.request(levels).min(self.clocked.request(levels))
+        } else {
+            VECTORS
+        }
+    }
+
+    fn see(&mut self, levels: &[Level]) {
+        self.awake.see(levels);
+        self.clocked.see(levels);
+    }
+
+    fn taken(&mut self, cycle: u32, levels: &[Level], vector: u8) {
+        self.awake.taken(cycle, levels, vector);
+        self.clocked.taken(self.clock.own(cycle), levels, vector);
+        self.clock = self.clock.started(cycle);
+    }
+
+    fn rouses(&self, levels: &[Level]) -> bool {
+        self.awake.rouses(levels)
+    }
+
+    fn wdr(&mut self, cycle: u32, levels: &[Level]) {
+        self.awake.wdr(cycle, levels);
+    }
+
+    #[inline]
+    fn resets(&self, cycle: u32) -> bool {
+        self.awake.resets(cycle)
+    }
+
+    fn restart(&mut self, cycle: u32, levels: &[Level]) {
+        self.awake.restart(cycle, levels);
+        self.clocked = B::new();
+        self.clocked.see(levels);
+        self.clock = Clock::Runs(cycle);
+    }
+
+    fn doze(&mut self, cycle: u32, _levels: &[Level]) {
+        self.clock = self.clock.stopped(cycle);
+    }
+
+    #[inline(always)]
+    fn asked(&self, pin: u8, others: Pad) -> Pad {
+        let more = self.clocked.asked(pin, others);
+        self.awake.asked(pin, more)
+    }
+
+    ghost laws = { powered_laws A.machine B.machine A.laws B.laws };
+
+    ghost waits = { λ s l t u h le soon. power_waits A.machine B.machine s.clock (A.until s.awake) (B.until s.clocked) (A.state s.awake) (B.state s.clocked) (A.stands s.awake) (B.stands s.clocked) l t u (A.waits s.awake) (B.waits s.clocked) h le soon };
+
+    ghost first = { λ s l t h. power_first A.machine B.machine s.clock (A.until s.awake) (B.until s.clocked) (A.state s.awake) (B.state s.clocked) t h.begun (A.first s.awake l t h.awake) (B.first s.clocked l _ h.clocked) };
+}
+
+// Whether requests count: in power-down only while something is there that ends it.
+#[inline]
+fn is_heard<A: Group>(awake: &A, clock: Clock, levels: &[Level]) -> bool
+    requires { length levels.now ≡ PORT_PINS }
+    ensures { (t : ℕ) → A.stands awake.now levels.now t → result ≡ (does_run clock || A.machine.power.rouses (A.state awake.now t) levels.now) }
+{
+    clock.runs() || awake.rouses(levels)
+}
+
+// One cycle of units by a clock, which may stand.
+fn step_clocked<B: Group>(
+    units: &mut B,
+    clock: Clock,
+    cycle: u32,
+    before: &[Level],
+    now: &[Level],
+) -> Option<u8>
+    requires before { length before.now ≡ PORT_PINS }
+    requires levels { length now.now ≡ PORT_PINS }
+    requires end { cycle < MOST_CYCLES }
+    requires begun { IsBegun clock cycle }
+    requires here { B.stands units.old before.now (own_cycle clock cycle) }
+    ensures byte { result ≡ (clocked B.machine).sends (clocked_at clock (B.state units.old) cycle) cycle }
+    ensures state { clocked_at clock (B.state units.new) (cycle + 1) ≡ (clocked B.machine).step (clocked_at clock (B.state units.old) cycle) cycle before.now now.now }
+    ensures stands { B.stands units.new now.now (own_cycle clock (cycle + 1)) }
+{
+    match clock {
+        Clock::Runs(_) => units.step(clock.own(cycle), before, now),
+        Clock::Stands(_) => {
+            units.see(now);
+            None
+        }
+    }
+}
+
+// The pins of units by a clock, of which a cycle may change what they are asked for: none while it stands.
+#[inline(always)]
+fn moved_clocked<B: Group>(
+    units: &B,
+    clock: Clock,
+    cycle: u32,
+    before: &[Level],
+    now: &[Level],
+    same: bool,
+) -> Span
+    requires before { length before.now ≡ PORT_PINS }
+    requires levels { length now.now ≡ PORT_PINS }
+    requires here { B.stands units.now before.now (own_cycle clock cycle) }
+    requires same { same ≡ true → now.now ≡ before.now }
+    ensures { StepMoves (clocked B.machine) (clocked_at clock (B.state units.now) cycle) cycle before.now now.now result }
+{
+    match clock {
+        Clock::Runs(_) => units.moved(clock.own(cycle), before, now, same),
+        Clock::Stands(_) => Span::none(),
+    }
+}
