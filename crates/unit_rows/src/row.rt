@@ -1,4 +1,5 @@
 //! A row is a unit's name and, behind a colon, what is done with a new one and what it answers; `#` begins a comment.
+//! A number before the name, as in `10000 adc:`, has it played so often.
 use crate::unit::played;
 use avr_adc::Adc;
 use avr_ports::Ports;
@@ -12,6 +13,16 @@ use avr_usart::Usart;
 pub(crate) fn row_difference(line: &str) -> Option<&str> {
     let (row, _) = line.split_once('#').unwrap_or((line, ""));
     let (unit, words) = row.split_once(':').unwrap_or((row, ""));
+    let (count, unit) = unit.split_once(' ').unwrap_or(("1", unit));
+    for _ in 0..count.parse::<u16>().unwrap_or(1) {
+        if let Some(word) = played_once(unit, words) {
+            return Some(word);
+        }
+    }
+    None
+}
+
+fn played_once<'a>(unit: &'a str, words: &'a str) -> Option<&'a str> {
     match unit {
         "adc" => played::<Adc>(words),
         "ports" => played::<Ports>(words),

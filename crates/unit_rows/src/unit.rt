@@ -2,14 +2,16 @@
 //!
 //! - `pin10=L`, `pins=H`: the level of a pin, or of all, in the cycle to come; before the first all are Z
 //! - `C1=18`, `C0.1=1`: a register is written, or one bit of it
-//! - `C0?20`: a register is read, and has this value
+//! - `C0?20`, `C0?none`: a register is read, and has this value; there is none
 //! - `C1.18?moves`, `C1.18?stays`: whether a write of this value may move a pin
 //! - `to=40`: cycle by cycle up to this one, without a byte that leaves
 //! - `next=136`, `next=136,55`: the next event is in this cycle, and this byte leaves there; it is gone over
 //! - `next=none`: no event is to come
 //! - `hears`, `deaf`: whether it takes notice of how the levels change in the cycle to come
 //! - `asks=18`, `asks=none`: the vector that it requests; `enters=18`: that one is entered
-//! - `drive1=Z`, `drive1.out=L`: what the pin drives: H, L, PullHigh or Z, and so with its DDR bit set
+//! - `drive1=Z`, `drive1.out=L`, `drive1.set=H`: what the pin drives: H, L, PullHigh or Z, and so with its DDR bit set, or
+//!   with its bits of DDR and PORT set
+//! - `rests`: no event is to come, and none once the longest run is over
 ghost use Rattle.std.specs.Prelude.{◌≡◌, ℕ, Some, true};
 
 use crate::levels::{Turn, pin_of};
@@ -46,6 +48,7 @@ fn plays<U: Unit>(unit: &mut U, turn: &mut Turn, word: &str) -> bool
     match word {
         "hears" => unit.hears(&turn.before, &turn.now),
         "deaf" => !unit.hears(&turn.before, &turn.now),
+        "rests" => rests(unit, turn),
         _ => reads(unit, turn, word) == Some(true),
     }
 }
@@ -86,6 +89,19 @@ fn goes_over<U: Unit>(unit: &mut U, turn: &mut Turn, value: &str) -> bool
     }
 }
 
+/// Goes to the end of the longest run, before and behind which no event is to come.
+fn rests<U: Unit>(unit: &mut U, turn: &mut Turn) -> bool
+    requires here { (U.shows unit.old).cycle ≡ turn.old.cycle }
+    ensures here { (U.shows unit.new).cycle ≡ turn.new.cycle }
+{
+    if unit.due().is_some() || turn.cycle > MOST_CYCLES {
+        return false;
+    }
+    unit.skip(MOST_CYCLES);
+    turn.cycle = MOST_CYCLES;
+    unit.due().is_none()
+}
+
 fn asked<U: Unit>(unit: &U, turn: &Turn) -> u8 {
     unit.request(&turn.before)
 }
@@ -106,7 +122,7 @@ fn enters<U: Unit>(unit: &mut U, turn: &Turn, value: &str) -> bool
     true
 }
 
-/// What a pin drives, and so with its DDR bit set: `drive1`, `drive1.out`.
+/// What a pin drives, and so with its DDR bit set, or those of DDR and PORT: `drive1`, `drive1.out`, `drive1.set`.
 fn drives<U: Unit>(unit: &U, name: &str, value: &str) -> bool {
     let Some(place) = name.strip_prefix("drive") else {
         return false;
@@ -116,7 +132,8 @@ fn drives<U: Unit>(unit: &U, name: &str, value: &str) -> bool {
         return false;
     };
     let port = Pad {
-        ddr: out == "out",
+        ddr: out == "out" || out == "set",
+        port: out == "set",
         ..Pad::untouched()
     };
     value == name_of(unit.pad(pin).joined(port).drive())
@@ -153,7 +170,7 @@ fn writes<U: Unit>(unit: &mut U, name: &str, value: &str) -> Option<()>
     Some(())
 }
 
-/// Reads a register, or asks whether a write may move a pin, and compares: `C0?20`, `C1.18?moves`.
+/// Reads a register, or asks whether a write may move a pin, and compares: `C0?20`, `C0?none`, `C1.18?moves`.
 fn reads<U: Unit>(unit: &mut U, turn: &Turn, word: &str) -> Option<bool>
     ensures { (U.shows unit.new).cycle ≡ (U.shows unit.old).cycle }
 {
@@ -163,7 +180,10 @@ fn reads<U: Unit>(unit: &mut U, turn: &Turn, word: &str) -> Option<bool>
         let moves = unit.moves(reg, u8::from_str_radix(written, 16).ok()?);
         return Some(value == if moves { "moves" } else { "stays" });
     }
-    let reg = register::<U>(name)?;
+    let reg = u8::from_str_radix(name, 16).ok()?;
+    if value == "none" || !U::has(reg) {
+        return Some(value == "none" && !U::has(reg));
+    }
     let read = unit.read(&turn.before, reg);
     Some(read == u8::from_str_radix(value, 16).ok()?)
 }
