@@ -1,25 +1,34 @@
-//! Plays rows of one unit of the microcontroller each and prints those that come out otherwise, with a count of each
-//! file. A further row needs no change here.
+//! Plays rows of one thing alone each and prints those that come out otherwise, with a count of each file. Its words name
+//! the files; the name of a file says who answers its rows: `arithmetic.rows` the ALU, `encoding.rows` the decoder,
+//! `instructions.rows` the core, those that begin with `slave` a serial engine of a chip, the others a unit of the
+//! microcontroller. ADD and SUB are tried on all operands. A further row needs no change here.
 #![tactic(auto)]
 
+mod arithmetic;
+mod encoding;
+mod engine;
+mod instructions;
 mod levels;
-mod row;
+mod probe;
+mod ram;
+mod slave;
+mod state;
 mod unit;
+mod units;
+mod words;
 
-use row::row_difference;
-use std::{fs, io};
+use arithmetic::{arithmetic_difference, sums_and_differences};
+use encoding::encoding_difference;
+use instructions::instruction_difference;
+use slave::slave_difference;
+use std::alloc::Global;
+use std::{env, fs, io};
+use units::unit_difference;
 
 fn main(rt: HostRuntime) -> io::Result<()> {
-    for name in [
-        "ports.rows",
-        "adc.rows",
-        "usart.rows",
-        "spi.rows",
-        "twi.rows",
-        "timers.rows",
-        "fresh.rows",
-    ] {
-        play(&rt, name)?;
+    sums_and_differences(&rt)?;
+    for word in env::args(&rt)?.skip(1) {
+        play(&rt, word.as_str())?;
     }
     Ok(())
 }
@@ -31,10 +40,21 @@ fn play(rt: &HostRuntime, name: &str) -> io::Result<()> {
     for line in text.as_str().lines() {
         if !line.is_empty() && !line.starts_with('#') {
             count = count.saturating_add(1);
-            if let Some(word) = row_difference(line) {
-                println!(rt; "{name}: at {word} in this row: {line}")?;
+            if let Some(what) = difference(rt.alloc(), name, line) {
+                println!(rt; "{name}: {what} in this row: {line}")?;
             }
         }
     }
     println!(rt; "{name}: {count} rows")
+}
+
+/// What comes out otherwise than a row has it, or its first word that does.
+fn difference<'a>(alloc: Global, name: &str, line: &'a str) -> Option<&'a str> {
+    match name {
+        "arithmetic.rows" => arithmetic_difference(alloc, line),
+        "encoding.rows" => encoding_difference(alloc, line),
+        "instructions.rows" => instruction_difference(alloc, line),
+        _ if name.starts_with("slave") => slave_difference(line),
+        _ => unit_difference(line),
+    }
 }

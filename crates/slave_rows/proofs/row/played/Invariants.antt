@@ -1,6 +1,0 @@
-use Rattle.std.proofs.Common.{◌≡◌}
-use Rattle.slave_rows.specs.Turns.{IsNext}
-use Rattle.slave_rows.proofs.row.played.Given as goal
-
-abbrev pub invariant-loop-word : goal.invariant-loop-word
-invariant-loop-word g l = record { next : IsNext (g.E.Engine.next l.engine) l.turn.cycle; wanted : g.E.Engine.wanted l.engine ≡ l.turn.wants }
