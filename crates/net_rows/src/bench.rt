@@ -1,13 +1,11 @@
 //! How fast nets are resolved on a board of 64 parts with 16 pins each and 512 wires, of which one pin
 //! drives something else before each resolution. `bench/nets.sh` measures how long this takes.
-#![tactic(auto)]
-
 ghost use Rattle.std.specs.Prelude.{◌≡◌, ◌<◌, length};
 
 use net_resolve::{Nets, has_valid_nets};
 use sim_base::{Drive, Level, List, OutOfMemory, Wiring};
 use std::alloc::Global;
-use std::process::ExitCode;
+use std::io;
 
 const PINS: u16 = 1024;
 
@@ -58,7 +56,7 @@ fn toggle(nets: &mut Nets, pins: usize) -> u32
     high
 }
 
-fn bench(alloc: Global) -> Result<u32, OutOfMemory> {
+fn high_count(alloc: Global) -> Result<u32, OutOfMemory> {
     let wiring = wiring(alloc)?;
     if !has_valid_nets(&wiring) || wiring.nets == 0 || wiring.net_of.len() == 0 {
         return Ok(0);
@@ -67,12 +65,10 @@ fn bench(alloc: Global) -> Result<u32, OutOfMemory> {
     Ok(toggle(&mut nets, wiring.net_of.len()))
 }
 
-fn main(rt: HostRuntime) -> ExitCode {
-    match bench(rt.alloc()) {
-        Ok(high) => {
-            let _ = println!(rt; "{RESOLUTIONS} resolutions, net 0 is High after {high} of them");
-            ExitCode::SUCCESS
-        }
-        Err(_) => ExitCode::from(7),
+/// Prints how often a net is High.
+pub(crate) fn bench(rt: &HostRuntime) -> io::Result<()> {
+    match high_count(rt.alloc()) {
+        Ok(high) => println!(rt; "{RESOLUTIONS} resolutions, net 0 is High after {high} of them"),
+        Err(_) => println!(rt; "out of memory"),
     }
 }
