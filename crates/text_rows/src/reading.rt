@@ -2,6 +2,8 @@
 //! text, which a `+` puts behind the head of these variables. The answer is what the first two pins drive, each from
 //! which cycle on, or the refusal.
 
+ghost use Rattle.std.specs.Prelude.{◌≤◌};
+
 use crate::refused::refused;
 use crate::row::str_of;
 use crate::wave::variables_of;
@@ -24,11 +26,18 @@ pub fn reading_answer(alloc: Global, row: &[u8]) -> Result<String, OutOfMemory> 
         return Err(OutOfMemory);
     }
     let head = WaveHead::of(alloc, variables)?;
-    let bytes = whole_text(alloc, &head, text)?;
+    read_behind(alloc, &head, n, text)
+}
+
+/// What a text says of the pins, behind the head if it asks for it.
+fn read_behind(alloc: Global, head: &WaveHead, n: u32, text: &str) -> Result<String, OutOfMemory>
+    requires { n ≤ MOST_CYCLES }
+{
+    let bytes = whole_text(alloc, head, text)?;
     if bytes.len() > 1_048_576 {
         return Err(OutOfMemory);
     }
-    match read_wave(alloc, &head, 2, n, &bytes) {
+    match read_wave(alloc, head, 2, n, &bytes) {
         Ok(rows) => Ok(told(alloc, rows.rows(0), rows.rows(1))?),
         Err(fault) => refused(alloc, &fault),
     }

@@ -24,21 +24,34 @@ enum Event {
 pub fn wave_answer(alloc: Global, text: &[u8]) -> Result<String, OutOfMemory> {
     let text = str_of(text);
     let (names, rest) = text.split_once('|').unwrap_or((text, ""));
-    let mut events = Vec::new(alloc);
-    for part in rest.split('|') {
-        events.push(event_of(alloc, part)?)?;
-    }
     let variables = variables_of(alloc, names)?;
     if variables.len() > 8930 {
         return Err(OutOfMemory);
     }
     let mut head = WaveHead::of(alloc, variables)?;
+    answer_under(alloc, &mut head, rest)
+}
+
+fn answer_under(alloc: Global, head: &mut WaveHead, rest: &str) -> Result<String, OutOfMemory> {
+    let mut events = Vec::new(alloc);
+    for part in rest.split('|') {
+        events.push(event_of(alloc, part)?)?;
+    }
     let mut bench = MemBench::new(alloc);
+    answer_on(alloc, head, &mut bench, &events)
+}
+
+fn answer_on(
+    alloc: Global,
+    head: &mut WaveHead,
+    bench: &mut MemBench,
+    events: &[Event],
+) -> Result<String, OutOfMemory> {
     bench.room(Port::Wave, 20_000)?;
     bench.room(Port::Serial, 100)?;
-    write(alloc, &mut head, &mut bench, &events);
-    let counts = count(alloc, &mut head, &events);
-    Ok(told(alloc, &bench, counts)?)
+    write(alloc, head, bench, events);
+    let counts = count(alloc, head, events);
+    Ok(told(alloc, bench, counts)?)
 }
 
 fn event_of(alloc: Global, text: &str) -> Result<Event, AllocError> {
@@ -187,7 +200,7 @@ fn hand_out<W: Watcher>(alloc: Global, out: &mut W, events: &[Event]) -> WriteEn
 }
 
 /// Writes all that is handed out.
-fn write(alloc: Global, head: &mut WaveHead, bench: &mut MemBench, events: &[Event]) {
+fn write<B: Bench>(alloc: Global, head: &mut WaveHead, bench: &mut B, events: &[Event]) {
     if bench.open_port(Port::Wave, "wave.vcd") == WriteEnd::Failed {
         return;
     }
