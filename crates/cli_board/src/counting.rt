@@ -17,6 +17,7 @@ use board_run::Board;
 use chip_module::ChipSource;
 use sim_base::{Bench, Flash, MOST_CYCLES, OutOfMemory, Steps};
 use std::alloc::Global;
+use std::mem::drop;
 use std::sync::ledger::Ledger;
 
 /// Runs a plan for `n` cycles, at most `MOST_CYCLES`, as `run_board` does, and writes nothing: it answers how many value
@@ -42,8 +43,24 @@ pub fn count_board<B: Bench, L: Ledger>(
     ensures reads { (B.outside bench.new).read_faults ≡ (B.outside bench.old).read_faults }
     ensures steps { IfOk result (λ r. steps.new ≡ steps.old + run_wakes (record { flash = flash; chips = chips.now; budget = budget }) plan n) }
 {
-    let mut head = make_head(alloc, &plan, chips)?;
-    let parts = load(alloc, &plan, flash, chips, budget)?;
-    let mut board = Board::new(alloc, parts, plan.wiring, plan.inputs)?;
-    Ok(count(&mut board, &mut head, n, bench, steps))
+    // Each drop is one call, where one at the end of the scope is proved field by field on each way out.
+    let Ok(mut head) = make_head(alloc, &plan, chips) else {
+        drop(flash);
+        drop(plan);
+        return Err(OutOfMemory);
+    };
+    let Ok(parts) = load(alloc, &plan, flash, chips, budget) else {
+        drop(head);
+        drop(plan);
+        return Err(OutOfMemory);
+    };
+    drop(plan.parts);
+    let Ok(mut board) = Board::new(alloc, parts, plan.wiring, plan.inputs) else {
+        drop(head);
+        return Err(OutOfMemory);
+    };
+    let counts = count(&mut board, &mut head, n, bench, steps);
+    drop(board);
+    drop(head);
+    Ok(counts)
 }

@@ -20,6 +20,7 @@ use chip_module::{ChipSource, pins_of};
 use cli_work::WorkEnd;
 use sim_base::{Bench, Flash, MOST_CYCLES, OutOfMemory, Steps, WriteEnd};
 use std::alloc::Global;
+use std::mem::drop;
 use std::sync::ledger::Ledger;
 use vcd_text::WaveHead;
 
@@ -58,17 +59,24 @@ pub fn run_board<B: Bench, L: Ledger>(
     ensures steps { outcome_of result ≡ ends.Accepted →
         steps.new ≡ steps.old + run_wakes (record { flash = flash; chips = chips.now; budget = budget }) plan n }
 {
+    // Each drop is one call, where one at the end of the scope is proved field by field on each way out.
     let Ok(mut head) = make_head(alloc, &plan, chips) else {
+        drop(flash);
+        drop(plan);
         return WorkEnd::OutOfMemory;
     };
     let Ok(parts) = load(alloc, &plan, flash, chips, budget) else {
+        drop(head);
+        drop(plan);
         return WorkEnd::OutOfMemory;
     };
     let planned = plan.parts;
     let Ok(mut board) = Board::new(alloc, parts, plan.wiring, plan.inputs) else {
+        drop(head);
+        drop(planned);
         return WorkEnd::OutOfMemory;
     };
-    match write_run(
+    let end = write_run(
         &mut board,
         &mut head,
         planned.as_slice(),
@@ -77,7 +85,11 @@ pub fn run_board<B: Bench, L: Ledger>(
         outputs,
         bench,
         steps,
-    ) {
+    );
+    drop(board);
+    drop(head);
+    drop(planned);
+    match end {
         WriteEnd::Ok => WorkEnd::Accepted,
         WriteEnd::Failed => WorkEnd::WriteFailed,
     }

@@ -16,29 +16,29 @@ use Rattle.cli_board.proofs.counting.count_board.Goals as goal
 pub returns-clause-changes : goal.returns-clause-changes
 returns-clause-changes g c =
     let has : Contents = record { flash = c.args.flash; chips = c.args.chips.now; budget = c.args.budget } in
-    let v = c.in_ok-board.board in
-    let is = c.in_ok-board.ensures in
+    let v = c.in-Ok-new.board in
+    let is = c.in-Ok-new.ensures in
     counted_is (λ (vs : List Variable) (w : Wiring) (inputs : List Input) (ss : List AnyState). capped (wave_count vs (rows any w inputs None ss 0 c.args.n)))
-    c.in_ok-head.head.variables v has c.args.plan c.count.result.0 c.in_ok-head.ensures
+    c.in-Ok.head.variables v has c.args.plan c.count-counts.result.0 c.in-Ok.ensures
     (ap (λ (x : BoardView AnyPart). x.wiring) is) (ap (λ (x : BoardView AnyPart). x.inputs) is)
-    (ap (λ (x : BoardView AnyPart). map state_of x.parts) is ∙ c.in_ok-parts.ensures.states) c.count.ensures.changes
+    (ap (λ (x : BoardView AnyPart). map state_of x.parts) is ∙ c.in-Ok-load.ensures.states) c.count-counts.ensures.changes
 
 pub returns-clause-sent : goal.returns-clause-sent
 returns-clause-sent g c =
     let has : Contents = record { flash = c.args.flash; chips = c.args.chips.now; budget = c.args.budget } in
-    let v = c.in_ok-board.board in
-    let is = c.in_ok-board.ensures in
+    let v = c.in-Ok-new.board in
+    let is = c.in-Ok-new.ensures in
     counted_is (λ (vs : List Variable) (w : Wiring) (inputs : List Input) (ss : List AnyState). capped (length (bytes any w inputs ss 0 c.args.n)))
-    c.in_ok-head.head.variables v has c.args.plan c.count.result.1 c.in_ok-head.ensures
+    c.in-Ok.head.variables v has c.args.plan c.count-counts.result.1 c.in-Ok.ensures
     (ap (λ (x : BoardView AnyPart). x.wiring) is) (ap (λ (x : BoardView AnyPart). x.inputs) is)
-    (ap (λ (x : BoardView AnyPart). map state_of x.parts) is ∙ c.in_ok-parts.ensures.states) c.count.ensures.sent
+    (ap (λ (x : BoardView AnyPart). map state_of x.parts) is ∙ c.in-Ok-load.ensures.states) c.count-counts.ensures.sent
 
 pub returns-clause-steps : goal.returns-clause-steps
 returns-clause-steps g c =
     let has : Contents = record { flash = c.args.flash; chips = c.args.chips.now; budget = c.args.budget } in
-    let v = c.in_ok-board.board in
-    let is = c.in_ok-board.ensures in
+    let v = c.in-Ok-new.board in
+    let is = c.in-Ok-new.ensures in
     counted_is (λ (vs : List Variable) (w : Wiring) (inputs : List Input) (ss : List AnyState). c.args.steps.now + active_pairs any w inputs ss 0 c.args.n)
-    c.in_ok-head.head.variables v has c.args.plan c.count.new.steps c.in_ok-head.ensures
+    c.in-Ok.head.variables v has c.args.plan c.count-counts.new.steps c.in-Ok.ensures
     (ap (λ (x : BoardView AnyPart). x.wiring) is) (ap (λ (x : BoardView AnyPart). x.inputs) is)
-    (ap (λ (x : BoardView AnyPart). map state_of x.parts) is ∙ c.in_ok-parts.ensures.states) c.count.ensures.steps
+    (ap (λ (x : BoardView AnyPart). map state_of x.parts) is ∙ c.in-Ok-load.ensures.states) c.count-counts.ensures.steps

@@ -8,16 +8,16 @@ use Rattle.board_outputs.specs.Outputs.{outputs_of}
 use Rattle.cli_board.proofs.PlayLemmas.{same_texts}
 use Rattle.cli_board.proofs.running.run_board.Goals as goal
 
-pub returns-in-Ok-write_run-clause-ran : goal.returns-in-Ok-write_run-clause-ran
-returns-in-Ok-write_run-clause-ran g c =
+pub returns-in-Ok-end-clause-ran : goal.returns-in-Ok-end-clause-ran
+returns-in-Ok-end-clause-ran g c =
     let is = c.in-Ok-new.ensures in
-    same_texts any part_rows true writes.Ok (outputs_of c.args.outputs) c.args.n (g.B.Bench.outside c.args.bench.now) (g.B.Bench.outside c.write_run.new.bench) _ _ _ _ _ _ _ _ _ _
+    same_texts any part_rows true writes.Ok (outputs_of c.args.outputs) c.args.n (g.B.Bench.outside c.args.bench.now) (g.B.Bench.outside c.write_run-end.new.bench) _ _ _ _ _ _ _ _ _ _
     c.in-Ok.ensures (ap (λ (x : BoardView AnyPart). x.wiring) is) (ap (λ (x : BoardView AnyPart). x.inputs) is) (ap (λ (x : BoardView AnyPart). map state_of x.parts) is ∙ c.in-Ok-load.ensures.states) c.as_slice.ensures
-    (c.in-Ok-write_run.ensures.wrote _ (λ parts same. same))
+    (rw c.in-Ok-end.is at (c.write_run-end.ensures.wrote _ (λ parts same. same)))
 
-pub returns-clause-ran : goal.returns-clause-ran
-returns-clause-ran g c =
+pub returns-in-Failed-clause-ran : goal.returns-in-Failed-clause-ran
+returns-in-Failed-clause-ran g c =
     let is = c.in-Ok-new.ensures in
-    same_texts any part_rows true writes.Failed (outputs_of c.args.outputs) c.args.n (g.B.Bench.outside c.args.bench.now) (g.B.Bench.outside c.write_run.new.bench) _ _ _ _ _ _ _ _ _ _
+    same_texts any part_rows true writes.Failed (outputs_of c.args.outputs) c.args.n (g.B.Bench.outside c.args.bench.now) (g.B.Bench.outside c.write_run-end.new.bench) _ _ _ _ _ _ _ _ _ _
     c.in-Ok.ensures (ap (λ (x : BoardView AnyPart). x.wiring) is) (ap (λ (x : BoardView AnyPart). x.inputs) is) (ap (λ (x : BoardView AnyPart). map state_of x.parts) is ∙ c.in-Ok-load.ensures.states) c.as_slice.ensures
-    (c.in-Failed.ensures.wrote _ (λ parts same. same))
+    (rw c.in-Failed.is at (c.write_run-end.ensures.wrote _ (λ parts same. same)))
