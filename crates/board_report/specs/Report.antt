@@ -16,6 +16,8 @@ use Rattle.board_build.specs.declared.plan.PlanKind.TheVariants as plans
 use Rattle.board_build.specs.declared.plan.PlanPart.{PlanPart}
 use Rattle.board_build.specs.Parts.{is_chip}
 use Rattle.wasm_num.specs.Traps.{number_of}
+use Rattle.reactive_part.specs.Reaction.{Reacting}
+use Rattle.chip_host.specs.Chip.{Chip}
 use Rattle.chip_host.specs.declared.death.Death.{Death}
 use Rattle.any_part.specs.AnyBehaviour.{AnyOwn}
 use Rattle.any_part.specs.AnyPart.{AnyState}
@@ -67,15 +69,29 @@ abbrev pub chip_row : List ℕ → Option Death → ReportRow
 chip_row id None = lines.Alive id
 chip_row id (Some death) = lines.Trap id (number_of death.trap) death.cycle
 
-abbrev pub part_rows : PlanPart → AnyState → List ReportRow
-part_rows part (inl uno) = uno_rows part.id uno
-part_rows part (inr (inl reacting)) = own_rows part reacting.held reacting.own
-part_rows part (inr (inr chip)) = chip_row part.id chip.dead ∷ []
+abbrev pub uno_lines : PlanPart → Mcu → List ReportRow
+uno_lines part uno = uno_rows part.id uno
 
--- the lines of a part that may be a player of recorded drives, which has none
+abbrev pub own_lines : PlanPart → Reacting AnyOwn → List ReportRow
+own_lines part reacting = own_rows part reacting.held reacting.own
+
+abbrev pub chip_lines : PlanPart → Chip → List ReportRow
+chip_lines part chip = chip_row part.id chip.dead ∷ []
+
+-- a player of recorded drives has none
+abbrev pub no_lines : PlanPart → PlayerState → List ReportRow
+no_lines part player = []
+
+-- those of a part of one of two kinds
+abbrev pub either_lines : {A B : Type 0} → (PlanPart → A → List ReportRow) → (PlanPart → B → List ReportRow) → PlanPart → A ⊎ B → List ReportRow
+either_lines f g part (inl a) = f part a
+either_lines f g part (inr b) = g part b
+
+abbrev pub part_rows : PlanPart → AnyState → List ReportRow
+part_rows = either_lines uno_lines (either_lines own_lines chip_lines)
+
 abbrev pub play_part_rows : PlanPart → AnyState ⊎ PlayerState → List ReportRow
-play_part_rows part (inl s) = part_rows part s
-play_part_rows part (inr p) = []
+play_part_rows = either_lines part_rows no_lines
 
 -- the lines of parts, by how each stands; of the chips alone, or of all others
 module _ {S : Type 0} (says : PlanPart → S → List ReportRow) where

@@ -9,16 +9,19 @@ ghost use Rattle.any_part.specs.AnyBehaviour.{own_of};
 ghost use Rattle.sim_report.specs.Lines.{line_of};
 ghost use Rattle.board_report.specs.Report.{mode_of, is_input, ignored_row, uno_rows, own_rows, lcd_row, lcd_rows, chip_row, chosen_rows, parts_rows, text_of, shown_text};
 
-use any_part::{AnyBehaviour, AnyPart};
+use any_part::AnyBehaviour;
 use avr_core::Mode;
 use avr_mcu::Mcu;
 use board_build::{PlanKind, PlanPart};
-use chip_host::Death;
+use chip_host::{Chip, Death};
+use either_part::Either;
 use part_catalog::greatest_value;
 use parts_basic::Led;
 use parts_display::Lcd;
+use reactive_part::Reactive;
 use sim_base::{Bench, Level, Name, Port, WriteEnd};
 use sim_report::{ReportRow, UnoMode, write_report};
+use trace_run::Player;
 
 /// Writes a line where the writing so far has not failed.
 fn write_line<B: Bench>(end: WriteEnd, row: &ReportRow, bench: &mut B) -> WriteEnd
@@ -187,26 +190,84 @@ pub trait Shown {
         ensures others { SameOthers Port.Report (B.outside bench.old) (B.outside bench.new) };
 }
 
-impl Shown for AnyPart {
-    ghost use Rattle.any_part.specs.AnyPart.{AnyState, state_of};
-    ghost use Rattle.board_report.specs.Report.{part_rows};
+impl Shown for Mcu {
+    ghost use Rattle.avr_mcu.specs.Mcu.{Mcu as State};
+    ghost use Rattle.board_report.specs.Report.{uno_lines};
 
-    ghost Stood = { AnyState };
+    ghost Stood = { State };
 
-    ghost stood = { state_of };
+    ghost stood = { λ p. p.mcu };
 
-    ghost says = { part_rows };
+    ghost says = { uno_lines };
+
+    fn write_lines<B: Bench>(&self, end: WriteEnd, part: &PlanPart, bench: &mut B) -> WriteEnd {
+        write_uno(end, &part.id, self, bench)
+    }
+}
+
+impl Shown for Reactive<AnyBehaviour> {
+    ghost use Rattle.reactive_part.specs.Reaction.{Reacting};
+    ghost use Rattle.any_part.specs.AnyBehaviour.{AnyOwn, own_of};
+    ghost use Rattle.board_report.specs.Report.{own_lines};
+
+    ghost Stood = { Reacting AnyOwn };
+
+    ghost stood = { λ p. record { own = own_of p.behaviour; held = p.held } };
+
+    ghost says = { own_lines };
+
+    fn write_lines<B: Bench>(&self, end: WriteEnd, part: &PlanPart, bench: &mut B) -> WriteEnd {
+        write_own(end, part, self.held(), self.behaviour(), bench)
+    }
+}
+
+impl Shown for Chip {
+    ghost use Rattle.chip_host.specs.Chip.{Chip as State};
+    ghost use Rattle.board_report.specs.Report.{chip_lines};
+
+    ghost Stood = { State };
+
+    ghost stood = { λ p. p.chip };
+
+    ghost says = { chip_lines };
+
+    fn write_lines<B: Bench>(&self, end: WriteEnd, part: &PlanPart, bench: &mut B) -> WriteEnd {
+        let row = chip_row(&part.id, self.trap());
+        write_line(end, &row, bench)
+    }
+}
+
+/// A player of recorded drives has no lines.
+impl Shown for Player {
+    ghost use Rattle.board_laws.specs.Player.{PlayerState};
+    ghost use Rattle.board_report.specs.Report.{no_lines};
+
+    ghost Stood = { PlayerState };
+
+    ghost stood = { λ p. p.player };
+
+    ghost says = { no_lines };
+
+    fn write_lines<B: Bench>(&self, end: WriteEnd, _part: &PlanPart, _bench: &mut B) -> WriteEnd {
+        end
+    }
+}
+
+impl<P: Shown, Q: Shown> Shown for Either<P, Q> {
+    ghost use Rattle.std.specs.Prelude.{◌⊎◌};
+    ghost use Rattle.either_part.specs.EitherPart.{either_state};
+    ghost use Rattle.board_report.specs.Report.{either_lines};
+
+    ghost Stood = { P.Stood ⊎ Q.Stood };
+
+    ghost stood = { either_state P.stood Q.stood };
+
+    ghost says = { either_lines P.says Q.says };
 
     fn write_lines<B: Bench>(&self, end: WriteEnd, part: &PlanPart, bench: &mut B) -> WriteEnd {
         match self {
-            AnyPart::Uno(uno) => write_uno(end, &part.id, uno, bench),
-            AnyPart::Reactive(reactive) => {
-                write_own(end, part, reactive.held(), reactive.behaviour(), bench)
-            }
-            AnyPart::Chip(chip) => {
-                let row = chip_row(&part.id, chip.trap());
-                write_line(end, &row, bench)
-            }
+            Either::Left(left) => left.write_lines(end, part, bench),
+            Either::Right(right) => right.write_lines(end, part, bench),
         }
     }
 }

@@ -6,8 +6,7 @@ use Rattle.text_model.specs.Wave.{Variable}
 use Rattle.board_run.specs.BoardView.{BoardView}
 use Rattle.board_build.specs.declared.plan.Plan.{Plan}
 use Rattle.chip_module.specs.Sources.{pins_of}
-use Rattle.any_part.specs.declared.part.AnyPart.{AnyPart}
-use Rattle.any_part.specs.AnyPart.{AnyState, state_of}
+use Rattle.any_part.specs.AnyPart.{AnyPart, AnyState, state_of}
 use Rattle.any_part.specs.Start.{Contents, starts}
 use Rattle.board_outputs.specs.Variables.{board_variables}
 use Rattle.board_outputs.proofs.PlayLemmas.{same_run}

@@ -22,8 +22,7 @@ use Rattle.board_build.specs.IsPlan.{IsPlan, kinds_in}
 use Rattle.board_build.proofs.PlanLemmas.{from_all}
 use Rattle.chip_module.specs.declared.source.ChipSource.{ChipSource}
 use Rattle.chip_module.specs.Sources.{pins_of}
-use Rattle.any_part.specs.declared.part.AnyPart.{AnyPart}
-use Rattle.any_part.specs.AnyPart.{AnyState, any, state_of, cycle_of, wakes_of}
+use Rattle.any_part.specs.AnyPart.{AnyPart, AnyState, any, state_of, cycle_of, wakes_of}
 use Rattle.any_part.specs.Start.{Contents, start_in, start_of, starts}
 use Rattle.any_part.proofs.StartLemmas.{all_ready, begins_valid, start_at, starts_fit, starts_many}
 use Rattle.isolation.specs.Worlds.{DifferInChips, IsSamePart}

@@ -10,8 +10,7 @@ use Rattle.board_build.specs.declared.plan.Plan.{Plan}
 use Rattle.board_build.specs.declared.plan.PlanPart.{PlanPart}
 use Rattle.board_build.specs.IsPlan.{IsPlan}
 use Rattle.chip_module.specs.Sources.{pins_of}
-use Rattle.any_part.specs.declared.part.AnyPart.{AnyPart}
-use Rattle.any_part.specs.AnyPart.{AnyState, any, state_of}
+use Rattle.any_part.specs.AnyPart.{AnyPart, AnyState, any, state_of}
 use Rattle.any_part.specs.Start.{Contents, starts}
 use Rattle.isolation.specs.Worlds.{run_states}
 use Rattle.twin_run.specs.declared.twin.TwinEnd.{TwinEnd}

@@ -6,8 +6,7 @@ use Rattle.board_build.specs.declared.plan.PlanKind.{PlanKind}
 use Rattle.board_build.specs.declared.plan.PlanKind.TheVariants as plans
 use Rattle.board_build.specs.declared.plan.PlanPart.{PlanPart}
 use Rattle.chip_module.specs.declared.source.ChipSource.{ChipSource}
-use Rattle.any_part.specs.AnyPart.{AnyState}
-use Rattle.any_part.specs.declared.part.AnyPart.{AnyPart}
+use Rattle.any_part.specs.AnyPart.{AnyState, AnyPart}
 use Rattle.any_part.specs.Start.{Begins, chip_at_start}
 
 -- a chip's; a part of any other kind has none here

@@ -7,8 +7,7 @@ use Rattle.twin_run.specs.declared.twin.TwinEnd.TheVariants as ends
 use Rattle.twin_run.specs.Twins.{AreTwins, IsTwin, TwinView, other_states}
 use Rattle.board_build.specs.declared.plan.Plan.{Plan}
 use Rattle.board_build.specs.declared.plan.PlanPart.{PlanPart}
-use Rattle.any_part.specs.declared.part.AnyPart.{AnyPart}
-use Rattle.any_part.specs.AnyPart.{any, state_of, cycle_of, wakes_of}
+use Rattle.any_part.specs.AnyPart.{AnyPart, any, state_of, cycle_of, wakes_of}
 use Rattle.any_part.specs.Start.{Contents, starts}
 use Rattle.chip_module.specs.Sources.{pins_of}
 use Rattle.cli_twin.specs.Shared.{Pair}

@@ -1,3 +1,2 @@
-pub mod Inside
 mod PlayLemmas
 pub mod LoadLemmas

@@ -24,16 +24,14 @@ use Rattle.board_build.specs.IsPlan.{IsPlan, can_run, contact_count, kinds_in}
 use Rattle.board_build.proofs.PinLemmas.{starts_at, starts_length}
 use Rattle.chip_module.specs.declared.source.ChipSource.{ChipSource}
 use Rattle.chip_module.specs.Sources.{pins_of}
-use Rattle.any_part.specs.AnyPart.{AnyState, any}
-use Rattle.any_part.specs.declared.part.AnyPart.{AnyPart}
+use Rattle.any_part.specs.AnyPart.{AnyState, any, AnyPart}
 use Rattle.any_part.specs.AnyPart as any_parts
 use Rattle.any_part.specs.Start as starting
 use Rattle.any_part.specs.Start.{Contents, start_in, start_of, starts}
 use Rattle.any_part.proofs.StartLemmas.{AreReady, all_ready, begins_valid, first_begun, start_at, starts_fit, starts_many}
-use Rattle.played_part.specs.Played.{PlayedState}
+use Rattle.played_part.specs.Played.{PlayedState, PlayedPart}
 use Rattle.played_part.proofs.PlayLemmas.{AreAsMany, many_played, played_at, played_fits}
-use Rattle.played_part.specs.declared.part.PlayedPart.{PlayedPart}
-use Rattle.played_part.specs.declared.part.PlayedPart.TheVariants as played_parts
+use Rattle.either_part.specs.declared.either.Either.TheVariants as eithers
 use Rattle.played_part.specs.Start.{Begins, rows_from, rows_of_part, play_start}
 
 no_contacts : (kind : PlanKind) → is_chip (Some kind) ≡ true → contact_count (Some kind) ≡ 0
@@ -74,14 +72,14 @@ module _ (has : Contents) (rows : List DriveRows) (first : ℕ) (part : PlanPart
       if is_chip (Some kind) then Some (inr (new_player (rows_from (pins_of has.chips) rows first (Some kind)))) else option_map inl (start_in has part.attrs part.settings kind)
 
   pub player_begins : (chip : ℕ) (source : ChipSource) (p : PlayedPart) → part.kind ≡ plans.Chip chip → slice_get has.chips chip ≡ Some source →
-      p ≡ played_parts.Player (record { player = new_player (take (length source.pins) (drop first rows)); wakes = 0; moved = no_pins }) → Begins (play_start has rows first part) p
+      p ≡ eithers.Right (record { player = new_player (take (length source.pins) (drop first rows)); wakes = 0; moved = no_pins }) → Begins (play_start has rows first part) p
   player_begins chip source p kind there is =
       let state : start_as part.kind ≡ Some (inr (new_player (take (length source.pins) (drop first rows)))) =
       ap start_as kind ∙ ap (λ (n : ℕ). Some (inr (new_player (take n (drop first rows))))) (chip_count has.chips chip source there) in
       subst (λ (x : PlayedPart). Begins (play_start has rows first part) x) (sym is) (record { state = state; cycle = refl; wakes = refl; valid = refl })
 
   pub stock_begins : (kind : Kind) (p : AnyPart) → part.kind ≡ plans.Stock kind → starting.Begins (start_in has part.attrs part.settings (plans.Stock kind)) p →
-      Begins (play_start has rows first part) (played_parts.Part p)
+      Begins (play_start has rows first part) (eithers.Left p)
   stock_begins kind p is b =
       let state : start_as part.kind ≡ Some (inl (any_parts.state_of p)) = ap start_as is ∙ ap (option_map inl) b.state in
       record { state = state; cycle = b.cycle; wakes = b.wakes; valid = begins_valid (any_parts.state_of p) }

@@ -12,8 +12,7 @@ use Rattle.board_build.specs.Pins.{count_of}
 use Rattle.chip_module.specs.Sources.{pins_of}
 use Rattle.any_part.specs.AnyPart.{any}
 use Rattle.any_part.specs.Start.{Contents, start_of}
-use Rattle.played_part.specs.declared.part.PlayedPart.{PlayedPart}
-use Rattle.played_part.specs.Played.{PlayedState, state_of, cycle_of, wakes_of}
+use Rattle.played_part.specs.Played.{PlayedPart, PlayedState, state_of, cycle_of, wakes_of}
 
 -- the rows of a part's pins, of those of all pins of a board, where its pins begin at `first`
 abbrev pub rows_from : List (List (Option (List ℕ))) → List DriveRows → ℕ → Option PlanKind → List DriveRows

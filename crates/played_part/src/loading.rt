@@ -22,6 +22,7 @@ use any_part::stock_part;
 use avr_mcu::Mcu;
 use board_build::{Plan, PlanKind, PlanPart};
 use chip_module::ChipSource;
+use either_part::Either;
 use sim_base::{Drive, Flash, List, OutOfMemory};
 use std::alloc::Global;
 use trace_run::Player;
@@ -66,9 +67,9 @@ fn new_player(
     requires few { length rows.now ≤ 4096 }
     requires few_pins { count ≤ 64 }
     requires order { All AreInOrder rows.now }
-    ensures { IfOk result (λ p. p ≡ PlayedPart.Player (record { player = fresh_player (take count (drop first rows.now)); wakes = 0; moved = no_pins })) }
+    ensures { IfOk result (λ p. p ≡ Either.Right (record { player = fresh_player (take count (drop first rows.now)); wakes = 0; moved = no_pins })) }
 {
-    Ok(PlayedPart::Player(Player::new(rows_from(alloc, rows, first, count)?)))
+    Ok(Either::Right(Player::new(rows_from(alloc, rows, first, count)?)))
 }
 
 /// A part whose pins begin at `first`; a chip's module is not looked at. An Uno is the one that is lent.
@@ -91,7 +92,7 @@ fn new_part(
     ensures uno { uno.new ≡ (if is_uno (Some part.now.kind) then None else uno.old) }
 {
     match part.kind {
-        PlanKind::Stock(kind) => Ok(PlayedPart::Part(stock_part(kind, part.settings, uno))),
+        PlanKind::Stock(kind) => Ok(Either::Left(stock_part(kind, part.settings, uno))),
         PlanKind::Chip(chip) => {
             let pins = chips[chip as usize].pins.len();
             new_player(alloc, rows, first, pins)

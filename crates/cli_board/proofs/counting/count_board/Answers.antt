@@ -7,8 +7,7 @@ use Rattle.board_model.specs.Rows.{rows}
 use Rattle.board_laws.specs.Active.{active_pairs}
 use Rattle.board_run.specs.BoardView.{BoardView}
 use Rattle.vcd_text.specs.Writers.{capped}
-use Rattle.any_part.specs.declared.part.AnyPart.{AnyPart}
-use Rattle.any_part.specs.AnyPart.{AnyState, any, state_of}
+use Rattle.any_part.specs.AnyPart.{AnyPart, AnyState, any, state_of}
 use Rattle.any_part.specs.Start.{Contents}
 use Rattle.cli_board.proofs.CountLemmas.{counted_is}
 use Rattle.cli_board.proofs.counting.count_board.Goals as goal

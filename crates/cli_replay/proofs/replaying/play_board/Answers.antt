@@ -9,8 +9,7 @@ use Rattle.chip_module.specs.declared.source.ChipSource.{ChipSource}
 use Rattle.chip_module.specs.Sources.{pins_of}
 use Rattle.any_part.specs.AnyPart.{any}
 use Rattle.board_report.specs.Report.{play_part_rows}
-use Rattle.played_part.specs.declared.part.PlayedPart.{PlayedPart}
-use Rattle.played_part.specs.Played.{state_of}
+use Rattle.played_part.specs.Played.{PlayedPart, state_of}
 use Rattle.board_outputs.specs.Outputs.{outputs_of}
 use Rattle.cli_board.proofs.PlayLemmas.{same_texts}
 use Rattle.board_outputs.proofs.VariableLemmas.{pins_few}

@@ -11,8 +11,7 @@ use Rattle.any_part.specs.AnyPart.{any}
 use Rattle.any_part.specs.Start.{Contents}
 use Rattle.any_part.proofs.LoadLemmas.{unos_counted, uno_there, uno_next, each_ready}
 use Rattle.any_part.proofs.StartLemmas.{all_ready}
-use Rattle.played_part.specs.declared.part.PlayedPart.{PlayedPart}
-use Rattle.played_part.specs.Played.{PlayedState, state_of, cycle_of, wakes_of}
+use Rattle.played_part.specs.Played.{PlayedPart, PlayedState, state_of, cycle_of, wakes_of}
 use Rattle.played_part.specs.Start.{play_start}
 use Rattle.played_part.proofs.PlayLemmas.{one_more}
 use Rattle.played_part.proofs.LoadLemmas.{all_played, all_fit, firsts_many, part_fits, play_at, played_many}

@@ -6,8 +6,7 @@ use Rattle.chip_module.specs.Sources.{pins_of}
 use Rattle.any_part.specs.AnyPart.{any}
 use Rattle.any_part.specs.Start.{starts}
 use Rattle.any_part.proofs.LoadLemmas.{uno_left}
-use Rattle.played_part.specs.declared.part.PlayedPart.{PlayedPart}
-use Rattle.played_part.specs.Played.{state_of, cycle_of, wakes_of}
+use Rattle.played_part.specs.Played.{PlayedPart, state_of, cycle_of, wakes_of}
 use Rattle.played_part.specs.Start.{rows_of_part}
 use Rattle.played_part.proofs.loading.load_played.Given as goal
 

@@ -9,8 +9,8 @@ use Rattle.chip_module.specs.Sources.{pins_of}
 use Rattle.board_laws.specs.Player.{new_player as fresh_player}
 use Rattle.any_part.specs.Start.{Contents}
 use Rattle.any_part.proofs.LoadLemmas.{if_ok}
-use Rattle.played_part.specs.declared.part.PlayedPart.{PlayedPart}
-use Rattle.played_part.specs.declared.part.PlayedPart.TheVariants as played_parts
+use Rattle.played_part.specs.Played.{PlayedPart}
+use Rattle.either_part.specs.declared.either.Either.TheVariants as eithers
 use Rattle.played_part.proofs.LoadLemmas.{chip_count, player_begins, source_there, stock_begins}
 use Rattle.played_part.proofs.loading.new_part.Goals as goal
 
@@ -40,6 +40,6 @@ returns-in-Chip-clause-begins c =
     let source : ChipSource = c.index-chips-chip.result in
     let there = source_there chips c.args.part.now.kind chip source c.in-Chip.is c.requires.ready c.index-chips-chip.is in
     let many : c.len-pins.result ≡ length source.pins = c.len-pins.ensures ∙ sym (ap (λ (s : ChipSource). length s.pins) c.index-chips-chip.is) in
-    let player : ℕ → PlayedPart = λ count. played_parts.Player (record { player = fresh_player (take count (drop c.args.first c.args.rows.now)); wakes = 0; moved = no_pins }) in
+    let player : ℕ → PlayedPart = λ count. eithers.Right (record { player = fresh_player (take count (drop c.args.first c.args.rows.now)); wakes = 0; moved = no_pins }) in
     if_ok (λ (p : PlayedPart). p ≡ player c.len-pins.result) _ c.new_player.result c.new_player.ensures
     (λ p is flash none. player_begins (record { flash = flash; chips = chips; budget = 0 }) c.args.rows.now c.args.first part chip source p c.in-Chip.is there (is ∙ ap player many))

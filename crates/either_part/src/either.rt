@@ -1,0 +1,108 @@
+//! A part of one of two kinds; nested, of one of many.
+
+use part_law::{Part, Span, Went};
+use sim_base::{Drive, Level, Steps};
+use std::sync::ledger::Ledger;
+
+/// A part of one of two kinds, which steps as the machine of its kind does.
+#[derive(Drop)]
+pub enum Either<A, B> {
+    Left(A),
+    Right(B),
+}
+
+macro_rules! on_either {
+    ($either:expr, $part:ident => $call:expr) => {
+        match $either {
+            Either::Left($part) => $call,
+            Either::Right($part) => $call,
+        }
+    };
+}
+
+impl<A: Part, B: Part> Part for Either<A, B> {
+    ghost use Rattle.std.specs.Prelude.{◌⊎◌};
+    ghost use Rattle.part_law.specs.Either.{either, either_laws};
+    ghost use Rattle.either_part.specs.EitherPart.{either_state, on_either};
+
+    ghost State = { A.State ⊎ B.State };
+
+    ghost machine = { either A.machine B.machine };
+
+    ghost state = { either_state A.state B.state };
+
+    ghost now = { on_either A.now B.now };
+
+    ghost wake_count = { on_either A.wake_count B.wake_count };
+
+    ghost changes = { on_either A.changes B.changes };
+
+    ghost moves = { on_either A.moves B.moves };
+
+    #[inline(always)]
+    fn pins(&self) -> u8 {
+        on_either!(self, part => part.pins())
+    }
+
+    #[inline(always)]
+    fn contacts(&self) -> u8 {
+        on_either!(self, part => part.contacts())
+    }
+
+    #[inline(always)]
+    fn drive(&self, pin: u8) -> Drive {
+        on_either!(self, part => part.drive(pin))
+    }
+
+    #[inline(always)]
+    fn contact(&self, i: u8) -> bool {
+        on_either!(self, part => part.contact(i))
+    }
+
+    #[inline(always)]
+    fn due(&self) -> Option<u32> {
+        on_either!(self, part => part.due())
+    }
+
+    #[inline(always)]
+    fn woken(&self) -> u32 {
+        on_either!(self, part => part.woken())
+    }
+
+    #[inline(always)]
+    fn changed(&self) -> bool {
+        on_either!(self, part => part.changed())
+    }
+
+    #[inline(always)]
+    fn moved(&self) -> Span {
+        on_either!(self, part => part.moved())
+    }
+
+    #[inline(always)]
+    fn settle(&mut self, to: u32) {
+        on_either!(self, part => part.settle(to))
+    }
+
+    #[inline(always)]
+    fn wake(&mut self, levels: &[Level], input: Option<u16>) -> Option<u8> {
+        on_either!(self, part => part.wake(levels, input))
+    }
+
+    #[inline(always)]
+    fn wake_held(&mut self, input: Option<u16>) -> Option<u8> {
+        on_either!(self, part => part.wake_held(input))
+    }
+
+    #[inline(always)]
+    fn hear(&mut self, levels: &[Level], t: u32) -> Option<bool> {
+        on_either!(self, part => part.hear(levels, t))
+    }
+
+    #[inline(always)]
+    fn go_on<L: Ledger>(&mut self, limit: u32, steps: &mut Steps<L>) -> Went {
+        on_either!(self, part => part.go_on(limit, steps))
+    }
+
+    ghost laws = { either_laws A.machine B.machine A.laws B.laws };
+}

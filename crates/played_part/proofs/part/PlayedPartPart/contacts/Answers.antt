@@ -1,4 +1,0 @@
-use Rattle.played_part.proofs.part.PlayedPartPart.contacts.Goals as goal
-
-pub returns-in-Player : goal.returns-in-Player
-returns-in-Player c = rw c.in-Player.is c.contacts-in-Player.ensures
