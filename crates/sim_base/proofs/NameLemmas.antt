@@ -1,5 +1,5 @@
 -- A name's bytes are ASCII, and so a text.
-use Rattle.std.proofs.Common.{◌≡◌, ◌<◌, ◌≤◌, ◌&&◌, ◌==◌, ℕ, zero, suc, List, [], ◌∷◌, length, true, not, nat_le, arith, lit<}
+use Rattle.std.proofs.Common.{◌≡◌, ◌<◌, ◌&&◌, ◌==◌, ℕ, zero, suc, List, [], ◌∷◌, length, true, not, nat_le, arith, lit<}
 use Rattle.std.specs.List.{list_all}
 use Rattle.std.specs.Str.{IsAscii, IsUtf8}
 use Rattle.std.proofs.lemmas.Bool.{and_parts, leb-true}

@@ -1,4 +1,5 @@
 pub mod Causes
+pub mod Display
 pub mod Mem
 pub mod Names
 pub mod Outside

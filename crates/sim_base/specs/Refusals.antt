@@ -73,6 +73,9 @@ ChipPinName = 52
 abbrev pub ChipLimit : ℕ
 ChipLimit = 53
 
+abbrev pub ChipDisplay : ℕ
+ChipDisplay = 54
+
 abbrev pub WasmMagic : ℕ
 WasmMagic = 60
 
@@ -160,6 +163,9 @@ WaveEnd = 94
 abbrev pub TwinDiffers : ℕ
 TwinDiffers = 95
 
+abbrev pub WaveVar : ℕ
+WaveVar = 96
+
 abbrev pub names : List (ℕ × List ℕ)
 names =
     (FileTooLong, codes "FileTooLong") ∷
@@ -186,6 +192,7 @@ names =
     (ChipShape, codes "ChipShape") ∷
     (ChipPinName, codes "ChipPinName") ∷
     (ChipLimit, codes "ChipLimit") ∷
+    (ChipDisplay, codes "ChipDisplay") ∷
     (WasmMagic, codes "WasmMagic") ∷
     (WasmCut, codes "WasmCut") ∷
     (WasmLeb, codes "WasmLeb") ∷
@@ -214,7 +221,8 @@ names =
     (WaveTime, codes "WaveTime") ∷
     (WaveName, codes "WaveName") ∷
     (WaveEnd, codes "WaveEnd") ∷
-    (TwinDiffers, codes "TwinDiffers") ∷ []
+    (TwinDiffers, codes "TwinDiffers") ∷
+    (WaveVar, codes "WaveVar") ∷ []
 
 abbrev pub name_in : ℕ → List (ℕ × List ℕ) → List ℕ
 name_in number [] = []

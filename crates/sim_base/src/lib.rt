@@ -4,6 +4,7 @@
 #![tactic(auto)]
 
 mod bench;
+mod display;
 mod fault;
 mod flash;
 mod limits;
@@ -18,6 +19,7 @@ mod watcher;
 mod wiring;
 
 pub use bench::{Bench, Port, ReadEnd, WriteEnd};
+pub use display::Display;
 pub use fault::{Fault, OutOfMemory, Place, Refusal};
 pub use flash::Flash;
 pub use limits::MOST_CYCLES;

@@ -51,6 +51,8 @@ pub const CHIP_PIN_NAME: u8 = 52;
 
 pub const CHIP_LIMIT: u8 = 53;
 
+pub const CHIP_DISPLAY: u8 = 54;
+
 pub const WASM_MAGIC: u8 = 60;
 
 pub const WASM_CUT: u8 = 61;
@@ -109,6 +111,8 @@ pub const WAVE_END: u8 = 94;
 
 pub const TWIN_DIFFERS: u8 = 95;
 
+pub const WAVE_VAR: u8 = 96;
+
 /// The name of a refusal's number, as the line of a complaint has it; empty where no refusal has the
 /// number.
 pub fn refusal_name(number: u8) -> &'static str
@@ -139,6 +143,7 @@ pub fn refusal_name(number: u8) -> &'static str
         CHIP_SHAPE => "ChipShape",
         CHIP_PIN_NAME => "ChipPinName",
         CHIP_LIMIT => "ChipLimit",
+        CHIP_DISPLAY => "ChipDisplay",
         WASM_MAGIC => "WasmMagic",
         WASM_CUT => "WasmCut",
         WASM_LEB => "WasmLeb",
@@ -168,6 +173,7 @@ pub fn refusal_name(number: u8) -> &'static str
         WAVE_NAME => "WaveName",
         WAVE_END => "WaveEnd",
         TWIN_DIFFERS => "TwinDiffers",
+        WAVE_VAR => "WaveVar",
         _ => "",
     }
 }

@@ -1,4 +1,4 @@
-use Rattle.sim_base.specs.Mem.{fails_next, opens_on}
+use Rattle.sim_base.specs.Mem.{opens_on}
 use Rattle.sim_base.proofs.MemLemmas.{opens}
 use Rattle.sim_base.proofs.mem_bench.MemBenchBench.open_port.Goals as goal
 
