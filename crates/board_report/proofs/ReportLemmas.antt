@@ -15,7 +15,7 @@ use Rattle.board_model.specs.Walks.{below}
 use Rattle.sim_report.specs.declared.row.ReportRow.{ReportRow}
 use Rattle.sim_report.specs.Lines.{line_of}
 use Rattle.board_build.specs.declared.plan.PlanPart.{PlanPart}
-use Rattle.board_report.specs.Report.{text_of, chosen_rows, parts_rows}
+use Rattle.board_report.specs.Report.{text_of, chosen_text, parts_text}
 
 -- the texts of rows, one after the other
 pub text-append : (xs ys : List ReportRow) → text_of (xs ++ ys) ≡ text_of xs ++ text_of ys
@@ -48,10 +48,10 @@ rows_after text row f k =
     ∙ ap (λ (l : List ℕ). text ++ l) (append_assoc (line_of row) (text_of (flat_map f (below k))) (text_of (f k)) ∙ ap (λ (l : List ℕ). line_of row ++ l) (sym (rows_more f k)))
 
 -- one more part of a plan and of a board
-pub parts_more : {S X : Type 0} (says : PlanPart → S → List ReportRow) (state : X → S) (chips : Bool) (plan : List PlanPart) (xs : List X) (i : ℕ) (part : PlanPart) (x : X) → i < length plan → i < length xs → part ≡ get_or plan i part → x ≡ get_or xs i x →
-    text_of (chosen_rows says chips part (state x)) ++ text_of (parts_rows says chips (drop (i + 1) plan) (map state (drop (i + 1) xs))) ≡ text_of (parts_rows says chips (drop i plan) (map state (drop i xs)))
-unfolding parts_rows
-parts_more {X = X} says state chips plan xs i part x lp lx at it = sym (text-append (chosen_rows says chips part (state x)) (parts_rows says chips (drop (i + 1) plan) (map state (drop (i + 1) xs)))) ∙ sym (ap (λ (l : List ReportRow). text_of l) opened)
+pub parts_more : {S X : Type 0} (says : PlanPart → S → List ℕ) (state : X → S) (chips : Bool) (plan : List PlanPart) (xs : List X) (i : ℕ) (part : PlanPart) (x : X) → i < length plan → i < length xs → part ≡ get_or plan i part → x ≡ get_or xs i x →
+    chosen_text says chips part (state x) ++ parts_text says chips (drop (i + 1) plan) (map state (drop (i + 1) xs)) ≡ parts_text says chips (drop i plan) (map state (drop i xs))
+unfolding parts_text
+parts_more {X = X} says state chips plan xs i part x lp lx at it = rw (one, other) refl
   where
     one : drop i plan ≡ part ∷ drop (i + 1) plan
     one = drop_more plan i part lp ∙ ap (λ (p : PlanPart). p ∷ drop (i + 1) plan) (sym at)
@@ -59,17 +59,14 @@ parts_more {X = X} says state chips plan xs i part x lp lx at it = sym (text-app
     other : drop i xs ≡ x ∷ drop (i + 1) xs
     other = drop_more xs i x lx ∙ ap (λ (y : X). y ∷ drop (i + 1) xs) (sym it)
 
-    opened : parts_rows says chips (drop i plan) (map state (drop i xs)) ≡ chosen_rows says chips part (state x) ++ parts_rows says chips (drop (i + 1) plan) (map state (drop (i + 1) xs))
-    opened = rw (one, other) refl
-
-pub parts_done : {S X : Type 0} (says : PlanPart → S → List ReportRow) (state : X → S) (chips : Bool) (plan : List PlanPart) (xs : List X) (i : ℕ) → min (length plan) (length xs) ≤ i → parts_rows says chips (drop i plan) (map state (drop i xs)) ≡ []
-unfolding parts_rows
+pub parts_done : {S X : Type 0} (says : PlanPart → S → List ℕ) (state : X → S) (chips : Bool) (plan : List PlanPart) (xs : List X) (i : ℕ) → min (length plan) (length xs) ≤ i → parts_text says chips (drop i plan) (map state (drop i xs)) ≡ []
+unfolding parts_text
 parts_done says state chips plan xs i past = go (cases_Bool (nat_le (length plan) i))
   where
-    none : (l : List PlanPart) → parts_rows says chips l [] ≡ []
+    none : (l : List PlanPart) → parts_text says chips l [] ≡ []
     none [] = refl
     none (p ∷ ps) = refl
 
-    go : (nat_le (length plan) i ≡ true) ⊎ (nat_le (length plan) i ≡ false) → parts_rows says chips (drop i plan) (map state (drop i xs)) ≡ []
+    go : (nat_le (length plan) i ≡ true) ⊎ (nat_le (length plan) i ≡ false) → parts_text says chips (drop i plan) (map state (drop i xs)) ≡ []
     go (inl few) = rw (drop_all i plan (leb-true (length plan) i few)) refl
     go (inr many) = rw (drop_all i xs (omega (arith, leb-false (length plan) i many))) (none (drop i plan))

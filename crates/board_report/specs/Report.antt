@@ -69,54 +69,56 @@ abbrev pub chip_row : List ℕ → Option Death → ReportRow
 chip_row id None = lines.Alive id
 chip_row id (Some death) = lines.Trap id (number_of death.trap) death.cycle
 
-abbrev pub uno_lines : PlanPart → Mcu → List ReportRow
-uno_lines part uno = uno_rows part.id uno
-
-abbrev pub own_lines : PlanPart → Reacting AnyOwn → List ReportRow
-own_lines part reacting = own_rows part reacting.held reacting.own
-
-abbrev pub chip_lines : PlanPart → Chip → List ReportRow
-chip_lines part chip = chip_row part.id chip.dead ∷ []
-
--- a player of recorded drives has none
-abbrev pub no_lines : PlanPart → PlayerState → List ReportRow
-no_lines part player = []
-
--- those of a part of one of two kinds
-abbrev pub either_lines : {A B : Type 0} → (PlanPart → A → List ReportRow) → (PlanPart → B → List ReportRow) → PlanPart → A ⊎ B → List ReportRow
-either_lines f g part (inl a) = f part a
-either_lines f g part (inr b) = g part b
-
-abbrev pub part_rows : PlanPart → AnyState → List ReportRow
-part_rows = either_lines uno_lines (either_lines own_lines chip_lines)
-
-abbrev pub play_part_rows : PlanPart → AnyState ⊎ PlayerState → List ReportRow
-play_part_rows = either_lines part_rows no_lines
-
--- the lines of parts, by how each stands; of the chips alone, or of all others
-module _ {S : Type 0} (says : PlanPart → S → List ReportRow) where
-  abbrev pub chosen_rows : Bool → PlanPart → S → List ReportRow
-  chosen_rows true part state = if is_chip (Some part.kind) then says part state else []
-  chosen_rows false part state = if is_chip (Some part.kind) then [] else says part state
-
-  -- those of the parts of a plan in their order
-  unfoldable pub parts_rows : Bool → List PlanPart → List S → List ReportRow
-  parts_rows chips [] states = []
-  parts_rows chips (part ∷ parts) [] = []
-  parts_rows chips (part ∷ parts) (state ∷ states) = chosen_rows chips part state ++ parts_rows chips parts states
-
+-- the texts of rows, one after the other
 abbrev pub text_of : List ReportRow → List ℕ
 text_of rows = concat (map line_of rows)
 
+abbrev pub uno_text : PlanPart → Mcu → List ℕ
+uno_text part uno = text_of (uno_rows part.id uno)
+
+abbrev pub own_text : PlanPart → Reacting AnyOwn → List ℕ
+own_text part reacting = text_of (own_rows part reacting.held reacting.own)
+
+abbrev pub chip_text : PlanPart → Chip → List ℕ
+chip_text part chip = line_of (chip_row part.id chip.dead)
+
+-- a player of recorded drives has none
+abbrev pub no_text : PlanPart → PlayerState → List ℕ
+no_text part player = []
+
+-- that of a part of one of two kinds
+abbrev pub either_text : {A B : Type 0} → (PlanPart → A → List ℕ) → (PlanPart → B → List ℕ) → PlanPart → A ⊎ B → List ℕ
+either_text f g part (inl a) = f part a
+either_text f g part (inr b) = g part b
+
+-- the text of a part, by how it stands
+abbrev pub part_text : PlanPart → AnyState → List ℕ
+part_text = either_text uno_text (either_text own_text chip_text)
+
+abbrev pub play_part_text : PlanPart → AnyState ⊎ PlayerState → List ℕ
+play_part_text = either_text part_text no_text
+
+-- the text of parts, by how each stands; of the chips alone, or of all others
+module _ {S : Type 0} (says : PlanPart → S → List ℕ) where
+  abbrev pub chosen_text : Bool → PlanPart → S → List ℕ
+  chosen_text true part state = if is_chip (Some part.kind) then says part state else []
+  chosen_text false part state = if is_chip (Some part.kind) then [] else says part state
+
+  -- that of the parts of a plan in their order
+  unfoldable pub parts_text : Bool → List PlanPart → List S → List ℕ
+  parts_text chips [] states = []
+  parts_text chips (part ∷ parts) [] = []
+  parts_text chips (part ∷ parts) (state ∷ states) = chosen_text chips part state ++ parts_text chips parts states
+
 -- the report after so many cycles, but for the chips
-abbrev pub rest_text : {S : Type 0} → (PlanPart → S → List ReportRow) → ℕ → List PlanPart → List S → List ℕ
-rest_text says cycles parts states = text_of (lines.Cycles cycles ∷ parts_rows says false parts states)
+abbrev pub rest_text : {S : Type 0} → (PlanPart → S → List ℕ) → ℕ → List PlanPart → List S → List ℕ
+rest_text says cycles parts states = line_of (lines.Cycles cycles) ++ parts_text says false parts states
 
 -- the same with the chips, which come last, or without
-abbrev pub shown_text : {S : Type 0} → (PlanPart → S → List ReportRow) → Bool → ℕ → List PlanPart → List S → List ℕ
-shown_text says true cycles parts states = rest_text says cycles parts states ++ text_of (parts_rows says true parts states)
+abbrev pub shown_text : {S : Type 0} → (PlanPart → S → List ℕ) → Bool → ℕ → List PlanPart → List S → List ℕ
+shown_text says true cycles parts states = rest_text says cycles parts states ++ parts_text says true parts states
 shown_text says false cycles parts states = rest_text says cycles parts states
 
 -- the report after so many cycles
 abbrev pub report_text : ℕ → List PlanPart → List AnyState → List ℕ
-report_text = shown_text part_rows true
+report_text = shown_text part_text true

@@ -1,13 +1,12 @@
 //! The lines of a board's parts.
 ghost use Rattle.std.specs.Prelude.{◌≡◌, ◌+◌, ◌<◌, ℕ, List, true, Some, map};
-ghost use Rattle.sim_report.specs.declared.row.ReportRow.{ReportRow};
 ghost use Rattle.board_build.specs.declared.plan.PlanPart.{PlanPart};
 ghost use Rattle.board_build.specs.Parts.{is_chip};
 ghost use Rattle.sim_base.specs.Outside.{SameOthers};
 ghost use Rattle.outcome_model.specs.Work.{Wrote, WroteOn};
 ghost use Rattle.any_part.specs.AnyBehaviour.{own_of};
 ghost use Rattle.sim_report.specs.Lines.{line_of};
-ghost use Rattle.board_report.specs.Report.{mode_of, is_input, ignored_row, uno_rows, own_rows, lcd_row, lcd_rows, chip_row, chosen_rows, parts_rows, text_of, shown_text};
+ghost use Rattle.board_report.specs.Report.{mode_of, is_input, ignored_row, uno_rows, own_rows, lcd_row, lcd_rows, chip_row, chosen_text, parts_text, text_of, shown_text};
 
 use any_part::AnyBehaviour;
 use avr_core::Mode;
@@ -173,18 +172,18 @@ fn chip_row(id: &Name, trap: Option<Death>) -> ReportRow
     }
 }
 
-/// A part that has lines in a report, by how it stands.
+/// A part that has a text in a report, by how it stands: whole lines, or nothing.
 pub trait Shown {
     ghost Stood: { Type 0 };
 
     ghost stood: { Self → Stood };
 
-    ghost says: { PlanPart → Stood → List ReportRow };
+    ghost says: { PlanPart → Stood → List ℕ };
 
     /// Writes its lines where the writing so far has not failed.
     fn write_lines<B: Bench>(&self, end: WriteEnd, part: &PlanPart, bench: &mut B) -> WriteEnd
         requires { (B.outside bench.old).opened Port.Report ≡ true }
-        ensures next { WroteOn end result Port.Report (text_of (says part.now (stood self.now))) (B.outside bench.old) (B.outside bench.new) }
+        ensures next { WroteOn end result Port.Report (says part.now (stood self.now)) (B.outside bench.old) (B.outside bench.new) }
         ensures named { (B.outside bench.new).name Port.Report ≡ (B.outside bench.old).name Port.Report }
         ensures opened { (B.outside bench.new).opened Port.Report ≡ true }
         ensures others { SameOthers Port.Report (B.outside bench.old) (B.outside bench.new) };
@@ -192,13 +191,13 @@ pub trait Shown {
 
 impl Shown for Mcu {
     ghost use Rattle.avr_mcu.specs.Mcu.{Mcu as State};
-    ghost use Rattle.board_report.specs.Report.{uno_lines};
+    ghost use Rattle.board_report.specs.Report.{uno_text};
 
     ghost Stood = { State };
 
     ghost stood = { λ p. p.mcu };
 
-    ghost says = { uno_lines };
+    ghost says = { uno_text };
 
     fn write_lines<B: Bench>(&self, end: WriteEnd, part: &PlanPart, bench: &mut B) -> WriteEnd {
         write_uno(end, &part.id, self, bench)
@@ -208,13 +207,13 @@ impl Shown for Mcu {
 impl Shown for Reactive<AnyBehaviour> {
     ghost use Rattle.reactive_part.specs.Reaction.{Reacting};
     ghost use Rattle.any_part.specs.AnyBehaviour.{AnyOwn, own_of};
-    ghost use Rattle.board_report.specs.Report.{own_lines};
+    ghost use Rattle.board_report.specs.Report.{own_text};
 
     ghost Stood = { Reacting AnyOwn };
 
     ghost stood = { λ p. record { own = own_of p.behaviour; held = p.held } };
 
-    ghost says = { own_lines };
+    ghost says = { own_text };
 
     fn write_lines<B: Bench>(&self, end: WriteEnd, part: &PlanPart, bench: &mut B) -> WriteEnd {
         write_own(end, part, self.held(), self.behaviour(), bench)
@@ -223,13 +222,13 @@ impl Shown for Reactive<AnyBehaviour> {
 
 impl Shown for Chip {
     ghost use Rattle.chip_host.specs.Chip.{Chip as State};
-    ghost use Rattle.board_report.specs.Report.{chip_lines};
+    ghost use Rattle.board_report.specs.Report.{chip_text};
 
     ghost Stood = { State };
 
     ghost stood = { λ p. p.chip };
 
-    ghost says = { chip_lines };
+    ghost says = { chip_text };
 
     fn write_lines<B: Bench>(&self, end: WriteEnd, part: &PlanPart, bench: &mut B) -> WriteEnd {
         let row = chip_row(&part.id, self.trap());
@@ -240,13 +239,13 @@ impl Shown for Chip {
 /// A player of recorded drives has no lines.
 impl Shown for Player {
     ghost use Rattle.board_laws.specs.Player.{PlayerState};
-    ghost use Rattle.board_report.specs.Report.{no_lines};
+    ghost use Rattle.board_report.specs.Report.{no_text};
 
     ghost Stood = { PlayerState };
 
     ghost stood = { λ p. p.player };
 
-    ghost says = { no_lines };
+    ghost says = { no_text };
 
     fn write_lines<B: Bench>(&self, end: WriteEnd, _part: &PlanPart, _bench: &mut B) -> WriteEnd {
         end
@@ -256,13 +255,13 @@ impl Shown for Player {
 impl<P: Shown, Q: Shown> Shown for Either<P, Q> {
     ghost use Rattle.std.specs.Prelude.{◌⊎◌};
     ghost use Rattle.either_part.specs.EitherPart.{either_state};
-    ghost use Rattle.board_report.specs.Report.{either_lines};
+    ghost use Rattle.board_report.specs.Report.{either_text};
 
     ghost Stood = { P.Stood ⊎ Q.Stood };
 
     ghost stood = { either_state P.stood Q.stood };
 
-    ghost says = { either_lines P.says Q.says };
+    ghost says = { either_text P.says Q.says };
 
     fn write_lines<B: Bench>(&self, end: WriteEnd, part: &PlanPart, bench: &mut B) -> WriteEnd {
         match self {
@@ -287,7 +286,7 @@ fn write_chosen<P: Shown, B: Bench>(
     bench: &mut B,
 ) -> WriteEnd
     requires { (B.outside bench.old).opened Port.Report ≡ true }
-    ensures next { WroteOn end result Port.Report (text_of (chosen_rows P.says chips part.now (P.stood state.now))) (B.outside bench.old) (B.outside bench.new) }
+    ensures next { WroteOn end result Port.Report (chosen_text P.says chips part.now (P.stood state.now)) (B.outside bench.old) (B.outside bench.new) }
     ensures named { (B.outside bench.new).name Port.Report ≡ (B.outside bench.old).name Port.Report }
     ensures opened { (B.outside bench.new).opened Port.Report ≡ true }
     ensures others { SameOthers Port.Report (B.outside bench.old) (B.outside bench.new) }
@@ -307,7 +306,7 @@ fn write_parts<P: Shown, B: Bench>(
     bench: &mut B,
 ) -> WriteEnd
     requires { (B.outside bench.old).opened Port.Report ≡ true }
-    ensures next { WroteOn end result Port.Report (text_of (parts_rows P.says chips plan.now (map P.stood parts.now))) (B.outside bench.old) (B.outside bench.new) }
+    ensures next { WroteOn end result Port.Report (parts_text P.says chips plan.now (map P.stood parts.now)) (B.outside bench.old) (B.outside bench.new) }
     ensures named { (B.outside bench.new).name Port.Report ≡ (B.outside bench.old).name Port.Report }
     ensures opened { (B.outside bench.new).opened Port.Report ≡ true }
     ensures others { SameOthers Port.Report (B.outside bench.old) (B.outside bench.new) }

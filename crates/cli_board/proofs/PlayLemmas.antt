@@ -10,14 +10,13 @@ use Rattle.board_model.specs.Board.{bytes, states}
 use Rattle.board_model.specs.Rows.{rows}
 use Rattle.board_laws.specs.Active.{active_pairs}
 use Rattle.board_build.specs.declared.plan.PlanPart.{PlanPart}
-use Rattle.sim_report.specs.declared.row.ReportRow.{ReportRow}
 use Rattle.board_report.specs.Report.{shown_text}
 use Rattle.board_outputs.specs.Run.{Outputs, texts_for}
 use Rattle.board_outputs.specs.Ran.{Writes}
 use Rattle.board_outputs.proofs.PlayLemmas.{same_run}
 
 -- the texts of a run are those of one of the same variables, wiring, inputs, states and parts
-pub same_texts : {S : Type 0} (m : Machine S) (says : PlanPart → S → List ReportRow) (chips : Bool) (end : WriteEnd) (out : Outputs) (n : ℕ) (a b : Outside)
+pub same_texts : {S : Type 0} (m : Machine S) (says : PlanPart → S → List ℕ) (chips : Bool) (end : WriteEnd) (out : Outputs) (n : ℕ) (a b : Outside)
     (vs us : List Variable) (w x : Wiring) (inputs values : List Input) (ss ts : List S) (ps qs : List PlanPart) → vs ≡ us → w ≡ x → inputs ≡ values → ss ≡ ts → ps ≡ qs →
     Writes end (texts_for out (wave_text vs (rows m w inputs None ss 0 n) n) (bytes m w inputs ss 0 n) (shown_text says chips n ps (states m w inputs ss 0 n)) (active_pairs m w inputs ss 0 n)) a b →
     Writes end (texts_for out (wave_text us (rows m x values None ts 0 n) n) (bytes m x values ts 0 n) (shown_text says chips n qs (states m x values ts 0 n)) (active_pairs m x values ts 0 n)) a b

@@ -14,7 +14,7 @@ use Rattle.board_model.specs.Rows.{rows}
 use Rattle.board_laws.specs.Player.{DriveRows, PlayerState}
 use Rattle.board_laws.specs.Play.{or_player}
 use Rattle.board_build.specs.declared.plan.Plan.{Plan}
-use Rattle.board_report.specs.Report.{play_part_rows, rest_text}
+use Rattle.board_report.specs.Report.{play_part_text, rest_text}
 use Rattle.chip_module.specs.Sources.{pins_of}
 use Rattle.any_part.specs.AnyPart.{AnyState, any}
 use Rattle.any_part.specs.Start.{Contents}
@@ -82,7 +82,7 @@ module _ (n : ℕ) (some : 0 < n) (most : n ≤ MOST_CYCLES) (p : declared.Play)
     rest_same : play_rest (has 0) plan n part_rows ≡ run_rest (has budget) plan n
     rest_same =
         sym ((law budget).rest ∙ ap (λ (d : List DriveRows). play_rest (has budget) plan n (part_of (has budget) plan d)) drives_same
-        ∙ ap (λ (ss : Starts). rest_text play_part_rows n plan.parts (states (or_player any) plan.wiring plan.inputs ss 0 n)) (begun budget))
+        ∙ ap (λ (ss : Starts). rest_text play_part_text n plan.parts (states (or_player any) plan.wiring plan.inputs ss 0 n)) (begun budget))
 
   pub repeats : RepeatsRun n (play_of p)
   repeats = λ budget out is.

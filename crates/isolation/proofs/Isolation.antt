@@ -33,11 +33,11 @@ use Rattle.chip_host.specs.ChipLaws.{drive_count, start_given}
 use Rattle.chip_module.specs.declared.source.ChipSource.{ChipSource}
 use Rattle.chip_module.specs.Sources.{pins_of}
 use Rattle.any_part.specs.AnyPart.{AnyState, any, any_laws}
-use Rattle.any_part.specs.Start.{Contents, chip_at_start, start_in, start_of, starts}
+use Rattle.any_part.specs.Start.{given_of, Contents, chip_at_start, start_in, start_of, starts}
 use Rattle.any_part.proofs.StartLemmas.{all_ready, start_at, starts_many}
-use Rattle.sim_report.specs.declared.row.ReportRow.{ReportRow}
 use Rattle.sim_report.specs.declared.row.ReportRow.TheVariants as lines
-use Rattle.board_report.specs.Report.{part_rows, play_part_rows, rest_text, text_of}
+use Rattle.sim_report.specs.Lines.{line_of}
+use Rattle.board_report.specs.Report.{part_text, play_part_text, rest_text}
 use Rattle.board_outputs.specs.Variables.{board_variables}
 use Rattle.cli_board.specs.Run.{run_wave, run_bytes, run_report, run_wakes, run_texts}
 use Rattle.board_outputs.specs.Run.{Outputs, texts_for}
@@ -61,7 +61,7 @@ module _ (has : Contents) (plan : Plan) (is : IsPlan (pins_of has.chips) plan) (
       ss = starts has plan.parts
 
       given : Given
-      given = record { table = source.binary.table; names = source.pins; attrs = part.attrs }
+      given = given_of source part.attrs
 
       s : Chip
       s = start_state source.binary.wasm source.binary.init given has.budget
@@ -102,14 +102,14 @@ module _ (has : Contents) (plan : Plan) (is : IsPlan (pins_of has.chips) plan) (
     bytes_played =
         all_bytes any IsChipState quiet_chips plan.wiring plan.inputs (starts has plan.parts) n (worlds.is_chip plan.wiring) drive_rows (chips_begin has plan is) drives
 
-    pub rest_played : rest_text part_rows n plan.parts (states any plan.wiring plan.inputs (starts has plan.parts) 0 n) ≡ play_rest has plan n drive_rows
+    pub rest_played : rest_text part_text n plan.parts (states any plan.wiring plan.inputs (starts has plan.parts) 0 n) ≡ play_rest has plan n drive_rows
     rest_played =
         let like = play_states any IsChipState quiet_chips plan.wiring plan.inputs (starts has plan.parts) n (worlds.is_chip plan.wiring) drive_rows (chips_begin has plan is)
         drives n (omega arith) in
-        ap (λ (rows : List ReportRow). text_of (lines.Cycles n ∷ rows)) (rest_same part_rows play_part_rows plan.parts _ _
+        ap (λ (t : List ℕ). line_of (lines.Cycles n) ++ t) (rest_same part_text play_part_text plan.parts _ _
         (alike_weaker (λ k a b. worlds.is_chip plan.wiring k ≡ false → b ≡ inl a)
-        (λ k a b. is_chip_at plan.parts k ≡ false → (part : PlanPart) → part_rows part a ≡ play_part_rows part b) _ _ like
-        (λ k a b ea eb h c part. ap (play_part_rows part) (sym (h (chips_are has plan is k ∙ c))))))
+        (λ k a b. is_chip_at plan.parts k ≡ false → (part : PlanPart) → part_text part a ≡ play_part_text part b) _ _ like
+        (λ k a b ea eb h c part. ap (play_part_text part) (sym (h (chips_are has plan is k ∙ c))))))
 
   -- So they are with the drives that the chips have in the run itself.
   own_are : AreDrives any plan.wiring plan.inputs (starts has plan.parts) n (worlds.is_chip plan.wiring) (own_rows has plan n)
@@ -211,17 +211,17 @@ module _ (one other : Contents) (plan twin : Plan) (end : ℕ)
       ∙ ap (λ (r : List Row). wave_text (board_variables (pins_of other.chips) beside) r end) rows_alike
 
   abbrev report_one : List ℕ
-  report_one = rest_text part_rows end plan.parts (run_states one plan end)
+  report_one = rest_text part_text end plan.parts (run_states one plan end)
 
-  report_alike : report_one ≡ rest_text part_rows end twin.parts (other_states plan.wiring plan.inputs end)
+  report_alike : report_one ≡ rest_text part_text end twin.parts (other_states plan.wiring plan.inputs end)
   report_alike =
       let xs : List AnyState = run_states one plan end in
       let ys : List AnyState = other_states plan.wiring plan.inputs end in
       let Rest : ℕ → AnyState → AnyState → Type 0 = λ k a b. worlds.is_chip plan.wiring k ≡ false → a ≡ b in
-      let Says : ℕ → AnyState → AnyState → Type 0 = λ k a b. is_chip_at plan.parts k ≡ false → (part : PlanPart) → part_rows part a ≡ part_rows part b in
-      let each = alike_weaker Rest Says xs ys (rest_alike end (omega arith)) (λ k a b ea eb h c part. ap (part_rows part) (h (chips_are one plan is k ∙ c))) in
-      let same = rest_same part_rows part_rows plan.parts xs ys each ∙ lines_same part_rows plan.parts twin.parts ys differ.parts in
-      ap (λ (l : List ReportRow). text_of (lines.Cycles end ∷ l)) same
+      let Says : ℕ → AnyState → AnyState → Type 0 = λ k a b. is_chip_at plan.parts k ≡ false → (part : PlanPart) → part_text part a ≡ part_text part b in
+      let each = alike_weaker Rest Says xs ys (rest_alike end (omega arith)) (λ k a b ea eb h c part. ap (part_text part) (h (chips_are one plan is k ∙ c))) in
+      let same = rest_same part_text part_text plan.parts xs ys each ∙ lines_same part_text plan.parts twin.parts ys differ.parts in
+      ap (λ (t : List ℕ). line_of (lines.Cycles end) ++ t) same
 
   pub one_world : IsOneWorld one other plan twin end
   one_world = record {
@@ -229,7 +229,7 @@ module _ (one other : Contents) (plan twin : Plan) (end : ℕ)
     levels = λ t h. as_wired (λ w inputs. levels_of any plan.wiring (run_states one plan t) ≡ levels_of any w (other_states w inputs t)) (levels_alike t h);
     bytes = λ t h. as_wired (λ w inputs. run_bytes one plan t ≡ bytes any w inputs (starts other twin.parts) 0 t) (bytes_alike t h);
     wave = as_wired (λ w inputs. run_wave one plan end ≡ run_wave other (wired w inputs) end) wave_alike;
-    report = as_wired (λ w inputs. report_one ≡ rest_text part_rows end twin.parts (other_states w inputs end)) report_alike;
+    report = as_wired (λ w inputs. report_one ≡ rest_text part_text end twin.parts (other_states w inputs end)) report_alike;
   }
 
 -- so every run of a plan that `build` answers is isolated

@@ -11,8 +11,7 @@ use Rattle.board_build.specs.declared.plan.Plan.{Plan}
 use Rattle.board_build.specs.Parts.{is_uno, is_chip}
 use Rattle.board_build.specs.Pins.{count_of, starts_from}
 use Rattle.board_build.specs.IsPlan.{IsPlan, can_run, contact_count, kinds_in}
-use Rattle.sim_report.specs.declared.row.ReportRow.{ReportRow}
-use Rattle.board_report.specs.Report.{chosen_rows, parts_rows}
+use Rattle.board_report.specs.Report.{chosen_text, parts_text}
 use Rattle.board_outputs.specs.Variables.{shown_names, pins_variables, part_variables, parts_variables}
 use Rattle.isolation.specs.Worlds.{IsSamePart}
 
@@ -76,22 +75,22 @@ variables_same pins net_of (first ∷ firsts) (p ∷ ps) (q ∷ qs) like =
     ∙ ap (λ (l : List Variable). part_variables pins net_of first q ++ l) (variables_same pins net_of firsts ps qs (tail_same p q ps qs like))
 
 -- and so do the lines of its other parts
-module _ {S : Type 0} (says : PlanPart → S → List ReportRow) where
-  line_same : (p q : PlanPart) (s : S) → IsSamePart p q → chosen_rows says false p s ≡ chosen_rows says false q s
+module _ {S : Type 0} (says : PlanPart → S → List ℕ) where
+  line_same : (p q : PlanPart) (s : S) → IsSamePart p q → chosen_text says false p s ≡ chosen_text says false q s
   line_same p q s part = go (is_chip (Some p.kind)) refl
     where
-      go : (chip : Bool) → is_chip (Some p.kind) ≡ chip → chosen_rows says false p s ≡ chosen_rows says false q s
+      go : (chip : Bool) → is_chip (Some p.kind) ≡ chip → chosen_text says false p s ≡ chosen_text says false q s
       go true is =
           ap (λ (c : Bool). if c then [] else says p s) is
           ∙ sym (ap (λ (c : Bool). if c then [] else says q s) (ap (λ (kind : PlanKind). is_chip (Some kind)) (sym part.kind) ∙ is))
-      go false is = ap (λ (r : PlanPart). chosen_rows says false r s) (part.rest is)
+      go false is = ap (λ (r : PlanPart). chosen_text says false r s) (part.rest is)
 
-  pub lines_same : (ps qs : List PlanPart) (ss : List S) → AreSameParts ps qs → parts_rows says false ps ss ≡ parts_rows says false qs ss
-  unfolding parts_rows
+  pub lines_same : (ps qs : List PlanPart) (ss : List S) → AreSameParts ps qs → parts_text says false ps ss ≡ parts_text says false qs ss
+  unfolding parts_text
   lines_same [] [] ss like = refl
   lines_same [] (q ∷ qs) ss like = let l = like.long in absurd (omega (arith, l))
   lines_same (p ∷ ps) [] ss like = let l = like.long in absurd (omega (arith, l))
   lines_same (p ∷ ps) (q ∷ qs) [] like = refl
   lines_same (p ∷ ps) (q ∷ qs) (s ∷ ss) like =
-      ap (λ (l : List ReportRow). l ++ parts_rows says false ps ss) (line_same p q s (like.each 0 p q refl refl))
-      ∙ ap (λ (l : List ReportRow). chosen_rows says false q s ++ l) (lines_same ps qs ss (tail_same p q ps qs like))
+      ap (λ (l : List ℕ). l ++ parts_text says false ps ss) (line_same p q s (like.each 0 p q refl refl))
+      ∙ ap (λ (l : List ℕ). chosen_text says false q s ++ l) (lines_same ps qs ss (tail_same p q ps qs like))

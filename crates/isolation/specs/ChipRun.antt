@@ -11,12 +11,12 @@ use Rattle.board_build.specs.declared.plan.Plan.{Plan}
 use Rattle.chip_host.specs.Chip.{chip, start_state}
 use Rattle.chip_module.specs.declared.source.ChipSource.{ChipSource}
 use Rattle.any_part.specs.AnyPart.{any}
-use Rattle.any_part.specs.Start.{Contents, starts}
+use Rattle.any_part.specs.Start.{Contents, given_of, starts}
 
 -- its drives in as many cycles, from cycle 0 on, as there are rows of levels
 abbrev pub chip_run : ChipSource → List (List ℕ × List ℕ) → ℕ → List (List Level) → List (List Drive)
 chip_run source attrs budget level_rows =
-    drive_rows chip (start_state source.binary.wasm source.binary.init (record { table = source.binary.table; names = source.pins; attrs = attrs }) budget) 0 level_rows
+    drive_rows chip (start_state source.binary.wasm source.binary.init (given_of source attrs) budget) 0 level_rows
 
 -- the run of the board of a plan for n cycles
 module _ (has : Contents) (plan : Plan) (n : ℕ) where

@@ -11,7 +11,7 @@ use Rattle.board_build.specs.declared.plan.Plan.{Plan}
 use Rattle.chip_module.specs.Sources.{pins_of}
 use Rattle.any_part.specs.AnyPart.{AnyState, any}
 use Rattle.any_part.specs.Start.{Contents, starts}
-use Rattle.board_report.specs.Report.{part_rows, parts_rows, play_part_rows, rest_text, text_of}
+use Rattle.board_report.specs.Report.{part_text, parts_text, play_part_text, rest_text}
 use Rattle.board_outputs.specs.Variables.{board_variables}
 use Rattle.cli_board.specs.Run.{run_wakes}
 use Rattle.board_outputs.specs.Run.{Outputs, texts_for}
@@ -34,11 +34,11 @@ module _ (has : Contents) (plan : Plan) (n : ℕ) where
 
     -- the report but for the chips
     abbrev pub play_rest : List ℕ
-    play_rest = rest_text play_part_rows n plan.parts (states (or_player any) plan.wiring plan.inputs play_starts 0 n)
+    play_rest = rest_text play_part_text n plan.parts (states (or_player any) plan.wiring plan.inputs play_starts 0 n)
 
   -- the lines of the chips in the run itself
   abbrev pub chip_lines : List ℕ
-  chip_lines = text_of (parts_rows part_rows true plan.parts (states any plan.wiring plan.inputs (starts has plan.parts) 0 n))
+  chip_lines = parts_text part_text true plan.parts (states any plan.wiring plan.inputs (starts has plan.parts) 0 n)
 
 -- The texts of the board with a player of its own drives in place of each chip. A player has no line in the report: the lines
 -- of the chips are those of the run itself, and so is the count of wakes.

@@ -9,7 +9,7 @@ use Rattle.board_build.specs.Parts.{is_chip}
 use Rattle.chip_module.specs.Sources.{pins_of}
 use Rattle.any_part.specs.AnyPart.{AnyState, any}
 use Rattle.any_part.specs.Start.{Contents, starts}
-use Rattle.board_report.specs.Report.{part_rows, rest_text}
+use Rattle.board_report.specs.Report.{part_text, rest_text}
 use Rattle.cli_board.specs.Run.{run_bytes, run_wave}
 
 -- a part of the same id and kind, and but for a chip with the same attributes
@@ -43,7 +43,7 @@ module _ (one other : Contents) (plan twin : Plan) (end : ℕ) where
     pub levels : (t : ℕ) → t < end → levels_of any plan.wiring (run_states one plan t) ≡ levels_of any twin.wiring (run_states other twin t)
     pub bytes : (t : ℕ) → t ≤ end → run_bytes one plan t ≡ run_bytes other twin t
     pub wave : run_wave one plan end ≡ run_wave other twin end
-    pub report : rest_text part_rows end plan.parts (run_states one plan end) ≡ rest_text part_rows end twin.parts (run_states other twin end)
+    pub report : rest_text part_text end plan.parts (run_states one plan end) ≡ rest_text part_text end twin.parts (run_states other twin end)
 
 -- In a run of n cycles the rest of the board sees of what its chips are made of nothing but their drives.
 abbrev pub SeesDrivesAlone : Contents → Plan → ℕ → Type 0

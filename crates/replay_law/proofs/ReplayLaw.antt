@@ -31,7 +31,7 @@ use Rattle.chip_host.specs.Inventory.{Given}
 use Rattle.chip_module.specs.declared.source.ChipSource.{ChipSource}
 use Rattle.chip_module.specs.Sources.{pins_of}
 use Rattle.any_part.specs.AnyPart.{AnyState, any, any_laws}
-use Rattle.any_part.specs.Start.{Contents, chip_at_start, start_in, starts}
+use Rattle.any_part.specs.Start.{Contents, chip_at_start, given_of, start_in, starts}
 use Rattle.any_part.proofs.StartLemmas.{all_ready, start_at, starts_fit}
 use Rattle.chip_law.specs.Named.{is_named, HasFree}
 use Rattle.chip_law.proofs.DriveLaw.{start_named, step_named, unnamed_drives, no_wiper}
@@ -122,7 +122,7 @@ module _ (has : Contents) (plan : Plan) (is : IsPlan (pins_of has.chips) plan) (
       many = ap (λ (l : List Bool). length l) is.chips ∙ length-map (kinds_in plan.parts) is_chip ∙ length-map plan.parts (λ (part : PlanPart). Some part.kind)
 
       given : PlanPart → ChipSource → Given
-      given part source = record { table = source.binary.table; names = source.pins; attrs = part.attrs }
+      given part source = given_of source part.attrs
 
       begun : PlanPart → ChipSource → Chip
       begun part source = start_state source.binary.wasm source.binary.init (given part source) has.budget

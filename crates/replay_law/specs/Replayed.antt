@@ -12,7 +12,7 @@ use Rattle.board_build.specs.Pins.{count_of}
 use Rattle.chip_module.specs.Sources.{pins_of}
 use Rattle.any_part.specs.AnyPart.{any}
 use Rattle.any_part.specs.Start.{Contents, starts}
-use Rattle.board_report.specs.Report.{part_rows, rest_text}
+use Rattle.board_report.specs.Report.{part_text, rest_text}
 use Rattle.board_outputs.specs.Variables.{board_variables}
 use Rattle.cli_board.specs.Run.{run_bytes, run_wave}
 use Rattle.wave_law.specs.Read.{rows_of_part, written_rows}
@@ -37,7 +37,7 @@ module _ (has : Contents) (plan : Plan) where
 
     -- the report of the run but for the chips
     abbrev pub run_rest : List ℕ
-    run_rest = rest_text part_rows n plan.parts (states any plan.wiring plan.inputs (starts has plan.parts) 0 n)
+    run_rest = rest_text part_text n plan.parts (states any plan.wiring plan.inputs (starts has plan.parts) 0 n)
 
     -- what is read of the wave of the run of n cycles
     pub record IsReplayed (drives : List DriveRows) : Type 0 where

@@ -2,9 +2,8 @@ use Rattle.std.proofs.Common.{◌≡◌, ◌∙◌, ◌+◌, ◌++◌, ◌<◌, 
 use Rattle.std.proofs.lemmas.List.{append_assoc, append-nil}
 use Rattle.sim_base.specs.declared.bench.Port.TheVariants as ports
 use Rattle.outcome_model.proofs.WriteLemmas.{others_more}
-use Rattle.sim_report.specs.declared.row.ReportRow.{ReportRow}
 use Rattle.board_build.specs.declared.plan.PlanPart.{PlanPart}
-use Rattle.board_report.specs.Report.{chosen_rows, parts_rows, text_of}
+use Rattle.board_report.specs.Report.{chosen_text, parts_text}
 use Rattle.board_report.proofs.ReportLemmas.{wrote_same, parts_more, parts_done}
 use Rattle.board_report.proofs.report.write_parts.Goals as goal
 
@@ -25,8 +24,8 @@ loop-i-preserved g c =
     let state = c.index-parts-i.result in
     let wrote = c.write_chosen-end in
     let done : List ℕ = l.invariant.done.0 in
-    let line : List ℕ = text_of (chosen_rows g.P.Shown.says c.args.chips part (g.P.Shown.stood state)) in
-    let rest : List ℕ = text_of (parts_rows g.P.Shown.says c.args.chips (drop (l.i + 1) plan) (map g.P.Shown.stood (drop (l.i + 1) parts))) in
+    let line : List ℕ = chosen_text g.P.Shown.says c.args.chips part (g.P.Shown.stood state) in
+    let rest : List ℕ = parts_text g.P.Shown.says c.args.chips (drop (l.i + 1) plan) (map g.P.Shown.stood (drop (l.i + 1) parts)) in
     let in_plan : l.i < length plan = omega (arith, c.loop-i-test.true, c.min-i-end.ensures) in
     let in_parts : l.i < length parts = omega (arith, c.loop-i-test.true, c.min-i-end.ensures) in
     record {
@@ -47,6 +46,6 @@ returns-clause-next g c =
     let parts = c.args.parts.now in
     let done : List ℕ = l.invariant.done.0 in
     let past : min (length plan) (length parts) ≤ l.i = rw (← c.min-i-end.ensures) c.loop-i-test.false in
-    let none : parts_rows g.P.Shown.says c.args.chips (drop l.i plan) (map g.P.Shown.stood (drop l.i parts)) ≡ [] = parts_done g.P.Shown.says g.P.Shown.stood c.args.chips plan parts l.i past in
-    let whole : done ≡ text_of (parts_rows g.P.Shown.says c.args.chips plan (map g.P.Shown.stood parts)) = sym (append-nil done) ∙ ap (λ (rows : List ReportRow). done ++ text_of rows) (sym none) ∙ l.invariant.done.2 in
+    let none : parts_text g.P.Shown.says c.args.chips (drop l.i plan) (map g.P.Shown.stood (drop l.i parts)) ≡ [] = parts_done g.P.Shown.says g.P.Shown.stood c.args.chips plan parts l.i past in
+    let whole : done ≡ parts_text g.P.Shown.says c.args.chips plan (map g.P.Shown.stood parts) = sym (append-nil done) ∙ ap (λ (t : List ℕ). done ++ t) (sym none) ∙ l.invariant.done.2 in
     λ a text w. wrote_same l.end ports.Report (text ++ done) _ a (g.B.Bench.outside l.bench) (ap (λ (u : List ℕ). text ++ u) whole) (l.invariant.done.1 a text w)

@@ -8,7 +8,7 @@ use Rattle.board_build.specs.Pins.{IsShort}
 use Rattle.chip_module.specs.declared.source.ChipSource.{ChipSource}
 use Rattle.chip_module.specs.Sources.{pins_of}
 use Rattle.any_part.specs.AnyPart.{any}
-use Rattle.board_report.specs.Report.{play_part_rows}
+use Rattle.board_report.specs.Report.{play_part_text}
 use Rattle.played_part.specs.Played.{PlayedPart, state_of}
 use Rattle.board_outputs.specs.Outputs.{outputs_of}
 use Rattle.cli_board.proofs.PlayLemmas.{same_texts}
@@ -24,7 +24,7 @@ load_played-requires-clause-few g c =
 pub returns-in-Ok-write_run-clause-ran : goal.returns-in-Ok-write_run-clause-ran
 returns-in-Ok-write_run-clause-ran g c =
     let is = c.in-Ok-new.ensures in
-    same_texts (or_player any) play_part_rows false writes.Ok (outputs_of c.args.outputs) c.args.n (g.B.Bench.outside c.args.bench.now) (g.B.Bench.outside c.write_run.new.bench) _ _ _ _ _ _ _ _ _ _
+    same_texts (or_player any) play_part_text false writes.Ok (outputs_of c.args.outputs) c.args.n (g.B.Bench.outside c.args.bench.now) (g.B.Bench.outside c.write_run.new.bench) _ _ _ _ _ _ _ _ _ _
     c.requires.ready.head (ap (λ (x : BoardView PlayedPart). x.wiring) is) (ap (λ (x : BoardView PlayedPart). x.inputs) is)
     (ap (λ (x : BoardView PlayedPart). map state_of x.parts) is ∙ rw c.as_slice.ensures at c.in-Ok.ensures.states) c.as_slice-planned.ensures
     (c.in-Ok-write_run.ensures.wrote _ (λ parts same. same))
@@ -32,7 +32,7 @@ returns-in-Ok-write_run-clause-ran g c =
 pub returns-clause-ran : goal.returns-clause-ran
 returns-clause-ran g c =
     let is = c.in-Ok-new.ensures in
-    same_texts (or_player any) play_part_rows false writes.Failed (outputs_of c.args.outputs) c.args.n (g.B.Bench.outside c.args.bench.now) (g.B.Bench.outside c.write_run.new.bench) _ _ _ _ _ _ _ _ _ _
+    same_texts (or_player any) play_part_text false writes.Failed (outputs_of c.args.outputs) c.args.n (g.B.Bench.outside c.args.bench.now) (g.B.Bench.outside c.write_run.new.bench) _ _ _ _ _ _ _ _ _ _
     c.requires.ready.head (ap (λ (x : BoardView PlayedPart). x.wiring) is) (ap (λ (x : BoardView PlayedPart). x.inputs) is)
     (ap (λ (x : BoardView PlayedPart). map state_of x.parts) is ∙ rw c.as_slice.ensures at c.in-Ok.ensures.states) c.as_slice-planned.ensures
     (c.in-Failed.ensures.wrote _ (λ parts same. same))
