@@ -1,4 +1,4 @@
-; SLEEP in another mode than idle halts the core, and no interrupt ends that: pin 6 goes on by timer 0, pin 13 stays.
+; SLEEP in another mode than idle and power-down halts the core, and no interrupt ends that: pin 6 goes on by timer 0, pin 13 stays.
 ; avr-gcc -mmcu=atmega328p -nostdlib -o a.elf halt.S && avr-objcopy -O ihex a.elf halt.hex
 #define __SFR_OFFSET 0
 #include <avr/io.h>
@@ -14,7 +14,7 @@ main:   sbi DDRB, 5
         out TCCR0A, r16
         ldi r16, 2
         sts TIMSK0, r16
-        ldi r16, 5              ; power-down
+        ldi r16, 3              ; ADC noise reduction
         out SMCR, r16
         sei
         ldi r16, 1
