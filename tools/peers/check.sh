@@ -85,6 +85,11 @@ if have cc && cc -O2 -o "$folder/uno" "$here/uno.c"; then
     for name in sram general read-sbi read-out read-nop int0 int0-sleep int0-reti; do
         row "mcu-$name" 3
     done
+    row eeprom 36000
+    row watchdog 210000
+    row resets 250000
+    row power-down 120000 @2000 2=low @4000 2=free @6000 2=low @8000 2=free @270000 2=low @280000 2=free @782177 2=low \
+        btn1.1.l:2 btn1.1.r:2 btn1.2.l:low btn1.2.r:low
     row adc-idle 25
     row adc 240 14~700 15=high pot1.GND:z pot1.SIG:14 pot1.VCC:z
     row one-byte 86
@@ -92,6 +97,7 @@ if have cc && cc -O2 -o "$folder/uno" "$here/uno.c"; then
     row usart-errors 110 8=0
     row spi 2500 11=12
     row spi-given-up 100 11=12 9=10
+    row spi-ss 20 8=10
     row twi-start 3
     row twi 1300 2-18 3-19
     row twi-bus 1500 2-18 3-19
