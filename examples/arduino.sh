@@ -12,7 +12,7 @@ if [ ! -d "$core" ] || ! command -v avr-g++ >/dev/null; then
 fi
 work=$(mktemp -d)
 trap 'rm -rf "$work"' EXIT
-common="-c -Os -w -ffunction-sections -fdata-sections -flto -mmcu=atmega328p -DF_CPU=16000000L -DARDUINO=10807 -DARDUINO_AVR_UNO -DARDUINO_ARCH_AVR -I$core -I$base/variants/standard -I$base/libraries/SPI/src -I$base/libraries/Wire/src"
+common="-c -Os -w -ffunction-sections -fdata-sections -flto -mmcu=atmega328p -DF_CPU=16000000L -DARDUINO=10807 -DARDUINO_AVR_UNO -DARDUINO_ARCH_AVR -I$core -I$base/variants/standard -I$base/libraries/SPI/src -I$base/libraries/Wire/src -I$base/libraries/EEPROM/src"
 # gcc-avr 5.4 leaves DECIMAL_DIG out of its float.h for C++, and WString.cpp wants it
 cpp="avr-g++ $common -DDECIMAL_DIG=__DECIMAL_DIG__ -std=gnu++11 -fpermissive -fno-exceptions -fno-threadsafe-statics"
 
@@ -38,7 +38,7 @@ sketch() { # NAME OF THE HEX FILE, SOURCE, FLAGS
         cp "$work/$name.hex" "$1"
     fi
 }
-for name in arduino-blink fade tone pot-blink pin-interrupt button serial-hello pot-serial i2c-scanner spi-loopback shift-out spi-shift latch seven-segment lcd-hello lcd-i2c chip-blinker chip-counter chip-thermometer chip-registers chip-echo; do
+for name in arduino-blink fade tone pot-blink pin-interrupt button eeprom-counter watchdog low-power serial-hello pot-serial i2c-scanner spi-loopback shift-out spi-shift latch seven-segment lcd-hello lcd-i2c chip-blinker chip-counter chip-thermometer chip-registers chip-echo; do
     sketch "$here/$name/$name.hex" "$here/$name/$name.ino"
 done
 # what bench/serial.sh measures

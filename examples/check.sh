@@ -107,7 +107,7 @@ twin twin/without-its-third-write/inverter.wasm inverter-without-its-third-write
 pulses <"$rows/crc.vcd" | same "crc in the rows" "$here/crc/expected/pulses.txt" || bad=1
 pulses <"$rows/sort.vcd" | same "sort in the rows" "$here/sort/expected/pulses.txt" || bad=1
 lights bit <"$rows/counter-down.vcd" | same "counter downwards in the rows" "$here/counter/expected/counts-down.txt" || bad=1
-for name in blink counter pulse arduino-blink fade tone pin-interrupt pot-blink button serial-hello pot-serial i2c-scanner spi-loopback shift-out spi-shift latch seven-segment lcd-hello lcd-i2c chip-inverter chip-blinker chip-counter chip-thermometer chip-registers chip-echo; do
+for name in blink counter pulse arduino-blink fade tone pin-interrupt pot-blink button eeprom-counter watchdog low-power serial-hello pot-serial i2c-scanner spi-loopback shift-out spi-shift latch seven-segment lcd-hello lcd-i2c chip-inverter chip-blinker chip-counter chip-thermometer chip-registers chip-echo; do
     "$program" check "$here/$name" | same "$name as a project" "$here/$name/expected/check.txt" || bad=1
 done
 "$program" bare "$here/blink/blink.hex" --us 1 | same blink "$here/blink/expected/wave.vcd" || bad=1
@@ -129,6 +129,7 @@ for name in shift-out spi-shift; do
     wave "$here/$name" 100000 | lights led | same "$name's LEDs" "$here/$name/expected/leds.txt" || bad=1
 done
 wave "$here/seven-segment" 1050000 | digits digit | same seven-segment "$here/seven-segment/expected/digits.txt" || bad=1
+wave "$here/watchdog" 500000 | at 13 5 | same "watchdog's pin 13" "$here/watchdog/expected/pin13.txt" || bad=1
 wave "$here/pot-blink" 950000 | at 13 10 | same pot-blink "$here/pot-blink/expected/pin13.txt" || bad=1
 "$here/arduino.sh" --check || bad=1
 
@@ -144,6 +145,9 @@ scripted() { # NAME MICROSECONDS
     same "$1's report" "$3/expected/report.txt" <"$down/report" || bad=1
 }
 scripted button 60000
+scripted eeprom-counter 250000
+scripted watchdog 500000
+scripted low-power 1000000
 scripted serial-hello 350000
 scripted pot-serial 290000
 scripted i2c-scanner 20000
@@ -156,6 +160,7 @@ scripted lcd-hello 1250000
 scripted lcd-i2c 150000
 "$program" run "$here/button" --us 60000 --script "$here/button/script.txt" --vcd - | at 13 1 | same "button's LED" "$here/button/expected/pin13.txt" || bad=1
 
+"$program" run "$here/low-power" --us 1000000 --script "$here/low-power/script.txt" --vcd - | at 13 1 | same "low-power's pin 13" "$here/low-power/expected/pin13.txt" || bad=1
 "$program" run "$here/latch" --us 20000 --script "$here/latch/script.txt" --vcd - | at 2 1 | same "latch's pin 2" "$here/latch/expected/pin2.txt" || bad=1
 
 # custom chips, with the modules that are here, and with those that clang makes of their sources

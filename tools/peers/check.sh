@@ -110,6 +110,9 @@ if have cc && cc -O2 -o "$folder/uno" "$here/uno.c"; then
     with_uno i2c-scanner 20000
     with_uno spi-loopback 5000 11=12
     with_uno button 60000 @160000 2=low @320000 2=free @480000 2=low @720000 2=free
+    with_uno eeprom-counter 250000
+    with_uno watchdog 500000
+    with_uno low-power 1000000 @4800000 2=low @5600000 2=free @11200000 2=low @11360000 2=free
     with_uno pot-serial 290000 14~300 @1440000 14~700 @3040000 14~1023
 else
     echo "uno.c: skipped, no compiler for C" >&2
