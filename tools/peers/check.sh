@@ -86,6 +86,8 @@ if have cc && cc -O2 -o "$folder/uno" "$here/uno.c"; then
         row "mcu-$name" 3
     done
     row eeprom 36000
+    row watchdog-reset 33000
+    row watchdog-wakes 33000
     row watchdog 210000
     row resets 250000
     row power-down 120000 @2000 2=low @4000 2=free @6000 2=low @8000 2=free @270000 2=low @280000 2=free @782177 2=low \
