@@ -1,6 +1,6 @@
 #!/bin/sh
 # What other programs make of the same inputs: simavr moves the same pins of the examples in the same cycles, uno.c, a
-# second reading of the data sheet, those of sketches with timers, interrupts, ADC, Serial, SPI and Wire, board.c, a second
+# second reading of the data sheet, those of sketches with timers, interrupts, ADC, Serial, SPI, Wire, watchdog, EEPROM and sleep, board.c, a second
 # reading of parts and nets, has the same waves of boards, chips.c, a second reading of docs/CHIPS.md, those of boards with chips,
 # make.c, one of the generated project, counts the same, as does `run` on that project's files, and wabt answers the same to the
 # modules of the gate. What cannot be asked is skipped, and said on standard error.
