@@ -9,6 +9,8 @@
 # before the script measures another program.
 set -euo pipefail
 here=$(cd "$(dirname "$0")" && pwd)
+# shellcheck source-path=SCRIPTDIR
+. "$here/boards.sh"
 program=${PROGRAM:-$here/../mudflatjar}
 "$program" bare "$here/pin.hex" --us 1 >/dev/null
 folder=$(mktemp -d)
@@ -21,32 +23,17 @@ seconds() { # of processor time of a command
 }
 to_file() { limited bare "$here/pin.hex" --us 1000000 >wave.vcd; }
 null() { limited bare "$here/$1.hex" --us "$2"; }
-board() { limited run "$1" --us "$2" --vcd /dev/null; }
+on_board() { limited run "$1" --us "$2" --vcd /dev/null; }
 traced() { simavr pin.elf; }
 untraced() { simavr -m atmega328p -f 16000000 "$here/$1.hex"; }
 
-project() { # NAME FIRMWARE PIN N M: an Uno with N LEDs on the pin and M on pin 2
-    mkdir "$1"
-    cp "$here/$2.hex" "$1/firmware.hex"
-    printf "[wokwi]\nversion = 1\nfirmware = 'firmware.hex'\n" >"$1/wokwi.toml"
-    awk -v pin="$3" -v on="$4" -v off="$5" 'BEGIN {
-        print "{ \"version\": 1, \"author\": \"bench\", \"editor\": \"wokwi\", \"parts\": ["
-        print "{ \"type\": \"wokwi-arduino-uno\", \"id\": \"uno\", \"attrs\": {} }"
-        for (i = 1; i <= on + off; i++) printf ", { \"type\": \"wokwi-led\", \"id\": \"l%d\", \"attrs\": {} }\n", i
-        print "], \"connections\": [ [ \"uno:GND.1\", \"l1:C\", \"black\", [] ]"
-        for (i = 1; i <= on + off; i++) {
-            printf ", [ \"uno:%s\", \"l%d:A\", \"green\", [] ]\n", i <= on ? pin : 2, i
-            if (i > 1) printf ", [ \"l1:C\", \"l%d:C\", \"black\", [] ]\n", i
-        }
-        print "], \"dependencies\": {} }"
-    }' >"$1/diagram.json"
-}
-project led pin 13 1 0
-project idle pin 13 1 62
-project row toggle 6 63 0
+leds=$(parts 63 wokwi-led l)
+board led pin - 'wokwi-led l1' $'uno:GND.1 l1:C\nuno:13 l1:A'
+board idle pin - "$leds" "$(cathodes 63)"$'\nuno:13 l1:A\n'"$(wires 63 uno:2 l A | tail -n +2)"
+board row toggle - "$leds" "$(cathodes 63)"$'\n'"$(wires 63 uno:6 l A)"
 
 what=("bare, pin 13, wave to /dev/null" "bare, pin 13, wave to a file" "run, an LED on pin 13" "run, an LED on pin 13 and 62 on pin 2" "bare, asleep but for 1,000 interrupts a second" "run, 63 LEDs on pin 6, 10 s")
-runs=("null pin 1000000" "to_file" "board led 1000000" "board idle 1000000" "null tick 10000000" "board row 10000000")
+runs=("null pin 1000000" "to_file" "on_board led 1000000" "on_board idle 1000000" "null tick 10000000" "on_board row 10000000")
 if command -v simavr >/dev/null; then
     what+=("simavr, pin 13, no wave" "simavr, asleep but for 1,000 interrupts a second")
     runs+=("untraced pin" "untraced tick")
@@ -58,10 +45,11 @@ else
     echo "simavr is not installed (Debian's package simavr), so not measured" >&2
 fi
 declare -a best
-for turn in 1 2 3 4 5; do
+for _ in 1 2 3 4 5; do
     for i in "${!runs[@]}"; do
+        # shellcheck disable=SC2086 # a command with its words
         now=$(seconds ${runs[$i]})
-        best[i]=$(printf '%s\n' "$now" ${best[i]:-} | sort -n | head -n 1)
+        best[i]=$(printf '%s\n' "$now" "${best[i]:-$now}" | sort -n | head -n 1)
     done
 done
 for i in "${!runs[@]}"; do

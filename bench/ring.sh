@@ -6,6 +6,8 @@
 # address space. PROGRAM=FILE before the script measures another program.
 set -euo pipefail
 here=$(cd "$(dirname "$0")" && pwd)
+# shellcheck source-path=SCRIPTDIR
+. "$here/boards.sh"
 program=${PROGRAM:-$here/../mudflatjar}
 "$program" bare "$here/pin.hex" --us 1 >/dev/null
 folder=$(mktemp -d)
@@ -16,22 +18,10 @@ limited() ( ulimit -v 65536; exec "$program" "$@" )
 seconds() { # of processor time of a command
     { TIMEFORMAT='%U + %S'; time "$@" >/dev/null 2>&1; } 2>&1 | bc | sed 's/^\./0./'
 }
-project() { # NAME LEDS
-    mkdir "$1"
-    echo ':00000001FF' >"$1/firmware.hex"
-    printf "[wokwi]\nversion = 1\nfirmware = 'firmware.hex'\n" >"$1/wokwi.toml"
-    awk -v leds="$2" 'BEGIN {
-        print "{ \"version\": 1, \"author\": \"bench\", \"editor\": \"wokwi\", \"parts\": ["
-        print "{ \"type\": \"wokwi-arduino-uno\", \"id\": \"uno\", \"attrs\": {} },"
-        print "{ \"type\": \"wokwi-gate-not\", \"id\": \"a\", \"attrs\": {} }, { \"type\": \"wokwi-gate-not\", \"id\": \"b\", \"attrs\": {} }"
-        for (i = 1; i <= leds; i++) printf ", { \"type\": \"wokwi-led\", \"id\": \"l%d\", \"attrs\": {} }\n", i
-        print "], \"connections\": [ [ \"a:OUT\", \"b:IN\", \"green\", [] ], [ \"b:OUT\", \"a:IN\", \"green\", [] ]"
-        for (i = 1; i <= leds; i++) printf ", [ \"uno:2\", \"l%d:A\", \"green\", [] ]\n", i
-        print "], \"dependencies\": {} }"
-    }' >"$1/diagram.json"
-}
-project ring 0
-project leds 61
+gates=$'wokwi-gate-not a\nwokwi-gate-not b'
+round=$'a:OUT b:IN\nb:OUT a:IN'
+board ring - - "$gates" "$round"
+board leds - - "$gates"$'\n'"$(parts 61 wokwi-led l)" "$round"$'\n'"$(wires 61 uno:2 l A)"
 plain() { limited run ring --us 1000000; }
 wave() { limited run ring --us 1000000 --vcd /dev/null; }
 leds() { limited run leds --us 1000000; }
@@ -39,10 +29,11 @@ leds() { limited run leds --us 1000000; }
 what=("a ring of two gates" "the same, wave to /dev/null" "the same without a wave, 61 LEDs beside it")
 runs=(plain wave leds)
 declare -a best
-for turn in 1 2 3; do
+for _ in 1 2 3; do
     for i in "${!runs[@]}"; do
+        # shellcheck disable=SC2086 # a command with its words
         now=$(seconds ${runs[$i]})
-        best[i]=$(printf '%s\n' "$now" ${best[i]:-} | sort -n | head -n 1)
+        best[i]=$(printf '%s\n' "$now" "${best[i]:-$now}" | sort -n | head -n 1)
     done
 done
 for i in "${!runs[@]}"; do

@@ -45,4 +45,8 @@ done
 for baud in 115200 2000000; do
     sketch "$here/../bench/print-$baud.hex" "$here/../bench/print.ino" -DBAUD=$baud
 done
+# what bench/instructions.sh counts
+for name in delay millis; do
+    sketch "$here/../bench/$name.hex" "$here/../bench/$name.ino"
+done
 exit $bad

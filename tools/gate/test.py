@@ -1,8 +1,9 @@
 #!/usr/bin/env python3
-"""Tests of wrong.py and times.py, on small made-up repositories; no prover runs."""
+"""Tests of wrong.py and times.py, on small made-up repositories, and of how bench/instructions.sh compares; no prover runs."""
 import contextlib
 import io
 import pathlib
+import subprocess
 import sys
 import tempfile
 import unittest
@@ -208,6 +209,50 @@ Tail.
         self.assertEqual(times.kind_of(["rattle", "build", "--test"], "/r"), "tests")
         self.assertEqual(times.kind_of(["rattle", "build", "-o", "out/a.o"], "/r"), "program")
         self.assertEqual(times.kind_of(["rattle", "build", "-o", "out/a.rlib"], "/r"), "proof")
+
+
+class Instructions(Repository):
+    SCRIPT = wrong.TOP / "bench/instructions.sh"
+    KEPT = """# Head
+what per old
+spin cycle 100
+ring cycle 5.00
+"""
+
+    def setUp(self):
+        super().setUp()
+        self.write("kept", self.KEPT)
+
+    def said(self, today, *words):
+        self.write("today", today)
+        command = [self.SCRIPT, "--kept", self.top / "kept", "--from", self.top / "today", *words]
+        ended = subprocess.run(command, capture_output=True, text=True)
+        return ended.returncode, [line.split() for line in ended.stdout.splitlines()], ended.stdout + ended.stderr
+
+    def test_what_got_dearer(self):
+        status, rows, text = self.said("spin cycle 101.10\nring cycle 5.05\nnew move 7\n")
+        self.assertEqual(status, 1)
+        self.assertEqual(rows[:4], [["what", "per", "old", "now", "ratio"], ["spin", "cycle", "100", "101.10", "1.011"], ["ring", "cycle", "5.00", "5.05", "1.010"], ["new", "move", "-", "7", "-"]])
+        self.assertTrue(text.endswith("dearer by more than 1 %:\n  spin: 101.10, kept 100, 1.011 times\n"))
+        self.assertEqual(self.said("spin cycle 90\n")[0], 0)
+
+    def test_figures_are_kept(self):
+        self.said("spin cycle 90.00\nnew move 7\n", "--keep", "young")
+        kept = (self.top / "kept").read_text().splitlines()
+        self.assertEqual(kept[0], "# Head")
+        rows = [["what", "per", "old", "young"], ["spin", "cycle", "100", "90.00"], ["ring", "cycle", "5.00", "-"], ["new", "move", "-", "7"]]
+        self.assertEqual([line.split() for line in kept[1:]], rows)
+        self.said("ring cycle 4\n", "--keep", "young")
+        self.assertIn(["ring", "cycle", "5.00", "4"], [line.split() for line in (self.top / "kept").read_text().splitlines()])
+        self.assertEqual(self.said("spin cycle 95\n")[0], 1)
+        self.assertEqual(self.said("spin cycle 95\n", "--than", "old")[0], 0)
+
+    def test_words_that_are_not_understood(self):
+        status, _, text = self.said("", "--than", "older")
+        self.assertEqual(status, 2)
+        self.assertIn("there are no kept figures of older", text)
+        self.assertEqual(self.said("", "--what")[0], 2)
+        self.assertEqual(self.said("", "--than")[0], 2)
 
 
 if __name__ == "__main__":

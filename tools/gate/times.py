@@ -183,7 +183,7 @@ def tell(taken, kept, top, counts):
     print(f"\nthe longest chain takes {least / 60:.0f} minutes: {', '.join(f'{it} {seconds(it):.0f}' for it in chain)}")
     told = [it for it in below if not (taken.get(it) or {}).get("proof")]
     if told:
-        print(f"not proved in this run, so with the kept seconds: {', '.join(told)}")
+        print(f"not proved in this run, so with the kept seconds: {', '.join(told) if len(told) < 20 else f'{len(told)} crates'}")
     middle, dearer = compare(taken, kept, lambda crate: counts.get(crate) == edits_in(top, crate))
     for kind in ("proof", "wrong bodies"):
         now, before = (sum(of[crate][kind] for crate in taken.keys() & kept.keys() if taken[crate][kind]) / 60 for of in (taken, kept))
@@ -253,4 +253,7 @@ def main():
 
 
 if __name__ == "__main__":
-    main()
+    try:
+        main()
+    except OSError as error:
+        sys.exit(f"{error.filename or 'times.py'}: {error.strerror}")

@@ -1,0 +1,2 @@
+#include "wokwi-api.h"
+void chip_init(void) { pin_init("A", INPUT); }
