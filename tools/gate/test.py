@@ -196,6 +196,9 @@ Tail.
         self.assertIn("| `low` | 200 | 180 | of 2 |  | 380 |\n| `side` | 130 |  |  |  | 130 |\n| `top` | 60 |  |  | 40 | 100 |\n| all | 390 | 180 | of 2 | 40 | 610 |\n", text)
         again = times.figures(text, {"top": {"proof": 90, "tests": 0, "wrong bodies": 0, "program": 0}}, self.top)
         self.assertIn("| `top` | 90 |  |  | 40 | 130 |", again)
+        self.assertIn("| `low` | 200 | 180 | of 2 |  | 380 |", again)
+        self.write("crates/low/must-fail/c.edit", "")
+        self.assertIn("| `low` | 200 |  | of 3 |  | 200 |", times.figures(text, {}, self.top))
 
     def test_words(self):
         self.assertEqual(times.words_of(["--keep", "rt", "ci"]), ({"--than": None, "--read": None, "--keep": True}, ["rt", "ci"]))

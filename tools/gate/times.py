@@ -199,13 +199,14 @@ def tell(taken, kept, top, counts):
 
 
 def figures(text, taken, top):
-    """The text of FIGURES.md with these seconds in its table; what was not measured stays as it was kept."""
-    kept, rows = read(text), []
+    """The text of FIGURES.md with these seconds in its table. What was not measured stays as it was kept, but for wrong bodies
+    where a crate has another number of them than then."""
+    kept, counts, rows = read(text), counts_of(text), []
     for crate in listed(top):
-        of = {kind: (taken.get(crate) or {}).get(kind) or kept.get(crate, {}).get(kind, 0) for kind in KINDS}
-        count = edits_in(top, crate)
-        if not count:
-            of["wrong bodies"] = 0
+        now, before, count = taken.get(crate) or {}, dict(kept.get(crate) or {}), edits_in(top, crate)
+        if count != counts.get(crate, 0):
+            before["wrong bodies"] = 0
+        of = {kind: now.get(kind) or before.get(kind, 0) for kind in KINDS}
         rows.append((crate, of["proof"], of["wrong bodies"], count, of["program"], of["proof"] + of["wrong bodies"] + of["program"]))
     rows.sort(key=lambda row: -row[5])
     shown = lambda seconds: f"{seconds:.0f}" if seconds else ""
