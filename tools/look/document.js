@@ -1,0 +1,23 @@
+// As much of a browser's document as drawing a board needs, for node: elements with attributes that are written as XML.
+const escaped = text => String(text).replace(/[&<>"]/g, c => ({ '&': '&amp;', '<': '&lt;', '>': '&gt;', '"': '&quot;' })[c]);
+class PlainElement {
+  constructor(tag) { this.tag = tag; this.attributes = new Map(); this.children = []; }
+  setAttribute(name, value) { this.attributes.set(name, String(value)); }
+  append(...children) { this.children.push(...children); }
+  prepend(...children) { this.children.unshift(...children); }
+  addEventListener() {}
+  set textContent(text) { this.children = [String(text)]; }
+  get textContent() { return this.children.map(child => typeof child === 'string' ? child : child.textContent).join(''); }
+  cloneNode() {
+    const copy = new PlainElement(this.tag);
+    copy.attributes = new Map(this.attributes); copy.children = [...this.children];
+    return copy;
+  }
+  get text() {
+    const attributes = [...this.attributes].map(([name, value]) => ` ${name}="${escaped(value)}"`).join('');
+    const inside = this.children.map(child => typeof child === 'string' ? escaped(child) : child.text).join('');
+    return inside ? `<${this.tag}${attributes}>${inside}</${this.tag}>` : `<${this.tag}${attributes}/>`;
+  }
+}
+globalThis.document = { createElementNS: (names, tag) => new PlainElement(tag) };
+globalThis.XMLSerializer = class { serializeToString(element) { return element.text; } };

@@ -1,0 +1,71 @@
+"""Runs scripts of page/ without a page: in node, or in a headless Chromium. For pictures of a board, and for tests."""
+import json
+import os
+import shutil
+import subprocess
+import tempfile
+
+from page import SCRIPTS, STYLES, json_text, script_of, style_of, text_of
+
+HERE = os.path.dirname(os.path.abspath(__file__))
+BROWSERS = ("chromium", "chromium-browser", "google-chrome", "chrome")
+SECONDS = 120
+
+
+class EngineMissing(Exception):
+    pass
+
+
+def node():
+    return shutil.which(os.environ.get("NODE", "node"))
+
+
+def browser():
+    return next((path for path in map(shutil.which, (os.environ.get("CHROMIUM", BROWSERS[0]), *BROWSERS[1:])) if path), None)
+
+
+def evaluated(call, data):
+    """What the scripts of page/, and then the expression `call`, make of `data` (a value of JSON, named `given`): a value of JSON."""
+    script = script_of([*SCRIPTS, "page.js"]).replace("\nconst opened = openPage();\nopened.catch", "\nconst opened = Promise.resolve();\nopened.catch")
+    if node():
+        return in_node(script, call, data)
+    if browser():
+        return in_browser(script, call, data)
+    raise EngineMissing("this needs node or Chromium, and neither is installed")
+
+
+def in_node(script, call, data):
+    text = f"{text_of('../document.js')}\n{script}\nconst given = {json_text(data)};\n(async () => {call})().then(value => process.stdout.write(JSON.stringify(value)));\n"
+    with tempfile.TemporaryDirectory() as box:
+        file = os.path.join(box, "look.js")
+        with open(file, "w", encoding="utf-8") as out:
+            out.write(text)
+        done = subprocess.run([node(), file], stdout=subprocess.PIPE, stderr=subprocess.PIPE, timeout=SECONDS, check=False)
+    if done.returncode:
+        raise RuntimeError(done.stderr.decode(errors="replace")[-2000:])
+    return json.loads(done.stdout)
+
+
+def in_browser(script, call, data):
+    text = ("<!DOCTYPE html><meta charset=utf-8><title>-</title><pre id=out></pre><script>" + script + f"\nconst given = {json_text(data)};\n"
+            f"(async () => {call})().then(value => {{ document.getElementById('out').textContent = encodeURIComponent(JSON.stringify(value)); }});</script>")
+    with tempfile.TemporaryDirectory() as box:
+        file = os.path.join(box, "look.html")
+        with open(file, "w", encoding="utf-8") as out:
+            out.write(text)
+        done = subprocess.run([browser(), "--headless=new", "--no-sandbox", "--disable-gpu", "--virtual-time-budget=60000", f"--user-data-dir={box}/profile",
+                               "--dump-dom", "file://" + file], stdout=subprocess.PIPE, stderr=subprocess.DEVNULL, timeout=SECONDS, check=False)
+    from urllib.parse import unquote
+    found = done.stdout.decode(errors="replace").split('<pre id="out">', 1)[-1].split("</pre>", 1)[0]
+    if not found:
+        raise RuntimeError("the browser gave no answer")
+    return json.loads(unquote(found))
+
+
+def board_svg(seen, cycle):
+    """The board at a cycle, as an SVG picture."""
+    from packing import packed
+    from page import data_of
+    given = {"data": data_of(seen), "packed": packed(seen.waves.waves), "css": style_of(STYLES), "t": cycle}
+    return evaluated("{ const run = await runOfPage(given.data, given.packed), board = drawBoard(run); board.update({ t: given.t, since: Math.max(run.from, given.t - EYE) });"
+                     " return boardPicture(board, given.css); }", given) + "\n"

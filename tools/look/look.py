@@ -1,0 +1,147 @@
+#!/usr/bin/env python3
+"""Runs a project and writes one HTML file in which the run can be seen: the board, its waves, what was sent, how it ended.
+
+    look.py FOLDER --us N [--script FILE] [-o PAGE] [--open] [--from US] [--to US]
+            [--svg PINS | --svg-board US] [--edges N] [--samples N]
+
+docs/LOOK.md describes the page. PROGRAM names the simulator, else it is ./mudflatjar.
+"""
+import argparse
+import os
+import pathlib
+import sys
+import time
+import webbrowser
+from typing import NamedTuple
+
+from engine import EngineMissing
+from page import page_of
+from picture import waves_svg
+from program import Refused, ShorterRuns, run
+from project import chips_of, diagram_of, displays_of, uno_of
+from serial_times import serial_times
+from shorter import first_times, shown_times
+from wave import Waves, read_wave
+
+CYCLES_A_MICROSECOND = 16
+EDGES = 6_000_000       # a page holds so many changes: 54 MB in the browser's memory
+SAMPLES = 64            # shorter runs, for what a wave does not hold
+
+
+class Seen(NamedTuple):
+    """A run, as a page shows it. Times are cycles; the waves are held from `start` up to `end`."""
+
+    title: str
+    cycles: int
+    start: int
+    end: int
+    diagram: dict
+    chips: dict
+    script: str
+    waves: Waves
+    sent: bytes
+    times: list
+    report: str
+    states: list
+    firsts: dict
+    left: str
+
+
+def arguments(words):
+    parser = argparse.ArgumentParser(prog="look", description="Runs a project and writes a page in which the run can be seen.")
+    parser.add_argument("folder")
+    parser.add_argument("--us", type=int, required=True, help="how long the run is, in microseconds")
+    parser.add_argument("--script", help="presses buttons and turns wipers (docs/SCRIPTS.md)")
+    parser.add_argument("-o", metavar="FILE", help="where to write; FOLDER.html if nothing is said")
+    parser.add_argument("--open", action="store_true", help="open the page in the browser")
+    parser.add_argument("--from", type=int, default=0, dest="start", metavar="US", help="the first microsecond that is kept")
+    parser.add_argument("--to", type=int, metavar="US", help="the microsecond up to which it is kept")
+    parser.add_argument("--svg", metavar="PINS", help="write a picture of the waves of these pins, names between commas, in place of a page; `moved` is each that moved")
+    parser.add_argument("--svg-board", type=int, metavar="US", help="write a picture of the board at this time in place of a page (needs node or Chromium)")
+    parser.add_argument("--edges", type=int, default=EDGES, help=f"how many changes a page may hold ({EDGES:,})")
+    parser.add_argument("--samples", type=int, default=SAMPLES, help=f"how many shorter runs may be made, for what no wave tells ({SAMPLES})")
+    given = parser.parse_args(words)
+    if given.to is None:
+        given.to = given.us
+    if not 0 <= given.start < given.to <= given.us:
+        parser.error("--from and --to are microseconds of the run, the first below the second")
+    if given.svg is not None and given.svg_board is not None:
+        parser.error("one picture at a time: --svg or --svg-board")
+    if given.svg_board is not None and not given.start <= given.svg_board <= given.to:
+        parser.error("--svg-board is a microsecond of what is kept")
+    if given.edges < 1 or given.samples < 0:
+        parser.error("--edges is at least 1, --samples at least 0")
+    return given
+
+
+def seen_of(given):
+    """Runs the project as the words say."""
+    diagram, chips, script = None, None, ""
+    start, end = given.start * CYCLES_A_MICROSECOND, given.to * CYCLES_A_MICROSECOND
+    kept = lambda name: keep_whole(name, given.folder)
+    sent, report, (waves, cut) = run(given.folder, given.us, given.script,
+                                     lambda stream: read_wave(stream, given.edges, start, end, kept))
+    diagram, chips = diagram_of(given.folder), chips_of(given.folder)   # the program has accepted them
+    if given.script:
+        with open(given.script, encoding="utf-8", errors="replace") as file:
+            script = file.read()
+    left = ""
+    if cut is not None:
+        left = (f"The wave has more changes than a page holds: here are those up to {cut / CYCLES_A_MICROSECOND:,.4f} µs"
+                f"{' of ' + format(given.us, ',') + ' µs' if given.us else ''}. Bytes and report are those of the whole run; --from and --to keep another part.")
+        end = min(end, cut)
+    transmit = waves.waves[waves.of[waves.names.index(uno_of(diagram) + ".1")]]
+    runs = ShorterRuns(given.folder, given.script, given.samples)
+    return Seen(os.path.basename(os.path.abspath(given.folder)), given.us * CYCLES_A_MICROSECOND, start, max(end, start + 1), diagram, chips, script,
+                waves, sent, serial_times(transmit, sent), report, shown_times(waves.waves, report, given.us, runs),
+                first_times(report, given.us, runs), left)
+
+
+def keep_whole(name, folder, known={}):
+    """Whether a variable is kept from the start of the run on: text displays and the bytes that are sent rest on their whole wave."""
+    if folder not in known:
+        diagram = diagram_of(folder)
+        known[folder] = displays_of(diagram), uno_of(diagram) + ".1"
+    displays, transmit = known[folder]
+    return name == transmit or name.split(".")[0] in displays
+
+
+def pictured(given, seen):
+    """The picture that the words ask for."""
+    if given.svg_board is not None:
+        from engine import board_svg
+        return board_svg(seen, given.svg_board * CYCLES_A_MICROSECOND)
+    from wave import moved_names
+    names = moved_names(seen.waves) if given.svg == "moved" else given.svg.split(",")
+    unknown = [name for name in names if name not in seen.waves.names]
+    if unknown:
+        sys.exit(f"look: the wave has no pin {unknown[0]}")
+    return waves_svg(seen.waves, names, seen.start, seen.end)
+
+
+def main(words):
+    given, begun = arguments(words), time.time()
+    picture = given.svg is not None or given.svg_board is not None
+    try:
+        seen = seen_of(given)
+        text = pictured(given, seen) if picture else page_of(seen)
+    except Refused as refused:
+        return refused.status
+    except EngineMissing as missing:
+        print(f"look: {missing}", file=sys.stderr)
+        return 1
+    name = given.o or os.path.basename(os.path.abspath(given.folder)) + (".svg" if picture else ".html")
+    try:
+        with open(name, "w", encoding="utf-8", newline="\n") as file:
+            file.write(text)
+    except OSError as error:
+        print(f"look: {name}: {error.strerror}", file=sys.stderr)
+        return 1
+    print(f"look: {name}, {len(text.encode()):,} bytes, {sum(map(len, seen.waves.waves)):,} changes, {time.time() - begun:.1f} s", file=sys.stderr)
+    if given.open and not picture:
+        webbrowser.open(pathlib.Path(name).absolute().as_uri())
+    return 0
+
+
+if __name__ == "__main__":
+    sys.exit(main(sys.argv[1:]))

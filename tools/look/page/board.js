@@ -1,0 +1,100 @@
+'use strict';
+// The board of a run as an SVG element, which shows the board at a moment.
+//
+//   const board = drawBoard(run, { pin(name) {}, part(id) {} });
+//   board.element   the <svg>, class `board`; board.css has its colours
+//   board.box       [x, y, width, height] of all that is drawn
+//   board.update({ t, since })   shows cycle t, with lights as their mean from `since` on; leads that moved more than once since
+//                   then are shown as moving, so nothing flickers
+//   board.texts({ t, since })    [[id, text], ..]: what the parts are at the moment, in words
+
+const STATE_WORDS = { 0: '0', 1: '1', z: 'z, nothing drives it', x: 'x, two levels at once', m: 'moving' };
+
+// The state of a pin: its level, or m where it changed more than once since `since`.
+function pinState(run, name, { t, since }) {
+  const wave = run.wave(name);
+  if (!wave) return 'z';
+  const i = findEdge(wave, t);
+  if (since < t && i - findEdge(wave, since) > 1) return 'm';
+  return LEVELS[wave.v[Math.max(i, 0)]];
+}
+
+function drawBoard(run, on = {}) {
+  const layers = { uno: svg('g'), wires: svg('g', { class: 'wires' }), parts: svg('g'), shine: svg('g', { class: 'shine', 'aria-hidden': 'true' }), pins: svg('g'), names: svg('g') };
+  const element = svg('svg', { class: 'board', role: 'img', 'aria-label': `the board: ${run.parts.map(part => part.id).join(', ')}` });
+  const drawing = { run, on, layers, updates: [], tells: [], leads: [], spots: new Map(), box: [Infinity, Infinity, -Infinity, -Infinity] };
+  for (const part of run.parts) drawPart(drawing, part);
+  for (const wire of run.wires) drawWire(drawing, wire);
+  element.append(...Object.values(layers));
+  const [x0, y0, x1, y1] = drawing.box[0] < Infinity ? drawing.box : [0, 0, 100, 100], edge = 14;
+  const box = [x0 - edge, y0 - edge - 4, x1 - x0 + 2 * edge, y1 - y0 + 2 * edge + 4].map(n => Math.round(n * 10) / 10);
+  element.setAttribute('viewBox', box.join(' '));
+  return {
+    element, box,
+    update(moment) {
+      for (const update of drawing.updates) update(moment);
+      for (const lead of drawing.leads) showLead(run, lead, moment);
+    },
+    texts: moment => drawing.tells.map(([id, tell]) => [id, tell(moment)]).filter(([, text]) => text !== null),
+  };
+}
+
+function widen(drawing, [x, y]) {
+  const box = drawing.box;
+  box[0] = Math.min(box[0], x); box[1] = Math.min(box[1], y); box[2] = Math.max(box[2], x); box[3] = Math.max(box[3], y);
+}
+
+function drawPart(drawing, part) {
+  const { run, on, layers } = drawing, entry = entryOf(part, run.wires), [width, height] = entry.size, place = placeOf(part, entry.size);
+  const g = svg('g', { class: 'part', transform: `translate(${part.left} ${part.top}) rotate(${part.rotate} ${width / 2} ${height / 2})` });
+  const update = entry.draw(g, part, run), corners = [[0, 0], [width, 0], [0, height], [width, height]].map(place);
+  if (update) drawing.updates.push(update);
+  if (entry.tell) drawing.tells.push([part.id, moment => entry.tell(part, run, moment)]);
+  g.append(svg('title', {}, `${part.id}: ${part.type}${entry.note ? ', ' + entry.note(part) : ''}`));
+  g.addEventListener('click', () => on.part && on.part(part.id));
+  const isUno = part.type === 'wokwi-arduino-uno';
+  if (!part.hidden) (isUno ? layers.uno : layers.parts).append(g);
+  corners.forEach(corner => widen(drawing, corner));
+  if (isUno) widen(drawing, place([-14, 50]));
+  if (part.type === 'wokwi-text') widen(drawing, place([Math.max(...String(part.attrs.text || '').split('\n').map(line => line.length)) * 7.4, 16.5 * String(part.attrs.text || '').split('\n').length]));
+  if (entry.named !== false) drawName(drawing, part, corners);
+  for (const [name, spot] of Object.entries(pinsOf(entry, part))) drawPin(drawing, part, name, place(spot));
+}
+
+function drawName(drawing, part, corners) {
+  const x = corners.reduce((sum, corner) => sum + corner[0], 0) / 4, top = Math.min(...corners.map(corner => corner[1])), bottom = Math.max(...corners.map(corner => corner[1]));
+  drawing.layers.names.append(label(x, top - 4, part.id, { class: 'name' }));
+  if (part.attrs.label) drawing.layers.names.append(label(x, bottom + 11, part.attrs.label, { class: 'name given' }));
+}
+
+function drawPin(drawing, part, name, [cx, cy]) {
+  const pin = pinOf(part, name), dot = circle(cx, cy, 2.5), tip = svg('title');
+  drawing.spots.set(`${part.id}:${name}`, [cx, cy]);
+  dot.append(tip);
+  dot.addEventListener('click', () => drawing.on.pin && drawing.on.pin(pin));
+  drawing.layers.pins.append(dot);
+  drawing.leads.push({ element: dot, pin, tip, kind: 'pin' });
+}
+
+// Wires lie over the Uno and under all other parts, so that these can be read, and shine through them.
+function drawWire(drawing, [first, second, color, hints]) {
+  const from = drawing.spots.get(first), to = drawing.spots.get(second);
+  if (!from || !to) return;         // a wire to the serial monitor
+  const points = routeOf(from, to, Array.isArray(hints) ? hints.filter(hint => typeof hint === 'string') : []), d = roundedPath(points);
+  const [pin] = [first, second].map(end => end.replace(':', '.')).filter(name => drawing.run.waveOf.has(name)).concat(first.replace(':', '.'));
+  const paint = colorOf(color, COLORS.gray), deep = rgb(paint).every(n => n < 90) ? ' deep' : '', g = svg('g'), tip = svg('title');
+  g.append(path(d, { class: 'halo' }), path(d, { class: 'casing' }), path(d, { class: 'core', stroke: paint }), tip);
+  g.addEventListener('click', () => drawing.on.pin && drawing.on.pin(pin));
+  drawing.layers.wires.append(g);
+  drawing.layers.shine.append(path(d, { class: 'core', stroke: paint }));
+  points.forEach(point => widen(drawing, point));
+  drawing.leads.push({ element: g, pin, tip, kind: 'wire' + deep, ends: `${first} – ${second}` });
+}
+
+function showLead(run, lead, moment) {
+  const state = pinState(run, lead.pin, moment);
+  if (state === lead.shown) return;
+  lead.shown = state;
+  lead.element.setAttribute('class', `${lead.kind} v${state}`);
+  lead.tip.textContent = `${lead.ends || lead.pin}: ${STATE_WORDS[state]}`;
+}

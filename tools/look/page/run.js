@@ -1,0 +1,111 @@
+'use strict';
+// A run: all that a page shows, as plain data, wherever it comes from. README.md lists its fields.
+
+const CYCLES_A_MICROSECOND = 16;
+const ALWAYS_LOW = makeWave([0], [0]), ALWAYS_HIGH = makeWave([0], [1]);
+const UNO_SUPPLY = /^(5V|3\.3V|VIN|IOREF|AREF)$/, UNO_GROUND = /^GND\.[123]$/;
+const SET_BY_HAND = new Set(['wokwi-pushbutton', 'wokwi-slide-switch', 'wokwi-dip-switch-8', 'wokwi-potentiometer', 'wokwi-membrane-keypad']);
+
+// From what the program takes and writes: texts, and bytes as Uint8Array.
+// chips: {'chip-NAME': [pin, ..]}, the pins of each custom chip.
+function runFrom({ title, us, diagram, chips, script, vcd, serial, report, program }) {
+  const wave = readVcd(vcd);
+  const run = makeRun({ title, cycles: us * CYCLES_A_MICROSECOND, diagram, chips, script, names: wave.names, of: wave.of, waves: wave.waves, serial, report, program });
+  const uno = run.parts.find(part => part.type === 'wokwi-arduino-uno');
+  run.serial.times = uno ? serialTimes(run.wave(uno.id + '.1'), run.serial.bytes) : null;
+  return run;
+}
+
+// From waves that are read already.
+function makeRun({ title, cycles, from = 0, to = cycles, diagram, chips = {}, script = '', names, of, waves, serial, times = null,
+  report = '', states = [], firsts = {}, left = '', program = '' }) {
+  const drawing = typeof diagram === 'string' ? JSON.parse(diagram) : diagram;
+  const parts = (drawing.parts || []).map(part => partOf(part, chips));
+  const run = {
+    title, cycles, from, to, names, waves, report, states, program, left,
+    parts, wires: (drawing.connections || []).filter(wire => Array.isArray(wire)),
+    waveOf: new Map(names.map((name, i) => [name, of[i]])),
+    inputs: inputsOf(parts, script),
+    serial: { bytes: serial || new Uint8Array(0), times },
+    notes: notesOf(report, firsts, parts),
+    cache: new Map(),               // what displays and decoders found, by a name that they choose
+  };
+  run.sharing = sharingOf(run, of);
+  run.wave = name => waveNamed(run, name);
+  run.once = (key, make) => { if (!run.cache.has(key)) run.cache.set(key, make()); return run.cache.get(key); };
+  return run;
+}
+
+function partOf(part, chips) {
+  const number = x => typeof x === 'number' && isFinite(x) ? x : 0, attrs = Object.create(null);
+  for (const [name, value] of Object.entries(part.attrs || {})) attrs[name] = String(value);
+  return { type: String(part.type), id: String(part.id), left: number(part.left), top: number(part.top), rotate: number(part.rotate),
+    hidden: part.hide === true, attrs, pins: chips[part.type] || null };
+}
+
+// The names that share a wave, without what a chip's pin drives by itself.
+const isOwnDrive = name => /\.(out|pull)$/.test(name);
+function sharingOf(run, of) {
+  const sharing = run.waves.map(() => []);
+  run.names.forEach((name, i) => { if (!isOwnDrive(name)) sharing[of[i]].push(name); });
+  return sharing;
+}
+
+// The wave of a pin. The Uno's supplies and grounds are in no wave, since they never change.
+function waveNamed(run, name) {
+  if (run.waveOf.has(name)) return run.waves[run.waveOf.get(name)];
+  const at = name.indexOf('.'), pin = name.slice(at + 1);
+  const part = run.parts.find(p => p.id === name.slice(0, at));
+  if (!part || part.type !== 'wokwi-arduino-uno') return null;
+  if (pin === 'A4.2' || pin === 'A5.2') return waveNamed(run, name.slice(0, -2));
+  return UNO_GROUND.test(pin) ? ALWAYS_LOW : UNO_SUPPLY.test(pin) ? ALWAYS_HIGH : null;
+}
+
+// Of each part that a hand sets: [[cycle, value], ..], from the diagram and the script (docs/SCRIPTS.md).
+function inputsOf(parts, script) {
+  const inputs = Object.create(null);
+  for (const part of parts) {
+    if (!SET_BY_HAND.has(part.type)) continue;
+    const starts = part.type === 'wokwi-slide-switch' || part.type === 'wokwi-potentiometer';
+    inputs[part.id] = [[0, starts ? Number(part.attrs.value) || 0 : 0]];
+  }
+  for (const line of script.split('\n')) {
+    const [time, action, id, value] = line.trim().split(/ +/);
+    if (!time || time.startsWith('#') || !inputs[id]) continue;
+    const cycle = parseInt(time, 10) * (time.endsWith('us') ? CYCLES_A_MICROSECOND : 1);
+    inputs[id].push([cycle, action === 'press' ? 1 : action === 'release' ? 0 : Number(value)]);
+  }
+  return inputs;
+}
+
+function lastBefore(list, t) {      // the last entry of [[cycle, ..], ..] at or before cycle t; -1 if there is none
+  let low = 0, high = list.length;
+  while (low < high) { const middle = (low + high) >> 1; if (list[middle][0] <= t) low = middle + 1; else high = middle; }
+  return low - 1;
+}
+const inputAt = (run, id, t) => { const list = run.inputs[id] || []; return list.length ? list[Math.max(lastBefore(list, t), 0)][1] : 0; };
+
+// Lines of shorter runs' reports about a part, from the last of them that ended at or before cycle t.
+function sampledLines(run, id, t) {
+  const i = lastBefore(run.states, t);
+  return i < 0 ? [] : run.states[i][1].filter(line => line.split(' ')[1] === id);
+}
+
+// How much of the time from `start` to t a light was on that needs `anode` high and `cathode` low: 0 to 1.
+function lightShare(run, anode, cathode, start, t) {
+  const a = run.wave(anode), c = run.wave(cathode);
+  if (!a || !c) return 0;
+  const on = cycle => levelAt(a, cycle) === 1 && levelAt(c, cycle) === 0 ? 1 : 0;
+  const from = Math.max(start, run.from);
+  if (t <= from) return on(t);
+  if (findEdge(c, from) === findEdge(c, t)) return levelAt(c, t) === 0 ? highShare(a, from, t) : 0;
+  let sum = 0, cycle = from, i = findEdge(a, from) + 1, k = findEdge(c, from) + 1;
+  for (let steps = 0; cycle < t && steps < 20000; steps++) {          // both move: sum over the stretches between their changes
+    const next = Math.min(i < a.t.length ? a.t[i] : t, k < c.t.length ? c.t[k] : t, t);
+    sum += on(cycle) * (next - cycle);
+    cycle = next;
+    if (a.t[i] === next) i++;
+    if (c.t[k] === next) k++;
+  }
+  return cycle > from ? sum / (cycle - from) : on(t);
+}

@@ -1,0 +1,48 @@
+"""When the bytes that the Uno sent were sent, read from the wave of its pin 1.
+
+The baud rate is told nowhere, so candidates for the time of a bit are the commonest gaps between changes, divided by 1 to 9. Frames
+are taken one after another: each must give the next byte that was sent, with the bit time of the frame before if that does, else
+with another one. So a sketch may change its baud rate. A frame ends ten bits after its start bit began.
+"""
+import collections
+
+from wave import level_at
+
+
+def bit_times(wave):
+    gaps = collections.Counter((b >> 2) - (a >> 2) for a, b in zip(wave[:4000], wave[1:4000]))
+    gaps.update((b >> 2) - (a >> 2) for a, b in zip(wave[-4000:], wave[-3999:]))
+    return sorted({gap // k for gap, _ in gaps.most_common(8) for k in range(1, 10) if gap % (8 * k) == 0}, reverse=True)
+
+
+def byte_at(wave, start, bit):
+    """The byte of the frame that begins at cycle `start`; None if its stop bit is low."""
+    levels = [level_at(wave, start + bit * k + bit // 2) == 1 for k in range(1, 10)]
+    return sum(one << k for k, one in enumerate(levels[:8])) if levels[8] else None
+
+
+def serial_times(wave, sent):
+    """The cycle in which the frame of each byte ended; None where the wave does not give exactly these bytes."""
+    candidates = bit_times(wave) if sent else []
+    for first in candidates:
+        times = times_from(wave, sent, [first] + [bit for bit in candidates if bit != first])
+        if times is not None:
+            return times
+    return None if sent else []
+
+
+def times_from(wave, sent, bits):
+    times, free = [], 1
+    for before, edge in zip(wave, wave[1:]):
+        start = edge >> 2
+        if edge & 3 or before & 3 != 1 or start < free:
+            continue
+        if len(times) == len(sent):
+            break
+        bit = next((bit for bit in bits if byte_at(wave, start, bit) == sent[len(times)]), None)
+        if bit is None:
+            return None
+        bits = [bit] + [other for other in bits if other != bit]
+        times.append(start + 10 * bit)
+        free = start + 9 * bit + bit // 2
+    return times if len(times) == len(sent) else None
