@@ -2,7 +2,7 @@
 
 The baud rate is told nowhere, so candidates for the time of a bit are the commonest gaps between changes, divided by 1 to 9. Frames
 are taken one after another: each must give the next byte that was sent, with the bit time of the frame before if that does, else
-with another one. So a sketch may change its baud rate. A frame ends ten bits after its start bit began.
+with another one. So a sketch may change its baud rate. A frame has ten bits; its last cycle is that in which the byte is sent.
 """
 import collections
 
@@ -22,7 +22,7 @@ def byte_at(wave, start, bit):
 
 
 def serial_times(wave, sent):
-    """The cycle in which the frame of each byte ended; None where the wave does not give exactly these bytes."""
+    """The last cycle of the frame of each byte; None where the wave does not give exactly these bytes."""
     candidates = bit_times(wave) if sent else []
     for first in candidates:
         times = times_from(wave, sent, [first] + [bit for bit in candidates if bit != first])
@@ -43,6 +43,6 @@ def times_from(wave, sent, bits):
         if bit is None:
             return None
         bits = [bit] + [other for other in bits if other != bit]
-        times.append(start + 10 * bit)
+        times.append(start + 10 * bit - 1)
         free = start + 9 * bit + bit // 2
     return times if len(times) == len(sent) else None

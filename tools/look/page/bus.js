@@ -50,12 +50,12 @@ function bitTimes(wave) {
   return [...times].sort((a, b) => b - a);
 }
 
-// The cycle in which the frame of each sent byte ended, and the bit time; null if the wave does not give exactly these bytes.
+// The last cycle of the frame of each sent byte; null if the wave does not give exactly these bytes.
 function serialTimes(wave, sent) {
   if (!sent.length) return [];
   for (const bit of wave ? bitTimes(wave) : []) {
     const frames = uartFrames(wave, bit, Infinity).slice(0, sent.length);
-    if (frames.length === sent.length && frames.every((f, i) => f.value === sent[i])) return frames.map(f => f.to);
+    if (frames.length === sent.length && frames.every((f, i) => f.value === sent[i])) return frames.map(f => f.to - 1);
   }
   return null;
 }
@@ -63,8 +63,8 @@ function serialTimes(wave, sent) {
 // The bit time of a pin on which bytes end at `times`: each frame is ten bits long and begins with a fall.
 function bitTimeOf(wave, times) {
   return bitTimes(wave).find(bit => times.slice(0, 50).every(t => {
-    const i = findEdge(wave, t - 10 * bit);
-    return i > 0 && wave.t[i] === t - 10 * bit && wave.v[i] === 0;
+    const start = t + 1 - 10 * bit, i = findEdge(wave, start);
+    return i > 0 && wave.t[i] === start && wave.v[i] === 0;
   })) || null;
 }
 

@@ -69,7 +69,7 @@ function unoBoard(g) {
     rect(118, 122, 136, 30, { ...black, rx: 2 }), path('M118 132A5 5 0 0 1 118 142Z', { fill: '#0d0f10' }),
     label(189, 140, 'ATmega328P', { ...middle, 'font-size': 9, fill: '#aab1b5' }),
     label(160, 86, 'UNO', { 'font-size': 27, 'font-weight': 700, fill: '#e9f6f7', 'letter-spacing': 1.5 }), label(161, 98, '16 MHz', { 'font-size': 8, fill: '#a9d5da' }),
-    label(221, 44, 'DIGITAL (PWM ~)', { ...silk, ...middle, 'font-size': 7 }), label(160, 159.5, '', silk),
+    label(221, 44, 'DIGITAL (PWM ~)', { ...silk, ...middle, 'font-size': 7 }), 
     label(160, 163.5, 'POWER', { ...silk, ...middle, 'font-size': 7 }), label(232, 163.5, 'ANALOG IN', { ...silk, ...middle, 'font-size': 7 }),
     rect(82, 4, 98, 10, black), rect(184, 4, 77, 10, black), rect(126, 186.5, 67.5, 10, black), rect(203, 186.5, 58, 10, black),
   );
@@ -283,7 +283,7 @@ const PARTS = {
         cells.forEach((letter, i) => { if (letter.textContent !== lines[i]) letter.textContent = lines[i]; });
       };
     },
-    tell: (part, run, moment) => { const states = lcdStates(run, part); return states[Math.max(lastBefore(states, moment.t), 0)][1].map(line => `|${line}|`).join(' '); },
+    tell: (part, run, moment) => { const states = lcdStates(run, part); return states[Math.max(lastBefore(states, moment.t), 0)][1].map(line => `|${line}|`).join('\n'); },
   },
 };
 for (const kind of words('not buffer and-2 or-2 nand-2 nor-2 xor-2 xnor-2')) PARTS['wokwi-gate-' + kind] = gate(kind);

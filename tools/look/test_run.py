@@ -1,0 +1,258 @@
+#!/usr/bin/env python3
+"""What needs no browser: reading, packing, times of bytes, cuts, windows, pictures, the page's text. Ends with 1 where something fails."""
+import base64
+import concurrent.futures
+import io
+import json
+import os
+import re
+import sys
+import tempfile
+import xml.etree.ElementTree as ET
+from array import array
+
+import examples
+from look import SAMPLES, arguments, main, seen_of
+from packing import packed, unpacked
+from page import SCRIPTS, STYLES, page_of, script_of, style_of
+from picture import waves_svg
+from program import Refused, run
+from serial_times import serial_times
+from wave import level_at, moved_names, read_wave
+
+MANY = 1 << 40
+
+
+def plain_reading(vcd):
+    """{name: [(cycle, level)]} by the plainest reading there is."""
+    names, rows, cycle = {}, {}, 0
+    for line in vcd.decode("ascii").split("\n"):
+        if line.startswith("$var"):
+            _, _, _, code, name, _ = line.split(" ")
+            names.setdefault(code, name)
+            rows.setdefault(name, [])
+        elif line.startswith("#") and line[1:].isdigit():
+            cycle = int(line[1:]) // 625
+        elif line and line[0] in "01zx" and line[1:] in names:
+            rows[names[line[1:]]].append((cycle, line[0]))
+    return rows
+
+
+def edges_of(wave):
+    return [(edge >> 2, "01zx"[edge & 3]) for edge in wave]
+
+
+def check_example(name):
+    folder, us, script = examples.folder_of(name), examples.microseconds(name), examples.script_of(name)
+    sent, report, vcd = run(folder, us, script, lambda stream: stream.read())
+    plain = plain_reading(vcd)
+    waves, cut = read_wave(io.BytesIO(vcd), MANY)
+    assert cut is None and waves.names == list(plain), name
+    for pin, index in zip(waves.names, waves.of):
+        assert edges_of(waves.waves[index]) == plain[pin], (name, pin)
+    assert len({wave.tobytes() for wave in waves.waves}) == len(waves.waves), "equal waves are kept once"
+    text = packed(waves.waves)
+    assert unpacked(text, [len(wave) for wave in waves.waves]) == waves.waves, name
+    check_cut(vcd, plain)
+    check_window(vcd, plain, us)
+    check_bytes(name, folder, script, waves, sent)
+    check_picture(waves, us)
+    return name, len(text), report
+
+
+def check_cut(vcd, plain):
+    total = len({tuple(row) for row in plain.values()}) + 10
+    waves, cut = read_wave(io.BytesIO(vcd), total)
+    if cut is None:
+        return
+    assert cut == 1 or sum(map(len, waves.waves)) <= max(total, len(waves.waves)), cut
+    for pin, index in zip(waves.names, waves.of):
+        kept = edges_of(waves.waves[index])
+        assert kept == [edge for edge in plain[pin] if edge[0] <= cut], pin
+
+
+def check_window(vcd, plain, us):
+    start, end = us * 16 // 3, us * 16 * 2 // 3
+    whole = sorted(plain)[0]
+    waves, cut = read_wave(io.BytesIO(vcd), MANY, start, end, lambda name: name == whole)
+    assert cut is None
+    for pin, index in zip(waves.names, waves.of):
+        before = [level for cycle, level in plain[pin] if cycle <= start][-1]
+        inside = [(start, before)] + [edge for edge in plain[pin] if start < edge[0] < end]
+        if pin == whole:
+            inside = [edge for edge in plain[pin] if edge[0] < end]
+        assert edges_of(waves.waves[index]) == inside, (pin, edges_of(waves.waves[index])[:5], inside[:5])
+
+
+def check_bytes(name, folder, script, waves, sent):
+    """Each byte has a time, and a run that ends before it lacks the byte, one that ends after it has it."""
+    times = serial_times(waves.waves[waves.of[waves.names.index("uno.1")]], sent)
+    assert times is not None and len(times) == len(sent), f"{name}: the wave does not tell when bytes were sent"
+    for i in sorted({0, len(sent) // 2, len(sent) - 1}) if sent else []:
+        before, after = max(times[i] // 16, 1), times[i] // 16 + 1
+        assert len(run(folder, before, script)[0]) <= i, (name, i)
+        assert len(run(folder, after, script)[0]) > i, (name, i)
+
+
+def check_picture(waves, us):
+    names = moved_names(waves)[:12] or waves.names[:2]
+    root = ET.fromstring(waves_svg(waves, names, 0, us * 16))
+    texts = [text.text for text in root.iter("{http://www.w3.org/2000/svg}text")]
+    assert root.tag == "{http://www.w3.org/2000/svg}svg" and all(name in texts for name in names)
+    assert not [element for element in root.iter() if "style" in element.attrib or element.tag.endswith(("style", "script"))]
+
+
+def check_page(name):
+    """The page of an example: its policy has the hashes of its script and style, and nothing comes from outside; twice the same bytes."""
+    script = examples.script_of(name)
+    given = arguments([examples.folder_of(name), "--us", str(examples.microseconds(name))] + (["--script", script] if script else []))
+    text = page_of(seen_of(given))
+    assert text == page_of(seen_of(given)), f"{name}: two pages of one run differ"
+    policy = re.search(r'Content-Security-Policy" content="([^"]*)"', text)[1]
+    assert policy.startswith("default-src 'none';"), policy
+    for tag in ("script", "style"):
+        inside = re.findall(f"<{tag}>(.*?)</{tag}>", text, re.S)
+        assert len(inside) == 1 and sha256(inside[0]) in policy, tag
+    assert "@@" not in text and " style=" not in re.sub(r"<script>.*?</script>", "", text, flags=re.S)
+    outside = re.findall(r"(?:https?:)?//[a-z][\w.-]*\.[a-z]+[^\s\"'<]*", re.sub(r"^\s*//.*$", "", text, flags=re.M))
+    assert set(outside) <= {"http://www.w3.org/2000/svg"}, set(outside)
+    data = json.loads(re.search(r'id="data">(.*?)</script>', text, re.S)[1])
+    packed_waves = re.search(r'id="packed">(.*?)</script>', text, re.S)[1]
+    assert len(unpacked(packed_waves, data["counts"])) == len(data["counts"]) and len(data["of"]) == len(data["names"])
+    return len(text)
+
+
+def sha256(text):
+    import hashlib
+    return base64.b64encode(hashlib.sha256(text.encode()).digest()).decode()
+
+
+# ---- A line of bytes at two speeds
+
+def frame(start, byte, bit):
+    """The changes of a frame of eight bits at level 1 before and after it."""
+    levels = [0] + [byte >> k & 1 for k in range(8)] + [1]
+    edges, last = [], 1
+    for k, level in enumerate(levels):
+        if level != last:
+            edges.append(start + k * bit << 2 | level)
+        last = level
+    return edges
+
+
+def check_two_speeds():
+    sent, wave, start, ends = b"Hello, 9600 and 115200!\n" * 2, array("I", (1,)), 1000, []
+    for i, byte in enumerate(sent):
+        bit = 1664 if i < 24 else 136
+        wave.extend(frame(start, byte, bit))
+        ends.append(start + 10 * bit - 1)
+        start += 10 * bit + (i % 3) * 700
+    assert serial_times(wave, sent) == ends
+    assert serial_times(wave, b"Hallo") is None
+    assert serial_times(array("I", (1,)), b"x") is None and serial_times(array("I", (1,)), b"") == []
+    assert level_at(wave, 1000) == 0 and level_at(wave, 999) == 1
+
+
+# ---- What a run leaves out: a firmware that writes where nothing is and then halts, and a chip that ends
+
+NOT_THERE, NO_INSTRUCTION = 0xD0, 0x0001
+ENDS_AT_ONCE = bytes.fromhex("0061736d01000000" "010401600000" "03020100" "0503010001" "0715" "02" "066d656d6f7279" "0200" "0863686970496e6974" "0000" "0a05" "01030000" "0b")
+
+
+def hex_text(program):
+    data = b"".join(word.to_bytes(2, "little") for word in program)
+    record = bytes((len(data), 0, 0, 0)) + data
+    return f":{(record + bytes((-sum(record) & 255,))).hex().upper()}\n:00000001FF\n"
+
+
+def make_leaving(folder):
+    """A project in which a register is missing, a word is no instruction, and a chip traps."""
+    write = [0x9300, NOT_THERE]             # STS 0xD0, r16
+    wait = [0xE604, 0x950A, 0xF7F1]         # LDI r16, 100; DEC r16; BRNE .-4
+    files = {
+        "wokwi.toml": "[wokwi]\nversion = 1\nfirmware = 'f.hex'\n[[chip]]\nname = 'ends'\nbinary = 'ends.wasm'\n",
+        "f.hex": hex_text(wait + write + wait + [NO_INSTRUCTION]),
+        "ends.json": json.dumps({"name": "Ends", "pins": ["IN", "", "OUT"]}),
+        "diagram.json": json.dumps({"version": 1, "parts": [{"type": "wokwi-arduino-uno", "id": "constructor", "left": 0, "top": 0},
+                                                            {"type": "chip-ends", "id": "c1", "left": 0, "top": -100}], "connections": [["constructor:13", "c1:IN", "green", ["v-5", "*", "h3"]]]}),
+    }
+    for name, text in files.items():
+        with open(os.path.join(folder, name), "w", encoding="utf-8") as file:
+            file.write(text)
+    with open(os.path.join(folder, "ends.wasm"), "wb") as file:
+        file.write(ENDS_AT_ONCE)
+
+
+def check_left_out():
+    with tempfile.TemporaryDirectory() as box:
+        make_leaving(box)
+        seen = seen_of(arguments([box, "--us", "1000"]))
+        halt = next(line for line in seen.report.split("\n") if " halt " in line)
+        ignored = next(line for line in seen.report.split("\n") if " ignored " in line)
+        assert ignored.endswith("0xD0") and halt.endswith("0x0001") and "chip c1 trap 1 at 0" in seen.report, seen.report
+        for line, cycle in seen.firsts.items():
+            assert line in run(box, cycle // 16 + 1)[1].split("\n"), line
+            assert cycle == 0 or line not in run(box, cycle // 16)[1].split("\n"), line
+        assert 0 < seen.firsts[ignored] < seen.firsts[halt] < 16000, seen.firsts
+        none = seen_of(arguments([box, "--us", "1000", "--samples", "0"]))
+        assert none.firsts == {}
+        return page_of(seen)
+
+
+def check_words():
+    """Wrong words and a project that is refused end with a status, and write nothing."""
+    with tempfile.TemporaryDirectory() as box:
+        out = os.path.join(box, "page.html")
+        for words in (["x", "--us", "10", "--from", "10"], ["x", "--us", "10", "--svg", "uno.1", "--svg-board", "3"], ["x", "--us", "10", "--edges", "0"]):
+            with quiet():
+                try:
+                    main(words + ["-o", out])
+                    raise AssertionError(words)
+                except SystemExit as ended:
+                    assert ended.code == 2, words
+        with quiet():
+            assert main([box, "--us", "10", "-o", out]) != 0
+            assert main([examples.folder_of("blink"), "--us", "10", "-o", os.path.join(box, "no", "such.html")]) == 1
+        assert not os.path.exists(out)
+
+
+class quiet:
+    """Nothing on standard error, of the program neither."""
+
+    def __enter__(self):
+        sys.stderr.flush()
+        self.kept, self.none = os.dup(2), os.open(os.devnull, os.O_WRONLY)
+        os.dup2(self.none, 2)
+
+    def __exit__(self, *_):
+        sys.stderr.flush()
+        os.dup2(self.kept, 2)
+        os.close(self.kept)
+        os.close(self.none)
+
+
+def everything():
+    bad = 0
+    jobs = [(f"look, wave of {name}", check_example, (name,)) for name in examples.names()]
+    jobs += [(f"look, page of {name}", check_page, (name,)) for name in ("button", "chip-echo", "lcd-i2c", "seven-segment")]
+    jobs += [("look, bytes at two speeds", check_two_speeds, ()), ("look, what a run leaves out", check_left_out, ())]
+    with concurrent.futures.ThreadPoolExecutor(4) as pool:
+        for name, future in [(name, pool.submit(call, *values)) for name, call, values in jobs]:
+            try:
+                future.result()
+                print(f"{name}: ok")
+            except (AssertionError, Refused, StopIteration, ValueError, KeyError, ET.ParseError) as error:
+                print(f"{name}: failed: {type(error).__name__} {error}")
+                bad = 1
+    try:
+        check_words()
+        print("look, words: ok")
+    except AssertionError as error:
+        print(f"look, words: failed: {error}")
+        bad = 1
+    return bad
+
+
+if __name__ == "__main__":
+    assert SAMPLES and SCRIPTS and STYLES and script_of(SCRIPTS) and style_of(STYLES)
+    sys.exit(everything())
