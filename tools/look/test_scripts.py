@@ -1,0 +1,232 @@
+#!/usr/bin/env python3
+"""The scripts of page/ in node or Chromium, beside the program: waves, bytes, displays, parts, wires. Ends with 1 where something fails,
+and says that it was skipped where neither is installed."""
+import base64
+import concurrent.futures
+import json
+import os
+import re
+import sys
+import tempfile
+import xml.etree.ElementTree as ET
+
+import examples
+from engine import EngineMissing, board_svg, evaluated
+from look import arguments, seen_of
+from packing import packed
+from page import data_of
+from program import Refused, run
+from test_run import hex_text, make_leaving, plain_reading
+
+PARTS_PAGE = os.path.join(examples.HERE, "..", "..", "docs", "PARTS.md")
+SUPPLIES = {"A4.2", "A5.2", "GND.1", "GND.2", "GND.3", "5V", "3.3V", "VIN", "IOREF", "AREF", "RESET"}
+TIMES = 50
+
+
+def given_of(name, us=None):
+    """What the scripts get of an example: texts and bytes for runFrom, and what page.py would pack."""
+    folder, script, us = examples.folder_of(name), examples.script_of(name), us or examples.microseconds(name)
+    sent, report, vcd = run(folder, us, script, lambda stream: stream.read())
+    seen = seen_of(arguments([folder, "--us", str(us), "--samples", "0"] + (["--script", script] if script else [])))
+    text = lambda data: base64.b64encode(data).decode()
+    return {"name": name, "us": us, "vcd": text(vcd), "serial": text(sent), "report": report, "diagram": seen.diagram, "chips": seen.chips,
+            "script": seen.script, "data": data_of(seen), "packed": packed(seen.waves.waves)}, plain_reading(vcd), sent
+
+
+READS = """{
+  const out = [];
+  for (const g of given) {
+    const run = runFrom({ title: g.name, us: g.us, diagram: g.diagram, chips: g.chips, script: g.script, vcd: bytesOf(g.vcd), serial: bytesOf(g.serial), report: g.report });
+    const page = await runOfPage(g.data, g.packed), rows = {};
+    const edges = wave => [[...wave.t], [...wave.v].map(v => LEVELS[v]).join('')];
+    for (const name of run.names) {
+      rows[name] = edges(run.wave(name));
+      if (JSON.stringify(edges(page.wave(name))) !== JSON.stringify(rows[name])) throw new Error(`${g.name}: ${name} is packed otherwise`);
+    }
+    const wave = run.wave('uno.1'), bit = run.serial.times && run.serial.times.length ? bitTimeOf(wave, run.serial.times) : null;
+    out.push({ rows, cycles: run.cycles, times: run.serial.times, pageTimes: page.serial.times, sent: bit ? uartFrames(wave, bit, run.to).map(f => f.value) : null,
+      decoders: suggestedDecoders(run).map(d => ({ ...d, frames: framesOf(run, d).map(f => [f.kind, f.text]) })), high: run.names.slice(0, 20).map(n => [n, highShare(run.wave(n), 0, run.cycles)]) });
+  }
+  return out;
+}"""
+
+
+def check_reads():
+    """Every edge as the scripts read and unpack it, the bytes and their times, the frames that decoders show, shares of high."""
+    names = [name for name in examples.names() if name not in ("lcd-hello",)]
+    with concurrent.futures.ThreadPoolExecutor(4) as pool:
+        all_given = list(pool.map(given_of, names))
+    found = evaluated(READS, [given for given, _, _ in all_given])
+    for (given, plain, sent), seen in zip(all_given, found):
+        name = given["name"]
+        assert list(seen["rows"]) == list(plain), name
+        for pin, row in plain.items():
+            assert seen["rows"][pin] == [[t for t, _ in row], "".join(level for _, level in row)], (name, pin)
+        assert seen["times"] == seen["pageTimes"], name
+        if seen["sent"] is not None:
+            assert bytes(seen["sent"])[:len(sent)] == sent, (name, seen["sent"])
+        for pin, share in seen["high"]:
+            assert abs(share - high_of(plain[pin], given["us"] * 16)) < 1e-9, (name, pin)
+    return {given["name"]: seen["decoders"] for (given, _, _), seen in zip(all_given, found)}
+
+
+def high_of(row, cycles):
+    ends = [t for t, _ in row[1:]] + [cycles]
+    return sum(end - t for (t, level), end in zip(row, ends) if level == "1") / cycles
+
+
+def check_frames(decoders):
+    """Frames of the examples whose bytes are known from their sketches."""
+    spi = [d for d in decoders["spi-loopback"] if d["kind"] == "spi"]
+    assert spi and all(text == spi[0]["frames"][i][1] for d in spi for i, (_, text) in enumerate(d["frames"])), spi
+    shift = [d for d in decoders["shift-out"] if d["kind"] == "spi"]
+    assert [text for _, text in shift[0]["frames"]][:4] == ["01", "02", "04", "08"], shift[0]["frames"][:4]
+    scan = next(d for d in decoders["i2c-scanner"] if d["kind"] == "i2c")
+    addresses = [text for kind, text in scan["frames"] if kind == "address"]
+    assert addresses[:3] == ["01 W N", "02 W N", "03 W N"] and len(addresses) > 100, addresses[:3]
+    room = next(d for d in decoders["chip-thermometer"] if d["kind"] == "i2c")
+    assert any(kind == "address" and text.endswith(" R") for kind, text in room["frames"]), room["frames"]
+    assert not decoders["blink"] and not decoders["counter"], "no decoder where nothing is sent"
+
+
+# ---- The text display, beside the reports of shorter runs
+
+LINES = """{ const run = await runOfPage(given.data, given.packed), lcd = run.parts.find(p => p.type === 'wokwi-lcd1602'), states = lcdStates(run, lcd);
+  return { id: lcd.id, shown: given.us.map(us => states[Math.max(lastBefore(states, us * 16 - 1), 0)][1]), count: states.length }; }"""
+
+
+def check_display(name):
+    """What the scripts say that the display shows, and the program's report, at fifty times, most of them just after a change."""
+    given, _, _ = given_of(name)
+    changes = evaluated("{ const run = await runOfPage(given.data, given.packed); return lcdStates(run, run.parts.find(p => p.type === 'wokwi-lcd1602')).map(([t]) => t); }", given)
+    near = {us for t in changes[1:: max(1, len(changes) // 15)] for us in (t // 16, t // 16 + 1) if 0 < us <= given["us"]}
+    times = sorted(near | {given["us"] * k // (TIMES - len(near)) for k in range(1, TIMES - len(near) + 1)} if len(near) < TIMES else near)
+    found = evaluated(LINES, {"data": given["data"], "packed": given["packed"], "us": times})
+    with concurrent.futures.ThreadPoolExecutor(4) as pool:
+        reports = list(pool.map(lambda us: run(examples.folder_of(name), us)[1], times))
+    shown = set()
+    for us, lines, report in zip(times, found["shown"], reports):
+        told = [line.split("|")[1] for line in report.split("\n") if line.startswith(f"lcd {found['id']} ")]
+        assert lines == told, (name, us, lines, told)
+        shown.add(tuple(told))
+    assert len(times) >= TIMES - 3 and len(shown) > 3, (len(times), shown)
+
+
+# ---- The parts
+
+def types_of_page():
+    """The types in the table of docs/PARTS.md; `-or-2` after `wokwi-gate-and-2` is short for its gate."""
+    types = []
+    with open(PARTS_PAGE, encoding="utf-8") as file:
+        for line in file:
+            if not line.startswith("| `wokwi-") and not line.startswith("| `board-"):
+                continue
+            for word in re.findall(r"`([^`]*)`", line.split("|")[1]):
+                types.append("wokwi-gate" + word if word.startswith("-") else word)
+    return types
+
+
+def project_with(box, part, wires):
+    uno = {"type": "wokwi-arduino-uno", "id": "uno"}
+    parts = [uno] if part["type"] == uno["type"] else [uno, part]
+    for name, text in {"wokwi.toml": "[wokwi]\nversion = 1\nfirmware = 'f.hex'\n", "f.hex": hex_text([0xCFFF]),
+                       "diagram.json": json.dumps({"version": 1, "parts": parts, "connections": wires})}.items():
+        with open(os.path.join(box, name), "w", encoding="utf-8") as file:
+            file.write(text)
+
+
+def check_parts():
+    """Each type of docs/PARTS.md has an entry: the program accepts a wire to each of its pins, refuses one to another, and its wave has these pins."""
+    cases = [(kind, {}) for kind in types_of_page()] + [("wokwi-lcd1602", {"pins": "i2c"}), ("wokwi-led", {"flip": "1"}), ("wokwi-7segment", {"common": "cathode"})]
+    assert len(cases) > 20, cases
+    entries = evaluated("given.map(([type, attrs]) => { const p = partOf({ type, id: 'p', attrs }, {}), known = Object.hasOwn(PARTS, type) && !NOT_YET.includes(type), e = entryOf(p, []); return known ? [Object.keys(pinsOf(e, p)), e.size] : null; })", cases)
+    for (kind, attrs), entry in zip(cases, entries):
+        assert entry, f"{kind} has no entry in parts.js"
+        names, (width, height) = entry
+        name = "uno" if kind == "wokwi-arduino-uno" else "p"
+        with tempfile.TemporaryDirectory() as box:
+            part = {"type": kind, "id": name, "attrs": attrs}
+            project_with(box, part, [[f"{name}:{pin}", "uno:7", "", []] for pin in names if pin != "7" or name == "p"])
+            _, _, vcd = run(box, 1, None, lambda stream: stream.read())
+            told = {line.split(".", 1)[1] for line in plain_reading(vcd) if line.startswith(name + ".")}
+            expected = set(names) - (SUPPLIES if name == "uno" else set())
+            assert told == expected, (kind, attrs, told ^ expected)
+            project_with(box, part, [[f"{name}:none", "uno:7", "", []]])
+            try:
+                run(box, 1, quiet=True)
+                raise AssertionError(f"{kind} has any pin")
+            except Refused:
+                pass
+        assert width > 0 and height > 0
+    places = evaluated("given.map(([type, attrs]) => { const p = partOf({ type, id: 'p', attrs }, {}), e = entryOf(p, []); return [e.size, Object.values(pinsOf(e, p))]; })", cases)
+    for (kind, _), ((width, height), spots) in zip(cases, places):
+        assert all(-1 <= x <= width + 1 and -1 <= y <= height + 1 for x, y in spots), f"{kind}: a pin lies outside"
+
+
+# ---- Geometry
+
+ROUTES = [
+    ([0, 0], [30, 40], [], [[0, 0], [30, 0], [30, 40]]),
+    ([0, 0], [30, 40], ["v0"], [[0, 0], [0, 40], [30, 40]]),
+    ([0, 0], [30, 40], ["v10"], [[0, 0], [0, 10], [30, 10], [30, 40]]),
+    ([0, 0], [30, 40], ["h5", "v-10"], [[0, 0], [5, 0], [5, -10], [30, -10], [30, 40]]),
+    ([0, 0], [30, 40], ["v10", "*", "h-5"], [[0, 0], [0, 10], [25, 10], [25, 40], [30, 40]]),
+    ([0, 0], [0, 40], ["v0"], [[0, 0], [0, 40]]),
+]
+PLACES = [({"left": 53.8, "top": -65.65, "rotate": 90}, [58.8, 11.3], [0, 5.65], [83.2, -89.4]), ({"left": 0, "top": 0, "rotate": 180}, [10, 20], [0, 0], [10, 20])]
+
+
+def check_geometry():
+    """Wires by their hints, and turned parts."""
+    routes, places = evaluated("[given[0].map(([a, b, hints]) => routeOf(a, b, hints)), given[1].map(([part, size, spot]) => placeOf(part, size)(spot))]", [ROUTES, PLACES])
+    for (_, _, hints, points), found in zip(ROUTES, routes):
+        assert found == points, (hints, found)
+    for (part, _, _, spot), found in zip(PLACES, places):
+        assert [round(x, 6) for x in found] == spot, (part, found)
+
+
+def check_board():
+    """A picture of each board is XML with its parts and wires, and shows what the run has at that time."""
+    for name, us, part, words in (("button", 22000, "btn1", "button"), ("chip-counter", 3000, "count1", "counter"), ("latch", 8000, "notq", "gates")):
+        script = examples.script_of(name)
+        seen = seen_of(arguments([examples.folder_of(name), "--us", "60000" if name == "button" else "10000", "--samples", "0"] + (["--script", script] if script else [])))
+        root = ET.fromstring(board_svg(seen, us * 16))
+        titles = [title.text for title in root.iter("{http://www.w3.org/2000/svg}title")]
+        assert any(title and title.startswith(part + ":") for title in titles), (name, words)
+        wires = sum(1 for wire in seen.diagram["connections"] if not any(end.startswith("$") for end in wire[:2]))
+        assert sum(1 for title in titles if title and " – " in title) == wires, (name, wires)
+        assert not any(attribute.lower().startswith("on") or "href" in attribute for element in root.iter() for attribute in element.attrib)
+    on, off = (evaluated("{ const run = await runOfPage(given[0].data, given[0].packed); return drawBoard(run).texts({ t: given[1], since: given[1] }); }", [given_of("button")[0], us * 16]) for us in (15000, 22000))
+    assert dict(on)["btn1"] == "pressed" and dict(off)["btn1"] == "released" and dict(on)["led1"].startswith("on") and dict(off)["led1"].startswith("off"), (on, off)
+
+
+def check_notes():
+    """What a run left out, in words and at its time; parts with names of JavaScript's own."""
+    with tempfile.TemporaryDirectory() as box:
+        make_leaving(box)
+        seen = seen_of(arguments([box, "--us", "1000"]))
+        notes = evaluated("{ const run = await runOfPage(given.data, given.packed), board = drawBoard(run); board.update({ t: 9999, since: 9999 }); return run.notes; }", {"data": data_of(seen), "packed": packed(seen.waves.waves)})
+    texts = [(note["part"], note["t"], note["text"]) for note in notes]
+    assert len(texts) == 3 and texts[-1][0] == "c1" and texts[-1][1] == 0 and "unreachable" in texts[-1][2], texts
+    assert "halted" in texts[0][2] and "0xD0" in texts[1][2] and texts[1][1] < texts[0][1], texts
+
+
+def everything():
+    bad, decoders = 0, {}
+    steps = [("every edge and byte in the scripts", lambda: decoders.update(check_reads())), ("frames", lambda: check_frames(decoders)), ("parts", check_parts),
+             ("geometry", check_geometry), ("boards", check_board), ("notes", check_notes), ("lcd-hello at fifty times", lambda: check_display("lcd-hello")), ("lcd-i2c at fifty times", lambda: check_display("lcd-i2c"))]
+    for name, step in steps:
+        try:
+            step()
+            print(f"look, {name}: ok", flush=True)
+        except EngineMissing as missing:
+            print(f"look: {missing}: the scripts are not tested", file=sys.stderr)
+            return bad
+        except (AssertionError, RuntimeError, Refused, KeyError, StopIteration, ET.ParseError) as error:
+            print(f"look, {name}: failed: {type(error).__name__} {error}", flush=True)
+            bad = 1
+    return bad
+
+
+if __name__ == "__main__":
+    sys.exit(everything())
