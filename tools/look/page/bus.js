@@ -4,7 +4,7 @@
 
 const hex = n => n.toString(16).toUpperCase().padStart(2, '0');
 const isPrintable = n => n >= 0x20 && n < 0x7F;
-const charText = n => isPrintable(n) ? String.fromCharCode(n) : n === 10 ? '␊' : n === 13 ? '␍' : hex(n);
+const charText = n => isPrintable(n) ? String.fromCharCode(n) : n === 10 ? 'LF' : n === 13 ? 'CR' : hex(n);
 const reads = (wave, c) => +(levelAt(wave, c) === 1);
 
 // One frame of eight data bits whose start bit begins at cycle `start`: its byte, or -1 if the stop bit is low or not there yet.

@@ -112,7 +112,8 @@ function foldedAtFirst(run, chosen) {                  // more rows than a pane 
 function factsOf(run) {
   const edges = run.waves.reduce((sum, wave) => sum + wave.t.length - 1, 0), whole = run.from === 0 && run.to === run.cycles;
   const time = `${grouped(run.cycles / 16)} µs, ${grouped(run.cycles)} cycles`;
-  return `${whole ? time : `${inMicroseconds(run.from)} to ${inMicroseconds(run.to)} of ${time}`}; ${grouped(edges)} changes in ${grouped(movedNames(run).length)} different waves`;
+  const counted = (n, one) => `${grouped(n)} ${one}${n === 1 ? '' : 's'}`;
+  return `${whole ? time : `${inMicroseconds(run.from)} to ${inMicroseconds(run.to)} of ${time}`}; ${counted(edges, 'change')} in ${counted(movedNames(run).length, 'different wave')}`;
 }
 
 function showLeft(look) {           // what the run, or the page, left out: in words, each with its time
@@ -252,7 +253,7 @@ function clickedByte(look, event) { // to the time when the character under the 
 }
 
 function showReadouts(look) {
-  const { view, run, elements, bar } = look, { t, b } = view;
+  const { view, elements, bar } = look, { t, b } = view;
   setText(elements.a, `A ${inMicroseconds(t)} (cycle ${grouped(t)})`);
   setText(elements.b, b === null ? '' : `B ${inMicroseconds(b)} (cycle ${grouped(b)})`);
   setText(elements.gap, b === null ? '' : gapText(look, Math.min(t, b), Math.max(t, b)));
@@ -260,7 +261,6 @@ function showReadouts(look) {
   bar.slide.value = t;
   bar.slide.setAttribute('aria-valuetext', inMicroseconds(t));
   if (!view.playing) describe(look);
-  void run;
 }
 
 function gapText(look, from, to) {
