@@ -176,8 +176,21 @@ ROUTES = [
 PLACES = [({"left": 53.8, "top": -65.65, "rotate": 90}, [58.8, 11.3], [0, 5.65], [83.2, -89.4]), ({"left": 0, "top": 0, "rotate": 180}, [10, 20], [0, 0], [10, 20])]
 
 
+# Wires of examples/counter whose hints lead from one pin to a line on which the other pin lies: they say where pins are.
+STRAIGHT = [("uno:9", "r1:2"), ("uno:10", "r2:2"), ("r0:1", "bit0:A"), ("r1:1", "bit1:A"), ("r2:1", "bit2:A"), ("gnd1:GND", "ground:J"), ("vcc1:VCC", "r3:2"),
+            ("r3:1", "power:A"), ("vcc1:VCC", "uno:2"), ("uno:12", "r4:1"), ("r4:2", "clock:J"), ("clock:J", "uno:3")]
+ENDS = """{ const run = makeRun({ title: '', cycles: 1, diagram: given, names: [], of: [], waves: [] }), spots = {};
+  for (const part of run.parts) { const entry = entryOf(part, run.wires), place = placeOf(part, entry.size); for (const [name, spot] of Object.entries(pinsOf(entry, part))) spots[`${part.id}:${name}`] = place(spot); }
+  return run.wires.filter(([a, b]) => spots[a] && spots[b]).map(([a, b, , hints]) => [a, b, walked(spots[a], hints).points.pop(), spots[b]]); }"""
+
+
 def check_geometry():
-    """Wires by their hints, and turned parts."""
+    """Wires by their hints, and turned parts; in the counter's diagram each wire of STRAIGHT ends without another corner."""
+    with open(os.path.join(examples.folder_of("counter"), "diagram.json"), encoding="utf-8") as file:
+        ends = {(a, b): (end, pin) for a, b, end, pin in evaluated(ENDS, json.load(file))}
+    for wire in STRAIGHT:
+        (x, y), (u, v) = ends[wire]
+        assert min(abs(x - u), abs(y - v)) < 0.05, (wire, x - u, y - v)
     routes, places = evaluated("[given[0].map(([a, b, hints]) => routeOf(a, b, hints)), given[1].map(([part, size, spot]) => placeOf(part, size)(spot))]", [ROUTES, PLACES])
     for (_, _, hints, points), found in zip(ROUTES, routes):
         assert found == points, (hints, found)

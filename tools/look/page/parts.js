@@ -50,8 +50,15 @@ function gate(kind) {
 
 // ---- The Uno
 
-const UNO_TOP = { ...row('A5.2 A4.2 AREF GND.1 13 12 11 10 9 8', 87, 9, 9.55), ...row('7 6 5 4 3 2 1 0', 189, 9, 9.5) };
-const UNO_BOTTOM = { ...row('IOREF RESET 3.3V 5V GND.2 GND.3 VIN', 131, 191.5, 9.55), ...row('A0 A1 A2 A3 A4 A5', 208, 191.5, 9.5) };
+const places = (names, xs, y) => Object.fromEntries(words(names).map((name, i) => [name, [xs[i], y]]));
+const UNO_TOP = {
+  ...places('A5.2 A4.2 AREF GND.1 13 12 11 10 9 8', [87, 97, 106, 115.5, 125, 134.5, 144, 153.5, 163, 173], 9),
+  ...places('7 6 5 4 3 2 1 0', [189, 198.5, 208, 217.5, 227, 236.5, 246, 255.5], 9),
+};
+const UNO_BOTTOM = {
+  ...places('IOREF RESET 3.3V 5V GND.2 GND.3 VIN', [131, 140.5, 150, 160, 169.5, 179, 188.5], 191.5),
+  ...places('A0 A1 A2 A3 A4 A5', [208, 217.5, 227, 236.5, 246, 255.5], 191.5),
+};
 const UNO_TEXT = { 'A5.2': 'SCL', 'A4.2': 'SDA', 'GND.1': 'GND', 'GND.2': 'GND', 'GND.3': 'GND', 3: '~3', 5: '~5', 6: '~6', 9: '~9', 10: '~10', 11: '~11', 0: 'RX 0', 1: 'TX 1' };
 
 function unoBoard(g) {
@@ -215,10 +222,10 @@ const PARTS = {
   },
 
   'wokwi-junction': {
-    size: [8, 8],
+    size: [7.2, 7.2],
     named: false,
-    pins: { J: [4, 4] },
-    draw: g => g.append(circle(4, 4, 3.6, { class: 'symbol-dot' })),
+    pins: { J: [3.6, 3.6] },
+    draw: g => g.append(circle(3.6, 3.6, 3.6, { class: 'symbol-dot' })),
   },
 
   'wokwi-text': {
@@ -229,17 +236,17 @@ const PARTS = {
   },
 
   'wokwi-vcc': {
-    size: [20, 26],
+    size: [19.2, 28],
     named: false,
-    pins: { VCC: [10, 24] },
-    draw: g => g.append(path('M10 24V9M4 14L10 8L16 14', { class: 'symbol' }), label(10, 5, 'VCC', { class: 'symbol-text', 'font-size': 7.5, ...middle })),
+    pins: { VCC: [9.6, 28] },
+    draw: g => g.append(path('M9.6 28V10M3.6 15L9.6 9L15.6 15', { class: 'symbol' }), label(9.6, 6, 'VCC', { class: 'symbol-text', 'font-size': 7.5, ...middle })),
   },
 
   'wokwi-gnd': {
-    size: [20, 22],
+    size: [18, 20],
     named: false,
-    pins: { GND: [10, 2] },
-    draw: g => g.append(path('M10 2V10M2 10H18M5 14H15M8 18H12', { class: 'symbol' })),
+    pins: { GND: [9, 0] },
+    draw: g => g.append(path('M9 0V9M1 9H17M4 13H14M7 17H11', { class: 'symbol' })),
   },
 
   'wokwi-74hc595': {
@@ -266,7 +273,7 @@ const PARTS = {
 
   'wokwi-lcd1602': {
     size: [302.4, 136],
-    pins: part => isI2c(part) ? column(LCD_PINS.i2c.join(' '), 4, 32) : row(LCD_PINS.full.join(' '), 32, 131),
+    pins: part => isI2c(part) ? column(LCD_PINS.i2c.join(' '), 4, 32) : places(LCD_PINS.full.join(' '), [32, 41.5, 51.5, 60.5, 70.5, 80, 89.5, 99.5, 109, 118.5, 128, 137.5, 147, 156.5, 166.5, 176], 131),
     draw(g, part, run) {
       const blue = part.attrs.background === 'blue', glass = blue ? '#2448c8' : '#a3c63c', cell = blue ? '#1d3db3' : '#97bb34';
       const ink = colorOf(part.attrs.color, blue ? '#f4f6ff' : '#1c2a10');
@@ -317,7 +324,7 @@ function dotsOf(text, page) {       // 128 columns of eight dots, the lowest bit
 
 PARTS['wokwi-membrane-keypad'] = {
   size: [266, 338],
-  pins: row('R1 R2 R3 R4 C1 C2 C3 C4', 100, 335),
+  pins: places('R1 R2 R3 R4 C1 C2 C3 C4', [100, 110, 119.5, 129, 138.5, 148, 157.5, 167.5], 335),
   draw(g, part, run) {
     g.append(rect(0, 0, 266, 270, { rx: 9, fill: '#2f3439', stroke: '#191c1e' }), rect(95, 270, 77, 65, { fill: '#c3c8cb' }));
     const keys = upTo(16).map(i => {
