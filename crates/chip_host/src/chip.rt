@@ -61,14 +61,22 @@ impl Chip {
         ensures cycle { IfOk result (λ p. p.cycle ≡ 0) }
         ensures wakes { IfOk result (λ p. p.wakes ≡ 0) }
     {
-        let mut shown = no_drives(alloc, pins.len())?;
+        let count = pins.len();
         let turns = Turns::new(alloc, valid, map, pins, attrs, budget)?;
-        let moved = show(&turns, &mut shown, Span::all());
-        Ok(Chip {
-            turns,
-            shown,
-            moved,
-        })
+        match no_drives(alloc, count) {
+            Ok(mut shown) => {
+                let moved = show(&turns, &mut shown, Span::all());
+                Ok(Chip {
+                    turns,
+                    shown,
+                    moved,
+                })
+            }
+            Err(e) => {
+                drop(turns);
+                Err(e)
+            }
+        }
     }
 
     /// The cycle whose step comes next.

@@ -1,6 +1,7 @@
 //! The host that a chip's module imports from.
 ghost use Rattle.std.specs.Prelude.{◌≡◌, ℕ, ◌<◌, ◌≤◌, ◌==◌, ◌+◌, [], ◌∷◌, not, length, map, IfOk, IfSome, Some, slice_get, slice_set, option_to_list, replicate, None, false};
 ghost use Rattle.std.specs.List.{position_from};
+ghost use Rattle.std.specs.Vec.{vec_capacity};
 ghost use Rattle.wasm_code.specs.declared.types.ValType.TheVariants as types;
 ghost use Rattle.wasm_eval.specs.Values.{HasTypes};
 ghost use Rattle.chip_host.specs.Inventory.{HostState, left, pin_at, watch_at, engine_at, out_pin, with_mode, drive_of, pin_drives};
@@ -361,43 +362,91 @@ impl ChipHost {
         ensures after { self.new ≡ left self.old (host_does name args.now self.old.moment memory.now self.old.inventory).inventory }
         ensures gives { IfOk result (λ v. HasTypes (option_to_list v) (type_of_name name).results) }
     {
-        match (name, args) {
-            (HostName::PinInit, [Value::I32(addr), Value::I32(mode)]) => {
-                self.pin_init(*addr, *mode, memory)
-            }
-            (HostName::PinRead, [Value::I32(i)]) => self.pin_read(*i),
-            (HostName::PinWrite, [Value::I32(i), Value::I32(value)]) => {
-                self.pin_write(*i, *value != 0)
-            }
-            (HostName::PinWatch, [Value::I32(i), Value::I32(addr)]) => {
-                self.pin_watch(*i, *addr, memory)
-            }
-            (HostName::AttrInit, [Value::I32(addr), Value::I32(default)]) => {
-                self.attr_init(*addr, *default, memory)
-            }
-            (HostName::AttrRead, [Value::I32(id)]) => self.attr_read(*id),
-            (HostName::TimerInit, [Value::I32(addr)]) => self.timer_init(*addr, memory),
-            (HostName::TimerStart, [Value::I32(id), Value::I32(x), Value::I32(again)]) => {
-                self.timer_start(*id, Delay::Micros(*x), *again != 0)
-            }
-            (HostName::GetSimNanos, []) => Ok(Some(Value::I64(125 * u64::from(self.cycle) / 2))),
-            (HostName::PinMode, [Value::I32(i), Value::I32(mode)]) => self.pin_mode(*i, *mode),
-            (HostName::PinWatchStop, [Value::I32(i)]) => self.pin_watch_stop(*i),
-            (HostName::TimerStartNanos, [Value::I32(id), Value::I64(x), Value::I32(again)]) => {
-                self.timer_start(*id, Delay::Nanos(*x), *again != 0)
-            }
-            (HostName::TimerStop, [Value::I32(id)]) => self.timer_stop(*id),
-            (HostName::UartInit, [Value::I32(addr)]) => self.uart_init(*addr, memory),
-            (HostName::UartWrite, [Value::I32(id), Value::I32(buffer), Value::I32(count)]) => {
-                self.uart_write(*id, *buffer, *count, memory)
-            }
-            (HostName::SpiInit, [Value::I32(addr)]) => self.spi_init(*addr, memory),
-            (HostName::SpiStart, [Value::I32(id), Value::I32(buffer), Value::I32(count)]) => {
-                self.spi_start(*id, *buffer, *count, memory)
-            }
-            (HostName::SpiStop, [Value::I32(id)]) => self.spi_stop(*id),
-            (HostName::I2cInit, [Value::I32(addr)]) => self.i2c_init(*addr, memory),
-            _ => Err(Trap::Unreachable),
+        match name {
+            HostName::PinInit => match args {
+                [Value::I32(addr), Value::I32(mode)] => self.pin_init(*addr, *mode, memory),
+                _ => Err(Trap::Unreachable),
+            },
+            HostName::PinRead => match args {
+                [Value::I32(i)] => self.pin_read(*i),
+                _ => Err(Trap::Unreachable),
+            },
+            HostName::PinWrite => match args {
+                [Value::I32(i), Value::I32(value)] => self.pin_write(*i, *value != 0),
+                _ => Err(Trap::Unreachable),
+            },
+            HostName::PinWatch => match args {
+                [Value::I32(i), Value::I32(addr)] => self.pin_watch(*i, *addr, memory),
+                _ => Err(Trap::Unreachable),
+            },
+            HostName::AttrInit => match args {
+                [Value::I32(addr), Value::I32(default)] => self.attr_init(*addr, *default, memory),
+                _ => Err(Trap::Unreachable),
+            },
+            HostName::AttrRead => match args {
+                [Value::I32(id)] => self.attr_read(*id),
+                _ => Err(Trap::Unreachable),
+            },
+            HostName::TimerInit => match args {
+                [Value::I32(addr)] => self.timer_init(*addr, memory),
+                _ => Err(Trap::Unreachable),
+            },
+            HostName::TimerStart => match args {
+                [Value::I32(id), Value::I32(x), Value::I32(again)] => {
+                    self.timer_start(*id, Delay::Micros(*x), *again != 0)
+                }
+                _ => Err(Trap::Unreachable),
+            },
+            HostName::GetSimNanos => match args {
+                [] => Ok(Some(Value::I64(125 * u64::from(self.cycle) / 2))),
+                _ => Err(Trap::Unreachable),
+            },
+            HostName::PinMode => match args {
+                [Value::I32(i), Value::I32(mode)] => self.pin_mode(*i, *mode),
+                _ => Err(Trap::Unreachable),
+            },
+            HostName::PinWatchStop => match args {
+                [Value::I32(i)] => self.pin_watch_stop(*i),
+                _ => Err(Trap::Unreachable),
+            },
+            HostName::TimerStartNanos => match args {
+                [Value::I32(id), Value::I64(x), Value::I32(again)] => {
+                    self.timer_start(*id, Delay::Nanos(*x), *again != 0)
+                }
+                _ => Err(Trap::Unreachable),
+            },
+            HostName::TimerStop => match args {
+                [Value::I32(id)] => self.timer_stop(*id),
+                _ => Err(Trap::Unreachable),
+            },
+            HostName::UartInit => match args {
+                [Value::I32(addr)] => self.uart_init(*addr, memory),
+                _ => Err(Trap::Unreachable),
+            },
+            HostName::UartWrite => match args {
+                [Value::I32(id), Value::I32(buffer), Value::I32(count)] => {
+                    self.uart_write(*id, *buffer, *count, memory)
+                }
+                _ => Err(Trap::Unreachable),
+            },
+            HostName::SpiInit => match args {
+                [Value::I32(addr)] => self.spi_init(*addr, memory),
+                _ => Err(Trap::Unreachable),
+            },
+            HostName::SpiStart => match args {
+                [Value::I32(id), Value::I32(buffer), Value::I32(count)] => {
+                    self.spi_start(*id, *buffer, *count, memory)
+                }
+                _ => Err(Trap::Unreachable),
+            },
+            HostName::SpiStop => match args {
+                [Value::I32(id)] => self.spi_stop(*id),
+                _ => Err(Trap::Unreachable),
+            },
+            HostName::I2cInit => match args {
+                [Value::I32(addr)] => self.i2c_init(*addr, memory),
+                _ => Err(Trap::Unreachable),
+            },
         }
     }
 }
@@ -426,6 +475,37 @@ fn no_engines(alloc: Global) -> Result<Vec<Option<Engine>>, OutOfMemory>
     Ok(vec![in alloc; None; 24]?)
 }
 
+// What a host keeps beside what it is given.
+#[derive(Drop)]
+struct Room {
+    levels: Vec<Level>,
+    pins: Vec<Option<Pin>>,
+    watches: Vec<Option<Watch>>,
+    timers: Vec<Timer>,
+    attributes: Vec<u32>,
+    engines: Vec<Option<Engine>>,
+}
+
+fn make_room(alloc: Global, count: usize) -> Result<Room, OutOfMemory>
+    ensures levels { IfOk result (λ r. r.levels.items ≡ replicate count levels.Z) }
+    ensures pins { IfOk result (λ r. r.pins.items ≡ replicate count None) }
+    ensures watches { IfOk result (λ r. r.watches.items ≡ replicate count None) }
+    ensures timers { IfOk result (λ r. r.timers.items ≡ []) }
+    ensures timer_room { IfOk result (λ r. 32 ≤ vec_capacity r.timers) }
+    ensures attributes { IfOk result (λ r. r.attributes.items ≡ []) }
+    ensures attribute_room { IfOk result (λ r. 64 ≤ vec_capacity r.attributes) }
+    ensures engines { IfOk result (λ r. r.engines.items ≡ replicate 24 None) }
+{
+    Ok(Room {
+        levels: levels_z(alloc, count)?,
+        pins: no_pins(alloc, count)?,
+        watches: no_watches(alloc, count)?,
+        timers: Vec::with_capacity(alloc, 32)?,
+        attributes: Vec::with_capacity(alloc, 64)?,
+        engines: no_engines(alloc)?,
+    })
+}
+
 impl ChipHost {
     /// What a chip that is being set up imports from.
     pub fn new(
@@ -437,23 +517,30 @@ impl ChipHost {
         requires { length names ≤ 64 }
         ensures { IfOk result (λ c. c ≡ first_host (record { table = map; names = names; attrs = attrs })) }
     {
-        let count = names.len();
-        Ok(ChipHost {
-            map,
-            names,
-            attrs,
-            init: true,
-            cycle: 0,
-            levels: levels_z(alloc, count)?,
-            pins: no_pins(alloc, count)?,
-            watches: no_watches(alloc, count)?,
-            timers: Vec::with_capacity(alloc, 32)?,
-            attributes: Vec::with_capacity(alloc, 64)?,
-            engines: no_engines(alloc)?,
-            first: 0,
-            end: 0,
-            watched: false,
-        })
+        match make_room(alloc, names.len()) {
+            Ok(room) => Ok(ChipHost {
+                map,
+                names,
+                attrs,
+                init: true,
+                cycle: 0,
+                levels: room.levels,
+                pins: room.pins,
+                watches: room.watches,
+                timers: room.timers,
+                attributes: room.attributes,
+                engines: room.engines,
+                first: 0,
+                end: 0,
+                watched: false,
+            }),
+            Err(e) => {
+                drop(map);
+                drop(names);
+                drop(attrs);
+                Err(e)
+            }
+        }
     }
 
     /// The chip is set up.

@@ -74,9 +74,29 @@ impl Turns {
     {
         let start = start_of(&valid);
         let init = init_of(&valid);
-        let before = levels_z(alloc, pins.len())?;
-        let mut host = ChipHost::new(alloc, map, pins, attrs)?;
-        let mut instance = Instance::new(alloc, valid)?;
+        let count = pins.len();
+        let mut host = match ChipHost::new(alloc, map, pins, attrs) {
+            Ok(host) => host,
+            Err(e) => {
+                drop(valid);
+                return Err(e);
+            }
+        };
+        let mut instance = match Instance::new(alloc, valid) {
+            Ok(instance) => instance,
+            Err(e) => {
+                drop(host);
+                return Err(e);
+            }
+        };
+        let before = match levels_z(alloc, count) {
+            Ok(before) => before,
+            Err(e) => {
+                drop(host);
+                drop(instance);
+                return Err(e);
+            }
+        };
         let dead = run_both(&mut instance, &mut host, budget, start, init);
         host.end_set_up();
         Ok(Turns {
