@@ -41,7 +41,7 @@ use Rattle.board_report.specs.Report.{part_text, play_part_text, rest_text}
 use Rattle.board_outputs.specs.Variables.{board_variables}
 use Rattle.cli_board.specs.Run.{run_wave, run_bytes, run_report, run_wakes, run_texts}
 use Rattle.board_outputs.specs.Run.{Outputs, texts_for}
-use Rattle.isolation.specs.ChipRun.{chip_run, run_drives, run_levels}
+use Rattle.isolation.specs.ChipRun.{IsAlone, state_at}
 use Rattle.isolation.specs.PlayRun.{own_rows, play_wave, play_bytes, play_rest, chip_lines, play_texts}
 use Rattle.isolation.specs.Worlds.{DifferInChips, DriveAlike, IsOneWorld, run_states}
 use Rattle.isolation.specs.Isolated.{Isolated}
@@ -51,45 +51,57 @@ use Rattle.isolation.proofs.RestLemmas.{is_chip_at, rest_same}
 use Rattle.isolation.proofs.WorldLemmas.{lines_same, plan_same, variables_same}
 
 module _ (has : Contents) (plan : Plan) (is : IsPlan (pins_of has.chips) plan) (n : ℕ) where
-  -- In a run the drives of each chip, cycle by cycle, are those that it has alone: by its module, its pins, its attributes, its
-  -- budget and the levels of its own pins.
-  pub chip_alone : (i : ℕ) (part : PlanPart) (c : ℕ) (source : ChipSource) → slice_get plan.parts i ≡ Some part → part.kind ≡ plans.Chip c → slice_get has.chips c ≡ Some source →
-      run_drives has plan n i ≡ chip_run source part.attrs has.budget (run_levels has plan n i (length source.pins))
-  chip_alone i part c source at kind there = subst Claim pins claim
-    where
-      ss : List AnyState
-      ss = starts has plan.parts
+  -- In a run each chip does, cycle by cycle, what it does alone: by its module, its pins, its attributes, its budget and the levels
+  -- of its own pins.
+  module _ (i : ℕ) (part : PlanPart) (c : ℕ) (source : ChipSource) (at : slice_get plan.parts i ≡ Some part) (kind : part.kind ≡ plans.Chip c) (there : slice_get has.chips c ≡ Some source) where
+    abbrev ss : List AnyState
+    ss = starts has plan.parts
 
-      given : Given
-      given = given_of source part.attrs
+    abbrev given : Given
+    given = given_of source part.attrs
 
-      s : Chip
-      s = start_state source.binary.wasm source.binary.init given has.budget
+    abbrev s : Chip
+    s = start_state source.binary.wasm source.binary.init given has.budget
 
-      here : slice_get ss i ≡ Some (inr (inr s))
-      here = start_at has plan.parts i part (all_ready has plan is) at
-          ∙ ap (λ (k : PlanKind). start_in has part.attrs part.settings k) kind
-          ∙ ap (option_map (chip_at_start has.budget part.attrs)) there
+    here : slice_get ss i ≡ Some (inr (inr s))
+    here = start_at has plan.parts i part (all_ready has plan is) at
+        ∙ ap (λ (k : PlanKind). start_in has part.attrs part.settings k) kind
+        ∙ ap (option_map (chip_at_start has.budget part.attrs)) there
 
-      pins : length (chip.drives s) ≡ length source.pins
-      pins = drive_count s ∙ ap (λ (g : Given). length g.names) (start_given source.binary.wasm source.binary.init given has.budget)
+    pins : length (chip.drives s) ≡ length source.pins
+    pins = drive_count s ∙ ap (λ (g : Given). length g.names) (start_given source.binary.wasm source.binary.init given has.budget)
 
-      Claim : ℕ → Type 0
-      Claim p = map (own_drives any plan.wiring plan.inputs ss 0 i) (below n) ≡ drive_rows chip s 0 (map (own_levels any plan.wiring plan.inputs ss 0 i p) (below n))
+    abbrev Levels : ℕ → ℕ → List Level
+    Levels p = own_levels any plan.wiring plan.inputs ss 0 i p
 
-      levels : ℕ → List Level
-      levels = own_levels any plan.wiring plan.inputs ss 0 i (length (chip.drives s))
+    -- its state at each cycle
+    chip_stands : (t : ℕ) → state_at has plan n i t ≡ Some (inr (inr (part_run chip (Levels (length (chip.drives s))) (λ j. None) s 0 t)))
+    chip_stands t =
+        state_alone any any_laws plan.wiring plan.inputs ss 0 i (inr (inr s)) here t
+        ∙ ap (λ (x : AnyState). Some x) (chip_runs (Levels (length (chip.drives s))) (λ j. input_at plan.inputs (0 + j) i) s 0 t)
 
-      one : (k : ℕ) → own_drives any plan.wiring plan.inputs ss 0 i k ≡ chip.drives (part_run chip levels (λ j. None) s 0 k)
-      one k =
-          ap (λ (x : Option AnyState). unwrap_or (option_map any.drives x) []) (state_alone any any_laws plan.wiring plan.inputs ss 0 i (inr (inr s)) here k)
-          ∙ ap (λ (x : AnyState). any.drives x) (chip_runs levels (λ j. input_at plan.inputs (0 + j) i) s 0 k)
+    -- its drives in each cycle
+    one : (k : ℕ) → own_drives any plan.wiring plan.inputs ss 0 i k ≡ chip.drives (part_run chip (Levels (length (chip.drives s))) (λ j. None) s 0 k)
+    one k = ap (λ (x : Option AnyState). unwrap_or (option_map any.drives x) []) (chip_stands k)
 
-      each : Alike (λ j x y. own_drives any plan.wiring plan.inputs ss 0 i x ≡ chip.drives (part_run chip levels (λ j. None) s 0 y)) (below n) (below n)
-      each = record { long = refl; each = λ j x y ex ey. let same : x ≡ y = cc in ap (own_drives any plan.wiring plan.inputs ss 0 i) same ∙ one y }
+    each : Alike (λ j x y. own_drives any plan.wiring plan.inputs ss 0 i x ≡ chip.drives (part_run chip (Levels (length (chip.drives s))) (λ j. None) s 0 y)) (below n) (below n)
+    each = record { long = refl; each = λ j x y ex ey. let same : x ≡ y = cc in ap (own_drives any plan.wiring plan.inputs ss 0 i) same ∙ one y }
 
-      claim : Claim (length (chip.drives s))
-      claim = map_alike (own_drives any plan.wiring plan.inputs ss 0 i) (λ k. chip.drives (part_run chip levels (λ j. None) s 0 k)) (below n) (below n) each ∙ sym (rows_run chip levels s 0 n)
+    abbrev Alone : ℕ → Type 0
+    Alone p =
+        (map (own_drives any plan.wiring plan.inputs ss 0 i) (below n) ≡ drive_rows chip s 0 (map (Levels p) (below n)))
+        × ((t : ℕ) → t ≤ n → state_at has plan n i t ≡ Some (inr (inr (part_run chip (Levels p) (λ j. None) s 0 t))))
+
+    drives_are : map (own_drives any plan.wiring plan.inputs ss 0 i) (below n) ≡ drive_rows chip s 0 (map (Levels (length (chip.drives s))) (below n))
+    drives_are =
+        map_alike (own_drives any plan.wiring plan.inputs ss 0 i) (λ k. chip.drives (part_run chip (Levels (length (chip.drives s))) (λ j. None) s 0 k)) (below n) (below n) each
+        ∙ sym (rows_run chip (Levels (length (chip.drives s))) s 0 n)
+
+    both : Alone (length source.pins)
+    both = subst Alone pins (drives_are, λ t within. chip_stands t)
+
+    pub chip_alone : IsAlone has plan n i part.attrs source
+    chip_alone = record { drives = both.0; state = both.1 }
 
   -- The wave, the bytes and the report but for the chips are those of the same board with each chip replaced by a player of its drives.
   module _ (drive_rows : ℕ → List DriveRows) (drives : AreDrives any plan.wiring plan.inputs (starts has plan.parts) n (worlds.is_chip plan.wiring) drive_rows) where
