@@ -107,7 +107,7 @@ twin twin/without-its-third-write/inverter.wasm inverter-without-its-third-write
 pulses <"$rows/crc.vcd" | same "crc in the rows" "$here/crc/expected/pulses.txt" || bad=1
 pulses <"$rows/sort.vcd" | same "sort in the rows" "$here/sort/expected/pulses.txt" || bad=1
 lights bit <"$rows/counter-down.vcd" | same "counter downwards in the rows" "$here/counter/expected/counts-down.txt" || bad=1
-for name in blink counter pulse arduino-blink fade tone pin-interrupt pot-blink button eeprom-counter watchdog low-power serial-hello pot-serial i2c-scanner spi-loopback shift-out spi-shift latch seven-segment lcd-hello lcd-i2c chip-inverter chip-blinker chip-counter chip-thermometer chip-registers chip-echo; do
+for name in blink counter pulse arduino-blink fade tone pin-interrupt pot-blink button eeprom-counter watchdog low-power serial-hello pot-serial i2c-scanner spi-loopback shift-out spi-shift latch seven-segment lcd-hello lcd-i2c oled-hello keypad chip-inverter chip-blinker chip-counter chip-thermometer chip-registers chip-echo; do
     "$program" check "$here/$name" | same "$name as a project" "$here/$name/expected/check.txt" || bad=1
 done
 "$program" bare "$here/blink/blink.hex" --us 1 | same blink "$here/blink/expected/wave.vcd" || bad=1
@@ -158,6 +158,8 @@ scripted latch 20000
 scripted seven-segment 450000
 scripted lcd-hello 1250000
 scripted lcd-i2c 150000
+scripted oled-hello 80000
+scripted keypad 260000
 "$program" run "$here/button" --us 60000 --script "$here/button/script.txt" --vcd - | at 13 1 | same "button's LED" "$here/button/expected/pin13.txt" || bad=1
 
 "$program" run "$here/low-power" --us 1000000 --script "$here/low-power/script.txt" --vcd - | at 13 1 | same "low-power's pin 13" "$here/low-power/expected/pin13.txt" || bad=1

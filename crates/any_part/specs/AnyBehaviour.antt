@@ -9,22 +9,24 @@ use Rattle.parts_logic.specs.Gate.{GateState, gate, gate_laws}
 use Rattle.parts_logic.specs.Shift595.{ShiftState, shift595, shift595_laws}
 use Rattle.parts_display.specs.Seven.{SevenState, seven, seven_laws}
 use Rattle.parts_display.specs.Lcd.{LcdState, lcd, lcd_laws}
+use Rattle.part_oled.specs.Oled.{OledState, oled, oled_laws}
 use Rattle.any_part.specs.declared.behaviour.AnyBehaviour.{AnyBehaviour}
 use Rattle.any_part.specs.declared.behaviour.AnyBehaviour.TheVariants as behaviours
 
 abbrev pub AnyOwn : Type 0
-AnyOwn = LedState ⊎ (PassiveState ⊎ (GateState ⊎ (ShiftState ⊎ (SevenState ⊎ LcdState))))
+AnyOwn = LedState ⊎ (PassiveState ⊎ (GateState ⊎ (ShiftState ⊎ (SevenState ⊎ (LcdState ⊎ OledState)))))
 
 abbrev pub any_reaction : Reaction AnyOwn
-any_reaction = either led (either passive (either gate (either shift595 (either seven lcd))))
+any_reaction = either led (either passive (either gate (either shift595 (either seven (either lcd oled)))))
 
 pub any_reaction_laws : ReactionLaws any_reaction
 any_reaction_laws =
-    either_laws led (either passive (either gate (either shift595 (either seven lcd)))) led_laws
-    (either_laws passive (either gate (either shift595 (either seven lcd))) passive_laws
-    (either_laws gate (either shift595 (either seven lcd)) gate_laws
-    (either_laws shift595 (either seven lcd) shift595_laws
-    (either_laws seven lcd seven_laws lcd_laws))))
+    either_laws led (either passive (either gate (either shift595 (either seven (either lcd oled))))) led_laws
+    (either_laws passive (either gate (either shift595 (either seven (either lcd oled)))) passive_laws
+    (either_laws gate (either shift595 (either seven (either lcd oled))) gate_laws
+    (either_laws shift595 (either seven (either lcd oled)) shift595_laws
+    (either_laws seven (either lcd oled) seven_laws
+    (either_laws lcd oled lcd_laws oled_laws)))))
 
 -- where each kind stands in the sum
 abbrev pub a_led : LedState → AnyOwn
@@ -43,7 +45,10 @@ abbrev pub a_seven : SevenState → AnyOwn
 a_seven s = inr (inr (inr (inr (inl s))))
 
 abbrev pub an_lcd : LcdState → AnyOwn
-an_lcd s = inr (inr (inr (inr (inr s))))
+an_lcd s = inr (inr (inr (inr (inr (inl s)))))
+
+abbrev pub an_oled : OledState → AnyOwn
+an_oled s = inr (inr (inr (inr (inr (inr s)))))
 
 abbrev pub own_of : AnyBehaviour → AnyOwn
 own_of (behaviours.Led b) = a_led b
@@ -52,3 +57,4 @@ own_of (behaviours.Gate b) = a_gate b
 own_of (behaviours.Shift595 b) = a_shift595 b
 own_of (behaviours.Seven b) = a_seven b
 own_of (behaviours.Lcd b) = an_lcd b
+own_of (behaviours.Oled b) = an_oled b

@@ -1,5 +1,6 @@
 //! A behaviour of any kind.
 
+use part_oled::Oled;
 use parts_basic::{Led, Passive};
 use parts_display::{Lcd, Seven};
 use parts_logic::{Gate, Shift595};
@@ -15,6 +16,7 @@ pub enum AnyBehaviour {
     Shift595(Shift595),
     Seven(Seven),
     Lcd(Lcd),
+    Oled(Oled),
 }
 
 macro_rules! on_behaviour {
@@ -26,6 +28,7 @@ macro_rules! on_behaviour {
             AnyBehaviour::Shift595($behaviour) => $call,
             AnyBehaviour::Seven($behaviour) => $call,
             AnyBehaviour::Lcd($behaviour) => $call,
+            AnyBehaviour::Oled($behaviour) => $call,
         }
     };
 }

@@ -43,6 +43,8 @@ few_names kinds.ShiftRegister595 = lit≤ tt
 few_names kinds.SevenSegment = lit≤ tt
 few_names kinds.Lcd1602Full = lit≤ tt
 few_names kinds.Lcd1602I2c = lit≤ tt
+few_names kinds.Ssd1306 = lit≤ tt
+few_names kinds.MembraneKeypad = lit≤ tt
 
 -- whether both pins of all pairs are below a count
 abbrev are_below : ℕ → List (ℕ × ℕ) → Bool
@@ -73,6 +75,8 @@ joins_below kinds.ShiftRegister595 = refl
 joins_below kinds.SevenSegment = refl
 joins_below kinds.Lcd1602Full = refl
 joins_below kinds.Lcd1602I2c = refl
+joins_below kinds.Ssd1306 = refl
+joins_below kinds.MembraneKeypad = refl
 
 contacts_below : (kind : Kind) → are_below (length (pin_names kind)) (contacts_in kind) ≡ true
 unfolding pin_names contacts_in
@@ -99,6 +103,8 @@ contacts_below kinds.ShiftRegister595 = refl
 contacts_below kinds.SevenSegment = refl
 contacts_below kinds.Lcd1602Full = refl
 contacts_below kinds.Lcd1602I2c = refl
+contacts_below kinds.Ssd1306 = refl
+contacts_below kinds.MembraneKeypad = refl
 
 list_all_each : {X : Type 0} (p : X → Bool) (xs : List X) → list_all p xs ≡ true → (k : ℕ) (d : X) → k < length xs → p (get_or xs k d) ≡ true
 list_all_each p xs all k d h = elim (cases_Bool (p (get_or xs k d))) [
@@ -138,6 +144,8 @@ resistors_stock kinds.ShiftRegister595 k d h = absurd (omega arith)
 resistors_stock kinds.SevenSegment k d h = absurd (omega arith)
 resistors_stock kinds.Lcd1602Full k d h = absurd (omega arith)
 resistors_stock kinds.Lcd1602I2c k d h = absurd (omega arith)
+resistors_stock kinds.Ssd1306 k d h = absurd (omega arith)
+resistors_stock kinds.MembraneKeypad k d h = absurd (omega arith)
 
 module _ (pins : List (List (Option (List ℕ)))) where
   pub starts_length : (n : ℕ) (kinds : List (Option PlanKind)) → length (starts_from pins n kinds) ≡ length kinds

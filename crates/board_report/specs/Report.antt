@@ -11,6 +11,7 @@ use Rattle.avr_mcu.specs.Mcu.{Mcu}
 use Rattle.part_catalog.specs.Attributes.{greatest_of}
 use Rattle.parts_basic.specs.Led.{is_lit}
 use Rattle.parts_display.specs.Screen.{Screen, line}
+use Rattle.part_oled.specs.Picture.{Picture, page_cells}
 use Rattle.board_build.specs.declared.plan.PlanKind.{PlanKind}
 use Rattle.board_build.specs.declared.plan.PlanKind.TheVariants as plans
 use Rattle.board_build.specs.declared.plan.PlanPart.{PlanPart}
@@ -55,6 +56,13 @@ lcd_row id screen row = lines.Lcd id (row + 1) (line screen row)
 abbrev pub lcd_rows : List ℕ → Screen → List ReportRow
 lcd_rows id screen = lcd_row id screen 0 ∷ lcd_row id screen 1 ∷ []
 
+-- whether an OLED is on, and its pages in their order
+abbrev pub page_row : List ℕ → Picture → ℕ → ReportRow
+page_row id picture page = lines.OledPage id page (page_cells picture page)
+
+abbrev pub oled_rows : List ℕ → Picture → List ReportRow
+oled_rows id picture = lines.Oled id picture.on ∷ flat_map (λ page. page_row id picture page ∷ []) (below 8)
+
 -- what a part that does nothing by itself shows; an LED by the levels of its last step
 abbrev pub own_rows : PlanPart → List Level → AnyOwn → List ReportRow
 own_rows part held (inl led) = lines.Led part.id (is_lit held) led.count ∷ []
@@ -62,7 +70,8 @@ own_rows part held (inr (inl passive)) = if is_input part.kind then lines.Input 
 own_rows part held (inr (inr (inl gate))) = []
 own_rows part held (inr (inr (inr (inl shift)))) = lines.Shift part.id shift.stages shift.storage ∷ []
 own_rows part held (inr (inr (inr (inr (inl seven))))) = lines.Seg part.id seven.segments ∷ []
-own_rows part held (inr (inr (inr (inr (inr lcd))))) = lcd_rows part.id lcd.screen
+own_rows part held (inr (inr (inr (inr (inr (inl lcd)))))) = lcd_rows part.id lcd.screen
+own_rows part held (inr (inr (inr (inr (inr (inr oled)))))) = oled_rows part.id oled.picture
 
 -- whether a chip lives, or the trap that ended it and its cycle
 abbrev pub chip_row : List ℕ → Option Death → ReportRow

@@ -6,7 +6,7 @@ ghost use Rattle.sim_base.specs.Outside.{SameOthers};
 ghost use Rattle.outcome_model.specs.Work.{Wrote, WroteOn};
 ghost use Rattle.any_part.specs.AnyBehaviour.{own_of};
 ghost use Rattle.sim_report.specs.Lines.{line_of};
-ghost use Rattle.board_report.specs.Report.{mode_of, is_input, ignored_row, uno_rows, own_rows, lcd_row, lcd_rows, chip_row, chosen_text, parts_text, text_of, shown_text};
+ghost use Rattle.board_report.specs.Report.{mode_of, is_input, ignored_row, uno_rows, own_rows, lcd_row, lcd_rows, page_row, oled_rows, chip_row, chosen_text, parts_text, text_of, shown_text};
 
 use any_part::AnyBehaviour;
 use avr_core::Mode;
@@ -15,6 +15,7 @@ use board_build::{PlanKind, PlanPart};
 use chip_host::{Chip, Death};
 use either_part::Either;
 use part_catalog::greatest_value;
+use part_oled::Oled;
 use parts_basic::Led;
 use parts_display::Lcd;
 use reactive_part::Reactive;
@@ -118,6 +119,35 @@ fn write_lcd<B: Bench>(end: WriteEnd, id: &Name, lcd: &Lcd, bench: &mut B) -> Wr
     write_lcd_line(end, id, lcd, 1, bench)
 }
 
+/// A page of an OLED, 0 to 7.
+fn write_page<B: Bench>(end: WriteEnd, id: &Name, oled: &Oled, page: u8, bench: &mut B) -> WriteEnd
+    requires page { page < 8 }
+    requires opened { (B.outside bench.old).opened Port.Report ≡ true }
+    ensures next { WroteOn end result Port.Report (line_of (page_row id.now oled.now.picture page)) (B.outside bench.old) (B.outside bench.new) }
+    ensures named { (B.outside bench.new).name Port.Report ≡ (B.outside bench.old).name Port.Report }
+    ensures opened { (B.outside bench.new).opened Port.Report ≡ true }
+    ensures others { SameOthers Port.Report (B.outside bench.old) (B.outside bench.new) }
+{
+    let row = ReportRow::OledPage(id.copy(), page, oled.page(page));
+    write_line(end, &row, bench)
+}
+
+/// Whether an OLED is on, and its pages.
+fn write_oled<B: Bench>(end: WriteEnd, id: &Name, oled: &Oled, bench: &mut B) -> WriteEnd
+    requires { (B.outside bench.old).opened Port.Report ≡ true }
+    ensures next { WroteOn end result Port.Report (text_of (oled_rows id.now oled.now.picture)) (B.outside bench.old) (B.outside bench.new) }
+    ensures named { (B.outside bench.new).name Port.Report ≡ (B.outside bench.old).name Port.Report }
+    ensures opened { (B.outside bench.new).opened Port.Report ≡ true }
+    ensures others { SameOthers Port.Report (B.outside bench.old) (B.outside bench.new) }
+{
+    let row = ReportRow::Oled(id.copy(), oled.shown());
+    let mut end = write_line(end, &row, bench);
+    for page in 0..8_u8 {
+        end = write_page(end, id, oled, page, bench);
+    }
+    end
+}
+
 /// What a part that does nothing by itself shows, on the levels of its last step.
 fn write_own<B: Bench>(
     end: WriteEnd,
@@ -159,6 +189,7 @@ fn write_own<B: Bench>(
             write_line(end, &row, bench)
         }
         AnyBehaviour::Lcd(lcd) => write_lcd(end, &part.id, lcd, bench),
+        AnyBehaviour::Oled(oled) => write_oled(end, &part.id, oled, bench),
     }
 }
 

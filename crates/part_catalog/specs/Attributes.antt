@@ -50,6 +50,7 @@ settings_from kinds.Potentiometer attrs = both (read_or 0 (decimal_to 1023) (att
 settings_from kinds.SevenSegment attrs = both (Some 0) (read_or 0 (which (codes "anode") (codes "cathode")) (attribute (codes "common") attrs))
 settings_from kinds.Lcd1602Full attrs = both (read_or 0x27 address (attribute (codes "i2cAddress") attrs)) (read_or 0 (which (codes "full") (codes "i2c")) (attribute (codes "pins") attrs))
 settings_from kinds.Lcd1602I2c attrs = both (read_or 0x27 address (attribute (codes "i2cAddress") attrs)) (read_or 0 (which (codes "full") (codes "i2c")) (attribute (codes "pins") attrs))
+settings_from kinds.Ssd1306 attrs = both (read_or 0x3C address (attribute (codes "i2cAddress") attrs)) (Some 0)
 settings_from kind attrs = both (Some 0) (Some 0)
 
 abbrev pub is_text : List ℕ → Option (List ℕ) → Bool
@@ -67,4 +68,5 @@ greatest_of kinds.Pushbutton = Some 1
 greatest_of kinds.SlideSwitch = Some 1
 greatest_of kinds.DipSwitch8 = Some 255
 greatest_of kinds.Potentiometer = Some 1023
+greatest_of kinds.MembraneKeypad = Some 65535
 greatest_of kind = None

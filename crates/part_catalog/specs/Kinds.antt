@@ -27,7 +27,9 @@ types =
     (codes "wokwi-gate-xnor-2", kinds.GateXnor2) ∷
     (codes "wokwi-74hc595", kinds.ShiftRegister595) ∷
     (codes "wokwi-7segment", kinds.SevenSegment) ∷
-    (codes "wokwi-lcd1602", kinds.Lcd1602Full) ∷ []
+    (codes "wokwi-lcd1602", kinds.Lcd1602Full) ∷
+    (codes "board-ssd1306", kinds.Ssd1306) ∷
+    (codes "wokwi-membrane-keypad", kinds.MembraneKeypad) ∷ []
 
 abbrev pub kind_in : List (List ℕ × Kind) → List ℕ → Option Kind
 kind_in [] text = None

@@ -39,6 +39,8 @@ pin_names kinds.ShiftRegister595 = words (codes "DS SHCP STCP MR OE Q0 Q1 Q2 Q3 
 pin_names kinds.SevenSegment = words (codes "A B C D E F G DP COM COM.1 COM.2")
 pin_names kinds.Lcd1602Full = words (codes "VSS VDD V0 RS RW E D0 D1 D2 D3 D4 D5 D6 D7 A K")
 pin_names kinds.Lcd1602I2c = words (codes "GND VCC SDA SCL")
+pin_names kinds.Ssd1306 = words (codes "GND VCC SCL SDA")
+pin_names kinds.MembraneKeypad = words (codes "R1 R2 R3 R4 C1 C2 C3 C4")
 
 -- the number of the pin with a name
 abbrev pub number_of : Kind → List ℕ → Option ℕ
@@ -62,6 +64,7 @@ abbrev pub contact_names : Kind → List ℕ
 contact_names kinds.Pushbutton = codes "1.l 2.l"
 contact_names kinds.SlideSwitch = codes "1 2 2 3"
 contact_names kinds.DipSwitch8 = codes "1a 1b 2a 2b 3a 3b 4a 4b 5a 5b 6a 6b 7a 7b 8a 8b"
+contact_names kinds.MembraneKeypad = codes "R1 C1 R1 C2 R1 C3 R1 C4 R2 C1 R2 C2 R2 C3 R2 C4 R3 C1 R3 C2 R3 C3 R3 C4 R4 C1 R4 C2 R4 C3 R4 C4"
 contact_names kind = []
 
 unfoldable pub joins_of : Kind → List (ℕ × ℕ)

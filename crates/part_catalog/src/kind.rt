@@ -31,6 +31,8 @@ pub enum Kind {
     SevenSegment,
     Lcd1602Full,
     Lcd1602I2c,
+    Ssd1306,
+    MembraneKeypad,
 }
 
 fn type_names() -> &'static [(&'static str, Kind)]
@@ -59,6 +61,8 @@ fn type_names() -> &'static [(&'static str, Kind)]
         ("wokwi-74hc595", Kind::ShiftRegister595),
         ("wokwi-7segment", Kind::SevenSegment),
         ("wokwi-lcd1602", Kind::Lcd1602Full),
+        ("board-ssd1306", Kind::Ssd1306),
+        ("wokwi-membrane-keypad", Kind::MembraneKeypad),
     ]
 }
 

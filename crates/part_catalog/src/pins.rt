@@ -55,6 +55,8 @@ fn texts(kind: Kind) -> &'static [&'static str]
             "A", "K",
         ],
         Kind::Lcd1602I2c => &["GND", "VCC", "SDA", "SCL"],
+        Kind::Ssd1306 => &["GND", "VCC", "SCL", "SDA"],
+        Kind::MembraneKeypad => &["R1", "R2", "R3", "R4", "C1", "C2", "C3", "C4"],
     }
 }
 
@@ -140,6 +142,25 @@ pub fn contacts_of(kind: Kind) -> ArrayVec<(u8, u8), 32>
             (5, 13),
             (6, 14),
             (7, 15),
+        ]),
+        // each row with each column
+        Kind::MembraneKeypad => listed(&[
+            (0, 4),
+            (0, 5),
+            (0, 6),
+            (0, 7),
+            (1, 4),
+            (1, 5),
+            (1, 6),
+            (1, 7),
+            (2, 4),
+            (2, 5),
+            (2, 6),
+            (2, 7),
+            (3, 4),
+            (3, 5),
+            (3, 6),
+            (3, 7),
         ]),
         _ => ArrayVec::new(),
     }

@@ -74,12 +74,12 @@ fn value_to(greatest: u16, attrs: &[(Text, Text)]) -> Option<u16>
     }
 }
 
-fn display_address(attrs: &[(Text, Text)]) -> Option<u16>
-    ensures { result ≡ read_or 0x27 address (attribute (codes "i2cAddress") attrs.now) }
+fn display_address(usual: u16, attrs: &[(Text, Text)]) -> Option<u16>
+    ensures { result ≡ read_or usual address (attribute (codes "i2cAddress") attrs.now) }
 {
     match attribute_text("i2cAddress", attrs) {
         Some(text) => address(text),
-        None => Some(0x27),
+        None => Some(usual),
     }
 }
 
@@ -112,9 +112,10 @@ pub fn settings_of(kind: Kind, attrs: &List<(Text, Text)>) -> Option<Settings>
         Kind::Potentiometer => both(value_to(1023, attrs), Some(0)),
         Kind::SevenSegment => both(Some(0), choice("common", "anode", "cathode", attrs)),
         Kind::Lcd1602Full | Kind::Lcd1602I2c => both(
-            display_address(attrs),
+            display_address(0x27, attrs),
             choice("pins", "full", "i2c", attrs),
         ),
+        Kind::Ssd1306 => both(display_address(0x3C, attrs), Some(0)),
         _ => both(Some(0), Some(0)),
     }
 }
@@ -138,6 +139,7 @@ pub fn greatest_value(kind: Kind) -> Option<u16>
         Kind::Pushbutton | Kind::SlideSwitch => Some(1),
         Kind::DipSwitch8 => Some(255),
         Kind::Potentiometer => Some(1023),
+        Kind::MembraneKeypad => Some(0xFFFF),
         _ => None,
     }
 }

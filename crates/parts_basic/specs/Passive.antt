@@ -1,8 +1,8 @@
--- Parts whose drives and contacts depend on a set value alone: switches, the potentiometer, supplies, and parts whose wires
+-- Parts whose drives and contacts depend on a set value alone: switches, the keypad, the potentiometer, supplies, and parts whose wires
 -- or resistor are in the wiring (Wokwi documentation, the pages of the parts).
 use Rattle.std.proofs.Common.{refl, sym, ◌∙◌, arith}
 use Rattle.std.proofs.lemmas.List.{length-replicate}
-use Rattle.std.specs.Prelude.{◌≡◌, ◌≤◌, ℕ, ◌==◌, List, [], ◌∷◌, length, map, replicate, Bool, true, Option, None, Some, min, unwrap_or}
+use Rattle.std.specs.Prelude.{◌≡◌, ◌≤◌, ℕ, zero, suc, ◌==◌, List, [], ◌∷◌, length, map, replicate, Bool, true, Option, None, Some, min, unwrap_or}
 use Rattle.sim_base.specs.declared.signal.Drive.{Drive}
 use Rattle.sim_base.specs.declared.signal.Drive.TheVariants as drives
 use Rattle.sim_base.specs.declared.signal.Level.{Level}
@@ -30,11 +30,17 @@ drives_at kinds.Gnd value = drives.Low ∷ []
 drives_at kinds.Potentiometer value = drives.Z ∷ drives.Wiper value ∷ drives.Z ∷ []
 drives_at kind value = replicate (length (pin_names kind)) drives.Z
 
--- which of its contacts are closed
+-- so many bits of a value, from one on
+abbrev pub bits_from : ℕ → ℕ → ℕ → List Bool
+bits_from k zero value = []
+bits_from k (suc n) value = bit k value ∷ bits_from (suc k) n value
+
+-- which of its contacts are closed; a key of a keypad has bit 4 times its row plus its column, both from 0
 abbrev pub closed_at : Kind → ℕ → List Bool
 closed_at kinds.Pushbutton value = (value == 1) ∷ []
 closed_at kinds.SlideSwitch value = (value == 0) ∷ (value == 1) ∷ []
-closed_at kinds.DipSwitch8 value = bit 0 value ∷ bit 1 value ∷ bit 2 value ∷ bit 3 value ∷ bit 4 value ∷ bit 5 value ∷ bit 6 value ∷ bit 7 value ∷ []
+closed_at kinds.DipSwitch8 value = bits_from 0 8 value
+closed_at kinds.MembraneKeypad value = bits_from 0 16 value
 closed_at kind value = []
 
 abbrev pub value_after : Kind → ℕ → Option ℕ → ℕ

@@ -7,7 +7,7 @@ use reactive_part::Behaviour;
 use sim_base::{Drive, Level};
 use std::marker::Model;
 
-/// A switch, a potentiometer, a supply, a resistor, a junction or a text, with its value: which
+/// A switch, a keypad, a potentiometer, a supply, a resistor, a junction or a text, with its value: which
 /// contacts are closed, or where the wiper stands.
 #[derive(Drop)]
 pub struct Passive {
@@ -41,7 +41,7 @@ impl Passive {
     }
 
     /// The value that it is set to: 0 and 1 for a button or a slide switch, 0 to 255 for a DIP switch,
-    /// 0 to 1023 for a potentiometer.
+    /// 0 to 1023 for a potentiometer, 0 to 65,535 for a keypad.
     pub fn value(&self) -> u16
         ensures { result ≡ self.now.value }
     {
@@ -67,6 +67,7 @@ impl Behaviour for Passive {
             Kind::Pushbutton => 1,
             Kind::SlideSwitch => 2,
             Kind::DipSwitch8 => 8,
+            Kind::MembraneKeypad => 16,
             _ => 0,
         }
     }
@@ -85,6 +86,7 @@ impl Behaviour for Passive {
             Kind::Pushbutton => self.value == 1,
             Kind::SlideSwitch => self.value == u16::from(i),
             Kind::DipSwitch8 => i < 8 && (self.value >> i) % 2 == 1,
+            Kind::MembraneKeypad => i < 16 && (self.value >> i) % 2 == 1,
             _ => false,
         }
     }

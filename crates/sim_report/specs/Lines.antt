@@ -1,5 +1,6 @@
 -- The lines of a report: words with one space between two (profile).
 use Rattle.std.specs.Prelude.{ℕ, Option, None, Some, ◌+◌, ◌/◌, ◌%◌, List, [], ◌∷◌, ◌++◌, Bool, nat_lt, if◌then◌else◌, codes}
+use Rattle.std.specs.List.{flat_map}
 use Rattle.std.specs.Option.{option_to_list}
 use Rattle.std.specs.Fmt.{decimal}
 use Rattle.sim_report.specs.declared.row.ReportRow.{ReportRow}
@@ -43,6 +44,8 @@ subject (rows.Input id value) = codes "input"
 subject (rows.Seg id segments) = codes "seg"
 subject (rows.Shift id stages latch) = codes "shift"
 subject (rows.Lcd id line text) = codes "lcd"
+subject (rows.Oled id on) = codes "oled"
+subject (rows.OledPage id page cells) = codes "oled"
 subject (rows.Alive id) = codes "chip"
 subject (rows.Trap id trap cycle) = codes "chip"
 
@@ -56,6 +59,8 @@ id_of (rows.Input id value) = Some id
 id_of (rows.Seg id segments) = Some id
 id_of (rows.Shift id stages latch) = Some id
 id_of (rows.Lcd id line text) = Some id
+id_of (rows.Oled id on) = Some id
+id_of (rows.OledPage id page cells) = Some id
 id_of (rows.Alive id) = Some id
 id_of (rows.Trap id trap cycle) = Some id
 
@@ -69,6 +74,8 @@ words_of (rows.Input id value) = decimal value ∷ []
 words_of (rows.Seg id segments) = hex_byte segments ∷ []
 words_of (rows.Shift id stages latch) = hex_byte stages ∷ hex_byte latch ∷ []
 words_of (rows.Lcd id line text) = decimal line ∷ (codes "|" ++ text ++ codes "|") ∷ []
+words_of (rows.Oled id on) = lit_word on ∷ []
+words_of (rows.OledPage id page cells) = codes "page" ∷ decimal page ∷ flat_map hex_byte cells ∷ []
 words_of (rows.Alive id) = codes "alive" ∷ []
 words_of (rows.Trap id trap cycle) = codes "trap" ∷ decimal trap ∷ codes "at" ∷ decimal cycle ∷ []
 

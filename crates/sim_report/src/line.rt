@@ -1,5 +1,6 @@
 //! A line as text.
-ghost use Rattle.std.specs.Prelude.{◌≡◌, ◌+◌, ◌<◌, ◌≤◌, ◌++◌, [], ◌∷◌, length, codes};
+ghost use Rattle.std.specs.Prelude.{◌≡◌, ◌+◌, ◌*◌, ◌<◌, ◌≤◌, ◌++◌, [], ◌∷◌, length, codes};
+ghost use Rattle.std.specs.List.{flat_map};
 ghost use Rattle.std.specs.Option.{option_map};
 ghost use Rattle.std.specs.Fmt.{decimal};
 ghost use Rattle.sim_report.specs.Lines.{hex_digit, hex_byte, hex_word, after_0x, lit_word, spaced, mode_words, subject, id_of, words_of};
@@ -8,11 +9,11 @@ use crate::row::{ReportRow, UnoMode};
 use arrayvec::ArrayVec;
 use sim_base::Name;
 
-/// The end of a line that is built. None is longer than 192 bytes.
-pub(crate) type Line = ArrayVec<u8, 192>;
+/// The end of a line that is built. None is longer than 320 bytes.
+pub(crate) type Line = ArrayVec<u8, 320>;
 
 fn add(line: &mut Line, bytes: &[u8])
-    requires { length line.old.items + length bytes.now ≤ 192 }
+    requires { length line.old.items + length bytes.now ≤ 320 }
     ensures { line.new.items ≡ line.old.items ++ bytes.now }
 {
     match line.try_extend_from_slice(bytes) {
@@ -22,7 +23,7 @@ fn add(line: &mut Line, bytes: &[u8])
 }
 
 fn word(line: &mut Line, word: &[u8])
-    requires { length line.old.items + length word.now < 192 }
+    requires { length line.old.items + length word.now < 320 }
     ensures text { line.new.items ≡ line.old.items ++ 32 ∷ word.now }
     ensures short { length line.new.items ≡ length line.old.items + length word.now + 1 }
 {
@@ -163,6 +164,42 @@ fn lcd(n: u8, text: &[u8; 16]) -> Line
     line
 }
 
+// Two digits for each byte.
+fn digits(line: &mut Line, bytes: &[u8])
+    requires { length line.old.items + 2 * length bytes.now ≤ 320 }
+    ensures text { line.new.items ≡ line.old.items ++ flat_map hex_byte bytes.now }
+    ensures short { length line.new.items ≡ length line.old.items + 2 * length bytes.now }
+{
+    for b in bytes {
+        add(line, &byte_digits(*b));
+    }
+}
+
+fn oled(on: bool) -> Line
+    ensures text { result.items ≡ spaced (lit_word on ∷ []) }
+    ensures short { length result.items ≤ 100 }
+{
+    let mut line = Line::new();
+    if on {
+        word(&mut line, b"on");
+    } else {
+        word(&mut line, b"off");
+    }
+    line
+}
+
+fn oled_page(page: u8, cells: &[u8; 128]) -> Line
+    ensures text { result.items ≡ spaced (codes "page" ∷ decimal page ∷ flat_map hex_byte cells.now ∷ []) }
+    ensures short { length result.items ≤ 310 }
+{
+    let mut line = Line::new();
+    word(&mut line, b"page");
+    number(&mut line, u32::from(page));
+    add(&mut line, b" ");
+    digits(&mut line, cells);
+    line
+}
+
 fn alive() -> Line
     ensures text { result.items ≡ spaced (codes "alive" ∷ []) }
     ensures short { length result.items ≤ 100 }
@@ -196,6 +233,7 @@ pub(crate) fn subject(row: &ReportRow) -> &'static [u8]
         ReportRow::Seg(_, _) => b"seg",
         ReportRow::Shift(_, _, _) => b"shift",
         ReportRow::Lcd(_, _, _) => b"lcd",
+        ReportRow::Oled(_, _) | ReportRow::OledPage(_, _, _) => b"oled",
         ReportRow::Alive(_) | ReportRow::Trap(_, _, _) => b"chip",
     }
 }
@@ -213,6 +251,8 @@ pub(crate) fn id(row: &ReportRow) -> Option<&Name>
         | ReportRow::Seg(id, _)
         | ReportRow::Shift(id, _, _)
         | ReportRow::Lcd(id, _, _)
+        | ReportRow::Oled(id, _)
+        | ReportRow::OledPage(id, _, _)
         | ReportRow::Alive(id)
         | ReportRow::Trap(id, _, _) => Some(id),
     }
@@ -231,6 +271,8 @@ pub(crate) fn rest(row: &ReportRow) -> Line
         ReportRow::Seg(_, segments) => seg(*segments),
         ReportRow::Shift(_, stages, latch) => shift(*stages, *latch),
         ReportRow::Lcd(_, line, text) => lcd(*line, text),
+        ReportRow::Oled(_, on) => oled(*on),
+        ReportRow::OledPage(_, page, cells) => oled_page(*page, cells),
         ReportRow::Alive(_) => alive(),
         ReportRow::Trap(_, k, cycle) => trap(*k, *cycle),
     };

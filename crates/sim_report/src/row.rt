@@ -29,6 +29,10 @@ pub enum ReportRow {
     Shift(Name, u8, u8),
     /// `lcd ID L |16 characters|`: line 1 or 2 of a text display.
     Lcd(Name, u8, [u8; 16]),
+    /// `oled ID on` or `oled ID off`: whether an OLED is on.
+    Oled(Name, bool),
+    /// `oled ID page P`, and two hexadecimal digits for each of the 128 columns of a page, 0 to 7, of an OLED.
+    OledPage(Name, u8, [u8; 128]),
     /// `chip ID alive`.
     Alive(Name),
     /// `chip ID trap K at T`: the trap that ended a chip, and its cycle.

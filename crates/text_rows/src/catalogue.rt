@@ -7,7 +7,7 @@ use part_catalog::{
 use sim_base::{List, Name, OutOfMemory, Text};
 use std::alloc::{AllocError, Global};
 
-const KINDS: [Kind; 23] = [
+const KINDS: [Kind; 25] = [
     Kind::ArduinoUno,
     Kind::Led,
     Kind::Pushbutton,
@@ -31,6 +31,8 @@ const KINDS: [Kind; 23] = [
     Kind::SevenSegment,
     Kind::Lcd1602Full,
     Kind::Lcd1602I2c,
+    Kind::Ssd1306,
+    Kind::MembraneKeypad,
 ];
 
 /// - `type TEXT`: its kind; each row below has a kind as its second word

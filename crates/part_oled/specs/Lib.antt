@@ -1,0 +1,4 @@
+pub mod Picture
+pub mod Places
+pub mod Stream
+pub mod Oled
