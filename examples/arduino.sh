@@ -38,7 +38,7 @@ sketch() { # NAME OF THE HEX FILE, SOURCE, FLAGS
         cp "$work/$name.hex" "$1"
     fi
 }
-for name in arduino-blink fade tone pot-blink pin-interrupt button eeprom-counter watchdog low-power serial-hello pot-serial i2c-scanner spi-loopback shift-out spi-shift latch seven-segment lcd-hello lcd-i2c oled-hello keypad chip-blinker chip-counter chip-thermometer chip-registers chip-echo; do
+for name in arduino-blink fade tone pot-blink pin-interrupt button eeprom-counter watchdog low-power serial-hello pot-serial i2c-scanner spi-loopback shift-out spi-shift latch seven-segment lcd-hello lcd-i2c oled-hello keypad chip-blinker chip-counter chip-thermometer chip-registers chip-echo chip-typist; do
     sketch "$here/$name/$name.hex" "$here/$name/$name.ino"
 done
 # what bench/serial.sh measures

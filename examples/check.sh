@@ -107,7 +107,7 @@ twin twin/without-its-third-write/inverter.wasm inverter-without-its-third-write
 pulses <"$rows/crc.vcd" | same "crc in the rows" "$here/crc/expected/pulses.txt" || bad=1
 pulses <"$rows/sort.vcd" | same "sort in the rows" "$here/sort/expected/pulses.txt" || bad=1
 lights bit <"$rows/counter-down.vcd" | same "counter downwards in the rows" "$here/counter/expected/counts-down.txt" || bad=1
-for name in blink counter pulse arduino-blink fade tone pin-interrupt pot-blink button eeprom-counter watchdog low-power serial-hello pot-serial i2c-scanner spi-loopback shift-out spi-shift latch seven-segment lcd-hello lcd-i2c oled-hello keypad chip-inverter chip-blinker chip-counter chip-thermometer chip-registers chip-echo; do
+for name in blink counter pulse arduino-blink fade tone pin-interrupt pot-blink button eeprom-counter watchdog low-power serial-hello pot-serial i2c-scanner spi-loopback shift-out spi-shift latch seven-segment lcd-hello lcd-i2c oled-hello keypad chip-inverter chip-blinker chip-counter chip-thermometer chip-registers chip-echo chip-typist; do
     "$program" check "$here/$name" | same "$name as a project" "$here/$name/expected/check.txt" || bad=1
 done
 "$program" bare "$here/blink/blink.hex" --us 1 | same blink "$here/blink/expected/wave.vcd" || bad=1
@@ -174,16 +174,27 @@ chips() { # FOLDER OF THE PROJECTS, WORDS
     "$program" run "$1/chip-thermometer" --us 250000 | same "chip-thermometer's bytes$2" "$here/chip-thermometer/expected/serial.txt" || bad=1
     "$program" run "$1/chip-registers" --us 5000 | same "chip-registers' bytes$2" "$here/chip-registers/expected/serial.txt" || bad=1
     "$program" run "$1/chip-echo" --us 10000 | same "chip-echo's bytes$2" "$here/chip-echo/expected/serial.txt" || bad=1
+    "$program" run "$1/chip-typist" --us 200000 | same "chip-typist's bytes$2" "$here/chip-typist/expected/serial.txt" || bad=1
+    wave "$1/chip-typist" 200000 | at 13 10 | same "chip-typist's LED$2" "$here/chip-typist/expected/pin13.txt" || bad=1
 }
 chips "$here" ""
 if command -v "${CLANG:-clang}" >/dev/null && command -v wasm-ld >/dev/null; then
-    for name in inverter blinker counter thermometer registers echo; do
+    mkdir "$down/modules"
+    "$here/chips.sh" --into "$down/modules" >/dev/null || bad=1
+    for name in inverter blinker counter thermometer registers echo typist; do
         cp -r "$here/chip-$name" "$down"
-        "$here/chips.sh" --into "$down/chip-$name" >/dev/null || bad=1
+        cp "$down/modules/$name.wasm" "$down/chip-$name"
     done
     chips "$down" ", its module made again"
 else
     echo "no clang or wasm-ld: the chips' modules are not made again" >&2
+fi
+
+# what the typist types: the attributes in the diagram, others, and texts in its module
+if command -v python3 >/dev/null; then
+    "$here/chip-typist/check.py" "$program" || bad=1
+else
+    echo "no python3: chip-typist/typist.py is not tried" >&2
 fi
 
 # waves that stand in for a chip: its own, one that was edited, and those that the chips here write
@@ -195,7 +206,7 @@ same "replay's wave" "$here/replay/recorded.vcd" <"$down/played" || bad=1
 same "replay's report" "$here/replay/expected/report.txt" <"$down/report" || bad=1
 replay "$here/chip-inverter" "$here/replay/late.vcd" 1
 same "replay's edited wave" "$here/replay/expected/late.vcd" <"$down/played" || bad=1
-for case in chip-inverter=1000 chip-blinker=3000 chip-counter=10000 chip-thermometer=250000 chip-registers=5000 chip-echo=10000; do
+for case in chip-inverter=1000 chip-blinker=3000 chip-counter=10000 chip-thermometer=250000 chip-registers=5000 chip-echo=10000 chip-typist=200000; do
     name=${case%=*}
     "$program" run "$here/$name" --us "${case#*=}" --vcd "$down/recorded" --report "$down/whole" >"$down/sent"
     replay "$here/$name" "$down/recorded" "${case#*=}"

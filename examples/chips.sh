@@ -3,7 +3,7 @@
 here=$(cd "$(dirname "$0")" && pwd)
 into=
 [ "${1:-}" = --into ] && into=$2
-for name in inverter blinker counter thermometer registers echo; do
+for name in inverter blinker counter thermometer registers echo typist; do
     file=${into:-$here/chip-$name}/$name.wasm
     "$here/../sdk/build.sh" -o "$file" "$here/chip-$name/$name.c" || exit 1
     chmod a-x "$file"
