@@ -41,6 +41,8 @@ sketch() { # NAME OF THE HEX FILE, SOURCE, FLAGS
 for name in arduino-blink fade tone pot-blink pin-interrupt button eeprom-counter watchdog low-power serial-hello pot-serial i2c-scanner spi-loopback shift-out spi-shift latch seven-segment lcd-hello lcd-i2c oled-hello keypad chip-blinker chip-counter chip-thermometer chip-registers chip-echo chip-typist; do
     sketch "$here/$name/$name.hex" "$here/$name/$name.ino"
 done
+# what sdk/check runs
+sketch "$here/../sdk/check/wokwi/counter/counter.hex" "$here/../sdk/check/wokwi/counter/counter.ino"
 # what bench/serial.sh measures
 for baud in 115200 2000000; do
     sketch "$here/../bench/print-$baud.hex" "$here/../bench/print.ino" -DBAUD=$baud

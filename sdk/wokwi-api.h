@@ -1,10 +1,12 @@
 // What a custom chip calls: the functions that the simulator gives to its module.
 //
-// The names and types are those that chips for Wokwi use, as far as the simulator has them, so that a chip of pins, watches,
-// timers, attributes, UARTs, SPI and I2C slaves is compiled as it stands. How each function is imported (its name, its parameters and its result),
-// and the offsets of the configurations, are the simulator's own: docs/CHIPS.md, "What a chip can call".
+// The names and types are those that chips for Wokwi use. A chip of pins, watches, timers, whole-number attributes, UARTs, SPI
+// and I2C slaves compiles unchanged: `sdk/build.sh`, with --libc where it includes <stdio.h> and the like. How each function is
+// imported (its name, its parameters and its result), and the offsets of the configurations, are the simulator's own:
+// docs/CHIPS.md, "What a chip can call".
 //
-// Not here: analog pins and float attributes.
+// Functions of Wokwi that are not here are declared at the end. A chip that calls one does not compile, and the compiler says
+// what to call in its place.
 #ifndef WOKWI_API_H
 #define WOKWI_API_H
 
@@ -17,6 +19,7 @@ extern "C" {
 
 #define CHIP_IMPORT(name) __attribute__((import_module("env"), import_name(name)))
 #define CHIP_EXPORT(name) __attribute__((export_name(name)))
+#define CHIP_MISSING(text) __attribute__((unavailable(text)))
 
 // The function that the chip has: called once, before cycle 0. The functions that end in `_init` are called in it alone.
 CHIP_EXPORT("chipInit") void chip_init(void);
@@ -73,6 +76,12 @@ CHIP_IMPORT("attrRead") uint32_t attr_read(uint32_t attr);
 
 // ---- timers, at most 32
 
+// The C library has a type of this name in <time.h> and <sys/types.h>. Where it came first, this one gets another name.
+#ifdef __DEFINED_timer_t
+#define timer_t chip_timer_t
+#else
+#define __DEFINED_timer_t
+#endif
 typedef uint32_t timer_t;
 
 typedef struct {
@@ -147,6 +156,22 @@ typedef struct {
 } i2c_config_t;
 
 CHIP_IMPORT("i2cInit") i2c_dev_t i2c_init(const i2c_config_t *config);
+
+// ---- what is not here
+
+CHIP_MISSING("pins are low or high: use pin_read") float pin_adc_read(pin_t pin);
+CHIP_MISSING("pins are low or high: use pin_write") float pin_dac_write(pin_t pin, float voltage);
+CHIP_MISSING("attributes are whole numbers: use attr_init, in thousandths for instance")
+uint32_t attr_init_float(const char *name, float default_value);
+CHIP_MISSING("attributes are whole numbers: use attr_read, in thousandths for instance") float attr_read_float(uint32_t attr);
+CHIP_MISSING("use timer_start_ns, which takes a whole number") void timer_start_ns_d(timer_t timer, double nanos, bool repeat);
+CHIP_MISSING("use get_sim_nanos, which gives a whole number") double get_sim_nanos_d(void);
+
+typedef uint32_t buffer_t;
+
+CHIP_MISSING("chips have no display") buffer_t framebuffer_init(uint32_t *width, uint32_t *height);
+CHIP_MISSING("chips have no display") void buffer_read(buffer_t buffer, uint32_t offset, void *data, uint32_t count);
+CHIP_MISSING("chips have no display") void buffer_write(buffer_t buffer, uint32_t offset, void *data, uint32_t count);
 
 #ifdef __cplusplus
 }

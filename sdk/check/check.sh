@@ -1,21 +1,268 @@
 #!/bin/sh
-# Compares the functions that the header declares, as a module imports them, with the table of the definition
-# (crates/chip_abi/specs/HostNames.antt). Ends with 1 where one has another type or is missing.
+# Checks the kit: its header, the compiler's words and messages, and chips that it compiles, on boards of the examples.
+# PROGRAM is the program to try, ./mudflatjar if it is not set. What needs a tool that is not installed is skipped and named.
+# Ends with 1 where something differs.
 here=$(cd "$(dirname "$0")" && pwd)
-for tool in "${CLANG:-clang}" wasm-ld wasm-objdump; do
+top=$here/../..
+program=${PROGRAM:-$top/mudflatjar}
+build=$top/sdk/build.sh
+clang=${CLANG:-clang}
+for tool in "$clang" wasm-ld bash python3; do
     command -v "$tool" >/dev/null || { echo "sdk/check: no $tool, skipped" >&2; exit 0; }
 done
 work=$(mktemp -d) || exit 1
 trap 'rm -rf "$work"' EXIT
+bad=0
 
-# NAME (PARAMETERS) -> RESULT, as wasm-objdump shows types
-sed -n 's/^row_of names\.[A-Za-z0-9]* = row (codes "\([A-Za-z0-9]*\)") \(.*\)$/\1 \2/p' "$here/../../crates/chip_abi/specs/HostNames.antt" |
-    sed 's/ ∷ \[\]//g; s/ ∷ /, /g; s/I32/i32/g; s/I64/i64/g; s/\[\]/()/g' |
-    sed 's/^\([^ ]*\) \(([^)]*)\) (\([^)]*\))$/\1 \2 -> \3/; s/-> $/-> nil/' | sort >"$work/table"
+is() { # NAME, TEXT, EXPECTED
+    if [ "$2" = "$3" ]; then echo "sdk: $1: ok"; else printf 'sdk: %s: "%s" and not "%s"\n' "$1" "$2" "$3"; bad=1; fi
+}
 
-"$here/../build.sh" -o "$work/every.wasm" "$here/every.c" || exit 1
-wasm-objdump -x "$work/every.wasm" | awk '
-    /^ - type\[/ { n = $2; gsub(/type\[|\]/, "", n); sub(/^ - type\[[0-9]*\] /, ""); type[n] = $0 }
-    /<env\./ { n = $3; sub(/sig=/, "", n); name = $4; gsub(/<env\.|>/, "", name); print name, type[n] }' | sort >"$work/header"
+# ---- the header: each function with the type that the definition's table has (crates/chip_abi/specs/HostNames.antt)
 
-if diff "$work/table" "$work/header"; then echo "sdk: the header agrees with the table of $(wc -l <"$work/table") functions"; else exit 1; fi
+if command -v wasm-objdump >/dev/null; then
+    # NAME (PARAMETERS) -> RESULT, as wasm-objdump shows types
+    sed -n 's/^row_of names\.[A-Za-z0-9]* = row (codes "\([A-Za-z0-9]*\)") \(.*\)$/\1 \2/p' "$top/crates/chip_abi/specs/HostNames.antt" |
+        sed 's/ ∷ \[\]//g; s/ ∷ /, /g; s/I32/i32/g; s/I64/i64/g; s/\[\]/()/g' |
+        sed 's/^\([^ ]*\) \(([^)]*)\) (\([^)]*\))$/\1 \2 -> \3/; s/-> $/-> nil/' | sort >"$work/table"
+    "$build" -o "$work/every" "$here/chips/every.c" || exit 1
+    wasm-objdump -x "$work/every" | awk '
+        /^ - type\[/ { n = $2; gsub(/type\[|\]/, "", n); sub(/^ - type\[[0-9]*\] /, ""); type[n] = $0 }
+        /<env\./ { n = $3; sub(/sig=/, "", n); name = $4; gsub(/<env\.|>/, "", name); print name, type[n] }' | sort >"$work/header"
+    if diff "$work/table" "$work/header"; then
+        echo "sdk: the header agrees with the table of $(wc -l <"$work/table") functions"
+    else
+        bad=1
+    fi
+else
+    echo "sdk/check: no wasm-objdump, the header is not compared with the table" >&2
+fi
+
+# ---- what build.sh says, and how it ends
+
+says() { # NAME, STATUS, TEXT, WORDS of build.sh
+    name=$1 status=$2 text=$3
+    shift 3
+    "$build" "$@" >"$work/said" 2>&1
+    is "$name: status" $? "$status"
+    [ -z "$text" ] || also "$text"
+}
+also() { # TEXT that was said too
+    grep -qF -e "$1" "$work/said" || { echo "sdk: $name: no \"$1\" in:"; cat "$work/said"; bad=1; }
+}
+cd "$work" || exit 1
+echo '#include "wokwi-api.h"
+void chip_init(void) {}' >good.c
+says help 0 'usage: sdk/build.sh [--libc] -o NAME.wasm' --help
+says "no module named" 2 'no module is named' good.c
+says "no file named" 2 'no C file is named' -o a.wasm
+says "a source as the module" 2 'good.c is a source' -o good.c
+says "a word without its value" 2 '-o has no word after it' good.c -o
+says "no module asked for" 2 '-c makes no module' -c -o a.wasm good.c
+says "a missing file" 1 'there is no file none.c' -o a.wasm none.c
+says "a folder that is not there" 1 'none/a.wasm cannot be written' -o none/a.wasm good.c
+says "a good chip" 0 '' -o a.wasm good.c
+is "a good chip says nothing" "$(cat said)" ""
+rm a.wasm
+
+echo '#include <stdio.h>
+#include "wokwi-api.h"
+void chip_init(void) { printf("x"); }' >prints.c
+says "stdio.h without the library" 1 'without --libc there is no C library' -o a.wasm prints.c
+echo '#include "wokwi-api.h"
+int other(void);
+void chip_init(void) { pin_write(other(), 1); }' >other.c
+says "a function of no file" 1 'undefined symbol: other' -o a.wasm other.c
+also 'a function is called that is in none of the files: is a file missing, or --libc?'
+echo '#include "wokwi-api.h"
+void chip_init(void) { pin_rad(1); }' >misspelled.c
+says "a misspelled function" 1 'a function is called that no header file declares' -o a.wasm misspelled.c
+echo '#include "wokwi-api.h"
+void chipInit(void) {}' >noinit.c
+says "no chip_init" 1 'exports no chipInit' -o a.wasm noinit.c
+echo '#include "wokwi-api.h"
+__attribute__((import_module("env"), import_name("pinToggle"))) void pin_toggle(pin_t pin);
+__attribute__((import_module("board"), import_name("pinRead"))) uint32_t board_read(pin_t pin);
+__attribute__((import_module("env"), import_name("attrInitFloat"))) uint32_t attr_float(const char *name, float value);
+__attribute__((import_module("env"), import_name("timerStartNanos"))) void start(timer_t timer, double nanos, bool repeat);
+void chip_init(void) { pin_toggle(0); board_read(1); attr_float("a", 1); start(0, 1, 0); }' >imports.c
+says "an unknown import" 1 'a.wasm imports env pinToggle, which is not there' -o a.wasm imports.c
+also 'a.wasm imports board pinRead, which is not there'
+also 'a.wasm imports env attrInitFloat, which is not there: attributes are whole numbers'
+also 'a.wasm imports timerStartNanos with a double'
+echo '#include "wokwi-api.h"
+void chip_init(void) {
+    pin_adc_read(0);
+    pin_dac_write(0, 1);
+    attr_init_float("a", 1);
+    attr_read_float(0);
+    timer_start_ns_d(0, 1, true);
+    get_sim_nanos_d();
+    framebuffer_init(0, 0);
+    buffer_read(0, 0, 0, 0);
+    buffer_write(0, 0, 0, 0);
+}' >missing.c
+says "what is not there" 1 "missing.c:3:5: error: 'pin_adc_read' is unavailable: pins are low or high: use pin_read" -o a.wasm missing.c
+also "missing.c:4:5: error: 'pin_dac_write' is unavailable: pins are low or high: use pin_write"
+also "missing.c:5:5: error: 'attr_init_float' is unavailable: attributes are whole numbers: use attr_init"
+also "missing.c:6:5: error: 'attr_read_float' is unavailable: attributes are whole numbers: use attr_read"
+also "missing.c:7:5: error: 'timer_start_ns_d' is unavailable: use timer_start_ns"
+also "missing.c:8:5: error: 'get_sim_nanos_d' is unavailable: use get_sim_nanos"
+for call in framebuffer_init buffer_read buffer_write; do
+    also "error: '$call' is unavailable: chips have no display"
+done
+is "no module where it failed" "$(ls -- *.wasm 2>/dev/null)" ""
+
+# a compiler that answers as one does whose linker, library or target is missing
+cat >stand-in <<'END'
+#!/bin/sh
+case "$*" in
+*print-prog-name=wasm-ld) echo "${LD:-wasm-ld}" ;;
+*print-file-name=libc.a) echo "${LIBRARY:-$0}" ;;
+*print-libgcc-file-name) echo "${BUILTINS:-$0}" ;;
+*) echo "error: unable to create target: 'No available targets are compatible with triple \"wasm32\"'" >&2; exit 1 ;;
+esac
+END
+chmod +x stand-in
+CLANG=$work/none says "no compiler" 1 "there is no $work/none: install Debian's packages clang and lld, or name a compiler by CLANG" -o a.wasm good.c
+CLANG=$work/stand-in LD=$work/none says "no linker" 1 "there is no wasm-ld, the linker: install Debian's package lld" -o a.wasm good.c
+CLANG=$work/stand-in LIBRARY=libc.a says "no library" 1 "there is no C library: install Debian's package wasi-libc" --libc -o a.wasm good.c
+CLANG=$work/stand-in BUILTINS=none says "no builtins" 1 "install Debian's package libclang-rt-dev-wasm32" --libc -o a.wasm good.c
+CLANG=$work/stand-in says "no target" 1 "does not compile for WebAssembly: name another by CLANG" -o a.wasm good.c
+
+# binaryen's wasm-opt is not run: it refuses memory.copy in a module that does not name its features
+mkdir path
+printf '#!/bin/sh\ntouch "%s/optimised"\nexit 1\n' "$work" >path/wasm-opt
+chmod +x path/wasm-opt
+for level in -O0 -O2 -Os; do
+    PATH=$work/path:$PATH says "$level beside wasm-opt" 0 '' $level -o a.wasm "$here/chips/memory.c"
+done
+is "wasm-opt is not run" "$(ls optimised 2>/dev/null)" ""
+
+# a header next to the chip comes before the kit's, and is named
+mkdir beside
+cp good.c beside
+echo '#define chip_init chip_begin
+#define BESIDE 1
+__attribute__((export_name("chipInit"))) void chip_begin(void);' >beside/wokwi-api.h
+echo '#ifndef BESIDE
+#error the header of the kit
+#endif' >>beside/good.c
+says "a header next to the chip" 0 'uses the beside/wokwi-api.h next to it, and not the one of the kit' -o a.wasm beside/good.c
+
+# ---- chips on boards
+
+# The last line of the report on the inverter's board, without its first words: alive, or trap K at T.
+ends() { # MODULE
+    rm -rf board && cp -r "$top/examples/chip-inverter" board && cp "$1" board/inverter.wasm &&
+        "$program" run board --us 20 --report - | sed -n 's/^chip inv1 //p'
+}
+# TIME and LEVEL of OUT on that board in cycle 0 and at each change, the time in whole units of so many microseconds
+changes() { # MICROSECONDS UNIT
+    "$program" run board --us "$1" --vcd - | awk -v unit="$2" '
+        $5 == "inv1.OUT" { code = $4 }
+        /^#/ { time = substr($0, 2) / 10000 / unit }
+        /^[01xz]/ && substr($0, 2) == code { printf "%d%s ", time, substr($0, 1, 1) }'
+}
+compiled() { # NAME, WORDS of build.sh
+    name=$1
+    shift
+    rm -f "$name.wasm"
+    "$build" -o "$name.wasm" "$@" || { echo "sdk: $name is not compiled"; bad=1; }
+}
+# the first chip of docs/CHIPS.md
+awk '/^    #include "wokwi-api.h"/ { shows = 1 } /^Then/ { exit } shows { print substr($0, 5) }' "$top/docs/CHIPS.md" >toggle.c
+says "the page's chip compiles without a word" 0 '' -o toggle.wasm toggle.c
+is "the page's chip: messages" "$(cat said)" ""
+rm -rf board && cp -r "$top/examples/chip-inverter" board && cp toggle.wasm board/inverter.wasm
+is "the page's chip" "$(changes 1 0.0625)" "00 41 100 "
+
+compiled memory "$here/chips/memory.c"
+is "string.h without the library" "$(ends memory.wasm)" alive
+compiled memory -O0 "$here/chips/memory.c"
+is "string.h without the library or optimisation" "$(ends memory.wasm)" alive
+compiled deep "$here/chips/deep.c"
+
+# Each trap of docs/CHIPS.md: the board of chip-blinker gives the chip its number.
+compiled traps "$here/chips/traps.c"
+rm -rf board && cp -r "$top/examples/chip-blinker" board && cp traps.wasm board/blinker.wasm
+for trap in 1 2 3 4 5 6 7 8 9 10 11 12 13 14; do
+    sed "s/\"micros\": \"500\"/\"micros\": \"$trap\"/" "$top/examples/chip-blinker/diagram.json" >board/diagram.json
+    is "trap $trap" "$("$program" run board --us 2 --report - | sed -n 's/^chip blink1 trap //p')" "$trap at $([ $trap = 12 ] && echo 16 || echo 0)"
+done
+
+# A buffer that is handed over must stay: a static one is sent, a local one is overwritten.
+uart() { # MODULE: what the sketch of chip-typist says to it
+    rm -rf board && cp -r "$top/examples/chip-typist" board && cp "$1" board/typist.wasm &&
+        "$program" run board --us 1200000 | tr -d '\r' | tail -n 1
+}
+spi() { # MODULE: what the sketch of chip-registers reads
+    rm -rf board && cp -r "$top/examples/chip-registers" board && cp "$1" board/registers.wasm &&
+        "$program" run board --us 5000 | tr -d '\r' | tr '\n' ' '
+}
+compiled buffer -D STORAGE=static "$here/chips/buffer.c"
+is "uart_write of a static buffer" "$(uart buffer.wasm)" "LED on"
+compiled buffer -D STORAGE= "$here/chips/buffer.c"
+is "uart_write of a local buffer" "$(uart buffer.wasm)" "unknown: o??"
+compiled buffer -D STORAGE=static "$here/chips/spi-buffer.c"
+is "spi_start of a static buffer" "$(spi buffer.wasm)" "12 34 AB CD "
+compiled buffer -D STORAGE= "$here/chips/spi-buffer.c"
+is "spi_start of a local buffer" "$(spi buffer.wasm)" "3F 3F 3F 3F "
+
+# ---- with the C library
+
+if ! [ -f "$("$clang" --target=wasm32-wasi --print-file-name=libc.a)" ] || ! [ -f "$("$clang" --target=wasm32-wasi --print-libgcc-file-name)" ]; then
+    echo "sdk/check: no wasi-libc or libclang-rt-dev-wasm32, chips with the C library are not tried" >&2
+    exit $bad
+fi
+compiled memory --libc "$here/chips/memory.c"
+is "string.h of the library" "$(ends memory.wasm)" alive
+compiled library --libc "$here/chips/library.c"
+is "printf, snprintf, strtol, qsort, malloc" "$(ends library.wasm)" alive
+compiled deep --libc "$here/chips/deep.c"
+is "too deep a stack" "$(ends deep.wasm)" "trap 2 at 0"
+compiled float --libc "$here/chips/float.c"
+is "a float printed after 2 microseconds" "$(ends float.wasm)" "trap 14 at 32"
+compiled lines --libc "$here/chips/lines.c"
+rm -rf board && cp -r "$top/examples/chip-inverter" board && cp lines.wasm board/inverter.wasm
+is "text waits for its line's end" "$(changes 20 1)" "01 60 81 "
+
+# what of the library calls the system for
+echo '#include <stdio.h>
+#include <stdlib.h>
+#include <time.h>
+#include <unistd.h>
+#include "wokwi-api.h"
+void chip_init(void) {
+    FILE *file = fopen("a", "r");
+    printf("%s %c %d", getenv("A"), getc(file), (int)time(0));
+    sleep(1);
+    exit(0);
+}' >system.c
+says "the system" 1 '' --libc -o a.wasm system.c
+for import in path_open environ_get fd_read clock_time_get poll_oneoff proc_exit; do
+    also "a.wasm imports $import of the C library, which is not there: it comes from "
+done
+says "a function of no file, with the library" 1 'in none of the files and not in the C library: is a file missing?' --libc -o a.wasm other.c
+
+# chips as they are written for Wokwi, compiled as they are
+for chip in inverter rot13 counter/counter; do
+    says "$chip compiles without a word" 0 '' --libc -o "$(basename "$chip").wasm" "$here/wokwi/$chip.c"
+    is "$chip: messages" "$(cat said)" ""
+done
+rm -rf board && cp -r "$top/examples/chip-inverter" board && cp inverter.wasm board
+is "Wokwi's inverter" "$(changes 1 0.0625)" "00 61 100 121 "
+# with the names that Wokwi gives to the files
+rm -rf board && cp -r "$top/examples/chip-echo" board && cp rot13.wasm board/echo.chip.wasm && rm board/echo.wasm board/echo.json
+sed -i 's/echo\.wasm/echo.chip.wasm/' board/wokwi.toml
+echo '{
+  "name": "ROT13",
+  "author": "",
+  "pins": ["TX", "RX", "GND", "VCC"],
+  "controls": [{"id": "speed", "label": "Speed", "type": "range", "min": 0, "max": 10, "step": 1}]
+}' >board/echo.chip.json
+is "Wokwi's rot13" "$("$program" run board --us 20000)" aocqesguiwkym
+rm -rf board && cp -r "$here/wokwi/counter" board && cp counter.wasm board
+"$program" run board --us 10000 >answers
+cmp answers "$here/wokwi/counter/expected.txt" && echo "sdk: Wokwi's I2C counter: ok" || bad=1
+exit $bad
