@@ -132,6 +132,6 @@ compile "$kit" || explain
 # -O is not among these words: with it clang runs wasm-opt where binaryen is installed, which refuses memory.copy.
 tool "$target" "${layout[@]}" -Wl,--no-entry,--export-table,--strip-all "${objects[@]}" "${linking[@]}" -o "$work/module.wasm" || explain
 if have python3; then
-    python3 "$here/module.py" "$work/module.wasm" "$module" || exit 1
+    python3 "$here/module.py" "$work/module.wasm" "$module" "${sources[@]}" || exit 1
 fi
 cat "$work/module.wasm" 2>/dev/null >"$module" || { say "$module cannot be written"; exit 1; }

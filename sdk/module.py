@@ -1,9 +1,10 @@
 #!/usr/bin/env python3
-"""Looks at a module that was just linked:  sdk/module.py MODULE [NAME]
+"""Looks at a module that was just linked:  sdk/module.py MODULE NAME.wasm SOURCE ..
 
-Says in words what the simulator would refuse it for by a number: no `chipInit`, or a function that is imported and is not there.
-NAME is what the module is called in the messages. Ends with 1 where it said something. The functions that there are, it reads
-from wokwi-api.h."""
+Says in words what the simulator would refuse it for by a number: no `chipInit`, or a function that is imported and is not there;
+then it ends with 1. NAME.wasm is where the module will be. Where NAME.json is next to it, it also says which pins the sources
+ask for that are not listed there. The functions that there are, it reads from wokwi-api.h."""
+import json
 import os
 import re
 import sys
@@ -119,9 +120,27 @@ def complaints(data, known):
                     yield f"imports {name} with a {kind}, and here it has whole numbers: use the wokwi-api.h of the kit"
 
 
+def unlisted_pins(list_of_pins, sources):
+    """(source, pin) for each pin that is asked for by a text in the source and is not in the chip's list."""
+    try:
+        with open(list_of_pins, encoding="utf-8") as file:
+            pins = json.load(file)["pins"]
+    except (OSError, ValueError, KeyError, TypeError):
+        return  # the simulator says what is wrong with the list
+    for source in sources:
+        with open(source, encoding="utf-8", errors="replace") as file:
+            for pin in re.findall(r'\bpin_init\s*\(\s*"([^"\\\n]*)"', file.read()):
+                if pin not in pins:
+                    yield source, pin
+
+
+def say(text):
+    print("sdk/build.sh:", text, file=sys.stderr)
+
+
 def main(words):
-    if len(words) not in (2, 3):
-        print("usage: sdk/module.py MODULE [NAME]", file=sys.stderr)
+    if len(words) < 3:
+        print("usage: sdk/module.py MODULE NAME.wasm SOURCE ..", file=sys.stderr)
         return 2
     with open(words[1], "rb") as file:
         data = file.read()
@@ -130,10 +149,14 @@ def main(words):
         known = set(re.findall(r'^CHIP_IMPORT\("(\w+)"\)', file.read(), re.M))
     said = list(complaints(data, known))
     for text in said:
-        print(f"sdk/build.sh: {words[-1]} {text}", file=sys.stderr)
+        say(f"{words[2]} {text}")
     if said:
-        print("sdk/build.sh: docs/CHIPS.md explains what a chip can call", file=sys.stderr)
-    return 1 if said else 0
+        say("docs/CHIPS.md explains what a chip can call")
+        return 1
+    list_of_pins = os.path.splitext(words[2])[0] + ".json"
+    for source, pin in unlisted_pins(list_of_pins, words[3:]):
+        say(f'{source} asks for the pin "{pin}", which is not in {list_of_pins}: pin_init answers NO_PIN')
+    return 0
 
 
 if __name__ == "__main__":

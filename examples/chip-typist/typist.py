@@ -18,6 +18,7 @@ import re
 import sys
 
 HERE = os.path.dirname(os.path.abspath(__file__))
+MODULE = os.path.join(HERE, "typist.wasm")
 LATEST = 0xFFFFFFFE  # the last time that the chip can tell from none
 ESCAPES = {"n": 10, "r": 13, "t": 9, "0": 0, "\\": 92}
 UNITS = {"": 1, "us": 1, "ms": 1000, "s": 1000000}
@@ -25,7 +26,7 @@ ROOM = 32768  # typed[] in typist.c
 NAMES = 64  # attributes of a chip
 
 
-class Words(Exception):
+class Words(ValueError):
     """What is wrong with what was asked for."""
 
 
@@ -156,7 +157,7 @@ def room_address(data):
 def module(pieces, empty=None):
     """The typist's module with the pieces, pairs of a time in microseconds and bytes, as a further data segment."""
     if empty is None:
-        with open(os.path.join(HERE, "typist.wasm"), "rb") as file:
+        with open(MODULE, "rb") as file:
             empty = file.read()
     record = b"".join(
         time.to_bytes(4, "little") + len(data).to_bytes(4, "little") + data for time, data in pieces if data

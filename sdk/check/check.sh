@@ -113,6 +113,24 @@ for call in framebuffer_init buffer_read buffer_write; do
 done
 is "no module where it failed" "$(ls -- *.wasm 2>/dev/null)" ""
 
+# pins that are not in the list next to the module
+echo '#include "wokwi-api.h"
+static const char *const name = "C";
+void chip_init(void) {
+    pin_init("A", INPUT);
+    pin_init( "B", INPUT);
+    pin_init(name, INPUT);
+}' >pins.c
+echo '{"pins": ["A"]}' >pins.json
+says "a pin that is not listed" 0 'pins.c asks for the pin "B", which is not in pins.json: pin_init answers NO_PIN' -o pins.wasm pins.c
+is "a pin that is not listed: messages" "$(wc -l <said)" 1
+echo '{"pins": ["A", "B"]}' >pins.json
+says "pins that are listed" 0 '' -o pins.wasm pins.c
+is "pins that are listed: messages" "$(cat said)" ""
+echo '{"pins": 1' >pins.json
+says "a list that is none" 0 '' -o pins.wasm pins.c
+is "a list that is none: messages" "$(cat said)" ""
+
 # a compiler that answers as one does whose linker, library or target is missing
 cat >stand-in <<'END'
 #!/bin/sh
@@ -226,6 +244,7 @@ is "a float printed after 2 microseconds" "$(ends float.wasm)" "trap 14 at 32"
 compiled lines --libc "$here/chips/lines.c"
 rm -rf board && cp -r "$top/examples/chip-inverter" board && cp lines.wasm board/inverter.wasm
 is "text waits for its line's end" "$(changes 20 1)" "01 60 81 "
+is "a short line costs less than 8,000 units" "$("$program" run board --us 20 --budget 8000 --report - | tail -n 1)" "chip inv1 alive"
 
 # what of the library calls the system for
 echo '#include <stdio.h>
@@ -250,6 +269,7 @@ for chip in inverter rot13 counter/counter; do
     says "$chip compiles without a word" 0 '' --libc -o "$(basename "$chip").wasm" "$here/wokwi/$chip.c"
     is "$chip: messages" "$(cat said)" ""
 done
+is "printf and malloc take less than 32 KiB" "$([ "$(wc -c <inverter.wasm)" -lt 32768 ] && echo less)" less
 rm -rf board && cp -r "$top/examples/chip-inverter" board && cp inverter.wasm board
 is "Wokwi's inverter" "$(changes 1 0.0625)" "00 61 100 121 "
 # with the names that Wokwi gives to the files
