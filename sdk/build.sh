@@ -1,18 +1,19 @@
 #!/usr/bin/env bash
-# Makes the module of a chip from its C files; the text below says how.
+# Makes the module of a chip from its C or C++ files; the text below says how.
 here=$(cd "$(dirname "$0")" && pwd) || exit 1
 clang=${CLANG:-clang}
 usage='usage: sdk/build.sh [--libc] -o NAME.wasm [WORDS] FILE.c ...'
 help="$usage
 
-Makes the module of a chip from its C files.
+Makes the module of a chip from its C files, or C++ files without C++'s library.
 
   -o NAME.wasm  the module; the list of its pins is NAME.json, next to it
   --libc        links the C library: stdio.h, stdlib.h, string.h and so on
   --help        shows this text
 
 WORDS that begin with - are handed to clang: -O0, -D NAME=VALUE, -I FOLDER.
--l NAME, -L FOLDER, -Wl,WORD, objects (.o) and archives (.a) are for the linker.
+-l NAME, -L FOLDER, -z stack-size=BYTES, -Wl,WORD, objects (.o) and archives (.a)
+are for the linker.
 CLANG in the environment names another compiler than clang.
 
 Debian has clang in the packages clang and lld, and the C library in
@@ -85,7 +86,7 @@ if [ -n "$libc" ]; then
     layout=(-nostartfiles "-Wl,--stack-first,-z,stack-size=65536")
 else
     kit=$here/freestanding/string.c
-    words+=(-ffreestanding -nostdlibinc -I"$here/freestanding")
+    words+=(-ffreestanding -nostdlibinc -I"$here/freestanding" -Wframe-larger-than=4096)
     layout=(-nostdlib "-Wl,-z,stack-size=8192")
 fi
 

@@ -199,7 +199,15 @@ compiled memory "$here/chips/memory.c"
 is "string.h without the library" "$(ends memory.wasm)" alive
 compiled memory -O0 "$here/chips/memory.c"
 is "string.h without the library or optimisation" "$(ends memory.wasm)" alive
-compiled deep "$here/chips/deep.c"
+compiled class "$here/chips/class.cpp"
+rm -rf board && cp -r "$top/examples/chip-inverter" board && cp class.wasm board/inverter.wasm
+is "a chip in C++" "$(changes 1 0.0625)" "00 41 60 101 120 "
+says "a stack of 10,000 bytes" 0 "exceeds limit (4096) in 'chip_init'" -o stack.wasm "$here/chips/stack.c"
+is "a stack that overwrites data" "$(ends stack.wasm)" "trap 1 at 0"
+compiled stack -Wno-frame-larger-than -Wl,--stack-first "$here/chips/stack.c"
+is "a stack that leaves the memory" "$(ends stack.wasm)" "trap 2 at 0"
+compiled stack -Wno-frame-larger-than -z stack-size=65536 "$here/chips/stack.c"
+is "a stack that is large enough" "$(ends stack.wasm)" alive
 
 # Each trap of docs/CHIPS.md: the board of chip-blinker gives the chip its number.
 compiled traps "$here/chips/traps.c"

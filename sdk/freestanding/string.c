@@ -1,7 +1,7 @@
 // What string.h declares. The built-in functions are the instructions memory.copy and memory.fill.
 #include "string.h"
 
-void *memcpy(void *restrict to, const void *restrict from, size_t count) {
+void *memcpy(void *__restrict to, const void *__restrict from, size_t count) {
     return __builtin_memcpy(to, from, count);
 }
 

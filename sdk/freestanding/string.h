@@ -9,7 +9,7 @@
 extern "C" {
 #endif
 
-void *memcpy(void *restrict to, const void *restrict from, size_t count);
+void *memcpy(void *__restrict to, const void *__restrict from, size_t count);
 void *memmove(void *to, const void *from, size_t count);
 void *memset(void *to, int byte, size_t count);
 int memcmp(const void *left, const void *right, size_t count);
