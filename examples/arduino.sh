@@ -38,10 +38,11 @@ sketch() { # NAME OF THE HEX FILE, SOURCE, FLAGS
         cp "$work/$name.hex" "$1"
     fi
 }
-for name in arduino-blink fade tone pot-blink pin-interrupt button eeprom-counter watchdog low-power serial-hello pot-serial i2c-scanner spi-loopback shift-out spi-shift latch seven-segment lcd-hello lcd-i2c oled-hello keypad chip-blinker chip-counter chip-thermometer chip-registers chip-echo chip-typist; do
+for name in arduino-blink fade tone pot-blink pin-interrupt button eeprom-counter watchdog low-power serial-hello pot-serial i2c-scanner spi-loopback shift-out spi-shift latch seven-segment lcd-hello lcd-i2c oled-hello keypad chip-blinker chip-counter chip-thermometer chip-registers chip-echo; do
     sketch "$here/$name/$name.hex" "$here/$name/$name.ino"
 done
-# what sdk/check runs
+# chips' boards: one that types, and what sdk/check runs
+sketch "$here/chip-typist/chip-typist.hex" "$here/chip-typist/chip-typist.ino"
 sketch "$here/../sdk/check/wokwi/counter/counter.hex" "$here/../sdk/check/wokwi/counter/counter.ino"
 # what bench/serial.sh measures
 for baud in 115200 2000000; do

@@ -107,7 +107,7 @@ twin twin/without-its-third-write/inverter.wasm inverter-without-its-third-write
 pulses <"$rows/crc.vcd" | same "crc in the rows" "$here/crc/expected/pulses.txt" || bad=1
 pulses <"$rows/sort.vcd" | same "sort in the rows" "$here/sort/expected/pulses.txt" || bad=1
 lights bit <"$rows/counter-down.vcd" | same "counter downwards in the rows" "$here/counter/expected/counts-down.txt" || bad=1
-for name in blink counter pulse arduino-blink fade tone pin-interrupt pot-blink button eeprom-counter watchdog low-power serial-hello pot-serial i2c-scanner spi-loopback shift-out spi-shift latch seven-segment lcd-hello lcd-i2c oled-hello keypad chip-inverter chip-blinker chip-counter chip-thermometer chip-registers chip-echo chip-typist; do
+for name in blink counter pulse arduino-blink fade tone pin-interrupt pot-blink button eeprom-counter watchdog low-power serial-hello pot-serial i2c-scanner spi-loopback shift-out spi-shift latch seven-segment lcd-hello lcd-i2c oled-hello keypad chip-inverter chip-blinker chip-counter chip-thermometer chip-registers chip-echo; do
     "$program" check "$here/$name" | same "$name as a project" "$here/$name/expected/check.txt" || bad=1
 done
 "$program" bare "$here/blink/blink.hex" --us 1 | same blink "$here/blink/expected/wave.vcd" || bad=1
@@ -174,6 +174,7 @@ chips() { # FOLDER OF THE PROJECTS, WORDS
     "$program" run "$1/chip-thermometer" --us 250000 | same "chip-thermometer's bytes$2" "$here/chip-thermometer/expected/serial.txt" || bad=1
     "$program" run "$1/chip-registers" --us 5000 | same "chip-registers' bytes$2" "$here/chip-registers/expected/serial.txt" || bad=1
     "$program" run "$1/chip-echo" --us 10000 | same "chip-echo's bytes$2" "$here/chip-echo/expected/serial.txt" || bad=1
+    "$program" check "$1/chip-typist" | same "chip-typist as a project$2" "$here/chip-typist/expected/check.txt" || bad=1
     "$program" run "$1/chip-typist" --us 200000 | same "chip-typist's bytes$2" "$here/chip-typist/expected/serial.txt" || bad=1
     wave "$1/chip-typist" 200000 | at 13 10 | same "chip-typist's LED$2" "$here/chip-typist/expected/pin13.txt" || bad=1
 }
