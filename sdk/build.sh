@@ -106,6 +106,8 @@ compile() { # FILE, WORDS
 explain() { # what clang's messages do not say
     if grep -q "No available targets" "$work/said"; then
         say "$clang does not compile for WebAssembly: name another by CLANG"
+    elif grep -q 'Executable "wasm-ld.*" doesn.t exist' "$work/said"; then
+        say "$clang needs the linker of its own version: install Debian's package lld or lld-VERSION"
     elif [ -z "$libc" ] && grep -q "'[a-z0-9_/]*\.h' file not found" "$work/said"; then
         say "without --libc there is no C library, and no header file of it"
     elif grep -q "undefined symbol: " "$work/said"; then
@@ -114,7 +116,7 @@ explain() { # what clang's messages do not say
         else
             say "a function is called that is in none of the files: is a file missing, or --libc?"
         fi
-    elif grep -q "implicit declaration of function" "$work/said"; then
+    elif grep -q -e "implicit declaration of function" -e "call to undeclared function" "$work/said"; then
         say "a function is called that no header file declares: docs/CHIPS.md, \"A chip written for Wokwi\", has what is not there"
     fi
     exit 1

@@ -138,7 +138,12 @@ case "$*" in
 *print-prog-name=wasm-ld) echo "${LD:-wasm-ld}" ;;
 *print-file-name=libc.a) echo "${LIBRARY:-$0}" ;;
 *print-libgcc-file-name) echo "${BUILTINS:-$0}" ;;
-*) echo "error: unable to create target: 'No available targets are compatible with triple \"wasm32\"'" >&2; exit 1 ;;
+*" -c "*)
+    [ -n "$COMPILER" ] && exec "$COMPILER" "$@"
+    echo "error: unable to create target: 'No available targets are compatible with triple \"wasm32\"'" >&2
+    exit 1
+    ;;
+*) echo "clang: error: unable to execute command: Executable \"wasm-ld-16\" doesn't exist!" >&2; exit 1 ;;
 esac
 END
 chmod +x stand-in
@@ -146,6 +151,7 @@ CLANG=$work/none says "no compiler" 1 "there is no $work/none: install Debian's 
 CLANG=$work/stand-in LD=$work/none says "no linker" 1 "there is no wasm-ld, the linker: install Debian's package lld" -o a.wasm good.c
 CLANG=$work/stand-in LIBRARY=libc.a says "no library" 1 "there is no C library: install Debian's package wasi-libc" --libc -o a.wasm good.c
 CLANG=$work/stand-in BUILTINS=none says "no builtins" 1 "install Debian's package libclang-rt-dev-wasm32" --libc -o a.wasm good.c
+CLANG=$work/stand-in COMPILER=$clang says "a linker of another version" 1 "needs the linker of its own version: install Debian's package lld or lld-VERSION" -o a.wasm good.c
 CLANG=$work/stand-in says "no target" 1 "does not compile for WebAssembly: name another by CLANG" -o a.wasm good.c
 
 # binaryen's wasm-opt is not run: it refuses memory.copy in a module that does not name its features
