@@ -34,7 +34,7 @@ while [ $# -gt 0 ]; do
     case $1 in
     --help | -h) echo "$help"; exit 0 ;;
     --libc) libc=yes ;;
-    -o | -D | -U | -I | -L | -l | -z | -x | -include | -imacros | -iquote | -isystem | -idirafter | -Xclang | -Xlinker | -mllvm)
+    -o | -D | -U | -I | -L | -l | -z | -x | -include | -imacros | -iquote | -isystem | -idirafter | -MF | -MT | -MQ | -Xclang | -Xlinker | -mllvm)
         [ $# -gt 1 ] || misused "$1 has no word after it"
         case $1 in
         -o) module=$2 ;;
