@@ -195,7 +195,7 @@ fi
 if command -v python3 >/dev/null; then
     "$here/chip-typist/check.py" "$program" || bad=1
 else
-    echo "no python3: chip-typist/typist.py is not tried" >&2
+    echo "no python3: chip-typist/typist.py is skipped" >&2
 fi
 
 # waves that stand in for a chip: its own, one that was edited, and those that the chips here write

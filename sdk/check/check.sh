@@ -1,15 +1,16 @@
 #!/bin/sh
 # Checks the kit: its header, the compiler's words and messages, and chips that it compiles, on boards of the examples.
-# PROGRAM is the program to try, ./mudflatjar if it is not set. What needs a tool that is not installed is skipped and named.
+# PROGRAM is the program to try, target/mudflatjar if it is not set. What needs a tool that is not installed is skipped and named.
 # Ends with 1 where something differs.
 here=$(cd "$(dirname "$0")" && pwd)
 top=$here/../..
-program=${PROGRAM:-$top/mudflatjar}
+program=$(realpath "${PROGRAM:-$top/target/mudflatjar}")
 build=$top/sdk/build.sh
 clang=${CLANG:-clang}
 for tool in "$clang" wasm-ld bash python3; do
     command -v "$tool" >/dev/null || { echo "sdk/check: no $tool, skipped" >&2; exit 0; }
 done
+[ -x "$program" ] || { echo "sdk/check: there is no program $program: ./mudflatjar builds it" >&2; exit 1; }
 work=$(mktemp -d) || exit 1
 trap 'rm -rf "$work"' EXIT
 bad=0
@@ -35,7 +36,7 @@ if command -v wasm-objdump >/dev/null; then
         bad=1
     fi
 else
-    echo "sdk/check: no wasm-objdump, the header is not compared with the table" >&2
+    echo "sdk/check: no wasm-objdump, the comparison of the header with the table is skipped" >&2
 fi
 
 # ---- what build.sh says, and how it ends
@@ -244,7 +245,7 @@ is "spi_start of a local buffer" "$(spi buffer.wasm)" "3F 3F 3F 3F "
 # ---- with the C library
 
 if ! [ -f "$("$clang" --target=wasm32-wasi --print-file-name=libc.a)" ] || ! [ -f "$("$clang" --target=wasm32-wasi --print-libgcc-file-name)" ]; then
-    echo "sdk/check: no wasi-libc or libclang-rt-dev-wasm32, chips with the C library are not tried" >&2
+    echo "sdk/check: no wasi-libc or libclang-rt-dev-wasm32, chips with the C library are skipped" >&2
     exit $bad
 fi
 compiled memory --libc "$here/chips/memory.c"
