@@ -65,6 +65,10 @@ says "a folder that is not there" 1 'none/a.wasm cannot be written' -o none/a.wa
 says "a good chip" 0 '' -o a.wasm good.c
 is "a good chip says nothing" "$(cat said)" ""
 rm a.wasm
+says "the header without a warning" 0 '' -Wpedantic -Wconversion -Wstrict-prototypes -Wunused-parameter -Werror -o a.wasm good.c
+cp good.c good.cpp
+says "the header without a warning in C++" 0 '' -std=c++11 -Wpedantic -Wconversion -Wunused-parameter -Werror -o a.wasm good.cpp
+rm a.wasm good.cpp
 
 echo '#include <stdio.h>
 #include "wokwi-api.h"
