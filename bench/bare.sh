@@ -5,7 +5,7 @@
 # The program runs in 64 MiB of address space. simavr is Debian's package; where it is missing, `bare` is measured alone.
 set -eu
 here=$(cd "$(dirname "$0")" && pwd)
-program=${PROGRAM:-$here/../mudflatjar}
+program=${PROGRAM:-$here/../target/mudflatjar}
 "$program" bare "$here/spin.hex" --us 1 >/dev/null
 
 seconds() { # of a command, the least of three runs

@@ -12,7 +12,7 @@ set -euo pipefail
 here=$(cd "$(dirname "$0")" && pwd)
 # shellcheck source-path=SCRIPTDIR
 . "$here/boards.sh"
-program=${PROGRAM:-$here/../mudflatjar}
+program=${PROGRAM:-$here/../target/mudflatjar}
 "$program" bare "$here/pin.hex" --us 1 >/dev/null
 folder=$(mktemp -d)
 trap 'rm -rf "$folder"' EXIT

@@ -7,7 +7,7 @@
 # PROGRAM=FILE before the script measures another program.
 set -euo pipefail
 here=$(cd "$(dirname "$0")" && pwd)
-program=${PROGRAM:-$here/../mudflatjar}
+program=${PROGRAM:-$here/../target/mudflatjar}
 "$program" bare "$here/pin.hex" --us 1 >/dev/null
 folder=$(mktemp -d)
 trap 'rm -rf "$folder"' EXIT

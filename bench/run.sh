@@ -6,7 +6,7 @@
 # address space.
 set -euo pipefail
 here=$(cd "$(dirname "$0")" && pwd)
-program=${PROGRAM:-$here/../mudflatjar}
+program=${PROGRAM:-$here/../target/mudflatjar}
 blink=$here/../examples/blink
 "$program" bare "$blink/blink.hex" --us 1 >/dev/null
 folder=$(mktemp -d)

@@ -6,7 +6,7 @@
 # examples/arduino.sh builds the HEX files from print.ino.
 set -eu
 here=$(cd "$(dirname "$0")" && pwd)
-program=${PROGRAM:-$here/../mudflatjar}
+program=${PROGRAM:-$here/../target/mudflatjar}
 "$program" bare "$here/spin.hex" --us 1 >/dev/null
 work=$(mktemp -d)
 trap 'rm -rf "$work"' EXIT

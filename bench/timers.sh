@@ -6,7 +6,7 @@
 # day while the core sleeps.
 set -eu
 here=$(cd "$(dirname "$0")" && pwd)
-program=${PROGRAM:-$here/../mudflatjar}
+program=${PROGRAM:-$here/../target/mudflatjar}
 "$program" bare "$here/spin.hex" --us 1 >/dev/null
 
 seconds() { # of a command, the least of three runs

@@ -5,7 +5,7 @@
 # none and puts no bits on its pins: a byte of its SPI takes 100 us at every rate, an action of its TWI some cycles.
 set -eu
 here=$(cd "$(dirname "$0")" && pwd)
-program=${PROGRAM:-$here/../mudflatjar}
+program=${PROGRAM:-$here/../target/mudflatjar}
 "$program" bare "$here/spin.hex" --us 1 >/dev/null
 
 seconds() { # of a command, the least of three runs

@@ -1,8 +1,8 @@
 #!/bin/sh
 # Runs every example and compares what it writes with its expected/ files. Ends with 1 where one differs.
-# PROGRAM is the program to try, ./mudflatjar if it is not set.
+# PROGRAM is the program to try, target/mudflatjar if it is not set.
 here=$(cd "$(dirname "$0")" && pwd)
-program=${PROGRAM:-$here/../mudflatjar}
+program=${PROGRAM:-$here/../target/mudflatjar}
 bad=0
 down=$(mktemp -d) || exit 1
 trap 'rm -rf "$down"' EXIT

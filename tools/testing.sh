@@ -1,9 +1,9 @@
 #!/bin/sh
 # Tries what docs/TESTING.md says, as it is written there: its commands on examples/button, and a repository of that
 # sketch with its Makefile and its test.sh, which has to end with 0, and with 1 where a test expects something else.
-# Ends with 1 where one does otherwise. PROGRAM is the program to try, ./mudflatjar if it is not set.
+# Ends with 1 where one does otherwise. PROGRAM is the program to try, target/mudflatjar if it is not set.
 here=$(cd "$(dirname "$0")/.." && pwd)
-program=$(realpath "${PROGRAM:-$here/mudflatjar}")
+program=$(realpath "${PROGRAM:-$here/target/mudflatjar}")
 page=$here/docs/TESTING.md
 work=$(mktemp -d) || exit 1
 trap 'rm -rf "$work"' EXIT

@@ -5,9 +5,9 @@
 # make.c, one of the generated project, counts the same, as does `run` on that project's files, and wabt answers the same to the
 # modules of the gate. What cannot be asked is skipped, and said on standard error.
 # Debian's packages: gcc, simavr, libsimavr-dev, gcc-avr; wabt, clang, lld. `--install` installs them first, which wants root.
-# PROGRAM is the program to try, ./mudflatjar if it is not set. Ends with 1 where one answers otherwise.
+# PROGRAM is the program to try, target/mudflatjar if it is not set. Ends with 1 where one answers otherwise.
 here=$(cd "$(dirname "$0")" && pwd)
-program=${PROGRAM:-$here/../../mudflatjar}
+program=${PROGRAM:-$here/../../target/mudflatjar}
 examples=$here/../../examples
 rows=$here/../../crates/sim_rows/data
 folder=$(mktemp -d) || exit 1

@@ -4,7 +4,7 @@
 # of UART, I2C and SPI find what was sent. A tool that is missing is
 # skipped (Debian's packages sigrok-cli and gtkwave have them). Ends with 1 where a wave is not written or read otherwise.
 here=$(cd "$(dirname "$0")" && pwd)
-program=${PROGRAM:-$here/../../mudflatjar}
+program=${PROGRAM:-$here/../../target/mudflatjar}
 examples=$here/../../examples
 rows=$here/../../crates/sim_rows/data
 folder=$(mktemp -d) || exit 1

@@ -1,0 +1,126 @@
+"""What the script adds to a run, as sentences: what the report says was left out, and what the pages say of a refusal."""
+import json
+import re
+import shutil
+import subprocess
+
+import pages
+import words
+
+CYCLES_PER_US = 16
+
+
+def controls_hidden(text, lines=False):
+    """Bytes with every control character as `?`, also those that UTF-8 makes of two bytes; line feeds stay if asked for."""
+    kept = b"[\x00-\x09\x0b-\x1f\x7f]" if lines else b"[\x00-\x1f\x7f]"
+    return re.sub(kept, b"?", re.sub(b"\xc2[\x80-\x9f]", b"?", text))
+
+
+def shown(text, most=80):
+    """A text of a file as it may be shown."""
+    return controls_hidden(text[:most].encode("utf-8", "replace")).decode("utf-8", "replace")
+
+
+def place_in_source(hex_file, word_address):
+    """`, in loop at sketch.ino:12` where an ELF of the HEX file's name is beside it and avr-addr2line finds the place."""
+    tool = shutil.which("avr-addr2line")
+    elf = re.sub(r"\.hex$", ".elf", hex_file or "", flags=re.I)
+    if not tool or elf == (hex_file or ""):
+        return ""
+    try:
+        if b"\x7fELF" != open(elf, "rb").read(4):
+            return ""
+        asked = [tool, "-f", "-C", "-s", "-e", elf, hex(2 * word_address)]
+        said = subprocess.run(asked, stdout=subprocess.PIPE, stderr=subprocess.DEVNULL, stdin=subprocess.DEVNULL, timeout=10, check=True)
+    except (OSError, ValueError, subprocess.SubprocessError):
+        return ""
+    name, line = (said.stdout.decode("utf-8", "replace").split("\n") + ["", ""])[:2]
+    known = "" if line.startswith("?") or line.endswith((":0", ":?")) else f" at {shown(line)}"
+    return "" if name in ("", "??") else f", in {shown(name)}{known}"
+
+
+def of_registers(part, addresses):
+    """A sentence for each unit that a part's firmware wrote to and that is not there."""
+    known, units, others = pages.registers(), {}, []
+    for address in addresses:
+        name, unit = known.get(address, (None, None))
+        if unit:
+            units.setdefault(unit, []).append(f"{name} 0x{address:02X}")
+        else:
+            others.append(f"0x{address:02X}")
+    page = "docs/REPORT.md, \"Registers that are not there\""
+    for unit, names in units.items():
+        yield f"{part}: the firmware wrote to {unit} ({', '.join(names)}), which is not simulated: nothing happened ({page})"
+    if others:
+        more = f" and {len(others) - 8} more addresses" if len(others) > 8 else ""
+        yield f"{part}: the firmware wrote to {', '.join(others[:8])}{more}, where no register is: nothing happened ({page})"
+
+
+def micros(cycle):
+    return f"{cycle / CYCLES_PER_US:.10g}"
+
+
+def left_out(report, hex_file=None):
+    """Sentences about what a report says did not happen as the firmware or a chip meant it."""
+    written = {}
+    for line in report.splitlines():
+        facts = line.split(" ")
+        if facts[0] == "uno" and len(facts) >= 5 and facts[2] == "pc":
+            address, place = int(facts[3], 16), ""
+            place = place_in_source(hex_file, address)
+            if facts[4] == "halt":
+                word = int(facts[5], 16)
+                what = pages.halts().get(word, "no instruction of the ATmega328P")
+                yield f"{facts[1]}: the core halted at word address {facts[3]}{place}, on the word {facts[5]}: {what} (docs/REPORT.md, \"A core that has halted\")"
+            elif place:
+                yield f"{facts[1]}: at the end the program counter is {facts[3]}{place}"
+        elif facts[0] == "uno" and len(facts) == 4 and facts[2] == "ignored":
+            written.setdefault(facts[1], []).append(int(facts[3], 16))
+        elif facts[0] == "chip" and len(facts) == 6 and facts[2] == "trap":
+            name, what, remedy = pages.trap(facts[3]) or ("", "", "")
+            yield f"{facts[1]}: trap {facts[3]} ({name}) ended this chip after {micros(int(facts[5]))} us: {what}. What to do: {remedy} (docs/CHIPS.md, \"What ends a chip\")"
+    for part, addresses in written.items():
+        yield from of_registers(part, addresses)
+
+
+def item_of(file, kind, number):
+    """The part's or wire's own name at that place of a diagram."""
+    try:
+        it = json.loads(words.text_of(file))[f"{kind}s"][number - 1]
+        if kind == "part":
+            return f"{it.get('id')} of type {it.get('type')}"
+        return f"{it[0]} to {it[1]}"
+    except (ValueError, KeyError, IndexError, TypeError, AttributeError, RecursionError):
+        return None
+
+
+def chip_of(file, number):
+    """What wokwi.toml says of its chip of that number."""
+    tables = re.split(r"(?m)^\s*\[\[\s*chip\s*\]\].*$", words.text_of(file))
+    found = re.search(r"""(?m)^\s*name\s*=\s*["']([^"'\n]*)["']""", tables[number]) if number < len(tables) else None
+    return f"the one named {found[1]}" if found else None
+
+
+def line_of(file, number):
+    lines = words.text_of(file, 16_777_216).split("\n")
+    return f"\"{lines[number - 1].rstrip()}\"" if 0 < number <= len(lines) and lines[number - 1].strip() else None
+
+
+def refused(line):
+    """Sentences about a line `FILE: refused 44 PinUnknown connection 3`."""
+    found = re.fullmatch(r"(.*): refused ([0-9]+) [A-Za-z0-9]+((?: [a-z]+ [0-9]+)*)", line, re.S)
+    if not found:
+        return
+    file, number, place = found[1], int(found[2]), found[3].split()
+    kind, at = (place[0], int(place[1])) if len(place) == 2 else (None, 0)
+    if kind in ("part", "connection"):
+        it = item_of(file, kind, at)
+    elif kind == "chip":
+        it = chip_of(file, at)
+    else:
+        it = line_of(file, at) if kind == "line" else None
+    if it:
+        yield f"{kind} {at} is {shown(it)}"
+    row, page = pages.refusal(number)
+    if row:
+        yield f"{row[0]}: {row[1]}. What to do: {row[2]} ({page})"

@@ -1,0 +1,188 @@
+#!/usr/bin/env python3
+"""Tests of the script's parts: what is wrong with words, what the pages' tables say, and the sentences about a run."""
+import os
+import pathlib
+import re
+import subprocess
+import sys
+import tempfile
+import unittest
+
+sys.path.insert(0, str(pathlib.Path(__file__).resolve().parent))
+import build
+import manual
+import pages
+import run
+import tell
+import words
+
+ROOT = pathlib.Path(__file__).resolve().parents[2]
+
+
+class Words(unittest.TestCase):
+    def test_a_time_becomes_microseconds(self):
+        table = {"200ms": 200_000, "5s": 5_000_000, "1.5ms": 1_500, "30us": 30, "0.000001s": 1, "1.0005ms": None, "5": None, "5 s": None, "ms": None, "-5s": None, "5min": None}
+        for text, exact in table.items():
+            self.assertEqual(words.micros(text), exact, text)
+
+    def test_only_the_value_of_us_changes(self):
+        table = [
+            ("run x --us 5s", "run x --us 5000000"),
+            ("run --us=200ms x", "run --us=200000 x"),
+            ("run 5s --us 5", "run 5s --us 5"),
+            ("run x --vcd 5s --us 1ms", "run x --vcd 5s --us 1000"),
+            ("run --us 5 -- --us 5s", "run --us 5 -- --us 5s"),
+            ("run x --us", "run x --us"),
+            ("run x --us 5min", "run x --us 5min"),
+        ]
+        for given, told in table:
+            self.assertEqual(words.with_micros(given.split()), told.split(), given)
+
+    def test_the_wrong_word_is_named(self):
+        table = [
+            ("rnu x", "there is no command rnu; is it run?"),
+            ("run", "--us is missing"),
+            ("run --us 5", "FOLDER is missing"),
+            ("run x --us 5 y", "y is one word too many"),
+            ("run x --us 5 --vdc w", "--vdc is no option of run; is it --vcd?"),
+            ("run x --us 5 --us 6", "--us is given 2 times"),
+            ("run x --us 5 --vcd", "--vcd has no value"),
+            ("run x --us 5 --vcd -w", "--vcd has no value"),
+            ("run x --us 0", "--us takes 1 to 10000000 microseconds"),
+            ("run x --us 11s", "--us takes 1 to 10000000 microseconds"),
+            ("run x --us 5 --budget 0", "--budget takes 1 to 10000000"),
+            ("check x --us 5", "--us is no option of check"),
+            ("make x --us 5", "SEED is a number"),
+            ("twin a --us 5", "OTHER is missing"),
+        ]
+        for given, said in table:
+            found = words.mistakes(given.split())[0]
+            self.assertTrue(any(it.startswith(said) for it in found), (given, found))
+        self.assertEqual(words.mistakes(["run", "a\udcff", "--us", "5"])[0], ["a word is not text in UTF-8"])
+
+    def test_right_words_have_no_mistake(self):
+        for given in ("run x --us 5 --vcd - --report=-", "bare h --us 10000000", "make 4294967295 --us 0005", "check -- --us", "replay f w --us 5", "twin a b --us 5 --budget 7"):
+            self.assertEqual(words.mistakes(given.split())[0], [], given)
+
+    def test_words_that_cannot_be_right_build_nothing(self):
+        for given in ("rnu x", "run x", "run x --us 0", "check"):
+            self.assertTrue(words.are_wrong(given.split()), given)
+        for given in ("run x --us 5s", "check x", "test edge waves", "test --list", "completion bash"):
+            self.assertFalse(words.are_wrong(given.split()), given)
+
+    def test_an_output_that_is_an_input_is_named(self):
+        with tempfile.TemporaryDirectory() as folder:
+            project = pathlib.Path(folder, "p")
+            project.mkdir()
+            (project / "wokwi.toml").write_text("[wokwi]\nversion = 1\nfirmware = 'a.hex'\n[[chip]]\nname = 'c'\nbinary = \"c.wasm\"\n")
+            for name in ("diagram.json", "a.hex", "c.wasm", "c.json", "other"):
+                (project / name).write_text("")
+            os.symlink(project / "a.hex", f"{folder}/link")
+            given = ["run", str(project), "--us", "5", "--script", f"{project}/other"]
+            for name in ("wokwi.toml", "diagram.json", "a.hex", "c.wasm", "c.json", "other"):
+                self.assertIn(f"--vcd overwrites {project}/{name}", "".join(words.overwrites([*given, "--vcd", f"{project}/{name}"])))
+            self.assertEqual(len(words.overwrites([*given, f"--report={folder}/link"])), 1)
+            self.assertEqual(words.overwrites([*given, "--vcd", f"{project}/new", "--report", "-"]), [])
+            self.assertIn("name one file", words.overwrites([*given, "--vcd", f"{folder}/w", "--report", f"{folder}/../{os.path.basename(folder)}/w"])[0])
+
+
+class Pages(unittest.TestCase):
+    def test_each_command_of_the_program_has_its_row(self):
+        self.assertEqual(list(pages.commands("The program")), ["bare", "check", "make", "module", "run", "twin", "replay"])
+        it = pages.commands()["run"]
+        self.assertEqual((it.takes, it.needed, list(it.options)), (["FOLDER"], ["--us"], ["--us", "--script", "--vcd", "--report", "--budget"]))
+
+    def test_each_refusal_has_its_row(self):
+        source = (ROOT / "crates/sim_base/src/refusals.rt").read_text()
+        numbers = [int(it) for it in re.findall(r"(?m)^pub const [A-Z0-9_]+: u\d+ = (\d+);", source)]
+        self.assertGreater(len(numbers), 40)
+        self.assertEqual([it for it in numbers if pages.refusal(it)[0] is None], [])
+
+    def test_each_trap_has_its_row(self):
+        for number in range(1, 15):
+            self.assertTrue(pages.trap(number), number)
+        self.assertEqual(pages.trap(9)[0], "Budget")
+
+    def test_registers_are_read_from_the_report_s_page(self):
+        self.assertEqual(pages.registers()[0x61], ("CLKPR", "the clock and power control"))
+        self.assertEqual(pages.halts()[0x95E8], "SPM, which writes the flash")
+
+    def test_all_commands_are_in_the_manual_and_the_completions(self):
+        for form in (manual.man, manual.bash, manual.zsh, manual.fish):
+            for name in pages.commands():
+                self.assertIn(name, form(), form)
+
+    def test_bash_reads_its_completions(self):
+        asked = manual.bash() + "\nCOMP_WORDS=(mudflatjar run x --v); COMP_CWORD=3; _mudflatjar; echo \"${COMPREPLY[@]}\"\nCOMP_WORDS=(mudflatjar twi); COMP_CWORD=1; _mudflatjar; echo \"${COMPREPLY[@]}\""
+        said = subprocess.run(["bash", "-c", asked], stdout=subprocess.PIPE, check=True).stdout
+        self.assertEqual(said, b"--vcd\ntwin\n")
+
+
+class Sentences(unittest.TestCase):
+    def left(self, *lines):
+        return list(tell.left_out("\n".join(lines) + "\n"))
+
+    def test_a_good_run_says_nothing(self):
+        self.assertEqual(self.left("cycles 16", "uno uno pc 0x0002 run", "led led1 on lit 3", "chip c1 alive", "lcd d 1 |chip c1 trap 9 at|"), [])
+        self.assertEqual(self.left("cycles 16", "uno uno pc 0x0002 sleep"), [])
+
+    def test_registers_of_one_unit_are_one_sentence(self):
+        said = self.left("uno uno pc 0x0002 run", "uno uno ignored 0x50", "uno uno ignored 0x61", "uno uno ignored 0x64")
+        self.assertEqual([it.split(" (docs")[0] for it in said], [
+            "uno: the firmware wrote to the analog comparator (ACSR 0x50), which is not simulated: nothing happened",
+            "uno: the firmware wrote to the clock and power control (CLKPR 0x61, PRR 0x64), which is not simulated: nothing happened",
+        ])
+        self.assertIn("0x20, 0x21, where no register is", self.left("uno uno ignored 0x20", "uno uno ignored 0x21")[0])
+
+    def test_a_halt_names_its_word(self):
+        self.assertIn("halted at word address 0x0049, on the word 0x95E8: SPM", self.left("uno uno pc 0x0049 halt 0x95E8")[0])
+        self.assertIn("no instruction of the ATmega328P", self.left("uno uno pc 0x0049 halt 0x00FF")[0])
+
+    def test_a_trap_has_its_name_and_microseconds(self):
+        self.assertIn("c1: trap 9 (Budget) ended this chip after 12.5 us", self.left("chip c1 trap 9 at 200")[0])
+
+    def test_the_part_s_own_name_is_told(self):
+        with tempfile.TemporaryDirectory() as folder:
+            file = f"{folder}/diagram.json"
+            pathlib.Path(file).write_text('\ufeff{"parts": [{"id": "led1", "type": "wokwi-lde"}], "connections": [["uno:13", "led1:\\u001b[2J"]]}')
+            said = list(tell.refused(f"{file}: refused 42 TypeUnknown part 1"))
+            self.assertEqual(said[0], "part 1 is led1 of type wokwi-lde")
+            self.assertTrue(said[1].startswith("TypeUnknown: ") and said[1].endswith("(docs/REFUSALS.md)"), said)
+            self.assertEqual(list(tell.refused(f"{file}: refused 44 PinUnknown connection 1"))[0], "connection 1 is uno:13 to led1:?[2J")
+            self.assertEqual(len(list(tell.refused(f"{file}: refused 44 PinUnknown connection 9"))), 1)
+            pathlib.Path(file).write_text("{")
+            self.assertEqual(len(list(tell.refused(f"{file}: refused 40 JsonText"))), 1)
+            script = f"{folder}/script"
+            pathlib.Path(script).write_text("5us press b\n6us push b\n")
+            self.assertEqual(list(tell.refused(f"{script}: refused 80 ScriptLine line 2"))[0], 'line 2 is "6us push b"')
+
+    def test_control_characters_are_not_shown(self):
+        self.assertEqual(tell.controls_hidden(b"a\x1b[2J\nb\x00\xc2\x9bc\xc3\xa9"), b"a?[2J?b??c\xc3\xa9")
+
+    def test_the_report_is_asked_for_where_none_is(self):
+        self.assertEqual(run.with_report(["run", "x", "--us", "5"], 7), (["run", "--report=/dev/fd/7", "x", "--us", "5"], False))
+        self.assertEqual(run.with_report(["run", "x", "--report", "-", "--us", "5"], 7), (["run", "x", "--report=/dev/fd/7", "--us", "5"], True))
+        self.assertEqual(run.with_report(["run", "--report=-", "x"], 7), (["run", "--report=/dev/fd/7", "x"], True))
+        for given in (["run", "x", "--report", "f"], ["run", "x", "--report=f"], ["check", "x"], ["run", "--report", "-", "--report", "-"], ["rnu"]):
+            self.assertEqual(run.with_report(given, 7), (given, None))
+        self.assertEqual(run.with_report(["run", "--", "--report"], 7)[0], ["run", "--report=/dev/fd/7", "--", "--report"])
+
+
+class Build(unittest.TestCase):
+    def test_each_crate_of_the_program_has_a_cost(self):
+        costs = build.seconds()
+        self.assertIn("sim_main", costs)
+        self.assertNotIn("sim_rows", costs)
+        self.assertTrue(all(it >= 0 for it in costs.values()))
+        self.assertLessEqual(1, build.at_once())
+
+    def test_the_guess_counts_what_waits(self):
+        costs = build.seconds()
+        alone, two, four = (build.guess(list(costs), costs, lanes, most) for lanes, most in ((1, 1), (3, 2), (5, 4)))
+        self.assertAlmostEqual(alone, sum(costs.values()), delta=5)
+        self.assertTrue(four < two < alone and two >= alone / 2 and four >= alone / 4)
+        self.assertEqual(build.guess([], costs, 4, 4), 0)
+
+
+if __name__ == "__main__":
+    unittest.main()
