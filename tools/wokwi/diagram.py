@@ -1,0 +1,307 @@
+"""Makes of a diagram as Wokwi's editor writes it one whose parts the simulator has. `types.json` says how; here is no type's name."""
+import json
+import os
+import re
+
+from formulas import number, value_of
+
+TABLE = os.path.join(os.path.dirname(os.path.abspath(__file__)), "types.json")
+MOST_PARTS, MOST_WIRES, MOST_CHIPS = 64, 512, 8
+
+
+def table():
+    with open(TABLE, encoding="utf-8") as file:
+        return json.load(file)
+
+
+class Joined:
+    """Sets that grow together: union-find."""
+
+    def __init__(self):
+        self.above = {}
+
+    def find(self, it):
+        self.above.setdefault(it, it)
+        while self.above[it] != it:
+            self.above[it] = self.above[self.above[it]]
+            it = self.above[it]
+        return it
+
+    def join(self, one, other):
+        self.above[self.find(other)] = self.find(one)
+
+
+def shape_fault(diagram):
+    """What keeps a value from being a diagram, or nothing."""
+    if not isinstance(diagram, dict) or diagram.get("version") != 1:
+        return "it is no object with version 1"
+    for name in ("parts", "connections"):
+        if not isinstance(diagram.get(name), list):
+            return f"it has no array `{name}`"
+    for place, part in enumerate(diagram["parts"], 1):
+        if not (isinstance(part, dict) and isinstance(part.get("type"), str) and isinstance(part.get("id"), str)):
+            return f"part {place} lacks its texts `type` and `id`"
+        if not isinstance(part.get("attrs", {}), dict):
+            return f"the attrs of part {place} are no object"
+    for place, wire in enumerate(diagram["connections"], 1):
+        if not (isinstance(wire, list) and len(wire) >= 2 and all(isinstance(end, str) and ":" in end for end in wire[:2])):
+            return f"connection {place} lacks two ends part:pin"
+    return None
+
+
+class Lowering:
+    """One diagram on its way. `notes` are what a reader should know, `faults` what could not be done."""
+
+    def __init__(self, diagram, chip_pins, types=None):
+        self.types = types or table()
+        self.diagram = diagram
+        self.chip_pins = chip_pins  # of each chip of the project, by name: its pins
+        self.notes, self.faults = [], []
+        self.parts, self.wires = [], []
+        self.own_chips = {}  # name in the new diagram: name of the file in chips/
+        self.ends = {}  # (part, pin): the ends that are that pin now
+        self.pins = {}  # part: its pins, or None where any name is one
+        self.strips = {}  # part: its columns and the length of its rails
+        self.nets = Joined()
+        self.ids = {part["id"] for part in diagram["parts"]}
+        self.begin()
+        self.connect()
+
+    # ---- parts
+
+    def begin(self):
+        seen = set()
+        for part in self.diagram["parts"]:
+            kind, name = part["type"], part["id"]
+            attrs = {key: str(value) for key, value in part.get("attrs", {}).items() if isinstance(value, (str, int, float)) and not isinstance(value, bool)}
+            if name in seen:
+                self.faults.append(f"{name}: a second part has this id")
+                continue
+            seen.add(name)
+            rule = self.types["lowered"].get(kind)
+            if rule and "cases" in rule:
+                case = attrs.get(rule["by"]) or rule["default"]
+                if case not in rule["cases"]:
+                    self.faults.append(f"{name} ({kind}): {rule['by']} is {case!r}, and not one of {', '.join(rule['cases'])}")
+                    continue
+                rule = dict(rule, **{"as": rule["cases"][case]})
+            if rule and rule["as"] is not None:
+                self.replace(part, attrs, rule)
+            elif kind in self.types["simulated"]:
+                self.keep(part, attrs, self.types["simulated"][kind])
+            elif kind in self.types["breadboards"]:
+                self.strips[name] = self.types["breadboards"][kind]
+            elif kind in self.types["left out"]:
+                self.leave_out(name, kind)
+            elif kind.startswith("chip-"):
+                self.keep_chip(part, attrs)
+            else:
+                why = self.types["not there"].get(kind, "is no type that is known here")
+                self.faults.append(f"{name} ({kind}): {why}")
+
+    def new_id(self, name, old=None):
+        """`name` with what an id may not have changed, and other than all ids but `old`."""
+        base = made = re.sub(r"[^A-Za-z0-9_-]", "_", name)[:64] or "part"
+        count = 1
+        while made != old and made in self.ids:
+            count += 1
+            made = f"{base[:60]}-{count}"
+        self.ids.add(made)
+        return made
+
+    def place(self, part, kind, name, attrs):
+        """Puts a part in the new diagram where the old one is."""
+        made = {"type": kind, "id": name}
+        made.update({key: part[key] for key in ("top", "left", "rotate", "hide") if key in part})
+        made["attrs"] = attrs
+        self.parts.append(made)
+
+    def keep(self, part, attrs, rule):
+        name, kind = part["id"], part["type"]
+        kept = self.new_id(name, old=name)
+        if kept != name:
+            self.notes.append(f"{name} is called {kept}: an id has letters, digits, _ and - alone")
+        pins = rule["pins"]
+        if "pins if" in rule and attrs.get(rule["pins if"]["attribute"]) == rule["pins if"]["is"]:
+            pins = rule["pins if"]["pins"]
+        self.pins[name] = set(pins) | set(rule.get("other names", {}))
+        for pin in self.pins[name]:
+            self.ends[name, pin] = [f"{kept}:{rule.get('other names', {}).get(pin, pin)}"]
+        self.place(part, kind, kept, self.fitting(name, attrs, rule))
+
+    def fitting(self, name, attrs, rule):
+        """The attributes that the simulator reads, in its form."""
+        fitted = dict(attrs)
+        for key in [*rule.get("numbers", {}), *rule.get("words", {}), *rule.get("addresses", [])]:
+            if fitted.get(key) == "":
+                del fitted[key]
+        for key, most in rule.get("numbers", {}).items():
+            try:
+                if key in fitted:
+                    value = number(fitted[key])
+                    fitted[key] = str(round(value))
+                    if not 0 <= value <= most:
+                        raise ValueError(f"is not within 0 and {most}")
+            except ValueError as fault:
+                self.faults.append(f"{name}: {key} {attrs[key]!r} {fault}")
+        for key, words in rule.get("words", {}).items():
+            if key in fitted and fitted[key] not in words:
+                self.faults.append(f"{name}: {key} {attrs[key]!r} is none of {', '.join(words)}")
+        for key in rule.get("addresses", []):
+            if key in fitted and not re.fullmatch(r"0x[0-9a-fA-F]{1,2}|[0-9]{1,5}", fitted[key]):
+                self.faults.append(f"{name}: {key} {attrs[key]!r} is no address")
+        return fitted
+
+    def leave_out(self, name, kind):
+        rule = self.types["left out"][kind]
+        self.pins[name] = None
+        self.notes.append(f"{name} ({kind}) {rule['why']}, and is left out; its wires stay")
+        for group in rule.get("joined", []):
+            for pin in group[1:]:
+                self.nets.join((name, group[0]), (name, pin))
+
+    def keep_chip(self, part, attrs):
+        chip = part["type"][len("chip-"):]
+        if chip not in self.chip_pins:
+            self.faults.append(f"{part['id']} ({part['type']}): the folder has no chip {chip}")
+            return
+        pins = self.chip_pins[chip]
+        name = part["id"]
+        kept = self.new_id(name, old=name)
+        self.pins[name] = set(pins)
+        for pin in pins:
+            self.ends[name, pin] = [f"{kept}:{pin}"]
+        self.place(part, part["type"], kept, attrs)
+
+    def replace(self, part, attrs, rule):
+        name, kind = part["id"], part["type"]
+        self.pins[name] = set()
+        names = {}
+        for piece in rule["as"]:
+            made = names[piece["id"]] = self.new_id(name + piece["id"], old=name if piece["id"] == "" else None)
+            given = {key: attrs[key] for key in piece.get("keep", []) if key in attrs}
+            for key, how in piece.get("attrs", {}).items():
+                try:
+                    given[key] = value_of(how, attrs)
+                except (ValueError, OverflowError, ZeroDivisionError) as fault:
+                    self.faults.append(f"{name} ({kind}): {how['from']} {attrs.get(how['from'])!r} {fault}")
+            for pin, new in piece["pins"].items():
+                self.pins[name].add(pin)
+                self.ends.setdefault((name, pin), []).append(f"{made}:{new}")
+            self.place(part, self.piece_type(piece, rule), made, given)
+        for one, other in rule.get("wires", []):
+            both = [names[end.split(":")[0]] + ":" + end.split(":")[1] for end in (one, other)]
+            self.wires.append([*both, "", []])
+        pieces = ", ".join(f"{names[piece['id']]} ({piece['type']})" for piece in rule["as"])
+        if rule["as"][0]["type"] != kind or "says" in rule:
+            self.notes.append(f"{name} ({kind}) is {pieces}" + (f": it {rule['says']}" if "says" in rule else ""))
+
+    def piece_type(self, piece, rule):
+        """The type of a piece; a chip of ours gets a name that no chip of the project has."""
+        if "chip" not in rule:
+            return piece["type"]
+        made = rule["chip"]
+        while made in self.chip_pins:
+            made += "-"
+        self.own_chips[made] = rule["chip"]
+        return f"chip-{made}"
+
+    # ---- wires
+
+    def hole(self, name, pin):
+        """The strip of a breadboard that a hole is on, or None where there is no such hole."""
+        size = self.strips[name]
+        column = re.fullmatch(r"([1-9][0-9]?)(t\.[a-e]|b\.[f-j])", pin)
+        if column and int(column[1]) <= size["columns"]:
+            return column[1] + column[2][0]
+        rail = re.fullmatch(r"([tb][pn])\.([1-9][0-9]?)", pin)
+        if rail and int(rail[2]) <= size["rail"]:
+            return rail[1]
+        return None
+
+    def node(self, place, end):
+        """What an end of a wire is on, or None after a fault."""
+        name, _, pin = end.partition(":")
+        if name in self.strips:
+            strip = self.hole(name, pin)
+            if strip is None:
+                self.faults.append(f"connection {place}: {name} has no hole {pin}")
+                return None
+            return name, strip
+        if name not in self.pins:
+            if all(part["id"] != name for part in self.diagram["parts"]):
+                self.faults.append(f"connection {place}: there is no part {name}")
+            return None  # of a part that is a fault itself nothing more is said
+        if self.pins[name] is not None and pin not in self.pins[name]:
+            self.faults.append(f"connection {place}: {name} has no pin {pin}")
+            return None
+        return name, pin
+
+    def connect(self):
+        groups, order, colours = Joined(), [], {}
+        for place, wire in enumerate(self.diagram["connections"], 1):
+            if any(end.startswith("$") for end in wire[:2]):
+                continue
+            both = [self.node(place, end) for end in wire[:2]]
+            if None in both:
+                continue
+            order.extend(both)
+            ends = [self.ends.get(node, []) for node in both]
+            if [len(it) for it in ends] == [1, 1]:
+                self.wires.append([ends[0][0], ends[1][0], *wire[2:]])
+                groups.join(ends[0][0], ends[1][0])
+            self.nets.join(*both)
+            colour = wire[2] if len(wire) > 2 and isinstance(wire[2], str) else ""
+            colours.setdefault(both[0], colour)
+            colours.setdefault(both[1], colour)
+        nets = {}
+        for node in dict.fromkeys(order):
+            nets.setdefault(self.nets.find(node), []).append(node)
+        for nodes in nets.values():
+            first = None
+            colour = next((colours[node] for node in nodes if colours[node]), "")
+            for end in (end for node in nodes for end in self.ends.get(node, [])):
+                if first is None:
+                    first = end
+                elif groups.find(first) != groups.find(end):
+                    self.wires.append([first, end, colour, []])
+                    groups.join(first, end)
+
+    # ---- the outcome
+
+    def outcome(self):
+        """The new diagram; what breaks a rule of a whole board is among the faults."""
+        kinds = [part["type"] for part in self.parts]
+        unos = kinds.count("wokwi-arduino-uno")
+        if unos != 1:
+            self.faults.append("there is no Arduino Uno" if not unos else "there is more than one Arduino Uno")
+        chips = sum(kind.startswith("chip-") for kind in kinds)
+        for count, most, what in ((len(kinds), MOST_PARTS, "parts"), (len(self.wires), MOST_WIRES, "connections"), (chips, MOST_CHIPS, "parts that are chips")):
+            if count > most:
+                self.faults.append(f"there are {count} {what}, and {most} is the most")
+        return {"version": 1, "author": self.diagram.get("author", ""), "editor": "wokwi", "parts": self.parts, "connections": self.wires, "dependencies": {}}
+
+
+def needs_lowering(diagram, types=None):
+    """Whether the simulator lacks a type of the diagram, or an attribute's form."""
+    types = types or table()
+    for part in diagram["parts"]:
+        rule = types["lowered"].get(part["type"])
+        attrs = part.get("attrs", {})
+        if rule and not ("cases" in rule and rule["cases"].get(str(attrs.get(rule["by"]) or rule["default"]), 0) is None):
+            return True
+        if part["type"] not in types["simulated"] and not part["type"].startswith("chip-"):
+            return True
+    return False
+
+
+def text_of(diagram):
+    """A diagram as the editor lays it out: a part and a wire a line."""
+    line = lambda value: json.dumps(value, ensure_ascii=False)
+    rows = ["{", '  "version": 1,', f'  "author": {line(diagram["author"])},', '  "editor": "wokwi",']
+    for name in ("parts", "connections"):
+        rows.append(f'  "{name}": [')
+        rows.extend(f"    {line(it)}," for it in diagram[name])
+        rows[-1] = rows[-1].rstrip(",") if diagram[name] else rows[-1]
+        rows.append("  ],")
+    return "\n".join([*rows, '  "dependencies": {}', "}"]) + "\n"

@@ -1,0 +1,89 @@
+"""Values that Wokwi's attributes stand for, as the parts and chips here take them. `types.json` names the formulas."""
+import datetime
+import math
+import re
+
+
+def number(text):
+    """A decimal number, with a letter for thousands, millions or thousandths behind it as clocks have it."""
+    found = re.fullmatch(r"\s*([+-]?[0-9]+(?:\.[0-9]*)?|[+-]?\.[0-9]+)\s*([kKmM]?)\s*", str(text))
+    if not found:
+        raise ValueError("is no number")
+    return float(found[1]) * {"": 1, "k": 1e3, "K": 1e3, "M": 1e6, "m": 1e-3}[found[2]]
+
+
+def divided(lower, upper):
+    """What analogRead gives between a resistor `upper` to 5V and a resistor `lower` to ground."""
+    return str(round(1023 * lower / (lower + upper)))
+
+
+def ntc(text, attrs):
+    """An NTC of 10 kOhm at 25 degrees Celsius to ground, with 10 kOhm to 5V: R = 10k * exp(beta * (1/T - 1/298.15))."""
+    kelvin = number(text) + 273.15
+    if kelvin <= 0:
+        raise ValueError("is below the least temperature that there is")
+    beta = number(attrs.get("beta", "3950"))
+    return divided(1, math.exp(min(700, beta * (1 / 298.15 - 1 / kelvin))))
+
+
+def resistance(text, attrs):
+    """A photoresistor of `rl10` kOhm at 10 lux: R = rl10 * (10 / lux) ^ gamma."""
+    lux = max(number(text), 1e-3)
+    return number(attrs.get("rl10", "50")) * (10 / lux) ** number(attrs.get("gamma", "0.7"))
+
+
+def light(text, attrs):
+    """A photoresistor to ground, with 10 kOhm to 5V: the more light, the lower."""
+    return divided(resistance(text, attrs), 10)
+
+
+def dark(text, attrs):
+    """1 where the photoresistor's voltage is above `threshold`, so where it is dark, else 0."""
+    ohms = resistance(text, attrs)
+    return str(int(5 * ohms / (ohms + 10) > number(attrs.get("threshold", "2.5"))))
+
+
+def time(text, attrs):
+    """Seconds from 1970 on; a run repeats, so `now` is 2000-01-01."""
+    if text in ("now", ""):
+        return "946684800"
+    if re.fullmatch(r"[0-9]{1,10}", text):
+        return text
+    moment = datetime.datetime.fromisoformat(text.replace("Z", "+00:00"))
+    if moment.tzinfo is None:
+        moment = moment.replace(tzinfo=datetime.timezone.utc)
+    seconds = int(moment.timestamp())
+    if not 0 <= seconds < 2**32:
+        raise ValueError("is before 1970 or after 2105")
+    return str(seconds)
+
+
+def address(text, attrs):
+    """A number, in hexadecimal digits behind 0x."""
+    return str(int(text, 0))
+
+
+def half_period(text, attrs):
+    """Nanoseconds of half a period of so many hertz."""
+    hertz = number(text)
+    if not 0.2 <= hertz <= 8e6:
+        raise ValueError("is not within 0.2 and 8M")
+    return str(round(5e8 / hertz))
+
+
+NAMED = {"ntc": ntc, "light": light, "dark": dark, "time": time, "address": address, "half period": half_period}
+
+
+def value_of(rule, attrs):
+    """The value by a rule of `types.json`: a text, or an attribute as it is, times a number, by words or by a formula."""
+    if isinstance(rule, str):
+        return rule
+    text = attrs.get(rule["from"], rule["default"])
+    text = rule["default"] if text == "" else str(text).strip()
+    if "words" in rule:
+        if text not in rule["words"]:
+            raise ValueError("is none of " + ", ".join(rule["words"]))
+        return rule["words"][text]
+    if "formula" in rule:
+        return NAMED[rule["formula"]](text, attrs)
+    return str(round(number(text) * rule.get("times", 1)))

@@ -1,0 +1,215 @@
+#!/usr/bin/env python3
+"""Makes of a folder as Wokwi's editor writes it one that the simulator runs:  tools/wokwi/lower.py [--anyway] FOLDER OUT
+
+Breadboards become wires, parts that the simulator lacks become parts and chips that it has, or are left out with their
+wires kept; a sketch is built where there is no firmware, and chips in C where there is no module. It says on standard
+error what it did. Where it can't do something it says what, by part and wire, writes nothing and ends with 1; with
+--anyway it leaves such parts and wires out. docs/PROJECTS.md, "A folder of Wokwi's editor", has the rest."""
+import json
+import os
+import re
+import shutil
+import subprocess
+import sys
+import tomllib
+
+HERE = os.path.dirname(os.path.abspath(__file__))
+sys.path.insert(0, HERE)
+import diagram as diagrams
+import firmware as firmwares
+import sketch as sketches
+
+CHIPS = os.path.join(HERE, "chips")
+BUILD = os.path.join(HERE, "..", "..", "sdk", "build.sh")
+
+
+class Fault(Exception):
+    """A file that can't be used."""
+
+
+def read_json(path, what):
+    try:
+        with open(path, encoding="utf-8-sig") as file:
+            return json.load(file)
+    except FileNotFoundError:
+        raise Fault(f"{path} is missing") from None
+    except (ValueError, RecursionError) as fault:
+        raise Fault(f"{path} is no {what}: {fault}") from None
+
+
+def read_diagram(folder):
+    value = read_json(os.path.join(folder, "diagram.json"), "diagram")
+    fault = diagrams.shape_fault(value)
+    if fault:
+        raise Fault(f"{os.path.join(folder, 'diagram.json')}: {fault}")
+    return value
+
+
+def read_settings(folder):
+    """(the firmware's path or None, {name: path of the module}) by wokwi.toml, which may be absent."""
+    path = os.path.join(folder, "wokwi.toml")
+    if not os.path.exists(path):
+        return None, {}
+    try:
+        with open(path, "rb") as file:
+            value = tomllib.load(file)
+        firmware = value.get("wokwi", {}).get("firmware")
+        chips = {chip["name"]: chip["binary"] for chip in value.get("chip", [])}
+        if not all(isinstance(it, str) for it in (firmware or "", *chips, *chips.values())):
+            raise ValueError("a name or a path is no text")
+        return firmware, chips
+    except (ValueError, KeyError, TypeError, AttributeError) as fault:
+        raise Fault(f"{path}: {fault}") from None
+
+
+class Chip:
+    """A chip of the project: its module or its source, and its pins."""
+
+    def __init__(self, folder, name, binary):
+        self.name = name
+        self.module = os.path.join(folder, binary) if binary else None
+        stems = [os.path.join(folder, f"{name}.chip"), os.path.join(folder, name)]
+        if binary:
+            stems.insert(0, os.path.splitext(self.module)[0])
+        if not (self.module and os.path.exists(self.module)):
+            modules = [f"{stem}.wasm" for stem in stems if os.path.exists(f"{stem}.wasm")]
+            self.module = modules[0] if modules else None
+        self.source = next((f"{stem}.c" for stem in stems if os.path.exists(f"{stem}.c")), None)
+        self.text = next((f"{stem}.json" for stem in stems if os.path.exists(f"{stem}.json")), None)
+
+    def pins(self):
+        if not (self.module or self.source):
+            raise Fault(f"chip {self.name}: neither a module nor {self.name}.chip.c is there")
+        if not self.text:
+            raise Fault(f"chip {self.name}: {self.name}.chip.json is missing")
+        value = read_json(self.text, "file of pins")
+        pins = value.get("pins") if isinstance(value, dict) else None
+        if not isinstance(pins, list) or not all(isinstance(pin, str) for pin in pins):
+            raise Fault(f"{self.text} has no array `pins` of texts")
+        return [pin for pin in pins if pin]
+
+    def put(self, out, stem, say):
+        shutil.copyfile(self.text, os.path.join(out, f"{stem}.json"))
+        module = os.path.join(out, f"{stem}.wasm")
+        if self.module:
+            shutil.copyfile(self.module, module)
+            return
+        say(f"chip {self.name} is built of {os.path.basename(self.source)}")
+        ran = subprocess.run(["sh", BUILD, "-o", module, self.source], stdout=subprocess.PIPE, stderr=subprocess.STDOUT, text=True, errors="replace", check=False)
+        if ran.returncode:
+            raise Fault(f"chip {self.name}: {ran.stdout.strip()}")
+        os.chmod(module, 0o644)
+
+
+def chips_of(folder, diagram, binaries):
+    """The chips that wokwi.toml names, and those of parts whose source or module lies in the folder."""
+    chips = {name: Chip(folder, name, binary) for name, binary in binaries.items()}
+    for part in diagram["parts"]:
+        name = part["type"][len("chip-"):]
+        if part["type"].startswith("chip-") and name not in chips and not re.search(r"[/\0]", name):
+            chip = Chip(folder, name, None)
+            if chip.module or chip.source:
+                chips[name] = chip
+    return chips
+
+
+def put_firmware(folder, named, out, say):
+    """Writes OUT/firmware.hex: the file that wokwi.toml names, else the sketch built, else the only HEX file."""
+    made = os.path.join(out, "firmware.hex")
+    path = os.path.join(folder, named) if named else None
+    main = sketches.main_file(folder)
+    if not (path and os.path.isfile(path)):
+        path = None
+        if main:
+            say(f"{main} is built")
+            try:
+                sketches.build(folder, main, made, say)
+            except sketches.BuildFault as fault:
+                raise Fault(f"{main}: {fault}") from None
+            return
+        files = [name for name in sorted(os.listdir(folder)) if name.endswith((".hex", ".elf"))]
+        if len(files) != 1:
+            raise Fault(f"{folder} has no sketch, and " + ("more than one HEX file" if files else "no firmware"))
+        path = os.path.join(folder, files[0])
+    try:
+        data = firmwares.as_hex(path)
+    except ValueError as fault:
+        raise Fault(f"{path}: {fault}") from None
+    with open(made, "wb") as file:
+        file.write(data)
+
+
+def settings_text(chips):
+    """wokwi.toml with the firmware and (name, stem of the file) of each chip."""
+    quoted = lambda text: json.dumps(text)
+    text = "[wokwi]\nversion = 1\nfirmware = 'firmware.hex'\n"
+    for name, stem in chips:
+        text += f"\n[[chip]]\nname = {quoted(name)}\nbinary = {quoted(stem + '.wasm')}\n"
+    return text
+
+
+def lower(folder, out, anyway=False, firmware=None, edit=None, change=None, say=lambda text: None):
+    """Writes into OUT, and returns what could not be done, a text each. `edit` may alter the diagram before; `change` the
+    new one: it is given the Lowering, the diagram and OUT, and returns further chips. `firmware` is taken in place of the
+    one that wokwi.toml names."""
+    folder = os.path.abspath(folder)
+    try:
+        value = read_diagram(folder)
+        if edit:
+            edit(value)
+        named, binaries = read_settings(folder)
+        chips = chips_of(folder, value, binaries)
+        lowering = diagrams.Lowering(value, {name: chip.pins() for name, chip in chips.items()})
+        made = lowering.outcome()
+    except Fault as fault:
+        return [str(fault)]
+    for note in lowering.notes:
+        say(note)
+    if lowering.faults and not anyway:
+        return lowering.faults
+    for fault in lowering.faults:
+        say(f"left out: {fault}")
+    try:
+        os.makedirs(out, exist_ok=True)
+        if os.path.samefile(folder, out):
+            return [f"{out} is the folder itself: name another one to write to"]
+        put_firmware(folder, os.path.abspath(firmware) if firmware else named, out, say)
+        stems = []
+        for name, chip in chips.items():
+            stem = "chip-" + re.sub(r"[^A-Za-z0-9_-]", "_", name)
+            while stem in (one for _, one in stems):
+                stem += "_"
+            chip.put(out, stem, say)
+            stems.append((name, stem))
+        for name, own in lowering.own_chips.items():
+            for ending in (".wasm", ".json"):
+                shutil.copyfile(os.path.join(CHIPS, own + ending), os.path.join(out, own + ending))
+            stems.append((name, own))
+        if change:
+            stems += change(lowering, made, out) or []
+        with open(os.path.join(out, "diagram.json"), "w", encoding="utf-8") as file:
+            file.write(diagrams.text_of(made))
+        with open(os.path.join(out, "wokwi.toml"), "w", encoding="utf-8") as file:
+            file.write(settings_text(stems))
+    except Fault as fault:
+        return [str(fault)]
+    except OSError as fault:
+        return [f"{fault.filename}: {fault.strerror}"]
+    return []
+
+
+def main(words):
+    anyway = "--anyway" in words
+    words = [word for word in words if word != "--anyway"]
+    if len(words) != 2 or any(word.startswith("-") for word in words):
+        print(__doc__, file=sys.stderr)
+        return 2
+    say = lambda text: print(f"lower: {text}", file=sys.stderr)
+    faults = lower(*words, anyway=anyway, say=say)
+    for fault in faults:
+        say(fault)
+    return 1 if faults else 0
+
+
+if __name__ == "__main__":
+    sys.exit(main(sys.argv[1:]))

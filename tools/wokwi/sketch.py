@@ -1,0 +1,336 @@
+#!/usr/bin/env python3
+"""Builds a sketch for an Uno: by arduino-cli where it is there, else from Debian's packages arduino-core-avr, gcc-avr and avr-libc.
+
+    tools/wokwi/sketch.py FOLDER|FILE.ino OUT.hex
+"""
+import hashlib
+import os
+import re
+import shutil
+import subprocess
+import sys
+import tempfile
+
+BASE = "/usr/share/arduino/hardware/arduino/avr"
+HERE = os.path.dirname(os.path.abspath(__file__))
+COMMON = ["-c", "-Os", "-w", "-ffunction-sections", "-fdata-sections", "-flto", "-mmcu=atmega328p", "-DF_CPU=16000000L",
+          "-DARDUINO=10819", "-DARDUINO_AVR_UNO", "-DARDUINO_ARCH_AVR", f"-I{BASE}/cores/arduino", f"-I{BASE}/variants/standard"]
+C = ["avr-gcc", "-std=gnu11", "-fno-fat-lto-objects"]
+# gcc-avr 5.4 leaves DECIMAL_DIG out of its float.h for C++, and WString.cpp wants it
+CPP = ["avr-g++", "-std=gnu++11", "-DDECIMAL_DIG=__DECIMAL_DIG__", "-fpermissive", "-fno-exceptions", "-fno-threadsafe-statics"]
+ASSEMBLER = ["avr-gcc", "-x", "assembler-with-cpp"]
+SOURCES = {".c": C, ".cpp": CPP, ".cc": CPP, ".S": ASSEMBLER}
+
+
+class BuildFault(Exception):
+    """What a build says; `missing` where only a tool is not there."""
+
+    def __init__(self, text, missing=False):
+        super().__init__(text)
+        self.missing = missing
+
+
+# ---- the text of a sketch
+
+def without_comments(text):
+    """The text with comments, strings and characters as blanks, line by line as it was."""
+    blank = lambda found: re.sub(r"[^\n]", " ", found[0])
+    return re.sub(r'//[^\n]*|/\*.*?\*/|"(?:\\.|[^"\\\n])*"|\'(?:\\.|[^\'\\\n])*\'', blank, text, flags=re.S)
+
+
+def outermost(text):
+    """The text with all inside braces, and the preprocessor's lines, as blanks."""
+    text = re.sub(r"^[ \t]*#(?:[^\n]*\\\n)*[^\n]*", lambda found: re.sub(r"[^\n]", " ", found[0]), text, flags=re.M)
+    out, depth = [], 0
+    for letter in text:
+        depth -= letter == "}" and depth > 0
+        out.append(letter if depth == 0 or letter == "\n" else " ")
+        depth += letter == "{"
+    return "".join(out)
+
+
+FUNCTION = re.compile(r"(?<![\w:])((?:[A-Za-z_]\w*(?:\s*::\s*\w+)*(?:\s*<[^<>(){};]*>)?[\s*&]+)+)([A-Za-z_]\w*)\s*\(([^(){};]*(?:\([^(){};]*\)[^(){};]*)*)\)\s*\{")
+NO_TYPE = {"class", "struct", "enum", "union", "namespace", "return", "else", "new", "typedef", "template", "operator", "using", "extern"}
+
+
+def prototypes(text):
+    """(the place of the first function, a declaration of each function): the IDE puts these before the first function."""
+    top = outermost(without_comments(text))
+    first, found = None, []
+    for it in FUNCTION.finditer(top):
+        start = it.start()
+        if first is None:
+            first = start
+        words = set(re.findall(r"\w+", it[1]))
+        if words & NO_TYPE or "template" in top[max(0, start - 200):start].split(";")[-1].split("}")[-1]:
+            continue
+        parameters = re.sub(r"\s*=[^,]*", "", it[3])  # a default stands once, in the definition
+        found.append(" ".join(f"{it[1].strip()} {it[2]}({parameters.strip()});".split()))
+    return first, [one for one in dict.fromkeys(found) if "=" not in one]
+
+
+def joined(folder, main):
+    """The sketch as one C++ text: its .ino files, the main one first, with the declarations of its functions."""
+    names = sorted(name for name in os.listdir(folder) if name.endswith((".ino", ".pde")) and name != main)
+    text = ""
+    for name in [main, *names]:
+        with open(os.path.join(folder, name), encoding="utf-8", errors="replace") as file:
+            text += f'#line 1 "{name}"\n' + file.read() + "\n"
+    first, declared = prototypes(text)
+    if declared:
+        cut = text.rfind("\n", 0, first) + 1
+        start = text.rfind("#line 1 ", 0, cut)
+        name = text[start:].split('"')[1]
+        line = text.count("\n", start, cut)
+        text = text[:cut] + "\n".join(declared) + f'\n#line {line} "{name}"\n' + text[cut:]
+    return "#include <Arduino.h>\n" + text
+
+
+def main_file(folder):
+    """The sketch's main file: NAME.ino in a folder NAME, sketch.ino, else the one with `setup`; of C++ where there is no .ino."""
+    files = sorted(os.listdir(folder))
+    names = [name for name in files if name.endswith((".ino", ".pde"))]
+    for wanted in (os.path.basename(os.path.abspath(folder)) + ".ino", "sketch.ino"):
+        if wanted in names:
+            return wanted
+    for name in names or [name for name in files if name.endswith(".cpp")]:
+        with open(os.path.join(folder, name), encoding="utf-8", errors="replace") as file:
+            if re.search(r"\bvoid\s+setup\s*\(", without_comments(file.read())):
+                return name
+    return names[0] if names else None
+
+
+# ---- libraries
+
+def library_folders(folder):
+    places = [os.path.join(folder, "libraries"), *map(os.path.abspath, filter(None, os.environ.get("ARDUINO_LIBRARIES", "").split(":"))), os.path.expanduser("~/Arduino/libraries"),
+              "/usr/share/arduino/libraries", f"{BASE}/libraries", os.path.join(HERE, "libraries")]
+    return [place for place in places if os.path.isdir(place)]
+
+
+def includes(text):
+    return re.findall(r'^[ \t]*#[ \t]*include[ \t]*[<"]([^>"]+)[>"]', text, flags=re.M)
+
+
+class Libraries:
+    """The libraries that a sketch's includes lead to: the first folder that has such a header."""
+
+    def __init__(self, folder):
+        self.headers, self.used = {}, []
+        for place in library_folders(folder):
+            for name in sorted(os.listdir(place)):
+                root = os.path.join(place, name)
+                top = os.path.join(root, "src") if os.path.isdir(os.path.join(root, "src")) else root
+                if os.path.isdir(top):
+                    for header in os.listdir(top):
+                        if header.endswith((".h", ".hpp")):
+                            self.headers.setdefault(header, top)
+
+    def follow(self, text):
+        for header in includes(text):
+            top = self.headers.get(header)
+            if top and top not in self.used:
+                self.used.append(top)
+                for file in self.files(top, (".h", ".hpp", ".c", ".cpp", ".cc")):
+                    with open(file, encoding="utf-8", errors="replace") as it:
+                        self.follow(it.read())
+
+    @staticmethod
+    def files(top, endings):
+        """The files of a library: with src/ all below it, else the folder's own and those of utility/."""
+        deep = os.path.basename(top) == "src"
+        found = []
+        for here, below, names in os.walk(top):
+            below[:] = sorted(it for it in below if deep or (here == top and it == "utility"))
+            found.extend(os.path.join(here, name) for name in sorted(names) if name.endswith(endings))
+        return found
+
+    def words(self):
+        words = []
+        for top in self.used:
+            words.append(f"-I{top}")
+            if os.path.isdir(os.path.join(top, "utility")):
+                words.append(f"-I{top}/utility")
+        return words
+
+
+# ---- Debian's packages
+
+def call(words, folder):
+    ran = subprocess.run(words, cwd=folder, stdout=subprocess.PIPE, stderr=subprocess.STDOUT, stdin=subprocess.DEVNULL, text=True, errors="replace", check=False)
+    if ran.returncode:
+        raise BuildFault(ran.stdout.strip() or f"{words[0]}: status {ran.returncode}")
+
+
+def compiled(files, words, folder, base=None):
+    """Objects of files, in the order of the files. A file below `base` is named from there, for its __FILE__ and messages."""
+    objects = []
+    for place, file in enumerate(files):
+        made = os.path.join(folder, f"{place:03}-{os.path.basename(file)}.o")
+        compiler = SOURCES[os.path.splitext(file)[1]]
+        named = os.path.relpath(file, base) if base and file.startswith(base + os.sep) else file
+        call([*compiler, *COMMON, *words, "-o", made, named], base or folder)
+        objects.append(made)
+    return objects
+
+
+def kept_path(name):
+    return os.path.join(os.environ.get("XDG_CACHE_HOME") or os.path.expanduser("~/.cache"), "mudflatjar", name)
+
+
+def keep(made, kept):
+    """Copies a file to where it is kept, as a whole; where nothing can be kept it is made each time."""
+    try:
+        os.makedirs(os.path.dirname(kept), exist_ok=True)
+        shutil.copyfile(made, f"{kept}.{os.getpid()}")
+        os.replace(f"{kept}.{os.getpid()}", kept)
+    except OSError:
+        pass
+
+
+def core_key():
+    """What the core's archive depends on."""
+    core = f"{BASE}/cores/arduino"
+    about = hashlib.sha256(repr((COMMON, C, CPP)).encode())
+    about.update(subprocess.run(["avr-gcc", "--version"], stdout=subprocess.PIPE, check=False).stdout)
+    for name in sorted(os.listdir(core)):
+        state = os.stat(os.path.join(core, name))
+        about.update(f"{name} {state.st_size} {state.st_mtime_ns}\n".encode())
+    return about.hexdigest()
+
+
+def core_archive(key, work, say):
+    """The core's archive, which is compiled once and kept."""
+    kept = kept_path(f"core-{key[:20]}.a")
+    if os.path.exists(kept):
+        return kept
+    say("the Arduino core is compiled, once")
+    core = f"{BASE}/cores/arduino"
+    files = [os.path.join(core, name) for name in sorted(os.listdir(core)) if os.path.splitext(name)[1] in SOURCES]
+    os.mkdir(os.path.join(work, "core"))
+    made = os.path.join(work, "core.a")
+    call(["avr-gcc-ar", "rcs", made, *compiled(files, [], os.path.join(work, "core"))], work)
+    keep(made, kept)
+    return made
+
+
+def missing_library(fault, folder):
+    """What to do about a header that no library has."""
+    found = re.search(r"fatal error: ([^:\s]+): No such file", fault)
+    if not found:
+        return fault
+    listed = os.path.join(folder, "libraries.txt")
+    names = []
+    if os.path.exists(listed):
+        with open(listed, encoding="utf-8", errors="replace") as file:
+            names = [line.split("@")[0].strip() for line in file if line.strip() and not line.startswith("#")]
+    hint = f"; libraries.txt has {', '.join(names)}" if names else ""
+    return f"{fault}\nno library here has {found[1]}{hint}: put its folder into {os.path.join(folder, 'libraries')}, or name the folder of your libraries in ARDUINO_LIBRARIES"
+
+
+def by_debian(folder, main, out, say, flags):
+    work = tempfile.mkdtemp()
+    try:
+        text = "#include <Arduino.h>\n" if main.endswith(".cpp") else joined(folder, main)
+        libraries = Libraries(folder)
+        own = [os.path.join(folder, name) for name in sorted(os.listdir(folder)) if os.path.splitext(name)[1] in SOURCES and not name.endswith(".chip.c")]
+        tabs = [os.path.join(folder, name) for name in sorted(os.listdir(folder)) if name.endswith((".h", ".hpp"))]
+        libraries.follow(text)
+        key = core_key()
+        about = hashlib.sha256(f"{key} {flags}\n{text}".encode())
+        for file in own + tabs:
+            with open(file, encoding="utf-8", errors="replace") as it:
+                content = it.read()
+            about.update(f"{file}\n{content}".encode())
+            libraries.follow(content)
+        of_libraries = [file for top in libraries.used for file in Libraries.files(top, (*SOURCES, ".h", ".hpp"))]
+        for file in of_libraries:
+            about.update(f"{file} {os.stat(file).st_size} {os.stat(file).st_mtime_ns}\n".encode())
+        kept = kept_path(f"sketch-{about.hexdigest()[:20]}.hex")
+        if not os.path.exists(kept):
+            sources = [file for file in of_libraries if os.path.splitext(file)[1] in SOURCES]
+            made = linked(work, folder, text, own, sources, [*flags, f"-I{folder}", *libraries.words()], core_archive(key, work, say))
+            keep(made, kept)
+            shutil.copyfile(made, out)
+        else:
+            shutil.copyfile(kept, out)
+    except BuildFault as fault:
+        raise BuildFault(missing_library(str(fault), folder)) from None
+    finally:
+        shutil.rmtree(work)
+
+
+def linked(work, folder, text, own, of_libraries, words, core):
+    """The HEX file of a sketch's text, its other files and the files of its libraries."""
+    source = os.path.join(work, "sketch.ino.cpp")
+    with open(source, "w", encoding="utf-8") as file:
+        file.write(text)
+    objects = compiled([source, *own], words, work, folder)
+    archives = [core]
+    if of_libraries:
+        below = os.path.join(work, "libraries")
+        os.mkdir(below)
+        archives.insert(0, os.path.join(work, "libraries.a"))
+        call(["avr-gcc-ar", "rcs", archives[0], *compiled(of_libraries, words, below)], work)
+    elf, made = os.path.join(work, "sketch.elf"), os.path.join(work, "sketch.hex")
+    call(["avr-gcc", "-w", "-Os", "-flto", "-fuse-linker-plugin", "-Wl,--gc-sections", "-mmcu=atmega328p", "-o", elf, *objects, *archives, "-lm"], work)
+    call(["avr-objcopy", "-O", "ihex", "-R", ".eeprom", elf, made], work)
+    return made
+
+
+# ---- arduino-cli
+
+def by_cli(folder, main, out, flags):
+    """arduino-cli wants the main file to have its folder's name, so it gets a copy."""
+    work = tempfile.mkdtemp()
+    try:
+        copy = os.path.join(work, "sketch")
+        shutil.copytree(folder, copy, ignore=shutil.ignore_patterns("*.chip.c", "*.wasm", "build", ".git"))
+        if main.endswith(".cpp"):
+            open(os.path.join(copy, "sketch.ino"), "w", encoding="utf-8").close()
+        else:
+            os.rename(os.path.join(copy, main), os.path.join(copy, "sketch.ino"))
+        words = ["arduino-cli", "compile", "--fqbn", "arduino:avr:uno", "--output-dir", os.path.join(work, "build")]
+        if flags:
+            words += ["--build-property", f"compiler.cpp.extra_flags={' '.join(flags)}"]
+        for place in (os.path.join(copy, "libraries"), *filter(None, os.environ.get("ARDUINO_LIBRARIES", "").split(":"))):
+            if os.path.isdir(place):
+                words += ["--libraries", os.path.abspath(place)]
+        call([*words, copy], work)
+        shutil.copy(os.path.join(work, "build", "sketch.ino.hex"), out)
+    except BuildFault as fault:
+        text = missing_library(str(fault), folder)
+        raise BuildFault(text + ("\nor `arduino-cli lib install NAME`" if text != str(fault) else "")) from None
+    finally:
+        shutil.rmtree(work)
+
+
+def build(folder, main, out, say=lambda text: None, flags=()):
+    """Writes the Intel HEX of the sketch whose main file is `main` in a folder. `flags` are for the compiler."""
+    folder = os.path.abspath(folder)
+    if shutil.which("arduino-cli"):
+        by_cli(folder, main, os.path.abspath(out), flags)
+    elif shutil.which("avr-g++") and os.path.isdir(f"{BASE}/cores/arduino"):
+        by_debian(folder, main, out, say, list(flags))
+    else:
+        raise BuildFault("there is neither arduino-cli nor Debian's arduino-core-avr, gcc-avr and avr-libc to build the sketch with", missing=True)
+
+
+def main(words):
+    if len(words) != 2:
+        print(__doc__, file=sys.stderr)
+        return 2
+    source, out = words
+    folder, name = (source, main_file(source)) if os.path.isdir(source) else os.path.split(os.path.abspath(source))
+    try:
+        if not name:
+            raise BuildFault("no .ino file is there")
+        build(folder, name, out, lambda text: print(f"sketch: {text}", file=sys.stderr))
+    except (BuildFault, OSError) as fault:
+        print(f"sketch: {fault}", file=sys.stderr)
+        return 1
+    return 0
+
+
+if __name__ == "__main__":
+    sys.exit(main(sys.argv[1:]))
