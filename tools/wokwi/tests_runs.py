@@ -1,0 +1,314 @@
+#!/usr/bin/env python3
+"""Tests of tools/scenario.py, tools/run-tests, tools/wokwi/play and tools/unity.py on the program, by the examples' firmware."""
+import os
+import shutil
+import subprocess
+import sys
+import tempfile
+import unittest
+import xml.etree.ElementTree
+
+HERE = os.path.dirname(os.path.abspath(__file__))
+TOOLS = os.path.dirname(HERE)
+EXAMPLES = os.path.join(TOOLS, "..", "examples")
+sys.path[:0] = [HERE, TOOLS]
+import scenario
+from program import program_path
+
+PRESS = "  - set-control: {part-id: btn1, control: pressed, value: 1}\n"
+
+
+def call(*words, given=None, **more):
+    environment = {key: value for key, value in os.environ.items() if not key.startswith("TEST_")}
+    environment.update(MUDFLATJAR=program_path(), **more)
+    ran = subprocess.run([os.path.join(TOOLS, words[0]), *words[1:]], input=given, capture_output=True, text=True, env=environment, check=False)
+    return ran.returncode, ran.stdout, ran.stderr
+
+
+class WithWork(unittest.TestCase):
+    def setUp(self):
+        self.work = tempfile.mkdtemp()
+        self.addCleanup(shutil.rmtree, self.work)
+
+    def put(self, name, text):
+        path = os.path.join(self.work, name)
+        os.makedirs(os.path.dirname(path), exist_ok=True)
+        with open(path, "w", encoding="utf-8") as file:
+            file.write(text)
+        return path
+
+    def read(self, name):
+        with open(os.path.join(self.work, name), encoding="utf-8") as file:
+            return file.read()
+
+
+class ScenarioFiles(unittest.TestCase):
+    def test_times(self):
+        self.assertEqual([scenario.cycles(text) for text in ("1us", "62.5ns", "63ns", "500ms", "1.5s", 20, "0us")], [16, 1, 2, 8_000_000, 24_000_000, 320_000, 0])
+        for text in ("", "1 minute", "-1us", "us", None, "1e3us"):
+            self.assertRaises(scenario.Stop, scenario.cycles, text)
+
+    def test_what_is_no_scenario(self):
+        for text in ("", "steps: 3", "steps:\n- wait", "steps:\n- {a: 1, b: 2}", "steps:\n- take-screenshot: x", "version: 2\nsteps: []", "a: [", "\x00"):
+            with tempfile.NamedTemporaryFile("w", suffix=".yaml", delete=False) as file:
+                file.write(text)
+            try:
+                with self.assertRaises(scenario.Stop) as caught:
+                    scenario.read_steps(file.name)
+                self.assertEqual(caught.exception.status, 2, text)
+            finally:
+                os.unlink(file.name)
+
+
+class Scenarios(WithWork):
+    def play(self, steps, example="button", *words):
+        path = self.put("scenario.yaml", "name: it\nversion: 1\nsteps:\n" + steps)
+        return call("scenario.py", *words, os.path.join(EXAMPLES, example), path)
+
+    def test_a_press_lights_the_led(self):
+        status, out, _ = self.play("  - delay: 10ms\n" + PRESS + "  - expect-within: {of: {part-id: uno, pin: 2, value: 0}, part-id: led1, pin: A, value: 1, within: 20us}\n"
+                                   "  - delay: 1ms\n  - expect-pin: {part-id: uno, pin: 13, value: 1}\n  - expect-report: [input btn1 1, led led1 on lit 1]\n")
+        self.assertEqual(status, 0)
+        self.assertEqual(len(out.splitlines()), 6)
+
+    def test_a_pin_that_is_another(self):
+        status, _, err = self.play("  - delay: 5ms\n  - expect-pin: {part-id: uno, pin: 13, value: 1}\n")
+        self.assertEqual(status, 1)
+        self.assertRegex(err, r"step 2, expect-pin: at 5 ms uno.13 is 0, since 0\.[0-9]+ ms, and not 1\n")
+
+    def test_a_report_that_is_another(self):
+        status, _, err = self.play("  - delay: 5ms\n  - expect-report: led led1 on lit 1\n")
+        self.assertEqual(status, 1)
+        self.assertIn("it has\n  led led1 off lit 0", err)
+
+    def test_an_edge_that_comes_too_late(self):
+        step = "  - expect-within: {of: {part-id: uno, pin: 2, value: 0}, part-id: uno, pin: 13, value: 1, within: 2us}\n"
+        status, _, err = self.play("  - delay: 1ms\n" + PRESS + step)
+        self.assertEqual(status, 1)
+        self.assertIn("uno.2 becomes 0, and uno.13 does not become 1 within 2us: it is 0", err)
+
+    def test_a_pulse_and_its_length(self):
+        steps = "  - delay: 1ms\n" + PRESS + "  - delay: 3ms\n" + PRESS.replace("value: 1", "value: 0") + "  - expect-pulse: {part-id: btn1, pin: 1.l, value: 1, for: 3ms}\n"
+        status, _, err = self.play(steps, "button", "--timeout", "50ms")
+        self.assertEqual(status, 42)
+        self.assertIn("within 50 ms no whole time in which btn1.1.l is 1 begins after 4 ms", err)
+        steps = "  - expect-pulse: {part-id: uno, pin: 9, for: 1ms, within: 10us}\n"
+        status, _, err = self.play(steps, "fade")
+        self.assertEqual(status, 1)
+        self.assertRegex(err, r"uno\.9 was 1 for 0\.[0-9]+ ms, from [0-9.]+ ms on, and not for 1ms within 10us")
+
+    def test_bytes_are_waited_for_in_their_order(self):
+        steps = "  - wait-serial: hello 1\n  - wait-serial: hello 2\n"
+        status, out, _ = self.play(steps, "serial-hello")
+        self.assertEqual(status, 0)
+        at = [float(line.split()[0]) for line in out.splitlines()]
+        self.assertTrue(100 < at[0] < at[1] < 220, at)
+        status, _, err = self.play("  - wait-serial: hello 2\n  - wait-serial: hello 1\n", "serial-hello", "--timeout", "300")
+        self.assertEqual(status, 42)
+        self.assertIn("'hello 1' is not sent", err)
+
+    def test_the_time_of_a_byte_is_the_one_in_which_it_comes_out(self):
+        _, out, _ = self.play("  - wait-serial: hello 1\n", "serial-hello")
+        us = int(float(out.split()[0]) * 1000)
+        run = lambda us: subprocess.run([program_path(), "run", os.path.join(EXAMPLES, "serial-hello"), "--us", str(us)], capture_output=True, check=True).stdout
+        bit = 1_000_000 / 9600
+        self.assertIn(b"hello 1", run(us + 2))
+        self.assertNotIn(b"hello 1", run(int(us - bit)))
+
+    def test_texts_of_the_command_line(self):
+        folder = os.path.join(EXAMPLES, "serial-hello")
+        self.assertEqual(call("scenario.py", folder, "--expect-text", "hello 1")[0], 0)
+        self.assertEqual(call("scenario.py", folder, "--expect-text", "bye", "--timeout", "200ms")[0], 42)
+        status, _, err = call("scenario.py", folder, "--expect-text", "hello 1", "--fail-text", "hello 0")
+        self.assertEqual((status, "'hello 0' was sent" in err), (1, True))
+        self.assertEqual(call("scenario.py", folder, "--expect-text", "hello 0", "--fail-text", "hello 1")[0], 0)
+        self.assertEqual(call("scenario.py", folder, "--expect-text", "bye", "--fail-text", "hello 1", "--timeout", "200ms")[0], 1)
+
+    def test_outputs_of_the_end(self):
+        names = [os.path.join(self.work, name) for name in ("serial", "report", "wave")]
+        status, _, _ = self.play("  - wait-serial: hello 0\n", "serial-hello", "--quiet", "--serial", names[0], "--report", names[1], "--vcd", names[2])
+        self.assertEqual(status, 0)
+        self.assertEqual(self.read("serial"), "hello 0")
+        self.assertIn("uno uno pc", self.read("report"))
+        self.assertIn("$enddefinitions", self.read("wave"))
+
+    def test_controls(self):
+        for value, control in (("0.5", "position"), ("512", "value")):
+            status, _, err = self.play(f"  - delay: 5ms\n  - set-control: {{part-id: pot1, control: {control}, value: {value}}}\n  - delay: 5ms\n  - expect-report: input pot1 512\n", "pot-serial")
+            self.assertEqual((status, err), (0, ""))
+        for step in ("{part-id: pot1, control: position, value: 2}", "{part-id: pot1, control: size, value: 1}", "{part-id: uno, control: value, value: 1}",
+                     "{part-id: none, control: value, value: 1}", "{part-id: pot1, value: 1}", "3", "{part-id: pot1, control: value, value: much}"):
+            self.assertEqual(self.play(f"  - delay: 1ms\n  - set-control: {step}\n", "pot-serial")[0], 2, step)
+
+    def test_a_control_of_a_chip_is_set_before_the_first_cycle_alone(self):
+        step = "  - set-control: {part-id: room, control: temperature, value: 19500}\n"
+        status, _, err = self.play(step + "  - wait-serial: '19.5'\n", "chip-thermometer")
+        self.assertEqual((status, err), (0, ""))
+        status, _, err = self.play("  - delay: 1ms\n" + step, "chip-thermometer")
+        self.assertEqual(status, 2)
+        self.assertIn("it is a chip", err)
+
+    def test_words_and_pins_that_are_not_there(self):
+        self.assertEqual(self.play("  - expect-pin: {part-id: uno, pin: 14, value: 1}\n")[0], 2)
+        self.assertEqual(self.play("  - expect-pin: {part-id: uno, pin: 13, value: up}\n")[0], 2)
+        self.assertEqual(self.play("  - delay: soon\n")[0], 2)
+        self.assertEqual(call("scenario.py")[0], 2)
+        self.assertEqual(call("scenario.py", self.work, "none.yaml")[0], 2)
+        self.assertEqual(call("scenario.py", "--help")[0], 0)
+
+
+class RunTests(WithWork):
+    def button(self, name, **files):
+        folder = os.path.join(self.work, name)
+        shutil.copytree(os.path.join(EXAMPLES, "button"), folder)
+        for extra in ("check.txt", "pin13.txt"):
+            os.unlink(os.path.join(folder, "expected", extra))
+        self.put(f"{name}/us.txt", "60ms\n")
+        for file, text in files.items():
+            self.put(f"{name}/{file.replace('_', '.')}", text)
+        return folder
+
+    def test_tests_pass_and_fail(self):
+        self.button("a")
+        self.button("deep/b", scenario_yaml="version: 1\nsteps:\n  - delay: 1ms\n")
+        status, out, _ = call("run-tests", self.work)
+        self.assertEqual(status, 0)
+        self.assertRegex(out, r"^3 passed, 0 failed, in [0-9.]+ s\n$")
+        self.put("a/expected/report.txt", self.read("a/expected/report.txt").replace("lit 2", "lit 3"))
+        junit = os.path.join(self.work, "out.xml")
+        keep = os.path.join(self.work, "kept")
+        status, out, _ = call("run-tests", self.work, "--junit", junit, "--keep", keep)
+        self.assertEqual(status, 1)
+        self.assertIn("-led led1 off lit 3\n    +led led1 off lit 2\n", out)
+        self.assertIn("2 passed, 1 failed", out)
+        suite = xml.etree.ElementTree.parse(junit).getroot()
+        self.assertEqual((suite.get("tests"), suite.get("failures")), ("3", "1"))
+        self.assertIn("+led led1 off lit 2", suite.find(".//failure").text)
+        kept, = os.listdir(keep)
+        self.assertIn("lit 2", self.read(f"kept/{kept}/report.txt"))
+        self.assertEqual(call("run-tests", self.work, "--update")[0], 0)
+        self.assertIn("lit 2", self.read("a/expected/report.txt"))
+        self.assertEqual(call("run-tests", self.work)[0], 0)
+
+    def test_update_fills_an_empty_folder(self):
+        folder = self.button("a")
+        shutil.rmtree(os.path.join(folder, "expected"))
+        os.mkdir(os.path.join(folder, "expected"))
+        self.assertEqual(call("run-tests", folder)[0], 1)
+        self.assertEqual(call("run-tests", folder, "--update")[0], 0)
+        self.assertEqual(sorted(os.listdir(os.path.join(folder, "expected"))), ["report.txt", "serial.txt"])
+        self.assertIn("uno uno pc * run\n", self.read("a/expected/report.txt"))
+        self.assertEqual(call("run-tests", folder)[0], 0)
+        self.assertEqual(call("run-tests", folder, "--update")[0], 0)
+        self.assertIn("uno uno pc * run\n", self.read("a/expected/report.txt"))
+
+    def test_a_wave_is_compared_where_it_is_expected(self):
+        folder = self.button("a")
+        self.put("a/expected/wave.vcd", "")
+        self.assertEqual(call("run-tests", folder, "--update")[0], 0)
+        self.assertEqual(call("run-tests", folder)[0], 0)
+        self.put("a/expected/wave.vcd", self.read("a/expected/wave.vcd").replace("#600000000", "#600000625"))
+        self.assertEqual(call("run-tests", folder)[0], 1)
+
+    def test_what_keeps_a_test_from_running(self):
+        for files, text in (({"us_txt": "long"}, "is no time"), ({"us_txt": "0"}, "status 2"), ({"script_txt": "5us push btn1\n"}, "refused 80 ScriptLine line 1"),
+                            ({"diagram_json": "{"}, "is no diagram"), ({"wokwi_toml": "[wokwi]\nversion = 1\nfirmware = 'none.hex'\n"}, ""),
+                            ({"scenario_yaml": "steps:\n  - jump: 1\n"}, "there is no step jump")):
+            folder = self.button("a", **files)
+            if "none.hex" in files.get("wokwi_toml", ""):
+                os.unlink(os.path.join(folder, "button.ino"))
+                self.put("a/b.hex", "")
+                text = "more than one HEX file"
+            status, out, _ = call("run-tests", folder)
+            self.assertEqual(status, 1)
+            self.assertIn(text, out)
+            shutil.rmtree(folder)
+        folder = self.button("a")
+        self.put("a/expected/other.txt", "")
+        self.assertIn("expected/other.txt: a run writes", call("run-tests", folder)[1])
+        self.assertIn("it is not done in 0.001 s", call("run-tests", folder, "--limit", "0.001")[1])
+
+    def test_shards_have_each_test_once(self):
+        for n in range(7):
+            self.button(f"t{n}")
+        everything = call("run-tests", "--list", self.work)[1].splitlines()
+        self.assertEqual(len(everything), 7)
+        shards = [call("run-tests", "--list", "--shard", f"{k}/3", self.work)[1].splitlines() for k in (1, 2, 3)]
+        self.assertEqual(sorted(sum(shards, [])), everything)
+        self.assertEqual([len(shard) for shard in shards], [3, 2, 2])
+        status_file = os.path.join(self.work, "status")
+        bazel = call("run-tests", "--list", self.work, TEST_TOTAL_SHARDS="3", TEST_SHARD_INDEX="1", TEST_SHARD_STATUS_FILE=status_file)[1].splitlines()
+        self.assertEqual(bazel, shards[1])
+        self.assertTrue(os.path.exists(status_file))
+        report = os.path.join(self.work, "bazel.xml")
+        status, out, _ = call("run-tests", self.work, TEST_TOTAL_SHARDS="7", TEST_SHARD_INDEX="6", XML_OUTPUT_FILE=report)
+        self.assertEqual(status, 0)
+        self.assertIn("(1 of 7 tests)", out)
+        self.assertEqual(xml.etree.ElementTree.parse(report).getroot().get("tests"), "1")
+        for shard in ("0/3", "4/3", "1", "a/b"):
+            self.assertEqual(call("run-tests", "--shard", shard, self.work)[0], 2)
+
+    def test_words(self):
+        self.assertEqual(call("run-tests")[0], 2)
+        self.assertEqual(call("run-tests", self.work)[0], 2)
+        self.assertEqual(call("run-tests", os.path.join(self.work, "none"))[0], 2)
+        self.assertEqual(call("run-tests", "--help")[0], 0)
+
+
+class Play(WithWork):
+    def test_a_folder_is_run(self):
+        status, out, err = call("wokwi/play", os.path.join(EXAMPLES, "serial-hello"), "--us", "10ms")
+        self.assertEqual((status, out), (0, "hello 0\n"))
+        self.assertIn("play: uno uno pc", err)
+
+    def test_a_firmware_alone_is_run(self):
+        status, out, err = call("wokwi/play", os.path.join(EXAMPLES, "serial-hello", "serial-hello.hex"), "--us", "10ms", "--quiet")
+        self.assertEqual((status, out, err), (0, "hello 0\n", ""))
+
+    def test_what_cannot_be_simulated_is_left_out_and_told(self):
+        shutil.copy(os.path.join(EXAMPLES, "serial-hello", "serial-hello.hex"), self.work)
+        self.put("diagram.json", '{"version": 1, "parts": [{"type": "wokwi-arduino-uno", "id": "uno"}, {"type": "wokwi-microsd-card", "id": "sd"}], "connections": []}')
+        status, out, err = call("wokwi/play", self.work, "--us", "10ms")
+        self.assertEqual((status, out), (0, "hello 0\n"))
+        self.assertIn("left out: sd (wokwi-microsd-card)", err)
+        self.assertEqual(call("wokwi/play", self.work, "--strict")[0], 1)
+
+    def test_the_script_of_the_folder_and_files(self):
+        report, wave = (os.path.join(self.work, name) for name in ("report", "wave"))
+        status, _, _ = call("wokwi/play", os.path.join(EXAMPLES, "button"), "--us", "60ms", "--quiet", "--report", report, "--vcd", wave)
+        self.assertEqual(status, 0)
+        self.assertIn("led led1 off lit 2", self.read("report"))
+        self.assertIn("$enddefinitions", self.read("wave"))
+
+    def test_a_halt_is_told(self):
+        self.put("empty.hex", ":00000001FF\n")
+        self.assertIn("has halted at word address 0x0000 on the word 0xFFFF", call("wokwi/play", os.path.join(self.work, "empty.hex"), "--us", "10")[2])
+
+    def test_words_and_files_that_are_not_there(self):
+        self.assertEqual(call("wokwi/play")[0], 2)
+        self.assertEqual(call("wokwi/play", self.work, "--us", "11s")[0], 2)
+        self.assertEqual(call("wokwi/play", os.path.join(self.work, "none"))[0], 1)
+        self.assertEqual(call("wokwi/play", self.work)[0], 1)
+        self.put("bad.hex", "x\n")
+        self.assertEqual(call("wokwi/play", os.path.join(self.work, "bad.hex"))[0], 3)
+
+
+class Unity(WithWork):
+    GOOD = "a.cpp:3:test_one:PASS\r\na.cpp:4:test_two:IGNORE\r\n\r\n2 Tests 0 Failures 1 Ignored\r\nOK\r\n"
+
+    def test_outcomes(self):
+        junit = os.path.join(self.work, "u.xml")
+        self.assertEqual(call("unity.py", "--junit", junit, given=self.GOOD)[0], 0)
+        suite = xml.etree.ElementTree.parse(junit).getroot()
+        self.assertEqual((suite.get("tests"), len(suite.findall("testcase/skipped"))), ("2", 1))
+        bad = self.GOOD.replace("PASS", "FAIL: Expected 1 Was 2").replace("0 Failures", "1 Failures")
+        self.assertEqual(call("unity.py", "--junit", junit, given=bad)[0], 1)
+        self.assertEqual(xml.etree.ElementTree.parse(junit).getroot().find(".//failure").get("message"), "Expected 1 Was 2")
+        status, out, err = call("unity.py", given=self.GOOD.split("\r\n\r\n")[0])
+        self.assertEqual((status, "counts did not come" in err), (1, True))
+        self.assertIn("test_one:PASS", out)
+        self.assertEqual(call("unity.py", given="0 Tests 0 Failures 0 Ignored\nOK\n")[0], 1)
+
+
+if __name__ == "__main__":
+    unittest.main()
