@@ -31,8 +31,6 @@ void LiquidCrystal::pins(uint8_t rs, uint8_t rw, uint8_t enable, const uint8_t d
 
 // The sequence by which the display comes into its mode whatever it was in before ("Initializing by Instruction").
 void LiquidCrystal::begin(uint8_t columns, uint8_t lines, uint8_t dots) {
-  this->lines = lines;
-  setRowOffsets(0x00, 0x40, columns, 0x40 + columns);
   pinMode(rs, OUTPUT);
   pinMode(enable, OUTPUT);
   if (rw != NONE) {
@@ -48,50 +46,7 @@ void LiquidCrystal::begin(uint8_t columns, uint8_t lines, uint8_t dots) {
     delayMicroseconds(4500);
   }
   if (!eight) put(2, 4);
-  command(0x20 | (eight ? 0x10 : 0) | (lines > 1 ? 8 : 0) | (dots && lines == 1 ? 4 : 0));
-  shown = ON;
-  show(ON, true);
-  clear();
-  entry = RIGHT;
-  enter(RIGHT, true);
-}
-
-void LiquidCrystal::clear() {
-  command(0x01);
-  delayMicroseconds(2000);
-}
-
-void LiquidCrystal::home() {
-  command(0x02);
-  delayMicroseconds(2000);
-}
-
-void LiquidCrystal::setRowOffsets(int line0, int line1, int line2, int line3) {
-  offsets[0] = line0;
-  offsets[1] = line1;
-  offsets[2] = line2;
-  offsets[3] = line3;
-}
-
-void LiquidCrystal::setCursor(uint8_t column, uint8_t line) {
-  if (line > 3) line = 3;
-  if (line >= lines) line = lines - 1;
-  command(0x80 | (column + offsets[line]));
-}
-
-void LiquidCrystal::createChar(uint8_t code, uint8_t rows[]) {
-  command(0x40 | (code & 7) << 3);
-  for (uint8_t n = 0; n < 8; n++) write(rows[n]);
-}
-
-void LiquidCrystal::show(uint8_t bit, bool set) {
-  shown = set ? shown | bit : shown & ~bit;
-  command(0x08 | shown);
-}
-
-void LiquidCrystal::enter(uint8_t bit, bool set) {
-  entry = set ? entry | bit : entry & ~bit;
-  command(0x04 | entry);
+  start(0x20 | (eight ? 0x10 : 0) | (lines > 1 ? 8 : 0) | (dots && lines == 1 ? 4 : 0), columns, lines);
 }
 
 void LiquidCrystal::send(uint8_t byte, uint8_t rs) {

@@ -1,11 +1,14 @@
-// Pulses for a servo: 1, 1.5 and 2 milliseconds, one each 20 milliseconds. The LED is wired through the analyzer's pin.
+// A servo goes to 0, 90 and 180 degrees, and stays at each for two pulses. The LED is wired through the analyzer's pin.
+#include <Servo.h>
+
+Servo servo;
+
 void setup() {
-  pinMode(9, OUTPUT);
-  for (int us = 1000; us <= 2000; us += 500) {
-    digitalWrite(9, HIGH);
-    delayMicroseconds(us);
-    digitalWrite(9, LOW);
-    delay(18);
+  servo.write(0);
+  servo.attach(9);
+  for (int angle = 0; angle <= 180; angle += 90) {
+    servo.write(angle);
+    delay(40);
   }
 }
 
