@@ -6,6 +6,7 @@ import shutil
 import socket
 import struct
 import subprocess
+import sys
 import tempfile
 import time
 import urllib.request
@@ -159,3 +160,20 @@ class Browser:
         except subprocess.TimeoutExpired:
             self.process.kill()
         shutil.rmtree(self.box, ignore_errors=True)
+
+
+def picture_of(file, address, out):
+    page = Browser(1280, 860)
+    try:
+        page.open(file, address)
+        page.picture(out)
+    finally:
+        page.close()
+
+
+if __name__ == "__main__":
+    try:
+        picture_of(*sys.argv[1:4])
+    except FileNotFoundError as missing:
+        print(f"look: {missing}: no picture of a page", file=sys.stderr)
+        sys.exit(1)

@@ -79,15 +79,15 @@ def row_svg(wave, name, top, scale):
             x0 = x
         else:
             share = high_share(wave, wave[i + 1] >> 2, int(scale.cycle(x + 1)) + 1)
-            bands.append((x, share))
-            x0 = min(x + 1, scale.width - RIGHT)
+            bands.append((int(x), share))
+            x0 = min(int(x) + 1, scale.width - RIGHT)
         i = until - 1
     flat(wave[i] & 3, x0, scale.width - RIGHT)
-    band = "".join(f"M{x:.1f} {low:g}V{high:g}H{x + 1:.1f}V{low:g}z" for x, _ in bands)
-    full = "".join(f"M{x:.1f} {low:g}V{low - share * (low - high):.1f}H{x + 1:.1f}V{low:g}z" for x, share in bands)
-    paths = [("fill", "".join(fills), FILL, ""), ("fill", band, WAVE, ' fill-opacity=".42"'), ("fill", full, WAVE, ' fill-opacity=".7"'),
-             ("fill", "".join(fights), FIGHT, ' fill-opacity=".5"')]
-    drawn = "".join(f'<path d="{d}" fill="{color}"{more}/>' for _, d, color, more in paths if d)
+    band = "".join(f"M{x} {low:g}V{high:g}h1V{low:g}z" for x, _ in bands)
+    full = "".join(f"M{x} {low:g}V{low - share * (low - high):.1f}h1V{low:g}z" for x, share in bands)
+    paths = [("".join(fills), FILL, ""), (band, WAVE, ' fill-opacity=".55"'), (full, WAVE, ""),
+             ("".join(fights), FIGHT, ' fill-opacity=".5"')]
+    drawn = "".join(f'<path d="{d}" fill="{color}"{more}/>' for d, color, more in paths if d)
     if lines:
         drawn += f'<path d="{"".join(lines)}" fill="none" stroke="{WAVE}" stroke-width="1.3"/>'
     if dashes:

@@ -4,18 +4,18 @@
 //   const board = drawBoard(run, { pin(name) {}, part(id) {} });
 //   board.element   the <svg>, class `board`; board.css has its colours
 //   board.box       [x, y, width, height] of all that is drawn
-//   board.update({ t, since })   shows cycle t, with lights as their mean from `since` on; leads that moved more than once since
-//                   then are shown as moving, so nothing flickers
+//   board.update({ t, since, moving })   shows cycle t, with lights as their mean from `since` on; leads that changed more than
+//                   once since `moving` are shown as moving, so nothing flickers; both are t for the moment alone
 //   board.texts({ t, since })    [[id, text], ..]: what the parts are at the moment, in words
 
 const STATE_WORDS = { 0: '0', 1: '1', z: 'z, nothing drives it', x: 'x, two levels at once', m: 'moving' };
 
-// The state of a pin: its level, or m where it changed more than once since `since`.
-function pinState(run, name, { t, since }) {
+// The state of a pin: its level, or m where it changed more than once since `moving`.
+function pinState(run, name, { t, moving = t }) {
   const wave = run.wave(name);
   if (!wave) return 'z';
   const i = findEdge(wave, t);
-  if (since < t && i - findEdge(wave, since) > 1) return 'm';
+  if (moving < t && i - findEdge(wave, moving) > 1) return 'm';
   return LEVELS[wave.v[Math.max(i, 0)]];
 }
 

@@ -11,7 +11,7 @@ const EYE = 320000;                 // 20 ms: about what an eye takes together
 const WALL_WINDOW = .3;             // seconds; while it plays, lights show their mean over as much, so nothing flashes faster
 
 function makeLook(host, { keys = true, hash = false, on = {} } = {}) {
-  const look = { host, on, run: null, board: null, useHash: hash, view: { t: 0, b: null, from: 0, to: 0, since: 0, playing: false, speed: 1, eye: false, chosen: [], decoders: [], folded: new Set(), picked: null, rows: [] } };
+  const look = { host, on, run: null, board: null, useHash: hash, view: { t: 0, b: null, from: 0, to: 0, since: 0, moving: 0, playing: false, speed: 1, eye: false, chosen: [], decoders: [], folded: new Set(), picked: null, rows: [] } };
   addActions(look);
   buildLook(look);
   if (keys) addEventListener('keydown', event => { if (look.run && !host.hidden) onKey(look, event); });
@@ -143,11 +143,12 @@ function goTo(look, t, follow) {
   view.t = clamp(Math.round(t), run.from, run.to);
   const wall = view.playing ? Math.round(WALL_WINDOW * view.speed * 16e6) : 0;
   view.since = Math.max(view.t - Math.max(wall, view.eye ? EYE : 0), run.from);
+  view.moving = Math.max(view.t - wall, run.from);
   if (follow && (view.t < view.from || view.t > view.to)) {
     const span = view.to - view.from, from = view.t - span * (view.playing ? .05 : .5);
     setRange(look, from, from + span);
   }
-  look.board.update({ t: view.t, since: view.since });
+  look.board.update({ t: view.t, since: view.since, moving: view.moving });
   showNow(look); showSentAt(look); showReadouts(look);
   look.pane.drawCursors();
   if (!view.playing) keepHash(look);

@@ -43,8 +43,8 @@ function plotColumns(c, wave, box, from, span, first, last, y, pens, flat, ink) 
       x0 = x + .5;
     } else {
       const share = highShare(wave, from + k / columns * span, until), tall = y[0] - y[1];
-      c.fillStyle = ink.wave; c.globalAlpha = .42; c.fillRect(x, y[1], 1, tall);
-      c.globalAlpha = .7; c.fillRect(x, y[0] - share * tall, 1, share * tall); c.globalAlpha = 1;
+      c.fillStyle = ink.wave; c.globalAlpha = .5; c.fillRect(x, y[1], 1, tall);
+      c.globalAlpha = .8; c.fillRect(x, y[0] - share * tall, 1, share * tall); c.globalAlpha = 1;
       x0 = x + 1;
     }
     i = j;

@@ -131,7 +131,7 @@ function drawRowName(pane, c, row, y, left) {
     c.fillText(shortened(c, decoderTitle(run, row.decoder), left - 34), 18, y);
     return;
   }
-  const state = pinState(run, row.name, { t: view.t, since: view.since ?? view.t });
+  const state = pinState(run, row.name, { t: view.t, moving: view.moving ?? view.t });
   c.font = ink.plain; c.textAlign = 'right'; c.fillStyle = state === 'x' ? ink.fight : ink.text;
   c.fillText(state === 'm' ? '~' : state, left - 14, y);
   c.textAlign = 'left'; c.fillStyle = ink.text;
