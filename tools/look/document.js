@@ -6,6 +6,7 @@ class PlainElement {
   append(...children) { this.children.push(...children); }
   prepend(...children) { this.children.unshift(...children); }
   addEventListener() {}
+  remove() { this.gone = true; }
   set textContent(text) { this.children = [String(text)]; }
   get textContent() { return this.children.map(child => typeof child === 'string' ? child : child.textContent).join(''); }
   cloneNode() {
@@ -15,7 +16,7 @@ class PlainElement {
   }
   get text() {
     const attributes = [...this.attributes].map(([name, value]) => ` ${name}="${escaped(value)}"`).join('');
-    const inside = this.children.map(child => typeof child === 'string' ? escaped(child) : child.text).join('');
+    const inside = this.children.filter(child => !child.gone).map(child => typeof child === 'string' ? escaped(child) : child.text).join('');
     return inside ? `<${this.tag}${attributes}>${inside}</${this.tag}>` : `<${this.tag}${attributes}/>`;
   }
 }

@@ -23,7 +23,7 @@ function drawBoard(run, on = {}) {
   const layers = { uno: svg('g'), wires: svg('g', { class: 'wires' }), parts: svg('g'), shine: svg('g', { class: 'shine', 'aria-hidden': 'true' }), pins: svg('g'), names: svg('g') };
   const element = svg('svg', { class: 'board', role: 'img', 'aria-label': `the board: ${run.parts.map(part => part.id).join(', ')}` });
   const drawing = { run, on, layers, updates: [], tells: [], leads: [], spots: new Map(), box: [Infinity, Infinity, -Infinity, -Infinity] };
-  for (const part of run.parts) drawPart(drawing, part);
+  for (const part of apart(run.parts, run.wires)) drawPart(drawing, part);
   for (const wire of run.wires) drawWire(drawing, wire);
   element.append(...Object.values(layers));
   const [x0, y0, x1, y1] = drawing.box[0] < Infinity ? drawing.box : [0, 0, 100, 100], edge = 14;
@@ -37,6 +37,16 @@ function drawBoard(run, on = {}) {
     },
     texts: moment => drawing.tells.map(([id, tell]) => [id, tell(moment)]).filter(([, text]) => text !== null),
   };
+}
+
+// Parts that lie on one place, as those do that a tool made of one part, are drawn side by side.
+function apart(parts, wires) {
+  const taken = new Map();
+  return parts.map(part => {
+    const place = `${part.left} ${part.top}`, next = taken.get(place) || 0, [width, height] = entryOf(part, wires).size;
+    taken.set(place, next + (part.rotate % 180 ? height : width) + 4);
+    return next ? { ...part, left: part.left + next } : part;
+  });
 }
 
 function widen(drawing, [x, y]) {

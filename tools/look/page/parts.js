@@ -349,6 +349,7 @@ function boxOf(part, wires) {
   const names = part.pins || [...new Set(used)], half = Math.ceil(names.length / 2), title = part.type.replace(/^(chip|wokwi|board)-/, '');
   const longest = side => Math.max(0, ...side.map(name => name.length)), wide = 5.2 * (longest(names.slice(0, half)) + longest(names.slice(half))) + 34;
   const width = Math.max(66, wide, 7.2 * title.length + 26), height = 24 + 14.4 * Math.max(half, 1), pins = {};
+  let pixels = null;                // what its display shows, once its lines have rows
   names.forEach((name, i) => { if (name) pins[name] = i < half ? [0, 28 + 14.4 * i] : [width, 28 + 14.4 * (names.length - 1 - i)]; });
   return {
     size: [width, height],
@@ -360,7 +361,16 @@ function boxOf(part, wires) {
       }
       const cross = label(width / 2, height - 6, 'ended', { ...middle, 'font-size': 8, fill: '#ff9d9d' }), end = run.notes.find(note => note.part === drawn.id);
       if (end) g.append(cross);
-      return moment => { if (end) cross.setAttribute('opacity', end.t !== null && moment.t >= end.t ? 1 : 0); };
+      let shown = null;
+      return moment => {
+        if (end) cross.setAttribute('opacity', end.t !== null && moment.t >= end.t ? 1 : 0);
+        const rows = sampledLines(run, drawn.id, moment.t).filter(line => line.split(' ')[2] === 'row'), all = rows.join();
+        if (all === (shown ?? '')) return;
+        shown = all;
+        if (pixels) pixels.remove();
+        pixels = pixelsOf(rows.map(line => line.split(' ').slice(3)), width);
+        g.append(pixels);
+      };
     },
     tell(drawn, run, moment) {
       const end = run.notes.find(note => note.part === drawn.id && note.t !== null && moment.t >= note.t);
@@ -368,6 +378,20 @@ function boxOf(part, wires) {
       return [end ? 'ended' : drawn.pins ? 'alive' : '', ...lines].join('\n') || null;
     },
   };
+}
+
+// Rows of a chip's display, [[y, text of RGBA bytes], ..], as wide as its box, above it; one path for each colour.
+function pixelsOf(rows, width) {
+  const paths = new Map(), wide = Math.max(1, ...rows.map(([, text]) => text.length / 8)), scale = Math.min(width / wide, 4);
+  for (const [y, text] of rows) {
+    for (let x = 0; x < text.length / 8; x++) {
+      const color = text.slice(8 * x, 8 * x + 8);
+      if (parseInt(color.slice(6), 16)) paths.set(color, (paths.get(color) || '') + `M${x} ${y}h1v1h-1z`);
+    }
+  }
+  const g = svg('g', { transform: `translate(0 -${Math.ceil(scale * (1 + Math.max(0, ...rows.map(([y]) => Number(y)))) + 18)}) scale(${scale})` });
+  for (const [color, d] of paths) g.append(path(d, { fill: '#' + color.slice(0, 6).toLowerCase(), 'fill-opacity': parseInt(color.slice(6), 16) / 255 }));
+  return g;
 }
 
 const entryOf = (part, wires) => Object.hasOwn(PARTS, part.type) ? PARTS[part.type] : boxOf(part, wires);
