@@ -1,6 +1,7 @@
 """Waves as an SVG picture that stands still. It has attributes alone and no style, so no policy forbids it."""
 import bisect
 import html
+import math
 
 HIGH, LEFT, RIGHT, TOP = 24, 150, 26, 28
 INK, DIM, GRID, WAVE, FILL, FIGHT = "#20262a", "#5b656b", "#dde1de", "#0e7a58", "#c3e6d8", "#c2185b"
@@ -71,20 +72,21 @@ def row_svg(wave, name, top, scale):
     stop, x0 = bisect.bisect_left(wave, scale.end << 2), LEFT
     while i + 1 < stop:
         x = scale.x(wave[i + 1] >> 2)
-        until = bisect.bisect_left(wave, (int(scale.cycle(x + 1)) + 1) << 2, i + 1, stop)
-        flat(wave[i] & 3, x0, x)
+        column_end = max(math.ceil(scale.cycle(int(x) + 1)), (wave[i + 1] >> 2) + 1)
+        until = bisect.bisect_left(wave, column_end << 2, i + 1, stop)
+        if x - x0 >= 1:
+            flat(wave[i] & 3, x0, x)
         if until - i - 1 < 4:                   # so few that each is drawn, one after another
             until = i + 2
             lines.append(f"M{x:.1f} {ys[wave[i] & 3]:g}V{ys[wave[i + 1] & 3]:g}")
-            x0 = x
+            x0 = x if x - x0 >= 1 else x0
         else:
-            share = high_share(wave, wave[i + 1] >> 2, int(scale.cycle(x + 1)) + 1)
+            share = high_share(wave, wave[i + 1] >> 2, column_end)
             bands.append((int(x), share))
             x0 = min(int(x) + 1, scale.width - RIGHT)
         i = until - 1
     flat(wave[i] & 3, x0, scale.width - RIGHT)
-    band = "".join(f"M{x} {low:g}V{high:g}h1V{low:g}z" for x, _ in bands)
-    full = "".join(f"M{x} {low:g}V{low - share * (low - high):.1f}h1V{low:g}z" for x, share in bands)
+    band, full = band_paths(bands, low, high)
     paths = [("".join(fills), FILL, ""), (band, WAVE, ' fill-opacity=".55"'), (full, WAVE, ""),
              ("".join(fights), FIGHT, ' fill-opacity=".5"')]
     drawn = "".join(f'<path d="{d}" fill="{color}"{more}/>' for d, color, more in paths if d)
@@ -93,6 +95,20 @@ def row_svg(wave, name, top, scale):
     if dashes:
         drawn += f'<path d="{"".join(dashes)}" fill="none" stroke="#87908f" stroke-width="1.3" stroke-dasharray="3 3"/>'
     return f'<text x="{LEFT - 10}" y="{low}" text-anchor="end" fill="{INK}">{html.escape(name)}</text>{drawn}'
+
+
+def band_paths(bands, low, high):
+    """Columns of a pixel as two paths: their whole height, and of each the share of high; neighbours are one figure."""
+    whole, shares, k = [], [], 0
+    while k < len(bands):
+        last = k
+        while last + 1 < len(bands) and bands[last + 1][0] == bands[last][0] + 1:
+            last += 1
+        x = bands[k][0]
+        whole.append(f"M{x} {low:g}V{high:g}h{last + 1 - k}V{low:g}z")
+        shares.append(f"M{x} {low:g}" + "".join(f"V{low - round(share * (low - high)):g}h1" for _, share in bands[k:last + 1]) + f"V{low:g}z")
+        k = last + 1
+    return "".join(whole), "".join(shares)
 
 
 def high_share(wave, start, end):

@@ -27,9 +27,11 @@ function suggestedDecoders(run) {
   const times = run.serial.times, bit = times && times.length && moved(at('1')) ? bitTimeOf(run.wave(at('1')), times.filter(t => t !== null)) : null;
   if (bit) {
     add({ kind: 'uart', pins: [at('1')], bit });
-    if (moved(at('0')) && uartFrames(run.wave(at('0')), bit, run.to).length) add({ kind: 'uart', pins: [at('0')], bit });
+    const back = { kind: 'uart', pins: [at('0')], bit };
+    if (moved(at('0')) && framesOf(run, back).length) add(back);
   }
-  if (moved(at('A5')) && moved(at('A4')) && i2cFrames(run.wave(at('A5')), run.wave(at('A4'))).some(frame => frame.kind === 'address')) add({ kind: 'i2c', pins: [at('A4'), at('A5')] });
+  const bus = { kind: 'i2c', pins: [at('A4'), at('A5')] };
+  if (moved(at('A5')) && moved(at('A4')) && framesOf(run, bus).some(frame => frame.kind === 'address')) add(bus);
   for (const part of run.parts) {
     if (part.type === 'wokwi-74hc595' && moved(pinOf(part, 'SHCP')) && moved(pinOf(part, 'DS'))) add({ kind: 'spi', pins: [pinOf(part, 'DS'), pinOf(part, 'SHCP')] });
   }
