@@ -4,7 +4,7 @@
     look.py FOLDER --us N [--script FILE] [-o PAGE] [--open] [--from US] [--to US]
             [--svg PINS | --svg-board US] [--edges N] [--samples N]
 
-docs/LOOK.md describes the page. PROGRAM names the simulator, else it is ./mudflatjar.
+docs/LOOK.md describes the page. PROGRAM names the simulator, else it is the one that ./mudflatjar builds.
 """
 import argparse
 import os

@@ -8,6 +8,7 @@ import re
 
 from packing import packed
 from picture import waves_svg
+from told import halts, registers, traps
 from wave import moved_names
 
 HERE = os.path.join(os.path.dirname(os.path.abspath(__file__)), "page")
@@ -24,8 +25,9 @@ def text_of(name):
 
 
 def script_of(names):
-    """Scripts one after another, as one; `'use strict'` stands once."""
-    return "'use strict';\n" + "".join(text_of(name).replace("'use strict';\n", "", 1) for name in names)
+    """Scripts one after another, as one, after the tables of the documents that they speak of."""
+    tables = f"const REGISTERS = {json_text(registers())};\nconst HALTS = {json_text(halts())};\nconst TRAPS = {json_text(traps())};\n"
+    return "'use strict';\n" + tables + "".join(text_of(name).replace("'use strict';\n", "", 1) for name in names)
 
 
 def style_of(names):

@@ -1,10 +1,10 @@
 #!/bin/sh
 # Makes the pictures of the examples' pages and of docs/ again: waves.svg and board.svg in examples/NAME, and docs/look.png. With --check it makes
 # them elsewhere and says which differ (docs/look.png is not compared: fonts differ from machine to machine). A board needs
-# node, docs/look.png Chromium; where it is missing, the picture is left as it is. PROGRAM is the program to run, ./mudflatjar if it is not set.
+# node, docs/look.png Chromium; where it is missing, the picture is left as it is. PROGRAM is the program to run, target/mudflatjar if it is not set.
 here=$(cd "$(dirname "$0")" && pwd)
 root=$(cd "$here/../.." && pwd)
-PROGRAM=$(realpath "${PROGRAM:-$root/mudflatjar}")
+PROGRAM=$(realpath "${PROGRAM:-$root/target/mudflatjar}")
 export PROGRAM
 check=
 [ "$1" = --check ] && check=yes

@@ -1,4 +1,4 @@
-"""Runs of the program. PROGRAM names it; else it is ./mudflatjar at the top of this repository."""
+"""Runs of the program. PROGRAM names it; else it is the built one, target/mudflatjar, or ./mudflatjar, which builds it."""
 import os
 import subprocess
 import sys
@@ -17,7 +17,9 @@ class Refused(Exception):
 
 
 def program():
-    return os.environ.get("PROGRAM") or os.path.join(HERE, "..", "..", "mudflatjar")
+    root = os.path.join(HERE, "..", "..")
+    built = os.path.join(root, "target", "mudflatjar")
+    return os.environ.get("PROGRAM") or (built if os.access(built, os.X_OK) else os.path.join(root, "mudflatjar"))
 
 
 def run(folder, us, script=None, read=None, quiet=False):

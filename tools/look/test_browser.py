@@ -197,7 +197,7 @@ def everything():
     try:
         page = Browser()
     except FileNotFoundError:
-        print("look: no Chromium: the pages are not tested", file=sys.stderr)
+        print("look, pages in a browser: skipped, there is no Chromium", file=sys.stderr)
         return 0
     try:
         with tempfile.TemporaryDirectory() as box:

@@ -249,7 +249,7 @@ def everything():
             step()
             print(f"look, {name}: ok", flush=True)
         except EngineMissing as missing:
-            print(f"look: {missing}: the scripts are not tested", file=sys.stderr)
+            print(f"look, scripts: skipped, {missing}", file=sys.stderr)
             return bad
         except (AssertionError, RuntimeError, Refused, KeyError, StopIteration, ET.ParseError) as error:
             print(f"look, {name}: failed: {type(error).__name__} {error}", flush=True)

@@ -27,7 +27,7 @@ function makeRun({ title, cycles, from = 0, to = cycles, diagram, chips = {}, sc
     waveOf: new Map(names.map((name, i) => [name, of[i]])),
     inputs: inputsOf(parts, script),
     serial: { bytes: serial || new Uint8Array(0), times },
-    notes: notesOf(report, firsts, parts),
+    notes: notesOf(report, firsts),
     cache: new Map(),               // what displays and decoders found, by a name that they choose
   };
   run.sharing = sharingOf(run, of);
