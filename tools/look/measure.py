@@ -54,14 +54,16 @@ def main(changes):
         size = os.path.getsize(path)
         page = Browser()
         try:
+            page.call("Performance.enable", timeDomain="threadTicks")
             opened = page.open(path)
+            metrics = {metric["name"]: metric["value"] for metric in page.call("Performance.getMetrics")["metrics"]}
             draw = page.js("(() => { const times = []; for (let k = 0; k < 9; k++) { const begun = performance.now(); it.pane.draw(); times.push(performance.now() - begun); } return times.sort((a, b) => a - b)[4]; })()")
             frame = page.js("(() => { const times = []; for (let k = 0; k < 21; k++) { const begun = performance.now(); it.go(it.run.to * k / 21); times.push(performance.now() - begun); } return times.sort((a, b) => a - b)[10]; })()")
         finally:
             page.close()
     changes_held = sum(map(len, waves.waves))
     print(f"a wave of {len(vcd):,} bytes, {changes_held:,} changes; read in {read:.1f} s and packed in {pack:.1f} s of processor time into {len(text):,} bytes; "
-          f"page {size:,} bytes, opens in {opened:.2f} s, all is drawn in {draw:.0f} ms, a frame in {frame:.1f} ms")
+          f"page {size:,} bytes, opens in {opened:.2f} s, {metrics['TaskDuration']:.2f} s of processor time, all is drawn in {draw:.0f} ms, a frame in {frame:.1f} ms")
     assert isinstance(waves.waves[0], array)
 
 

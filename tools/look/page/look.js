@@ -276,11 +276,12 @@ function describe(look) {           // for those who hear the page: the row that
   if (view.b !== null) setText(look.elements.gap, gapText(look, Math.min(view.t, view.b), Math.max(view.t, view.b)));
   if (!row) { setText(look.elements.heard, view.rows.filter(r => r.kind === 'wave').slice(0, 16).map(r => `${r.name} ${LEVELS[levelAt(run.wave(r.name), view.t)]}`).join(', ')); return; }
   if (row.kind === 'group') { setText(look.elements.heard, `${row.title}, ${row.folded ? 'folded' : 'open'}, ${row.count} rows`); return; }
-  if (row.kind === 'frames') {
+  if (row.kind === 'frames' && hasFrames(run, row.decoder)) {
     const frames = framesOf(run, row.decoder), next = frames[firstFrame(frames, view.t)];
     setText(look.elements.heard, `${decoderTitle(run, row.decoder)} on ${row.name}, ${frames.length} frames${next ? `; at or after A: ${next.text} at ${inMicroseconds(next.from)}` : ''}`);
     return;
   }
+  if (row.kind === 'frames') return;
   const wave = run.wave(row.name), i = Math.max(findEdge(wave, view.t), 0), next = nextEdge(wave, view.t, 1), inView = findEdge(wave, view.to) - findEdge(wave, view.from);
   setText(look.elements.heard, `${[row.name, ...row.also].join(' = ')} is ${LEVELS[wave.v[i]]} since ${inMicroseconds(wave.t[i])}${next === null ? ' and stays so' : `, until ${inMicroseconds(next)}`}; in view it changes ${inView} times and is high for ${percent(highShare(wave, view.from, view.to))}`);
 }

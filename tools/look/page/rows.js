@@ -27,11 +27,9 @@ function suggestedDecoders(run) {
   const times = run.serial.times, bit = times && times.length && moved(at('1')) ? bitTimeOf(run.wave(at('1')), times.filter(t => t !== null)) : null;
   if (bit) {
     add({ kind: 'uart', pins: [at('1')], bit });
-    const back = { kind: 'uart', pins: [at('0')], bit };
-    if (moved(at('0')) && framesOf(run, back).length) add(back);
+    if (moved(at('0')) && uartFrames(beginning(run.wave(at('0'))), bit, run.to).length) add({ kind: 'uart', pins: [at('0')], bit });
   }
-  const bus = { kind: 'i2c', pins: [at('A4'), at('A5')] };
-  if (moved(at('A5')) && moved(at('A4')) && framesOf(run, bus).some(frame => frame.kind === 'address')) add(bus);
+  if (moved(at('A5')) && moved(at('A4')) && i2cFrames(beginning(run.wave(at('A5'))), beginning(run.wave(at('A4')))).some(frame => frame.kind === 'address')) add({ kind: 'i2c', pins: [at('A4'), at('A5')] });
   for (const part of run.parts) {
     if (part.type === 'wokwi-74hc595' && moved(pinOf(part, 'SHCP')) && moved(pinOf(part, 'DS'))) add({ kind: 'spi', pins: [pinOf(part, 'DS'), pinOf(part, 'SHCP')] });
   }
@@ -39,17 +37,23 @@ function suggestedDecoders(run) {
   return found;
 }
 
+// The first changes of a wave, which are enough to see what is on it.
+const beginning = ({ t, v, high }, count = 6000) => ({ t: t.slice(0, count), v: v.slice(0, count), high: high.slice(0, count) });
+
 // Whether a clock rises in groups of eight.
 function looksLikeBytes(clock) {
-  const rises = [];
-  for (let i = 1; i < clock.t.length; i++) if (clock.v[i] === 1 && clock.v[i - 1] === 0) rises.push(clock.t[i]);
-  if (rises.length < 8 || rises.length % 8) return false;
+  const rises = [], { t, v } = beginning(clock);
+  for (let i = 1; i < t.length; i++) if (v[i] === 1 && v[i - 1] === 0) rises.push(t[i]);
+  if (rises.length < 8 || (t.length === clock.t.length && rises.length % 8)) return false;
   for (let k = 0; k + 8 <= Math.min(rises.length, 800); k += 8) {
     const gaps = upTo(7).map(i => rises[k + i + 1] - rises[k + i]);
     if (Math.max(...gaps) > 4 * Math.min(...gaps)) return false;
   }
   return true;
 }
+
+// Whether the frames of a decoder are known, or can be found at once.
+const hasFrames = (run, decoder) => run.cache.has(JSON.stringify(decoder)) || decoder.pins.every(pin => (run.wave(pin) || ALWAYS_LOW).t.length < 100000);
 
 function framesOf(run, decoder) {
   const key = JSON.stringify(decoder), [data, clock, select] = decoder.pins.map(pin => run.wave(pin) || ALWAYS_LOW);

@@ -55,15 +55,18 @@ function nextLonger(wave, c, level, least, end) {
 function unpackWaves(bytes, counts) {
   let at = 0;
   return counts.map(count => {
-    const t = new Uint32Array(count), v = new Uint8Array(count);
-    let time = 0;
+    const t = new Uint32Array(count), v = new Uint8Array(count), high = new Uint32Array(count);
+    let time = 0, up = 0, level = 0;
     for (let i = 0; i < count; i++) {
-      let n = 0, scale = 1, byte;
-      do { byte = bytes[at++]; n += (byte & 127) * scale; scale *= 128; } while (byte > 127);
-      v[i] = n & 3;
-      t[i] = time += (n - v[i]) / 4;
+      let byte = bytes[at++], n = byte & 127;
+      for (let scale = 128; byte > 127; scale *= 128) { byte = bytes[at++]; n += (byte & 127) * scale; }
+      const step = n < 0x40000000 ? n >> 2 : Math.floor(n / 4);
+      if (i && level === 1) up += step;
+      level = v[i] = n & 3;
+      high[i] = up;
+      t[i] = time += step;
     }
-    return makeWave(t, v);
+    return { t, v, high };
   });
 }
 

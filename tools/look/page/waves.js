@@ -71,7 +71,8 @@ function drawPane(pane) {
     const box = { x: left, width: plotWidth(pane), top, height: tall };
     if (row.key === view.picked) { c.fillStyle = ink.pick; c.fillRect(0, top, left - 8, tall); }
     if (row.kind === 'group') { c.fillStyle = ink.pick; c.globalAlpha = .55; c.fillRect(0, top + 1, width, tall - 2); c.globalAlpha = 1; }
-    if (row.kind === 'frames') plotFrames(c, framesOf(run, row.decoder), box, view.from, view.to, ink);
+    if (row.kind === 'frames' && hasFrames(run, row.decoder)) plotFrames(c, framesOf(run, row.decoder), box, view.from, view.to, ink);
+    else if (row.kind === 'frames') setTimeout(() => { framesOf(run, row.decoder); if (pane.run === run) pane.draw(); }, 50);    // many: the page is shown first
     if (row.kind === 'wave') plotWave(c, run.wave(row.name), box, view.from, view.to, ink);
   });
   if (!view.rows.length) { c.fillStyle = ink.dim; c.font = ink.plain; c.fillText('No pin is chosen. “Rows” has a list of all; a click on a pin of the board adds its row.', left, 26); }
