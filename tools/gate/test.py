@@ -188,6 +188,9 @@ Tail.
         said = self.quiet(times.tell, taken, times.read(self.KEPT), self.top, {})[1]
         self.assertIn("low 200, top 50\n", said)
         self.assertIn("not proved in this run, so with the kept seconds: top\n", said)
+        self.write("crates.txt", "low:\ntop: low\n")
+        said = self.quiet(times.tell, taken, times.read(self.KEPT), self.top, {})[1]
+        self.assertIn("no longer there: side 50 s\n", said)
 
     def test_figures_are_kept(self):
         text = times.figures(self.KEPT, times.read(self.PRINTED), self.top)

@@ -196,6 +196,9 @@ def tell(taken, kept, top, counts):
     new = [it for it in below if it not in kept and it in taken]
     if new:
         print(f"new: {', '.join(f'{it} {seconds(it):.0f} s' for it in new)}")
+    gone = [it for it in kept if it not in below]
+    if gone:
+        print(f"no longer there: {', '.join(f'{it} {sum(kept[it].values()):.0f} s' for it in gone)}")
 
 
 def figures(text, taken, top):
