@@ -185,6 +185,8 @@ class Lowering:
                     given[key] = value_of(how, attrs)
                 except (ValueError, OverflowError, ZeroDivisionError) as fault:
                     self.faults.append(f"{name} ({kind}): {how['from']} {attrs.get(how['from'])!r} {fault}")
+            if piece["type"] in self.types["simulated"]:
+                given = self.fitting(name, given, self.types["simulated"][piece["type"]])
             for pin, new in piece["pins"].items():
                 self.pins[name].add(pin)
                 self.ends.setdefault((name, pin), []).append(f"{made}:{new}")
@@ -297,7 +299,7 @@ def needs_lowering(diagram, types=None):
 
 def text_of(diagram):
     """A diagram as the editor lays it out: a part and a wire a line."""
-    line = lambda value: json.dumps(value, ensure_ascii=False)
+    line = lambda value: json.dumps(value, ensure_ascii=False).encode("utf-8", "replace").decode("utf-8")  # half a pair is no text
     rows = ["{", '  "version": 1,', f'  "author": {line(diagram["author"])},', '  "editor": "wokwi",']
     for name in ("parts", "connections"):
         rows.append(f'  "{name}": [')

@@ -7,14 +7,21 @@ import re
 def number(text):
     """A decimal number, with a letter for thousands, millions or thousandths behind it as clocks have it."""
     found = re.fullmatch(r"\s*([+-]?[0-9]+(?:\.[0-9]*)?|[+-]?\.[0-9]+)\s*([kKmM]?)\s*", str(text))
-    if not found:
+    if not found or len(found[1]) > 40:
         raise ValueError("is no number")
     return float(found[1]) * {"": 1, "k": 1e3, "K": 1e3, "M": 1e6, "m": 1e-3}[found[2]]
 
 
+def whole(value):
+    """The text of a whole number that a part or a chip takes as an attribute."""
+    if not -2**31 <= value < 2**32:
+        raise ValueError("is too large")
+    return str(round(value))
+
+
 def divided(lower, upper):
     """What analogRead gives between a resistor `upper` to 5V and a resistor `lower` to ground."""
-    return str(round(1023 * lower / (lower + upper)))
+    return whole(1023 * lower / (lower + upper))
 
 
 def ntc(text, attrs):
@@ -48,7 +55,7 @@ def time(text, attrs):
     if text in ("now", ""):
         return "946684800"
     if re.fullmatch(r"[0-9]{1,10}", text):
-        return text
+        return whole(int(text))
     moment = datetime.datetime.fromisoformat(text.replace("Z", "+00:00"))
     if moment.tzinfo is None:
         moment = moment.replace(tzinfo=datetime.timezone.utc)
@@ -60,7 +67,7 @@ def time(text, attrs):
 
 def address(text, attrs):
     """A number, in hexadecimal digits behind 0x."""
-    return str(int(text, 0))
+    return whole(int(text, 0))
 
 
 def half_period(text, attrs):
@@ -86,4 +93,4 @@ def value_of(rule, attrs):
         return rule["words"][text]
     if "formula" in rule:
         return NAMED[rule["formula"]](text, attrs)
-    return str(round(number(text) * rule.get("times", 1)))
+    return whole(number(text) * rule.get("times", 1))

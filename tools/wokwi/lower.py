@@ -27,10 +27,14 @@ class Fault(Exception):
     """A file that can't be used."""
 
 
+def no_number(text):
+    raise ValueError(f"{text} is no number")
+
+
 def read_json(path, what):
     try:
         with open(path, encoding="utf-8-sig") as file:
-            return json.load(file)
+            return json.load(file, parse_constant=no_number)
     except FileNotFoundError:
         raise Fault(f"{path} is missing") from None
     except (ValueError, RecursionError) as fault:
