@@ -1,88 +1,118 @@
 #!/bin/sh
-# Tries what docs/TESTING.md says, as it is written there: its commands on examples/button, and a repository of that
-# sketch with its Makefile and its test.sh, which has to end with 0, and with 1 where a test expects something else.
-# Ends with 1 where one does otherwise. PROGRAM is the program to try, target/mudflatjar if it is not set.
-here=$(cd "$(dirname "$0")/.." && pwd)
+# Runs docs/TESTING.md: its indented commands in their order, in an empty folder where `mudflatjar` is this repository, and the
+# commands of the CI jobs that it speaks of. What is no command is compared with what it quotes. `sudo` and `arduino-cli` are
+# stand-ins. Ends with 1 where one fails. PROGRAM is the program to try, ./mudflatjar if it is not set.
+here=$(cd "$(dirname "$0")/.." && pwd) || exit 1
 program=$(realpath "${PROGRAM:-$here/target/mudflatjar}")
+[ -x "$program" ] || program=$here/mudflatjar
 page=$here/docs/TESTING.md
+for tool in python3 avr-g++; do
+    command -v $tool >/dev/null || { echo "TESTING: no $tool, skipped" >&2; exit 0; }
+done
+[ -d /usr/share/arduino/hardware/arduino/avr/cores/arduino ] || { echo "TESTING: no arduino-core-avr, skipped" >&2; exit 0; }
+python3 -c 'import sys, yaml; sys.exit(sys.version_info < (3, 11))' 2>/dev/null || { echo "TESTING: no python3 of 3.11 with python3-yaml, skipped" >&2; exit 0; }
 work=$(mktemp -d) || exit 1
 trap 'rm -rf "$work"' EXIT
 bad=0
-block() { # TEXT: the indented lines behind the first line of the page that has it
-    awk -v text="$1" '
-        on && /^    / { print substr($0, 5); shown = 1; next }
-        on && shown && NF { exit }
-        on && shown { print ""; next }
-        !on && index($0, text) { on = 1 }' "$page"
-}
 check() { # NAME, WHETHER IT IS SO
-    if [ "$2" = 0 ]; then echo "$1: ok"; else echo "$1: failed"; bad=1; fi
+    if [ "$2" = 0 ]; then echo "TESTING: $1: ok"; else echo "TESTING: $1: failed"; bad=1; fi
 }
 
-# one run, one text, in a folder where ./mudflatjar and examples/ are; the time of the first rise
-mkdir "$work/clone"
-printf '#!/bin/sh\nexec "%s" "$@"\n' "$program" >"$work/program"
-chmod +x "$work/program"
-cp "$work/program" "$work/clone/mudflatjar"
-ln -s "$here/examples" "$work/clone/examples"
-block "## One run, one text" >"$work/one.sh"
-(cd "$work/clone" && sh -e "$work/one.sh")
-check "TESTING: one run" $?
-awk '/^      \.\/mudflatjar/ { on = 1 } on && !NF { exit } on { print }' "$page" >"$work/when.sh"
-rise=$(cd "$work/clone" && sh "$work/when.sh")
+# what the page's reader has
+mkdir -p "$work/bin" "$work/blocks" "$work/out" "$work/reader/mudflatjar"
+for name in docs examples sdk tools; do ln -s "$here/$name" "$work/reader/mudflatjar/$name"; done
+printf '#!/bin/sh\nexec "%s" "$@"\n' "$program" >"$work/reader/mudflatjar/mudflatjar"
+cat >"$work/bin/sudo" <<"END"
+#!/bin/sh
+[ "$1" = apt-get ]
+END
+chmod +x "$work/reader/mudflatjar/mudflatjar" "$work/bin/sudo"
+export MUDFLATJAR="$program" XDG_CACHE_HOME="$work/cache"
+unset PROGRAM
+
+# a file for each block of the page
+awk -v folder="$work/blocks" '
+    /^    / { if (!on) { on = 1; name = sprintf("%s/%02d", folder, ++count) } print blanks substr($0, 5) >name; blanks = ""; next }
+    on && !NF { blanks = blanks "\n"; next }
+    { on = 0; blanks = "" }' "$page"
+[ -s "$work/blocks/10" ] || { echo "TESTING: the page has no blocks"; exit 1; }
+
+# the blocks that are commands run in one shell, each with its output in a file
+{
+    echo 'set -e'
+    for block in "$work"/blocks/*; do
+        name=$(basename "$block")
+        case $(head -n 1 "$block") in
+        "[env"* | "tests/presses: failed") continue ;;
+        parallel*) command -v parallel >/dev/null || { echo "TESTING: no parallel, its block is skipped" >&2; continue; } ;;
+        esac
+        echo ". '$block' >'$work/out/$name' 2>&1; echo 'TESTING: block $name: ok'"
+    done
+} >"$work/session.sh"
+(cd "$work/reader" && PATH="$work/bin:$PATH" sh "$work/session.sh")
+status=$?
+if [ $status != 0 ]; then
+    last=$(find "$work/out" -type f | sort | tail -n 1)
+    echo "TESTING: this block failed:"
+    sed 's/^/    /' "$work/blocks/$(basename "$last")" "$last"
+fi
+check "the commands of the page" $status
+
+# what the page quotes
+output_of() { # TEXT: what the block with this text wrote
+    found=$(grep -l -F -e "$1" "$work"/blocks/* | head -n 1)
+    [ -n "$found" ] && cat "$work/out/$(basename "$found")"
+}
+quotes() { # NAME FILE: each line of a block is in the file
+    while IFS= read -r line; do
+        grep -q -x -F -e "$line" "$2" || { echo "TESTING: there is no line: $line"; return 1; }
+    done <"$1"
+}
+output_of './test.sh || echo' >"$work/broken"
+quotes "$(grep -l -x -F 'tests/presses: failed' "$work"/blocks/*)" "$work/broken"
+check "what a failed test says" $?
+grep -q '^    status 42: step 4, wait-serial' "$work/broken" && grep -q '^status 1$' "$work/broken"
+check "what a failed scenario says" $?
+cmp -s "$(grep -l -x -F '[env:uno]' "$work"/blocks/*)" "$here/examples/unit-tests/platformio.ini"
+check "platformio.ini is that of the example" $?
+output_of 'mudflatjar/examples/firmware-tests' | grep -q '^2 passed, 0 failed, in '
+check "the first tests pass" $?
+output_of 'expect-text "7"' | grep -q -x 'status 42'
+check "a text that does not come is 42" $?
+output_of 'unity.py' | grep -q '^4 Tests 0 Failures 0 Ignored'
+check "the unit tests are read" $?
+grep -l '^parallel' "$work"/blocks/* | while IFS= read -r block; do [ ! -f "$work/out/$(basename "$block")" ] || ls "$work"/reader/my-firmware/build/tests-4.xml; done >/dev/null
+check "parallel's parts" $?
+rise=$(output_of "awk '" | tail -n 1)
 expected=$(awk '$2 == 1 { print $1; exit }' "$here/examples/button/expected/pin13.txt")
 awk -v rise="$rise" -v ms="$expected" 'BEGIN { exit !(rise > 1000 * (ms - 0.5) && rise < 1000 * (ms + 0.5)) }'
-check "TESTING: the first rise of pin 13, $rise us" $?
+check "the first rise of pin 13, $rise us" $?
 
-# the repository
-mkdir -p "$work/repository/bin" "$work/repository/sketch" "$work/repository/tests/press"
-cd "$work/repository" || exit 1
-cp "$work/program" bin/mudflatjar
-cp "$here/examples/button/button.ino" sketch/sketch.ino
-block '`sketch/Makefile`' >sketch/Makefile
-block '`test.sh`:' >test.sh
-chmod +x test.sh
-cp "$here/examples/button/diagram.json" "$here/examples/button/script.txt" tests/press
-sed 's/button.hex/sketch.hex/' "$here/examples/button/wokwi.toml" >tests/press/wokwi.toml
-echo 60000 >tests/press/us.txt
-cp -r "$here/examples/button/expected" tests/press
-rm tests/press/expected/check.txt tests/press/expected/pin13.txt
-steps=$(block "As a job of GitHub Actions" | sed -n 's/^ *- run: //p' | grep -v apt-get)
-if [ -f /usr/share/arduino/Arduino.mk ]; then
-    echo "$steps" | sed '$d' | sh -e >"$work/make.log" 2>&1
-    check "TESTING: the sketch is built" $?
-    # the compiler's own code is not that of the IDE, so the core waits at another instruction
-    grep -v '^uno ' tests/press/expected/report.txt >"$work/others"
-    cp sketch/build-uno/sketch.hex tests/press
-    "$program" run tests/press --us 60000 --script tests/press/script.txt --report "$work/first" >/dev/null
-    grep -v '^uno ' "$work/first" | cmp -s - "$work/others"
-    check "TESTING: that sketch does what the example does" $?
-    cp "$work/first" tests/press/expected/report.txt
-else
-    echo "TESTING: arduino-mk is not installed: the example's HEX file stands for the sketch's"
-    mkdir sketch/build-uno
-    cp "$here/examples/button/button.hex" sketch/build-uno/sketch.hex
-fi
-echo "$steps" | tail -n 1 >"$work/last.sh"
-sh "$work/last.sh" >"$work/log" 2>&1
-check "TESTING: test.sh passes" $?
-fails() { # WHAT: test.sh ends with 1
-    sh "$work/last.sh" >"$work/log" 2>&1
-    [ $? = 1 ] && grep -q 'tests/press: failed' "$work/log"
-    check "TESTING: test.sh fails where $1" $?
-}
-cp tests/press/expected/report.txt "$work/report"
-sed 's/lit 2/lit 3/' "$work/report" >tests/press/expected/report.txt
-fails "a report is another"
-cp "$work/report" tests/press/expected/report.txt
-echo x >tests/press/expected/serial.txt
-fails "bytes are others"
-: >tests/press/expected/serial.txt
-mv tests/press/script.txt "$work"
-fails "a file is missing"
-grep -q 'script.txt: missing' "$work/log"
-check "TESTING: the reason is in the log" $?
-mv "$work/script.txt" tests/press
-echo '5us push btn1' >>tests/press/script.txt
-fails "a script is refused"
+# the CI jobs: each command of theirs, for each part, where arduino-cli builds as Debian's packages do
+cat >"$work/arduino-cli" <<END
+#!/bin/sh
+case "\$1 \$2" in "core install" | "lib install") exit 0 ;; esac
+[ "\$1 \$2 \$3 \$4" = "compile --fqbn arduino:avr:uno --output-dir" ] || { echo "not understood: \$*" >&2; exit 1; }
+out=\$5
+for sketch; do :; done
+mkdir -p "\$out" && PATH='$PATH' "$here/tools/wokwi/sketch.py" "\$sketch" "\$out/sketch.ino.hex"
+END
+chmod +x "$work/arduino-cli"
+for job in "$here"/examples/firmware-tests/.github/workflows/*.yml; do
+    name=$(basename "$job" .yml)
+    rm -f "$work/bin/arduino-cli"
+    [ "$name" != arduino-cli ] || cp "$work/arduino-cli" "$work/bin/arduino-cli"
+    for part in $(sed -n 's/^ *shard: \[\(.*\)\]$/\1/p' "$job" | tr -d , | grep . || echo 0); do
+        rm -rf "$work/reader/ci"
+        cp -r "$here/examples/firmware-tests" "$work/reader/ci"
+        ln -s ../mudflatjar "$work/reader/ci/mudflatjar"
+        sed -n 's/^ *- run: //p' "$job" | sed "s/\${{ matrix.shard }}/$part/" >"$work/job.sh"
+        (cd "$work/reader/ci" && PATH="$work/bin:$PATH" sh -e "$work/job.sh") >"$work/job.log" 2>&1
+        status=$?
+        [ $status = 0 ] || cat "$work/job.log"
+        check "the job $name, part $part" $status
+        grep -q '<testsuite .*failures="0"' "$work/reader/ci/build/tests.xml"
+        check "its JUnit file" $?
+    done
+done
 exit $bad
