@@ -12,6 +12,8 @@
 //! - `drive1=Z`, `drive1.out=L`, `drive1.set=H`: what the pin drives: H, L, PullHigh or Z, and so with its DDR bit set, or
 //!   with its bits of DDR and PORT set
 //! - `rests`: no event is to come, and none once the longest run is over
+//! - `wdr`: what WDR does; `resets`, `lasts`: whether the step of its cycle ends in a reset; `restart`: the reset
+//! - `rouses`, `dozes`: whether something of its own ends power-down
 ghost use Rattle.std.specs.Prelude.{◌≡◌, ℕ, Some, true};
 
 use crate::levels::{Turn, pin_of};
@@ -49,6 +51,11 @@ fn plays<U: Unit>(unit: &mut U, turn: &mut Turn, word: &str) -> bool
         "hears" => unit.hears(&turn.before, &turn.now),
         "deaf" => !unit.hears(&turn.before, &turn.now),
         "rests" => rests(unit, turn),
+        "resets" => unit.resets(turn.cycle),
+        "lasts" => !unit.resets(turn.cycle),
+        "rouses" => unit.rouses(&turn.before),
+        "dozes" => !unit.rouses(&turn.before),
+        "wdr" | "restart" => is_told(unit, word),
         _ => reads(unit, turn, word) == Some(true),
     }
 }
@@ -100,6 +107,18 @@ fn rests<U: Unit>(unit: &mut U, turn: &mut Turn) -> bool
     unit.skip(MOST_CYCLES);
     turn.cycle = MOST_CYCLES;
     unit.due().is_none()
+}
+
+/// Tells it of WDR, or of a reset of the watchdog.
+fn is_told<U: Unit>(unit: &mut U, word: &str) -> bool
+    ensures { (U.shows unit.new).cycle ≡ (U.shows unit.old).cycle }
+{
+    if word == "wdr" {
+        unit.wdr();
+    } else {
+        unit.restart();
+    }
+    true
 }
 
 fn asked<U: Unit>(unit: &U, turn: &Turn) -> u8 {

@@ -2,6 +2,7 @@
 //! A number before the name, as in `10000 adc:`, has it played so often.
 use crate::unit::played;
 use avr_adc::Adc;
+use avr_keep::Keep;
 use avr_ports::Ports;
 use avr_spi::Spi;
 use avr_timer8::{Timer0, Timer2};
@@ -25,6 +26,7 @@ pub(crate) fn unit_difference(line: &str) -> Option<&str> {
 fn played_once<'a>(unit: &'a str, words: &'a str) -> Option<&'a str> {
     match unit {
         "adc" => played::<Adc>(words),
+        "keep" => played::<Keep>(words),
         "ports" => played::<Ports>(words),
         "spi" => played::<Spi>(words),
         "timer0" => played::<Timer0>(words),
