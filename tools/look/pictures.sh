@@ -24,11 +24,13 @@ chip-inverter 2 0 2 uno.13,inv1.OUT
 chip-registers 2000 0 2000 moved
 chip-thermometer 2000 0 2000 uno.A5,uno.A4
 counter 30 0 30 clock.J,bit0.A,bit1.A,bit2.A
+eeprom-counter 250000 0 250000 uno.1
 fade 200000 0 200000 uno.9
 i2c-scanner 1000 0 1000 uno.A5,uno.A4
 latch 20000 0 20000 set.2.l,reset.2.l,q.OUT,notq.OUT,uno.1
 lcd-hello 75000 68000 75000 lcd.RS,lcd.E,lcd.D4,lcd.D5,lcd.D6,lcd.D7
 lcd-i2c 100000 99000 100000 lcd.SCL,lcd.SDA
+low-power 1000000 0 1000000 btn1.1.l,uno.13,uno.1
 pin-interrupt 30000 0 30000 moved
 pot-blink 1000000 0 1000000 uno.13
 pot-serial 290000 0 290000 moved
@@ -38,7 +40,8 @@ seven-segment 450000 0 450000 moved
 shift-out 100000 0 100000 sr1.DS,sr1.SHCP,sr1.STCP,led0.A,led1.A,led2.A,led3.A,led4.A,led5.A,led6.A,led7.A
 spi-loopback 1000 0 1000 moved
 spi-shift 100000 0 100000 sr1.DS,sr1.SHCP,sr1.STCP,led0.A,led1.A,led2.A,led3.A,led4.A,led5.A,led6.A,led7.A
-tone 80000 0 80000 uno.8'
+tone 80000 0 80000 uno.8
+watchdog 500000 0 500000 uno.13,uno.1'
 # NAME MICROSECONDS AT
 boards='
 button 60000 15000

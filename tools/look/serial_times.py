@@ -15,8 +15,14 @@ def bit_times(wave):
     return sorted({gap // k for gap, _ in gaps.most_common(8) for k in range(1, 10) if gap % (8 * k) == 0}, reverse=True)
 
 
-def byte_at(wave, start, bit):
-    """The byte of the frame that begins at cycle `start`; None if its stop bit is low."""
+def byte_at(wave, index, bit):
+    """The byte of the frame that begins with the change of that index; None if its stop bit is low, or a change in it is not
+    a multiple of the bit time after its beginning, since then the bit time is another."""
+    start, k = wave[index] >> 2, index + 1
+    while k < len(wave) and (wave[k] >> 2) < start + 9 * bit + bit // 2:
+        if ((wave[k] >> 2) - start) % bit:
+            return None
+        k += 1
     levels = [level_at(wave, start + bit * k + bit // 2) == 1 for k in range(1, 10)]
     return sum(one << k for k, one in enumerate(levels[:8])) if levels[8] else None
 
@@ -33,13 +39,13 @@ def serial_times(wave, sent):
 
 def times_from(wave, sent, bits):
     times, free = [], 1
-    for before, edge in zip(wave, wave[1:]):
-        start = edge >> 2
-        if edge & 3 or before & 3 != 1 or start < free:
+    for index in range(1, len(wave)):
+        start = wave[index] >> 2
+        if wave[index] & 3 or wave[index - 1] & 3 != 1 or start < free:
             continue
         if len(times) == len(sent):
             break
-        bit = next((bit for bit in bits if byte_at(wave, start, bit) == sent[len(times)]), None)
+        bit = next((bit for bit in bits if byte_at(wave, index, bit) == sent[len(times)]), None)
         if bit is None:
             return None
         bits = [bit] + [other for other in bits if other != bit]

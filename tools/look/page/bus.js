@@ -55,9 +55,15 @@ function serialTimes(wave, sent) {
   if (!sent.length) return [];
   for (const bit of wave ? bitTimes(wave) : []) {
     const frames = uartFrames(wave, bit, Infinity).slice(0, sent.length);
-    if (frames.length === sent.length && frames.every((f, i) => f.value === sent[i])) return frames.map(f => f.to - 1);
+    if (frames.length === sent.length && frames.every((f, i) => f.value === sent[i] && isExact(wave, f, bit))) return frames.map(f => f.to - 1);
   }
   return null;
+}
+
+// Whether all changes within a frame are multiples of the bit time after its beginning; else the bit time is another.
+function isExact(wave, { from, to }, bit) {
+  for (let i = findEdge(wave, from) + 1; i < wave.t.length && wave.t[i] < to - bit / 2; i++) if ((wave.t[i] - from) % bit) return false;
+  return true;
 }
 
 // The bit time of a pin on which bytes end at `times`: each frame is ten bits long and begins with a fall.
