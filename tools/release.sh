@@ -59,6 +59,7 @@ case $(printf '%s\n' "$libc" 2.34 | sort -V | tail -n 1) in 2.34) ;; *) stop "th
 rm -rf dist && mkdir dist || exit 1
 cp "$program" dist/mudflatjar && chmod 755 dist/mudflatjar || exit 1
 if [ -f tools/web/assemble.py ] && [ -f target/web/mudflatjar.wasm ]; then
+    ! grep -q unproved target/web/SUMS || stop "the module in target/web is not proved: tools/web/build.sh makes one that is"
     python3 -B tools/web/assemble.py -o dist/mudflatjar.html || stop "the page could not be made"
 else
     say "without the page for a browser: target/web has no module (tools/web/build.sh makes it)"

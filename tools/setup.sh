@@ -1,7 +1,8 @@
 #!/bin/sh
 # Installs the Debian packages that the checks and tools use, where it may (as root, or by sudo without a password), and
 # else prints the one line that does:  tools/setup.sh [--list | --missing] [GROUP..]
-# Groups: tests (what ./mudflatjar test uses), chips (to compile custom chips), sketches (to compile Arduino sketches).
+# Groups: tests (what ./mudflatjar test uses), browser (for tests of pages), chips (to compile custom chips), sketches (to
+# compile Arduino sketches).
 # Without a name all of them. It installs only what is missing; --missing prints that and installs nothing. Ends with 0
 # where all is there, and else with 1.
 # The proofs need the toolchain, which no package has: README.md, "Build it yourself".
@@ -22,10 +23,11 @@ tests clang clang
 tests lld wasm-ld
 tests sigrok-cli sigrok-cli
 tests gtkwave vcd2fst
-tests arduino-mk /usr/share/arduino/Arduino.mk
-tests make make
+tests arduino-core-avr /usr/share/arduino/hardware/arduino/avr/cores/arduino/Arduino.h
+tests python3-yaml /usr/lib/python3/dist-packages/yaml
+tests nodejs node
+tests binaryen wasm-opt
 tests shellcheck shellcheck
-tests binutils readelf
 tests xz-utils xz
 chips clang clang
 chips lld wasm-ld
@@ -33,7 +35,8 @@ chips wabt wat2wasm
 sketches gcc-avr avr-gcc
 sketches avr-libc /usr/lib/avr/include/avr/io.h
 sketches binutils-avr avr-objcopy
-sketches arduino-mk /usr/share/arduino/Arduino.mk
+sketches arduino-core-avr /usr/share/arduino/hardware/arduino/avr/cores/arduino/Arduino.h
+browser chromium chromium
 EOF
 }
 groups=
@@ -42,7 +45,7 @@ for word in "$@"; do
     case $word in
     --list) packages; exit 0 ;;
     --missing) only=1 ;;
-    tests | chips | sketches) groups="$groups $word" ;;
+    tests | browser | chips | sketches) groups="$groups $word" ;;
     *) sed -n 's/^# \{0,1\}//p' "$0" | sed '1d; /^GROUP,/,$d' >&2; exit 2 ;;
     esac
 done
