@@ -35,50 +35,73 @@ def read_declarations(stream):
 
 
 class Changes:
-    """The cycles of each change by what it says, as `1!`; the time is appended by one call a change."""
+    """The cycles at which each set of changes happened, by its lines as they are written; so a time costs one append, however
+    many pins change in it. `first` has for a code the (cycle, level) from which on its changes are kept."""
 
     def __init__(self):
-        self.at = {}
+        self.at, self.times, self.first = {}, 0, {}
 
-    def take(self, piece):
-        """A time and the lines after it, up to the next time."""
-        when, *changes = piece.split(b"\n")
-        cycle = int(when or 0) // UNITS_A_CYCLE
-        at = self.at
-        for change in changes:
-            if change in at:
-                at[change].append(cycle)
-            else:
-                at[change] = array("I", (cycle,))
+    def take(self, pieces):
+        """Times with the lines after them; returns the last cycle."""
+        at, cycle = self.at, 0
+        for piece in pieces:
+            when, _, lines = piece.partition(b"\n")
+            cycle = int(when or 0) // UNITS_A_CYCLE
+            try:
+                at[lines].append(cycle)
+            except KeyError:
+                at[lines] = array("I", (cycle,))
+        self.times += len(pieces)
         return cycle
 
-    def of(self, code):
-        return [self.at.get(level + code) or array("I") for level in LEVELS]
-
     def forget_before(self, cycle, codes):
-        """Keeps of the changes of `codes` before `cycle` the last one alone, moved to `cycle`; they have come up to there."""
-        for code in codes:
-            arrays = [(level + code, self.at[level + code]) for level in LEVELS if level + code in self.at]
-            last = max(((times[bisect.bisect_right(times, cycle) - 1], key) for key, times in arrays
-                        if times and times[0] <= cycle), default=None)
-            for key, times in arrays:
-                kept = times[bisect.bisect_right(times, cycle):]
-                self.at[key] = array("I", (cycle,)) + kept if last and key == last[1] else kept
+        """Keeps of what happened to `codes` up to `cycle` the level alone; it has come up to there."""
+        at, self.at = self.at, {}
+        for lines, times in at.items():
+            split = bisect.bisect_right(times, cycle)
+            if times[split:]:
+                self.keep(lines, times[split:])
+            if not split:
+                continue
+            kept = []
+            for line in lines.split(b"\n"):
+                if line[1:] not in codes:
+                    kept.append(line)
+                elif times[split - 1] >= self.first.get(line[1:], (0, 0))[0]:
+                    self.first[line[1:]] = (times[split - 1], LEVELS.index(line[:1]))
+            if kept:
+                self.keep(b"\n".join(kept), times[:split])
+        self.first = {code: (cycle, level) for code, (_, level) in self.first.items()}
+        self.times = sum(map(len, self.at.values()))
+
+    def keep(self, lines, times):
+        if lines in self.at:
+            self.at[lines].extend(times)
+        else:
+            self.at[lines] = times
+
+    def waves(self):
+        """{code: its wave}"""
+        waves = {code: [cycle << 2 | level] for code, (cycle, level) in self.first.items()}
+        for lines, times in self.at.items():
+            for line in lines.split(b"\n"):
+                level = LEVELS.index(line[:1]) if line[:1] in LEVELS else None
+                if level is not None:
+                    waves.setdefault(line[1:], []).extend([cycle << 2 | level for cycle in times])
+        for wave in waves.values():
+            wave.sort()                         # a few runs that are in order already, which it merges
+        return {code: array("I", wave) for code, wave in waves.items()}
 
 
-def count_of(changes):
-    return sum(len(times) for times in changes.at.values())
-
-
-def read_wave(stream, most, start=0, end=None, whole=()):
-    """The waves of cycles start..end, at most about `most` changes; names for which `whole` is true are kept from cycle 0 on.
+def read_wave(stream, most, start=0, end=None, whole=None):
+    """The waves of cycles start..end, at most `most` changes; names for which `whole` is true are kept from cycle 0 on.
 
     The stream is read to its end in any case, so that who writes it is never stopped. Returns Waves and the cycle at which
     the wave was cut, None where it was not.
     """
     declared = read_declarations(stream)
-    prunable = [code for code, name in declared if not whole or not whole(name)]
-    changes, rest, full, now, stored = Changes(), b"\n", False, 0, 0
+    prunable = {code for code, name in declared if not whole or not whole(name)}
+    changes, rest, full, now = Changes(), b"\n", False, 0
     while True:
         more = stream.read(PIECE)
         if full:
@@ -89,30 +112,27 @@ def read_wave(stream, most, start=0, end=None, whole=()):
         rest = b"\n#" + pieces.pop()
         if not more:                            # the end's time stands alone: nothing changes there
             break
-        for piece in pieces:
-            now = changes.take(piece)
+        if pieces:
+            now = changes.take(pieces)
         if start and now <= start:
             changes.forget_before(now, prunable)
-        stored = count_of(changes)
-        full = stored > most + PIECE or (end is not None and now > end)
+        full = changes.times > most or (end is not None and now > end)
     if start:
         changes.forget_before(start, prunable)
     return collected(declared, changes, most, end, full and (end is None or now <= end))
 
 
 def collected(declared, changes, most, end, stopped):
-    of, waves, known, last = [], [], {}, 0
+    of, waves, known, last, found = [], [], {}, 0, changes.waves()
     for code, _ in declared:
-        times = changes.of(code)
-        key = hashlib.sha256(b"/".join(t.tobytes() for t in times)).digest()
+        wave = found.get(code) or array("I", (2,))
+        if end is not None:
+            wave = wave[:bisect.bisect_left(wave, end << 2)] or wave[:1]
+        key = hashlib.sha256(wave.tobytes()).digest()
         if key not in known:
             known[key] = len(waves)
-            wave = [t << 2 | level for level in range(4) for t in times[level]]
-            wave.sort()                         # four runs that are in order already, which it merges
-            if end is not None:
-                wave = wave[:bisect.bisect_left(wave, end << 2)] or wave[:1]
-            waves.append(array("I", wave))
-            last = max(last, wave[-1] >> 2 if wave else 0)
+            waves.append(wave)
+            last = max(last, wave[-1] >> 2)
         of.append(known[key])
     cut = None
     if stopped or sum(map(len, waves)) > most:
