@@ -5,7 +5,10 @@ import shutil
 import subprocess
 import tempfile
 
-from page import SCRIPTS, STYLES, json_text, script_of, style_of, text_of
+from urllib.parse import unquote
+
+from packing import packed
+from page import SCRIPTS, STYLES, data_of, json_text, script_of, style_of, text_of
 
 HERE = os.path.dirname(os.path.abspath(__file__))
 BROWSERS = ("chromium", "chromium-browser", "google-chrome", "chrome")
@@ -55,7 +58,6 @@ def in_browser(script, call, data):
             out.write(text)
         done = subprocess.run([browser(), "--headless=new", "--no-sandbox", "--disable-gpu", "--virtual-time-budget=60000", f"--user-data-dir={box}/profile",
                                "--dump-dom", "file://" + file], stdout=subprocess.PIPE, stderr=subprocess.DEVNULL, timeout=SECONDS, check=False)
-    from urllib.parse import unquote
     found = done.stdout.decode(errors="replace").split('<pre id="out">', 1)[-1].split("</pre>", 1)[0]
     if not found:
         raise RuntimeError("the browser gave no answer")
@@ -64,8 +66,6 @@ def in_browser(script, call, data):
 
 def board_svg(seen, cycle):
     """The board at a cycle, as an SVG picture."""
-    from packing import packed
-    from page import data_of
     given = {"data": data_of(seen), "packed": packed(seen.waves.waves), "css": style_of(STYLES), "t": cycle}
     return evaluated("{ const run = await runOfPage(given.data, given.packed), board = drawBoard(run); board.update({ t: given.t, since: Math.max(run.from, given.t - EYE) });"
                      " return boardPicture(board, given.css); }", given) + "\n"

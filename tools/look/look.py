@@ -7,21 +7,23 @@
 docs/LOOK.md describes the page. PROGRAM names the simulator, else it is the one that ./mudflatjar builds.
 """
 import argparse
+import functools
 import os
 import pathlib
+import re
 import sys
 import time
 import webbrowser
 from typing import NamedTuple
 
-from engine import EngineMissing
+from engine import EngineMissing, board_svg
 from page import page_of
 from picture import waves_svg
 from program import Refused, ShorterRuns, run
 from project import chips_of, diagram_of, displays_of, uno_of
 from serial_times import serial_times
 from shorter import first_times, shown_times
-from wave import Waves, read_wave
+from wave import Waves, moved_names, read_wave
 
 CYCLES_A_MICROSECOND = 16
 EDGES = 6_000_000       # a page holds so many changes: 54 MB in the browser's memory
@@ -47,17 +49,26 @@ class Seen(NamedTuple):
     left: str
 
 
+def microseconds(text):
+    """A time of the command line: microseconds, or a number with us, ms or s."""
+    match = re.fullmatch(r"(\d{1,10})(us|ms|s)?|(\d{1,6}\.\d{1,6})(ms|s)", text)
+    if not match:
+        raise argparse.ArgumentTypeError(f"{text} is no time: microseconds, or a number with us, ms or s")
+    unit = {"us": 1, "ms": 1000, "s": 1_000_000}[match[2] or match[4] or "us"]
+    return int(match[1]) * unit if match[1] else round(float(match[3]) * unit)
+
+
 def arguments(words):
     parser = argparse.ArgumentParser(prog="look", description="Runs a project and writes a page in which the run can be seen.")
     parser.add_argument("folder")
-    parser.add_argument("--us", type=int, required=True, help="how long the run is, in microseconds")
+    parser.add_argument("--us", type=microseconds, required=True, metavar="N", help="how long the run is: microseconds, or a number with us, ms or s")
     parser.add_argument("--script", help="presses buttons and turns wipers (docs/SCRIPTS.md)")
     parser.add_argument("-o", metavar="FILE", help="where to write; FOLDER.html if nothing is said")
     parser.add_argument("--open", action="store_true", help="open the page in the browser")
-    parser.add_argument("--from", type=int, default=0, dest="start", metavar="US", help="the first microsecond that is kept")
-    parser.add_argument("--to", type=int, metavar="US", help="the microsecond up to which it is kept")
+    parser.add_argument("--from", type=microseconds, default=0, dest="start", metavar="US", help="the first microsecond that is kept")
+    parser.add_argument("--to", type=microseconds, metavar="US", help="the microsecond up to which it is kept")
     parser.add_argument("--svg", metavar="PINS", help="write a picture of the waves of these pins, names between commas, in place of a page; `moved` is each that moved")
-    parser.add_argument("--svg-board", type=int, metavar="US", help="write a picture of the board at this time in place of a page (needs node or Chromium)")
+    parser.add_argument("--svg-board", type=microseconds, metavar="US", help="write a picture of the board at this time in place of a page (needs node or Chromium)")
     parser.add_argument("--edges", type=int, default=EDGES, help=f"how many changes a page may hold ({EDGES:,})")
     parser.add_argument("--samples", type=int, default=SAMPLES, help=f"how many shorter runs may be made, for what no wave tells ({SAMPLES})")
     given = parser.parse_args(words)
@@ -76,9 +87,9 @@ def arguments(words):
 
 def seen_of(given):
     """Runs the project as the words say."""
-    diagram, chips, script = None, None, ""
+    script = ""
     start, end = given.start * CYCLES_A_MICROSECOND, given.to * CYCLES_A_MICROSECOND
-    kept = lambda name: keep_whole(name, given.folder)
+    kept = functools.partial(keep_whole, given.folder)
     sent, report, (waves, cut) = run(given.folder, given.us, given.script,
                                      lambda stream: read_wave(stream, given.edges, start, end, kept))
     diagram, chips = diagram_of(given.folder), chips_of(given.folder)   # the program has accepted them
@@ -88,30 +99,31 @@ def seen_of(given):
     left = ""
     if cut is not None:
         left = (f"The wave has more changes than a page holds: here are those up to {cut / CYCLES_A_MICROSECOND:,.4f} µs"
-                f"{' of ' + format(given.us, ',') + ' µs' if given.us else ''}. Bytes and report are those of the whole run; --from and --to keep another part.")
+                f" of {given.us:,} µs. Bytes and report are those of the whole run; --from and --to keep another part.")
         end = min(end, cut)
     transmit = waves.waves[waves.of[waves.names.index(uno_of(diagram) + ".1")]]
     runs = ShorterRuns(given.folder, given.script, given.samples)
     return Seen(os.path.basename(os.path.abspath(given.folder)), given.us * CYCLES_A_MICROSECOND, start, max(end, start + 1), diagram, chips, script,
-                waves, sent, serial_times(transmit, sent), report, shown_times(waves.waves, report, given.us, runs),
+                waves, sent, serial_times(transmit, sent, None if end == given.us * CYCLES_A_MICROSECOND else end), report, shown_times(waves.waves, report, given.us, runs),
                 first_times(report, given.us, runs), left)
 
 
-def keep_whole(name, folder, known={}):
+@functools.cache
+def kept_parts(folder):
+    diagram = diagram_of(folder)
+    return displays_of(diagram), uno_of(diagram) + ".1"
+
+
+def keep_whole(folder, name):
     """Whether a variable is kept from the start of the run on: text displays and the bytes that are sent rest on their whole wave."""
-    if folder not in known:
-        diagram = diagram_of(folder)
-        known[folder] = displays_of(diagram), uno_of(diagram) + ".1"
-    displays, transmit = known[folder]
+    displays, transmit = kept_parts(folder)
     return name == transmit or name.split(".")[0] in displays
 
 
 def pictured(given, seen):
     """The picture that the words ask for."""
     if given.svg_board is not None:
-        from engine import board_svg
         return board_svg(seen, given.svg_board * CYCLES_A_MICROSECOND)
-    from wave import moved_names
     names = moved_names(seen.waves) if given.svg == "moved" else given.svg.split(",")
     unknown = [name for name in names if name not in seen.waves.names]
     if unknown:

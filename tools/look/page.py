@@ -53,8 +53,8 @@ def data_of(seen):
     if seen.times is not None:
         steps = []
         for time in seen.times:
-            steps.append(time - last)
-            last = time
+            steps.append(None if time is None else time - last)
+            last = last if time is None else time
     return {"title": seen.title, "cycles": seen.cycles, "from": seen.start, "to": seen.end, "diagram": seen.diagram, "chips": seen.chips,
             "script": seen.script, "names": seen.waves.names, "of": seen.waves.of, "counts": [len(wave) for wave in seen.waves.waves],
             "serial": base64.b64encode(seen.sent).decode(), "times": steps, "report": seen.report, "states": seen.states,

@@ -27,17 +27,18 @@ def byte_at(wave, index, bit):
     return sum(one << k for k, one in enumerate(levels[:8])) if levels[8] else None
 
 
-def serial_times(wave, sent):
-    """The last cycle of the frame of each byte; None where the wave does not give exactly these bytes."""
+def serial_times(wave, sent, until=None):
+    """The last cycle of the frame of each byte; None where the wave does not give exactly these bytes. Of a wave that is held up to
+    cycle `until` alone, bytes that end after it have None for their time."""
     candidates = bit_times(wave) if sent else []
     for first in candidates:
-        times = times_from(wave, sent, [first] + [bit for bit in candidates if bit != first])
+        times = times_from(wave, sent, [first] + [bit for bit in candidates if bit != first], until)
         if times is not None:
             return times
-    return None if sent else []
+    return [None] * len(sent) if not sent or until is not None and not candidates else None
 
 
-def times_from(wave, sent, bits):
+def times_from(wave, sent, bits, until):
     times, free = [], 1
     for index in range(1, len(wave)):
         start = wave[index] >> 2
@@ -46,9 +47,12 @@ def times_from(wave, sent, bits):
         if len(times) == len(sent):
             break
         bit = next((bit for bit in bits if byte_at(wave, index, bit) == sent[len(times)]), None)
+        if until is not None and start + 10 * (bit or bits[0]) > until:
+            break
         if bit is None:
             return None
         bits = [bit] + [other for other in bits if other != bit]
         times.append(start + 10 * bit - 1)
         free = start + 9 * bit + bit // 2
-    return times if len(times) == len(sent) else None
+    missing = len(sent) - len(times)
+    return None if missing and until is None else times + [None] * missing

@@ -153,6 +153,17 @@ def check_two_speeds():
     assert level_at(wave, 1000) == 0 and level_at(wave, 999) == 1
 
 
+def check_part_of_times():
+    """Of a part of a run, the bytes that were sent in it and before it have their times; of a cut one those up to the cut."""
+    folder = examples.folder_of("serial-hello")
+    whole = seen_of(arguments([folder, "--us", "250000"])).times
+    for words in (["--to", "105000"], ["--from", "50000", "--to", "105000"], ["--edges", "60"]):
+        seen = seen_of(arguments([folder, "--us", "250000", *words]))
+        expected = [time if time < seen.end else None for time in whole]
+        assert seen.times == expected and None in expected and expected[0] is not None, (words, seen.times, expected)
+        assert json.loads(re.search(r'id="data">(.*?)</script>', page_of(seen), re.S)[1])["times"][0] == whole[0]
+
+
 # ---- What a run leaves out: a firmware that writes where nothing is and then halts, and a chip that ends
 
 NOT_THERE, NO_INSTRUCTION = 0xD0, 0x0001
@@ -203,7 +214,8 @@ def check_words():
     """Wrong words and a project that is refused end with a status, and write nothing."""
     with tempfile.TemporaryDirectory() as box:
         out = os.path.join(box, "page.html")
-        for words in (["x", "--us", "10", "--from", "10"], ["x", "--us", "10", "--svg", "uno.1", "--svg-board", "3"], ["x", "--us", "10", "--edges", "0"]):
+        assert [arguments(["x", "--us", text]).us for text in ("7", "7us", "60ms", "1.5s")] == [7, 7, 60000, 1500000]
+        for words in (["x", "--us", "ten"], ["x", "--us", "10", "--from", "10"], ["x", "--us", "10", "--svg", "uno.1", "--svg-board", "3"], ["x", "--us", "10", "--edges", "0"]):
             with quiet():
                 try:
                     main(words + ["-o", out])
@@ -235,7 +247,7 @@ def everything():
     bad = 0
     jobs = [(f"look, wave of {name}", check_example, (name,)) for name in examples.names()]
     jobs += [(f"look, page of {name}", check_page, (name,)) for name in ("button", "chip-echo", "lcd-i2c", "seven-segment")]
-    jobs += [("look, bytes at two speeds", check_two_speeds, ()), ("look, what a run leaves out", check_left_out, ())]
+    jobs += [("look, bytes at two speeds", check_two_speeds, ()), ("look, bytes of a part of a run", check_part_of_times, ()), ("look, what a run leaves out", check_left_out, ())]
     with concurrent.futures.ThreadPoolExecutor(4) as pool:
         for name, future in [(name, pool.submit(call, *values)) for name, call, values in jobs]:
             try:

@@ -239,7 +239,7 @@ function showSentAt(look) {         // what was sent up to the cursor, and, dimm
   look.sentAt = n;
   const decoder = new TextDecoder();
   elements.before.textContent = decoder.decode(bytes.subarray(0, n)); elements.after.textContent = decoder.decode(bytes.subarray(n));
-  setText(elements.sentNote, times ? `${grouped(n)} of ${grouped(bytes.length)} bytes` : `${grouped(bytes.length)} bytes; the wave does not tell when`);
+  setText(elements.sentNote, times ? `${grouped(n)} of ${grouped(bytes.length)} bytes${times.includes(null) ? ', the last ones after what is kept' : ''}` : `${grouped(bytes.length)} bytes; the wave does not tell when`);
   elements.sent.scrollTop = Math.max(0, elements.before.offsetHeight - elements.sent.clientHeight + 24);
 }
 

@@ -24,7 +24,7 @@ function suggestedDecoders(run) {
   };
   const uno = run.parts.find(part => part.type === 'wokwi-arduino-uno'), at = pin => pinOf(uno, pin);
   if (!uno) return found;
-  const times = run.serial.times, bit = times && times.length && moved(at('1')) ? bitTimeOf(run.wave(at('1')), times.filter(t => t !== null)) : null;
+  const times = (run.serial.times || []).filter(t => t !== null), bit = times.length && moved(at('1')) ? bitTimeOf(run.wave(at('1')), times) : null;
   if (bit) {
     add({ kind: 'uart', pins: [at('1')], bit });
     if (moved(at('0')) && uartFrames(beginning(run.wave(at('0'))), bit, run.to).length) add({ kind: 'uart', pins: [at('0')], bit });
