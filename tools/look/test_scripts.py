@@ -236,8 +236,8 @@ def check_notes():
         seen = seen_of(arguments([box, "--us", "1000"]))
         notes = evaluated("{ const run = await runOfPage(given.data, given.packed), board = drawBoard(run); board.update({ t: 9999, since: 9999 }); return run.notes; }", {"data": data_of(seen), "packed": packed(seen.waves.waves)})
     texts = [(note["part"], note["t"], note["text"]) for note in notes]
-    assert len(texts) == 3 and texts[-1][0] == "c1" and texts[-1][1] == 0 and "unreachable" in texts[-1][2], texts
-    assert "halted" in texts[0][2] and "0xD0" in texts[1][2] and texts[1][1] < texts[0][1], texts
+    assert len(texts) == 3 and texts[0][0] == "c1" and texts[0][1] == 0 and "unreachable" in texts[0][2], texts
+    assert "halted" in texts[2][2] and "0xD0" in texts[1][2] and texts[1][1] < texts[2][1], texts
 
 
 def everything():

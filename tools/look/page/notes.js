@@ -1,5 +1,5 @@
 'use strict';
-// What a run left out, from its report (docs/REPORT.md): [{part, t, text}], t the cycle if it is known, else null.
+// What a run left out, from its report (docs/REPORT.md): [{part, t, text}] in the order of time, t the cycle if it is known, else null.
 // `firsts` has, for a line of the report, the cycle at which shorter runs first had it.
 
 // REGISTERS, HALTS and TRAPS are the tables of docs/REPORT.md and docs/CHIPS.md; told.py reads them.
@@ -10,13 +10,14 @@ function notesOf(report, firsts) {
     const note = noteOf(line);
     if (note) notes.push({ t: firsts[line] ?? null, ...note });
   }
-  return notes;
+  const at = note => note.t ?? Infinity;
+  return notes.sort((a, b) => at(a) - at(b) || 0);
 }
 
 function noteOf(line) {
   const words = line.split(' '), [kind, part] = words;
   if (kind === 'uno' && words[4] === 'halt') {
-    const what = HALTS[words[5]] || 'which is no instruction of the ATmega328P';
+    const what = HALTS[words[5]] || 'no instruction of the ATmega328P';
     return { part, text: `${part} halted at word address ${words[3]}, on the word ${words[5]}: ${what}. The firmware does nothing more.` };
   }
   if (kind === 'uno' && words[2] === 'ignored') {

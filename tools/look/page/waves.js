@@ -75,7 +75,7 @@ function drawPane(pane) {
     else if (row.kind === 'frames') setTimeout(() => { framesOf(run, row.decoder); if (pane.run === run) pane.draw(); }, 50);    // many: the page is shown first
     if (row.kind === 'wave') plotWave(c, run.wave(row.name), box, view.from, view.to, ink);
   });
-  if (!view.rows.length) { c.fillStyle = ink.dim; c.font = ink.plain; c.fillText('No pin is chosen. “Rows” has a list of all; a click on a pin of the board adds its row.', left, 26); }
+  if (!view.rows.length) { c.fillStyle = ink.dim; c.font = ink.plain; c.fillText('No pin is shown: none moved, or none is chosen. “Rows” lists all; a click on a pin of the board adds its row.', left + 12, 26); }
   pane.rows.setAttribute('aria-label', `waves of ${view.rows.filter(row => row.kind === 'wave').map(row => row.name).join(', ') || 'no pin'}`);
   drawCursors(pane);
 }
