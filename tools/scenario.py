@@ -2,7 +2,7 @@
 """Runs a scenario as Wokwi's automation has them:  tools/scenario.py [OPTIONS] FOLDER [SCENARIO.yaml]
 
   --timeout TIME       the simulated time that all may take; else the scenario's `timeout`, else 10s, which is the most
-  --expect-text TEXT   waits for this text behind the steps
+  --expect-text TEXT   waits for this text after the steps
   --fail-text TEXT     fails where this text is sent
   --baud N             the speed of write-serial
   --serial FILE, --vcd FILE, --report FILE   what was sent, the wave and the report up to the end
@@ -370,7 +370,7 @@ RANGES = {"wokwi-pushbutton": 1, "wokwi-slide-switch": 1, "wokwi-dip-switch-8": 
 
 
 def moved(board, name, control, value):
-    """The lines of the script, as (part, number), that a control of a part of the diagram stands for."""
+    """The lines of the script, as (part, number), that setting a control of a part of the diagram becomes."""
     part = board.original.get(name)
     rule = diagrams.table()["lowered"].get(part["type"]) if part else None
     if rule and "as" in rule:
@@ -515,4 +515,7 @@ def main(words):
 
 
 if __name__ == "__main__":
-    sys.exit(main(sys.argv[1:]))
+    try:
+        sys.exit(main(sys.argv[1:]))
+    except KeyboardInterrupt:
+        sys.exit(130)

@@ -292,7 +292,11 @@ def needs_lowering(diagram, types=None):
         attrs = part.get("attrs", {})
         if rule and not ("cases" in rule and rule["cases"].get(str(attrs.get(rule["by"]) or rule["default"]), 0) is None):
             return True
-        if part["type"] not in types["simulated"] and not part["type"].startswith("chip-"):
+        simulated = types["simulated"].get(part["type"])
+        if simulated is None and not part["type"].startswith("chip-"):
+            return True
+        numbers = [attrs[key] for key in (simulated or {}).get("numbers", {}) if key in attrs]
+        if not all(re.fullmatch("[0-9]+", str(number)) for number in numbers) or not re.fullmatch("[A-Za-z0-9_-]{1,64}", part["id"]):
             return True
     return False
 

@@ -41,7 +41,7 @@ def image_of_elf(elf):
 
 
 def as_hex(path):
-    """The bytes of a file of firmware as Intel HEX: a HEX file's own, or those that an ELF file stands for."""
+    """The bytes of a file of firmware as Intel HEX: a HEX file's own, or those that an ELF file becomes."""
     with open(path, "rb") as file:
         data = file.read()
     return hex_of(image_of_elf(data)).encode() if data[:4] == b"\x7fELF" else data

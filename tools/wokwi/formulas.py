@@ -1,11 +1,11 @@
-"""Values that Wokwi's attributes stand for, as the parts and chips here take them. `types.json` names the formulas."""
+"""What Wokwi's attributes are as values of the parts and chips here. `types.json` names the formulas."""
 import datetime
 import math
 import re
 
 
 def number(text):
-    """A decimal number, with a letter for thousands, millions or thousandths behind it as clocks have it."""
+    """A decimal number, perhaps followed by a letter for thousands, millions or thousandths, as frequencies have it."""
     found = re.fullmatch(r"\s*([+-]?[0-9]+(?:\.[0-9]*)?|[+-]?\.[0-9]+)\s*([kKmM]?)\s*", str(text))
     if not found or len(found[1]) > 40:
         raise ValueError("is no number")
@@ -66,7 +66,7 @@ def time(text, attrs):
 
 
 def address(text, attrs):
-    """A number, in hexadecimal digits behind 0x."""
+    """A number, in hexadecimal digits after 0x."""
     return whole(int(text, 0))
 
 

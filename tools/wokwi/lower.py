@@ -92,6 +92,11 @@ class Chip:
             raise Fault(f"{self.text} has no array `pins` of texts")
         return [pin for pin in pins if pin]
 
+    def wants_libc(self):
+        """Whether the source includes headers of C's library, and the kit can link it."""
+        with open(self.source, encoding="utf-8", errors="replace") as file, open(BUILD, encoding="utf-8") as build:
+            return "--libc" in build.read() and bool(re.search(r"^\s*#\s*include\s*<(?:stdio|stdlib|string|math|ctype|time)\.h>", file.read(), flags=re.M))
+
     def put(self, out, stem, say):
         shutil.copyfile(self.text, os.path.join(out, f"{stem}.json"))
         module = os.path.join(out, f"{stem}.wasm")
@@ -99,8 +104,11 @@ class Chip:
             shutil.copyfile(self.module, module)
             return
         say(f"chip {self.name} is built of {os.path.basename(self.source)}")
-        ran = subprocess.run(["sh", BUILD, "-o", module, self.source], stdout=subprocess.PIPE, stderr=subprocess.STDOUT, text=True, errors="replace", check=False)
-        if ran.returncode:
+        for words in ([], ["--libc"]) if self.wants_libc() else ([],):
+            ran = subprocess.run([BUILD, *words, "-o", module, self.source], stdout=subprocess.PIPE, stderr=subprocess.STDOUT, text=True, errors="replace", check=False)
+            if not ran.returncode:
+                break
+        else:
             raise Fault(f"chip {self.name}: {ran.stdout.strip()}")
         os.chmod(module, 0o644)
 
@@ -121,13 +129,13 @@ def put_firmware(folder, named, out, say):
     """Writes OUT/firmware.hex: the file that wokwi.toml names, else the sketch built, else the only HEX file."""
     made = os.path.join(out, "firmware.hex")
     path = os.path.join(folder, named) if named else None
-    main = sketches.main_file(folder)
+    place, main = sketches.sketch_of(folder)
     if not (path and os.path.isfile(path)):
         path = None
         if main:
             say(f"{main} is built")
             try:
-                sketches.build(folder, main, made, say)
+                sketches.build(place, main, made, say)
             except sketches.BuildFault as fault:
                 raise Fault(f"{main}: {fault}") from None
             return
@@ -216,4 +224,7 @@ def main(words):
 
 
 if __name__ == "__main__":
-    sys.exit(main(sys.argv[1:]))
+    try:
+        sys.exit(main(sys.argv[1:]))
+    except KeyboardInterrupt:
+        sys.exit(130)

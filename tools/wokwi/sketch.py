@@ -53,18 +53,35 @@ FUNCTION = re.compile(r"(?<![\w:])((?:[A-Za-z_]\w*(?:\s*::\s*\w+)*(?:\s*<[^<>(){
 NO_TYPE = {"class", "struct", "enum", "union", "namespace", "return", "else", "new", "typedef", "template", "operator", "using", "extern"}
 
 
+def conditional(text):
+    """(from, to) of each part between #if and its #endif, outermost ones alone."""
+    spans, depth, start = [], 0, 0
+    for it in re.finditer(r"^[ \t]*#[ \t]*(if|endif)", text, flags=re.M):
+        if it[1] == "if":
+            start = it.start() if depth == 0 else start
+            depth += 1
+        elif depth:
+            depth -= 1
+            if depth == 0:
+                spans.append((start, it.end()))
+    return spans
+
+
 def prototypes(text):
-    """(the place of the first function, a declaration of each function): the IDE puts these before the first function."""
-    top = outermost(without_comments(text))
+    """(the place of the first function, a declaration of each function): the IDE puts these before the first function. A
+    function between #if and #endif may not be there, so it has none."""
+    plain = without_comments(text)
+    top, spans = outermost(plain), conditional(plain)
     first, found = None, []
     for it in FUNCTION.finditer(top):
         start = it.start()
+        span = next((span for span in spans if span[0] <= start < span[1]), None)
         if first is None:
-            first = start
+            first = span[0] if span else start
         words = set(re.findall(r"\w+", it[1]))
-        if words & NO_TYPE or "template" in top[max(0, start - 200):start].split(";")[-1].split("}")[-1]:
+        if span or words & NO_TYPE or "template" in top[max(0, start - 200):start].split(";")[-1].split("}")[-1]:
             continue
-        parameters = re.sub(r"\s*=[^,]*", "", it[3])  # a default stands once, in the definition
+        parameters = re.sub(r"\s*=[^,]*", "", it[3])  # a default is given once, in the definition
         found.append(" ".join(f"{it[1].strip()} {it[2]}({parameters.strip()});".split()))
     return first, [one for one in dict.fromkeys(found) if "=" not in one]
 
@@ -100,10 +117,20 @@ def main_file(folder):
     return names[0] if names else None
 
 
+def sketch_of(folder):
+    """(folder, main file) of a project's sketch, which PlatformIO has in src/; the file is None where there is none."""
+    for place in (folder, os.path.join(folder, "src")):
+        main = main_file(place) if os.path.isdir(place) else None
+        if main:
+            return place, main
+    return folder, None
+
+
 # ---- libraries
 
 def library_folders(folder):
-    places = [os.path.join(folder, "libraries"), *map(os.path.abspath, filter(None, os.environ.get("ARDUINO_LIBRARIES", "").split(":"))), os.path.expanduser("~/Arduino/libraries"),
+    above = os.path.dirname(folder) if os.path.basename(folder) == "src" else folder
+    places = [os.path.join(folder, "libraries"), os.path.join(above, "lib"), *map(os.path.abspath, filter(None, os.environ.get("ARDUINO_LIBRARIES", "").split(":"))), os.path.expanduser("~/Arduino/libraries"),
               "/usr/share/arduino/libraries", f"{BASE}/libraries", os.path.join(HERE, "libraries")]
     return [place for place in places if os.path.isdir(place)]
 
@@ -179,11 +206,18 @@ def kept_path(name):
 
 
 def keep(made, kept):
-    """Copies a file to where it is kept, as a whole; where nothing can be kept it is made each time."""
+    """Copies a file to where it is kept, as a whole. One that is there already stays, since another linker may be reading it;
+    where nothing can be kept it is made each time."""
     try:
         os.makedirs(os.path.dirname(kept), exist_ok=True)
-        shutil.copyfile(made, f"{kept}.{os.getpid()}")
-        os.replace(f"{kept}.{os.getpid()}", kept)
+        copy = f"{kept}.{os.getpid()}"
+        shutil.copyfile(made, copy)
+        try:
+            os.link(copy, kept)
+        except FileExistsError:
+            pass
+        finally:
+            os.unlink(copy)
     except OSError:
         pass
 
@@ -293,7 +327,8 @@ def by_cli(folder, main, out, flags):
         words = ["arduino-cli", "compile", "--fqbn", "arduino:avr:uno", "--output-dir", os.path.join(work, "build")]
         if flags:
             words += ["--build-property", f"compiler.cpp.extra_flags={' '.join(flags)}"]
-        for place in (os.path.join(copy, "libraries"), *filter(None, os.environ.get("ARDUINO_LIBRARIES", "").split(":"))):
+        above = os.path.dirname(folder) if os.path.basename(folder) == "src" else folder
+        for place in (os.path.join(copy, "libraries"), os.path.join(above, "lib"), *filter(None, os.environ.get("ARDUINO_LIBRARIES", "").split(":"))):
             if os.path.isdir(place):
                 words += ["--libraries", os.path.abspath(place)]
         call([*words, copy], work)
@@ -333,4 +368,7 @@ def main(words):
 
 
 if __name__ == "__main__":
-    sys.exit(main(sys.argv[1:]))
+    try:
+        sys.exit(main(sys.argv[1:]))
+    except KeyboardInterrupt:
+        sys.exit(130)

@@ -185,6 +185,11 @@ class Parts(unittest.TestCase):
         self.assertFalse(diagrams.needs_lowering(uno(part("wokwi-7segment", "d", digits="1"))))
         self.assertTrue(diagrams.needs_lowering(uno(part("wokwi-7segment", "d", digits="2"))))
 
+    def test_what_the_program_would_refuse_needs_lowering(self):
+        for value, needs in (("512", False), ("512.5", True), ("", True)):
+            self.assertEqual(diagrams.needs_lowering(uno(part("wokwi-potentiometer", "p", value=value))), needs)
+        self.assertTrue(diagrams.needs_lowering(uno(part("wokwi-led", "a b"))))
+
     def test_a_chip_of_ours_meets_no_chip_of_the_project(self):
         lowering, made = lowered(uno(part("wokwi-dht22", "a"), part("chip-dht22", "b")), {"dht22": ["IN"]})
         self.assertEqual([it["type"] for it in made["parts"][1:]], ["chip-dht22-", "chip-dht22"])
@@ -333,6 +338,10 @@ class Sketches(unittest.TestCase):
                      "template <typename T> T f(T a) { return a; }", "ISR(TIMER1_COMPA_vect) {}", "int a[] = {1};", "enum E { A, B };", "A::A(int b) {}", "int f();"):
             self.assertEqual(self.declared(text), [], text)
 
+    def test_what_may_not_be_there_is_not_declared(self):
+        text = "int x;\n#ifdef ESP32\n# if A\n# endif\nvoid f(portMUX_TYPE a) {\n}\n#endif\nvoid g() {\n}\n"
+        self.assertEqual(sketch.prototypes(text), (text.index("#ifdef"), ["void g();"]))
+
     def test_lines_stay_as_they_are(self):
         with tempfile.TemporaryDirectory() as folder:
             with open(os.path.join(folder, "a.ino"), "w", encoding="utf-8") as file:
@@ -353,6 +362,20 @@ class Sketches(unittest.TestCase):
             self.assertEqual(sketch.main_file(folder), "b.ino")
             os.rename(os.path.join(folder, "a.ino"), os.path.join(folder, "sketch.ino"))
             self.assertEqual(sketch.main_file(folder), "sketch.ino")
+
+    def test_platformio_has_it_in_src(self):
+        with tempfile.TemporaryDirectory() as folder:
+            self.assertEqual(sketch.sketch_of(folder), (folder, None))
+            place = os.path.join(folder, "src")
+            os.makedirs(os.path.join(folder, "lib", "Own"))
+            os.mkdir(place)
+            for name, text in (("src/main.cpp", "#include <Own.h>\nvoid setup() {}\nvoid loop() {}\n"), ("lib/Own/Own.h", "")):
+                with open(os.path.join(folder, name), "w", encoding="utf-8") as file:
+                    file.write(text)
+            self.assertEqual(sketch.sketch_of(folder), (place, "main.cpp"))
+            libraries = sketch.Libraries(place)
+            libraries.follow("#include <Own.h>\n")
+            self.assertEqual(libraries.used, [os.path.join(folder, "lib", "Own")])
 
     def test_a_library_that_is_missing_is_told(self):
         with tempfile.TemporaryDirectory() as folder:

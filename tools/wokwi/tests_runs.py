@@ -2,9 +2,11 @@
 """Tests of tools/scenario.py, tools/run-tests, tools/wokwi/play and tools/unity.py on the program, by the examples' firmware."""
 import os
 import shutil
+import signal
 import subprocess
 import sys
 import tempfile
+import time
 import unittest
 import xml.etree.ElementTree
 
@@ -248,6 +250,17 @@ class RunTests(WithWork):
         for shard in ("0/3", "4/3", "1", "a/b"):
             self.assertEqual(call("run-tests", "--shard", shard, self.work)[0], 2)
 
+    def test_ctrl_c_ends_it(self):
+        for n in range(8):
+            self.button(f"t{n}", us_txt="10s")
+        ran = subprocess.Popen([os.path.join(TOOLS, "run-tests"), "--jobs", "2", self.work], stderr=subprocess.PIPE, stdout=subprocess.PIPE, text=True,
+                               env=dict(os.environ, MUDFLATJAR=program_path()), start_new_session=True)
+        time.sleep(1.5)
+        os.killpg(ran.pid, signal.SIGINT)
+        _, err = ran.communicate(timeout=60)
+        self.assertEqual(ran.returncode, 130)
+        self.assertEqual(err.strip(), "run-tests: stopped")
+
     def test_words(self):
         self.assertEqual(call("run-tests")[0], 2)
         self.assertEqual(call("run-tests", self.work)[0], 2)
@@ -283,6 +296,12 @@ class Play(WithWork):
     def test_a_halt_is_told(self):
         self.put("empty.hex", ":00000001FF\n")
         self.assertIn("has halted at word address 0x0000 on the word 0xFFFF", call("wokwi/play", os.path.join(self.work, "empty.hex"), "--us", "10")[2])
+
+    def test_the_page(self):
+        page = os.path.join(self.work, "page.html")
+        status, _, err = call("wokwi/play", os.path.join(EXAMPLES, "button"), "--us", "20ms", "--quiet", "--page", page)
+        self.assertEqual(status, 0, err)
+        self.assertIn("btn1", self.read("page.html"))
 
     def test_words_and_files_that_are_not_there(self):
         self.assertEqual(call("wokwi/play")[0], 2)

@@ -1,4 +1,4 @@
-// The two LEDs stand in holes of the same name on two boards, and take turns.
+// The two LEDs are in holes of the same name on two boards, and take turns.
 void setup() {
   pinMode(7, OUTPUT);
   pinMode(8, OUTPUT);
