@@ -1,0 +1,58 @@
+#!/bin/bash
+# What is tested of the simulator in pages and in Node, in a minute or two. Ends with 1 where something differs, and says
+# on standard error what it skips: without node or Chromium, or where tools/web/build.sh has built no module.
+here=$(cd "$(dirname "$0")" && pwd)
+root=$(cd "$here/../.." && pwd)
+modules=$root/target/web
+bad=0
+skip() { echo "web: $*" >&2; }
+quietly() { # NAME COMMAND ..; what it says only where it fails
+    local name=$1 said
+    shift
+    if said=$("$@" 2>&1); then echo "web: $name: ok"; else
+        echo "$said" | grep -v ': ok$'
+        echo "web: $name: failed"
+        bad=1
+    fi
+}
+
+work=$(mktemp -d) || exit 1
+trap 'rm -rf "$work"' EXIT
+compiler=$(command -v cc || command -v gcc || command -v clang)
+if [ -n "$compiler" ]; then
+    "$compiler" -std=c11 -Wall -Wextra -Werror -O1 "$here/test/heap.c" -o "$work/heap" && quietly "the heap" "$work/heap" || bad=1
+else
+    skip "no C compiler: the heap is not tried"
+fi
+quietly "retargeting" python3 "$here/test/test_retarget.py"
+quietly "the look at modules" python3 "$here/test/test_module.py"
+[ -d "$root/tools/look/page" ] && quietly "the page's file" python3 "$here/test/test_assemble.py"
+if command -v node >/dev/null; then
+    quietly "the page's code" node --test "$here/test/test_page_code.mjs"
+else
+    skip "no node: the page's code and the program in Node are not tried"
+fi
+
+if [ ! -f "$modules/mudflatjar.wasm" ] && [ ! -f "$modules/mudflatjar32.wasm" ]; then
+    skip "no module is built (tools/web/build.sh): the program in Node and in a page is not tried"
+    exit "$bad"
+fi
+[ ! -f "$modules/SUMS" ] || quietly "the modules' sums" sh -c "cd '$modules' && sha256sum --quiet -c SUMS"
+if command -v node >/dev/null; then
+    quietly "the examples in Node" env PROGRAM="$here/mudflatjar.mjs" "$root/examples/check.sh"
+    quietly "files and outputs in Node" "$here/test/edges.sh"
+fi
+browser=
+for name in "${CHROMIUM:-chromium}" chromium-browser google-chrome chrome; do
+    [ -n "$browser" ] || browser=$(command -v "$name")
+done
+if [ -z "$browser" ]; then
+    skip "no Chromium: the page is not tried"
+else
+    quietly "the page in one file" "$here/assemble.py" -o "$work/mudflatjar.html"
+    export MUDFLATJAR_PAGE=$work/mudflatjar.html
+    quietly "the examples in Chromium" "$here/test/in_page.py" --with "$root/examples/check.sh"
+    quietly "faults in Chromium" "$here/test/in_page.py" --with "$here/test/faults.sh"
+    quietly "the page in Chromium" python3 "$here/test/test_page.py"
+fi
+exit "$bad"

@@ -1,0 +1,80 @@
+'use strict';
+// A project: the files of a folder by their paths in it. It says what a folder of another tool lacks.
+
+const FIRST_FILES = ['diagram.json', 'script.txt', 'wokwi.toml'], SCRIPT = 'script.txt';
+const UNO_ALONE = '{\n  "version": 1,\n  "parts": [\n    { "type": "wokwi-arduino-uno", "id": "uno", "top": 0, "left": 0 }\n  ],\n  "connections": []\n}\n';
+const isHex = path => /\.hex$/i.test(path);
+const isHidden = path => path.split('/').some(name => name.startsWith('.') || name === '__MACOSX' || name === 'node_modules');
+
+function makeProject(name, files) {
+  const project = { name: /^[^-/\0][^/\0]{0,99}$/.test(name) ? name : 'project', files: new Map() };
+  for (const [path, bytes] of files) if (path && !isHidden(path)) project.files.set(path, bytes);
+  return project;
+}
+
+// Of files that were dropped or picked, [[path, bytes], ..], the project: the folder that has the diagram, or all.
+function projectOfFiles(files) {
+  const kept = files.filter(([path]) => path && !isHidden(path));
+  const diagrams = kept.map(([path]) => path).filter(path => path.split('/').pop() === 'diagram.json').sort((a, b) => a.split('/').length - b.split('/').length || (a < b ? -1 : 1));
+  const common = kept.length && kept.every(([path]) => path.includes('/') && path.split('/')[0] === kept[0][0].split('/')[0]) ? kept[0][0].split('/')[0] + '/' : '';
+  const base = diagrams.length ? diagrams[0].slice(0, -'diagram.json'.length) : common;
+  const name = base ? base.split('/').slice(-2)[0] : 'project';
+  return makeProject(name, kept.filter(([path]) => path.startsWith(base)).map(([path, bytes]) => [path.slice(base.length), bytes]));
+}
+
+const textOf = (project, path) => (project.files.has(path) ? plainText.decode(project.files.get(path)) : '');
+const firmwareOf = project => (/^[ \t]*firmware[ \t]*=[ \t]*(['"])(.*?)\1/m.exec(textOf(project, 'wokwi.toml')) || [])[2];
+
+// Gives a project what the simulator needs and the folder can tell: a wokwi.toml for its one HEX file, a diagram of an Uno alone
+// for a HEX file without one. Answers what was made, in words.
+function complete(project) {
+  const hex = [...project.files.keys()].filter(isHex).filter(path => !/bootloader/i.test(path)).sort((a, b) => a.length - b.length), made = [];
+  if (hex.length && !project.files.has('diagram.json')) {
+    project.files.set('diagram.json', utf8.encode(UNO_ALONE));
+    made.push('There was no diagram.json, so the board is an Uno alone.');
+  }
+  if (hex.length && !project.files.has('wokwi.toml')) {
+    project.files.set('wokwi.toml', utf8.encode(`[wokwi]\nversion = 1\nfirmware = '${hex[0]}'\n`));
+    made.push(`There was no wokwi.toml, so the firmware is ${hex[0]}.`);
+  }
+  return made;
+}
+
+// Puts a HEX file that was handed over alone into a project, as its firmware.
+function withFirmware(project, name, bytes) {
+  const path = firmwareOf(project) || name;
+  project.files.set(path, bytes);
+  return [`${name} is the firmware now${path === name ? '' : `, as ${path}`}.`, ...complete(project)];
+}
+
+// What a user can do about a project that cannot run yet; null where nothing is known to be amiss.
+function adviceOf(project) {
+  const firmware = firmwareOf(project), hex = [...project.files.keys()].filter(isHex);
+  if (!project.files.size) return 'Open an example, or drop a project\'s folder, its ZIP archive or a HEX file here.';
+  if (!hex.length && !(firmware && project.files.has(firmware))) {
+    return 'There is no firmware: a page cannot compile a sketch. In the Arduino IDE choose Sketch, Export Compiled Binary, and drop the file NAME.ino.hex (not the one with_bootloader) here.';
+  }
+  if (/"wokwi-breadboard/.test(textOf(project, 'diagram.json'))) {
+    return 'The diagram has a breadboard. tools/wokwi/lower.py of Mudflatjar\'s folder makes wires of it; drop what it writes here.';
+  }
+  return null;
+}
+
+// The chips' pins, as a look at a run wants them: {'chip-NAME': [pin, ..]}. The simulator has accepted these files.
+function chipsOf(project) {
+  const chips = {};
+  for (const table of textOf(project, 'wokwi.toml').split(/^[ \t]*\[\[[ \t]*chip[ \t]*\]\].*$/m).slice(1)) {
+    const value = key => (new RegExp(`^[ \\t]*${key}[ \\t]*=[ \\t]*(['"])(.*?)\\1`, 'm').exec(table) || [])[2];
+    const name = value('name'), binary = value('binary');
+    if (!name || !binary) continue;
+    try { chips['chip-' + name] = JSON.parse(textOf(project, binary.replace(/\.wasm$/, '.json'))).pins; } catch { /* drawn without its pins' places */ }
+  }
+  return chips;
+}
+
+// The words of a run, and the files under the names that these words ask for.
+function callOf(project, us) {
+  const words = ['run', project.name, '--us', String(us), '--vcd', 'wave.vcd', '--report', 'report.txt'];
+  if (textOf(project, SCRIPT).trim()) words.push('--script', `${project.name}/${SCRIPT}`);
+  return { words, files: [...project.files].map(([path, bytes]) => [`${project.name}/${path}`, bytes]) };
+}

@@ -1,0 +1,25 @@
+'use strict';
+// The worker's side: takes the modules once, then runs what it is sent. call.mjs stands before it.
+
+let module = Promise.reject(new Error('the page holds no module'));
+module.catch(() => {});             // told by the first run
+
+// The form for a memory of 64 bits where the browser takes it, else the one for 32 bits.
+async function compiledFirst(forms) {
+  let why = null;
+  for (const bytes of forms) {
+    try { return await WebAssembly.compile(bytes); } catch (error) { why = error; }
+  }
+  throw new Error(`this browser does not take the simulator's module (${why ? why.message : 'there is none'})`);
+}
+
+onmessage = async ({ data }) => {
+  if (data.forms) { module = compiledFirst(data.forms); module.catch(() => {}); return; }
+  try {
+    const compiled = await module, start = performance.now(), ended = simulateWhole(compiled, data.words, data.files);
+    const ports = ['serial', 'wave', 'report', 'complaint'].map(port => ended[port]).filter(Boolean);
+    postMessage({ ended, ms: performance.now() - start }, ports.map(bytes => bytes.buffer));
+  } catch (error) {
+    postMessage({ fault: error instanceof RangeError && /stack/i.test(error.message) ? 'the simulator used up its stack' : String(error.message || error) });
+  }
+};

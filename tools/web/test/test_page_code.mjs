@@ -1,0 +1,149 @@
+// The page's code that needs no browser: node test_page_code.mjs
+import assert from 'node:assert/strict';
+import fs from 'node:fs';
+import path from 'node:path';
+import test from 'node:test';
+import { fileURLToPath } from 'node:url';
+import { execFileSync } from 'node:child_process';
+import { listOf } from '../call.mjs';
+
+const here = path.dirname(fileURLToPath(import.meta.url)), root = path.join(here, '../../..');
+const NAMES = ['complaintOf', 'rangeOf', 'withLine', 'unzipped', 'zipped', 'linkOf', 'projectOfLink', 'makeProject', 'projectOfFiles', 'complete', 'withFirmware', 'adviceOf',
+  'firmwareOf', 'chipsOf', 'callOf', 'packedWaves', 'escaped', 'textOf'];
+const source = ['places.js', 'script.js', 'archive.js', 'project.js', 'saving.js'].map(name => fs.readFileSync(path.join(here, '../page', name), 'utf8')).join('\n');
+const page = new Function(`${source}\nreturn { ${NAMES.join(', ')} };`)();
+const bytes = text => new TextEncoder().encode(text), text = it => new TextDecoder().decode(it);
+
+test('a list has each word and file as blocks after their length', () => {
+  const list = listOf(['run', 'ä'], [['a/b', new Uint8Array([7, 8])]]);
+  const block = (...content) => [content.length, 0, 0, 0, 0, 0, 0, 0, ...content];
+  assert.deepEqual([...list], [119, ...block(114, 117, 110), 119, ...block(0xc3, 0xa4), 102, ...block(97, 47, 98), ...block(7, 8)]);
+  assert.equal(listOf([], []).length, 0);
+});
+
+test('complaints are read', () => {
+  assert.deepEqual(page.complaintOf('p/diagram.json: refused 44 PinUnknown connection 3\n'),
+    { file: 'p/diagram.json', kind: 'refused', number: 44, name: 'PinUnknown', place: { what: 'connection', n: 3 }, text: 'p/diagram.json: refused 44 PinUnknown connection 3' });
+  assert.equal(page.complaintOf('p/wokwi.toml: refused 30 TomlText\n').place, null);
+  assert.deepEqual(page.complaintOf('p/a.wasm: refused 71 ValidType function 3 instruction 9\n').place, { what: 'function', n: 3 });
+  assert.equal(page.complaintOf('p/a: b.hex: missing\n').file, 'p/a: b.hex');
+  assert.equal(page.complaintOf('words not understood\n').kind, 'other');
+  assert.equal(page.complaintOf(''), null);
+});
+
+const DIAGRAM = '{ "version": 1, "author": "a \\" ]}, b",\n  "parts": [ { "type": "x", "attrs": { "text": "], [" } },\n {"id":"two"} , {} ],\n "connections": [ ["a:1", "b:2", "red", ["v10"]], [ ] ] }';
+const marked = (whole, place) => { const range = page.rangeOf(whole, place); return range && whole.slice(range.from, range.to); };
+
+test('places of a diagram are found, whatever is in its texts', () => {
+  assert.equal(marked(DIAGRAM, { what: 'part', n: 1 }), '{ "type": "x", "attrs": { "text": "], [" } }');
+  assert.equal(marked(DIAGRAM, { what: 'part', n: 2 }), '{"id":"two"}');
+  assert.equal(marked(DIAGRAM, { what: 'part', n: 3 }), '{}');
+  assert.equal(marked(DIAGRAM, { what: 'part', n: 4 }), null);
+  assert.equal(marked(DIAGRAM, { what: 'connection', n: 1 }), '["a:1", "b:2", "red", ["v10"]]');
+  assert.equal(marked(DIAGRAM, { what: 'connection', n: 2 }), '[ ]');
+  assert.equal(marked('{"parts":[1,2],"parts":[3]}', { what: 'part', n: 1 }), '3');
+});
+
+test('places in broken texts end', () => {
+  for (let cut = 0; cut <= DIAGRAM.length; cut++) for (const what of ['part', 'connection']) page.rangeOf(DIAGRAM.slice(0, cut), { what, n: 2 });
+  for (const odd of ['', '[', '{', '{"', '{"parts"', '{"parts":', '{"parts":[', '{"parts":[,', '{"parts":[}', '{"parts":]', '{"parts":[1,,2]}', '\uFEFF{"parts":[5]}']) page.rangeOf(odd, { what: 'part', n: 1 });
+  assert.equal(marked('\uFEFF{"parts":[5]}', { what: 'part', n: 1 }), '5');
+});
+
+test('places of lines and of chips are found', () => {
+  assert.equal(marked('a\nbc\nd', { what: 'line', n: 2 }), 'bc');
+  assert.equal(marked('a\nbc\nd', { what: 'line', n: 3 }), 'd');
+  assert.equal(marked('a\n', { what: 'line', n: 9 }), '');
+  const toml = '[wokwi]\nversion = 1\n\n[[chip]]\nname = "a"\n\n[[chip]]\nname = "b"\n';
+  assert.equal(marked(toml, { what: 'chip', n: 1 }), '[[chip]]\nname = "a"');
+  assert.equal(marked(toml, { what: 'chip', n: 2 }), '[[chip]]\nname = "b"');
+  assert.equal(marked(toml, { what: 'chip', n: 3 }), null);
+});
+
+test('lines of a script come in the order of their cycles', () => {
+  let script = '# two presses\n10000us press btn1\n20000us release btn1\n';
+  script = page.withLine(script, 240000, 'press', 'btn2');
+  assert.equal(script, '# two presses\n10000us press btn1\n15000us press btn2\n20000us release btn1\n');
+  script = page.withLine(script, 1, 'set', 'pot1', 700);
+  assert.equal(script.split('\n')[1], '1cy set pot1 700');
+  script = page.withLine(script, 1, 'set', 'pot1', 5);
+  assert.equal(script.split('\n').filter(line => line.includes('pot1')).join(), '1cy set pot1 5');
+  script = page.withLine(script, 999999999, 'release', 'btn1');
+  assert.equal(script.split('\n').at(-2), '999999999cy release btn1');
+  assert.equal(page.withLine('', 0, 'press', 'b'), '0us press b\n');
+  assert.equal(page.withLine('what is this\n5us press b\n', 160, 'press', 'b'), 'what is this\n5us press b\n10us press b\n');
+});
+
+test('an archive that this page writes is one for others and for itself', async () => {
+  const files = [['blink/diagram.json', bytes('{}')], ['blink/ä.hex', bytes(':00000001FF\n')], ['blink/empty', new Uint8Array(0)]];
+  const archive = new Uint8Array(await page.zipped(files).arrayBuffer());
+  assert.deepEqual((await page.unzipped(archive)).map(([name, content]) => [name, text(content)]), files.map(([name, content]) => [name, text(content)]));
+  const said = execFileSync('python3', ['-c', 'import io,sys,zipfile\nz=zipfile.ZipFile(io.BytesIO(sys.stdin.buffer.read()))\nassert z.testzip() is None\nprint(*z.namelist())'], { input: archive });
+  assert.equal(text(said).trim(), 'blink/diagram.json blink/ä.hex blink/empty');
+});
+
+test('archives of others are read, and what is no archive is said to be none', async () => {
+  const archive = new Uint8Array(execFileSync('python3', ['-c', 'import io,sys,zipfile\nb=io.BytesIO()\nz=zipfile.ZipFile(b,"w",zipfile.ZIP_DEFLATED)\nz.writestr("p/","")\nz.writestr("p/diagram.json","{}"*900)\nz.close()\nsys.stdout.buffer.write(b.getvalue())']));
+  const files = await page.unzipped(archive);
+  assert.deepEqual(files.map(([name, content]) => [name, content.length]), [['p/diagram.json', 1800]]);
+  await assert.rejects(page.unzipped(bytes('no archive, but long enough to be looked at')), /no ZIP/);
+  await assert.rejects(page.unzipped(new Uint8Array(3)), /no ZIP/);
+  for (let cut = 1; cut < archive.length - 22; cut += 7) await assert.rejects(page.unzipped(archive.slice(cut)));
+});
+
+test('a link holds a project whole', async () => {
+  const project = page.makeProject('blink', [['diagram.json', bytes('{"ä": 1}')], ['a.wasm', new Uint8Array([0, 255, 128])]]);
+  const link = await page.linkOf(project, 350000), back = await page.projectOfLink(link);
+  assert.match(link, /^p=[\w-]+$/);
+  assert.equal(back.us, 350000);
+  assert.equal(back.project.name, 'blink');
+  assert.deepEqual([...back.project.files].map(([name, content]) => [name, [...content]]), [...project.files].map(([name, content]) => [name, [...content]]));
+  assert.equal(await page.projectOfLink('t=5us'), null);
+  await assert.rejects(page.projectOfLink(link.slice(0, -20)));
+});
+
+test('the folder of the diagram is the project', () => {
+  const project = page.projectOfFiles([['lab/README.md', bytes('')], ['lab/blink/diagram.json', bytes('{}')], ['lab/blink/build/a.hex', bytes('')], ['lab/blink/.git/x', bytes('')]]);
+  assert.equal(project.name, 'blink');
+  assert.deepEqual([...project.files.keys()], ['diagram.json', 'build/a.hex']);
+  assert.equal(page.projectOfFiles([['a.hex', bytes('')]]).name, 'project');
+  assert.equal(page.makeProject('--us', []).name, 'project');
+  assert.equal(page.projectOfFiles([]).files.size, 0);
+});
+
+test('what a folder lacks is made or said', () => {
+  const project = page.projectOfFiles([['sketch.ino.hex', bytes(':00000001FF\n')]]);
+  assert.match(page.adviceOf(page.makeProject('p', [])), /Open an example/);
+  assert.equal(page.complete(project).length, 2);
+  assert.equal(page.firmwareOf(project), 'sketch.ino.hex');
+  assert.equal(page.adviceOf(project), null);
+  const sketch = page.makeProject('p', [['diagram.json', bytes('{"parts":[{"type":"wokwi-breadboard-half"}]}')], ['sketch.ino', bytes('')]]);
+  assert.match(page.adviceOf(sketch), /Export Compiled Binary/);
+  page.withFirmware(sketch, 'b.hex', bytes(''));
+  assert.match(page.adviceOf(sketch), /breadboard/);
+});
+
+test('the words of a run name the files as they are passed', () => {
+  const project = page.makeProject('button', [['diagram.json', bytes('{}')], ['script.txt', bytes('5us press b\n')]]);
+  assert.deepEqual(page.callOf(project, 60).words, ['run', 'button', '--us', '60', '--vcd', 'wave.vcd', '--report', 'report.txt', '--script', 'button/script.txt']);
+  assert.deepEqual(page.callOf(project, 60).files.map(([name]) => name), ['button/diagram.json', 'button/script.txt']);
+  project.files.set('script.txt', bytes(' \n'));
+  assert.ok(!page.callOf(project, 60).words.includes('--script'));
+});
+
+test('the pins of chips are read of the example with a chip', () => {
+  const folder = path.join(root, 'examples/chip-inverter'), project = page.makeProject('chip-inverter', fs.readdirSync(folder).filter(name => name !== 'expected').map(name => [name, new Uint8Array(fs.readFileSync(path.join(folder, name)))]));
+  assert.deepEqual(page.chipsOf(project), { 'chip-inverter': JSON.parse(fs.readFileSync(path.join(folder, 'inverter.json'), 'utf8')).pins });
+});
+
+test('packed waves are those that the page of a run reads', t => {
+  const file = path.join(root, 'tools/look/page/wave.js');
+  if (!fs.existsSync(file)) { t.skip('no tools/look'); return; }
+  const { makeWave, unpackWaves } = new Function(`${fs.readFileSync(file, 'utf8')}\nreturn { makeWave, unpackWaves };`)();
+  const waves = [makeWave(Uint32Array.from([0, 1, 130, 20000, 159999999]), Uint8Array.from([2, 0, 1, 3, 0])), makeWave(Uint32Array.from([0]), Uint8Array.from([1])),
+    makeWave(Uint32Array.from({ length: 40000 }, (_, i) => i * 3), Uint8Array.from({ length: 40000 }, (_, i) => i & 1))];
+  const back = unpackWaves(page.packedWaves(waves), waves.map(wave => wave.t.length));
+  waves.forEach((wave, i) => { assert.deepEqual([...back[i].t], [...wave.t]); assert.deepEqual([...back[i].v], [...wave.v]); });
+});
+
+test('a text in the page of a run is text', () => assert.equal(page.escaped('<a & "b">'), '&lt;a &amp; &quot;b&quot;&gt;'));
