@@ -39,6 +39,22 @@ impl Ended {
         }
     }
 
+    pub fn status(&self) -> u8 {
+        self.status
+    }
+
+    pub fn written(&self, port: Port) -> &[u8] {
+        self.bench.written(port)
+    }
+
+    /// The name under which a port was opened, or nothing.
+    pub fn name(&self, port: Port) -> &[u8] {
+        match self.bench.name(port) {
+            Some(name) => name,
+            None => &[],
+        }
+    }
+
     /// Whether the wave was opened under the name, if it is one.
     fn is_opened_as(&self, name: &str) -> bool {
         match self.bench.name(Port::Wave) {

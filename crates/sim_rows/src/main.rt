@@ -3,10 +3,12 @@
 #![tactic(auto)]
 
 mod ended;
+mod listed;
 mod row;
 mod stage;
 
-use ended::run_once;
+use ended::{Ended, run_once};
+use listed::is_same;
 use row::{Row, read_row};
 use stage::Stage;
 use std::{env, fs, io};
@@ -42,7 +44,7 @@ fn play_row(rt: &HostRuntime, name: &str, part: &str, stage: &Stage, row: &Row) 
     for number in row.first..=row.last {
         count = count.saturating_add(1);
         let ended = run_once(rt.alloc(), stage, row, number)?;
-        match ended.difference(row) {
+        match difference(rt, stage, row, &ended)? {
             None => {}
             Some(port) => {
                 println!(rt; "{name}: another {port} than this row has, at {number}:\n{part}")?;
@@ -51,4 +53,21 @@ fn play_row(rt: &HostRuntime, name: &str, part: &str, stage: &Stage, row: &Row) 
         }
     }
     Ok(count)
+}
+
+/// What first differs from the row, in the run or in the call that web pages make.
+fn difference(
+    rt: &HostRuntime,
+    stage: &Stage,
+    row: &Row,
+    ended: &Ended,
+) -> io::Result<Option<&'static str>> {
+    let differs = ended.difference(row);
+    if differs.is_some() || !row.is_listed() {
+        return Ok(differs);
+    }
+    match is_same(rt.alloc(), row, stage.files(), ended)? {
+        true => Ok(None),
+        false => Ok(Some("end of the call of a page")),
+    }
 }

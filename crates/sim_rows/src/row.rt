@@ -19,6 +19,7 @@ pub struct Row {
     pub report: Vec<u8>,
     pub complaint: Vec<u8>,
     is_run: bool,
+    is_listed: bool,
 }
 
 impl Row {
@@ -37,12 +38,18 @@ impl Row {
             report: Vec::new(alloc),
             complaint: Vec::new(alloc),
             is_run: false,
+            is_listed: false,
         }
     }
 
     /// Whether there is anything to run.
     pub fn is_run(&self) -> bool {
         self.is_run
+    }
+
+    /// Whether the call of a page is made too.
+    pub fn is_listed(&self) -> bool {
+        self.is_listed
     }
 
     fn span(&mut self, first: &str, last: &str) {
@@ -63,6 +70,7 @@ impl Row {
     /// - `cut NAME N M`: only so many bytes of the file are there, in a run for each
     /// - `room N`: so many bytes have room in the wave
     /// - `ends N`: the status
+    /// - `listed`: the call that web pages make is to end the same
     fn read_ask(&mut self, alloc: Global, line: &str, words: &[&str]) -> Result<bool, AllocError> {
         match words {
             ["run", rest @ ..] => self.add_words(alloc, rest)?,
@@ -75,6 +83,7 @@ impl Row {
             }
             ["room", n] => self.room = number(n),
             ["ends", n] => self.status = n.parse::<u8>().unwrap_or(255),
+            ["listed"] => self.is_listed = true,
             _ => return Ok(false),
         }
         Ok(true)
