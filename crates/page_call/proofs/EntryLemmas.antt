@@ -17,8 +17,8 @@ text_found list bytes rest text b t u =
 pub no_text : (list bytes rest : List ℕ) → first_block list ≡ Some (bytes, rest) → (IsUtf8 bytes → ⊥) → first_text list ≡ None
 no_text list bytes rest b n =
     elim (is_utf8 bytes) as (λ y. is_utf8 bytes ≡ y → first_text list ≡ None) [
-      true ↦ λ e. absurd (n (IsUtf8-from_is_utf8 bytes e))
-    | false ↦ λ e. ap (option_and_then (λ b. if is_utf8 b.0 then Some b else None)) b ∙ ap (λ y. if y then Some (bytes, rest) else None) e
+      | true ↦ λ e. absurd (n (IsUtf8-from_is_utf8 bytes e))
+      | false ↦ λ e. ap (option_and_then (λ b. if is_utf8 b.0 then Some b else None)) b ∙ ap (λ y. if y then Some (bytes, rest) else None) e
     ] refl
 
 is_some-map : {X Y : Type 0} (f : X → Y) (o : Option X) → is_some (option_map f o) ≡ is_some o
