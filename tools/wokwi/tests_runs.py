@@ -255,11 +255,17 @@ class RunTests(WithWork):
             self.button(f"t{n}", us_txt="10s")
         ran = subprocess.Popen([os.path.join(TOOLS, "run-tests"), "--jobs", "2", self.work], stderr=subprocess.PIPE, stdout=subprocess.PIPE, text=True,
                                env=dict(os.environ, MUDFLATJAR=program_path()), start_new_session=True)
-        time.sleep(1.5)
+        children = f"/proc/{ran.pid}/task/{ran.pid}/children"
+        for _ in range(600):  # until its workers are there
+            with open(children, encoding="utf-8") as file:
+                if len(file.read().split()) >= 2:
+                    break
+            time.sleep(0.1)
+        time.sleep(0.5)
         os.killpg(ran.pid, signal.SIGINT)
         _, err = ran.communicate(timeout=60)
         self.assertEqual(ran.returncode, 130)
-        self.assertEqual(err.strip(), "run-tests: stopped")
+        self.assertIn("run-tests: stopped", err)
 
     def test_words(self):
         self.assertEqual(call("run-tests")[0], 2)
