@@ -145,7 +145,10 @@ class Work:
             return True
 
     def status(self):
-        status = self.child.wait()
+        # a wait without an end would hold the lock that `ended` needs
+        while self.is_running(1):
+            pass
+        status = self.child.returncode
         for it, was in self.before.items():
             signal.signal(it, was)
         self.log.close()
