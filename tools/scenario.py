@@ -111,7 +111,7 @@ class Board:
         self.with_typist, self.baud = with_typist, baud
         self.script, self.typed = [], []
         self.kept = (None, None)  # what a run was made of, and the run
-        self.values = {}  # of switches whose bits are set one by one
+        self.values = {}  # of parts whose bits are set one by one
         self.original = self.made = self.uno = None  # parts by id before lowering; the diagram after it; the Uno's id
         faults = lower.lower(folder, self.folder, edit=self.edited, change=self.changed)
         if faults:
@@ -366,7 +366,15 @@ def level_text(value, step):
     return text
 
 
-RANGES = {"wokwi-pushbutton": 1, "wokwi-slide-switch": 1, "wokwi-dip-switch-8": 255, "wokwi-potentiometer": 1023}
+RANGES = {"wokwi-pushbutton": 1, "wokwi-slide-switch": 1, "wokwi-dip-switch-8": 255, "wokwi-potentiometer": 1023, "wokwi-membrane-keypad": 65535}
+
+
+def bit_of(kind, control):
+    """The bit of a part's value that a control is, if it is one: a switch of eight by its number, a key by row and column."""
+    if kind == "wokwi-dip-switch-8" and re.fullmatch("[1-8]", control):
+        return int(control) - 1
+    key = re.fullmatch("r([1-4])c([1-4])", control)
+    return 4 * (int(key[1]) - 1) + int(key[2]) - 1 if kind == "wokwi-membrane-keypad" and key else None
 
 
 def moved(board, name, control, value):
@@ -392,8 +400,8 @@ def moved(board, name, control, value):
         raise misused(f"set-control: {value!r} is no number") from None
     if kind == "wokwi-potentiometer" and control == "position":
         number *= 1023
-    elif kind == "wokwi-dip-switch-8" and re.fullmatch("[1-8]", str(control)):
-        bit = 1 << (int(control) - 1)
+    elif bit_of(kind, str(control)) is not None:
+        bit = 1 << bit_of(kind, str(control))
         number = board.values.get(name, 0) & ~bit | (bit if number else 0)
     elif control not in ("value", "pressed", "position"):
         raise misused(f"set-control: {name} has no control {control}")

@@ -175,7 +175,7 @@ class Lowering:
 
     def replace(self, part, attrs, rule):
         name, kind = part["id"], part["type"]
-        self.pins[name] = set()
+        self.pins[name] = set(rule.get("other pins", []))  # those that nothing here is on
         names = {}
         for piece in rule["as"]:
             made = names[piece["id"]] = self.new_id(name + piece["id"], old=name if piece["id"] == "" else None)

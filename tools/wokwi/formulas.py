@@ -65,11 +65,6 @@ def time(text, attrs):
     return str(seconds)
 
 
-def address(text, attrs):
-    """A number, in hexadecimal digits after 0x."""
-    return whole(int(text, 0))
-
-
 def half_period(text, attrs):
     """Nanoseconds of half a period of so many hertz."""
     hertz = number(text)
@@ -78,7 +73,7 @@ def half_period(text, attrs):
     return str(round(5e8 / hertz))
 
 
-NAMED = {"ntc": ntc, "light": light, "dark": dark, "time": time, "address": address, "half period": half_period}
+NAMED = {"ntc": ntc, "light": light, "dark": dark, "time": time, "half period": half_period}
 
 
 def value_of(rule, attrs):

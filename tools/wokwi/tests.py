@@ -176,6 +176,11 @@ class Parts(unittest.TestCase):
         _, made = lowered(uno(part("wokwi-rgb-led", "rgb", common="anode"), wires=[("rgb:COM", "uno:5V")]))
         self.assertEqual(nets(made), [["rgb-b:A", "rgb-g:A", "rgb-r:A", "uno:5V"]])
 
+    def test_a_pin_that_nothing_is_on_is_a_wire_alone(self):
+        _, made = lowered(uno(part("wokwi-ssd1306", "o", i2cAddress="0x3d"), wires=[("o:RST", "uno:8"), ("o:RST", "uno:9"), ("o:CLK", "uno:A5")]))
+        self.assertEqual(nets(made), [["o:SCL", "uno:A5"], ["uno:8", "uno:9"]])
+        self.assertEqual((made["parts"][1]["type"], made["parts"][1]["attrs"]), ("board-ssd1306", {"i2cAddress": "0x3d"}))
+
     def test_digits_share_their_segments(self):
         _, made = lowered(uno(part("wokwi-7segment", "d", digits="2", common="cathode"), wires=[("d:A", "uno:2"), ("d:DIG1", "uno:3"), ("d:DIG2", "uno:4")]))
         self.assertEqual(nets(made), [["d-1:A", "d-2:A", "uno:2"], ["d-1:COM", "uno:3"], ["d-2:COM", "uno:4"]])

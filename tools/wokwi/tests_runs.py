@@ -142,6 +142,13 @@ class Scenarios(WithWork):
                      "{part-id: none, control: value, value: 1}", "{part-id: pot1, value: 1}", "3", "{part-id: pot1, control: value, value: much}"):
             self.assertEqual(self.play(f"  - delay: 1ms\n  - set-control: {step}\n", "pot-serial")[0], 2, step)
 
+    def test_keys_of_a_keypad_are_controls(self):
+        step = "  - set-control: {part-id: %s, control: %s, value: %d}\n"
+        keys = "".join(step % ("keypad1", *it) for it in (("r2c1", 1), ("r4c4", 1), ("r2c1", 0)))
+        self.assertEqual(self.play(f"  - delay: 1ms\n{keys}  - delay: 1ms\n  - expect-report: input keypad1 32768\n", "keypad")[0], 0)
+        for control in ("r0c1", "r5c1", "r1c5", "key"):
+            self.assertEqual(self.play("  - delay: 1ms\n" + step % ("keypad1", control, 1), "keypad")[0], 2, control)
+
     def test_a_control_of_a_chip_is_set_before_the_first_cycle_alone(self):
         step = "  - set-control: {part-id: room, control: temperature, value: 19500}\n"
         status, _, err = self.play(step + "  - wait-serial: '19.5'\n", "chip-thermometer")
