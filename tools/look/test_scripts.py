@@ -139,7 +139,7 @@ def check_parts():
     """Each type of docs/PARTS.md has an entry: the program accepts a wire to each of its pins, refuses one to another, and its wave has these pins."""
     cases = [(kind, {}) for kind in types_of_page()] + [("wokwi-lcd1602", {"pins": "i2c"}), ("wokwi-led", {"flip": "1"}), ("wokwi-7segment", {"common": "cathode"})]
     assert len(cases) > 20, cases
-    entries = evaluated("given.map(([type, attrs]) => { const p = partOf({ type, id: 'p', attrs }, {}), known = Object.hasOwn(PARTS, type) && !NOT_YET.includes(type), e = entryOf(p, []); return known ? [Object.keys(pinsOf(e, p)), e.size] : null; })", cases)
+    entries = evaluated("given.map(([type, attrs]) => { const p = partOf({ type, id: 'p', attrs }, {}), known = Object.hasOwn(PARTS, type), e = entryOf(p, []); return known ? [Object.keys(pinsOf(e, p)), e.size] : null; })", cases)
     for (kind, attrs), entry in zip(cases, entries):
         assert entry, f"{kind} has no entry in parts.js"
         names, (width, height) = entry
@@ -213,16 +213,16 @@ def check_board():
     assert dict(on)["btn1"] == "pressed" and dict(off)["btn1"] == "released" and dict(on)["led1"].startswith("on") and dict(off)["led1"].startswith("off"), (on, off)
 
 
-COMING = {"parts": [{"type": "wokwi-arduino-uno", "id": "uno"}, {"type": "board-ssd1306", "id": "oled"}, {"type": "wokwi-membrane-keypad", "id": "keys", "left": 300},
+SHOWING = {"parts": [{"type": "wokwi-arduino-uno", "id": "uno"}, {"type": "board-ssd1306", "id": "oled"}, {"type": "wokwi-membrane-keypad", "id": "keys", "left": 300},
                     {"type": "chip-screen", "id": "c", "left": 600}, {"type": "chip-screen", "id": "d", "left": 600}], "connections": []}
 
 
-def check_coming():
+def check_showing():
     """Displays that reports may tell of, from states that were made up: dots of an OLED, keys of a keypad, pixels and lines of a chip."""
     page = "oled oled page 0 " + "81" + "00" * 127
     states = [[0, []], [160, ["oled oled on", page, "chip c | hello", "chip c row 1 FF0000FF00000000", "chip d row 0 00FF00FF"]]]
     text = evaluated("""{ const run = makeRun({ title: 'x', cycles: 1600, diagram: given[0], script: '1us set keys 33', chips: { 'chip-screen': ['A'] }, names: [], of: [], waves: [], states: given[1] }), board = drawBoard(run);
-      board.update({ t: 10, since: 10 }); const before = boardPicture(board, ''); board.update({ t: 200, since: 200 }); return [before, boardPicture(board, ''), board.texts({ t: 200, since: 200 })]; }""", [COMING, states])
+      board.update({ t: 10, since: 10 }); const before = boardPicture(board, ''); board.update({ t: 200, since: 200 }); return [before, boardPicture(board, ''), board.texts({ t: 200, since: 200 })]; }""", [SHOWING, states])
     before, after, texts = text
     ET.fromstring(before)
     assert "M0 0h1v1h-1z" not in before and "M0 0h1v1h-1zM0 7h1v1h-1z" in after and 'fill="#ff0000"' in after and 'fill="#00ff00"' in after and "M0 1h1v1h-1z" in after
@@ -243,7 +243,7 @@ def check_notes():
 def everything():
     bad, decoders = 0, {}
     steps = [("every edge and byte in the scripts", lambda: decoders.update(check_reads())), ("frames", lambda: check_frames(decoders)), ("parts", check_parts),
-             ("geometry", check_geometry), ("boards", check_board), ("notes", check_notes), ("displays to come", check_coming), ("lcd-hello at fifty times", lambda: check_display("lcd-hello")), ("lcd-i2c at fifty times", lambda: check_display("lcd-i2c"))]
+             ("geometry", check_geometry), ("boards", check_board), ("notes", check_notes), ("displays", check_showing), ("lcd-hello at fifty times", lambda: check_display("lcd-hello")), ("lcd-i2c at fifty times", lambda: check_display("lcd-i2c"))]
     for name, step in steps:
         try:
             step()

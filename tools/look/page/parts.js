@@ -295,7 +295,7 @@ const PARTS = {
 };
 for (const kind of words('not buffer and-2 or-2 nand-2 nor-2 xor-2 xnor-2')) PARTS['wokwi-gate-' + kind] = gate(kind);
 
-// ---- Parts that the simulator does not have yet: how they will be drawn.
+// ---- The OLED and the keypad.
 
 PARTS['board-ssd1306'] = {
   size: [150, 116],
@@ -340,7 +340,6 @@ PARTS['wokwi-membrane-keypad'] = {
   },
   tell: (part, run, moment) => { const v = inputAt(run, part.id, moment.t); return 'closed: ' + ([...'123A456B789C*0#D'].filter((key, i) => v >> i & 1).join(' ') || 'none'); },
 };
-const NOT_YET = ['board-ssd1306', 'wokwi-membrane-keypad'];
 
 // ---- Custom chips, and types without an entry: a box with its pins, counted as on a chip with two rows of legs.
 
