@@ -194,6 +194,8 @@ def failed(log):
     return f"{', '.join(names)} is not proved" if names else "the toolchain stopped"
 
 
+made.Work.left = ". What was proved until now stays proved"
+
 if __name__ == "__main__":
     if len(sys.argv) < 2:
         sys.exit(__doc__)

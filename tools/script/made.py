@@ -116,7 +116,9 @@ def go_on(call):
 
 
 class Work:
-    """A command with its output in a log. It and all that it began end where we are ended."""
+    """A command with its output in a log. It and all that it began end where we are ended; `left` says what stays then."""
+
+    left = ""
 
     def __init__(self, call, log, **how):
         self.log = open(log, "ab")
@@ -132,7 +134,7 @@ class Work:
 
     def ended(self, number, _):
         self.end()
-        say("stopped. What was proved until now stays proved")
+        say(f"stopped{self.left}")
         signal.signal(number, signal.SIG_DFL)
         os.kill(os.getpid(), number)
 
