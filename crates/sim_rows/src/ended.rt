@@ -10,6 +10,11 @@ use std::io;
 use std::marker::Brand;
 use std::sync::ledger::{Blank, Ledger};
 
+/// How many bytes Serial can hold, and how many the report.
+pub const SERIAL_ROOM: u32 = 10_000;
+
+pub const REPORT_ROOM: u32 = 100_000;
+
 #[derive(Drop)]
 pub struct Ended {
     status: u8,
@@ -105,9 +110,9 @@ fn make_bench(
     for file in stage.files() {
         bench.add_file(file.name.as_str(), there(file, row, number))?;
     }
-    bench.room(Port::Serial, 10_000)?;
+    bench.room(Port::Serial, SERIAL_ROOM)?;
     bench.room(Port::Wave, row.room)?;
-    bench.room(Port::Report, 10_000)?;
+    bench.room(Port::Report, REPORT_ROOM)?;
     bench.room(Port::Complaint, 1_000)?;
     if row.cut.is_empty() {
         bench.fail_call(number)?;

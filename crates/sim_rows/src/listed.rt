@@ -1,13 +1,10 @@
 //! The same run by the call that web pages make: words and files as one list, and what the ports hold as blocks.
-use crate::ended::Ended;
+use crate::ended::{Ended, REPORT_ROOM, SERIAL_ROOM};
 use crate::row::Row;
 use crate::stage::StagedFile;
 use page_call::{NO_LIST, TOO_LONG, call};
 use sim_base::Port;
 use std::alloc::{AllocError, Global};
-
-/// How many bytes Serial and Report can hold.
-const ROOM: u32 = 10_000;
 
 fn add_block(list: &mut Vec<u8>, bytes: &[u8]) -> Result<(), AllocError> {
     list.extend_from_slice(&(bytes.len() as u64).to_le_bytes())?;
@@ -41,7 +38,7 @@ fn blocks_of(alloc: Global, ended: &Ended) -> Result<Vec<u8>, AllocError> {
 }
 
 fn answer(alloc: Global, list: &[u8], wave: u32, out: &mut [u8]) -> u32 {
-    call(alloc, list, ROOM, wave, ROOM, out)
+    call(alloc, list, SERIAL_ROOM, wave, REPORT_ROOM, out)
 }
 
 /// Whether the call ends as the run did: with the same status and ports; with 102 where its answer
