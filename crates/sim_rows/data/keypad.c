@@ -1,6 +1,7 @@
-// avr-gcc -mmcu=atmega328p -DF_CPU=16000000UL -Os -o a.elf keypad.c && avr-objcopy -O ihex -R .eeprom a.elf keypad.hex
+// avr-gcc -mmcu=atmega328p -Os -o a.elf keypad.c && avr-objcopy -O ihex -R .eeprom a.elf keypad.hex
 // A keypad: rows 1 to 4 on pins 9, 8, 7 and 6 with their pull-ups, columns 1 to 4 on pins 5, 4, 3 and 2. Each millisecond one column
 // after the other is pulled low, and the rows that read 0 then are sent as bits, row 1 in bit 0: four bytes a millisecond.
+#define F_CPU 16000000UL
 #include <avr/io.h>
 #include <avr/sleep.h>
 #include <util/delay.h>
