@@ -62,7 +62,11 @@ def made(source, folder):
     """The module of a row, as the name of a file."""
     module = os.path.join(folder, "made.wasm")
     if source.startswith("clang "):
-        run(["clang", "--target=wasm32", "-nostdlib", "-Wl,--no-entry,--strip-all", *source[6:].split(), "-o", module])
+        compiled = os.path.join(folder, "made.o")
+        linking = [word for word in source.split() if word.startswith("-Wl,")]
+        run(["clang", "--target=wasm32", "-c", *(word for word in source.split()[1:] if word not in linking), "-o", compiled])
+        # -O is not among these words: with it clang runs wasm-opt where binaryen is installed
+        run(["clang", "--target=wasm32", "-nostdlib", "-Wl,--no-entry,--strip-all", *linking, compiled, "-o", module])
     else:
         wat = os.path.join(folder, "made.wat")
         with open(wat, "w") as file:

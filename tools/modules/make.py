@@ -140,8 +140,11 @@ def from_text(text, folder):
 
 
 def from_c(words, folder):
-    made = os.path.join(folder, "made.wasm")
-    run(["clang", "--target=wasm32", "-nostdlib", "-Wl,--no-entry", *words.split(), "-o", made])
+    made, compiled = os.path.join(folder, "made.wasm"), os.path.join(folder, "made.o")
+    linking = [word for word in words.split() if word.startswith("-Wl,")]
+    run(["clang", "--target=wasm32", "-c", *(word for word in words.split() if word not in linking), "-o", compiled])
+    # -O is not among these words: with it clang runs wasm-opt where binaryen is installed
+    run(["clang", "--target=wasm32", "-nostdlib", "-Wl,--no-entry", *linking, compiled, "-o", made])
     with open(made, "rb") as file:
         return file.read()
 
