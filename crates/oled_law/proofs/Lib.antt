@@ -1,0 +1,3 @@
+mod BitLemmas
+mod StepLemmas
+pub mod OledLaw
