@@ -1,3 +1,5 @@
 mod BitLemmas
 mod StepLemmas
 pub mod OledLaw
+pub mod BoardLaw
+mod Worked

@@ -1,2 +1,3 @@
 pub mod Traffic
 pub mod Shown
+pub mod OledRun
