@@ -310,6 +310,13 @@ class Play(WithWork):
         self.put("empty.hex", ":00000001FF\n")
         self.assertIn("has halted at word address 0x0000 on the word 0xFFFF", call("wokwi/play", os.path.join(self.work, "empty.hex"), "--us", "10")[2])
 
+    def test_the_picture_of_an_oled_is_shown(self):
+        _, _, err = call("wokwi/play", os.path.join(EXAMPLES, "oled-hello"), "--us", "80ms")
+        lines = err.splitlines()
+        self.assertIn("play: oled oled1 on", lines)
+        self.assertIn("play: █" + "▀" * 126 + "█", lines)
+        self.assertNotIn(" page ", err)
+
     def test_the_page(self):
         page = os.path.join(self.work, "page.html")
         status, _, err = call("wokwi/play", os.path.join(EXAMPLES, "button"), "--us", "20ms", "--quiet", "--page", page)
