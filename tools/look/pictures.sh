@@ -27,10 +27,12 @@ counter 30 0 30 clock.J,bit0.A,bit1.A,bit2.A
 eeprom-counter 250000 0 250000 uno.1
 fade 200000 0 200000 uno.9
 i2c-scanner 1000 0 1000 uno.A5,uno.A4
+keypad 260000 0 260000 uno.5,uno.4,uno.3,uno.2,uno.9,uno.8,uno.7,uno.6,uno.1
 latch 20000 0 20000 set.2.l,reset.2.l,q.OUT,notq.OUT,uno.1
 lcd-hello 75000 68000 75000 lcd.RS,lcd.E,lcd.D4,lcd.D5,lcd.D6,lcd.D7
 lcd-i2c 100000 99000 100000 lcd.SCL,lcd.SDA
 low-power 1000000 0 1000000 btn1.1.l,uno.13,uno.1
+oled-hello 80000 800 2000 oled1.SCL,oled1.SDA
 pin-interrupt 30000 0 30000 moved
 pot-blink 1000000 0 1000000 uno.13
 pot-serial 290000 0 290000 moved
@@ -47,8 +49,10 @@ boards='
 button 60000 15000
 chip-counter 3000 1500
 counter 30 10
+keypad 260000 110000
 latch 20000 8000
 lcd-hello 90000 90000
+oled-hello 80000 80000
 seven-segment 450000 250000
 shift-out 100000 35000'
 

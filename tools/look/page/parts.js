@@ -303,7 +303,7 @@ PARTS['board-ssd1306'] = {
   draw(g, part, run) {
     const dots = path('', { fill: '#9fdcff' });
     g.append(rect(0, 0, 150, 116, { rx: 5, fill: '#1b3f70', stroke: '#102a4d' }), rect(7, 28, 136, 76, { rx: 2, fill: '#05070a' }), svg('g', { transform: 'translate(11 34)' }, dots));
-    for (const [name, [x]] of Object.entries(this.pins)) g.append(label(x, 18, name, { ...middle, 'font-size': 5, fill: '#dfe9f5' }));
+    for (const [name, [x]] of Object.entries(this.pins)) g.append(label(x, 17, name, { ...middle, 'font-size': 3.2, fill: '#dfe9f5' }));
     let shown = null;
     return moment => {
       const pages = sampledLines(run, part.id, moment.t).filter(line => line.split(' ')[2] === 'page').map(line => line.split(' ')[4]), all = pages.join();
