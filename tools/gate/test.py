@@ -211,7 +211,7 @@ Tail.
                 times.words_of(words)
 
     def test_processes_by_kind(self):
-        self.assertEqual(times.kind_of(["rattle", "check"], "/tmp/rt-edit-1-x"), "wrong bodies")
+        self.assertEqual(times.kind_of(["rattle", "check"], "/r/rt-edit-1-x"), "wrong bodies")
         self.assertEqual(times.kind_of(["rattle", "build", "--test"], "/r"), "tests")
         self.assertEqual(times.kind_of(["rattle", "build", "-o", "out/a.o"], "/r"), "program")
         self.assertEqual(times.kind_of(["rattle", "build", "-o", "out/a.rlib"], "/r"), "proof")
