@@ -9,8 +9,10 @@ use Rattle.sim_base.specs.declared.fault.Refusal.{Refusal}
 use Rattle.sim_base.specs.declared.signal.Drive.{Drive}
 use Rattle.text_model.specs.Wave.{Variable}
 use Rattle.trace_run.specs.Rows.{AreInOrder}
-use Rattle.vcd_text.specs.Reading.{Change, changes_of}
-use Rattle.vcd_text.specs.Tracks.{DriveRows, drive_said, same_drive, rows_to, tracks_of, wave_rows}
+use Rattle.wave_lines.specs.Reading.{Change}
+use Rattle.wave_lines.specs.Same.{same_drive}
+use Rattle.vcd_text.specs.Reading.{changes_of}
+use Rattle.vcd_text.specs.Tracks.{DriveRows, drive_said, rows_to, tracks_of, wave_rows}
 
 abbrev IsBefore : ℕ → ℕ × Drive → Type 0
 IsBefore t row = row.0 ≤ t

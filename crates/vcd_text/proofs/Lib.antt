@@ -3,7 +3,6 @@ mod ChainLemmas
 mod HeadLemmas
 mod LineLemmas
 mod PinLemmas
-pub mod ReadLemmas
 pub mod ReadingLemmas
 pub mod TrackLemmas
 mod WaveLemmas

@@ -12,11 +12,11 @@ use Rattle.sim_base.specs.declared.signal.Level.{Level}
 use Rattle.text_model.specs.Wave.{Source, Net, Strong, Weak, Variable, char_z, strong_value, weak_value, shown_value}
 use Rattle.vcd_text.specs.declared.follow.Scope.{Scope}
 use Rattle.vcd_text.specs.declared.follow.Scope.TheVariants as scope
-use Rattle.vcd_text.specs.Tracks.{same_drive}
+use Rattle.wave_lines.specs.Same.{same_drive}
 use Rattle.vcd_text.specs.Chains.{sources, values_at, IsNet, PinsRest, OthersRest, RestBut}
 use Rattle.vcd_text.specs.Pins.{drive_at, has_pin, is_among, AreAmong, drive_as_kept, with_drives, kept_after, AreKept}
 use Rattle.vcd_text.proofs.ChainLemmas.{value_at}
-use Rattle.vcd_text.proofs.TrackLemmas.{same_means, same_refl}
+use Rattle.wave_lines.proofs.SameLemmas.{same_means, same_refl}
 
 eqb_is : (a b : ℕ) → (a == b) ≡ true → a ≡ b
 eqb_is a b e = elim (eqb_tells a b) [

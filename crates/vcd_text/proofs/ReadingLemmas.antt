@@ -1,17 +1,20 @@
 -- What each line of a wave leads to, and its end.
 use Rattle.std.proofs.Common.{◌≡◌, ◌+◌, ℕ, suc, List, [], ◌∷◌, length, map, Bool, true, false, Option, None, Some, Result, Ok, Err, refl, ap}
-use Rattle.std.proofs.Common.{◌∙◌, sym, arith}
+use Rattle.std.proofs.Common.{◌∙◌, sym}
 use Rattle.std.specs.List.{list_all, range_with_len}
 use Rattle.std.proofs.lemmas.Bool.{eqb-true}
 use Rattle.sim_base.specs.declared.fault.Refusal.{Refusal}
 use Rattle.text_model.specs.Wave.{Variable}
-use Rattle.vcd_text.specs.declared.line.Line.{Line}
-use Rattle.vcd_text.specs.declared.line.Stage.{Stage}
-use Rattle.vcd_text.specs.declared.line.Stage.TheVariants as stages
-use Rattle.vcd_text.specs.Reading.{Change, verdict, after, at_end, end_fault, unless, is_over, is_given, changes_from, unended, ended_lines}
+use Rattle.wave_lines.specs.declared.line.Line.{Line}
+use Rattle.wave_lines.specs.declared.line.Stage.{Stage}
+use Rattle.wave_lines.specs.declared.line.Stage.TheVariants as stages
+use Rattle.wave_lines.specs.Reading.{Change, after, end_fault, unless, is_given, unended, ended_lines}
+use Rattle.wave_lines.proofs.GivenLemmas.{all_given}
+use Rattle.wave_lines.proofs.ReadingLemmas as reading
+use Rattle.vcd_text.specs.Reading.{kinds, verdict, at_end, is_over}
 use Rattle.vcd_text.specs.Tracks.{DriveRows, drive_said, rows_to, tracks_of}
 use Rattle.vcd_text.specs.TrackStates.{TrackState, TrackStates, AreSaid}
-use Rattle.vcd_text.proofs.TrackLemmas.{all_given, all_rows}
+use Rattle.vcd_text.proofs.TrackLemmas.{all_rows}
 
 -- a wave that is over has come to the run's end
 over_at : (n cycle : ℕ) (stage : Stage) → is_over n stage cycle ≡ true → cycle ≡ n
@@ -30,30 +33,15 @@ no_fault false given k (b ∷ bs) e = absurd cc
 module _ (vs : List Variable) (n : ℕ) where
   -- what is read of a text from a line on
   abbrev pub from_here : ℕ → Stage → ℕ → List Change → List ℕ → Result (List Change) Refusal
-  from_here k stage cycle said rest = changes_from vs n (unended rest) k stage cycle said (ended_lines rest)
+  from_here k stage cycle said rest = reading.from_here (kinds vs) n (at_end vs n) k stage cycle said rest
 
   -- a line of this verdict
   pub line_read : (k : ℕ) (stage : Stage) (cycle : ℕ) (said : List Change) (rest line more : List ℕ) (says : Line) (whole : Result (List Change) Refusal) →
       from_here k stage cycle said rest ≡ whole → ended_lines rest ≡ line ∷ ended_lines more → unended rest ≡ unended more →
       says ≡ verdict vs n stage cycle line →
       after says k stage cycle said (λ (stage : Stage) (cycle : ℕ) (said : List Change). from_here (k + 1) stage cycle said more) ≡ whole
-  unfolding changes_from
   line_read k stage cycle said rest line more says whole so_far ended last is =
-      let next : k + 1 ≡ suc k = omega arith in
-      ap (λ (j : ℕ). after says k stage cycle said (λ (stage : Stage) (cycle : ℕ) (said : List Change). from_here j stage cycle said more)) next
-      ∙ ap (λ (says : Line). after says k stage cycle said (λ (stage : Stage) (cycle : ℕ) (said : List Change). from_here (suc k) stage cycle said more)) is
-      ∙ ap (λ (u : List ℕ). changes_from vs n u k stage cycle said (line ∷ ended_lines more)) (sym last)
-      ∙ ap (changes_from vs n (unended rest) k stage cycle said) (sym ended)
-      ∙ so_far
-
-  -- no further line
-  none_left : (k : ℕ) (stage : Stage) (cycle : ℕ) (said : List Change) (rest : List ℕ) (whole : Result (List Change) Refusal) →
-      from_here k stage cycle said rest ≡ whole → ended_lines rest ≡ [] → unended rest ≡ rest → at_end vs n k stage cycle said rest ≡ whole
-  unfolding changes_from
-  none_left k stage cycle said rest whole so_far ended last =
-      ap (at_end vs n k stage cycle said) (sym last)
-      ∙ ap (changes_from vs n (unended rest) k stage cycle said) (sym ended)
-      ∙ so_far
+      reading.line_read (kinds vs) n (at_end vs n) k stage cycle said rest line more says whole so_far ended last is
 
   -- what the text is read as, by what is wrong at its end
   module _ (pins k : ℕ) (stage : Stage) (cycle : ℕ) (said : List Change) (rest : List ℕ) (s : TrackStates) (whole : Result (List Change) Refusal)
@@ -64,10 +52,10 @@ module _ (vs : List Variable) (n : ℕ) where
     fault_said =
         fault_is
         ∙ ap (λ (b : Bool). end_fault b given k rest) over_is
-        ∙ ap (λ (b : Bool). end_fault (is_over n stage cycle) b k rest) (given_is ∙ all_given vs pins cycle said s are)
+        ∙ ap (λ (b : Bool). end_fault (is_over n stage cycle) b k rest) (given_is ∙ all_given (length vs) said s.given are.given)
 
     whole_is : unless fault said ≡ whole
-    whole_is = ap (λ (o : Option Refusal). unless o said) fault_said ∙ none_left k stage cycle said rest whole so_far ended last
+    whole_is = ap (λ (o : Option Refusal). unless o said) fault_said ∙ reading.none_left (kinds vs) n (at_end vs n) k stage cycle said rest whole so_far ended last
 
     pub read_well : fault ≡ None → tracks_of vs pins n whole ≡ Ok (map (λ (t : TrackState). t.rows) s.pins)
     read_well none =

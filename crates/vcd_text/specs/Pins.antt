@@ -6,7 +6,7 @@ use Rattle.sim_base.specs.declared.signal.Drive.TheVariants as drives
 use Rattle.text_model.specs.Wave.{Source, Net, Strong, Weak, Variable}
 use Rattle.vcd_text.specs.declared.follow.Scope.{Scope}
 use Rattle.vcd_text.specs.declared.follow.Scope.TheVariants as scope
-use Rattle.vcd_text.specs.Tracks.{same_drive}
+use Rattle.wave_lines.specs.Same.{same_drive}
 use Rattle.vcd_text.specs.Chains.{PinsRest}
 
 -- what a pin drives; Z where the drives lack it

@@ -1,18 +1,16 @@
 -- What a wave says of the pins of chips: from which cycle on each drives what (profile).
-use Rattle.std.specs.Prelude.{ℕ, zero, suc, nat_le, ◌==◌, Bool, true, false, ◌&&◌, if◌then◌else◌, List, [], ◌∷◌, ◌++◌}
-use Rattle.std.specs.Prelude.{map, slice_get, Result, Ok, Err}
+use Rattle.std.specs.Prelude.{ℕ, suc, ◌==◌, Bool, false, if◌then◌else◌, List, map, slice_get, Result, Ok, Err}
 use Rattle.std.specs.List.{range_with_len}
 use Rattle.std.specs.Option.{option_map_or}
 use Rattle.sim_base.specs.declared.fault.Refusal.{Refusal}
 use Rattle.sim_base.specs.declared.signal.Drive.{Drive}
 use Rattle.sim_base.specs.declared.signal.Drive.TheVariants as drives
 use Rattle.text_model.specs.Wave.{Source, Net, Strong, Weak, Variable, char_0, char_1, char_z}
-use Rattle.vcd_text.specs.Reading.{Change, changes_of}
-
--- the last value that changes which pass a test give at or before cycle t, after one found before
-abbrev pub value_from : (Change → Bool) → ℕ → List Change → ℕ → ℕ
-value_from test found [] t = found
-value_from test found (c ∷ said) t = value_from test (if test c && nat_le c.cycle t then c.value else found) said t
+use Rattle.wave_lines.specs.Reading.{Change}
+use Rattle.wave_lines.specs.Changes.{value_from}
+use Rattle.wave_lines.specs.Rows as rows
+use Rattle.wave_lines.specs.Same.{same_drive}
+use Rattle.vcd_text.specs.Reading.{changes_of}
 
 abbrev pub is_strong : ℕ → Source → Bool
 is_strong pin (Net n) = false
@@ -48,28 +46,13 @@ drive_of strong weak =
 abbrev pub drive_said : List Variable → List Change → ℕ → ℕ → Drive
 drive_said variables said pin t = drive_of (strong_at variables said pin t) (weak_at variables said pin t)
 
-abbrev pub same_drive : Drive → Drive → Bool
-same_drive drives.Z drives.Z = true
-same_drive drives.Low drives.Low = true
-same_drive drives.High drives.High = true
-same_drive drives.PullLow drives.PullLow = true
-same_drive drives.PullHigh drives.PullHigh = true
-same_drive (drives.Wiper v) (drives.Wiper w) = v == w
-same_drive a b = false
-
 -- a pin's rows: from this cycle on, this drive
 abbrev pub DriveRows : Type 0
 DriveRows = List (ℕ × Drive)
 
--- a row at cycle 0, and at each later cycle in which the drive differs from that of the cycle before
-abbrev pub row_at : (ℕ → Drive) → ℕ → DriveRows
-row_at f zero = (0, f 0) ∷ []
-row_at f (suc t) = if same_drive (f t) (f (suc t)) then [] else (suc t, f (suc t)) ∷ []
-
 -- the rows of the first n cycles
 abbrev pub rows_to : (ℕ → Drive) → ℕ → DriveRows
-rows_to f zero = []
-rows_to f (suc t) = rows_to f t ++ row_at f t
+rows_to f n = rows.rows_to same_drive f n
 
 -- the rows of each of the first `pins` pins of a board, up to the run's end
 abbrev pub tracks_of : List Variable → ℕ → ℕ → Result (List Change) Refusal → Result (List DriveRows) Refusal

@@ -3,12 +3,14 @@ ghost use Rattle.std.specs.Prelude.{◌≡◌, ◌<◌, length, map, replicate, 
 ghost use Rattle.std.specs.List.{list_all};
 ghost use Rattle.vcd_text.specs.Variables.{source_of};
 ghost use Rattle.vcd_text.specs.Tracks.{drive_of};
-ghost use Rattle.vcd_text.specs.TrackStates.{at_pin, blank, ends_at, ends_in, given_after, pins_after, strongly, weakly, with_drive, with_row, without_row};
+ghost use Rattle.wave_lines.specs.Gifts.{given_after};
+ghost use Rattle.vcd_text.specs.TrackStates.{at_pin, blank, pins_after, strongly, weakly};
 
 use crate::variable::Source;
 use sim_base::{Drive, OutOfMemory};
 use std::alloc::Global;
 use std::marker::Model;
+use wave_lines::{Given, set_row};
 
 /// The drive of a pin whose variables have these values; a strong one counts before a weak one.
 fn drive_of(strong: u8, weak: u8) -> Drive
@@ -21,51 +23,6 @@ fn drive_of(strong: u8, weak: u8) -> Drive
         (_, b'1') => Drive::PullHigh,
         _ => Drive::Z,
     }
-}
-
-fn ends_at(rows: &[(u32, Drive)], cycle: u32) -> bool
-    ensures { result ≡ ends_at rows.now cycle }
-{
-    match rows.last() {
-        Some(row) => row.0 == cycle,
-        None => false,
-    }
-}
-
-fn ends_in(rows: &[(u32, Drive)], drive: Drive) -> bool
-    ensures { result ≡ ends_in rows.now drive }
-{
-    match rows.last() {
-        Some(row) => row.1 == drive,
-        None => false,
-    }
-}
-
-/// Takes off the row of this cycle, the greatest, if there is one.
-fn take_off(rows: &mut Vec<(u32, Drive)>, cycle: u32)
-    ensures { rows.new.items ≡ without_row rows.old.items cycle }
-{
-    if ends_at(rows, cycle) {
-        rows.truncate(rows.len() - 1);
-    }
-}
-
-fn put_on(rows: &mut Vec<(u32, Drive)>, cycle: u32, drive: Drive) -> Result<(), OutOfMemory>
-    ensures { OnOk result (rows.new.items ≡ with_row rows.old.items cycle drive) }
-{
-    if ends_in(rows, drive) {
-        return Ok(());
-    }
-    rows.push((cycle, drive))?;
-    Ok(())
-}
-
-/// Makes the drive that of a cycle, the greatest so far, and of those behind it.
-fn set_drive(rows: &mut Vec<(u32, Drive)>, cycle: u32, drive: Drive) -> Result<(), OutOfMemory>
-    ensures { OnOk result (rows.new.items ≡ with_drive rows.old.items cycle drive) }
-{
-    take_off(rows, cycle);
-    put_on(rows, cycle, drive)
 }
 
 /// What is said of a pin.
@@ -102,22 +59,21 @@ impl Track {
         ensures { OnOk result (self.new ≡ strongly self.old cycle value) }
     {
         self.strong = value;
-        set_drive(&mut self.rows, cycle, drive_of(value, self.weak))
+        set_row(&mut self.rows, cycle, drive_of(value, self.weak))
     }
 
     fn set_weak(&mut self, cycle: u32, value: u8) -> Result<(), OutOfMemory>
         ensures { OnOk result (self.new ≡ weakly self.old cycle value) }
     {
         self.weak = value;
-        set_drive(&mut self.rows, cycle, drive_of(self.strong, value))
+        set_row(&mut self.rows, cycle, drive_of(self.strong, value))
     }
 }
 
 /// What was said so far.
 #[derive(Drop)]
 pub(crate) struct Tracks {
-    /// Whether each variable has a value in cycle 0.
-    given: Vec<bool>,
+    given: Given,
     pins: Vec<Track>,
 }
 
@@ -126,7 +82,7 @@ impl Model for Tracks {
 
     ghost Value = { TrackStates };
 
-    ghost view = { λ t. record { given = t.given.items; pins = t.pins.items } };
+    ghost view = { λ t. record { given = t.given; pins = t.pins.items } };
 }
 
 fn blank_tracks(alloc: Global, count: usize) -> Result<Vec<Track>, OutOfMemory>
@@ -137,12 +93,6 @@ fn blank_tracks(alloc: Global, count: usize) -> Result<Vec<Track>, OutOfMemory>
         tracks.push(Track::new(alloc)?)?;
     }
     Ok(tracks)
-}
-
-fn none_given(alloc: Global, count: usize) -> Result<Vec<bool>, OutOfMemory>
-    ensures { IfOk result (λ v. v.items ≡ replicate count false) }
-{
-    Ok(vec![in alloc; false; count]?)
 }
 
 fn set_strong(pins: &mut [Track], pin: u16, cycle: u32, value: u8) -> Result<(), OutOfMemory>
@@ -173,7 +123,7 @@ impl Tracks {
         ensures { IfOk result (λ t. t ≡ record { given = replicate variables false; pins = replicate pins blank }) }
     {
         Ok(Tracks {
-            given: none_given(alloc, variables)?,
+            given: Given::new(alloc, variables)?,
             pins: blank_tracks(alloc, pins)?,
         })
     }
@@ -192,9 +142,7 @@ impl Tracks {
           pins = pins_after self.old.pins (source_of shows) cycle value;
         }) }
     {
-        if cycle == 0 {
-            self.given[i] = true;
-        }
+        self.given.note(i, cycle);
         match shows {
             Source::Net(_) => Ok(()),
             Source::Strong(pin) => set_strong(&mut self.pins, pin, cycle, value),
@@ -206,7 +154,7 @@ impl Tracks {
     pub(crate) fn are_given(&self) -> bool
         ensures { result ≡ list_all (λ g. g) self.now.given }
     {
-        self.given.iter().all(|given| *given)
+        self.given.are_all()
     }
 
     pub(crate) fn into_rows(self) -> DriveRows

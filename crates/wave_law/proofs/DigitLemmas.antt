@@ -12,8 +12,8 @@ use Rattle.std.proofs.lemmas.Str.{digit_value_digit}
 use Rattle.board_laws.proofs.OwnRows.{is_le, is_gt}
 use Rattle.numerals.specs.Numerals.{value_of}
 use Rattle.text_model.specs.Wave.{char_0, first_printable, printable, id_of}
-use Rattle.vcd_text.specs.Reading.{is_nothing, is_decimal, is_printable, number_of}
-use Rattle.vcd_text.proofs.ReadLemmas.{IsUnbroken}
+use Rattle.wave_lines.specs.Reading.{is_nothing, is_decimal, is_printable, number_of}
+use Rattle.wave_lines.proofs.TextLemmas.{IsUnbroken}
 
 -- ---- lines without LF
 

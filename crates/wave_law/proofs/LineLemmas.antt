@@ -3,7 +3,7 @@ use Rattle.std.proofs.Common.{◌≡◌, ◌≢◌, ◌<◌, ◌≤◌, ◌+◌,
 use Rattle.std.proofs.Common.{nat_le, if◌then◌else◌, Option, None, Some, Ok, refl, ap, sym, ◌∙◌, subst, arith}
 use Rattle.std.specs.Prelude.{codes, decimal, nat_lt, slice_get}
 use Rattle.std.specs.Str.{bytes_eq}
-use Rattle.std.specs.Option.{option_map_or}
+use Rattle.std.specs.Option.{option_map, option_map_or}
 use Rattle.std.proofs.lemmas.Bool.{eq-eqb, ne_eqb, lt-ltb}
 use Rattle.std.proofs.lemmas.List.{append_assoc}
 use Rattle.sim_base.specs.declared.signal.Drive.{Drive}
@@ -16,12 +16,13 @@ use Rattle.board_laws.proofs.OwnRows.{is_le}
 use Rattle.numerals.specs.Numerals.{value_of}
 use Rattle.text_model.specs.Wave.{Source, Net, Strong, Weak, Variable, char_x, char_z, bit_value, level_value, strong_value, weak_value, shown_value, id_of}
 use Rattle.text_model.specs.Wave.{time_line, value_line}
-use Rattle.vcd_text.specs.declared.line.Line.{Line}
-use Rattle.vcd_text.specs.declared.line.Line.TheVariants as line
-use Rattle.vcd_text.specs.declared.line.Stage.{Stage}
-use Rattle.vcd_text.specs.declared.line.Stage.TheVariants as stages
-use Rattle.vcd_text.specs.Reading.{Change, after, behind_value, is_value, judged, number_of, shows_net, time_said, value_of_number, value_of_variable, value_said, verdict}
-use Rattle.vcd_text.proofs.ReadLemmas.{IsUnbroken, ended_at, unended_at}
+use Rattle.wave_lines.specs.declared.line.Line.{Line}
+use Rattle.wave_lines.specs.declared.line.Line.TheVariants as line
+use Rattle.wave_lines.specs.declared.line.Stage.{Stage}
+use Rattle.wave_lines.specs.declared.line.Stage.TheVariants as stages
+use Rattle.wave_lines.specs.Reading.{Change, after, after_value, is_value, judged, line_said, number_of, time_said, value_of_number, value_of_variable, value_said, among}
+use Rattle.wave_lines.proofs.TextLemmas.{IsUnbroken, ended_at, unended_at}
+use Rattle.vcd_text.specs.Reading.{kinds, shows_net, verdict}
 use Rattle.vcd_text.proofs.ReadingLemmas.{from_here, line_read}
 use Rattle.wave_law.proofs.DigitLemmas.{unbroken_more, digits_unbroken, written, number_back, id_unbroken}
 
@@ -135,7 +136,7 @@ module _ (vs : List Variable) (n : ℕ) where
       all_on false b c e f g = e
 
   time_is : (stage : Stage) (cycle next : ℕ) → MayTime stage → 625 * n < 2 ^ 64 → cycle < next → next ≤ n →
-      verdict vs n stage cycle (35 ∷ decimal (625 * next)) ≡ line.Time next
+      line_said n stage cycle (35 ∷ decimal (625 * next)) ≡ line.Time next
   time_is stages.Start cycle next may small later within = elim may [ ]
   time_is stages.Dump cycle next may small later within = elim may [ ]
   time_is stages.Initial cycle next may small later within = elim may [ ]
@@ -151,37 +152,41 @@ module _ (vs : List Variable) (n : ℕ) where
       says_as (time_line next ++ rest) ((35 ∷ decimal (625 * next)) ++ 10 ∷ rest) (ap (λ (l : List ℕ). 35 ∷ l) (append_assoc (decimal (625 * next)) (codes "\n") rest))
       (line_says stage cycle said all (35 ∷ decimal (625 * next)) rest (line.Time next)
       (unbroken_more 35 (decimal (625 * next)) (λ e. omega (arith, e)) (digits_unbroken (decimal (625 * next)) w.0))
-      (time_is stage cycle next may small later within) (λ k. more.read (k + 1)))
+      (ap (among (kinds vs)) (time_is stage cycle next may small later within)) (λ k. more.read (k + 1)))
 
   -- ---- a value
 
-  value_said_is : (i v : ℕ) (w : Variable) → i < 8930 → slice_get vs i ≡ Some w → IsGood w.shows v → value_said vs (v ∷ id_of i) ≡ line.Value i v
-  value_said_is i v w few here good =
-      ap (λ (b : Bool). if b then value_of_number vs v (number_of (id_of i)) else line.Faulty WaveLine) good.0
-      ∙ ap (value_of_number vs v) (number_back i few)
-      ∙ ap (value_of_variable v i) here
-      ∙ ap (λ (b : Bool). if b then line.Faulty WaveLine else line.Value i v) good.1
+  value_said_is : (i v : ℕ) → i < 8930 → is_value v ≡ true → value_said (v ∷ id_of i) ≡ line.Value i v
+  value_said_is i v few good =
+      ap (λ (b : Bool). if b then value_of_number v (number_of (id_of i)) else line.Faulty WaveLine) good
+      ∙ ap (value_of_number v) (number_back i few)
 
-  value_is : (stage : Stage) (cycle i v : ℕ) (w : Variable) → MayValue stage → i < 8930 → slice_get vs i ≡ Some w → IsGood w.shows v →
-      verdict vs n stage cycle (v ∷ id_of i) ≡ line.Value i v
-  value_is stages.Start cycle i v w may few here good = elim may [ ]
-  value_is stages.Dump cycle i v w may few here good = elim may [ ]
-  value_is stages.Ended cycle i v w may few here good = elim may [ ]
-  value_is stages.Initial cycle i v w in_first few here good =
-      ap (λ (b : Bool). if b then line.Goes stages.Ended else value_said vs (v ∷ id_of i)) (no_end v (id_of i) (ne_eqb v 36 (value_other v 36 refl good.0)))
-      ∙ value_said_is i v w few here good
+  line_is : (stage : Stage) (cycle i v : ℕ) → MayValue stage → i < 8930 → is_value v ≡ true → line_said n stage cycle (v ∷ id_of i) ≡ line.Value i v
+  line_is stages.Start cycle i v may few good = elim may [ ]
+  line_is stages.Dump cycle i v may few good = elim may [ ]
+  line_is stages.Ended cycle i v may few good = elim may [ ]
+  line_is stages.Initial cycle i v in_first few good =
+      ap (λ (b : Bool). if b then line.Goes stages.Ended else value_said (v ∷ id_of i)) (no_end v (id_of i) (ne_eqb v 36 (value_other v 36 refl good)))
+      ∙ value_said_is i v few good
     where
       no_end : (v : ℕ) (code : List ℕ) → (v == 36) ≡ false → bytes_eq (v ∷ code) (codes "$end") ≡ false
       no_end v code e = ap (λ (b : Bool). b && bytes_eq code (codes "end")) e
-  value_is stages.Opened cycle i v w in_opened few here good = value_said_is i v w few here good
-  value_is stages.Changed cycle i v w in_changed few here good =
-      ap (λ (b : Bool). if b then time_said n cycle (v ∷ id_of i) else value_said vs (v ∷ id_of i)) (ne_eqb v 35 (value_other v 35 refl good.0))
-      ∙ value_said_is i v w few here good
+  line_is stages.Opened cycle i v in_opened few good = value_said_is i v few good
+  line_is stages.Changed cycle i v in_changed few good =
+      ap (λ (b : Bool). if b then time_said n cycle (v ∷ id_of i) else value_said (v ∷ id_of i)) (ne_eqb v 35 (value_other v 35 refl good))
+      ∙ value_said_is i v few good
+
+  value_is : (stage : Stage) (cycle i v : ℕ) (w : Variable) → MayValue stage → i < 8930 → slice_get vs i ≡ Some w → IsGood w.shows v →
+      verdict vs n stage cycle (v ∷ id_of i) ≡ line.Value i v
+  value_is stage cycle i v w may few here good =
+      ap (among (kinds vs)) (line_is stage cycle i v may few good.0)
+      ∙ ap (λ (o : Option Variable). value_of_variable v i (option_map (λ (x : Variable). shows_net x.shows) o)) here
+      ∙ ap (λ (b : Bool). if b then line.Faulty WaveLine else line.Value i v) good.1
 
   -- the value of a variable is one more change
   pub value_says : (stage : Stage) (cycle i : ℕ) (said all : List Change) (rest : List ℕ) (ls : List Level) (ds : List Drive) (w : Variable) → MayValue stage → i < 8930 →
       slice_get vs i ≡ Some w →
-      Says (behind_value stage) cycle (said ++ record { cycle = cycle; variable = i; value = shown_value ls ds w.shows } ∷ []) rest all →
+      Says (after_value stage) cycle (said ++ record { cycle = cycle; variable = i; value = shown_value ls ds w.shows } ∷ []) rest all →
       Says stage cycle said (value_line i (shown_value ls ds w.shows) ++ rest) all
   value_says stage cycle i said all rest ls ds w may few here more =
       let v : ℕ = shown_value ls ds w.shows in

@@ -11,10 +11,11 @@ use Rattle.sim_base.specs.Refusals.{WaveHead}
 use Rattle.sim_base.specs.Rows.{Row}
 use Rattle.text_model.specs.Wave.{Variable, shown_value, values, head, time_line, value_line, value_lines, initial_values, changes, change_count, value_changes}
 use Rattle.text_model.specs.Wave.{later_text, begun_text, wave_text}
-use Rattle.vcd_text.specs.declared.line.Stage.{Stage}
-use Rattle.vcd_text.specs.declared.line.Stage.TheVariants as stages
-use Rattle.vcd_text.specs.Reading.{Change, behind, changes_behind, changes_from, changes_of, end_fault, ended_lines, is_given, unended, unless}
-use Rattle.vcd_text.proofs.ReadLemmas.{IsUnbroken}
+use Rattle.wave_lines.specs.declared.line.Stage.{Stage}
+use Rattle.wave_lines.specs.declared.line.Stage.TheVariants as stages
+use Rattle.wave_lines.specs.Reading.{Change, behind, end_fault, ended_lines, is_given, lines_from, unended, unless}
+use Rattle.wave_lines.proofs.TextLemmas.{IsUnbroken}
+use Rattle.vcd_text.specs.Reading.{changes_behind, changes_of}
 use Rattle.wave_law.specs.Said.{told, all_told, some_told, later_told, rows_told}
 use Rattle.wave_law.specs.Written.{AreLater, AreOfRun}
 use Rattle.wave_law.proofs.DigitLemmas.{by_test}
@@ -153,7 +154,7 @@ module _ (vs : List Variable) (n : ℕ) (few : length vs ≤ 8930) (small : 625 
   -- the run's end
   end_says : (stage : Stage) (cycle : ℕ) (said : List Change) → MayTime stage → cycle < n →
       list_all (is_given said) (range_with_len 0 (length vs)) ≡ true → Says vs n stage cycle said (time_line n) said
-  unfolding changes_from ended_lines unended
+  unfolding lines_from ended_lines unended
   end_says stage cycle said may later given =
       says_as vs n (time_line n) (time_line n ++ []) (sym (append-nil (time_line n)))
       (time_says vs n stage cycle n said said [] may small later (omega arith) (record { read = λ k. over k (n == n) (eq-eqb n n refl) }))

@@ -14,9 +14,10 @@ use Rattle.sim_base.specs.Rows.{Row}
 use Rattle.board_laws.specs.InForce.{row_from}
 use Rattle.board_laws.proofs.OwnRows.{is_le, is_gt}
 use Rattle.text_model.specs.Wave.{Source, Variable, char_z, shown_value, values}
-use Rattle.vcd_text.specs.Reading.{Change, is_given}
-use Rattle.vcd_text.specs.Tracks.{shows, value_from}
-use Rattle.vcd_text.proofs.TrackLemmas.{value_push}
+use Rattle.wave_lines.specs.Reading.{Change, is_given}
+use Rattle.wave_lines.specs.Changes.{value_from}
+use Rattle.wave_lines.proofs.ValueLemmas.{value_push}
+use Rattle.vcd_text.specs.Tracks.{shows}
 use Rattle.wave_law.specs.Said.{told, all_told, some_told, later_told, rows_told}
 use Rattle.wave_law.specs.Written.{AreLater, AreOfRun, is_shown, value_in, written_value}
 use Rattle.wave_law.proofs.TextLemmas.{AreFrom, first_from, rest_from, all_from}

@@ -14,8 +14,11 @@ use Rattle.board_laws.specs.InForce.{row_at}
 use Rattle.board_laws.specs.Player.{drive_from, drive_at}
 use Rattle.board_laws.proofs.OwnRows.{is_le, is_gt}
 use Rattle.text_model.specs.Wave.{Source, Net, Strong, Weak, Variable, char_z, strong_value, weak_value, wave_text}
-use Rattle.vcd_text.specs.Tracks.{DriveRows, drive_of, drive_said, is_strong, is_weak, same_drive, row_at as track_row, rows_to, tracks_of, wave_rows}
-use Rattle.vcd_text.proofs.TrackLemmas.{drive_is, rows_same, same_means}
+use Rattle.wave_lines.specs.Rows.{row_at as row_of_value}
+use Rattle.wave_lines.specs.Same.{same_drive}
+use Rattle.wave_lines.proofs.SameLemmas.{same_means}
+use Rattle.vcd_text.specs.Tracks.{DriveRows, drive_of, drive_said, is_strong, is_weak, rows_to, tracks_of, wave_rows}
+use Rattle.vcd_text.proofs.TrackLemmas.{drive_is, rows_same}
 use Rattle.wave_law.specs.Said.{rows_told}
 use Rattle.wave_law.specs.Written.{AreOfRun, IsPlain, IsTold, is_shown, value_in, written_drive}
 use Rattle.wave_law.proofs.TextLemmas.{changes_read}
@@ -76,7 +79,7 @@ module _ (f : ℕ → Drive) where
     | inr same ↦ behind_last n t (omega (arith, same)) ∙ ap f (sym same)
   ]
     where
-      earlier : (n : ℕ) → t < n → drive_at (rows_to f n ++ track_row f n) t ≡ drive_at (rows_to f n) t
+      earlier : (n : ℕ) → t < n → drive_at (rows_to f n ++ row_of_value same_drive f n) t ≡ drive_at (rows_to f n) t
       earlier zero before = absurd (omega (arith, before))
       earlier (suc n) before = go (same_drive (f n) (f (suc n)))
         where

@@ -2,7 +2,7 @@
 use Rattle.std.specs.Prelude.{ℕ, suc, ◌==◌, List, [], ◌∷◌, ◌++◌, if◌then◌else◌}
 use Rattle.sim_base.specs.Rows.{Row}
 use Rattle.text_model.specs.Wave.{Variable, values}
-use Rattle.vcd_text.specs.Reading.{Change}
+use Rattle.wave_lines.specs.Reading.{Change}
 
 -- one more change
 abbrev pub told : List Change → ℕ → ℕ → ℕ → List Change

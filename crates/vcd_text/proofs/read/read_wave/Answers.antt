@@ -6,9 +6,10 @@ use Rattle.std.proofs.lemmas.List.{length-map}
 use Rattle.std.proofs.lemmas.Option.{slice_get-map, slice_get-get_or}
 use Rattle.sim_base.specs.declared.fault.Refusal.{Refusal}
 use Rattle.text_model.specs.Wave.{Variable}
-use Rattle.vcd_text.specs.declared.line.Line.TheVariants as says
+use Rattle.wave_lines.specs.declared.line.Line.TheVariants as says
+use Rattle.wave_lines.specs.Reading.{Change, behind}
 use Rattle.vcd_text.specs.Variables.{variable_of}
-use Rattle.vcd_text.specs.Reading.{Change, behind, changes_behind, verdict}
+use Rattle.vcd_text.specs.Reading.{changes_behind, verdict}
 use Rattle.vcd_text.specs.Tracks.{DriveRows, tracks_of}
 use Rattle.vcd_text.specs.TrackStates.{TrackStates, AreSaid}
 use Rattle.vcd_text.proofs.TrackLemmas.{said_none, said_later, said_more}
@@ -93,7 +94,7 @@ loop-line-preserved c =
             number = omega (arith, number, shorter);
             first = omega arith;
             cycle = rw w.cycle-is l.invariant.cycle;
-            said = rw (w.stage-is, w.cycle-is, w.behind_value-stage.ensures) (
+            said = rw (w.stage-is, w.cycle-is, w.after_value-stage.ensures) (
               more,
               subst (λ (s : TrackStates). AreSaid vs c.args.pins l.cycle more s) (sym tracks)
                   (said_more vs c.args.pins l.cycle w.in-Value.value i said l.tracks (variable_of variable) here l.invariant.said.1),

@@ -1,5 +1,6 @@
 use Rattle.std.proofs.Common.{◌≡◌, ◌≤◌, ◌+◌, length, List}
-use Rattle.vcd_text.specs.Reading.{Change, changes_of}
+use Rattle.wave_lines.specs.Reading.{Change}
+use Rattle.vcd_text.specs.Reading.{changes_of}
 use Rattle.vcd_text.specs.TrackStates.{AreSaid}
 use Rattle.vcd_text.proofs.ReadingLemmas.{from_here}
 use Rattle.vcd_text.proofs.read.read_wave.Given as goal

@@ -2,8 +2,8 @@ use Rattle.std.proofs.Common.{◌≡◌, ◌≤◌, min, take, true}
 use Rattle.std.specs.List.{list_all}
 use Rattle.std.specs.Char.{is_ascii_digit}
 use Rattle.numerals.specs.Numerals.{value_of}
-use Rattle.vcd_text.specs.Lines.{latest}
-use Rattle.vcd_text.proofs.line.number.Given as goal
+use Rattle.wave_lines.specs.Timely.{latest}
+use Rattle.wave_lines.proofs.line.number.Given as goal
 
 abbrev pub invariant-loop-d : goal.invariant-loop-d
 invariant-loop-d l = record {

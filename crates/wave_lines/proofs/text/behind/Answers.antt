@@ -1,8 +1,8 @@
 use Rattle.std.proofs.Common.{◌≡◌, ◌∙◌, ℕ, length, drop, Ok, sym, ap, arith}
 use Rattle.std.proofs.lemmas.List.{take_rest}
-use Rattle.vcd_text.proofs.ReadLemmas.{behind_line, behind_same, behind_other, behind_short, behind_done}
-use Rattle.vcd_text.proofs.read.behind.Goals as goal
-use Rattle.vcd_text.proofs.read.behind.Goals.{then-i-bytes-via-then-i-bytes, then-i-bytes-via-else-i-bytes+then-head-i, then-head-i-eq10, else-head-i-eq10}
+use Rattle.wave_lines.proofs.TextLemmas.{behind_line, behind_same, behind_other, behind_short, behind_done}
+use Rattle.wave_lines.proofs.text.behind.Goals as goal
+use Rattle.wave_lines.proofs.text.behind.Goals.{then-i-bytes-via-then-i-bytes, then-i-bytes-via-else-i-bytes+then-head-i, then-head-i-eq10, else-head-i-eq10}
 
 pub returns-then-i-bytes-clause-behind : goal.returns-then-i-bytes-clause-behind
 returns-then-i-bytes-clause-behind c =

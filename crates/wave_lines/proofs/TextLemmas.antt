@@ -6,7 +6,7 @@ use Rattle.std.proofs.lemmas.Bool.{ne_eqb, eq-eqb, or_right}
 use Rattle.std.proofs.lemmas.List.{take-append-drop, drop_more, drop_all, length-take-le, get_or-take}
 use Rattle.sim_base.specs.declared.fault.Place.TheVariants as places
 use Rattle.sim_base.specs.Refusals.{WaveHead}
-use Rattle.vcd_text.specs.Reading.{before_line, ended_lines, unended, behind}
+use Rattle.wave_lines.specs.Reading.{before_line, ended_lines, line_count, unended, behind}
 
 -- no byte is LF
 abbrev pub IsUnbroken : List ℕ → Type 0
@@ -46,6 +46,11 @@ unfolding unended
 unended_all [] unbroken = refl
 unended_all (b ∷ l) unbroken = rw (no_lf (b ∷ l) unbroken) refl
 
+pub count_none : (l : List ℕ) → IsUnbroken l → line_count l ≡ 0
+unfolding line_count
+count_none [] unbroken = refl
+count_none (b ∷ l) unbroken = rw (first_unbroken b l unbroken) (let more = count_none l (rest_unbroken b l unbroken) in omega (arith, more))
+
 -- the first two bytes
 pub two_unbroken : (l : List ℕ) → get_or l 0 0 ≢ 10 → get_or l 1 0 ≢ 10 → (k : ℕ) → k < 2 → get_or l k 0 ≢ 10
 two_unbroken l a b zero h = a
@@ -53,7 +58,7 @@ two_unbroken l a b (suc zero) h = b
 two_unbroken l a b (suc (suc k)) h = absurd (omega (arith, h))
 
 module _ (l : List ℕ) (i : ℕ) (p : i < length l) (e : get_or l i 0 ≡ 10) where
-  whole : take i l ++ 10 ∷ drop (i + 1) l ≡ l
+  pub whole : take i l ++ 10 ∷ drop (i + 1) l ≡ l
   whole = ap (λ (x : List ℕ). take i l ++ x) (ap (λ (x : ℕ). x ∷ drop (i + 1) l) (sym e) ∙ sym (drop_more l i 0 p)) ∙ take-append-drop i l
 
   -- the text up to the first LF is the first line
@@ -61,6 +66,14 @@ module _ (l : List ℕ) (i : ℕ) (p : i < length l) (e : get_or l i 0 ≡ 10) w
   ended_first unbroken =
       let n : length (take i l) ≡ i = length-take-le i l (omega (arith, p)) in
       ap ended_lines (sym whole) ∙ ended_at (take i l) (drop (i + 1) l) (λ (k : ℕ) (q : k < length (take i l)).
+      let r : k < i = omega (arith, q, n) in
+      rw (get_or-take i l k 0 r) (unbroken k r))
+
+  -- which has no LF
+  pub count_first : ((k : ℕ) → k < i → get_or l k 0 ≢ 10) → line_count (take i l) ≡ 0
+  count_first unbroken =
+      let n : length (take i l) ≡ i = length-take-le i l (omega (arith, p)) in
+      count_none (take i l) (λ (k : ℕ) (q : k < length (take i l)).
       let r : k < i = omega (arith, q, n) in
       rw (get_or-take i l k 0 r) (unbroken k r))
 
