@@ -1,0 +1,6 @@
+mod BitLemmas
+mod BodyLemmas
+mod HeadLemmas
+mod HearLemmas
+mod RisingLemmas
+mod WroteLemmas

@@ -1,0 +1,10 @@
+pub mod Bits
+pub mod Bodies
+pub mod Fitting
+pub mod Frames
+pub mod Head
+pub mod Levels
+pub mod Listening
+pub mod Names
+pub mod Rising
+pub mod Wires
