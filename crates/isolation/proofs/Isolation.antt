@@ -39,6 +39,7 @@ use Rattle.sim_report.specs.declared.row.ReportRow.TheVariants as lines
 use Rattle.sim_report.specs.Lines.{line_of}
 use Rattle.board_report.specs.Report.{part_text, play_part_text, rest_text}
 use Rattle.board_outputs.specs.Variables.{board_variables}
+use Rattle.oled_law.proofs.BoardLaw.{are_shown}
 use Rattle.cli_board.specs.Run.{run_wave, run_bytes, run_report, run_wakes, run_texts}
 use Rattle.board_outputs.specs.Run.{Outputs, texts_for}
 use Rattle.isolation.specs.ChipRun.{IsAlone, state_at}
@@ -252,4 +253,5 @@ isolated has plan is n = record {
       (source.0, source.1, chip_alone has plan is n i part c source.0 at kind source.1);
   played = texts_of_play has plan is n;
   worlds = λ other twin end within differ alike. one_world has other plan twin end is differ alike;
+  shown = are_shown has plan is n;
 }

@@ -1,9 +1,10 @@
--- Isolation: what holds of the chips of a run, whatever they do (profile).
+-- What holds of a run: of its chips, whatever they do, and of what its OLEDs show (profile).
 use Rattle.std.specs.Prelude.{◌≡◌, ℕ}
 use Rattle.board_build.specs.declared.plan.Plan.{Plan}
 use Rattle.any_part.specs.Start.{Contents}
 use Rattle.cli_board.specs.Run.{run_texts}
 use Rattle.board_outputs.specs.Run.{Outputs}
+use Rattle.oled_law.specs.OledRun.{AreShown}
 use Rattle.isolation.specs.ChipRun.{AreAlone}
 use Rattle.isolation.specs.PlayRun.{play_texts}
 use Rattle.isolation.specs.Worlds.{SeesDrivesAlone}
@@ -19,7 +20,9 @@ pub record Isolated (has : Contents) (plan : Plan) (n : ℕ) : Type 0 where
   pub played : (out : Outputs) → run_texts out has plan n ≡ play_texts out has plan n
   -- of two boards whose chips drive the same, all else is the same
   pub worlds : SeesDrivesAlone has plan n
+  -- each OLED shows what was written to its address on its own two lines
+  pub shown : AreShown has plan n
 
--- a fact that holds of every run whose chips are isolated
+-- a fact that follows from these
 abbrev pub Follows : Fact → Type 0
 Follows IsSo = (has : Contents) (plan : Plan) (n : ℕ) → Isolated has plan n → IsSo has plan n

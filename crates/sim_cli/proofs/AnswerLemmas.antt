@@ -12,6 +12,7 @@ use Rattle.cli_module.specs.Answer.{ModuleAnswer}
 use Rattle.words_model.specs.Request.{Request, Bare, Check, Module, Run, Replay, Twin, Make}
 use Rattle.outcome_model.specs.Promises.{HoldsAnswer, IsOne}
 use Rattle.outcome_model.proofs.PromiseLemmas.{holds_answer}
+use Rattle.oled_law.specs.OledRun.{AreShown}
 use Rattle.isolation.specs.ChipRun.{AreAlone}
 use Rattle.isolation.specs.Worlds.{SeesDrivesAlone}
 use Rattle.isolation.specs.Isolated.{Fact, Follows, Isolated}
@@ -25,7 +26,7 @@ use Rattle.cli_make.proofs.MakeLemmas.{one_make}
 use Rattle.board_outputs.specs.Run.{Outputs}
 use Rattle.cli_run.specs.Answer.{PlayAnswer, AnswerSuch}
 use Rattle.sim_cli.specs.Answers.{Answers, AnswersWith, AnswersSuch, RunBy, outputs_to}
-use Rattle.sim_cli.specs.Promises.{Happens, HappensIsolated, HoldsPlay, HoldsAlone, HoldsWorlds, Counts, CountsWakes}
+use Rattle.sim_cli.specs.Promises.{Happens, HappensIsolated, HoldsPlay, HoldsAlone, HoldsWorlds, HoldsShown, Counts, CountsWakes}
 
 pub one : (r : Request) → IsOne (Answers r)
 one (Bare hex us) = one_bare hex us
@@ -71,6 +72,9 @@ module _ (a b : Outside) (o : Outcome) (asked : Option Request) (happens : Happe
 
   pub holds_worlds : HoldsWorlds (status_of o) asked a b
   holds_worlds = held_such SeesDrivesAlone (λ has plan n so. so.worlds)
+
+  pub holds_shown : HoldsShown (status_of o) asked a b
+  holds_shown = held_such AreShown (λ has plan n so. so.shown)
 
 pub check_counts : (folder : List ℕ) (o : Outcome) (a b : Outside) (n : ℕ) → Ends (CheckAnswer folder) o a b → outcomes.Counts (CheckAnswer folder) o a n n
 check_counts folder o a b n ends = accepted_counts (CheckAnswer folder) (check_only folder) o a b n ends

@@ -5,6 +5,7 @@ use Rattle.words_model.specs.Request.{Request, request_of}
 use Rattle.outcome_model.specs.Outcome.{Outcome}
 use Rattle.outcome_model.specs.Happens as outcomes
 use Rattle.outcome_model.specs.Promises as promises
+use Rattle.oled_law.specs.OledRun.{AreShown}
 use Rattle.isolation.specs.ChipRun.{AreAlone}
 use Rattle.isolation.specs.Worlds.{SeesDrivesAlone}
 use Rattle.isolation.specs.Isolated.{Isolated}
@@ -53,6 +54,11 @@ HoldsAlone = promises.HoldsAnswer (AnswersSuch AreAlone)
 -- chips alone, as long as the chips of both drive the same.
 abbrev pub HoldsWorlds : ℕ → Option Request → Outside → Outside → Type 0
 HoldsWorlds = promises.HoldsAnswer (AnswersSuch SeesDrivesAlone)
+
+-- With status 0 of a run, each told port holds the text of a board whose OLEDs show, at each cycle, what was written to their
+-- addresses on their own two lines before it.
+abbrev pub HoldsShown : ℕ → Option Request → Outside → Outside → Type 0
+HoldsShown = promises.HoldsAnswer (AnswersSuch AreShown)
 
 -- With status 0 of a replay of the wave that `run` wrote of the same project, script and run time, each told port holds the text
 -- of that run; the report has no lines of chips.

@@ -5,7 +5,7 @@ ghost use Rattle.outcome_model.specs.Promises.{WordsAlone, HasCause, ComplainsAl
 ghost use Rattle.outcome_model.specs.Work.{SaidNothing};
 ghost use Rattle.sim_cli.specs.Promises.{Happens, HappensIsolated, HappensRepeated, Counts, Does};
 ghost use Rattle.sim_cli.specs.Promises.{IsAnswered, IsComplete, HoldsAnswer, IsStopped, IsTrueStop, HoldsFront, CountsWakes};
-ghost use Rattle.sim_cli.specs.Promises.{HoldsPlay, HoldsAlone, HoldsWorlds, HoldsRepeat};
+ghost use Rattle.sim_cli.specs.Promises.{HoldsPlay, HoldsAlone, HoldsWorlds, HoldsShown, HoldsRepeat};
 ghost use Rattle.cli_work.specs.Outcomes.{outcome_of};
 ghost use Rattle.cli_words.specs.Asked.{named_by};
 ghost use Rattle.board_outputs.specs.Outputs.{outputs_of};
@@ -119,6 +119,9 @@ pub fn simulate<B: Bench, L: Ledger>(
     ensures played { HoldsPlay result (request_of (map string_bytes words.now)) (B.outside bench.old) (B.outside bench.new) }
     ensures alone { HoldsAlone result (request_of (map string_bytes words.now)) (B.outside bench.old) (B.outside bench.new) }
     ensures worlds { HoldsWorlds result (request_of (map string_bytes words.now)) (B.outside bench.old) (B.outside bench.new) }
+
+    // What an OLED shows are the bytes that were written to it on its own pins.
+    ensures shown { HoldsShown result (request_of (map string_bytes words.now)) (B.outside bench.old) (B.outside bench.new) }
 
     // And of a replay: of the wave that a run wrote it writes the same wave, bytes and report, but for the lines of the chips.
     ensures repeated { HoldsRepeat result (request_of (map string_bytes words.now)) (B.outside bench.old) (B.outside bench.new) }

@@ -6,7 +6,7 @@ use Rattle.outcome_model.proofs.EndLemmas.{told}
 use Rattle.outcome_model.proofs.PromiseLemmas.{words_alone, answered, complete, holds_answer, stopped, true_stop, has_cause, holds_front, complains_alone, is_status}
 use Rattle.isolation.specs.Isolated.{Isolated}
 use Rattle.sim_cli.specs.Answers.{Answers, AnswersSuch, RepeatAnswers}
-use Rattle.sim_cli.proofs.AnswerLemmas.{one, counted, holds_play, holds_alone, holds_worlds}
+use Rattle.sim_cli.proofs.AnswerLemmas.{one, counted, holds_play, holds_alone, holds_worlds, holds_shown}
 use Rattle.sim_cli.proofs.simulation.simulate.Goals as goal
 
 pub returns-clause-does : goal.returns-clause-does
@@ -87,6 +87,16 @@ returns-clause-worlds g c =
     let o = outcome_of c.work-outcome.result in
     let happens = told (AnswersSuch Isolated) o asked a m b c.tell-end.ensures.quiet c.work-outcome.ensures.isolated c.tell-end.ensures.others in
     rw c.status.ensures (holds_worlds a b o asked happens)
+
+pub returns-clause-shown : goal.returns-clause-shown
+returns-clause-shown g c =
+    let asked = request_of (map string_bytes c.args.words.now) in
+    let a = g.B.Bench.outside c.args.bench.now in
+    let m = g.B.Bench.outside c.work-outcome.new.bench in
+    let b = g.B.Bench.outside c.tell-end.new.bench in
+    let o = outcome_of c.work-outcome.result in
+    let happens = told (AnswersSuch Isolated) o asked a m b c.tell-end.ensures.quiet c.work-outcome.ensures.isolated c.tell-end.ensures.others in
+    rw c.status.ensures (holds_shown a b o asked happens)
 
 pub returns-clause-repeated : goal.returns-clause-repeated
 returns-clause-repeated g c =
