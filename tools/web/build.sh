@@ -10,6 +10,11 @@ root=$(cd "$here/../.." && pwd)
 to=$root/target/web
 STACK=4194304
 say() { echo "web: $*" >&2; }
+case $*:$# in
+:0 | --try:1) ;;
+--help:1) sed -n '2,6s/^# //p' "$0"; exit 0 ;;
+*) sed -n '2,6s/^# //p' "$0" >&2; exit 2 ;;
+esac
 command -v rt >/dev/null || { say "the toolchain's command rt is not there"; exit 1; }
 kit=$(dirname "$(rt doc)")
 work=$(mktemp -d)

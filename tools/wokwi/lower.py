@@ -213,6 +213,9 @@ def lower(folder, out, anyway=False, firmware=None, edit=None, change=None, say=
 def main(words):
     anyway = "--anyway" in words
     words = [word for word in words if word != "--anyway"]
+    if words == ["--help"]:
+        print(__doc__)
+        return 0
     if len(words) != 2 or any(word.startswith("-") for word in words):
         print(__doc__, file=sys.stderr)
         return 2
