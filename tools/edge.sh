@@ -56,8 +56,8 @@ holds "the report of the run before" r.txt expected.txt
 
 # a file of more bytes than one read takes: records of data that repeat, before the last line
 {
-    for n in 1 2 3 4 5 6 7 8 9 10; do sed '$d' "$examples/sort/sort.hex"; done
-    for n in 1 2 3 4 5 6 7 8 9 10; do sed '$d' "$examples/sort/sort.hex"; done
+    for _ in 1 2 3 4 5 6 7 8 9 10; do sed '$d' "$examples/sort/sort.hex"; done
+    for _ in 1 2 3 4 5 6 7 8 9 10; do sed '$d' "$examples/sort/sort.hex"; done
     cat "$examples/sort/sort.hex"
 } >long.hex
 "$program" bare "$examples/sort/sort.hex" --us 100 >short.vcd 2>said
@@ -80,6 +80,17 @@ ends "a folder in place of the diagram" 5 "r/diagram.json: read failed"
 try bare p/blink.hex/x --us 1
 ends "a file in place of a folder" 5 "p/blink.hex/x: read failed"
 
+cp -R p own
+try run own --us 1 --vcd own/diagram.json
+ends "an output that is an input of the run" 0 ""
+holds "the wave where the diagram was" own/diagram.json "$wave"
+try run p --us 1 --vcd both --report both
+ends "one file for the wave and the report" 0 ""
+if cmp -s both "$wave" || cmp -s both expected.txt; then
+    echo "one file for the wave and the report holds one of them, and docs/COMMANDS.md says neither"
+    bad=1
+fi
+
 try run p --us 1 --vcd none/w.vcd
 ends "an output in a folder that is not there" 6 "write failed"
 [ ! -e none ] || { echo "the folder was made"; bad=1; }
@@ -89,6 +100,14 @@ ends "a folder in place of an output" 6 "write failed"
 
 (trap '' XFSZ && ulimit -f 1 && try run p --us 1 --vcd past.vcd)
 ends "a file past the caller's limit" 6 "write failed"
+sh -c 'kill -XFSZ $$' 2>/dev/null
+if [ $? = 153 ]; then
+    (ulimit -f 1 && try run p --us 1 --vcd past.vcd) 2>/dev/null
+    : >said # where the shell may tell of the signal
+    ends "a file past the limit of a caller who does not ignore the signal" 153 ""
+else
+    echo "a file past the limit, which ends the program: skipped, this caller ignores the signal" >&2
+fi
 if [ -c /dev/full ]; then
     try run p --us 1 --vcd /dev/full
     ends "a full device" 6 "write failed"
@@ -138,7 +157,7 @@ if [ -r p/blink.hex ]; then
         as="setpriv --reuid 65534 --regid 65534 --clear-groups"
     fi
 else
-    as=env
+    as="env"
 fi
 if [ -n "$as" ] && $as "$program" bare long.hex --us 1 >/dev/null 2>said; then
     $as "$program" bare p/blink.hex --us 1 >/dev/null 2>said
