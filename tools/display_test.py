@@ -1,7 +1,11 @@
 #!/usr/bin/env python3
-"""Tests of display.py, with nothing but Python's own library: `tools/display_test.py`."""
+"""Tests of display.py, with nothing but Python's own library: `tools/display_test.py`. With the program that PROGRAM names, reports of
+its runs are drawn too."""
 import io
+import json
 import os
+import random
+import subprocess
 import sys
 import tempfile
 import unittest
@@ -9,17 +13,44 @@ import xml.etree.ElementTree as ElementTree
 from contextlib import redirect_stderr, redirect_stdout
 
 sys.dont_write_bytecode = True
-sys.path.insert(0, os.path.dirname(os.path.abspath(__file__)))
+HERE = os.path.dirname(os.path.abspath(__file__))
+sys.path.insert(0, HERE)
+sys.path.insert(1, os.path.join(HERE, "peers"))
+import boards  # noqa: E402
 import display  # noqa: E402
 
+PROGRAM = os.environ.get("PROGRAM") or os.path.join(HERE, "..", "target", "mudflatjar")
 
-def report(pages, name="oled1"):
+
+def report(pages, name="oled1", state="on", rest=b"\x00"):
     """A report with these bytes at the head of each page."""
-    lines = ["cycles 16", f"oled {name} on"]
+    lines = ["cycles 16", f"oled {name} {state}"]
     for page in range(8):
         head = pages.get(page, b"")
-        lines.append(f"oled {name} page {page} " + head.hex().upper() + "00" * (128 - len(head)))
+        lines.append(f"oled {name} page {page} " + (head + rest * (128 - len(head))).hex().upper())
     return lines
+
+
+def report_of(writes):
+    """The report of a run on a board with an OLED at each of both addresses, whose firmware makes these writes: (address, bytes)."""
+    code = boards.Code()
+    bus = boards.Lines(code, random.Random(1), "C", 5, 4, False)
+    for address, told in writes:
+        bus.start()
+        for byte in bytes([2 * address]) + told:
+            bus.byte(byte)
+        bus.stop()
+    code.put(2, 0xCFFF)
+    parts = [{"type": "wokwi-arduino-uno", "id": "uno"}] + [{"type": "board-ssd1306", "id": name, "attrs": attributes} for name, attributes in
+                                                            (("usual", {}), ("other", {"i2cAddress": "0x3d"}))]
+    wires = [[f"uno:{at}", f"{name}:{pin}", "", []] for name in ("usual", "other") for at, pin in (("A4", "SDA"), ("A5", "SCL"))]
+    with tempfile.TemporaryDirectory() as folder:
+        for file, text in {"wokwi.toml": "[wokwi]\nversion = 1\nfirmware = 'f.hex'\n", "f.hex": code.hex(),
+                           "diagram.json": json.dumps({"version": 1, "parts": parts, "connections": wires})}.items():
+            with open(os.path.join(folder, file), "w", encoding="ascii") as out:
+                out.write(text)
+        words = [PROGRAM, "run", folder, "--us", str(code.cycles // 16 + 10), "--report", "-"]
+        return subprocess.run(words, stdout=subprocess.PIPE, check=True, text=True).stdout.split("\n")
 
 
 class Dots(unittest.TestCase):
@@ -46,7 +77,37 @@ class Dots(unittest.TestCase):
             display.oled_dots(broken, "oled1")
 
 
+@unittest.skipUnless(os.access(PROGRAM, os.X_OK), "the program is not built")
+class Runs(unittest.TestCase):
+    """What an OLED shows that is on, off, all lit or inverted, at both addresses."""
+    POINTS = bytes((0x40, 0x01, 0x80))
+
+    def lit(self, writes, name):
+        return {(y, x) for y, row in enumerate(display.oled_dots(report_of(writes), name)) for x, lit in enumerate(row) if lit}
+
+    def test_each_state_at_each_address(self):
+        every = {(y, x) for y in range(64) for x in range(128)}
+        points = {(0, 0), (7, 1)}
+        for commands, dots in ((b"\x00\xAF", points), (b"\x00", set()), (b"\x00\xAF\xAE", set()), (b"\x00\xA5", set()), (b"\x00\xAF\xA5", every),
+                               (b"\x00\xAF\xA7\xA5", every), (b"\x00\xAF\xA5\xA4", points), (b"\x00\xAF\xA7", every - points), (b"\x00\xA7\xAF\xA6", points)):
+            for address, name, beside in ((0x3C, "usual", "other"), (0x3D, "other", "usual")):
+                writes = [(address, commands), (address, self.POINTS)]
+                self.assertEqual(self.lit(writes, name), dots, (commands, name))
+                self.assertEqual(self.lit(writes, beside), set(), (commands, beside))
+
+    def test_two_pictures_at_once(self):
+        writes = [(0x3C, b"\x00\xAF"), (0x3D, b"\x00\xAF\xA7"), (0x3D, self.POINTS), (0x3C, b"\x40\x02"), (0x3E, b"\x40\x04"), (0x3C, b"\x40\x04")]
+        self.assertEqual(self.lit(writes, "usual"), {(1, 0), (2, 1)})
+        self.assertEqual(len(self.lit(writes, "other")), 64 * 128 - 2)
+
+
 class Drawing(unittest.TestCase):
+    def test_off_all_lit_and_inverted(self):
+        text = lambda *given, **words: display.as_text(display.oled_dots(report(*given, **words), "oled1"))
+        self.assertEqual(text({}, state="off"), "\n" * 32)
+        self.assertEqual(text({}, rest=b"\xFF"), ("█" * 128 + "\n") * 32)
+        self.assertEqual(text({0: b"\xFE\xFD"}, rest=b"\xFF").split("\n")[0], "▄▀" + "█" * 126)
+
     def test_text_has_two_rows_in_a_line(self):
         text = display.as_text(display.oled_dots(report({0: b"\x01\x02\x03\x00\x04"}), "oled1"))
         lines = text.split("\n")

@@ -1,7 +1,7 @@
 #!/bin/sh
 # What other programs make of the same inputs: simavr moves the same pins of the examples in the same cycles, uno.c, a
 # second reading of the data sheet, those of sketches with timers, interrupts, ADC, Serial, SPI, Wire, watchdog, EEPROM and sleep, board.c, a second
-# reading of parts and nets, has the same waves of boards, chips.c, a second reading of docs/CHIPS.md, those of boards with chips,
+# reading of parts and nets, has the same waves of boards, both together those of random boards with OLEDs and keypads (boards.py), chips.c, a second reading of docs/CHIPS.md, those of boards with chips,
 # make.c, one of the generated project, counts the same, as does `run` on that project's files, and wabt answers the same to the
 # modules of the gate. What cannot be asked is skipped, and said on standard error.
 # Debian's packages: gcc, simavr, libsimavr-dev, gcc-avr; wabt, clang, lld. `--install` installs them first, which wants root.
@@ -164,6 +164,16 @@ with_board() { # NAME MICROSECONDS WORDS OF uno.c, which tell what its pins read
         grep -v '^cycles \|^uno ' "$folder/report" | cmp -s - "$folder/parts"
     says $? "$name on board.c"
 }
+on_board() { # NAME MICROSECONDS: the Uno and its board together, with the bytes and the whole report
+    name=$1 us=$2 script= words=
+    if [ -f "$examples/$name/script.txt" ]; then
+        script="--script $examples/$name/script.txt" words=script=$examples/$name/script.txt
+    fi
+    "$program" run "$examples/$name" --us "$us" $script --vcd "$folder/wave" --report "$folder/report" >"$folder/bytes"
+    "$folder/uno-board" "$examples/$name/diagram.json" "$((16 * us))" firmware="$examples/$name/$name.hex" $words serial="$folder/own" report="$folder/parts" |
+        cmp -s - "$folder/wave" && cmp -s "$folder/bytes" "$folder/own" && cmp -s "$folder/report" "$folder/parts"
+    says $? "$name on uno.c and board.c"
+}
 board_displays() { # NAME MICROSECONDS, of a row of displays.rows that has this diagram
     "$folder/uno" "$rows/$1.hex" "$((16 * $2))" >"$folder/pins.vcd"
     "$folder/board" "$rows/$1.json" "$((16 * $2))" uno="$folder/pins.vcd" report="$folder/parts" >/dev/null
@@ -184,6 +194,17 @@ if [ -x "$folder/uno" ] && cc -O2 -o "$folder/board" "$here/board.c"; then
     with_board shift-out 100000
     with_board spi-shift 100000
     with_board latch 20000 2=low @80002 2=high @192001 2=low
+fi
+if [ -x "$folder/board" ] && cc -O2 -DBOARD -o "$folder/uno-board" "$here/uno.c" "$here/board.c"; then
+    on_board oled-hello 80000
+    on_board keypad 260000
+    on_board lcd-i2c 50000
+    if have python3; then
+        PROGRAM=$program python3 -B "$here/boards.py" "$folder/uno-board" 1 40
+        says $? "random boards on uno.c and board.c"
+    else
+        echo "random boards: skipped, no python3" >&2
+    fi
 fi
 # chips.c, which has chips on the pins of uno.c and runs the sources that the modules are made of: whole waves and bytes of the gate's
 # rows, and of examples
