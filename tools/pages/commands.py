@@ -146,7 +146,7 @@ class Page:
             names.append(name)
         whole = work / "session.sh"
         whole.write_text("\n".join(session) + "\n")
-        written = subprocess.run(["sh", whole], cwd=self.folder, env=environment, capture_output=True, text=True, timeout=600)
+        written = subprocess.run(["sh", whole], cwd=self.folder, env=environment, capture_output=True, text=True, timeout=1800)
         ran = 0
         for (at, command, _, _), name in zip(self.steps, names):
             lacks, status = name.with_suffix(".lacks"), name.with_suffix(".status")

@@ -8,6 +8,7 @@ How the pages name things:
   `crate`: `call`, `Type::call` what crates/crate/src has; a name in brackets after a call is a clause of it, or a file
                                 there. After "as" and "an" stands a trait or type of a crate that this one uses
   `clause`                      an `ensures clause {` of the call that the section's text names as `crate::call`
+  0x44 to 0x46 | `A`, `B`       registers at these addresses: the value of the constant or the arm of `Register` of that name
   `law`, (Law, OtherLaw)        in a row: a definition, lemma, module, call or clause of a crate that the row names, or of
                                 one that this uses; in a sentence outside tables: of any crate, or a file
 """
@@ -19,6 +20,8 @@ TOP = pathlib.Path(__file__).resolve().parents[2]
 DECLARED = re.compile(r"\bpub (?:record |data |def )?([A-Za-z_][\w'-]*)")
 ITEM = re.compile(r"\b(?:fn|struct|enum|trait|type|const|mod) ([A-Za-z_]\w*)")
 CLAUSE = re.compile(r"\bensures\*? ([A-Za-z_]\w*) \{")
+CONSTANT = re.compile(r"(?:\bconst |^ +)([A-Z]\w*)(?:: u8|: u16|) = (0x[0-9A-F]+|\d+)[;,]", re.M)
+ARM = re.compile(r"^ +(0x[0-9A-F]+) => (?:Some\()?Register::(\w+)", re.M)
 VARIANT = re.compile(r"^ +([A-Z]\w*)(?:\(.*\)|)(?: = .*)?,$", re.M)
 QUOTED = re.compile(r"`([^`]+)`")
 GROUPED = re.compile(r"\(([A-Z][a-z]+\w*(?:, [A-Z][a-z]+\w*)*)\)")
@@ -37,8 +40,10 @@ class Crate:
         self.specs = {path.stem: self.declared(path) for path in folder.glob("specs/*.antt")}
         self.proofs = {path.stem: self.declared(path) for path in folder.glob("proofs/*.antt")}
         self.clauses = {}
-        items = set()
+        items, self.constants = set(), {}
         for path in folder.glob("src/**/*.rt"):
+            for name, value in [*CONSTANT.findall(path.read_text()), *((it, at) for at, it in ARM.findall(path.read_text()))]:
+                self.constants.setdefault(name, set()).add(int(value, 0))
             name = None
             for line in path.read_text().splitlines():
                 line = line.partition("//")[0]
@@ -106,7 +111,8 @@ class Page:
                 continue
             for name, inner in re.findall(r"([A-Za-z`][^,()]*?)(?: \(([^()]*)\))?(?:, |$)", (named[2] or "") if named else group):
                 if crate is None:
-                    self.must(any(name in self.crates[one].specs.get(module, ()) for one, module in given), name, " ".join(f"{one}: {module}" for one, module in given) or "a module that the text names")
+                    is_given = any(name in self.crates[one].specs.get(module, ()) for one, module in given)
+                    self.must(is_given, name, " ".join(f"{one}: {module}" for one, module in given) or "a module that the text names")
                 elif self.must(name in self.crates[crate].specs, f"{name}.antt", f"crates/{crate}/specs"):
                     for it in inner.replace("`", "").split(", ") if inner else ():
                         self.must(it in self.crates[crate].specs[name], it, f"crates/{crate}/specs/{name}.antt")
@@ -148,6 +154,18 @@ class Page:
                 if self.must(path.is_file(), file, path.parent.relative_to(self.top)):
                     for name in names.split(", ") if names else ():
                         self.must(re.search(rf"\b{re.escape(name)}\.hex\b", path.read_text()), f"{name}.hex", path.relative_to(self.top))
+
+    def registers(self, addresses, names):
+        """0x44 to 0x46, 0x50 and the names of the registers there"""
+        found = []
+        for part in addresses.split(", "):
+            first, _, last = part.partition(" to ")
+            found += range(int(first, 0), int(last or first, 0) + 1)
+        named = QUOTED.findall(names.partition(":")[0])
+        self.must(len(found) == len(named), f"address for each of {names}", addresses)
+        for address, name in zip(found, named):
+            known = set().union(*(crate.constants.get(name, ()) for it, crate in self.crates.items() if it.startswith("avr_")))
+            self.must(known == {address}, f"{name} at 0x{address:02X}", "the crates of the microcontroller")
 
     def text(self, text, places, where):
         """What a sentence names: `a::b`, `folder/file`, `crate`, or something of one of these places; (Law, OtherLaw)"""
@@ -224,6 +242,8 @@ class Page:
                 self.law(cell, crates)
             elif title == "rows":
                 self.rows(cell)
+            elif title == "register" and "address" in cells:
+                self.registers(cells["address"], cell)
             elif title == "promise":
                 near = self.below(crates | ({call[0]} if call else set()))
                 self.text(cell, [self.crates[it] for it in near], f"{' '.join(sorted(crates))} and what they use")
