@@ -19,7 +19,7 @@ FLASH_WORDS = 0x4000
 
 
 class Code:
-    """Instructions one after the other, and a guess at the cycles that they take."""
+    """Instructions one after another, and a guess at the cycles that they take."""
 
     def __init__(self):
         self.words, self.cycles = [], 0
@@ -238,16 +238,22 @@ WITH_PARAMETERS = {0x20: 1, 0x21: 2, 0x22: 2, 0x81: 1, 0x8D: 1, 0xA8: 1, 0xD3: 1
                    0xA3: 2, 0x29: 5, 0x2A: 5, 0x26: 6, 0x27: 6}
 
 
+def window(chance, places):
+    """First and last, mostly close to each other or to the end, now and then the wrong way round or with further bits."""
+    first = chance.randrange(places)
+    last = chance.choice([first, min(first + chance.randrange(1, 5), places - 1), places - 1, chance.randrange(256)])
+    return [first | chance.choice([0, 0, 0, 256 - places]), last] if chance.random() < 0.9 else [last, first]
+
+
 def command(chance):
     """The bytes of one command, mostly of one that moves where data go."""
     kind = chance.randrange(12)
     if kind < 2:
         return [0x20, chance.choice([0, 0, 1, 1, 2, 3, chance.randrange(256)])]
     if kind < 4:
-        return [0x21] + sorted([chance.randrange(128), chance.choice([127, chance.randrange(256)])],
-                               reverse=chance.random() < 0.1)
+        return [0x21] + window(chance, 128)
     if kind < 6:
-        return [0x22] + sorted([chance.randrange(8), chance.choice([7, chance.randrange(256)])], reverse=chance.random() < 0.1)
+        return [0x22] + window(chance, 8)
     if kind == 6:
         return [chance.randrange(0x20)]
     if kind == 7:
@@ -357,7 +363,7 @@ def firmware(chance, buses, cycles):
             code.out(PORTS[port] + chance.randrange(1, 3), chance.randrange(256) & ~(3 if port == "D" else 0))
             code.wait(chance.randrange(4))
     if chance.random() < 0.85:  # so that what is stored shows, whatever waits for parameters
-        whole(on, [0] + [0xE3] * 6 + [0xA4, 0xA6 + chance.randrange(2), 0xAF])
+        whole(on, [0] + [0xE3] * 6 + [chance.choice([0xA4] * 9 + [0xA5]), 0xA6 + chance.randrange(2), 0xAF])
     if chance.random() < 0.8:
         code.put(2, 0xCFFF)
     return code

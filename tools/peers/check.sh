@@ -1,10 +1,11 @@
 #!/bin/sh
 # What other programs make of the same inputs: simavr moves the same pins of the examples in the same cycles, uno.c, a
 # second reading of the data sheet, those of sketches with timers, interrupts, ADC, Serial, SPI, Wire, watchdog, EEPROM and sleep, board.c, a second
-# reading of parts and nets, has the same waves of boards, both together those of random boards with OLEDs and keypads (boards.py), chips.c, a second reading of docs/CHIPS.md, those of boards with chips,
+# reading of parts and nets, has the same waves of boards, both together those of random boards with OLEDs and keypads (boards.py), luma.oled, a library's
+# driver, draws the same pictures (luma_oled.py), chips.c, a second reading of docs/CHIPS.md, those of boards with chips,
 # make.c, one of the generated project, counts the same, as does `run` on that project's files, and wabt answers the same to the
 # modules of the gate. What cannot be asked is skipped, and said on standard error.
-# Debian's packages: gcc, simavr, libsimavr-dev, gcc-avr; wabt, clang, lld. `--install` installs them first, which wants root.
+# Debian's packages: gcc, simavr, libsimavr-dev, gcc-avr; wabt, clang, lld; python3-luma.oled. `--install` installs them first, which wants root.
 # PROGRAM is the program to try, target/mudflatjar if it is not set. Ends with 1 where one answers otherwise.
 here=$(cd "$(dirname "$0")" && pwd)
 program=${PROGRAM:-$here/../../target/mudflatjar}
@@ -15,7 +16,7 @@ trap 'rm -rf "$folder"' EXIT
 bad=0
 
 if [ "$1" = --install ]; then
-    apt-get install -y gcc libc6-dev simavr libsimavr-dev gcc-avr binutils-avr avr-libc wabt clang lld sigrok-cli gtkwave >&2 || exit 1
+    apt-get install -y gcc libc6-dev simavr libsimavr-dev gcc-avr binutils-avr avr-libc wabt clang lld python3-luma.oled sigrok-cli gtkwave >&2 || exit 1
 fi
 have() { # TOOLS
     for tool in "$@"; do command -v "$tool" >/dev/null || return 1; done
@@ -152,7 +153,7 @@ board_row() { # NAME MICROSECONDS DIAGRAM WORDS OF board.c
     says $? "row $name on board.c"
 }
 with_board() { # NAME MICROSECONDS WORDS OF uno.c, which tell what its pins read
-    name=$1 us=$2 script= words=
+    name=$1 us=$2 script='' words=''
     shift 2
     if [ -f "$examples/$name/script.txt" ]; then
         script="--script $examples/$name/script.txt" words=script=$examples/$name/script.txt
@@ -165,7 +166,7 @@ with_board() { # NAME MICROSECONDS WORDS OF uno.c, which tell what its pins read
     says $? "$name on board.c"
 }
 on_board() { # NAME MICROSECONDS: the Uno and its board together, with the bytes and the whole report
-    name=$1 us=$2 script= words=
+    name=$1 us=$2 script='' words=''
     if [ -f "$examples/$name/script.txt" ]; then
         script="--script $examples/$name/script.txt" words=script=$examples/$name/script.txt
     fi
@@ -205,6 +206,17 @@ if [ -x "$folder/board" ] && cc -O2 -DBOARD -o "$folder/uno-board" "$here/uno.c"
     else
         echo "random boards: skipped, no python3" >&2
     fi
+fi
+# a library's driver of the OLED, whose pictures the OLED has to show
+luma=
+for python in python3 /usr/bin/python3; do
+    [ -n "$luma" ] || ! "$python" -c 'import luma.oled.device, PIL.Image' 2>/dev/null || luma=$python
+done
+if [ -n "$luma" ]; then
+    PROGRAM=$program "$luma" -B "$here/luma_oled.py"
+    says $? "pictures of luma.oled on an OLED"
+else
+    echo "luma.oled: skipped, no python3-luma.oled" >&2
 fi
 # chips.c, which has chips on the pins of uno.c and runs the sources that the modules are made of: whole waves and bytes of the gate's
 # rows, and of examples
