@@ -5,8 +5,8 @@ HERE = os.path.dirname(os.path.abspath(__file__))
 FOLDER = os.path.join(HERE, "..", "..", "examples")
 MICROSECONDS = {
     "arduino-blink": 20000, "blink": 20, "button": 60000, "chip-blinker": 3000, "chip-counter": 10000, "chip-echo": 10000, "chip-inverter": 1000,
-    "chip-registers": 5000, "chip-thermometer": 20000, "counter": 30, "eeprom-counter": 250000, "fade": 20000, "i2c-scanner": 20000, "latch": 20000, "lcd-hello": 120000,
-    "lcd-i2c": 150000, "low-power": 1000000, "pin-interrupt": 30000, "pot-blink": 20000, "pot-serial": 120000, "pulse": 200, "serial-hello": 110000, "seven-segment": 50000,
+    "chip-registers": 5000, "chip-thermometer": 20000, "counter": 30, "eeprom-counter": 250000, "fade": 20000, "i2c-scanner": 20000, "latch": 20000, "keypad": 260000, "lcd-hello": 120000,
+    "lcd-i2c": 150000, "low-power": 1000000, "oled-hello": 80000, "pin-interrupt": 30000, "pot-blink": 20000, "pot-serial": 120000, "pulse": 200, "serial-hello": 110000, "seven-segment": 50000,
     "shift-out": 100000, "spi-loopback": 5000, "spi-shift": 30000, "tone": 20000, "watchdog": 500000,
 }
 DEFAULT = 20000

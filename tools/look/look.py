@@ -115,7 +115,7 @@ def kept_parts(folder):
 
 
 def keep_whole(folder, name):
-    """Whether a variable is kept from the start of the run on: text displays and the bytes that are sent rest on their whole wave."""
+    """Whether a variable is kept from the start of the run on: displays and the bytes that are sent rest on their whole wave."""
     displays, transmit = kept_parts(folder)
     return name == transmit or name.split(".")[0] in displays
 

@@ -25,5 +25,5 @@ def uno_of(diagram):
 
 
 def displays_of(diagram):
-    """The ids of the text displays: what they show rests on their whole wave."""
-    return {part["id"] for part in diagram["parts"] if part["type"] == "wokwi-lcd1602"}
+    """The ids of the text displays and OLEDs: what they show rests on their whole wave."""
+    return {part["id"] for part in diagram["parts"] if part["type"] in ("wokwi-lcd1602", "board-ssd1306")}

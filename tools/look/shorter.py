@@ -1,11 +1,11 @@
-"""What a wave does not hold, from the reports of shorter runs: when a line of the report first came, and what a display of a chip showed."""
+"""What a wave does not hold, from the reports of shorter runs: when a line of the report first came, and what chips showed."""
 import re
 
 from program import Refused
 
 CYCLES_A_MICROSECOND = 16
 ONCE = re.compile(r"uno \S+ (pc \S+ halt|ignored) ")            # lines that come and then stay
-SHOWN = re.compile(r"(chip \S+ (\||row) |oled )")               # lines of what is shown on the way
+SHOWN = re.compile(r"chip \S+ (\||row) ")                       # lines of what is shown on the way
 
 
 def first_times(report, us, runs):
@@ -35,8 +35,8 @@ def report_of(runs, us):
 
 
 def shown_times(waves, report, us, runs):
-    """[[cycle, lines], ..]: what chips and displays that no wave tells showed from that cycle on. Looks first where the pins
-    begin to rest, then always in the middle of the widest gap between two times that differ."""
+    """[[cycle, lines], ..]: what chips showed from that cycle on, which no wave tells. Looks first where the pins begin to rest,
+    then always in the middle of the widest gap between two times that differ."""
     lines_of = lambda text: [line for line in text or [] if SHOWN.match(line)]
     last = lines_of(report.split("\n"))
     if not last:

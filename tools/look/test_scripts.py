@@ -18,9 +18,13 @@ from page import data_of
 from program import Refused, run
 from test_run import hex_text, make_leaving, plain_reading
 
+sys.path.insert(1, os.path.join(examples.HERE, "..", "peers"))
+import boards  # noqa: E402
+
 PARTS_PAGE = os.path.join(examples.HERE, "..", "..", "docs", "PARTS.md")
 SUPPLIES = {"A4.2", "A5.2", "GND.1", "GND.2", "GND.3", "5V", "3.3V", "VIN", "IOREF", "AREF", "RESET"}
 TIMES = 50
+BROKEN = range(1, 11)   # seeds of random boards
 
 
 def given_of(name, us=None):
@@ -95,12 +99,17 @@ LINES = """{ const run = await runOfPage(given.data, given.packed), lcd = run.pa
   return { id: lcd.id, shown: given.us.map(us => states[Math.max(lastBefore(states, us * 16 - 1), 0)][1]), count: states.length }; }"""
 
 
+def times_near(changes, us):
+    """Fifty times of a run, many of them just before and after a change."""
+    near = {time for t in changes[1:: max(1, len(changes) // 15)] for time in (t // 16, t // 16 + 1) if 0 < time <= us}
+    return sorted(near | {us * k // (TIMES - len(near)) for k in range(1, TIMES - len(near) + 1)} if len(near) < TIMES else near)
+
+
 def check_display(name):
     """What the scripts say that the display shows, and the program's report, at fifty times, most of them just after a change."""
     given, _, _ = given_of(name)
     changes = evaluated("{ const run = await runOfPage(given.data, given.packed); return lcdStates(run, run.parts.find(p => p.type === 'wokwi-lcd1602')).map(([t]) => t); }", given)
-    near = {us for t in changes[1:: max(1, len(changes) // 15)] for us in (t // 16, t // 16 + 1) if 0 < us <= given["us"]}
-    times = sorted(near | {given["us"] * k // (TIMES - len(near)) for k in range(1, TIMES - len(near) + 1)} if len(near) < TIMES else near)
+    times = times_near(changes, given["us"])
     found = evaluated(LINES, {"data": given["data"], "packed": given["packed"], "us": times})
     with concurrent.futures.ThreadPoolExecutor(4) as pool:
         reports = list(pool.map(lambda us: run(examples.folder_of(name), us)[1], times))
@@ -110,6 +119,146 @@ def check_display(name):
         assert lines == told, (name, us, lines, told)
         shown.add(tuple(told))
     assert len(times) >= TIMES - 3 and len(shown) > 3, (len(times), shown)
+
+
+# ---- The OLED
+
+OLED_BYTES = """{ const out = [], run = await runOfPage(given.data, given.packed);
+  eachWritten(run, run.parts.find(p => p.type === 'board-ssd1306'), '0x3C', (t, value, isFirst) => out.push([t, value, isFirst])); return out; }"""
+OLED_LINES = """given.map(({ us, vcd, diagram, times }) => {
+  const run = runFrom({ title: '', us, diagram, vcd: bytesOf(vcd), report: '' }), oleds = run.parts.filter(p => p.type === 'board-ssd1306');
+  return times.map(time => oleds.flatMap(part => {
+    const { on, dots } = oledAt(run, part, time * 16 - 1);
+    return [`oled ${part.id} ${on ? 'on' : 'off'}`, ...upTo(PAGES).map(page => `oled ${part.id} page ${page} ${[...dots.slice(page * COLUMNS, (page + 1) * COLUMNS)].map(hex).join('')}`)];
+  }));
+})"""
+
+
+def oled_lines(report):
+    return [line for line in report.split("\n") if line.startswith("oled ")]
+
+
+def check_oled(name):
+    """The same of an OLED, at fifty times; they are asked in a mixed order, so that the display goes back too."""
+    given, _, _ = given_of(name)
+    times = times_near([t for t, _, _ in evaluated(OLED_BYTES, given)], given["us"])
+    times = times[::2] + times[-1::-2]
+    found = evaluated(OLED_LINES, [{"us": given["us"], "vcd": given["vcd"], "diagram": given["diagram"], "times": times}])[0]
+    script = examples.script_of(name)
+    with concurrent.futures.ThreadPoolExecutor(4) as pool:
+        reports = list(pool.map(lambda us: oled_lines(run(examples.folder_of(name), us, script)[1]), times))
+    for us, lines, told in zip(times, found, reports):
+        assert lines == told, (name, us)
+    assert len(times) >= TIMES - 3 and len({tuple(told) for told in reports}) > 20, len(times)
+
+
+# What the libraries send that most sketches use, as far as it is known (Debian has no package of them): Adafruit_SSD1306's begin() and display(), with the
+# commands of one write after one control byte, and U8g2's start and one row of tiles.
+ADAFRUIT = ["00 AE D5 80 A8", "00 3F", "00 D3 00 40 8D", "00 14", "00 20 00 A1 C8", "00 DA", "00 12", "00 81", "00 CF", "00 D9", "00 F1", "00 DB 40 A4 A6 2E AF"]
+U8G2 = ["00 AE", "00 D5 80", "00 A8 3F", "00 D3 00", "00 40", "00 8D 14", "00 20 00", "00 A1", "00 C8", "00 DA 12", "00 81 CF", "00 D9 F1", "00 DB 40", "00 2E", "00 A4", "00 A6", "00 AF"]
+
+
+def check_beginning():
+    """The example's own driver sends the commands of these libraries, in Adafruit's order."""
+    given, _, _ = given_of("oled-hello", 40000)
+    sent, control = [], None
+    for _, value, is_first in evaluated(OLED_BYTES, given):
+        if is_first:
+            control = value
+        elif control == 0x00:
+            sent.append(value)
+    commands = lambda writes: [byte for write in writes for byte in bytes.fromhex(write)[1:]]
+    assert sent[:len(commands(ADAFRUIT))] == commands(ADAFRUIT), bytes(sent).hex(" ")
+    assert sorted(commands(ADAFRUIT)) == sorted(commands(U8G2))
+
+
+def bus_wave(writes):
+    """A wave of an OLED's two pins on which these writes are made, each a list of bytes after the address 0x3C, at 20 cycles a bit."""
+    lines, t = [], 16
+
+    def put(scl, sda):
+        nonlocal t
+        lines.append(f"#{625 * t}\n{scl}!\n{sda}\"")
+        t += 5
+    for write in writes:
+        put(1, 1), put(1, 0), put(0, 0)
+        for byte in [0x78] + write:
+            for bit in [byte >> (7 - k) & 1 for k in range(8)] + [0]:
+                put(0, bit), put(1, bit), put(0, bit)
+        put(0, 0), put(1, 0), put(1, 1)
+    head = '$timescale 100 ps $end\n$scope module board $end\n$var wire 1 ! oled.SCL $end\n$var wire 1 " oled.SDA $end\n$upscope $end\n$enddefinitions $end\n'
+    return (head + "#0\n$dumpvars\n1!\n1\"\n$end\n" + "\n".join(lines) + f"\n#{625 * 16 * (t // 16 + 1)}\n").encode(), t // 16 + 1
+
+
+def check_writes():
+    """What the libraries send, and windows, modes and commands that wait."""
+    cases = [
+        ([bytes.fromhex(write) for write in ADAFRUIT + ["00 22 00 FF 21 00", "00 7F", "40 FF 01 02"]], True, {(0, 0): 0xFF, (0, 1): 1, (0, 2): 2}),
+        ([bytes.fromhex(write) for write in U8G2 + ["00 40 11 02 B3", "40 AA BB"]], True, {(3, 18): 0xAA, (3, 19): 0xBB}),
+        ([bytes.fromhex(write) for write in ["00 AF", "40 FF 01"]], True, {(0, 0): 0xFF, (0, 1): 1}),
+        ([bytes.fromhex(write) for write in ["00 AF 20 00 21 7F 7F 22 00 01", "40 AA BB CC"]], True, {(0, 127): 0xCC, (1, 127): 0xBB}),
+        ([bytes.fromhex(write) for write in ["00 AF 20 01 21 05 06 22 06 07", "40 01 02 03"]], True, {(6, 5): 1, (7, 5): 2, (6, 6): 3}),
+        ([bytes.fromhex(write) for write in ["80 AF C0 11 80 B2 40 22", "00 21 03", "40 33", "00 05 20", "00 00", "40 44"]], True, {(0, 0): 0x11, (2, 1): 0x22, (2, 2): 0x33, (2, 3): 0x44}),
+        ([bytes.fromhex(write) for write in ["00 A5", "40 55"]], False, {}),
+    ]
+    given = []
+    for writes, _, _ in cases:
+        vcd, us = bus_wave([list(write) for write in writes])
+        given.append({"us": us, "vcd": base64.b64encode(vcd).decode(), "diagram": SHOWING, "times": [us]})
+    for (writes, on, dots), lines in zip(cases, evaluated(OLED_LINES, given)):
+        cells = {(page, column): byte for page, line in enumerate(lines[0][1:9]) for column, byte in enumerate(bytes.fromhex(line.split(" ")[4])) if byte}
+        assert lines[0][0] == f"oled oled {'on' if on else 'off'}" and cells == dots, ([write.hex() for write in writes], lines[0][0], cells)
+
+
+def check_broken_frames():
+    """Boards with OLEDs whose firmware sends good and broken frames, made by tools/peers/boards.py: the scripts and the report at five times."""
+    given, told = [], []
+    for seed in BROKEN:
+        with tempfile.TemporaryDirectory() as box:
+            us, script = boards.make(seed, box), os.path.join(box, "script.txt")
+            _, _, vcd = run(box, us, script, lambda stream: stream.read())
+            times = [max(us * k // 5, 1) for k in (1, 3, 5, 4, 2)]
+            with open(os.path.join(box, "diagram.json"), encoding="utf-8") as file:
+                given.append({"us": us, "vcd": base64.b64encode(vcd).decode(), "diagram": json.load(file), "times": times})
+            told.append([oled_lines(run(box, time, script)[1]) for time in times])
+    for seed, lines, report in zip(BROKEN, evaluated(OLED_LINES, given), told):
+        assert lines == report, f"board of seed {seed}"
+    assert len({line for report in told for lines in report for line in lines if " page " in line and line.count("0") < 250}) > 20
+
+
+# ---- Formats of UART
+
+def uart_row(frames, bit, format_):
+    """The changes of a line at level 1 on which these bytes are sent."""
+    bits, parity, stops = int(format_[0]), format_[1], int(format_[2])
+    times, levels, t = [0], [1], 100
+    for byte in frames:
+        ones = bin(byte).count("1") & 1
+        row = [0] + [byte >> k & 1 for k in range(bits)] + ({"N": [], "E": [ones], "O": [1 - ones]}[parity]) + [1] * stops
+        for level in row:
+            if level != levels[-1]:
+                times.append(t), levels.append(level)
+            t += bit
+    return times, levels, t
+
+
+def check_formats():
+    """Bytes in each format, one after another without a pause; read with the other parity they say so."""
+    cases, given = [], []
+    for format_ in ("8N1", "8E1", "8O1", "8N2", "7E1", "7O2", "7N1", "5N1", "6E2", "9N1", "9O1"):
+        sent = [(37 * k + 5) % (1 << int(format_[0])) for k in range(40)]
+        times, levels, end = uart_row(sent, 16, format_)
+        cases.append((format_, sent))
+        given.append([times, levels, end, format_])
+    found = evaluated("given.map(([t, v, end, format]) => uartFrames(makeWave(Uint32Array.from(t), Uint8Array.from(v)), 16, end + 1, format).map(f => [f.from, f.to, f.value, f.text]))", given)
+    for (format_, sent), frames in zip(cases, found):
+        length = 16 * (1 + int(format_[0]) + (format_[1] != "N") + int(format_[2]))
+        assert [frame[2] for frame in frames] == sent, (format_, frames)
+        assert all(to - start == length and start == 100 + length * k for k, (start, to, _, _) in enumerate(frames)), format_
+        assert not any(text.endswith("parity") for _, _, _, text in frames)
+    times, levels, end = uart_row([0x41, 0x43], 16, "8E1")
+    wrong = evaluated("uartFrames(makeWave(Uint32Array.from(given[0]), Uint8Array.from(given[1])), 16, given[2] + 1, '8O1').map(f => f.text)", [times, levels, end])
+    assert wrong == ["A parity", "C parity"], wrong
 
 
 # ---- The parts
@@ -218,14 +367,17 @@ SHOWING = {"parts": [{"type": "wokwi-arduino-uno", "id": "uno"}, {"type": "board
 
 
 def check_showing():
-    """Displays that reports may tell of, from states that were made up: dots of an OLED, keys of a keypad, pixels and lines of a chip."""
-    page = "oled oled page 0 " + "81" + "00" * 127
-    states = [[0, []], [160, ["oled oled on", page, "chip c | hello", "chip c row 1 FF0000FF00000000", "chip d row 0 00FF00FF"]]]
+    """Dots of an OLED, keys of a keypad, and pixels and lines of a chip, of which reports may tell, from states that were made up."""
+    vcd, us = bus_wave([[0x00, 0xAF], [0x40, 0x81, 0x81, 0x01]])
+    drawn = evaluated("""{ const run = runFrom({ title: 'x', us: given[0], diagram: given[1], vcd: bytesOf(given[2]), report: '' }), board = drawBoard(run), out = [];
+      for (const t of [10, 16 * given[0], 10]) { board.update({ t, since: t }); out.push(boardPicture(board, ''), board.texts({ t, since: t })); } return out; }""", [us, SHOWING, base64.b64encode(vcd).decode()])
+    assert "M0 0h3v1h-3zM0 7h2v1h-2z" in drawn[2] and "M0 0h" not in drawn[0] and "M0 0h" not in drawn[4] and ["oled", "on, 5 dots lit"] in drawn[3] and ["oled", "off"] in drawn[1], drawn[3]
+    states = [[0, []], [160, ["chip c | hello", "chip c row 1 FF0000FF00000000", "chip d row 0 00FF00FF"]]]
     text = evaluated("""{ const run = makeRun({ title: 'x', cycles: 1600, diagram: given[0], script: '1us set keys 33', chips: { 'chip-screen': ['A'] }, names: [], of: [], waves: [], states: given[1] }), board = drawBoard(run);
       board.update({ t: 10, since: 10 }); const before = boardPicture(board, ''); board.update({ t: 200, since: 200 }); return [before, boardPicture(board, ''), board.texts({ t: 200, since: 200 })]; }""", [SHOWING, states])
     before, after, texts = text
     ET.fromstring(before)
-    assert "M0 0h1v1h-1z" not in before and "M0 0h1v1h-1zM0 7h1v1h-1z" in after and 'fill="#ff0000"' in after and 'fill="#00ff00"' in after and "M0 1h1v1h-1z" in after
+    assert "M0 0h1v1h-1z" not in before and 'fill="#ff0000"' in after and 'fill="#00ff00"' in after and "M0 1h1v1h-1z" in after
     assert ["c", "alive\nhello"] in texts and ["keys", "closed: 1 5"] in texts, texts
 
 
@@ -243,7 +395,8 @@ def check_notes():
 def everything():
     bad, decoders = 0, {}
     steps = [("every edge and byte in the scripts", lambda: decoders.update(check_reads())), ("frames", lambda: check_frames(decoders)), ("parts", check_parts),
-             ("geometry", check_geometry), ("boards", check_board), ("notes", check_notes), ("displays", check_showing), ("lcd-hello at fifty times", lambda: check_display("lcd-hello")), ("lcd-i2c at fifty times", lambda: check_display("lcd-i2c"))]
+             ("geometry", check_geometry), ("boards", check_board), ("notes", check_notes), ("displays", check_showing), ("formats of UART", check_formats), ("what an OLED is told", check_writes), ("how oled-hello begins", check_beginning),
+             ("OLEDs on broken frames", check_broken_frames), ("oled-hello at fifty times", lambda: check_oled("oled-hello")), ("lcd-hello at fifty times", lambda: check_display("lcd-hello")), ("lcd-i2c at fifty times", lambda: check_display("lcd-i2c"))]
     for name, step in steps:
         try:
             step()

@@ -7,13 +7,25 @@ const isPrintable = n => n >= 0x20 && n < 0x7F;
 const charText = n => isPrintable(n) ? String.fromCharCode(n) : n === 10 ? 'LF' : n === 13 ? 'CR' : hex(n);
 const reads = (wave, c) => +(levelAt(wave, c) === 1);
 
-// One frame of eight data bits whose start bit begins at cycle `start`: its byte, or -1 if the stop bit is low or not there yet.
-function uartByte(wave, start, bit, end) {
-  const middle = k => start + k * bit + (bit >> 1);
-  if (middle(9) >= end || reads(wave, middle(9)) === 0) return -1;
-  let value = 0;
-  for (let k = 1; k <= 8; k++) value += reads(wave, middle(k)) << (k - 1);
-  return value;
+// A frame's format as it is usually written: 5 to 9 data bits, no, even or odd parity, 1 or 2 stop bits.
+const UART_FORMAT = /^([5-9])([NEO])([12])$/, USUAL_FORMAT = '8N1';
+function formatOf(text) {
+  const [, bits, parity, stops] = UART_FORMAT.exec(text);
+  return { bits: Number(bits), parity, stops: Number(stops), length: 1 + Number(bits) + (parity === 'N' ? 0 : 1) + Number(stops) };
+}
+
+// One frame whose start bit begins at cycle `start`: its byte and whether its parity is right, or null if the first stop bit is low or
+// not there yet.
+function uartByte(wave, start, bit, end, { bits, parity, stops, length }) {
+  const middle = k => start + k * bit + (bit >> 1), stop = length - stops;
+  if (middle(stop) >= end || reads(wave, middle(stop)) === 0) return null;
+  let value = 0, ones = 0;
+  for (let k = 1; k < stop; k++) {
+    const one = reads(wave, middle(k));
+    if (k <= bits) value += one << (k - 1);
+    ones += one;
+  }
+  return { value, isRight: parity === 'N' || ones % 2 === (parity === 'O' ? 1 : 0) };
 }
 
 // Calls `visit(start)` for each fall at which a frame may begin; it answers the cycle before which no other frame begins.
@@ -26,13 +38,14 @@ function eachStart(wave, visit) {
   }
 }
 
-function uartFrames(wave, bit, end) {
-  const frames = [];
+function uartFrames(wave, bit, end, format = USUAL_FORMAT) {
+  const frames = [], parts = formatOf(format), stop = parts.length - parts.stops;
   eachStart(wave, start => {
-    const value = uartByte(wave, start, bit, end);
-    if (value < 0) return start + 1;
-    frames.push({ from: start, to: start + 10 * bit, value, kind: 'byte', text: charText(value) });
-    return start + 9 * bit + (bit >> 1);
+    const byte = uartByte(wave, start, bit, end, parts);
+    if (!byte) return start + 1;
+    const text = charText(byte.value) + (byte.isRight ? '' : ' parity');
+    frames.push({ from: start, to: start + parts.length * bit, value: byte.value, kind: 'byte', text });
+    return start + stop * bit + (bit >> 1);
   });
   return frames;
 }

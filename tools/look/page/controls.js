@@ -72,18 +72,21 @@ function makeDecoderForm(look) {
   const field = (placeholder, title) => make('input', { placeholder, title, 'aria-label': title, list: 'look-pins', spellcheck: false, className: 'pin-field' });
   const data = field('data', 'pin of the data line'), clock = field('clock', 'pin of the clock'), select = field('select', 'pin that selects, if there is one');
   const baud = make('input', { value: '9600', className: 'baud', 'aria-label': 'baud', title: 'baud' }), edge = make('select', { 'aria-label': 'edge' }, new Option('rise', 'rise'), new Option('fall', 'fall')), answer = make('output', { 'aria-live': 'polite' });
+  const format = make('input', { value: USUAL_FORMAT, className: 'format', 'aria-label': 'format', title: '5 to 9 data bits, parity N, E or O, 1 or 2 stop bits', spellcheck: false });
   const names = make('datalist', { id: 'look-pins' });
-  const show = () => { clock.hidden = kind.value === 'uart'; select.hidden = edge.hidden = kind.value !== 'spi'; baud.hidden = kind.value !== 'uart'; };
+  const show = () => { clock.hidden = kind.value === 'uart'; select.hidden = edge.hidden = kind.value !== 'spi'; baud.hidden = format.hidden = kind.value !== 'uart'; };
   kind.addEventListener('change', show); show();
   const add = () => {
     const pins = [data.value.trim(), ...(kind.value === 'uart' ? [] : [clock.value.trim()]), ...(kind.value === 'spi' && select.value.trim() ? [select.value.trim()] : [])];
-    const unknown = pins.find(pin => !look.run.waveOf.has(pin)), bit = Math.round(16e6 / Number(baud.value));
+    const unknown = pins.find(pin => !look.run.waveOf.has(pin)), bit = Math.round(16e6 / Number(baud.value)), written = format.value.trim().toUpperCase();
     if (unknown !== undefined) { setText(answer, `no pin “${unknown}”`); return; }
     if (kind.value === 'uart' && !(bit >= 2 && bit < 1e6)) { setText(answer, 'baud is a number'); return; }
+    if (kind.value === 'uart' && !UART_FORMAT.test(written)) { setText(answer, 'a format is one as 8N1 or 7E2'); return; }
     setText(answer, '');
-    look.addDecoder(kind.value === 'uart' ? { kind: 'uart', pins, bit } : kind.value === 'spi' ? { kind: 'spi', pins, sampleFall: edge.value === 'fall' } : { kind: 'i2c', pins });
+    const uart = { kind: 'uart', pins, bit, ...(written === USUAL_FORMAT ? {} : { format: written }) };
+    look.addDecoder(kind.value === 'uart' ? uart : kind.value === 'spi' ? { kind: 'spi', pins, sampleFall: edge.value === 'fall' } : { kind: 'i2c', pins });
   };
-  const form = make('div', { className: 'line decoder' }, 'decode ', kind, data, clock, select, baud, edge, button('add', 'puts a row of frames above the data line', add), button('remove all', 'no decoded rows', () => look.noDecoders()), answer, names);
+  const form = make('div', { className: 'line decoder' }, 'decode ', kind, data, clock, select, baud, format, edge, button('add', 'puts a row of frames above the data line', add), button('remove all', 'no decoded rows', () => look.noDecoders()), answer, names);
   form.addEventListener('focusin', () => { if (names.childElementCount !== look.run.names.length) names.replaceChildren(...look.run.names.map(name => new Option(name))); });
   return form;
 }

@@ -1,6 +1,7 @@
 'use strict';
-// The text display, told from the wave alone: a second reading of docs/PARTS.md, "The text display".
+// The text display and the OLED, told from the wave alone: a second reading of docs/PARTS.md, "The text display" and "The OLED".
 // `lcdStates(run, part)` is [[cycle, [line 1, line 2]], ..]: what is shown from that cycle on.
+// `oledAt(run, part, t)` is what is shown after cycle t: {on, dots}, a byte for each column of each page.
 
 const LCD_PINS = { full: 'VSS VDD V0 RS RW E D0 D1 D2 D3 D4 D5 D6 D7 A K'.split(' '), i2c: 'GND VCC SDA SCL'.split(' ') };
 const isI2c = part => part.attrs.pins === 'i2c';
@@ -67,19 +68,91 @@ function lcdByPins(run, part, taken) {
   }
 }
 
-// The expander's port: bits 0, 1, 2 are RS, RW and E, bits 4 to 7 are D4 to D7. It takes each byte that is written to its address.
-function lcdByI2c(run, part, taken) {
+// Calls `visit(t, value, isFirst)` for each byte that is written to the address of a part; `usual` is its address where no attribute says one.
+function eachWritten(run, part, usual, visit) {
   const scl = run.wave(part.id + '.SCL'), sda = run.wave(part.id + '.SDA');
   if (!scl || !sda) return;
-  const text = part.attrs.i2cAddress || '0x27', mine = (text.startsWith('0x') ? parseInt(text, 16) : parseInt(text, 10)) % 128;
-  let listening = false, port = 0;
+  const text = part.attrs.i2cAddress || usual, mine = (text.startsWith('0x') ? parseInt(text, 16) : parseInt(text, 10)) % 128;
+  let listening = false, isFirst = false;
   walkI2c(scl, sda, {
     start: () => { listening = false; }, stop: () => { listening = false; }, bit: () => {}, answer: () => {},
     byte: (t, value, address) => {
-      if (address) { listening = value === mine * 2; return; }
-      if (!listening) return;
-      if (port & 4 && !(value & 4) && !(value & 2)) taken(t, value & 1, value & 0xF0);
-      port = value;
+      if (address) { listening = value === mine * 2; isFirst = true; return; }
+      if (listening) visit(t, value, isFirst);
+      isFirst = false;
     },
   });
+}
+
+// The expander's port: bits 0, 1, 2 are RS, RW and E, bits 4 to 7 are D4 to D7. It takes each byte that is written to its address.
+function lcdByI2c(run, part, taken) {
+  let port = 0;
+  eachWritten(run, part, '0x27', (t, value) => {
+    if (port & 4 && !(value & 4) && !(value & 2)) taken(t, value & 1, value & 0xF0);
+    port = value;
+  });
+}
+
+// ---- The OLED
+
+const PARAMETERS = new Map([...[0x20, 0x81, 0x8D, 0xA8, 0xD3, 0xD5, 0xD9, 0xDA, 0xDB].map(byte => [byte, 1]), ...[0x21, 0x22, 0xA3].map(byte => [byte, 2]),
+  ...[0x29, 0x2A].map(byte => [byte, 5]), ...[0x26, 0x27].map(byte => [byte, 6])]);
+const COLUMNS = 128, PAGES = 8;
+
+class DotDisplay {
+  constructor() {
+    this.cells = new Uint8Array(PAGES * COLUMNS);
+    this.on = false; this.allLit = false; this.inverted = false; this.mode = 2;
+    this.column = { at: 0, first: 0, last: COLUMNS - 1, count: COLUMNS }; this.page = { at: 0, first: 0, last: PAGES - 1, count: PAGES };
+    this.told = [];                 // a command that waits for parameters, and those that came
+    this.control = null;            // the control byte that holds; null where the next byte is one
+  }
+  take(byte, isFirst) {
+    if (isFirst || this.control === null) { this.control = byte; return; }
+    if (this.control & 0x40) this.write(byte); else this.tell(byte);
+    if (this.control & 0x80) this.control = null;
+  }
+  write(byte) {
+    this.cells[this.page.at * COLUMNS + this.column.at] = byte;
+    if (this.mode > 1) { this.column.at = (this.column.at + 1) % COLUMNS; return; }
+    const [fast, slow] = this.mode === 0 ? [this.column, this.page] : [this.page, this.column];
+    if (DotDisplay.count(fast)) DotDisplay.count(slow);
+  }
+  static count(place) {             // whether it came to the end of its window and began anew
+    const ends = place.at === place.last;
+    place.at = ends ? place.first : (place.at + 1) % place.count;
+    return ends;
+  }
+  tell(byte) {
+    this.told.push(byte);
+    if (this.told.length <= (PARAMETERS.get(this.told[0]) || 0)) return;
+    const [command, first, last] = this.told;
+    this.told = [];
+    if (command < 0x10) this.column.at = (this.column.at & 0x70) | command;
+    else if (command < 0x20) this.column.at = (this.column.at & 0x0F) | (command & 7) << 4;
+    else if (command === 0x20) this.mode = first & 3;
+    else if (command === 0x21) DotDisplay.frame(this.column, first % COLUMNS, last % COLUMNS);
+    else if (command === 0x22) DotDisplay.frame(this.page, first % PAGES, last % PAGES);
+    else if (command >= 0xB0 && command <= 0xB7) this.page.at = command & 7;
+    else if (command === 0xA4 || command === 0xA5) this.allLit = command === 0xA5;
+    else if (command === 0xA6 || command === 0xA7) this.inverted = command === 0xA7;
+    else if (command === 0xAE || command === 0xAF) this.on = command === 0xAF;
+  }
+  static frame(place, first, last) { if (first <= last) Object.assign(place, { first, last, at: first }); }
+  dots() {
+    return this.cells.map(cell => !this.on ? 0 : this.allLit ? 0xFF : this.inverted ? cell ^ 0xFF : cell);
+  }
+}
+
+// The bytes are kept with their cycles, and played on from the moment that was asked for last, or from the beginning.
+function oledAt(run, part, t) {
+  const told = run.once('oled ' + part.id, () => {
+    const bytes = [];
+    eachWritten(run, part, '0x3C', (cycle, value, isFirst) => bytes.push([cycle, value, isFirst]));
+    return { bytes, next: 0, display: new DotDisplay() };
+  });
+  const until = lastBefore(told.bytes, t) + 1;
+  if (until < told.next) { told.next = 0; told.display = new DotDisplay(); }
+  for (; told.next < until; told.next++) told.display.take(told.bytes[told.next][1], told.bytes[told.next][2]);
+  return { key: until, on: told.display.on, dots: told.display.dots() };
 }

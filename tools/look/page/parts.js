@@ -306,18 +306,27 @@ PARTS['board-ssd1306'] = {
     for (const [name, [x]] of Object.entries(this.pins)) g.append(label(x, 17, name, { ...middle, 'font-size': 3.2, fill: '#dfe9f5' }));
     let shown = null;
     return moment => {
-      const pages = sampledLines(run, part.id, moment.t).filter(line => line.split(' ')[2] === 'page').map(line => line.split(' ')[4]), all = pages.join();
-      if (all === shown) return;
-      shown = all;
-      dots.setAttribute('d', pages.map((text, page) => dotsOf(text, page)).join(''));
+      const now = oledAt(run, part, moment.t);
+      if (now.key === shown) return;
+      shown = now.key;
+      dots.setAttribute('d', dotsOf(now.dots));
     };
   },
+  tell(part, run, moment) {
+    const { on, dots } = oledAt(run, part, moment.t);
+    return on ? `on, ${upTo(8).reduce((sum, k) => sum + dots.filter(byte => byte >> k & 1).length, 0)} dots lit` : 'off';
+  },
 };
-function dotsOf(text, page) {       // 128 columns of eight dots, the lowest bit on top
+function dotsOf(dots) {             // the lit stretches of each row; the lowest bit of a column is its upper dot
   let d = '';
-  for (let x = 0; x < 128; x++) {
-    const byte = parseInt(text.slice(2 * x, 2 * x + 2), 16);
-    for (let k = 0; k < 8; k++) if (byte >> k & 1) d += `M${x} ${8 * page + k}h1v1h-1z`;
+  for (let y = 0; y < 8 * PAGES; y++) {
+    const lit = x => x < COLUMNS && dots[(y >> 3) * COLUMNS + x] >> (y & 7) & 1;
+    for (let x = 0; x < COLUMNS; x++) {
+      if (!lit(x)) continue;
+      const from = x;
+      while (lit(x)) x++;
+      d += `M${from} ${y}h${x - from}v1h${from - x}z`;
+    }
   }
   return d;
 }

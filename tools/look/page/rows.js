@@ -58,14 +58,14 @@ const hasFrames = (run, decoder) => run.cache.has(JSON.stringify(decoder)) || de
 function framesOf(run, decoder) {
   const key = JSON.stringify(decoder), [data, clock, select] = decoder.pins.map(pin => run.wave(pin) || ALWAYS_LOW);
   return run.once(key, () => {
-    if (decoder.kind === 'uart') return uartFrames(data, decoder.bit, run.to);
+    if (decoder.kind === 'uart') return uartFrames(data, decoder.bit, run.to, decoder.format);
     if (decoder.kind === 'i2c') return i2cFrames(clock, data);
     return spiFrames(clock, data, { sampleFall: decoder.sampleFall === true, select: decoder.pins[2] ? select : null });
   });
 }
 
 function decoderTitle(run, decoder) {
-  if (decoder.kind === 'uart') return `UART ${grouped(Math.round(16e6 / decoder.bit))} baud`;
+  if (decoder.kind === 'uart') return `UART ${grouped(Math.round(16e6 / decoder.bit))} baud${decoder.format ? ' ' + decoder.format : ''}`;
   return decoder.kind === 'i2c' ? 'I2C' : 'SPI';
 }
 
