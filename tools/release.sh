@@ -1,7 +1,7 @@
 #!/bin/sh
 # Makes a release of the commit at hand from its built program:  tools/release.sh [--gate-passed] [PROGRAM]
-#   dist/              the program, the page in which it runs in a browser if target/web has its module, of which commit
-#                      and sources they are (RELEASE), and their sums: to be committed
+#   dist/              the program, the page in which it runs in a browser and the program for Node if target/web has their
+#                      module, of which commit and sources they are (RELEASE), and their sums: to be committed
 #   target/release/    an archive for Linux on x86-64, and its sum
 # PROGRAM is crates/sim_main/out/sim_main if it is not named. The commit's gate must have passed: .ci/run notes that in
 # target/mudflatjar.made; --gate-passed says that it passed elsewhere. The archive is unpacked and tried in an empty folder.
@@ -59,10 +59,13 @@ case $(printf '%s\n' "$libc" 2.34 | sort -V | tail -n 1) in 2.34) ;; *) stop "th
 rm -rf dist && mkdir dist || exit 1
 cp "$program" dist/mudflatjar && chmod 755 dist/mudflatjar || exit 1
 if [ -f tools/web/assemble.py ] && [ -f target/web/mudflatjar.wasm ]; then
-    ! grep -q unproved target/web/SUMS || stop "the module in target/web is not proved: tools/web/build.sh makes one that is"
+    grep -q '^# proved, ' target/web/SUMS || stop "the module in target/web is not proved: tools/web/build.sh makes one that is"
+    [ "$(word_of '# sources' target/web/SUMS)" = "$(tools/script/sources.sh sum page)" ] || stop "the module in target/web is of other sources: tools/web/build.sh makes it anew"
+    (cd target/web && sha256sum -c --quiet SUMS) || stop "the module in target/web is not the one that was built"
     python3 -B tools/web/assemble.py -o dist/mudflatjar.html || stop "the page could not be made"
+    python3 -B tools/web/assemble.py --node -o dist/mudflatjar.mjs || stop "the program for Node could not be made"
 else
-    say "without the page for a browser: target/web has no module (tools/web/build.sh makes it)"
+    say "without the page for a browser and the program for Node: target/web has no module (tools/web/build.sh makes it)"
 fi
 (cd dist && sha256sum mudflatjar* >SHA256SUMS) || exit 1
 printf 'commit %s\nkit %s\nsources %s\nglibc %s\n' "$commit" "$kit" "$sum" "$libc" >dist/RELEASE

@@ -2,9 +2,11 @@
 """Puts the simulator's module, the page's code and the examples together into one HTML file, which needs nothing else.
 
     assemble.py [-o FILE] [--modules FOLDER]
+    assemble.py --node [-o FILE] [--modules FOLDER]     the program for Node in one file in its place
 
-The modules, mudflatjar.wasm and mudflatjar32.wasm, are those of target/web (build.sh makes them), or of FOLDER; one is enough.
-The same files make the same bytes. The page's policy allows this script, this style and workers of its own, and no request.
+The modules, mudflatjar.wasm and mudflatjar32.wasm, are those of target/web (build.sh makes them), or of FOLDER. For the page one
+is enough; Node takes the second. The same files make the same bytes. The page's policy allows this script, this style and workers
+of its own, and no request.
 """
 import argparse
 import base64
@@ -23,7 +25,7 @@ import page as look
 # In this order, since each uses those before it.
 SCRIPTS = ["places.js", "script.js", "archive.js", "project.js", "machine.js", "hand.js", "editor.js", "saving.js", "app.js", "start.js"]
 MODULES = {"WIDE": "mudflatjar.wasm", "NARROW": "mudflatjar32.wasm"}
-MOST = 3_000_000            # bytes of the page
+MOST = 3_000_000            # bytes of what is made
 RULE = re.compile(r"^\| (\d\d) \| (\w+) \| (.+?) \| (.+?) \|$", re.M)
 COMMAND = re.compile(r"run examples/(\S+) --us (\d+)")
 
@@ -90,9 +92,12 @@ def template():
     return re.sub("@@([A-Z]+)@@", lambda match: values.get(match[1], match[0]), look.text_of("page.html"))
 
 
+def calls():
+    return re.sub(r"^export ", "", read(HERE, "call.mjs"), flags=re.M)
+
+
 def worker():
-    calls = re.sub(r"^export ", "", read(HERE, "call.mjs"), flags=re.M)
-    text = "'use strict';\n" + calls + read(HERE, "page", "worker.js").replace("'use strict';\n", "", 1)
+    text = "'use strict';\n" + calls() + read(HERE, "page", "worker.js").replace("'use strict';\n", "", 1)
     if "</script" in text:
         raise Fault("the worker's code ends its own element")
     return text
@@ -114,21 +119,40 @@ def page_of(modules):
     return re.sub("@@([A-Z]+)@@", lambda match: values[match[1]], read(HERE, "page", "app.html"))
 
 
+def replaced(text, old, new):
+    if text.count(old) != 1:
+        raise Fault(f"{old} is in mudflatjar.mjs {text.count(old)} times")
+    return text.replace(old, new)
+
+
+def program_of(modules):
+    """mudflatjar.mjs with what it imports, and with the module that each Node takes."""
+    with open(os.path.join(modules, MODULES["NARROW"]), "rb") as file:
+        module = packed(file.read())
+    found = re.search(r"^import (\{ .* \}) from './call.mjs';$", read(HERE, "mudflatjar.mjs"), re.M)
+    text = replaced(read(HERE, "mudflatjar.mjs"), found[0], f"const {found[1]} = (() => {{\n{calls()}return {found[1]};\n}})();")
+    return replaced(text, "const CARRIED = '';", f"const CARRIED = '{module}';")
+
+
 def main():
     words = argparse.ArgumentParser(description=__doc__.split("\n")[0])
-    words.add_argument("-o", default=os.path.join(ROOT, "target", "web", "mudflatjar.html"), metavar="FILE", help="target/web/mudflatjar.html if it is not named")
+    words.add_argument("--node", action="store_true", help="the program for Node in place of the page")
+    words.add_argument("-o", metavar="FILE", help="target/web/mudflatjar.html or target/web/mudflatjar.mjs if it is not named")
     words.add_argument("--modules", default=os.path.join(ROOT, "target", "web"), metavar="FOLDER")
     given = words.parse_args()
+    to = given.o or os.path.join(ROOT, "target", "web", "mudflatjar.mjs" if given.node else "mudflatjar.html")
     try:
-        text = page_of(given.modules)
+        text = (program_of if given.node else page_of)(given.modules)
         if len(text.encode()) > MOST:
-            raise Fault(f"the page has {len(text.encode()):,} bytes, more than {MOST:,}")
-        with open(given.o, "w", encoding="utf-8") as file:
+            raise Fault(f"{to} would have {len(text.encode()):,} bytes, more than {MOST:,}")
+        with open(to, "w", encoding="utf-8") as file:
             file.write(text)
+        if given.node:
+            os.chmod(to, 0o755)
     except (OSError, Fault) as why:
         print(f"assemble: {why}", file=sys.stderr)
         return 1
-    print(f"{given.o}: {len(text.encode()):,} bytes")
+    print(f"{to}: {len(text.encode()):,} bytes")
     return 0
 
 

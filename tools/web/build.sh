@@ -2,74 +2,108 @@
 # build.sh [--try]: makes the simulator's module for browsers and Node, in target/web:
 #   mudflatjar.wasm    for a memory of 64 bits
 #   mudflatjar32.wasm  the same for a memory of 32 bits, where binaryen's wasm-opt is there
-#   SUMS               their SHA-256 sums, and of what kind they are
-# It proves crates/page first, and all crates below it. With --try it proves nothing: it compiles, for a first look.
+#   SUMS               of what kind and of which sources they are, and their SHA-256 sums
+# It proves crates/page and all crates below it. What the toolchain keeps of earlier runs of `rt ci` on this machine is not
+# proved again. With --try it proves nothing: it compiles, for a first look.
 set -euo pipefail
 here=$(cd "$(dirname "$0")" && pwd)
 root=$(cd "$here/../.." && pwd)
 to=$root/target/web
+sources=$root/tools/script/sources.sh
+log=$to/build.log
 STACK=4194304
 say() { echo "web: $*" >&2; }
-case $*:$# in
-:0 | --try:1) ;;
---help:1) sed -n '2,6s/^# //p' "$0"; exit 0 ;;
-*) sed -n '2,6s/^# //p' "$0" >&2; exit 2 ;;
+stop() {
+    say "$*"
+    exit 1
+}
+broken() { # WHY; what the toolchain said last stands before it
+    tail -n 20 "$log" >&2
+    stop "$1; target/web/build.log has all of it"
+}
+case "$*" in
+"") kind=proved export=mudflatjar ;;
+--try) kind=unproved export=mudflatjar=page_try::mudflatjar ;;
+--help)
+    sed -n '2,/^set /s/^# //p' "$0"
+    exit 0
+    ;;
+*)
+    sed -n '2,/^set /s/^# //p' "$0" >&2
+    exit 2
+    ;;
 esac
-command -v rt >/dev/null || { say "the toolchain's command rt is not there"; exit 1; }
+command -v rt >/dev/null || stop "the toolchain's command rt is not there"
 kit=$(dirname "$(rt doc)")
 work=$(mktemp -d)
 trap 'rm -rf "$work"' EXIT
+repo=$work/repo
 mkdir -p "$to"
 
-# The toolchain as it is, but with a clang that first keeps the module that it is given.
-view_of_toolchain() {
-    local it
-    mkdir -p "$work/kit/bin" "$work/kit/toolchain/bin"
-    for it in "$kit"/*; do case ${it##*/} in bin | toolchain) ;; *) ln -s "$it" "$work/kit/" ;; esac; done
-    for it in "$kit"/bin/*; do case ${it##*/} in rt | rtlib.py) cp "$it" "$work/kit/bin/" ;; *) ln -s "$it" "$work/kit/bin/" ;; esac; done
-    for it in "$kit"/toolchain/*; do [ "${it##*/}" = bin ] || ln -s "$it" "$work/kit/toolchain/"; done
-    for it in "$kit"/toolchain/bin/*; do [ "${it##*/}" = clang ] || ln -s "$it" "$work/kit/toolchain/bin/"; done
-    printf '#!/bin/sh\n[ ! -f module.bc ] || cp module.bc "%s"\n%s\n' "$work/module.bc" "$1" >"$work/kit/toolchain/bin/clang"
-    chmod +x "$work/kit/toolchain/bin/clang"
+links_to() { # FOLDER TO BUT..: in the folder TO, links to what FOLDER has but these names
+    local it from=$1 into=$2
+    shift 2
+    mkdir -p "$into"
+    for it in "$from"/*; do case " $* " in *" ${it##*/} "*) ;; *) ln -s "$it" "$into/" ;; esac; done
+}
+# The toolchain's compilers as they are, but for a clang that first keeps the module that it is given, and then does LINE.
+with_clang() { # LINE TO
+    links_to "$kit/toolchain" "$2" bin
+    links_to "$kit/toolchain/bin" "$2/bin" clang
+    printf '#!/bin/sh\n[ ! -f module.bc ] || cp module.bc "%s"\n%s\n' "$work/module.bc" "$1" >"$2/bin/clang"
+    chmod +x "$2/bin/clang"
 }
 
+# `rt ci` proves the crates side by side and leaves the libraries; then the compiler is called as `rt ci` calls it for a
+# program: it checks crates/page over these libraries, and compiles it once it is proved.
 proved() {
-    view_of_toolchain "exec '$kit/toolchain/bin/clang' \"\$@\""
-    cd "$root/crates/page"
-    rm -f out/libpage.a
-    say "proving crates/page and what is below it; from nothing this takes an hour or more, later only what changed"
-    "$work/kit/bin/rt" lib --cpu x86-64 >"$to/build.log" 2>&1 </dev/null || { tail -n 20 "$to/build.log" >&2; say "the proof failed; target/web/build.log has all of it"; exit 1; }
-    grep '^logic=proved' "$to/build.log" || { say "target/web/build.log does not say that the crate is proved"; exit 1; }
+    local it named words=()
+    "$sources" copy page "$repo"
+    mkdir "$repo/.git"
+    say "proving crates/page and what is below it; where nothing is kept, this takes an hour or more"
+    (cd "$repo" && rt ci) >"$log" 2>&1 </dev/null || broken "the proof failed"
+    tail -n 1 "$log" | grep -q ' 0 failed$' || broken "rt ci does not say that all passed"
+    for it in $("$sources" names page); do
+        [ "$it" = page ] || words+=(-L "dependency=$repo/crates/$it/out/rlib")
+    done
+    read -r -a named <<<"$(sed -n 's/^page .*://p' "$repo/crates.txt")"
+    for it in "${named[@]}"; do words+=(--extern "$it=$repo/crates/$it/out/rlib/$it.rlib"); done
+    with_clang "exec '$kit/toolchain/bin/clang' \"\$@\"" "$work/toolchain"
+    cd "$repo/crates/page"
+    say "compiling crates/page"
+    "$kit/bin/rattle" build --crate-name page src/lib.rt --crate-type staticlib --cpu x86-64 \
+        --extern "std=$kit/rlibs/std.rlib" -L "dependency=$kit/rlibs" "${words[@]}" \
+        --antt-project "$kit/rattle/logic/antt-project.json" --logic-built "$kit/logic_built" --links page= --empty-contracts \
+        --toolchain "$work/toolchain" --backend llvm -o "$work/libpage.a" >"$work/said" 2>&1 </dev/null || { cat "$work/said" >>"$log" && broken "crates/page was not built"; }
+    cat "$work/said" >>"$log"
+    grep '^logic=proved ' "$work/said" || broken "the toolchain does not say that crates/page is proved"
 }
 
 # A copy of the crates with a program in place of the library, whose main calls the export: only of a program does the
 # toolchain compile what is not proved. It need not be built to its end, so clang stops once the module is kept; the small
 # module before it only tells the toolchain what clang can do.
 unproved() {
-    local repo=$work/repo
-    view_of_toolchain "[ ! -f module.bc ] || [ \"\$(wc -c <module.bc)\" -lt 100000 ] || exit 1
-exec '$kit/toolchain/bin/clang' \"\$@\""
-    mkdir -p "$repo/crates/page_try/src"
-    for it in "$root"/crates/*/; do
-        it=$(basename "$it")
-        [ "$it" != page ] || continue
-        mkdir -p "$repo/crates/$it"
-        cp -r "$root/crates/$it/src" "$repo/crates/$it/"
-        [ ! -d "$root/crates/$it/specs" ] || cp -r "$root/crates/$it/specs" "$repo/crates/$it/"
-    done
-    sed 's/^page staticlib:/page_try:/' "$root/crates.txt" >"$repo/crates.txt"
-    cp "$root/HANDLES" "$repo/"
-    cat "$root/crates/page/src/lib.rt" - >"$repo/crates/page_try/src/main.rt" <<'RT'
+    local view=$work/kit
+    links_to "$kit" "$view" bin toolchain
+    links_to "$kit/bin" "$view/bin" rt rtlib.py
+    cp "$kit/bin/rt" "$kit/bin/rtlib.py" "$view/bin/"
+    with_clang "[ ! -f module.bc ] || [ \"\$(wc -c <module.bc)\" -lt 100000 ] || exit 1
+exec '$kit/toolchain/bin/clang' \"\$@\"" "$view/toolchain"
+    "$sources" copy page "$repo"
+    mv "$repo/crates/page" "$repo/crates/page_try"
+    sed -i 's/^page staticlib:/page_try:/' "$repo/crates.txt"
+    cat - >>"$repo/crates/page_try/src/lib.rt" <<'RT'
 
 fn main(rt: HostRuntime) {
     let mut out = [0u8; 8];
     let _answer = mudflatjar(rt.alloc(), b"", 0, 0, 0, &mut out);
 }
 RT
+    mv "$repo/crates/page_try/src/lib.rt" "$repo/crates/page_try/src/main.rt"
     cd "$repo/crates/page_try"
     say "compiling without a proof"
-    "$work/kit/bin/rt" try </dev/null >"$to/build.log" 2>&1 || true
-    [ -f "$work/module.bc" ] || { tail -n 20 "$to/build.log" >&2; say "it does not compile; target/web/build.log has all of it"; exit 1; }
+    "$view/bin/rt" try </dev/null >"$log" 2>&1 || true
+    [ -f "$work/module.bc" ] || broken "it does not compile"
 }
 
 # The words that rattle gives clang for wasm64.
@@ -89,14 +123,9 @@ compile() { # FROM.bc TO.wasm EXPORT
     "$kit/bin/rattle-link" --target wasm64-unknown-unknown --toolchain "$kit/toolchain" --stack "$STACK" -o "$2" libpage.a
 }
 
-kind=proved export=mudflatjar
-if [ "${1:-}" = --try ]; then
-    kind=unproved export=mudflatjar=page_try::mudflatjar
-    unproved
-else
-    proved
-fi
-[ -f "$work/module.bc" ] || { say "this toolchain hands clang no module.bc: tools/web/build.sh has to be adapted to it"; exit 1; }
+sum=$("$sources" sum page)
+"$kind"
+[ -f "$work/module.bc" ] || stop "this toolchain hands clang no module.bc: tools/web/build.sh has to be adapted to it"
 say "compiling for wasm"
 compile "$work/module.bc" "$work/mudflatjar.wasm" "$export"
 python3 "$here/module.py" "$work/mudflatjar.wasm"
@@ -114,5 +143,5 @@ else
 fi
 cd "$to"
 # shellcheck disable=SC2086
-{ echo "# $kind, by $(rt version)"; sha256sum $names; } >SUMS
+{ echo "# $kind, by $(rt version)"; echo "# sources $sum"; sha256sum $names; } >SUMS
 cat SUMS

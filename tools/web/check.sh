@@ -40,7 +40,12 @@ fi
 [ ! -f "$modules/SUMS" ] || quietly "the modules' sums" sh -c "cd '$modules' && sha256sum --quiet -c SUMS"
 if command -v node >/dev/null; then
     quietly "the examples in Node" env PROGRAM="$here/mudflatjar.mjs" "$root/examples/check.sh"
-    quietly "files and outputs in Node" "$here/test/edges.sh"
+    if [ -f "$modules/mudflatjar32.wasm" ]; then
+        quietly "the program for Node in one file" "$here/assemble.py" --node -o "$work/mudflatjar.mjs"
+        quietly "files and outputs in Node" env PROGRAM="$work/mudflatjar.mjs" "$here/test/edges.sh"
+    else
+        skip "no module for a memory of 32 bits (Debian's binaryen makes it): the program for Node in one file is not tried"
+    fi
 fi
 browser=
 for name in "${CHROMIUM:-chromium}" chromium-browser google-chrome chrome; do

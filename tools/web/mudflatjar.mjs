@@ -1,18 +1,21 @@
 #!/usr/bin/env node
 // The program on Node, by its module: node mudflatjar.mjs run FOLDER --us N ..
 // The words and statuses are those of docs/COMMANDS.md and docs/REFUSALS.md. What a run writes comes at its end.
-// The module is beside this file, or where MUDFLATJAR_WASM says.
+// The module is in this file, where assemble.py made it, or beside it, or where MUDFLATJAR_WASM says.
 import fs from 'node:fs';
 import path from 'node:path';
+import zlib from 'node:zlib';
 import { fileURLToPath } from 'node:url';
 import { OUT_OF_MEMORY, simulateWhole } from './call.mjs';
 
 const LONGEST = 16777216 + 1;       // of a longer file the program reads no more than this, and refuses it
 const encoder = new TextEncoder(), decoder = new TextDecoder();
+const CARRIED = '';
 
 class ReadFailed extends Error {}
 
 function compiled() {
+  if (CARRIED && !process.env.MUDFLATJAR_WASM) return new WebAssembly.Module(zlib.inflateSync(Buffer.from(CARRIED, 'base64')));
   const here = path.dirname(fileURLToPath(import.meta.url)), names = ['mudflatjar.wasm', 'mudflatjar32.wasm'];
   const found = process.env.MUDFLATJAR_WASM ? [process.env.MUDFLATJAR_WASM]
     : names.flatMap(name => [path.join(here, name), path.join(here, '../../target/web', name)]).filter(file => fs.existsSync(file));

@@ -1,8 +1,9 @@
 #!/bin/sh
 # The program in Node on the real system: its outputs and their faults, and the same faults of words and files as elsewhere.
+# PROGRAM is the program to try.
 here=$(cd "$(dirname "$0")" && pwd)
 root=$(cd "$here/../../.." && pwd)
-program=$here/../mudflatjar.mjs
+program=${PROGRAM:-$here/../mudflatjar.mjs}
 folder=$(mktemp -d) || exit 1
 trap 'rm -rf "$folder"' EXIT
 cd "$folder" || exit 1

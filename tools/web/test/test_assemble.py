@@ -1,5 +1,5 @@
 #!/usr/bin/env python3
-"""assemble.py: what it reads of documents and examples, and that its page allows only what is in it."""
+"""assemble.py: what it reads of documents and examples, that its page allows only what is in it, and the program for Node."""
 import base64
 import hashlib
 import os
@@ -7,6 +7,7 @@ import re
 import sys
 import tempfile
 import unittest
+import zlib
 
 HERE = os.path.dirname(os.path.abspath(__file__))
 sys.dont_write_bytecode = True
@@ -57,6 +58,14 @@ class Assemble(unittest.TestCase):
             self.assertEqual(len(found), 1)
             digest = base64.b64encode(hashlib.sha256(found[0].encode()).digest()).decode()
             self.assertRegex(policy, rf"{element} 'sha256-{re.escape(digest)}'")
+
+    def test_the_program_for_node_holds_all_that_it_needs(self):
+        with tempfile.TemporaryDirectory() as box:
+            page(box)
+            text = assemble.program_of(box)
+        self.assertNotIn("call.mjs", text)
+        module = re.search(r"^const CARRIED = '(.+)';$", text, re.M)[1]
+        self.assertEqual(zlib.decompress(base64.b64decode(module)), b"\0asm\1\0\0\0")
 
     def test_without_a_module_there_is_no_page(self):
         with tempfile.TemporaryDirectory() as box, self.assertRaisesRegex(assemble.Fault, "no module"):
