@@ -41,6 +41,7 @@ fi
 if command -v node >/dev/null; then
     quietly "the examples in Node" env PROGRAM="$here/mudflatjar.mjs" "$root/examples/check.sh"
     if [ -f "$modules/mudflatjar32.wasm" ]; then
+        quietly "calls of the module" node --test "$here/test/test_call.mjs"
         quietly "the program for Node in one file" "$here/assemble.py" --node -o "$work/mudflatjar.mjs"
         quietly "files and outputs in Node" env PROGRAM="$work/mudflatjar.mjs" "$here/test/edges.sh"
     else

@@ -51,12 +51,11 @@ function withFirmware(project, name, bytes) {
 function adviceOf(project) {
   const firmware = firmwareOf(project), hex = [...project.files.keys()].filter(isHex);
   if (!project.files.size) return 'Open an example, or drop a project\'s folder, its ZIP archive or a HEX file here.';
-  if (!hex.length && !(firmware && project.files.has(firmware))) {
-    return 'There is no firmware: a page cannot compile a sketch. In the Arduino IDE choose Sketch, Export Compiled Binary, and drop the file NAME.ino.hex (not the one with_bootloader) here.';
-  }
+  const isBare = !hex.length && !(firmware && project.files.has(firmware));
   if (/"wokwi-breadboard/.test(textOf(project, 'diagram.json'))) {
-    return 'The diagram has a breadboard. tools/wokwi/lower.py of Mudflatjar\'s folder makes wires of it; drop what it writes here.';
+    return `The diagram has a breadboard${isBare ? ', and there is no firmware' : ''}. tools/wokwi/lower.py of Mudflatjar's folder makes wires of it${isBare ? ' and compiles the sketch' : ''}; drop the folder that it writes here.`;
   }
+  if (isBare) return 'There is no firmware: a page cannot compile a sketch. In the Arduino IDE choose Sketch, Export Compiled Binary, and drop the file NAME.ino.hex (not the one with_bootloader) here.';
   return null;
 }
 

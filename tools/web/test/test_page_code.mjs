@@ -117,10 +117,11 @@ test('what a folder lacks is made or said', () => {
   assert.equal(page.complete(project).length, 2);
   assert.equal(page.firmwareOf(project), 'sketch.ino.hex');
   assert.equal(page.adviceOf(project), null);
+  assert.match(page.adviceOf(page.makeProject('p', [['diagram.json', bytes('{}')], ['sketch.ino', bytes('')]])), /Export Compiled Binary/);
   const sketch = page.makeProject('p', [['diagram.json', bytes('{"parts":[{"type":"wokwi-breadboard-half"}]}')], ['sketch.ino', bytes('')]]);
-  assert.match(page.adviceOf(sketch), /Export Compiled Binary/);
+  assert.match(page.adviceOf(sketch), /breadboard, and there is no firmware.* compiles the sketch/);
   page.withFirmware(sketch, 'b.hex', bytes(''));
-  assert.match(page.adviceOf(sketch), /breadboard/);
+  assert.match(page.adviceOf(sketch), /breadboard\. .* makes wires of it;/);
 });
 
 test('the words of a run name the files as they are passed', () => {
