@@ -3,8 +3,9 @@
 # second reading of the data sheet, those of sketches with timers, interrupts, ADC, Serial, SPI, Wire, watchdog, EEPROM and sleep, board.c, a second
 # reading of parts and nets, has the same waves of boards, both together those of random boards with OLEDs and keypads (boards.py), luma.oled, a library's
 # driver, draws the same pictures (luma_oled.py), chips.c, a second reading of docs/CHIPS.md, those of boards with chips,
-# make.c, one of the generated project, counts the same, as does `run` on that project's files, and wabt answers the same to the
-# modules of the gate. What cannot be asked is skipped, and said on standard error.
+# make.c, one of the generated project, counts the same, as does `run` on that project's files, cuts.py, one of docs/REFUSALS.md,
+# has the same rows of files that end too early, and wabt answers the same to the modules of the gate. What cannot be asked is
+# skipped, and said on standard error.
 # Debian's packages: gcc, simavr, libsimavr-dev, gcc-avr; wabt, clang, lld; python3-luma.oled. `--install` installs them first, which wants root.
 # PROGRAM is the program to try, target/mudflatjar if it is not set. Ends with 1 where one answers otherwise.
 here=$(cd "$(dirname "$0")" && pwd)
@@ -291,6 +292,12 @@ else
     echo "avr-gcc: skipped, it is not installed" >&2
 fi
 
+if have python3; then
+    python3 -B "$here/cuts.py" --check
+    says $? "rows of files that are cut on cuts.py"
+else
+    echo "cuts.py: skipped, no python3" >&2
+fi
 if have python3 wasm-validate wast2json spectest-interp clang wasm-ld; then
     # on standard error it names what it skips
     python3 "$here/../modules/make.py" --check >"$folder/said" && [ ! -s "$folder/said" ]

@@ -24,21 +24,38 @@ pub struct Ended {
 impl Ended {
     /// What first differs from the row, the status or a port.
     pub fn difference(&self, row: &Row) -> Option<&'static str> {
-        let wave = self.bench.written(Port::Wave);
         if self.status != row.status {
             Some("status")
         } else if !self.is_opened_as(row.opened.as_str()) {
             Some("name of the wave")
         } else if self.bench.written(Port::Complaint) != row.complaint.as_slice() {
             Some("complaint")
-        } else if self.bench.written(Port::Report) != row.report.as_slice() {
+        } else if !is_as(
+            self.bench.written(Port::Report),
+            &row.report,
+            row.is_report_begun,
+        ) {
             Some("report")
         } else if self.bench.written(Port::Serial) != row.serial.as_slice() {
             Some("serial")
-        } else if row.is_wave_begun && row.wave.starts_with(wave) {
-            None
-        } else if wave != row.wave.as_slice() {
+        } else if !is_as(self.bench.written(Port::Wave), &row.wave, row.is_wave_begun) {
             Some("wave")
+        } else {
+            None
+        }
+    }
+
+    /// What first differs from a refusal with this line, in which no other port changes.
+    pub fn difference_from_refusal(&self, line: &str) -> Option<&'static str> {
+        if self.status != 3 {
+            Some("status")
+        } else if self.written(Port::Complaint) != line.as_bytes() {
+            Some("complaint")
+        } else if !self.name(Port::Wave).is_empty()
+            || !self.name(Port::Report).is_empty()
+            || !self.written(Port::Serial).is_empty()
+        {
+            Some("open port")
         } else {
             None
         }
@@ -79,6 +96,11 @@ impl Ended {
         }
         Ok(())
     }
+}
+
+/// Whether bytes are a text, or where that is only begun any first part of it.
+fn is_as(bytes: &[u8], text: &[u8], is_begun: bool) -> bool {
+    bytes == text || is_begun && text.starts_with(bytes)
 }
 
 fn call<L: Ledger>(alloc: Global, words: &[String], bench: &mut MemBench, blank: Blank) -> u8

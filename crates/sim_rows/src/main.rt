@@ -44,7 +44,7 @@ fn play_row(rt: &HostRuntime, name: &str, part: &str, stage: &Stage, row: &Row) 
     for number in row.first..=row.last {
         count = count.saturating_add(1);
         let ended = run_once(rt.alloc(), stage, row, number)?;
-        match difference(rt, stage, row, &ended)? {
+        match difference(rt, stage, row, number, &ended)? {
             None => {}
             Some(port) => {
                 println!(rt; "{name}: another {port} than this row has, at {number}:\n{part}")?;
@@ -60,9 +60,13 @@ fn difference(
     rt: &HostRuntime,
     stage: &Stage,
     row: &Row,
+    number: u32,
     ended: &Ended,
 ) -> io::Result<Option<&'static str>> {
-    let differs = ended.difference(row);
+    let differs = match row.refusal(rt.alloc(), number)? {
+        Some(line) => ended.difference_from_refusal(line.as_str()),
+        None => ended.difference(row),
+    };
     if differs.is_some() || !row.is_listed() {
         return Ok(differs);
     }
