@@ -32,6 +32,8 @@ for name in start-loops init-calls-itself grows-and-stores name-at-the-end name-
     clang-counter clang-inverter; do
     cp "$data/$name.wasm" "$runs"
 done
+# a section without a name, for 1,048,384 bytes that are not here
+{ cat "$runs/inverter.wasm" && printf '\000\301\376\077\000'; } >"$runs/inverter-and-a-long-section.wasm" || exit 1
 for name in inverter counter; do
     "$top/sdk/build.sh" -O0 -o "$runs/clang-$name-O0.wasm" "$top/examples/chip-$name/$name.c" || exit 1
     chmod a-x "$runs/clang-$name-O0.wasm"

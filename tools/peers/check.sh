@@ -176,10 +176,11 @@ on_board() { # NAME MICROSECONDS: the Uno and its board together, with the bytes
         cmp -s - "$folder/wave" && cmp -s "$folder/bytes" "$folder/own" && cmp -s "$folder/report" "$folder/parts"
     says $? "$name on uno.c and board.c"
 }
-board_displays() { # NAME MICROSECONDS, of a row of displays.rows that has this diagram
+board_displays() { # NAME MICROSECONDS ROWS, of a row that has this diagram
     "$folder/uno" "$rows/$1.hex" "$((16 * $2))" >"$folder/pins.vcd"
     "$folder/board" "$rows/$1.json" "$((16 * $2))" uno="$folder/pins.vcd" report="$folder/parts" >/dev/null
-    awk -v name="$1.json" '$1 == "file" && $2 == "p/diagram.json" { here = $3 == name } here && sub(/^reports lcd/, "lcd")' "$rows/displays.rows" |
+    awk -v name="$1.json" '$1 == "file" && $2 == "p/diagram.json" { here = $3 == name }
+        here && /^reports (lcd|shift) / { sub(/^reports /, ""); print }' "$rows/$3.rows" |
         cmp -s - "$folder/parts"
     says $? "displays of $1 on board.c"
 }
@@ -189,8 +190,9 @@ if [ -x "$folder/uno" ] && cc -O2 -o "$folder/board" "$here/board.c"; then
     board_row lamps 2 lamps.json script="$rows/lamps.script"
     board_row shift 20 chain.json
     board_row shift-spi 50 chain.json
-    board_displays lcd-8 1000
-    board_displays lcd-4 5000
+    board_displays lcd-8 1000 displays
+    board_displays lcd-4 5000 displays
+    board_displays many-pins 6000 limits
     with_board seven-segment 450000
     with_board lcd-hello 150000
     with_board shift-out 100000

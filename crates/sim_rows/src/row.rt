@@ -165,9 +165,8 @@ impl Row {
             return Ok(());
         }
         match words.as_slice() {
-            [] | ["file" | "lines", _, _] | ["text", _, ..] | ["empty", _] | ["no", "files"] => {
-                Ok(())
-            }
+            [] | ["no", "files"] | ["file" | "fill", _, _] | ["empty", _] => Ok(()),
+            ["text", _, ..] | ["lines", _, _, ..] => Ok(()),
             [first, ..] if first.starts_with('#') => Ok(()),
             _ => println!(rt; "not understood: {line}"),
         }
@@ -183,7 +182,7 @@ pub fn read_row(rt: &HostRuntime, part: &str) -> io::Result<Row> {
     Ok(row)
 }
 
-fn number(word: &str) -> u32 {
+pub fn number(word: &str) -> u32 {
     word.parse::<u32>().unwrap_or(0)
 }
 
@@ -199,7 +198,8 @@ pub fn behind<'a>(line: &'a str, key: &str) -> &'a str {
     line.strip_prefix(key).unwrap_or("")
 }
 
-fn add_line(text: &mut Vec<u8>, line: &str) -> Result<(), AllocError> {
+/// Adds a line to a text.
+pub fn add_line(text: &mut Vec<u8>, line: &str) -> Result<(), AllocError> {
     text.extend_from_slice(line.as_bytes())?;
     text.push(b'\n')?;
     Ok(())

@@ -1,5 +1,5 @@
 //! The files that the program finds.
-use crate::row::behind;
+use crate::row::{add_line, behind, number};
 use std::alloc::{AllocError, Global};
 use std::{fs, io};
 
@@ -34,27 +34,40 @@ impl Stage {
         Ok(())
     }
 
-    fn add_line(&mut self, name: &str, text: &str) -> Result<(), AllocError> {
-        let mut bytes = Vec::from_slice(self.alloc, text.trim().as_bytes())?;
-        bytes.push(b'\n')?;
+    fn add_lines(&mut self, name: &str, count: u32, text: &str) -> Result<(), AllocError> {
+        let mut bytes = Vec::new(self.alloc);
+        for _ in 0..count {
+            add_line(&mut bytes, text.trim())?;
+        }
         self.add(name, bytes)
+    }
+
+    fn fill(&mut self, name: &str, count: u32) -> Result<(), AllocError> {
+        for file in &mut self.files {
+            if file.name.as_str() == name {
+                file.bytes.resize(count as usize, b'\n')?;
+            }
+        }
+        Ok(())
     }
 
     /// From this row on:
     /// - `file NAME DATA`: the file has the bytes of `data/DATA`
     /// - `text NAME TEXT`: the file is that one line
-    /// - `lines NAME N`: the file is so many line feeds
+    /// - `lines NAME N TEXT`: the file is that line, so many times
     /// - `empty NAME`: the file has no bytes
+    /// - `fill NAME N`: line feeds end the file, which then has so many bytes
     /// - `no files`: there is none
     pub fn read_line(&mut self, rt: &HostRuntime, line: &str) -> io::Result<()> {
         let words: Vec<&str> = line.split_whitespace().collect(self.alloc)?;
         match words.as_slice() {
             ["file", name, data] => self.add(name, fs::read(rt, *data)?)?,
-            ["text", name, ..] => self.add_line(name, behind(behind(line, "text "), name))?,
-            ["lines", name, count] => {
-                let count = count.parse::<u32>().unwrap_or(0);
-                self.add(name, vec![in self.alloc; b'\n'; count as usize]?)?;
+            ["text", name, ..] => self.add_lines(name, 1, behind(behind(line, "text "), name))?,
+            ["lines", name, count, ..] => {
+                let text = behind(behind(line, "lines "), name).trim();
+                self.add_lines(name, number(count), behind(text, count))?;
             }
+            ["fill", name, count] => self.fill(name, number(count))?,
             ["empty", name] => self.add(name, Vec::new(self.alloc))?,
             ["no", "files"] => self.files.clear(),
             _ => {}
