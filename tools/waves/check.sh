@@ -1,8 +1,8 @@
 #!/bin/sh
 # Writes the waves of the examples, and that of a board with more variables than there are characters to name them, and
 # says whether sigrok-cli and vcd2fst read each to its end and find in it what stands there, and whether sigrok-cli's decoders
-# of UART, I2C and SPI find what was sent. A tool that is missing is
-# skipped (Debian's packages sigrok-cli and gtkwave have them). Ends with 1 where a wave is not written or read otherwise.
+# of UART, I2C and SPI find what was sent, and whether `decode` finds the same as they and as frames.py. A tool that is missing
+# is skipped (Debian's packages sigrok-cli and gtkwave have them). Ends with 1 where a wave is not written or read otherwise.
 here=$(cd "$(dirname "$0")" && pwd)
 program=${PROGRAM:-$here/../../target/mudflatjar}
 examples=$here/../../examples
@@ -108,6 +108,41 @@ modes() { # MODE LINE BYTES
         "spi:clk=uno.13:mosi=uno.11:miso=uno.12:cs=uno.$((2 + mode)):cpol=$((mode / 2)):cpha=$((mode % 2))" "spi=$line-data"
 }
 
+# what `decode` finds is what frames.py finds, cycle by cycle
+frames() { # NAME WAVE WORDS
+    name=$1
+    shift
+    "$program" decode "$@" >"$folder/found" && "$here/frames.py" "$@" | cmp -s - "$folder/found"
+    says $? "$name" "the same by decode and by frames.py, $(wc -l <"$folder/found") lines"
+}
+# and what sigrok's decoder finds is the same, as `decode` says it: bytes, acknowledges and framing
+sigrok() { # WAVE DECODER ANNOTATIONS
+    sigrok-cli -I vcd:downsample=625 -i "$1" -P "$2" -A "$3" | sed 's/^[^ ]*: //'
+}
+same() { # NAME, FILE OF WHAT SIGROK FOUND; decode's lines on standard input
+    [ -s "$2" ] && cmp -s - "$2"
+    says $? "$1" "the same by decode and by sigrok-cli"
+}
+uart_frames() { # NAME WAVE LINE BAUD BIT
+    frames "$1 at $4 baud" "$2" --uart "$3" --bit "$5"
+    have sigrok-cli || return
+    sigrok "$2" "uart:rx=$3:baudrate=$4" uart=rx-data | tr 'a-f' 'A-F' >"$folder/sigrok"
+    sed 's/^uart [0-9]* 0x\(..\) .*/\1/' "$folder/found" | same "$1 at $4 baud" "$folder/sigrok"
+}
+spi_frames() { # NAME WAVE SCK LINE MODE
+    frames "$1 in mode $5" "$2" --spi "$3" --data "$4" --mode "$5"
+    have sigrok-cli || return
+    sigrok "$2" "spi:clk=$3:mosi=$4:cpol=$(($5 / 2)):cpha=$(($5 % 2))" spi=mosi-data >"$folder/sigrok"
+    sed 's/^spi [0-9]* 0x//' "$folder/found" | same "$1 in mode $5" "$folder/sigrok"
+}
+i2c_frames() { # NAME WAVE SCL SDA
+    frames "$1" "$2" --i2c "$3" --sda "$4"
+    have sigrok-cli || return
+    sigrok "$2" "i2c:scl=$3:sda=$4:address_format=unshifted" i2c=start:repeat-start:stop:ack:nack:address-write:address-read:data-write:data-read |
+        sed -n 's/^Start.*/start/p; s/^Stop/stop/p; s/^ACK/ack/p; s/^NACK/nack/p; s/^[AD].*: /0x/p' >"$folder/sigrok"
+    sed 's/^i2c [0-9]* //; s/ /\n/' "$folder/found" | same "$1" "$folder/sigrok"
+}
+
 have sigrok-cli || echo "sigrok-cli: skipped" >&2
 have vcd2fst fst2vcd || echo "vcd2fst: skipped" >&2
 
@@ -157,4 +192,43 @@ if have sigrok-cli; then
     modes 3 mosi 20 55 8A BF 04 AA 51
     modes 3 miso 48 FF 00 20 01 55 8A 04
 fi
+# what `decode` finds in waves of the examples and of the gate's rows
+"$program" run "$examples/serial-hello" --us 350000 --vcd "$folder/wave" >"$folder/bytes"
+uart_frames serial-hello "$folder/wave" uno.1 9600 1667
+"$program" run "$examples/pot-serial" --us 290000 --vcd "$folder/wave" >"$folder/bytes"
+uart_frames pot-serial "$folder/wave" uno.1 115200 139
+"$program" run "$examples/chip-echo" --us 10000 --vcd "$folder/wave" >"$folder/bytes"
+uart_frames chip-echo "$folder/wave" uno.1 115200 139
+uart_frames "chip-echo, pin 0," "$folder/wave" uno.0 115200 139
+"$program" run "$examples/spi-shift" --us 50000 --vcd "$folder/wave" >"$folder/bytes"
+spi_frames spi-shift "$folder/wave" uno.13 uno.11 0
+"$program" run "$examples/spi-loopback" --us 5000 --vcd "$folder/wave" >"$folder/bytes"
+spi_frames spi-loopback "$folder/wave" uno.13 uno.12 0
+for mode in 0 1 2 3; do
+    spi_frames "chips in all modes" "$rows/spi-chip.vcd" uno.13 uno.11 $mode
+done
+"$program" run "$examples/i2c-scanner" --us 20000 --vcd "$folder/wave" >"$folder/bytes"
+i2c_frames i2c-scanner "$folder/wave" uno.A5 uno.A4
+"$program" run "$examples/chip-thermometer" --us 50000 --vcd "$folder/wave" >"$folder/bytes"
+i2c_frames chip-thermometer "$folder/wave" uno.A5 uno.A4
+i2c_frames "a chip with notes" "$rows/i2c-chip.vcd" uno.A5 uno.A4
+
+# as many variables as there may be, and one more
+variables() { # COUNT; a wave in which the last one sends the byte 0x55, 16 cycles a bit
+    awk -v count="$1" 'BEGIN {
+        for (i = 0; i < 94; i++) char[i] = sprintf("%c", 33 + i)
+        print "$timescale 100 ps $end\n$scope module board $end"
+        for (i = 0; i < count; i++) { code[i] = i < 94 ? char[i] : char[int((i - 94) / 94)] char[(i - 94) % 94]; print "$var wire 1 " code[i] " v" i " $end" }
+        print "$upscope $end\n$enddefinitions $end\n#0\n$dumpvars"
+        for (i = 0; i < count; i++) print "1" code[i]
+        print "$end"
+        for (k = 0; k < 10; k++) print "#" 625 * (5 + 16 * k) "\n" k % 2 code[count - 1]
+        print "#" 625 * 200
+    }'
+}
+variables 8930 >"$folder/wave"
+uart_frames "8,930 variables" "$folder/wave" v8929 1000000 16
+variables 8931 >"$folder/wave"
+[ "$(cd "$folder" && "$program" decode wave --uart v0 --bit 16 2>&1)" = "wave: refused 90 WaveHead line 8933" ]
+says $? "8,931 variables" "refused"
 exit $bad

@@ -2,9 +2,10 @@
 ghost use Rattle.std.specs.Prelude.{◌≡◌, ◌≤◌, ◌<◌, map, string_bytes, IfOk, IfSome};
 ghost use Rattle.std.specs.Option.{option_map, option_and_then};
 ghost use Rattle.words_model.specs.Words.{Given, texts_of};
+ghost use Rattle.words_model.specs.Request.{bit_of, bus_of, decode_of, decode_syntax, i2c_of, is_absent, lacks_i2c, lacks_spi, lacks_uart, mode_of, spi_of, uart_of};
 ghost use Rattle.words_model.specs.Request.{request_of, asked_by, bare_syntax, bare_of, check_syntax, check_of, module_syntax, module_of, run_syntax, run_of, replay_syntax, replay_of, twin_syntax, twin_of, seed_of, make_syntax, make_of, path_of, file_of, named_of, micros_of, budget_of};
 ghost use Rattle.cli_words.specs.Commands.{AreOf};
-ghost use Rattle.cli_words.specs.Asked.{asked_of, named_by, IsRunTime};
+ghost use Rattle.cli_words.specs.Asked.{asked_of, bus_by, named_by, IsNamedBus, IsRunTime};
 
 use crate::commands::{read_texts, text};
 use crate::number::read_number;
@@ -17,6 +18,17 @@ pub struct NamedFiles<'a> {
     pub script: Option<&'a str>,
     pub wave: Option<&'a str>,
     pub report: Option<&'a str>,
+}
+
+/// The lines of a serial bus, by the names of a wave's variables.
+#[derive(Clone, Copy)]
+pub enum NamedBus<'a> {
+    /// A line, and the cycles of a bit, 2 to 1,000,000.
+    Uart(&'a str, u32),
+    /// The clock, the data and the mode, 0 to 3.
+    Spi(&'a str, &'a str, u8),
+    /// The clock and the data.
+    I2c(&'a str, &'a str),
 }
 
 /// What the words ask for; microseconds are 1 to 10,000,000, and so are units of fuel.
@@ -39,6 +51,8 @@ pub enum Request<'a> {
     Twin(&'a str, &'a str, u32, u32),
     /// A run of the board that is generated from a seed, for so many microseconds.
     Make(u32, u32),
+    /// The frames on a bus, read from a wave.
+    Decode(&'a str, NamedBus<'a>),
 }
 
 /// A file or a folder, whose name is not empty.
@@ -287,6 +301,135 @@ fn read_make(alloc: Global, given: &[String]) -> Result<Option<Request<'_>>, All
     }
 }
 
+/// Whether no text has a name.
+fn is_absent(matches: &ArgMatches, name: &str) -> bool
+    ensures { (given : Given) → AreOf given matches.now → result ≡ is_absent name.now given }
+{
+    text(matches, name).is_none()
+}
+
+fn lacks_uart(matches: &ArgMatches) -> bool
+    ensures { (given : Given) → AreOf given matches.now → result ≡ lacks_uart given }
+{
+    is_absent(matches, "uart") && is_absent(matches, "bit")
+}
+
+fn lacks_spi(matches: &ArgMatches) -> bool
+    ensures { (given : Given) → AreOf given matches.now → result ≡ lacks_spi given }
+{
+    is_absent(matches, "spi") && (is_absent(matches, "data") && is_absent(matches, "mode"))
+}
+
+fn lacks_i2c(matches: &ArgMatches) -> bool
+    ensures { (given : Given) → AreOf given matches.now → result ≡ lacks_i2c given }
+{
+    is_absent(matches, "i2c") && is_absent(matches, "sda")
+}
+
+/// The cycles of a bit.
+fn bit(matches: &ArgMatches) -> Option<u32>
+    ensures asked { (given : Given) → AreOf given matches.now → result ≡ bit_of given }
+    ensures range { IfSome result (λ n. (2 ≤ n) × (n ≤ 1000000)) }
+{
+    match text(matches, "bit") {
+        Some(word) => read_number(2, 1_000_000, word),
+        None => None,
+    }
+}
+
+/// The mode of SPI.
+fn mode(matches: &ArgMatches) -> Option<u32>
+    ensures asked { (given : Given) → AreOf given matches.now → result ≡ mode_of given }
+    ensures range { IfSome result (λ n. n < 4) }
+{
+    match text(matches, "mode") {
+        Some(word) => read_number(0, 3, word),
+        None => None,
+    }
+}
+
+/// `--uart NAME --bit N`
+fn uart<'a>(matches: &ArgMatches<'a>) -> Option<NamedBus<'a>>
+    ensures asked { (given : Given) → AreOf given matches.now → option_map bus_by result ≡ uart_of given }
+    ensures range { IfSome result IsNamedBus }
+{
+    if !(lacks_spi(matches) && lacks_i2c(matches)) {
+        return None;
+    }
+    match (text(matches, "uart"), bit(matches)) {
+        (Some(line), Some(bit)) => Some(NamedBus::Uart(line, bit)),
+        _ => None,
+    }
+}
+
+/// `--spi SCK --data NAME --mode M`
+fn spi<'a>(matches: &ArgMatches<'a>) -> Option<NamedBus<'a>>
+    ensures asked { (given : Given) → AreOf given matches.now → option_map bus_by result ≡ spi_of given }
+    ensures range { IfSome result IsNamedBus }
+{
+    if !(lacks_uart(matches) && lacks_i2c(matches)) {
+        return None;
+    }
+    match (text(matches, "spi"), text(matches, "data"), mode(matches)) {
+        (Some(clock), Some(line), Some(mode)) => Some(NamedBus::Spi(clock, line, mode as u8)),
+        _ => None,
+    }
+}
+
+/// `--i2c SCL --sda NAME`
+fn i2c<'a>(matches: &ArgMatches<'a>) -> Option<NamedBus<'a>>
+    ensures asked { (given : Given) → AreOf given matches.now → option_map bus_by result ≡ i2c_of given }
+    ensures range { IfSome result IsNamedBus }
+{
+    if !(lacks_uart(matches) && lacks_spi(matches)) {
+        return None;
+    }
+    match (text(matches, "i2c"), text(matches, "sda")) {
+        (Some(clock), Some(line)) => Some(NamedBus::I2c(clock, line)),
+        _ => None,
+    }
+}
+
+/// One of the three.
+fn bus<'a>(matches: &ArgMatches<'a>) -> Option<NamedBus<'a>>
+    ensures asked { (given : Given) → AreOf given matches.now → option_map bus_by result ≡ bus_of given }
+    ensures range { IfSome result IsNamedBus }
+{
+    if let Some(uart) = uart(matches) {
+        return Some(uart);
+    }
+    match spi(matches) {
+        Some(spi) => Some(spi),
+        None => i2c(matches),
+    }
+}
+
+fn decode<'a>(matches: &ArgMatches<'a>) -> Option<Request<'a>>
+    ensures asked { (given : Given) → AreOf given matches.now → option_map asked_of result ≡ decode_of given }
+    ensures run_time { IfSome result IsRunTime }
+{
+    match (path(matches, "wave"), bus(matches)) {
+        (Some(wave), Some(bus)) => Some(Request::Decode(wave, bus)),
+        _ => None,
+    }
+}
+
+/// `decode WAVE` with the words of a bus
+fn read_decode(alloc: Global, given: &[String]) -> Result<Option<Request<'_>>, AllocError>
+    ensures request { IfOk result (λ o. option_map asked_of o ≡ option_and_then decode_of (texts_of decode_syntax (map string_bytes given.entry.now))) }
+    ensures run_time { IfOk result (λ o. IfSome o IsRunTime) }
+{
+    match read_texts(
+        alloc,
+        &["wave"],
+        &["uart", "bit", "spi", "data", "mode", "i2c", "sda"],
+        given,
+    )? {
+        Some(matches) => Ok(decode(&matches)),
+        None => Ok(None),
+    }
+}
+
 /// The request of a command with these words after it.
 fn read_command<'a>(
     alloc: Global,
@@ -304,6 +447,7 @@ fn read_command<'a>(
         "replay" => read_replay(alloc, given),
         "twin" => read_twin(alloc, given),
         "make" => read_make(alloc, given),
+        "decode" => read_decode(alloc, given),
         _ => Ok(None),
     }
 }

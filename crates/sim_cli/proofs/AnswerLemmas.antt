@@ -1,15 +1,16 @@
 -- Each request has one answer, and those that run no board count no wakes.
-use Rattle.std.proofs.Common.{ℕ, List, Option, None, Some, Ok}
+use Rattle.std.proofs.Common.{◌≡◌, ℕ, List, Option, None, Some, Ok, arith}
 use Rattle.sim_base.specs.Outside.{Outside, Files}
-use Rattle.outcome_model.specs.Outcome.{Outcome, Accepted, NoRequest, Stopped, ReadFailed, WriteFailed, OutOfMemory, status_of}
+use Rattle.outcome_model.specs.Outcome.{Hold, Outcome, Accepted, NoRequest, Stopped, ReadFailed, WriteFailed, OutOfMemory, status_of}
 use Rattle.outcome_model.specs.Happens.{Answer, Ends}
 use Rattle.outcome_model.specs.Happens as outcomes
 use Rattle.outcome_model.proofs.EndLemmas.{accepted_counts, counts_asked}
+use Rattle.outcome_model.proofs.ReadLemmas.{if_some}
 use Rattle.cli_project.specs.Answer.{CheckAnswer}
 use Rattle.cli_project.proofs.ProjectLemmas.{one_check, check_only}
 use Rattle.outcome_model.specs.Stop.{Missing, Refused, Texts}
 use Rattle.cli_module.specs.Answer.{ModuleAnswer}
-use Rattle.words_model.specs.Request.{Request, Bare, Check, Module, Run, Replay, Twin, Make}
+use Rattle.words_model.specs.Request.{Request, Bare, Check, Module, Run, Replay, Twin, Make, Decode}
 use Rattle.outcome_model.specs.Promises.{HoldsAnswer, IsOne}
 use Rattle.outcome_model.proofs.PromiseLemmas.{holds_answer}
 use Rattle.oled_law.specs.OledRun.{AreShown}
@@ -23,9 +24,12 @@ use Rattle.cli_replay.specs.Answer.{ReplayAnswer}
 use Rattle.cli_replay.proofs.ReplayLemmas.{one_replay}
 use Rattle.cli_twin.proofs.AnswerLemmas.{one_twin}
 use Rattle.cli_make.proofs.MakeLemmas.{one_make}
+use Rattle.wave_decode.specs.declared.bus.Bus.{Bus}
+use Rattle.cli_decode.specs.Answer.{DecodeAnswer}
+use Rattle.cli_decode.proofs.AnswerLemmas.{one_decode, decode_wakes}
 use Rattle.board_outputs.specs.Run.{Outputs}
 use Rattle.cli_run.specs.Answer.{PlayAnswer, AnswerSuch}
-use Rattle.sim_cli.specs.Answers.{Answers, AnswersWith, AnswersSuch, RunBy, outputs_to}
+use Rattle.sim_cli.specs.Answers.{Answers, AnswersWith, AnswersSuch, RunBy, bus_of, first_line, outputs_to, second_line}
 use Rattle.sim_cli.specs.Promises.{Happens, HappensIsolated, HoldsPlay, HoldsAlone, HoldsWorlds, HoldsShown, Counts, CountsWakes}
 
 pub one : (r : Request) → IsOne (Answers r)
@@ -36,6 +40,7 @@ one (Run folder us budget named) = one_run folder us named.script budget (output
 one (Replay folder wave us named) = one_replay folder wave us named.script (outputs_to named)
 one (Twin folder other us budget) = one_twin folder other us budget
 one (Make seed us) = one_make seed us
+one (Decode wave bus) = one_decode wave (first_line bus) (second_line bus) (bus_of bus)
 
 -- what answers are, the ports hold
 held_so : {R : Type 0} (one other : R → Answer) → ((r : R) (files : Files) (t : Texts) → one r files (Ok t) → other r files (Ok t)) →
@@ -54,6 +59,7 @@ with_run one other is (Run folder us budget named) files t e = is folder us name
 with_run one other is (Replay folder wave us named) files t e = e
 with_run one other is (Twin folder second us budget) files t e = e
 with_run one other is (Make seed us) files t e = e
+with_run one other is (Decode wave bus) files t e = e
 
 -- what the ports hold after a run whose chips are isolated
 module _ (a b : Outside) (o : Outcome) (asked : Option Request) (happens : HappensIsolated o asked a b) where
@@ -81,6 +87,19 @@ check_counts folder o a b n ends = accepted_counts (CheckAnswer folder) (check_o
 
 pub module_counts : (name : List ℕ) (o : Outcome) (a b : Outside) (n : ℕ) → Ends (ModuleAnswer name) o a b → outcomes.Counts (ModuleAnswer name) o a n n
 module_counts name o a b n ends = accepted_counts (ModuleAnswer name) (module_only name) o a b n ends
+
+-- an answer that counts no wakes
+silent_counts : (answer : Answer) → ((files : Files) (t : Texts) → answer files (Ok t) → t.wakes ≡ 0) → (o : Outcome) (a b : Outside) (n : ℕ) → Ends answer o a b → outcomes.Counts answer o a n n
+silent_counts answer only Accepted a b n ends = λ e. if_some a.files _ _ (λ (files : Files) (x : (t : Texts) × answer files (Ok t) × Hold t a b). (x.0, x.1, rw (only files x.0 x.1) (omega arith))) ends.1
+silent_counts answer only NoRequest a b n ends = absurd ends
+silent_counts answer only (Stopped s) a b n ends = λ e. absurd (cc)
+silent_counts answer only (ReadFailed name) a b n ends = λ e. absurd (cc)
+silent_counts answer only WriteFailed a b n ends = λ e. absurd (cc)
+silent_counts answer only OutOfMemory a b n ends = λ e. absurd (cc)
+
+pub decode_counts : (wave first : List ℕ) (second : Option (List ℕ)) (bus : Bus) (o : Outcome) (a b : Outside) (n : ℕ) → Ends (DecodeAnswer wave first second bus) o a b →
+    outcomes.Counts (DecodeAnswer wave first second bus) o a n n
+decode_counts wave first second bus o a b n ends = silent_counts (DecodeAnswer wave first second bus) (decode_wakes wave first second bus) o a b n ends
 
 -- where nothing is asked for, the status is not 0
 pub counted : (o : Outcome) (asked : Option Request) (a b : Outside) (before after : ℕ) → Happens o asked a b → Counts o asked a before after → CountsWakes (status_of o) asked a before after

@@ -1,7 +1,7 @@
 -- What each request is answered with: a line for each command.
-use Rattle.std.specs.Prelude.{ℕ, List, Option, true, Result}
+use Rattle.std.specs.Prelude.{ℕ, List, Option, None, Some, true, Result}
 use Rattle.sim_base.specs.Outside.{Files}
-use Rattle.words_model.specs.Request.{NamedFiles, Request, Bare, Check, Module, Run, Replay, Twin, Make}
+use Rattle.words_model.specs.Request.{NamedBus, NamedFiles, Request, Bare, Check, Module, Run, Replay, Twin, Make, Decode, Uart, Spi, I2c}
 use Rattle.outcome_model.specs.Stop.{Stop, Texts}
 use Rattle.outcome_model.specs.Happens.{Answer}
 use Rattle.cli_bare.specs.Answer.{BareAnswer}
@@ -13,10 +13,29 @@ use Rattle.cli_run.specs.Answer.{RunAnswer, PlayAnswer, AnswerSuch}
 use Rattle.cli_replay.specs.Answer.{ReplayAnswer, RepeatAnswer}
 use Rattle.cli_twin.specs.Answer.{TwinAnswer}
 use Rattle.cli_make.specs.Answer.{MakeAnswer}
+use Rattle.wave_decode.specs.declared.bus.Bus.{Bus}
+use Rattle.wave_decode.specs.declared.bus.Bus.TheVariants as buses
+use Rattle.cli_decode.specs.Answer.{DecodeAnswer}
 
 -- the bytes of a run go to Serial, its wave and its report to the files that are named
 abbrev pub outputs_to : NamedFiles → Outputs
 outputs_to named = record { serial = true; wave = named.wave; report = named.report }
+
+-- the names of the lines of a bus, and the bus
+abbrev pub first_line : NamedBus → List ℕ
+first_line (Uart line bit) = line
+first_line (Spi clock line mode) = clock
+first_line (I2c clock line) = clock
+
+abbrev pub second_line : NamedBus → Option (List ℕ)
+second_line (Uart line bit) = None
+second_line (Spi clock line mode) = Some line
+second_line (I2c clock line) = Some line
+
+abbrev pub bus_of : NamedBus → Bus
+bus_of (Uart line bit) = buses.Uart bit
+bus_of (Spi clock line mode) = buses.Spi mode
+bus_of (I2c clock line) = buses.I2c
 
 -- how `run` is answered, by its folder, microseconds, script, budget and outputs
 abbrev pub RunBy : Type 1
@@ -35,6 +54,7 @@ AnswersWith run replay (Run folder us budget named) = run folder us named.script
 AnswersWith run replay (Replay folder wave us named) = replay folder wave us named.script (outputs_to named)
 AnswersWith run replay (Twin folder other us budget) = TwinAnswer folder other us budget
 AnswersWith run replay (Make seed us) = MakeAnswer seed us
+AnswersWith run replay (Decode wave bus) = DecodeAnswer wave (first_line bus) (second_line bus) (bus_of bus)
 
 abbrev pub Answers : Request → Files → Result Texts Stop → Type 0
 Answers = AnswersWith RunAnswer ReplayAnswer

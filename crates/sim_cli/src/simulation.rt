@@ -13,17 +13,19 @@ ghost use Rattle.sim_cli.specs.Answers.{outputs_to};
 
 use board_outputs::Outputs;
 use cli_bare::bare;
+use cli_decode::decode;
 use cli_make::make;
 use cli_module::check_module;
 use cli_project::check;
 use cli_replay::replay;
 use cli_run::run;
 use cli_twin::twin;
-use cli_words::{NamedFiles, Request, read_words};
+use cli_words::{NamedBus, NamedFiles, Request, read_words};
 use cli_work::{WorkEnd, status, tell};
 use sim_base::{Bench, Steps};
 use std::alloc::Global;
 use std::sync::ledger::Ledger;
+use wave_decode::Bus;
 
 /// The bytes of a run go to Serial, its wave and its report to the files that are named.
 fn outputs_to(named: NamedFiles<'_>) -> Outputs<'_>
@@ -37,7 +39,7 @@ fn outputs_to(named: NamedFiles<'_>) -> Outputs<'_>
 }
 
 /// The work that the words ask for; Complaint is left alone.
-#[tactic(auto, using(crate::proofs::AnswerLemmas::check_counts, crate::proofs::AnswerLemmas::module_counts))]
+#[tactic(auto, using(crate::proofs::AnswerLemmas::check_counts, crate::proofs::AnswerLemmas::module_counts, crate::proofs::AnswerLemmas::decode_counts))]
 fn work<B: Bench, L: Ledger>(
     alloc: Global,
     words: &[String],
@@ -84,6 +86,15 @@ fn work<B: Bench, L: Ledger>(
             twin(alloc, folder, other, micros, budget, bench, steps)
         }
         Ok(Some(Request::Make(seed, micros))) => make(alloc, seed, micros, bench, steps),
+        Ok(Some(Request::Decode(wave, NamedBus::Uart(line, bit)))) => {
+            decode(alloc, wave, line, None, Bus::Uart { bit }, bench)
+        }
+        Ok(Some(Request::Decode(wave, NamedBus::Spi(clock, line, mode)))) => {
+            decode(alloc, wave, clock, Some(line), Bus::Spi { mode }, bench)
+        }
+        Ok(Some(Request::Decode(wave, NamedBus::I2c(clock, line)))) => {
+            decode(alloc, wave, clock, Some(line), Bus::I2c, bench)
+        }
         Ok(None) => WorkEnd::NoRequest,
         Err(_) => WorkEnd::OutOfMemory,
     }

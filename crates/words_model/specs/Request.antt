@@ -1,5 +1,5 @@
 -- What the words of the command line ask for (profile).
-use Rattle.std.specs.Prelude.{ℕ, ◌+◌, ◌-◌, ◌*◌, Bool, ◌&&◌, nat_le, ◌==◌, if◌then◌else◌, List, [], ◌∷◌, length, Option, Some, None, codes, fold}
+use Rattle.std.specs.Prelude.{ℕ, ◌+◌, ◌-◌, ◌*◌, Bool, ◌&&◌, nat_le, ◌==◌, if◌then◌else◌, List, [], ◌∷◌, length, Option, Some, None, is_none, codes, fold}
 use Rattle.std.specs.List.{list_all}
 use Rattle.std.specs.Str.{bytes_eq}
 use Rattle.std.specs.Option.{option_map, option_and_then}
@@ -24,6 +24,13 @@ pub record NamedFiles : Type 0 where
   pub wave : Option Text
   pub report : Option Text
 
+-- the lines of a serial bus by the names of a wave's variables: a UART and the cycles of its bits; the clock and the data of SPI,
+-- and its mode; the clock and the data of I2C
+pub data NamedBus : Type 0 where
+  Uart : Text → ℕ → NamedBus
+  Spi : Text → Text → ℕ → NamedBus
+  I2c : Text → Text → NamedBus
+
 -- `Bare hex us`: the wave of so many microseconds of one Uno that runs the firmware of a HEX file.
 -- `Check folder`: whether a project is accepted.
 -- `Module file`: whether a chip's module is accepted.
@@ -32,6 +39,7 @@ pub record NamedFiles : Type 0 where
 -- `Replay folder wave us named`: such a run with a player of what a wave says in place of each chip.
 -- `Twin folder other us budget`: whether the chips of two projects that share all else drive the same in such a run.
 -- `Make seed us`: a run of the board that is generated from a seed, for so many microseconds.
+-- `Decode wave bus`: the frames on a bus, read from a wave.
 pub data Request : Type 0 where
   Bare : Text → ℕ → Request
   Check : Text → Request
@@ -40,6 +48,7 @@ pub data Request : Type 0 where
   Replay : Text → Text → ℕ → NamedFiles → Request
   Twin : Text → Text → ℕ → ℕ → Request
   Make : ℕ → ℕ → Request
+  Decode : Text → NamedBus → Request
 
 -- a file name or a folder's is not empty
 abbrev pub path : Text → Option Text
@@ -132,6 +141,63 @@ make_syntax = record { words = codes "seed" ∷ []; options = codes "us" ∷ [] 
 abbrev pub make_of : Given → Option Request
 make_of given = option_and_then (λ seed. option_map (Make seed) (micros_of given)) (seed_of given)
 
+-- the first of two that is there
+abbrev pub or_else : {X : Type 0} → Option X → Option X → Option X
+or_else None other = other
+or_else (Some x) other = Some x
+
+-- the words of one bus, of which those of the others know nothing
+abbrev pub is_absent : Text → Given → Bool
+is_absent name given = is_none (text_of name given)
+
+abbrev pub lacks_uart : Given → Bool
+lacks_uart given = is_absent (codes "uart") given && is_absent (codes "bit") given
+
+abbrev pub lacks_spi : Given → Bool
+lacks_spi given = is_absent (codes "spi") given && (is_absent (codes "data") given && is_absent (codes "mode") given)
+
+abbrev pub lacks_i2c : Given → Bool
+lacks_i2c given = is_absent (codes "i2c") given && is_absent (codes "sda") given
+
+-- bits of 2 to 1,000,000 cycles, modes of 0 to 3
+abbrev pub bit_of : Given → Option ℕ
+bit_of given = option_and_then (number_within 2 1000000) (text_of (codes "bit") given)
+
+abbrev pub mode_of : Given → Option ℕ
+mode_of given = option_and_then (number_within 0 3) (text_of (codes "mode") given)
+
+-- `--uart NAME --bit N`
+abbrev pub uart_of : Given → Option NamedBus
+uart_of given =
+    if lacks_spi given && lacks_i2c given
+    then option_and_then (λ line. option_map (Uart line) (bit_of given)) (text_of (codes "uart") given) else None
+
+-- `--spi SCK --data NAME --mode M`
+abbrev pub spi_of : Given → Option NamedBus
+spi_of given =
+    if lacks_uart given && lacks_i2c given
+    then option_and_then (λ clock. option_and_then (λ line. option_map (Spi clock line) (mode_of given)) (text_of (codes "data") given)) (text_of (codes "spi") given) else None
+
+-- `--i2c SCL --sda NAME`
+abbrev pub i2c_of : Given → Option NamedBus
+i2c_of given =
+    if lacks_uart given && lacks_spi given
+    then option_and_then (λ clock. option_map (I2c clock) (text_of (codes "sda") given)) (text_of (codes "i2c") given) else None
+
+-- one of the three
+abbrev pub bus_of : Given → Option NamedBus
+bus_of given = or_else (uart_of given) (or_else (spi_of given) (i2c_of given))
+
+-- `decode WAVE` with the words of one bus
+abbrev pub decode_syntax : Syntax
+decode_syntax = record {
+  words = codes "wave" ∷ [];
+  options = codes "uart" ∷ codes "bit" ∷ codes "spi" ∷ codes "data" ∷ codes "mode" ∷ codes "i2c" ∷ codes "sda" ∷ [];
+}
+
+abbrev pub decode_of : Given → Option Request
+decode_of given = option_and_then (λ wave. option_map (Decode wave) (bus_of given)) (path_of (codes "wave") given)
+
 -- the request of a command with these words after it
 abbrev pub asked_by : Text → List Text → Option Request
 asked_by command words =
@@ -142,6 +208,7 @@ asked_by command words =
     else if bytes_eq command (codes "replay") then option_and_then replay_of (texts_of replay_syntax words)
     else if bytes_eq command (codes "twin") then option_and_then twin_of (texts_of twin_syntax words)
     else if bytes_eq command (codes "make") then option_and_then make_of (texts_of make_syntax words)
+    else if bytes_eq command (codes "decode") then option_and_then decode_of (texts_of decode_syntax words)
     else None
 
 -- The words are without the program's name; None where they ask for nothing that the program knows.
