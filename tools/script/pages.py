@@ -28,14 +28,18 @@ def plain(text):
 
 
 class Usage:
-    """A command as its row in COMMANDS.md has it: `run FOLDER --us N [--script FILE]`."""
+    """A command as its row in COMMANDS.md has it: `run FOLDER --us N [--script FILE]`. Of groups of options in parentheses,
+    with `|` between them, one is given, and all of it."""
 
     def __init__(self, shape, does):
         self.shape, self.does = shape, does
         self.name = shape.split()[0]
-        self.options = {name: value for name, value in re.findall(r"\[?(--[a-z-]+) ([A-Z]+)\]?", shape)}
-        self.needed = [name for name in self.options if f"[{name} " not in shape]
-        self.takes = re.sub(r"\[[^\]]*\]|--[a-z-]+ [A-Z]+", "", shape).split()[1:]
+        option = r"(--[a-z0-9-]+) ([A-Z]+)"
+        self.options = dict(re.findall(option, shape))
+        self.one_of = [[name for name, _ in re.findall(option, it)] for group in re.findall(r"\(([^)]*)\)", shape) for it in group.split("|")]
+        alone = re.sub(r"\[[^\]]*\]|\([^)]*\)", "", shape)
+        self.needed = [name for name, _ in re.findall(option, alone)]
+        self.takes = re.sub(option, "", alone).split()[1:]
 
 
 def commands(section=None):

@@ -54,6 +54,14 @@ class Words(unittest.TestCase):
             ("check x --us 5", "--us is no option of check"),
             ("make x --us 5", "SEED is a number"),
             ("twin a --us 5", "OTHER is missing"),
+            ("decode w", "one of --uart, --spi and --i2c is missing"),
+            ("decode w --bit 2", "--uart is missing"),
+            ("decode w --spi a --mode 0", "--data is missing"),
+            ("decode w --uart a --bit 2 --mode 0", "--uart and --mode do not go together"),
+            ("decode w --uart a --bit 1", "--bit takes 2 to 1000000, and not 1"),
+            ("decode w --spi a --data a --mode 4", "--mode takes 0 to 3, and not 4"),
+            ("decode w --i2c a --sda", "--sda has no value"),
+            ("decode --i2c a --sda b", "WAVE is missing"),
         ]
         for given, said in table:
             found = words.mistakes(given.split())[0]
@@ -61,11 +69,11 @@ class Words(unittest.TestCase):
         self.assertEqual(words.mistakes(["run", "a\udcff", "--us", "5"])[0], ["a word is not text in UTF-8"])
 
     def test_right_words_have_no_mistake(self):
-        for given in ("run x --us 5 --vcd - --report=-", "bare h --us 10000000", "make 4294967295 --us 0005", "check -- --us", "replay f w --us 5", "twin a b --us 5 --budget 7"):
+        for given in ("run x --us 5 --vcd - --report=-", "bare h --us 10000000", "make 4294967295 --us 0005", "check -- --us", "replay f w --us 5", "twin a b --us 5 --budget 7", "decode w --sda b --i2c a", "decode w --uart= --bit=0136", "decode w --spi a --data b --mode 3"):
             self.assertEqual(words.mistakes(given.split())[0], [], given)
 
     def test_words_that_cannot_be_right_build_nothing(self):
-        for given in ("rnu x", "run x", "run x --us 0", "check"):
+        for given in ("rnu x", "run x", "run x --us 0", "check", "decode w --uart a"):
             self.assertTrue(words.are_wrong(given.split()), given)
         for given in ("run x --us 5s", "check x", "test edge waves", "test --list", "completion bash"):
             self.assertFalse(words.are_wrong(given.split()), given)
@@ -90,10 +98,12 @@ class Pages(unittest.TestCase):
     def test_each_command_of_the_program_has_its_row(self):
         definition = (ROOT / "crates/words_model/specs/Request.antt").read_text()
         known = set(re.findall(r'bytes_eq command \(codes "([a-z]+)"\)', definition))
-        self.assertTrue({"bare", "check", "make", "module", "run", "twin", "replay"} <= known)
+        self.assertTrue({"bare", "check", "decode", "make", "module", "run", "twin", "replay"} <= known)
         self.assertEqual(set(pages.commands("The program")), known)
         it = pages.commands()["run"]
         self.assertEqual((it.takes, it.needed, list(it.options)), (["FOLDER"], ["--us"], ["--us", "--script", "--vcd", "--report", "--budget"]))
+        it = pages.commands()["decode"]
+        self.assertEqual((it.takes, it.needed, it.one_of), (["WAVE"], [], [["--uart", "--bit"], ["--spi", "--data", "--mode"], ["--i2c", "--sda"]]))
 
     def test_each_refusal_has_its_row(self):
         source = (ROOT / "crates/sim_base/src/refusals.rt").read_text()

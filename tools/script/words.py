@@ -7,6 +7,8 @@ import pages
 
 UNITS = {"us": 1, "ms": 1_000, "s": 1_000_000}
 LONGEST = 10_000_000
+LIMITS = {"--budget": (1, 10_000_000), "--bit": (2, 1_000_000), "--mode": (0, 3)}
+VARIABLES = ("--uart", "--spi", "--data", "--i2c", "--sda")
 
 
 def micros(text):
@@ -72,13 +74,26 @@ def near(word, known):
 
 def wrong_value(name, value):
     """What is wrong with an option's value, if the script can tell."""
-    if value is None or value == "":
+    if value is None or value == "" and name not in VARIABLES:
         return f"{name} has no value"
     if name == "--us" and not (re.fullmatch("[0-9]{1,10}", value) and 1 <= int(value) <= LONGEST):
         return f"--us takes 1 to {LONGEST} microseconds, or a time as 200ms or 5s up to 10s, and not {value}"
-    if name == "--budget" and not (re.fullmatch("[0-9]{1,10}", value) and 1 <= int(value) <= 10_000_000):
-        return f"--budget takes 1 to 10000000, and not {value}"
+    if name in LIMITS:
+        least, most = LIMITS[name]
+        if not (re.fullmatch("[0-9]{1,10}", value) and least <= int(value) <= most):
+            return f"{name} takes {least} to {most}, and not {value}"
     return None
+
+
+def wrong_groups(groups, given):
+    """What is wrong with options in groups, of which one is given, and all of it."""
+    begun = [[name for name in it if name in given] for it in groups]
+    if not any(begun):
+        return [f"one of {', '.join(it[0] for it in groups[:-1])} and {groups[-1][0]} is missing"] if groups else []
+    found = [it[0] for it in begun if it]
+    if len(found) > 1:
+        return [f"{' and '.join(found)} do not go together"]
+    return [f"{name} is missing" for it, some in zip(groups, begun) if some for name in it if name not in some]
 
 
 def is_text(word):
@@ -108,6 +123,7 @@ def mistakes(words):
     for name, values in given.items():
         found += [it for it in (wrong_value(name, value) for value in values if name in usage.options) if it]
     found += [f"{name} is missing" for name in usage.needed if name not in given]
+    found += wrong_groups(usage.one_of, given)
     found += [f"{name} is missing" for name in usage.takes[len(others) :]]
     found += [f"{word} is one word too many" for word in others[len(usage.takes) :]]
     found += [f"{name} is an empty name" for name, word in zip(usage.takes, others) if not word]
