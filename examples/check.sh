@@ -162,6 +162,17 @@ scripted oled-hello 80000
 scripted keypad 260000
 "$program" run "$here/button" --us 60000 --script "$here/button/script.txt" --vcd - | at 13 1 | same "button's LED" "$here/button/expected/pin13.txt" || bad=1
 
+# the frames on a bus
+frames() { # NAME MICROSECONDS WORDS OF A BUS
+    name=$1
+    "$program" run "$here/$name" --us "$2" --vcd "$down/wave" >"$down/serial"
+    shift 2
+    "$program" decode "$down/wave" "$@" | same "$name's frames" "$here/$name/expected/frames.txt" || bad=1
+}
+frames serial-hello 350000 --uart uno.1 --bit 1664
+frames i2c-scanner 20000 --i2c uno.A5 --sda uno.A4
+frames spi-shift 100000 --spi uno.13 --data uno.11 --mode 0
+
 "$program" run "$here/low-power" --us 1000000 --script "$here/low-power/script.txt" --vcd - | at 13 1 | same "low-power's pin 13" "$here/low-power/expected/pin13.txt" || bad=1
 "$program" run "$here/latch" --us 20000 --script "$here/latch/script.txt" --vcd - | at 2 1 | same "latch's pin 2" "$here/latch/expected/pin2.txt" || bad=1
 

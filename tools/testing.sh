@@ -87,6 +87,8 @@ rise=$(output_of "awk '" | tail -n 1)
 expected=$(awk '$2 == 1 { print $1; exit }' "$here/examples/button/expected/pin13.txt")
 awk -v rise="$rise" -v ms="$expected" 'BEGIN { exit !(rise > 1000 * (ms - 0.5) && rise < 1000 * (ms + 0.5)) }'
 check "the first rise of pin 13, $rise us" $?
+output_of './mudflatjar decode' | grep -q '^i2c [0-9]* 0x4E nack$'
+check "a byte of a bus" $?
 
 # the CI jobs: each command of theirs, for each part, where arduino-cli builds as Debian's packages do
 cat >"$work/arduino-cli" <<END
