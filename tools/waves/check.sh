@@ -126,8 +126,9 @@ same() { # NAME, FILE OF WHAT SIGROK FOUND; decode's lines on standard input
 uart_frames() { # NAME WAVE LINE BAUD BIT
     frames "$1 at $4 baud" "$2" --uart "$3" --bit "$5"
     have sigrok-cli || return
-    sigrok "$2" "uart:rx=$3:baudrate=$4" uart=rx-data | tr 'a-f' 'A-F' >"$folder/sigrok"
-    sed 's/^uart [0-9]* 0x\(..\) .*/\1/' "$folder/found" | same "$1 at $4 baud" "$folder/sigrok"
+    sigrok "$2" "uart:rx=$3:baudrate=$4" uart |
+        awk 'length == 2 { byte = toupper($0); how = "ok" } /^Frame error/ { how = "framing" } /^Stop bit/ { print byte, how }' >"$folder/sigrok"
+    sed 's/^uart [0-9]* 0x//' "$folder/found" | same "$1 at $4 baud" "$folder/sigrok"
 }
 spi_frames() { # NAME WAVE SCK LINE MODE
     frames "$1 in mode $5" "$2" --spi "$3" --data "$4" --mode "$5"
@@ -192,26 +193,64 @@ if have sigrok-cli; then
     modes 3 mosi 20 55 8A BF 04 AA 51
     modes 3 miso 48 FF 00 20 01 55 8A 04
 fi
-# what `decode` finds in waves of the examples and of the gate's rows
-"$program" run "$examples/serial-hello" --us 350000 --vcd "$folder/wave" >"$folder/bytes"
-uart_frames serial-hello "$folder/wave" uno.1 9600 1667
-"$program" run "$examples/pot-serial" --us 290000 --vcd "$folder/wave" >"$folder/bytes"
-uart_frames pot-serial "$folder/wave" uno.1 115200 139
-"$program" run "$examples/chip-echo" --us 10000 --vcd "$folder/wave" >"$folder/bytes"
-uart_frames chip-echo "$folder/wave" uno.1 115200 139
-uart_frames "chip-echo, pin 0," "$folder/wave" uno.0 115200 139
-"$program" run "$examples/spi-shift" --us 50000 --vcd "$folder/wave" >"$folder/bytes"
-spi_frames spi-shift "$folder/wave" uno.13 uno.11 0
-"$program" run "$examples/spi-loopback" --us 5000 --vcd "$folder/wave" >"$folder/bytes"
-spi_frames spi-loopback "$folder/wave" uno.13 uno.12 0
+# what `decode` finds in the waves of all examples with a bus, and in those of the gate's rows
+recorded() { # NAME MICROSECONDS; with its script where there is one
+    set -- "$1" "$2" "$examples/$1"
+    if [ -f "$3/script.txt" ]; then
+        "$program" run "$3" --us "$2" --script "$3/script.txt" --vcd "$folder/wave" >"$folder/bytes"
+    else
+        "$program" run "$3" --us "$2" --vcd "$folder/wave" >"$folder/bytes"
+    fi
+}
+while read -r name us baud bit pin; do
+    recorded "$name" "$us"
+    uart_frames "$name, pin $pin," "$folder/wave" "uno.$pin" "$baud" "$bit"
+done <<END
+chip-counter 10000 115200 139 1
+chip-echo 10000 115200 139 0
+chip-echo 10000 115200 139 1
+chip-registers 5000 115200 139 1
+chip-thermometer 210000 115200 139 1
+chip-typist 180000 9600 1667 0
+chip-typist 180000 9600 1667 1
+eeprom-counter 190000 9600 1667 1
+i2c-scanner 20000 115200 139 1
+keypad 190000 115200 139 1
+latch 13000 115200 139 1
+low-power 740000 9600 1667 1
+pot-serial 260000 115200 139 1
+serial-hello 350000 9600 1667 1
+spi-loopback 5000 115200 139 1
+watchdog 440000 9600 1667 1
+END
+while read -r name us clock line; do
+    recorded "$name" "$us"
+    spi_frames "$name, pin $line," "$folder/wave" "uno.$clock" "uno.$line" 0
+done <<END
+chip-registers 5000 13 11
+chip-registers 5000 13 12
+shift-out 100000 12 11
+spi-loopback 5000 13 11
+spi-loopback 5000 13 12
+spi-shift 100000 13 11
+END
+while read -r name us; do
+    recorded "$name" "$us"
+    i2c_frames "$name" "$folder/wave" uno.A5 uno.A4
+done <<END
+chip-thermometer 210000
+i2c-scanner 20000
+lcd-i2c 150000
+oled-hello 80000
+END
 for mode in 0 1 2 3; do
     spi_frames "chips in all modes" "$rows/spi-chip.vcd" uno.13 uno.11 $mode
 done
-"$program" run "$examples/i2c-scanner" --us 20000 --vcd "$folder/wave" >"$folder/bytes"
-i2c_frames i2c-scanner "$folder/wave" uno.A5 uno.A4
-"$program" run "$examples/chip-thermometer" --us 50000 --vcd "$folder/wave" >"$folder/bytes"
-i2c_frames chip-thermometer "$folder/wave" uno.A5 uno.A4
 i2c_frames "a chip with notes" "$rows/i2c-chip.vcd" uno.A5 uno.A4
+uart_frames "a glitch, a missing stop bit and a break" "$rows/decode-uart.vcd" tx.8 2000000 8
+spi_frames "a clock that rests at 1" "$rows/decode-spi.vcd" sck-high mosi 2
+spi_frames "a clock that rests at 1" "$rows/decode-spi.vcd" sck-high late 3
+frames "a START and a STOP inside a byte" "$rows/decode-i2c.vcd" --i2c scl --sda sda # sigrok waits for the byte's end
 
 # as many variables as there may be, and one more
 variables() { # COUNT; a wave in which the last one sends the byte 0x55, 16 cycles a bit
@@ -229,6 +268,6 @@ variables() { # COUNT; a wave in which the last one sends the byte 0x55, 16 cycl
 variables 8930 >"$folder/wave"
 uart_frames "8,930 variables" "$folder/wave" v8929 1000000 16
 variables 8931 >"$folder/wave"
-[ "$(cd "$folder" && "$program" decode wave --uart v0 --bit 16 2>&1)" = "wave: refused 90 WaveHead line 8933" ]
+[ "$("$program" decode "$folder/wave" --uart v0 --bit 16 2>&1)" = "$folder/wave: refused 90 WaveHead line 8933" ]
 says $? "8,931 variables" "refused"
 exit $bad

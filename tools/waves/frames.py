@@ -29,10 +29,10 @@ def readings(path, names):
                 changes[line[1:].strip()].append((cycle, line[0] == "1"))
     lines = []
     for name in names:
-        levels = bytearray(cycle)
-        rows = changes[codes[name]]
-        for at, value in rows:
-            levels[at:] = (b"\1" if value else b"\0") * (cycle - at)
+        rows = [*changes[codes[name]], (cycle, False)]
+        levels = bytearray()
+        for (_, value), (until, _) in zip(rows, rows[1:]):
+            levels += (b"\1" if value else b"\0") * (until - len(levels))
         lines.append(levels)
     return lines
 
