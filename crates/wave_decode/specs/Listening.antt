@@ -1,5 +1,9 @@
--- What is known of a bus between two changes of its lines. No public clause cites this.
-use Rattle.std.specs.Prelude.{ℕ, suc, ◌≡◌, ◌≤◌, List}
+-- What is known of a bus between two changes of its lines, and of what is written. No public clause cites this.
+use Rattle.std.specs.Prelude.{ℕ, suc, ◌≡◌, ◌≤◌, ◌++◌, List}
+use Rattle.sim_base.specs.declared.bench.Port.TheVariants as ports
+use Rattle.sim_base.specs.declared.bench.WriteEnd.{WriteEnd}
+use Rattle.sim_base.specs.Outside.{Outside}
+use Rattle.outcome_model.specs.Work.{Wrote}
 use Rattle.sim_base.specs.declared.signal.Level.{Level}
 use Rattle.sim_base.specs.declared.signal.Level.TheVariants as levels
 use Rattle.wave_decode.specs.declared.bus.Bus.{Bus}
@@ -17,3 +21,7 @@ pub record IsAt (bus : Bus) (n : ℕ) (of_a of_b : List LevelRow) (now next : �
   pub b_later : (u : ℕ) → now ≤ u → level_at lb rb u ≡ level_at levels.Z of_b u
   pub b_rising : IsRising (suc now) rb
   pub is_heard : (told bus n (reading of_a) (reading of_b) now).0 ≡ heard
+
+-- Of a text the end is kept, and what is before it was written, or a first part of that where a write failed.
+abbrev pub Gathers : WriteEnd → List ℕ → List ℕ → Outside → Outside → Type 0
+Gathers end kept text a b = (gone : List ℕ) × (gone ++ kept ≡ text) × Wrote end ports.Report gone a b

@@ -5,6 +5,7 @@
 
 mod body;
 mod bus;
+mod gathered;
 mod head;
 mod hear;
 mod levels;

@@ -1,14 +1,14 @@
 //! The frames on a bus, from change to change.
 ghost use Rattle.std.specs.Prelude.{◌≡◌, ◌≤◌, true, length, slice_get, unwrap_or, []};
 ghost use Rattle.sim_base.specs.Outside.{SameOthers};
-ghost use Rattle.outcome_model.specs.Work.{Wrote, WroteOn};
+ghost use Rattle.outcome_model.specs.Work.{Wrote};
 ghost use Rattle.wave_decode.specs.Frames.{AreHeard, IsBus, frames_text, heard_text, line_count, nothing};
 ghost use Rattle.wave_decode.specs.Rising.{IsRising};
 
 use crate::bus::{Bus, Heard};
+use crate::gathered::{Gathered, gather, write_next};
 use crate::hear::hear;
 use crate::levels::LevelRows;
-use crate::telling::Line;
 use crate::wire::{Wire, first_cycle, wire_at};
 use sim_base::{Bench, Level, Port, WriteEnd, reads_one};
 
@@ -20,35 +20,6 @@ fn nothing() -> Heard
         started: false,
         count: 0,
         value: 0,
-    }
-}
-
-/// Writes a line, if it is not empty.
-fn write_line<B: Bench>(line: &Line, bench: &mut B) -> WriteEnd
-    requires { (B.outside bench.old).opened Port.Report ≡ true }
-    ensures wrote { Wrote result Port.Report line.now.items (B.outside bench.old) (B.outside bench.new) }
-    ensures named { (B.outside bench.new).name Port.Report ≡ (B.outside bench.old).name Port.Report }
-    ensures opened { (B.outside bench.new).opened Port.Report ≡ true }
-    ensures others { SameOthers Port.Report (B.outside bench.old) (B.outside bench.new) }
-{
-    if line.is_empty() {
-        WriteEnd::Ok
-    } else {
-        bench.write(Port::Report, line.as_slice())
-    }
-}
-
-/// The same where the writing so far has not failed.
-fn write_next<B: Bench>(end: WriteEnd, line: &Line, bench: &mut B) -> WriteEnd
-    requires { (B.outside bench.old).opened Port.Report ≡ true }
-    ensures next { WroteOn end result Port.Report line.now.items (B.outside bench.old) (B.outside bench.new) }
-    ensures named { (B.outside bench.new).name Port.Report ≡ (B.outside bench.old).name Port.Report }
-    ensures opened { (B.outside bench.new).opened Port.Report ≡ true }
-    ensures others { SameOthers Port.Report (B.outside bench.old) (B.outside bench.new) }
-{
-    match end {
-        WriteEnd::Ok => write_line(line, bench),
-        WriteEnd::Failed => WriteEnd::Failed,
     }
 }
 
@@ -84,6 +55,7 @@ fn listen<B: Bench>(
         return WriteEnd::Ok;
     }
     let mut end = WriteEnd::Ok;
+    let mut text = Gathered::new();
     let mut heard = nothing();
     let mut a = wire_at(
         Wire {
@@ -106,10 +78,10 @@ fn listen<B: Bench>(
         b = wire_at(b, next);
         let step = hear(bus, n, was, a, b, next, heard);
         heard = step.heard;
-        end = write_next(end, &step.line, bench);
+        end = gather(end, &mut text, &step.line, bench);
         next = first_cycle(first_cycle(n, a.rows), b.rows);
     }
-    end
+    write_next(end, text.as_slice(), bench)
 }
 
 /// Writes the lines that tell the frames on a bus on Report: all of them, or a first part where a write
