@@ -83,7 +83,7 @@ pub fn decode<B: Bench>(
     bench: &mut B,
 ) -> WorkEnd
     requires bus { IsBus bus }
-    requires names { names_given (option_map (λ s. s.now) second.entry) ≡ line_count bus }
+    requires names { names_given (option_map (λ s. s.now) second) ≡ line_count bus }
     ensures ends { Ends (DecodeAnswer wave.now first.now (option_map (λ s. s.now) second.entry) bus) (outcome_of result) (B.outside bench.old) (B.outside bench.new) }
     ensures silent { SaidNothing (B.outside bench.old) (B.outside bench.new) }
 {

@@ -10,7 +10,7 @@ use Rattle.cli_project.specs.Answer.{CheckAnswer}
 use Rattle.cli_project.proofs.ProjectLemmas.{one_check, check_only}
 use Rattle.outcome_model.specs.Stop.{Missing, Refused, Texts}
 use Rattle.cli_module.specs.Answer.{ModuleAnswer}
-use Rattle.words_model.specs.Request.{Request, Bare, Check, Module, Run, Replay, Twin, Make, Decode}
+use Rattle.words_model.specs.Request.{NamedBus, Request, Bare, Check, Module, Run, Replay, Twin, Make, Decode}
 use Rattle.outcome_model.specs.Promises.{HoldsAnswer, IsOne}
 use Rattle.outcome_model.proofs.PromiseLemmas.{holds_answer}
 use Rattle.oled_law.specs.OledRun.{AreShown}
@@ -24,8 +24,6 @@ use Rattle.cli_replay.specs.Answer.{ReplayAnswer}
 use Rattle.cli_replay.proofs.ReplayLemmas.{one_replay}
 use Rattle.cli_twin.proofs.AnswerLemmas.{one_twin}
 use Rattle.cli_make.proofs.MakeLemmas.{one_make}
-use Rattle.wave_decode.specs.declared.bus.Bus.{Bus}
-use Rattle.cli_decode.specs.Answer.{DecodeAnswer}
 use Rattle.cli_decode.proofs.AnswerLemmas.{one_decode, decode_wakes}
 use Rattle.board_outputs.specs.Run.{Outputs}
 use Rattle.cli_run.specs.Answer.{PlayAnswer, AnswerSuch}
@@ -97,9 +95,8 @@ silent_counts answer only (ReadFailed name) a b n ends = λ e. absurd (cc)
 silent_counts answer only WriteFailed a b n ends = λ e. absurd (cc)
 silent_counts answer only OutOfMemory a b n ends = λ e. absurd (cc)
 
-pub decode_counts : (wave first : List ℕ) (second : Option (List ℕ)) (bus : Bus) (o : Outcome) (a b : Outside) (n : ℕ) → Ends (DecodeAnswer wave first second bus) o a b →
-    outcomes.Counts (DecodeAnswer wave first second bus) o a n n
-decode_counts wave first second bus o a b n ends = silent_counts (DecodeAnswer wave first second bus) (decode_wakes wave first second bus) o a b n ends
+pub decode_counts : (wave : List ℕ) (bus : NamedBus) (o : Outcome) (a b : Outside) (n : ℕ) → Ends (Answers (Decode wave bus)) o a b → outcomes.Counts (Answers (Decode wave bus)) o a n n
+decode_counts wave bus o a b n ends = silent_counts (Answers (Decode wave bus)) (decode_wakes wave (first_line bus) (second_line bus) (bus_of bus)) o a b n ends
 
 -- where nothing is asked for, the status is not 0
 pub counted : (o : Outcome) (asked : Option Request) (a b : Outside) (before after : ℕ) → Happens o asked a b → Counts o asked a before after → CountsWakes (status_of o) asked a before after

@@ -1,15 +1,16 @@
 //! The top call.
 ghost use Rattle.std.specs.Prelude.{◌≡◌, map, string_bytes};
-ghost use Rattle.words_model.specs.Request.{request_of};
+ghost use Rattle.words_model.specs.Request.{request_of, Decode};
+ghost use Rattle.outcome_model.specs.Happens.{Ends};
 ghost use Rattle.outcome_model.specs.Promises.{WordsAlone, HasCause, ComplainsAlone, IsStatus};
 ghost use Rattle.outcome_model.specs.Work.{SaidNothing};
 ghost use Rattle.sim_cli.specs.Promises.{Happens, HappensIsolated, HappensRepeated, Counts, Does};
 ghost use Rattle.sim_cli.specs.Promises.{IsAnswered, IsComplete, HoldsAnswer, IsStopped, IsTrueStop, HoldsFront, CountsWakes};
 ghost use Rattle.sim_cli.specs.Promises.{HoldsPlay, HoldsAlone, HoldsWorlds, HoldsShown, HoldsRepeat};
 ghost use Rattle.cli_work.specs.Outcomes.{outcome_of};
-ghost use Rattle.cli_words.specs.Asked.{named_by};
+ghost use Rattle.cli_words.specs.Asked.{bus_by, named_by, IsNamedBus};
 ghost use Rattle.board_outputs.specs.Outputs.{outputs_of};
-ghost use Rattle.sim_cli.specs.Answers.{outputs_to};
+ghost use Rattle.sim_cli.specs.Answers.{outputs_to, Answers};
 
 use board_outputs::Outputs;
 use cli_bare::bare;
@@ -35,6 +36,26 @@ fn outputs_to(named: NamedFiles<'_>) -> Outputs<'_>
         serial: true,
         wave: named.wave,
         report: named.report,
+    }
+}
+
+/// The frames on a bus, read from a wave.
+fn decode_bus<B: Bench>(
+    alloc: Global,
+    wave: &str,
+    bus: NamedBus<'_>,
+    bench: &mut B,
+) -> WorkEnd
+    requires { IsNamedBus bus }
+    ensures ends { Ends (Answers (Decode wave.now (bus_by bus.entry))) (outcome_of result) (B.outside bench.old) (B.outside bench.new) }
+    ensures silent { SaidNothing (B.outside bench.old) (B.outside bench.new) }
+{
+    match bus {
+        NamedBus::Uart(line, bit) => decode(alloc, wave, line, None, Bus::Uart { bit }, bench),
+        NamedBus::Spi(clock, line, mode) => {
+            decode(alloc, wave, clock, Some(line), Bus::Spi { mode }, bench)
+        }
+        NamedBus::I2c(clock, line) => decode(alloc, wave, clock, Some(line), Bus::I2c, bench),
     }
 }
 
@@ -86,15 +107,7 @@ fn work<B: Bench, L: Ledger>(
             twin(alloc, folder, other, micros, budget, bench, steps)
         }
         Ok(Some(Request::Make(seed, micros))) => make(alloc, seed, micros, bench, steps),
-        Ok(Some(Request::Decode(wave, NamedBus::Uart(line, bit)))) => {
-            decode(alloc, wave, line, None, Bus::Uart { bit }, bench)
-        }
-        Ok(Some(Request::Decode(wave, NamedBus::Spi(clock, line, mode)))) => {
-            decode(alloc, wave, clock, Some(line), Bus::Spi { mode }, bench)
-        }
-        Ok(Some(Request::Decode(wave, NamedBus::I2c(clock, line)))) => {
-            decode(alloc, wave, clock, Some(line), Bus::I2c, bench)
-        }
+        Ok(Some(Request::Decode(wave, bus))) => decode_bus(alloc, wave, bus, bench),
         Ok(None) => WorkEnd::NoRequest,
         Err(_) => WorkEnd::OutOfMemory,
     }
