@@ -7,4 +7,4 @@ mod commands;
 mod number;
 mod request;
 
-pub use request::{NamedFiles, Request, read_words};
+pub use request::{NamedBus, NamedFiles, Request, read_words};

@@ -40,12 +40,7 @@ fn outputs_to(named: NamedFiles<'_>) -> Outputs<'_>
 }
 
 /// The frames on a bus, read from a wave.
-fn decode_bus<B: Bench>(
-    alloc: Global,
-    wave: &str,
-    bus: NamedBus<'_>,
-    bench: &mut B,
-) -> WorkEnd
+fn decode_bus<B: Bench>(alloc: Global, wave: &str, bus: NamedBus<'_>, bench: &mut B) -> WorkEnd
     requires { IsNamedBus bus }
     ensures ends { Ends (Answers (Decode wave.now (bus_by bus.entry))) (outcome_of result) (B.outside bench.old) (B.outside bench.new) }
     ensures silent { SaidNothing (B.outside bench.old) (B.outside bench.new) }
