@@ -2,7 +2,7 @@
 """Runs a project and writes one HTML file in which the run can be seen: the board, its waves, what was sent, how it ended.
 
     look.py FOLDER --us N [--script FILE] [-o PAGE] [--open] [--from US] [--to US]
-            [--svg PINS | --svg-board US] [--edges N] [--samples N]
+            [--svg PINS | --svg-board US] [--edges N] [--samples N] [--title TEXT] [--note TEXT]..
 
 docs/LOOK.md describes the page. PROGRAM names the simulator, else it is the one that ./mudflatjar builds.
 """
@@ -47,6 +47,7 @@ class Seen(NamedTuple):
     states: list
     firsts: dict
     left: str
+    made: list
 
 
 def microseconds(text):
@@ -71,6 +72,8 @@ def arguments(words):
     parser.add_argument("--svg-board", type=microseconds, metavar="US", help="write a picture of the board at this time in place of a page (needs node or Chromium)")
     parser.add_argument("--edges", type=int, default=EDGES, help=f"how many changes a page may hold ({EDGES:,})")
     parser.add_argument("--samples", type=int, default=SAMPLES, help=f"how many shorter runs may be made, for what no wave tells ({SAMPLES})")
+    parser.add_argument("--title", help="what stands over the page; the folder's name if nothing is said")
+    parser.add_argument("--note", action="append", default=[], metavar="TEXT", help="says in the page how the project was made of another; may stand several times")
     given = parser.parse_args(words)
     if given.to is None:
         given.to = given.us
@@ -103,9 +106,9 @@ def seen_of(given):
         end = min(end, cut)
     transmit = waves.waves[waves.of[waves.names.index(uno_of(diagram) + ".1")]]
     runs = ShorterRuns(given.folder, given.script, given.samples)
-    return Seen(os.path.basename(os.path.abspath(given.folder)), given.us * CYCLES_A_MICROSECOND, start, max(end, start + 1), diagram, chips, script,
+    return Seen(given.title or os.path.basename(os.path.abspath(given.folder)), given.us * CYCLES_A_MICROSECOND, start, max(end, start + 1), diagram, chips, script,
                 waves, sent, serial_times(transmit, sent, None if end == given.us * CYCLES_A_MICROSECOND else end), report, shown_times(waves.waves, report, given.us, runs),
-                first_times(report, given.us, runs), left)
+                first_times(report, given.us, runs), left, given.note)
 
 
 @functools.cache

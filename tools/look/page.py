@@ -58,7 +58,7 @@ def data_of(seen):
     return {"title": seen.title, "cycles": seen.cycles, "from": seen.start, "to": seen.end, "diagram": seen.diagram, "chips": seen.chips,
             "script": seen.script, "names": seen.waves.names, "of": seen.waves.of, "counts": [len(wave) for wave in seen.waves.waves],
             "serial": base64.b64encode(seen.sent).decode(), "times": steps, "report": seen.report, "states": seen.states,
-            "firsts": seen.firsts, "left": seen.left}
+            "firsts": seen.firsts, "left": seen.left, "made": seen.made}
 
 
 def still_of(seen):
@@ -67,6 +67,8 @@ def still_of(seen):
     parts = [f"<h1>{html.escape(seen.title)}</h1>\n"]
     if seen.left:
         parts.append(f"<p><strong>{html.escape(seen.left)}</strong></p>\n")
+    if seen.made:
+        parts.append("<h2>How this project was made</h2>\n<ul>" + "".join(f"<li>{html.escape(line)}</li>" for line in seen.made) + "</ul>\n")
     if rows:
         parts.append(waves_svg(seen.waves, rows, seen.start, seen.end))
     if seen.sent:

@@ -80,7 +80,7 @@ class TableOfTypes(unittest.TestCase):
     def test_formulas_are_there_and_take_the_defaults(self):
         for _, _, piece in self.pieces():
             for rule in piece.get("attrs", {}).values():
-                self.assertRegex(formulas.value_of(rule, {}), r"^(-?[0-9]+|anode|cathode|i2c)$")
+                self.assertRegex(formulas.value_of(rule, {}), r"^(-?[0-9]+|anode|cathode|i2c|red|green|blue)$")
 
 
 @unittest.skipUnless(PROGRAM, "no program")

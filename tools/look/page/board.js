@@ -22,7 +22,7 @@ function pinState(run, name, { t, moving = t }) {
 function drawBoard(run, on = {}) {
   const layers = { uno: svg('g'), wires: svg('g', { class: 'wires' }), parts: svg('g'), shine: svg('g', { class: 'shine', 'aria-hidden': 'true' }), pins: svg('g'), names: svg('g') };
   const element = svg('svg', { class: 'board', role: 'img', 'aria-label': `the board: ${run.parts.map(part => part.id).join(', ')}` });
-  const drawing = { run, on, layers, updates: [], tells: [], leads: [], spots: new Map(), box: [Infinity, Infinity, -Infinity, -Infinity] };
+  const drawing = { run, on, layers, updates: [], tells: [], leads: [], spots: new Map(), boxes: new Map(), free: 0, box: [Infinity, Infinity, -Infinity, -Infinity] };
   for (const part of apart(run.parts, run.wires)) drawPart(drawing, part);
   for (const wire of run.wires) drawWire(drawing, wire);
   element.append(...Object.values(layers));
@@ -68,6 +68,7 @@ function drawPart(drawing, part) {
   if (isUno) widen(drawing, place([-14, 50]));
   if (part.type === 'wokwi-text') widen(drawing, place([Math.max(...String(part.attrs.text || '').split('\n').map(line => line.length)) * 7.4, 16.5 * String(part.attrs.text || '').split('\n').length]));
   if (entry.named !== false) drawName(drawing, part, corners);
+  if (!part.hidden) drawing.boxes.set(part.id, boxOfPoints(corners));
   for (const [name, spot] of Object.entries(pinsOf(entry, part))) drawPin(drawing, part, name, place(spot));
 }
 
@@ -86,11 +87,16 @@ function drawPin(drawing, part, name, [cx, cy]) {
   drawing.leads.push({ element: dot, pin, tip, kind: 'pin' });
 }
 
+// Pins that are nearer than this are joined by one corner where a wire has no hints.
+const NEAR = 30;
+
 // Wires lie over the Uno and under all other parts, so that these can be read, and shine through them.
 function drawWire(drawing, [first, second, color, hints]) {
   const from = drawing.spots.get(first), to = drawing.spots.get(second);
   if (!from || !to) return;         // a wire to the serial monitor
-  const points = routeOf(from, to, Array.isArray(hints) ? hints.filter(hint => typeof hint === 'string') : []), d = roundedPath(points);
+  const steps = Array.isArray(hints) ? hints.filter(hint => typeof hint === 'string') : [], ends = [first, second].map(end => ({ at: drawing.spots.get(end), box: drawing.boxes.get(end.split(':')[0]) }));
+  const isFree = !steps.length && ends.every(end => end.box) && Math.hypot(from[0] - to[0], from[1] - to[1]) > NEAR;
+  const points = isFree ? freeRoute(...ends, [...drawing.boxes.values()], 7 + 3 * (drawing.free++ % 5)) : routeOf(from, to, steps), d = roundedPath(points);
   const [pin] = [first, second].map(end => end.replace(':', '.')).filter(name => drawing.run.waveOf.has(name)).concat(first.replace(':', '.'));
   const paint = colorOf(color, COLORS.gray), deep = rgb(paint).every(n => n < 90) ? ' deep' : '', g = svg('g'), tip = svg('title');
   g.append(path(d, { class: 'halo' }), path(d, { class: 'casing' }), path(d, { class: 'core', stroke: paint }), tip);

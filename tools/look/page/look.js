@@ -26,7 +26,7 @@ function makeLook(host, { keys = true, hash = false, on = {} } = {}) {
 
 function buildLook(look) {
   const parts = look.elements = {
-    title: make('h1'), facts: make('span', { className: 'facts' }), key: makeKey(), left: make('div', { className: 'left-out', role: 'status' }),
+    title: make('h1'), facts: make('span', { className: 'facts' }), key: makeKey(), left: make('div', { className: 'left-out', role: 'status' }), made: make('details', { className: 'made' }),
     now: make('div', { className: 'now', tabIndex: 0, role: 'group', 'aria-label': 'parts at the cursor' }), before: make('span'), after: make('span', { className: 'later' }), sentNote: make('span', { className: 'dim' }), report: make('pre', { tabIndex: 0 }),
     a: make('output', { className: 'at-a' }), b: make('output', { className: 'at-b' }), gap: make('output'), heard: make('output', { className: 'heard', 'aria-live': 'polite' }),
   };
@@ -38,7 +38,7 @@ function buildLook(look) {
   parts.save = button('board as SVG', 'saves a picture of the board at cursor A', () => saveBoard(look), { className: 'save' });
   look.frameBox = make('div', { className: 'board-box' }, look.frame.element, parts.save);
   const cursors = make('div', { className: 'cursors' }, parts.a, parts.b, parts.gap, parts.heard, look.finder);
-  look.element = make('div', { className: 'look' }, make('header', {}, parts.title, parts.facts, parts.key), parts.left,
+  look.element = make('div', { className: 'look' }, make('header', {}, parts.title, parts.facts, parts.key), parts.left, parts.made,
     make('div', { className: 'scene' }, look.frameBox, make('aside', {}, parts.nowBox, parts.sentBox, parts.reportBox)),
     look.bar.element, cursors, make('div', { className: 'wave-box' }, look.list.element, look.pane.element), makeHelp());
   look.host.replaceChildren(look.element);
@@ -116,7 +116,7 @@ function factsOf(run) {
   return `${whole ? time : `${inMicroseconds(run.from)} to ${inMicroseconds(run.to)} of ${time}`}; ${counted(edges, 'change')} in ${counted(movedNames(run).length, 'different wave')}`;
 }
 
-function showLeft(look) {           // what the run, or the page, left out: in words, each with its time
+function showLeft(look) {           // what the run, or the page, left out, each with its time; what a tool said of the project: in words
   const { run, elements } = look, lines = run.left ? [make('li', {}, run.left)] : [];
   for (const note of run.notes) {
     const within = note.t !== null && note.t >= run.from && note.t <= run.to;
@@ -124,6 +124,9 @@ function showLeft(look) {           // what the run, or the page, left out: in w
   }
   elements.left.replaceChildren(...(lines.length ? [make('h2', {}, 'What this run left out'), make('ul', {}, ...lines)] : []));
   elements.left.hidden = lines.length === 0;
+  elements.made.replaceChildren(make('summary', {}, 'How this project was made of another'), make('ul', {}, ...run.made.map(text => make('li', {}, text))));
+  elements.made.hidden = run.made.length === 0;
+  elements.made.open = run.made.length < 3;
 }
 
 // ---- Moving

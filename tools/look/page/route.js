@@ -31,6 +31,37 @@ function walked(start, hints) {
   return { points, next };
 }
 
+// ---- A wire without hints, as tools make them: out of both parts, and around those in its way.
+
+// The box [left, top, right, bottom] around points.
+const boxOfPoints = points => [0, 1].map(k => Math.min(...points.map(point => point[k]))).concat([0, 1].map(k => Math.max(...points.map(point => point[k]))));
+
+// From a pin over the nearest edge of its part's box, and `gap` farther.
+function wayOut([x, y], [left, top, right, bottom], gap) {
+  const ways = [[y - top, [x, Math.min(y, top) - gap]], [bottom - y, [x, Math.max(y, bottom) + gap]], [x - left, [Math.min(x, left) - gap, y]], [right - x, [Math.max(x, right) + gap, y]]];
+  return ways.reduce((best, way) => way[0] < best[0] ? way : best)[1];
+}
+
+// Whether the stretch between two points, across or down, goes through a box.
+function goesThrough([x, y], [u, v], [left, top, right, bottom]) {
+  return Math.max(x, u) > left + 1 && Math.min(x, u) < right - 1 && Math.max(y, v) > top + 1 && Math.min(y, v) < bottom - 1;
+}
+
+// `from` and `to` are {at, box}. Of the ways with up to two corners between the ends of both ways out, the one that goes through the
+// fewest of `boxes`, and then the shortest.
+function freeRoute(from, to, boxes, gap) {
+  const p = wayOut(from.at, from.box, gap), q = wayOut(to.at, to.box, gap), edges = [from.box, to.box];
+  const across = [p[0], q[0], ...edges.flatMap(box => [box[0] - gap, box[2] + gap])], down = [p[1], q[1], ...edges.flatMap(box => [box[1] - gap, box[3] + gap])];
+  const ways = [...across.map(x => [p, [x, p[1]], [x, q[1]], q]), ...down.map(y => [p, [p[0], y], [q[0], y], q])];
+  const cost = way => {
+    const legs = way.slice(1).map((point, i) => [way[i], point]);
+    const through = legs.reduce((sum, [a, b]) => sum + boxes.filter(box => goesThrough(a, b, box)).length, 0);
+    return 10000 * through + legs.reduce((sum, [a, b]) => sum + Math.abs(a[0] - b[0]) + Math.abs(a[1] - b[1]), 0);
+  };
+  const best = ways.map(way => [cost(way), way]).reduce((one, other) => other[0] < one[0] ? other : one)[1];
+  return merged([from.at, ...best, to.at]);
+}
+
 // Without points that lie on one another, or on the straight between their neighbours.
 function merged(points) {
   const near = (a, b) => Math.abs(a[0] - b[0]) + Math.abs(a[1] - b[1]) < .01, out = [];

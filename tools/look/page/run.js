@@ -18,11 +18,11 @@ function runFrom({ title, us, diagram, chips, script, vcd, serial, report, progr
 
 // From waves that are read already.
 function makeRun({ title, cycles, from = 0, to = cycles, diagram, chips = {}, script = '', names, of, waves, serial, times = null,
-  report = '', states = [], firsts = {}, left = '', program = '' }) {
+  report = '', states = [], firsts = {}, left = '', made = [], program = '' }) {
   const drawing = typeof diagram === 'string' ? JSON.parse(diagram) : diagram;
   const parts = (drawing.parts || []).map(part => partOf(part, chips));
   const run = {
-    title, cycles, from, to, names, waves, report, states, program, left,
+    title, cycles, from, to, names, waves, report, states, program, left, made,
     parts, wires: (drawing.connections || []).filter(wire => Array.isArray(wire)),
     waveOf: new Map(names.map((name, i) => [name, of[i]])),
     inputs: inputsOf(parts, script),
