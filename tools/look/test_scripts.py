@@ -376,6 +376,9 @@ def check_showing():
     text = evaluated("""{ const run = makeRun({ title: 'x', cycles: 1600, diagram: given[0], script: '1us set keys 33', chips: { 'chip-screen': ['A'] }, names: [], of: [], waves: [], states: given[1] }), board = drawBoard(run);
       board.update({ t: 10, since: 10 }); const before = boardPicture(board, ''); board.update({ t: 200, since: 200 }); return [before, boardPicture(board, ''), board.texts({ t: 200, since: 200 })]; }""", [SHOWING, states])
     before, after, texts = text
+    three = {"parts": [{"type": "wokwi-membrane-keypad", "id": "keys", "attrs": {"columns": "3"}}], "connections": []}
+    pictures = evaluated("given.map(diagram => boardPicture(drawBoard(makeRun({ title: 'x', cycles: 9, diagram, names: [], of: [], waves: [] })), ''))", [SHOWING, three])
+    assert [[f">{key}<" in picture for key in "1#D"] for picture in pictures] == [[True, True, True], [True, True, False]], "a keypad of three columns"
     ET.fromstring(before)
     assert "M0 0h1v1h-1z" not in before and 'fill="#ff0000"' in after and 'fill="#00ff00"' in after and "M0 1h1v1h-1z" in after
     assert ["c", "alive\nhello"] in texts and ["keys", "closed: 1 5"] in texts, texts

@@ -331,12 +331,15 @@ function dotsOf(dots) {             // the lit stretches of each row; the lowest
   return d;
 }
 
-PARTS['wokwi-membrane-keypad'] = {
-  size: [266, 338],
-  pins: places('R1 R2 R3 R4 C1 C2 C3 C4', [100, 110, 119.5, 129, 138.5, 148, 157.5, 167.5], 335),
+// With the attribute `columns` 3 the last column has no keys and no pin.
+const keypad = columns => ({
+  size: [columns === 4 ? 266 : 210, 338],
+  pins: columns === 4 ? places('R1 R2 R3 R4 C1 C2 C3 C4', [100, 110, 119.5, 129, 138.5, 148, 157.5, 167.5], 335) : places('R1 R2 R3 R4 C1 C2 C3', [76.5, 86, 95.5, 105, 114.5, 124, 133.5], 335),
   draw(g, part, run) {
-    g.append(rect(0, 0, 266, 270, { rx: 9, fill: '#2f3439', stroke: '#191c1e' }), rect(95, 270, 77, 65, { fill: '#c3c8cb' }));
+    const [width] = this.size, first = this.pins.R1[0] - 5;
+    g.append(rect(0, 0, width, 270, { rx: 9, fill: '#2f3439', stroke: '#191c1e' }), rect(first, 270, 9.5 * (4 + columns) + 1, 65, { fill: '#c3c8cb' }));
     const keys = upTo(16).map(i => {
+      if ((i & 3) >= columns) return rect(0, 0, 0, 0);
       const x = 14 + 61 * (i & 3), y = 14 + 62 * (i >> 2), key = rect(x, y, 54, 54, { rx: 6, stroke: '#ffffff' });
       g.append(key, label(x + 27, y + 35, '123A456B789C*0#D'[i], { ...middle, 'font-size': 22, fill: '#ffffff' }));
       return key;
@@ -348,7 +351,9 @@ PARTS['wokwi-membrane-keypad'] = {
     });
   },
   tell: (part, run, moment) => { const v = inputAt(run, part.id, moment.t); return 'closed: ' + ([...'123A456B789C*0#D'].filter((key, i) => v >> i & 1).join(' ') || 'none'); },
-};
+});
+PARTS['wokwi-membrane-keypad'] = keypad(4);
+const KEYPAD_OF_THREE = keypad(3);
 
 // ---- Custom chips, and types without an entry: a box with its pins, counted as on a chip with two rows of legs.
 
@@ -402,5 +407,5 @@ function pixelsOf(rows, width) {
   return g;
 }
 
-const entryOf = (part, wires) => Object.hasOwn(PARTS, part.type) ? PARTS[part.type] : boxOf(part, wires);
+const entryOf = (part, wires) => part.type === 'wokwi-membrane-keypad' && part.attrs.columns === '3' ? KEYPAD_OF_THREE : Object.hasOwn(PARTS, part.type) ? PARTS[part.type] : boxOf(part, wires);
 const pinsOf = (entry, part) => typeof entry.pins === 'function' ? entry.pins(part) : entry.pins;
