@@ -295,10 +295,14 @@ def main(words):
     if not set(names) <= {"jmp", "pins", "files", "lines", "chips", "wave"}:
         sys.exit(__doc__)
     with tempfile.TemporaryDirectory() as room:
-        tried = Projects(pathlib.Path(room), program)
+        bad = 0
         for name in names:
+            own = pathlib.Path(room) / name
+            own.mkdir()
+            tried = Projects(own, program)
             getattr(tried, name)()
-    return tried.bad > 0
+            bad += tried.bad
+    return bad > 0
 
 
 if __name__ == "__main__":
