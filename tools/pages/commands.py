@@ -153,8 +153,10 @@ class Page:
             if lacks.exists():
                 print(f"{self.name}:{at}: skipped, since this fails: {lacks.read_text().strip()}", file=sys.stderr)
             elif not status.exists() or status.read_text().strip() != "0":
-                said = name.with_suffix(".err").read_text(errors="replace") if name.with_suffix(".err").exists() else written.stderr
-                self.bad.append(f"{self.name}:{at}: status {status.read_text().strip() if status.exists() else 'none'}: {command}\n    " + "\n    ".join(said.splitlines()[-6:]))
+                ended = status.read_text().strip() if status.exists() else "none"
+                errors = name.with_suffix(".err")
+                said = (errors.read_text(errors="replace") if errors.exists() else written.stderr).splitlines()[-6:]
+                self.bad.append("\n    ".join([f"{self.name}:{at}: status {ended}: {command}", *said]))
             else:
                 ran += 1
         if not any(name.with_suffix(".lacks").exists() for name in names):
@@ -175,8 +177,8 @@ class Page:
 
 def copy_of(top, work, program):
     """A copy as a release has it: without sources of the program, so that ./mudflatjar runs the one in dist/."""
-    copy = work / "checkout"
-    shutil.copytree(top, copy, symlinks=True, ignore=lambda folder, names: {".git", "target", "dist", "crates", "crates.txt"} & set(names) if pathlib.Path(folder) == top else ())
+    copy, without = work / "checkout", {".git", "target", "dist", "crates", "crates.txt"}
+    shutil.copytree(top, copy, symlinks=True, ignore=lambda folder, names: without & set(names) if pathlib.Path(folder) == top else ())
     (copy / "dist").mkdir()
     shutil.copy(program, copy / "dist/mudflatjar")
     return copy
