@@ -39,13 +39,19 @@ function drawBoard(run, on = {}) {
   };
 }
 
-// Parts that lie on one place, as those do that a tool made of one part, are drawn side by side.
+// Parts that lie on one place, as those do that a tool made of one part, are drawn side by side, and above where another part lies.
 function apart(parts, wires) {
-  const taken = new Map();
+  const groups = new Map(), key = part => `${part.left} ${part.top}`;
+  for (const part of parts) groups.set(key(part), [...(groups.get(key(part)) || []), part]);
+  const boxAt = part => { const { size } = entryOf(part, wires), place = placeOf(part, size); return boxOfPoints([[0, 0], size, [size[0], 0], [0, size[1]]].map(place)); };
+  const taken = [...groups.values()].map(([first]) => boxAt(first)), isFree = box => !taken.some(other => box[0] < other[2] && other[0] < box[2] && box[1] < other[3] && other[1] < box[3]);
   return parts.map(part => {
-    const place = `${part.left} ${part.top}`, next = taken.get(place) || 0, [width, height] = entryOf(part, wires).size;
-    taken.set(place, next + (part.rotate % 180 ? height : width) + 4);
-    return next ? { ...part, left: part.left + next } : part;
+    const group = groups.get(key(part)), own = boxAt(part), wide = own[2] - own[0] + 4, high = own[3] - own[1] + 16;
+    if (group[0] === part) return part;
+    const spots = upTo(4).flatMap(row => upTo(group.length).map(column => ({ ...part, left: part.left + column * wide, top: part.top - row * high })));
+    const found = spots.slice(1).find(spot => isFree(boxAt(spot))) || spots[group.indexOf(part)];
+    taken.push(boxAt(found));
+    return found;
   });
 }
 
