@@ -4,7 +4,7 @@
 # have to find the same bytes.
 # Prints seconds of processor time, the least of three runs in turn, and the ratio of the two. The program runs in 64 MiB of
 # address space.
-# PROGRAM=FILE before the script measures another program.
+# PROGRAM=FILE before the script measures another program, RUNS=N takes the least of N runs: sigrok-cli takes its time.
 set -euo pipefail
 here=$(cd "$(dirname "$0")" && pwd)
 program=$(realpath "${PROGRAM:-$here/../target/mudflatjar}")
@@ -13,10 +13,12 @@ trap 'rm -rf "$folder"' EXIT
 cd "$folder"
 
 limited() ( ulimit -v 65536; exec "$program" "$@" )
-seconds() { # of processor time of a command
-    { TIMEFORMAT='%U + %S'; time "$@" >/dev/null 2>&1; } 2>&1 | bc | sed 's/^\./0./'
+seconds() { # FILE COMMAND: of processor time of the command, which writes the file
+    local file=$1
+    shift
+    { TIMEFORMAT='%U + %S'; time "$@" >"$file" 2>/dev/null; } 2>&1 | bc | sed 's/^\./0./'
 }
-least() { # of one number or two
+least() { # of numbers
     printf '%s\n' "$@" | sort -n | head -n 1
 }
 
@@ -26,7 +28,7 @@ wave() { # PROGRAM
         function set(line, later, value) {
             t += later
             if (level[line] == value) return
-            if (t != told) out("#" 625 * t)
+            if (t != told) out(sprintf("#%.0f", 625 * t)) # mawk prints large numbers with an exponent
             told = t
             level[line] = value
             out(value (line == "a" ? "!" : "\""))
@@ -39,7 +41,7 @@ wave() { # PROGRAM
             begin()
             for (n = 0; size < 16770000; n++) send(n * 89 % 256)
             finish()
-            out("#" 625 * (t + 1000))
+            out(sprintf("#%.0f", 625 * (t + 1000)))
         }'
 }
 uart='
@@ -70,18 +72,18 @@ sigrok() { # DECODER ANNOTATIONS
     sigrok-cli -I vcd:downsample=625 -i wave.vcd -P "$1" -A "$2"
 }
 compare() { # NAME, HOW THE WAVE IS MADE, DECODER, ANNOTATIONS, WORDS OF A BUS
-    local name=$1 how=$2 decoder=$3 annotations=$4 now ours='' theirs=''
+    local name=$1 how=$2 decoder=$3 annotations=$4 of_ours=() of_theirs=() ours theirs
     shift 4
     wave "$how" >wave.vcd
-    limited decode wave.vcd "$@" >lines
-    sed -n 's/.* 0x\(..\).*/\1/p' lines >ours
-    sigrok "$decoder" "$annotations" | sed -n 's/.*[: ]\([0-9A-Fa-f][0-9A-Fa-f]\)$/\1/p' | tr a-f A-F >theirs
-    cmp ours theirs
-    for _ in 1 2 3; do
-        now=$(seconds limited decode wave.vcd "$@"); ours=$(least $now $ours)
-        now=$(seconds sigrok "$decoder" "$annotations"); theirs=$(least $now $theirs)
+    for _ in $(seq "${RUNS:-3}"); do
+        of_ours+=("$(seconds lines limited decode wave.vcd "$@")")
+        of_theirs+=("$(seconds found sigrok "$decoder" "$annotations")")
     done
-    echo "$name: $(wc -l <ours) bytes in a wave of $(stat -c %s wave.vcd): decode takes $ours s, sigrok-cli $theirs s;" \
+    ours=$(least "${of_ours[@]}")
+    theirs=$(least "${of_theirs[@]}")
+    sed -n 's/.* 0x\(..\).*/\1/p' lines >bytes
+    sed -n 's/.*[: ]\([0-9A-Fa-f][0-9A-Fa-f]\)$/\1/p' found | tr a-f A-F | cmp bytes
+    echo "$name: $(wc -l <bytes) bytes in a wave of $(stat -c %s wave.vcd): decode takes $ours s, sigrok-cli $theirs s;" \
         "the ratio is $(echo "scale=4; $ours / $theirs" | bc | sed 's/^\./0./')"
 }
 compare UART "$uart" uart:rx=a:baudrate=2000000 uart=rx-data --uart a --bit 8

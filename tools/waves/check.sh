@@ -270,4 +270,44 @@ uart_frames "8,930 variables" "$folder/wave" v8929 1000000 16
 variables 8931 >"$folder/wave"
 [ "$("$program" decode "$folder/wave" --uart v0 --bit 16 2>&1)" = "$folder/wave: refused 90 WaveHead line 8933" ]
 says $? "8,931 variables" "refused"
+
+# as many cycles as there may be: each 5 ms a byte on each of the three buses
+seconds() {
+    awk '
+        function set(line, later, value) { t += later; print t, line, value }
+        function bit(value) { set("d", 40, value); set("c", 40, 1); set("c", 80, 0) }
+        BEGIN {
+            print 0, "u", 1; print 0, "k", 0; print 0, "m", 0; print 0, "c", 1; print 0, "d", 1
+            for (n = 0; n < 2000; n++) {
+                for (k = 0; k < 8; k++) bits[k] = int(n * 89 % 256 / 2 ^ k) % 2
+                t = 80000 * n + 1
+                set("u", n % 7, 0)
+                for (k = 0; k < 8; k++) set("u", 1667, bits[k])
+                set("u", 1667, 1)
+                t = 80000 * n + 30000 + n % 11
+                for (k = 7; k >= 0; k--) { set("m", 40, bits[k]); set("k", 40, 1); set("k", 40, 0) }
+                t = 80000 * n + 50000 + n % 13
+                set("d", 0, 0); set("c", 80, 0)
+                for (k = 7; k >= 0; k--) bit(bits[k])
+                bit(n % 2)
+                set("d", 40, 0); set("c", 40, 1); set("d", 40, 1)
+            }
+        }' | sort -n -s -k 1,1 | awk '
+        BEGIN {
+            print "$timescale 100 ps $end\n$scope module board $end"
+            n = split("u k m c d", names)
+            for (i = 1; i <= n; i++) code[names[i]] = sprintf("%c", 32 + i)
+            for (i = 1; i <= n; i++) print "$var wire 1 " code[names[i]] " " names[i] " $end"
+            print "$upscope $end\n$enddefinitions $end\n#0\n$dumpvars"
+        }
+        level[$2] == $3 "" { next }
+        $1 && !told { print "$end" }
+        $1 != told { printf "#%.0f\n", 625 * $1; told = $1 } # mawk prints large numbers with an exponent
+        { level[$2] = $3; print $3 code[$2] }
+        END { print "#100000000000" }'
+}
+seconds >"$folder/wave"
+frames "UART for ten seconds" "$folder/wave" --uart u --bit 1667
+frames "SPI for ten seconds" "$folder/wave" --spi k --data m --mode 0
+frames "I2C for ten seconds" "$folder/wave" --i2c c --sda d
 exit $bad

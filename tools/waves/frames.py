@@ -5,10 +5,11 @@
     frames.py WAVE --spi SCK --data NAME --mode M
     frames.py WAVE --i2c SCL --sda NAME
 
-writes the lines that `mudflatjar decode` with these words writes. It takes its time and a byte for each
-cycle, and knows no refusals: a wave that is none ends it with 1 and a line on standard error.
+writes the lines that `mudflatjar decode` with these words writes. It takes a byte for each cycle of a line,
+and knows no refusals: a wave that is none ends it with 1 and a line on standard error.
 """
 import argparse
+import re
 import sys
 
 CYCLE = 625
@@ -37,12 +38,15 @@ def readings(path, names):
     return lines
 
 
+def edges(*lines):
+    """The cycles in which one of these lines reads another value than in the cycle before."""
+    return sorted({run.start() for line in lines for run in re.finditer(b"\0+|\1+", line)} - {0})
+
+
 def uart(line, bit):
     """Each byte is eight bits, the lowest first, between a start bit of 0 and a stop bit of 1."""
     at, end, half = 1, len(line), bit // 2
-    while True:
-        while at < end and not (line[at - 1] and not line[at]):
-            at += 1
+    while at := line.find(b"\1\0", at - 1) + 1:
         if at + half >= end:
             return
         if line[at + half]:
@@ -61,8 +65,8 @@ def spi(clock, data, mode):
     idle, second = mode >> 1, mode & 1
     reads = idle if second else 1 - idle
     bits = []
-    for t in range(1, len(clock)):
-        if clock[t - 1] != clock[t] and clock[t] == reads:
+    for t in edges(clock):
+        if clock[t] == reads:
             bits.append(data[t])
             if len(bits) == 8:
                 yield f"spi {t} 0x{int(''.join(map(str, bits)), 2):02X}"
@@ -72,11 +76,11 @@ def spi(clock, data, mode):
 def i2c(clock, data):
     """Data that change while the clock is 1 begin and end; else they are bits where it rises."""
     bits = None
-    for t in range(1, len(clock)):
-        if clock[t - 1] and clock[t] and data[t - 1] != data[t]:
+    for t in edges(clock, data):
+        if clock[t - 1] and clock[t]:
             yield f"i2c {t} {'stop' if data[t] else 'start'}"
             bits = None if data[t] else []
-        elif clock[t] and not clock[t - 1] and bits is not None:
+        elif clock[t] and bits is not None:
             bits.append(data[t])
             if len(bits) == 9:
                 yield f"i2c {t} 0x{int(''.join(map(str, bits[:8])), 2):02X} {'nack' if bits[8] else 'ack'}"
