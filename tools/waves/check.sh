@@ -9,13 +9,12 @@ examples=$here/../../examples
 rows=$here/../../crates/sim_rows/data
 folder=$(mktemp -d) || exit 1
 trap 'rm -rf "$folder"' EXIT
-bad=0
 
 have() { # TOOLS
     for tool in "$@"; do command -v "$tool" >/dev/null || return 1; done
 }
 says() { # STATUS WAVE WHAT
-    if [ "$1" = 0 ]; then echo "$2: ok, $3"; else echo "$2: not $3"; bad=1; fi
+    if [ "$1" = 0 ]; then echo "$2: ok, $3"; else echo "$2: not $3"; : >"$folder/bad"; fi # a file: much of this runs in pipes
 }
 
 # an Uno and 63 LEDs on its pins
@@ -246,11 +245,12 @@ END
 for mode in 0 1 2 3; do
     spi_frames "chips in all modes" "$rows/spi-chip.vcd" uno.13 uno.11 $mode
 done
-i2c_frames "a chip with notes" "$rows/i2c-chip.vcd" uno.A5 uno.A4
 uart_frames "a glitch, a missing stop bit and a break" "$rows/decode-uart.vcd" tx.8 2000000 8
 spi_frames "a clock that rests at 1" "$rows/decode-spi.vcd" sck-high mosi 2
 spi_frames "a clock that rests at 1" "$rows/decode-spi.vcd" sck-high late 3
-frames "a START and a STOP inside a byte" "$rows/decode-i2c.vcd" --i2c scl --sda sda # sigrok waits for the byte's end
+# sigrok sees no START and no STOP inside a byte
+frames "a START and a STOP inside a byte" "$rows/decode-i2c.vcd" --i2c scl --sda sda
+frames "a chip with notes" "$rows/i2c-chip.vcd" --i2c uno.A5 --sda uno.A4
 
 # as many variables as there may be, and one more
 variables() { # COUNT; a wave in which the last one sends the byte 0x55, 16 cycles a bit
@@ -310,4 +310,4 @@ seconds >"$folder/wave"
 frames "UART for ten seconds" "$folder/wave" --uart u --bit 1667
 frames "SPI for ten seconds" "$folder/wave" --spi k --data m --mode 0
 frames "I2C for ten seconds" "$folder/wave" --i2c c --sda d
-exit $bad
+[ ! -e "$folder/bad" ]
