@@ -181,6 +181,9 @@ def copy_of(top, work, program):
     shutil.copytree(top, copy, symlinks=True, ignore=lambda folder, names: without & set(names) if pathlib.Path(folder) == top else ())
     (copy / "dist").mkdir()
     shutil.copy(program, copy / "dist/mudflatjar")
+    for page in ("mudflatjar.html", "mudflatjar.mjs"):
+        if (top / "dist" / page).exists():
+            shutil.copy(top / "dist" / page, copy / "dist")
     return copy
 
 
