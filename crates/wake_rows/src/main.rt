@@ -19,6 +19,25 @@ fn main(rt: HostRuntime) -> io::Result<()> {
             2,
             21,
         ),
+        // the same before power-down: SLEEP in cycle 10 stops the timer's clock in the cycle of its first toggle
+        (
+            ":14000000569A03E007BD02E404BD01E005BD05E003BF889547\n:00000001FF\n",
+            1_000_000,
+            11,
+        ),
+        // 62 time-outs of the watchdog in a second of power-down, 256,000 cycles apart, of which each costs five wakes: the
+        // time-out, its interrupt, RETI, a jump and SLEEP
+        (
+            ":020000000CC032\n:18001800189508E10093600000E40093600005E003BF78948895FECFD3\n:00000001FF\n",
+            1_000_000,
+            319,
+        ),
+        // a second of idle sleep with the same interrupts has the same wakes
+        (
+            ":020000000CC032\n:18001800189508E10093600000E40093600001E003BF78948895FECFD7\n:00000001FF\n",
+            1_000_000,
+            319,
+        ),
     ] {
         count = count.saturating_add(1);
         match wakes_of(rt.alloc(), hex.as_bytes(), micros) {
