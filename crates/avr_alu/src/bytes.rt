@@ -24,7 +24,8 @@ pub fn add(a: u8, b: u8, c: bool) -> (u8, Flags)
     (r, flags)
 }
 
-fn sum(a: u8, b: u8, c: bool) -> u8
+#[inline]
+pub(crate) fn sum(a: u8, b: u8, c: bool) -> u8
     ensures { result ≡ sum_of a b c }
 {
     (a as u16 + b as u16 + c as u16 & 0xFF) as u8
@@ -36,7 +37,8 @@ fn carry_3(a: u8, b: u8, c: bool) -> bool
     (a & 0xF) + (b & 0xF) + c as u8 > 15
 }
 
-fn carry_7(a: u8, b: u8, c: bool) -> bool
+#[inline]
+pub(crate) fn carry_7(a: u8, b: u8, c: bool) -> bool
     ensures { result ≡ carry 7 a b (sum_of a b c) }
 {
     a as u16 + b as u16 + c as u16 > 255
@@ -69,7 +71,8 @@ pub fn sub(a: u8, b: u8, c: bool) -> (u8, Flags)
     (r, flags)
 }
 
-fn difference(a: u8, b: u8, c: bool) -> u8
+#[inline]
+pub(crate) fn difference(a: u8, b: u8, c: bool) -> u8
     ensures { result ≡ difference_of a b c }
 {
     (a as u16 + 512 - b as u16 - c as u16 & 0xFF) as u8
@@ -81,7 +84,8 @@ fn borrow_3(a: u8, b: u8, c: bool) -> bool
     (a & 0xF) < (b & 0xF) + c as u8
 }
 
-fn borrow_7(a: u8, b: u8, c: bool) -> bool
+#[inline]
+pub(crate) fn borrow_7(a: u8, b: u8, c: bool) -> bool
     ensures { result ≡ borrow 7 a b (difference_of a b c) }
 {
     (a as u16) < b as u16 + c as u16

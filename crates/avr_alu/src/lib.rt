@@ -7,7 +7,9 @@ mod bits;
 mod bytes;
 mod flags;
 mod pairs;
+mod told;
 
 pub use bytes::{add, com, dec, inc, logic, neg, shift, sub};
 pub use flags::Flags;
 pub use pairs::{adiw, product, sbiw};
+pub use told::Told;
