@@ -1,6 +1,6 @@
 mod BitLemmas
 mod BodyLemmas
-mod HeadLemmas
+pub mod HeadLemmas
 mod HearLemmas
 mod RisingLemmas
 mod WroteLemmas

@@ -1,6 +1,6 @@
-mod DigitLemmas
+pub mod DigitLemmas
 mod LineLemmas
-mod TextLemmas
-mod ValueLemmas
+pub mod TextLemmas
+pub mod ValueLemmas
 pub mod WaveLaw
 pub mod RunLaw

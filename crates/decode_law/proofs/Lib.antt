@@ -1,0 +1,5 @@
+mod HeadLemmas
+mod LineLemmas
+mod ValueLemmas
+mod RowLemmas
+pub mod LevelsLaw
