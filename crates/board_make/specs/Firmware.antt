@@ -1,5 +1,5 @@
 -- The generated firmware (AVR Instruction Set Manual, "LDI", "OUT", "RJMP"; which instructions there are is the profile's):
--- it makes pins 2 to 7 and 8 to 13 outputs, and then writes drawn values to their two ports in turn, without an end.
+-- it makes pins 0 to 7 and 8 to 13 outputs, and then writes drawn values to their two ports in turn, without an end.
 use Rattle.std.specs.Prelude.{ℕ, zero, suc, ◌+◌, ◌-◌, ◌*◌, ◌/◌, ◌%◌, ◌==◌, if◌then◌else◌, List, [], ◌∷◌, ◌++◌, length, replicate}
 use Rattle.board_make.specs.Draws.{draw}
 

@@ -1,4 +1,4 @@
--- A project file, a TOML text (TOML 1.0, "Table", "Array of Tables", "String", "Integer"; Wokwi, "wokwi.toml"; the limit,
+-- A project file, a TOML text (TOML 1.1, "Table", "Array of Tables", "String", "Integer"; Wokwi, "wokwi.toml"; the limit,
 -- the form of names and paths and the order of the refusals are the profile's).
 use Rattle.std.specs.Prelude.{ℕ, ◌+◌, ◌-◌, ◌&&◌, nat_le, ◌==◌, Bool, false, not, List, [], ◌∷◌, ◌++◌, length, take, codes, ℤ, pos, negsuc, Option, Some, None, Result, Ok, option_and_then, option_map, ok_or}
 use Rattle.std.specs.List.{list_any, ends_with}

@@ -1,4 +1,4 @@
--- Words of TOML (TOML 1.0, "Table", "Array", "Array of Tables", "String") for what a document says.
+-- Words of TOML (TOML 1.1, "Table", "Array", "Array of Tables", "String") for what a document says.
 use Rattle.std.specs.Prelude.{ℕ, if◌then◌else◌, List, [], ◌∷◌, Option, None, Result, option_and_then, option_map, ok_or}
 use Rattle.std.specs.Str.{is_utf8}
 use Rattle.toml.specs.Data.{Data, table, Items, no_items, item, get, as_str}
