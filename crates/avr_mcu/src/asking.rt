@@ -4,12 +4,12 @@ ghost use Rattle.sim_base.specs.declared.signal.Level.{Level};
 ghost use Rattle.sim_base.specs.declared.signal.Level.TheVariants as levels;
 ghost use Rattle.unit_law.specs.UnitMachine.{steps, IsQuiet};
 ghost use Rattle.avr_mcu.specs.Ready.{Ready};
-ghost use Rattle.unit_law.specs.Placed.{StepMoves, StepStays};
-ghost use Rattle.avr_mcu.specs.Signals.{signalled};
+ghost use Rattle.unit_law.specs.Placed.{StepMoves};
+ghost use Rattle.unit_law.specs.Signals.{signalled};
 
 use part_law::Span;
 use sim_base::{Level, MOST_CYCLES};
-use unit_law::{Group, PORT_PINS, Pad, wait};
+use unit_law::{Group, PORT_PINS, Pad, Signal, wait};
 
 /// The first cycle in which a unit has an event, or `MOST_CYCLES`, and the least vector that is enabled and flagged, or
 /// `VECTORS`.
@@ -141,36 +141,25 @@ pub(crate) fn taken<G: Group>(
     *next = next_of(group, levels);
 }
 
-/// What reaches the units beside the bus and the vectors: WDR, power-down, and the cycle behind a reset of the watchdog.
-#[derive(Clone, Copy)]
-pub(crate) enum Signal {
-    Wdr,
-    Doze,
-    Restart,
-}
-
-/// Hands on such a signal.
-pub(crate) fn hand<G: Group>(
+/// Hands on what reaches the units beside the bus and the vectors.
+pub(crate) fn give<G: Group>(
     group: &mut G,
     next: &mut Next,
     cycle: u32,
     levels: &[Level],
-    given: Signal,
+    signal: Signal,
 )
     requires levels { length levels.now ≡ PORT_PINS }
     requires ready { Ready G.machine (G.state group.old) (G.until group.old) (G.stands group.old) levels.now cycle next.old.due next.old.request }
-    ensures state { G.state group.new cycle ≡ signalled G.machine given (G.state group.old cycle) cycle }
+    ensures state { G.state group.new cycle ≡ signalled G.machine signal (G.state group.old cycle) cycle }
     ensures ready { Ready G.machine (G.state group.new) (G.until group.new) (G.stands group.new) levels.now cycle next.new.due next.new.request }
 {
-    match given {
-        Signal::Wdr => group.wdr(cycle, levels),
-        Signal::Doze => group.doze(cycle, levels),
-        Signal::Restart => group.restart(cycle, levels),
-    }
+    group.give(cycle, levels, signal);
     *next = next_of(group, levels);
 }
 
-// One cycle, from the levels before to those now: the byte that leaves, and whether it ends in a reset of the watchdog.
+// One cycle, from the levels before to those now; `same` tells that these levels are those. Answers the byte that leaves,
+// whether it ends in a reset of the watchdog, and the pins of which it may have changed what they are asked for.
 #[inline]
 fn step<G: Group>(
     group: &mut G,
@@ -178,20 +167,23 @@ fn step<G: Group>(
     cycle: u32,
     before: &[Level],
     now: &[Level],
-) -> (Option<u8>, bool)
+    same: bool,
+) -> (Option<u8>, bool, Span)
     requires before { length before.now ≡ PORT_PINS }
     requires levels { length now.now ≡ PORT_PINS }
     requires end { cycle < MOST_CYCLES }
     requires ready { Ready G.machine (G.state group.old) (G.until group.old) (G.stands group.old) before.now cycle next.old.due next.old.request }
+    requires same { same ≡ true → now.now ≡ before.now }
     ensures byte { result.0 ≡ G.machine.sends (G.state group.old cycle) cycle }
     ensures resets { result.1 ≡ G.machine.power.resets (G.state group.old cycle) cycle }
+    ensures pads { StepMoves G.machine (G.state group.old cycle) cycle before.now now.now result.2 }
     ensures state { G.state group.new (cycle + 1) ≡ G.machine.step (G.state group.old cycle) cycle before.now now.now }
     ensures ready { Ready G.machine (G.state group.new) (G.until group.new) (G.stands group.new) now.now (cycle + 1) next.new.due next.new.request }
 {
     let resets = group.resets(cycle);
-    let byte = group.step(cycle, before, now);
+    let (byte, moved) = group.step(cycle, before, now, same);
     *next = next_of(group, now);
-    (byte, resets)
+    (byte, resets, moved)
 }
 
 // Whether a unit has an event or takes notice of the change of the levels; `due` is the first cycle with an event.
@@ -203,42 +195,16 @@ fn notices<G: Group>(group: &G, due: u32, cycle: u32, before: &[Level], now: &[L
     requires here { G.stands group.now before.now cycle }
     ensures quiet { result ≡ false → cycle < due }
     ensures deaf { result ≡ false → G.machine.hears (G.state group.now cycle) before.now now.now ≡ false }
-    ensures pads { result ≡ false → StepStays G.machine (G.state group.now cycle) cycle before.now now.now }
 {
-    (due <= cycle) | group.hears(before, now)
-}
-
-// One cycle, in which nothing needs to be done if no unit notices.
-#[inline]
-fn step_noticed<G: Group>(
-    group: &mut G,
-    next: &mut Next,
-    cycle: u32,
-    before: &[Level],
-    now: &[Level],
-    notices: bool,
-) -> (Option<u8>, bool)
-    requires before { length before.now ≡ PORT_PINS }
-    requires levels { length now.now ≡ PORT_PINS }
-    requires end { cycle < MOST_CYCLES }
-    requires ready { Ready G.machine (G.state group.old) (G.until group.old) (G.stands group.old) before.now cycle next.old.due next.old.request }
-    requires quiet { notices ≡ false → cycle < next.old.due }
-    requires deaf { notices ≡ false → G.machine.hears (G.state group.old cycle) before.now now.now ≡ false }
-    ensures byte { result.0 ≡ G.machine.sends (G.state group.old cycle) cycle }
-    ensures resets { result.1 ≡ G.machine.power.resets (G.state group.old cycle) cycle }
-    ensures state { G.state group.new (cycle + 1) ≡ G.machine.step (G.state group.old cycle) cycle before.now now.now }
-    ensures ready { Ready G.machine (G.state group.new) (G.until group.new) (G.stands group.new) now.now (cycle + 1) next.new.due next.new.request }
-{
-    if notices {
-        step(group, next, cycle, before, now)
+    if due <= cycle {
+        true
     } else {
-        group.stay(cycle, before, now);
-        (None, false)
+        group.hears(before, now)
     }
 }
 
-/// One cycle, from the levels before to those now: the byte that leaves, whether it ends in a reset of the watchdog, and the
-/// pins of which it may change what they are asked for.
+/// One cycle, from the levels before to those now, in which nothing needs to be done if no unit notices: the byte that leaves,
+/// whether it ends in a reset of the watchdog, and the pins of which it may have changed what they are asked for.
 #[inline]
 pub(crate) fn hear<G: Group>(
     group: &mut G,
@@ -257,10 +223,12 @@ pub(crate) fn hear<G: Group>(
     ensures state { G.state group.new (cycle + 1) ≡ G.machine.step (G.state group.old cycle) cycle before.now now.now }
     ensures ready { Ready G.machine (G.state group.new) (G.until group.new) (G.stands group.new) now.now (cycle + 1) next.new.due next.new.request }
 {
-    let notices = notices(group, next.due, cycle, before, now);
-    let moved = moved_pins(group, cycle, before, now, false, notices);
-    let (byte, resets) = step_noticed(group, next, cycle, before, now, notices);
-    (byte, resets, moved)
+    if notices(group, next.due, cycle, before, now) {
+        step(group, next, cycle, before, now, false)
+    } else {
+        group.stay(cycle, before, now);
+        (None, false, Span::none())
+    }
 }
 
 /// The same on levels that stay.
@@ -280,53 +248,7 @@ pub(crate) fn turn<G: Group>(
     ensures state { G.state group.new (cycle + 1) ≡ G.machine.step (G.state group.old cycle) cycle levels.now levels.now }
     ensures ready { Ready G.machine (G.state group.new) (G.until group.new) (G.stands group.new) levels.now (cycle + 1) next.new.due next.new.request }
 {
-    let moves = group.event_moves(cycle);
-    let moved = moved_pins(group, cycle, levels, levels, true, moves);
-    let (byte, resets) = step(group, next, cycle, levels, levels);
-    (byte, resets, moved)
-}
-
-// The pins of which the step of a cycle, from the levels before to those now, may change what they are asked for, if it may
-// change that at all (`moves`); `same` tells that these levels are those.
-#[inline(always)]
-fn moved_pins<G: Group>(
-    group: &G,
-    cycle: u32,
-    before: &[Level],
-    now: &[Level],
-    same: bool,
-    moves: bool,
-) -> Span
-    requires before { length before.now ≡ PORT_PINS }
-    requires levels { length now.now ≡ PORT_PINS }
-    requires here { G.stands group.now before.now cycle }
-    requires same { same ≡ true → now.now ≡ before.now }
-    requires moves { moves ≡ false → StepStays G.machine (G.state group.now cycle) cycle before.now now.now }
-    ensures { StepMoves G.machine (G.state group.now cycle) cycle before.now now.now result }
-{
-    if moves {
-        pins_of_units(group, cycle, before, now, same)
-    } else {
-        Span::none()
-    }
-}
-
-// The same unit by unit.
-#[inline(never)]
-fn pins_of_units<G: Group>(
-    group: &G,
-    cycle: u32,
-    before: &[Level],
-    now: &[Level],
-    same: bool,
-) -> Span
-    requires before { length before.now ≡ PORT_PINS }
-    requires levels { length now.now ≡ PORT_PINS }
-    requires here { G.stands group.now before.now cycle }
-    requires same { same ≡ true → now.now ≡ before.now }
-    ensures { StepMoves G.machine (G.state group.now cycle) cycle before.now now.now result }
-{
-    group.moved(cycle, before, now, same)
+    step(group, next, cycle, levels, levels, true)
 }
 
 /// What the units ask together of a pin, 14 to 19 being A0 to A5.

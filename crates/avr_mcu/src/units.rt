@@ -12,11 +12,9 @@ ghost use Rattle.part_law.specs.Spans.{no_pins};
 ghost use Rattle.avr_core.specs.declared.state.Mode.TheVariants.{Sleep};
 ghost use Rattle.avr_mcu.specs.McuOf.{with_sleep, with_wdr, with_doze, is_deep};
 ghost use Rattle.unit_law.specs.Placed.{SameBut};
-ghost use Rattle.avr_mcu.specs.Signals.{signalled};
+ghost use Rattle.unit_law.specs.Signals.{signalled};
 
-use crate::asking::{
-    Next, Signal, begin, hand, hear, pad_of, read, skip, taken, turn, write, write_bit,
-};
+use crate::asking::{Next, begin, give, hear, pad_of, read, skip, taken, turn, write, write_bit};
 use crate::devices::Devices;
 use crate::pins::UNO_PINS;
 use avr_adc::{ADCSRA, ADSC};
@@ -27,7 +25,7 @@ use part_law::Span;
 use sim_base::{Drive, Level, MOST_CYCLES, OutOfMemory};
 use std::alloc::{AllocError, Global};
 use std::marker::Model;
-use unit_law::{Group, PORT_PINS, has_bit, with_bit};
+use unit_law::{Group, PORT_PINS, Signal, has_bit, with_bit};
 
 /// General purpose I/O registers, which only keep what is written (data sheet, "Register Summary").
 const GPIOR0: u8 = 0x3E;
@@ -220,15 +218,15 @@ impl Units {
     }
 
     // Hands a signal to the devices.
-    fn give(&mut self, given: Signal)
-        ensures { self.new ≡ record self.old { units = record (self.old.units) { devices = signalled devices given self.old.units.devices self.old.cycle } } }
+    fn give(&mut self, signal: Signal)
+        ensures { self.new ≡ record self.old { units = record (self.old.units) { devices = signalled devices signal self.old.units.devices self.old.cycle } } }
     {
-        hand(
+        give(
             &mut self.devices,
             &mut self.next,
             self.cycle,
             &self.held[..PORT_PINS],
-            given,
+            signal,
         );
     }
 

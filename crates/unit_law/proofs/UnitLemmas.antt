@@ -5,7 +5,7 @@ use Rattle.sim_base.specs.declared.signal.Level.{Level}
 use Rattle.sim_base.specs.declared.limits.TheConstants.{MOST_CYCLES}
 use Rattle.unit_law.specs.UnitMachine.{UnitMachine, At, Laws, least, steps, IsQuiet, IsFirstDue, FirstDue}
 use Rattle.unit_law.specs.Lagging.{lag_first}
-use Rattle.unit_law.specs.Late.{late_state, Lags, LateStands}
+use Rattle.unit_law.specs.Late.{late_state, Lags, LateStands, Rests}
 
 le_or : (a b : ℕ) → (a ≤ b) ⊎ (b < a)
 le_or a b = grind arith
@@ -106,39 +106,45 @@ module _ {U : Type 0} (m : UnitMachine U) where
       let f : s.cycle + (t - s.cycle) ≡ t = omega (arith, h.lags) in
       ap (m.due (late_state m s t)) (sym f) ∙ h.first.quiet (t - s.cycle) (omega (arith, less, h.lags))
 
-  -- a unit that is not touched in a cycle: it has no event there, and takes no notice of the change
-  pub rest_state : Laws m → (s : At U) (due t : ℕ) (before now : List Level) → Lags m s due t → t < due → m.hears s.unit before now ≡ false →
+  -- a cycle leaves a unit as it lags on levels that stay, and where it takes no notice of the change
+  pub rests_same : (s : At U) (due t : ℕ) (before now : List Level) → t < due → now ≡ before → Rests m s due before now t
+  rests_same s due t before now less e = record {
+    early = less;
+    steps = ap (λ (l : List Level). m.step (late_state m s t) t l now) (sym e);
+    requests = ap (λ (l : List Level). least (m.requests s.unit l)) (sym e);
+  }
+
+  pub rests_deaf : Laws m → (s : At U) (due t : ℕ) (before now : List Level) → Lags m s due t → t < due → m.hears s.unit before now ≡ false → Rests m s due before now t
+  rests_deaf laws s due t before now h less none = record {
+    early = less;
+    steps = laws.unheard (late_state m s t) t before now (late_due s due t h less) (quiet_hears laws s.unit s.cycle (t - s.cycle) before now (late_quiet s due t h) ∙ none);
+    requests = laws.unheard_requests s.unit before now none;
+  }
+
+  -- what such a cycle leaves
+  pub rest_state : Laws m → (s : At U) (due t : ℕ) (before now : List Level) → Lags m s due t → Rests m s due before now t →
       late_state m s (t + 1) ≡ m.step (late_state m s t) t before now
-  rest_state laws s due t before now h less none =
-      let d = late_due s due t h less in
-      late_next s t h.lags ∙ laws.deaf (late_state m s t) t [] now d
-      ∙ sym (laws.unheard (late_state m s t) t before now d (quiet_hears laws s.unit s.cycle (t - s.cycle) before now (late_quiet s due t h) ∙ none))
+  rest_state laws s due t before now h r = late_next s t h.lags ∙ laws.deaf (late_state m s t) t [] now (late_due s due t h r.early) ∙ sym r.steps
 
-  -- a cycle moves no pin where it has no event, and where no event does
-  pub rest_pad : Laws m → (s : At U) (due t : ℕ) (l : List Level) (p : ℕ) → Lags m s due t → t < due → m.pad (m.step (late_state m s t) t l l) p ≡ m.pad (late_state m s t) p
-  rest_pad laws s due t l p h less = laws.keeps_pad (late_state m s t) t l p (late_due s due t h less)
+  pub rest_pad : Laws m → (s : At U) (due t : ℕ) (before now : List Level) → Lags m s due t → Rests m s due before now t → (p : ℕ) →
+      m.pad (m.step (late_state m s t) t before now) p ≡ m.pad (late_state m s t) p
+  rest_pad laws s due t before now h r p = ap (λ (x : U). m.pad x p) r.steps ∙ laws.keeps_pad (late_state m s t) t now p (late_due s due t h r.early)
 
+  -- an event that moves no pin
   pub event_pad : Laws m → (s : At U) (due t : ℕ) (l : List Level) (p : ℕ) → Lags m s due t → m.event_moves s.unit ≡ false → m.pad (m.step (late_state m s t) t l l) p ≡ m.pad (late_state m s t) p
   event_pad laws s due t l p h none =
       laws.event_pad (late_state m s t) t l p (quiet_event_moves laws s.unit s.cycle (t - s.cycle) (late_quiet s due t h) ∙ none)
 
-  -- nor where it takes no notice of the change
-  pub unheard_pad : Laws m → (s : At U) (due t : ℕ) (before now : List Level) (p : ℕ) → Lags m s due t → t < due → m.hears s.unit before now ≡ false →
-      m.pad (m.step (late_state m s t) t before now) p ≡ m.pad (late_state m s t) p
-  unheard_pad laws s due t before now p h less none =
-      let d = late_due s due t h less in
-      ap (λ (x : U). m.pad x p) (laws.unheard (late_state m s t) t before now d (quiet_hears laws s.unit s.cycle (t - s.cycle) before now (late_quiet s due t h) ∙ none))
-      ∙ laws.keeps_pad (late_state m s t) t now p d
+  pub rest_silent : Laws m → (s : At U) (due t : ℕ) (before now : List Level) → Lags m s due t → Rests m s due before now t → None ≡ m.sends (late_state m s t) t
+  rest_silent laws s due t before now h r = sym (laws.keeps_silent (late_state m s t) t (late_due s due t h r.early))
 
-  pub rest_silent : Laws m → (s : At U) (due t : ℕ) → Lags m s due t → t < due → None ≡ m.sends (late_state m s t) t
-  rest_silent laws s due t h less = sym (laws.keeps_silent (late_state m s t) t (late_due s due t h less))
-
-  pub rest_stands : Laws m → (s : At U) (due request t : ℕ) (before now : List Level) → LateStands m s due request before t → t < due → m.hears s.unit before now ≡ false →
-      LateStands m s due request now (t + 1)
-  rest_stands laws s due request t before now h less none = record {
-    late = record { lags = omega (arith, h.late.lags); soon = omega (arith, less); first = h.late.first };
-    requests = h.requests ∙ laws.unheard_requests s.unit before now none;
-  }
+  pub rest_stands : (s : At U) (due request t : ℕ) (before now : List Level) → LateStands m s due request before t → Rests m s due before now t → LateStands m s due request now (t + 1)
+  rest_stands s due request t before now h r =
+      let less = r.early in
+      record {
+        late = record { lags = omega (arith, h.late.lags); soon = omega (arith, less); first = h.late.first };
+        requests = h.requests ∙ r.requests;
+      }
 
 -- a group that waits, and one that steps over a cycle without an event
 module _ {U : Type 0} (m : UnitMachine U) (laws : Laws m) (t d : ℕ) (state : ℕ → U) (first : FirstDue m (state t) t d) where

@@ -10,5 +10,6 @@ pub mod Next
 pub mod Late
 pub mod Clocked
 pub mod Power
+pub mod Signals
 pub mod Clock
 pub mod PowerLaws

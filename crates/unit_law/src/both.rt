@@ -8,6 +8,7 @@ use crate::group::Group;
 use crate::late::Late;
 use crate::pad::Pad;
 use crate::pins::PORT_PINS;
+use crate::signal::Signal;
 use crate::unit::Unit;
 use part_law::Span;
 use sim_base::Level;
@@ -52,18 +53,6 @@ impl<U: Unit, G: Group> Group for Both<U, G> {
     #[inline]
     fn hears(&self, before: &[Level], now: &[Level]) -> bool {
         self.first.hears(before, now) | self.second.hears(before, now)
-    }
-
-    #[inline]
-    fn event_moves(&self, cycle: u32) -> bool {
-        self.first.event_moves(cycle) | self.second.event_moves(cycle)
-    }
-
-    #[inline(always)]
-    fn moved(&self, cycle: u32, before: &[Level], now: &[Level], same: bool) -> Span {
-        let first = self.first.moved(cycle, before, now, same);
-        let second = self.second.moved(cycle, before, now, same);
-        hull(second, first)
     }
 
     #[inline(always)]
@@ -111,10 +100,16 @@ impl<U: Unit, G: Group> Group for Both<U, G> {
         first | second
     }
 
-    fn step(&mut self, cycle: u32, before: &[Level], now: &[Level]) -> Option<u8> {
-        let byte = self.first.step(cycle, before, now);
-        let other = self.second.step(cycle, before, now);
-        first_of_two(byte, other)
+    fn step(
+        &mut self,
+        cycle: u32,
+        before: &[Level],
+        now: &[Level],
+        same: bool,
+    ) -> (Option<u8>, Span) {
+        let (byte, moved) = self.first.step(cycle, before, now, same);
+        let (other, more) = self.second.step(cycle, before, now, same);
+        (first_of_two(byte, other), hull(more, moved))
     }
 
     #[inline(always)]
@@ -148,24 +143,14 @@ impl<U: Unit, G: Group> Group for Both<U, G> {
         self.first.rouses(levels) | self.second.rouses(levels)
     }
 
-    fn wdr(&mut self, cycle: u32, levels: &[Level]) {
-        self.first.wdr(cycle, levels);
-        self.second.wdr(cycle, levels);
-    }
-
     #[inline]
     fn resets(&self, cycle: u32) -> bool {
         self.first.resets(cycle) | self.second.resets(cycle)
     }
 
-    fn restart(&mut self, cycle: u32, levels: &[Level]) {
-        self.first.restart(cycle, levels);
-        self.second.restart(cycle, levels);
-    }
-
-    fn doze(&mut self, cycle: u32, levels: &[Level]) {
-        self.first.doze(cycle, levels);
-        self.second.doze(cycle, levels);
+    fn give(&mut self, cycle: u32, levels: &[Level], signal: Signal) {
+        self.first.give(cycle, levels, signal);
+        self.second.give(cycle, levels, signal);
     }
 
     #[inline(always)]

@@ -4,11 +4,13 @@ ghost use Rattle.sim_base.specs.declared.signal.Level.{Level};
 ghost use Rattle.sim_base.specs.declared.signal.Level.TheVariants as levels;
 ghost use Rattle.unit_law.specs.UnitMachine.{UnitMachine, Laws, least, steps, IsQuiet, FirstDue};
 ghost use Rattle.unit_law.specs.Pad.{joined};
-ghost use Rattle.unit_law.specs.Placed.{StepMoves, StepStays};
+ghost use Rattle.unit_law.specs.Placed.{StepMoves};
 ghost use Rattle.unit_law.specs.Next.{WritesKeepNext};
+ghost use Rattle.unit_law.specs.Signals.{signalled};
 
 use crate::pad::Pad;
 use crate::pins::PORT_PINS;
+use crate::signal::Signal;
 use part_law::Span;
 use sim_base::{Level, MOST_CYCLES};
 
@@ -41,19 +43,6 @@ pub trait Group {
         requires before { length before.now ≡ PORT_PINS }
         requires levels { length now.now ≡ PORT_PINS }
         ensures { (l : List Level) (t : ℕ) → stands self.now l t → result ≡ machine.hears (state self.now t) before.now now.now };
-
-    /// Whether an event of this cycle may change what they ask of a pin.
-    fn event_moves(&self, cycle: u32) -> bool
-        ensures { (l : List Level) → stands self.now l cycle → result ≡ false → StepStays machine (state self.now cycle) cycle l l };
-
-    /// The pins of which the step of a cycle, from the levels before to those now, may change what they are asked for;
-    /// `same` tells that these levels are those.
-    fn moved(&self, cycle: u32, before: &[Level], now: &[Level], same: bool) -> Span
-        requires before { length before.now ≡ PORT_PINS }
-        requires levels { length now.now ≡ PORT_PINS }
-        requires here { stands self.now before.now cycle }
-        requires same { same ≡ true → now.now ≡ before.now }
-        ensures { StepMoves machine (state self.now cycle) cycle before.now now.now result };
 
     /// Whether a read of the register leaves them as they are.
     fn reading_keeps(reg: u8) -> bool
@@ -91,14 +80,23 @@ pub trait Group {
         ensures state { state self.new cycle ≡ machine.write_bit (state self.old cycle) cycle reg bit value }
         ensures stands { stands self.new levels.now cycle };
 
-    /// Steps over a cycle: a unit without an event that takes no notice of the change is not touched.
-    /// Answers the byte that leaves.
-    fn step(&mut self, cycle: u32, before: &[Level], now: &[Level]) -> Option<u8>
+    /// Steps over a cycle, from the levels before to those now; `same` tells that these levels are those. A unit without an
+    /// event that takes no notice of the change is not touched. Answers the byte that leaves, and the pins of which the step
+    /// may have changed what they are asked for.
+    fn step(
+        &mut self,
+        cycle: u32,
+        before: &[Level],
+        now: &[Level],
+        same: bool,
+    ) -> (Option<u8>, Span)
         requires before { length before.now ≡ PORT_PINS }
         requires levels { length now.now ≡ PORT_PINS }
         requires end { cycle < MOST_CYCLES }
         requires here { stands self.old before.now cycle }
-        ensures byte { result ≡ machine.sends (state self.old cycle) cycle }
+        requires same { same ≡ true → now.now ≡ before.now }
+        ensures byte { result.0 ≡ machine.sends (state self.old cycle) cycle }
+        ensures pads { StepMoves machine (state self.old cycle) cycle before.now now.now result.1 }
         ensures state { state self.new (cycle + 1) ≡ machine.step (state self.old cycle) cycle before.now now.now }
         ensures stands { stands self.new now.now (cycle + 1) };
 
@@ -136,29 +134,15 @@ pub trait Group {
         requires { length levels.now ≡ PORT_PINS }
         ensures { (t : ℕ) → stands self.now levels.now t → result ≡ machine.power.rouses (state self.now t) levels.now };
 
-    /// What WDR does in a cycle.
-    fn wdr(&mut self, cycle: u32, levels: &[Level])
-        requires levels { length levels.now ≡ PORT_PINS }
-        requires here { stands self.old levels.now cycle }
-        ensures state { state self.new cycle ≡ machine.power.wdr (state self.old cycle) cycle }
-        ensures stands { stands self.new levels.now cycle };
-
     /// Whether the step of a cycle ends in a reset.
     fn resets(&self, cycle: u32) -> bool
         ensures { (l : List Level) → stands self.now l cycle → result ≡ machine.power.resets (state self.now cycle) cycle };
 
-    /// What a reset leaves in the cycle after it.
-    fn restart(&mut self, cycle: u32, levels: &[Level])
+    /// Hands on what reaches units in a cycle beside the bus and the vectors.
+    fn give(&mut self, cycle: u32, levels: &[Level], signal: Signal)
         requires levels { length levels.now ≡ PORT_PINS }
         requires here { stands self.old levels.now cycle }
-        ensures state { state self.new cycle ≡ machine.power.restart (state self.old cycle) }
-        ensures stands { stands self.new levels.now cycle };
-
-    /// What entering power-down in a cycle does.
-    fn doze(&mut self, cycle: u32, levels: &[Level])
-        requires levels { length levels.now ≡ PORT_PINS }
-        requires here { stands self.old levels.now cycle }
-        ensures state { state self.new cycle ≡ machine.power.doze (state self.old cycle) }
+        ensures state { state self.new cycle ≡ signalled machine signal (state self.old cycle) cycle }
         ensures stands { stands self.new levels.now cycle };
 
     /// What they and others ask together of an Uno pin, 14 to 19 being A0 to A5.

@@ -2,14 +2,16 @@
 ghost use Rattle.std.specs.Prelude.{◌≡◌, ℕ, ◌+◌, ◌-◌, ◌<◌, ◌≤◌, List, true, false, length};
 ghost use Rattle.sim_base.specs.declared.signal.Level.{Level};
 ghost use Rattle.unit_law.specs.UnitMachine.{At, FirstDue};
-ghost use Rattle.unit_law.specs.Late.{LateStands, late_state, Lags};
+ghost use Rattle.unit_law.specs.Late.{LateStands, late_state, Lags, Rests};
 ghost use Rattle.unit_law.specs.Pad.{joined};
-ghost use Rattle.unit_law.specs.Placed.{Moves, StepMoves, StepStays};
+ghost use Rattle.unit_law.specs.Placed.{StepMoves};
+ghost use Rattle.unit_law.specs.Signals.{signalled};
 ghost use Rattle.part_law.specs.Spans.{is_in};
 
 use crate::group::Group;
 use crate::pad::Pad;
 use crate::pins::PORT_PINS;
+use crate::signal::Signal;
 use crate::unit::Unit;
 use part_law::Span;
 use sim_base::{Level, MOST_CYCLES};
@@ -53,21 +55,6 @@ impl<U: Unit> Group for Late<U> {
         self.unit.hears(before, now)
     }
 
-    #[inline]
-    fn event_moves(&self, cycle: u32) -> bool {
-        stirs(&self.unit, self.due, cycle)
-    }
-
-    #[inline(always)]
-    fn moved(&self, cycle: u32, before: &[Level], now: &[Level], same: bool) -> Span {
-        let pins = U::moved();
-        if pins.has_any() {
-            told(&self.unit, self.due, cycle, before, now, same, pins)
-        } else {
-            pins
-        }
-    }
-
     #[inline(always)]
     fn reading_keeps(reg: u8) -> bool {
         U::reading_keeps(reg)
@@ -106,15 +93,22 @@ impl<U: Unit> Group for Late<U> {
         moves
     }
 
-    fn step(&mut self, cycle: u32, before: &[Level], now: &[Level]) -> Option<u8> {
-        if (cycle < self.due) & !self.unit.hears(before, now) {
-            return None;
+    fn step(
+        &mut self,
+        cycle: u32,
+        before: &[Level],
+        now: &[Level],
+        same: bool,
+    ) -> (Option<u8>, Span) {
+        if rests(&self.unit, self.due, cycle, before, now, same) {
+            return (None, Span::none());
         }
+        let moved = reached(&self.unit, self.due, cycle, before, now, same);
         catch_up(&mut self.unit, self.due, cycle);
         let byte = self.unit.step(before, now);
         self.due = first_due(&self.unit);
         self.request = self.unit.request(now);
-        byte
+        (byte, moved)
     }
 
     #[inline(always)]
@@ -146,28 +140,14 @@ impl<U: Unit> Group for Late<U> {
         self.unit.rouses(levels)
     }
 
-    fn wdr(&mut self, cycle: u32, levels: &[Level]) {
-        catch_up(&mut self.unit, self.due, cycle);
-        self.unit.wdr();
-        self.due = first_due(&self.unit);
-        self.request = self.unit.request(levels);
-    }
-
     #[inline]
     fn resets(&self, cycle: u32) -> bool {
         self.unit.resets(cycle)
     }
 
-    fn restart(&mut self, cycle: u32, levels: &[Level]) {
+    fn give(&mut self, cycle: u32, levels: &[Level], signal: Signal) {
         catch_up(&mut self.unit, self.due, cycle);
-        self.unit.restart();
-        self.due = first_due(&self.unit);
-        self.request = self.unit.request(levels);
-    }
-
-    fn doze(&mut self, cycle: u32, levels: &[Level]) {
-        catch_up(&mut self.unit, self.due, cycle);
-        self.unit.doze();
+        give(&mut self.unit, signal);
         self.due = first_due(&self.unit);
         self.request = self.unit.request(levels);
     }
@@ -206,17 +186,9 @@ fn first_due<U: Unit>(unit: &U) -> u32
     }
 }
 
-// Whether an event of this cycle may change what the unit asks of a pin.
-#[inline]
-fn stirs<U: Unit>(unit: &U, due: u32, cycle: u32) -> bool
-    ensures { Lags U.machine (U.shows unit.now) due cycle → result ≡ false → (l : List Level) → StepStays U.machine (late_state U.machine (U.shows unit.now) cycle) cycle l l }
-{
-    (due <= cycle) & unit.event_moves()
-}
-
-// Whether the cycle may change what the unit asks of a pin.
+// Whether a cycle leaves the unit as it lags: it has no event there, and takes no notice of the change of the levels.
 #[inline(always)]
-fn moves<U: Unit>(
+fn rests<U: Unit>(
     unit: &U,
     due: u32,
     cycle: u32,
@@ -228,37 +200,51 @@ fn moves<U: Unit>(
     requires levels { length now.now ≡ PORT_PINS }
     requires here { Lags U.machine (U.shows unit.now) due cycle }
     requires same { same ≡ true → now.now ≡ before.now }
-    ensures { result ≡ false → StepStays U.machine (late_state U.machine (U.shows unit.now) cycle) cycle before.now now.now }
+    ensures { result ≡ true → Rests U.machine (U.shows unit.now) due before.now now.now cycle }
 {
-    if same {
-        stirs(unit, due, cycle)
+    if due <= cycle {
+        false
+    } else if same {
+        true
     } else {
-        (due <= cycle) | unit.hears(before, now)
+        !unit.hears(before, now)
     }
 }
 
-// These pins, where the cycle may change what the unit asks of one of them; it changes nothing of others.
+// The pins of which a cycle may change what the unit asks of them.
 #[inline(always)]
-fn told<U: Unit>(
+fn reached<U: Unit>(
     unit: &U,
     due: u32,
     cycle: u32,
     before: &[Level],
     now: &[Level],
     same: bool,
-    pins: Span,
 ) -> Span
-    requires pins { Moves U.machine pins }
-    requires before { length before.now ≡ PORT_PINS }
-    requires levels { length now.now ≡ PORT_PINS }
     requires here { Lags U.machine (U.shows unit.now) due cycle }
     requires same { same ≡ true → now.now ≡ before.now }
     ensures { StepMoves U.machine (late_state U.machine (U.shows unit.now) cycle) cycle before.now now.now result }
 {
-    if moves(unit, due, cycle, before, now, same) {
-        pins
-    } else {
+    let _ = due;
+    let _ = cycle;
+    let _ = before;
+    let _ = now;
+    if same & !unit.event_moves() {
         Span::none()
+    } else {
+        U::moved()
+    }
+}
+
+// Hands on a signal.
+#[inline]
+fn give<U: Unit>(unit: &mut U, signal: Signal)
+    ensures { U.shows unit.new ≡ record (U.shows unit.old) { unit = signalled U.machine signal (U.shows unit.old).unit (U.shows unit.old).cycle } }
+{
+    match signal {
+        Signal::Wdr => unit.wdr(),
+        Signal::Doze => unit.doze(),
+        Signal::Restart => unit.restart(),
     }
 }
 

@@ -14,6 +14,7 @@ mod pad;
 mod pins;
 mod powered;
 mod request;
+mod signal;
 mod unit;
 
 pub use bits::{has_bit, mask, one, with_bit};
@@ -26,4 +27,5 @@ pub use pad::Pad;
 pub use pins::PORT_PINS;
 pub use powered::Powered;
 pub use request::{Request, VECTORS, least};
+pub use signal::Signal;
 pub use unit::Unit;

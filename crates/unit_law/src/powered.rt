@@ -12,6 +12,7 @@ use crate::group::Group;
 use crate::pad::Pad;
 use crate::pins::PORT_PINS;
 use crate::request::VECTORS;
+use crate::signal::Signal;
 use part_law::Span;
 use sim_base::{Level, MOST_CYCLES};
 
@@ -56,18 +57,6 @@ impl<A: Group, B: Group + Drop> Group for Powered<A, B> {
     #[inline]
     fn hears(&self, before: &[Level], now: &[Level]) -> bool {
         self.awake.hears(before, now) | self.clocked.hears(before, now)
-    }
-
-    #[inline]
-    fn event_moves(&self, cycle: u32) -> bool {
-        self.awake.event_moves(cycle) | self.clocked.event_moves(self.clock.own(cycle))
-    }
-
-    #[inline(always)]
-    fn moved(&self, cycle: u32, before: &[Level], now: &[Level], same: bool) -> Span {
-        let first = self.awake.moved(cycle, before, now, same);
-        let second = moved_clocked(&self.clocked, self.clock, cycle, before, now, same);
-        hull(second, first)
     }
 
     #[inline(always)]
@@ -117,10 +106,16 @@ impl<A: Group, B: Group + Drop> Group for Powered<A, B> {
         first | second
     }
 
-    fn step(&mut self, cycle: u32, before: &[Level], now: &[Level]) -> Option<u8> {
-        let byte = self.awake.step(cycle, before, now);
-        let other = step_clocked(&mut self.clocked, self.clock, cycle, before, now);
-        first_of_two(byte, other)
+    fn step(
+        &mut self,
+        cycle: u32,
+        before: &[Level],
+        now: &[Level],
+        same: bool,
+    ) -> (Option<u8>, Span) {
+        let (byte, moved) = self.awake.step(cycle, before, now, same);
+        let (other, more) = step_clocked(&mut self.clocked, self.clock, cycle, before, now, same);
+        (first_of_two(byte, other), hull(more, moved))
     }
 
     #[inline(always)]
@@ -158,24 +153,22 @@ impl<A: Group, B: Group + Drop> Group for Powered<A, B> {
         self.awake.rouses(levels)
     }
 
-    fn wdr(&mut self, cycle: u32, levels: &[Level]) {
-        self.awake.wdr(cycle, levels);
-    }
-
     #[inline]
     fn resets(&self, cycle: u32) -> bool {
         self.awake.resets(cycle)
     }
 
-    fn restart(&mut self, cycle: u32, levels: &[Level]) {
-        self.awake.restart(cycle, levels);
-        self.clocked = B::new();
-        self.clocked.see(levels);
-        self.clock = Clock::Runs(cycle);
-    }
-
-    fn doze(&mut self, cycle: u32, _levels: &[Level]) {
-        self.clock = self.clock.stopped(cycle);
+    fn give(&mut self, cycle: u32, levels: &[Level], signal: Signal) {
+        match signal {
+            Signal::Wdr => self.awake.give(cycle, levels, Signal::Wdr),
+            Signal::Doze => self.clock = self.clock.stopped(cycle),
+            Signal::Restart => {
+                self.awake.give(cycle, levels, Signal::Restart);
+                self.clocked = B::new();
+                self.clocked.see(levels);
+                self.clock = Clock::Runs(cycle);
+            }
+        }
     }
 
     #[inline(always)]
@@ -200,50 +193,31 @@ fn is_heard<A: Group>(awake: &A, clock: Clock, levels: &[Level]) -> bool
     clock.runs() || awake.rouses(levels)
 }
 
-// One cycle of units by a clock, which may stand.
+// One cycle of units by a clock, which may stand: then nothing of them moves.
 fn step_clocked<B: Group>(
     units: &mut B,
     clock: Clock,
     cycle: u32,
     before: &[Level],
     now: &[Level],
-) -> Option<u8>
+    same: bool,
+) -> (Option<u8>, Span)
     requires before { length before.now ≡ PORT_PINS }
     requires levels { length now.now ≡ PORT_PINS }
     requires end { cycle < MOST_CYCLES }
     requires begun { IsBegun clock cycle }
     requires here { B.stands units.old before.now (own_cycle clock cycle) }
-    ensures byte { result ≡ (clocked B.machine).sends (clocked_at clock (B.state units.old) cycle) cycle }
+    requires same { same ≡ true → now.now ≡ before.now }
+    ensures byte { result.0 ≡ (clocked B.machine).sends (clocked_at clock (B.state units.old) cycle) cycle }
+    ensures pads { StepMoves (clocked B.machine) (clocked_at clock (B.state units.old) cycle) cycle before.now now.now result.1 }
     ensures state { clocked_at clock (B.state units.new) (cycle + 1) ≡ (clocked B.machine).step (clocked_at clock (B.state units.old) cycle) cycle before.now now.now }
     ensures stands { B.stands units.new now.now (own_cycle clock (cycle + 1)) }
 {
     match clock {
-        Clock::Runs(_) => units.step(clock.own(cycle), before, now),
+        Clock::Runs(_) => units.step(clock.own(cycle), before, now, same),
         Clock::Stands(_) => {
             units.see(now);
-            None
+            (None, Span::none())
         }
-    }
-}
-
-// The pins of units by a clock, of which a cycle may change what they are asked for: none while it stands.
-#[inline(always)]
-fn moved_clocked<B: Group>(
-    units: &B,
-    clock: Clock,
-    cycle: u32,
-    before: &[Level],
-    now: &[Level],
-    same: bool,
-) -> Span
-    requires before { length before.now ≡ PORT_PINS }
-    requires levels { length now.now ≡ PORT_PINS }
-    requires here { B.stands units.now before.now (own_cycle clock cycle) }
-    requires same { same ≡ true → now.now ≡ before.now }
-    ensures { StepMoves (clocked B.machine) (clocked_at clock (B.state units.now) cycle) cycle before.now now.now result }
-{
-    match clock {
-        Clock::Runs(_) => units.moved(clock.own(cycle), before, now, same),
-        Clock::Stands(_) => Span::none(),
     }
 }

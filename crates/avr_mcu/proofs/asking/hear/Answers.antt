@@ -1,10 +1,49 @@
+use Rattle.std.proofs.Common.{◌+◌, ◌<◌, ◌≤◌, ℕ, sym, subst, arith}
+use Rattle.unit_law.specs.UnitMachine.{FirstDue}
+use Rattle.unit_law.proofs.UnitLemmas.{move_none}
+use Rattle.avr_mcu.proofs.PassLemmas.{pass_due, pass_silent, pass_state, pass_request}
 use Rattle.avr_mcu.proofs.asking.hear.Goals as goal
 
-pub notices-notices-requires-clause-due : goal.notices-notices-requires-clause-due
-notices-notices-requires-clause-due g c = c.requires.ready.due_is
+pub notices-requires-clause-due : goal.notices-requires-clause-due
+notices-requires-clause-due g c = c.requires.ready.due_is
 
-pub notices-notices-requires-clause-here : goal.notices-notices-requires-clause-here
-notices-notices-requires-clause-here g c = c.requires.ready.asked
+pub notices-requires-clause-here : goal.notices-requires-clause-here
+notices-requires-clause-here g c = c.requires.ready.asked
 
-pub moved_pins-moved-requires-clause-here : goal.moved_pins-moved-requires-clause-here
-moved_pins-moved-requires-clause-here g c = c.requires.ready.asked
+pub stay-requires-clause-here : goal.stay-requires-clause-here
+stay-requires-clause-here g c = c.requires.ready.asked
+
+pub stay-requires-clause-deaf : goal.stay-requires-clause-deaf
+stay-requires-clause-deaf g c = c.notices.ensures.deaf c.if-notices.false
+
+pub returns-else-notices : goal.returns-else-notices
+returns-else-notices g c =
+    let o = g.G.Group in
+    let m = o.machine in
+    let laws = g.met.G.Group.laws in
+    let s = c.args.group.now in
+    let t = c.args.cycle in
+    let before = c.args.before.now in
+    let now = c.args.now.now in
+    let r = c.requires.ready in
+    let near = c.notices.ensures.quiet c.if-notices.false in
+    let less : t < o.until s = omega (arith, near, r.due_is) in
+    let none = c.notices.ensures.deaf c.if-notices.false in
+    let first = g.met.G.Group.first s before t r.asked in
+    let later : t ≤ t + 1 = omega arith in
+    let soon : t + 1 ≤ o.until s = omega (arith, less) in
+    let on = g.met.G.Group.waits s now t (t + 1) c.stay.ensures later soon in
+    let waits = on.1 in
+    let asked = on.0 in
+    record {
+      byte = pass_silent m laws (o.state s) t (o.until s) first less;
+      resets = sym (laws.power_laws.resets_due (o.state s t) t (pass_due m laws (o.state s) t (o.until s) first less));
+      pads = λ p inside out. move_none m laws t (o.until s) (o.state s) first less before now none p;
+      state = pass_state m laws (o.state s) t (o.until s) first less before now none waits;
+      ready = record {
+        asked = asked;
+        due_is = r.due_is;
+        first = subst (λ (d : ℕ). FirstDue m (o.state s (t + 1)) (t + 1) d) (sym r.due_is) (g.met.G.Group.first s now (t + 1) asked);
+        request_is = pass_request m laws (o.state s) t (o.until s) first less before now none waits _ r.request_is;
+      };
+    }

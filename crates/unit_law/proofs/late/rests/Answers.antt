@@ -1,0 +1,14 @@
+use Rattle.std.proofs.Common.{◌≡◌, ◌∙◌, ◌<◌, not, Bool, true, false, refl, sym, arith}
+use Rattle.unit_law.proofs.UnitLemmas.{rests_deaf}
+use Rattle.unit_law.proofs.late.rests.Goals as goal
+
+not_true : (b : Bool) → not b ≡ true → b ≡ false
+not_true true h = cc
+not_true false h = refl
+
+pub returns-else-same : goal.returns-else-same
+returns-else-same g c = λ deaf.
+    let late = c.if-due-cycle.false in
+    let less : c.args.cycle < c.args.due = omega (arith, late) in
+    rests_deaf g.U.Unit.machine g.met.U.Unit.laws (g.U.Unit.shows c.args.unit.now) c.args.due c.args.cycle c.args.before.now c.args.now.now c.requires.here less
+    (sym c.hears.ensures ∙ not_true c.hears.result deaf)

@@ -1,9 +1,0 @@
-use Rattle.unit_law.specs.Both.{pads}
-use Rattle.unit_law.specs.Clocked.{clocked}
-use Rattle.unit_law.proofs.HullLemmas.{apart}
-use Rattle.unit_law.proofs.powered.PoweredGroup.moved.Goals as goal
-
-pub returns : goal.returns
-returns g c = λ p less out.
-    let each = apart _ _ _ p c.hull.ensures out in
-    pads g.A.Group.machine (clocked g.B.Group.machine) _ _ _ _ (c.moved-first.ensures p less each.1) (c.moved_clocked-second.ensures p less each.0)
