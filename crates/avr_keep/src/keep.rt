@@ -5,7 +5,7 @@ ghost use Rattle.avr_keep.specs.Keep.{register, with_register, kept};
 ghost use Rattle.avr_keep.specs.Watchdog.{has_reset};
 
 use crate::eeprom::{Eeprom, end_of};
-use crate::registers::{Register, named, register_at};
+use crate::registers::{EE_READY, Register, WDT, named, register_at};
 use crate::watchdog::Watchdog;
 use part_law::Span;
 use sim_base::{Level, MOST_CYCLES};
@@ -130,12 +130,12 @@ impl Unit for Keep {
     fn request(&self, _levels: &[Level]) -> u8 {
         least(&[
             Request {
-                vector: 6,
+                vector: WDT,
                 enabled: self.watchdog.wdie,
                 flag: self.watchdog.wdif,
             },
             Request {
-                vector: 22,
+                vector: EE_READY,
                 enabled: self.eeprom.eerie,
                 flag: self.eeprom.programming.is_none(),
             },
@@ -143,7 +143,7 @@ impl Unit for Keep {
     }
 
     fn taken(&mut self, vector: u8) {
-        if vector == 6 {
+        if vector == WDT {
             self.watchdog.taken();
         }
     }

@@ -19,8 +19,9 @@ use crate::devices::Devices;
 use crate::pins::UNO_PINS;
 use avr_adc::{ADCSRA, ADSC};
 use avr_core::DataBus;
-use avr_spi::SPI_PINS;
-use avr_twi::TWI_PINS;
+use avr_ports::{PINB, PINC, PIND, PORTB, PORTC, PORTD};
+use avr_spi::{SPDR, SPI_PINS};
+use avr_twi::{TWCR, TWI_PINS};
 use part_law::Span;
 use sim_base::{Drive, Level, MOST_CYCLES, OutOfMemory};
 use std::alloc::{AllocError, Global};
@@ -35,24 +36,6 @@ const GPIOR1: u8 = 0x4A;
 const GPIOR2: u8 = 0x4B;
 /// Sleep mode control, which SLEEP reads.
 const SMCR: u8 = 0x53;
-
-/// The ports' input pins and data registers.
-const PINB: u8 = 0x23;
-
-const PORTB: u8 = 0x25;
-
-const PINC: u8 = 0x26;
-
-const PORTC: u8 = 0x28;
-
-const PIND: u8 = 0x29;
-
-const PORTD: u8 = 0x2B;
-
-/// What begins a transfer of the SPI and an action of the TWI.
-const SPDR: u8 = 0x4E;
-
-const TWCR: u8 = 0xBC;
 
 /// Where SRAM begins in the data space, and where it has ended.
 const SRAM: u16 = 0x0100;

@@ -6,16 +6,13 @@ ghost use Rattle.avr_ports.specs.Ports.{requests, requests_int, acts_by_ones, re
 ghost use Rattle.avr_ports.specs.declared.registers.Register.TheVariants.{PCIFR, EIFR, EICRA};
 
 use crate::pins::{bit_pad, is_change, is_edge, on, pinb, pinc, pind, requests_int};
-use crate::registers::{Register, named, register_at};
+use crate::registers::{
+    INT0, INT1, PCINT0, PCINT1, PCINT2, PINB, PORTD, Register, named, register_at,
+};
 use part_law::Span;
 use sim_base::{Level, MOST_CYCLES};
 use std::marker::Model;
 use unit_law::{PORT_PINS, Pad, Request, Unit, VECTORS, has_bit, least, mask, one, with_bit};
-
-/// The first and the last address of PINx, DDRx and PORTx.
-const PINB: u8 = 0x23;
-
-const PORTD: u8 = 0x2B;
 
 /// The ports, before the step of `cycle`.
 #[derive(Drop)]
@@ -100,7 +97,7 @@ impl Unit for Ports {
         Span::none()
     }
 
-    /// PINx, DDRx and PORTx have no part in what is requested.
+    /// PINx, DDRx and PORTx, from PINB on up to PORTD, have no part in what is requested.
     #[inline(always)]
     #[tactic(auto, using(crate::proofs::NextLemmas::ports_writes))]
     fn writing_keeps_next(reg: u8) -> bool {
@@ -185,11 +182,11 @@ impl Unit for Ports {
 
     fn taken(&mut self, vector: u8) {
         match vector {
-            1 => self.intf0 = false,
-            2 => self.intf1 = false,
-            3 => self.pcif0 = false,
-            4 => self.pcif1 = false,
-            5 => self.pcif2 = false,
+            INT0 => self.intf0 = false,
+            INT1 => self.intf1 = false,
+            PCINT0 => self.pcif0 = false,
+            PCINT1 => self.pcif1 = false,
+            PCINT2 => self.pcif2 = false,
             _ => {}
         }
     }
@@ -254,27 +251,27 @@ impl Ports {
     {
         least(&[
             Request {
-                vector: 1,
+                vector: INT0,
                 enabled: has_bit(self.eimsk, 0),
                 flag: requests_int(self.intf0, self.eicra % 4, on(levels, 2)),
             },
             Request {
-                vector: 2,
+                vector: INT1,
                 enabled: has_bit(self.eimsk, 1),
                 flag: requests_int(self.intf1, self.eicra / 4 % 4, on(levels, 3)),
             },
             Request {
-                vector: 3,
+                vector: PCINT0,
                 enabled: has_bit(self.pcicr, 0),
                 flag: self.pcif0,
             },
             Request {
-                vector: 4,
+                vector: PCINT1,
                 enabled: has_bit(self.pcicr, 1),
                 flag: self.pcif1,
             },
             Request {
-                vector: 5,
+                vector: PCINT2,
                 enabled: has_bit(self.pcicr, 2),
                 flag: self.pcif2,
             },
