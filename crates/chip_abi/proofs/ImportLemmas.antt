@@ -1,7 +1,6 @@
 -- The imports that are known fit the host.
 use Rattle.std.proofs.Common.{◌≡◌, ℕ, ◌+◌, List, [], ◌∷◌, ◌++◌, map, Bool, true, false, Option, None, Some, Result, Ok, Err, refl, sym, ap, ◌∙◌}
-use Rattle.std.specs.Prelude.{slice_get, option_to_list, if◌then◌else◌, codes}
-use Rattle.std.specs.Str.{bytes_eq}
+use Rattle.std.specs.Prelude.{slice_get, option_to_list, if◌then◌else◌}
 use Rattle.std.proofs.lemmas.Bool.{and_parts}
 use Rattle.sim_base.specs.declared.fault.Refusal.{Refusal}
 use Rattle.sim_base.specs.Refusals.{ImportType, ImportUnknown}
@@ -17,7 +16,7 @@ use Rattle.wasm_validate.specs.Validity.{import_texts, kind_of}
 use Rattle.wasm_validate.specs.Rules.{function_in, imported_functions, imported_tables, imported_globals}
 use Rattle.chip_abi.specs.declared.host_name.HostName.{HostName}
 use Rattle.chip_abi.specs.HostNames.{named, type_of_name}
-use Rattle.chip_abi.specs.Imports.{typed, function_found, kind_found, is_own, found, behind, read_imports, imports_of}
+use Rattle.chip_abi.specs.Imports.{typed, function_found, kind_found, is_memory, found, behind, read_imports, imports_of}
 
 type_same : (t u : ValType) → same_type t u ≡ true → t ≡ u
 type_same types.I32 types.I32 e = refl
@@ -69,10 +68,6 @@ function_ok : (t : Option FuncType) (n : Option HostName) (o : Option HostName) 
 function_ok t None o e = absurd cc
 function_ok t (Some name) o e = let r = typed_ok t name o e in (name, r.0, r.1)
 
-own_ok : (b : Bool) (r : Result (Option HostName) ℕ) (o : Option HostName) → (if b then r else Err ImportUnknown) ≡ Ok o → r ≡ Ok o
-own_ok true r o e = e
-own_ok false r o e = absurd cc
-
 memory_ok : (b : Bool) (o : Option HostName) → (if b then good None else Err ImportUnknown) ≡ good o → o ≡ None
 memory_ok true o e = cc
 memory_ok false o e = absurd cc
@@ -93,9 +88,9 @@ module _ (ts : List FuncType) where
   behind_ok n (Ok o) (Err k) names e = absurd cc
   behind_ok n (Ok o) (Ok xs) names e = (o, xs, refl, refl, cc)
 
-  known_more : (d : ImportDesc) (name : List ℕ) (o : Option HostName) (xs names : List HostName) (i : Import) (is : List Import) → i.desc ≡ d → kind_found ts (kind_of d) name ≡ Ok o → option_to_list o ++ xs ≡ names → Known ts xs is → Known ts names (i ∷ is)
-  known_more (descs.Function k) name o xs names i is d e j rest =
-      let f = function_ok (slice_get ts k) (named name) o e in
+  known_more : (d : ImportDesc) (from name : List ℕ) (o : Option HostName) (xs names : List HostName) (i : Import) (is : List Import) → i.desc ≡ d → kind_found ts (kind_of d) from name ≡ Ok o → option_to_list o ++ xs ≡ names → Known ts xs is → Known ts names (i ∷ is)
+  known_more (descs.Function k) from name o xs names i is d e j rest =
+      let f = function_ok (slice_get ts k) (named from name) o e in
       let q : f.0 ∷ xs ≡ names = sym (ap (λ (p : Option HostName). option_to_list p ++ xs) f.1) ∙ j in
       let here : Some (type_of_name f.0) ≡ slice_get ts k = sym f.2 in
       let fns : map (λ t. Some t) (map type_of_name (f.0 ∷ xs)) ≡ map (slice_get ts) (k ∷ imported_functions is) =
@@ -105,22 +100,22 @@ module _ (ts : List FuncType) where
         tables = rw d rest.tables;
         globals = rw d rest.globals;
       }
-  known_more (descs.Memory l) name o xs names i is d e j rest =
-      let f = memory_ok (bytes_eq name (codes "memory")) o e in
+  known_more (descs.Memory l) from name o xs names i is d e j rest =
+      let f = memory_ok (is_memory from name) o e in
       let q : xs ≡ names = sym (ap (λ (p : Option HostName). option_to_list p ++ xs) f) ∙ j in
       record {
         functions = sym (ap (λ (ns : List HostName). map (λ t. Some t) (map type_of_name ns)) q) ∙ (rest.functions ∙ ap (λ (x : ImportDesc). map (slice_get ts) (function_in x (imported_functions is))) (sym d));
         tables = rw d rest.tables;
         globals = rw d rest.globals;
       }
-  known_more (descs.Table l) name o xs names i is d e j rest = absurd cc
-  known_more (descs.Global g) name o xs names i is d e j rest = absurd cc
+  known_more (descs.Table l) from name o xs names i is d e j rest = absurd cc
+  known_more (descs.Global g) from name o xs names i is d e j rest = absurd cc
 
   pub known : (n : ℕ) (is : List Import) (names : List HostName) → read_imports ts n (import_texts is) ≡ Ok names → Known ts names is
   known n [] names e = record { functions = cc; tables = refl; globals = refl }
   known n (i ∷ is) names e =
       let b = behind_ok n (found ts (record { «module» = i.module; name = i.name; kind = kind_of i.desc })) (read_imports ts (n + 1) (import_texts is)) names e in
-      known_more i.desc i.name b.0 b.1 names i is refl (own_ok (is_own i.module) (kind_found ts (kind_of i.desc) i.name) b.0 b.2) b.4 (known (n + 1) is b.1 b.3)
+      known_more i.desc i.module i.name b.0 b.1 names i is refl b.2 b.4 (known (n + 1) is b.1 b.3)
 
 -- a module whose imports are known imports no table and no global, and its functions have the types of their names
 pub known_imports : (m : Module) (names : List HostName) → imports_of m ≡ Ok names → Known m.types names m.imports

@@ -1,5 +1,5 @@
--- The imports of a chip's module (profile): functions of `env`, and its memory.
-use Rattle.std.specs.Prelude.{ℕ, ◌+◌, List, [], ◌∷◌, ◌++◌, Bool, if◌then◌else◌, Option, None, Some, Result, Ok, Err, option_to_list, slice_get, codes}
+-- The imports of a chip's module (profile): functions, and its memory from `env`.
+use Rattle.std.specs.Prelude.{ℕ, ◌+◌, List, [], ◌∷◌, ◌++◌, Bool, ◌&&◌, if◌then◌else◌, Option, None, Some, Result, Ok, Err, option_to_list, slice_get, codes}
 use Rattle.std.specs.Str.{bytes_eq}
 use Rattle.sim_base.specs.declared.fault.Refusal.{Refusal}
 use Rattle.sim_base.specs.declared.fault.Place.TheVariants as places
@@ -24,18 +24,18 @@ abbrev pub function_found : Option FuncType → Option HostName → Result (Opti
 function_found t None = Err ImportUnknown
 function_found t (Some name) = typed t name
 
-abbrev pub is_own : List ℕ → Bool
-is_own name = bytes_eq name (codes "env")
+abbrev pub is_memory : List ℕ → List ℕ → Bool
+is_memory from name = bytes_eq from (codes "env") && bytes_eq name (codes "memory")
 
-abbrev pub kind_found : List FuncType → ImportKind → List ℕ → Result (Option HostName) ℕ
-kind_found ts (kinds.Function k) name = function_found (slice_get ts k) (named name)
-kind_found ts kinds.Memory name = if bytes_eq name (codes "memory") then Ok None else Err ImportUnknown
-kind_found ts kinds.Table name = Err ImportUnknown
-kind_found ts kinds.Global name = Err ImportUnknown
+abbrev pub kind_found : List FuncType → ImportKind → List ℕ → List ℕ → Result (Option HostName) ℕ
+kind_found ts (kinds.Function k) from name = function_found (slice_get ts k) (named from name)
+kind_found ts kinds.Memory from name = if is_memory from name then Ok None else Err ImportUnknown
+kind_found ts kinds.Table from name = Err ImportUnknown
+kind_found ts kinds.Global from name = Err ImportUnknown
 
 -- what an import is: a function, the memory, or refused with this number
 abbrev pub found : List FuncType → ImportText → Result (Option HostName) ℕ
-found ts i = if is_own i.«module» then kind_found ts i.kind i.name else Err ImportUnknown
+found ts i = kind_found ts i.kind i.«module» i.name
 
 abbrev pub with_name : Option HostName → Result (List HostName) Refusal → Result (List HostName) Refusal
 with_name o (Ok names) = Ok (option_to_list o ++ names)

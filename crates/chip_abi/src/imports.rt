@@ -74,16 +74,15 @@ fn typed(types: &[FuncType], number: u32, name: HostName) -> Result<Option<HostN
 fn found(types: &[FuncType], import: &ImportText) -> Result<Option<HostName>, u8>
     ensures { result ≡ found types.now import.now }
 {
-    if import.module.as_str() != "env" {
-        return Err(IMPORT_UNKNOWN);
-    }
+    let module = import.module.as_str();
+    let name = import.name.as_str();
     match import.kind {
-        ImportKind::Function(number) => match named(import.name.as_str()) {
+        ImportKind::Function(number) => match named(module, name) {
             Some(name) => typed(types, number, name),
             None => Err(IMPORT_UNKNOWN),
         },
         ImportKind::Memory => {
-            if import.name.as_str() == "memory" {
+            if module == "env" && name == "memory" {
                 Ok(None)
             } else {
                 Err(IMPORT_UNKNOWN)
@@ -122,7 +121,7 @@ fn read_imports(
 }
 
 /// The names of a module's imported functions. Refuses with 75 ImportUnknown or 76 ImportType at the Import that fails
-/// first, counted from 1: all are of `env`, the memory is `memory`, and a function is one of the table with its type.
+/// first, counted from 1: the memory is `memory` of `env`, and a function is one of its module's with its type.
 pub fn check_imports(alloc: Global, valid: &Valid) -> Result<ImportMap, Fault>
     ensures { Reads (λ map. map) result (imports_of valid.now.wasm) }
 {
