@@ -1,3 +1,4 @@
 pub mod Output
 pub mod Files
 pub mod Displays
+pub mod Calls

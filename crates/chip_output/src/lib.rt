@@ -4,6 +4,7 @@
 //! Only the making takes room, and may answer out of memory.
 #![tactic(auto)]
 
+mod calls;
 mod console;
 mod framebuffer;
 mod memory;
