@@ -1,5 +1,5 @@
 -- The start function and chipInit of a valid module have no parameters.
-use Rattle.std.proofs.Common.{sym, arith, ◌≡◌, ℕ, ◌-◌, ◌<◌, List, [], ◌∷◌, length, map, Option, Some, None, Ok, Bool, true, false, refl, ap, subst, ◌∙◌, inl, inr, ◌⊎◌}
+use Rattle.std.proofs.Common.{sym, arith, ◌≡◌, ℕ, ◌-◌, ◌<◌, List, [], ◌∷◌, length, Option, Some, None, Ok, Bool, true, false, refl, ap, subst, ◌∙◌, inl, inr, ◌⊎◌}
 use Rattle.std.specs.Prelude.{slice_get, option_and_then, ◌==◌, if◌then◌else◌}
 use Rattle.std.specs.Prelude.{option_to_list, IfSome}
 use Rattle.std.proofs.lemmas.Bool.Decides.{eqb_tells}
@@ -14,7 +14,6 @@ use Rattle.wasm_code.specs.declared.types.FuncType.{FuncType}
 use Rattle.wasm_eval.specs.Values.{HasTypes}
 use Rattle.wasm_exec.proofs.ListLemmas.{under, get_split}
 use Rattle.wasm_exec.proofs.ValidLemmas.{Keeps, keeps_of, kept, function_import}
-use Rattle.chip_abi.specs.HostNames.{type_of_name}
 use Rattle.chip_abi.specs.Imports.{imports_of}
 use Rattle.chip_abi.proofs.ImportLemmas.{known_imports}
 use Rattle.chip_host.specs.Hosts.{AreHosts}

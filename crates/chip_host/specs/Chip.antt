@@ -1,6 +1,6 @@
 -- A chip as a machine: in a cycle each due timer calls back by its id, then each watch whose edge came, by its pin, and then each
 -- engine has its turn, by kind and id (profile).
-use Rattle.std.specs.Prelude.{ℕ, zero, suc, ◌+◌, ◌%◌, ◌^◌, ◌==◌, ◌&&◌, ◌||◌, nat_lt, List, [], ◌∷◌, length, map, replicate, slice_get, slice_set, unwrap_or, Bool, true, false, if◌then◌else◌, Option, None, Some, option_map}
+use Rattle.std.specs.Prelude.{◌≡◌, ℕ, zero, suc, ◌+◌, ◌%◌, ◌^◌, ◌==◌, ◌&&◌, ◌||◌, nat_lt, List, [], ◌∷◌, length, map, replicate, slice_get, slice_set, unwrap_or, Bool, true, false, if◌then◌else◌, Option, None, Some, option_map}
 use Rattle.std.specs.List.{range_with_len}
 use Rattle.sim_base.specs.declared.signal.Drive.{Drive}
 use Rattle.sim_base.specs.declared.signal.Drive.TheVariants as drives
@@ -21,6 +21,7 @@ use Rattle.wasm_program.specs.ProgramOf.{program_of}
 use Rattle.slave_law.specs.declared.request.EngineRequest.{EngineRequest}
 use Rattle.slave_law.specs.declared.request.EngineRequest.TheVariants as requests
 use Rattle.chip_engines.specs.declared.engine.Engine.{Engine}
+use Rattle.chip_output.specs.Output.{new_output}
 use Rattle.chip_engines.specs.Engine.{engine_turned, any_engine_due, gets_byte, gets_answer}
 use Rattle.chip_host.specs.declared.watch.Watch.{Watch}
 use Rattle.chip_host.specs.declared.timer.Timer.{Timer}
@@ -273,6 +274,12 @@ turned a =
 abbrev pub chip_drive : Chip → ℕ → Drive
 chip_drive s i = if is_live s then pin_drives s.inventory i else drives.Z
 
+-- What a trap leaves for good: all pins are released, and a step on whatever levels changes nothing but the levels that the chip
+-- sees. So nothing is called any more, and it is over in the next cycle too.
+pub record IsOver (s : Chip) : Type 0 where
+  pub released : (pin : ℕ) → chip_drive s pin ≡ drives.Z
+  pub still : (t : ℕ) (ls : List Level) → chip_step s t ls ≡ seeing s ls
+
 abbrev pub any_due : ℕ → List Timer → Bool
 any_due t [] = false
 any_due t (x ∷ xs) = is_at t x.due || any_due t xs
@@ -296,7 +303,7 @@ no_pins n = replicate n None
 abbrev pub first_host : Given → HostState
 first_host given = record {
   moment = record { given = given; init = true; now = 0; levels = replicate (length given.names) levels.Z };
-  inventory = record { pins = no_pins (length given.names); watches = no_pins (length given.names); timers = []; attributes = []; engines = no_pins 24 };
+  inventory = record { pins = no_pins (length given.names); watches = no_pins (length given.names); timers = []; attributes = []; engines = no_pins 24; output = new_output given.display };
 }
 
 -- before anything ran
@@ -306,7 +313,7 @@ made m given budget = record {
   given = given;
   budget = budget;
   held = replicate (length given.names) levels.Z;
-  inventory = record { pins = no_pins (length given.names); watches = no_pins (length given.names); timers = []; attributes = []; engines = no_pins 24 };
+  inventory = record { pins = no_pins (length given.names); watches = no_pins (length given.names); timers = []; attributes = []; engines = no_pins 24; output = new_output given.display };
   dead = None;
 }
 

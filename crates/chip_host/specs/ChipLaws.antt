@@ -1,14 +1,16 @@
 -- The laws of a chip's machine.
 use Rattle.std.proofs.Common.{◌≡◌, ℕ, zero, suc, List, [], ◌∷◌, length, Bool, true, false, ◌&&◌, ◌||◌, Option, None, Some, refl, sym, ap, ◌∙◌}
-use Rattle.std.specs.Prelude.{◌==◌, if◌then◌else◌, slice_get}
+use Rattle.std.specs.Prelude.{◌==◌, if◌then◌else◌, slice_get, IfSome}
 use Rattle.std.proofs.lemmas.List.FromFn.{length-map-range_with_len}
 use Rattle.std.proofs.lemmas.Bool.{or_parts, and_right, cond-false}
+use Rattle.sim_base.specs.declared.signal.Drive.TheVariants as drives
 use Rattle.sim_base.specs.declared.signal.Level.{Level}
 use Rattle.wasm_num.specs.declared.value.Value.{Value}
 use Rattle.wasm_num.specs.declared.value.Value.TheVariants.{I32}
 use Rattle.wasm_decode.specs.declared.module.Module.{Module}
 use Rattle.wasm_eval.specs.Eval.{End, Gives, Fails, Wrong}
 use Rattle.part_law.specs.Machine.{Laws, idle}
+use Rattle.chip_host.specs.declared.death.Death.{Death}
 use Rattle.chip_host.specs.declared.watch.Watch.{Watch}
 use Rattle.chip_host.specs.declared.timer.Timer.{Timer}
 use Rattle.slave_law.specs.declared.request.EngineRequest.{EngineRequest}
@@ -18,7 +20,7 @@ use Rattle.chip_engines.specs.Engine.{engine_turned, any_engine_due}
 use Rattle.chip_engines.proofs.EngineLemmas.{engine_rests, set_same, none_due as none_due_engine}
 use Rattle.chip_host.specs.Inventory.{Given, HostState, joined, watch_at, engine_at}
 use Rattle.chip_host.specs.HostCall.{one_if}
-use Rattle.chip_host.specs.Chip.{Chip, chip, chip_step, chip_drive, is_live, ended, called, set_up, made, started, start_state, is_at, timer_due, again, with_timer, fired, timer_turn, timer_turns, is_edge, watch_fires, reading, watched, watch_turn, watch_turns, seeing, timers_first, any_due, replied, change_by, takes_byte, takes_answer, serves, serves_at, served, next_of, all_served, with_engine, takes_turn, engine_turn, engine_turns, engines_last}
+use Rattle.chip_host.specs.Chip.{Chip, chip, chip_step, chip_drive, is_live_by, is_live, IsOver, ended, called, set_up, made, started, start_state, is_at, timer_due, again, with_timer, fired, timer_turn, timer_turns, is_edge, watch_fires, reading, watched, watch_turn, watch_turns, seeing, timers_first, any_due, replied, change_by, takes_byte, takes_answer, serves, serves_at, served, next_of, all_served, with_engine, takes_turn, engine_turn, engine_turns, engines_last}
 
 -- ---- what no turn changes
 
@@ -217,6 +219,13 @@ dead_still s t ls e =
     ap (λ (r : Chip). engines_last (watch_turns r t s.held (length s.given.names)) t s.held) (dead_timers (seeing s ls) t (length s.inventory.timers) e)
     ∙ ap (λ (r : Chip). engines_last r t s.held) (dead_watches (seeing s ls) t s.held (length s.given.names) e)
     ∙ dead_engines (seeing s ls) t s.held (length s.inventory.engines) e
+
+-- a chip that has a trap is over
+pub over_if : (s : Chip) (o : Option Death) → o ≡ s.dead → IfSome o (λ d. IsOver s)
+over_if s None e = tt
+over_if s (Some d) e =
+    let dead : is_live s ≡ false = ap is_live_by (sym e) in
+    record { released = λ pin. cond-false (is_live s) _ drives.Z dead; still = λ t ls. dead_still s t ls dead }
 
 -- as many drives as pins
 pub drive_count : (s : Chip) → length (chip.drives s) ≡ length s.given.names

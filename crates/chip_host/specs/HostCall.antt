@@ -1,6 +1,6 @@
 -- Host calls: what each function of the host answers and leaves (profile, docs/CHIPS.md). A call tests its phase, then the id, the
 -- limit, addresses and text.
-use Rattle.std.specs.Prelude.{ℕ, ◌+◌, ◌*◌, ◌-◌, ◌^◌, ◌/◌, ◌==◌, nat_lt, max, List, [], ◌∷◌, ◌++◌, length, drop, slice_get, slice_set, take, option_map, unwrap_or, ◌||◌, Bool, false, not, if◌then◌else◌, Option, None, Some, Result, Ok, Err}
+use Rattle.std.specs.Prelude.{ℕ, ◌+◌, ◌*◌, ◌-◌, ◌^◌, ◌/◌, ◌==◌, nat_lt, max, List, [], ◌∷◌, ◌++◌, length, drop, slice_get, slice_set, take, option_map, option_and_then, unwrap_or, ◌||◌, Bool, false, not, if◌then◌else◌, Option, None, Some, Result, Ok, Err}
 use Rattle.std.specs.List.{position_from}
 use Rattle.std.specs.Str.{bytes_eq}
 use Rattle.sim_base.specs.declared.signal.Level.{Level}
@@ -12,6 +12,10 @@ use Rattle.wasm_num.specs.declared.value.Value.{Value}
 use Rattle.wasm_num.specs.declared.value.Value.TheVariants.{I32, I64}
 use Rattle.wasm_num.specs.Mem.{Mem, has}
 use Rattle.wasm_eval.specs.Eval.{Answer}
+use Rattle.chip_abi.specs.declared.output_name.OutputName.{OutputName}
+use Rattle.chip_abi.specs.HostNames.{output_of}
+use Rattle.chip_output.specs.Output.{OutputState}
+use Rattle.chip_output.specs.Calls.{output_does}
 use Rattle.chip_abi.specs.declared.host_name.HostName.{HostName}
 use Rattle.chip_abi.specs.declared.host_name.HostName.TheVariants as names
 use Rattle.chip_host.specs.declared.pin.Pin.{Pin}
@@ -27,7 +31,7 @@ use Rattle.chip_engines.specs.declared.engine.Engine.{Engine}
 use Rattle.chip_engines.specs.Serial.{uart_of, spi_of, i2c_of}
 use Rattle.chip_engines.specs.Engine.{new_engine, is_free, is_busy, sends, exchanges, stops}
 
--- what a call answers, and what it leaves
+-- what a call that leaves the memory answers, and what it leaves of what the chip has got
 pub record Done : Type 0 where
   pub answer : Result (Option Value) Trap
   pub inventory : Inventory
@@ -264,7 +268,22 @@ abbrev pub host_at : Option HostName → List Value → Moment → Mem → Inven
 host_at None args a m d = fails traps.Unreachable d
 host_at (Some name) args a m d = host_does name args a m d
 
+-- ---- what a call answers, and what it leaves of the host and of the memory
+
+abbrev pub leaves_memory : Mem → Done → Answer Inventory
+leaves_memory m done = record { answer = done.answer; host = done.inventory; memory = m }
+
+abbrev pub leaves_output : Inventory → Answer OutputState → Answer Inventory
+leaves_output d a = record { answer = a.answer; host = record d { output = a.host }; memory = a.memory }
+
+-- a call on the output, or any other, which leaves the memory as it is
+abbrev pub call_does : Option OutputName → Option HostName → List Value → Moment → Mem → Inventory → Answer Inventory
+call_does (Some output) name args a m d = leaves_output d (output_does output args a.init m d.output)
+call_does None name args a m d = leaves_memory m (host_at name args a m d)
+
+abbrev pub in_host : HostState → Answer Inventory → Answer HostState
+in_host h a = record { answer = a.answer; host = record { moment = h.moment; inventory = a.host }; memory = a.memory }
+
 abbrev pub answers : HostState → ℕ → List Value → Mem → Answer HostState
 answers h import args m =
-    let done = host_at (slice_get h.moment.given.table import) args h.moment m h.inventory in
-    record { answer = done.answer; host = record { moment = h.moment; inventory = done.inventory }; memory = m }
+    let name = slice_get h.moment.given.table import in in_host h (call_does (option_and_then output_of name) name args h.moment m h.inventory)

@@ -11,6 +11,8 @@ use Rattle.chip_host.specs.declared.watch.Watch.{Watch}
 use Rattle.chip_host.specs.declared.timer.Timer.{Timer}
 use Rattle.chip_engines.specs.declared.engine.Engine.{Engine}
 use Rattle.chip_engines.specs.Engine.{driven}
+use Rattle.sim_base.specs.Display.{DisplaySize}
+use Rattle.chip_output.specs.Output.{OutputState}
 
 -- what calls change: each pin that pinInit gave, each pin's watch, the timers by their ids
 pub record Inventory : Type 0 where
@@ -21,12 +23,15 @@ pub record Inventory : Type 0 where
   pub attributes : List ℕ
   -- 24 places for engines, 8 of each kind, in the order of their turns: UARTs, SPI slaves, I2C slaves, each kind by its ids
   pub engines : List (Option Engine)
+  -- what the chip has printed and drawn
+  pub output : OutputState
 
--- what stands for good: the imported functions in order, the names of the pins, and the diagram's attributes
+-- what stands for good: the imported functions in order, the names of the pins, the diagram's attributes, and the size of the display
 pub record Given : Type 0 where
   pub table : List HostName
   pub names : List (Option (List ℕ))
   pub attrs : List (List ℕ × List ℕ)
+  pub display : Option DisplaySize
 
 -- what no call changes: what stands for good, whether the chip is being set up, the cycle, and the levels in it
 pub record Moment : Type 0 where

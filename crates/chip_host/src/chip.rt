@@ -1,14 +1,16 @@
 //! A chip as a part of a board.
-ghost use Rattle.std.specs.Prelude.{◌≡◌, ◌≤◌, Ok, IfOk, length};
+ghost use Rattle.std.specs.Prelude.{◌≡◌, ◌≤◌, ◌*◌, Ok, IfOk, IfSome, length};
+ghost use Rattle.std.specs.Option.{option_map};
+ghost use Rattle.chip_output.specs.Output.{picture};
 ghost use Rattle.chip_abi.specs.Imports.{imports_of};
-ghost use Rattle.chip_host.specs.Chip.{start_state};
+ghost use Rattle.chip_host.specs.Chip.{IsOver, start_state};
 
 use crate::death::Death;
 use crate::shown::{show, turn};
 use crate::turns::Turns;
 use chip_abi::ImportMap;
 use part_law::{Part, Span};
-use sim_base::{Drive, Level, List, Name, OutOfMemory, Text};
+use sim_base::{Display, Drive, Level, List, Name, OutOfMemory, Text};
 use std::alloc::Global;
 use std::marker::Model;
 use wasm_validate::Valid;
@@ -46,7 +48,8 @@ fn no_drives(alloc: Global, count: usize) -> Result<Vec<Drive>, OutOfMemory>
 
 impl Chip {
     /// A chip at cycle 0, behind the start function and `chipInit`, each with the full budget; its pins by their positions,
-    /// and the attributes that the diagram gives it. It takes all memory that its calls use.
+    /// the attributes that the diagram gives it, and the size of its display, if it has one. It takes all memory that its
+    /// calls use.
     pub fn new(
         alloc: Global,
         valid: Valid,
@@ -54,15 +57,16 @@ impl Chip {
         pins: List<Option<Name>>,
         attrs: List<(Text, Text)>,
         budget: u32,
+        display: Option<Display>,
     ) -> Result<Chip, OutOfMemory>
         requires few { length pins ≤ 64 }
         requires map { imports_of valid.wasm ≡ Ok map }
-        ensures state { IfOk result (λ p. p.chip ≡ start_state valid.wasm valid.init (record { table = map; names = pins; attrs = attrs }) budget) }
+        ensures state { IfOk result (λ p. p.chip ≡ start_state valid.wasm valid.init (record { table = map; names = pins; attrs = attrs; display = display }) budget) }
         ensures cycle { IfOk result (λ p. p.cycle ≡ 0) }
         ensures wakes { IfOk result (λ p. p.wakes ≡ 0) }
     {
         let count = pins.len();
-        let turns = Turns::new(alloc, valid, map, pins, attrs, budget)?;
+        let turns = Turns::new(alloc, valid, map, pins, attrs, budget, display)?;
         match no_drives(alloc, count) {
             Ok(mut shown) => {
                 let moved = show(&turns, &mut shown, Span::all());
@@ -87,10 +91,27 @@ impl Chip {
     }
 
     /// The trap that ended it, and its cycle; none while it lives.
+    #[tactic(auto, using(crate::specs::ChipLaws::over_if))]
     pub fn trap(&self) -> Option<Death>
-        ensures { result ≡ self.now.chip.dead }
+        ensures value { result ≡ self.now.chip.dead }
+        ensures over { IfSome result (λ d. IsOver self.now.chip) }
     {
         self.turns.trap()
+    }
+
+    /// The first 65,536 bytes that it printed.
+    pub fn console(&self) -> &[u8]
+        ensures { result.now ≡ self.now.chip.inventory.output.console }
+    {
+        self.turns.console()
+    }
+
+    /// Width, height and pixels of its display, 4 bytes for each pixel, row by row; None exactly where it has none.
+    pub fn frame(&self) -> Option<(u32, u32, &[u8])>
+        ensures picture { option_map (λ f. (f.0, (f.1, f.2.now))) result ≡ option_map picture self.now.chip.inventory.output.frame }
+        ensures size { IfSome result (λ f. length f.2.now ≡ 4 * (f.0 * f.1)) }
+    {
+        self.turns.frame()
     }
 }
 

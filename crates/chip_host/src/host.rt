@@ -1,5 +1,5 @@
 //! The host that a chip's module imports from.
-ghost use Rattle.std.specs.Prelude.{◌≡◌, ℕ, ◌<◌, ◌≤◌, ◌==◌, ◌+◌, [], ◌∷◌, not, length, map, IfOk, IfSome, Some, slice_get, slice_set, option_to_list, replicate, None, false};
+ghost use Rattle.std.specs.Prelude.{◌≡◌, ℕ, ◌<◌, ◌≤◌, ◌==◌, ◌+◌, ◌*◌, [], ◌∷◌, not, length, map, IfOk, IfSome, Some, slice_get, slice_set, option_map, option_to_list, replicate, None, false};
 ghost use Rattle.std.specs.List.{position_from};
 ghost use Rattle.std.specs.Vec.{vec_capacity};
 ghost use Rattle.wasm_code.specs.declared.types.ValType.TheVariants as types;
@@ -11,6 +11,7 @@ ghost use Rattle.chip_host.specs.FirstDue.{first_due};
 ghost use Rattle.chip_host.specs.Turned.{HasTurned};
 ghost use Rattle.sim_base.specs.declared.signal.Level.TheVariants as levels;
 ghost use Rattle.chip_host.specs.Chip.{first_host};
+ghost use Rattle.chip_output.specs.Output.{new_output, picture};
 ghost use Rattle.chip_host.specs.HostCall.{has_name, kept, set_pin, pin_init, read_pin, write_pin, watch_pin, watch_from, timer_init, timer_from, start_timer, stop_timer, mode_pin, unwatch, started, level_of, attr_init, read_attribute, set_engine, free_id, host_does, host_at};
 ghost use Rattle.chip_engines.specs.Engine.{IsEngine};
 ghost use Rattle.chip_engines.specs.FirstDue.{earlier, first_engine};
@@ -21,7 +22,8 @@ use crate::timer::{Delay, Timer, first_due, started, stopped};
 use crate::watch::Watch;
 use chip_abi::{HostName, ImportMap, read_string, read_word};
 use chip_engines::{Engine, Turn, driven, earlier, first_engine, free, turn_at};
-use sim_base::{Drive, Level, List, MOST_CYCLES, Name, OutOfMemory, Text, reads_one};
+use chip_output::Output;
+use sim_base::{Display, Drive, Level, List, MOST_CYCLES, Name, OutOfMemory, Text, reads_one};
 use std::alloc::Global;
 use std::marker::Model;
 use std::mem;
@@ -34,6 +36,7 @@ pub struct ChipHost {
     map: ImportMap,
     names: List<Option<Name>>,
     attrs: List<(Text, Text)>,
+    display: Option<Display>,
     init: bool,
     cycle: u32,
     levels: Vec<Level>,
@@ -42,6 +45,7 @@ pub struct ChipHost {
     timers: Vec<Timer>,
     attributes: Vec<u32>,
     engines: Vec<Option<Engine>>,
+    output: Output,
     // All engines stand at places from `first` to below `end`.
     first: usize,
     end: usize,
@@ -59,8 +63,8 @@ impl Model for ChipHost {
     ghost Value = { HostState };
 
     ghost view = { λ c. record {
-      moment = record { given = record { table = c.map; names = c.names; attrs = c.attrs }; init = c.init; now = c.cycle; levels = c.levels.items };
-      inventory = record { pins = c.pins.items; watches = c.watches.items; timers = c.timers.items; attributes = c.attributes.items; engines = c.engines.items };
+      moment = record { given = record { table = c.map; names = c.names; attrs = c.attrs; display = c.display }; init = c.init; now = c.cycle; levels = c.levels.items };
+      inventory = record { pins = c.pins.items; watches = c.watches.items; timers = c.timers.items; attributes = c.attributes.items; engines = c.engines.items; output = c.output };
     } };
 
     ghost invariant = { λ c. record {
@@ -350,7 +354,7 @@ impl ChipHost {
         }
     }
 
-    /// ChipHost a function of the host.
+    /// A function of the host that leaves the memory.
     fn does(
         &mut self,
         name: HostName,
@@ -447,6 +451,7 @@ impl ChipHost {
                 [Value::I32(addr)] => self.i2c_init(*addr, memory),
                 _ => Err(Trap::Unreachable),
             },
+            HostName::Output(_) => Err(Trap::Unreachable),
         }
     }
 }
@@ -484,9 +489,10 @@ struct Room {
     timers: Vec<Timer>,
     attributes: Vec<u32>,
     engines: Vec<Option<Engine>>,
+    output: Output,
 }
 
-fn make_room(alloc: Global, count: usize) -> Result<Room, OutOfMemory>
+fn make_room(alloc: Global, count: usize, display: &Option<Display>) -> Result<Room, OutOfMemory>
     ensures levels { IfOk result (λ r. r.levels.items ≡ replicate count levels.Z) }
     ensures pins { IfOk result (λ r. r.pins.items ≡ replicate count None) }
     ensures watches { IfOk result (λ r. r.watches.items ≡ replicate count None) }
@@ -495,6 +501,7 @@ fn make_room(alloc: Global, count: usize) -> Result<Room, OutOfMemory>
     ensures attributes { IfOk result (λ r. r.attributes.items ≡ []) }
     ensures attribute_room { IfOk result (λ r. 64 ≤ vec_capacity r.attributes) }
     ensures engines { IfOk result (λ r. r.engines.items ≡ replicate 24 None) }
+    ensures output { IfOk result (λ r. r.output ≡ new_output display.now) }
 {
     Ok(Room {
         levels: levels_z(alloc, count)?,
@@ -503,6 +510,7 @@ fn make_room(alloc: Global, count: usize) -> Result<Room, OutOfMemory>
         timers: Vec::with_capacity(alloc, 32)?,
         attributes: Vec::with_capacity(alloc, 64)?,
         engines: no_engines(alloc)?,
+        output: Output::new(alloc, *display)?,
     })
 }
 
@@ -513,15 +521,17 @@ impl ChipHost {
         map: ImportMap,
         names: List<Option<Name>>,
         attrs: List<(Text, Text)>,
+        display: Option<Display>,
     ) -> Result<ChipHost, OutOfMemory>
         requires { length names ≤ 64 }
-        ensures { IfOk result (λ c. c ≡ first_host (record { table = map; names = names; attrs = attrs })) }
+        ensures { IfOk result (λ c. c ≡ first_host (record { table = map; names = names; attrs = attrs; display = display })) }
     {
-        match make_room(alloc, names.len()) {
+        match make_room(alloc, names.len(), &display) {
             Ok(room) => Ok(ChipHost {
                 map,
                 names,
                 attrs,
+                display,
                 init: true,
                 cycle: 0,
                 levels: room.levels,
@@ -530,6 +540,7 @@ impl ChipHost {
                 timers: room.timers,
                 attributes: room.attributes,
                 engines: room.engines,
+                output: room.output,
                 first: 0,
                 end: 0,
                 watched: false,
@@ -723,6 +734,21 @@ impl ChipHost {
         self.watched
     }
 
+    /// The first 65,536 bytes that the chip printed.
+    pub fn console(&self) -> &[u8]
+        ensures { result.now ≡ self.now.inventory.output.console }
+    {
+        self.output.console()
+    }
+
+    /// Width, height and pixels of its display; None exactly where it has none.
+    pub fn frame(&self) -> Option<(u32, u32, &[u8])>
+        ensures picture { option_map (λ f. (f.0, (f.1, f.2.now))) result ≡ option_map picture self.now.inventory.output.frame }
+        ensures size { IfSome result (λ f. length f.2.now ≡ 4 * (f.0 * f.1)) }
+    {
+        self.output.frame()
+    }
+
     pub fn drive(&self, i: u8) -> Drive
         ensures { result ≡ pin_drives self.now.inventory i }
     {
@@ -754,6 +780,9 @@ impl Host for ChipHost {
         memory: &mut Memory,
     ) -> Result<Option<Value>, Trap> {
         let name = self.map.name(import);
-        self.does(name, args, memory)
+        match name.output() {
+            Some(output) => self.output.does(output, args, self.init, memory),
+            None => self.does(name, args, memory),
+        }
     }
 }

@@ -1,9 +1,10 @@
 //! A chip that takes its turns.
-ghost use Rattle.std.specs.Option.{option_to_list};
-ghost use Rattle.std.specs.Prelude.{◌≡◌, ◌++◌, ◌<◌, ◌≤◌, ◌+◌, List, ℕ, true, false, None, Some, Ok, IfOk, length, slice_get};
+ghost use Rattle.std.specs.Option.{option_map, option_to_list};
+ghost use Rattle.std.specs.Prelude.{◌≡◌, ◌++◌, ◌<◌, ◌≤◌, ◌+◌, ◌*◌, IfSome, List, ℕ, true, false, None, Some, Ok, IfOk, length, slice_get};
 ghost use Rattle.chip_abi.specs.Imports.{imports_of};
 ghost use Rattle.chip_host.specs.Chip.{called, replied, is_live, timer_turn, watch_turn, watch_turns, takes_byte, takes_answer, byte_in, stored, serves, served, all_served, engine_turn, engines_last, seeing, timers_first, turned, chip_drive, start_state};
 ghost use Rattle.chip_host.specs.NextDue.{next_due};
+ghost use Rattle.chip_output.specs.Output.{picture};
 ghost use Rattle.chip_host.specs.Shown.{DrivesBut, moved_span};
 ghost use Rattle.chip_host.specs.Inventory.{engine_at};
 ghost use Rattle.chip_engines.specs.Engine.{IsEngine};
@@ -17,7 +18,7 @@ use crate::watch::{is_edge, reading};
 use chip_abi::ImportMap;
 use chip_engines::{Engine, Turn};
 use part_law::Span;
-use sim_base::{Drive, Level, List, MOST_CYCLES, Name, OutOfMemory, Text};
+use sim_base::{Display, Drive, Level, List, MOST_CYCLES, Name, OutOfMemory, Text};
 use slave_law::EngineRequest;
 use std::alloc::Global;
 use std::marker::Model;
@@ -65,17 +66,18 @@ impl Turns {
         pins: List<Option<Name>>,
         attrs: List<(Text, Text)>,
         budget: u32,
+        display: Option<Display>,
     ) -> Result<Turns, OutOfMemory>
         requires few { length pins ≤ 64 }
         requires map { imports_of valid.wasm ≡ Ok map }
-        ensures state { IfOk result (λ p. p.chip ≡ start_state valid.wasm valid.init (record { table = map; names = pins; attrs = attrs }) budget) }
+        ensures state { IfOk result (λ p. p.chip ≡ start_state valid.wasm valid.init (record { table = map; names = pins; attrs = attrs; display = display }) budget) }
         ensures cycle { IfOk result (λ p. p.cycle ≡ 0) }
         ensures wakes { IfOk result (λ p. p.wakes ≡ 0) }
     {
         let start = start_of(&valid);
         let init = init_of(&valid);
         let count = pins.len();
-        let mut host = match ChipHost::new(alloc, map, pins, attrs) {
+        let mut host = match ChipHost::new(alloc, map, pins, attrs, display) {
             Ok(host) => host,
             Err(e) => {
                 drop(valid);
@@ -128,6 +130,19 @@ impl Turns {
         ensures { result ≡ self.now.chip.dead }
     {
         self.dead
+    }
+
+    pub(crate) fn console(&self) -> &[u8]
+        ensures { result.now ≡ self.now.chip.inventory.output.console }
+    {
+        self.host.console()
+    }
+
+    pub(crate) fn frame(&self) -> Option<(u32, u32, &[u8])>
+        ensures picture { option_map (λ f. (f.0, (f.1, f.2.now))) result ≡ option_map picture self.now.chip.inventory.output.frame }
+        ensures size { IfSome result (λ f. length f.2.now ≡ 4 * (f.0 * f.1)) }
+    {
+        self.host.frame()
     }
 
     fn call(&mut self, slot: u32, args: &[Value])

@@ -18,12 +18,12 @@ run_both-dead-requires-clause-start c = moved c.args.valid.wasm c.in-Ok-new.inst
 
 pub run_both-dead-requires-clause-hosts : goal.run_both-dead-requires-clause-hosts
 run_both-dead-requires-clause-hosts c =
-    let given : Given = record { table = c.args.map; names = c.args.pins; attrs = c.args.attrs } in
+    let given : Given = record { table = c.args.map; names = c.args.pins; attrs = c.args.attrs; display = c.args.display } in
     hosts_known c.args.valid.wasm c.in-Ok-new.instance.wasm given c.in-Ok.host.moment c.requires.map c.in-Ok-new.ensures.wasm (ap (λ (h : HostState). h.moment.given) c.in-Ok.ensures)
 
 pub invariant_of-result : goal.invariant_of-result
 invariant_of-result c =
-    let given : Given = record { table = c.args.map; names = c.args.pins; attrs = c.args.attrs } in
+    let given : Given = record { table = c.args.map; names = c.args.pins; attrs = c.args.attrs; display = c.args.display } in
     let first : c.in-Ok.host.moment ≡ record { given = given; init = true; now = 0; levels = replicate (length given.names) levels.Z } = ap (λ (h : HostState). h.moment) c.in-Ok.ensures in
     let moment : c.end_set_up.new.self.moment ≡ record { given = given; init = false; now = 0; levels = replicate (length given.names) levels.Z } =
     ap (λ (h : HostState). h.moment) c.end_set_up.ensures ∙ ap (λ (m : Moment). record m { init = false }) (c.run_both-dead.ensures.moment ∙ first) in
