@@ -1,7 +1,7 @@
 -- A pin without a name is never given, and no engine drives it, whatever the host is called for.
 use Rattle.std.proofs.Common.{◌≡◌, ◌≢◌, ◌+◌, ◌==◌, ℕ, zero, suc, List, [], ◌∷◌, length, drop, Bool, true, false, not, ◌||◌}
 use Rattle.std.proofs.Common.{if◌then◌else◌, Option, None, Some, Result, Ok, Err, refl, ap, sym, ◌∙◌, subst, arith}
-use Rattle.std.specs.Prelude.{nat_lt, slice_get, slice_set, option_map}
+use Rattle.std.specs.Prelude.{nat_lt, slice_get, slice_set, option_map, option_and_then}
 use Rattle.std.specs.List.{list_all, position_from}
 use Rattle.std.specs.Str.{bytes_eq}
 use Rattle.std.proofs.lemmas.Bool.{and_parts, ne_eqb, and_from, not_from_false, both_ways}
@@ -15,6 +15,8 @@ use Rattle.wasm_num.specs.Mem.{Mem, has}
 use Rattle.chip_abi.specs.Reading.{word_at, text_in}
 use Rattle.chip_abi.specs.declared.host_name.HostName.{HostName}
 use Rattle.chip_abi.specs.declared.host_name.HostName.TheVariants as names
+use Rattle.chip_abi.specs.declared.output_name.OutputName.{OutputName}
+use Rattle.chip_abi.specs.HostNames.{output_of}
 use Rattle.chip_engines.specs.declared.engine.Engine.{Engine}
 use Rattle.chip_engines.specs.declared.serial.Serial.{Serial}
 use Rattle.chip_engines.specs.declared.serial.Serial.TheVariants as serials
@@ -26,7 +28,7 @@ use Rattle.chip_host.specs.declared.timer.Delay.{Delay}
 use Rattle.chip_host.specs.declared.timer.Delay.TheVariants as delays
 use Rattle.chip_host.specs.Inventory.{Inventory, Moment, HostState, joined, pin_at, engine_at, with_mode}
 use Rattle.chip_host.specs.HostCall as calls
-use Rattle.chip_host.specs.HostCall.{Done, and_then, given_pin, uart_from, spi_from, i2c_from, engine_of, set_engine, set_pin, host_at, host_does, answers, kept}
+use Rattle.chip_host.specs.HostCall.{Done, and_then, given_pin, uart_from, spi_from, i2c_from, engine_of, set_engine, set_pin, host_at, host_does, call_does, answers, kept}
 use Rattle.chip_law.specs.Named.{has_name, is_named, is_at, is_off, IsFree}
 
 -- ---- lists
@@ -421,10 +423,16 @@ module _ (named : List (Option (List ℕ))) (i : ℕ) (un : is_named named i ≡
   does_on names.I2cInit (I64 n ∷ vs) a m d same on = on
   does_on names.I2cInit (F32 n ∷ vs) a m d same on = on
   does_on names.I2cInit (F64 n ∷ vs) a m d same on = on
+  does_on (names.Output output) args a m d same on = on
 
   at_on : (o : Option HostName) (args : List Value) (a : Moment) (m : Mem) (d : Inventory) → a.given.names ≡ named → IsFree i d → IsFree i (host_at o args a m d).inventory
   at_on None args a m d same on = on
   at_on (Some name) args a m d same on = does_on name args a m d same on
+
+  -- a call on the output leaves all but the output
+  call_on : (output : Option OutputName) (o : Option HostName) (args : List Value) (a : Moment) (m : Mem) (d : Inventory) → a.given.names ≡ named → IsFree i d → IsFree i (call_does output o args a m d).host
+  call_on (Some output) o args a m d same on = record { pin = on.pin; engines = on.engines }
+  call_on None o args a m d same on = at_on o args a m d same on
 
   -- what stays so through host calls: the names, the pin, and whether no engine drives it
   abbrev pub state_at : HostState → List (Option (List ℕ)) × (Option Pin × Bool)
@@ -454,4 +462,4 @@ module _ (named : List (Option (List ℕ))) (i : ℕ) (un : is_named named i ≡
   pub host_keeps : (h : HostState) (f : ℕ) (args : List Value) (m : Mem) → state_at h ≡ free_state → state_at (answers h f args m).host ≡ free_state
   host_keeps h f args m e =
       let is = state_free h e in
-      state_is (answers h f args m).host is.0 (at_on (slice_get h.moment.given.table f) args h.moment m h.inventory is.0 is.1)
+      state_is (answers h f args m).host is.0 (call_on (option_and_then output_of (slice_get h.moment.given.table f)) (slice_get h.moment.given.table f) args h.moment m h.inventory is.0 is.1)

@@ -3,14 +3,15 @@ ghost use Rattle.std.specs.Prelude.{◌≡◌, IfOk};
 ghost use Rattle.chip_module.specs.Sources.{pins_of};
 
 use crate::binary::ChipModule;
-use sim_base::{List, Name, OutOfMemory};
+use sim_base::{Display, List, Name, OutOfMemory};
 use std::alloc::Global;
 
-/// A chip of a project: its module, and its pins by their positions.
+/// A chip of a project: its module, its pins by their positions, and the size of its display, if it has one.
 #[derive(Drop)]
 pub struct ChipSource {
     pub binary: ChipModule,
     pub pins: List<Option<Name>>,
+    pub display: Option<Display>,
 }
 
 /// The same pins once more.
