@@ -1,2 +1,3 @@
 pub mod LimitLemmas
 mod NameLemmas
+pub mod DisplayLemmas

@@ -1,2 +1,3 @@
 pub mod ChipJson
 pub mod Texts
+pub mod Display

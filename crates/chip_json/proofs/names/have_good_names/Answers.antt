@@ -1,5 +1,5 @@
-use Rattle.std.proofs.Common.{rules, ◌≡◌, [], List, ℕ, get_or, true, false, refl, Bor}
-use Rattle.chip_json.specs.ChipJson.{is_pin_name, is_skipped, pin_of}
+use Rattle.std.proofs.Common.{rules, ◌≡◌, [], List, ℕ, get_or, true, false, Bor}
+use Rattle.chip_json.specs.ChipJson.{is_pin_name, is_skipped}
 use Rattle.chip_json.proofs.NameLemmas.{repeated, added}
 use Rattle.chip_json.proofs.names.have_good_names.Goals as goal
 
