@@ -39,7 +39,7 @@ module _ (answer : Answer) (t : Texts) (a m b : Outside) (reads : m.read_faults 
       },
     )) is,
   )
-  ran_ends OutOfMemory is ran = λ p ne. rw ran (same.written p, same.name p)
+  ran_ends OutOfMemory is ran = λ p ne. rw ran ((same.written p, same.name p), same.opened p)
 
   pub ran_said : (o : Outcome) → Ran o t m b → SaidNothing a b
   ran_said Accepted ran = (ran.0.0 ∙ same.written ports.Complaint, ran.0.1 ∙ same.faults ports.Complaint)

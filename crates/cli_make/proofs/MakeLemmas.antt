@@ -12,7 +12,7 @@ use Rattle.outcome_model.specs.Happens.{Answer, Ends}
 use Rattle.outcome_model.specs.Promises.{IsOne}
 use Rattle.outcome_model.proofs.ReadLemmas.{if_some, one_both, one_function}
 use Rattle.outcome_model.proofs.JudgeLemmas.{once_as}
-use Rattle.outcome_model.proofs.EndLemmas.{answered, answer_stops, one_answer, alone_ran, on_after, begins_after, kept_after}
+use Rattle.outcome_model.proofs.EndLemmas.{answered, answer_stops, one_answer, alone_ran, on_after, begins_after, untouched_after}
 use Rattle.document_model.specs.declared.project.Project.{Project}
 use Rattle.board_make.specs.Board.{chip_file, diagram, lamps_parts}
 use Rattle.board_make.specs.Inverter.{inverter}
@@ -100,7 +100,7 @@ module _ (a m b : Outside) (same : SamePorts a m) where
   ran_after p (Stopped s) out ran = absurd ran
   ran_after p (ReadFailed name) out ran = absurd ran
   ran_after p WriteFailed out ran = (rw (← same.faults p) ran.0, begins_after a m b same p (Some out) ran.1)
-  ran_after p OutOfMemory out ran = (kept_after a m b same p ran.0, ran.1 ∙ same.faults p)
+  ran_after p OutOfMemory out ran = (untouched_after a m b same p ran.0, ran.1 ∙ same.faults p)
 
   pub others_after : (p : Port) → m.read_faults ≡ a.read_faults → SameOthers p m b → SameOthers p a b
   others_after p reads others = record {
@@ -114,7 +114,7 @@ module _ (a m b : Outside) (same : SamePorts a m) where
 
 -- nothing happened yet
 pub nothing_ran : (p : Port) (out : Output) (a m : Outside) → SamePorts a m → RanOn p OutOfMemory out a m
-nothing_ran p out a m same = ((same.written p, same.name p), same.faults p)
+nothing_ran p out a m same = (((same.written p, same.name p), same.opened p), same.faults p)
 
 pub nothing_else : (p : Port) (a m : Outside) → SamePorts a m → m.read_faults ≡ a.read_faults → SameOthers p a m
 nothing_else p a m same reads = record {

@@ -1,21 +1,24 @@
 -- A play of the wave that a run wrote has the texts of that run.
-use Rattle.std.proofs.Common.{◌≡◌, ◌∙◌, ◌≤◌, ◌<◌, ◌*◌, ℕ, List, length, Option, None, Result, Ok, Err, IfSome, ap, sym, refl, ◌⊎◌, arith}
+use Rattle.std.proofs.Common.{◌≡◌, ◌∙◌, ◌≤◌, ◌<◌, ◌*◌, ℕ, List, length, Option, None, Some, Result, Ok, Err, IfSome, ap, sym, refl, ◌⊎◌, inl, inr, arith}
+use Rattle.std.specs.List.{All}
 use Rattle.sim_base.specs.Outside.{Outside, SamePorts, Files}
 use Rattle.sim_base.specs.declared.fault.Refusal.{Refusal}
 use Rattle.sim_base.specs.declared.limits.TheConstants.{MOST_CYCLES}
-use Rattle.outcome_model.specs.Outcome.{Outcome}
-use Rattle.outcome_model.specs.Work.{ReadStops}
+use Rattle.outcome_model.specs.Stop.{Refused}
+use Rattle.outcome_model.specs.Outcome.{Outcome, Stopped, OutOfMemory}
+use Rattle.outcome_model.specs.Work.{Reading, ReadStops, Then}
 use Rattle.outcome_model.specs.Happens.{Ends}
-use Rattle.outcome_model.proofs.ReadLemmas.{if_some}
-use Rattle.outcome_model.proofs.EndLemmas.{stopped_by}
+use Rattle.outcome_model.proofs.ReadLemmas.{if_some, if_always}
+use Rattle.outcome_model.proofs.EndLemmas.{answered, answer_stops}
 use Rattle.text_model.specs.Wave.{wave_text}
 use Rattle.board_model.specs.Board.{bytes, states}
 use Rattle.board_model.specs.Rows.{rows}
 use Rattle.board_laws.specs.Player.{DriveRows, PlayerState}
 use Rattle.board_laws.specs.Play.{or_player}
 use Rattle.board_build.specs.declared.plan.Plan.{Plan}
+use Rattle.board_build.specs.IsPlan.{IsPlan}
 use Rattle.board_report.specs.Report.{play_part_text, rest_text}
-use Rattle.chip_module.specs.Sources.{pins_of}
+use Rattle.chip_module.specs.Sources.{HasFewPins, pins_of}
 use Rattle.any_part.specs.AnyPart.{AnyState, any}
 use Rattle.any_part.specs.Start.{Contents}
 use Rattle.board_outputs.specs.Variables.{board_variables}
@@ -27,10 +30,13 @@ use Rattle.replay_law.specs.Replayed.{IsReplayed, own_drives, part_of, run_rest}
 use Rattle.replay_law.proofs.FuelLemmas.{starts_same}
 use Rattle.replay_law.proofs.ReplayLaw.{replayed}
 use Rattle.replay_law.proofs.VariableLemmas.{few_shown}
+use Rattle.project_model.specs.Work.{WorkIn}
+use Rattle.cli_project.specs.declared.project.Work as declared_works
 use Rattle.cli_project.specs.Works.{work_of}
 use Rattle.cli_replay.specs.declared.replaying.Play as declared
-use Rattle.cli_replay.specs.Answer.{Play, PlayIn, RepeatAnswer, RepeatsRun, contents, part_rows_of, play_wakes, replay_texts}
+use Rattle.cli_replay.specs.Answer.{IsOfNoRun, Play, RepeatAnswer, RepeatIn, RepeatsRun, RowsIn, contents, part_rows_of, play_wakes, replay_texts}
 use Rattle.cli_replay.specs.Plays.{IsReady, play_of}
+use Rattle.cli_replay.proofs.ReplayLemmas.{with_work}
 
 -- texts for outputs, by the three that are written
 texts_same : (out : Outputs) (wave wave_b bytes bytes_b rest rest_b : List ℕ) (wakes : ℕ) → wave ≡ wave_b → bytes ≡ bytes_b → rest ≡ rest_b →
@@ -90,13 +96,41 @@ module _ (n : ℕ) (some : 0 < n) (most : n ≤ MOST_CYCLES) (p : declared.Play)
       (play_rest (has 0) plan n part_rows) (run_rest (has budget) plan n) (play_wakes (play_of p) n)
       (wave_same budget is) (bytes_same budget is) (rest_same budget is)
 
+-- What the wave of a work says, where the work is ready for a run of n cycles.
+module _ (name : List ℕ) (n : ℕ) (some : 0 < n) (most : n ≤ MOST_CYCLES) where
+  pub repeats_got : (p : declared.Play) → IsReady n p → (a : Outside) → IfSome a.files (λ files. RowsIn name n (work_of p.work) files (Ok (play_of p))) →
+      IfSome a.files (λ files. RepeatIn name n (work_of p.work) files (Ok (play_of p)))
+  repeats_got p ready a read = if_some a.files _ _ (λ (files : Files) (e : RowsIn name n (work_of p.work) files (Ok (play_of p))). (e, repeats n some most p ready)) read
+
+  module _ (work : declared_works.Work) (plan : IsPlan (pins_of work.chips) work.plan) (few : All HasFewPins work.chips) where
+    abbrev said : Result (List DriveRows) Refusal
+    said = wave_rows (board_variables (pins_of work.chips) work.plan) (length work.plan.wiring.net_of) n work.wave.items
+
+    refused_not : (rows : List DriveRows) (r : Refusal) → said ≡ Ok rows → said ≡ Err r → ⊥
+    refused_not rows r ok bad = let two : ◌≡◌ {A = Result (List DriveRows) Refusal} (Ok rows) (Err r) = sym ok ∙ bad in absurd cc
+
+    -- a wave that is refused is of no run, since that of a run is read
+    of_no_run : (r : Refusal) → said ≡ Err r → IsOfNoRun n (work_of work)
+    of_no_run r bad = λ budget is.
+        let has : Contents = record (contents (work_of work)) { budget = budget } in
+        let law : IsReplayed has work.plan n (own_drives has work.plan n) = replayed has work.plan plan n (few_shown work.chips work.plan few plan) (omega (arith, most)) some in
+        refused_not (own_drives has work.plan n) r
+        (ap (λ (w : List ℕ). wave_rows (board_variables (pins_of work.chips) work.plan) (length work.plan.wiring.net_of) n w) is ∙ law.read) bad
+
+    pub repeats_stop : (r : Refusal) (o : Outcome) (a : Outside) → said ≡ Err r → (o ≡ Stopped (Refused name r)) ⊎ (o ≡ OutOfMemory) → ReadStops o (RepeatIn name n (work_of work)) a a
+    repeats_stop r o a bad (inl is) = rw is (if_always a.files _ (λ files. (ap (with_work name n (work_of work)) bad, of_no_run r bad)))
+    repeats_stop r o a bad (inr is) = rw is tt
+
 -- the answer of such a play
 module _ (folder wave : List ℕ) (us : ℕ) (script : Option (List ℕ)) (out : Outputs) where
-  pub repeat_answer : (told : Option Files) (play : Play) → RepeatsRun (16 * us) play → IfSome told (λ files. PlayIn folder wave script (16 * us) files (Ok play)) →
+  abbrev Repeating : Reading Play
+  Repeating = Then (WorkIn folder script (Some wave)) (RepeatIn wave (16 * us))
+
+  pub repeat_answer : (told : Option Files) (play : Play) → IfSome told (λ files. Repeating files (Ok play)) →
       IfSome told (λ files. RepeatAnswer folder wave us script out files (Ok (replay_texts out (16 * us) play)))
   unfolding RepeatAnswer
-  repeat_answer told play so read = if_some told _ _ (λ (files : Files) (e : PlayIn folder wave script (16 * us) files (Ok play)). (Ok play, (e, so), refl)) read
+  repeat_answer = answered Repeating (replay_texts out (16 * us))
 
-  pub repeat_stops : (o : Outcome) (a b : Outside) → ReadStops o (PlayIn folder wave script (16 * us)) a b → SamePorts a b → Ends (RepeatAnswer folder wave us script out) o a b
+  pub repeat_stops : (o : Outcome) (a b : Outside) → ReadStops o Repeating a b → SamePorts a b → Ends (RepeatAnswer folder wave us script out) o a b
   unfolding RepeatAnswer
-  repeat_stops = stopped_by (RepeatAnswer folder wave us script out) (PlayIn folder wave script (16 * us)) (λ files s e. (Err s, e, refl))
+  repeat_stops = answer_stops Repeating (replay_texts out (16 * us))

@@ -60,7 +60,7 @@ module _ (name : List ℕ) (n : ℕ) (work : Work) where
   abbrev said : Result (List DriveRows) Refusal
   said = wave_rows (board_variables (pins_of work.chips) work.plan) (length work.plan.wiring.net_of) n work.wave
 
-  abbrev with_work : Result (List DriveRows) Refusal → Result Play Stop
+  abbrev pub with_work : Result (List DriveRows) Refusal → Result Play Stop
   with_work r = refused_in name r >>= (λ rows. Ok (record { work = work; rows = rows }))
 
   pub rows_got : (rows : List DriveRows) (a : Outside) → said ≡ Ok rows → IfSome a.files (λ files. RowsIn name n work files (Ok (record { work = work; rows = rows })))

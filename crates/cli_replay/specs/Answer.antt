@@ -1,5 +1,5 @@
 -- What `replay FOLDER WAVE --us N [--script FILE] [--vcd FILE] [--report FILE]` is answered with (profile).
-use Rattle.std.specs.Prelude.{◌≡◌, ◌*◌, ℕ, List, length, Option, Some, Result, Ok, Err}
+use Rattle.std.specs.Prelude.{◌≡◌, ◌≢◌, ◌*◌, ℕ, List, length, Option, Some, Result, Ok, Err}
 use Rattle.sim_base.specs.Outside.{Files}
 use Rattle.outcome_model.specs.Stop.{◌>>=◌, Stop, Texts, refused_in}
 use Rattle.outcome_model.specs.Work.{Reading, Is, Then}
@@ -66,11 +66,15 @@ RepeatsRun n play =
     ≡ texts_for out play.work.wave (run_bytes (record (contents play.work) { budget = budget }) play.work.plan n)
     (run_rest (record (contents play.work) { budget = budget }) play.work.plan n) (play_wakes play n)
 
--- a play of which this is true, or what is wrong first
-abbrev pub PlaySuch : (Play → Type 0) → List ℕ → List ℕ → Option (List ℕ) → ℕ → Reading Play
-PlaySuch IsSo folder wave script n files (Ok play) = PlayIn folder wave script n files (Ok play) × IsSo play
-PlaySuch IsSo folder wave script n files (Err stop) = PlayIn folder wave script n files (Err stop)
+-- The wave is none that `run` writes of the same project, script and run time, whatever fuel each call of a chip has there.
+abbrev pub IsOfNoRun : ℕ → Work → Type 0
+IsOfNoRun n work = (budget : ℕ) → work.wave ≢ run_wave (record (contents work) { budget = budget }) work.plan n
 
--- the same texts, of a play that repeats the run that wrote its wave
+-- What the wave of a work says repeats the run that wrote it; where it breaks a rule of waves, no run wrote it.
+abbrev pub RepeatIn : List ℕ → ℕ → Work → Reading Play
+RepeatIn wave n work files (Ok play) = RowsIn wave n work files (Ok play) × RepeatsRun n play
+RepeatIn wave n work files (Err stop) = RowsIn wave n work files (Err stop) × IsOfNoRun n work
+
+-- the same texts, and the wave of a run is accepted
 unfoldable pub RepeatAnswer : List ℕ → List ℕ → ℕ → Option (List ℕ) → Outputs → Files → Result Texts Stop → Type 0
-RepeatAnswer folder wave us script out = AnswerOf (PlaySuch (RepeatsRun (16 * us)) folder wave script (16 * us)) (replay_texts out (16 * us))
+RepeatAnswer folder wave us script out = AnswerOf (Then (WorkIn folder script (Some wave)) (RepeatIn wave (16 * us))) (replay_texts out (16 * us))

@@ -6,7 +6,6 @@ ghost use Rattle.std.specs.Option.{option_map};
 ghost use Rattle.sim_base.specs.Outside.{Outside, SamePorts};
 ghost use Rattle.outcome_model.specs.Outcome as ends;
 ghost use Rattle.outcome_model.specs.Happens.{Ends, Counts};
-ghost use Rattle.outcome_model.specs.Work.{Got, SaidNothing};
 ghost use Rattle.board_model.specs.Fits.{AreInputs};
 ghost use Rattle.board_build.specs.IsPlan.{IsPlan};
 ghost use Rattle.chip_module.specs.Sources.{HasFewPins, pins_of};
@@ -14,7 +13,9 @@ ghost use Rattle.cli_work.specs.Outcomes.{outcome_of};
 ghost use Rattle.cli_project.specs.Works.{work_of};
 ghost use Rattle.board_outputs.specs.Outputs.{outputs_of};
 ghost use Rattle.board_outputs.specs.Ran.{Ran};
-ghost use Rattle.cli_replay.specs.Answer.{PlayIn, RepeatAnswer, ReplayAnswer, RowsIn, play_wakes, replay_texts};
+ghost use Rattle.outcome_model.specs.Work.{Got, SaidNothing, Then};
+ghost use Rattle.project_model.specs.Work.{WorkIn};
+ghost use Rattle.cli_replay.specs.Answer.{PlayIn, RepeatAnswer, RepeatIn, ReplayAnswer, RowsIn, play_wakes, replay_texts};
 ghost use Rattle.cli_replay.specs.Plays.{IsReady, play_of};
 
 use board_outputs::Outputs;
@@ -42,8 +43,10 @@ fn read_rows(alloc: Global, name: &str, work: Work, n: u32) -> Result<Play, Work
     requires few_pins { All HasFewPins work.chips }
     requires inputs { AreInputs (length work.plan.parts) work.plan.inputs }
     requires short { length work.wave.items ≤ 16777216 }
+    requires some { 0 < n }
     requires end { n ≤ MOST_CYCLES }
     ensures got { (a : Outside) → Got play_of outcome_of result (RowsIn name.now n (work_of work)) a a }
+    ensures repeated { (a : Outside) → Got play_of outcome_of result (RepeatIn name.now n (work_of work)) a a }
     ensures ready { IfOk result (IsReady n) }
 {
     let Ok(head) = make_head(alloc, &work.plan, work.chips.as_slice()) else {
@@ -66,8 +69,12 @@ fn read_play<B: Bench>(
     n: u32,
     bench: &mut B,
 ) -> Result<Play, WorkEnd>
+    requires some { 0 < n }
     requires end { n ≤ MOST_CYCLES }
     ensures got { Got play_of outcome_of result (PlayIn folder.now wave.now (option_map (λ s. s.now) script.entry) n)
+        (B.outside bench.old) (B.outside bench.new) }
+    ensures repeated { Got play_of outcome_of result
+        (Then (WorkIn folder.now (option_map (λ s. s.now) script.entry) (Some wave.now)) (RepeatIn wave.now n))
         (B.outside bench.old) (B.outside bench.new) }
     ensures ports { SamePorts (B.outside bench.old) (B.outside bench.new) }
     ensures ready { IfOk result (IsReady n) }

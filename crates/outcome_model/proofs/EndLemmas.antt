@@ -8,28 +8,28 @@ use Rattle.sim_base.specs.Causes.{Rose}
 use Rattle.sim_base.specs.Outside.{Outside, SameOthers, SamePorts, Files, IsKept, IsNamed, is_openable}
 use Rattle.outcome_model.specs.Stop.{Stop, Missing, Refused, Output, Texts, report_alone, accepted}
 use Rattle.outcome_model.specs.Work.{Reading, Is, ReadStops, RanOn, IsOneReading}
-use Rattle.outcome_model.specs.Outcome.{Outcome, Accepted, NoRequest, Stopped, ReadFailed, WriteFailed, OutOfMemory, IsOn, BeginsOn, Hold, Begin, OutputRose, status_of}
+use Rattle.outcome_model.specs.Outcome.{Outcome, Accepted, NoRequest, Stopped, ReadFailed, WriteFailed, OutOfMemory, IsUntouched, IsOn, BeginsOn, Hold, Begin, OutputRose, status_of}
 use Rattle.outcome_model.specs.Promises.{IsOne, CountsWakes}
 use Rattle.outcome_model.specs.Happens.{Answer, AnswerOf, Ends, Counts, EndsUnasked, Happens}
 use Rattle.outcome_model.proofs.WriteLemmas.{grows_same, front_all}
 use Rattle.outcome_model.proofs.ReadLemmas.{if_some, one_function, one_both}
 
-kept_port : (p : Port) (a b : Outside) → SamePorts a b → IsKept p a b
-kept_port p a b same = (same.written p, same.name p)
+untouched_port : (p : Port) (a b : Outside) → SamePorts a b → IsUntouched p a b
+untouched_port p a b same = ((same.written p, same.name p), same.opened p)
 
 -- where a file that a request reads ends the work
 pub stopped_by : {X : Type 0} (answer : Answer) (reading : Reading X) → ((files : Files) (s : Stop) → reading files (Err s) → answer files (Err s)) →
     (o : Outcome) (a b : Outside) → ReadStops o reading a b → SamePorts a b → Ends answer o a b
 stopped_by answer reading is Accepted a b s same = absurd s
 stopped_by answer reading is NoRequest a b s same = absurd s
-stopped_by answer reading is (Stopped t) a b s same = (if_some a.files _ _ (λ (files : Files) (e : reading files (Err t)). is files t e) s, λ p ne. kept_port p a b same)
+stopped_by answer reading is (Stopped t) a b s same = (if_some a.files _ _ (λ (files : Files) (e : reading files (Err t)). is files t e) s, λ p ne. untouched_port p a b same)
 stopped_by answer reading is (ReadFailed n) a b s same = (
   if_some a.files _ _ (λ (files : Files) (e : reading (remove files n) (Err (Missing n))). is (remove files n) (Missing n) e) s.0,
   s.1,
-  λ p ne. kept_port p a b same,
+  λ p ne. untouched_port p a b same,
 )
 stopped_by answer reading is WriteFailed a b s same = absurd s
-stopped_by answer reading is OutOfMemory a b s same = λ p ne. kept_port p a b same
+stopped_by answer reading is OutOfMemory a b s same = λ p ne. untouched_port p a b same
 
 -- and then no wakes are counted
 pub stops_counts : {X : Type 0} (answer : Answer) (reading : Reading X) (o : Outcome) (a b : Outside) (before after : ℕ) → ReadStops o reading a b → Counts answer o a before after
@@ -123,6 +123,9 @@ module _ (a m b : Outside) (same : SamePorts a m) where
   pub kept_after : (p : Port) → IsKept p m b → IsKept p a b
   kept_after p is = (is.0 ∙ same.written p, is.1 ∙ same.name p)
 
+  pub untouched_after : (p : Port) → IsUntouched p m b → IsUntouched p a b
+  untouched_after p is = (kept_after p is.0, is.1 ∙ same.opened p)
+
   named_after : (p : Port) (name : List ℕ) → IsNamed p name m b → IsNamed p name a b
   named_after p name is = rw (← same.files) is
 
@@ -161,11 +164,14 @@ module _ (answer : Answer) (a m b : Outside) (reads : m.read_faults ≡ a.read_f
       begins_alone p out a b can (begins_after a m b same p (Some out) ran.1) (λ q ne. kept p q others ne),
     )) is,
   )
-  alone_ran p can OutOfMemory out is ran others = λ q ne. at_ports (λ q. IsKept q a b) p can (kept_after a m b same p ran.0) (λ q other. kept p q others other) q
+  alone_ran p can OutOfMemory out is ran others = λ q ne. at_ports (λ q. IsUntouched q a b) p can (untouched_after a m b same p ran.0) (λ q other. (kept p q others other, others.opened q other ∙ same.opened q)) q
 
 module _ (a m b : Outside) (others : SameOthers ports.Complaint m b) where
   kept_on : (p : Port) → p ≢ ports.Complaint → IsKept p a m → IsKept p a b
   kept_on p ne is = (others.written p ne ∙ is.0, others.name p ne ∙ is.1)
+
+  untouched_on : (p : Port) → p ≢ ports.Complaint → IsUntouched p a m → IsUntouched p a b
+  untouched_on p ne is = (kept_on p ne is.0, others.opened p ne ∙ is.1)
 
   begun_on : (t : Option Output) (p : Port) → p ≢ ports.Complaint → BeginsOn t p a m → BeginsOn t p a b
   begun_on None p ne is = kept_on p ne is
@@ -185,18 +191,18 @@ module _ (a m b : Outside) (others : SameOthers ports.Complaint m b) where
   told_asked : (answer : Answer) (o : Outcome) → (o ≡ Accepted → b ≡ m) → Ends answer o a m → Ends answer o a b
   told_asked answer Accepted quiet h = rw (quiet refl) h
   told_asked answer NoRequest quiet h = absurd h
-  told_asked answer (Stopped s) quiet h = (h.0, λ p ne. kept_on p ne (h.1 p ne))
-  told_asked answer (ReadFailed name) quiet h = (h.0, rw others.reads h.1, λ p ne. kept_on p ne (h.2 p ne))
+  told_asked answer (Stopped s) quiet h = (h.0, λ p ne. untouched_on p ne (h.1 p ne))
+  told_asked answer (ReadFailed name) quiet h = (h.0, rw others.reads h.1, λ p ne. untouched_on p ne (h.2 p ne))
   told_asked answer WriteFailed quiet h = rw (others.faults ports.Wave (λ e. cc), others.faults ports.Serial (λ e. cc), others.faults ports.Report (λ e. cc)) (h.0, begun answer h.1)
-  told_asked answer OutOfMemory quiet h = λ p ne. kept_on p ne (h p ne)
+  told_asked answer OutOfMemory quiet h = λ p ne. untouched_on p ne (h p ne)
 
   told_unasked : (o : Outcome) → EndsUnasked o a m → EndsUnasked o a b
   told_unasked Accepted h = absurd h
-  told_unasked NoRequest h = λ p ne. kept_on p ne (h p ne)
+  told_unasked NoRequest h = λ p ne. untouched_on p ne (h p ne)
   told_unasked (Stopped s) h = absurd h
   told_unasked (ReadFailed name) h = absurd h
   told_unasked WriteFailed h = absurd h
-  told_unasked OutOfMemory h = λ p ne. kept_on p ne (h p ne)
+  told_unasked OutOfMemory h = λ p ne. untouched_on p ne (h p ne)
 
 -- what happened happens still once the line is on Complaint
 pub told : {R : Type 0} (answers : R → Answer) (o : Outcome) (asked : Option R) (a m b : Outside) → (o ≡ Accepted → b ≡ m) → Happens answers o asked a m → SameOthers ports.Complaint m b → Happens answers o asked a b

@@ -60,9 +60,13 @@ pub record Complains (line : List ℕ) (a b : Outside) : Type 0 where
   pub grown : Grows (a.written ports.Complaint) (b.written ports.Complaint) said
   pub whole : (said ≡ line) ⊎ Rose (a.faults ports.Complaint) (b.faults ports.Complaint)
 
--- no port but Complaint has changed
+-- nothing was written on a port, and it is open where it was open before, under the same name
+abbrev pub IsUntouched : Port → Outside → Outside → Type 0
+IsUntouched p a b = IsKept p a b × (b.opened p ≡ a.opened p)
+
+-- no port but Complaint has changed, and none was opened
 abbrev pub IsSilent : Outside → Outside → Type 0
-IsSilent a b = (p : Port) → p ≢ ports.Complaint → IsKept p a b
+IsSilent a b = (p : Port) → p ≢ ports.Complaint → IsUntouched p a b
 
 abbrev pub IsFaultless : Outside → Outside → Type 0
 IsFaultless a b = (b.read_faults ≡ a.read_faults) × ((p : Port) → b.faults p ≡ a.faults p)

@@ -7,9 +7,9 @@ use Rattle.sim_base.specs.declared.bench.Port.TheVariants as ports
 use Rattle.sim_base.specs.declared.bench.WriteEnd.{WriteEnd}
 use Rattle.sim_base.specs.declared.bench.WriteEnd.TheVariants as writes
 use Rattle.sim_base.specs.Causes.{Rose}
-use Rattle.sim_base.specs.Outside.{Outside, Files, Grows, IsFront, IsKept}
+use Rattle.sim_base.specs.Outside.{Outside, Files, Grows, IsFront}
 use Rattle.outcome_model.specs.Stop.{Stop, Missing, Output, file_within, Judged}
-use Rattle.outcome_model.specs.Outcome.{Outcome, Accepted, NoRequest, Stopped, ReadFailed, WriteFailed, OutOfMemory, IsOn, BeginsOn}
+use Rattle.outcome_model.specs.Outcome.{Outcome, Accepted, NoRequest, Stopped, ReadFailed, WriteFailed, OutOfMemory, IsUntouched, IsOn, BeginsOn}
 
 -- a text was written on a port, or a first part of it where a write failed
 abbrev pub Wrote : WriteEnd → Port → List ℕ → Outside → Outside → Type 0
@@ -73,7 +73,7 @@ RanOn p NoRequest out a b = ⊥
 RanOn p (Stopped s) out a b = ⊥
 RanOn p (ReadFailed name) out a b = ⊥
 RanOn p WriteFailed out a b = Rose (a.faults p) (b.faults p) × BeginsOn (Some out) p a b
-RanOn p OutOfMemory out a b = IsKept p a b × (b.faults p ≡ a.faults p)
+RanOn p OutOfMemory out a b = IsUntouched p a b × (b.faults p ≡ a.faults p)
 
 -- A reading of files gives the same where a file that it does not read is not there; where one that it reads is not there,
 -- that is the first event.

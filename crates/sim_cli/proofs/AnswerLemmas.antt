@@ -1,5 +1,5 @@
 -- Each request has one answer, and those that run no board count no wakes.
-use Rattle.std.proofs.Common.{◌≡◌, ℕ, List, Option, None, Some, Ok, arith}
+use Rattle.std.proofs.Common.{◌≡◌, ℕ, List, Option, None, Some, Ok, refl, arith}
 use Rattle.sim_base.specs.Outside.{Outside, Files}
 use Rattle.outcome_model.specs.Outcome.{Hold, Outcome, Accepted, NoRequest, Stopped, ReadFailed, WriteFailed, OutOfMemory, status_of}
 use Rattle.outcome_model.specs.Happens.{Answer, Ends}
@@ -28,7 +28,7 @@ use Rattle.cli_decode.proofs.AnswerLemmas.{one_decode, decode_wakes}
 use Rattle.board_outputs.specs.Run.{Outputs}
 use Rattle.cli_run.specs.Answer.{PlayAnswer, AnswerSuch}
 use Rattle.sim_cli.specs.Answers.{Answers, AnswersWith, AnswersSuch, RunBy, bus_of, first_line, outputs_to, second_line}
-use Rattle.sim_cli.specs.Promises.{Happens, HappensIsolated, HoldsPlay, HoldsAlone, HoldsWorlds, HoldsShown, Counts, CountsWakes}
+use Rattle.sim_cli.specs.Promises.{Happens, HappensIsolated, HoldsPlay, HoldsAlone, HoldsWorlds, HoldsShown, Counts, CountsNone, CountsWakes}
 
 pub one : (r : Request) → IsOne (Answers r)
 one (Bare hex us) = one_bare hex us
@@ -108,3 +108,15 @@ counted (Stopped (Missing n)) None a b before after happens counts = absurd happ
 counted (ReadFailed n) None a b before after happens counts = absurd happens
 counted WriteFailed None a b before after happens counts = absurd happens
 counted OutOfMemory None a b before after happens counts = λ e. absurd (cc)
+
+-- where no board was run
+pub none_counted : (asked : Option Request) (n : ℕ) → CountsNone asked n n
+none_counted None n = refl
+none_counted (Some (Check folder)) n = refl
+none_counted (Some (Module name)) n = refl
+none_counted (Some (Decode wave bus)) n = refl
+none_counted (Some (Bare hex us)) n = tt
+none_counted (Some (Run folder us budget named)) n = tt
+none_counted (Some (Replay folder wave us named)) n = tt
+none_counted (Some (Twin folder other us budget)) n = tt
+none_counted (Some (Make seed us)) n = tt

@@ -1,7 +1,7 @@
 -- What a caller of the program may rest on: what happens by the answers of its commands (`outcome_model`).
-use Rattle.std.specs.Prelude.{ℕ, List, Option, None, Some}
+use Rattle.std.specs.Prelude.{◌≡◌, ℕ, List, Option, None, Some}
 use Rattle.sim_base.specs.Outside.{Outside}
-use Rattle.words_model.specs.Request.{Request, request_of}
+use Rattle.words_model.specs.Request.{Request, Bare, Check, Module, Run, Replay, Twin, Make, Decode, request_of}
 use Rattle.outcome_model.specs.Outcome.{Outcome}
 use Rattle.outcome_model.specs.Happens as outcomes
 use Rattle.outcome_model.specs.Promises as promises
@@ -61,9 +61,9 @@ abbrev pub HoldsShown : ℕ → Option Request → Outside → Outside → Type 
 HoldsShown = promises.HoldsAnswer (AnswersSuch AreShown)
 
 -- With status 0 of a replay of the wave that `run` wrote of the same project, script and run time, each told port holds the text
--- of that run; the report has no lines of chips.
+-- of that run; the report has no lines of chips. With status 3 or 4 the wave is not the cause, if a run wrote it.
 abbrev pub HoldsRepeat : ℕ → Option Request → Outside → Outside → Type 0
-HoldsRepeat = promises.HoldsAnswer RepeatAnswers
+HoldsRepeat status asked a b = promises.HoldsAnswer RepeatAnswers status asked a b × promises.IsTrueStop RepeatAnswers status asked a
 
 abbrev pub IsStopped : ℕ → Option Request → Outside → Outside → Type 0
 IsStopped = promises.IsStopped Answers
@@ -76,3 +76,15 @@ HoldsFront = promises.HoldsFront Answers
 
 abbrev pub CountsWakes : ℕ → Option Request → Outside → ℕ → ℕ → Type 0
 CountsWakes = promises.CountsWakes Answers
+
+-- `check`, `module` and `decode` run no board, and neither do words that ask for nothing: with any status no wake is counted.
+abbrev pub CountsNone : Option Request → ℕ → ℕ → Type 0
+CountsNone None before after = after ≡ before
+CountsNone (Some (Check folder)) before after = after ≡ before
+CountsNone (Some (Module name)) before after = after ≡ before
+CountsNone (Some (Decode wave bus)) before after = after ≡ before
+CountsNone (Some (Bare hex us)) before after = Unit {0}
+CountsNone (Some (Run folder us budget named)) before after = Unit {0}
+CountsNone (Some (Replay folder wave us named)) before after = Unit {0}
+CountsNone (Some (Twin folder other us budget)) before after = Unit {0}
+CountsNone (Some (Make seed us)) before after = Unit {0}

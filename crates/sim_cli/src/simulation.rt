@@ -4,7 +4,7 @@ ghost use Rattle.words_model.specs.Request.{request_of, Decode};
 ghost use Rattle.outcome_model.specs.Happens.{Ends};
 ghost use Rattle.outcome_model.specs.Promises.{WordsAlone, HasCause, ComplainsAlone, IsStatus};
 ghost use Rattle.outcome_model.specs.Work.{SaidNothing};
-ghost use Rattle.sim_cli.specs.Promises.{Happens, HappensIsolated, HappensRepeated, Counts, Does};
+ghost use Rattle.sim_cli.specs.Promises.{Happens, HappensIsolated, HappensRepeated, Counts, CountsNone, Does};
 ghost use Rattle.sim_cli.specs.Promises.{IsAnswered, IsComplete, HoldsAnswer, IsStopped, IsTrueStop, HoldsFront, CountsWakes};
 ghost use Rattle.sim_cli.specs.Promises.{HoldsPlay, HoldsAlone, HoldsWorlds, HoldsShown, HoldsRepeat};
 ghost use Rattle.cli_work.specs.Outcomes.{outcome_of};
@@ -55,7 +55,7 @@ fn decode_bus<B: Bench>(alloc: Global, wave: &str, bus: NamedBus<'_>, bench: &mu
 }
 
 /// The work that the words ask for; Complaint is left alone.
-#[tactic(auto, using(crate::proofs::AnswerLemmas::check_counts, crate::proofs::AnswerLemmas::module_counts, crate::proofs::AnswerLemmas::decode_counts))]
+#[tactic(auto, using(crate::proofs::AnswerLemmas::check_counts, crate::proofs::AnswerLemmas::module_counts, crate::proofs::AnswerLemmas::decode_counts, crate::proofs::AnswerLemmas::none_counted))]
 fn work<B: Bench, L: Ledger>(
     alloc: Global,
     words: &[String],
@@ -66,6 +66,7 @@ fn work<B: Bench, L: Ledger>(
     ensures isolated { HappensIsolated (outcome_of result) (request_of (map string_bytes words.now)) (B.outside bench.old) (B.outside bench.new) }
     ensures repeated { HappensRepeated (outcome_of result) (request_of (map string_bytes words.now)) (B.outside bench.old) (B.outside bench.new) }
     ensures counts { Counts (outcome_of result) (request_of (map string_bytes words.now)) (B.outside bench.old) steps.old steps.new }
+    ensures boardless { CountsNone (request_of (map string_bytes words.now)) steps.old steps.new }
     ensures silent { SaidNothing (B.outside bench.old) (B.outside bench.new) }
 {
     match read_words(alloc, words) {
@@ -131,6 +132,7 @@ pub fn simulate<B: Bench, L: Ledger>(
     ensures cause { HasCause result (B.outside bench.old) (B.outside bench.new) }
     ensures front { HoldsFront result (request_of (map string_bytes words.now)) (B.outside bench.old) (B.outside bench.new) }
     ensures steps { CountsWakes result (request_of (map string_bytes words.now)) (B.outside bench.old) steps.old steps.new }
+    ensures boardless { CountsNone (request_of (map string_bytes words.now)) steps.old steps.new }
     ensures silent { ComplainsAlone result (B.outside bench.old) (B.outside bench.new) }
 
     // And of a run, whatever its chips do: players may stand for them, each drives by its own pins alone,
@@ -142,7 +144,7 @@ pub fn simulate<B: Bench, L: Ledger>(
     // What an OLED shows are the bytes that were written to it on its own pins.
     ensures shown { HoldsShown result (request_of (map string_bytes words.now)) (B.outside bench.old) (B.outside bench.new) }
 
-    // And of a replay: of the wave that a run wrote it writes the same wave, bytes and report, but for the lines of the chips.
+    // And of a replay: the wave that a run wrote is accepted, and it writes the same wave, bytes and report, but for the lines of the chips.
     ensures repeated { HoldsRepeat result (request_of (map string_bytes words.now)) (B.outside bench.old) (B.outside bench.new) }
 {
     let outcome = work(alloc, words, bench, steps);

@@ -9,8 +9,10 @@ use Rattle.chip_module.specs.Sources.{pins_of}
 use Rattle.vcd_text.specs.Tracks.{wave_rows}
 use Rattle.cli_work.specs.Outcomes.{outcome_of}
 use Rattle.cli_project.specs.Works.{work_of}
+use Rattle.cli_replay.specs.Plays.{IsReady}
 use Rattle.cli_replay.proofs.OrderLemmas.{rows_ordered}
 use Rattle.cli_replay.proofs.ReplayLemmas.{rows_got, rows_stop, said_same}
+use Rattle.cli_replay.proofs.RepeatLemmas.{repeats_got, repeats_stop}
 use Rattle.cli_replay.proofs.replaying.read_rows.Goals as goal
 
 shown : (c : goal.In-Ok-read_wave) → c.in-Ok.head.variables ≡ board_variables (pins_of c.args.work.chips) c.args.work.plan
@@ -25,8 +27,8 @@ said c =
 pub returns-in-Ok-read_wave-clause-got : goal.returns-in-Ok-read_wave-clause-got
 returns-in-Ok-read_wave-clause-got c = λ a. (rows_got c.args.name.now c.args.n (work_of c.args.work) c.in-Ok-read_wave.rows a (said c), refl)
 
-pub returns-in-Ok-read_wave-clause-ready : goal.returns-in-Ok-read_wave-clause-ready
-returns-in-Ok-read_wave-clause-ready c = record {
+ready : (c : goal.In-Ok-read_wave) → IsReady c.args.n (record { work = c.args.work; head = c.in-Ok.head; rows = c.in-Ok-read_wave.rows })
+ready c = record {
   plan = c.requires.plan;
   few_pins = c.requires.few_pins;
   inputs = c.requires.inputs;
@@ -36,13 +38,29 @@ returns-in-Ok-read_wave-clause-ready c = record {
   said = said c;
 }
 
-pub returns-in-Err-Refused-clause-got : goal.returns-in-Err-Refused-clause-got
-returns-in-Err-Refused-clause-got c =
+pub returns-in-Ok-read_wave-clause-ready : goal.returns-in-Ok-read_wave-clause-ready
+returns-in-Ok-read_wave-clause-ready c = ready c
+
+pub returns-in-Ok-read_wave-clause-repeated : goal.returns-in-Ok-read_wave-clause-repeated
+returns-in-Ok-read_wave-clause-repeated c = λ a. (
+  repeats_got c.args.name.now c.args.n c.requires.some c.requires.end _ (ready c) a (rows_got c.args.name.now c.args.n (work_of c.args.work) c.in-Ok-read_wave.rows a (said c)),
+  refl,
+)
+
+refused : (c : goal.After-drop-work-in-Err-Refused-13) →
+    wave_rows (board_variables (pins_of c.args.work.chips) c.args.work.plan) (length c.args.work.plan.wiring.net_of) c.args.n c.args.work.wave.items ≡ Err c.in-Err-Refused.refusal
+refused c =
     let variables : List Variable = board_variables (pins_of c.args.work.chips) c.args.work.plan in
     let pins : ℕ = length c.args.work.plan.wiring.net_of in
     let shown : c.in-Ok.head.variables ≡ variables = c.in-Ok.ensures ∙ ap (λ (chips : List ChipSource). board_variables (pins_of chips) c.args.work.plan) c.as_slice.ensures in
-    let refused = subst (λ (f : Fault). Reads {X = List DriveRows} {Y = List DriveRows} (λ rows. rows) (Err f) (wave_rows c.in-Ok.head.variables c.len-pins.result c.args.n c.as_slice-2.result.now))
+    let reads = subst (λ (f : Fault). Reads {X = List DriveRows} {Y = List DriveRows} (λ rows. rows) (Err f) (wave_rows c.in-Ok.head.variables c.len-pins.result c.args.n c.as_slice-2.result.now))
     c.in-Err-Refused.field-0-is c.in-Err-Refused.ensures.reads in
-    let said = said_same c.in-Ok.head.variables variables c.len-pins.result pins c.args.n c.as_slice-2.result.now c.args.work.wave.items (Err c.in-Err-Refused.refusal)
-    shown c.len-pins.ensures c.as_slice-2.ensures.value refused in
-    λ a. rows_stop c.args.name.now c.args.n (work_of c.args.work) c.in-Err-Refused.refusal (outcome_of c.stopped.result) a said c.stopped.ensures
+    said_same c.in-Ok.head.variables variables c.len-pins.result pins c.args.n c.as_slice-2.result.now c.args.work.wave.items (Err c.in-Err-Refused.refusal)
+    shown c.len-pins.ensures c.as_slice-2.ensures.value reads
+
+pub returns-in-Err-Refused-clause-got : goal.returns-in-Err-Refused-clause-got
+returns-in-Err-Refused-clause-got c = λ a. rows_stop c.args.name.now c.args.n (work_of c.args.work) c.in-Err-Refused.refusal (outcome_of c.stopped.result) a (refused c) c.stopped.ensures
+
+pub returns-in-Err-Refused-clause-repeated : goal.returns-in-Err-Refused-clause-repeated
+returns-in-Err-Refused-clause-repeated c = λ a.
+    repeats_stop c.args.name.now c.args.n c.requires.some c.requires.end c.args.work c.requires.plan c.requires.few_pins c.in-Err-Refused.refusal (outcome_of c.stopped.result) a (refused c) c.stopped.ensures

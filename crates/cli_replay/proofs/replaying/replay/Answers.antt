@@ -6,9 +6,9 @@ use Rattle.outcome_model.proofs.EndLemmas.{stops_counts}
 use Rattle.cli_work.specs.Outcomes.{outcome_of}
 use Rattle.board_outputs.specs.Outputs.{outputs_of}
 use Rattle.board_outputs.proofs.RanLemmas.{ran_ends, ran_said, ran_counts}
-use Rattle.cli_replay.specs.Answer.{PlayIn, RepeatAnswer, RepeatsRun, ReplayAnswer, replay_texts}
+use Rattle.cli_replay.specs.Answer.{PlayIn, RepeatAnswer, ReplayAnswer, replay_texts}
 use Rattle.cli_replay.specs.Plays.{play_of}
-use Rattle.cli_replay.proofs.RepeatLemmas.{repeat_answer, repeat_stops, repeats}
+use Rattle.cli_replay.proofs.RepeatLemmas.{repeat_answer, repeat_stops}
 use Rattle.cli_replay.proofs.ReplayLemmas.{replay_answer, replay_stops}
 use Rattle.cli_replay.proofs.replaying.replay.Goals as goal
 
@@ -34,8 +34,7 @@ returns-in-Ok-clause-repeated g c =
     let script : Option (List ℕ) = option_map (λ (f : Bor (List ℕ)). f.now) c.args.script in
     let out = outputs_of c.args.outputs in
     let texts : Texts = replay_texts out (16 * us) (play_of c.in-Ok.play) in
-    let so : RepeatsRun (16 * us) (play_of c.in-Ok.play) = repeats (16 * us) (omega (arith, c.requires.some)) (omega (arith, c.requires.end)) c.in-Ok.play c.in-Ok.ensures.ready in
-    let is : IfSome a.files (λ (files : Files). RepeatAnswer folder wave us script out files (Ok texts)) = repeat_answer folder wave us script out a.files (play_of c.in-Ok.play) so c.in-Ok.ensures.got.0 in
+    let is : IfSome a.files (λ (files : Files). RepeatAnswer folder wave us script out files (Ok texts)) = repeat_answer folder wave us script out a.files (play_of c.in-Ok.play) c.in-Ok.ensures.repeated.0 in
     ran_ends (RepeatAnswer folder wave us script out) texts a (g.B.Bench.outside c.read_play.new.bench) (g.B.Bench.outside c.play_board.new.bench)
     c.in-Ok.ensures.got.1 c.in-Ok.ensures.ports (outcome_of c.play_board.result) is c.play_board.ensures.ran
 
@@ -66,7 +65,7 @@ returns-in-Err-clause-ends g c =
 pub returns-in-Err-clause-repeated : goal.returns-in-Err-clause-repeated
 returns-in-Err-clause-repeated g c =
     let script : Option (List ℕ) = option_map (λ (f : Bor (List ℕ)). f.now) c.args.script in
-    repeat_stops c.args.folder.now c.args.wave.now c.args.micros script (outputs_of c.args.outputs) (outcome_of c.in-Err.outcome) _ _ c.in-Err.ensures.got c.in-Err.ensures.ports
+    repeat_stops c.args.folder.now c.args.wave.now c.args.micros script (outputs_of c.args.outputs) (outcome_of c.in-Err.outcome) _ _ c.in-Err.ensures.repeated c.in-Err.ensures.ports
 
 pub returns-in-Err-clause-counts : goal.returns-in-Err-clause-counts
 returns-in-Err-clause-counts g c =

@@ -35,10 +35,11 @@ returns g c =
       cause = rw c.status.ensures (has_cause Answers a b o asked happens);
       front = rw c.status.ensures (holds_front Answers a b o asked happens);
       steps = rw c.status.ensures (counted o asked a m c.args.steps.now c.work-outcome.new.steps c.work-outcome.ensures.happens c.work-outcome.ensures.counts);
+      boardless = c.work-outcome.ensures.boardless;
       silent = rw c.status.ensures (complains_alone Answers a b o asked happens);
       played = rw c.status.ensures (holds_play a b o asked isolated);
       alone = rw c.status.ensures (holds_alone a b o asked isolated);
       worlds = rw c.status.ensures (holds_worlds a b o asked isolated);
       shown = rw c.status.ensures (holds_shown a b o asked isolated);
-      repeated = rw c.status.ensures (holds_answer RepeatAnswers a b o asked repeats);
+      repeated = rw c.status.ensures (holds_answer RepeatAnswers a b o asked repeats, true_stop RepeatAnswers a b o asked repeats);
     }
