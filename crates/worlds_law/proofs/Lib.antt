@@ -1,0 +1,4 @@
+mod EachLemmas
+mod PlanLemmas
+mod ReadLemmas
+pub mod WorldsLaw
