@@ -1,6 +1,7 @@
 -- The text of one more row.
-use Rattle.std.proofs.Common.{◌≡◌, ◌∙◌, ◌⊎◌, ◌<◌, ◌≤◌, ◌+◌, ◌++◌, [], ◌∷◌, ℕ, true, false, Bool, List, length, get_or, drop, min, nat_le, map, ap, add-one, refl, sym, subst, inl, inr, arith}
+use Rattle.std.proofs.Common.{◌≡◌, ◌∙◌, ◌⊎◌, ◌<◌, ◌≤◌, ◌+◌, ◌++◌, [], ◌∷◌, ℕ, true, false, Bool, List, length, get_or, drop, min, nat_le, map, Option, ap, add-one, refl, sym, subst, inl, inr, arith}
 use Rattle.std.specs.List.{concat, flat_map}
+use Rattle.std.specs.Option.{option_map}
 use Rattle.std.proofs.lemmas.Bool.{cases_Bool, leb-true, leb-false}
 use Rattle.std.proofs.lemmas.List.{append_assoc, append-nil, map-append, drop_more, drop_all}
 use Rattle.std.proofs.lemmas.Grind.{flat_map-append}
@@ -15,7 +16,10 @@ use Rattle.board_model.specs.Walks.{below}
 use Rattle.sim_report.specs.declared.row.ReportRow.{ReportRow}
 use Rattle.sim_report.specs.Lines.{line_of}
 use Rattle.board_build.specs.declared.plan.PlanPart.{PlanPart}
-use Rattle.board_report.specs.Report.{text_of, chosen_text, parts_text}
+use Rattle.chip_output.specs.Output.{picture}
+use Rattle.chip_report.specs.Lines.{output_text}
+use Rattle.chip_host.specs.Chip.{Chip}
+use Rattle.board_report.specs.Report.{text_of, chip_row, chip_text, chosen_text, parts_text}
 
 -- the texts of rows, one after the other
 pub text-append : (xs ys : List ReportRow) → text_of (xs ++ ys) ≡ text_of xs ++ text_of ys
@@ -46,6 +50,12 @@ pub rows_after : (text : List ℕ) (row : ReportRow) (f : ℕ → List ReportRow
 rows_after text row f k =
     append_assoc text (text_of (row ∷ flat_map f (below k))) (text_of (f k))
     ∙ ap (λ (l : List ℕ). text ++ l) (append_assoc (line_of row) (text_of (flat_map f (below k))) (text_of (f k)) ∙ ap (λ (l : List ℕ). line_of row ++ l) (sym (rows_more f k)))
+
+-- the lines of a chip
+pub chip_lines : (text console : List ℕ) (row : ReportRow) (frame : Option (ℕ × (ℕ × List ℕ))) (part : PlanPart) (chip : Chip) → row ≡ chip_row part.id chip.dead
+    → console ≡ chip.inventory.output.console → frame ≡ option_map picture chip.inventory.output.frame → (text ++ line_of row) ++ output_text part.id console frame ≡ text ++ chip_text part chip
+chip_lines text console row frame part chip hr hc hf =
+    rw (hr, hc, hf) (append_assoc text (line_of (chip_row part.id chip.dead)) (output_text part.id chip.inventory.output.console (option_map picture chip.inventory.output.frame)))
 
 -- one more part of a plan and of a board
 pub parts_more : {S X : Type 0} (says : PlanPart → S → List ℕ) (state : X → S) (chips : Bool) (plan : List PlanPart) (xs : List X) (i : ℕ) (part : PlanPart) (x : X) → i < length plan → i < length xs → part ≡ get_or plan i part → x ≡ get_or xs i x →

@@ -1,5 +1,5 @@
 -- The report of a run: how the parts of its board stand at the end, a line a fact (profile).
-use Rattle.std.specs.Prelude.{◌⊎◌, ℕ, ◌+◌, List, [], ◌∷◌, ◌++◌, map, Bool, true, false, if◌then◌else◌, Option, None, Some, is_some, slice_index_or}
+use Rattle.std.specs.Prelude.{◌⊎◌, ℕ, ◌+◌, List, [], ◌∷◌, ◌++◌, map, Bool, true, false, if◌then◌else◌, Option, None, Some, is_some, option_map, slice_index_or}
 use Rattle.std.specs.List.{concat, flat_map}
 use Rattle.std.proofs.Common.{inl, inr}
 use Rattle.sim_base.specs.declared.signal.Level.{Level}
@@ -20,6 +20,8 @@ use Rattle.wasm_num.specs.Traps.{number_of}
 use Rattle.reactive_part.specs.Reaction.{Reacting}
 use Rattle.chip_host.specs.Chip.{Chip}
 use Rattle.chip_host.specs.declared.death.Death.{Death}
+use Rattle.chip_output.specs.Output.{picture}
+use Rattle.chip_report.specs.Lines.{output_text}
 use Rattle.any_part.specs.AnyBehaviour.{AnyOwn}
 use Rattle.any_part.specs.AnyPart.{AnyState}
 use Rattle.sim_report.specs.declared.row.UnoMode.{UnoMode}
@@ -88,8 +90,10 @@ uno_text part uno = text_of (uno_rows part.id uno)
 abbrev pub own_text : PlanPart → Reacting AnyOwn → List ℕ
 own_text part reacting = text_of (own_rows part reacting.held reacting.own)
 
+-- how it stands, then what it printed, and then what it drew
 abbrev pub chip_text : PlanPart → Chip → List ℕ
-chip_text part chip = line_of (chip_row part.id chip.dead)
+chip_text part chip =
+    line_of (chip_row part.id chip.dead) ++ output_text part.id chip.inventory.output.console (option_map picture chip.inventory.output.frame)
 
 -- a player of recorded drives has none
 abbrev pub no_text : PlanPart → PlayerState → List ℕ

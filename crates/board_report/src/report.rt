@@ -13,6 +13,7 @@ use avr_core::Mode;
 use avr_mcu::Mcu;
 use board_build::{PlanKind, PlanPart};
 use chip_host::{Chip, Death};
+use chip_report::write_output;
 use either_part::Either;
 use part_catalog::greatest_value;
 use part_oled::Oled;
@@ -263,7 +264,8 @@ impl Shown for Chip {
 
     fn write_lines<B: Bench>(&self, end: WriteEnd, part: &PlanPart, bench: &mut B) -> WriteEnd {
         let row = chip_row(&part.id, self.trap());
-        write_line(end, &row, bench)
+        let end = write_line(end, &row, bench);
+        write_output(end, &part.id, self.console(), self.frame(), bench)
     }
 }
 

@@ -1,4 +1,4 @@
-use Rattle.std.proofs.Common.{◌≡◌, ◌≤◌, [], ◌∷◌, true}
+use Rattle.std.proofs.Common.{◌≡◌, [], ◌∷◌, true}
 use Rattle.std.specs.List.{flat_map}
 use Rattle.sim_base.specs.declared.bench.Port.TheVariants as ports
 use Rattle.sim_base.specs.Outside.{SameOthers}
