@@ -1,0 +1,11 @@
+(module
+  (import "wasi_snapshot_preview1" "fd_write" (func $fd_write (param i32 i32 i32 i32) (result i32)))
+  (memory 1)
+  (data (i32.const 0) "\10\00\00\00\03\00\00\00")
+  (data (i32.const 16) "hi\0a")
+  (func $is (param i32 i32) (if (i32.ne (local.get 0) (local.get 1)) (then unreachable)))
+  (func (export "chipInit")
+    (call $is (call $fd_write (i32.const 1) (i32.const 0) (i32.const 1) (i32.const 8)) (i32.const 0))
+    (call $is (i32.load (i32.const 8)) (i32.const 3))
+    (call $is (call $fd_write (i32.const 3) (i32.const 0) (i32.const 1) (i32.const 12)) (i32.const 8))
+    (call $is (i32.load (i32.const 12)) (i32.const 0))))
