@@ -81,7 +81,7 @@ color=()
 # Callbacks have parameters that a chip may not need, so unused ones are no warning.
 words=("$target" -O2 -mbulk-memory -Wall -Wextra -Wno-unused-parameter -Werror=implicit-function-declaration -I"$here")
 if [ -n "$libc" ]; then
-    kit=$here/libc/output.c
+    kit=
     # The stack is below the data, so that one that overflows leaves the memory and ends the chip.
     layout=(-nostartfiles "-Wl,--stack-first,-z,stack-size=65536")
 else
@@ -130,7 +130,7 @@ for source in "${sources[@]}"; do
     compile "$source" "${compiling[@]}" || bad=1
 done
 [ $bad = 0 ] || explain
-compile "$kit" || explain
+[ -z "$kit" ] || compile "$kit" || explain
 
 # -O is not among these words: with it clang runs wasm-opt where binaryen is installed, which refuses memory.copy.
 tool "$target" "${layout[@]}" -Wl,--no-entry,--export-table,--strip-all "${objects[@]}" "${linking[@]}" -o "$work/module.wasm" || explain

@@ -9,7 +9,9 @@ import os
 import re
 import sys
 
-# imports of the C library, and what a chip calls to get them
+# imports of the C library that are there: those by which it prints
+PRINTS = {"fd_close", "fd_fdstat_get", "fd_seek", "fd_write"}
+# others, and what a chip calls to get them
 SYSTEM = {
     "args_get": "the program's arguments",
     "args_sizes_get": "the program's arguments",
@@ -28,8 +30,6 @@ HINTS = {
     "ADC": "pins are low or high",
     "DAC": "pins are low or high",
     "Float": "attributes are whole numbers",
-    "buffer": "chips have no display",
-    "framebuffer": "chips have no display",
 }
 FLOATS = {0x7D: "float", 0x7C: "double"}
 
@@ -108,6 +108,8 @@ def complaints(data, known):
     if "chipInit" not in exports:
         yield 'exports no chipInit: one of the files has the function `void chip_init(void)`, and includes "wokwi-api.h"'
     for module, name, types in imports:
+        if module == "wasi_snapshot_preview1" and name in PRINTS:
+            continue
         if module == "wasi_snapshot_preview1":
             calls = SYSTEM.get(name, "files or the system")
             yield f"imports {name} of the C library, which is not there: it comes from {calls}"

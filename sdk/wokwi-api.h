@@ -1,9 +1,9 @@
 // What a custom chip calls: the functions that the simulator gives to its module.
 //
 // The names and types are those that chips for Wokwi use. A chip of pins, watches, timers, whole-number attributes, UARTs, SPI
-// and I2C slaves compiles unchanged: `sdk/build.sh`, with --libc where it includes <stdio.h> and the like. How each function is
-// imported (its name, its parameters and its result), and the offsets of the configurations, are the simulator's own:
-// docs/CHIPS.md, "What a chip can call".
+// and I2C slaves and a display compiles unchanged: `sdk/build.sh`, with --libc where it includes <stdio.h> and the like. How
+// each function is imported (its name, its parameters and its result), and the offsets of the configurations, are the
+// simulator's own: docs/CHIPS.md, "What a chip can call".
 //
 // Functions of Wokwi that are not here are declared at the end. A chip that calls one does not compile, and the compiler says
 // what to call in its place.
@@ -157,6 +157,16 @@ typedef struct {
 
 CHIP_IMPORT("i2cInit") i2c_dev_t i2c_init(const i2c_config_t *config);
 
+// ---- the display: 4 bytes for each pixel, row by row from the top, all 0 at first
+
+typedef uint32_t buffer_t;
+
+// Stores the size that the chip's JSON file gives under `display`, in pixels; (buffer_t)-1 where it gives none.
+CHIP_IMPORT("framebufferInit") buffer_t framebuffer_init(uint32_t *width, uint32_t *height);
+// Both copy nothing where a byte would be beyond the display's end.
+CHIP_IMPORT("bufferWrite") void buffer_write(buffer_t buffer, uint32_t offset, const void *data, uint32_t count);
+CHIP_IMPORT("bufferRead") void buffer_read(buffer_t buffer, uint32_t offset, void *data, uint32_t count);
+
 // ---- what is not here
 
 CHIP_MISSING("pins are low or high: use pin_read") float pin_adc_read(pin_t pin);
@@ -166,12 +176,6 @@ uint32_t attr_init_float(const char *name, float default_value);
 CHIP_MISSING("attributes are whole numbers: use attr_read, in thousandths for instance") float attr_read_float(uint32_t attr);
 CHIP_MISSING("use timer_start_ns, which takes a whole number") void timer_start_ns_d(timer_t timer, double nanos, bool repeat);
 CHIP_MISSING("use get_sim_nanos, which gives a whole number") double get_sim_nanos_d(void);
-
-typedef uint32_t buffer_t;
-
-CHIP_MISSING("chips have no display") buffer_t framebuffer_init(uint32_t *width, uint32_t *height);
-CHIP_MISSING("chips have no display") void buffer_read(buffer_t buffer, uint32_t offset, void *data, uint32_t count);
-CHIP_MISSING("chips have no display") void buffer_write(buffer_t buffer, uint32_t offset, void *data, uint32_t count);
 
 #ifdef __cplusplus
 }

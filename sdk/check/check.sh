@@ -23,7 +23,7 @@ is() { # NAME, TEXT, EXPECTED
 
 if command -v wasm-objdump >/dev/null; then
     # NAME (PARAMETERS) -> RESULT, as wasm-objdump shows types
-    sed -n 's/^row_of names\.[A-Za-z0-9]* = row (codes "\([A-Za-z0-9]*\)") \(.*\)$/\1 \2/p' "$top/crates/chip_abi/specs/HostNames.antt" |
+    sed -n 's/^[a-z_]* [a-z]*\.[A-Za-z0-9]* = row (codes "\([A-Za-z0-9]*\)") \(.*\)$/\1 \2/p' "$top/crates/chip_abi/specs/HostNames.antt" |
         sed 's/ ∷ \[\]//g; s/ ∷ /, /g; s/I32/i32/g; s/I64/i64/g; s/\[\]/()/g' |
         sed 's/^\([^ ]*\) \(([^)]*)\) (\([^)]*\))$/\1 \2 -> \3/; s/-> $/-> nil/' | sort >"$work/table"
     "$build" -o "$work/every" "$here/chips/every.c" || exit 1
@@ -103,9 +103,6 @@ void chip_init(void) {
     attr_read_float(0);
     timer_start_ns_d(0, 1, true);
     get_sim_nanos_d();
-    framebuffer_init(0, 0);
-    buffer_read(0, 0, 0, 0);
-    buffer_write(0, 0, 0, 0);
 }' >missing.c
 says "what is not there" 1 "missing.c:3:5: error: 'pin_adc_read' is unavailable: pins are low or high: use pin_read" -o a.wasm missing.c
 also "missing.c:4:5: error: 'pin_dac_write' is unavailable: pins are low or high: use pin_write"
@@ -113,9 +110,6 @@ also "missing.c:5:5: error: 'attr_init_float' is unavailable: attributes are who
 also "missing.c:6:5: error: 'attr_read_float' is unavailable: attributes are whole numbers: use attr_read"
 also "missing.c:7:5: error: 'timer_start_ns_d' is unavailable: use timer_start_ns"
 also "missing.c:8:5: error: 'get_sim_nanos_d' is unavailable: use get_sim_nanos"
-for call in framebuffer_init buffer_read buffer_write; do
-    also "error: '$call' is unavailable: chips have no display"
-done
 is "no module where it failed" "$(ls -- *.wasm 2>/dev/null)" ""
 
 # pins that are not in the list next to the module
@@ -193,6 +187,10 @@ changes() { # MICROSECONDS UNIT
         /^#/ { time = substr($0, 2) / 10000 / unit }
         /^[01xz]/ && substr($0, 2) == code { printf "%d%s ", time, substr($0, 1, 1) }'
 }
+# What the chips of that board printed within so many microseconds, with / for each line's end.
+printed() { # MICROSECONDS
+    "$program" run board --us "$1" --report report >/dev/null && sed -n 's/^chip [^ ]* | //p' report | tr '\n' '/'
+}
 compiled() { # NAME, WORDS of build.sh
     name=$1
     shift
@@ -256,6 +254,7 @@ compiled memory --libc "$here/chips/memory.c"
 is "string.h of the library" "$(ends memory.wasm)" alive
 compiled library --libc "$here/chips/library.c"
 is "printf, snprintf, strtol, qsort, malloc" "$(ends library.wasm)" alive
+is "what it prints" "$(printed 20)" "text -12 ff c/no line/"
 compiled deep --libc "$here/chips/deep.c"
 is "too deep a stack" "$(ends deep.wasm)" "trap 2 at 0"
 compiled float --libc "$here/chips/float.c"
@@ -291,6 +290,7 @@ done
 is "printf and malloc take less than 32 KiB" "$([ "$(wc -c <inverter.wasm)" -lt 32768 ] && echo less)" less
 rm -rf board && cp -r "$top/examples/chip-inverter" board && cp inverter.wasm board
 is "Wokwi's inverter" "$(changes 1 0.0625)" "00 61 100 121 "
+is "Wokwi's inverter: what it prints" "$(printed 1)" "The inverter is ready/pin 0 is high/pin 0 is low/pin 0 is high/pin 0 is low/pin 0 is high/"
 # with the names that Wokwi gives to the files
 rm -rf board && cp -r "$top/examples/chip-echo" board && cp rot13.wasm board/echo.chip.wasm && rm board/echo.wasm board/echo.json
 sed -i 's/echo\.wasm/echo.chip.wasm/' board/wokwi.toml
@@ -301,7 +301,12 @@ echo '{
   "controls": [{"id": "speed", "label": "Speed", "type": "range", "min": 0, "max": 10, "step": 1}]
 }' >board/echo.chip.json
 is "Wokwi's rot13" "$("$program" run board --us 20000)" aocqesguiwkym
+is "Wokwi's rot13: what it receives" "$(printed 20000 | tr '/' '\n' | sed -n 's/^in: //p' | tr '\n' ' ')" "97 111 99 113 101 115 103 117 105 119 107 121 109 "
+is "Wokwi's rot13: what it sends" "$(printed 20000 | tr '/' '\n' | grep '^out: ' | tail -n 1)" "out: 13 bytes by now"
+is "Wokwi's rot13: the time" "$(printed 3001 | tr '/' '\n' | grep ' ns$' | tr '\n' '/')" "1000000 ns/2000000 ns/3000000 ns/"
 rm -rf board && cp -r "$here/wokwi/counter" board && cp counter.wasm board
 "$program" run board --us 10000 >answers
 cmp answers "$here/wokwi/counter/expected.txt" && echo "sdk: Wokwi's I2C counter: ok" || bad=1
+is "Wokwi's I2C counter: what it prints" "$(printed 10000)" \
+    "The counter is ready/called to write at 0x22/called to read at 0x22/called to write at 0x22/called to read at 0x22/"
 exit $bad

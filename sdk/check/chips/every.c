@@ -22,4 +22,8 @@ void chip_init(void) {
     spi_stop(slave);
     const i2c_config_t i2c = {.address = 8, .scl = pin, .sda = pin};
     i2c_init(&i2c);
+    uint32_t width, height;
+    buffer_t buffer = framebuffer_init(&width, &height);
+    buffer_write(buffer, 0, bytes, 1);
+    buffer_read(buffer, 0, bytes, 1);
 }

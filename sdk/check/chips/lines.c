@@ -4,7 +4,7 @@
 
 static pin_t out;
 
-// in the place of the kit's
+// in the place of the import
 int32_t __imported_wasi_snapshot_preview1_fd_write(int32_t file, int32_t pieces, int32_t count, int32_t written) {
     uint32_t sum = 0;
     for (int32_t i = 0; i < count; i++) {
