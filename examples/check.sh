@@ -104,10 +104,13 @@ twin replay/late.vcd inverter-moved.vcd
 twin replay/expected/late.vcd inverter-moved-played.vcd
 twin twin/by-table/inverter.wasm inverter-by-table.wasm
 twin twin/without-its-third-write/inverter.wasm inverter-without-its-third-write.wasm
+# two boards have the firmware of others
+cmp -s "$here/chip-printf/arduino-blink.hex" "$here/arduino-blink/arduino-blink.hex" || { echo "chip-printf has another arduino-blink.hex"; bad=1; }
+cmp -s "$here/chip-display/fade.hex" "$here/fade/fade.hex" || { echo "chip-display has another fade.hex"; bad=1; }
 pulses <"$rows/crc.vcd" | same "crc in the rows" "$here/crc/expected/pulses.txt" || bad=1
 pulses <"$rows/sort.vcd" | same "sort in the rows" "$here/sort/expected/pulses.txt" || bad=1
 lights bit <"$rows/counter-down.vcd" | same "counter downwards in the rows" "$here/counter/expected/counts-down.txt" || bad=1
-for name in blink counter pulse arduino-blink fade tone pin-interrupt pot-blink button eeprom-counter watchdog low-power serial-hello pot-serial i2c-scanner spi-loopback shift-out spi-shift latch seven-segment lcd-hello lcd-i2c oled-hello keypad chip-inverter chip-blinker chip-counter chip-thermometer chip-registers chip-echo; do
+for name in blink counter pulse arduino-blink fade tone pin-interrupt pot-blink button eeprom-counter watchdog low-power serial-hello pot-serial i2c-scanner spi-loopback shift-out spi-shift latch seven-segment lcd-hello lcd-i2c oled-hello keypad chip-inverter chip-blinker chip-counter chip-thermometer chip-registers chip-echo chip-printf chip-display; do
     "$program" check "$here/$name" | same "$name as a project" "$here/$name/expected/check.txt" || bad=1
 done
 "$program" bare "$here/blink/blink.hex" --us 1 | same blink "$here/blink/expected/wave.vcd" || bad=1
@@ -188,6 +191,8 @@ chips() { # FOLDER OF THE PROJECTS, WORDS
     "$program" check "$1/chip-typist" | same "chip-typist as a project$2" "$here/chip-typist/expected/check.txt" || bad=1
     "$program" run "$1/chip-typist" --us 200000 | same "chip-typist's bytes$2" "$here/chip-typist/expected/serial.txt" || bad=1
     wave "$1/chip-typist" 200000 | at 13 10 | same "chip-typist's LED$2" "$here/chip-typist/expected/pin13.txt" || bad=1
+    "$program" run "$1/chip-printf" --us 2100000 --report - | same "chip-printf's report$2" "$here/chip-printf/expected/report.txt" || bad=1
+    "$program" run "$1/chip-display" --us 160000 --report - | same "chip-display's report$2" "$here/chip-display/expected/report.txt" || bad=1
 }
 chips "$here" ""
 if command -v "${CLANG:-clang}" >/dev/null && command -v wasm-ld >/dev/null; then
@@ -197,6 +202,9 @@ if command -v "${CLANG:-clang}" >/dev/null && command -v wasm-ld >/dev/null; the
         cp -r "$here/chip-$name" "$down"
         cp "$down/modules/$name.wasm" "$down/chip-$name"
     done
+    cp -r "$here/chip-printf" "$here/chip-display" "$down"
+    cp "$down/modules/bars.wasm" "$down/chip-display"
+    [ ! -f "$down/modules/logger.wasm" ] || cp "$down/modules/logger.wasm" "$down/chip-printf"
     chips "$down" ", its module made again"
 else
     echo "no clang or wasm-ld: the chips' modules are not made again" >&2
@@ -205,8 +213,10 @@ fi
 # what the typist types: the attributes in the diagram, others, and texts in its module
 if command -v python3 >/dev/null; then
     "$here/chip-typist/check.py" "$program" || bad=1
+    "$here/../tools/display.py" "$here/chip-display/expected/report.txt" bars1 | same "chip-display's picture" "$here/chip-display/expected/picture.txt" || bad=1
+    "$here/../tools/display.py" "$here/chip-display/expected/report.txt" bars1 --svg - | same "chip-display's picture in colors" "$here/chip-display/display.svg" || bad=1
 else
-    echo "no python3: chip-typist/typist.py is skipped" >&2
+    echo "no python3: chip-typist/typist.py and the picture of chip-display are skipped" >&2
 fi
 
 # waves that stand in for a chip: its own, one that was edited, and those that the chips here write
@@ -218,7 +228,7 @@ same "replay's wave" "$here/replay/recorded.vcd" <"$down/played" || bad=1
 same "replay's report" "$here/replay/expected/report.txt" <"$down/report" || bad=1
 replay "$here/chip-inverter" "$here/replay/late.vcd" 1
 same "replay's edited wave" "$here/replay/expected/late.vcd" <"$down/played" || bad=1
-for case in chip-inverter=1000 chip-blinker=3000 chip-counter=10000 chip-thermometer=250000 chip-registers=5000 chip-echo=10000 chip-typist=200000; do
+for case in chip-inverter=1000 chip-blinker=3000 chip-counter=10000 chip-thermometer=250000 chip-registers=5000 chip-echo=10000 chip-typist=200000 chip-printf=2100000 chip-display=160000; do
     name=${case%=*}
     "$program" run "$here/$name" --us "${case#*=}" --vcd "$down/recorded" --report "$down/whole" >"$down/sent"
     replay "$here/$name" "$down/recorded" "${case#*=}"

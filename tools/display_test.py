@@ -77,6 +77,26 @@ class Dots(unittest.TestCase):
             display.oled_dots(broken, "oled1")
 
 
+class ChipDots(unittest.TestCase):
+    def test_rows_that_are_not_there_are_dark(self):
+        lines = ["chip c alive", "chip c | row 0 FF", "chip c row 2 FF0000FF000000FF"]
+        self.assertEqual(display.dots_of(lines, "c"), [[False, False], [False, False], ["#ff0000", False]])
+
+    def test_a_display_beside_another(self):
+        lines = ["chip a alive", "chip a row 0 00FF0000", "chip b alive", "chip b row 0 00FF0000FFFFFFFF"]
+        self.assertEqual(display.dots_of(lines, "b"), [["#00ff00", "#ffffff"]])
+
+    def test_no_such_display(self):
+        for lines in (["chip c alive"], ["chip c trap 9 at 0", "chip c | row"]):
+            with self.assertRaises(display.NoDisplay):
+                display.dots_of(lines, "c")
+
+    def test_a_line_of_another_form(self):
+        for line in ("chip c row 0 FF0000F", "chip c row 0", "chip c row x FF0000FF"):
+            with self.assertRaisesRegex(display.NoDisplay, "not of the form"):
+                display.dots_of([line], "c")
+
+
 @unittest.skipUnless(os.access(PROGRAM, os.X_OK), "the program is not built")
 class Runs(unittest.TestCase):
     """What an OLED shows that is on, off, all lit or inverted, at both addresses."""
@@ -108,6 +128,9 @@ class Drawing(unittest.TestCase):
         self.assertEqual(text({}, rest=b"\xFF"), ("█" * 128 + "\n") * 32)
         self.assertEqual(text({0: b"\xFE\xFD"}, rest=b"\xFF").split("\n")[0], "▄▀" + "█" * 126)
 
+    def test_an_odd_count_of_rows(self):
+        self.assertEqual(display.as_text([[True, False], [True, True], [False, True]]), "█▄\n ▀\n")
+
     def test_text_has_two_rows_in_a_line(self):
         text = display.as_text(display.oled_dots(report({0: b"\x01\x02\x03\x00\x04"}), "oled1"))
         lines = text.split("\n")
@@ -119,6 +142,13 @@ class Drawing(unittest.TestCase):
         root = ElementTree.fromstring(svg)
         self.assertEqual(root.find("{*}title").text, "a<b&c")
         self.assertEqual(root.find("{*}path").get("d"), "M0 0h2v1h-2zM3 0h1v1h-1z")
+
+    def test_a_path_for_each_color(self):
+        lines = ["chip c alive", "chip c row 0 FF0000FFFF0000FF00FF00FF", "chip c row 1 00FF00FF00000000FF0000FF"]
+        root = ElementTree.fromstring(display.as_svg(display.dots_of(lines, "c"), "c"))
+        self.assertEqual([(path.get("fill"), path.get("d")) for path in root.findall("{*}path")],
+                         [("#ff0000", "M0 0h2v1h-2zM2 1h1v1h-1z"), ("#00ff00", "M2 0h1v1h-1zM0 1h1v1h-1z")])
+        self.assertEqual(display.as_text(display.dots_of(lines, "c")), "█▀█\n")
 
 
 class Words(unittest.TestCase):
