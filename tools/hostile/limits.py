@@ -1,9 +1,10 @@
 #!/usr/bin/env python3
 """What is as large as it may be, made here and run by the built program: a board of 1,039 pins and 512 connections, whose wave and
 displays are compared with tools/peers' second readings; a firmware that begins with JMP and fills the flash, whose wave is
-worked out here; each file of a project at its longest, and one byte or one line above it; eight chips of 64 pages each.
+worked out here; each file of a project at its longest, and one byte or one line above it; eight chips of 64 pages each; a chip
+that fills its console and its display.
 
-  limits.py [NAME..]    these alone: jmp, pins, files, lines, chips, wave
+  limits.py [NAME..]    these alone: jmp, pins, files, lines, chips, shown, wave
 PROGRAM is the program to try, target/mudflatjar if it is not set. Ends with 1 where one answers otherwise.
 """
 import json
@@ -15,6 +16,7 @@ import sys
 import tempfile
 
 TOP = pathlib.Path(__file__).resolve().parents[2]
+NAMES = ["jmp", "pins", "files", "lines", "chips", "shown", "wave"]
 LONGEST, LONGEST_WAVE, FLASH = 1_048_576, 16_777_216, 32_768
 # data addresses less 0x20, as OUT has them
 PORTB, DDRB, PORTD, DDRD = 0x05, 0x04, 0x0B, 0x0A
@@ -118,12 +120,17 @@ def const(value):
     return b"\x41" + leb(value, signed=True)
 
 
-def chip(pages, body, data, custom=0):
-    """A module of so many pages at the start, and 64 at most, which imports pinInit, exports chipInit, and has a custom section of so many bytes."""
-    types = [b"\x60\x02\x7f\x7f\x01\x7f", b"\x60\x00\x00"]
+# types of functions: two numbers to one, nothing to nothing, four to one, four to nothing
+TYPES = [b"\x60\x02\x7f\x7f\x01\x7f", b"\x60\x00\x00", b"\x60\x04\x7f\x7f\x7f\x7f\x01\x7f", b"\x60\x04\x7f\x7f\x7f\x7f\x00"]
+
+
+def chip(pages, body, data, custom=0, imports=(("env", "pinInit", 0),)):
+    """A module of so many pages at the start, and 64 at most, which imports functions, each of a type, exports chipInit, and has a custom section of so
+    many bytes."""
     code = b"\x00" + body + b"\x0b"
-    made = b"\x00asm\x01\x00\x00\x00" + section(1, vector(types)) + section(2, vector([text("env") + text("pinInit") + b"\x00\x00"]))
-    made += section(3, vector([b"\x01"])) + section(5, vector([b"\x01" + leb(pages) + leb(max(64, pages))])) + section(7, vector([text("chipInit") + b"\x00\x01"]))
+    named = vector([text(module) + text(name) + b"\x00" + leb(kind) for module, name, kind in imports])
+    made = b"\x00asm\x01\x00\x00\x00" + section(1, vector(TYPES)) + section(2, named) + section(3, vector([b"\x01"]))
+    made += section(5, vector([b"\x01" + leb(pages) + leb(max(64, pages))])) + section(7, vector([text("chipInit") + b"\x00" + leb(len(imports))]))
     made += section(10, vector([leb(len(code)) + code]))
     made += section(11, vector([b"\x00" + const(at) + b"\x0b" + leb(len(what)) + what for at, what in data.items()]))
     return made + (section(0, text("x") + bytes(custom)) if custom else b"")
@@ -131,6 +138,24 @@ def chip(pages, body, data, custom=0):
 
 def drives_high(name_at):
     return const(name_at) + const(17) + b"\x10\x00\x1a"
+
+
+def fills(at, value, count):
+    return const(at) + const(value) + const(count) + b"\xfc\x0b\x00"
+
+
+def calls(function, *numbers):
+    return b"".join(map(const, numbers)) + b"\x10" + leb(function)
+
+
+def fills_both():
+    """A chip that fills a console of 65,536 bytes in one call, and a display of 65,536 pixels in another; what it adds to them changes nothing."""
+    imports = (("wasi_snapshot_preview1", "fd_write", 2), ("env", "framebufferInit", 0), ("env", "bufferWrite", 3))
+    pieces = {8 * i: (4096).to_bytes(4, "little") * 2 for i in range(16)}
+    drop = b"\x1a"
+    body = fills(4096, ord("x"), 4096) + calls(0, 1, 0, 16, 256) + drop + fills(4096, ord("y"), 1) + calls(0, 1, 0, 1, 256) + drop
+    body += calls(1, 256, 260) + drop + fills(65536, 0xA5, 262144) + calls(2, 0, 0, 65536, 262144) + fills(65536, 0, 262144) + calls(2, 0, 1, 65536, 262144)
+    return chip(5, body, pieces, imports=imports)
 
 
 PINS = '{"name": "c", "pins": ["OUT"]}\n'
@@ -279,6 +304,13 @@ class Projects:
         ended = self.run("module", str(self.made("pages", {"c.wasm": chip(65, b"", {})}) / "c.wasm"))
         self.ok("65 pages", ended[0] == 3 and "refused 79 ValidLimit" in ended[2], ended[2])
 
+    def shown(self):
+        pins = '{"name": "c", "pins": [], "display": {"width": 256, "height": 256}}\n'
+        ended = self.texts(self.project("shown", with_chips(2), module=fills_both(), c_json=pins), 20)
+        lines = [line for line in ended[1].splitlines() if line.startswith("chip")] if len(ended) == 2 else []
+        each = lambda name: [f"chip {name} alive", f"chip {name} | " + "x" * 65536] + [f"chip {name} row {y} " + "A5" * 1024 for y in range(256)]
+        self.ok("full consoles and displays", lines == each("c0") + each("c1"), str([line[:60] for line in lines] or ended)[:300])
+
     def wave(self):
         folder = self.project("wave", with_chips(1), module=NAMED)
         ended = self.texts(folder, 20)
@@ -291,8 +323,8 @@ def main(words):
     program = pathlib.Path(os.environ.get("PROGRAM") or TOP / "target/mudflatjar").resolve()
     if not os.access(program, os.X_OK):
         sys.exit(f"limits: there is no program {program}")
-    names = words or ["jmp", "pins", "files", "lines", "chips", "wave"]
-    if not set(names) <= {"jmp", "pins", "files", "lines", "chips", "wave"}:
+    names = words or NAMES
+    if not set(names) <= set(NAMES):
         sys.exit(__doc__)
     with tempfile.TemporaryDirectory() as room:
         bad = 0

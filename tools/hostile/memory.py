@@ -23,6 +23,7 @@ CASES = {
     "run-script": (["keypad"], "run {0} --us 10 --script {0}/script.txt " + BOTH),
     "run-chip": (["chip-inverter"], f"run {{0}} --us 2 {BOTH}"),
     "run-i2c-chip": (["chip-registers"], f"run {{0}} --us 2000 {BOTH}"),
+    "run-display": (["chip-display"], f"run {{0}} --us 2 {BOTH}"),
     "run-lcd": (["lcd-i2c"], f"run {{0}} --us 2000 {BOTH}"),
     "run-oled": (["oled-hello"], f"run {{0}} --us 2000 {BOTH}"),
     "run-shift": (["shift-out"], f"run {{0}} --us 100 {BOTH}"),
