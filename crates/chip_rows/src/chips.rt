@@ -52,7 +52,7 @@ pub(crate) fn chip_of(
     let attrs = attributes_of(alloc, attrs)?;
     let valid = valid_of(alloc, bytes)?;
     match check_imports(alloc, &valid) {
-        Ok(map) => Ok(Chip::new(alloc, valid, map, names, attrs, budget)?),
+        Ok(map) => Ok(Chip::new(alloc, valid, map, names, attrs, budget, None)?),
         Err(fault) => Err(fault),
     }
 }

@@ -27,7 +27,7 @@ JudgedBytes name bytes files = JudgedAs name (Judges bytes)
 
 -- the chip's module, and its pins
 abbrev pub source : Binary → ChipSource
-source binary = record { binary = binary; pins = chip_pins }
+source binary = record { binary = binary; pins = chip_pins; display = None }
 
 -- the board of a project with one chip and no script, by the rules of boards
 abbrev pub BehindModule : Project → List ℕ → Diagram → ChipSource → Reading Work

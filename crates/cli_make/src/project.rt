@@ -109,7 +109,11 @@ pub(crate) fn made_work(alloc: Global, seed: u32) -> Result<Work, WorkEnd>
     } = made;
     match judged(alloc, module) {
         Ok(binary) => {
-            let chip = ChipSource { binary, pins };
+            let chip = ChipSource {
+                binary,
+                pins,
+                display: None,
+            };
             behind_module(alloc, project, flash, &diagram, chip)
         }
         Err(end) => Err(end),

@@ -8,7 +8,7 @@ use Rattle.document_model.specs.Project.{project_text}
 use Rattle.document_model.specs.declared.project.ChipFile.{ChipFile}
 use Rattle.document_model.specs.declared.diagram.Diagram.{Diagram}
 use Rattle.document_model.specs.Diagram.{diagram_text}
-use Rattle.chip_json.specs.ChipJson.{chip_text}
+use Rattle.chip_json.specs.Display.{pins_and_display}
 use Rattle.chip_module.specs.Binary.{Binary, Judges}
 use Rattle.chip_module.specs.declared.source.ChipSource.{ChipSource}
 use Rattle.chip_module.proofs.BinaryLemmas.{one_binary, not_both, one_refusal}
@@ -35,7 +35,7 @@ steady_wave (Some name) = steady_within 16777216 name (λ bytes. Ok bytes)
 -- the files of chips are read alike where another is not there
 module _ (folder : List ℕ) where
   pub steady_pins : (path : List ℕ) (binary : Binary) → IsSteady (PinsIn folder path binary)
-  steady_pins path binary = steady_both _ _ (steady_file (in_folder folder path) chip_text) (λ pins. steady_rule _)
+  steady_pins path binary = steady_both _ _ (steady_file (in_folder folder path) pins_and_display) (λ pins. steady_rule _)
 
   pub steady_chip : (chip : ChipFile) → IsSteady (ChipIn folder chip)
   steady_chip chip = steady_both _ _ (steady_judged (in_folder folder chip.binary) Judges) (steady_pins chip.json)
@@ -116,7 +116,7 @@ module _ (folder : List ℕ) (script wave : Option (List ℕ)) where
   one_chip : (chip : ChipFile) → IsOneReading (ChipIn folder chip)
   one_chip chip =
       one_both _ _ (one_judged (in_folder folder chip.binary) Judges one_binary not_both one_refusal) (λ binary.
-      one_both _ _ (one_file _ chip_text) (λ pins. one_function _))
+      one_both _ _ (one_file _ pins_and_display) (λ pins. one_function _))
 
   one_chips : (read : List ChipSource) (chips : List ChipFile) → IsOneReading (ChipsAfter folder read chips)
   unfolding ChipsAfter

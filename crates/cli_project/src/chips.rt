@@ -33,7 +33,7 @@ fn read_binary<B: Bench>(
     }
 }
 
-/// The pins of a chip, behind its module.
+/// The pins of a chip and its display, after its module.
 fn read_behind_binary<B: Bench>(
     alloc: Global,
     folder: &str,
@@ -46,7 +46,11 @@ fn read_behind_binary<B: Bench>(
     ensures few { IfOk result HasFewPins }
 {
     match read_in::<PinsFile, B>(alloc, folder, path, bench) {
-        Ok(pins) => Ok(ChipSource { binary, pins }),
+        Ok(found) => Ok(ChipSource {
+            binary,
+            pins: found.0,
+            display: found.1,
+        }),
         Err(end) => {
             // One call, where a drop at the end of the scope is proved list by list.
             drop(binary);
@@ -55,7 +59,7 @@ fn read_behind_binary<B: Bench>(
     }
 }
 
-/// A chip: its module, and then its pins.
+/// A chip: its module, and then its pins and its display.
 fn read_chip<B: Bench>(
     alloc: Global,
     folder: &str,

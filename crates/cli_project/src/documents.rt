@@ -6,14 +6,14 @@ ghost use Rattle.cli_work.specs.Documents.{IsRead};
 ghost use Rattle.cli_work.specs.Outcomes.{outcome_of};
 ghost use Rattle.project_model.specs.Work.{in_folder};
 
-use chip_json::read_chip_json;
+use chip_json::read_chip_file;
 use cli_work::{Document, WorkEnd, read_document};
 use diagram_json::read_diagram;
 use document_model::{ChipPins, Diagram, Project};
 use input_texts::Script;
 use project_files::read_project;
 use script_text::read_script;
-use sim_base::{Bench, Fault, List};
+use sim_base::{Bench, Display, Fault, List};
 use std::alloc::{AllocError, Global};
 
 /// `wokwi.toml`.
@@ -52,18 +52,18 @@ impl Document for DiagramFile {
     }
 }
 
-/// The file of a chip's pins.
+/// The file of a chip's pins and of its display.
 pub(crate) struct PinsFile;
 
 impl Document for PinsFile {
-    ghost use Rattle.chip_json.specs.ChipJson.{chip_text};
+    ghost use Rattle.chip_json.specs.Display.{pins_and_display};
 
-    type Text = ChipPins;
+    type Text = (ChipPins, Option<Display>);
 
-    ghost reading = { chip_text };
+    ghost reading = { pins_and_display };
 
-    fn read(alloc: Global, bytes: &[u8]) -> Result<ChipPins, Fault> {
-        read_chip_json(alloc, bytes)
+    fn read(alloc: Global, bytes: &[u8]) -> Result<(ChipPins, Option<Display>), Fault> {
+        read_chip_file(alloc, bytes)
     }
 }
 

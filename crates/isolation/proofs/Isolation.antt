@@ -52,8 +52,8 @@ use Rattle.isolation.proofs.RestLemmas.{is_chip_at, rest_same}
 use Rattle.isolation.proofs.WorldLemmas.{lines_same, plan_same, variables_same}
 
 module _ (has : Contents) (plan : Plan) (is : IsPlan (pins_of has.chips) plan) (n : ℕ) where
-  -- In a run each chip does, cycle by cycle, what it does alone: by its module, its pins, its attributes, its budget and the levels
-  -- of its own pins.
+  -- In a run each chip does, cycle by cycle, what it does alone: by its module, its pins, its attributes, its display's size, its
+  -- budget and the levels of its own pins.
   module _ (i : ℕ) (part : PlanPart) (c : ℕ) (source : ChipSource) (at : slice_get plan.parts i ≡ Some part) (kind : part.kind ≡ plans.Chip c) (there : slice_get has.chips c ≡ Some source) where
     abbrev ss : List AnyState
     ss = starts has plan.parts

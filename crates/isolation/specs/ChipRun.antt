@@ -1,5 +1,5 @@
--- A chip alone: what it drives and how it stands, by its module, its pins, its attributes, the fuel of its calls and the levels
--- of its own pins, and by nothing else (profile).
+-- A chip alone: what it drives and how it stands, what it has printed and drawn included, by its module, its pins, its attributes,
+-- the size of its display, the fuel of its calls and the levels of its own pins, and by nothing else (profile).
 use Rattle.std.specs.Prelude.{◌≡◌, ◌≤◌, ℕ, List, length, map, Option, None, Some, slice_get}
 use Rattle.std.proofs.Common.{inr}
 use Rattle.sim_base.specs.declared.signal.Drive.{Drive}
@@ -20,7 +20,8 @@ abbrev pub chip_run : ChipSource → List (List ℕ × List ℕ) → ℕ → Lis
 chip_run source attrs budget level_rows =
     drive_rows chip (start_state source.binary.wasm source.binary.init (given_of source attrs) budget) 0 level_rows
 
--- its state at cycle n, where each cycle k before brings its pins the levels k: with it the trap that ended it, if one did
+-- its state at cycle n, where each cycle k before brings its pins the levels k: with it its console, its display, and the trap
+-- that ended it, if one did
 abbrev pub chip_at : ChipSource → List (List ℕ × List ℕ) → ℕ → (ℕ → List Level) → ℕ → Chip
 chip_at source attrs budget levels n = part_run chip levels (λ k. None) (start_state source.binary.wasm source.binary.init (given_of source attrs) budget) 0 n
 

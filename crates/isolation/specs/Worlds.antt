@@ -18,7 +18,7 @@ pub record IsSamePart (a b : PlanPart) : Type 0 where
   pub kind : a.kind ≡ b.kind
   pub rest : is_chip (Some a.kind) ≡ false → a ≡ b
 
--- Two projects that differ in the modules and attributes of their chips, and in the fuel of calls into these, and in nothing
+-- Two projects that differ in the modules, attributes and displays of their chips, in the fuel of calls into these, and in nothing
 -- else that a run goes by.
 pub record DifferInChips (one other : Contents) (plan twin : Plan) : Type 0 where
   pub flash : one.flash ≡ other.flash

@@ -10,7 +10,7 @@ use Rattle.document_model.specs.Project.{project_text}
 use Rattle.document_model.specs.Diagram.{diagram_text}
 use Rattle.outcome_model.specs.Stop.{Stop, Refused}
 use Rattle.outcome_model.specs.Work.{Reading, Is, IsFile, IsFileWithin, JudgedFile, Then}
-use Rattle.chip_json.specs.ChipJson.{chip_text}
+use Rattle.chip_json.specs.Display.{pins_and_display}
 use Rattle.chip_module.specs.Binary.{Binary, Judges}
 use Rattle.chip_module.specs.Sources.{pins_of}
 use Rattle.chip_module.specs.declared.source.ChipSource.{ChipSource}
@@ -44,9 +44,9 @@ with_bytes bytes (Err r) = Err r
 abbrev pub drawn : List ℕ → Result (Diagram × List ℕ) Refusal
 drawn bytes = with_bytes bytes (diagram_text bytes)
 
--- a chip: its module, and then its pins
+-- a chip: its module, and then its pins and its display
 abbrev pub PinsIn : List ℕ → List ℕ → Binary → Reading ChipSource
-PinsIn folder path binary = Then (IsFile (in_folder folder path) chip_text) (λ pins. Is (λ files. Ok (record { binary = binary; pins = pins })))
+PinsIn folder path binary = Then (IsFile (in_folder folder path) pins_and_display) (λ found. Is (λ files. Ok (record { binary = binary; pins = found.0; display = found.1 })))
 
 abbrev pub ChipIn : List ℕ → ChipFile → Reading ChipSource
 ChipIn folder chip = Then (JudgedFile (in_folder folder chip.binary) Judges) (PinsIn folder chip.json)
