@@ -142,9 +142,10 @@ class Page:
                 self.must(False, text, "a crate: none is named before it")
 
     def law(self, cell, crates):
-        """`name` in a module of a crate's specs/"""
+        """`name` in a module of a crate's specs/ or proofs/"""
+        known = [it for crate in crates for it in (*self.crates[crate].specs.values(), *self.crates[crate].proofs.values())]
         for name in set(QUOTED.findall(cell)) - set(self.crates):
-            self.must(any(name in it for crate in crates for it in self.crates[crate].specs.values()), name, f"specs/ of {' '.join(sorted(crates))}")
+            self.must(any(name in it for it in known), name, f"specs/ and proofs/ of {' '.join(sorted(crates))}")
 
     def rows(self, cell):
         """`file` of unit_rows; `file`: firmware, firmware of sim_rows"""

@@ -52,7 +52,7 @@ UNO = """# Uno
 
 | section | definition | law | rows |
 |---|---|---|---|
-| "Half" | `low`: Half (`half`) | `half` | `half.rows`; `run.rows`: blink |
+| "Half" | `low`: Half (`half`) | `half`; `half_law` of `low` | `half.rows`; `run.rows`: blink |
 
 | address | register | what it does |
 |---|---|---|
@@ -68,6 +68,7 @@ class Repository(unittest.TestCase):
         self.write("crates.txt", "# NAME: DEP\nlow: std\ntop: low\nunit_rows: low\nsim_rows: low\n")
         self.write("crates/low/src/lib.rt", SOURCE)
         self.write("crates/low/specs/Half.antt", SPEC)
+        self.write("crates/low/proofs/HalfLaw.antt", "pub half_law : (x : ℕ) → IsHalf x\n")
         self.write("crates/avr_unit/src/registers.rt", "pub const ONE: u8 = 0x44;\npub const TWO: u8 = 0x46;\n        0x47 => Some(Register::THREE),\n")
         self.write("crates/top/src/lib.rt", "pub struct Twice;\n")
         self.write("crates/unit_rows/data/half.rows", "")
@@ -118,7 +119,7 @@ class Names(Repository):
 
     def test_rows_and_laws(self):
         for old, new, said in [
-            ("| `half` |", "| `half_laws` |", "docs/UNO.md:5: there is no half_laws in specs/ of low"),
+            ("| `half`; ", "| `half_laws`; ", "docs/UNO.md:5: there is no half_laws in specs/ and proofs/ of low"),
             ("`half.rows`", "`third.rows`", "docs/UNO.md:5: there is no third.rows in crates/unit_rows/data"),
             (": blink", ": blank", "docs/UNO.md:5: there is no blank.hex in crates/sim_rows/data/run.rows"),
             ("0x44, ", "0x45, ", "docs/UNO.md:9: there is no ONE at 0x45 in the crates of the microcontroller"),

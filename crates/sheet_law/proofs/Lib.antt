@@ -1,0 +1,10 @@
+mod BitLemmas
+mod SpiLemmas
+mod SpiBits
+pub mod SpiLaw
+pub mod AdcLaw
+pub mod UsartFrameLaw
+pub mod UsartReceptionLaw
+mod TwiHalves
+pub mod TwiLaw
+pub mod TwiByteLaw

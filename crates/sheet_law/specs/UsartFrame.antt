@@ -1,0 +1,55 @@
+-- A frame that the USART sends (data sheet, "USART0", "Frame Formats", "Sending Frames with 5 to 8 Data Bit"; the cycles that bits take
+-- are the profile's).
+use Rattle.std.specs.Prelude.{◌≡◌, ℕ, ◌+◌, ◌-◌, ◌*◌, ◌<◌, ◌≤◌, Bool, true, false, List, None, Some}
+use Rattle.sim_base.specs.declared.signal.Level.{Level}
+use Rattle.unit_law.specs.Bits.{is_set}
+use Rattle.unit_law.specs.Pad.{untouched}
+use Rattle.unit_law.specs.declared.pad.Pad.{Pad}
+use Rattle.avr_usart.specs.declared.format.Format.{Format}
+use Rattle.avr_usart.specs.Format.{frame_bits, has_parity, parity_bit}
+use Rattle.avr_usart.specs.Transmitter.{begun}
+use Rattle.avr_usart.specs.Usart.{Usart, usart, txen, format_of}
+use Rattle.sheet_law.specs.Life.{Act, Write, state, stepping}
+
+-- TXD is an output with this value, whatever DDRD and PORTD are
+abbrev pub txd_is : Bool → Pad
+txd_is high = record untouched { ddoe = true; ddov = true; pvoe = true; pvov = high }
+
+-- The USART is u at the beginning of cycle t.
+module _ (acts : ℕ → Act) (levels : ℕ → List Level) (u : Usart) (t : ℕ) where
+  -- at the beginning of cycle t + n
+  abbrev pub at : ℕ → Usart
+  at n = state usart acts levels u t n
+
+  -- In cycle t a byte is written to UDR0, with TXEN set and no frame on the way. Whatever the processor does then.
+  pub record IsLoaded (x : ℕ) : Type 0 where
+    pub idle : u.transmitter.frame ≡ None
+    pub written : acts t ≡ Write 0xC6 x
+    pub enabled : txen u ≡ true
+
+  -- the last cycle of a frame is t + that
+  abbrev pub last : Format → ℕ → ℕ
+  last format from = from + frame_bits format * format.bit
+
+  abbrev pub ending : Format → ℕ → Usart
+  ending format from = stepping usart acts levels u t (last format from)
+
+  -- byte y is sent in a frame of a format, whose F bits of B cycles take the cycles t + from + 1 to t + from + F B
+  pub record IsSent (format : Format) (y from : ℕ) : Type 0 where
+    -- a start bit is Low, data come from the lowest bit, then the parity, and the stop bits are High
+    pub start : (n : ℕ) → 0 < n → n ≤ format.bit → usart.pad (at (from + n)) 1 ≡ txd_is false
+    pub bits : (i n : ℕ) → i < format.size → (i + 1) * format.bit < n → n ≤ (i + 2) * format.bit → usart.pad (at (from + n)) 1 ≡ txd_is (is_set y i)
+    pub parity : (n : ℕ) → has_parity format.parity ≡ true → (format.size + 1) * format.bit < n → n ≤ (format.size + 2) * format.bit →
+        usart.pad (at (from + n)) 1 ≡ txd_is (parity_bit format.parity y)
+    pub stop : (n : ℕ) → (frame_bits format - format.stops) * format.bit < n → n ≤ frame_bits format * format.bit → usart.pad (at (from + n)) 1 ≡ txd_is true
+    -- the byte leaves in the last cycle, and none before
+    pub silent : (n : ℕ) → 0 < n → n < frame_bits format * format.bit → usart.sends (stepping usart acts levels u t (from + n)) (t + (from + n)) ≡ None
+    pub sent : usart.sends (ending format from) (t + last format from) ≡ Some y
+    -- up to it the frame does not set TXC
+    pub waits : (n : ℕ) → 0 < n → n ≤ frame_bits format * format.bit → (at (from + 1)).transmitter.txc ≡ false → (at (from + n)).transmitter.txc ≡ false
+    -- there TXC is set, if no byte waits
+    pub txc : (ending format from).transmitter.buffer ≡ None → (at (last format from + 1)).transmitter.txc ≡ true
+    pub ends : (ending format from).transmitter.buffer ≡ None → (at (last format from + 1)).transmitter.frame ≡ None
+    -- and else the frame of that byte begins, in the format that holds now
+    pub begins : (z : ℕ) → (ending format from).transmitter.buffer ≡ Some z →
+        (at (last format from + 1)).transmitter.frame ≡ Some (begun (format_of (ending format from)) (t + last format from) z)
