@@ -21,7 +21,7 @@ from page import page_of
 from picture import waves_svg
 from program import Refused, ShorterRuns, run
 from project import chips_of, diagram_of, displays_of, uno_of
-from serial_times import serial_times
+from serial_times import decided, readings
 from shorter import first_times, shown_times
 from wave import Waves, moved_names, read_wave
 
@@ -43,6 +43,8 @@ class Seen(NamedTuple):
     waves: Waves
     sent: bytes
     times: list
+    formats: list
+    others: list
     report: str
     states: list
     firsts: dict
@@ -106,8 +108,10 @@ def seen_of(given):
         end = min(end, cut)
     transmit = waves.waves[waves.of[waves.names.index(uno_of(diagram) + ".1")]]
     runs = ShorterRuns(given.folder, given.script, given.samples)
+    ways = decided(readings(transmit, sent, None if end == given.us * CYCLES_A_MICROSECOND else end), runs.sent)
+    formats, times = ways[0] if ways else ([], None)
     return Seen(given.title or os.path.basename(os.path.abspath(given.folder)), given.us * CYCLES_A_MICROSECOND, start, max(end, start + 1), diagram, chips, script,
-                waves, sent, serial_times(transmit, sent, None if end == given.us * CYCLES_A_MICROSECOND else end), report, shown_times(waves.waves, report, given.us, runs),
+                waves, sent, times, formats, [way.formats[0] for way in ways[1:]], report, shown_times(waves.waves, report, given.us, runs),
                 first_times(report, given.us, runs), left, given.note)
 
 

@@ -13,7 +13,7 @@ from wave import moved_names
 
 HERE = os.path.join(os.path.dirname(os.path.abspath(__file__)), "page")
 # In this order, since each uses those before it. README.md says what is in which.
-SCRIPTS = ["wave.js", "vcd.js", "bus.js", "notes.js", "run.js", "display.js", "text.js", "svg.js", "parts.js", "route.js", "board.js",
+SCRIPTS = ["wave.js", "vcd.js", "bus.js", "notes.js", "run.js", "display.js", "text.js", "svg.js", "parts.js", "route.js", "breadboard.js", "board.js",
            "rows.js", "plot.js", "waves.js", "frame.js", "controls.js", "look.js"]
 STYLES = ["board.css", "look.css"]
 STILL_ROWS = 24
@@ -57,7 +57,7 @@ def data_of(seen):
             last = last if time is None else time
     return {"title": seen.title, "cycles": seen.cycles, "from": seen.start, "to": seen.end, "diagram": seen.diagram, "chips": seen.chips,
             "script": seen.script, "names": seen.waves.names, "of": seen.waves.of, "counts": [len(wave) for wave in seen.waves.waves],
-            "serial": base64.b64encode(seen.sent).decode(), "times": steps, "report": seen.report, "states": seen.states,
+            "serial": base64.b64encode(seen.sent).decode(), "times": steps, "formats": seen.formats, "others": seen.others, "report": seen.report, "states": seen.states,
             "firsts": seen.firsts, "left": seen.left, "made": seen.made}
 
 

@@ -77,9 +77,17 @@ class ShorterRuns:
 
     def report(self, us):
         """The report after `us` microseconds; None where no run is left."""
+        return self.both(us)[1]
+
+    def sent(self, us):
+        """How many bytes were sent after `us` microseconds; None where no run is left."""
+        sent = self.both(us)[0]
+        return None if sent is None else len(sent)
+
+    def both(self, us):
         if us not in self.known:
             if self.left == 0:
-                return None
+                return None, None
             self.left -= 1
-            self.known[us] = run(self.folder, us, self.script, quiet=True)[1]
+            self.known[us] = run(self.folder, us, self.script, quiet=True)[:2]
         return self.known[us]

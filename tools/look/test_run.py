@@ -17,7 +17,7 @@ from packing import packed, unpacked
 from page import SCRIPTS, STYLES, page_of, script_of, style_of
 from picture import waves_svg
 from program import Refused, run
-from serial_times import serial_times
+from serial_times import FORMATS, decided, levels_of, readings
 from wave import level_at, moved_names, read_wave
 
 MANY = 1 << 40
@@ -86,8 +86,9 @@ def check_window(vcd, plain, us):
 
 def check_bytes(name, folder, script, waves, sent):
     """Each byte has a time, and a run that ends before it lacks the byte, one that ends after it has it."""
-    times = serial_times(waves.waves[waves.of[waves.names.index("uno.1")]], sent)
-    assert times is not None and len(times) == len(sent), f"{name}: the wave does not tell when bytes were sent"
+    ways = decided(readings(waves.waves[waves.of[waves.names.index("uno.1")]], sent), lambda us: len(run(folder, us, script)[0]))
+    assert len(ways) == 1 and len(ways[0].times) == len(sent), f"{name}: the wave does not tell when bytes were sent"
+    times = ways[0].times
     for i in sorted({0, len(sent) // 2, len(sent) - 1}) if sent else []:
         before, after = max(times[i] // 16, 1), times[i] // 16 + 1
         assert len(run(folder, before, script)[0]) <= i, (name, i)
@@ -129,11 +130,10 @@ def sha256(text):
 
 # ---- A line of bytes at two speeds
 
-def frame(start, byte, bit):
-    """The changes of a frame of eight bits at level 1 before and after it."""
-    levels = [0] + [byte >> k & 1 for k in range(8)] + [1]
+def frame(start, byte, bit, form="8N1"):
+    """The changes of a frame at level 1 before and after it."""
     edges, last = [], 1
-    for k, level in enumerate(levels):
+    for k, level in enumerate(levels_of(byte, form)):
         if level != last:
             edges.append(start + k * bit << 2 | level)
         last = level
@@ -147,10 +147,39 @@ def check_two_speeds():
         wave.extend(frame(start, byte, bit))
         ends.append(start + 10 * bit - 1)
         start += 10 * bit + (i % 3) * 700
-    assert serial_times(wave, sent) == ends
-    assert serial_times(wave, b"Hallo") is None
-    assert serial_times(array("I", (1,)), b"x") is None and serial_times(array("I", (1,)), b"") == []
+    assert [way.times for way in readings(wave, sent)] == [ends]
+    assert readings(wave, b"Hallo") == [] and readings(array("I", (1,)), b"x") == [] and readings(array("I", (1,)), b"")[0].times == []
     assert level_at(wave, 1000) == 0 and level_at(wave, 999) == 1
+
+
+def sent_in(form, sent, bit, pause):
+    """(the wave of bytes in a format, with `pause(i)` cycles after the i-th, and their last cycles)"""
+    wave, start, ends = array("I", (1,)), 1000, []
+    for i, byte in enumerate(sent):
+        wave.extend(frame(start, byte, bit, form))
+        ends.append(start + len(levels_of(byte, form)) * bit - 1)
+        start = ends[-1] + 1 + pause(i)
+    return wave, ends
+
+
+def check_formats():
+    """In each format bytes have their times: at once where frames follow one another without a pause, else a shorter run decides.
+    Another use of the pin before them, and another format after them, are no hindrance."""
+    for form in FORMATS:
+        sent = bytes((37 * k + 5) % (1 << int(form[0])) for k in range(50))
+        for bit in (8, 136, 1664):
+            wave, ends = sent_in(form, sent, bit, lambda i: 0)
+            assert readings(wave, sent)[0].times == ends, (form, bit)
+            wave, ends = sent_in(form, sent, bit, lambda i: 333 + i % 3 * 700)
+            for asked in (ends, [end + bit for end in ends], [end - bit for end in ends]):
+                ways = decided(readings(wave, sent), lambda us, asked=asked: sum(end < 16 * us for end in asked))
+                assert asked is not ends or [way.times for way in ways] == [ends], (form, bit, ways)
+            assert ends in [way.times for way in decided(readings(wave, sent), lambda us: None)]
+    first, ends = sent_in("8E2", b"Hello", 136, lambda i: 0)
+    after = [edge + (200_000 << 2) for edge in sent_in("7O1", b"World", 1664, lambda i: 0)[0][1:]]
+    other = array("I", [1, 400 << 2, 407 << 2 | 1, 500 << 2, 555 << 2 | 1]) + first[1:] + array("I", after)
+    way, = readings(other, b"HelloWorld")
+    assert way.times[:5] == ends and way.times[5] == 201_000 + 10 * 1664 - 1 and way.formats == [], way
 
 
 def check_part_of_times():
@@ -247,7 +276,7 @@ def everything():
     bad = 0
     jobs = [(f"look, wave of {name}", check_example, (name,)) for name in examples.names()]
     jobs += [(f"look, page of {name}", check_page, (name,)) for name in ("button", "chip-echo", "lcd-i2c", "seven-segment")]
-    jobs += [("look, bytes at two speeds", check_two_speeds, ()), ("look, bytes of a part of a run", check_part_of_times, ()), ("look, what a run leaves out", check_left_out, ())]
+    jobs += [("look, bytes at two speeds", check_two_speeds, ()), ("look, bytes in each format", check_formats, ()), ("look, bytes of a part of a run", check_part_of_times, ()), ("look, what a run leaves out", check_left_out, ())]
     with concurrent.futures.ThreadPoolExecutor(4) as pool:
         for name, future in [(name, pool.submit(call, *values)) for name, call, values in jobs]:
             try:

@@ -16,10 +16,13 @@ from look import arguments, seen_of
 from packing import packed
 from page import data_of
 from program import Refused, run
-from test_run import hex_text, make_leaving, plain_reading
+from serial_times import FORMATS, readings
+from test_run import hex_text, make_leaving, plain_reading, sent_in
 
 sys.path.insert(1, os.path.join(examples.HERE, "..", "peers"))
+sys.path.append(os.path.join(examples.HERE, "..", "wokwi"))
 import boards  # noqa: E402
+import diagram as diagrams  # noqa: E402
 
 PARTS_PAGE = os.path.join(examples.HERE, "..", "..", "docs", "PARTS.md")
 SUPPLIES = {"A4.2", "A5.2", "GND.1", "GND.2", "GND.3", "5V", "3.3V", "VIN", "IOREF", "AREF", "RESET"}
@@ -47,8 +50,8 @@ READS = """{
       rows[name] = edges(run.wave(name));
       if (JSON.stringify(edges(page.wave(name))) !== JSON.stringify(rows[name])) throw new Error(`${g.name}: ${name} is packed otherwise`);
     }
-    const wave = run.wave('uno.1'), bit = run.serial.times && run.serial.times.length ? bitTimeOf(wave, run.serial.times) : null;
-    out.push({ rows, cycles: run.cycles, times: run.serial.times, pageTimes: page.serial.times, sent: bit ? uartFrames(wave, bit, run.to).map(f => f.value) : null,
+    const wave = run.wave('uno.1'), [format] = run.serial.formats, bit = format ? bitTimeOf(wave, run.serial.times, formatOf(format).length) : null;
+    out.push({ rows, cycles: run.cycles, times: run.serial.times, pageTimes: page.serial.times, sent: bit ? uartFrames(wave, bit, run.to, format).map(f => f.value) : null,
       decoders: suggestedDecoders(run).map(d => ({ ...d, frames: framesOf(run, d).map(f => [f.kind, f.text]) })), high: run.names.slice(0, 20).map(n => [n, highShare(run.wave(n), 0, run.cycles)]) });
   }
   return out;
@@ -257,8 +260,28 @@ def check_formats():
         assert all(to - start == length and start == 100 + length * k for k, (start, to, _, _) in enumerate(frames)), format_
         assert not any(text.endswith("parity") for _, _, _, text in frames)
     times, levels, end = uart_row([0x41, 0x43], 16, "8E1")
+    check_readings()
     wrong = evaluated("uartFrames(makeWave(Uint32Array.from(given[0]), Uint8Array.from(given[1])), 16, given[2] + 1, '8O1').map(f => f.text)", [times, levels, end])
     assert wrong == ["A parity", "C parity"], wrong
+
+
+def check_readings():
+    """The scripts find the same formats and times of sent bytes as serial_times.py, in each format, with pauses and without; and the
+    times in each of the formats that fit."""
+    cases = []
+    for format_ in FORMATS:
+        sent = bytes((37 * k + 5) % (1 << int(format_[0])) for k in range(30))
+        for pause in (0, 450):
+            wave, _ = sent_in(format_, sent, 136, lambda i, pause=pause: pause * (i % 4))
+            cases.append((wave, sent, readings(wave, sent)))
+    cases += [(wave, sent + b"?", []) for wave, sent, _ in cases[:2]]
+    given = [[[edge >> 2 for edge in wave], [edge & 3 for edge in wave], list(sent), max((way.times[20] for way in ways), default=0)] for wave, sent, ways in cases]
+    found = evaluated("given.map(([t, v, sent, until]) => { const wave = makeWave(Uint32Array.from(t), Uint8Array.from(v)), bytes = Uint8Array.from(sent), ways = sentReadings(wave, bytes);"
+                      " return [ways.map(way => [way.formats, way.times]), ways.map(way => timesIn(wave, bytes, way.formats[0], until + 1))]; })", given)
+    for (_, sent, ways), (same, parts) in zip(cases, found):
+        assert same == [list(way) for way in ways], (sent, same, ways)
+        for way, part in zip(ways, parts):
+            assert part[:20] == way.times[:20] and part[-1] is None and len(part) == len(sent), (way, part)
 
 
 # ---- The parts
@@ -310,6 +333,37 @@ def check_parts():
     places = evaluated("given.map(([type, attrs]) => { const p = partOf({ type, id: 'p', attrs }, {}), e = entryOf(p, []); return [e.size, Object.values(pinsOf(e, p))]; })", cases)
     for (kind, _), ((width, height), spots) in zip(cases, places):
         assert all(-1 <= x <= width + 1 and -1 <= y <= height + 1 for x, y in spots), f"{kind}: a pin lies outside"
+
+
+# ---- Breadboards
+
+PLUGGED = {"version": 1, "parts": [{"type": "wokwi-arduino-uno", "id": "uno", "top": 300, "attrs": {}}, {"type": "wokwi-breadboard-half", "id": "bb", "top": -20, "left": -77, "attrs": {}},
+                                   {"type": "wokwi-led", "id": "led", "attrs": {}}, {"type": "wokwi-servo", "id": "arm", "left": 400, "attrs": {}}],
+           "connections": [["led:A", "bb:10t.c", "", ["$bb"]], ["led:C", "bb:9t.c", "", ["$bb"]], ["bb:10t.a", "uno:13", "green", ["v0"]], ["bb:9t.e", "bb:9b.f", "black", ["v0"]],
+                           ["bb:9b.j", "bb:bn.4", "black", ["v0"]], ["bb:bn.25", "uno:GND.1", "black", ["v0"]], ["bb:20t.a", "bb:21t.a", "red", []], ["arm:PWM", "bb:10t.d", "orange", ["v0"]]]}
+DRAWN = """{ const run = makeRun({ title: 'x', cycles: 99, diagram: given, names: ['uno.13', 'led.A', 'led.C'], of: [0, 0, 1], waves: [makeWave([0, 50], [0, 1]), makeWave([0], [0])] }), board = drawBoard(run);
+  board.update({ t: 60, since: 60 });
+  return boardPicture(board, ''); }"""
+HOLES = """{ const run = makeRun({ title: 'x', cycles: 99, diagram: given, names: [], of: [], waves: [] }), entry = breadboardOf({ id: 'bb', columns: 30, rail: 25 }, run.wires), { pins } = entryOf(run.parts[1], []), { A, C } = pins(run.parts[1]);
+  const [board] = run.scenery, { left, top } = meeting(board, entry, run.wires, new Map([['led:A', A], ['led:C', C]])), far = meeting(board, entry, run.wires, new Map([['led:A', A], ['led:C', [C[0], 99]]]));
+  return [entry.pins, [left + entry.pins['10t.c'][0], top + entry.pins['10t.c'][1]], [far.left, far.top]]; }"""
+
+
+def check_breadboards():
+    """The board that lower.py kept is drawn with its holes and the editor's wires, each at its net's level; a plugged pin lies on its hole.
+    A drawing that was made of other wires is not taken."""
+    made = diagrams.Lowering(PLUGGED, {}).outcome()
+    changed = dict(made, connections=[*made["connections"], ["uno:2", "led:A", "", []]])
+    text, plain, (pins, hole, far) = evaluated(DRAWN, made), evaluated(DRAWN, changed), evaluated(HOLES, made)
+    root = ET.fromstring(text)
+    names = "{http://www.w3.org/2000/svg}"
+    states = {element.find(names + "title").text: element.get("class") for element in root.iter() if element.find(names + "title") is not None and element.get("class")}
+    assert states["bb:10t.a – uno:13: 1"] == "wire v1" and states["bb:bn.25: 0"] == "pin v0" and states["bb:20t.a – bb:21t.a: z, nothing drives it"] == "wire vz", states
+    assert states["arm:PWM – bb:10t.d: 1"] == "wire v1" and "arm: wokwi-servo, which was left out" in states and not any("led:A – bb" in title for title in states)
+    holes = next(element for element in root.iter(names + "path") if element.get("class") == "holes").get("d")
+    assert holes.count("M") == 30 * 10 + 4 * 25 and "breadboard" not in plain and "bb:" not in plain
+    assert [round(x, 6) for x in hole] == [25, 42] and far == [-77, -20]
+    assert [[round(pins[one][k] - pins[other][k], 6) for k in (0, 1)] for one, other in (("10t.c", "9t.c"), ("9b.f", "9t.e"), ("9b.j", "9t.e"))] == [[9.6, 0], [0, 28.8], [0, 67.2]]
 
 
 # ---- Geometry
@@ -398,7 +452,7 @@ def check_notes():
 def everything():
     bad, decoders = 0, {}
     steps = [("every edge and byte in the scripts", lambda: decoders.update(check_reads())), ("frames", lambda: check_frames(decoders)), ("parts", check_parts),
-             ("geometry", check_geometry), ("boards", check_board), ("notes", check_notes), ("displays", check_showing), ("formats of UART", check_formats), ("what an OLED is told", check_writes), ("how oled-hello begins", check_beginning),
+             ("breadboards", check_breadboards), ("geometry", check_geometry), ("boards", check_board), ("notes", check_notes), ("displays", check_showing), ("formats of UART", check_formats), ("what an OLED is told", check_writes), ("how oled-hello begins", check_beginning),
              ("OLEDs on broken frames", check_broken_frames), ("oled-hello at fifty times", lambda: check_oled("oled-hello")), ("lcd-hello at fifty times", lambda: check_display("lcd-hello")), ("lcd-i2c at fifty times", lambda: check_display("lcd-i2c"))]
     for name, step in steps:
         try:

@@ -62,9 +62,15 @@ class Lowering:
         self.ends = {}  # (part, pin): the ends that are that pin now
         self.pins = {}  # part: its pins, or None where any name is one
         self.strips = {}  # part: its columns and the length of its rails
+        self.reshaped = set()  # parts that are drawn as others, with their pins elsewhere
+        self.scenery = []  # what the editor drew and the new diagram has no part for
+        self.drawn = []  # the editor's wires, as a page draws them
+        self.inner = []  # wires between the parts that one part has become
+        self.level = {}  # of each net, one end that is on it
         self.nets = Joined()
         self.ids = {part["id"] for part in diagram["parts"]}
         self.begin()
+        self.wires.extend(self.inner)
         self.connect()
 
     # ---- parts
@@ -91,8 +97,10 @@ class Lowering:
                 self.keep(part, attrs, self.types["simulated"][kind])
             elif kind in self.types["breadboards"]:
                 self.strips[name] = self.types["breadboards"][kind]
+                self.scenery.append(dict(self.placed(part, kind, name), **self.strips[name]))
             elif kind in self.types["left out"]:
                 self.leave_out(name, kind)
+                self.scenery.append(self.placed(part, kind, name))
             elif kind.startswith("chip-"):
                 self.keep_chip(part, attrs)
             else:
@@ -109,12 +117,12 @@ class Lowering:
         self.ids.add(made)
         return made
 
+    def placed(self, part, kind, name):
+        """A part of a kind and a name where the old one is."""
+        return {"type": kind, "id": name, **{key: part[key] for key in ("top", "left", "rotate", "hide") if key in part}}
+
     def place(self, part, kind, name, attrs):
-        """Puts a part in the new diagram where the old one is."""
-        made = {"type": kind, "id": name}
-        made.update({key: part[key] for key in ("top", "left", "rotate", "hide") if key in part})
-        made["attrs"] = attrs
-        self.parts.append(made)
+        self.parts.append(dict(self.placed(part, kind, name), attrs=attrs))
 
     def keep(self, part, attrs, rule):
         name, kind = part["id"], part["type"]
@@ -155,6 +163,7 @@ class Lowering:
     def leave_out(self, name, kind):
         rule = self.types["left out"][kind]
         self.pins[name] = None
+        self.reshaped.add(name)
         self.notes.append(f"{name} ({kind}) {rule['why']}, and is left out; its wires stay")
         for group in rule.get("joined", []):
             for pin in group[1:]:
@@ -175,6 +184,7 @@ class Lowering:
 
     def replace(self, part, attrs, rule):
         name, kind = part["id"], part["type"]
+        self.reshaped.add(name)
         self.pins[name] = set(rule.get("other pins", []))  # those that nothing here is on
         names = {}
         for piece in rule["as"]:
@@ -193,7 +203,7 @@ class Lowering:
             self.place(part, self.piece_type(piece, rule), made, given)
         for one, other in rule.get("wires", []):
             both = [names[end.split(":")[0]] + ":" + end.split(":")[1] for end in (one, other)]
-            self.wires.append([*both, "", []])
+            self.inner.append([*both, "", []])
         pieces = ", ".join(f"{names[piece['id']]} ({piece['type']})" for piece in rule["as"])
         if rule["as"][0]["type"] != kind or "says" in rule:
             self.notes.append(f"{name} ({kind}) is {pieces}" + (f": it {rule['says']}" if "says" in rule else ""))
@@ -250,24 +260,55 @@ class Lowering:
             order.extend(both)
             ends = [self.ends.get(node, []) for node in both]
             if [len(it) for it in ends] == [1, 1]:
-                self.wires.append([ends[0][0], ends[1][0], *wire[2:]])
+                self.wires.append([ends[0][0], ends[1][0], *self.drawing_of(wire, both)])
                 groups.join(ends[0][0], ends[1][0])
+            self.draw(wire, both)
             self.nets.join(*both)
             colour = wire[2] if len(wire) > 2 and isinstance(wire[2], str) else ""
             colours.setdefault(both[0], colour)
             colours.setdefault(both[1], colour)
+        self.draw_pieces(dict.fromkeys(order), colours)
         nets = {}
         for node in dict.fromkeys(order):
             nets.setdefault(self.nets.find(node), []).append(node)
-        for nodes in nets.values():
+        for net, nodes in nets.items():
             first = None
             colour = next((colours[node] for node in nodes if colours[node]), "")
             for end in (end for node in nodes for end in self.ends.get(node, [])):
                 if first is None:
-                    first = end
+                    first = self.level[net] = end
                 elif groups.find(first) != groups.find(end):
                     self.wires.append([first, end, colour, []])
                     groups.join(first, end)
+
+    # ---- the drawing
+
+    def drawing_of(self, wire, both):
+        """A wire's colour and steps; those of a wire to a part that is drawn as another lead past its pins."""
+        return [*wire[2:3], []] if len(wire) > 3 and self.reshaped & {node[0] for node in both} else wire[2:]
+
+    def draw(self, wire, both):
+        """Keeps how the editor drew a wire. An end in a hole, or on a part that is left out, stays what it is."""
+        stays = lambda node: node[0] in self.strips or self.pins[node[0]] is None
+        ends = [[end] if stays(node) else self.ends.get(node, []) for node, end in zip(both, wire[:2])]
+        if all(ends):
+            is_plugged = len(wire) > 3 and wire[3] == ["$bb"]
+            colour, steps = [*(wire[2:] if is_plugged else self.drawing_of(wire, both)), "", []][:2]
+            self.drawn.append((ends[0][0], ends[1][0], colour, steps, both[0]))
+
+    def draw_pieces(self, nodes, colours):
+        """The wires between the parts that one part has become."""
+        for node in nodes:
+            first, *others = self.ends.get(node, [""])
+            self.drawn.extend((first, other, colours[node], [], node) for other in others)
+
+    def drawing(self):
+        """What a page draws in place of the new diagram's wires: what is no part of it, and the editor's wires, each with the
+        pin whose level it has, or "" where there is none."""
+        level = lambda node: self.level.get(self.nets.find(node), "").replace(":", ".", 1)
+        wires = [[one, other, colour, steps, level(node)] for one, other, colour, steps, node in self.drawn]
+        wires += [[*wire, wire[0].replace(":", ".", 1)] for wire in self.inner]
+        return {"of": mark_of(self.wires), "parts": self.scenery, "connections": wires}
 
     # ---- the outcome
 
@@ -281,7 +322,17 @@ class Lowering:
         for count, most, what in ((len(kinds), MOST_PARTS, "parts"), (len(self.wires), MOST_WIRES, "connections"), (chips, MOST_CHIPS, "parts that are chips")):
             if count > most:
                 self.faults.append(f"there are {count} {what}, and {most} is the most")
-        return {"version": 1, "author": self.diagram.get("author", ""), "editor": "wokwi", "parts": self.parts, "connections": self.wires, "dependencies": {}}
+        made = {"version": 1, "author": self.diagram.get("author", ""), "editor": "wokwi", "parts": self.parts, "connections": self.wires, "dependencies": {}}
+        drawn = self.drawing() if self.scenery else self.diagram.get("drawn")
+        return dict(made, drawn=drawn) if drawn else made
+
+
+def mark_of(connections):
+    """A number that tells whether a diagram still has the wires that a drawing was made with: FNV-1a, 32 bits."""
+    mark = 0x811C9DC5
+    for byte in "\n".join(f"{wire[0]} {wire[1]}" for wire in connections).encode("utf-8", "replace"):
+        mark = (mark ^ byte) * 0x01000193 & 0xFFFFFFFF
+    return mark
 
 
 def needs_lowering(diagram, types=None):
@@ -310,4 +361,6 @@ def text_of(diagram):
         rows.extend(f"    {line(it)}," for it in diagram[name])
         rows[-1] = rows[-1].rstrip(",") if diagram[name] else rows[-1]
         rows.append("  ],")
+    if "drawn" in diagram:
+        rows.append(f'  "drawn": {line(diagram["drawn"])},')
     return "\n".join([*rows, '  "dependencies": {}', "}"]) + "\n"

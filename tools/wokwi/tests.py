@@ -223,6 +223,28 @@ class Parts(unittest.TestCase):
         for value, fault in cases:
             self.assertEqual(lowered(value)[0].faults, [fault])
 
+    def test_the_drawing_keeps_breadboards_and_the_editors_wires(self):
+        value = uno(part("wokwi-rgb-led", "rgb"), part("wokwi-breadboard-half", "bb"), part("wokwi-servo", "arm"))
+        value["parts"][2].update(top=-20, left=7.5)
+        value["connections"] = [["uno:9", "bb:1t.a", "green", ["v5"]], ["bb:1t.b", "rgb:R", "", ["$bb"]], ["rgb:COM", "bb:tn.3", "black", ["h4", "v0"]],
+                                ["bb:tn.1", "uno:GND.1", "black", []], ["arm:PWM", "bb:1t.c", "gold", ["v9"]], ["bb:30b.f", "bb:30b.g", "red", ["v0"]], ["uno:1", "$serialMonitor:RX", "", []]]
+        _, made = lowered(value)
+        self.assertEqual(made["drawn"]["parts"], [{"type": "wokwi-breadboard-half", "id": "bb", "top": -20, "left": 7.5, "columns": 30, "rail": 25}, {"type": "wokwi-servo", "id": "arm"}])
+        self.assertEqual(made["drawn"]["connections"], [
+            ["uno:9", "bb:1t.a", "green", ["v5"], "uno.9"], ["bb:1t.b", "rgb-r:A", "", ["$bb"], "uno.9"], ["rgb-r:C", "bb:tn.3", "black", [], "rgb-r.C"],
+            ["bb:tn.1", "uno:GND.1", "black", [], "rgb-r.C"], ["arm:PWM", "bb:1t.c", "gold", [], "uno.9"], ["bb:30b.f", "bb:30b.g", "red", ["v0"], ""],
+            ["rgb-r:C", "rgb-g:C", "black", [], "rgb-r.C"], ["rgb-r:C", "rgb-b:C", "black", [], "rgb-r.C"]])
+        self.assertEqual(made["drawn"]["of"], diagrams.mark_of(made["connections"]))
+        self.assertNotEqual(made["drawn"]["of"], diagrams.mark_of(made["connections"][1:]))
+        self.assertEqual(json.loads(diagrams.text_of(made)), made)
+        self.assertNotIn("drawn", lowered(uno(part("wokwi-rgb-led", "rgb"), wires=[("uno:9", "rgb:R")]))[1])
+
+    def test_steps_that_belong_to_another_drawing_go(self):
+        value = uno(part("wokwi-arduino-nano", "nano"), part("wokwi-led", "led"), part("wokwi-mpu6050", "imu"))
+        del value["parts"][0]
+        value["connections"] = [["nano:13", "led:A", "green", ["v7"]], ["imu:VCC", "led:C", "red", ["v7"]], ["led:A", "led:C", "blue", ["h3"]], ["imu:INT", "nano:2", "gray"]]
+        self.assertEqual([wire[2:] for wire in lowered(value)[1]["connections"]], [["green", []], ["red", []], ["blue", ["h3"]], ["gray"]])
+
     def test_lowering_what_is_lowered_changes_nothing(self):
         value = uno(part("wokwi-rgb-led", "rgb"), part("wokwi-breadboard", "bb"), wires=[("uno:9", "bb:1t.a"), ("bb:1t.b", "rgb:R"), ("rgb:COM", "uno:GND.1")])
         _, once = lowered(value)

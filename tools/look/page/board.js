@@ -20,10 +20,12 @@ function pinState(run, name, { t, moving = t }) {
 }
 
 function drawBoard(run, on = {}) {
-  const layers = { uno: svg('g'), wires: svg('g', { class: 'wires' }), parts: svg('g'), shine: svg('g', { class: 'shine', 'aria-hidden': 'true' }), pins: svg('g'), names: svg('g') };
+  const layers = { boards: svg('g'), uno: svg('g'), wires: svg('g', { class: 'wires' }), parts: svg('g'), shine: svg('g', { class: 'shine', 'aria-hidden': 'true' }), pins: svg('g'), names: svg('g') };
   const element = svg('svg', { class: 'board', role: 'img', 'aria-label': `the board: ${run.parts.map(part => part.id).join(', ')}` });
-  const drawing = { run, on, layers, updates: [], tells: [], leads: [], spots: new Map(), boxes: new Map(), free: 0, box: [Infinity, Infinity, -Infinity, -Infinity] };
-  for (const part of apart(run.parts, run.wires)) drawPart(drawing, part);
+  const drawing = { run, on, layers, updates: [], tells: [], leads: [], spots: new Map(), boxes: new Map(), free: 0, levels: new Map(), box: [Infinity, Infinity, -Infinity, -Infinity] };
+  for (const [one, other, , , pin] of run.wires) if (typeof pin === 'string') for (const end of [one, other]) drawing.levels.set(end, pin);
+  for (const part of apart(run.parts, run.wires)) drawPart(drawing, part, entryOf(part, run.wires));
+  for (const part of run.scenery) drawScenery(drawing, part);
   for (const wire of run.wires) drawWire(drawing, wire);
   element.append(...Object.values(layers));
   const [x0, y0, x1, y1] = drawing.box[0] < Infinity ? drawing.box : [0, 0, 100, 100], edge = 14;
@@ -60,21 +62,28 @@ function widen(drawing, [x, y]) {
   box[0] = Math.min(box[0], x); box[1] = Math.min(box[1], y); box[2] = Math.max(box[2], x); box[3] = Math.max(box[3], y);
 }
 
-function drawPart(drawing, part) {
-  const { run, on, layers } = drawing, entry = entryOf(part, run.wires), [width, height] = entry.size, place = placeOf(part, entry.size);
-  const g = svg('g', { class: 'part', transform: `translate(${part.left} ${part.top}) rotate(${part.rotate} ${width / 2} ${height / 2})` });
+// A breadboard, or a part that the run is without: it shows nothing by itself.
+function drawScenery(drawing, part) {
+  const { run } = drawing, entry = part.columns ? breadboardOf(part, run.wires) : entryOf(part, run.wires);
+  drawPart(drawing, part.columns ? meeting(part, entry, run.wires, drawing.spots) : part, { ...entry, tell: undefined }, part.columns ? 'board' : 'left');
+}
+
+// `scenery` is 'board' for a breadboard, 'left' for a part that was left out.
+function drawPart(drawing, part, entry, scenery = '') {
+  const { run, on, layers } = drawing, [width, height] = entry.size, place = placeOf(part, entry.size);
+  const g = svg('g', { class: scenery === 'left' ? 'part left-out' : 'part', transform: `translate(${part.left} ${part.top}) rotate(${part.rotate} ${width / 2} ${height / 2})` });
   const update = entry.draw(g, part, run), corners = [[0, 0], [width, 0], [0, height], [width, height]].map(place);
   if (update) drawing.updates.push(update);
   if (entry.tell) drawing.tells.push([part.id, moment => entry.tell(part, run, moment)]);
-  g.append(svg('title', {}, `${part.id}: ${part.type}${entry.note ? ', ' + entry.note(part) : ''}`));
-  g.addEventListener('click', () => on.part && on.part(part.id));
+  g.append(svg('title', {}, `${part.id}: ${part.type}${entry.note ? ', ' + entry.note(part) : ''}${scenery === 'left' ? ', which was left out' : ''}`));
+  if (!scenery) g.addEventListener('click', () => on.part && on.part(part.id));
   const isUno = part.type === 'wokwi-arduino-uno';
-  if (!part.hidden) (isUno ? layers.uno : layers.parts).append(g);
+  if (!part.hidden) (scenery === 'board' ? layers.boards : isUno ? layers.uno : layers.parts).append(g);
   corners.forEach(corner => widen(drawing, corner));
   if (isUno) widen(drawing, place([-14, 50]));
   if (part.type === 'wokwi-text') widen(drawing, place([Math.max(...String(part.attrs.text || '').split('\n').map(line => line.length)) * 7.4, 16.5 * String(part.attrs.text || '').split('\n').length]));
   if (entry.named !== false) drawName(drawing, part, corners);
-  if (!part.hidden) drawing.boxes.set(part.id, boxOfPoints(corners));
+  if (!part.hidden && scenery !== 'board') drawing.boxes.set(part.id, boxOfPoints(corners));
   for (const [name, spot] of Object.entries(pinsOf(entry, part))) drawPin(drawing, part, name, place(spot));
 }
 
@@ -85,28 +94,30 @@ function drawName(drawing, part, corners) {
 }
 
 function drawPin(drawing, part, name, [cx, cy]) {
-  const pin = pinOf(part, name), dot = circle(cx, cy, 2.5), tip = svg('title');
-  drawing.spots.set(`${part.id}:${name}`, [cx, cy]);
+  const end = `${part.id}:${name}`, pin = part.isScenery ? drawing.levels.get(end) || '' : pinOf(part, name), dot = circle(cx, cy, 2.5), tip = svg('title');
+  drawing.spots.set(end, [cx, cy]);
   dot.append(tip);
-  dot.addEventListener('click', () => drawing.on.pin && drawing.on.pin(pin));
+  dot.addEventListener('click', () => pin && drawing.on.pin && drawing.on.pin(pin));
   drawing.layers.pins.append(dot);
-  drawing.leads.push({ element: dot, pin, tip, kind: 'pin' });
+  drawing.leads.push({ element: dot, pin, tip, kind: 'pin', ends: part.isScenery ? end : '' });
 }
 
 // Pins that are nearer than this are joined by one corner where a wire has no hints.
 const NEAR = 30;
 
 // Wires lie over the Uno and under all other parts, so that these can be read, and shine through them.
-function drawWire(drawing, [first, second, color, hints]) {
+function drawWire(drawing, wire) {
+  const [first, second, color, hints, level] = wire;
   const from = drawing.spots.get(first), to = drawing.spots.get(second);
   if (!from || !to) return;         // a wire to the serial monitor
+  if (isPlug(wire)) { drawing.layers.boards.append(path(`M${from}L${to}`, { class: 'lead' })); return; }
   const steps = Array.isArray(hints) ? hints.filter(hint => typeof hint === 'string') : [], ends = [first, second].map(end => ({ at: drawing.spots.get(end), box: drawing.boxes.get(end.split(':')[0]) }));
   const isFree = !steps.length && ends.every(end => end.box) && Math.hypot(from[0] - to[0], from[1] - to[1]) > NEAR;
   const points = isFree ? freeRoute(...ends, [...drawing.boxes.values()], 7 + 3 * (drawing.free++ % 5)) : routeOf(from, to, steps), d = roundedPath(points);
-  const [pin] = [first, second].map(end => end.replace(':', '.')).filter(name => drawing.run.waveOf.has(name)).concat(first.replace(':', '.'));
+  const [pin] = typeof level === 'string' ? [level] : [first, second].map(end => end.replace(':', '.')).filter(name => drawing.run.waveOf.has(name)).concat(first.replace(':', '.'));
   const paint = colorOf(color, COLORS.gray), deep = rgb(paint).every(n => n < 90) ? ' deep' : '', g = svg('g'), tip = svg('title');
   g.append(path(d, { class: 'halo' }), path(d, { class: 'casing' }), path(d, { class: 'core', stroke: paint }), tip);
-  g.addEventListener('click', () => drawing.on.pin && drawing.on.pin(pin));
+  g.addEventListener('click', () => pin && drawing.on.pin && drawing.on.pin(pin));
   drawing.layers.wires.append(g);
   drawing.layers.shine.append(path(d, { class: 'core', stroke: paint }));
   points.forEach(point => widen(drawing, point));

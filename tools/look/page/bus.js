@@ -51,38 +51,99 @@ function uartFrames(wave, bit, end, format = USUAL_FORMAT) {
 }
 
 // How long a bit may be, in cycles: the commonest gaps between edges, divided by 1 to 9; an Uno's are multiples of 8.
-function bitTimes(wave) {
-  const count = new Map(), times = new Set();
-  for (let i = 1; i < Math.min(wave.t.length, 4000); i++) {
-    const gap = wave.t[i] - wave.t[i - 1];
-    count.set(gap, (count.get(gap) || 0) + 1);
-  }
-  for (const [gap] of [...count].sort((a, b) => b[1] - a[1]).slice(0, 6)) {
+function bitTimes({ t }) {
+  const count = new Map(), times = new Set(), many = 4000;
+  const add = (from, to) => { for (let i = Math.max(from, 1); i < Math.min(to, t.length); i++) { const gap = t[i] - t[i - 1]; count.set(gap, (count.get(gap) || 0) + 1); } };
+  add(1, many); add(t.length - many + 1, t.length);
+  for (const [gap] of [...count].sort((a, b) => b[1] - a[1]).slice(0, 8)) {
     for (let k = 1; k < 10; k++) if (gap % (8 * k) === 0) times.add(gap / k);
   }
   return [...times].sort((a, b) => b - a);
 }
 
-// The last cycle of the frame of each sent byte; null if the wave does not give exactly these bytes.
-function serialTimes(wave, sent) {
-  if (!sent.length) return [];
-  for (const bit of wave ? bitTimes(wave) : []) {
-    const frames = uartFrames(wave, bit, Infinity).slice(0, sent.length);
-    if (frames.length === sent.length && frames.every((f, i) => f.value === sent[i] && isExact(wave, f, bit))) return frames.map(f => f.to - 1);
+// ---- When the bytes that were sent were sent. Neither baud rate nor format is told anywhere, but the bytes are: each frame must have exactly the
+// changes of the next byte. tools/look/serial_times.py has the same, and asks shorter runs besides where frames of different lengths fit.
+
+const SENT_FORMATS = [8, 7, 6, 5].flatMap(bits => [...'NEO'].flatMap(parity => [1, 2].map(stops => `${bits}${parity}${stops}`)));
+const OTHER_FALLS = 64;             // that may come before the first frame, where pin 1 was used otherwise
+
+function frameLevels(byte, { bits, parity, stops }) {
+  const data = upTo(bits).map(k => byte >> k & 1), ones = data.reduce((sum, one) => sum + one, 0);
+  return byte >> bits ? null : [0, ...data, ...(parity === 'N' ? [] : [(ones + (parity === 'O' ? 1 : 0)) % 2]), ...Array(stops).fill(1)];
+}
+
+// Whether the change of index i and those after it are exactly those of a frame, up to its end.
+function isFrame({ t, v }, i, bit, levels) {
+  const start = t[i];
+  let last = 1;
+  for (let k = 0; k < levels.length; k++) {
+    if (levels[k] === last) continue;
+    if (i === t.length || t[i] !== start + k * bit || v[i] !== levels[k]) return false;
+    i++; last = levels[k];
   }
-  return null;
+  return i === t.length || t[i] >= start + levels.length * bit;
 }
 
-// Whether all changes within a frame are multiples of the bit time after its beginning; else the bit time is another.
-function isExact(wave, { from, to }, bit) {
-  for (let i = findEdge(wave, from) + 1; i < wave.t.length && wave.t[i] < to - bit / 2; i++) if ((wave.t[i] - from) % bit) return false;
-  return true;
+// The frames of `sent` from byte `done` on in one format, as far as one comes after another, from where `place` stands.
+function framesFrom(wave, place, sent, done, name, bits, until) {
+  const { t, v } = wave, format = formatOf(name), known = new Map(), times = [];
+  let { index, free, bit } = place, after = index, others = 0;
+  while (done + times.length < sent.length && index < t.length && others <= OTHER_FALLS) {
+    if (v[index] !== 0 || v[index - 1] !== 1 || t[index] < free) { index++; continue; }
+    const byte = sent[done + times.length], start = t[index];
+    if (!known.has(byte)) known.set(byte, frameLevels(byte, format));
+    const levels = known.get(byte), fits = one => start + format.length * one <= until && isFrame(wave, index, one, levels);
+    if (!levels) break;
+    if (!(bit && fits(bit))) {
+      const found = bits.find(fits);
+      if (!found && (times.length || free)) break;
+      if (!found) { others++; index++; continue; }
+      bit = found;
+    }
+    after = ++index; free = start + format.length * bit;
+    times.push(free - 1);
+  }
+  return { times, index: after, free, bit, others };
 }
 
-// The bit time of a pin on which bytes end at `times`: each frame is ten bits long and begins with a fall.
-function bitTimeOf(wave, times) {
+// [{formats, times}, ..]: how the wave gives the bytes, the likeliest way first, with each byte's last cycle; none if it does not give exactly these.
+function sentReadings(wave, sent) {
+  const bits = bitTimes(wave), whole = found => found.times.length === sent.length;
+  let place = { index: 1, free: 0, bit: 0 }, times = [], formats = [];
+  while (times.length < sent.length) {
+    const tries = new Map();
+    for (const name of SENT_FORMATS) {
+      const { length } = formatOf(name), isKnown = [...tries].some(([other, found]) => whole(found) && formatOf(other).length === length);
+      if (!isKnown) tries.set(name, framesFrom(wave, place, sent, times.length, name, bits, Infinity));
+    }
+    const better = (a, b) => a.times.length - b.times.length || b.others - a.others, best = [...tries.values()].reduce((a, b) => better(b, a) > 0 ? b : a);
+    if (!best.times.length) return [];
+    const ways = waysOf(wave, [...tries].filter(([, found]) => better(found, best) === 0));
+    if (whole(best)) return ways;
+    place = tries.get(ways[0].formats[0]); formats = times.length ? [] : ways[0].formats; times = [...times, ...place.times];
+  }
+  return [{ formats, times }];
+}
+
+// Those with equal times as one; first those in which frames follow one another without a pause.
+function waysOf(wave, fitting) {
+  const ways = new Map(), falls = new Set();
+  for (const [name, { times }] of fitting) ways.set(times.join(), { times, formats: [...(ways.get(times.join())?.formats || []), name] });
+  if (ways.size > 1) wave.t.forEach((t, i) => { if (wave.v[i] === 0) falls.add(t); });
+  const atOnce = ({ times }) => times.reduce((sum, t) => sum + (falls.has(t + 1) ? 1 : 0), 0);
+  return [...ways.values()].map(way => [atOnce(way), way]).sort((a, b) => b[0] - a[0]).map(([, way]) => way);
+}
+
+// The times of bytes in one format, of a wave that is kept up to cycle `until`; null for those after it.
+function timesIn(wave, sent, name, until) {
+  const { times } = framesFrom(wave, { index: 1, free: 0, bit: 0 }, sent, 0, name, bitTimes(wave), until);
+  return [...times, ...Array(sent.length - times.length).fill(null)];
+}
+
+// The bit time of a pin on which bytes end at `times`, in frames of `length` bits that begin with a fall.
+function bitTimeOf(wave, times, length = 10) {
   return bitTimes(wave).find(bit => times.slice(0, 50).every(t => {
-    const start = t + 1 - 10 * bit, i = findEdge(wave, start);
+    const start = t + 1 - length * bit, i = findEdge(wave, start);
     return i > 0 && wave.t[i] === start && wave.v[i] === 0;
   })) || null;
 }

@@ -27,14 +27,15 @@ function makeLook(host, { keys = true, hash = false, on = {} } = {}) {
 function buildLook(look) {
   const parts = look.elements = {
     title: make('h1'), facts: make('span', { className: 'facts' }), key: makeKey(), left: make('div', { className: 'left-out', role: 'status' }), made: make('details', { className: 'made' }),
-    now: make('div', { className: 'now', tabIndex: 0, role: 'group', 'aria-label': 'parts at the cursor' }), before: make('span'), after: make('span', { className: 'later' }), sentNote: make('span', { className: 'dim' }), report: make('pre', { tabIndex: 0 }),
+    now: make('div', { className: 'now', tabIndex: 0, role: 'group', 'aria-label': 'parts at the cursor' }), before: make('span'), after: make('span', { className: 'later' }), sentNote: make('span', { className: 'dim' }), sentAs: make('select', { 'aria-label': 'format of the frames', title: 'the wave fits frames of these formats, which end at different times' }), report: make('pre', { tabIndex: 0 }),
     a: make('output', { className: 'at-a' }), b: make('output', { className: 'at-b' }), gap: make('output'), heard: make('output', { className: 'heard', 'aria-live': 'polite' }),
   };
   parts.sent = make('pre', { className: 'sent', tabIndex: 0, title: 'a click on a character goes to the time when it was sent' }, parts.before, parts.after);
   parts.sent.addEventListener('click', event => clickedByte(look, event));
+  parts.sentAs.addEventListener('change', () => look.readAs(parts.sentAs.value));
   look.frame = makeBoardFrame(); look.bar = makeBar(look); look.list = makeRowList(look); look.finder = makeFinder(look);
   look.pane = makeWavePane({ cursor: t => look.go(t, false), second: t => look.second(t), range: (from, to) => look.range(from, to), pick: key => look.pick(key), fold: id => look.fold(id) });
-  parts.sentBox = section('Sent by the Uno ', parts.sentNote, parts.sent, 'grows'); parts.nowBox = section('Parts at cursor A', '', parts.now, 'grows'); parts.reportBox = section('Report, at the end of the run', '', parts.report, '');
+  parts.sentBox = section('Sent by the Uno ', make('span', {}, parts.sentNote, ' ', parts.sentAs), parts.sent, 'grows'); parts.nowBox = section('Parts at cursor A', '', parts.now, 'grows'); parts.reportBox = section('Report, at the end of the run', '', parts.report, '');
   parts.save = button('board as SVG', 'saves a picture of the board at cursor A', () => saveBoard(look), { className: 'save' });
   look.frameBox = make('div', { className: 'board-box' }, look.frame.element, parts.save);
   const cursors = make('div', { className: 'cursors' }, parts.a, parts.b, parts.gap, parts.heard, look.finder);
@@ -71,6 +72,7 @@ function addActions(look) {
   look.chooseAll = (names, alone = false) => { view.chosen = alone ? names : [...new Set([...view.chosen, ...names])]; arrange(look); };
   look.reveal = name => revealPin(look, name);
   look.addDecoder = decoder => { view.decoders = [...view.decoders, decoder]; look.choose(decoder.pins[0], true); };
+  look.readAs = name => { const mine = suggestedDecoders(look.run).map(d => JSON.stringify(d)); readSentAs(look.run, name); view.decoders = [...suggestedDecoders(look.run), ...view.decoders.filter(d => !mine.includes(JSON.stringify(d)))]; showSent(look); arrange(look); look.go(view.t, false); };
   look.noDecoders = () => { view.decoders = []; arrange(look); };
   look.focusFinder = () => look.finder.querySelector('input').focus();
   look.toggleRowList = () => { look.list.element.open = !look.list.element.open; if (look.list.element.open) look.list.element.querySelector('input').focus(); };
@@ -230,7 +232,10 @@ function showNow(look) {
 
 function showSent(look) {
   const { run, elements } = look;
-  elements.sentBox.hidden = run.serial.bytes.length === 0;
+  const { bytes, formats, others } = run.serial;
+  elements.sentBox.hidden = bytes.length === 0;
+  elements.sentAs.hidden = others.length === 0;
+  elements.sentAs.replaceChildren(...(others.length ? [formats[0], ...others].map(name => new Option(`read as ${name}`, name)) : []));
   look.sentAt = null;
 }
 function showSentAt(look) {         // what was sent up to the cursor, and, dimmed, what is still to come

@@ -24,10 +24,11 @@ function suggestedDecoders(run) {
   };
   const uno = run.parts.find(part => part.type === 'wokwi-arduino-uno'), at = pin => pinOf(uno, pin);
   if (!uno) return found;
-  const times = (run.serial.times || []).filter(t => t !== null), bit = times.length && moved(at('1')) ? bitTimeOf(run.wave(at('1')), times) : null;
+  const times = (run.serial.times || []).filter(t => t !== null), name = run.serial.formats[0] || USUAL_FORMAT, format = name === USUAL_FORMAT ? {} : { format: name };
+  const bit = times.length && moved(at('1')) ? bitTimeOf(run.wave(at('1')), times, formatOf(name).length) : null;
   if (bit) {
-    add({ kind: 'uart', pins: [at('1')], bit });
-    if (moved(at('0')) && uartFrames(beginning(run.wave(at('0'))), bit, run.to).length) add({ kind: 'uart', pins: [at('0')], bit });
+    add({ kind: 'uart', pins: [at('1')], bit, ...format });
+    if (moved(at('0')) && uartFrames(beginning(run.wave(at('0'))), bit, run.to, name).length) add({ kind: 'uart', pins: [at('0')], bit, ...format });
   }
   if (moved(at('A5')) && moved(at('A4')) && i2cFrames(beginning(run.wave(at('A5'))), beginning(run.wave(at('A4')))).some(frame => frame.kind === 'address')) add({ kind: 'i2c', pins: [at('A4'), at('A5')] });
   for (const part of run.parts) {

@@ -12,21 +12,21 @@ function runFrom({ title, us, diagram, chips, script, vcd, serial, report, progr
   const wave = readVcd(vcd);
   const run = makeRun({ title, cycles: us * CYCLES_A_MICROSECOND, diagram, chips, script, names: wave.names, of: wave.of, waves: wave.waves, serial, report, program });
   const uno = run.parts.find(part => part.type === 'wokwi-arduino-uno');
-  run.serial.times = uno ? serialTimes(run.wave(uno.id + '.1'), run.serial.bytes) : null;
+  run.serial = serialOf(run.serial.bytes, uno && run.wave(uno.id + '.1') ? sentReadings(run.wave(uno.id + '.1'), run.serial.bytes) : []);
   return run;
 }
 
 // From waves that are read already.
-function makeRun({ title, cycles, from = 0, to = cycles, diagram, chips = {}, script = '', names, of, waves, serial, times = null,
+function makeRun({ title, cycles, from = 0, to = cycles, diagram, chips = {}, script = '', names, of, waves, serial, times = null, formats = [], others = [],
   report = '', states = [], firsts = {}, left = '', made = [], program = '' }) {
   const drawing = typeof diagram === 'string' ? JSON.parse(diagram) : diagram;
-  const parts = (drawing.parts || []).map(part => partOf(part, chips));
+  const parts = (drawing.parts || []).map(part => partOf(part, chips)), wires = wiresOf(drawing), { scenery, drawn } = drawnOf(drawing, wires);
   const run = {
     title, cycles, from, to, names, waves, report, states, program, left, made,
-    parts, wires: (drawing.connections || []).filter(wire => Array.isArray(wire)),
+    parts, scenery, wires: drawn || wires,
     waveOf: new Map(names.map((name, i) => [name, of[i]])),
     inputs: inputsOf(parts, script),
-    serial: { bytes: serial || new Uint8Array(0), times },
+    serial: { bytes: serial || new Uint8Array(0), times, formats, others },
     notes: notesOf(report, firsts),
     cache: new Map(),               // what displays and decoders found, by a name that they choose
   };
@@ -36,11 +36,39 @@ function makeRun({ title, cycles, from = 0, to = cycles, diagram, chips = {}, sc
   return run;
 }
 
+// The bytes with their times by the first of some readings (bus.js); `others` has a format of each of the other readings.
+function serialOf(bytes, [first, ...rest]) {
+  if (!bytes.length) return { bytes, times: [], formats: [], others: [] };
+  return first ? { bytes, ...first, others: rest.map(({ formats }) => formats[0]) } : { bytes, times: null, formats: [], others: [] };
+}
+
+// The bytes by another format that fits.
+function readSentAs(run, name) {
+  const { serial } = run, uno = run.parts.find(part => part.type === 'wokwi-arduino-uno');
+  const names = [serial.formats[0], ...serial.others];
+  run.serial = { ...serial, times: timesIn(run.wave(pinOf(uno, '1')), serial.bytes, name, run.to < run.cycles ? run.to : Infinity), formats: [name], others: names.filter(other => other !== name) };
+}
+
 function partOf(part, chips) {
   const number = x => typeof x === 'number' && isFinite(x) ? x : 0, attrs = Object.create(null);
   for (const [name, value] of Object.entries(part.attrs || {})) attrs[name] = String(value);
   return { type: String(part.type), id: String(part.id), left: number(part.left), top: number(part.top), rotate: number(part.rotate),
     hidden: part.hide === true, attrs, pins: chips[part.type] || null };
+}
+
+const wiresOf = drawing => (drawing.connections || []).filter(wire => Array.isArray(wire) && typeof wire[0] === 'string' && typeof wire[1] === 'string');
+
+// How the editor drew a diagram that a tool made a project of (tools/wokwi/lower.py): breadboards and parts that were left out, and the
+// wires, each with the pin whose level it has. It holds as long as the project's wires are those that it was made with.
+function drawnOf(drawing, wires) {
+  const drawn = drawing.drawn, number = x => Number.isInteger(x) && x > 0 && x < 100 ? x : 0;
+  if (!drawn || drawn.of !== markOf(wires)) return { scenery: [], drawn: null };
+  return { scenery: (drawn.parts || []).map(part => ({ ...partOf(part, {}), isScenery: true, columns: number(part.columns), rail: number(part.rail) })), drawn: wiresOf(drawn) };
+}
+function markOf(wires) {            // FNV-1a, 32 bits
+  let mark = 0x811C9DC5;
+  for (const byte of new TextEncoder().encode(wires.map(([one, other]) => `${one} ${other}`).join('\n'))) mark = Math.imul(mark ^ byte, 0x01000193) >>> 0;
+  return mark;
 }
 
 // The names that share a wave, without what a chip's pin drives by itself.
