@@ -6,13 +6,20 @@ const MOST_TIME = 10000000, LONG_LINK = 8000;
 async function openApp(host, data, carried) {
   const app = { data, project: makeProject('project', []), us: 1000, run: null, opened: 0, rate: null, template: null };
   buildApp(app, host);
-  app.machine = makeMachine(carried.worker, await Promise.all(carried.forms.map(text => inflate(fromBase64(text), 'deflate'))));
+  app.machine = makeMachine(carried.worker, await Promise.all(carried.forms.map(text => inflate(fromBase64(text), 'deflate'))), warmRun(data.examples));
   app.template = async () => plainText.decode(await inflate(fromBase64(carried.template), 'deflate'));
   takeDrops(app);
   addEventListener('hashchange', () => openLink(app));
   addEventListener('keydown', event => { if (event.key === 'Enter' && (event.ctrlKey || event.metaKey)) { event.preventDefault(); runNow(app); } });
   if (!(await openLink(app))) show(app, makeProject('project', []), app.us, []);
   return app;
+}
+
+// Ten milliseconds of an example in which pins move all the time.
+const WARM = 'counter';
+function warmRun(examples) {
+  const example = examples.find(({ name }) => name === WARM);
+  return example && { words: ['run', WARM, '--us', '10000', '--vcd', 'wave', '--report', 'report'], files: example.files.map(([path, text]) => [`${WARM}/${path}`, fromBase64(text)]) };
 }
 
 // ---- Elements
@@ -138,18 +145,38 @@ function takeDrops(app) {
   addEventListener('drop', async event => {
     event.preventDefault();
     document.documentElement.classList.remove('dropping');
-    const entries = [...event.dataTransfer.items].map(item => item.webkitGetAsEntry && item.webkitGetAsEntry()).filter(Boolean);
-    const loose = entries.length ? [] : [...event.dataTransfer.files];
-    const files = [];
+    const dropped = droppedItems(event.dataTransfer), files = [];
     try {
-      for (const entry of entries) await readEntry(entry, '', files);
-      for (const file of loose) files.push([file.name, new Uint8Array(await file.arrayBuffer())]);
+      for (const item of dropped) await readDropped(item, files);
     } catch (error) {
-      say(app, `the folder could not be read: ${error.message}`);
+      say(app, `the folder could not be read: ${error.message}; use the button "folder", or drop its ZIP archive`);
       return;
     }
     if (files.length) await take(app, files);
   });
+}
+
+// What was dropped, in each form that the browser has. An entry of a page that was opened from the disk cannot be read in Chromium, a
+// handle can; Firefox and Safari have no handles. All must be asked for before the event ends.
+function droppedItems(transfer) {
+  return [...transfer.items].filter(item => item.kind === 'file').map(item => ({
+    file: item.getAsFile(), entry: item.webkitGetAsEntry ? item.webkitGetAsEntry() : null,
+    handle: item.getAsFileSystemHandle ? item.getAsFileSystemHandle().catch(() => null) : null,
+  }));
+}
+
+async function readDropped({ file, entry, handle }, files) {
+  const known = await handle, isFolder = known ? known.kind === 'directory' : entry && entry.isDirectory;
+  if (!isFolder) files.push([file.name, new Uint8Array(await file.arrayBuffer())]);
+  else if (known) await readHandle(known, '', files);
+  else await readEntry(entry, '', files);
+}
+
+async function readHandle(handle, base, files) {
+  const path = base + handle.name;
+  if (isHidden(path)) return;
+  if (handle.kind === 'file') files.push([path, new Uint8Array(await (await handle.getFile()).arrayBuffer())]);
+  else for await (const inner of handle.values()) await readHandle(inner, `${path}/`, files);
 }
 
 async function readEntry(entry, base, files) {

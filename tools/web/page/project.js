@@ -47,12 +47,16 @@ function withFirmware(project, name, bytes) {
   return [`${name} is the firmware now${path === name ? '' : `, as ${path}`}.`, ...complete(project)];
 }
 
+const hasBreadboard = project => {
+  try { return JSON.parse(textOf(project, 'diagram.json')).parts.some(part => /^wokwi-breadboard/.test(part.type)); } catch { return false; }    // the simulator says what is wrong
+};
+
 // What a user can do about a project that cannot run yet; null where nothing is known to be amiss.
 function adviceOf(project) {
   const firmware = firmwareOf(project), hex = [...project.files.keys()].filter(isHex);
   if (!project.files.size) return 'Open an example, or drop a project\'s folder, its ZIP archive or a HEX file here.';
   const isBare = !hex.length && !(firmware && project.files.has(firmware));
-  if (/"wokwi-breadboard/.test(textOf(project, 'diagram.json'))) {
+  if (hasBreadboard(project)) {
     return `The diagram has a breadboard${isBare ? ', and there is no firmware' : ''}. tools/wokwi/lower.py of Mudflatjar's folder makes wires of it${isBare ? ' and compiles the sketch' : ''}; drop the folder that it writes here.`;
   }
   if (isBare) return 'There is no firmware: a page cannot compile a sketch. In the Arduino IDE choose Sketch, Export Compiled Binary, and drop the file NAME.ino.hex (not the one with_bootloader) here.';

@@ -23,9 +23,9 @@ const escaped = text => text.replace(/[&<>"]/g, c => ({ '&': '&amp;', '<': '&lt;
 
 // `template` is the page with its code, in which the places @@TITLE@@, @@STILL@@, @@DATA@@ and @@WAVES@@ are left.
 async function pageOfRun(template, run, { diagram, chips, script }) {
-  const { bytes, times } = run.serial, steps = times && times.map((t, i) => (t === null ? null : t - (i ? times[i - 1] : 0)));
+  const { bytes, times, formats, others } = run.serial, steps = times && times.map((t, i) => (t === null ? null : t - (i ? times[i - 1] : 0)));
   const data = { title: run.title, cycles: run.cycles, from: run.from, to: run.to, diagram, chips, script, names: run.names, of: run.names.map(name => run.waveOf.get(name)),
-    counts: run.waves.map(wave => wave.t.length), serial: toBase64(bytes), times: steps, report: run.report, states: [], firsts: {}, left: run.left, made: run.made };
+    counts: run.waves.map(wave => wave.t.length), serial: toBase64(bytes), times: steps, formats, others, report: run.report, states: [], firsts: {}, left: run.left, made: run.made };
   const still = `<h1>${escaped(run.title)}</h1>\n${bytes.length ? `<h2>Sent by the Uno</h2>\n<pre>${escaped(plainText.decode(bytes))}</pre>\n` : ''}<h2>Report, at the end of the run</h2>\n<pre>${escaped(run.report)}</pre>\n`;
   const values = { TITLE: escaped(run.title), STILL: still, DATA: JSON.stringify(data).replace(/</g, '\\u003c'), WAVES: toBase64(await deflate(packedWaves(run.waves), 'deflate')) };
   return template.replace(/@@(TITLE|STILL|DATA|WAVES)@@/g, (_, name) => values[name]);

@@ -1,5 +1,6 @@
 'use strict';
-// The worker's side: takes the modules once, then runs what it is sent. call.mjs stands before it.
+// The worker's side: takes the modules once, then runs what it is sent. call.mjs comes before it. A first short run is for nobody: an
+// engine compiles a function when it is first called, and better once it has run for a while, and a user would wait for both.
 
 let module = Promise.reject(new Error('the page holds no module'));
 module.catch(() => {});             // told by the first run
@@ -14,7 +15,11 @@ async function compiledFirst(forms) {
 }
 
 onmessage = async ({ data }) => {
-  if (data.forms) { module = compiledFirst(data.forms); module.catch(() => {}); return; }
+  if (data.forms) {
+    module = compiledFirst(data.forms);
+    module.then(compiled => { if (data.warm) simulate(compiled, data.warm.words, data.warm.files); }).catch(() => {});
+    return;
+  }
   try {
     const compiled = await module, start = performance.now(), ended = simulateWhole(compiled, data.words, data.files);
     const ports = ['serial', 'wave', 'report', 'complaint'].map(port => ended[port]).filter(Boolean);

@@ -2,6 +2,8 @@
 """The page in a headless Chromium: what a user does, and what comes of it."""
 import json
 import os
+import shutil
+import subprocess
 import sys
 import tempfile
 import time
@@ -219,6 +221,35 @@ class Page(unittest.TestCase):
         self.js("until(() => it.run)")
         self.assertEqual(self.js("it.run.parts.map(part => part.type)"), ["wokwi-arduino-uno"])
         self.assertIn("an Uno alone", self.js("document.querySelector('.advice').textContent"))
+
+    def drop(self, path):
+        for kind in ("dragEnter", "dragOver", "drop"):
+            self.browser.call("Input.dispatchDragEvent", type=kind, x=700, y=500, data={"items": [], "files": [path], "dragOperationsMask": 1})
+
+    def test_a_folder_and_a_file_are_dropped_on_the_page(self):
+        with tempfile.TemporaryDirectory() as box:
+            folder = os.path.join(box, "press")
+            shutil.copytree(os.path.join(ROOT, "examples", "button"), folder)
+            self.drop(folder)
+            self.assertTrue(self.js("until(() => it.run)"), self.js("said()"))
+            self.assertEqual(self.js("[it.project.name, it.project.files.has('expected/report.txt'), it.run.inputs.btn1.length > 1]"), ["press", True, True])
+        self.drop(os.path.join(ROOT, "examples", "arduino-blink", "arduino-blink.hex"))
+        self.assertTrue(self.js("until(() => document.querySelector('.advice').textContent.includes('arduino-blink.hex is the firmware now'))"), self.js("said()"))
+
+    def test_a_lowered_folder_is_drawn_with_its_breadboard(self):
+        with tempfile.TemporaryDirectory() as box:
+            source, folder = os.path.join(box, "plugged"), os.path.join(box, "wired")
+            os.mkdir(source)
+            shutil.copy(os.path.join(ROOT, "examples", "arduino-blink", "arduino-blink.hex"), source)
+            with open(os.path.join(source, "diagram.json"), "w", encoding="ascii") as file:
+                json.dump({"version": 1, "parts": [{"type": "wokwi-arduino-uno", "id": "uno"}, {"type": "wokwi-breadboard-mini", "id": "bb"}, {"type": "wokwi-led", "id": "led"}],
+                           "connections": [["led:A", "bb:2t.a", "", ["$bb"]], ["bb:2t.e", "uno:13", "green", []], ["led:C", "uno:GND.1", "black", []]]}, file)
+            self.drop(source)
+            self.assertTrue(self.js("until(() => document.querySelector('.advice').textContent.includes('lower.py'))"))
+            subprocess.run([sys.executable, "-B", os.path.join(ROOT, "tools", "wokwi", "lower.py"), source, folder], check=True, stderr=subprocess.DEVNULL)
+            self.drop(folder)
+            self.assertTrue(self.js("until(() => it.run)"), self.js("said()"))
+            self.assertEqual(self.js("[document.querySelectorAll('.board .breadboard').length, it.run.scenery[0].columns, document.querySelector('.advice').hidden]"), [1, 17, True])
 
     def test_a_folder_without_firmware_says_what_to_do(self):
         with tempfile.TemporaryDirectory() as box:

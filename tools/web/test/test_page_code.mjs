@@ -122,6 +122,9 @@ test('what a folder lacks is made or said', () => {
   assert.match(page.adviceOf(sketch), /breadboard, and there is no firmware.* compiles the sketch/);
   page.withFirmware(sketch, 'b.hex', bytes(''));
   assert.match(page.adviceOf(sketch), /breadboard\. .* makes wires of it;/);
+  const lowered = page.makeProject('p', [['diagram.json', bytes('{"parts":[],"drawn":{"parts":[{"type":"wokwi-breadboard-half"}]}}')], ['a.hex', bytes('')]]);
+  assert.equal(page.adviceOf(lowered), null, 'of a breadboard that is only drawn nothing is said');
+  assert.match(page.adviceOf(page.makeProject('p', [['diagram.json', bytes('{"parts":7}')]])), /no firmware/);
 });
 
 test('the words of a run name the files as they are passed', () => {
