@@ -5,7 +5,7 @@
 
 Of the program (PROGRAM, else ./mudflatjar) and of the page's worker the processor's time counts, so that other work on the machine
 matters little; the program's has its start and the writing of its files. A browser is started for each run and each form of the
-module, waits until the worker rests, makes the run once, and then N times more (4 if it is not said), of which the least counts.
+module; after the page's own warming up it makes the run once, and then N times more (4 if it is not said), of which the least counts.
 What the browser's other threads compile beside is not counted. Needs Linux.
 """
 import argparse
@@ -16,7 +16,6 @@ import resource
 import subprocess
 import sys
 import tempfile
-import time
 
 HERE = os.path.dirname(os.path.abspath(__file__))
 ROOT = os.path.realpath(os.path.join(HERE, "..", ".."))
@@ -37,9 +36,9 @@ RUNS = [("`arduino-blink`, 1 s", ["run", "arduino-blink", "--us", "1000000", "--
 # A worker that was given one form alone runs in it.
 ONLY = """(async () => {
   const forms = await Promise.all(['wide', 'narrow'].map(async id => new Uint8Array(await new Response(new Blob([Uint8Array.from(atob(document.getElementById(id).textContent.trim()), c => c.charCodeAt(0))]).stream().pipeThrough(new DecompressionStream('deflate'))).arrayBuffer())));
-  it.machine.worker.postMessage({ forms: [forms[%d]], warm: typeof warmRun === 'function' ? warmRun(it.data.examples) : undefined });
+  it.machine.worker.postMessage({ forms: [forms[%d]], warm: it.warm });
 })()"""
-WORKER, REST = "DedicatedWorker", 0.5
+WORKER = "DedicatedWorker"
 
 
 def program_time(words, folder):
@@ -75,10 +74,7 @@ def page_times(page, form, call, folder, runs):
     try:
         browser.open(page)
         browser.js(ONLY % form)
-        last = -1
-        while worker_time(browser) != last:
-            last = worker_time(browser)
-            time.sleep(REST)
+        ended(browser, [], folder)              # has its turn after the warming up
         for _ in range(1 + runs):
             before = worker_time(browser)
             end = ended(browser, call, folder)

@@ -4,9 +4,9 @@
 const MOST_TIME = 10000000, LONG_LINK = 8000;
 
 async function openApp(host, data, carried) {
-  const app = { data, project: makeProject('project', []), us: 1000, run: null, opened: 0, rate: null, template: null };
+  const app = { data, project: makeProject('project', []), us: 1000, run: null, opened: 0, rate: null, template: null, warm: warmRun(data.examples) };
   buildApp(app, host);
-  app.machine = makeMachine(carried.worker, await Promise.all(carried.forms.map(text => inflate(fromBase64(text), 'deflate'))), warmRun(data.examples));
+  app.machine = makeMachine(carried.worker, await Promise.all(carried.forms.map(text => inflate(fromBase64(text), 'deflate'))), app.warm);
   app.template = async () => plainText.decode(await inflate(fromBase64(carried.template), 'deflate'));
   takeDrops(app);
   addEventListener('hashchange', () => openLink(app));
