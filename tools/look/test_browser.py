@@ -147,6 +147,11 @@ def check_tools(page, box):
     assert page.js("it.elements.before.textContent.length") == 3 and page.js("it.elements.after.textContent.length") == len(sent) - 3
     page.js(f"it.go({sent[2]} - 1)")
     assert page.js("it.elements.before.textContent.length") == 2
+    assert page.js("it.elements.sentAs.hidden"), "one format alone fits"
+    page.js("it.run.serial = { ...it.run.serial, formats: ['8N1'], others: ['8N2'] }; it.show(it.run)")
+    choose = "(() => { const list = it.elements.sentAs; list.value = '%s'; list.dispatchEvent(new Event('change')); return [list.hidden, [...list.options].map(o => o.text), it.run.serial.formats, it.run.serial.others]; })()"
+    assert page.js(choose % "8N2") == [False, ["read as 8N2", "read as 8N1"], ["8N2"], ["8N1"]]
+    assert page.js(choose % "8N1")[2] == ["8N1"] and page.js("it.run.serial.times") == sent and page.js("it.view.decoders.filter(d => d.kind === 'uart').length") == 1
     silent(page)
 
 

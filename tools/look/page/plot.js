@@ -61,7 +61,7 @@ function plotFrames(c, frames, box, from, to, ink) {
     c.fillStyle = frame.kind === 'start' || frame.kind === 'stop' ? ink.mark : wide <= 4 ? ink.dim : frame.kind === 'address' ? ink.address : ink.frame;
     c.fillRect(x, top, wide, tall);
     if (wide > 4) { c.strokeStyle = ink.line; c.lineWidth = 1; c.strokeRect(x + .5, top + .5, wide - 1, tall - 1); }
-    if (wide > c.measureText(frame.text).width + 3) { c.fillStyle = ink.text; c.fillText(frame.text, x + wide / 2, top + tall / 2 + .5); }
+    if (wide > c.measureText(frame.text).width + 1) { c.fillStyle = ink.text; c.fillText(frame.text, x + wide / 2, top + tall / 2 + .5); }
     if (wide < 2) {                 // many in one pixel: go on at the next one
       const next = firstFrame(frames, from + (x + 1.5 - box.x) / box.width * span);
       if (next > i + 1) i = next - 1;
