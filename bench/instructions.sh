@@ -9,6 +9,9 @@
 #   --kept FILE     has the kept figures in this file
 #   --from FILE     takes today's figures from a file of lines `NAME PER NUMBER`, as it says them on standard error
 # Kept figures are of proved programs: a program that `rt try` compiles has other counts. The chips need clang and wasm-ld.
+# The lines of simavr say what it takes for a cycle of the same firmware, and need cc and Debian's package libsimavr-dev:
+# simavr-NAME where it does an instruction in each call of avr_run, as its own program has it, and simavr-long-NAME where it
+# does up to 100,000 cycles in a call (run_cycle_limit).
 # PROGRAM=FILE before the script counts another program.
 set -euo pipefail
 here=$(cd "$(dirname "$0")" && pwd)
@@ -40,8 +43,11 @@ wanted() { # NAME
     for word in "${words[@]}"; do case $1 in "$word"*) return 0 ;; esac; done
     return 1
 }
-total() { # machine instructions of the program with these words
-    valgrind --tool=callgrind --callgrind-out-file=/dev/null "$program" "$@" 2>&1 >/dev/null | sed -n 's/.*Collected : *//p'
+counted() { # machine instructions of a program with these words
+    valgrind --tool=callgrind --callgrind-out-file=/dev/null "$@" 2>&1 >/dev/null | sed -n 's/.*Collected : *//p'
+}
+total() { # of our program
+    counted "$program" "$@"
 }
 count() { # NAME PER NUMBER FROM TO WORDS: between two microseconds, divided by a number
     local name=$1 per=$2 number=$3 from=$4 to=$5 few more
@@ -77,6 +83,28 @@ count_alone() {
     cycles serial-2000000 20000 40000 bare "$here/print-2000000.hex"
     cycles spi-8mhz 2000 4000 bare "$here/spi.hex"
     cycles twi-400khz 5000 20000 bare "$here/twi.hex"
+}
+
+# What simavr takes for a cycle of these, as a library.
+count_simavr() {
+    local name
+    if ! cc -O2 -o simavr_run "$here/simavr_run.c" -lsimavr 2>/dev/null; then
+        echo "cc or simavr is not installed (Debian's packages gcc and libsimavr-dev), so simavr is not counted" >&2
+        return 0
+    fi
+    for name in spin crc blink delay millis; do
+        simavr_cycles simavr-$name $name
+        simavr_cycles simavr-long-$name $name 100000
+    done
+}
+simavr_cycles() { # LINE NAME [MOST]: between 320,000 and 640,000 cycles
+    local line=$1 hex=$here/$2.hex few more
+    wanted "$line" || return 0
+    [ "$2" != blink ] || hex=$here/../examples/arduino-blink/arduino-blink.hex
+    shift 2
+    few=$(counted ./simavr_run "$hex" 320000 "$@")
+    more=$(counted ./simavr_run "$hex" 640000 "$@")
+    awk -v name="$line" -v sum=$((more - few)) 'BEGIN { printf "%s cycle %.2f\n", name, sum / 320000 }' | tee -a today >&2
 }
 
 # A move of pin 13, with what the core does until the next.
@@ -129,6 +157,7 @@ elif command -v valgrind >/dev/null; then
     [ -n "${PROGRAM:-}" ] || "$here/../mudflatjar" bare "$here/spin.hex" --us 1 >/dev/null
     moves=$(($(moved 20000) - $(moved 5000)))
     count_alone
+    count_simavr
     count_moves
     count_nets
     count_chips

@@ -1,7 +1,7 @@
 #!/bin/bash
-# Measures `bare` beside simavr on two firmwares that wait for timer 0, over 160,000,000 cycles (10 s of simulated time):
-# the Arduino IDE's Blink, whose loop polls micros() between an interrupt each 1,024 us, and a loop that sleeps in idle
-# between the same interrupts. Prints seconds of processor time, the least of three runs, million cycles a second, and the
+# Measures `bare` beside simavr on firmwares that wait for timer 0, over 160,000,000 cycles (10 s of simulated time): the
+# Arduino IDE's Blink, whose loop polls micros() between an interrupt each 1,024 us, sketches that wait in delay() and in
+# calls of millis(), and a loop that sleeps in idle between the same interrupts. Prints seconds of processor time, the least of three runs, million cycles a second, and the
 # ratio of the two. simavr is measured as a library, by bench/simavr_run.c, since its program waits for the time of
 # day while the core sleeps.
 set -eu
@@ -23,7 +23,7 @@ work=$(mktemp -d)
 trap 'rm -rf "$work"' EXIT
 peer=
 if cc -O2 -o "$work/simavr_run" "$here/simavr_run.c" -lsimavr 2>/dev/null; then peer=$work/simavr_run; fi
-for firmware in "$here/../examples/arduino-blink/arduino-blink.hex" "$here/idle.hex"; do
+for firmware in "$here/../examples/arduino-blink/arduino-blink.hex" "$here/delay.hex" "$here/millis.hex" "$here/idle.hex"; do
     name=$(basename "$firmware" .hex)
     ours=$(seconds bare "$firmware")
     echo "$name: bare takes $ours s, $(echo "scale=1; 160 / $ours" | bc) million cycles a second, within 64 MiB"
