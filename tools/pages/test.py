@@ -1,5 +1,7 @@
 #!/usr/bin/env python3
 """Tests of names.py, commands.py and links.py, on small made-up repositories."""
+import contextlib
+import io
 import pathlib
 import sys
 import tempfile
@@ -191,7 +193,9 @@ class Commands(Repository):
     def test_rules(self):
         rules = "README.md | cat | not run: a reason\n"
         self.assertEqual(self.page(README.replace("cat <said.txt", "cat <gone.txt"), rules), (3, []))
-        self.assertEqual(self.page(README, "README.md | cat | if: false\n"), (3, []))
+        with contextlib.redirect_stderr(io.StringIO()) as said:
+            self.assertEqual(self.page(README, "README.md | cat | if: false\n"), (3, []))
+        self.assertIn("README.md:3: skipped, since this fails: false", said.getvalue())
         self.assertEqual(self.page(README.replace("cat <said.txt", "cat <made.txt"), "README.md | cat | before: echo one >made.txt\n"), (4, []))
         with self.assertRaises(ValueError):
             commands.rules_of("README.md | cat | perhaps: so\n")
