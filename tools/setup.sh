@@ -21,10 +21,13 @@ tests avr-libc /usr/lib/avr/include/avr/io.h
 tests wabt wat2wasm
 tests clang clang
 tests lld wasm-ld
+tests wasi-libc /usr/lib/wasm32-wasi/libc.a
+tests libclang-rt-dev-wasm32 /usr/share/doc/libclang-rt-dev-wasm32
 tests sigrok-cli sigrok-cli
 tests gtkwave vcd2fst
 tests arduino-core-avr /usr/share/arduino/hardware/arduino/avr/cores/arduino/Arduino.h
 tests python3-yaml /usr/lib/python3/dist-packages/yaml
+tests parallel parallel
 tests nodejs node
 tests binaryen wasm-opt
 tests shellcheck shellcheck
@@ -32,6 +35,8 @@ tests xz-utils xz
 chips clang clang
 chips lld wasm-ld
 chips wabt wat2wasm
+chips wasi-libc /usr/lib/wasm32-wasi/libc.a
+chips libclang-rt-dev-wasm32 /usr/share/doc/libclang-rt-dev-wasm32
 sketches gcc-avr avr-gcc
 sketches avr-libc /usr/lib/avr/include/avr/io.h
 sketches binutils-avr avr-objcopy
@@ -62,6 +67,8 @@ missing() { # the packages of the groups whose command or file is not there
     done | sort -u | tr '\n' ' '
 }
 
+by_hand() { echo "this installs it: sudo apt-get update && sudo apt-get install -y --no-install-recommends $wanted" >&2; }
+
 wanted=$(missing)
 if [ -n "$only" ]; then
     echo "$wanted"
@@ -75,7 +82,7 @@ if [ "$(id -u)" != 0 ]; then
 fi
 if ! command -v apt-get >/dev/null || [ "$as_root" = none ]; then
     echo "not there: $wanted" >&2
-    echo "this installs it: sudo apt-get update && sudo apt-get install -y --no-install-recommends $wanted" >&2
+    by_hand
     exit 1
 fi
 # Nothing hangs: a server that does not answer, or a lock that another call holds, ends it.
@@ -93,4 +100,5 @@ fi
 wanted=$(missing)
 [ -n "$wanted" ] || exit 0
 echo "setup: not there, so what needs it is skipped: $wanted" >&2
+by_hand
 exit 1

@@ -25,6 +25,9 @@ from serial_times import decided, readings
 from shorter import first_times, shown_times
 from wave import Waves, moved_names, read_wave
 
+sys.path.append(os.path.join(os.path.dirname(os.path.abspath(__file__)), "..", "script"))
+import tell
+
 CYCLES_A_MICROSECOND = 16
 EDGES = 6_000_000       # a page holds so many changes: 54 MB in the browser's memory
 SAMPLES = 64            # shorter runs, for what a wave does not hold
@@ -145,6 +148,8 @@ def main(words):
         seen = seen_of(given)
         text = pictured(given, seen) if picture else page_of(seen)
     except Refused as refused:
+        for said in tell.no_project("look", given.folder):
+            print(f"look: {said}", file=sys.stderr)
         return refused.status
     except EngineMissing as missing:
         print(f"look: {missing}", file=sys.stderr)

@@ -32,6 +32,14 @@ def silent(page):
     assert not page.faults and not outside, (page.faults[:2], outside[:2])
 
 
+def soon(page, condition, seconds=20):
+    """Waits until it holds: on a busy machine a page draws late."""
+    end = time.monotonic() + seconds
+    while not page.js(condition):
+        assert time.monotonic() < end, condition
+        time.sleep(0.05)
+
+
 def check_opens(page, box, name):
     """Opens without a message; the board has each part; after the last cycle lights and inputs are those of the report."""
     page.open(write_page(box, name))
@@ -133,14 +141,12 @@ def check_tools(page, box):
     rows = page.js("it.view.rows.filter(r => r.kind === 'frames').length")
     page.js("it.addDecoder({ kind: 'spi', pins: ['sr1.DS', 'sr1.SHCP', 'sr1.STCP'] })")
     assert page.js("it.view.rows.filter(r => r.kind === 'frames').length") == rows + 1
-    page.js("it.toggleRowList(); it.view.speed = 1 / 10; it.play(true)")
-    time.sleep(0.4)
-    assert page.js("it.view.playing") and page.js("it.view.t") > 480000
+    page.js("it.toggleRowList(); it.view.speed = 1 / 100; it.play(true)")
+    soon(page, "it.view.playing && it.view.t > 480000")
     page.key(" ")
     assert not page.js("it.view.playing")
     page.js("it.second(100); it.range(1600, 160000)")
-    time.sleep(0.6)
-    assert "b=100cy" in page.js("location.hash") and "view=1600cy..160000cy" in page.js("location.hash"), page.js("location.hash")
+    soon(page, "location.hash.includes('b=100cy') && location.hash.includes('view=1600cy..160000cy')")
     page.open(write_page(box, "serial-hello"))
     sent = page.js("it.run.serial.times")
     page.js(f"it.go({sent[2]})")

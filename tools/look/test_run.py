@@ -2,6 +2,7 @@
 """What needs no browser: reading, packing, times of bytes, cuts, windows, pictures, the page's text. Ends with 1 where something fails."""
 import base64
 import concurrent.futures
+import contextlib
 import io
 import json
 import os
@@ -252,7 +253,9 @@ def check_words():
                 except SystemExit as ended:
                     assert ended.code == 2, words
         with quiet():
-            assert main([box, "--us", "10", "-o", out]) != 0
+            with contextlib.redirect_stderr(io.StringIO()) as said:
+                assert main([box, "--us", "10", "-o", out]) == 4
+            assert "has no wokwi.toml" in said.getvalue() and "./mudflatjar play" in said.getvalue(), said.getvalue()
             assert main([examples.folder_of("blink"), "--us", "10", "-o", os.path.join(box, "no", "such.html")]) == 1
         assert not os.path.exists(out)
 

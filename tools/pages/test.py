@@ -1,5 +1,7 @@
 #!/usr/bin/env python3
-"""Tests of names.py and commands.py, on small made-up repositories."""
+"""Tests of names.py, commands.py and links.py, on small made-up repositories."""
+import contextlib
+import io
 import pathlib
 import sys
 import tempfile
@@ -8,6 +10,7 @@ import unittest
 sys.path.insert(0, str(pathlib.Path(__file__).resolve().parent))
 sys.dont_write_bytecode = True
 import commands
+import links
 import names
 
 SOURCE = """//! A crate.
@@ -191,10 +194,33 @@ class Commands(Repository):
     def test_rules(self):
         rules = "README.md | cat | not run: a reason\n"
         self.assertEqual(self.page(README.replace("cat <said.txt", "cat <gone.txt"), rules), (3, []))
-        self.assertEqual(self.page(README, "README.md | cat | if: false\n"), (3, []))
+        with contextlib.redirect_stderr(io.StringIO()) as said:
+            self.assertEqual(self.page(README, "README.md | cat | if: false\n"), (3, []))
+        self.assertIn("README.md:3: skipped, since this fails: false", said.getvalue())
         self.assertEqual(self.page(README.replace("cat <said.txt", "cat <made.txt"), "README.md | cat | before: echo one >made.txt\n"), (4, []))
         with self.assertRaises(ValueError):
             commands.rules_of("README.md | cat | perhaps: so\n")
+
+
+class Links(unittest.TestCase):
+    def faults(self, text):
+        with tempfile.TemporaryDirectory() as room:
+            top = pathlib.Path(room)
+            (top / "docs").mkdir()
+            (top / "target").mkdir()
+            (top / "target/OTHER.md").write_text("[gone](GONE.md)")
+            (top / "docs/TWO.md").write_text("# Two\n\n## A part's `name`, and [more](TWO.md)\n\n```\n## no heading\n```\n")
+            (top / "README.md").write_text(f"# One\n\n{text}\n")
+            return links.faults(top)
+
+    def test_links_that_lead_somewhere(self):
+        text = "[a](docs/TWO.md) [b](docs/TWO.md#a-parts-name-and-more) [c](#one) [d](https://example.org/x) `[e](GONE.md)` ![f](docs)"
+        self.assertEqual(self.faults(text), (5, []))
+
+    def test_links_that_lead_nowhere(self):
+        text = "[a](docs/THREE.md) [b](docs/TWO.md#no-heading) [c](#two)"
+        bad = ["there is no docs/THREE.md", "there is no heading docs/TWO.md#no-heading", "there is no heading #two"]
+        self.assertEqual(self.faults(text), (4, [f"README.md: {it}" for it in bad]))
 
 
 if __name__ == "__main__":

@@ -119,6 +119,10 @@ def after(status, said, report, given):
         yield from words.sentences(given)
     elif status == 3:
         yield from tell.refused(line)
+    elif status in (4, 5):
+        yield from tell.unread(given)
+    elif status == 6:
+        yield from tell.unwritten(given)
 
 
 def report_of(given):

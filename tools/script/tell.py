@@ -1,5 +1,6 @@
 """What the script adds to a run, as sentences: what the report says was left out, and what the pages say of a refusal."""
 import json
+import os
 import re
 import shutil
 import subprocess
@@ -8,6 +9,7 @@ import pages
 import words
 
 CYCLES_PER_US = 16
+PLAYED = (".ino", ".pde", ".hex", ".elf")
 
 
 def controls_hidden(text, lines=False):
@@ -104,6 +106,38 @@ def chip_of(file, number):
 def line_of(file, number):
     lines = words.text_of(file, 16_777_216).split("\n")
     return f"\"{lines[number - 1].rstrip()}\"" if 0 < number <= len(lines) and lines[number - 1].strip() else None
+
+
+def no_project(command, folder):
+    """Sentences about a word that should be a project's folder and is not."""
+    if not os.path.lexists(folder):
+        yield f"there is no folder {shown(folder)}"
+    elif not os.path.isdir(folder):
+        remedy = f"./mudflatjar play {shown(folder)} runs it on an Uno alone" if folder.lower().endswith(PLAYED) else "docs/PROJECTS.md says what is in one"
+        yield f"{shown(folder)} is a file, and {command} takes a project's folder: {remedy}"
+    elif not os.path.lexists(f"{folder}/wokwi.toml"):
+        yield f"{shown(folder)} has no wokwi.toml, which names a project's firmware (docs/PROJECTS.md): ./mudflatjar play {shown(folder)} builds its sketch and runs it all the same"
+
+
+def unread(given):
+    """Sentences about a file that was missing, or that could not be read, where a word of the call is of another kind."""
+    for folder in words.folders(given):
+        yield from no_project(given[0], folder)
+    file = words.firmware(given)
+    if given[0] == "bare" and file and os.path.isdir(file):
+        yield f"{shown(file)} is a folder, and bare takes a HEX file: ./mudflatjar run {shown(file)} --us N runs a project"
+
+
+def unwritten(given):
+    """Sentences about outputs that cannot be made."""
+    for name, file in words.outputs(given):
+        folder = os.path.dirname(file) or "."
+        if os.path.isdir(file):
+            yield f"{name} {shown(file)}: it is a folder"
+        elif not os.path.isdir(folder):
+            yield f"{name} {shown(file)}: there is no folder {shown(folder)}"
+        elif not os.access(file if os.path.lexists(file) else folder, os.W_OK):
+            yield f"{name} {shown(file)}: you may not write it"
 
 
 def refused(line):

@@ -171,6 +171,30 @@ class Sentences(unittest.TestCase):
             pathlib.Path(script).write_text("5us press b\n6us push b\n")
             self.assertEqual(list(tell.refused(f"{script}: refused 80 ScriptLine line 2"))[0], 'line 2 is "6us push b"')
 
+    def test_a_word_of_another_kind_is_told(self):
+        with tempfile.TemporaryDirectory() as folder:
+            for name in ("a/diagram.json", "a/a.ino", "p/wokwi.toml"):
+                pathlib.Path(folder, name).parent.mkdir(exist_ok=True)
+                pathlib.Path(folder, name).touch()
+            for given, said in (
+                (["run", f"{folder}/none", "--us", "5"], [f"there is no folder {folder}/none"]),
+                (["check", f"{folder}/a/a.ino"], ["a.ino is a file, and check takes a project's folder: ./mudflatjar play "]),
+                (["check", f"{folder}/a/diagram.json"], ["is a file, and check takes a project's folder: docs/PROJECTS.md"]),
+                (["run", f"{folder}/a", "--us", "5"], [f"{folder}/a has no wokwi.toml, which names a project's firmware (docs/PROJECTS.md): ./mudflatjar play {folder}/a"]),
+                (["twin", f"{folder}/p", f"{folder}/a", "--us", "5"], [f"{folder}/a has no wokwi.toml"]),
+                (["bare", f"{folder}/p", "--us", "5"], ["is a folder, and bare takes a HEX file: ./mudflatjar run "]),
+                (["run", f"{folder}/p", "--us", "5"], []),
+                (["bare", f"{folder}/a/none.hex", "--us", "5"], []),
+                (["rnu", "x"], []),
+            ):
+                found = list(tell.unread(given))
+                self.assertEqual(len(found), len(said), given)
+                for text, part in zip(found, said):
+                    self.assertIn(part, text)
+            told = list(tell.unwritten(["run", "x", "--us", "5", "--vcd", f"{folder}/none/w.vcd", f"--report={folder}"]))
+            self.assertEqual(told, [f"--vcd {folder}/none/w.vcd: there is no folder {folder}/none", f"--report {folder}: it is a folder"])
+            self.assertEqual(list(tell.unwritten(["run", "x", "--us", "5", "--vcd", f"{folder}/w.vcd", "--report", "-"])), [])
+
     def test_control_characters_are_not_shown(self):
         self.assertEqual(tell.controls_hidden(b"a\x1b[2J\nb\x00\xc2\x9bc\xc3\xa9"), b"a?[2J?b??c\xc3\xa9")
 

@@ -186,6 +186,12 @@ def inputs(words):
     return found
 
 
+def outputs(words):
+    """The files that a call writes, each with its option."""
+    given, _ = parts(words)
+    return [(name, file) for name in ("--vcd", "--report") for file in given.get(name, []) if file and file != "-"]
+
+
 def same(one, other):
     try:
         return os.path.samefile(one, other)
@@ -195,14 +201,12 @@ def same(one, other):
 
 def overwrites(words):
     """Sentences about outputs that overwrite an input of the same call, or each other."""
-    given, _ = parts(words)
-    outputs = [(name, file) for name in ("--vcd", "--report") for file in given.get(name, []) if file and file != "-"]
-    found = []
-    for name, file in outputs:
+    found, written = [], outputs(words)
+    for name, file in written:
         for read in inputs(words):
             if os.path.isfile(file) and same(file, read):
                 found.append(f"{name} overwrites {file}, which this run reads")
                 break
-    if len(outputs) == 2 and same(outputs[0][1], outputs[1][1]) and not outputs[0][1].startswith("/dev/"):
-        found.append(f"--vcd and --report name one file, {outputs[0][1]}: it will hold neither")
+    if len(written) == 2 and same(written[0][1], written[1][1]) and not written[0][1].startswith("/dev/"):
+        found.append(f"--vcd and --report name one file, {written[0][1]}: it will hold neither")
     return found

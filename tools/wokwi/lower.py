@@ -103,7 +103,7 @@ class Chip:
         if self.module:
             shutil.copyfile(self.module, module)
             return
-        say(f"chip {self.name} is built of {os.path.basename(self.source)}")
+        say(f"building chip {self.name} from {os.path.basename(self.source)}")
         for words in ([], ["--libc"]) if self.wants_libc() else ([],):
             ran = subprocess.run([BUILD, *words, "-o", module, self.source], stdout=subprocess.PIPE, stderr=subprocess.STDOUT, text=True, errors="replace", check=False)
             if not ran.returncode:
@@ -133,7 +133,7 @@ def put_firmware(folder, named, out, say):
     if not (path and os.path.isfile(path)):
         path = None
         if main:
-            say(f"{main} is built")
+            say(f"building {main}")
             try:
                 sketches.build(place, main, made, say)
             except sketches.BuildFault as fault:

@@ -238,7 +238,7 @@ def core_archive(key, work, say):
     kept = kept_path(f"core-{key[:20]}.a")
     if os.path.exists(kept):
         return kept
-    say("the Arduino core is compiled, once")
+    say("compiling the Arduino core, once: some seconds")
     core = f"{BASE}/cores/arduino"
     files = [os.path.join(core, name) for name in sorted(os.listdir(core)) if os.path.splitext(name)[1] in SOURCES]
     os.mkdir(os.path.join(work, "core"))
@@ -275,7 +275,7 @@ def by_debian(folder, main, out, say, flags):
         for file in own + tabs:
             with open(file, encoding="utf-8", errors="replace") as it:
                 content = it.read()
-            about.update(f"{file}\n{content}".encode())
+            about.update(f"{os.path.basename(file)}\n{content}".encode())
             libraries.follow(content)
         of_libraries = [file for top in libraries.used for file in Libraries.files(top, (*SOURCES, ".h", ".hpp"))]
         for file in of_libraries:
@@ -348,7 +348,7 @@ def build(folder, main, out, say=lambda text: None, flags=()):
     elif shutil.which("avr-g++") and os.path.isdir(f"{BASE}/cores/arduino"):
         by_debian(folder, main, out, say, list(flags))
     else:
-        raise BuildFault("there is neither arduino-cli nor Debian's arduino-core-avr, gcc-avr and avr-libc to build the sketch with", missing=True)
+        raise BuildFault("there is neither arduino-cli nor Debian's arduino-core-avr, gcc-avr and avr-libc to build the sketch with: ./mudflatjar setup sketches installs these", missing=True)
 
 
 def main(words):

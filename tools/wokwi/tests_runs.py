@@ -291,6 +291,21 @@ class Play(WithWork):
         status, out, err = call("wokwi/play", os.path.join(EXAMPLES, "serial-hello", "serial-hello.hex"), "--us", "10ms", "--quiet")
         self.assertEqual((status, out, err), (0, "hello 0\n", ""))
 
+    @unittest.skipUnless(shutil.which("avr-g++") and not shutil.which("arduino-cli"), "no avr-g++")
+    def test_a_sketch_alone_is_run(self):
+        self.put("project/project.ino", '#include "words.h"\nvoid setup() { Serial.begin(115200); say(); }\nvoid loop() {}\n')
+        self.put("project/words.h", "#define WORDS \"by the header\"\n")
+        self.put("project/say.ino", "void say() { Serial.println(WORDS); }\n")
+        for other in ("diagram.json", "wokwi.toml", "script.txt"):
+            self.put(f"project/{other}", "not read")
+        status, out, err = call("wokwi/play", os.path.join(self.work, "project/project.ino"), "--us", "10ms")
+        self.assertEqual((status, out), (0, "by the header\n"), err)
+        self.assertIn("play: building project.ino\n", err)
+        wrong = self.put("wrong.ino", "void setup() { nowhere(); }\nvoid loop() {}\n")
+        status, _, err = call("wokwi/play", wrong, "--us", "10ms")
+        self.assertEqual(status, 1)
+        self.assertIn("wrong.ino:1:", err)
+
     def test_what_cannot_be_simulated_is_left_out_and_told(self):
         shutil.copy(os.path.join(EXAMPLES, "serial-hello", "serial-hello.hex"), self.work)
         self.put("diagram.json", '{"version": 1, "parts": [{"type": "wokwi-arduino-uno", "id": "uno"}, {"type": "wokwi-microsd-card", "id": "sd"}], "connections": []}')
