@@ -8,3 +8,4 @@ pub mod UsartReceptionLaw
 mod TwiHalves
 pub mod TwiLaw
 pub mod TwiByteLaw
+mod Worked

@@ -1,0 +1,107 @@
+-- What the laws ask for comes about: small cases, worked by the definitions themselves.
+use Rattle.std.proofs.Common.{◌≡◌, ℕ, zero, suc, ◌≤◌, List, [], Bool, true, false, refl, arith}
+use Rattle.std.specs.Prelude.{◌&&◌, not, replicate}
+use Rattle.std.proofs.lemmas.Bool.{agree_below, agree_below_at}
+use Rattle.sim_base.specs.declared.signal.Level.{Level}
+use Rattle.sim_base.specs.declared.signal.Level.TheVariants as levels
+use Rattle.unit_law.specs.Bits.{is_set}
+use Rattle.avr_spi.specs.Spi.{Spi, spi, is_master, ss_low}
+use Rattle.avr_adc.specs.Adc.{Adc, adc}
+use Rattle.avr_usart.specs.Usart.{Usart, usart, rxen}
+use Rattle.avr_twi.specs.Twi.{twi}
+use Rattle.sheet_law.specs.Life.{Act, Nothing, Read, Write, state, stepping}
+use Rattle.sheet_law.specs.SpiTransfer.{IsUndisturbed}
+use Rattle.sheet_law.specs.AdcConversion.{IsStarted}
+use Rattle.sheet_law.specs.UsartFrame.{IsLoaded}
+use Rattle.sheet_law.specs.UsartReception.{IsFalling}
+use Rattle.sheet_law.specs.TwiActions.{IsBegun, IsFree}
+
+-- a write in cycle 0, and then one register read in each cycle
+polls : ℕ → ℕ → ℕ → ℕ → Act
+polls a x r zero = Write a x
+polls a x r (suc n) = Read r
+
+-- all pins High
+high : ℕ → List Level
+high n = replicate 20 levels.High
+
+-- a test that computes to one answer in each of so many cycles
+always : (f : ℕ → Bool) (b : Bool) (k n : ℕ) → agree_below f (λ _. b) (suc k) ≡ true → n ≤ k → f n ≡ b
+always f b k n all le = agree_below_at f (λ _. b) (suc k) n all (omega (arith, le))
+
+-- a master with SPI2X, whose SS is an output, and which polls SPSR
+master : Spi
+master = record (spi.reset) { spcr = 0x50; spsr = 1; ddrb = 0x2C }
+
+transfer : IsUndisturbed (polls 0x4E 0xA5 0x4D) high master 0 0xA5
+unfolding state polls high master
+transfer = record {
+  idle = refl;
+  written = refl;
+  master = λ n le. always (λ n. is_master (stepping spi (polls 0x4E 0xA5 0x4D) high master 0 n).spcr) true 16 n refl le;
+  unselected = λ n le. always (λ n. not (is_set (stepping spi (polls 0x4E 0xA5 0x4D) high master 0 n).ddrb 2) && ss_low (high n)) false 16 n refl le;
+}
+
+-- a conversion that is not the first, by half of the processor's clock
+ready : Adc
+ready = record (adc.reset) { aden = true; first = false }
+
+conversion : IsStarted (polls 0x7A 0xC0 0x7A) high ready 0 0xC0 26
+unfolding state polls high ready
+conversion = record {
+  idle = refl;
+  written = refl;
+  aden = refl;
+  adsc = refl;
+  enabled = λ n le. always (λ n. (stepping adc (polls 0x7A 0xC0 0x7A) high ready 0 n).aden) true 26 n refl le;
+}
+
+-- 8 cycles a bit, 5 data bits, no parity, one stop bit
+idle : Usart
+idle = record (usart.reset) { ucsra = 2; ucsrb = 0x18; ucsrc = 0 }
+
+frame : IsLoaded (polls 0xC6 0x15 0xC0) high idle 0 0x15
+unfolding polls idle
+frame = record { idle = refl; written = refl; enabled = refl }
+
+nothing : ℕ → Act
+nothing n = Nothing
+
+-- RXD falls in cycle 1
+falls : ℕ → List Level
+falls zero = replicate 20 levels.High
+falls (suc n) = []
+
+reception : IsFalling nothing falls idle 1 52
+unfolding state nothing falls idle
+reception = record {
+  idle = refl;
+  high = refl;
+  low = refl;
+  enabled = λ n le. always (λ n. rxen (stepping usart nothing falls idle 1 n)) true 52 n refl le;
+}
+
+-- a START on a free bus, and a STOP, with 8 cycles for half a period
+start : IsBegun (polls 0xBC 0xA4 0xBC) high twi.reset 0 0xA4 24
+unfolding state polls high
+start = record {
+  idle = refl;
+  written = refl;
+  twint = refl;
+  twen = refl;
+  enabled = λ n le. always (λ n. is_set (stepping twi (polls 0xBC 0xA4 0xBC) high twi.reset 0 n).master.twcr 2) true 24 n refl le;
+}
+
+bus : IsFree (polls 0xBC 0xA4 0xBC) high twi.reset 0 0 8 0
+unfolding high
+bus = record { waits = λ j less. absurd (omega (arith, less)); free = refl }
+
+stop : IsBegun (polls 0xBC 0x94 0xBC) high twi.reset 0 0x94 16
+unfolding state polls high
+stop = record {
+  idle = refl;
+  written = refl;
+  twint = refl;
+  twen = refl;
+  enabled = λ n le. always (λ n. is_set (stepping twi (polls 0xBC 0x94 0xBC) high twi.reset 0 n).master.twcr 2) true 16 n refl le;
+}
