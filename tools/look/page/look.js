@@ -83,7 +83,8 @@ function showRun(look, run) {
   const { view, elements } = look, before = look.run;
   if (view.playing) setPlaying(look, false);
   look.run = run;
-  const kept = before ? view.chosen.filter(name => run.waveOf.has(name)) : [];
+  const isOwnChoice = before && view.chosen.join() !== movedNames(before).join();       // else a longer run shows what moves in it
+  const kept = isOwnChoice ? view.chosen.filter(name => run.waveOf.has(name)) : [];
   view.chosen = kept.length ? kept : movedNames(run);
   view.decoders = suggestedDecoders(run);
   view.from = run.from; view.to = run.to; view.b = null; view.picked = null;

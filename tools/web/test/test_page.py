@@ -251,6 +251,19 @@ class Page(unittest.TestCase):
             self.assertTrue(self.js("until(() => it.run)"), self.js("said()"))
             self.assertEqual(self.js("[document.querySelectorAll('.board .breadboard').length, it.run.scenery[0].columns, document.querySelector('.advice').hidden]"), [1, 17, True])
 
+    def run_for(self, text):
+        self.js(f"{{ const time = document.querySelector('.run-time'); time.value = '{text}'; time.dispatchEvent(new Event('change')); press('Run'); }}")
+        self.js("idle()")
+        return self.js("it.look.view.chosen")
+
+    def test_a_longer_run_has_rows_of_what_moves_in_it(self):
+        self.js("pick('button')")
+        first = self.run_for("1 us")
+        whole = self.run_for("60 ms")
+        self.assertLess(len(first), len(whole))
+        self.js("it.look.choose('uno.13', false)")
+        self.assertEqual(self.run_for("50 ms"), [name for name in whole if name != "uno.13"])
+
     def test_a_folder_without_firmware_says_what_to_do(self):
         with tempfile.TemporaryDirectory() as box:
             for name, text in (("diagram.json", '{"version": 1, "parts": [{"type": "wokwi-arduino-uno", "id": "uno"}], "connections": []}'), ("sketch.ino", "void setup() {}\nvoid loop() {}\n")):
