@@ -178,7 +178,7 @@ says "a header next to the chip" 0 'uses the beside/wokwi-api.h next to it, and 
 # The last line of the report on the inverter's board, without its first words: alive, or trap K at T.
 ends() { # MODULE
     rm -rf board && cp -r "$top/examples/chip-inverter" board && cp "$1" board/inverter.wasm &&
-        "$program" run board --us 20 --report - | sed -n 's/^chip inv1 //p'
+        "$program" run board --us 20 --report - | sed -n 's/^chip inv1 \([^|].*\)$/\1/p'
 }
 # TIME and LEVEL of OUT on that board in cycle 0 and at each change, the time in whole units of so many microseconds
 changes() { # MICROSECONDS UNIT
@@ -259,6 +259,7 @@ compiled deep --libc "$here/chips/deep.c"
 is "too deep a stack" "$(ends deep.wasm)" "trap 2 at 0"
 compiled float --libc "$here/chips/float.c"
 is "a float printed after 2 microseconds" "$(ends float.wasm)" "trap 14 at 32"
+is "what it had printed" "$(printed 20)" "1/"
 compiled lines --libc "$here/chips/lines.c"
 rm -rf board && cp -r "$top/examples/chip-inverter" board && cp lines.wasm board/inverter.wasm
 is "text waits for its line's end" "$(changes 20 1)" "01 60 81 "
