@@ -26,7 +26,7 @@ function glow(shape, dark, bright, share) { shape.setAttribute('fill', mixed(dar
 function lightText(run, anode, cathode, moment) {
   const now = lightShare(run, anode, cathode, moment.since, moment.t), from = Math.max(moment.t - TEN_MS, run.from);
   const share = lightShare(run, anode, cathode, from, moment.t);
-  const dimmed = share > 0 && share < 1 ? `, ${percent(share)} of the last ${Math.round((moment.t - from) / 160) / 100} ms` : '';
+  const dimmed = share > 0 && share < 1 ? `, ${percent(share)} of the last ${moment.t - from < TEN_MS ? inMicroseconds(moment.t - from) : '10 ms'}` : '';
   return (now > 0.5 ? 'on' : 'off') + dimmed;
 }
 
