@@ -64,11 +64,11 @@ const UNO_TEXT = { 'A5.2': 'SCL', 'A4.2': 'SDA', 'GND.1': 'GND', 'GND.2': 'GND',
 function unoBoard(g) {
   const silk = { fill: '#dff1f2', 'font-size': 6.6 }, metal = { fill: '#c3c8cb', stroke: '#888f94' }, black = { fill: '#23272a', stroke: '#101314' };
   g.append(
-    path('M9 2H251L262 13V58L272 68V176L262 186V192Q262 200 254 200H9Q2 200 2 193V9Q2 2 9 2Z', { fill: '#12697a', stroke: '#0b4450', 'stroke-width': 1.2 }),
-    path('M9 5H249.7L259 14V60', { fill: 'none', stroke: '#2b8494', 'stroke-width': .8 }),
-    rect(-13, 31, 56, 42, { ...metal, rx: 2 }), path('M-13 39H37M-13 65H37M37 31V73', { stroke: '#9aa1a5', 'stroke-width': 1, fill: 'none' }),
-    rect(-7, 142, 48, 34, { ...black, rx: 2 }), path('M32 142V176', { stroke: '#454b4f', 'stroke-width': 1.4 }),
-    rect(17, 8, 20, 18, { ...metal, rx: 1.5 }), circle(27, 17, 5.2, { fill: '#b23a30', stroke: '#7c241d' }),
+    path('M19 1H259L264 6V49L273.6 58.6V182.4L264 192V197Q264 201 260 201H19Q15.6 201 15.6 197V5Q15.6 1 19 1Z', { fill: '#12697a', stroke: '#0b4450', 'stroke-width': 1.2 }),
+    path('M20 4H257.8L261 7.2V50.2', { fill: 'none', stroke: '#2b8494', 'stroke-width': .8 }),
+    rect(.5, 35.4, 53, 44.6, { ...metal, rx: 2 }), path('M.5 43H48M.5 72.4H48M48 35.4V80', { stroke: '#9aa1a5', 'stroke-width': 1, fill: 'none' }),
+    rect(5.4, 142, 44, 34, { ...black, rx: 2 }), path('M40 142V176', { stroke: '#454b4f', 'stroke-width': 1.4 }),
+    rect(23, 8, 20, 18, { ...metal, rx: 1.5 }), circle(33, 17, 5.2, { fill: '#b23a30', stroke: '#7c241d' }),
     rect(55, 100, 28, 12, { ...metal, rx: 6 }), circle(59, 150, 8, metal), circle(59, 172, 8, metal), rect(66, 44, 22, 22, { ...black, rx: 1 }),
   );
   for (const k of upTo(14)) g.append(rect(124.5 + 9.3 * k, 118.5, 3.6, 5, { fill: '#aeb4b8' }), rect(124.5 + 9.3 * k, 150.5, 3.6, 5, { fill: '#aeb4b8' }));
