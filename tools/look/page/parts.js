@@ -196,9 +196,10 @@ const PARTS = {
     size: [75.6, 75.6],
     pins: row('GND SIG VCC', 29, 68.5, 10),
     draw(g, part, run) {
-      const hand = path('M37.8 33V16', { stroke: '#ffffff', 'stroke-width': 3, 'stroke-linecap': 'round' }), mark = label(37.8, 62, '', { ...middle, 'font-size': 9, fill: '#e8eefb' });
+      const hand = path('M37.8 33V16', { stroke: '#ffffff', 'stroke-width': 3, 'stroke-linecap': 'round' }), mark = label(37.8, 59.8, '', { ...middle, 'font-size': 8, fill: '#e8eefb' });
       g.append(path('M29 60V68M39 60V68M49 60V68', { class: 'lead' }), rect(7, 2, 61.6, 63, { rx: 6, fill: '#3058a3', stroke: '#1f3c73' }));
       for (const k of upTo(11)) g.append(path('M37.8 11V7.5', { stroke: '#cfdbf3', 'stroke-width': 1, transform: `rotate(${-135 + 27 * k} 37.8 33)` }));
+      for (const [name, [x]] of Object.entries(this.pins)) g.append(label(x, 64, name, { ...middle, 'font-size': 4, fill: '#e8eefb' }));
       g.append(circle(37.8, 33, 20, { fill: '#d7dcdf', stroke: '#9aa1a6' }), circle(37.8, 33, 15.5, { fill: '#4a5157' }), hand, mark);
       return moment => {
         const value = inputAt(run, part.id, moment.t);
@@ -254,7 +255,7 @@ const PARTS = {
     pins: { ...row('VCC Q0 DS OE STCP SHCP MR Q7S', 4.8, 3), ...row('Q1 Q2 Q3 Q4 Q5 Q6 Q7 GND', 4.8, 45) },
     draw(g) {
       g.append(...upTo(8).map(i => path(`M${4.8 + 9.6 * i} 3V45`, { class: 'lead' })), rect(-1, 8, 78.8, 32, { rx: 2, fill: '#2b2f32', stroke: '#14171a' }), path('M-1 19.5A4.5 4.5 0 0 1 -1 28.5Z', { fill: '#121415' }), label(38.4, 27, '74HC595', { ...middle, 'font-size': 8.5, fill: '#d2d7da' }));
-      for (const [name, [x, y]] of Object.entries(this.pins)) g.append(label(x, y < 20 ? 13.5 : 37.5, name, { ...middle, 'font-size': 3.9, fill: '#b9c0c4' }));
+      for (const [name, [x, y]] of Object.entries(this.pins)) g.append(label(x, y < 20 ? 13.5 : 37.5, name, { ...middle, 'font-size': 3.4, fill: '#b9c0c4' }));
     },
     tell: (part, run, moment) => 'Q7..Q0 ' + upTo(8).map(i => { const wave = run.wave(pinOf(part, `Q${7 - i}`)); return wave ? LEVELS[levelAt(wave, moment.t)] : 'z'; }).join(''),
   },
@@ -279,7 +280,7 @@ const PARTS = {
       const ink = colorOf(part.attrs.color, blue ? '#f4f6ff' : '#1c2a10');
       g.append(rect(0, 0, 302.4, 136, { rx: 3, fill: '#1c6b48', stroke: '#0f4a30' }), rect(19, 20, 264, 86, { rx: 4, fill: '#1f2325' }), rect(28, 31, 246, 64, { rx: 2, fill: glass }));
       for (const [x, y] of [[8, 8], [294, 8], [8, 128], [294, 128]]) g.append(circle(x, y, 4, { fill: '#d7dbd6', stroke: '#0f4a30' }));
-      for (const [name, [x, y]] of Object.entries(this.pins(part))) g.append(label(x + (x < 10 ? 6 : 0), y - (x < 10 ? -2 : 7), name, { 'font-size': 5, fill: '#dcf1e5', 'text-anchor': x < 10 ? 'start' : 'middle' }));
+      for (const [name, [x, y]] of Object.entries(this.pins(part))) g.append(label(x + (x < 10 ? 6 : 0), y - (x < 10 ? -2 : 7), name, { 'font-size': 4.2, fill: '#dcf1e5', 'text-anchor': x < 10 ? 'start' : 'middle' }));
       const cells = upTo(32).map(i => {
         const x = 33 + 14.9 * (i % 16), y = 36.5 + 28 * (i >> 4), letter = label(x + 6.4, y + 18.5, '', { ...middle, 'font-size': 19, class: 'mono', fill: ink });
         g.append(rect(x, y, 12.8, 25, { fill: cell }), letter);
@@ -303,7 +304,7 @@ PARTS['board-ssd1306'] = {
   draw(g, part, run) {
     const dots = path('', { fill: '#9fdcff' });
     g.append(rect(0, 0, 150, 116, { rx: 5, fill: '#1b3f70', stroke: '#102a4d' }), rect(7, 28, 136, 76, { rx: 2, fill: '#05070a' }), svg('g', { transform: 'translate(11 34)' }, dots));
-    for (const [name, [x]] of Object.entries(this.pins)) g.append(label(x, 17, name, { ...middle, 'font-size': 3.2, fill: '#dfe9f5' }));
+    for (const [name, [x]] of Object.entries(this.pins)) g.append(label(x, 17, name, { ...middle, 'font-size': 3.9, fill: '#dfe9f5' }));
     let shown = null;
     return moment => {
       const now = oledAt(run, part, moment.t);
