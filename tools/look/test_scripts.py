@@ -416,6 +416,25 @@ def check_board():
     assert dict(on)["btn1"] == "pressed" and dict(off)["btn1"] == "released" and dict(on)["led1"].startswith("on") and dict(off)["led1"].startswith("off"), (on, off)
 
 
+def check_names():
+    """Names lie beside wires and parts where there is room; names of pins in a row do not meet; a share of less than 10 ms has its microseconds."""
+    texts = {}
+    for name in ("pot-serial", "latch", "seven-segment", "lcd-hello", "oled-hello", "shift-out"):
+        with open(os.path.join(examples.folder_of(name), "diagram.json"), encoding="utf-8") as file:
+            picture = evaluated("boardPicture(drawBoard(makeRun({ title: 'x', cycles: 1, diagram: given, names: [], of: [], waves: [] })), '')", json.load(file))
+        for group in ET.fromstring(picture).iter("{http://www.w3.org/2000/svg}g"):
+            row = [text for text in group if text.tag.endswith("}text")]
+            texts.update({(name, text.text): text for text in row if text.get("class", "").startswith("name")})
+            small = [(float(text.get("y")), float(text.get("x")), float(text.get("font-size")), text.text) for text in row if float(text.get("font-size", 9)) <= 5 and text.get("text-anchor") == "middle"]
+            for (y, x, size, one), (v, u, _, other) in zip(sorted(small), sorted(small)[1:]):
+                assert y != v or u - x > 0.34 * size * (len(one) + len(other)), (name, one, other)
+    place = lambda *key: (texts[key].get("class"), float(texts[key].get("x")), float(texts[key].get("y")))
+    assert place("pot-serial", "pot1") == ("name", 97.8, 286.6) and place("latch", "set") == ("name", -86.35, -64), (place("pot-serial", "pot1"), place("latch", "set"))
+    assert place("latch", "r1")[0] == "name start" and place("seven-segment", "r3")[0] == "name end" and place("seven-segment", "r2")[0] == "name"
+    told = dict(evaluated("{ const run = await runOfPage(given.data, given.packed); return drawBoard(run).texts({ t: 400, since: 400 }); }", given_of("pulse")[0]))
+    assert told["led1"] == "on, 23.5 % of the last 25 µs", told
+
+
 SHOWING = {"parts": [{"type": "wokwi-arduino-uno", "id": "uno"}, {"type": "board-ssd1306", "id": "oled"}, {"type": "wokwi-membrane-keypad", "id": "keys", "left": 300},
                     {"type": "chip-screen", "id": "c", "left": 600}, {"type": "chip-screen", "id": "d", "left": 600}], "connections": []}
 
@@ -452,7 +471,7 @@ def check_notes():
 def everything():
     bad, decoders = 0, {}
     steps = [("every edge and byte in the scripts", lambda: decoders.update(check_reads())), ("frames", lambda: check_frames(decoders)), ("parts", check_parts),
-             ("breadboards", check_breadboards), ("geometry", check_geometry), ("boards", check_board), ("notes", check_notes), ("displays", check_showing), ("formats of UART", check_formats), ("what an OLED is told", check_writes), ("how oled-hello begins", check_beginning),
+             ("breadboards", check_breadboards), ("geometry", check_geometry), ("boards", check_board), ("names", check_names), ("notes", check_notes), ("displays", check_showing), ("formats of UART", check_formats), ("what an OLED is told", check_writes), ("how oled-hello begins", check_beginning),
              ("OLEDs on broken frames", check_broken_frames), ("oled-hello at fifty times", lambda: check_oled("oled-hello")), ("lcd-hello at fifty times", lambda: check_display("lcd-hello")), ("lcd-i2c at fifty times", lambda: check_display("lcd-i2c"))]
     for name, step in steps:
         try:

@@ -22,11 +22,12 @@ function pinState(run, name, { t, moving = t }) {
 function drawBoard(run, on = {}) {
   const layers = { boards: svg('g'), uno: svg('g'), wires: svg('g', { class: 'wires' }), parts: svg('g'), shine: svg('g', { class: 'shine', 'aria-hidden': 'true' }), pins: svg('g'), names: svg('g') };
   const element = svg('svg', { class: 'board', role: 'img', 'aria-label': `the board: ${run.parts.map(part => part.id).join(', ')}` });
-  const drawing = { run, on, layers, updates: [], tells: [], leads: [], spots: new Map(), boxes: new Map(), free: 0, levels: new Map(), box: [Infinity, Infinity, -Infinity, -Infinity] };
+  const drawing = { run, on, layers, updates: [], tells: [], leads: [], spots: new Map(), boxes: new Map(), named: [], legs: [], free: 0, levels: new Map(), box: [Infinity, Infinity, -Infinity, -Infinity] };
   for (const [one, other, , , pin] of run.wires) if (typeof pin === 'string') for (const end of [one, other]) drawing.levels.set(end, pin);
   for (const part of apart(run.parts, run.wires)) drawPart(drawing, part, entryOf(part, run.wires));
   for (const part of run.scenery) drawScenery(drawing, part);
   for (const wire of run.wires) drawWire(drawing, wire);
+  for (const [part, box] of drawing.named) drawName(drawing, part, box);
   element.append(...Object.values(layers));
   const [x0, y0, x1, y1] = drawing.box[0] < Infinity ? drawing.box : [0, 0, 100, 100], edge = 14;
   const box = [x0 - edge, y0 - edge - 4, x1 - x0 + 2 * edge, y1 - y0 + 2 * edge + 4].map(n => Math.round(n * 10) / 10);
@@ -81,15 +82,23 @@ function drawPart(drawing, part, entry, scenery = '') {
   if (!part.hidden) (scenery === 'board' ? layers.boards : isUno ? layers.uno : layers.parts).append(g);
   corners.forEach(corner => widen(drawing, corner));
   if (part.type === 'wokwi-text') widen(drawing, place([Math.max(...String(part.attrs.text || '').split('\n').map(line => line.length)) * 7.4, 16.5 * String(part.attrs.text || '').split('\n').length]));
-  if (entry.named !== false) drawName(drawing, part, corners);
+  if (entry.named !== false) drawing.named.push([part, boxOfPoints(corners)]);
   if (!part.hidden && scenery !== 'board') drawing.boxes.set(part.id, boxOfPoints(corners));
   for (const [name, spot] of Object.entries(pinsOf(entry, part))) drawPin(drawing, part, name, place(spot));
 }
 
-function drawName(drawing, part, corners) {
-  const x = corners.reduce((sum, corner) => sum + corner[0], 0) / 4, top = Math.min(...corners.map(corner => corner[1])), bottom = Math.max(...corners.map(corner => corner[1]));
-  drawing.layers.names.append(label(x, top - 4, part.id, { class: 'name' }));
-  if (part.attrs.label) drawing.layers.names.append(label(x, bottom + 11, part.attrs.label, { class: 'name given' }));
+// A part's id is above it, or below or at a side where fewer wires and parts are in its way. Its label is below.
+function drawName(drawing, part, [left, top, right, bottom]) {
+  const x = (left + right) / 2, y = (top + bottom) / 2 + 3, wide = 5.4 * part.id.length, given = part.attrs.label;
+  const spots = [[x, top - 4, x - wide / 2, 'name'], [right + 5, y, right + 5, 'name start'], [left - 5, y, left - 5 - wide, 'name end']];
+  if (!given) spots.splice(1, 0, [x, bottom + 11, x - wide / 2, 'name']);
+  const boxes = [...drawing.boxes.values()], spotBox = ([, foot, from]) => [from, foot - 7, from + wide, foot + 1];
+  const inWay = box => boxes.filter(other => box[0] < other[2] && other[0] < box[2] && box[1] < other[3] && other[1] < box[3]).length + drawing.legs.filter(([a, b]) => goesThrough(a, b, box)).length;
+  const costs = spots.map(spot => inWay(spotBox(spot))), spot = spots[costs.indexOf(Math.min(...costs))], box = spotBox(spot);
+  drawing.layers.names.append(label(spot[0], spot[1], part.id, { class: spot[3] }));
+  if (spot !== spots[0]) { widen(drawing, box.slice(0, 2)); widen(drawing, box.slice(2)); }
+  drawing.boxes.set(`name of ${part.id}`, box);
+  if (given) drawing.layers.names.append(label(x, bottom + 11, given, { class: 'name given' }));
 }
 
 function drawPin(drawing, part, name, [cx, cy]) {
@@ -119,7 +128,7 @@ function drawWire(drawing, wire) {
   g.addEventListener('click', () => pin && drawing.on.pin && drawing.on.pin(pin));
   drawing.layers.wires.append(g);
   drawing.layers.shine.append(path(d, { class: 'core', stroke: paint }));
-  points.forEach(point => widen(drawing, point));
+  points.forEach((point, i) => { widen(drawing, point); if (i) drawing.legs.push([points[i - 1], point]); });
   drawing.leads.push({ element: g, pin, tip, kind: 'wire' + deep, ends: `${first} – ${second}` });
 }
 
