@@ -417,7 +417,10 @@ def check_board():
 
 
 def check_names():
-    """Names lie beside wires and parts where there is room; names of pins in a row do not meet; a share of less than 10 ms has its microseconds."""
+    """Names lie beside wires and parts where there is room; names of pins in a row do not meet; a share of less than 10 ms has its microseconds;
+    the colours that the editor has for wires are all different."""
+    colors = evaluated("words(given).map(name => colorOf(name, null))", "black brown red orange gold green blue violet gray white cyan limegreen magenta purple yellow")
+    assert len(set(colors)) == 15, colors
     texts = {}
     for name in ("pot-serial", "latch", "seven-segment", "lcd-hello", "oled-hello", "shift-out"):
         with open(os.path.join(examples.folder_of(name), "diagram.json"), encoding="utf-8") as file:

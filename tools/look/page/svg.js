@@ -19,7 +19,7 @@ const upTo = n => [...Array(n).keys()];
 const clamp = (x, low, high) => Math.min(Math.max(x, low), high);
 
 // Colours: CSS names that diagrams use often and #rgb or #rrggbb become [r, g, b]; any other name is `other`.
-const COLORS = { red: '#e8382f', green: '#2bb24c', blue: '#2f7df0', yellow: '#f2c511', orange: '#f08a1d', white: '#f4f4f2', purple: '#a352e0', violet: '#a352e0',
+const COLORS = { red: '#e8382f', green: '#2bb24c', blue: '#2f7df0', yellow: '#f2c511', orange: '#f08a1d', white: '#f4f4f2', purple: '#8f35bd', violet: '#c08bf0',
   black: '#26292b', gray: '#8a9094', grey: '#8a9094', brown: '#8b5a2b', gold: '#d9a514', limegreen: '#43c22f', lime: '#43c22f', cyan: '#19b7cc', aqua: '#19b7cc',
   magenta: '#e23bb4', fuchsia: '#e23bb4', pink: '#f58fb3', navy: '#28408a', teal: '#128387', silver: '#b9bfc3', maroon: '#8d2230', olive: '#84841e',
   darkgreen: '#1d7a38', darkred: '#9b2320', darkblue: '#28408a', darkorange: '#e0741a', lightblue: '#8cc4f0', lightgreen: '#8ddf8f', turquoise: '#2fc9bd', indigo: '#5536a8' };
