@@ -456,6 +456,10 @@ def check_showing():
     pictures = evaluated("given.map(diagram => boardPicture(drawBoard(makeRun({ title: 'x', cycles: 9, diagram, names: [], of: [], waves: [] })), ''))", [SHOWING, three])
     assert [[f">{key}<" in picture for key in "1#D"] for picture in pictures] == [[True, True, True], [True, True, False]], "a keypad of three columns"
     ET.fromstring(before)
+    tall = evaluated("boardPicture(drawBoard(makeRun({ title: 'x', cycles: 9, diagram: given, chips: { 'chip-screen': ['A'] }, names: [], of: [], waves: [], states: [[5, ['chip c row 99 FF0000FF']]] })), '')",
+                     {"parts": [{"type": "chip-screen", "id": "c"}], "connections": []})
+    top, screen = float(re.search(r'viewBox="\S+ (\S+) ', tall)[1]), float(re.search(r'<rect x="-2" y="(\S+)"', tall)[1])
+    assert top <= screen < -400 and before.count('<rect x="-2"') == 2, f"a display is from {screen} on, its picture from {top} on"
     assert "M0 0h1v1h-1z" not in before and 'fill="#ff0000"' in after and 'fill="#00ff00"' in after and "M0 1h1v1h-1z" in after
     assert ["c", "alive\nhello"] in texts and ["keys", "closed: 1 5"] in texts, texts
 

@@ -81,6 +81,7 @@ function drawPart(drawing, part, entry, scenery = '') {
   const isUno = part.type === 'wokwi-arduino-uno';
   if (!part.hidden) (scenery === 'board' ? layers.boards : isUno ? layers.uno : layers.parts).append(g);
   corners.forEach(corner => widen(drawing, corner));
+  if (entry.beyond) entry.beyond(part, run).forEach(point => widen(drawing, place(point)));
   if (part.type === 'wokwi-text') widen(drawing, place([Math.max(...String(part.attrs.text || '').split('\n').map(line => line.length)) * 7.4, 16.5 * String(part.attrs.text || '').split('\n').length]));
   if (entry.named !== false) drawing.named.push([part, boxOfPoints(corners)]);
   if (!part.hidden && scenery !== 'board') drawing.boxes.set(part.id, boxOfPoints(corners));

@@ -6,6 +6,7 @@
 //   draw    (g, part, run) draws into the SVG group g; it may answer a function of a moment, which shows what changes
 //   tell    (part, run, moment), optional: what the part is at the moment, in words
 //   named   false if the part's id is not written over it
+//   beyond  (part, run), optional: points outside its size that the picture has to hold too
 //
 // A moment is {t, since}: the cursor's cycle, and the cycle from which on lights show their mean; since = t is the moment alone.
 // Places of pins are those of Wokwi's editor as far as they are known; docs/LOOK.md has a table of what was checked.
@@ -363,12 +364,15 @@ function boxOf(part, wires) {
   const names = part.pins || [...new Set(used)], half = Math.ceil(names.length / 2), title = part.type.replace(/^(chip|wokwi|board)-/, '');
   const longest = side => Math.max(0, ...side.map(name => name.length)), wide = 5.2 * (longest(names.slice(0, half)) + longest(names.slice(half))) + 34;
   const width = Math.max(66, wide, 7.2 * title.length + 26), height = 24 + 14.4 * Math.max(half, 1), pins = {};
-  let pixels = null;                // what its display shows, once its lines have rows
   names.forEach((name, i) => { if (name) pins[name] = i < half ? [0, 28 + 14.4 * i] : [width, 28 + 14.4 * (names.length - 1 - i)]; });
   return {
     size: [width, height],
     pins,
+    beyond(drawn, run) { const display = displayOf(run, drawn.id, width); return display ? [[-2, display.top - 2]] : []; },
     draw(g, drawn, run) {
+      const display = displayOf(run, drawn.id, width);
+      let pixels = null;            // what its display shows, once its lines have rows
+      if (display) g.append(rect(-2, display.top - 2, display.width + 4, display.height + 4, { rx: 2, fill: '#0b0f14' }));
       g.append(rect(6, 1, width - 12, height - 2, { rx: 4, fill: '#34434f', stroke: '#141c22' }), path(`M6 19H${width - 6}`, { stroke: '#55677a', 'stroke-width': .8 }), label(width / 2, 14, title, { ...middle, 'font-size': 9.5, 'font-weight': 700, fill: '#ffffff' }));
       for (const [name, [x, y]] of Object.entries(pins)) {
         g.append(path(`M${x} ${y}h${x ? -6 : 6}`, { class: 'lead' }), label(x ? width - 10 : 10, y + 2.9, name, { 'font-size': 8, fill: '#dbe3e9', 'text-anchor': x ? 'end' : 'start' }));
@@ -382,7 +386,7 @@ function boxOf(part, wires) {
         if (all === (shown ?? '')) return;
         shown = all;
         if (pixels) pixels.remove();
-        pixels = pixelsOf(rows.map(line => line.split(' ').slice(3)), width);
+        pixels = pixelsOf(rows.map(line => line.split(' ').slice(3)), display);
         g.append(pixels);
       };
     },
@@ -394,16 +398,28 @@ function boxOf(part, wires) {
   };
 }
 
-// Rows of a chip's display, [[y, text of RGBA bytes], ..], as wide as its box, above it; one path for each colour.
-function pixelsOf(rows, width) {
-  const paths = new Map(), wide = Math.max(1, ...rows.map(([, text]) => text.length / 8)), scale = Math.min(width / wide, 4);
+// Where a chip's display is drawn: above its box and its name, as wide as the box, and as high as what it shows at any time of the run.
+function displayOf(run, id, room) {
+  let wide = 0, high = 0;
+  for (const [, lines] of run.states) {
+    for (const line of lines) {
+      const [, part, kind, y, text] = line.split(' ');
+      if (part === id && kind === 'row') { wide = Math.max(wide, text.length / 8); high = Math.max(high, Number(y) + 1); }
+    }
+  }
+  const scale = Math.min(room / Math.max(wide, 1), 4);
+  return high ? { scale, width: scale * wide, height: scale * high, top: -Math.ceil(scale * high + 18) } : null;
+}
+
+// Rows of a chip's display, [[y, text of RGBA bytes], ..]; one path for each colour.
+function pixelsOf(rows, { scale, top }) {
+  const paths = new Map(), g = svg('g', { transform: `translate(0 ${top}) scale(${scale})` });
   for (const [y, text] of rows) {
     for (let x = 0; x < text.length / 8; x++) {
       const color = text.slice(8 * x, 8 * x + 8);
       if (parseInt(color.slice(6), 16)) paths.set(color, (paths.get(color) || '') + `M${x} ${y}h1v1h-1z`);
     }
   }
-  const g = svg('g', { transform: `translate(0 -${Math.ceil(scale * (1 + Math.max(0, ...rows.map(([y]) => Number(y)))) + 18)}) scale(${scale})` });
   for (const [color, d] of paths) g.append(path(d, { fill: '#' + color.slice(0, 6).toLowerCase(), 'fill-opacity': parseInt(color.slice(6), 16) / 255 }));
   return g;
 }
