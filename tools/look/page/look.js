@@ -116,7 +116,7 @@ function factsOf(run) {
   const edges = run.waves.reduce((sum, wave) => sum + wave.t.length - 1, 0), whole = run.from === 0 && run.to === run.cycles;
   const time = `${grouped(run.cycles / 16)} µs, ${grouped(run.cycles)} cycles`;
   const counted = (n, one) => `${grouped(n)} ${one}${n === 1 ? '' : 's'}`;
-  return `${whole ? time : `${inMicroseconds(run.from)} to ${inMicroseconds(run.to)} of ${time}`}; ${counted(edges, 'change')} in ${counted(movedNames(run).length, 'different wave')}`;
+  return `${whole ? time : `${inMicroseconds(run.from)} to ${inMicroseconds(run.to)} of ${time}`}; ${counted(edges, 'change')} in ${movedNames(run).length === 1 ? '1 wave' : counted(movedNames(run).length, 'different wave')}`;
 }
 
 function showLeft(look) {           // what the run, or the page, left out, each with its time; what a tool said of the project: in words
