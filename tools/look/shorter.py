@@ -36,13 +36,15 @@ def report_of(runs, us):
 
 def shown_times(waves, report, us, runs):
     """[[cycle, lines], ..]: what chips showed from that cycle on, which no wave tells. Looks first where the pins begin to rest,
-    then always in the middle of the widest gap between two times that differ."""
+    then always in the widest gap between two times that differ: just before the last edge if the gap ends where a rest begins, since
+    most chips show what a pin did at once, else in the middle."""
     lines_of = lambda text: [line for line in text or [] if SHOWN.match(line)]
     last = lines_of(report.split("\n"))
     if not last:
         return []
     at = {us: last}
-    for wanted in [1] + rests(waves, us, max(runs.left // 3, 0)):
+    resting = rests(waves, us, max(runs.left // 3, 0))
+    for wanted in [1] + resting:
         shorter = report_of(runs, wanted)
         if shorter is not None:
             at[wanted] = lines_of(shorter)
@@ -51,10 +53,11 @@ def shown_times(waves, report, us, runs):
         width, begin = max(((b - a, a) for a, b in zip(order, order[1:]) if at[a] != at[b]), default=(0, 0))
         if width <= max(50, us // 1000):
             break
-        shorter = report_of(runs, begin + width // 2)
+        wanted = begin + width - 2 if begin + width in resting else begin + width // 2
+        shorter = report_of(runs, wanted)
         if shorter is None:
             break
-        at[begin + width // 2] = lines_of(shorter)
+        at[wanted] = lines_of(shorter)
     order = sorted(at)
     return [[time * CYCLES_A_MICROSECOND, at[time]] for i, time in enumerate(order) if not i or at[time] != at[order[i - 1]]]
 

@@ -19,6 +19,7 @@ from page import SCRIPTS, STYLES, page_of, script_of, style_of
 from picture import waves_svg
 from program import Refused, run
 from serial_times import FORMATS, decided, levels_of, readings
+from shorter import shown_times
 from wave import level_at, moved_names, read_wave
 
 MANY = 1 << 40
@@ -194,6 +195,28 @@ def check_part_of_times():
         assert json.loads(re.search(r'id="data">(.*?)</script>', page_of(seen), re.S)[1])["times"][0] == whole[0]
 
 
+class Printing:
+    """Runs with a chip that prints a line at each of some microseconds; `left` is how many may still be made."""
+    def __init__(self, times, left):
+        self.times, self.left = times, left
+
+    def report(self, us):
+        self.left -= 1
+        return "\n".join(f"chip c | {time}" for time in self.times if time < us)
+
+
+def check_shown():
+    """What a chip prints when its pin moves is found to two microseconds by two runs for each line; what it prints elsewhere, to a gap."""
+    us, edges = 4_000_000, [1_000_000, 2_000_000, 3_000_000]
+    wave = array("I", [0] + [edge * 16 << 2 | i & 1 for i, edge in enumerate(edges)])
+    for times, spent in ((edges, 2 * len(edges) + 2), (edges + [1_500_000], 30)):
+        runs = Printing(sorted(times), 64)
+        shown = shown_times([wave], runs.report(us), us, runs)
+        came = {time: next(cycle // 16 for cycle, lines in shown if f"chip c | {time}" in lines) for time in times}
+        assert all(0 < came[time] - time <= (2 if time in edges else us // 1000) for time in times), came
+        assert 64 - runs.left - 1 <= spent, (times, 64 - runs.left - 1)
+
+
 # ---- What a run leaves out: a firmware that writes where nothing is and then halts, and a chip that ends
 
 NOT_THERE, NO_INSTRUCTION = 0xD0, 0x0001
@@ -279,7 +302,7 @@ def everything():
     bad = 0
     jobs = [(f"look, wave of {name}", check_example, (name,)) for name in examples.names()]
     jobs += [(f"look, page of {name}", check_page, (name,)) for name in ("button", "chip-echo", "lcd-i2c", "seven-segment")]
-    jobs += [("look, bytes at two speeds", check_two_speeds, ()), ("look, bytes in each format", check_formats, ()), ("look, bytes of a part of a run", check_part_of_times, ()), ("look, what a run leaves out", check_left_out, ())]
+    jobs += [("look, bytes at two speeds", check_two_speeds, ()), ("look, bytes in each format", check_formats, ()), ("look, bytes of a part of a run", check_part_of_times, ()), ("look, what a run leaves out", check_left_out, ()), ("look, what a chip prints", check_shown, ())]
     with concurrent.futures.ThreadPoolExecutor(4) as pool:
         for name, future in [(name, pool.submit(call, *values)) for name, call, values in jobs]:
             try:
