@@ -52,7 +52,7 @@ function plotColumns(c, wave, box, from, span, first, last, y, pens, flat, ink) 
   if (x0 < box.x + box.width) flat(wave.v[i], x0, box.x + box.width);
 }
 
-// Frames as boxes with their text where there is room for it.
+// Frames as boxes with their text where there is room for it; it may go over the box into half the space to the next one, 3 pixels at most.
 function plotFrames(c, frames, box, from, to, ink) {
   const span = to - from, xOf = t => box.x + (t - from) / span * box.width, top = box.top + 2.5, tall = box.height - 5;
   c.textAlign = 'center'; c.textBaseline = 'middle'; c.font = ink.small;
@@ -61,7 +61,8 @@ function plotFrames(c, frames, box, from, to, ink) {
     c.fillStyle = frame.kind === 'start' || frame.kind === 'stop' ? ink.mark : wide <= 4 ? ink.dim : frame.kind === 'address' ? ink.address : ink.frame;
     c.fillRect(x, top, wide, tall);
     if (wide > 4) { c.strokeStyle = ink.line; c.lineWidth = 1; c.strokeRect(x + .5, top + .5, wide - 1, tall - 1); }
-    if (wide > c.measureText(frame.text).width + 1) { c.fillStyle = ink.text; c.fillText(frame.text, x + wide / 2, top + tall / 2 + .5); }
+    const before = i ? x - xOf(frames[i - 1].to) : 6, after = i + 1 < frames.length ? xOf(frames[i + 1].from) - end : 6;
+    if (wide > 4 && wide + 2 * clamp(Math.min(before, after) / 2, 0, 3) > c.measureText(frame.text).width + 1) { c.fillStyle = ink.text; c.fillText(frame.text, x + wide / 2, top + tall / 2 + .5); }
     if (wide < 2) {                 // many in one pixel: go on at the next one
       const next = firstFrame(frames, from + (x + 1.5 - box.x) / box.width * span);
       if (next > i + 1) i = next - 1;
