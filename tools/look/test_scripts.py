@@ -376,6 +376,8 @@ ROUTES = [
     ([0, 0], [30, 40], ["v10", "*", "h-5"], [[0, 0], [0, 10], [25, 10], [25, 40], [30, 40]]),
     ([0, 0], [0, 40], ["v0"], [[0, 0], [0, 40]]),
 ]
+# From a logic analyzer to an LED so near to the Uno that the way out of its pin would end in the Uno, and the Uno's box.
+FREE = [{"at": [-106, -72], "box": [-100, -100, 22, -62]}, {"at": [265, -18], "box": [240, -60, 280, -10]}, [-14, 0, 274, 201]]
 PLACES = [({"left": 53.8, "top": -65.65, "rotate": 90}, [58.8, 11.3], [0, 5.65], [83.2, -89.4]), ({"left": 0, "top": 0, "rotate": 180}, [10, 20], [0, 0], [10, 20])]
 
 
@@ -388,7 +390,7 @@ ENDS = """{ const run = makeRun({ title: '', cycles: 1, diagram: given, names: [
 
 
 def check_geometry():
-    """Wires by their hints, and turned parts; in the counter's diagram each wire of STRAIGHT ends without another corner."""
+    """Wires by their hints, wires without them around the Uno, and turned parts; in the counter's diagram each wire of STRAIGHT ends without another corner."""
     with open(os.path.join(examples.folder_of("counter"), "diagram.json"), encoding="utf-8") as file:
         ends = {(a, b): (end, pin) for a, b, end, pin in evaluated(ENDS, json.load(file))}
     for wire in STRAIGHT:
@@ -399,6 +401,8 @@ def check_geometry():
         assert found == points, (hints, found)
     for (part, _, _, spot), found in zip(PLACES, places):
         assert [round(x, 6) for x in found] == spot, (part, found)
+    way = evaluated("{ const [from, to, uno] = given, points = freeRoute(from, to, [from.box, to.box, uno], 19); return points.slice(1).map((point, i) => [points[i], point, goesThrough(points[i], point, uno)]); }", FREE)
+    assert not any(through for _, _, through in way), way
 
 
 def check_board():

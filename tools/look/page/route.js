@@ -47,12 +47,14 @@ function goesThrough([x, y], [u, v], [left, top, right, bottom]) {
   return Math.max(x, u) > left + 1 && Math.min(x, u) < right - 1 && Math.max(y, v) > top + 1 && Math.min(y, v) < bottom - 1;
 }
 
-// `from` and `to` are {at, box}. Of the ways with up to two corners between the ends of both ways out, the one that goes through the
-// fewest of `boxes`, and then the shortest.
+// `from` and `to` are {at, box}. Of the ways with up to three corners between the ends of both ways out, the one that goes through the
+// fewest of `boxes`, and then the shortest. A way out is shorter where it would end in a box.
 function freeRoute(from, to, boxes, gap) {
-  const p = wayOut(from.at, from.box, gap), q = wayOut(to.at, to.box, gap), edges = [from.box, to.box];
+  const out = ({ at, box }) => [gap, gap / 2, 2].map(n => wayOut(at, box, n)).find(end => !boxes.some(other => goesThrough(end, end, other))) || wayOut(at, box, gap);
+  const p = out(from), q = out(to), edges = [from.box, to.box];
   const across = [p[0], q[0], ...edges.flatMap(box => [box[0] - gap, box[2] + gap])], down = [p[1], q[1], ...edges.flatMap(box => [box[1] - gap, box[3] + gap])];
-  const ways = [...across.map(x => [p, [x, p[1]], [x, q[1]], q]), ...down.map(y => [p, [p[0], y], [q[0], y], q])];
+  const ways = [...across.map(x => [p, [x, p[1]], [x, q[1]], q]), ...down.map(y => [p, [p[0], y], [q[0], y], q]),
+    ...across.flatMap(x => down.flatMap(y => [[p, [p[0], y], [x, y], [x, q[1]], q], [p, [x, p[1]], [x, y], [q[0], y], q]]))];
   const cost = way => {
     const legs = way.slice(1).map((point, i) => [way[i], point]);
     const through = legs.reduce((sum, [a, b]) => sum + boxes.filter(box => goesThrough(a, b, box)).length, 0);
