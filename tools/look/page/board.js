@@ -122,7 +122,7 @@ function drawWire(drawing, wire) {
   if (isPlug(wire)) { drawing.layers.boards.append(path(`M${from}L${to}`, { class: 'lead' })); return; }
   const steps = Array.isArray(hints) ? hints.filter(hint => typeof hint === 'string') : [], ends = [first, second].map(end => ({ at: drawing.spots.get(end), box: drawing.boxes.get(end.split(':')[0]) }));
   const isFree = !steps.length && ends.every(end => end.box) && Math.hypot(from[0] - to[0], from[1] - to[1]) > NEAR;
-  const points = isFree ? freeRoute(...ends, [...drawing.boxes.values()], 7 + 3 * (drawing.free++ % 7)) : routeOf(from, to, steps), d = roundedPath(points);
+  const points = isFree ? freeRoute(...ends, [...drawing.boxes.values()], 7 + 2.5 * (drawing.free++ % 9)) : routeOf(from, to, steps), d = roundedPath(points);
   const [pin] = typeof level === 'string' ? [level] : [first, second].map(end => end.replace(':', '.')).filter(name => drawing.run.waveOf.has(name)).concat(first.replace(':', '.'));
   const paint = colorOf(color, COLORS.gray), deep = rgb(paint).every(n => n < 90) ? ' deep' : '', g = svg('g'), tip = svg('title');
   g.append(path(d, { class: 'halo' }), path(d, { class: 'casing' }), path(d, { class: 'core', stroke: paint }), tip);
