@@ -25,7 +25,7 @@ use Rattle.board_laws.proofs.SteadyLaw.{steady_states, steady_before, steady_row
 use Rattle.board_run.specs.Changes.{LastTells}
 use Rattle.board_run.specs.Seen.{Seen, IsOf, IsTold, HasAt, Put, retold, shown_at}
 use Rattle.board_run.specs.Lagging.{glided}
-use Rattle.board_run.specs.Legs.{Kept, Lags, Leg, Rests, WentAlone, IsAlone}
+use Rattle.board_run.specs.Legs.{Kept, Lags, Leg, WentAlone, IsAlone}
 use Rattle.board_run.proofs.ShowLemmas.{shown_is}
 use Rattle.board_model.proofs.RoomLemmas.{SameRoom, fits_room, chips_room}
 use Rattle.board_run.proofs.LagLemmas.{lags_stand, stand_show, stand_are, lag_of, Ts}
@@ -372,44 +372,41 @@ behind_between inputs i t u limit from within first last = record {
 }
 
 module _ {S P : Type 0} (m : Machine S) (laws : Laws m) (w : Wiring) (state : P → S) (now wakes : P → ℕ) (inputs : List Input) where
-  -- what a stretch of one part does that ends at cycle u, not after n
-  pub record Goes (t u n : ℕ) (parts new : List P) (kept after : Kept) (steps more : ℕ) (bs : List ℕ) : Type 0 where
-    pub further : t < u
-    pub rests : Rests m w state now wakes inputs t u n parts new kept after steps more
+  -- what a stretch of one part does that ends at cycle u
+  pub record Goes (t u : ℕ) (parts new : List P) (kept after : Kept) (steps more : ℕ) (bs : List ℕ) : Type 0 where
+    pub lags : Lags m w state now wakes u new after
+    pub behind : AreBehind inputs after.input u
+    pub leg : Leg m w state now wakes inputs t u parts new kept.seen after.seen steps more
+    pub steady : IsSteady m w inputs (Ts m laws w state now wakes t parts) t (u - t)
+    pub tells : LastTells m w inputs after.stale (Ts m laws w state now wakes t parts) t (u - t)
     pub row_none : rows m w inputs (shown_at t kept.seen) (Ts m laws w state now wakes t parts) t (u - t) ≡ []
     pub bytes_are : bytes m w inputs (Ts m laws w state now wakes t parts) t (u - t) ≡ bs
 
   -- where a part was found that goes on alone up to a limit, and it did
-  pub alone_goes : (t u limit n : ℕ) (parts new : List P) (kept : Kept) (before after : List (Option ℕ)) (changed : Bool) (steps more who : ℕ) (p q : P) (d : Option ℕ) (seen : Seen) →
-      before ≡ kept.dues → seen ≡ retold kept.seen seen.circuit.drives seen.circuit.closed → IsTold m (map state new) seen.circuit →
-      Lags m w state now wakes t parts kept → kept.stale ≡ false → 0 < t → AreBehind inputs kept.input t → u ≤ limit → limit ≤ n → n ≤ MOST_CYCLES → IsAlone inputs kept.dues kept.input who t limit →
-      WentAlone m state now wakes who t u parts new before after changed steps more p q d →
-      Goes t u n parts new kept (record { input = kept.input; stale = changed; dues = after; seen = seen; answers = kept.answers }) steps more (sent m (glided m state now wakes t p) t (u - t))
-  alone_goes t u limit n parts new kept before after changed steps more who p q d seen same rest is_told lags fresh later behind within least end alone alone_went =
-      let went = subst (λ (xs : List (Option ℕ)). WentAlone m state now wakes who t u parts new xs after changed steps more p q d) same alone_went in
+  pub alone_goes : (t u limit : ℕ) (parts new : List P) (kept : Kept) (after : List (Option ℕ)) (changed : Bool) (steps more who : ℕ) (p q : P) (d : Option ℕ) (seen : Seen) →
+      seen ≡ retold kept.seen seen.circuit.drives seen.circuit.closed → IsTold m (map state new) seen.circuit →
+      Lags m w state now wakes t parts kept → kept.stale ≡ false → 0 < t → AreBehind inputs kept.input t → u ≤ limit → limit ≤ MOST_CYCLES → IsAlone inputs kept.dues kept.input who t limit →
+      WentAlone m state now wakes who t u parts new kept.dues after changed steps more p q d →
+      Goes t u parts new kept (record { input = kept.input; stale = changed; dues = after; seen = seen; answers = kept.answers }) steps more (sent m (glided m state now wakes t p) t (u - t))
+  alone_goes t u limit parts new kept after changed steps more who p q d seen rest is_told lags fresh later behind within end alone went =
       let ds = seen.circuit.drives in
       let cs = seen.circuit.closed in
       let told : IsTold m (map state new) (retold kept.seen ds cs).circuit = record { drives_are = is_told.drives_are; closed_are = is_told.closed_are } in
       let further = went.further in
       let order : t ≤ u = omega (arith, further) in
-      let last : u ≤ MOST_CYCLES = omega (arith, within, least, end) in
+      let last : u ≤ MOST_CYCLES = omega (arith, within, end) in
       let quiet : (k : ℕ) (x : P) → k ≢ who → slice_get parts k ≡ Some x → IsQuiet m (state x) (now x) (u - now x) = λ k x other ex.
       let inside : k < length kept.dues = omega (arith, slice_get_within parts k x ex, lags.dues_long) in
       let ed : slice_get kept.dues k ≡ Some (get_or kept.dues k None) = get_within kept.dues k None inside in
       quiet_until m state now wakes t u (get_or kept.dues k None) x order last (lags.may k x (get_or kept.dues k None) ex ed) (λ v e l. let far = alone.others k v other (ed ∙ ap Some e) in omega (arith, far, within)) in
       let silent : (v k : ℕ) → t ≤ v → v < u → input_at inputs v k ≡ None = λ v k from before. alone.silent v k from (omega (arith, before, within)) in
-      let goes = λ (xs : List P) (es : List (Option ℕ)) (s : Seen). Goes t u n parts xs kept (record { input = kept.input; stale = changed; dues = es; seen = s; answers = kept.answers }) steps more (sent m (glided m state now wakes t p) t (u - t)) in
+      let goes = λ (xs : List P) (es : List (Option ℕ)) (s : Seen). Goes t u parts xs kept (record { input = kept.input; stale = changed; dues = es; seen = s; answers = kept.answers }) steps more (sent m (glided m state now wakes t p) t (u - t)) in
       let here : goes (slice_set parts who q) (slice_set kept.dues who d) (retold kept.seen ds cs) = record {
-        further = further;
-        rests = record {
-          within = omega (arith, within, least);
-          lags = alone_lags m laws w state now wakes inputs t u parts kept lags fresh later order who p q went.here quiet silent went.same went.state_is went.now_is went.woken_is changed d ds cs (subst (λ (xs : List P). IsTold m (map state xs) (retold kept.seen ds cs).circuit) went.new_is told) went.first went.drives went.contacts;
-          behind = behind_between inputs kept.input t u limit order within behind alone.behind;
-          leg = alone_leg m laws w state now wakes inputs t u parts kept lags fresh later order who p q went.here quiet silent went.same went.state_is went.now_is went.woken_is ds cs steps more went.steps_are;
-          steady = λ _. steady m laws w state now wakes inputs t u parts kept lags fresh later order who p q went.here quiet silent went.same went.state_is went.now_is went.woken_is;
-          tells = λ _. alone_tells m laws w state now wakes inputs t u parts kept lags fresh later order who p q went.here quiet silent went.same went.state_is went.now_is went.woken_is changed further went.drives went.contacts went.other;
-          stays = λ is. absurd (omega (arith, further, is));
-        };
+        lags = alone_lags m laws w state now wakes inputs t u parts kept lags fresh later order who p q went.here quiet silent went.same went.state_is went.now_is went.woken_is changed d ds cs (subst (λ (xs : List P). IsTold m (map state xs) (retold kept.seen ds cs).circuit) went.new_is told) went.first went.drives went.contacts;
+        behind = behind_between inputs kept.input t u limit order within behind alone.behind;
+        leg = alone_leg m laws w state now wakes inputs t u parts kept lags fresh later order who p q went.here quiet silent went.same went.state_is went.now_is went.woken_is ds cs steps more went.steps_are;
+        steady = steady m laws w state now wakes inputs t u parts kept lags fresh later order who p q went.here quiet silent went.same went.state_is went.now_is went.woken_is;
+        tells = alone_tells m laws w state now wakes inputs t u parts kept lags fresh later order who p q went.here quiet silent went.same went.state_is went.now_is went.woken_is changed further went.drives went.contacts went.other;
         row_none = alone_rows m laws w state now wakes inputs t u parts kept lags fresh later order who p q went.here quiet silent went.same went.state_is went.now_is went.woken_is;
         bytes_are = alone_bytes m laws w state now wakes inputs t u parts kept lags fresh later order who p q went.here quiet silent went.same went.state_is went.now_is went.woken_is;
       } in

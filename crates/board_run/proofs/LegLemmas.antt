@@ -145,21 +145,6 @@ module _ {S P : Type 0} (m : Machine S) (laws : Laws m) (w : Wiring) (state : P 
         subst (λ (l : List S). Tells m changed (states m w inputs Ss t (v - t - 1)) l) (sym (ap (states m w inputs Ss t) count ∙ later_states (v - u)))
         (subst (λ (l : List S). Tells m changed l (states m w inputs Ms u (v - u))) (sym (ap (states m w inputs Ss t) before ∙ later_states (v - u - 1))) tells)
 
-    pub rows_then : rows m w inputs (shown_at t before) Ss t (v - t) ≡ rows m w inputs (shown_at t before) Ss t (u - t) ++ rows m w inputs (shown_at u seen) Ms u (v - u)
-    rows_then =
-        let so_far = rows m w inputs (shown_at t before) Ss t (u - t) in
-        ap (rows m w inputs (shown_at t before) Ss t) count ∙ rows_split m w inputs (shown_at t before) Ss t (u - t) (v - u)
-        ∙ ap (λ (o : Option Shown). so_far ++ rows m w inputs o (states m w inputs Ss t (u - t)) (t + (u - t)) (v - u)) first.before_is
-        ∙ ap (λ (l : List S). so_far ++ rows m w inputs (shown_at u seen) l (t + (u - t)) (v - u)) (sym first.states_are)
-        ∙ ap (λ (c : ℕ). so_far ++ rows m w inputs (shown_at u seen) Ms c (v - u)) there
-
-    pub bytes_then : bytes m w inputs Ss t (v - t) ≡ bytes m w inputs Ss t (u - t) ++ bytes m w inputs Ms u (v - u)
-    bytes_then =
-        let so_far = bytes m w inputs Ss t (u - t) in
-        ap (bytes m w inputs Ss t) count ∙ bytes_split m w inputs Ss t (u - t) (v - u)
-        ∙ ap (λ (l : List S). so_far ++ bytes m w inputs l (t + (u - t)) (v - u)) (sym first.states_are)
-        ∙ ap (λ (c : ℕ). so_far ++ bytes m w inputs Ms c (v - u)) there
-
   -- quiet cycles
   module _ (t u : ℕ) (parts : List P) (kept : Kept) (lags : Lags m w state now wakes t parts kept) (fresh : kept.stale ≡ false) (after : 0 < t) (order : t ≤ u)
       (quiet : (k : ℕ) (p : P) → slice_get parts k ≡ Some p → IsQuiet m (state p) (now p) (u - now p))

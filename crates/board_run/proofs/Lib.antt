@@ -12,5 +12,5 @@ pub mod LagLemmas
 pub mod LegLemmas
 pub mod NextLemmas
 pub mod AloneLemmas
-pub mod ReachLemmas
+pub mod EngineLemmas
 pub mod ViewLemmas

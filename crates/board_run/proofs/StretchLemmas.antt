@@ -1,5 +1,5 @@
 -- A stretch of the board up to the next cycle in which something may happen.
-use Rattle.std.proofs.Common.{◌≡◌, ◌≢◌, ◌⊎◌, ◌∙◌, ℕ, zero, suc, ◌-◌, ◌<◌, ◌≤◌, refl, ap, sym, arith, subst, inl, inr}
+use Rattle.std.proofs.Common.{◌≡◌, ◌≢◌, ◌⊎◌, ◌∙◌, ℕ, zero, suc, ◌-◌, ◌<◌, ◌≤◌, refl, ap, arith, subst, inl, inr}
 use Rattle.std.proofs.Common.{List, length, map, get_or, Bool, true, false, Option, None, Some}
 use Rattle.std.specs.Prelude.{◌==◌, ◌||◌, slice_get}
 use Rattle.std.proofs.lemmas.Option.{slice_get_within}
@@ -10,12 +10,11 @@ use Rattle.part_law.specs.Machine.{Machine, Laws, glide}
 use Rattle.board_model.specs.Board.{input_at}
 use Rattle.board_model.proofs.Lists.{get_within, some_map}
 use Rattle.board_laws.specs.Stretch.{IsStretch}
-use Rattle.board_run.specs.Changes.{LastTells, HasEvent}
-use Rattle.board_run.specs.Upcoming.{AreBehind}
-use Rattle.board_run.specs.Lagging.{glided, AreLate}
-use Rattle.board_run.specs.Legs.{Kept, Lags, Leg, Rests, AreAt}
-use Rattle.board_run.proofs.NextLemmas.{below_or, quiet_until, some_there}
-use Rattle.board_run.proofs.LegLemmas.{at_here, stretch, jumps_to, leg_none}
+use Rattle.board_run.specs.Changes.{HasEvent}
+use Rattle.board_run.specs.Lagging.{AreLate}
+use Rattle.board_run.specs.Legs.{Kept, Lags, AreAt}
+use Rattle.board_run.proofs.NextLemmas.{quiet_until, some_there}
+use Rattle.board_run.proofs.LegLemmas.{at_here, stretch}
 
 -- where something may happen later than now, no drive has changed, and cycle 0 is over
 pub unchanged : (stale : Bool) (t r : ℕ) → ((stale || (t == 0)) ≡ true → r ≡ t) → t < r → (stale ≡ false) × (0 < t)
@@ -50,33 +49,3 @@ module _ {S P : Type 0} (m : Machine S) (laws : Laws m) (w : Wiring) (state : P 
       let p = some_there parts x.0 (omega (arith, slice_get_within kept.dues x.0 (Some u) x.1, lags.dues_long)) in
       let first = (lags.may x.0 p.0 (Some u) p.1 x.1).first in
       inl (x.0, state p.0, some_map state parts x.0 p.0 p.1, subst (λ (c : ℕ). m.due (glide m (state p.0) c (u - c)) u ≡ true) (at x.0 p.0 p.1) first.3)
-
-  -- nothing new is shown up to there, where no part is due before and the script says nothing
-  pub rests_to : (t u n : ℕ) (parts : List P) (kept : Kept) (steps : ℕ) → Lags m w state now wakes t parts kept → t ≤ u → u ≤ n → u ≤ MOST_CYCLES → ((kept.stale || (t == 0)) ≡ true → u ≡ t) →
-      AreLate kept.dues u → ((v k : ℕ) → t ≤ v → v < u → input_at inputs v k ≡ None) → AreBehind inputs kept.input u → Rests m w state now wakes inputs t u n parts parts kept kept steps steps
-  rests_to t u n parts kept steps lags order within end stays due silent behind = elim (below_or t u) [
-    | inl less ↦
-        let still = unchanged kept.stale t u stays less in
-        let none : kept.stale ≡ true → u ≡ t = λ e. absurd (let x : true ≡ false = sym e ∙ still.0 in cc) in
-        let j = jumps_to m laws w state now wakes inputs t u parts kept steps lags still.1 order end none (λ k x e. due k x e) silent in
-        record {
-          within = within;
-          lags = j.lags;
-          behind = behind;
-          leg = j.leg;
-          steady = λ _. j.rests still.0;
-          tells = λ _. subst (λ (b : Bool). LastTells m w inputs b (map (glided m state now wakes t) parts) t (u - t)) (sym still.0) (j.tells still.0);
-          stays = λ _. refl;
-        }
-    | inr more ↦
-        let same : t ≡ u = omega (arith, more, order) in
-        record {
-          within = within;
-          lags = subst (λ (v : ℕ). Lags m w state now wakes v parts kept) same lags;
-          behind = behind;
-          leg = subst (λ (v : ℕ). Leg m w state now wakes inputs t v parts parts kept.seen kept.seen steps steps) same (leg_none m laws w state now wakes inputs t steps parts kept.seen);
-          steady = λ less. absurd (omega (arith, same, less));
-          tells = λ less. absurd (omega (arith, same, less));
-          stays = λ _. refl;
-        }
-  ]

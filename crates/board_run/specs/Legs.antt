@@ -1,22 +1,16 @@
 -- A board on its way whose parts lag behind: what holds at a cycle, and what a leg of the way does. No public clause cites this.
 use Rattle.std.specs.Prelude.{◌≡◌, ◌≢◌, ℕ, ◌+◌, ◌-◌, ◌<◌, ◌≤◌, List, length, map, Bool, true, false, Option, None, Some, slice_get, slice_set}
-use Rattle.sim_base.specs.Causes.{Rose}
-use Rattle.sim_base.specs.Rows.{Row, Handed, StopsWithin, IsBehind}
-use Rattle.sim_base.specs.declared.signal.Level.{Level}
 use Rattle.sim_base.specs.declared.wiring.Wiring.{Wiring}
 use Rattle.sim_base.specs.declared.wiring.Input.{Input}
 use Rattle.part_law.specs.Machine.{Machine, glide, dues, IsSame, IsFirstDue}
-use Rattle.board_model.specs.Board.{input_at, states, bytes}
-use Rattle.board_model.specs.Rows.{chip_drives_of, shown_before, rows}
+use Rattle.board_model.specs.Board.{input_at, states}
+use Rattle.board_model.specs.Rows.{chip_drives_of, shown_before}
 use Rattle.board_model.specs.Fits.{Fits}
 use Rattle.board_laws.specs.Active.{active_cycles, active_pairs}
-use Rattle.board_laws.specs.Steady.{IsSteady}
-use Rattle.board_run.specs.Changes.{LastTells}
 use Rattle.board_run.specs.Upcoming.{AreBehind}
 use Rattle.board_run.specs.Seen.{Seen, Suits, IsOf, IsTold, levels_on, shown_at}
 use Rattle.board_run.specs.Parts.{AreNone}
 use Rattle.board_run.specs.Lagging.{glided, MayTurnAt}
-use Rattle.board_run.specs.declared.show.Next.{Next}
 
 -- what an engine keeps beside the parts
 pub record Kept : Type 0 where
@@ -28,10 +22,6 @@ pub record Kept : Type 0 where
   pub dues : List (Option ℕ)
   pub seen : Seen
   pub answers : List (Option ℕ)
-
--- that, of where the board goes on and what was found last
-abbrev pub kept_of : Next → List (Option ℕ) → Seen → List (Option ℕ) → Kept
-kept_of next dues seen answers = record { input = next.input; stale = next.stale; dues = dues; seen = seen; answers = answers }
 
 -- each part stands at the cycle
 abbrev pub AreAt : {P : Type 0} → (P → ℕ) → ℕ → List P → Type 0
@@ -61,34 +51,6 @@ module _ {S P : Type 0} (m : Machine S) (w : Wiring) (state : P → S) (now wake
     pub before_is : shown_before m w inputs (shown_at t seen) (map (glided m state now wakes t) old) t (u - t) ≡ shown_at u after
     pub woken : (k : ℕ) (p q : P) → slice_get old k ≡ Some p → slice_get new k ≡ Some q → wakes q ≡ wakes p + active_cycles m w inputs (map (glided m state now wakes t) old) t (u - t) k
     pub steps_are : more ≡ steps + active_pairs m w inputs (map (glided m state now wakes t) old) t (u - t)
-
-  -- From cycle t the engine came to cycle u, from which it may go on, and nothing new is shown between them.
-  pub record Rests (inputs : List Input) (t u n : ℕ) (old new : List P) (kept after : Kept) (steps more : ℕ) : Type 0 where
-    pub within : u ≤ n
-    pub lags : Lags u new after
-    pub behind : AreBehind inputs after.input u
-    pub leg : Leg inputs t u old new kept.seen after.seen steps more
-    pub steady : t < u → IsSteady m w inputs (map (glided m state now wakes t) old) t (u - t)
-    pub tells : t < u → LastTells m w inputs after.stale (map (glided m state now wakes t) old) t (u - t)
-    pub stays : u ≡ t → after.stale ≡ kept.stale
-
-  module _ {W : Type 0} (whole : W → Bool) (faults : W → ℕ) (stands stopped : W → List Row → List ℕ → Type 0) (last : W → Option ℕ) (holds : W → List Level → Type 0) where
-    -- From cycle t the engine came to cycle u, from which it may go on, and what the board shows meanwhile was handed out.
-    pub record Reached (inputs : List Input) (t u : ℕ) (old new : List P) (before : Seen) (kept : Kept) (steps more : ℕ) (out after : W) : Type 0 where
-      pub lags : Lags u new kept
-      pub behind : AreBehind inputs kept.input u
-      pub leg : Leg inputs t u old new before kept.seen steps more
-      pub handed : Handed whole faults stands out after (rows m w inputs (shown_at t before) (map (glided m state now wakes t) old) t (u - t)) (bytes m w inputs (map (glided m state now wakes t) old) t (u - t))
-      pub tells : t < u → LastTells m w inputs kept.stale (map (glided m state now wakes t) old) t (u - t)
-      pub later : IsBehind last holds after u kept.seen.circuit.levels
-
-    -- On the way from cycle t to cycle n writing failed within what the board shows meanwhile, and the parts had come to some cycle.
-    pub record CutOff (inputs : List Input) (t n : ℕ) (old new : List P) (before seen : Seen) (steps more : ℕ) (out after : W) : Type 0 where
-      pub rose : Rose (faults out) (faults after)
-      pub stops : StopsWithin (stands out) (stopped after) (rows m w inputs (shown_at t before) (map (glided m state now wakes t) old) t (n - t)) (bytes m w inputs (map (glided m state now wakes t) old) t (n - t))
-      pub to : ℕ
-      pub within : to ≤ n
-      pub leg : Leg inputs t to old new before seen steps more
 
 module _ {S P : Type 0} (m : Machine S) (state : P → S) (now wakes : P → ℕ) where
   -- Part `who`, which was p, went on by itself from cycle t to cycle u and is q, due at d, and no other part did.

@@ -5,3 +5,4 @@ pub mod Seen
 pub mod Upcoming
 pub mod Lagging
 pub mod Legs
+pub mod Engine

@@ -1,20 +1,13 @@
 //! One part goes on by itself, while no other is due.
-ghost use Rattle.std.specs.Prelude.{◌≡◌, ℕ, ◌+◌, ◌-◌, ◌<◌, ◌≤◌, Bool, true, false, List, [], length, map, Option, Some, None, slice_get, slice_set};
-ghost use Rattle.std.specs.Option.{option_to_list};
-ghost use Rattle.part_law.specs.Machine.{glide, dues, sent, IsSame, IsFirstDue};
-ghost use Rattle.sim_base.specs.Causes.{Rose};
-ghost use Rattle.sim_base.specs.Rows.{Handed, StopsWithin};
-ghost use Rattle.sim_base.specs.declared.signal.Level.{Level};
-ghost use Rattle.board_model.specs.Fits.{Fits};
-ghost use Rattle.board_run.specs.Seen.{Suits, IsTold, retold};
-ghost use Rattle.board_run.specs.Lagging.{glided, MayTurn, MayTurnAt};
-ghost use Rattle.board_run.specs.Legs.{WentAlone};
+ghost use Rattle.std.specs.Prelude.{◌≡◌, ◌-◌, ◌<◌, ◌≤◌, true};
+ghost use Rattle.board_laws.specs.Steady.{IsSteady};
+ghost use Rattle.board_run.specs.Lagging.{MayTurn};
+ghost use Rattle.board_run.specs.Engine.{MayRun, MayStretch, WentBy, Watches, Showed, states_of};
 
+use crate::engine::Engine;
 use crate::hand::hand_byte;
-use crate::reading::Reading;
-use event_queue::DueTree;
 use part_law::{Part, Went};
-use sim_base::{MOST_CYCLES, Steps, Watcher, Wiring, WriteEnd};
+use sim_base::{MOST_CYCLES, Steps, Watcher, WriteEnd};
 use std::sync::ledger::Ledger;
 
 /// A part that was left behind goes on by itself from cycle t, up to the limit or its first wake that may show something.
@@ -30,19 +23,7 @@ fn go_alone<P: Part, L: Ledger>(
     requires end { limit ≤ MOST_CYCLES }
     requires may { MayTurn P.machine P.state P.now P.wake_count t due.old part.old }
     requires valid { P.machine.valid (P.state part.old) (P.now part.old) ≡ true }
-    ensures now { P.now part.new ≡ result.to }
-    ensures from { t < result.to }
-    ensures within { result.to ≤ limit }
-    ensures state { P.state part.new ≡ glide P.machine (glided P.machine P.state P.now P.wake_count t part.old) t (result.to - t) }
-    ensures wake_count { P.wake_count part.new ≡ P.wake_count part.old + dues P.machine (glided P.machine P.state P.now P.wake_count t part.old) t (result.to - t) }
-    ensures steps { steps.new ≡ steps.old + dues P.machine (glided P.machine P.state P.now P.wake_count t part.old) t (result.to - t) }
-    ensures same { IsSame P.machine (glided P.machine P.state P.now P.wake_count t part.old) t (result.to - t) }
-    ensures sent { sent P.machine (glided P.machine P.state P.now P.wake_count t part.old) t (result.to - t) ≡ option_to_list result.byte }
-    ensures drives { result.changed ≡ false → P.machine.drives (P.state part.new) ≡ P.machine.drives (glided P.machine P.state P.now P.wake_count t part.old) }
-    ensures contacts { result.changed ≡ false → P.machine.contacts (P.state part.new) ≡ P.machine.contacts (glided P.machine P.state P.now P.wake_count t part.old) }
-    ensures others { (pin : ℕ) → P.moves part.new pin ≡ false
-        → slice_get (P.machine.drives (P.state part.new)) pin ≡ slice_get (P.machine.drives (glided P.machine P.state P.now P.wake_count t part.old)) pin }
-    ensures first { IsFirstDue P.machine (P.state part.new) (P.now part.new) due.new }
+    ensures { WentBy P.Part t limit part.old part.new due.new result steps.old steps.new }
 {
     part.settle(t);
     let went = part.go_on(limit, steps);
@@ -50,50 +31,31 @@ fn go_alone<P: Part, L: Ledger>(
     went
 }
 
-/// Part `who` goes on by itself, the nets are told what it drives and connects, and its byte is handed out: whether
-/// a drive or a contact changed, and where it stands. None where writing failed.
-pub(crate) fn stretch<P: Part, W: Watcher, L: Ledger>(
-    who: u8,
-    parts: &mut [P],
-    dues: &mut DueTree,
-    wiring: &Wiring,
-    reading: &mut Reading,
-    t: u32,
-    limit: u32,
-    out: &mut W,
-    steps: &mut Steps<L>,
-) -> Option<(bool, u32)>
-    requires order { t < limit }
-    requires end { limit ≤ MOST_CYCLES }
-    requires who { who < length parts.old }
-    requires dues { length dues.old ≡ length parts.old }
-    requires fits { Fits P.machine wiring.now (map P.state parts.old) }
-    requires suits { Suits wiring.now reading.old }
-    requires told { IsTold P.machine (map P.state parts.old) reading.old.circuit }
-    requires may { (k : ℕ) → MayTurnAt P.machine P.state P.now P.wake_count t parts.old dues.old k }
-    requires valid { (k : ℕ) (p : _) → slice_get parts.old k ≡ Some p → P.machine.valid (P.state p) (P.now p) ≡ true }
-    requires whole { W.whole out.old ≡ true }
-    ensures within { (x : Bool × ℕ) → result ≡ Some x → x.1 ≤ limit }
-    ensures went { (x : Bool × ℕ) → result ≡ Some x → (p q : _) × (d : Option ℕ)
-        × WentAlone P.machine P.state P.now P.wake_count who t x.1 parts.old parts.new dues.old dues.new x.0 steps.old steps.new p q d
-        × Handed W.whole W.faults W.stands out.old out.new [] (sent P.machine (glided P.machine P.state P.now P.wake_count t p) t (x.1 - t)) }
-    ensures told { IsTold P.machine (map P.state parts.new) reading.new.circuit }
-    ensures rest { reading.new ≡ retold reading.old reading.new.circuit.drives reading.new.circuit.closed }
-    ensures last { (x : Bool × ℕ) → result ≡ Some x → W.last out.new ≡ W.last out.old }
-    ensures seen { (x : Bool × ℕ) → result ≡ Some x → (levels : List Level) → W.seen out.old levels → W.seen out.new levels }
-    ensures failed { result ≡ None → Rose (W.faults out.old) (W.faults out.new) × (u : ℕ) × (u ≤ limit) × (changed : Bool) × (p q : _) × (d : Option ℕ)
-        × WentAlone P.machine P.state P.now P.wake_count who t u parts.old parts.new dues.old dues.new changed steps.old steps.new p q d
-        × StopsWithin (W.stands out.old) (W.stopped out.new) [] (sent P.machine (glided P.machine P.state P.now P.wake_count t p) t (u - t)) }
-    ensures place { W.place out.new ≡ W.place out.old }
-{
-    let i = who as usize;
-    let mut due = dues.due(who);
-    let went = go_alone(&mut parts[i], &mut due, t, limit, steps);
-    dues.set(who, due);
-    let first = wiring.first_pin.as_slice()[i] as usize;
-    let changed = reading.tell(went.changed, parts, i, first, wiring);
-    match hand_byte(went.byte, out) {
-        WriteEnd::Ok => Some((changed, went.to)),
-        WriteEnd::Failed => None,
+impl<P: Part> Engine<P> {
+    /// Part `who` goes on by itself, the nets are told what it drives and connects, and its byte is handed out.
+    pub(crate) fn stretch<W: Watcher, L: Ledger>(
+        &mut self,
+        who: u8,
+        limit: u32,
+        out: &mut W,
+        steps: &mut Steps<L>,
+    ) -> WriteEnd
+        requires end { limit ≤ MOST_CYCLES }
+        requires may { MayRun P.Part self.old }
+        requires alone { MayStretch self.old who limit limit }
+        requires watches { Watches W.Watcher self.old out.old }
+        ensures further { self.old.cycle < self.new.cycle }
+        ensures within { self.new.cycle ≤ limit }
+        ensures steady { IsSteady P.machine self.old.wiring self.old.inputs (states_of P.Part self.old) self.old.cycle (self.new.cycle - self.old.cycle) }
+        ensures showed { Showed P.Part W.Watcher result self.old self.new steps.old steps.new out.old out.new }
+    {
+        let i = who as usize;
+        let mut due = self.dues.due(who);
+        let went = go_alone(self.parts.item_mut(i), &mut due, self.cycle, limit, steps);
+        self.dues.set(who, due);
+        let first = self.wiring.first_pin.as_slice()[i] as usize;
+        self.stale = self.reading.tell(went.changed, self.parts.as_slice(), i, first, &self.wiring);
+        self.cycle = went.to;
+        hand_byte(went.byte, out)
     }
 }

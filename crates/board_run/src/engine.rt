@@ -1,120 +1,137 @@
-//! One cycle of a board in which only the active parts are woken.
-ghost use Rattle.std.specs.Prelude.{◌≡◌, ◌≢◌, ℕ, ◌+◌, ◌-◌, ◌<◌, ◌≤◌, List, [], length, map, true, false, Some, None, Option, MatchOption, slice_get};
-ghost use Rattle.sim_base.specs.Rows.{IsBehind};
-ghost use Rattle.sim_base.specs.declared.wiring.Input.{Input};
-ghost use Rattle.board_model.specs.Fits.{Fits};
-ghost use Rattle.board_run.specs.Seen.{Suits, IsTold, levels_on, retold};
-ghost use Rattle.board_run.specs.Parts.{has_part, AreNone};
-ghost use Rattle.board_run.specs.Upcoming.{AreBehind, IsInOrder};
-ghost use Rattle.board_run.specs.Lagging.{glided, MayTurnAt, AllTurn, AreCounted, AreDue};
-ghost use Rattle.board_run.specs.Legs.{kept_of, Lags, Reached, CutOff};
-ghost use Rattle.board_run.specs.declared.show.Next.{Next};
+//! The engine of a board: it goes from one cycle in which something may happen to the next.
+ghost use Rattle.std.specs.Prelude.{◌≡◌, ◌+◌, ◌<◌, ◌≤◌, length};
+ghost use Rattle.board_run.specs.Engine.{MayRun, MayTurnOn, TurnedOn, Watches, Showed};
 
-use crate::hand::hand_sent;
+use crate::hand::{forget, hand_sent};
 use crate::part_set::PartSet;
 use crate::reading::Reading;
 use crate::script::end_of_cycle;
-use crate::show::{Next, show_cycle};
+use crate::show::show_cycle;
 use crate::turn::{Woken, wake_active};
 use event_queue::DueTree;
 use part_law::Part;
-use sim_base::{Input, MOST_CYCLES, Steps, Watcher, Wiring, WriteEnd};
+use sim_base::{Input, List, MOST_CYCLES, Steps, Watcher, Wiring, WriteEnd};
 use std::sync::ledger::Ledger;
 
-/// Gives the parts that may be active their turn on the levels that were read.
-#[inline(always)]
-fn turn_read<P: Part, L: Ledger>(
-    parts: &mut [P],
-    dues: &mut DueTree,
-    wiring: &Wiring,
-    reading: &mut Reading,
-    differ: PartSet,
-    given: &[Input],
-    answers: &mut [Option<u8>],
-    t: u32,
-    steps: &mut Steps<L>,
-) -> Woken
-    requires end { t < MOST_CYCLES }
-    requires few { length parts.old ≤ 64 }
-    requires fits { Fits P.machine wiring.now (map P.state parts.old) }
-    requires may { (k : ℕ) → MayTurnAt P.machine P.state P.now P.wake_count t parts.old dues.old k }
-    requires valid { (k : ℕ) (p : _) → slice_get parts.old k ≡ Some p → P.machine.valid (P.state p) (P.now p) ≡ true }
-    requires dues { length dues.old ≡ length parts.old }
-    requires suits { Suits wiring.now reading.old }
-    requires told { IsTold P.machine (map P.state parts.old) reading.old.circuit }
-    requires differ { (k : ℕ) (p : _) → slice_get parts.old k ≡ Some p → has_part differ k ≡ true → 0 < t
-        → P.machine.held (P.state p) ≢ levels_on P.machine wiring.now reading.old.circuit.levels k (P.state p) }
-    requires answers { length answers.old ≡ length parts.old }
-    requires none { AreNone answers.old }
-    ensures turns { AllTurn P.machine wiring.now P.state P.now P.wake_count given.now reading.old.circuit.levels differ t parts.old parts.new answers.new result.changed }
-    ensures told { IsTold P.machine (map P.state parts.new) reading.new.circuit }
-    ensures rest { reading.new ≡ retold reading.old reading.new.circuit.drives reading.new.circuit.closed }
-    ensures due { AreDue P.machine P.state P.now P.wake_count parts.new dues.new }
-    ensures dues { length dues.new ≡ length dues.old }
-    ensures silent { result.sent ≡ false → AreNone answers.new }
-    ensures steps { AreCounted P.machine wiring.now P.state P.now P.wake_count given.now reading.old.circuit.levels differ t parts.old steps.old steps.new }
-{
-    wake_active(
-        parts,
-        dues,
-        wiring,
-        differ,
-        given,
-        answers,
-        t,
-        &mut reading.nets,
-        steps,
-    )
+/// The parts of a board, each of which stands where it was woken last, and what moves them.
+#[derive(Drop)]
+pub(crate) struct Engine<P> {
+    pub(crate) parts: List<P>,
+    pub(crate) wiring: Wiring,
+    pub(crate) inputs: List<Input>,
+    /// The cycle whose step comes next.
+    pub(crate) cycle: u32,
+    /// At which script value it continues.
+    pub(crate) input: usize,
+    /// Whether a drive or a contact changed since the nets were resolved.
+    pub(crate) stale: bool,
+    /// When each part is due.
+    pub(crate) dues: DueTree,
+    pub(crate) reading: Reading,
+    /// The byte that each part emitted in a cycle; between cycles none.
+    pub(crate) answers: List<Option<u8>>,
 }
 
-/// One cycle: its row, a wake of each part that is active, their bytes. None where writing failed.
-pub(crate) fn event<P: Part, W: Watcher, L: Ledger>(
-    next: Next,
-    parts: &mut [P],
-    dues: &mut DueTree,
-    wiring: &Wiring,
-    inputs: &[Input],
-    t: u32,
-    reading: &mut Reading,
-    answers: &mut [Option<u8>],
-    out: &mut W,
-    steps: &mut Steps<L>,
-) -> Option<Next>
-    requires end { t < MOST_CYCLES }
-    requires order { IsInOrder inputs.now }
-    requires behind { AreBehind inputs.now next.input t }
-    requires lags { Lags P.machine wiring.now P.state P.now P.wake_count t parts.old (kept_of next dues.old reading.old answers.old) }
-    requires whole { W.whole out.old ≡ true }
-    requires later { IsBehind W.last W.seen out.old t reading.old.circuit.levels }
-    ensures ends { MatchOption result
-        (CutOff P.machine wiring.now P.state P.now P.wake_count W.whole W.faults W.stands W.stopped W.last W.seen
-        inputs.now t (t + 1) parts.old parts.new reading.old reading.new steps.old steps.new out.old out.new)
-        (λ x. Reached P.machine wiring.now P.state P.now P.wake_count W.whole W.faults W.stands W.stopped W.last W.seen
-        inputs.now t (t + 1) parts.old parts.new reading.old
-        (kept_of x dues.new reading.new answers.new) steps.old steps.new out.old out.new) }
-    ensures place { W.place out.new ≡ W.place out.old }
-{
-    let (shown, differ) = show_cycle(next.stale, parts, wiring, t, reading, out);
-    let end = end_of_cycle(inputs, next.input, t);
-    let woken = turn_read(
-        parts,
-        dues,
-        wiring,
-        reading,
-        differ,
-        &inputs[next.input..end],
-        answers,
-        t,
-        steps,
-    );
-    match shown {
-        WriteEnd::Ok => match hand_sent(woken.sent, answers, out) {
-            WriteEnd::Ok => Some(Next {
-                input: end,
-                stale: woken.changed,
-            }),
-            WriteEnd::Failed => None,
-        },
-        WriteEnd::Failed => None,
+impl<P: Part> Engine<P> {
+    /// Runs the cycles up to n - 1; its parts may lag behind at the end. It stops early where writing fails.
+    pub(crate) fn run<W: Watcher, L: Ledger>(
+        &mut self,
+        n: u32,
+        out: &mut W,
+        steps: &mut Steps<L>,
+    ) -> WriteEnd
+        requires order { self.old.cycle ≤ n }
+        requires end { n ≤ MOST_CYCLES }
+        requires may { MayRun P.Part self.old }
+        requires watches { Watches W.Watcher self.old out.old }
+        ensures within { self.new.cycle ≤ n }
+        ensures cycle { result ≡ WriteEnd.Ok → self.new.cycle ≡ n }
+        ensures showed { Showed P.Part W.Watcher result self.old self.new steps.old steps.new out.old out.new }
+    {
+        while self.cycle < n {
+            match self.advance(n, out, steps) {
+                WriteEnd::Ok => {}
+                WriteEnd::Failed => return WriteEnd::Failed,
+            }
+        }
+        WriteEnd::Ok
+    }
+
+    /// Goes on by a stretch of one part that is alone, or by one cycle and on to the next in which something may happen.
+    fn advance<W: Watcher, L: Ledger>(
+        &mut self,
+        n: u32,
+        out: &mut W,
+        steps: &mut Steps<L>,
+    ) -> WriteEnd
+        requires order { self.old.cycle < n }
+        requires end { n ≤ MOST_CYCLES }
+        requires may { MayRun P.Part self.old }
+        requires watches { Watches W.Watcher self.old out.old }
+        ensures further { self.old.cycle < self.new.cycle }
+        ensures within { self.new.cycle ≤ n }
+        ensures showed { Showed P.Part W.Watcher result self.old self.new steps.old steps.new out.old out.new }
+    {
+        match self.find_alone(n) {
+            Some((who, limit)) => self.stretch(who, limit, out, steps),
+            None => {
+                let end = self.event(out, steps);
+                self.skip(n);
+                end
+            }
+        }
+    }
+
+    /// One cycle: its row, a wake of each part that is active, their bytes.
+    fn event<W: Watcher, L: Ledger>(&mut self, out: &mut W, steps: &mut Steps<L>) -> WriteEnd
+        requires end { self.old.cycle < MOST_CYCLES }
+        requires may { MayRun P.Part self.old }
+        requires watches { Watches W.Watcher self.old out.old }
+        ensures cycle { self.new.cycle ≡ self.old.cycle + 1 }
+        ensures showed { Showed P.Part W.Watcher result self.old self.new steps.old steps.new out.old out.new }
+    {
+        let after = self.cycle + 1;
+        let (shown, differ) = show_cycle(
+            self.stale,
+            &self.parts,
+            &self.wiring,
+            self.cycle,
+            &mut self.reading,
+            out,
+        );
+        let end = end_of_cycle(self.inputs.as_slice(), self.input, self.cycle);
+        let woken = self.turn(differ, end, steps);
+        self.cycle = after;
+        self.input = end;
+        self.stale = woken.changed;
+        match shown {
+            WriteEnd::Ok => hand_sent(woken.sent, &mut self.answers, out),
+            WriteEnd::Failed => {
+                forget(&mut self.answers);
+                WriteEnd::Failed
+            }
+        }
+    }
+
+    /// Gives the parts that may be active their turn on the levels that were read; the script's values before a place are
+    /// those of the cycle.
+    #[inline(always)]
+    fn turn<L: Ledger>(&mut self, differ: PartSet, end: usize, steps: &mut Steps<L>) -> Woken
+        requires may { MayTurnOn P.Part self.old differ }
+        requires values { (self.old.input ≤ end) × (end ≤ length self.old.inputs) }
+        ensures { TurnedOn P.Part self.old self.new differ end result steps.old steps.new }
+    {
+        let reading = &mut self.reading;
+        wake_active(
+            self.parts.as_mut_slice(),
+            &mut self.dues,
+            &self.wiring,
+            differ,
+            &self.inputs.as_slice()[self.input..end],
+            self.answers.as_mut_slice(),
+            self.cycle,
+            &mut reading.nets,
+            steps,
+        )
     }
 }

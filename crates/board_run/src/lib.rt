@@ -1,5 +1,6 @@
 //! A board of parts that is run from event to event (profile): a part is woken only in its active cycles.
 //! A run hands out exactly the rows and bytes of the board that is stepped cycle by cycle, whatever parts there are.
+//! The loop is `Engine::run` (`engine.rt`).
 //! Only `Board::new` takes memory; a run fails only where writing does.
 #![tactic(auto)]
 

@@ -1,5 +1,5 @@
 //! What a board shows in a cycle.
-ghost use Rattle.std.specs.Prelude.{◌≡◌, ℕ, ◌+◌, ◌<◌, ◌≤◌, [], length, map, true, false, Some, None};
+ghost use Rattle.std.specs.Prelude.{◌≡◌, ◌+◌, ◌<◌, ◌≤◌, [], length, map, true, false, Some, None};
 ghost use Rattle.sim_base.specs.Causes.{Rose};
 ghost use Rattle.sim_base.specs.Rows.{Handed, Appends, AreBut, IsBehind};
 ghost use Rattle.board_model.specs.Rows.{chip_drives_of, shown_of, same_shown, row_if};
@@ -10,22 +10,14 @@ use crate::hand::hand_row;
 use crate::part_set::PartSet;
 use crate::reading::Reading;
 use part_law::Part;
-use sim_base::{Watcher, Wiring, WriteEnd};
-
-/// Where a board goes on: at which script value, and whether a drive or a contact changed since the
-/// nets were resolved.
-#[derive(Clone, Copy, Drop)]
-pub(crate) struct Next {
-    pub(crate) input: usize,
-    pub(crate) stale: bool,
-}
+use sim_base::{List, Watcher, Wiring, WriteEnd};
 
 /// Reads what the parts show, where a drive or a contact changed, and tells whether rows show what they showed before,
 /// and which parts have a pin whose level is another one than before.
 #[inline(always)]
 fn refresh<P: Part>(
     stale: bool,
-    parts: &[P],
+    parts: &List<P>,
     wiring: &Wiring,
     reading: &mut Reading,
 ) -> (bool, PartSet)
@@ -51,7 +43,7 @@ fn refresh<P: Part>(
 #[inline]
 pub(crate) fn show_cycle<P: Part, W: Watcher>(
     stale: bool,
-    parts: &[P],
+    parts: &List<P>,
     wiring: &Wiring,
     cycle: u32,
     reading: &mut Reading,

@@ -1,89 +1,59 @@
-//! A board goes on while nothing new is shown.
-ghost use Rattle.std.specs.Prelude.{◌<◌, ◌≤◌};
-ghost use Rattle.board_run.specs.Upcoming.{AreBehind, IsInOrder};
-ghost use Rattle.board_run.specs.Legs.{kept_of, Lags, Rests, AreAt};
+//! Parts are brought to the cycle of their engine, and an engine goes on while nothing new is shown.
+ghost use Rattle.std.specs.Prelude.{◌≡◌, ◌-◌, ◌<◌, ◌≤◌};
+ghost use Rattle.part_law.specs.Machine.{IsQuiet, IsFirstDue};
+ghost use Rattle.board_run.specs.Lagging.{glided};
+ghost use Rattle.board_run.specs.Legs.{AreAt};
+ghost use Rattle.board_run.specs.Engine.{MayRun, Settled, Rests};
 
-use crate::alone::stretch;
-use crate::jump::{find_alone, next_cycle, settle_all};
-use crate::reading::Reading;
-use crate::show::Next;
+use crate::engine::Engine;
 use crate::unwatched::Unwatched;
-use event_queue::DueTree;
 use part_law::Part;
-use sim_base::{Input, MOST_CYCLES, Steps, Wiring};
+use sim_base::{MOST_CYCLES, Steps};
 use std::sync::ledger::Ledger;
 
-/// Goes on from cycle t, not after n, by one stretch in which nothing new is shown: of one part by itself, or of no part. It
-/// stays at t where a drive or a contact changed, where the script has a value and where parts are due together.
-fn rest<P: Part, L: Ledger>(
-    next: Next,
-    parts: &mut [P],
-    dues: &mut DueTree,
-    wiring: &Wiring,
-    inputs: &[Input],
-    t: u32,
-    n: u32,
-    reading: &mut Reading,
-    answers: &[Option<u8>],
-    steps: &mut Steps<L>,
-) -> (Next, u32)
-    requires before { t < n }
+/// Brings a part to the cycle, and asks it when it is due.
+#[inline]
+fn settle_one<P: Part>(part: &mut P, n: u32) -> Option<u32>
     requires end { n ≤ MOST_CYCLES }
-    requires order { IsInOrder inputs.now }
-    requires behind { AreBehind inputs.now next.input t }
-    requires lags { Lags P.machine wiring.now P.state P.now P.wake_count t parts.old (kept_of next dues.old reading.old answers.now) }
-    ensures { Rests P.machine wiring.now P.state P.now P.wake_count inputs.now t result.1 n parts.old parts.new
-        (kept_of next dues.old reading.old answers.now)
-        (kept_of result.0 dues.new reading.new answers.now) steps.old steps.new }
+    requires later { P.now part.old ≤ n }
+    requires quiet { IsQuiet P.machine (P.state part.old) (P.now part.old) (n - P.now part.old) }
+    ensures state { P.state part.new ≡ glided P.machine P.state P.now P.wake_count n part.old }
+    ensures now { P.now part.new ≡ n }
+    ensures wake_count { P.wake_count part.new ≡ P.wake_count part.old }
+    ensures due { IsFirstDue P.machine (P.state part.new) (P.now part.new) result }
 {
-    let mut out = Unwatched::new();
-    match find_alone(next, dues, inputs, t, n) {
-        Some((who, limit)) => match stretch(
-            who, parts, dues, wiring, reading, t, limit, &mut out, steps,
-        ) {
-            Some((changed, u)) => (
-                Next {
-                    input: next.input,
-                    stale: changed,
-                },
-                u,
-            ),
-            None => unreachable!(),
-        },
-        None => {
-            let u = next_cycle(next.stale | (t == 0), dues, inputs, next.input, t, n);
-            (next, u)
-        }
-    }
+    part.settle(n);
+    part.due()
 }
 
-/// The same, and every part is brought to where it stands.
-pub(crate) fn stay<P: Part, L: Ledger>(
-    next: Next,
-    parts: &mut [P],
-    dues: &mut DueTree,
-    wiring: &Wiring,
-    inputs: &[Input],
-    t: u32,
-    n: u32,
-    reading: &mut Reading,
-    answers: &[Option<u8>],
-    steps: &mut Steps<L>,
-) -> (Next, u32)
-    requires before { t < n }
-    requires end { n ≤ MOST_CYCLES }
-    requires order { IsInOrder inputs.now }
-    requires behind { AreBehind inputs.now next.input t }
-    requires at { AreAt P.now t parts.old }
-    requires lags { Lags P.machine wiring.now P.state P.now P.wake_count t parts.old (kept_of next dues.old reading.old answers.now) }
-    ensures at { AreAt P.now result.1 parts.new }
-    ensures rests { Rests P.machine wiring.now P.state P.now P.wake_count inputs.now t result.1 n parts.old parts.new
-        (kept_of next dues.old reading.old answers.now)
-        (kept_of result.0 dues.new reading.new answers.now) steps.old steps.new }
-{
-    let after = rest(
-        next, parts, dues, wiring, inputs, t, n, reading, answers, steps,
-    );
-    settle_all(parts, dues, after.1);
-    after
+impl<P: Part> Engine<P> {
+    /// Brings every part to the cycle, and asks it when it is due.
+    pub(crate) fn settle(&mut self)
+        requires end { self.old.cycle ≤ MOST_CYCLES }
+        requires may { MayRun P.Part self.old }
+        ensures settled { Settled P.Part self.old self.new }
+        ensures at { AreAt P.now self.new.cycle self.new.parts }
+    {
+        for i in 0..self.parts.len() {
+            let due = settle_one(self.parts.item_mut(i), self.cycle);
+            self.dues.set(i as u8, due);
+        }
+    }
+
+    /// Goes on, not after n, by one stretch in which nothing new is shown: of one part by itself, or of no part. It
+    /// stays where a drive or a contact changed, where the script has a value and where parts are due together.
+    pub(crate) fn rest<L: Ledger>(&mut self, n: u32, steps: &mut Steps<L>)
+        requires order { self.old.cycle < n }
+        requires end { n ≤ MOST_CYCLES }
+        requires may { MayRun P.Part self.old }
+        ensures within { self.new.cycle ≤ n }
+        ensures rests { Rests P.Part self.old self.new steps.old steps.new }
+    {
+        match self.find_alone(n) {
+            Some((who, limit)) => {
+                self.stretch(who, limit, &mut Unwatched::new(), steps);
+            }
+            None => self.skip(n),
+        }
+    }
 }

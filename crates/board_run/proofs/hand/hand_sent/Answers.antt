@@ -1,11 +1,11 @@
-use Rattle.std.proofs.Common.{sym, subst, List, [], ℕ}
+use Rattle.std.proofs.Common.{sym, refl, subst, List, [], ℕ}
 use Rattle.sim_base.specs.Rows.{Handed}
 use Rattle.board_run.proofs.WakeLemmas.{none_sent}
 use Rattle.board_run.proofs.HandLemmas.{handed_nothing}
 use Rattle.board_run.proofs.hand.hand_sent.Goals as goal
 
 pub returns-else-sent-clause-none : goal.returns-else-sent-clause-none
-returns-else-sent-clause-none g c = c.requires.silent c.if-sent.false
+returns-else-sent-clause-none g c = (c.requires.silent c.if-sent.false, refl)
 
 pub returns-else-sent-clause-ok : goal.returns-else-sent-clause-ok
 returns-else-sent-clause-ok g c = λ ok.

@@ -5,5 +5,6 @@ use Rattle.board_run.proofs.board.Board.levels.Goals as goal
 
 pub returns : goal.returns
 returns g c = λ s es.
+    let e = c.self.inside.engine in
     let before = ap (λ (v : BoardView g.row.P.Denot). v.before) c.self.view_is in
-    c.levels.ensures ∙ sym (levels_shown c.self.inside.cycle c.self.inside.reading s (before ∙ es))
+    c.levels.ensures ∙ sym (levels_shown e.cycle e.reading s (before ∙ es))

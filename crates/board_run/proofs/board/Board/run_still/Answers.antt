@@ -1,89 +1,66 @@
-use Rattle.std.proofs.Common.{◌<◌, ◌≤◌, ◌-◌, ◌∙◌, ◌++◌, ap, sym, refl, length, take, drop, map, List, ℕ, subst, Option}
-use Rattle.sim_base.specs.declared.wiring.Input.{Input}
-use Rattle.board_model.proofs.Lists.{lent_whole}
+use Rattle.std.proofs.Common.{◌≡◌, ◌<◌, ◌≤◌, ◌-◌, ◌∙◌, ap, sym, arith, map, List, ℕ, subst}
 use Rattle.board_laws.specs.Steady.{IsSteady}
 use Rattle.board_run.specs.BoardView.{BoardView}
 use Rattle.board_run.specs.Changes.{LastTells}
-use Rattle.board_run.specs.Upcoming.{AreBehind}
-use Rattle.board_run.specs.Legs.{Lags, AreAt, kept_of}
 use Rattle.board_run.specs.Seen.{shown_at}
+use Rattle.board_run.specs.Engine.{Rests}
 use Rattle.board_run.proofs.LegLemmas.{at_here}
+use Rattle.board_run.proofs.EngineLemmas.{rests_settled}
+use Rattle.board_run.specs.declared.engine.Engine.{Engine}
 use Rattle.board_run.proofs.ViewLemmas.{Went, went_to}
+use Rattle.board_run.proofs.board.Board.run_still.Given.{Over}
+use Rattle.board_run.proofs.board.Board.run_still.Goals.{After-settle}
 use Rattle.board_run.proofs.board.Board.run_still.Goals as goal
 
-pub stay-after-requires-clause-at : goal.stay-after-requires-clause-at
-stay-after-requires-clause-at g c =
-    let p = g.P.Part in
-    let m = p.machine in
-    let i = c.self.inside in
-    let alive = ap (λ (v : BoardView g.row.P.Denot). v.given_up) c.self.view_is ∙ c.requires.alive in
-    subst (λ (xs : List g.row.P.Denot). AreAt p.now i.cycle xs) (sym c.as_mut_slice.ensures.value) (c.self.invariant.at alive)
+pub rest-requires : goal.rest-requires
+rest-requires g c =
+    let cycle = ap (λ (v : BoardView g.row.P.Denot). v.cycle) c.self.view_is in
+    record { order = subst (λ (t : ℕ). t < c.args.n) (sym cycle) c.requires.order; end = c.requires.end; may = c.self.invariant.may }
 
-pub stay-after-requires-clause-lags : goal.stay-after-requires-clause-lags
-stay-after-requires-clause-lags g c =
-    let p = g.P.Part in
-    let m = p.machine in
-    let i = c.self.inside in
-    let alive = ap (λ (v : BoardView g.row.P.Denot). v.given_up) c.self.view_is ∙ c.requires.alive in
-    let lags = λ (xs : List g.row.P.Denot) (answers : List (Option ℕ)). Lags m i.wiring p.state p.now p.wake_count i.cycle xs (kept_of i.next i.dues i.reading answers) in
-    subst (λ (a : List (Option ℕ)). lags c.as_mut_slice.result.now a) (sym c.as_slice-2.ensures.value)
-    (subst (λ (xs : List g.row.P.Denot). lags xs i.answers.items) (sym c.as_mut_slice.ensures.value) (c.self.invariant.lags alive))
+pub settle-requires : goal.settle-requires
+settle-requires g c = record { end = omega (arith, c.rest.ensures.within, c.requires.end); may = c.rest.ensures.rests.on.may }
+
+rests : (g : Over) (c : After-settle g) → Rests g.P.Part c.self.inside.engine c.settle.new.self c.args.steps.now c.rest.new.steps
+rests g c = rests_settled g.P.Part g.met.P.Part.laws c.self.inside.engine c.rest.new.self c.settle.new.self c.args.steps.now c.rest.new.steps c.rest.ensures.rests c.settle.ensures.settled
 
 pub invariant_of-self : goal.invariant_of-self
-invariant_of-self g c =
-    let p = g.P.Part in
-    let i = c.self.inside in
-    let r = c.stay-after in
-    let x = r.result in
-    let e = r.ensures in
-    let parts = lent_whole (length i.parts) i.parts r.new.parts refl (r.auto.parts ∙ ap length c.as_mut_slice.ensures.value) in
-    let ps = take (length i.parts) (r.new.parts ++ drop (length r.new.parts) i.parts) in
-    let lags = λ (xs : List g.row.P.Denot) (answers : List (Option ℕ)). Lags p.machine i.wiring p.state p.now p.wake_count x.1 xs (kept_of x.0 r.new.dues r.new.reading answers) in
-    record {
-      at = λ _. subst (λ (xs : List g.row.P.Denot). AreAt p.now x.1 xs) (sym parts) e.at;
-      lags = λ _. subst (λ (a : List (Option ℕ)). lags ps a) c.as_slice-2.ensures.value (subst (λ (xs : List g.row.P.Denot). lags xs c.as_slice-2.result.now) (sym parts) e.rests.lags);
-      behind = λ _. subst (λ (xs : List Input). AreBehind xs x.0.input x.1) c.as_slice.ensures e.rests.behind;
-      order = c.self.invariant.order;
-    }
+invariant_of-self g c = record { may = (rests g (goal.at.invariant_of-self g c).After-settle).on.may; at = c.settle.ensures.at }
 
 pub returns : goal.returns
 returns g c =
     let p = g.P.Part in
     let m = p.machine in
-    let i = c.self.inside in
-    let r = c.stay-after in
-    let x = r.result in
-    let e = r.ensures in
-    let parts = lent_whole (length i.parts) i.parts r.new.parts refl (r.auto.parts ∙ ap length c.as_mut_slice.ensures.value) in
-    let cycle = ap (λ (v : BoardView g.row.P.Denot). v.cycle) c.self.view_is in
     let laws = g.met.P.Part.laws in
-    let rests = e.rests in
-    let alive = ap (λ (v : BoardView g.row.P.Denot). v.given_up) c.self.view_is ∙ c.requires.alive in
-    let stood = subst (λ (xs : List g.row.P.Denot). AreAt p.now i.cycle xs) (sym c.as_mut_slice.ensures.value) (c.self.invariant.at alive) in
-    let here = at_here m laws i.wiring p.state p.now p.wake_count c.as_slice.result.now i.cycle c.as_mut_slice.result.now stood in
-    let at = λ (is : List Input) (xs : List g.row.P.Denot). let v : BoardView g.row.P.Denot = record { parts = xs; wiring = i.wiring; inputs = is; cycle = i.cycle; given_up = i.given_up; before = shown_at i.cycle i.reading; changed = i.next.stale } in v in
-    let all = λ (v : BoardView g.row.P.Denot) (new : List g.row.P.Denot). Went m p.state p.wake_count v x.1 new (shown_at x.1 r.new.reading) c.args.steps.now r.new.steps
-    × (v.cycle < x.1 → IsSteady m v.wiring v.inputs (map p.state v.parts) v.cycle (x.1 - v.cycle)) × (v.cycle < x.1 → LastTells m v.wiring v.inputs x.0.stale (map p.state v.parts) v.cycle (x.1 - v.cycle)) in
-    let told : all (at c.as_slice.result.now c.as_mut_slice.result.now) r.new.parts = (
-      went_to m laws i.wiring p.state p.now p.wake_count c.as_slice.result.now i.cycle x.1 i.given_up i.next.stale c.as_mut_slice.result.now r.new.parts i.reading r.new.reading c.args.steps.now r.new.steps stood e.at rests.leg,
-      λ less. subst (λ (ss : List p.State). IsSteady m i.wiring c.as_slice.result.now ss i.cycle (x.1 - i.cycle)) here (rests.steady less),
-      λ less. subst (λ (ss : List p.State). LastTells m i.wiring c.as_slice.result.now x.0.stale ss i.cycle (x.1 - i.cycle)) here (rests.tells less),
+    let i = c.self.inside.engine in
+    let new = c.settle.new.self in
+    let more = c.rest.new.steps in
+    let s = rests g (goal.at.returns g c).After-settle in
+    let here = at_here m laws i.wiring p.state p.now p.wake_count i.inputs i.cycle i.parts c.self.invariant.at in
+    let all = λ (v : BoardView g.row.P.Denot). Went m p.state p.wake_count v new.cycle new.parts (shown_at new.cycle new.reading) c.args.steps.now more
+    × (v.cycle < new.cycle → IsSteady m v.wiring v.inputs (map p.state v.parts) v.cycle (new.cycle - v.cycle)) × (v.cycle < new.cycle → LastTells m v.wiring v.inputs new.stale (map p.state v.parts) v.cycle (new.cycle - v.cycle))
+    × (v.cycle ≤ new.cycle) × (new.wiring ≡ v.wiring) × (new.inputs ≡ v.inputs) × (new.cycle ≡ v.cycle → new.stale ≡ v.changed) in
+    let at : BoardView g.row.P.Denot = record { parts = i.parts; wiring = i.wiring; inputs = i.inputs; cycle = i.cycle; given_up = c.self.inside.given_up; before = shown_at i.cycle i.reading; changed = i.stale } in
+    let told : all at = (
+      went_to m laws i.wiring p.state p.now p.wake_count i.inputs i.cycle new.cycle c.self.inside.given_up i.stale i.parts new.parts i.reading new.reading c.args.steps.now more c.self.invariant.at c.settle.ensures.at s.on.leg,
+      λ less. subst (λ (ss : List p.State). IsSteady m i.wiring i.inputs ss i.cycle (new.cycle - i.cycle)) here (s.steady less),
+      λ less. subst (λ (ss : List p.State). LastTells m i.wiring i.inputs new.stale ss i.cycle (new.cycle - i.cycle)) here (s.on.tells less),
+      s.on.leg.order,
+      s.on.same_wiring,
+      s.on.same_inputs,
+      s.stays,
     ) in
-    let did = subst (λ (xs : List g.row.P.Denot). all c.args.self.now xs) (sym parts)
-    (subst (λ (v : BoardView g.row.P.Denot). all v r.new.parts) c.self.view_is
-    (subst (λ (xs : List g.row.P.Denot). all (at i.inputs xs) r.new.parts) c.as_mut_slice.ensures.value
-    (subst (λ (is : List Input). all (at is c.as_mut_slice.result.now) r.new.parts) c.as_slice.ensures told))) in
+    let did = subst (λ (v : BoardView g.row.P.Denot). all v) c.self.view_is told in
     record {
-      from = subst (λ (t : ℕ). t ≤ x.1) cycle rests.leg.order;
-      within = rests.within;
-      alive = alive;
+      from = did.3;
+      within = (let same = ap (λ (e : Engine g.row.P.Denot). e.cycle) c.settle.ensures.settled.same in omega (arith, same, c.rest.ensures.within));
+      alive = ap (λ (v : BoardView g.row.P.Denot). v.given_up) c.self.view_is ∙ c.requires.alive;
       steady = did.1;
       states = did.0.states_are;
       before = did.0.before_is;
       changed = did.2;
-      stays = λ same. rests.stays (same ∙ sym cycle) ∙ ap (λ (v : BoardView g.row.P.Denot). v.changed) c.self.view_is;
-      wiring = ap (λ (v : BoardView g.row.P.Denot). v.wiring) c.self.view_is;
-      inputs = ap (λ (v : BoardView g.row.P.Denot). v.inputs) c.self.view_is;
+      stays = did.6;
+      wiring = did.4;
+      inputs = did.5;
       steps = did.0.steps_are;
       woken = did.0.woken;
     }

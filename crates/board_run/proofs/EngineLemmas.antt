@@ -1,0 +1,178 @@
+-- What an engine did on its way: ways follow on each other, and nothing is shown while it passes over cycles.
+use Rattle.std.proofs.Common.{◌≡◌, ◌++◌, ℕ, ◌-◌, ◌<◌, ◌≤◌, ◌∙◌, List, [], Bool, true, false, refl, ap, sym, arith, subst, inl, inr}
+use Rattle.sim_base.specs.Rows.{Row}
+use Rattle.sim_base.specs.declared.bench.WriteEnd.{WriteEnd}
+use Rattle.sim_base.specs.declared.bench.WriteEnd.TheVariants as writes
+use Rattle.sim_base.specs.declared.limits.TheConstants.{MOST_CYCLES}
+use Rattle.sim_base.specs.declared.watcher.Watcher.{Ghosts as Watching}
+use Rattle.sim_base.specs.declared.wiring.Wiring.{Wiring}
+use Rattle.sim_base.specs.declared.wiring.Input.{Input}
+use Rattle.part_law.specs.Machine.{Laws}
+use Rattle.part_law.specs.declared.part.Part.{Ghosts}
+use Rattle.board_run.specs.Changes.{LastTells}
+use Rattle.board_run.specs.Seen.{shown_at}
+use Rattle.board_run.specs.Engine.{kept_of, states_of, rows_to, bytes_to, IsNext, Watches, MayRun, WentOn, Rests, Settled, Showed}
+use Rattle.board_run.specs.declared.engine.Engine.{Engine}
+use Rattle.board_run.proofs.HandLemmas.{handed_nothing, handed_then, stops_more}
+use Rattle.board_run.proofs.ShowLemmas.{none_handed}
+use Rattle.board_run.proofs.NextLemmas.{below_or}
+use Rattle.board_run.proofs.StretchLemmas.{unchanged}
+use Rattle.board_run.proofs.LegLemmas.{Jumps, leg_none, leg_then, tells_then, rows_on, bytes_on, jumps_to, legs_stop, shown_front, settled_lags, settled_leg}
+
+module _ {P : Type 0} (part : Ghosts P) (laws : Laws part.machine) where
+  -- nothing happened yet
+  pub on_none : (e : Engine P) (steps : ℕ) → MayRun part e → WentOn part e (record e { cycle = e.cycle }) steps steps
+  on_none e steps may = record {
+    may = record { lags = may.lags; behind = may.behind; order = may.order };
+    same_wiring = refl;
+    same_inputs = refl;
+    leg = leg_none part.machine laws e.wiring part.state part.now part.wake_count e.inputs e.cycle steps e.parts e.reading;
+    tells = λ (less : e.cycle < e.cycle). absurd (omega arith);
+  }
+
+  -- an engine of the same board
+  same_board : (old mid : Engine P) → mid.wiring ≡ old.wiring → mid.inputs ≡ old.inputs → mid ≡ record mid { wiring = old.wiring; inputs = old.inputs }
+  same_board old mid wiring inputs =
+      ap (λ (w : Wiring). let e : Engine P = record mid { wiring = w } in e) wiring ∙ ap (λ (is : List Input). let e : Engine P = record mid { wiring = old.wiring; inputs = is } in e) inputs
+
+  module _ (old mid new : Engine P) (steps more most : ℕ) (first : WentOn part old mid steps more) (further : mid.cycle < new.cycle) where
+    abbrev Here : Engine P
+    Here = record mid { wiring = old.wiring; inputs = old.inputs }
+
+    pub on_then : WentOn part mid new more most → WentOn part old new steps most
+    on_then after =
+        let second = subst (λ (e : Engine P). WentOn part e new more most) (same_board old mid first.same_wiring first.same_inputs) after in
+        record {
+          may = after.may;
+          same_wiring = after.same_wiring ∙ first.same_wiring;
+          same_inputs = after.same_inputs ∙ first.same_inputs;
+          leg = leg_then part.machine laws old.wiring part.state part.now part.wake_count old.inputs old.cycle mid.cycle new.cycle steps more most old.parts mid.parts new.parts old.reading mid.reading new.reading first.leg second.leg;
+          tells = λ _. tells_then part.machine laws old.wiring part.state part.now part.wake_count old.inputs old.cycle mid.cycle new.cycle steps more most old.parts mid.parts new.parts old.reading mid.reading new.reading
+              first.leg second.leg new.stale further (second.tells further);
+        }
+
+    pub rows_then : rows_to part old new.cycle ≡ rows_to part old mid.cycle ++ rows_to part Here new.cycle
+    rows_then = rows_on part.machine laws old.wiring part.state part.now part.wake_count old.inputs old.cycle mid.cycle new.cycle steps more old.parts mid.parts old.reading mid.reading first.leg (omega (arith, further))
+
+    pub bytes_then : bytes_to part old new.cycle ≡ bytes_to part old mid.cycle ++ bytes_to part Here new.cycle
+    bytes_then = bytes_on part.machine laws old.wiring part.state part.now part.wake_count old.inputs old.cycle mid.cycle new.cycle steps more old.parts mid.parts old.reading mid.reading first.leg (omega (arith, further))
+
+  -- nothing is shown up to the next cycle in which something may happen
+  pub jumps : (e : Engine P) (n u steps : ℕ) → MayRun part e → IsNext e n u → n ≤ MOST_CYCLES → e.cycle < u →
+      (e.stale ≡ false) × Jumps part.machine laws e.wiring part.state part.now part.wake_count e.inputs e.cycle u e.parts (kept_of e) steps
+  jumps e n u steps may next end less =
+      let still = unchanged e.stale e.cycle u next.stays less in
+      let none : e.stale ≡ true → u ≡ e.cycle = λ is. absurd (let x : true ≡ false = sym is ∙ still.0 in cc) in (
+        still.0,
+        jumps_to part.machine laws e.wiring part.state part.now part.wake_count e.inputs e.cycle u e.parts (kept_of e) steps may.lags still.1 next.from (omega (arith, next.within, end)) none
+            (λ k x is. next.late k x is) next.silent,
+      )
+
+  pub rests_next : (e : Engine P) (n u steps : ℕ) → MayRun part e → IsNext e n u → n ≤ MOST_CYCLES → Rests part e (record e { cycle = u }) steps steps
+  rests_next e n u steps may next end = elim (below_or e.cycle u) [
+    | inl less ↦
+        let j = jumps e n u steps may next end less in
+        record {
+          on = record {
+            may = record { lags = j.1.lags; behind = next.behind; order = may.order };
+            same_wiring = refl;
+            same_inputs = refl;
+            leg = j.1.leg;
+            tells = λ _. subst (λ (b : Bool). LastTells part.machine e.wiring e.inputs b (states_of part e) e.cycle (u - e.cycle)) (sym j.0) (j.1.tells j.0);
+          };
+          steady = λ _. j.1.rests j.0;
+          stays = λ _. refl;
+        }
+    | inr more ↦
+        let same : e.cycle ≡ u = omega (arith, next.from, more) in
+        subst (λ (v : ℕ). Rests part e (record e { cycle = v }) steps steps) same
+        (record { on = on_none e steps may; steady = λ (less : e.cycle < e.cycle). absurd (omega arith); stays = λ _. refl })
+  ]
+
+  -- its parts are brought to where it is
+  pub on_settled : (old mid new : Engine P) (steps more : ℕ) → WentOn part old mid steps more → Settled part mid new → WentOn part old (record mid { parts = new.parts; dues = new.dues }) steps more
+  on_settled old mid new steps more went s = record {
+    may = record {
+      lags = settled_lags part.machine laws mid.wiring part.state part.now part.wake_count mid.inputs mid.cycle mid.parts new.parts (kept_of mid) new.dues went.may.lags s.long s.dues_long s.each s.due;
+      behind = went.may.behind;
+      order = went.may.order;
+    };
+    same_wiring = went.same_wiring;
+    same_inputs = went.same_inputs;
+    leg = settled_leg part.machine laws old.wiring part.state part.now part.wake_count old.inputs old.cycle mid.cycle old.parts mid.parts new.parts old.reading mid.reading steps more s.long s.each went.leg;
+    tells = went.tells;
+  }
+
+  pub rests_settled : (old mid new : Engine P) (steps more : ℕ) → Rests part old mid steps more → Settled part mid new → Rests part old new steps more
+  rests_settled old mid new steps more rests s = subst (λ (e : Engine P). Rests part old e steps more) (sym s.same)
+      (record { on = on_settled old mid new steps more rests.on s; steady = rests.steady; stays = rests.stays })
+
+  module _ {W : Type 0} (watcher : Watching W) where
+    pub showed_none : (e : Engine P) (steps : ℕ) (out : W) → MayRun part e → Watches watcher e out → Showed part watcher writes.Ok e (record e { cycle = e.cycle }) steps steps out out
+    showed_none e steps out may watches = record {
+      on = on_none e steps may;
+      ok = λ _. (none_handed part.machine e.wiring e.inputs (shown_at e.cycle e.reading) (states_of part e) e.cycle watcher.whole watcher.faults watcher.stands out watches.whole, watches.later);
+      failed = λ (is : writes.Ok ≡ writes.Failed). absurd cc;
+      place = refl;
+    }
+
+    -- who was handed what the engine showed so far may be handed more
+    pub watches_on : (old mid : Engine P) (steps more : ℕ) (out after : W) → Showed part watcher writes.Ok old mid steps more out after → Watches watcher mid after
+    watches_on old mid steps more out after went = let ok = went.ok refl in record { whole = ok.0.is_whole; later = ok.1 }
+
+    pub showed_then : (end : WriteEnd) (old mid new : Engine P) (steps more most : ℕ) (out between after : W) → Showed part watcher writes.Ok old mid steps more out between → mid.cycle < new.cycle →
+        Showed part watcher end mid new more most between after → Showed part watcher end old new steps most out after
+    showed_then end old mid new steps more most out between after first further more_went =
+        let second = subst (λ (e : Engine P). Showed part watcher end e new more most between after) (same_board old mid first.on.same_wiring first.on.same_inputs) more_went in
+        let handed = (first.ok refl).0 in
+        record {
+          on = on_then old mid new steps more most first.on further more_went.on;
+          ok = λ is. (
+            handed_then watcher.whole watcher.faults watcher.stands out between after _ _ _ _ _ _ handed (second.ok is).0 (rows_then old mid new steps more most first.on further) (bytes_then old mid new steps more most first.on further),
+            (second.ok is).1,
+          );
+          failed = λ is. (
+            rw (← handed.no_fault) (second.failed is).0,
+            legs_stop part.machine laws old.wiring part.state part.now part.wake_count old.inputs watcher.whole watcher.faults watcher.stands watcher.stopped out between after old.cycle mid.cycle new.cycle steps more old.parts mid.parts old.reading mid.reading
+                (omega (arith, further)) first.on.leg handed (second.failed is).1,
+          );
+          place = more_went.place ∙ first.place;
+        }
+
+    -- and nothing happens up to the next cycle in which something may
+    pub showed_next : (end : WriteEnd) (old mid : Engine P) (steps more : ℕ) (out after : W) (n u : ℕ) → Showed part watcher end old mid steps more out after → IsNext mid n u → n ≤ MOST_CYCLES →
+        Showed part watcher end old (record mid { cycle = u }) steps more out after
+    showed_next end old mid steps more out after n u went next last = elim (below_or mid.cycle u) [
+      | inl less ↦
+          let new : Engine P = record mid { cycle = u } in
+          let j = (jumps mid n u more went.on.may next last less).1 in
+          let none = subst (λ (e : Engine P). (rows_to part e u ≡ []) × (bytes_to part e u ≡ [])) (same_board old mid went.on.same_wiring went.on.same_inputs) (j.row_none, j.byte_none) in
+          let order : old.cycle ≤ mid.cycle = went.on.leg.order in
+          record {
+            on = on_then old mid new steps more more went.on less (rests_next mid n u more went.on.may next last).on;
+            ok = λ is.
+                let ok = went.ok is in (
+                  handed_then watcher.whole watcher.faults watcher.stands out after after _ _ _ _ _ _ ok.0 (handed_nothing watcher.whole watcher.faults watcher.stands after ok.0.is_whole)
+                      (rows_then old mid new steps more more went.on less ∙ ap (λ (rs : List Row). rows_to part old mid.cycle ++ rs) none.0)
+                      (bytes_then old mid new steps more more went.on less ∙ ap (λ (bs : List ℕ). bytes_to part old mid.cycle ++ bs) none.1),
+                  λ x ex. (let was = ok.1 x ex in let far = was.0 in (omega (arith, far, less), was.1)),
+                );
+            failed = λ is.
+                let f = went.failed is in
+                (f.0, stops_more (watcher.stands out) (watcher.stopped after) _ _ _ _ f.1 (shown_front part.machine laws old.wiring part.state part.now part.wake_count old.inputs old.cycle mid.cycle u (shown_at old.cycle old.reading) (states_of part old) order next.from));
+            place = went.place;
+          }
+      | inr more_or ↦
+          let same : mid.cycle ≡ u = omega (arith, next.from, more_or) in
+          subst (λ (v : ℕ). Showed part watcher end old (record mid { cycle = v }) steps more out after) same
+          (record {
+            on = record { may = record { lags = went.on.may.lags; behind = went.on.may.behind; order = went.on.may.order }; same_wiring = went.on.same_wiring; same_inputs = went.on.same_inputs; leg = went.on.leg; tells = went.on.tells };
+            ok = went.ok;
+            failed = went.failed;
+            place = went.place;
+          })
+    ]
+
+    pub showed_settled : (end : WriteEnd) (old mid new : Engine P) (steps more : ℕ) (out after : W) → Showed part watcher end old mid steps more out after → Settled part mid new → Showed part watcher end old new steps more out after
+    showed_settled end old mid new steps more out after went s = subst (λ (e : Engine P). Showed part watcher end old e steps more out after) (sym s.same)
+        (record { on = on_settled old mid new steps more went.on s; ok = went.ok; failed = went.failed; place = went.place })

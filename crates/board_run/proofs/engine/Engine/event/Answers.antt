@@ -1,0 +1,144 @@
+use Rattle.std.proofs.Common.{◌≡◌, ◌+◌, ◌∙◌, ap, sym, refl, arith, subst, List, length}
+use Rattle.sim_base.specs.declared.bench.WriteEnd.TheVariants as writes
+use Rattle.sim_base.specs.declared.wiring.Input.{Input}
+use Rattle.board_run.specs.Upcoming.{AreBehind, IsInOrder}
+use Rattle.board_run.specs.Seen.{Seen}
+use Rattle.board_run.specs.Engine.{kept_of, Showed}
+use Rattle.board_run.specs.declared.engine.Engine.{Engine}
+use Rattle.board_run.proofs.HandLemmas.{handed_both, stopped_first, stopped_second}
+use Rattle.board_run.proofs.LagLemmas.{Happens, happens, lags_differ}
+use Rattle.board_run.proofs.engine.Engine.event.Given.{Over}
+use Rattle.board_run.proofs.engine.Engine.event.Goals.{After-turn-woken}
+use Rattle.board_run.proofs.engine.Engine.event.Goals as goal
+
+pub show_cycle-shown-requires : goal.show_cycle-shown-requires
+show_cycle-shown-requires g c =
+    let l = c.requires.may.lags in
+    record { fits = l.fits; suits = l.suits; chips = l.chips_long; fresh = l.fresh; told = l.told; whole = c.requires.watches.whole; behind = c.requires.watches.later }
+
+pub end_of_cycle-end-requires : goal.end_of_cycle-end-requires
+end_of_cycle-end-requires g c =
+    let e = c.args.self.now in
+    record {
+      order = subst IsInOrder (sym c.as_slice.ensures) c.requires.may.order;
+      behind = subst (λ (is : List Input). AreBehind is e.input e.cycle) (sym c.as_slice.ensures) c.requires.may.behind;
+    }
+
+pub turn-woken-requires : goal.turn-woken-requires
+turn-woken-requires g c =
+    let p = g.P.Part in
+    let e = c.args.self.now in
+    let l = c.requires.may.lags in
+    let s = c.show_cycle-shown.ensures in
+    let seen = c.show_cycle-shown.new.reading in
+    let end = c.end_of_cycle-end.ensures in
+    record {
+      may = record {
+        end = c.requires.end;
+        few = l.few;
+        may = l.may;
+        valid = l.valid;
+        dues_long = l.dues_long;
+        answers_long = l.answers_long;
+        silent = l.silent;
+        fits = l.fits;
+        suits = s.suits;
+        told = record { drives_are = s.of.drives_are; closed_are = s.of.closed_are };
+        differs = lags_differ p.machine g.met.P.Part.laws e.wiring p.state p.now p.wake_count e.cycle e.parts (kept_of e) seen c.show_cycle-shown.result.1 l s.differ;
+      };
+      values = (end.from, (let most = end.behind.within in omega (arith, most, ap length c.as_slice.ensures)));
+    }
+
+-- the cycle up to its bytes
+cycle : (g : Over) (c : After-turn-woken g) → Happens g.P.Part.machine g.met.P.Part.laws c.args.self.now.wiring g.P.Part.state g.P.Part.now g.P.Part.wake_count c.args.self.now.inputs c.args.self.now.cycle
+    c.args.self.now.parts c.turn-woken.new.self.parts c.args.self.now.reading c.turn-woken.new.self.reading c.turn-woken.new.self.answers c.turn-woken.new.self.dues c.turn-woken.result.changed c.args.steps.now c.turn-woken.new.steps
+cycle g c =
+    let p = g.P.Part in
+    let e = c.args.self.now in
+    let s = c.show_cycle-shown.ensures in
+    let seen = c.show_cycle-shown.new.reading in
+    let end = c.end_of_cycle-end in
+    let new = c.turn-woken.new.self in
+    let turned = c.turn-woken.ensures in
+    happens p.machine g.met.P.Part.laws e.wiring p.state p.now p.wake_count e.inputs e.cycle e.input end.result e.parts new.parts (kept_of e) seen new.reading c.show_cycle-shown.result.1
+    new.answers new.dues c.turn-woken.result.changed c.args.steps.now c.turn-woken.new.steps c.requires.may.lags s.differ end.ensures.from c.requires.may.behind
+    (subst (λ (is : List Input). AreBehind is end.result (e.cycle + 1)) c.as_slice.ensures end.ensures.behind) s.of s.suits turned.long turned.answers_long turned.dues_long
+    (turned.turns e.inputs) (turned.counted e.inputs) turned.due turned.told turned.rest
+
+pub hand_sent-requires : goal.hand_sent-requires
+hand_sent-requires g c = record { whole = (c.show_cycle-shown.ensures.ok c.in-Ok.is).is_whole; silent = c.turn-woken.ensures.silent }
+
+pub returns-in-Ok : goal.returns-in-Ok
+returns-in-Ok g c =
+    let p = g.P.Part in
+    let o = g.W.Watcher in
+    let e = c.args.self.now in
+    let out = c.args.out.now in
+    let s = c.show_cycle-shown.ensures in
+    let seen = c.show_cycle-shown.new.reading in
+    let end = c.end_of_cycle-end in
+    let new = c.turn-woken.new.self in
+    let turned = c.turn-woken.ensures in
+    let hand = c.hand_sent in
+    let h = cycle g (goal.at.returns-in-Ok g c).After-turn-woken in
+    let ok = s.ok c.in-Ok.is in
+    record {
+      cycle = refl;
+      showed = subst (λ (x : Engine g.row.P.Denot). Showed p o hand.result e (record x { cycle = e.cycle + 1; input = end.result; stale = c.turn-woken.result.changed; answers = hand.new.answers }) c.args.steps.now c.turn-woken.new.steps out hand.new.out) (sym turned.same)
+          (record {
+            on = record {
+              may = record {
+                lags = h.lags end.result hand.new.answers hand.ensures.none.1 hand.ensures.none.0;
+                behind = subst (λ (is : List Input). AreBehind is end.result (e.cycle + 1)) c.as_slice.ensures end.ensures.behind;
+                order = c.requires.may.order;
+              };
+              same_wiring = refl;
+              same_inputs = refl;
+              leg = h.leg;
+              tells = λ _. h.tells;
+            };
+            ok = λ is. (
+              handed_both o.whole o.faults o.stands out c.show_cycle-shown.new.out hand.new.out _ _ _ _ ok (hand.ensures.ok is) h.rows_are h.bytes_are,
+              λ z ez.
+                  let was = s.behind c.in-Ok.is z (sym (hand.ensures.last is) ∙ ez) in
+                  (was.0, subst (λ (v : Seen). o.seen hand.new.out v.circuit.levels) (sym turned.rest) (hand.ensures.seen is seen.circuit.levels was.1)),
+            );
+            failed = λ is.
+                let f = hand.ensures.failed is in
+                (rw (← ok.no_fault) f.0, stopped_second o.whole o.faults o.stands o.stopped out c.show_cycle-shown.new.out hand.new.out _ _ _ _ ok f.1 h.rows_are h.bytes_are);
+            place = hand.ensures.place ∙ s.place;
+          });
+    }
+
+pub returns-in-Failed : goal.returns-in-Failed
+returns-in-Failed g c =
+    let p = g.P.Part in
+    let o = g.W.Watcher in
+    let e = c.args.self.now in
+    let out = c.args.out.now in
+    let s = c.show_cycle-shown.ensures in
+    let end = c.end_of_cycle-end in
+    let turned = c.turn-woken.ensures in
+    let none = c.forget in
+    let h = cycle g (goal.at.returns-in-Failed g c).After-turn-woken in
+    let f = s.failed c.in-Failed.is in
+    record {
+      cycle = refl;
+      showed = subst (λ (x : Engine g.row.P.Denot). Showed p o writes.Failed e (record x { cycle = e.cycle + 1; input = end.result; stale = c.turn-woken.result.changed; answers = none.new.answers }) c.args.steps.now c.turn-woken.new.steps out c.show_cycle-shown.new.out) (sym turned.same)
+          (record {
+            on = record {
+              may = record {
+                lags = h.lags end.result none.new.answers none.ensures.long none.ensures.none;
+                behind = subst (λ (is : List Input). AreBehind is end.result (e.cycle + 1)) c.as_slice.ensures end.ensures.behind;
+                order = c.requires.may.order;
+              };
+              same_wiring = refl;
+              same_inputs = refl;
+              leg = h.leg;
+              tells = λ _. h.tells;
+            };
+            ok = λ (is : writes.Failed ≡ writes.Ok). absurd cc;
+            failed = λ _. (f.0, stopped_first (o.stands out) (o.stopped c.show_cycle-shown.new.out) _ _ _ f.1 h.rows_are);
+            place = s.place;
+          });
+    }
