@@ -71,7 +71,6 @@ keep = record {
   hears = λ u before now. false;
   requests = λ u l. requests u;
   pad = λ u p. untouched;
-  event_moves = λ u. false;
   sends = λ u t. None;
   has = λ a. is_some (register_at a);
   moves = λ u a x. false;

@@ -39,8 +39,6 @@ quiet u t h =
 pub keep_laws : Laws keep
 keep_laws = record {
   keeps_pad = λ s t l p h. refl;
-  event_pad = λ s t l p h. refl;
-  keeps_event_moves = λ s t l h. refl;
   keeps_requests = λ s t l h. ap requests (quiet s t h);
   keeps_hears = λ s t l before now h. refl;
   keeps_silent = λ s t h. refl;

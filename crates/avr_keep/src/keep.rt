@@ -10,7 +10,7 @@ use crate::watchdog::Watchdog;
 use part_law::Span;
 use sim_base::{Level, MOST_CYCLES};
 use std::marker::Model;
-use unit_law::{Pad, Request, Unit, least, or_end, with_bit, within_run};
+use unit_law::{Awake, Pad, Request, Unit, least, or_end, with_bit, within_run};
 
 /// The watchdog and the EEPROM, before the step of `cycle`.
 #[derive(Drop)]
@@ -91,11 +91,6 @@ impl Unit for Keep {
         false
     }
 
-    #[inline]
-    fn event_moves(&self) -> bool {
-        false
-    }
-
     fn read(&mut self, _levels: &[Level], reg: u8) -> u8 {
         self.register(named(reg))
     }
@@ -113,11 +108,11 @@ impl Unit for Keep {
         self.cycle = to;
     }
 
-    fn step(&mut self, _before: &[Level], _now: &[Level]) -> Option<u8> {
+    fn step(&mut self, _before: &[Level], _now: &[Level]) -> (Option<u8>, Span) {
         self.watchdog.step(self.cycle);
         self.eeprom.step(self.cycle);
         self.cycle += 1;
-        None
+        (None, Span::none())
     }
 
     fn due(&self) -> Option<u32> {
@@ -148,6 +143,15 @@ impl Unit for Keep {
         }
     }
 
+    #[inline]
+    fn pad(&self, _pin: u8) -> Pad {
+        Pad::untouched()
+    }
+
+    ghost laws = { keep_laws };
+}
+
+impl Awake for Keep {
     fn rouses(&self, _levels: &[Level]) -> bool {
         self.watchdog.wdie & self.watchdog.wdif
     }
@@ -166,13 +170,6 @@ impl Unit for Keep {
     }
 
     fn doze(&mut self) {}
-
-    #[inline]
-    fn pad(&self, _pin: u8) -> Pad {
-        Pad::untouched()
-    }
-
-    ghost laws = { keep_laws };
 }
 
 impl Keep {

@@ -24,7 +24,8 @@ use Rattle.unit_law.specs.Bits.{with_bit}
 use Rattle.unit_law.specs.declared.pins.TheConstants.{PORT_PINS}
 use Rattle.unit_law.specs.UnitMachine.{UnitMachine, least, steps, FirstDue}
 use Rattle.unit_law.specs.UnitMachine as unit
-use Rattle.unit_law.proofs.UnitLemmas.{step_none, step_last, quiet_requests}
+use Rattle.unit_law.specs.Lagging.{quiet_requests}
+use Rattle.unit_law.proofs.UnitLemmas.{step_none, step_last}
 use Rattle.avr_adc.specs.declared.registers.TheConstants.{ADCSRA, ADSC}
 use Rattle.avr_mcu.specs.declared.pins.TheConstants.{UNO_PINS}
 use Rattle.avr_mcu.specs.Units.{Units, UnitsAt, unit_bus, with_smcr, pins, request, units_step, plain, with_plain, with_register, data_at, touches, bit_touches, pins_of, pins_of_bit, touched_by}

@@ -174,23 +174,23 @@ module _ {E : Type 0} (rest : UnitMachine E) where
   }
 
 -- The SPI alone has SPDR, and the TWI TWCR: what is asked of a pin stays where that unit asks the same.
-spi_wrote : (s : Devices) (y : Spi) (p : ℕ) → spi.pad y p ≡ spi.pad s.1.unit.1.1.1.1.1.0 p →
-    devices.pad (s.0, record (s.1) { unit = (s.1.unit.0, (s.1.unit.1.0, (s.1.unit.1.1.0, (s.1.unit.1.1.1.0, (s.1.unit.1.1.1.1.0, (y, s.1.unit.1.1.1.1.1.1)))))) }) p ≡ devices.pad s p
+spi_wrote : (s : Devices) (y : Spi) (p : ℕ) → spi.pad y p ≡ spi.pad s.1.unit.0 p →
+    devices.pad (s.0, record (s.1) { unit = (y, (s.1.unit.1.0, (s.1.unit.1.1.0, (s.1.unit.1.1.1.0, (s.1.unit.1.1.1.1.0, (s.1.unit.1.1.1.1.1.0, s.1.unit.1.1.1.1.1.1)))))) }) p ≡ devices.pad s p
 spi_wrote s y p e =
-    let u = s.1.unit in
-    below (joined (ports.pad s.0.0 p) (keep.pad s.0.1 p)) (below ((timer8 Zero).pad u.0 p) (below (timer16.pad u.1.0 p) (below ((timer8 Two).pad u.1.1.0 p)
-    (below (adc.pad u.1.1.1.0 p) (below (usart.pad u.1.1.1.1.0 p) (ap (λ (q : Pad). joined q (twi.pad u.1.1.1.1.1.1 p)) e))))))
+    let u = s.1.unit.1 in
+    below (joined (ports.pad s.0.0 p) (keep.pad s.0.1 p)) (ap (λ (q : Pad). joined q (joined ((timer8 Zero).pad u.0 p) (joined (timer16.pad u.1.0 p) (joined ((timer8 Two).pad u.1.1.0 p)
+    (joined (adc.pad u.1.1.1.0 p) (joined (usart.pad u.1.1.1.1.0 p) (twi.pad u.1.1.1.1.1 p))))))) e)
 
 twi_wrote : (s : Devices) (y : Twi) (p : ℕ) → twi.pad y p ≡ twi.pad s.1.unit.1.1.1.1.1.1 p →
     devices.pad (s.0, record (s.1) { unit = (s.1.unit.0, (s.1.unit.1.0, (s.1.unit.1.1.0, (s.1.unit.1.1.1.0, (s.1.unit.1.1.1.1.0, (s.1.unit.1.1.1.1.1.0, y)))))) }) p ≡ devices.pad s p
 twi_wrote s y p e =
-    let u = s.1.unit in
-    below (joined (ports.pad s.0.0 p) (keep.pad s.0.1 p)) (below ((timer8 Zero).pad u.0 p) (below (timer16.pad u.1.0 p) (below ((timer8 Two).pad u.1.1.0 p)
-    (below (adc.pad u.1.1.1.0 p) (below (usart.pad u.1.1.1.1.0 p) (below (spi.pad u.1.1.1.1.1.0 p) e))))))
+    let u = s.1.unit.1 in
+    below (joined (ports.pad s.0.0 p) (keep.pad s.0.1 p)) (below (spi.pad s.1.unit.0 p) (below ((timer8 Zero).pad u.0 p) (below (timer16.pad u.1.0 p) (below ((timer8 Two).pad u.1.1.0 p)
+    (below (adc.pad u.1.1.1.0 p) (below (usart.pad u.1.1.1.1.0 p) e))))))
 
 devices_wires : (s : Devices) (t a x p : ℕ) → p < PORT_PINS → ¬ IsIn (wire_pins a) p → devices.pad (devices.write s t a x) p ≡ devices.pad s p
 devices_wires s t a x p less = elim (eqb_tells a 0x4E) [
-  | inl is ↦ subst G (sym is.1) (λ out. let u : Spi = s.1.unit.1.1.1.1.1.0 in let y : Spi = spi.write u s.1.cycle 0x4E x in spi_wrote s y p (spi_placed y p less out ∙ sym (spi_placed u p less out)))
+  | inl is ↦ subst G (sym is.1) (λ out. let u : Spi = s.1.unit.0 in let y : Spi = spi.write u s.1.cycle 0x4E x in spi_wrote s y p (spi_placed y p less out ∙ sym (spi_placed u p less out)))
   | inr n4E ↦ elim (eqb_tells a 0xBC) [
     | inl is ↦ subst G (sym is.1) (λ out. let u : Twi = s.1.unit.1.1.1.1.1.1 in let y : Twi = twi.write u s.1.cycle 0xBC x in twi_wrote s y p (twi_placed y p less out ∙ sym (twi_placed u p less out)))
     | inr nBC ↦

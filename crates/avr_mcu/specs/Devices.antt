@@ -16,12 +16,12 @@ awake = beside (member ports_laws) (member keep_laws)
 
 abbrev clocked : Member
 clocked =
-    beside (member (timer8_laws Zero))
+    beside (member spi_laws)
+    (beside (member (timer8_laws Zero))
     (beside (member timer16_laws)
     (beside (member (timer8_laws Two))
     (beside (member adc_laws)
     (beside (member usart_laws)
-    (beside (member spi_laws)
     (member twi_laws))))))
 
 abbrev pub clocked_units : UnitMachine clocked.State

@@ -9,7 +9,7 @@ ghost use Rattle.unit_law.specs.Signals.{signalled};
 
 use part_law::Span;
 use sim_base::{Level, MOST_CYCLES};
-use unit_law::{Group, PORT_PINS, Pad, Signal, wait};
+use unit_law::{AwakeGroup, Group, PORT_PINS, Pad, Signal, notices, wait};
 
 /// The first cycle in which a unit has an event, or `MOST_CYCLES`, and the least vector that is enabled and flagged, or
 /// `VECTORS`.
@@ -142,7 +142,7 @@ pub(crate) fn taken<G: Group>(
 }
 
 /// Hands on what reaches the units beside the bus and the vectors.
-pub(crate) fn give<G: Group>(
+pub(crate) fn give<G: AwakeGroup>(
     group: &mut G,
     next: &mut Next,
     cycle: u32,
@@ -158,22 +158,20 @@ pub(crate) fn give<G: Group>(
     *next = next_of(group, levels);
 }
 
-// One cycle, from the levels before to those now; `same` tells that these levels are those. Answers the byte that leaves,
-// whether it ends in a reset of the watchdog, and the pins of which it may have changed what they are asked for.
+// One cycle, from the levels before to those now: the byte that leaves, whether it ends in a reset of the watchdog, and the
+// pins of which it may have changed what they are asked for.
 #[inline]
-fn step<G: Group>(
+fn step<G: AwakeGroup>(
     group: &mut G,
     next: &mut Next,
     cycle: u32,
     before: &[Level],
     now: &[Level],
-    same: bool,
 ) -> (Option<u8>, bool, Span)
     requires before { length before.now ≡ PORT_PINS }
     requires levels { length now.now ≡ PORT_PINS }
     requires end { cycle < MOST_CYCLES }
     requires ready { Ready G.machine (G.state group.old) (G.until group.old) (G.stands group.old) before.now cycle next.old.due next.old.request }
-    requires same { same ≡ true → now.now ≡ before.now }
     ensures byte { result.0 ≡ G.machine.sends (G.state group.old cycle) cycle }
     ensures resets { result.1 ≡ G.machine.power.resets (G.state group.old cycle) cycle }
     ensures pads { StepMoves G.machine (G.state group.old cycle) cycle before.now now.now result.2 }
@@ -181,32 +179,15 @@ fn step<G: Group>(
     ensures ready { Ready G.machine (G.state group.new) (G.until group.new) (G.stands group.new) now.now (cycle + 1) next.new.due next.new.request }
 {
     let resets = group.resets(cycle);
-    let (byte, moved) = group.step(cycle, before, now, same);
+    let (byte, moved) = group.step(cycle, before, now, (None, Span::none()));
     *next = next_of(group, now);
     (byte, resets, moved)
-}
-
-// Whether a unit has an event or takes notice of the change of the levels; `due` is the first cycle with an event.
-#[inline]
-fn notices<G: Group>(group: &G, due: u32, cycle: u32, before: &[Level], now: &[Level]) -> bool
-    requires due { due ≡ G.until group.now }
-    requires before { length before.now ≡ PORT_PINS }
-    requires levels { length now.now ≡ PORT_PINS }
-    requires here { G.stands group.now before.now cycle }
-    ensures quiet { result ≡ false → cycle < due }
-    ensures deaf { result ≡ false → G.machine.hears (G.state group.now cycle) before.now now.now ≡ false }
-{
-    if due <= cycle {
-        true
-    } else {
-        group.hears(before, now)
-    }
 }
 
 /// One cycle, from the levels before to those now, in which nothing needs to be done if no unit notices: the byte that leaves,
 /// whether it ends in a reset of the watchdog, and the pins of which it may have changed what they are asked for.
 #[inline]
-pub(crate) fn hear<G: Group>(
+pub(crate) fn hear<G: AwakeGroup>(
     group: &mut G,
     next: &mut Next,
     cycle: u32,
@@ -224,7 +205,7 @@ pub(crate) fn hear<G: Group>(
     ensures ready { Ready G.machine (G.state group.new) (G.until group.new) (G.stands group.new) now.now (cycle + 1) next.new.due next.new.request }
 {
     if notices(group, next.due, cycle, before, now) {
-        step(group, next, cycle, before, now, false)
+        step(group, next, cycle, before, now)
     } else {
         group.stay(cycle, before, now);
         (None, false, Span::none())
@@ -233,7 +214,7 @@ pub(crate) fn hear<G: Group>(
 
 /// The same on levels that stay.
 #[inline]
-pub(crate) fn turn<G: Group>(
+pub(crate) fn turn<G: AwakeGroup>(
     group: &mut G,
     next: &mut Next,
     cycle: u32,
@@ -248,7 +229,7 @@ pub(crate) fn turn<G: Group>(
     ensures state { G.state group.new (cycle + 1) ≡ G.machine.step (G.state group.old cycle) cycle levels.now levels.now }
     ensures ready { Ready G.machine (G.state group.new) (G.until group.new) (G.stands group.new) levels.now (cycle + 1) next.new.due next.new.request }
 {
-    step(group, next, cycle, levels, levels, true)
+    step(group, next, cycle, levels, levels)
 }
 
 /// What the units ask together of a pin, 14 to 19 being A0 to A5.

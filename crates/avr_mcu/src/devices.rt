@@ -8,14 +8,15 @@ use avr_timer8::{Timer0, Timer2};
 use avr_timer16::Timer16;
 use avr_twi::Twi;
 use avr_usart::Usart;
-use unit_law::{Both, Late, Powered};
+use unit_law::{Both, Late, Powered, Seldom};
 
 pub(crate) type Devices = Powered<Awake, Clocked>;
 
 /// The ports, which firmware uses most, and the watchdog with the EEPROM go on in power-down.
 type Awake = Both<Ports, Late<Keep>>;
 
+/// Of the others the SPI may have an event in each cycle.
 type Clocked = Both<
-    Timer0,
-    Both<Timer16, Both<Timer2, Both<Adc, Both<Usart, Both<Spi, Late<Twi>>>>>>,
+    Spi,
+    Seldom<Both<Timer0, Both<Timer16, Both<Timer2, Both<Adc, Both<Usart, Late<Twi>>>>>>>,
 >;

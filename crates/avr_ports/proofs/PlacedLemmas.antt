@@ -1,11 +1,8 @@
 -- Which pins the ports ask for something.
-use Rattle.std.proofs.Common.{arith, refl}
-use Rattle.part_law.specs.Spans.{all_pins, no_pins}
-use Rattle.unit_law.specs.Placed.{Placed, Moves}
+use Rattle.std.proofs.Common.{arith}
+use Rattle.part_law.specs.Spans.{all_pins}
+use Rattle.unit_law.specs.Placed.{Placed}
 use Rattle.avr_ports.specs.Ports.{ports}
 
 pub ports_placed : Placed ports all_pins
 ports_placed u p less out = absurd (out (omega arith, omega (arith, less)))
-
-pub ports_still : Moves ports no_pins
-ports_still u t before now p less out = refl

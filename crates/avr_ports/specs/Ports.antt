@@ -237,7 +237,6 @@ ports = record {
   hears = λ u before now. not (is_deaf u);
   requests = requests;
   pad = port_pad;
-  event_moves = λ u. false;
   sends = λ u t. None;
   has = λ a. is_some (register_at a);
   moves = λ u a x. at_register (register_at a) false (λ r. moves u r x);

@@ -12,7 +12,9 @@ use crate::registers::{
 use part_law::Span;
 use sim_base::{Level, MOST_CYCLES};
 use std::marker::Model;
-use unit_law::{PORT_PINS, Pad, Request, Unit, VECTORS, has_bit, least, mask, one, with_bit};
+use unit_law::{
+    Awake, PORT_PINS, Pad, Request, Unit, VECTORS, has_bit, least, mask, one, with_bit,
+};
 
 /// The ports, before the step of `cycle`.
 #[derive(Drop)]
@@ -90,13 +92,6 @@ impl Unit for Ports {
         Span::all()
     }
 
-    /// A cycle changes nothing of DDRx and PORTx.
-    #[inline(always)]
-    #[tactic(auto, using(crate::proofs::PlacedLemmas::ports_still))]
-    fn moved() -> Span {
-        Span::none()
-    }
-
     /// PINx, DDRx and PORTx, from PINB on up to PORTD, have no part in what is requested.
     #[inline(always)]
     #[tactic(auto, using(crate::proofs::NextLemmas::ports_writes))]
@@ -136,11 +131,6 @@ impl Unit for Ports {
     }
 
     #[inline]
-    fn event_moves(&self) -> bool {
-        false
-    }
-
-    #[inline]
     fn read(&mut self, levels: &[Level], reg: u8) -> u8 {
         self.register(levels, named(reg))
     }
@@ -160,11 +150,11 @@ impl Unit for Ports {
         self.cycle = to;
     }
 
-    fn step(&mut self, before: &[Level], now: &[Level]) -> Option<u8> {
+    fn step(&mut self, before: &[Level], now: &[Level]) -> (Option<u8>, Span) {
         self.sense_edges(before, now);
         self.sense_changes(before, now);
         self.cycle += 1;
-        None
+        (None, Span::none())
     }
 
     #[inline]
@@ -191,6 +181,21 @@ impl Unit for Ports {
         }
     }
 
+    #[inline]
+    fn pad(&self, pin: u8) -> Pad {
+        if pin < 8 {
+            bit_pad(self.ddrd, self.portd, pin)
+        } else if pin < 14 {
+            bit_pad(self.ddrb, self.portb, pin - 8)
+        } else {
+            bit_pad(self.ddrc, self.portc, pin - 14)
+        }
+    }
+
+    ghost laws = { ports_laws };
+}
+
+impl Awake for Ports {
     fn rouses(&self, levels: &[Level]) -> bool {
         let int0 = has_bit(self.eimsk, 0) & calls_int(self.intf0, self.eicra % 4, on(levels, 2));
         let int1 = has_bit(self.eimsk, 1)
@@ -212,19 +217,6 @@ impl Unit for Ports {
     }
 
     fn doze(&mut self) {}
-
-    #[inline]
-    fn pad(&self, pin: u8) -> Pad {
-        if pin < 8 {
-            bit_pad(self.ddrd, self.portd, pin)
-        } else if pin < 14 {
-            bit_pad(self.ddrb, self.portb, pin - 8)
-        } else {
-            bit_pad(self.ddrc, self.portc, pin - 14)
-        }
-    }
-
-    ghost laws = { ports_laws };
 }
 
 // Whether an external interrupt requests by its low level.

@@ -137,7 +137,6 @@ spi = record {
   hears = λ u before now. watches u && (ss_low now && not (ss_low before));
   requests = λ u l. requests u;
   pad = spi_pad;
-  event_moves = λ u. true;
   sends = λ u t. None;
   has = λ a. is_some (register_at a);
   moves = λ u a x. at_register (register_at a) false moves_pad;

@@ -65,8 +65,6 @@ at_pad u t (Some r) x p h = write_pad u t r (x r) p h
 pub spi_laws : Laws spi
 spi_laws = record {
   keeps_pad = λ s t l p h. ap (λ (u : Spi). spi_pad u p) (quiet s t l h);
-  event_pad = λ s t l p h. cc;
-  keeps_event_moves = λ s t l h. refl;
   keeps_requests = λ s t l h. ap requests (quiet s t l h);
   keeps_hears = λ s t l before now h. ap (λ (u : Spi). spi.hears u before now) (quiet s t l h);
   keeps_silent = λ s t h. refl;

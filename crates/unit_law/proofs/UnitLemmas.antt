@@ -4,7 +4,7 @@ use Rattle.std.proofs.lemmas.Bool.{both_ways}
 use Rattle.sim_base.specs.declared.signal.Level.{Level}
 use Rattle.sim_base.specs.declared.limits.TheConstants.{MOST_CYCLES}
 use Rattle.unit_law.specs.UnitMachine.{UnitMachine, At, Laws, least, steps, IsQuiet, IsFirstDue, FirstDue}
-use Rattle.unit_law.specs.Lagging.{lag_first}
+use Rattle.unit_law.specs.Lagging.{lag_first, quiet_requests}
 use Rattle.unit_law.specs.Late.{late_state, Lags, LateStands, Rests}
 
 le_or : (a b : ℕ) → (a ≤ b) ⊎ (b < a)
@@ -26,19 +26,6 @@ module _ {U : Type 0} (m : UnitMachine U) where
   quiet_pad laws s t zero p quiet = refl
   quiet_pad laws s t (suc n) p quiet =
       laws.keeps_pad (steps m s t n) (t + n) [] p (quiet n (omega arith)) ∙ quiet_pad laws s t n p (λ k (h : k < n). quiet k (omega arith))
-
-  pub quiet_event_moves : Laws m → (s : U) (t n : ℕ) → IsQuiet m s t n → m.event_moves (steps m s t n) ≡ m.event_moves s
-  unfolding steps
-  quiet_event_moves laws s t zero quiet = refl
-  quiet_event_moves laws s t (suc n) quiet =
-      laws.keeps_event_moves (steps m s t n) (t + n) [] (quiet n (omega arith)) ∙ quiet_event_moves laws s t n (λ k (h : k < n). quiet k (omega arith))
-
-  pub quiet_requests : Laws m → (s : U) (t n : ℕ) (l : List Level) → IsQuiet m s t n → m.requests (steps m s t n) l ≡ m.requests s l
-  unfolding steps
-  quiet_requests laws s t zero l quiet = refl
-  quiet_requests laws s t (suc n) l quiet =
-      ap (λ (x : U). m.requests x l) (laws.deaf (steps m s t n) (t + n) [] l (quiet n (omega arith)))
-      ∙ laws.keeps_requests (steps m s t n) (t + n) l (quiet n (omega arith)) ∙ quiet_requests laws s t n l (λ k (h : k < n). quiet k (omega arith))
 
   pub quiet_hears : Laws m → (s : U) (t n : ℕ) (before now : List Level) → IsQuiet m s t n → m.hears (steps m s t n) before now ≡ m.hears s before now
   unfolding steps
@@ -77,6 +64,13 @@ module _ {U : Type 0} (m : UnitMachine U) where
         absurd (both_ways (m.due (steps m s t (d - t)) d) no yes_due)
   ]
 
+  -- the same state has one first event
+  pub same_first : (u v : U) (t d e : ℕ) → u ≡ v → FirstDue m v t d → FirstDue m u t e → d ≡ e
+  same_first u v t d e same first second =
+      let later : e ≤ d = quiet_within v t d e first second.later second.end (λ k less. ap (λ (x : U). m.due (steps m x t k) (t + k)) (sym same) ∙ second.quiet k less) in
+      let sooner : d ≤ e = quiet_within u t e d second first.later first.end (λ k less. ap (λ (x : U). m.due (steps m x t k) (t + k)) same ∙ first.quiet k less) in
+      omega (arith, later, sooner)
+
   -- a unit at its own cycle
   pub late_here : (s : At U) (t : ℕ) (u : U) → s ≡ record { unit = u; cycle = t } → late_state m s t ≡ u
   late_here s t u e = let z : t - t ≡ 0 = omega arith in ap (λ (x : At U). late_state m x t) e ∙ step_none u t (t - t) z
@@ -91,7 +85,7 @@ module _ {U : Type 0} (m : UnitMachine U) where
   late_kept laws s v due request l t h is =
       subst (λ (x : At U). LateStands m x due request l t) (sym is) (record {
         late = record { lags = omega arith; soon = h.late.soon; first = lag_first m s.unit s.cycle t due h.late.lags h.late.soon h.late.first };
-        requests = h.requests ∙ sym (ap least (quiet_requests laws s.unit s.cycle (t - s.cycle) l (late_quiet s due t h.late)));
+        requests = h.requests ∙ sym (ap least (quiet_requests m laws s.unit s.cycle (t - s.cycle) l (late_quiet s due t h.late)));
       })
 
   -- one more cycle without an event
@@ -106,14 +100,7 @@ module _ {U : Type 0} (m : UnitMachine U) where
       let f : s.cycle + (t - s.cycle) ≡ t = omega (arith, h.lags) in
       ap (m.due (late_state m s t)) (sym f) ∙ h.first.quiet (t - s.cycle) (omega (arith, less, h.lags))
 
-  -- a cycle leaves a unit as it lags on levels that stay, and where it takes no notice of the change
-  pub rests_same : (s : At U) (due t : ℕ) (before now : List Level) → t < due → now ≡ before → Rests m s due before now t
-  rests_same s due t before now less e = record {
-    early = less;
-    steps = ap (λ (l : List Level). m.step (late_state m s t) t l now) (sym e);
-    requests = ap (λ (l : List Level). least (m.requests s.unit l)) (sym e);
-  }
-
+  -- a cycle leaves a unit as it lags where it takes no notice of the change
   pub rests_deaf : Laws m → (s : At U) (due t : ℕ) (before now : List Level) → Lags m s due t → t < due → m.hears s.unit before now ≡ false → Rests m s due before now t
   rests_deaf laws s due t before now h less none = record {
     early = less;
@@ -129,11 +116,6 @@ module _ {U : Type 0} (m : UnitMachine U) where
   pub rest_pad : Laws m → (s : At U) (due t : ℕ) (before now : List Level) → Lags m s due t → Rests m s due before now t → (p : ℕ) →
       m.pad (m.step (late_state m s t) t before now) p ≡ m.pad (late_state m s t) p
   rest_pad laws s due t before now h r p = ap (λ (x : U). m.pad x p) r.steps ∙ laws.keeps_pad (late_state m s t) t now p (late_due s due t h r.early)
-
-  -- an event that moves no pin
-  pub event_pad : Laws m → (s : At U) (due t : ℕ) (l : List Level) (p : ℕ) → Lags m s due t → m.event_moves s.unit ≡ false → m.pad (m.step (late_state m s t) t l l) p ≡ m.pad (late_state m s t) p
-  event_pad laws s due t l p h none =
-      laws.event_pad (late_state m s t) t l p (quiet_event_moves laws s.unit s.cycle (t - s.cycle) (late_quiet s due t h) ∙ none)
 
   pub rest_silent : Laws m → (s : At U) (due t : ℕ) (before now : List Level) → Lags m s due t → Rests m s due before now t → None ≡ m.sends (late_state m s t) t
   rest_silent laws s due t before now h r = sym (laws.keeps_silent (late_state m s t) t (late_due s due t h r.early))

@@ -25,7 +25,6 @@ module _ {U : Type 0} (m : UnitMachine U) where
     hears = λ u before now. m.hears u.unit before now;
     requests = λ u l. m.requests u.unit l;
     pad = λ u p. m.pad u.unit p;
-    event_moves = λ u. m.event_moves u.unit;
     sends = λ u t. if u.runs then m.sends u.unit u.cycle else None;
     has = m.has;
     moves = λ u a x. m.moves u.unit a x;
@@ -42,8 +41,6 @@ module _ {U : Type 0} (m : UnitMachine U) where
   pub clocked_laws : Laws m → Laws clocked
   clocked_laws p = record {
     keeps_pad = λ s t l i h. kept (λ u. m.pad u i) s l (p.keeps_pad s.unit s.cycle l i) s.runs h;
-    event_pad = λ s t l i h. moved (λ u. m.pad u i) s l (p.event_pad s.unit s.cycle l i h) s.runs;
-    keeps_event_moves = λ s t l h. kept m.event_moves s l (p.keeps_event_moves s.unit s.cycle l) s.runs h;
     keeps_requests = λ s t l h. kept (λ u. m.requests u l) s l (p.keeps_requests s.unit s.cycle l) s.runs h;
     keeps_hears = λ s t l before now h. kept (λ u. m.hears u before now) s l (p.keeps_hears s.unit s.cycle l before now) s.runs h;
     keeps_silent = λ s t h. silent s (p.keeps_silent s.unit s.cycle) s.runs h;
@@ -66,10 +63,6 @@ module _ {U : Type 0} (m : UnitMachine U) where
     where
       after : Clocked U → List Level → List Level → Bool → Clocked U
       after s before now b = if b then record s { unit = m.step s.unit s.cycle before now; cycle = s.cycle + 1 } else s
-
-      moved : {X : Type 0} (f : U → X) (s : Clocked U) (l : List Level) → f (m.step s.unit s.cycle l l) ≡ f s.unit → (b : Bool) → f (after s l l b).unit ≡ f s.unit
-      moved f s l law true = law
-      moved f s l law false = refl
 
       kept : {X : Type 0} (f : U → X) (s : Clocked U) (l : List Level) → (m.due s.unit s.cycle ≡ false → f (m.step s.unit s.cycle l l) ≡ f s.unit) → (b : Bool) → (b && m.due s.unit s.cycle) ≡ false →
           f (after s l l b).unit ≡ f s.unit

@@ -8,6 +8,7 @@ pub mod BothLaws
 pub mod Placed
 pub mod Next
 pub mod Late
+pub mod Seldom
 pub mod Clocked
 pub mod Power
 pub mod Signals

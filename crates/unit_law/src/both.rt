@@ -4,12 +4,12 @@ ghost use Rattle.sim_base.specs.declared.signal.Level.{Level};
 ghost use Rattle.unit_law.specs.Both.{first_of_two};
 ghost use Rattle.unit_law.specs.Placed.{hull};
 
-use crate::group::Group;
+use crate::group::{AwakeGroup, Group};
 use crate::late::Late;
 use crate::pad::Pad;
 use crate::pins::PORT_PINS;
 use crate::signal::Signal;
-use crate::unit::Unit;
+use crate::unit::{Awake, Unit};
 use part_law::Span;
 use sim_base::Level;
 
@@ -105,11 +105,10 @@ impl<U: Unit, G: Group> Group for Both<U, G> {
         cycle: u32,
         before: &[Level],
         now: &[Level],
-        same: bool,
+        others: (Option<u8>, Span),
     ) -> (Option<u8>, Span) {
-        let (byte, moved) = self.first.step(cycle, before, now, same);
-        let (other, more) = self.second.step(cycle, before, now, same);
-        (first_of_two(byte, other), hull(more, moved))
+        let more = self.second.step(cycle, before, now, others);
+        self.first.step(cycle, before, now, more)
     }
 
     #[inline(always)]
@@ -138,6 +137,20 @@ impl<U: Unit, G: Group> Group for Both<U, G> {
         self.second.taken(cycle, levels, vector);
     }
 
+    #[inline(always)]
+    fn asked(&self, pin: u8, others: Pad) -> Pad {
+        let more = self.second.asked(pin, others);
+        self.first.asked(pin, more)
+    }
+
+    ghost laws = { both_laws U.machine G.machine U.laws G.laws };
+
+    ghost waits = { λ s l t u h le soon. both_wait U.machine G.machine (⟦<Late<U> as Group>⟧.until s.first) (G.until s.second) (⟦<Late<U> as Group>⟧.state s.first) (G.state s.second) (⟦<Late<U> as Group>⟧.stands s.first) (G.stands s.second) l t u (λ l t u h le soon. late_waits U.machine (U.shows s.first.unit) s.first.due s.first.request l t u h le soon) (G.waits s.second) h le soon };
+
+    ghost first = { λ s l t h. first_both U.machine G.machine (⟦<Late<U> as Group>⟧.state s.first t, G.state s.second t) t (⟦<Late<U> as Group>⟧.until s.first) (G.until s.second) (late_first U.machine (U.shows s.first.unit) s.first.due s.first.request l t h.0) (G.first s.second l t h.1) };
+}
+
+impl<U: Awake, G: AwakeGroup> AwakeGroup for Both<U, G> {
     #[inline]
     fn rouses(&self, levels: &[Level]) -> bool {
         self.first.rouses(levels) | self.second.rouses(levels)
@@ -152,20 +165,9 @@ impl<U: Unit, G: Group> Group for Both<U, G> {
         self.first.give(cycle, levels, signal);
         self.second.give(cycle, levels, signal);
     }
-
-    #[inline(always)]
-    fn asked(&self, pin: u8, others: Pad) -> Pad {
-        let more = self.second.asked(pin, others);
-        self.first.asked(pin, more)
-    }
-
-    ghost laws = { both_laws U.machine G.machine U.laws G.laws };
-
-    ghost waits = { λ s l t u h le soon. both_wait U.machine G.machine (⟦<Late<U> as Group>⟧.until s.first) (G.until s.second) (⟦<Late<U> as Group>⟧.state s.first) (G.state s.second) (⟦<Late<U> as Group>⟧.stands s.first) (G.stands s.second) l t u (λ l t u h le soon. late_waits U.machine (U.shows s.first.unit) s.first.due s.first.request l t u h le soon) (G.waits s.second) h le soon };
-
-    ghost first = { λ s l t h. first_both U.machine G.machine (⟦<Late<U> as Group>⟧.state s.first t, G.state s.second t) t (⟦<Late<U> as Group>⟧.until s.first) (G.until s.second) (late_first U.machine (U.shows s.first.unit) s.first.due s.first.request l t h.0) (G.first s.second l t h.1) };
 }
 
+#[inline]
 pub(crate) fn first_of_two(first: Option<u8>, second: Option<u8>) -> Option<u8>
     ensures { result ≡ first_of_two first second }
 {

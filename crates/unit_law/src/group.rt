@@ -4,7 +4,8 @@ ghost use Rattle.sim_base.specs.declared.signal.Level.{Level};
 ghost use Rattle.sim_base.specs.declared.signal.Level.TheVariants as levels;
 ghost use Rattle.unit_law.specs.UnitMachine.{UnitMachine, Laws, least, steps, IsQuiet, FirstDue};
 ghost use Rattle.unit_law.specs.Pad.{joined};
-ghost use Rattle.unit_law.specs.Placed.{StepMoves};
+ghost use Rattle.unit_law.specs.Both.{first_of_two};
+ghost use Rattle.unit_law.specs.Placed.{StepMoves, IsWithin};
 ghost use Rattle.unit_law.specs.Next.{WritesKeepNext};
 ghost use Rattle.unit_law.specs.Signals.{signalled};
 
@@ -80,22 +81,22 @@ pub trait Group {
         ensures state { state self.new cycle ≡ machine.write_bit (state self.old cycle) cycle reg bit value }
         ensures stands { stands self.new levels.now cycle };
 
-    /// Steps over a cycle, from the levels before to those now; `same` tells that these levels are those. A unit without an
-    /// event that takes no notice of the change is not touched. Answers the byte that leaves, and the pins of which the step
-    /// may have changed what they are asked for.
+    /// Steps over a cycle, from the levels before to those now: a unit without an event that takes no notice of the change is
+    /// not touched. Answers the byte that leaves, and the pins of which the step may have changed what they are asked for, with
+    /// those of others beside them.
     fn step(
         &mut self,
         cycle: u32,
         before: &[Level],
         now: &[Level],
-        same: bool,
+        others: (Option<u8>, Span),
     ) -> (Option<u8>, Span)
         requires before { length before.now ≡ PORT_PINS }
         requires levels { length now.now ≡ PORT_PINS }
         requires end { cycle < MOST_CYCLES }
         requires here { stands self.old before.now cycle }
-        requires same { same ≡ true → now.now ≡ before.now }
-        ensures byte { result.0 ≡ machine.sends (state self.old cycle) cycle }
+        ensures byte { result.0 ≡ first_of_two (machine.sends (state self.old cycle) cycle) others.0 }
+        ensures others { IsWithin others.1 result.1 }
         ensures pads { StepMoves machine (state self.old cycle) cycle before.now now.now result.1 }
         ensures state { state self.new (cycle + 1) ≡ machine.step (state self.old cycle) cycle before.now now.now }
         ensures stands { stands self.new now.now (cycle + 1) };
@@ -129,22 +130,6 @@ pub trait Group {
         ensures state { state self.new cycle ≡ machine.taken (state self.old cycle) vector }
         ensures stands { stands self.new levels.now cycle };
 
-    /// Whether something that ends power-down is enabled and flagged.
-    fn rouses(&self, levels: &[Level]) -> bool
-        requires { length levels.now ≡ PORT_PINS }
-        ensures { (t : ℕ) → stands self.now levels.now t → result ≡ machine.power.rouses (state self.now t) levels.now };
-
-    /// Whether the step of a cycle ends in a reset.
-    fn resets(&self, cycle: u32) -> bool
-        ensures { (l : List Level) → stands self.now l cycle → result ≡ machine.power.resets (state self.now cycle) cycle };
-
-    /// Hands on what reaches units in a cycle beside the bus and the vectors.
-    fn give(&mut self, cycle: u32, levels: &[Level], signal: Signal)
-        requires levels { length levels.now ≡ PORT_PINS }
-        requires here { stands self.old levels.now cycle }
-        ensures state { state self.new cycle ≡ signalled machine signal (state self.old cycle) cycle }
-        ensures stands { stands self.new levels.now cycle };
-
     /// What they and others ask together of an Uno pin, 14 to 19 being A0 to A5.
     fn asked(&self, pin: u8, others: Pad) -> Pad
         requires { pin < PORT_PINS }
@@ -156,6 +141,25 @@ pub trait Group {
     ghost waits: { (s : Self) (l : List Level) (t u : ℕ) → stands s l t → t ≤ u → u ≤ until s → stands s l u × (state s u ≡ steps machine (state s t) t (u - t)) };
 
     ghost first: { (s : Self) (l : List Level) (t : ℕ) → stands s l t → FirstDue machine (state s t) t (until s) };
+}
+
+/// Units that continue in power-down.
+pub trait AwakeGroup: Group {
+    /// Whether something that ends power-down is enabled and flagged.
+    fn rouses(&self, levels: &[Level]) -> bool
+        requires { length levels.now ≡ PORT_PINS }
+        ensures { (t : ℕ) → Self.stands self.now levels.now t → result ≡ Self.machine.power.rouses (Self.state self.now t) levels.now };
+
+    /// Whether the step of a cycle ends in a reset.
+    fn resets(&self, cycle: u32) -> bool
+        ensures { (l : List Level) → Self.stands self.now l cycle → result ≡ Self.machine.power.resets (Self.state self.now cycle) cycle };
+
+    /// Hands on what reaches units in a cycle beside the bus and the vectors.
+    fn give(&mut self, cycle: u32, levels: &[Level], signal: Signal)
+        requires levels { length levels.now ≡ PORT_PINS }
+        requires here { Self.stands self.old levels.now cycle }
+        ensures state { Self.state self.new cycle ≡ signalled Self.machine signal (Self.state self.old cycle) cycle }
+        ensures stands { Self.stands self.new levels.now cycle };
 }
 
 /// Goes on to a cycle over cycles without an event: nothing needs to be done.
@@ -173,4 +177,21 @@ pub fn wait<G: Group>(group: &G, cycle: u32, to: u32, levels: &[Level])
     let _ = cycle;
     let _ = to;
     let _ = levels;
+}
+
+/// Whether a unit has an event or takes notice of the change of the levels; `due` is the first cycle with an event.
+#[inline]
+pub fn notices<G: Group>(group: &G, due: u32, cycle: u32, before: &[Level], now: &[Level]) -> bool
+    requires due { due ≡ G.until group.now }
+    requires before { length before.now ≡ PORT_PINS }
+    requires levels { length now.now ≡ PORT_PINS }
+    requires here { G.stands group.now before.now cycle }
+    ensures quiet { result ≡ false → cycle < due }
+    ensures deaf { result ≡ false → G.machine.hears (G.state group.now cycle) before.now now.now ≡ false }
+{
+    if due <= cycle {
+        true
+    } else {
+        group.hears(before, now)
+    }
 }

@@ -4,15 +4,15 @@ ghost use Rattle.sim_base.specs.declared.signal.Level.{Level};
 ghost use Rattle.unit_law.specs.UnitMachine.{At, FirstDue};
 ghost use Rattle.unit_law.specs.Late.{LateStands, late_state, Lags, Rests};
 ghost use Rattle.unit_law.specs.Pad.{joined};
-ghost use Rattle.unit_law.specs.Placed.{StepMoves};
 ghost use Rattle.unit_law.specs.Signals.{signalled};
 ghost use Rattle.part_law.specs.Spans.{is_in};
 
-use crate::group::Group;
+use crate::both::{first_of_two, hull};
+use crate::group::{AwakeGroup, Group};
 use crate::pad::Pad;
 use crate::pins::PORT_PINS;
 use crate::signal::Signal;
-use crate::unit::Unit;
+use crate::unit::{Awake, Unit};
 use part_law::Span;
 use sim_base::{Level, MOST_CYCLES};
 
@@ -98,17 +98,16 @@ impl<U: Unit> Group for Late<U> {
         cycle: u32,
         before: &[Level],
         now: &[Level],
-        same: bool,
+        others: (Option<u8>, Span),
     ) -> (Option<u8>, Span) {
-        if rests(&self.unit, self.due, cycle, before, now, same) {
-            return (None, Span::none());
+        if rests(&self.unit, self.due, cycle, before, now) {
+            return others;
         }
-        let moved = reached(&self.unit, self.due, cycle, before, now, same);
         catch_up(&mut self.unit, self.due, cycle);
-        let byte = self.unit.step(before, now);
+        let (byte, moved) = self.unit.step(before, now);
         self.due = first_due(&self.unit);
         self.request = self.unit.request(now);
-        (byte, moved)
+        (first_of_two(byte, others.0), hull(others.1, moved))
     }
 
     #[inline(always)]
@@ -135,6 +134,19 @@ impl<U: Unit> Group for Late<U> {
         self.request = self.unit.request(levels);
     }
 
+    #[inline(always)]
+    fn asked(&self, pin: u8, others: Pad) -> Pad {
+        asked(&self.unit, pin, others)
+    }
+
+    ghost laws = { U.laws };
+
+    ghost waits = { λ s l t u h le soon. late_waits U.machine (U.shows s.unit) s.due s.request l t u h le soon };
+
+    ghost first = { λ s l t h. late_first U.machine (U.shows s.unit) s.due s.request l t h };
+}
+
+impl<U: Awake> AwakeGroup for Late<U> {
     #[inline]
     fn rouses(&self, levels: &[Level]) -> bool {
         self.unit.rouses(levels)
@@ -151,17 +163,6 @@ impl<U: Unit> Group for Late<U> {
         self.due = first_due(&self.unit);
         self.request = self.unit.request(levels);
     }
-
-    #[inline(always)]
-    fn asked(&self, pin: u8, others: Pad) -> Pad {
-        asked(&self.unit, pin, others)
-    }
-
-    ghost laws = { U.laws };
-
-    ghost waits = { λ s l t u h le soon. late_waits U.machine (U.shows s.unit) s.due s.request l t u h le soon };
-
-    ghost first = { λ s l t h. late_first U.machine (U.shows s.unit) s.due s.request l t h };
 }
 
 // Goes on to a cycle, over cycles without an event.
@@ -188,57 +189,22 @@ fn first_due<U: Unit>(unit: &U) -> u32
 
 // Whether a cycle leaves the unit as it lags: it has no event there, and takes no notice of the change of the levels.
 #[inline(always)]
-fn rests<U: Unit>(
-    unit: &U,
-    due: u32,
-    cycle: u32,
-    before: &[Level],
-    now: &[Level],
-    same: bool,
-) -> bool
+fn rests<U: Unit>(unit: &U, due: u32, cycle: u32, before: &[Level], now: &[Level]) -> bool
     requires before { length before.now ≡ PORT_PINS }
     requires levels { length now.now ≡ PORT_PINS }
     requires here { Lags U.machine (U.shows unit.now) due cycle }
-    requires same { same ≡ true → now.now ≡ before.now }
     ensures { result ≡ true → Rests U.machine (U.shows unit.now) due before.now now.now cycle }
 {
     if due <= cycle {
         false
-    } else if same {
-        true
     } else {
         !unit.hears(before, now)
     }
 }
 
-// The pins of which a cycle may change what the unit asks of them.
-#[inline(always)]
-fn reached<U: Unit>(
-    unit: &U,
-    due: u32,
-    cycle: u32,
-    before: &[Level],
-    now: &[Level],
-    same: bool,
-) -> Span
-    requires here { Lags U.machine (U.shows unit.now) due cycle }
-    requires same { same ≡ true → now.now ≡ before.now }
-    ensures { StepMoves U.machine (late_state U.machine (U.shows unit.now) cycle) cycle before.now now.now result }
-{
-    let _ = due;
-    let _ = cycle;
-    let _ = before;
-    let _ = now;
-    if same & !unit.event_moves() {
-        Span::none()
-    } else {
-        U::moved()
-    }
-}
-
 // Hands on a signal.
 #[inline]
-fn give<U: Unit>(unit: &mut U, signal: Signal)
+fn give<U: Awake>(unit: &mut U, signal: Signal)
     ensures { U.shows unit.new ≡ record (U.shows unit.old) { unit = signalled U.machine signal (U.shows unit.old).unit (U.shows unit.old).cycle } }
 {
     match signal {

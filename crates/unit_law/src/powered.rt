@@ -4,11 +4,12 @@ ghost use Rattle.sim_base.specs.declared.signal.Level.{Level};
 ghost use Rattle.unit_law.specs.Clock.{IsBegun, own_cycle, does_run, clocked_at};
 ghost use Rattle.unit_law.specs.Clocked.{clocked};
 ghost use Rattle.unit_law.specs.UnitMachine.{least};
-ghost use Rattle.unit_law.specs.Placed.{StepMoves};
+ghost use Rattle.unit_law.specs.Both.{first_of_two};
+ghost use Rattle.unit_law.specs.Placed.{StepMoves, IsWithin};
 
-use crate::both::{first_of_two, hull, write_bit_where, write_where};
+use crate::both::{write_bit_where, write_where};
 use crate::clock::Clock;
-use crate::group::Group;
+use crate::group::{AwakeGroup, Group};
 use crate::pad::Pad;
 use crate::pins::PORT_PINS;
 use crate::request::VECTORS;
@@ -24,7 +25,7 @@ pub struct Powered<A, B> {
     pub clock: Clock,
 }
 
-impl<A: Group, B: Group + Drop> Group for Powered<A, B> {
+impl<A: AwakeGroup, B: Group + Drop> Group for Powered<A, B> {
     ghost use Rattle.std.specs.Prelude.{min};
     ghost use Rattle.unit_law.specs.Clock.{board_cycle, clocked_at};
     ghost use Rattle.unit_law.specs.Clocked.{Clocked};
@@ -111,11 +112,10 @@ impl<A: Group, B: Group + Drop> Group for Powered<A, B> {
         cycle: u32,
         before: &[Level],
         now: &[Level],
-        same: bool,
+        others: (Option<u8>, Span),
     ) -> (Option<u8>, Span) {
-        let (byte, moved) = self.awake.step(cycle, before, now, same);
-        let (other, more) = step_clocked(&mut self.clocked, self.clock, cycle, before, now, same);
-        (first_of_two(byte, other), hull(more, moved))
+        let more = step_clocked(&mut self.clocked, self.clock, cycle, before, now, others);
+        self.awake.step(cycle, before, now, more)
     }
 
     #[inline(always)]
@@ -149,6 +149,20 @@ impl<A: Group, B: Group + Drop> Group for Powered<A, B> {
         self.clock = self.clock.started(cycle);
     }
 
+    #[inline(always)]
+    fn asked(&self, pin: u8, others: Pad) -> Pad {
+        let more = self.clocked.asked(pin, others);
+        self.awake.asked(pin, more)
+    }
+
+    ghost laws = { powered_laws A.machine B.machine A.laws B.laws };
+
+    ghost waits = { λ s l t u h le soon. power_waits A.machine B.machine s.clock (A.until s.awake) (B.until s.clocked) (A.state s.awake) (B.state s.clocked) (A.stands s.awake) (B.stands s.clocked) l t u (A.waits s.awake) (B.waits s.clocked) h le soon };
+
+    ghost first = { λ s l t h. power_first A.machine B.machine s.clock (A.until s.awake) (B.until s.clocked) (A.state s.awake) (B.state s.clocked) t h.begun (A.first s.awake l t h.awake) (B.first s.clocked l _ h.clocked) };
+}
+
+impl<A: AwakeGroup, B: Group + Drop> AwakeGroup for Powered<A, B> {
     fn rouses(&self, levels: &[Level]) -> bool {
         self.awake.rouses(levels)
     }
@@ -170,23 +184,11 @@ impl<A: Group, B: Group + Drop> Group for Powered<A, B> {
             }
         }
     }
-
-    #[inline(always)]
-    fn asked(&self, pin: u8, others: Pad) -> Pad {
-        let more = self.clocked.asked(pin, others);
-        self.awake.asked(pin, more)
-    }
-
-    ghost laws = { powered_laws A.machine B.machine A.laws B.laws };
-
-    ghost waits = { λ s l t u h le soon. power_waits A.machine B.machine s.clock (A.until s.awake) (B.until s.clocked) (A.state s.awake) (B.state s.clocked) (A.stands s.awake) (B.stands s.clocked) l t u (A.waits s.awake) (B.waits s.clocked) h le soon };
-
-    ghost first = { λ s l t h. power_first A.machine B.machine s.clock (A.until s.awake) (B.until s.clocked) (A.state s.awake) (B.state s.clocked) t h.begun (A.first s.awake l t h.awake) (B.first s.clocked l _ h.clocked) };
 }
 
 // Whether requests count: in power-down only while something is there that ends it.
 #[inline]
-fn is_heard<A: Group>(awake: &A, clock: Clock, levels: &[Level]) -> bool
+fn is_heard<A: AwakeGroup>(awake: &A, clock: Clock, levels: &[Level]) -> bool
     requires { length levels.now ≡ PORT_PINS }
     ensures { (t : ℕ) → A.stands awake.now levels.now t → result ≡ (does_run clock || A.machine.power.rouses (A.state awake.now t) levels.now) }
 {
@@ -200,24 +202,24 @@ fn step_clocked<B: Group>(
     cycle: u32,
     before: &[Level],
     now: &[Level],
-    same: bool,
+    others: (Option<u8>, Span),
 ) -> (Option<u8>, Span)
     requires before { length before.now ≡ PORT_PINS }
     requires levels { length now.now ≡ PORT_PINS }
     requires end { cycle < MOST_CYCLES }
     requires begun { IsBegun clock cycle }
     requires here { B.stands units.old before.now (own_cycle clock cycle) }
-    requires same { same ≡ true → now.now ≡ before.now }
-    ensures byte { result.0 ≡ (clocked B.machine).sends (clocked_at clock (B.state units.old) cycle) cycle }
+    ensures byte { result.0 ≡ first_of_two ((clocked B.machine).sends (clocked_at clock (B.state units.old) cycle) cycle) others.0 }
+    ensures others { IsWithin others.1 result.1 }
     ensures pads { StepMoves (clocked B.machine) (clocked_at clock (B.state units.old) cycle) cycle before.now now.now result.1 }
     ensures state { clocked_at clock (B.state units.new) (cycle + 1) ≡ (clocked B.machine).step (clocked_at clock (B.state units.old) cycle) cycle before.now now.now }
     ensures stands { B.stands units.new now.now (own_cycle clock (cycle + 1)) }
 {
     match clock {
-        Clock::Runs(_) => units.step(clock.own(cycle), before, now, same),
+        Clock::Runs(_) => units.step(clock.own(cycle), before, now, others),
         Clock::Stands(_) => {
             units.see(now);
-            (None, Span::none())
+            others
         }
     }
 }

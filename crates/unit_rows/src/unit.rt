@@ -18,7 +18,7 @@ ghost use Rattle.std.specs.Prelude.{◌≡◌, ℕ, Some, true};
 
 use crate::levels::{Turn, pin_of};
 use sim_base::{Drive, MOST_CYCLES};
-use unit_law::{Pad, Unit, VECTORS};
+use unit_law::{Awake, Pad, Unit, VECTORS};
 
 /// Plays the words on a new unit, and answers the first one that is none or comes out otherwise.
 pub(crate) fn played<U: Unit + Drop>(words: &str) -> Option<&str> {
@@ -30,6 +30,32 @@ pub(crate) fn played<U: Unit + Drop>(words: &str) -> Option<&str> {
         }
     }
     None
+}
+
+/// The same of a unit that continues in power-down.
+pub(crate) fn played_awake<U: Awake + Drop>(words: &str) -> Option<&str> {
+    let mut unit = U::new();
+    let mut turn = Turn::first();
+    for word in words.split_whitespace() {
+        if !plays_awake(&mut unit, &mut turn, word) {
+            return Some(word);
+        }
+    }
+    None
+}
+
+fn plays_awake<U: Awake>(unit: &mut U, turn: &mut Turn, word: &str) -> bool
+    requires here { (U.shows unit.old).cycle ≡ turn.old.cycle }
+    ensures here { (U.shows unit.new).cycle ≡ turn.new.cycle }
+{
+    match word {
+        "resets" => unit.resets(turn.cycle),
+        "lasts" => !unit.resets(turn.cycle),
+        "rouses" => unit.rouses(&turn.before),
+        "dozes" => !unit.rouses(&turn.before),
+        "wdr" | "restart" => is_told(unit, word),
+        _ => plays(unit, turn, word),
+    }
 }
 
 fn plays<U: Unit>(unit: &mut U, turn: &mut Turn, word: &str) -> bool
@@ -51,11 +77,6 @@ fn plays<U: Unit>(unit: &mut U, turn: &mut Turn, word: &str) -> bool
         "hears" => unit.hears(&turn.before, &turn.now),
         "deaf" => !unit.hears(&turn.before, &turn.now),
         "rests" => rests(unit, turn),
-        "resets" => unit.resets(turn.cycle),
-        "lasts" => !unit.resets(turn.cycle),
-        "rouses" => unit.rouses(&turn.before),
-        "dozes" => !unit.rouses(&turn.before),
-        "wdr" | "restart" => is_told(unit, word),
         _ => reads(unit, turn, word) == Some(true),
     }
 }
@@ -69,7 +90,7 @@ fn goes_to<U: Unit>(unit: &mut U, turn: &mut Turn, value: &str) -> bool
         return false;
     };
     while turn.cycle < to && turn.cycle < MOST_CYCLES {
-        if unit.step(&turn.before, &turn.now).is_some() {
+        if unit.step(&turn.before, &turn.now).0.is_some() {
             turn.pass();
             return false;
         }
@@ -86,7 +107,7 @@ fn goes_over<U: Unit>(unit: &mut U, turn: &mut Turn, value: &str) -> bool
     match unit.due() {
         Some(due) => {
             unit.skip(due);
-            let byte = unit.step(&turn.before, &turn.now);
+            let (byte, _) = unit.step(&turn.before, &turn.now);
             turn.cycle = due;
             turn.pass();
             let (cycle, sent) = value.split_once(',').unwrap_or((value, ""));
@@ -110,7 +131,7 @@ fn rests<U: Unit>(unit: &mut U, turn: &mut Turn) -> bool
 }
 
 /// Tells it of WDR, or of a reset of the watchdog.
-fn is_told<U: Unit>(unit: &mut U, word: &str) -> bool
+fn is_told<U: Awake>(unit: &mut U, word: &str) -> bool
     ensures { (U.shows unit.new).cycle ≡ (U.shows unit.old).cycle }
 {
     if word == "wdr" {

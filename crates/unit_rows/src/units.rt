@@ -1,6 +1,6 @@
 //! A row is a unit's name and, behind a colon, what is done with a new one and what it answers; `#` begins a comment.
 //! A number before the name, as in `10000 adc:`, has it played so often.
-use crate::unit::played;
+use crate::unit::{played, played_awake};
 use avr_adc::Adc;
 use avr_keep::Keep;
 use avr_ports::Ports;
@@ -26,8 +26,8 @@ pub(crate) fn unit_difference(line: &str) -> Option<&str> {
 fn played_once<'a>(unit: &'a str, words: &'a str) -> Option<&'a str> {
     match unit {
         "adc" => played::<Adc>(words),
-        "keep" => played::<Keep>(words),
-        "ports" => played::<Ports>(words),
+        "keep" => played_awake::<Keep>(words),
+        "ports" => played_awake::<Ports>(words),
         "spi" => played::<Spi>(words),
         "timer0" => played::<Timer0>(words),
         "timer1" => played::<Timer16>(words),

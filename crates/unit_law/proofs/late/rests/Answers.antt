@@ -6,8 +6,8 @@ not_true : (b : Bool) → not b ≡ true → b ≡ false
 not_true true h = cc
 not_true false h = refl
 
-pub returns-else-same : goal.returns-else-same
-returns-else-same g c = λ deaf.
+pub returns-else-due-cycle : goal.returns-else-due-cycle
+returns-else-due-cycle g c = λ deaf.
     let late = c.if-due-cycle.false in
     let less : c.args.cycle < c.args.due = omega (arith, late) in
     rests_deaf g.U.Unit.machine g.met.U.Unit.laws (g.U.Unit.shows c.args.unit.now) c.args.due c.args.cycle c.args.before.now c.args.now.now c.requires.here less

@@ -2,7 +2,7 @@ use Rattle.std.proofs.Common.{◌∙◌, ap}
 use Rattle.unit_law.specs.UnitMachine.{At}
 use Rattle.unit_law.specs.Signals.{signalled}
 use Rattle.unit_law.proofs.UnitLemmas.{late_here}
-use Rattle.unit_law.proofs.late.LateGroup.give.Goals as goal
+use Rattle.unit_law.proofs.late.LateAwakeGroup.give.Goals as goal
 
 pub returns-clause-state : goal.returns-clause-state
 returns-clause-state g c =

@@ -1,6 +1,6 @@
 use Rattle.std.proofs.Common.{◌∙◌, ◌-◌, sym}
 use Rattle.unit_law.proofs.UnitLemmas.{late_quiet, quiet_rouses}
-use Rattle.unit_law.proofs.late.LateGroup.rouses.Goals as goal
+use Rattle.unit_law.proofs.late.LateAwakeGroup.rouses.Goals as goal
 
 pub returns : goal.returns
 returns g c = λ t h.

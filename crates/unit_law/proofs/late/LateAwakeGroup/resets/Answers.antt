@@ -1,6 +1,6 @@
 use Rattle.std.proofs.Common.{◌∙◌, ◌-◌, sym}
 use Rattle.unit_law.proofs.UnitLemmas.{late_quiet, quiet_resets}
-use Rattle.unit_law.proofs.late.LateGroup.resets.Goals as goal
+use Rattle.unit_law.proofs.late.LateAwakeGroup.resets.Goals as goal
 
 pub returns : goal.returns
 returns g c = λ l h.

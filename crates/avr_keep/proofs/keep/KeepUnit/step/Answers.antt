@@ -1,0 +1,5 @@
+use Rattle.std.proofs.Common.{refl}
+use Rattle.avr_keep.proofs.keep.KeepUnit.step.Goals as goal
+
+pub returns-clause-pads : goal.returns-clause-pads
+returns-clause-pads c = λ p less out. refl
