@@ -90,6 +90,11 @@ wrote_both e f k x y b c d one more = λ a before w.
 
 -- ---- the console
 
+-- nothing is printed
+pub console_none : (e : WriteEnd) (id text : List ℕ) (b : Outside) → length text ≡ 0 → WroteOn e e ports.Report (console_text id text) b b
+console_none e id [] b none = λ a before w. subst (λ (t : List ℕ). Wrote e ports.Report t a b) (sym (append-nil before)) w
+console_none e id (n ∷ ns) b none = absurd cc
+
 -- by whether a line is begun
 pub byte_begun : (e k : WriteEnd) (old new word rest : List ℕ) (begun : Bool) (n : ℕ) (b d : Outside) → begun ≡ true → Goes e (old ++ ((written n ∷ []) ++ rest)) k (new ++ rest) b d
     → Goes e (old ++ (byte_text word begun n ++ rest)) k (new ++ rest) b d

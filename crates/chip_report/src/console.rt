@@ -1,5 +1,5 @@
 //! The lines of a console.
-ghost use Rattle.std.specs.Prelude.{◌≡◌, ◌++◌, List, ℕ, true};
+ghost use Rattle.std.specs.Prelude.{◌≡◌, ◌++◌, List, ℕ, true, []};
 ghost use Rattle.sim_base.specs.Outside.{SameOthers};
 ghost use Rattle.outcome_model.specs.Work.{WroteOn};
 ghost use Rattle.chip_report.specs.Lines.{shown, console_opening, console_text};
@@ -60,8 +60,8 @@ fn end_line<B: Bench>(end: WriteEnd, piece: &mut Piece, begun: bool, bench: &mut
     }
 }
 
-/// Writes the lines of what a chip printed, where the writing so far has not failed.
-pub fn write_console<B: Bench>(end: WriteEnd, id: &Name, text: &[u8], bench: &mut B) -> WriteEnd
+/// Writes the lines of what a chip printed.
+fn write_printed<B: Bench>(end: WriteEnd, id: &Name, text: &[u8], bench: &mut B) -> WriteEnd
     requires { (B.outside bench.old).opened Port.Report ≡ true }
     ensures next { WroteOn end result Port.Report (console_text id.now text.now) (B.outside bench.old) (B.outside bench.new) }
     ensures named { (B.outside bench.new).name Port.Report ≡ (B.outside bench.old).name Port.Report }
@@ -77,4 +77,21 @@ pub fn write_console<B: Bench>(end: WriteEnd, id: &Name, text: &[u8], bench: &mu
     }
     let end = end_line(end, &mut piece, begun, bench);
     write_next(end, bench, Port::Report, piece.as_slice())
+}
+
+/// Writes the lines of what a chip printed, where the writing so far has not failed. A chip that printed nothing costs no
+/// call of the environment.
+pub fn write_console<B: Bench>(end: WriteEnd, id: &Name, text: &[u8], bench: &mut B) -> WriteEnd
+    requires { (B.outside bench.old).opened Port.Report ≡ true }
+    ensures next { WroteOn end result Port.Report (console_text id.now text.now) (B.outside bench.old) (B.outside bench.new) }
+    ensures named { (B.outside bench.new).name Port.Report ≡ (B.outside bench.old).name Port.Report }
+    ensures opened { (B.outside bench.new).opened Port.Report ≡ true }
+    ensures others { SameOthers Port.Report (B.outside bench.old) (B.outside bench.new) }
+    ensures silent { text.now ≡ [] → B.outside bench.new ≡ B.outside bench.old }
+{
+    if text.is_empty() {
+        end
+    } else {
+        write_printed(end, id, text, bench)
+    }
 }

@@ -46,7 +46,7 @@ abbrev pub HoldsPlay : ℕ → Option Request → Outside → Outside → Type 0
 HoldsPlay = promises.HoldsAnswer PlayAnswers
 
 -- With status 0 of a run, each told port holds the text of a board whose chips each do what they do alone: by their module,
--- pins, attributes and budget, and the levels of their own pins.
+-- pins, attributes, budget and size of display, and the levels of their own pins.
 abbrev pub HoldsAlone : ℕ → Option Request → Outside → Outside → Type 0
 HoldsAlone = promises.HoldsAnswer (AnswersSuch AreAlone)
 

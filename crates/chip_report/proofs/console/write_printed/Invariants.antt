@@ -3,7 +3,7 @@ use Rattle.sim_base.specs.declared.bench.Port.TheVariants as ports
 use Rattle.sim_base.specs.Outside.{SameOthers}
 use Rattle.chip_report.specs.Lines.{console_opening}
 use Rattle.chip_report.specs.Writing.{Goes, rest_text}
-use Rattle.chip_report.proofs.console.write_console.Given as goal
+use Rattle.chip_report.proofs.console.write_printed.Given as goal
 
 abbrev pub invariant-loop-b : goal.invariant-loop-b
 invariant-loop-b g l = record {
