@@ -1,9 +1,8 @@
 -- Lines that stay leave a slave as it is, and it asks for nothing.
-use Rattle.std.proofs.Common.{◌≡◌, ℕ, List, [], Bool, true, false, refl, ap}
-use Rattle.slave_law.specs.declared.request.EngineRequest.{EngineRequest}
+use Rattle.std.proofs.Common.{◌≡◌, [], Bool, true, false, refl}
 use Rattle.slave_i2c.specs.declared.lines.Lines.{Lines}
 use Rattle.slave_i2c.specs.declared.slave.Slave.{Slave}
-use Rattle.slave_i2c.specs.I2c.{i2c, i2c_step}
+use Rattle.slave_i2c.specs.I2c.{i2c_step}
 
 by : (s : Slave) (scl sda : Bool) → i2c_step s (record { scl = scl; sda = sda }) (record { scl = scl; sda = sda }) ≡ (s, [])
 by s true true = refl
@@ -12,6 +11,3 @@ by s false sda = refl
 
 pub rests : (s : Slave) (l : Lines) → i2c_step s l l ≡ (s, [])
 rests s l = by s l.scl l.sda
-
-pub stays : (s : Slave) (l : Lines) (t : ℕ) → i2c.due s t ≡ false → (i2c.step s t l l).0 ≡ s
-stays s l t h = ap (λ (p : Slave × List EngineRequest). p.0) (rests s l)

@@ -1,13 +1,6 @@
 -- What two lines say in two cycles (UM10204, "START and STOP conditions", "Data validity").
-use Rattle.std.specs.Prelude.{◌&&◌, not, Bool, List, get_or}
-use Rattle.sim_base.specs.Signal.{reads}
-use Rattle.sim_base.specs.declared.signal.Level.{Level}
-use Rattle.sim_base.specs.declared.signal.Level.TheVariants as levels
+use Rattle.std.specs.Prelude.{◌&&◌, not, Bool}
 use Rattle.slave_i2c.specs.declared.lines.Lines.{Lines}
-
--- what SCL and SDA read
-abbrev pub lines_of : List Level → Lines
-lines_of l = record { scl = reads (get_or l 0 levels.Low); sda = reads (get_or l 1 levels.Low) }
 
 -- START: SDA falls while SCL is High.
 abbrev pub is_start : Lines → Lines → Bool

@@ -4,10 +4,8 @@
 //! No call takes memory, and none fails.
 #![tactic(auto)]
 
-mod engine;
 mod lines;
 mod slave;
 
-pub use engine::I2cEngine;
 pub use lines::Lines;
 pub use slave::{Phase, Slave};

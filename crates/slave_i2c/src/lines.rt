@@ -1,8 +1,6 @@
 //! The two lines of the bus.
-ghost use Rattle.std.specs.Prelude.{◌≡◌, ◌&&◌, not, length};
-ghost use Rattle.slave_i2c.specs.Lines.{is_start, is_stop, rises, falls, lines_of};
-
-use sim_base::{Level, reads_one};
+ghost use Rattle.std.specs.Prelude.{◌≡◌, ◌&&◌, not};
+ghost use Rattle.slave_i2c.specs.Lines.{is_start, is_stop, rises, falls};
 
 /// What SCL and SDA read.
 #[derive(Clone, Copy, PartialEq, Eq, Debug)]
@@ -12,17 +10,6 @@ pub struct Lines {
 }
 
 impl Lines {
-    /// What lines read on the levels of SCL and SDA.
-    pub fn of(levels: &[Level]) -> Lines
-        requires { length levels.now ≡ 2 }
-        ensures { result ≡ lines_of levels.now }
-    {
-        Lines {
-            scl: reads_one(levels[0]),
-            sda: reads_one(levels[1]),
-        }
-    }
-
     // Whether these lines, behind those of the cycle before, are a START.
     pub(crate) fn is_start(self, before: Lines) -> bool
         ensures { result ≡ is_start before self }

@@ -1,20 +1,16 @@
 -- A cycle without an event, on a line that stays, leaves a UART as it is, and it asks for nothing.
-use Rattle.std.proofs.Common.{◌≡◌, ℕ, ◌+◌, ◌-◌, ◌≤◌, Bool, true, false, Option, None, Some, ◌==◌, refl, ap, ◌∙◌, subst}
-use Rattle.std.specs.Prelude.{min, if◌then◌else◌, ◌++◌, ◌&&◌, []}
+use Rattle.std.proofs.Common.{◌≡◌, ℕ, ◌+◌, ◌-◌, Bool, true, false, Option, None, Some, ◌==◌, refl, ap, ◌∙◌}
+use Rattle.std.specs.Prelude.{if◌then◌else◌, ◌++◌, ◌&&◌, []}
 use Rattle.std.specs.Option.{option_to_list}
 use Rattle.std.proofs.lemmas.Bool.{or_parts, cond-false}
-use Rattle.sim_base.specs.declared.limits.TheConstants.{MOST_CYCLES}
-use Rattle.unit_law.specs.Coming.{comes, IsAhead, or_end, within_run}
-use Rattle.unit_law.proofs.StillLemmas.{before_both, at_both, ahead_both}
+use Rattle.unit_law.specs.Coming.{comes}
 use Rattle.slave_law.specs.declared.request.EngineRequest.{EngineRequest}
 use Rattle.slave_law.specs.declared.request.EngineRequest.TheVariants as requests
-use Rattle.slave_law.specs.Slave.{SlaveAt, IsQuiet, IsFirstDue}
-use Rattle.slave_law.proofs.StillLemmas.{ahead_is, due_is}
 use Rattle.slave_serial.specs.declared.reception.Reception.{Reception}
 use Rattle.slave_serial.specs.declared.sending.Sending.{Sending}
 use Rattle.slave_serial.specs.declared.sending.Sending.TheVariants.{Idle, Empty, Start, Bits}
-use Rattle.slave_serial.specs.Reception.{received, sampled, taken_in, next_sample, Receives}
-use Rattle.slave_serial.specs.Sending.{sent, put_out, bit_over, bit_end, Sends}
+use Rattle.slave_serial.specs.Reception.{received, sampled, taken_in, next_sample}
+use Rattle.slave_serial.specs.Sending.{sent, put_out, bit_over, bit_end}
 use Rattle.slave_serial.specs.declared.transceiver.Uart.{Uart}
 use Rattle.slave_serial.specs.Uart.{uart}
 
@@ -29,7 +25,7 @@ quiet_line (Empty d) bit t h = cond-false (d == t) Idle (Empty d) h
 quiet_line (Start b d) bit t h = cond-false (d == t) (Bits b (record { byte = 0; place = 0; end = t + bit - 1 })) (Start b d) h
 quiet_line (Bits b f) bit t h = cond-false (f.end == t) (bit_over b f bit t) (Bits b f) h
 
-pub stays : (u : Uart) (l : Bool) (t : ℕ) → uart.due u t ≡ false → (uart.step u t l l).0 ≡ u
+stays : (u : Uart) (l : Bool) (t : ℕ) → uart.due u t ≡ false → (uart.step u t l l).0 ≡ u
 stays u l t h =
     let d = or_parts (comes (bit_end u.sending) t) (comes (next_sample u.reception) t) h in
     ap (λ (o : Option Reception). record u { reception = o; sending = sent u.sending u.bit t }) (quiet_ear u.reception u.bit t l d.1)
@@ -52,26 +48,3 @@ rests u l t h =
     ap (λ (v : Uart). (v, option_to_list (taken_in u.reception t l) ++ option_to_list (put_out u.sending t))) after
     ∙ ap (λ (o : Option EngineRequest). (u, option_to_list o ++ option_to_list (put_out u.sending t))) (hears_none u.reception t l d.1)
     ∙ ap (λ (o : Option EngineRequest). (u, option_to_list o)) (asks_none u.sending t d.0)
-
--- v is what the struct shows of its fields, and s what the caller knows
-module _ (v s : SlaveAt Uart Bool) (same : v ≡ s) where
-  module _ (t : ℕ) (here : v.next ≤ t) (quiet : IsQuiet uart s.slave s.held s.next (t - s.next)) where
-    pub sends_then : Sends v.slave.sending v.next → Sends s.slave.sending t
-    sends_then h =
-        let stands : Sends s.slave.sending s.next = subst (λ (x : SlaveAt Uart Bool). Sends x.slave.sending x.next) same h in
-        record { sound = stands.sound; ahead = ahead_is uart stays v s same t here quiet (λ u. bit_end u.sending) (λ u t due. (or_parts _ _ due).0) stands.ahead }
-
-    pub receives_then : Receives v.slave.reception v.next → Receives s.slave.reception t
-    receives_then h =
-        let stands : Receives s.slave.reception s.next = subst (λ (x : SlaveAt Uart Bool). Receives x.slave.reception x.next) same h in
-        ahead_is uart stays v s same t here quiet (λ u. next_sample u.reception) (λ u t due. (or_parts _ _ due).1) stands
-
-  -- the answer of `due`
-  pub first_by : (r : Option ℕ) → r ≡ within_run (min (or_end (bit_end v.slave.sending)) (or_end (next_sample v.slave.reception))) →
-      v.next ≤ MOST_CYCLES → Sends v.slave.sending v.next → Receives v.slave.reception v.next → IsFirstDue uart s.slave s.held s.next r
-  first_by r is end h k =
-      let a = bit_end v.slave.sending in
-      let b = next_sample v.slave.reception in
-      due_is uart stays v s same (min (or_end a) (or_end b)) r is
-      (ahead_both a b v.next h.ahead k end)
-      (before_both a b) (at_both a b)

@@ -1,6 +1,6 @@
 -- The bytes of a call that go out at TX, cycle by cycle, each in a frame: a start bit 0, 8 data bits from the lowest, a stop
 -- bit 1 (profile; the frame is that of the data sheet's "USART0", "Frame Formats"). A frame follows the one before at once.
-use Rattle.std.specs.Prelude.{ℕ, ◌+◌, ◌-◌, ◌<◌, ◌==◌, ◌&&◌, not, nat_lt, Bool, true, false, if◌then◌else◌, Option, None, Some}
+use Rattle.std.specs.Prelude.{ℕ, ◌+◌, ◌-◌, ◌<◌, ◌==◌, ◌&&◌, nat_lt, Bool, true, false, if◌then◌else◌, Option, None, Some}
 use Rattle.unit_law.specs.Bits.{is_set}
 use Rattle.unit_law.specs.Coming.{IsAhead}
 use Rattle.slave_law.specs.declared.request.EngineRequest.{EngineRequest}
@@ -45,14 +45,7 @@ given (Start b d) x = Start b d
 abbrev pub frame_bit : Frame → Bool
 frame_bit f = if f.place == 0 then false else if nat_lt f.place 9 then is_set f.byte (f.place - 1) else true
 
--- What TX is in cycle t: High between frames.
-abbrev pub line : Sending → ℕ → Bool
-line Idle t = true
-line (Empty d) t = true
-line (Start b d) t = not (d == t)
-line (Bits b f) t = frame_bit f
-
--- What it is in the cycle of the next turn, where a frame that is to begin begins in that one.
+-- What TX is in the cycle of the next turn, where a frame that is to begin begins in that one: High between frames.
 abbrev pub next_line : Sending → Bool
 next_line Idle = true
 next_line (Empty d) = true

@@ -5,7 +5,7 @@ use Rattle.unit_law.specs.Bits.{is_set, with_bit}
 use Rattle.unit_law.specs.Coming.{comes, IsAhead}
 use Rattle.slave_law.specs.declared.request.EngineRequest.{EngineRequest}
 use Rattle.slave_law.specs.declared.request.EngineRequest.TheVariants as requests
-use Rattle.slave_law.specs.Slave.{SlaveMachine, SlaveAt}
+use Rattle.slave_law.specs.Slave.{SlaveMachine}
 use Rattle.slave_serial.specs.declared.buffer.Buffer.{Buffer}
 use Rattle.slave_serial.specs.declared.transaction.Wires.{Wires}
 use Rattle.slave_serial.specs.declared.transaction.Shift.{Shift}
@@ -107,24 +107,11 @@ is_open (Between b) = true
 is_open (Shifting b x) = true
 is_open (Stopped n d) = true
 
--- whether `Done` is still to be asked for
-abbrev pub waits_done : List EngineRequest → Bool
-waits_done (requests.Done n ∷ rs) = true
-waits_done rs = false
-
--- It is busy until `Done` is asked for.
-abbrev pub is_busy : SlaveAt Spi Wires → Bool
-is_busy s = is_open s.slave.transaction || waits_done s.asks
-
 -- A call of some bytes, whose first turn is that of cycle d: with CPHA 0 the first byte is fetched in it.
 abbrev pub opened : Spi → ℕ → ℕ → Spi
 opened s count d =
     let b : Buffer = record { count = count; index = 0 } in
     record s { transaction = if s.cpha then Between b else Opening b d }
-
--- The next turn from cycle t on.
-abbrev pub turn_from : SlaveAt Spi Wires → ℕ → ℕ
-turn_from s t = if nat_lt t s.next then s.next else t
 
 -- A transaction is stopped: `Done` comes in the turn of cycle d, with the bytes that were exchanged whole.
 abbrev pub stopped : Transaction → ℕ → Transaction

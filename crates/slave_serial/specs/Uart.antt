@@ -4,12 +4,12 @@ use Rattle.std.specs.Option.{option_to_list}
 use Rattle.unit_law.specs.Coming.{comes}
 use Rattle.slave_law.specs.declared.request.EngineRequest.{EngineRequest}
 use Rattle.slave_law.specs.declared.request.EngineRequest.TheVariants as requests
-use Rattle.slave_law.specs.Slave.{SlaveMachine, SlaveAt}
+use Rattle.slave_law.specs.Slave.{SlaveMachine}
 use Rattle.slave_serial.specs.declared.sending.Sending.{Sending}
 use Rattle.slave_serial.specs.declared.sending.Sending.TheVariants.{Idle}
 use Rattle.slave_serial.specs.declared.transceiver.Uart.{Uart}
 use Rattle.slave_serial.specs.Reception.{received, taken_in, next_sample, IsBit}
-use Rattle.slave_serial.specs.Sending.{sent, put_out, bit_end, is_sending, begun, given, IsSending}
+use Rattle.slave_serial.specs.Sending.{sent, put_out, bit_end, begun, given, IsSending}
 
 -- an idle one, whose bits have this many cycles
 abbrev pub idle_uart : ℕ → Uart
@@ -33,10 +33,6 @@ uart = record {
 abbrev pub waits_sent : List EngineRequest → Bool
 waits_sent (requests.Sent ∷ rs) = true
 waits_sent rs = false
-
--- It is busy until `Sent` is asked for.
-abbrev pub is_busy : SlaveAt Uart Bool → Bool
-is_busy s = is_sending s.slave.sending || waits_sent s.asks
 
 -- A call of some bytes in cycle t, while it is idle.
 abbrev pub begins : Uart → ℕ → ℕ → Uart

@@ -7,12 +7,8 @@
 mod buffer;
 mod reception;
 mod sending;
-mod spi;
 mod transaction;
 mod transceiver;
-mod uart;
 
-pub use spi::SpiEngine;
 pub use transaction::{Spi, Wires};
 pub use transceiver::Uart;
-pub use uart::UartEngine;

@@ -1,7 +1,7 @@
 //! The bytes that go out, each in a frame: a start bit, 8 data bits and a stop bit.
 ghost use Rattle.std.specs.Prelude.{◌≡◌, ◌+◌, ◌<◌, ◌≤◌};
 ghost use Rattle.slave_serial.specs.Reception.{IsBit};
-ghost use Rattle.slave_serial.specs.Sending.{begun, bit_over, sent, put_out, given, frame_bit, line, next_line, bit_end, is_sending, IsSending, Sends};
+ghost use Rattle.slave_serial.specs.Sending.{begun, bit_over, sent, put_out, given, frame_bit, next_line, bit_end, is_sending, IsSending, Sends};
 
 use crate::buffer::Buffer;
 use sim_base::MOST_CYCLES;
@@ -133,17 +133,6 @@ impl Sending {
         match self {
             Sending::Bits(buffer, frame) => Sending::Bits(buffer, Frame { byte, ..frame }),
             _ => self,
-        }
-    }
-
-    /// What TX is in a cycle.
-    pub(crate) fn line(self, cycle: u32) -> bool
-        ensures { result ≡ line self cycle }
-    {
-        match self {
-            Sending::Idle | Sending::Empty(_) => true,
-            Sending::Start(_, first) => first != cycle,
-            Sending::Bits(_, frame) => frame.bit(),
         }
     }
 

@@ -6,7 +6,6 @@
 
 mod arithmetic;
 mod encoding;
-mod engine;
 mod instructions;
 mod levels;
 mod probe;

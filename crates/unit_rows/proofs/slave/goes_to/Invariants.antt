@@ -1,9 +1,9 @@
-use Rattle.std.proofs.Common.{◌≡◌, ◌-◌}
-use Rattle.unit_rows.specs.Turns.{IsNext}
+use Rattle.std.proofs.Common.{◌-◌}
+use Rattle.chip_engines.specs.Engine.{IsEngine}
 use Rattle.unit_rows.proofs.slave.goes_to.Given as goal
 
 abbrev pub invariant-loop-turn : goal.invariant-loop-turn
-invariant-loop-turn g l = record { next : IsNext (g.E.Engine.next l.engine) l.turn.cycle; wanted : g.E.Engine.wanted l.engine ≡ l.turn.wants }
+invariant-loop-turn l = record { sound : IsEngine l.engine }
 
 abbrev pub decreases-loop-turn : goal.decreases-loop-turn
-decreases-loop-turn g l = l.to - l.turn.cycle
+decreases-loop-turn l = l.to - l.turn.cycle

@@ -1,6 +1,0 @@
-use Rattle.slave_serial.specs.Spi.{spi}
-use Rattle.unit_rows.proofs.Comes.{comes}
-use Rattle.unit_rows.proofs.engine.SpiEngineEngine.ask.Goals as goal
-
-pub edge-requires-clause-may : goal.edge-requires-clause-may
-edge-requires-clause-may c = comes spi c.args.self.now c.args.t c.requires.end c.requires.here
