@@ -5,7 +5,7 @@ ghost use Rattle.avr_keep.specs.Keep.{register, with_register, kept};
 ghost use Rattle.avr_keep.specs.Watchdog.{has_reset};
 
 use crate::eeprom::{Eeprom, end_of};
-use crate::registers::{EE_READY, Register, WDT, named, register_at};
+use crate::registers::{EE_READY, Register, WDT, register_at};
 use crate::watchdog::Watchdog;
 use part_law::Span;
 use sim_base::{Level, MOST_CYCLES};
@@ -92,15 +92,15 @@ impl Unit for Keep {
     }
 
     fn read(&mut self, _levels: &[Level], reg: u8) -> u8 {
-        self.register(named(reg))
+        self.register(register_at(reg).unwrap())
     }
 
     fn write(&mut self, reg: u8, value: u8) {
-        self.set_register(named(reg), value);
+        self.set_register(register_at(reg).unwrap(), value);
     }
 
     fn write_bit(&mut self, reg: u8, bit: u8, value: bool) {
-        let register = named(reg);
+        let register = register_at(reg).unwrap();
         self.set_register(register, with_bit(self.kept(register), bit, value));
     }
 

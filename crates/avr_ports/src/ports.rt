@@ -6,9 +6,7 @@ ghost use Rattle.avr_ports.specs.Ports.{requests, requests_int, acts_by_ones, re
 ghost use Rattle.avr_ports.specs.declared.registers.Register.TheVariants.{PCIFR, EIFR, EICRA};
 
 use crate::pins::{bit_pad, is_change, is_edge, on, pinb, pinc, pind, requests_int};
-use crate::registers::{
-    INT0, INT1, PCINT0, PCINT1, PCINT2, PINB, PORTD, Register, named, register_at,
-};
+use crate::registers::{INT0, INT1, PCINT0, PCINT1, PCINT2, PINB, PORTD, Register, register_at};
 use part_law::Span;
 use sim_base::{Level, MOST_CYCLES};
 use std::marker::Model;
@@ -132,17 +130,17 @@ impl Unit for Ports {
 
     #[inline]
     fn read(&mut self, levels: &[Level], reg: u8) -> u8 {
-        self.register(levels, named(reg))
+        self.register(levels, register_at(reg).unwrap())
     }
 
     #[inline]
     fn write(&mut self, reg: u8, value: u8) {
-        self.set_register(named(reg), value);
+        self.set_register(register_at(reg).unwrap(), value);
     }
 
     #[inline]
     fn write_bit(&mut self, reg: u8, bit: u8, value: bool) {
-        self.set_register_bit(named(reg), bit, value);
+        self.set_register_bit(register_at(reg).unwrap(), bit, value);
     }
 
     #[inline]
