@@ -1,6 +1,7 @@
 pub mod Buffers
 pub mod Chains
 pub mod Heads
+pub mod Linked
 pub mod Lines
 pub mod Pins
 pub mod Ports

@@ -7,6 +7,16 @@ ghost use Rattle.vcd_text.specs.Chains.{sources, IsNext, AreLinked, AreChains};
 
 use crate::variable::{Source, Variable};
 
+/// The variables, linked by the nets that they show.
+#[derive(Clone, Copy)]
+pub(crate) struct Links<'a> {
+    pub(crate) variables: &'a [Variable],
+    /// The first variable that shows each net, or how many variables there are.
+    pub(crate) first: &'a [u16],
+    /// After each variable the next that shows its net, or how many variables there are.
+    pub(crate) next: &'a [u16],
+}
+
 /// A count of nets that has room for what a variable shows.
 fn with_net(count: usize, shows: Source) -> usize
     ensures more { count ≤ result }
@@ -34,7 +44,8 @@ fn link(i: usize, shows: Source, first: &mut [u16], next: &mut [u16])
     requires few { i < 8930 }
     requires room { i < length next.old }
     requires net { (n : ℕ) → source_of shows ≡ Net n → n < length first.old }
-    ensures { (all : List wave.Source) → slice_get all i ≡ Some (source_of shows) → AreLinked all first.old next.old (i + 1) → AreLinked all first.new next.new i }
+    ensures { (all : List wave.Source) → slice_get all i ≡ Some (source_of shows)
+        → AreLinked all first.old next.old (i + 1) → AreLinked all first.new next.new i }
 {
     match shows {
         Source::Net(net) => {

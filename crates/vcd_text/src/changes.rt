@@ -7,9 +7,9 @@ ghost use Rattle.vcd_text.specs.Chains.{values_at, NetsRest};
 ghost use Rattle.vcd_text.specs.Written.{IsWritten};
 
 use crate::buffer::Buffer;
+use crate::row::Row;
 use crate::value::of_source;
 use crate::variable::{Source, Variable};
-use sim_base::{Drive, Level};
 
 /// The line of variable `i`.
 #[inline]
@@ -78,23 +78,24 @@ fn put_shown(
     i: usize,
     nets: Option<(u16, u16)>,
     shows: Source,
-    levels: &[Level],
-    drives: &[Drive],
+    row: &Row,
     values: &mut [u8],
     out: &mut Buffer,
 ) -> u64
     requires few { i < 8930 }
     requires place { i < length values.old }
     requires room { length out.old.text + 4 ≤ out.old.room }
-    requires rests { (p : ℕ × ℕ) (n : ℕ) → nets ≡ Some p → source_of shows ≡ Net n → n ≢ p.0 → n ≢ p.1 → slice_index values.old i ≡ shown_value levels.now drives.now (source_of shows) }
-    ensures written { (last new : List ℕ) (from : BufferState) (count : ℕ) → length last ≡ length new → shown_value levels.now drives.now (source_of shows) ≡ slice_index new i
+    requires rests { (p : ℕ × ℕ) (n : ℕ) → nets ≡ Some p → source_of shows ≡ Net n → n ≢ p.0 → n ≢ p.1
+        → slice_index values.old i ≡ shown_value row.now.levels.now row.now.drives.now (source_of shows) }
+    ensures written { (last new : List ℕ) (from : BufferState) (count : ℕ) → length last ≡ length new
+        → shown_value row.now.levels.now row.now.drives.now (source_of shows) ≡ slice_index new i
         → IsWritten last new from i count values.old out.old → IsWritten last new from (i + 1) (count + result) values.new out.new }
     ensures few { result ≤ 1 }
 {
     if is_passed(nets, shows) {
         return 0;
     }
-    put_value(i, of_source(shows, levels, drives), values, out)
+    put_value(i, of_source(shows, row), values, out)
 }
 
 /// Puts the values of all variables in place of those of the last row, and writes the lines of those that are not what
@@ -102,22 +103,23 @@ fn put_shown(
 pub(crate) fn push_changes(
     nets: Option<(u16, u16)>,
     variables: &[Variable],
-    levels: &[Level],
-    drives: &[Drive],
+    row: &Row,
     values: &mut [u8],
     out: &mut Buffer,
 ) -> u64
     requires few { length variables.now ≤ 8930 }
     requires long { length values.old ≡ length variables.now }
-    requires nets { (p : ℕ × ℕ) → nets ≡ Some p → NetsRest p (variables_of variables.now) values.old levels.now drives.now }
+    requires nets { (p : ℕ × ℕ) → nets ≡ Some p → NetsRest p (variables_of variables.now) values.old row.now.levels.now row.now.drives.now }
     requires room { length out.old.text + 4 * length variables.now ≤ out.old.room }
-    ensures values { values.new ≡ values_at levels.now drives.now (variables_of variables.now) }
-    ensures text { out.new ≡ record out.old { text = out.old.text ++ changes 0 values.old (values_at levels.now drives.now (variables_of variables.now)) } }
-    ensures count { result ≡ change_count values.old (values_at levels.now drives.now (variables_of variables.now)) }
+    ensures values { values.new ≡ values_at row.now.levels.now row.now.drives.now (variables_of variables.now) }
+    ensures text { out.new ≡ record out.old {
+      text = out.old.text ++ changes 0 values.old (values_at row.now.levels.now row.now.drives.now (variables_of variables.now));
+    } }
+    ensures count { result ≡ change_count values.old (values_at row.now.levels.now row.now.drives.now (variables_of variables.now)) }
 {
     let mut count = 0;
     for i in 0..variables.len() {
-        count += put_shown(i, nets, variables[i].shows, levels, drives, values, out);
+        count += put_shown(i, nets, variables[i].shows, row, values, out);
     }
     count
 }

@@ -2,17 +2,16 @@
 ghost use Rattle.std.specs.Prelude.{◌≡◌, ℕ, ◌+◌, ◌-◌, ◌*◌, ◌^◌, ◌<◌, ◌≤◌, ◌++◌, min, List, length, Some, slice_index, if◌then◌else◌};
 ghost use Rattle.text_model.specs.Wave as wave;
 ghost use Rattle.text_model.specs.Wave.{changes, change_count, initial_values, value_changes};
-ghost use Rattle.vcd_text.specs.Variables.{variables_of};
 ghost use Rattle.vcd_text.specs.Buffers.{BufferState};
-ghost use Rattle.vcd_text.specs.Chains.{sources, values_at, AreChains, IsNext, OnChain, IsRun, OthersRest, RestBut};
+ghost use Rattle.vcd_text.specs.Chains.{sources, AreChains, IsNext, OnChain, IsRun, OthersRest, RestBut};
+ghost use Rattle.vcd_text.specs.Linked.{values_in, variables_in};
 ghost use Rattle.vcd_text.specs.Written.{IsWritten};
 
 use crate::buffer::Buffer;
-use crate::chains::first_of;
+use crate::chains::{Links, first_of};
 use crate::changes::{push_changes, push_first, push_time, put_value};
+use crate::row::Row;
 use crate::value::{fill_values, of_net};
-use crate::variable::Variable;
-use sim_base::{Drive, Level};
 
 /// The variables that may have other values in a row than in the one before.
 #[derive(Clone, Copy)]
@@ -61,95 +60,79 @@ fn push_run(
 fn push_chain(
     one: u16,
     two: u16,
-    variables: &[Variable],
-    first: &[u16],
-    next: &[u16],
-    levels: &[Level],
-    drives: &[Drive],
+    links: &Links,
+    row: &Row,
     values: &mut [u8],
     out: &mut Buffer,
 ) -> u64
-    requires few { length variables.now ≤ 8930 }
-    requires long { length values.old ≡ length variables.now }
-    requires chains { AreChains (sources (variables_of variables.now)) first.now next.now }
-    requires others { OthersRest (one, two) (variables_of variables.now) values.old levels.now drives.now }
-    requires room { length out.old.text + 4 * length variables.now ≤ out.old.room }
-    ensures values { values.new ≡ values_at levels.now drives.now (variables_of variables.now) }
-    ensures text { out.new ≡ record out.old { text = out.old.text ++ changes 0 values.old (values_at levels.now drives.now (variables_of variables.now)) } }
-    ensures count { result ≡ change_count values.old (values_at levels.now drives.now (variables_of variables.now)) }
+    requires few { length links.now.variables.now ≤ 8930 }
+    requires long { length values.old ≡ length links.now.variables.now }
+    requires chains { AreChains (sources (variables_in links.now)) links.now.first.now links.now.next.now }
+    requires others { OthersRest (one, two) (variables_in links.now) values.old row.now.levels.now row.now.drives.now }
+    requires room { length out.old.text + 4 * length links.now.variables.now ≤ out.old.room }
+    ensures values { values.new ≡ values_in row.now links.now }
+    ensures text { out.new ≡ record out.old { text = out.old.text ++ changes 0 values.old (values_in row.now links.now) } }
+    ensures count { result ≡ change_count values.old (values_in row.now links.now) }
 {
-    let value_one = of_net(one, levels);
+    let value_one = of_net(one, row.levels);
     let mut count = 0;
-    let mut a = first_of(one, first, variables.len());
-    let mut b = first_of(two, first, variables.len());
+    let mut a = first_of(one, links.first, links.variables.len());
+    let mut b = first_of(two, links.first, links.variables.len());
     if a == b {
         // one net, or two that no variable shows
-        push_run(a, values.len(), value_one, next, values, out, &mut count);
+        push_run(
+            a,
+            values.len(),
+            value_one,
+            links.next,
+            values,
+            out,
+            &mut count,
+        );
         return count;
     }
-    let value_two = of_net(two, levels);
+    let value_two = of_net(two, row.levels);
     while a != b {
-        a = push_run(a, b, value_one, next, values, out, &mut count);
-        b = push_run(b, a, value_two, next, values, out, &mut count);
+        a = push_run(a, b, value_one, links.next, values, out, &mut count);
+        b = push_run(b, a, value_two, links.next, values, out, &mut count);
     }
     count
 }
 
 /// The same of the variables of a scope.
-fn push_lines(
-    scope: Scope,
-    variables: &[Variable],
-    first: &[u16],
-    next: &[u16],
-    levels: &[Level],
-    drives: &[Drive],
-    values: &mut [u8],
-    out: &mut Buffer,
-) -> u64
-    requires few { length variables.now ≤ 8930 }
-    requires long { length values.old ≡ length variables.now }
-    requires chains { AreChains (sources (variables_of variables.now)) first.now next.now }
-    requires rest { RestBut scope (variables_of variables.now) values.old levels.now drives.now }
-    requires room { length out.old.text + 4 * length variables.now ≤ out.old.room }
-    ensures values { values.new ≡ values_at levels.now drives.now (variables_of variables.now) }
-    ensures text { out.new ≡ record out.old { text = out.old.text ++ changes 0 values.old (values_at levels.now drives.now (variables_of variables.now)) } }
-    ensures count { result ≡ change_count values.old (values_at levels.now drives.now (variables_of variables.now)) }
+fn push_lines(scope: Scope, links: &Links, row: &Row, values: &mut [u8], out: &mut Buffer) -> u64
+    requires few { length links.now.variables.now ≤ 8930 }
+    requires long { length values.old ≡ length links.now.variables.now }
+    requires chains { AreChains (sources (variables_in links.now)) links.now.first.now links.now.next.now }
+    requires rest { RestBut scope (variables_in links.now) values.old row.now.levels.now row.now.drives.now }
+    requires room { length out.old.text + 4 * length links.now.variables.now ≤ out.old.room }
+    ensures values { values.new ≡ values_in row.now links.now }
+    ensures text { out.new ≡ record out.old { text = out.old.text ++ changes 0 values.old (values_in row.now links.now) } }
+    ensures count { result ≡ change_count values.old (values_in row.now links.now) }
 {
     match scope {
-        Scope::All => push_changes(None, variables, levels, drives, values, out),
+        Scope::All => push_changes(None, links.variables, row, values, out),
         Scope::NetsAndPins(one, two) => {
-            push_changes(Some((one, two)), variables, levels, drives, values, out)
+            push_changes(Some((one, two)), links.variables, row, values, out)
         }
-        Scope::Nets(one, two) => push_chain(
-            one, two, variables, first, next, levels, drives, values, out,
-        ),
+        Scope::Nets(one, two) => push_chain(one, two, links, row, values, out),
     }
 }
 
 /// The value changes of a cycle, and how many there are.
-fn push_later(
-    cycle: u32,
-    scope: Scope,
-    variables: &[Variable],
-    first: &[u16],
-    next: &[u16],
-    levels: &[Level],
-    drives: &[Drive],
-    values: &mut [u8],
-    out: &mut Buffer,
-) -> u64
-    requires few { length variables.now ≤ 8930 }
-    requires long { length values.old ≡ length variables.now }
-    requires chains { AreChains (sources (variables_of variables.now)) first.now next.now }
-    requires rest { RestBut scope (variables_of variables.now) values.old levels.now drives.now }
-    requires room { length out.old.text + 42 + 4 * length variables.now ≤ out.old.room }
-    ensures values { values.new ≡ values_at levels.now drives.now (variables_of variables.now) }
-    ensures text { out.new ≡ record out.old { text = out.old.text ++ value_changes cycle values.old (values_at levels.now drives.now (variables_of variables.now)) } }
-    ensures count { result ≡ change_count values.old (values_at levels.now drives.now (variables_of variables.now)) }
+fn push_later(scope: Scope, links: &Links, row: &Row, values: &mut [u8], out: &mut Buffer) -> u64
+    requires few { length links.now.variables.now ≤ 8930 }
+    requires long { length values.old ≡ length links.now.variables.now }
+    requires chains { AreChains (sources (variables_in links.now)) links.now.first.now links.now.next.now }
+    requires rest { RestBut scope (variables_in links.now) values.old row.now.levels.now row.now.drives.now }
+    requires room { length out.old.text + 42 + 4 * length links.now.variables.now ≤ out.old.room }
+    ensures values { values.new ≡ values_in row.now links.now }
+    ensures text { out.new ≡ record out.old { text = out.old.text ++ value_changes row.now.cycle values.old (values_in row.now links.now) } }
+    ensures count { result ≡ change_count values.old (values_in row.now links.now) }
 {
     let start = out.text().len();
-    push_time(cycle, out);
-    let count = push_lines(scope, variables, first, next, levels, drives, values, out);
+    push_time(row.cycle, out);
+    let count = push_lines(scope, links, row, values, out);
     if count == 0 {
         out.truncate(start);
     }
@@ -160,36 +143,30 @@ fn push_later(
 /// changes there are.
 pub(crate) fn push_row(
     started: bool,
-    cycle: u32,
     scope: Scope,
     head: &[u8],
-    variables: &[Variable],
-    first: &[u16],
-    next: &[u16],
-    levels: &[Level],
-    drives: &[Drive],
+    links: &Links,
+    row: &Row,
     values: &mut [u8],
     out: &mut Buffer,
 ) -> u64
-    requires few { length variables.now ≤ 8930 }
-    requires long { length values.old ≡ length variables.now }
-    requires chains { AreChains (sources (variables_of variables.now)) first.now next.now }
-    requires rest { RestBut scope (variables_of variables.now) values.old levels.now drives.now }
-    requires room { length out.old.text + length head.now + 57 + 4 * length variables.now ≤ out.old.room }
-    ensures values { values.new ≡ values_at levels.now drives.now (variables_of variables.now) }
+    requires few { length links.now.variables.now ≤ 8930 }
+    requires long { length values.old ≡ length links.now.variables.now }
+    requires chains { AreChains (sources (variables_in links.now)) links.now.first.now links.now.next.now }
+    requires rest { RestBut scope (variables_in links.now) values.old row.now.levels.now row.now.drives.now }
+    requires room { length out.old.text + length head.now + 57 + 4 * length links.now.variables.now ≤ out.old.room }
+    ensures values { values.new ≡ values_in row.now links.now }
     ensures text { out.new ≡ record out.old {
-      text = out.old.text ++ (if started then value_changes cycle values.old (values_at levels.now drives.now (variables_of variables.now))
-          else head.now ++ initial_values cycle (values_at levels.now drives.now (variables_of variables.now)));
+      text = out.old.text ++ (if started then value_changes row.now.cycle values.old (values_in row.now links.now)
+          else head.now ++ initial_values row.now.cycle (values_in row.now links.now));
     } }
-    ensures count { result ≡ (if started then change_count values.old (values_at levels.now drives.now (variables_of variables.now)) else 0) }
+    ensures count { result ≡ (if started then change_count values.old (values_in row.now links.now) else 0) }
 {
     if started {
-        push_later(
-            cycle, scope, variables, first, next, levels, drives, values, out,
-        )
+        push_later(scope, links, row, values, out)
     } else {
-        fill_values(variables, levels, drives, values);
-        push_first(cycle, head, values, out);
+        fill_values(links.variables, row, values);
+        push_first(row.cycle, head, values, out);
         0
     }
 }

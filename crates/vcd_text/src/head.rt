@@ -11,11 +11,12 @@ ghost use Rattle.sim_base.specs.Rows.{AreBut};
 ghost use Rattle.sim_base.specs.declared.signal.Level.{Level};
 
 use crate::buffer::Buffer;
-use crate::chains::{count_nets, link_all};
+use crate::chains::{Links, count_nets, link_all};
 use crate::changes::push_time;
 use crate::declarations::head_text;
 use crate::follow::{Scope, push_row};
 use crate::pins::{drive_as_kept, keep, pins_of};
+use crate::row::Row;
 use crate::variable::Variable;
 use sim_base::{Drive, Level, List, OutOfMemory};
 use std::alloc::{AllocError, Global};
@@ -218,14 +219,18 @@ impl WaveHead {
     {
         let count = push_row(
             self.started,
-            cycle,
             scope,
             &self.head_bytes,
-            self.variables.as_slice(),
-            &self.first,
-            &self.next,
-            levels,
-            drives,
+            &Links {
+                variables: self.variables.as_slice(),
+                first: &self.first,
+                next: &self.next,
+            },
+            &Row {
+                cycle,
+                levels,
+                drives,
+            },
             &mut self.values,
             &mut self.text,
         );
@@ -244,7 +249,8 @@ impl WaveHead {
         changed: &[u16],
     ) -> u64
         requires room { length self.old.text ≤ gathered }
-        requires told { self.old.started ≡ true → (before : List Level) × HasSeen self.old.variables self.old.values before × AreBut changed.now before levels.now }
+        requires told { self.old.started ≡ true → (before : List Level) × HasSeen self.old.variables self.old.values before
+            × AreBut changed.now before levels.now }
         ensures text { self.new ≡ after_row self.old (record { cycle = cycle; levels = levels.now; drives = drives.now }) }
         ensures count { result ≡ changed_by self.old (record { cycle = cycle; levels = levels.now; drives = drives.now }) }
     {

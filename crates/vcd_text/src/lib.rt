@@ -14,6 +14,7 @@ mod head;
 mod line;
 mod pins;
 mod read;
+mod row;
 mod tracks;
 mod value;
 mod variable;

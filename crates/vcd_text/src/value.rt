@@ -6,6 +6,7 @@ ghost use Rattle.text_model.specs.Wave.{bit_value, char_z, level_value, strong_v
 ghost use Rattle.vcd_text.specs.Variables.{source_of, variable_of};
 ghost use Rattle.vcd_text.specs.Pins.{drive_at};
 
+use crate::row::Row;
 use crate::variable::{Source, Variable};
 use sim_base::{Drive, Level, reads_one};
 
@@ -69,22 +70,22 @@ pub(crate) fn of_net(net: u16, levels: &[Level]) -> u8
     level_at(levels, net).map_or(b'z', of_level)
 }
 
-pub(crate) fn of_source(shows: Source, levels: &[Level], drives: &[Drive]) -> u8
-    ensures { result ≡ shown_value levels.now drives.now (source_of shows) }
+pub(crate) fn of_source(shows: Source, row: &Row) -> u8
+    ensures { result ≡ shown_value row.now.levels.now row.now.drives.now (source_of shows) }
 {
     match shows {
-        Source::Net(net) => of_net(net, levels),
-        Source::Strong(pin) => of_strong(drive_at(drives, pin)),
-        Source::Weak(pin) => of_weak(drive_at(drives, pin)),
+        Source::Net(net) => of_net(net, row.levels),
+        Source::Strong(pin) => of_strong(drive_at(row.drives, pin)),
+        Source::Weak(pin) => of_weak(drive_at(row.drives, pin)),
     }
 }
 
 /// Puts the value of each variable at its place.
-pub fn fill_values(variables: &[Variable], levels: &[Level], drives: &[Drive], now: &mut [u8])
+pub fn fill_values(variables: &[Variable], row: &Row, now: &mut [u8])
     requires { length now.old ≡ length variables.now }
-    ensures { now.new ≡ map (λ v. shown_value levels.now drives.now v.shows) (map variable_of variables.now) }
+    ensures { now.new ≡ map (λ v. shown_value row.now.levels.now row.now.drives.now v.shows) (map variable_of variables.now) }
 {
     for (i, variable) in variables.iter().enumerate() {
-        now[i] = of_source(variable.shows, levels, drives);
+        now[i] = of_source(variable.shows, row);
     }
 }

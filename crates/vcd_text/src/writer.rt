@@ -8,7 +8,8 @@ ghost use Rattle.sim_base.specs.Rows.{Row};
 ghost use Rattle.text_model.specs.Wave.{wave_text, wave_count};
 ghost use Rattle.vcd_text.specs.Heads.{gathered};
 ghost use Rattle.vcd_text.specs.Ports.{texts, Writes};
-ghost use Rattle.vcd_text.specs.Writers.{Tied, texts_of, place_of, outside_of, last_of, has_seen, looks_at_rows, is_whole, faults_of, Stands, HasStopped, capped};
+ghost use Rattle.vcd_text.specs.Writers.{Tied, texts_of, place_of, outside_of, last_of, has_seen, looks_at_rows, is_whole};
+ghost use Rattle.vcd_text.specs.Writers.{faults_of, Stands, HasStopped, capped};
 
 use crate::head::WaveHead;
 use sim_base::{Bench, Drive, Level, Port, Watcher, WriteEnd};
@@ -47,7 +48,8 @@ fn pass_on<B: Bench>(first: bool, wanted: bool, head: &mut WaveHead, bench: &mut
     requires { wanted ≡ true → (B.outside bench.old).opened Port.Wave ≡ true }
     ensures rest { head.new ≡ record head.old { text = head.new.text } }
     ensures room { length head.new.text ≤ gathered }
-    ensures gone { (gone : List ℕ) × (gone ++ head.new.text ≡ head.old.text) × Writes result (texts wanted false gone []) (B.outside bench.old) (B.outside bench.new) }
+    ensures gone { (gone : List ℕ) × (gone ++ head.new.text ≡ head.old.text)
+        × Writes result (texts wanted false gone []) (B.outside bench.old) (B.outside bench.new) }
 {
     if wanted && !first && head.has_room() {
         return WriteEnd::Ok;
@@ -147,7 +149,13 @@ impl<'a, B: Bench> WaveWriter<'a, B> {
     ) -> WaveWriter<'a, B>
         requires lent { start.now.value ≡ bench.old }
         requires opened { wave ≡ true → (B.outside bench.old).opened Port.Wave ≡ true }
-        ensures place { place_of B.outside result ≡ record { reference = bench.entry.ghost_name; start = B.outside bench.old; variables = head.old.variables; wave = wave; serial = serial } }
+        ensures place { place_of B.outside result ≡ record {
+          reference = bench.entry.ghost_name;
+          start = B.outside bench.old;
+          variables = head.old.variables;
+          wave = wave;
+          serial = serial;
+        } }
         ensures whole { is_whole B.outside result ≡ true }
         ensures last { last_of result ≡ None }
         ensures stands { Stands B.outside result [] [] }

@@ -6,10 +6,10 @@ use Rattle.vcd_text.proofs.follow.push_chain.Given as goal
 
 abbrev pub invariant-loop-a : goal.invariant-loop-a
 invariant-loop-a l = record {
-  written : IsWritten l.fn.values (values_at l.levels l.drives (variables_of l.variables)) l.fn.out (min l.a l.b) l.count l.values l.out;
-  one : IsNext (sources (variables_of l.variables)) l.one (min l.a l.b) l.a;
-  two : IsNext (sources (variables_of l.variables)) l.two (min l.a l.b) l.b;
+  written : IsWritten l.fn.values (values_at l.row.levels.now l.row.drives.now (variables_of l.links.variables.now)) l.fn.out (min l.a l.b) l.count l.values l.out;
+  one : IsNext (sources (variables_of l.links.variables.now)) l.one (min l.a l.b) l.a;
+  two : IsNext (sources (variables_of l.links.variables.now)) l.two (min l.a l.b) l.b;
 }
 
 abbrev pub decreases-loop-a : goal.decreases-loop-a
-decreases-loop-a l = length l.variables - min l.a l.b
+decreases-loop-a l = length l.links.variables.now - min l.a l.b

@@ -4,4 +4,4 @@ use Rattle.vcd_text.specs.Variables.{variable_of}
 use Rattle.vcd_text.proofs.value.fill_values.Given as goal
 
 abbrev pub invariant-loop-i : goal.invariant-loop-i
-invariant-loop-i l = take l.i l.now ≡ take l.i (map (λ v. shown_value l.levels l.drives v.shows) (map variable_of l.variables))
+invariant-loop-i l = take l.i l.now ≡ take l.i (map (λ v. shown_value l.row.levels.now l.row.drives.now v.shows) (map variable_of l.variables))
