@@ -70,6 +70,11 @@ class Limits(unittest.TestCase):
     def test_hex(self):
         self.assertEqual(limits.hex_text(bytes([1, 2, 0xFF]), 2), ":020000000102FB\n:01000200FFFE\n:00000001FF\n")
 
+    def test_files_of_a_row(self):
+        data = limits.TOP / "crates/sim_rows/data"
+        self.assertEqual((data / "full-flash.hex").read_text(), limits.hex_text(limits.image(limits.COUNTS)))
+        self.assertEqual((data / "full-flash.vcd").read_text(), limits.counted(320))
+
     def test_numbers_of_a_module(self):
         for number, text in [(0, b"\0"), (127, b"\x7f"), (128, b"\x80\x01"), (1_048_576, b"\x80\x80\x40")]:
             self.assertEqual(limits.leb(number), text)
