@@ -13,7 +13,7 @@ ghost use Rattle.part_law.specs.declared.span.Span.{Span};
 ghost use Rattle.part_law.specs.Spans.{all_pins, no_pins};
 ghost use Rattle.unit_law.specs.Placed.{hull, SameBut};
 
-use crate::attended::{instruct, instruct_apart};
+use crate::attended::{instruct, instruct_on};
 use crate::follow::follow;
 use crate::pins::UNO_PINS;
 use crate::turned::{hear, tick};
@@ -266,28 +266,29 @@ pub(crate) fn act_core(
     }
 }
 
-// The same, where the core runs, and all that it does is the instruction that starts.
+// The instruction that starts, of a core that runs and enters no interrupt, where it runs on after it: its cycles, or 0 where
+// it is another, which is left.
 #[inline(always)]
 pub(crate) fn act_next(
     core: &mut Core,
     program: &[Instr],
     flash: &Flash,
     units: &mut Units,
-    next: u32,
     cycle: u32,
-) -> (u32, Span)
+) -> u8
     requires program { IsProgram flash.now program.now }
     requires here { units.old.cycle ≡ cycle }
     requires end { cycle < MOST_CYCLES }
-    requires late { next ≤ cycle }
     requires runs { core.old.mode ≡ Run }
-    requires passes { enters devices (state_of flash.now core.old next units.old) ≡ false }
-    ensures acted { state_of flash.now core.new result.0 units.new ≡ core_acted devices (state_of flash.now core.old next units.old) cycle }
+    requires passes { enters devices (state_of flash.now core.old cycle units.old) ≡ false }
+    ensures acted { (result == 0) ≡ false → state_of flash.now core.new (cycle + result) units.new ≡ core_acted devices (state_of flash.now core.old cycle units.old) cycle }
     ensures here { units.new.cycle ≡ cycle }
-    ensures pads { SameBut devices result.1 units.new.units.devices units.old.units.devices }
+    ensures runs { core.new.mode ≡ Run }
+    ensures pads { SameBut devices units.new.touched units.new.units.devices units.old.units.devices }
+    ensures left { (result == 0) ≡ true → state_of flash.now core.new cycle units.new ≡ state_of flash.now core.old cycle units.old }
 {
-    let (cycles, touched) = perform_next(core, program, flash, units);
-    (cycle + cycles as u32, touched)
+    units.begin();
+    instruct_on(core, program, flash, units)
 }
 
 // Whether the core does something in the cycle.
@@ -345,18 +346,6 @@ fn perform(
     (cycles, units.touched())
 }
 
-// The instruction that starts, of a core that enters no interrupt.
-#[inline(always)]
-fn perform_next(core: &mut Core, program: &[Instr], flash: &Flash, units: &mut Units) -> (u8, Span)
-    requires program { IsProgram flash.now program.now }
-    ensures did { record { core = core.new; bus = units.new; cycles = result.0 } ≡ performed devices false flash.now core.old (record units.old { touched = no_pins }) }
-    ensures pads { SameBut devices result.1 units.new.units.devices units.old.units.devices }
-{
-    units.begin();
-    let cycles = instruct(core, program, flash, units);
-    (cycles, units.touched())
-}
-
 #[inline(always)]
 fn do_one(core: &mut Core, program: &[Instr], flash: &Flash, units: &mut Units, enters: bool) -> u8
     requires program { IsProgram flash.now program.now }
@@ -367,7 +356,7 @@ fn do_one(core: &mut Core, program: &[Instr], flash: &Flash, units: &mut Units, 
     if enters {
         enter(core, units)
     } else {
-        instruct_apart(core, program, flash, units)
+        instruct(core, program, flash, units)
     }
 }
 
