@@ -3,6 +3,7 @@
 and says that it was skipped where neither is installed."""
 import base64
 import concurrent.futures
+import itertools
 import json
 import os
 import re
@@ -405,6 +406,25 @@ def check_geometry():
     assert not any(through for _, _, through in way), way
 
 
+# Parts that lower.py makes of one: a rotary encoder, and ten LEDs of one bar.
+ENCODER = [("wokwi-slide-switch", "encoder1-clk"), ("wokwi-slide-switch", "encoder1-dt"), ("wokwi-pushbutton", "encoder1-sw")]
+BAR = [("wokwi-led", f"bargraph1-{n}") for n in range(1, 11)]
+NAMED = "{ const { parts, wires } = makeRun({ title: 'x', cycles: 1, diagram: given, names: [], of: [], waves: [] }); return apart(parts, wires).map(part => boxWithName(part, wires)); }"
+
+
+def check_places():
+    """Parts that a tool made of one part have room for their pins and names; the name of a breadboard is not on a part that covers its middle."""
+    for group in (ENCODER, BAR):
+        boxes = evaluated(NAMED, {"parts": [{"type": kind, "id": name, "top": -60, "left": 60} for kind, name in group], "connections": []})
+        for (one, first), (other, second) in itertools.combinations(zip(group, boxes), 2):
+            assert first[2] <= second[0] or second[2] <= first[0] or first[3] <= second[1] or second[3] <= first[1], (one, first, other, second)
+    covered = dict(PLUGGED, parts=[dict(part, top=-45, left=50) if part["id"] == "led" else part for part in PLUGGED["parts"]])
+    for diagram, place in ((PLUGGED, ("name", -27)), (covered, ("name", 188))):
+        root = ET.fromstring(evaluated(DRAWN, diagrams.Lowering(diagram, {}).outcome()))
+        found = [(text.get("class"), round(float(text.get("y")))) for text in root.iter("{http://www.w3.org/2000/svg}text") if text.text == "bb"]
+        assert found == [place], (found, place)
+
+
 def check_board():
     """A picture of each board is XML with its parts and wires, and shows what the run has at that time."""
     for name, us, part, words in (("button", 22000, "btn1", "button"), ("chip-counter", 3000, "count1", "counter"), ("latch", 8000, "notq", "gates")):
@@ -420,24 +440,32 @@ def check_board():
     assert dict(on)["btn1"] == "pressed" and dict(off)["btn1"] == "released" and dict(on)["led1"].startswith("on") and dict(off)["led1"].startswith("off"), (on, off)
 
 
+# The Uno is above the potentiometer's name, wires go through those of r1 and r2 above and below, and the LED is at the right of r2.
+CROWDED = {"parts": [{"type": "wokwi-arduino-uno", "id": "uno"}, {"type": "wokwi-potentiometer", "id": "pot1", "left": 60, "top": 200}, {"type": "wokwi-led", "id": "led1", "left": -92, "top": 140},
+                     {"type": "wokwi-resistor", "id": "r1", "left": -130, "top": 40, "rotate": 90}, {"type": "wokwi-resistor", "id": "r2", "left": -130, "top": 160, "rotate": 90}],
+           "connections": [["r1:1", "uno:13", "green", ["v-40"]], ["r1:2", "r2:1", "green", ["v0"]], ["r2:2", "uno:GND.2", "black", ["v40"]]]}
+NAMES = {"pot1": ("name", 97.8, 286.6), "led1": ("name", -72, 136), "r1": ("name start", -89.95, 48.65), "r2": ("name end", -111.25, 168.65)}
+
+
 def check_names():
     """Names lie beside wires and parts where there is room; names of pins in a row do not meet; a share of less than 10 ms has its microseconds;
     the colours that the editor has for wires are all different."""
     colors = evaluated("words(given).map(name => colorOf(name, null))", "black brown red orange gold green blue violet gray white cyan limegreen magenta purple yellow")
     assert len(set(colors)) == 15, colors
-    texts = {}
-    for name in ("pot-serial", "latch", "seven-segment", "lcd-hello", "oled-hello", "shift-out"):
-        with open(os.path.join(examples.folder_of(name), "diagram.json"), encoding="utf-8") as file:
-            picture = evaluated("boardPicture(drawBoard(makeRun({ title: 'x', cycles: 1, diagram: given, names: [], of: [], waves: [] })), '')", json.load(file))
+    names = {}
+    for name in ("pot-serial", "seven-segment", "lcd-hello", "oled-hello", "shift-out", None):
+        diagram = CROWDED
+        if name:
+            with open(os.path.join(examples.folder_of(name), "diagram.json"), encoding="utf-8") as file:
+                diagram = json.load(file)
+        picture = evaluated("boardPicture(drawBoard(makeRun({ title: 'x', cycles: 1, diagram: given, names: [], of: [], waves: [] })), '')", diagram)
         for group in ET.fromstring(picture).iter("{http://www.w3.org/2000/svg}g"):
             row = [text for text in group if text.tag.endswith("}text")]
-            texts.update({(name, text.text): text for text in row if text.get("class", "").startswith("name")})
+            names = {text.text: (text.get("class"), round(float(text.get("x")), 2), round(float(text.get("y")), 2)) for text in row if text.get("class", "").startswith("name")} or names
             small = [(float(text.get("y")), float(text.get("x")), float(text.get("font-size")), text.text) for text in row if float(text.get("font-size", 9)) <= 5 and text.get("text-anchor") == "middle"]
             for (y, x, size, one), (v, u, _, other) in zip(sorted(small), sorted(small)[1:]):
                 assert y != v or u - x > 0.34 * size * (len(one) + len(other)), (name, one, other)
-    place = lambda *key: (texts[key].get("class"), float(texts[key].get("x")), float(texts[key].get("y")))
-    assert place("pot-serial", "pot1") == ("name", 97.8, 286.6) and place("latch", "set") == ("name", -86.35, -64), (place("pot-serial", "pot1"), place("latch", "set"))
-    assert place("latch", "r1")[0] == "name start" and place("seven-segment", "r3")[0] == "name end" and place("seven-segment", "r2")[0] == "name"
+    assert names == NAMES, names
     told = dict(evaluated("{ const run = await runOfPage(given.data, given.packed); return drawBoard(run).texts({ t: 400, since: 400 }); }", given_of("pulse")[0]))
     assert told["led1"] == "on, 23.5 % of the last 25 µs", told
 
@@ -482,7 +510,7 @@ def check_notes():
 def everything():
     bad, decoders = 0, {}
     steps = [("every edge and byte in the scripts", lambda: decoders.update(check_reads())), ("frames", lambda: check_frames(decoders)), ("parts", check_parts),
-             ("breadboards", check_breadboards), ("geometry", check_geometry), ("boards", check_board), ("names", check_names), ("notes", check_notes), ("displays", check_showing), ("formats of UART", check_formats), ("what an OLED is told", check_writes), ("how oled-hello begins", check_beginning),
+             ("breadboards", check_breadboards), ("geometry", check_geometry), ("places of parts", check_places), ("boards", check_board), ("names", check_names), ("notes", check_notes), ("displays", check_showing), ("formats of UART", check_formats), ("what an OLED is told", check_writes), ("how oled-hello begins", check_beginning),
              ("OLEDs on broken frames", check_broken_frames), ("oled-hello at fifty times", lambda: check_oled("oled-hello")), ("lcd-hello at fifty times", lambda: check_display("lcd-hello")), ("lcd-i2c at fifty times", lambda: check_display("lcd-i2c"))]
     for name, step in steps:
         try:

@@ -42,21 +42,43 @@ function drawBoard(run, on = {}) {
   };
 }
 
-// Parts that lie on one place, as those do that a tool made of one part, are drawn side by side, and above where another part lies.
+// Parts that lie on one place, as those do that a tool made of one part, are drawn side by side, and above where another part lies,
+// with room for their pins and names.
 function apart(parts, wires) {
   const groups = new Map(), key = part => `${part.left} ${part.top}`;
   for (const part of parts) groups.set(key(part), [...(groups.get(key(part)) || []), part]);
-  const boxAt = part => { const { size } = entryOf(part, wires), place = placeOf(part, size); return boxOfPoints([[0, 0], size, [size[0], 0], [0, size[1]]].map(place)); };
-  const taken = [...groups.values()].map(([first]) => boxAt(first)), isFree = box => !taken.some(other => box[0] < other[2] && other[0] < box[2] && box[1] < other[3] && other[1] < box[3]);
+  const taken = [...groups.values()].map(([first]) => boxOfPart(first, wires)), isFree = box => !taken.some(other => meet(box, other));
   return parts.map(part => {
-    const group = groups.get(key(part)), own = boxAt(part), wide = own[2] - own[0] + 4, high = own[3] - own[1] + 16;
+    const group = groups.get(key(part));
     if (group[0] === part) return part;
-    const spots = upTo(4).flatMap(row => upTo(group.length).map(column => ({ ...part, left: part.left + column * wide, top: part.top - row * high })));
-    const found = spots.slice(1).find(spot => isFree(boxAt(spot))) || spots[group.indexOf(part)];
-    taken.push(boxAt(found));
+    const named = group.map(one => boxWithName(one, wires)), most = (low, high) => Math.max(...named.map(box => box[high] - box[low]));
+    const wide = most(0, 2) + 4, tall = most(1, 3) + 6;
+    const spots = upTo(4).flatMap(row => upTo(group.length).map(column => ({ ...part, left: part.left + column * wide, top: part.top - row * tall })));
+    const found = spots.slice(1).find(spot => isFree(boxOfPart(spot, wires))) || spots[group.indexOf(part)];
+    taken.push(boxOfPart(found, wires));
     return found;
   });
 }
+
+const cornersOf = ([width, height]) => [[0, 0], [width, 0], [0, height], [width, height]];
+const meet = (box, other) => box[0] < other[2] && other[0] < box[2] && box[1] < other[3] && other[1] < box[3];
+
+// The box of a part and its pins.
+function boxOfPart(part, wires) {
+  const entry = entryOf(part, wires), place = placeOf(part, entry.size);
+  return boxOfPoints([...cornersOf(entry.size), ...Object.values(pinsOf(entry, part))].map(place));
+}
+
+function boxWithName(part, wires) {
+  const [left, top, right, bottom] = boxOfPart(part, wires);
+  if (entryOf(part, wires).named === false) return [left, top, right, bottom];
+  const name = nameBox((left + right) / 2 - widthOfName(part) / 2, top - 4, part);
+  return boxOfPoints([[left, top], [right, bottom], name.slice(0, 2), name.slice(2)]);
+}
+
+// The place of a part's id whose letters begin at `from` and stand on `foot`.
+const widthOfName = part => 5.4 * part.id.length;
+const nameBox = (from, foot, part) => [from, foot - 7, from + widthOfName(part), foot + 1];
 
 function widen(drawing, [x, y]) {
   const box = drawing.box;
@@ -73,7 +95,7 @@ function drawScenery(drawing, part) {
 function drawPart(drawing, part, entry, scenery = '') {
   const { run, on, layers } = drawing, [width, height] = entry.size, place = placeOf(part, entry.size);
   const g = svg('g', { class: scenery === 'left' ? 'part left-out' : 'part', transform: `translate(${part.left} ${part.top}) rotate(${part.rotate} ${width / 2} ${height / 2})` });
-  const update = entry.draw(g, part, run), corners = [[0, 0], [width, 0], [0, height], [width, height]].map(place);
+  const update = entry.draw(g, part, run), corners = cornersOf(entry.size).map(place);
   if (update) drawing.updates.push(update);
   if (entry.tell) drawing.tells.push([part.id, moment => entry.tell(part, run, moment)]);
   g.append(svg('title', {}, `${part.id}: ${part.type}${entry.note ? ', ' + entry.note(part) : ''}${scenery === 'left' ? ', which was left out' : ''}`));
@@ -90,14 +112,14 @@ function drawPart(drawing, part, entry, scenery = '') {
 
 // A part's id is above it, or below or at a side where fewer wires and parts are in its way. Its label is below.
 function drawName(drawing, part, [left, top, right, bottom]) {
-  const x = (left + right) / 2, y = (top + bottom) / 2 + 3, wide = 5.4 * part.id.length, given = part.attrs.label;
+  const x = (left + right) / 2, y = (top + bottom) / 2 + 3, wide = widthOfName(part), given = part.attrs.label;
   const spots = [[x, top - 4, x - wide / 2, 'name'], [right + 5, y, right + 5, 'name start'], [left - 5, y, left - 5 - wide, 'name end']];
   if (!given) spots.splice(1, 0, [x, bottom + 11, x - wide / 2, 'name']);
-  const boxes = [...drawing.boxes.values()], spotBox = ([, foot, from]) => [from, foot - 7, from + wide, foot + 1];
-  const inWay = box => boxes.filter(other => box[0] < other[2] && other[0] < box[2] && box[1] < other[3] && other[1] < box[3]).length + drawing.legs.filter(([a, b]) => goesThrough(a, b, box)).length;
-  const costs = spots.map(spot => inWay(spotBox(spot))), spot = spots[costs.indexOf(Math.min(...costs))], box = spotBox(spot);
+  const boxes = [...drawing.boxes.values()], places = spots.map(([, foot, from]) => nameBox(from, foot, part));
+  const inWay = box => boxes.filter(other => meet(box, other)).length + drawing.legs.filter(([a, b]) => goesThrough(a, b, box)).length;
+  const costs = places.map(inWay), best = costs.indexOf(Math.min(...costs)), spot = spots[best], box = places[best];
   drawing.layers.names.append(label(spot[0], spot[1], part.id, { class: spot[3] }));
-  if (spot !== spots[0]) { widen(drawing, box.slice(0, 2)); widen(drawing, box.slice(2)); }
+  if (best) { widen(drawing, box.slice(0, 2)); widen(drawing, box.slice(2)); }
   drawing.boxes.set(`name of ${part.id}`, box);
   if (given) drawing.layers.names.append(label(x, bottom + 11, given, { class: 'name given' }));
 }
