@@ -1,5 +1,5 @@
 #!/usr/bin/env python3
-"""Tests of wrong.py and times.py, on small made-up repositories, and of how bench/instructions.sh compares; no prover runs."""
+"""Tests of wrong.py, times.py and wide.py, on small made-up repositories, and of how bench/instructions.sh compares; no prover runs."""
 import contextlib
 import io
 import pathlib
@@ -11,6 +11,7 @@ import unittest
 sys.path.insert(0, str(pathlib.Path(__file__).resolve().parent))
 sys.dont_write_bytecode = True
 import times
+import wide
 import wrong
 
 SOURCE = """//! Two calls.
@@ -215,6 +216,36 @@ Tail.
         self.assertEqual(times.kind_of(["rattle", "build", "--test"], "/r"), "tests")
         self.assertEqual(times.kind_of(["rattle", "build", "-o", "out/a.o"], "/r"), "program")
         self.assertEqual(times.kind_of(["rattle", "build", "-o", "out/a.rlib"], "/r"), "proof")
+
+
+class Wide(Repository):
+    def function(self, parameters, clauses, body="{\n    0\n}", generics=""):
+        head = ", ".join(f"p{i}: &mut Map<u8, [u8; 4]>" for i in range(parameters))
+        lines = [f"fn f{generics}({head}) -> u8", *(f"    ensures c{i} {{ (n : _)\n        → result ≡ n }}" for i in range(clauses))]
+        return "\n".join([*lines, body]) + "\n" if clauses else f"{lines[0]} {body}\n"
+
+    def said(self, text, *words):
+        self.write("crates/one/src/lib.rt", text)
+        (status, text) = self.quiet(wide.main, list(words) or ["one"], self.top)
+        return status, text.splitlines()
+
+    def test_bounds(self):
+        self.assertEqual(self.said(self.function(7, 8)), (0, ["0 with more than 7 parameters or 8 clauses"]))
+        self.assertEqual(self.said(self.function(8, 0))[1][0], "crates/one/src/lib.rt:1: f has 8 parameters and 0 clauses")
+        self.assertEqual(self.said(self.function(0, 9))[1][0], "crates/one/src/lib.rt:1: f has 0 parameters and 9 clauses")
+
+    def test_each_function_has_its_own_clauses(self):
+        text = self.function(1, 5) + "\n/// Another.\n#[inline]\n" + self.function(8, 4, generics="<F: Fn(u8) -> u8, L>")
+        self.assertEqual(self.said(text)[1][0], "crates/one/src/lib.rt:18: f has 8 parameters and 4 clauses")
+        trait = "trait T {\n" + self.function(2, 5, body=";") + self.function(2, 5, body=";") + "}\n"
+        self.assertEqual(self.said(trait)[1], ["0 with more than 7 parameters or 8 clauses"])
+
+    def test_a_list_over_lines(self):
+        text = "pub(crate) fn f(\n    &mut self,\n" + "".join(f"    p{i}: u8,\n" for i in range(7)) + ")\n    requires { 0 < p0 }\n{\n}\n"
+        self.assertEqual(self.said(text)[1][0], "crates/one/src/lib.rt:1: f has 8 parameters and 1 clauses")
+
+    def test_a_crate_that_is_not_there(self):
+        self.assertEqual(self.said("", "two"), (2, ["there is no crate two"]))
 
 
 class Instructions(Repository):
