@@ -23,17 +23,18 @@ use Rattle.board_laws.specs.Steady.{IsSteady}
 use Rattle.board_laws.proofs.StandsLaw.{stands_here, stands_shows, stands_holds, stands_valid}
 use Rattle.board_laws.proofs.SteadyLaw.{steady_states, steady_before, steady_rows, steady_cycles, steady_bytes, steady_pairs, quiet_dues}
 use Rattle.board_run.specs.Changes.{LastTells}
-use Rattle.board_run.specs.Seen.{Seen, IsOf, IsTold, HasAt, Put, retold, shown_at}
-use Rattle.board_run.specs.Lagging.{glided}
-use Rattle.board_run.specs.Legs.{Kept, Lags, Leg, WentAlone, IsAlone}
+use Rattle.board_run.specs.Seen.{Seen, IsOf, IsTold, retold, shown_at}
+use Rattle.part_law.specs.declared.part.Went.{Went}
+use Rattle.board_run.specs.Lagging.{glided, Replaced, Shifted}
+use Rattle.board_run.specs.Legs.{Kept, Lags, Leg, WentBy, IsAlone}
 use Rattle.board_run.proofs.ShowLemmas.{shown_is}
 use Rattle.board_model.proofs.RoomLemmas.{SameRoom, fits_room, chips_room}
 use Rattle.board_run.proofs.LagLemmas.{lags_stand, stand_show, stand_are, lag_of, Ts}
-use Rattle.board_run.proofs.ReadLemmas.{retold_suits, retold_is, flat_each, told_more, still_told, told_still, others_told}
+use Rattle.board_run.proofs.ReadLemmas.{retold_suits, retold_is, flat_each}
 use Rattle.board_run.proofs.ShowLemmas.{still_of}
 use Rattle.board_run.specs.Upcoming.{AreBehind}
 use Rattle.board_run.proofs.NextLemmas.{quiet_until}
-use Rattle.board_run.proofs.TurnLemmas.{due_set, fits_set, turned_others}
+use Rattle.board_run.proofs.TurnLemmas.{due_set}
 use Rattle.board_run.proofs.LegLemmas.{quiet_rest, stands_later, shown_later}
 
 one_more : (b : Bool) (x n : ℕ) → x ≤ n → x + (if b then 1 else 0) ≤ suc n
@@ -46,51 +47,17 @@ module _ {S : Type 0} (m : Machine S) (laws : Laws m) where
   dues_most s a zero = omega arith
   dues_most s a (suc n) = one_more (m.due (glide m s a n) (a + n)) (dues m s a n) n (dues_most s a n)
 
--- a part that went on has as many pins and contacts
-pub went_room : {S P : Type 0} (m : Machine S) (laws : Laws m) (state : P → S) (now wakes : P → ℕ) (t : ℕ) (p q : P) (n : ℕ) → state q ≡ glide m (glided m state now wakes t p) t n →
-    (length (m.drives (state q)) ≡ length (m.drives (state p))) × (length (m.contacts (state q)) ≡ length (m.contacts (state p)))
-went_room m laws state now wakes t p q n is = (
-  ap (λ s. length (m.drives s)) is ∙ glide_pins m laws (glided m state now wakes t p) t n ∙ glide_pins m laws (state p) (now p) (t - now p),
-  ap (λ s. length (m.contacts s)) is ∙ glide_ports m laws (glided m state now wakes t p) t n ∙ glide_ports m laws (state p) (now p) (t - now p),
-)
-
--- what nets that were told what the parts have, those of part `who` from a place on, have of it, which was p and went on to be q
-pub record Placed {S P : Type 0} (m : Machine S) (w : Wiring) (state : P → S) (now wakes : P → ℕ) (t who first : ℕ) (parts : List P) (p q : P) (c : Circuit) : Type 0 where
-  pub there : slice_get (slice_set parts who q) who ≡ Some q
-  pub fits : Fits m w (map state (slice_set parts who q))
-  pub place_after : first ≡ length (drives_of m (take who (map state (slice_set parts who q))))
-  pub drives_were : m.drives (glided m state now wakes t p) ≡ m.drives (state p)
-  pub contacts_were : m.contacts (glided m state now wakes t p) ≡ m.contacts (state p)
-  pub has : m.drives (state q) ≡ m.drives (state p) → m.contacts (state q) ≡ m.contacts (state p) →
-      HasAt first (m.drives (state q)) c.drives × HasAt (length (contacts_of m (take who (map state (slice_set parts who q))))) (m.contacts (state q)) c.closed
-  pub keeps : HasAt first (m.drives (state q)) c.drives → HasAt (length (contacts_of m (take who (map state (slice_set parts who q))))) (m.contacts (state q)) c.closed →
-      (m.drives (state q) ≡ m.drives (state p)) × (m.contacts (state q) ≡ m.contacts (state p))
-  pub others : (moves : ℕ → Bool) → ((j : ℕ) → moves j ≡ false → slice_get (m.drives (state q)) j ≡ slice_get (m.drives (glided m state now wakes t p)) j) →
-      (j : ℕ) → j < length (m.drives (state q)) → moves j ≡ false → slice_get c.drives (first + j) ≡ slice_get (m.drives (state q)) j
-  pub told : (new : Circuit) → Put first (length (m.drives (state q))) (m.drives (state q)) c.drives new.drives →
-      Put (length (contacts_of m (take who (map state (slice_set parts who q))))) (length (m.contacts (state q))) (m.contacts (state q)) c.closed new.closed → IsTold m (map state (slice_set parts who q)) new
-
-pub placed : {S P : Type 0} (m : Machine S) (laws : Laws m) (w : Wiring) (state : P → S) (now wakes : P → ℕ) (t n who first : ℕ) (parts : List P) (p q : P) (c : Circuit) → slice_get parts who ≡ Some p →
-    m.valid (state p) (now p) ≡ true → IsQuiet m (state p) (now p) (t - now p) → state q ≡ glide m (glided m state now wakes t p) t n → first ≡ slice_index w.first_pin who → Fits m w (map state parts) → IsTold m (map state parts) c →
-    Placed m w state now wakes t who first parts p q c
-placed m laws w state now wakes t n who first parts p q c here valid quiet is at fits told =
-    let room = went_room m laws state now wakes t p q n is in
-    let within = slice_get_within parts who p here in
-    let long : length (map state parts) ≡ length parts = simp length-map refl in
-    let long_after : length (map state (slice_set parts who q)) ≡ length parts = simp length-map (length-set parts who q) in
-    let place = at ∙ fits.places who (omega (arith, long, within)) in
-    let fits_after = fits_set m w state parts who p q here room fits in
-    record {
-      there = get_set_same parts who q within;
-      fits = fits_after;
-      place_after = at ∙ fits_after.places who (omega (arith, long_after, within));
-      drives_were = glide_drives m laws (state p) (now p) (t - now p) valid quiet;
-      contacts_were = glide_contacts m laws (state p) (now p) (t - now p) valid quiet;
-      has = still_told m state parts who p q c c here told room.0 room.1 first place;
-      keeps = told_still m state parts who p q c c here told room.0 room.1 first place;
-      others = λ moves same. others_told m state parts who p q c c here told room.0 room.1 first place moves (turned_others m laws state now wakes t p q moves valid quiet same);
-      told = λ new. told_more m state parts who p q c new here told room.0 room.1 first place;
-    }
+-- a part that went on, with as many pins and contacts, in place of what it was
+pub went_replaces : {S P : Type 0} (m : Machine S) (laws : Laws m) (w : Wiring) (state : P → S) (now wakes : P → ℕ) (t n who : ℕ) (parts : List P) (c : Circuit) (p q : P) → slice_get parts who ≡ Some p →
+    Fits m w (map state parts) → IsTold m (map state parts) c → state q ≡ glide m (glided m state now wakes t p) t n → Replaced m w state who parts (slice_set parts who q) c p q
+went_replaces m laws w state now wakes t n who parts c p q here fits told is = record {
+  was = here;
+  new_is = refl;
+  pins = ap (λ s. length (m.drives s)) is ∙ glide_pins m laws (glided m state now wakes t p) t n ∙ glide_pins m laws (state p) (now p) (t - now p);
+  ports = ap (λ s. length (m.contacts s)) is ∙ glide_ports m laws (glided m state now wakes t p) t n ∙ glide_ports m laws (state p) (now p) (t - now p);
+  fits = fits;
+  told = told;
+}
 
 module _ {S P : Type 0} (m : Machine S) (laws : Laws m) (w : Wiring) (state : P → S) (now wakes : P → ℕ) (inputs : List Input)
     (t u : ℕ) (parts : List P) (kept : Kept) (lags : Lags m w state now wakes t parts kept) (fresh : kept.stale ≡ false) (after : 0 < t) (order : t ≤ u)
@@ -383,33 +350,40 @@ module _ {S P : Type 0} (m : Machine S) (laws : Laws m) (w : Wiring) (state : P 
     pub bytes_are : bytes m w inputs (Ts m laws w state now wakes t parts) t (u - t) ≡ bs
 
   -- where a part was found that goes on alone up to a limit, and it did
-  pub alone_goes : (t u limit : ℕ) (parts new : List P) (kept : Kept) (after : List (Option ℕ)) (changed : Bool) (steps more who : ℕ) (p q : P) (d : Option ℕ) (seen : Seen) →
-      seen ≡ retold kept.seen seen.circuit.drives seen.circuit.closed → IsTold m (map state new) seen.circuit →
-      Lags m w state now wakes t parts kept → kept.stale ≡ false → 0 < t → AreBehind inputs kept.input t → u ≤ limit → limit ≤ MOST_CYCLES → IsAlone inputs kept.dues kept.input who t limit →
-      WentAlone m state now wakes who t u parts new kept.dues after changed steps more p q d →
-      Goes t u parts new kept (record { input = kept.input; stale = changed; dues = after; seen = seen; answers = kept.answers }) steps more (sent m (glided m state now wakes t p) t (u - t))
-  alone_goes t u limit parts new kept after changed steps more who p q d seen rest is_told lags fresh later behind within end alone went =
+  pub alone_goes : (moves : P → ℕ → Bool) (t limit : ℕ) (parts : List P) (kept : Kept) (changed : Bool) (steps more who : ℕ) (p q : P) (d : Option ℕ) (by : Went) (seen : Seen) →
+      seen ≡ retold kept.seen seen.circuit.drives seen.circuit.closed → IsTold m (map state (slice_set parts who q)) seen.circuit →
+      Lags m w state now wakes t parts kept → kept.stale ≡ false → 0 < t → AreBehind inputs kept.input t → limit ≤ MOST_CYCLES → IsAlone inputs kept.dues kept.input who t limit →
+      slice_get parts who ≡ Some p → WentBy m state now wakes moves t limit p q d by steps more → Shifted m state p q changed →
+      Goes t by.to parts (slice_set parts who q) kept (record { input = kept.input; stale = changed; dues = slice_set kept.dues who d; seen = seen; answers = kept.answers }) steps more (sent m (glided m state now wakes t p) t (by.to - t))
+  alone_goes moves t limit parts kept changed steps more who p q d by seen rest is_told lags fresh later behind end alone here went shifted =
+      let u = by.to in
       let ds = seen.circuit.drives in
       let cs = seen.circuit.closed in
-      let told : IsTold m (map state new) (retold kept.seen ds cs).circuit = record { drives_are = is_told.drives_are; closed_are = is_told.closed_are } in
+      let told : IsTold m (map state (slice_set parts who q)) (retold kept.seen ds cs).circuit = record { drives_are = is_told.drives_are; closed_are = is_told.closed_are } in
       let further = went.further in
+      let within = went.within in
       let order : t ≤ u = omega (arith, further) in
       let last : u ≤ MOST_CYCLES = omega (arith, within, end) in
-      let quiet : (k : ℕ) (x : P) → k ≢ who → slice_get parts k ≡ Some x → IsQuiet m (state x) (now x) (u - now x) = λ k x other ex.
+      let due = λ (k : ℕ) (x : P) (ex : slice_get parts k ≡ Some x).
       let inside : k < length kept.dues = omega (arith, slice_get_within parts k x ex, lags.dues_long) in
-      let ed : slice_get kept.dues k ≡ Some (get_or kept.dues k None) = get_within kept.dues k None inside in
+      get_within kept.dues k None inside in
+      let quiet : (k : ℕ) (x : P) → k ≢ who → slice_get parts k ≡ Some x → IsQuiet m (state x) (now x) (u - now x) = λ k x other ex.
+      let ed = due k x ex in
       quiet_until m state now wakes t u (get_or kept.dues k None) x order last (lags.may k x (get_or kept.dues k None) ex ed) (λ v e l. let far = alone.others k v other (ed ∙ ap Some e) in omega (arith, far, within)) in
       let silent : (v k : ℕ) → t ≤ v → v < u → input_at inputs v k ≡ None = λ v k from before. alone.silent v k from (omega (arith, before, within)) in
-      let goes = λ (xs : List P) (es : List (Option ℕ)) (s : Seen). Goes t u parts xs kept (record { input = kept.input; stale = changed; dues = es; seen = s; answers = kept.answers }) steps more (sent m (glided m state now wakes t p) t (u - t)) in
-      let here : goes (slice_set parts who q) (slice_set kept.dues who d) (retold kept.seen ds cs) = record {
-        lags = alone_lags m laws w state now wakes inputs t u parts kept lags fresh later order who p q went.here quiet silent went.same went.state_is went.now_is went.woken_is changed d ds cs (subst (λ (xs : List P). IsTold m (map state xs) (retold kept.seen ds cs).circuit) went.new_is told) went.first went.drives went.contacts;
+      let lagged = (lags.may who p (get_or kept.dues who None) here (due who p here)).quiet in
+      let drives_were = glide_drives m laws (state p) (now p) (t - now p) (lags.valid who p here) lagged in
+      let contacts_were = glide_contacts m laws (state p) (now p) (t - now p) (lags.valid who p here) lagged in
+      let drives = λ (none : changed ≡ false). (shifted.same none).0 ∙ sym drives_were in
+      let contacts = λ (none : changed ≡ false). (shifted.same none).1 ∙ sym contacts_were in
+      subst (λ (s : Seen). Goes t u parts (slice_set parts who q) kept (record { input = kept.input; stale = changed; dues = slice_set kept.dues who d; seen = s; answers = kept.answers }) steps more (sent m (glided m state now wakes t p) t (u - t))) (sym rest)
+      (record {
+        lags = alone_lags m laws w state now wakes inputs t u parts kept lags fresh later order who p q here quiet silent went.same went.state_is went.now_is went.woken_is changed d ds cs told went.first drives contacts;
         behind = behind_between inputs kept.input t u limit order within behind alone.behind;
-        leg = alone_leg m laws w state now wakes inputs t u parts kept lags fresh later order who p q went.here quiet silent went.same went.state_is went.now_is went.woken_is ds cs steps more went.steps_are;
-        steady = steady m laws w state now wakes inputs t u parts kept lags fresh later order who p q went.here quiet silent went.same went.state_is went.now_is went.woken_is;
-        tells = alone_tells m laws w state now wakes inputs t u parts kept lags fresh later order who p q went.here quiet silent went.same went.state_is went.now_is went.woken_is changed further went.drives went.contacts went.other;
-        row_none = alone_rows m laws w state now wakes inputs t u parts kept lags fresh later order who p q went.here quiet silent went.same went.state_is went.now_is went.woken_is;
-        bytes_are = alone_bytes m laws w state now wakes inputs t u parts kept lags fresh later order who p q went.here quiet silent went.same went.state_is went.now_is went.woken_is;
-      } in
-      subst (λ (xs : List P). goes xs after seen) (sym went.new_is)
-      (subst (λ (es : List (Option ℕ)). goes (slice_set parts who q) es seen) (sym went.dues_are)
-      (subst (λ (s : Seen). goes (slice_set parts who q) (slice_set kept.dues who d) s) (sym rest) here))
+        leg = alone_leg m laws w state now wakes inputs t u parts kept lags fresh later order who p q here quiet silent went.same went.state_is went.now_is went.woken_is ds cs steps more went.steps_are;
+        steady = steady m laws w state now wakes inputs t u parts kept lags fresh later order who p q here quiet silent went.same went.state_is went.now_is went.woken_is;
+        tells = alone_tells m laws w state now wakes inputs t u parts kept lags fresh later order who p q here quiet silent went.same went.state_is went.now_is went.woken_is changed further drives contacts
+            (λ one same still. shifted.other one (same ∙ drives_were) (still ∙ contacts_were));
+        row_none = alone_rows m laws w state now wakes inputs t u parts kept lags fresh later order who p q here quiet silent went.same went.state_is went.now_is went.woken_is;
+        bytes_are = alone_bytes m laws w state now wakes inputs t u parts kept lags fresh later order who p q here quiet silent went.same went.state_is went.now_is went.woken_is;
+      })

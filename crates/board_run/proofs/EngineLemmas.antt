@@ -10,8 +10,17 @@ use Rattle.sim_base.specs.declared.wiring.Input.{Input}
 use Rattle.part_law.specs.Machine.{Laws}
 use Rattle.part_law.specs.declared.part.Part.{Ghosts}
 use Rattle.board_run.specs.Changes.{LastTells}
-use Rattle.board_run.specs.Seen.{shown_at}
-use Rattle.board_run.specs.Engine.{kept_of, states_of, rows_to, bytes_to, IsNext, Watches, MayRun, WentOn, Rests, Settled, Showed}
+use Rattle.std.specs.Prelude.{slice_get, slice_index, Option, Some}
+use Rattle.board_model.specs.Board.{input_at}
+use Rattle.board_model.proofs.Lists.{some_same}
+use Rattle.net_resolve.specs.Circuit.{Circuit}
+use Rattle.board_run.specs.declared.part_set.PartSet.{PartSet}
+use Rattle.board_run.specs.declared.turn.Woken.{Woken}
+use Rattle.board_run.specs.Parts.{has_part}
+use Rattle.board_run.specs.Lagging.{to_wake, Replaced}
+use Rattle.board_run.specs.Seen.{Suits, levels_on, shown_at}
+use Rattle.board_run.specs.Engine.{kept_of, given, states_of, rows_to, bytes_to, IsNext, Watches, MayRun, MayTurnPart, TurnedAt, MayTell, WentOn, Rests, Settled, Showed}
+use Rattle.board_run.proofs.TurnLemmas.{turned_room, turned_still, turned_others, Placed, placed}
 use Rattle.board_run.specs.declared.engine.Engine.{Engine}
 use Rattle.board_run.proofs.HandLemmas.{handed_nothing, handed_then, stops_more}
 use Rattle.board_run.proofs.ShowLemmas.{none_handed}
@@ -29,6 +38,42 @@ module _ {P : Type 0} (part : Ghosts P) (laws : Laws part.machine) where
     leg = leg_none part.machine laws e.wiring part.state part.now part.wake_count e.inputs e.cycle steps e.parts e.reading;
     tells = λ (less : e.cycle < e.cycle). absurd (omega arith);
   }
+
+  -- part i after its turn in place of what it was
+  pub turn_replaces : (old new : Engine P) (i place : ℕ) (may_hear : Bool) (differ : PartSet) (woken : Woken) (steps more : ℕ) → MayTurnPart part old i may_hear differ place → (at : TurnedAt part old new i differ place woken steps more) →
+      Replaced part.machine new.wiring part.state i old.parts new.parts new.reading.circuit at.p at.q
+  turn_replaces old new i place may_hear differ woken steps more may at =
+      let room = turned_room part.machine laws part.state part.now part.wake_count old.cycle at.p at.q (to_wake at.d old.cycle (input_at (given old place) old.cycle i) (has_part differ i))
+      (levels_on part.machine old.wiring old.reading.circuit.levels i (part.state at.p)) (input_at (given old place) old.cycle i) at.byte woken.changed at.turn.turn in
+      subst (λ (e : Engine P). Replaced part.machine e.wiring part.state i old.parts e.parts e.reading.circuit at.p at.q) (sym at.same)
+      (record { was = at.was; new_is = refl; pins = room.0; ports = room.1; fits = may.fits; told = may.told })
+
+  -- and the nets may be told of it
+  pub turn_tells : (old new : Engine P) (i place : ℕ) (may_hear : Bool) (differ : PartSet) (woken : Woken) (steps more : ℕ) → MayTurnPart part old i may_hear differ place → TurnedAt part old new i differ place woken steps more → MayTell part new i woken.changed
+  turn_tells old new i place may_hear differ woken steps more may at =
+      let quiet = (may.may at.p at.d at.was at.due_was).quiet in
+      let valid = may.valid at.p at.was in
+      record {
+        before = old.parts;
+        p = at.p;
+        q = at.q;
+        replaced = turn_replaces old new i place may_hear differ woken steps more may at;
+        suits = subst (λ (e : Engine P). Suits e.wiring e.reading) (sym at.same) may.suits;
+        still = turned_still part.machine laws part.state part.now part.wake_count old.cycle at.p at.q (to_wake at.d old.cycle (input_at (given old place) old.cycle i) (has_part differ i))
+            (levels_on part.machine old.wiring old.reading.circuit.levels i (part.state at.p)) (input_at (given old place) old.cycle i) at.byte woken.changed valid quiet at.turn.turn;
+        others = λ some. turned_others part.machine laws part.state part.now part.wake_count old.cycle at.p at.q (part.moves at.q) valid quiet (at.turn.others some);
+      }
+
+  -- what nets have of a part that was replaced
+  pub told_place : (e : Engine P) (i first : ℕ) (nets : Circuit) (before : List P) (p q x : P) → Replaced part.machine e.wiring part.state i before e.parts e.reading.circuit p q → first ≡ slice_index e.wiring.first_pin i → nets ≡ e.reading.circuit → slice_get e.parts i ≡ Some x →
+      (q ≡ x) × Placed part.machine e.wiring part.state i first e.parts nets p x
+  told_place e i first nets before p q x was at is here =
+      let there = placed part.machine e.wiring part.state i first before e.parts e.reading.circuit p q was at in
+      let same : q ≡ x = some_same (sym there.there ∙ here) in (
+        same,
+        subst (λ (z : P). Placed part.machine e.wiring part.state i first e.parts nets p z) same
+            (subst (λ (n : Circuit). Placed part.machine e.wiring part.state i first e.parts n p q) (sym is) there),
+      )
 
   -- an engine of the same board
   same_board : (old mid : Engine P) → mid.wiring ≡ old.wiring → mid.inputs ≡ old.inputs → mid ≡ record mid { wiring = old.wiring; inputs = old.inputs }

@@ -1,6 +1,6 @@
 -- A part's turn is the step of the state that it stands for.
 use Rattle.std.proofs.Common.{◌≡◌, ◌≢◌, ℕ, ◌+◌, ◌-◌, ◌<◌, ◌≤◌, List, length, map, Bool, true, false, Option, None, Some, refl, ap, sym, ◌∙◌, arith, subst, zero, suc, [], ◌∷◌, inl, inr, ◌⊎◌, get_or, add-one, length-set}
-use Rattle.std.specs.Prelude.{◌||◌, not, if◌then◌else◌, slice_get, slice_set}
+use Rattle.std.specs.Prelude.{◌||◌, not, if◌then◌else◌, take, slice_get, slice_index, slice_set}
 use Rattle.std.specs.Option.{is_some}
 use Rattle.std.proofs.lemmas.Bool.Decides.{eqb_tells}
 use Rattle.sim_base.specs.declared.signal.Level.{Level}
@@ -9,7 +9,7 @@ use Rattle.sim_base.specs.declared.wiring.Wiring.{Wiring}
 use Rattle.sim_base.specs.declared.wiring.Input.{Input}
 use Rattle.part_law.specs.Machine.{Machine, Laws, IsQuiet, IsFirstDue, MayWake}
 use Rattle.part_law.proofs.MachineLemmas.{not_due_now, due_now, glide_holds, glide_pins, glide_ports, glide_drives, glide_contacts}
-use Rattle.board_model.specs.Board.{level_at, own_nets, input_at, part_step, steps_from}
+use Rattle.board_model.specs.Board.{drives_of, contacts_of, level_at, own_nets, input_at, part_step, steps_from}
 use Rattle.board_model.specs.Rows.{same_list, same_level}
 use Rattle.board_laws.specs.Alike.{Alike, SameShow}
 use Rattle.board_laws.specs.Active.{is_active, active_in, sum_below}
@@ -27,7 +27,8 @@ use Rattle.board_run.specs.declared.part_set.PartSet.{PartSet}
 use Rattle.board_run.specs.Parts.{has_part, AreNone}
 use Rattle.board_model.specs.Fits.{Fits}
 use Rattle.board_model.proofs.RoomLemmas.{SameRoom, fits_room}
-use Rattle.board_run.specs.Seen.{IsTold, levels_on}
+use Rattle.board_run.specs.Seen.{IsTold, HasAt, Put, levels_on}
+use Rattle.board_run.proofs.ReadLemmas.{told_more, still_told, told_still, others_told}
 use Rattle.net_resolve.specs.Circuit.{Circuit}
 use Rattle.board_run.specs.Lagging.{is_at, to_wake, glided, AreLate, MayTurn, MayTurnAt, turned, Awaits, HadTurn, Turns, AreDue, Replaced, TookTurn}
 
@@ -300,33 +301,37 @@ fits_set {S} {P} m w state parts i p q ep room fits = fits_room m w (map state p
               (ap (λ (s : S). length (m.drives s)) x_is, ap (λ (s : S). length (m.contacts s)) x_is)
         ]
 
--- a turn puts a part in place of another
-pub turn_replaces : {S P : Type 0} (m : Machine S) (laws : Laws m) (w : Wiring) (state : P → S) (now wakes : P → ℕ) (t i : ℕ) (parts : List P) (c : Circuit) (p q : P) (b : Bool) (own : List Level) (input byte : Option ℕ) (changed : Bool) →
-    slice_get parts i ≡ Some p → Fits m w (map state parts) → IsTold m (map state parts) c → turned m state now wakes b t own input p q byte changed → Replaced m w state i parts (slice_set parts i q) c p q
-turn_replaces m laws w state now wakes t i parts c p q b own input byte changed ep fits told turn =
-    let room = turned_room m laws state now wakes t p q b own input byte changed turn in
-    record { was = ep; new_is = refl; pins = room.0; ports = room.1; fits = fits; told = told }
+-- What nets have of part i, which was p and is q, and whose pins begin at a place: they were told what the parts before it was replaced show.
+pub record Placed {S P : Type 0} (m : Machine S) (w : Wiring) (state : P → S) (i first : ℕ) (new : List P) (c : Circuit) (p q : P) : Type 0 where
+  pub there : slice_get new i ≡ Some q
+  pub fits : Fits m w (map state new)
+  pub place : first ≡ length (drives_of m (take i (map state new)))
+  pub has : m.drives (state q) ≡ m.drives (state p) → m.contacts (state q) ≡ m.contacts (state p) →
+      HasAt first (m.drives (state q)) c.drives × HasAt (length (contacts_of m (take i (map state new)))) (m.contacts (state q)) c.closed
+  pub keeps : HasAt first (m.drives (state q)) c.drives → HasAt (length (contacts_of m (take i (map state new)))) (m.contacts (state q)) c.closed →
+      (m.drives (state q) ≡ m.drives (state p)) × (m.contacts (state q) ≡ m.contacts (state p))
+  pub others : (moves : ℕ → Bool) → ((j : ℕ) → moves j ≡ false → slice_get (m.drives (state q)) j ≡ slice_get (m.drives (state p)) j) →
+      (j : ℕ) → j < length (m.drives (state q)) → moves j ≡ false → slice_get c.drives (first + j) ≡ slice_get (m.drives (state q)) j
+  pub told : (after : Circuit) → Put first (length (m.drives (state q))) (m.drives (state q)) c.drives after.drives →
+      Put (length (contacts_of m (take i (map state new)))) (length (m.contacts (state q))) (m.contacts (state q)) c.closed after.closed → IsTold m (map state new) after
 
--- and tells what the nets may be told of it
-pub turn_tells : {S P : Type 0} (m : Machine S) (laws : Laws m) (w : Wiring) (state : P → S) (now wakes : P → ℕ) (t i : ℕ) (parts : List P) (c : Circuit) (p q : P) (b : Bool) (own : List Level) (input byte : Option ℕ) (changed : Bool) (moves : ℕ → Bool) →
-    slice_get parts i ≡ Some p → Fits m w (map state parts) → IsTold m (map state parts) c → m.valid (state p) (now p) ≡ true → IsQuiet m (state p) (now p) (t - now p) → turned m state now wakes b t own input p q byte changed →
-    (changed ≡ true → (j : ℕ) → moves j ≡ false → slice_get (m.drives (state q)) j ≡ slice_get (m.drives (glided m state now wakes t p)) j) →
-    Replaced m w state i parts (slice_set parts i q) c p q
-    × (changed ≡ false → (m.drives (state q) ≡ m.drives (state p)) × (m.contacts (state q) ≡ m.contacts (state p)))
-    × (changed ≡ true → (j : ℕ) → moves j ≡ false → slice_get (m.drives (state q)) j ≡ slice_get (m.drives (state p)) j)
-turn_tells m laws w state now wakes t i parts c p q b own input byte changed moves ep fits told valid quiet turn others = (
-  turn_replaces m laws w state now wakes t i parts c p q b own input byte changed ep fits told turn,
-  (λ none. turned_still m laws state now wakes t p q b own input byte changed valid quiet turn none),
-  (λ some. turned_others m laws state now wakes t p q moves valid quiet (others some)),
-)
-
--- what fits where a part was replaced
-pub replaced_fits : {S P : Type 0} (m : Machine S) (w : Wiring) (state : P → S) (i : ℕ) (old new : List P) (c : Circuit) (p q : P) → Replaced m w state i old new c p q → Fits m w (map state new)
-replaced_fits m w state i old new c p q h = subst (λ (l : List _). Fits m w (map state l)) (sym h.new_is) (fits_set m w state old i p q h.was (h.pins, h.ports) h.fits)
-
--- and the part in its place
-pub replaced_here : {S P : Type 0} (m : Machine S) (w : Wiring) (state : P → S) (i : ℕ) (old new : List P) (c : Circuit) (p q : P) → Replaced m w state i old new c p q → slice_get new i ≡ Some q
-replaced_here m w state i old new c p q h = ap (λ (l : List _). slice_get l i) h.new_is ∙ get_set_same old i q (slice_get_within old i p h.was)
+pub placed : {S P : Type 0} (m : Machine S) (w : Wiring) (state : P → S) (i first : ℕ) (old new : List P) (c : Circuit) (p q : P) → Replaced m w state i old new c p q → first ≡ slice_index w.first_pin i →
+    Placed m w state i first new c p q
+placed m w state i first old new c p q was at =
+    let within = slice_get_within old i p was.was in
+    let long : length (map state old) ≡ length old = simp length-map refl in
+    let long_after : length (map state (slice_set old i q)) ≡ length old = simp length-map (length-set old i q) in
+    let place = at ∙ was.fits.places i (omega (arith, long, within)) in
+    let fits_after = fits_set m w state old i p q was.was (was.pins, was.ports) was.fits in
+    subst (λ (l : List _). Placed m w state i first l c p q) (sym was.new_is) (record {
+      there = get_set_same old i q within;
+      fits = fits_after;
+      place = at ∙ fits_after.places i (omega (arith, long_after, within));
+      has = still_told m state old i p q c c was.was was.told was.pins was.ports first place;
+      keeps = told_still m state old i p q c c was.was was.told was.pins was.ports first place;
+      others = λ moves same. others_told m state old i p q c c was.was was.told was.pins was.ports first place moves same;
+      told = λ after. told_more m state old i p q c after was.was was.told was.pins was.ports first place;
+    })
 
 -- the due cycles of all parts, where one was renewed
 pub due_set : {S P : Type 0} (m : Machine S) (state : P → S) (now wakes : P → ℕ) (parts : List P) (dues : List (Option ℕ)) (i : ℕ) (q : P) (d : Option ℕ) →

@@ -1,24 +1,25 @@
 -- From where the engine of a board may go on, and what it did on its way. No public clause cites this.
-use Rattle.std.specs.Prelude.{◌≡◌, ◌≢◌, ◌⊎◌, ℕ, ◌+◌, ◌-◌, ◌<◌, ◌≤◌, ◌||◌, ◌==◌, List, length, map, take, drop, true, false, Option, None, Some, slice_get}
-use Rattle.std.specs.Option.{option_to_list}
+use Rattle.std.specs.Prelude.{[], ◌≡◌, ◌≢◌, ◌⊎◌, ℕ, ◌+◌, ◌-◌, ◌<◌, ◌≤◌, ◌||◌, ◌==◌, List, length, map, take, drop, Bool, true, false, if◌then◌else◌, Option, None, Some, slice_get, slice_set}
+use Rattle.std.specs.Option.{is_some}
+use Rattle.sim_base.specs.declared.signal.Level.{Level}
+use Rattle.sim_base.specs.declared.wiring.Input.{Input}
 use Rattle.sim_base.specs.Causes.{Rose}
-use Rattle.sim_base.specs.Rows.{Row, Handed, StopsWithin, IsBehind}
+use Rattle.sim_base.specs.Rows.{Row, Handed, Appends, StopsWithin, IsBehind}
 use Rattle.sim_base.specs.declared.bench.WriteEnd.{WriteEnd}
 use Rattle.sim_base.specs.declared.bench.WriteEnd.TheVariants as writes
 use Rattle.sim_base.specs.declared.limits.TheConstants.{MOST_CYCLES}
 use Rattle.sim_base.specs.declared.watcher.Watcher.{Ghosts as Watching}
-use Rattle.part_law.specs.Machine.{glide, dues, sent, IsSame, IsFirstDue}
+use Rattle.part_law.specs.Machine.{IsFirstDue}
 use Rattle.part_law.specs.declared.part.Part.{Ghosts}
-use Rattle.part_law.specs.declared.part.Went.{Went as PartWent}
 use Rattle.board_model.specs.Board.{input_at, bytes}
-use Rattle.board_model.specs.Rows.{rows}
+use Rattle.board_model.specs.Rows.{rows, row_if}
 use Rattle.board_model.specs.Fits.{Fits}
 use Rattle.board_laws.specs.Steady.{IsSteady}
 use Rattle.board_run.specs.Changes.{LastTells}
 use Rattle.board_run.specs.Upcoming.{AreBehind, IsInOrder}
-use Rattle.board_run.specs.Seen.{Suits, IsTold, levels_on, retold, shown_at}
+use Rattle.board_run.specs.Seen.{Suits, IsTold, IsRead, levels_on, retold, shown_at}
 use Rattle.board_run.specs.Parts.{has_part, AreNone}
-use Rattle.board_run.specs.Lagging.{glided, AreLate, MayTurnAt, AreDue, AllTurn, AreCounted}
+use Rattle.board_run.specs.Lagging.{glided, AreLate, MayTurnAt, to_wake, turned, OthersStay, Replaced, Shifted, TookTurn, AreDue, AllTurn, AreCounted}
 use Rattle.board_run.specs.Legs.{Kept, Lags, Leg, IsAlone}
 use Rattle.board_run.specs.declared.engine.Engine.{Engine}
 use Rattle.board_run.specs.declared.part_set.PartSet.{PartSet}
@@ -27,6 +28,10 @@ use Rattle.board_run.specs.declared.turn.Woken.{Woken}
 -- what it keeps beside the parts
 abbrev pub kept_of : {P : Type 0} → Engine P → Kept
 kept_of e = record { input = e.input; stale = e.stale; dues = e.dues; seen = e.reading; answers = e.answers }
+
+-- the script's values of its cycle, which end before a place
+abbrev pub given : {P : Type 0} → Engine P → ℕ → List Input
+given e place = take (place - e.input) (drop e.input e.inputs)
 
 -- u is the next cycle from the engine's on, not after n, in which something may happen
 pub record IsNext {P : Type 0} (e : Engine P) (n u : ℕ) : Type 0 where
@@ -83,6 +88,85 @@ module _ {P : Type 0} (part : Ghosts P) where
     pub differs : (k : ℕ) (p : P) → slice_get e.parts k ≡ Some p → has_part differ k ≡ true → 0 < e.cycle
         → part.machine.held (part.state p) ≢ levels_on part.machine e.wiring e.reading.circuit.levels k (part.state p)
 
+  -- the levels of a part's pins, which are the first of these
+  abbrev pub own_of : P → List Level → List Level
+  own_of p levels = take (length (part.machine.drives (part.state p))) levels
+
+  -- Part i may have its turn; it may hear its levels where one of them is not the one that it holds, and no value comes.
+  pub record MayTurnPart (e : Engine P) (i : ℕ) (may_hear : Bool) (differ : PartSet) (place : ℕ) : Type 0 where
+    pub end : e.cycle < MOST_CYCLES
+    pub here : i < length e.parts
+    pub few : length e.parts ≤ 64
+    pub may : MayTurnAt part.machine part.state part.now part.wake_count e.cycle e.parts e.dues i
+    pub valid : (p : P) → slice_get e.parts i ≡ Some p → part.machine.valid (part.state p) (part.now p) ≡ true
+    pub dues_long : length e.dues ≡ length e.parts
+    pub answers_long : length e.answers ≡ length e.parts
+    pub values : (e.input ≤ place) × (place ≤ length e.inputs)
+    pub fits : Fits part.machine e.wiring (map part.state e.parts)
+    pub suits : Suits e.wiring e.reading
+    pub told : IsTold part.machine (map part.state e.parts) e.reading.circuit
+    pub differs : (p : P) → slice_get e.parts i ≡ Some p → has_part differ i ≡ true → 0 < e.cycle
+        → part.machine.held (part.state p) ≢ levels_on part.machine e.wiring e.reading.circuit.levels i (part.state p)
+    pub hears : may_hear ≡ true → (has_part differ i ≡ true) × (input_at (given e place) e.cycle i ≡ None) × (slice_get e.answers i ≡ Some None)
+
+  -- A part that was p and due at d had its turn in cycle t, on these levels of its pins; it is q and due at e.
+  pub record TurnedTo (t : ℕ) (own : List Level) (input : Option ℕ) (differs : Bool) (p q : P) (d e byte : Option ℕ) (touched : Bool) (steps more : ℕ) : Type 0 where
+    pub turn : turned part.machine part.state part.now part.wake_count (to_wake d t input differs) t own input p q byte touched
+    pub first : IsFirstDue part.machine (part.state q) (part.now q) e
+    pub later : (u : ℕ) → e ≡ Some u → t < u
+    pub others : touched ≡ true → OthersStay part.machine part.state part.now part.wake_count part.moves t p q
+    pub steps_are : more ≡ steps + (if to_wake d t input differs then 1 else 0)
+
+  -- Part i had its turn, of which the nets were not told yet.
+  pub record TurnedAt (old new : Engine P) (i : ℕ) (differ : PartSet) (place : ℕ) (woken : Woken) (steps more : ℕ) : Type 0 where
+    pub p : P
+    pub q : P
+    pub d : Option ℕ
+    pub e : Option ℕ
+    pub byte : Option ℕ
+    pub was : slice_get old.parts i ≡ Some p
+    pub due_was : slice_get old.dues i ≡ Some d
+    pub same : new ≡ record old { parts = slice_set old.parts i q; dues = slice_set old.dues i e; answers = slice_set old.answers i byte }
+    pub sent_is : woken.sent ≡ is_some byte
+    pub turn : TurnedTo old.cycle (levels_on part.machine old.wiring old.reading.circuit.levels i (part.state p)) (input_at (given old place) old.cycle i) (has_part differ i) p q d e byte woken.changed steps more
+
+  -- A part of an engine is to be told to its nets: they were told what the parts before it show, and where it did not move it shows the same.
+  pub record MayTell (e : Engine P) (i : ℕ) (moved : Bool) : Type 0 where
+    pub before : List P
+    pub p : P
+    pub q : P
+    pub replaced : Replaced part.machine e.wiring part.state i before e.parts e.reading.circuit p q
+    pub suits : Suits e.wiring e.reading
+    pub still : moved ≡ false → (part.machine.drives (part.state q) ≡ part.machine.drives (part.state p)) × (part.machine.contacts (part.state q) ≡ part.machine.contacts (part.state p))
+    pub others : moved ≡ true → (j : ℕ) → part.moves q j ≡ false → slice_get (part.machine.drives (part.state q)) j ≡ slice_get (part.machine.drives (part.state p)) j
+
+  -- The nets were told of it.
+  pub record ToldOf (old new : Engine P) (i : ℕ) (changed : Bool) : Type 0 where
+    pub same : new ≡ record old { reading = new.reading }
+    pub rest : new.reading ≡ retold old.reading new.reading.circuit.drives new.reading.circuit.closed
+    pub fits : Fits part.machine old.wiring (map part.state old.parts)
+    pub told : IsTold part.machine (map part.state old.parts) new.reading.circuit
+    pub shifted : (before : List P) (p q : P) → Replaced part.machine old.wiring part.state i before old.parts old.reading.circuit p q → Shifted part.machine part.state p q changed
+
+  -- Part i had its turn, and the nets were told of it.
+  pub record TurnedPart (old new : Engine P) (i : ℕ) (differ : PartSet) (place : ℕ) (woken : Woken) (steps more : ℕ) : Type 0 where
+    pub p : P
+    pub q : P
+    pub d : Option ℕ
+    pub e : Option ℕ
+    pub byte : Option ℕ
+    pub was : slice_get old.parts i ≡ Some p
+    pub due_was : slice_get old.dues i ≡ Some d
+    pub same : new ≡ record old { parts = slice_set old.parts i q; dues = slice_set old.dues i e; answers = slice_set old.answers i byte; reading = new.reading }
+    pub sent_is : woken.sent ≡ is_some byte
+    pub rest : new.reading ≡ retold old.reading new.reading.circuit.drives new.reading.circuit.closed
+    pub fits : Fits part.machine old.wiring (map part.state (slice_set old.parts i q))
+    pub told : IsTold part.machine (map part.state (slice_set old.parts i q)) new.reading.circuit
+    pub took : TookTurn part.machine old.wiring part.state part.now part.wake_count old.reading.circuit.levels old.cycle i (input_at (given old place) old.cycle i) (has_part differ i) d p q byte woken.changed
+    pub first : IsFirstDue part.machine (part.state q) (part.now q) e
+    pub later : (u : ℕ) → e ≡ Some u → old.cycle < u
+    pub steps_are : more ≡ steps + (if to_wake d old.cycle (input_at (given old place) old.cycle i) (has_part differ i) then 1 else 0)
+
   -- The parts had their turn in the cycle; the script's values before a place were of it.
   pub record TurnedOn (old new : Engine P) (differ : PartSet) (place : ℕ) (woken : Woken) (steps more : ℕ) : Type 0 where
     pub same : new ≡ record old { parts = new.parts; dues = new.dues; answers = new.answers; reading = new.reading }
@@ -90,11 +174,11 @@ module _ {P : Type 0} (part : Ghosts P) where
     pub long : length new.parts ≡ length old.parts
     pub dues_long : length new.dues ≡ length old.dues
     pub answers_long : length new.answers ≡ length old.answers
-    pub turns : AllTurn part.machine old.wiring part.state part.now part.wake_count (take (place - old.input) (drop old.input old.inputs)) old.reading.circuit.levels differ old.cycle old.parts new.parts new.answers woken.changed
+    pub turns : AllTurn part.machine old.wiring part.state part.now part.wake_count (given old place) old.reading.circuit.levels differ old.cycle old.parts new.parts new.answers woken.changed
     pub told : IsTold part.machine (map part.state new.parts) new.reading.circuit
     pub due : AreDue part.machine part.state part.now part.wake_count new.parts new.dues
     pub silent : woken.sent ≡ false → AreNone new.answers
-    pub counted : AreCounted part.machine old.wiring part.state part.now part.wake_count (take (place - old.input) (drop old.input old.inputs)) old.reading.circuit.levels differ old.cycle old.parts steps more
+    pub counted : AreCounted part.machine old.wiring part.state part.now part.wake_count (given old place) old.reading.circuit.levels differ old.cycle old.parts steps more
 
   -- It went on as the board does.
   pub record WentOn (old new : Engine P) (steps more : ℕ) : Type 0 where
@@ -119,22 +203,6 @@ module _ {P : Type 0} (part : Ghosts P) where
         → (part.state q ≡ glided part.machine part.state part.now part.wake_count old.cycle p) × (part.now q ≡ old.cycle) × (part.wake_count q ≡ part.wake_count p)
     pub due : AreDue part.machine part.state part.now part.wake_count new.parts new.dues
 
-  -- a part that was p and lagged behind cycle t went on by itself, to a limit at most, is q and due at d
-  pub record WentBy (t limit : ℕ) (p q : P) (d : Option ℕ) (went : PartWent) (steps more : ℕ) : Type 0 where
-    pub further : t < went.to
-    pub within : went.to ≤ limit
-    pub now_is : part.now q ≡ went.to
-    pub state_is : part.state q ≡ glide part.machine (glided part.machine part.state part.now part.wake_count t p) t (went.to - t)
-    pub woken_is : part.wake_count q ≡ part.wake_count p + dues part.machine (glided part.machine part.state part.now part.wake_count t p) t (went.to - t)
-    pub steps_are : more ≡ steps + dues part.machine (glided part.machine part.state part.now part.wake_count t p) t (went.to - t)
-    pub same : IsSame part.machine (glided part.machine part.state part.now part.wake_count t p) t (went.to - t)
-    pub sent_is : sent part.machine (glided part.machine part.state part.now part.wake_count t p) t (went.to - t) ≡ option_to_list went.byte
-    pub drives : went.changed ≡ false → part.machine.drives (part.state q) ≡ part.machine.drives (glided part.machine part.state part.now part.wake_count t p)
-    pub contacts : went.changed ≡ false → part.machine.contacts (part.state q) ≡ part.machine.contacts (glided part.machine part.state part.now part.wake_count t p)
-    pub others : (pin : ℕ) → part.moves q pin ≡ false
-        → slice_get (part.machine.drives (part.state q)) pin ≡ slice_get (part.machine.drives (glided part.machine part.state part.now part.wake_count t p)) pin
-    pub first : IsFirstDue part.machine (part.state q) (part.now q) d
-
 -- It went on, and what the board shows meanwhile was handed out; or writing failed within that.
 pub record Showed {P W : Type 0} (part : Ghosts P) (watcher : Watching W) (end : WriteEnd) (old new : Engine P) (steps more : ℕ) (out after : W) : Type 0 where
   pub on : WentOn part old new steps more
@@ -142,4 +210,15 @@ pub record Showed {P W : Type 0} (part : Ghosts P) (watcher : Watching W) (end :
       × IsBehind watcher.last watcher.seen after new.cycle new.reading.circuit.levels
   pub failed : end ≡ writes.Failed → Rose (watcher.faults out) (watcher.faults after)
       × StopsWithin (watcher.stands out) (watcher.stopped after) (rows_to part old new.cycle) (bytes_to part old new.cycle)
+  pub place : watcher.place after ≡ watcher.place out
+
+-- The row of its cycle was handed out, if it has one, or writing failed within it; some parts have a pin whose level is another one than before.
+pub record ShowedCycle {P W : Type 0} (part : Ghosts P) (watcher : Watching W) (end : WriteEnd) (old new : Engine P) (differ : PartSet) (out after : W) : Type 0 where
+  pub same : Bool
+  pub rest : new ≡ record old { reading = new.reading }
+  pub read : IsRead part.machine old.wiring (map part.state old.parts) old.reading new.reading same differ
+  pub ok : end ≡ writes.Ok → Handed watcher.whole watcher.faults watcher.stands out after (row_if part.machine old.wiring (shown_at old.cycle old.reading) (map part.state old.parts) old.cycle) []
+  pub later : end ≡ writes.Ok → IsBehind watcher.last watcher.seen after (old.cycle + 1) new.reading.circuit.levels
+  pub failed : end ≡ writes.Failed → Rose (watcher.faults out) (watcher.faults after)
+      × Appends (watcher.stands out) (watcher.stopped after) (row_if part.machine old.wiring (shown_at old.cycle old.reading) (map part.state old.parts) old.cycle) []
   pub place : watcher.place after ≡ watcher.place out

@@ -1,8 +1,10 @@
 -- A board on its way whose parts lag behind: what holds at a cycle, and what a leg of the way does. No public clause cites this.
-use Rattle.std.specs.Prelude.{◌≡◌, ◌≢◌, ℕ, ◌+◌, ◌-◌, ◌<◌, ◌≤◌, List, length, map, Bool, true, false, Option, None, Some, slice_get, slice_set}
+use Rattle.std.specs.Prelude.{◌≡◌, ◌≢◌, ℕ, ◌+◌, ◌-◌, ◌<◌, ◌≤◌, List, length, map, Bool, true, false, Option, None, Some, slice_get}
 use Rattle.sim_base.specs.declared.wiring.Wiring.{Wiring}
 use Rattle.sim_base.specs.declared.wiring.Input.{Input}
-use Rattle.part_law.specs.Machine.{Machine, glide, dues, IsSame, IsFirstDue}
+use Rattle.std.specs.Option.{option_to_list}
+use Rattle.part_law.specs.Machine.{Machine, glide, dues, sent, IsSame, IsFirstDue}
+use Rattle.part_law.specs.declared.part.Went.{Went}
 use Rattle.board_model.specs.Board.{input_at, states}
 use Rattle.board_model.specs.Rows.{chip_drives_of, shown_before}
 use Rattle.board_model.specs.Fits.{Fits}
@@ -52,22 +54,20 @@ module _ {S P : Type 0} (m : Machine S) (w : Wiring) (state : P → S) (now wake
     pub woken : (k : ℕ) (p q : P) → slice_get old k ≡ Some p → slice_get new k ≡ Some q → wakes q ≡ wakes p + active_cycles m w inputs (map (glided m state now wakes t) old) t (u - t) k
     pub steps_are : more ≡ steps + active_pairs m w inputs (map (glided m state now wakes t) old) t (u - t)
 
-module _ {S P : Type 0} (m : Machine S) (state : P → S) (now wakes : P → ℕ) where
-  -- Part `who`, which was p, went on by itself from cycle t to cycle u and is q, due at d, and no other part did.
-  pub record WentAlone (who t u : ℕ) (old new : List P) (before after : List (Option ℕ)) (changed : Bool) (steps more : ℕ) (p q : P) (d : Option ℕ) : Type 0 where
-    pub here : slice_get old who ≡ Some p
-    pub new_is : new ≡ slice_set old who q
-    pub dues_are : after ≡ slice_set before who d
-    pub further : t < u
-    pub state_is : state q ≡ glide m (glided m state now wakes t p) t (u - t)
-    pub now_is : now q ≡ u
-    pub woken_is : wakes q ≡ wakes p + dues m (glided m state now wakes t p) t (u - t)
-    pub steps_are : more ≡ steps + dues m (glided m state now wakes t p) t (u - t)
-    pub same : IsSame m (glided m state now wakes t p) t (u - t)
-    pub first : IsFirstDue m (state q) (now q) d
-    pub drives : changed ≡ false → m.drives (state q) ≡ m.drives (glided m state now wakes t p)
-    pub contacts : changed ≡ false → m.contacts (state q) ≡ m.contacts (glided m state now wakes t p)
-    pub other : changed ≡ true → m.drives (state q) ≡ m.drives (glided m state now wakes t p) → m.contacts (state q) ≢ m.contacts (glided m state now wakes t p)
+-- A part that was p and lagged behind cycle t went on by itself, to a limit at most; it is q and due at d.
+pub record WentBy {S P : Type 0} (m : Machine S) (state : P → S) (now wakes : P → ℕ) (moves : P → ℕ → Bool) (t limit : ℕ) (p q : P) (d : Option ℕ) (went : Went) (steps more : ℕ) : Type 0 where
+  pub further : t < went.to
+  pub within : went.to ≤ limit
+  pub now_is : now q ≡ went.to
+  pub state_is : state q ≡ glide m (glided m state now wakes t p) t (went.to - t)
+  pub woken_is : wakes q ≡ wakes p + dues m (glided m state now wakes t p) t (went.to - t)
+  pub steps_are : more ≡ steps + dues m (glided m state now wakes t p) t (went.to - t)
+  pub same : IsSame m (glided m state now wakes t p) t (went.to - t)
+  pub sent_is : sent m (glided m state now wakes t p) t (went.to - t) ≡ option_to_list went.byte
+  pub drives : went.changed ≡ false → m.drives (state q) ≡ m.drives (glided m state now wakes t p)
+  pub contacts : went.changed ≡ false → m.contacts (state q) ≡ m.contacts (glided m state now wakes t p)
+  pub others : (pin : ℕ) → moves q pin ≡ false → slice_get (m.drives (state q)) pin ≡ slice_get (m.drives (glided m state now wakes t p)) pin
+  pub first : IsFirstDue m (state q) (now q) d
 
 -- up to this cycle no part but `who` is due and the script says nothing
 pub record IsAlone (inputs : List Input) (dues : List (Option ℕ)) (i who t limit : ℕ) : Type 0 where

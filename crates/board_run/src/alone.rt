@@ -2,7 +2,8 @@
 ghost use Rattle.std.specs.Prelude.{◌≡◌, ◌-◌, ◌<◌, ◌≤◌, true};
 ghost use Rattle.board_laws.specs.Steady.{IsSteady};
 ghost use Rattle.board_run.specs.Lagging.{MayTurn};
-ghost use Rattle.board_run.specs.Engine.{MayRun, MayStretch, WentBy, Watches, Showed, states_of};
+ghost use Rattle.board_run.specs.Legs.{WentBy};
+ghost use Rattle.board_run.specs.Engine.{MayRun, MayStretch, Watches, Showed, states_of};
 
 use crate::engine::Engine;
 use crate::hand::hand_byte;
@@ -23,7 +24,7 @@ fn go_alone<P: Part, L: Ledger>(
     requires end { limit ≤ MOST_CYCLES }
     requires may { MayTurn P.machine P.state P.now P.wake_count t due.old part.old }
     requires valid { P.machine.valid (P.state part.old) (P.now part.old) ≡ true }
-    ensures { WentBy P.Part t limit part.old part.new due.new result steps.old steps.new }
+    ensures { WentBy P.machine P.state P.now P.wake_count P.moves t limit part.old part.new due.new result steps.old steps.new }
 {
     part.settle(t);
     let went = part.go_on(limit, steps);
@@ -54,7 +55,7 @@ impl<P: Part> Engine<P> {
         let went = go_alone(self.parts.item_mut(i), &mut due, self.cycle, limit, steps);
         self.dues.set(who, due);
         let first = self.wiring.first_pin.as_slice()[i] as usize;
-        self.stale = self.reading.tell(went.changed, self.parts.as_slice(), i, first, &self.wiring);
+        self.stale = self.tell(went.changed, i, first);
         self.cycle = went.to;
         hand_byte(went.byte, out)
     }

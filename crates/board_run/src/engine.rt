@@ -1,13 +1,10 @@
 //! The engine of a board: it goes from one cycle in which something may happen to the next.
-ghost use Rattle.std.specs.Prelude.{◌≡◌, ◌+◌, ◌<◌, ◌≤◌, length};
-ghost use Rattle.board_run.specs.Engine.{MayRun, MayTurnOn, TurnedOn, Watches, Showed};
+ghost use Rattle.std.specs.Prelude.{◌≡◌, ◌+◌, ◌<◌, ◌≤◌};
+ghost use Rattle.board_run.specs.Engine.{MayRun, Watches, Showed};
 
 use crate::hand::{forget, hand_sent};
-use crate::part_set::PartSet;
 use crate::reading::Reading;
 use crate::script::end_of_cycle;
-use crate::show::show_cycle;
-use crate::turn::{Woken, wake_active};
 use event_queue::DueTree;
 use part_law::Part;
 use sim_base::{Input, List, MOST_CYCLES, Steps, Watcher, Wiring, WriteEnd};
@@ -91,14 +88,7 @@ impl<P: Part> Engine<P> {
         ensures showed { Showed P.Part W.Watcher result self.old self.new steps.old steps.new out.old out.new }
     {
         let after = self.cycle + 1;
-        let (shown, differ) = show_cycle(
-            self.stale,
-            &self.parts,
-            &self.wiring,
-            self.cycle,
-            &mut self.reading,
-            out,
-        );
+        let (shown, differ) = self.show(out);
         let end = end_of_cycle(self.inputs.as_slice(), self.input, self.cycle);
         let woken = self.turn(differ, end, steps);
         self.cycle = after;
@@ -111,27 +101,5 @@ impl<P: Part> Engine<P> {
                 WriteEnd::Failed
             }
         }
-    }
-
-    /// Gives the parts that may be active their turn on the levels that were read; the script's values before a place are
-    /// those of the cycle.
-    #[inline(always)]
-    fn turn<L: Ledger>(&mut self, differ: PartSet, end: usize, steps: &mut Steps<L>) -> Woken
-        requires may { MayTurnOn P.Part self.old differ }
-        requires values { (self.old.input ≤ end) × (end ≤ length self.old.inputs) }
-        ensures { TurnedOn P.Part self.old self.new differ end result steps.old steps.new }
-    {
-        let reading = &mut self.reading;
-        wake_active(
-            self.parts.as_mut_slice(),
-            &mut self.dues,
-            &self.wiring,
-            differ,
-            &self.inputs.as_slice()[self.input..end],
-            self.answers.as_mut_slice(),
-            self.cycle,
-            &mut reading.nets,
-            steps,
-        )
     }
 }

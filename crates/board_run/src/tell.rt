@@ -1,9 +1,11 @@
 //! The nets are told what parts drive and connect.
-ghost use Rattle.std.specs.Prelude.{◌≡◌, ◌≢◌, ℕ, ◌+◌, ◌^◌, ◌<◌, ◌≤◌, length, map, take, true, false, Some, slice_get};
+ghost use Rattle.std.specs.Prelude.{◌≡◌, ◌≢◌, ℕ, ◌+◌, ◌^◌, ◌<◌, ◌≤◌, length, map, take, true, false, Some, slice_get, slice_index};
 ghost use Rattle.part_law.specs.Spans.{IsIn};
 ghost use Rattle.board_model.specs.Board.{drives_of, contacts_of};
 ghost use Rattle.board_run.specs.Seen.{HasAt, Put};
+ghost use Rattle.board_run.specs.Engine.{MayTell, ToldOf};
 
+use crate::engine::Engine;
 use crate::gather::is_same_drive;
 use net_resolve::Nets;
 use part_law::{Part, Span};
@@ -147,42 +149,27 @@ fn tell_contacts<P: Part>(parts: &[P], i: usize, nets: &mut Nets) -> bool
     }
 }
 
-/// Tells what part `i` drives and connects, whose pins begin at a place, where its last wake may have changed it, and
-/// answers whether it did.
-#[inline(always)]
-pub(crate) fn tell<P: Part>(
-    moved: bool,
-    parts: &[P],
-    i: usize,
-    first: usize,
-    nets: &mut Nets,
-) -> bool
-    requires within { i < length parts.now }
-    requires first { first ≡ length (drives_of P.machine (take i (map P.state parts.now))) }
-    requires pins { length nets.old.net_of ≡ length (drives_of P.machine (map P.state parts.now)) }
-    requires contacts { length nets.old.contacts ≡ length (contacts_of P.machine (map P.state parts.now)) }
-    requires few { (length nets.old.net_of < 2 ^ 63) × (length nets.old.contacts < 2 ^ 63) }
-    requires drives_long { length nets.old.drives ≡ length nets.old.net_of }
-    requires closed_long { length nets.old.closed ≡ length nets.old.contacts }
-    requires still { (p : _) → slice_get parts.now i ≡ Some p → moved ≡ false → HasAt first (P.machine.drives (P.state p)) nets.old.drives
-        × HasAt (length (contacts_of P.machine (take i (map P.state parts.now)))) (P.machine.contacts (P.state p)) nets.old.closed }
-    requires others { (p : _) → slice_get parts.now i ≡ Some p → moved ≡ true → (j : ℕ) → j < length (P.machine.drives (P.state p)) → P.moves p j ≡ false
-        → slice_get nets.old.drives (first + j) ≡ slice_get (P.machine.drives (P.state p)) j }
-    ensures drives { (p : _) → slice_get parts.now i ≡ Some p → Put first (length (P.machine.drives (P.state p))) (P.machine.drives (P.state p)) nets.old.drives nets.new.drives }
-    ensures closed { (p : _) → slice_get parts.now i ≡ Some p → Put (length (contacts_of P.machine (take i (map P.state parts.now))))
-        (length (P.machine.contacts (P.state p))) (P.machine.contacts (P.state p)) nets.old.closed nets.new.closed }
-    ensures same { (p : _) → slice_get parts.now i ≡ Some p → result ≡ false → HasAt first (P.machine.drives (P.state p)) nets.old.drives
-        × HasAt (length (contacts_of P.machine (take i (map P.state parts.now)))) (P.machine.contacts (P.state p)) nets.old.closed }
-    ensures other { (p : _) → slice_get parts.now i ≡ Some p → result ≡ true → HasAt first (P.machine.drives (P.state p)) nets.old.drives
-        → HasAt (length (contacts_of P.machine (take i (map P.state parts.now)))) (P.machine.contacts (P.state p)) nets.old.closed → ⊥ }
-    ensures rest { nets.new ≡ record nets.old { drives = nets.new.drives; closed = nets.new.closed } }
-{
-    if moved {
-        let span = parts[i].moved();
-        let pins = set_pins(&parts[i], span, first, nets);
-        let contacts = tell_contacts(parts, i, nets);
-        pins | contacts
-    } else {
-        false
+impl<P: Part> Engine<P> {
+    /// Tells the nets what part `i`, whose pins begin at a place, drives and connects, where its last wake may have changed
+    /// it, and answers whether it did.
+    #[inline(always)]
+    pub(crate) fn tell(&mut self, moved: bool, i: usize, first: usize) -> bool
+        requires within { i < length self.old.parts }
+        requires first { first ≡ slice_index self.old.wiring.first_pin i }
+        requires may { MayTell P.Part self.old i moved }
+        ensures { ToldOf P.Part self.old self.new i result }
+    {
+        if moved {
+            let _net_of = self.wiring.net_of.as_slice(); // lists that are lent have lengths that numbers hold
+            let _contacts = self.wiring.contacts.as_slice();
+            let parts = self.parts.as_slice();
+            let reading = &mut self.reading;
+            let span = parts[i].moved();
+            let pins = set_pins(&parts[i], span, first, &mut reading.nets);
+            let contacts = tell_contacts(parts, i, &mut reading.nets);
+            pins | contacts
+        } else {
+            false
+        }
     }
 }

@@ -1,20 +1,18 @@
 //! A cycle in which only the active parts are woken.
-ghost use Rattle.std.specs.Prelude.{◌≡◌, ◌≢◌, ℕ, ◌+◌, ◌<◌, ◌≤◌, ◌||◌, Bool, List, [], length, map, take, Some, None, Option, is_some, true, false, if◌then◌else◌, slice_get, slice_set, slice_index};
+ghost use Rattle.std.specs.Prelude.{◌≡◌, ◌≢◌, ℕ, ◌+◌, ◌<◌, ◌≤◌, Bool, [], length, map};
+ghost use Rattle.std.specs.Prelude.{Some, None, true, false, if◌then◌else◌, slice_get, slice_index};
 ghost use Rattle.part_law.specs.Machine.{IsFirstDue, MayWake};
-ghost use Rattle.sim_base.specs.declared.wiring.Input.{Input};
 ghost use Rattle.board_model.specs.Board.{level_at, input_at};
-ghost use Rattle.board_model.specs.Fits.{Fits};
-ghost use Rattle.board_run.specs.Lagging.{is_at, to_wake, glided, AreLate, MayTurn, MayTurnAt, Wakes, turned, Turns, AllTurn, AreCounted, AreDue, Replaced, Shifted, TookTurn, OthersStay};
-ghost use Rattle.board_run.specs.Parts.{has_part, AreNone};
-ghost use Rattle.board_run.specs.Seen.{IsTold, levels_on};
+ghost use Rattle.board_run.specs.Lagging.{is_at, to_wake, glided, AreLate, MayTurn, Wakes, turned, OthersStay};
+ghost use Rattle.board_run.specs.Parts.{has_part};
+ghost use Rattle.board_run.specs.Engine.{own_of, MayTurnOn, TurnedOn, MayTurnPart, TurnedTo, TurnedAt, TurnedPart};
 
+use crate::engine::Engine;
 use crate::gather::{find_input, put_levels};
 use crate::part_set::PartSet;
-use crate::tell::tell;
 use event_queue::DueTree;
-use net_resolve::Nets;
 use part_law::Part;
-use sim_base::{Input, Level, MOST_CYCLES, Steps, Wiring};
+use sim_base::{Input, Level, MOST_CYCLES, Steps};
 use std::sync::ledger::Ledger;
 
 /// Whether a drive or a contact changed where parts were woken, and whether one sent a byte.
@@ -87,7 +85,8 @@ pub fn take_turn<P: Part, L: Ledger>(
     requires pins { length nets.now ≡ length (P.machine.drives (P.state part.old)) }
     requires room { length own.old ≡ length nets.now }
     requires differs { differs ≡ true → 0 < t → P.machine.held (P.state part.old) ≢ map (level_at levels.now) nets.now }
-    ensures turn { turned P.machine P.state P.now P.wake_count (to_wake due.old t input differs) t (map (level_at levels.now) nets.now) input part.old part.new result.0 result.1 }
+    ensures turn { turned P.machine P.state P.now P.wake_count (to_wake due.old t input differs)
+        t (map (level_at levels.now) nets.now) input part.old part.new result.0 result.1 }
     ensures first { IsFirstDue P.machine (P.state part.new) (P.now part.new) due.new }
     ensures later { (u : ℕ) → due.new ≡ Some u → t < u }
     ensures others { result.1 ≡ true → OthersStay P.machine P.state P.now P.wake_count P.moves t part.old part.new }
@@ -116,11 +115,7 @@ fn take_turn_on<P: Part, L: Ledger>(
     requires may { MayTurn P.machine P.state P.now P.wake_count t due.old part.old }
     requires pins { length own.now ≡ length (P.machine.drives (P.state part.old)) }
     requires differs { differs ≡ true → 0 < t → P.machine.held (P.state part.old) ≢ own.now }
-    ensures turn { turned P.machine P.state P.now P.wake_count (to_wake due.old t input differs) t own.now input part.old part.new result.0 result.1 }
-    ensures first { IsFirstDue P.machine (P.state part.new) (P.now part.new) due.new }
-    ensures later { (u : ℕ) → due.new ≡ Some u → t < u }
-    ensures others { result.1 ≡ true → OthersStay P.machine P.state P.now P.wake_count P.moves t part.old part.new }
-    ensures steps { steps.new ≡ steps.old + (if to_wake due.old t input differs then 1 else 0) }
+    ensures { TurnedTo P.Part t own.now input differs part.old part.new due.old due.new result.0 result.1 steps.old steps.new }
 {
     if is_to_wake(*due, t, input, differs) {
         wake_late(part, due, own, input, t, steps)
@@ -129,8 +124,8 @@ fn take_turn_on<P: Part, L: Ledger>(
     }
 }
 
-/// Has a part hear its levels, of which one differs from the one that it holds, where it may and is never due; None where it
-/// has to take its turn.
+/// Has a part hear its levels, of which one differs from the one that it holds, where it may and is never due. It answers
+/// None where the part has to take its turn.
 #[inline(always)]
 fn hear_levels<P: Part, L: Ledger>(
     may_hear: bool,
@@ -143,14 +138,11 @@ fn hear_levels<P: Part, L: Ledger>(
     requires end { t < MOST_CYCLES }
     requires may { MayTurn P.machine P.state P.now P.wake_count t due part.old }
     requires pins { length (P.machine.drives (P.state part.old)) ≤ length levels.now }
-    requires differs { may_hear ≡ true → 0 < t → P.machine.held (P.state part.old) ≢ take (length (P.machine.drives (P.state part.old))) levels.now }
+    requires differs { may_hear ≡ true → 0 < t → P.machine.held (P.state part.old) ≢ own_of P.Part part.old levels.now }
     ensures stays { result ≡ None → (part.new ≡ part.old) × (steps.new ≡ steps.old) }
     ensures asked { (touched : Bool) → result ≡ Some touched → (may_hear ≡ true) × (due ≡ None) }
-    ensures wakes { (touched : Bool) → result ≡ Some touched
-        → Wakes P.machine P.state P.now P.wake_count t (take (length (P.machine.drives (P.state part.old))) levels.now) None part.old part.new None touched }
-    ensures first { (touched : Bool) → result ≡ Some touched → IsFirstDue P.machine (P.state part.new) (P.now part.new) None }
-    ensures others { (touched : Bool) → result ≡ Some touched → OthersStay P.machine P.state P.now P.wake_count P.moves t part.old part.new }
-    ensures steps { (touched : Bool) → result ≡ Some touched → steps.new ≡ steps.old + 1 }
+    ensures turned { (touched : Bool) → result ≡ Some touched
+        → TurnedTo P.Part t (own_of P.Part part.old levels.now) None true part.old part.new None None None touched steps.old steps.new }
 {
     if !may_hear || due.is_some() {
         return None;
@@ -160,51 +152,6 @@ fn hear_levels<P: Part, L: Ledger>(
         steps.tick();
     }
     heard
-}
-
-/// The turn of part `i`, with its due cycle and its byte where they are kept; of the levels the first are those of its pins.
-/// It may hear them where one of these differs from the one that it holds and no value comes, and does if it can. It answers
-/// whether a drive or a contact may have changed.
-#[inline(always)]
-fn take_turn_at<P: Part, L: Ledger>(
-    part: &mut P,
-    i: usize,
-    may_hear: bool,
-    dues: &mut DueTree,
-    levels: &[Level],
-    differs: bool,
-    given: &[Input],
-    answers: &mut [Option<u8>],
-    sent: &mut bool,
-    t: u32,
-    steps: &mut Steps<L>,
-) -> bool
-    requires end { t < MOST_CYCLES }
-    requires part { i < length dues.old }
-    requires few { length dues.old ≤ 64 }
-    requires answer { i < length answers.old }
-    requires may { (d : Option ℕ) → slice_get dues.old i ≡ Some d → MayTurn P.machine P.state P.now P.wake_count t d part.old }
-    requires pins { length (P.machine.drives (P.state part.old)) ≤ length levels.now }
-    requires differs { differs ≡ true → 0 < t → P.machine.held (P.state part.old) ≢ take (length (P.machine.drives (P.state part.old))) levels.now }
-    requires hears { may_hear ≡ true → (differs ≡ true) × (input_at given.now t i ≡ None) × (slice_get answers.old i ≡ Some None) }
-    ensures turn { (byte : Option ℕ) × (answers.new ≡ slice_set answers.old i byte) × (sent.new ≡ (sent.old || is_some byte))
-        × ((d : Option ℕ) → slice_get dues.old i ≡ Some d → turned P.machine P.state P.now P.wake_count (to_wake d t (input_at given.now t i) differs) t
-        (take (length (P.machine.drives (P.state part.old))) levels.now) (input_at given.now t i) part.old part.new byte result) }
-    ensures due { (d : Option ℕ) × (dues.new ≡ slice_set dues.old i d) × IsFirstDue P.machine (P.state part.new) (P.now part.new) d × ((u : ℕ) → d ≡ Some u → t < u) }
-    ensures others { result ≡ true → OthersStay P.machine P.state P.now P.wake_count P.moves t part.old part.new }
-    ensures steps { (d : Option ℕ) → slice_get dues.old i ≡ Some d → steps.new ≡ steps.old + (if to_wake d t (input_at given.now t i) differs then 1 else 0) }
-{
-    let mut due = dues.due(i as u8);
-    if let Some(touched) = hear_levels(may_hear, part, due, levels, t, steps) {
-        return touched;
-    }
-    let pins = part.pins() as usize;
-    let input = find_input(given, t, i);
-    let (byte, touched) = take_turn_on(part, &mut due, &levels[..pins], differs, input, t, steps);
-    dues.set(i as u8, due);
-    answers[i] = byte;
-    *sent = *sent | byte.is_some();
-    touched
 }
 
 /// These parts and those that the script addresses.
@@ -256,140 +203,105 @@ fn first_again(dues: &DueTree, t: u32, i: usize, before: usize, end: usize) -> u
     }
 }
 
-/// Tells the nets what part `i`, whose pins begin at a place, drives and connects after its turn, where that may be
-/// something else, and answers whether it is.
-#[inline(always)]
-fn tell_turn<P: Part>(
-    touched: bool,
-    parts: &[P],
-    i: usize,
-    first: usize,
-    wiring: &Wiring,
-    nets: &mut Nets,
-) -> bool
-    requires first { first ≡ slice_index wiring.now.first_pin i }
-    requires wired { (nets.old.net_of ≡ wiring.now.net_of) × (nets.old.contacts ≡ wiring.now.contacts) }
-    requires before { (old : List _) × (p q : _) × Replaced P.machine wiring.now P.state i old parts.now nets.old p q
-        × (touched ≡ false → (P.machine.drives (P.state q) ≡ P.machine.drives (P.state p)) × (P.machine.contacts (P.state q) ≡ P.machine.contacts (P.state p)))
-        × (touched ≡ true → (j : ℕ) → P.moves q j ≡ false → slice_get (P.machine.drives (P.state q)) j ≡ slice_get (P.machine.drives (P.state p)) j) }
-    ensures fits { Fits P.machine wiring.now (map P.state parts.now) }
-    ensures told { IsTold P.machine (map P.state parts.now) nets.new }
-    ensures rest { nets.new ≡ record nets.old { drives = nets.new.drives; closed = nets.new.closed } }
-    ensures shifted { (old : List _) (p q : _) → Replaced P.machine wiring.now P.state i old parts.now nets.old p q → Shifted P.machine P.state p q result }
-{
-    let _net_of = wiring.net_of.as_slice(); // lists that are lent have lengths that numbers hold
-    let _contacts = wiring.contacts.as_slice();
-    tell(touched, parts, i, first, nets)
-}
-
-/// The turn of part `i`, where it is active; the nets are told what it drives and connects then. It answers whether a drive
-/// or a contact changed.
-#[inline(always)]
-fn turn_part<P: Part, L: Ledger>(
-    parts: &mut [P],
-    i: usize,
-    may_hear: bool,
-    dues: &mut DueTree,
-    wiring: &Wiring,
-    differ: PartSet,
-    given: &[Input],
-    answers: &mut [Option<u8>],
-    sent: &mut bool,
-    t: u32,
-    nets: &mut Nets,
-    steps: &mut Steps<L>,
-) -> bool
-    requires end { t < MOST_CYCLES }
-    requires part { i < length parts.old }
-    requires dues { length dues.old ≡ length parts.old }
-    requires few { length parts.old ≤ 64 }
-    requires answers { length answers.old ≡ length parts.old }
-    requires fits { Fits P.machine wiring.now (map P.state parts.old) }
-    requires may { MayTurnAt P.machine P.state P.now P.wake_count t parts.old dues.old i }
-    requires valid { (p : _) → slice_get parts.old i ≡ Some p → P.machine.valid (P.state p) (P.now p) ≡ true }
-    requires differs { (p : _) → slice_get parts.old i ≡ Some p → has_part differ i ≡ true → 0 < t
-        → P.machine.held (P.state p) ≢ levels_on P.machine wiring.now nets.old.levels i (P.state p) }
-    requires hears { may_hear ≡ true → (has_part differ i ≡ true) × (input_at given.now t i ≡ None) × (slice_get answers.old i ≡ Some None) }
-    requires wired { (nets.old.net_of ≡ wiring.now.net_of) × (nets.old.contacts ≡ wiring.now.contacts) }
-    requires told { IsTold P.machine (map P.state parts.old) nets.old }
-    ensures part { (q : _) × (byte : Option ℕ) × (parts.new ≡ slice_set parts.old i q) × (answers.new ≡ slice_set answers.old i byte)
-        × (sent.new ≡ (sent.old || is_some byte))
-        × ((p : _) (d : Option ℕ) → slice_get parts.old i ≡ Some p → slice_get dues.old i ≡ Some d → TookTurn P.machine wiring.now P.state P.now P.wake_count
-        nets.old.levels t i (input_at given.now t i) (has_part differ i) d p q byte result) }
-    ensures due { (d : Option ℕ) × (dues.new ≡ slice_set dues.old i d) × ((q : _) → slice_get parts.new i ≡ Some q → IsFirstDue P.machine (P.state q) (P.now q) d)
-        × ((u : ℕ) → d ≡ Some u → t < u) }
-    ensures fits { Fits P.machine wiring.now (map P.state parts.new) }
-    ensures told { IsTold P.machine (map P.state parts.new) nets.new }
-    ensures rest { nets.new ≡ record nets.old { drives = nets.new.drives; closed = nets.new.closed } }
-    ensures steps { (d : Option ℕ) → slice_get dues.old i ≡ Some d
-        → steps.new ≡ steps.old + (if to_wake d t (input_at given.now t i) (has_part differ i) then 1 else 0) }
-{
-    let first = wiring.first_pin.as_slice()[i] as usize;
-    let touched = take_turn_at(
-        &mut parts[i],
-        i,
-        may_hear,
-        dues,
-        &nets.pin_levels()[first..],
-        differ.has(i),
-        given,
-        answers,
-        sent,
-        t,
-        steps,
-    );
-    tell_turn(touched, parts, i, first, wiring, nets)
-}
-
-/// Gives each part its turn that is due, addressed by the script, or on a net whose level changed: where it is active
-/// it is woken, and the nets are told what it drives and connects. It leaves the bytes that come in answers.
-#[inline]
-pub(crate) fn wake_active<P: Part, L: Ledger>(
-    parts: &mut [P],
-    dues: &mut DueTree,
-    wiring: &Wiring,
-    differ: PartSet,
-    given: &[Input],
-    answers: &mut [Option<u8>],
-    t: u32,
-    nets: &mut Nets,
-    steps: &mut Steps<L>,
-) -> Woken
-    requires end { t < MOST_CYCLES }
-    requires few { length parts.old ≤ 64 }
-    requires fits { Fits P.machine wiring.now (map P.state parts.old) }
-    requires may { (k : ℕ) → MayTurnAt P.machine P.state P.now P.wake_count t parts.old dues.old k }
-    requires valid { (k : ℕ) (p : _) → slice_get parts.old k ≡ Some p → P.machine.valid (P.state p) (P.now p) ≡ true }
-    requires dues { length dues.old ≡ length parts.old }
-    requires differ { (k : ℕ) (p : _) → slice_get parts.old k ≡ Some p → has_part differ k ≡ true → 0 < t
-        → P.machine.held (P.state p) ≢ levels_on P.machine wiring.now nets.old.levels k (P.state p) }
-    requires answers { length answers.old ≡ length parts.old }
-    requires none { AreNone answers.old }
-    requires wired { (nets.old.net_of ≡ wiring.now.net_of) × (nets.old.contacts ≡ wiring.now.contacts) }
-    requires told { IsTold P.machine (map P.state parts.old) nets.old }
-    ensures told { IsTold P.machine (map P.state parts.new) nets.new }
-    ensures rest { nets.new ≡ record nets.old { drives = nets.new.drives; closed = nets.new.closed } }
-    ensures turns { AllTurn P.machine wiring.now P.state P.now P.wake_count given.now nets.old.levels differ t parts.old parts.new answers.new result.changed }
-    ensures due { AreDue P.machine P.state P.now P.wake_count parts.new dues.new }
-    ensures dues { length dues.new ≡ length dues.old }
-    ensures silent { result.sent ≡ false → AreNone answers.new }
-    ensures steps { AreCounted P.machine wiring.now P.state P.now P.wake_count given.now nets.old.levels differ t parts.old steps.old steps.new }
-{
-    let marked = with_given(differ, given);
-    let silent = given.is_empty();
-    let mut sent = false;
-    let mut changed = false;
-    let count = parts.len();
-    let mut least = first_at(dues, t, count);
-    let mut i = marked.next(0, least);
-    while i < count {
-        let may_hear = silent && i < least;
-        let moved = turn_part(
-            parts, i, may_hear, dues, wiring, differ, given, answers, &mut sent, t, nets, steps,
-        );
-        changed = changed | moved;
-        least = first_again(dues, t, i, least, count);
-        i = marked.next(i + 1, least);
+impl<P: Part> Engine<P> {
+    /// Gives the parts that may be active their turn on the levels that were read: those that are due, addressed by the
+    /// script, or on a net whose level changed. Where one is active it is woken, and the nets are told what it drives and
+    /// connects. The script's values before a place are those of the cycle. It leaves the bytes in `answers`.
+    #[inline(always)]
+    pub(crate) fn turn<L: Ledger>(
+        &mut self,
+        differ: PartSet,
+        end: usize,
+        steps: &mut Steps<L>,
+    ) -> Woken
+        requires may { MayTurnOn P.Part self.old differ }
+        requires values { (self.old.input ≤ end) × (end ≤ length self.old.inputs) }
+        ensures { TurnedOn P.Part self.old self.new differ end result steps.old steps.new }
+    {
+        let given = &self.inputs.as_slice()[self.input..end];
+        let marked = with_given(differ, given);
+        let silent = given.is_empty();
+        let mut sent = false;
+        let mut changed = false;
+        let count = self.parts.len();
+        let mut least = first_at(&self.dues, self.cycle, count);
+        let mut i = marked.next(0, least);
+        while i < count {
+            let may_hear = silent && i < least;
+            let woken = self.turn_part(i, may_hear, differ, end, steps);
+            sent = sent | woken.sent;
+            changed = changed | woken.changed;
+            least = first_again(&self.dues, self.cycle, i, least, count);
+            i = marked.next(i + 1, least);
+        }
+        Woken { changed, sent }
     }
-    Woken { changed, sent }
+
+    /// The turn of part `i`, where it is active; the nets are told what it drives and connects then.
+    #[inline(always)]
+    fn turn_part<L: Ledger>(
+        &mut self,
+        i: usize,
+        may_hear: bool,
+        differ: PartSet,
+        end: usize,
+        steps: &mut Steps<L>,
+    ) -> Woken
+        requires { MayTurnPart P.Part self.old i may_hear differ end }
+        ensures { TurnedPart P.Part self.old self.new i differ end result steps.old steps.new }
+    {
+        let first = self.wiring.first_pin.as_slice()[i];
+        let woken = self.wake_at(i, first, may_hear, differ, end, steps);
+        let changed = self.tell(woken.changed, i, first as usize);
+        Woken {
+            changed,
+            sent: woken.sent,
+        }
+    }
+
+    /// The same, of which the nets are not told yet; the part's pins begin at a place. It hears their levels if it may and
+    /// can. The answer tells whether a drive or a contact may have changed.
+    #[inline(always)]
+    fn wake_at<L: Ledger>(
+        &mut self,
+        i: usize,
+        first: u16,
+        may_hear: bool,
+        differ: PartSet,
+        end: usize,
+        steps: &mut Steps<L>,
+    ) -> Woken
+        requires may { MayTurnPart P.Part self.old i may_hear differ end }
+        requires first { first ≡ slice_index self.old.wiring.first_pin i }
+        ensures { TurnedAt P.Part self.old self.new i differ end result steps.old steps.new }
+    {
+        let reading = &self.reading;
+        let levels = &reading.nets.pin_levels()[first as usize..];
+        let part = self.parts.item_mut(i);
+        let mut due = self.dues.due(i as u8);
+        if let Some(touched) = hear_levels(may_hear, part, due, levels, self.cycle, steps) {
+            return Woken {
+                changed: touched,
+                sent: false,
+            };
+        }
+        let pins = part.pins() as usize;
+        let input = find_input(&self.inputs.as_slice()[self.input..end], self.cycle, i);
+        let differs = differ.has(i);
+        let (byte, touched) = take_turn_on(
+            part,
+            &mut due,
+            &levels[..pins],
+            differs,
+            input,
+            self.cycle,
+            steps,
+        );
+        self.dues.set(i as u8, due);
+        *self.answers.item_mut(i) = byte;
+        Woken {
+            changed: touched,
+            sent: byte.is_some(),
+        }
+    }
 }

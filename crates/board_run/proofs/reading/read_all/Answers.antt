@@ -11,8 +11,8 @@ use Rattle.board_run.proofs.ReadLemmas.{none_changed}
 use Rattle.board_run.proofs.PartLemmas.{any_true, eqb_self, differ_is}
 use Rattle.board_run.proofs.reading.read_all.Goals as goal
 
-pub returns-clause-same : goal.returns-clause-same
-returns-clause-same g c =
+pub returns : goal.returns
+returns g c =
     let p = g.P.Part in
     let m = p.machine in
     let w = c.args.wiring.now in
@@ -32,22 +32,31 @@ returns-clause-same g c =
     let long : length old.levels ≡ length new.levels = suits.wired.levels_long ∙ sym nets ∙ sym c.levels-levels.ensures.nets ∙ ap length c.levels-levels.ensures.levels in
     let are : AreChanged old.levels new.levels new.changed = c.resolve_marked.ensures.changed in
     let none = none_changed old.levels new.levels new.changed c.is_empty-same_levels.result long are (c.is_empty-same_levels.ensures ∙ ap (λ (ns : List ℕ). length ns == 0) c.changed.ensures.changed) in
-    ap (λ (x : Bool). x && c.keep_chips-same_drives.result) none
-    ∙ ap (λ (l : List Level). same_list same_level old.levels l && c.keep_chips-same_drives.result) levels
-    ∙ ap (λ (x : Bool). same_list same_level old.levels (levels_of m w ss) && x) (c.keep_chips-same_drives.ensures.same ∙ ap (λ (chips : List Bool). same_list same_drive c.args.chip_drives.now (chip_drives_of m chips ss)) c.as_slice.ensures)
-
-pub returns-clause-differ : goal.returns-clause-differ
-returns-clause-differ g c =
-    let p = g.P.Part in
-    let m = p.machine in
-    let w = c.args.wiring.now in
-    let ss = map p.state c.args.parts.now in
-    let suits = c.requires.suits in
-    let new = c.resolve_marked.new.self in
-    let nets : new.nets ≡ w.nets = ap (λ (x : Circuit). x.nets) c.resolve_marked.ensures.levels ∙ suits.wired.nets in
+    let kept = c.keep_chips-same_drives in
+    let r = c.resolve_marked.ensures.levels in
     let later : length new.levels ≡ w.nets = sym (ap length c.levels-levels.ensures.levels) ∙ c.levels-levels.ensures.nets ∙ nets in
-    λ k s es. c.parts_on-differ.ensures k ∙ ap (list_any (λ (n : ℕ). has_part (get_or c.args.on.now n (record { bits = 0 })) k)) c.changed-2.ensures.changed ∙ differ_is m w ss c.requires.fits c.args.nets.now.levels new.levels new.changed c.args.on.now suits.wired.levels_long later suits.on_long suits.on_are
-    c.resolve_marked.ensures.changed (λ j n en. let there = c.changed-2.ensures.nets n (any_true (eqb n) c.changed-2.result.now j n (ap (λ (ns : List ℕ). slice_get ns j) c.changed-2.ensures.changed ∙ en) (eqb_self n n refl)) in omega (arith, there, nets)) (record { bits = 0 }) k s es
+    record {
+      suits = record {
+        wired = record { nets = nets; net_of = ap (λ (x : Circuit). x.net_of) r ∙ b; contacts = ap (λ (x : Circuit). x.contacts) r ∙ d; resistors = ap (λ (x : Circuit). x.resistors) r ∙ e; levels_long = later };
+        drives_long = ap (λ (x : Circuit). length x.drives) r ∙ suits.drives_long;
+        closed_long = ap (λ (x : Circuit). length x.closed) r ∙ suits.closed_long;
+        on_long = suits.on_long;
+        on_are = suits.on_are;
+      };
+      of = record {
+        drives_are = ap (λ (x : Circuit). x.drives) r ∙ ds;
+        closed_are = ap (λ (x : Circuit). x.closed) r ∙ cs;
+        levels_are = levels;
+        chips_are = kept.ensures.kept ∙ ap (λ (chips : List Bool). chip_drives_of m chips ss) c.as_slice.ensures;
+      };
+      changed = λ _. are.others;
+      same_is = ap (λ (x : Bool). x && kept.result) none
+          ∙ ap (λ (l : List Level). same_list same_level old.levels l && kept.result) levels
+          ∙ ap (λ (x : Bool). same_list same_level old.levels (levels_of m w ss) && x) (kept.ensures.same ∙ ap (λ (chips : List Bool). same_list same_drive c.args.chip_drives.now (chip_drives_of m chips ss)) c.as_slice.ensures);
+      differs = λ k s es. c.parts_on-differ.ensures k ∙ ap (list_any (λ (n : ℕ). has_part (get_or c.args.on.now n (record { bits = 0 })) k)) c.changed-2.ensures.changed
+          ∙ differ_is m w ss c.requires.fits old.levels new.levels new.changed c.args.on.now suits.wired.levels_long later suits.on_long suits.on_are are
+          (λ j n en. let there = c.changed-2.ensures.nets n (any_true (eqb n) c.changed-2.result.now j n (ap (λ (ns : List ℕ). slice_get ns j) c.changed-2.ensures.changed ∙ en) (eqb_self n n refl)) in omega (arith, there, nets)) (record { bits = 0 }) k s es;
+    }
 
 pub parts_on-differ-requires : goal.parts_on-differ-requires
 parts_on-differ-requires g c = λ j n en.
@@ -55,26 +64,6 @@ parts_on-differ-requires g c = λ j n en.
     let nets = ap (λ (x : Circuit). x.nets) c.resolve_marked.ensures.levels ∙ suits.wired.nets in
     let there = c.changed-2.ensures.nets n (any_true (eqb n) c.changed-2.result.now j n en (eqb_self n n refl)) in
     omega (arith, there, nets, suits.on_long)
-
-pub returns-clause-suits : goal.returns-clause-suits
-returns-clause-suits g c =
-    let suits = c.requires.suits in
-    let r = c.resolve_marked.ensures.levels in
-    let new = c.resolve_marked.new.self in
-    let nets : new.nets ≡ c.args.wiring.now.nets = ap (λ (x : Circuit). x.nets) r ∙ suits.wired.nets in
-    record {
-      wired = record {
-        nets = nets;
-        net_of = ap (λ (x : Circuit). x.net_of) r ∙ suits.wired.net_of;
-        contacts = ap (λ (x : Circuit). x.contacts) r ∙ suits.wired.contacts;
-        resistors = ap (λ (x : Circuit). x.resistors) r ∙ suits.wired.resistors;
-        levels_long = sym (ap length c.levels-levels.ensures.levels) ∙ c.levels-levels.ensures.nets ∙ nets;
-      };
-      drives_long = ap (λ (x : Circuit). length x.drives) r ∙ suits.drives_long;
-      closed_long = ap (λ (x : Circuit). length x.closed) r ∙ suits.closed_long;
-      on_long = suits.on_long;
-      on_are = suits.on_are;
-    }
 
 pub keep_chips-same_drives-requires-clause-firsts : goal.keep_chips-same_drives-requires-clause-firsts
 keep_chips-same_drives-requires-clause-firsts g c = ap length c.as_slice-2.ensures ∙ c.requires.fits.parts ∙ simp length-map refl

@@ -1,0 +1,37 @@
+use Rattle.std.proofs.Common.{◌≡◌, ◌≢◌, ◌+◌, ◌-◌, ◌<◌, ◌≤◌, ℕ, List, length, map, Some, true, false}
+use Rattle.std.specs.Prelude.{slice_get}
+use Rattle.sim_base.specs.declared.wiring.Input.{Input}
+use Rattle.board_laws.specs.Active.{sum_below, active_in}
+use Rattle.board_model.specs.Fits.{Fits}
+use Rattle.board_run.specs.Seen.{IsTold, retold}
+use Rattle.board_run.specs.Parts.{has_part, AreNone}
+use Rattle.board_run.specs.Lagging.{Awaits, Turns, AreDue, AreLate}
+use Rattle.board_run.specs.Engine.{given}
+use Rattle.board_run.proofs.TurnLemmas.{Begun}
+use Rattle.board_run.proofs.engine.Engine.turn.Given as goal
+
+-- the parts before i had their turn, and the others are as they were
+abbrev pub invariant-loop-i : goal.invariant-loop-i
+invariant-loop-i g l =
+    let p = g.P.Part in
+    let e = l.fn.self in
+    record {
+      same : l.self ≡ record l.fn.self { parts = l.self.parts; dues = l.self.dues; answers = l.self.answers; reading = l.self.reading };
+      rest : l.self.reading ≡ retold e.reading l.self.reading.circuit.drives l.self.reading.circuit.closed;
+      order : l.i ≤ l.least;
+      here : l.i < l.least → has_part l.marked l.i ≡ true;
+      within : l.least ≤ length e.parts;
+      begun : Begun e.parts e.dues l.i l.self.parts l.self.dues l.self.answers;
+      due : AreDue p.machine p.state p.now p.wake_count l.self.parts l.self.dues;
+      late : AreLate l.self.dues e.cycle;
+      passed : (k : ℕ) → k < l.least → slice_get l.self.dues k ≢ Some (Some e.cycle);
+      turns : (inputs : List Input) (ts : List p.State) → Awaits p.machine e.wiring p.state p.now (given e l.end) inputs e.reading.circuit.levels l.differ e.cycle e.parts ts →
+          Turns p.machine e.wiring inputs p.state p.now p.wake_count e.reading.circuit.levels e.cycle ts l.i e.parts l.self.parts l.self.answers l.changed
+          × (l.steps ≡ l.fn.steps + sum_below l.i (λ k. active_in p.machine e.wiring inputs e.reading.circuit.levels e.cycle k (slice_get ts k)));
+      fits : Fits p.machine e.wiring (map p.state l.self.parts);
+      told : IsTold p.machine (map p.state l.self.parts) l.self.reading.circuit;
+      silent : l.sent ≡ false → AreNone l.self.answers;
+    }
+
+abbrev pub decreases-loop-i : goal.decreases-loop-i
+decreases-loop-i g l = length l.fn.self.parts - l.i

@@ -1,0 +1,160 @@
+use Rattle.std.proofs.Common.{arith, ◌≡◌, ◌+◌, ◌-◌, ◌≤◌, ◌∙◌, ℕ, List, length, map, take, drop, refl, sym, ap, subst, Bool, true, Option, Some, None, rules, length-take-le}
+use Rattle.std.specs.Prelude.{slice_get, slice_set}
+use Rattle.event_queue.proofs.TreeLemmas.{set_same}
+use Rattle.sim_base.specs.declared.signal.Level.{Level}
+use Rattle.sim_base.specs.declared.wiring.Input.{Input}
+use Rattle.board_model.specs.Board.{input_at}
+use Rattle.board_model.proofs.Lists.{some_map}
+use Rattle.board_run.specs.Seen.{Seen, levels_on}
+use Rattle.board_run.specs.Parts.{has_part}
+use Rattle.board_run.specs.Lagging.{MayTurn}
+use Rattle.board_run.specs.Engine.{given, TurnedTo}
+use Rattle.board_run.specs.declared.engine.Engine.{Engine}
+use Rattle.board_run.proofs.StepLemmas.{fits_pins}
+use Rattle.board_run.proofs.GatherLemmas.{own_levels, length_rest}
+use Rattle.board_run.proofs.TurnLemmas.{some_there}
+use Rattle.board_run.proofs.engine.Engine.wake_at.Given.{Over}
+use Rattle.board_run.proofs.engine.Engine.wake_at.Goals.{After-item_mut-part}
+use Rattle.board_run.proofs.engine.Engine.wake_at.Goals as goal
+
+pub slice_bounds-levels-count : goal.slice_bounds-levels-count
+slice_bounds-levels-count g c =
+    let p = g.P.Part in
+    let e = c.args.self.now in
+    let may = c.requires.may in
+    let x = some_there e.parts c.args.i may.here in
+    let room = fits_pins p.machine e.wiring (map p.state e.parts) may.fits c.args.i (p.state x.0) (some_map p.state e.parts c.args.i x.0 x.1) in
+    omega (arith, room, c.requires.first, c.pin_levels.ensures.pins, ap (λ (v : Seen). length v.circuit.net_of) c.reading.view_is, ap length may.suits.wired.net_of)
+
+pub slice_bounds-levels-start : goal.slice_bounds-levels-start
+slice_bounds-levels-start g c = slice_bounds-levels-count g c
+
+-- the levels of its pins are the first of those from its first pin on
+own : (g : Over) (c : After-item_mut-part g) → take (length (g.P.Part.machine.drives (g.P.Part.state c.item_mut-part.result.now))) (take (length c.pin_levels.result.now - c.args.first) (drop c.args.first c.pin_levels.result.now))
+    ≡ levels_on g.P.Part.machine c.args.self.now.wiring c.args.self.now.reading.circuit.levels c.args.i (g.P.Part.state c.item_mut-part.result.now)
+own g c =
+    let p = g.P.Part in
+    let e = c.args.self.now in
+    let levels = ap (λ (v : Seen). v.circuit.levels) c.reading.view_is in
+    let net_of = ap (λ (v : Seen). v.circuit.net_of) c.reading.view_is ∙ c.requires.may.suits.wired.net_of in
+    own_levels p.machine e.wiring e.reading.circuit.levels c.args.i c.args.first (p.state c.item_mut-part.result.now) c.reading.inside.nets c.pin_levels.result.now c.pin_levels.ensures.levels levels net_of c.requires.first
+
+-- and there are as many
+room : (g : Over) (c : After-item_mut-part g) → length (g.P.Part.machine.drives (g.P.Part.state c.item_mut-part.result.now)) ≤ length (take (length c.pin_levels.result.now - c.args.first) (drop c.args.first c.pin_levels.result.now))
+room g c =
+    let p = g.P.Part in
+    let e = c.args.self.now in
+    let may = c.requires.may in
+    let x = c.item_mut-part.result.now in
+    let pins = fits_pins p.machine e.wiring (map p.state e.parts) may.fits c.args.i (p.state x) (some_map p.state e.parts c.args.i x c.item_mut-part.ensures.value) in
+    let rest = length_rest c.pin_levels.result.now c.args.first in
+    omega (arith, pins, rest, c.requires.first, c.pin_levels.ensures.pins, ap (λ (v : Seen). length v.circuit.net_of) c.reading.view_is, ap length may.suits.wired.net_of)
+
+pub hear_levels-requires : goal.hear_levels-requires
+hear_levels-requires g c =
+    let p = g.P.Part in
+    let may = c.requires.may in
+    let x = c.item_mut-part.result.now in
+    let is = c.item_mut-part.ensures.value in
+    let after = (goal.at.hear_levels-requires g c).After-item_mut-part in
+    record {
+      end = may.end;
+      may = may.may x c.due-due.result is c.due-due.ensures;
+      pins = room g after;
+      differs = λ hears later same. may.differs x is (may.hears hears).0 later (same ∙ own g after);
+    }
+
+pub returns-in-Some : goal.returns-in-Some
+returns-in-Some g c =
+    let p = g.P.Part in
+    let m = p.machine in
+    let e = c.args.self.now in
+    let i = c.args.i in
+    let x = c.item_mut-part.result.now in
+    let y = c.hear_levels.new.part in
+    let touched = c.in-Some.touched in
+    let asked = c.hear_levels.ensures.asked touched c.in-Some.is in
+    let hears = c.requires.may.hears asked.0 in
+    let due = c.due-due.ensures ∙ ap Some asked.1 in
+    let own_is = own g (goal.at.returns-in-Some g c).After-item_mut-part in
+    let old = c.args.steps.now in
+    let more = c.hear_levels.new.steps in
+    record {
+      p = x;
+      q = y;
+      d = None;
+      e = None;
+      byte = None;
+      was = c.item_mut-part.ensures.value;
+      due_was = due;
+      same = ap (λ (ds : List (Option ℕ)). let z : Engine g.row.P.Denot = record e { parts = slice_set e.parts i y; dues = ds } in z) (sym (set_same e.dues i None due))
+          ∙ ap (λ (bytes : List (Option ℕ)). let z : Engine g.row.P.Denot = record e { parts = slice_set e.parts i y; dues = slice_set e.dues i None; answers = bytes } in z) (sym (set_same e.answers i None hears.2));
+      sent_is = refl;
+      turn = subst (λ (v : Option ℕ). TurnedTo p e.cycle (levels_on m e.wiring e.reading.circuit.levels i (p.state x)) v (has_part c.args.differ i) x y None None None touched old more) (sym hears.1)
+          (subst (λ (b : Bool). TurnedTo p e.cycle (levels_on m e.wiring e.reading.circuit.levels i (p.state x)) None b x y None None None touched old more) (sym hears.0)
+          (subst (λ (l : List Level). TurnedTo p e.cycle l None true x y None None None touched old more) own_is (c.hear_levels.ensures.turned touched c.in-Some.is)));
+    }
+
+pub slice_bounds-take_turn_on-end : goal.slice_bounds-take_turn_on-end
+slice_bounds-take_turn_on-end g c =
+    let p = g.P.Part in
+    let stays = (c.in_default.ensures.stays refl).0 in
+    let count : c.pins-pins.result ≡ length (p.machine.drives (p.state c.item_mut-part.result.now)) = c.pins-pins.ensures ∙ ap (λ (z : g.row.P.Denot). length (p.machine.drives (p.state z))) stays in
+    let levels = take (length c.pin_levels.result.now - c.args.first) (drop c.args.first c.pin_levels.result.now) in
+    sym (length-take-le c.pins-pins.result levels (omega (arith, count, room g (goal.at.slice_bounds-take_turn_on-end g c).After-item_mut-part)))
+
+pub take_turn_on-byte-requires : goal.take_turn_on-byte-requires
+take_turn_on-byte-requires g c =
+    let p = g.P.Part in
+    let m = p.machine in
+    let may = c.requires.may in
+    let x = c.item_mut-part.result.now in
+    let y = c.hear_levels.new.part in
+    let is = c.item_mut-part.ensures.value in
+    let stays = (c.in_default.ensures.stays refl).0 in
+    let after = (goal.at.take_turn_on-byte-requires g c).After-item_mut-part in
+    let levels = take (length c.pin_levels.result.now - c.args.first) (drop c.args.first c.pin_levels.result.now) in
+    let count : c.pins-pins.result ≡ length (m.drives (p.state x)) = c.pins-pins.ensures ∙ ap (λ (z : g.row.P.Denot). length (m.drives (p.state z))) stays in
+    record {
+      end = may.end;
+      may = subst (MayTurn m p.state p.now p.wake_count c.args.self.now.cycle c.due-due.result) (sym stays) (may.may x c.due-due.result is c.due-due.ensures);
+      pins = length-take-le c.pins-pins.result levels (omega (arith, count, room g after)) ∙ c.pins-pins.ensures;
+      differs = λ differs later same. may.differs x is (sym c.has-differs.ensures ∙ differs) later
+          (ap (λ (z : g.row.P.Denot). m.held (p.state z)) (sym stays) ∙ same ∙ ap (λ (n : ℕ). take n levels) count ∙ own g after);
+    }
+
+pub returns : goal.returns
+returns g c =
+    let p = g.P.Part in
+    let m = p.machine in
+    let e = c.args.self.now in
+    let i = c.args.i in
+    let x = c.item_mut-part.result.now in
+    let y = c.hear_levels.new.part in
+    let turn = c.take_turn_on-byte in
+    let z = turn.new.part in
+    let byte = turn.result.0 in
+    let touched = turn.result.1 in
+    let d = c.due-due.result in
+    let stays = c.in_default.ensures.stays refl in
+    let own_is = own g (goal.at.returns g c).After-item_mut-part in
+    let levels = take (length c.pin_levels.result.now - c.args.first) (drop c.args.first c.pin_levels.result.now) in
+    let count : c.pins-pins.result ≡ length (m.drives (p.state x)) = c.pins-pins.ensures ∙ ap (λ (u : g.row.P.Denot). length (m.drives (p.state u))) stays.0 in
+    let input = c.find_input-input.ensures ∙ ap (λ (is : List Input). input_at (take (c.args.end - e.input) (drop e.input is)) e.cycle i) c.as_slice.ensures in
+    let here = levels_on m e.wiring e.reading.circuit.levels i (p.state x) in
+    record {
+      p = x;
+      q = z;
+      d = d;
+      e = turn.new.due;
+      byte = byte;
+      was = c.item_mut-part.ensures.value;
+      due_was = c.due-due.ensures;
+      same = ap (λ (ds : List (Option ℕ)). let a : Engine g.row.P.Denot = record e { parts = slice_set e.parts i z; dues = ds; answers = slice_set e.answers i byte } in a) c.set.ensures;
+      sent_is = search rules;
+      turn = subst (λ (n : ℕ). TurnedTo p e.cycle here (input_at (given e c.args.end) e.cycle i) (has_part c.args.differ i) x z d turn.new.due byte touched n turn.new.steps) stays.1
+          (subst (λ (u : g.row.P.Denot). TurnedTo p e.cycle here (input_at (given e c.args.end) e.cycle i) (has_part c.args.differ i) u z d turn.new.due byte touched c.hear_levels.new.steps turn.new.steps) stays.0
+          (subst (λ (b : Bool). TurnedTo p e.cycle here (input_at (given e c.args.end) e.cycle i) b y z d turn.new.due byte touched c.hear_levels.new.steps turn.new.steps) c.has-differs.ensures
+          (subst (λ (v : Option ℕ). TurnedTo p e.cycle here v c.has-differs.result y z d turn.new.due byte touched c.hear_levels.new.steps turn.new.steps) input
+          (subst (λ (l : List Level). TurnedTo p e.cycle l c.find_input-input.result c.has-differs.result y z d turn.new.due byte touched c.hear_levels.new.steps turn.new.steps) (ap (λ (n : ℕ). take n levels) count ∙ own_is) turn.ensures))));
+    }
