@@ -1,5 +1,5 @@
 -- A watcher is handed one part after another.
-use Rattle.std.proofs.Common.{◌≡◌, ℕ, zero, suc, ◌+◌, ◌<◌, List, [], ◌∷◌, ◌++◌, ◌∙◌, Option, None, Some, refl, ap, sym, subst, append_assoc, take, drop, length, add-one, Bool, true}
+use Rattle.std.proofs.Common.{◌≡◌, ℕ, zero, suc, ◌+◌, ◌<◌, ◌≤◌, List, [], ◌∷◌, ◌++◌, ◌∙◌, Option, None, Some, refl, ap, sym, subst, append_assoc, take, drop, length, add-one, Bool, true, arith}
 use Rattle.std.specs.Prelude.{slice_get}
 use Rattle.std.specs.Option.{option_to_list}
 use Rattle.sim_base.specs.Rows.{Row, Appends, StopsWithin, AreFronts, Handed}
@@ -128,6 +128,10 @@ bytes_stop whole faults stands stopped a b c xs i x h p e =
 pub one_byte : (b : Option ℕ) → options (b ∷ []) ≡ option_to_list b
 one_byte None = refl
 one_byte (Some x) = refl
+
+pub at_most_one : (b : Option ℕ) → length (options (b ∷ [])) ≤ 1
+at_most_one None = omega arith
+at_most_one (Some x) = omega arith
 
 -- a watcher that was handed nothing
 pub handed_nothing : {W : Type 0} (whole : W → Bool) (faults : W → ℕ) (stands : W → List Row → List ℕ → Type 0) (w : W) → whole w ≡ true → Handed whole faults stands w w [] []

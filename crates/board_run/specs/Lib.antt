@@ -1,6 +1,7 @@
 pub mod Parts
 pub mod BoardView
 pub mod Changes
+pub mod CutOff
 pub mod Seen
 pub mod Upcoming
 pub mod Lagging

@@ -30,7 +30,7 @@ pub(crate) struct Engine<P> {
 }
 
 impl<P: Part> Engine<P> {
-    /// Runs the cycles up to n - 1; its parts may lag behind at the end. It stops early where writing fails.
+    /// Runs the cycles up to n - 1; its parts may lag behind at the end. It ends with the first write that fails.
     pub(crate) fn run<W: Watcher, L: Ledger>(
         &mut self,
         n: u32,
@@ -71,11 +71,13 @@ impl<P: Part> Engine<P> {
     {
         match self.find_alone(n) {
             Some((who, limit)) => self.stretch(who, limit, out, steps),
-            None => {
-                let end = self.event(out, steps);
-                self.skip(n);
-                end
-            }
+            None => match self.event(out, steps) {
+                WriteEnd::Ok => {
+                    self.skip(n);
+                    WriteEnd::Ok
+                }
+                WriteEnd::Failed => WriteEnd::Failed,
+            },
         }
     }
 

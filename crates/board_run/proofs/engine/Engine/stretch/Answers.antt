@@ -1,4 +1,4 @@
-use Rattle.std.proofs.Common.{◌≡◌, ◌+◌, ◌-◌, ◌<◌, ◌∙◌, ap, arith, sym, refl, subst, ℕ, List, [], ◌∷◌, Option, get_or, length-set}
+use Rattle.std.proofs.Common.{◌≡◌, ◌+◌, ◌-◌, ◌<◌, ◌∙◌, ap, arith, sym, refl, subst, ℕ, ◌≤◌, List, [], ◌∷◌, length, Option, get_or, length-set, inr}
 use Rattle.std.specs.Prelude.{slice_set}
 use Rattle.sim_base.specs.Rows.{Row, Handed, StopsWithin}
 use Rattle.part_law.specs.Machine.{sent}
@@ -10,7 +10,8 @@ use Rattle.board_run.specs.Engine.{kept_of, rows_to, Showed}
 use Rattle.board_run.specs.declared.engine.Engine.{Engine}
 use Rattle.board_run.proofs.AloneLemmas.{went_replaces, Goes, alone_goes}
 use Rattle.board_run.proofs.TurnLemmas.{turned_others}
-use Rattle.board_run.proofs.HandLemmas.{one_byte, stops_whole}
+use Rattle.board_run.proofs.HandLemmas.{one_byte, at_most_one, stops_whole}
+use Rattle.board_run.proofs.EngineLemmas.{fails_here}
 use Rattle.board_run.proofs.engine.Engine.stretch.Given.{Over}
 use Rattle.board_run.proofs.engine.Engine.stretch.Goals.{After-tell-self}
 use Rattle.board_run.proofs.engine.Engine.stretch.Goals as goal
@@ -98,8 +99,12 @@ returns g c =
               (omega (arith, far, before), subst (λ (v : Seen). o.seen hand.new.out v.circuit.levels) (sym c.tell-self.ensures.rest) (hand.ensures.seen is e.reading.circuit.levels was.1)),
         );
         failed = λ is.
-            let f = hand.ensures.failed is in
-            (f.0, subst (λ (bs : List ℕ). StopsWithin (o.stands c.args.out.now) (o.stopped hand.new.out) (rows_to p e w.result.to) bs) bytes (subst (λ (rs : List Row). StopsWithin (o.stands c.args.out.now) (o.stopped hand.new.out) rs (options (w.result.byte ∷ []))) (sym went.row_none) (stops_whole (o.stands c.args.out.now) (o.stopped hand.new.out) [] _ f.1)));
+            let f = hand.ensures.failed is in (
+              f.0,
+              fails_here p g.met.P.Part.laws o e w.result.to c.args.steps.now c.args.out.now hand.new.out c.requires.watches.whole w.ensures.further
+                  (subst (λ (bs : List ℕ). StopsWithin (o.stands c.args.out.now) (o.stopped hand.new.out) (rows_to p e w.result.to) bs) bytes (subst (λ (rs : List Row). StopsWithin (o.stands c.args.out.now) (o.stopped hand.new.out) rs (options (w.result.byte ∷ []))) (sym went.row_none) (stops_whole (o.stands c.args.out.now) (o.stopped hand.new.out) [] _ f.1)))
+                  (inr (went.row_none, subst (λ (bs : List ℕ). length bs ≤ 1) bytes (at_most_one w.result.byte))),
+            );
         place = hand.ensures.place;
       });
     }
