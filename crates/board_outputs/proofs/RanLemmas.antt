@@ -3,7 +3,7 @@ use Rattle.std.proofs.Common.{◌≡◌, ◌∙◌, ◌+◌, ℕ, Ok, IfSome}
 use Rattle.sim_base.specs.declared.bench.Port.TheVariants as ports
 use Rattle.sim_base.specs.Outside.{Outside, SamePorts, Files}
 use Rattle.outcome_model.specs.Stop.{Texts}
-use Rattle.outcome_model.specs.Outcome.{Outcome, Accepted, NoRequest, Stopped, ReadFailed, WriteFailed, OutOfMemory}
+use Rattle.outcome_model.specs.Outcome.{Outcome, Accepted, WriteFailed, OutOfMemory}
 use Rattle.outcome_model.specs.Work.{SaidNothing}
 use Rattle.outcome_model.specs.Happens.{Answer, Ends, Counts}
 use Rattle.outcome_model.proofs.ReadLemmas.{if_some}
@@ -24,9 +24,6 @@ module _ (answer : Answer) (t : Texts) (a m b : Outside) (reads : m.read_faults 
       },
     )) is,
   )
-  ran_ends NoRequest is ran = absurd ran
-  ran_ends (Stopped s) is ran = absurd ran
-  ran_ends (ReadFailed name) is ran = absurd ran
   ran_ends WriteFailed is ran = (
     rw (← same.faults ports.Wave, ← same.faults ports.Serial, ← same.faults ports.Report) ran.1,
     if_some a.files _ _ (λ (files : Files) (e : answer files (Ok t)). (
@@ -40,14 +37,13 @@ module _ (answer : Answer) (t : Texts) (a m b : Outside) (reads : m.read_faults 
     )) is,
   )
   ran_ends OutOfMemory is ran = λ p ne. rw ran ((same.written p, same.name p), same.opened p)
+  ran_ends _ is ran = absurd ran
 
   pub ran_said : (o : Outcome) → Ran o t m b → SaidNothing a b
   ran_said Accepted ran = (ran.0.0 ∙ same.written ports.Complaint, ran.0.1 ∙ same.faults ports.Complaint)
-  ran_said NoRequest ran = absurd ran
-  ran_said (Stopped s) ran = absurd ran
-  ran_said (ReadFailed name) ran = absurd ran
   ran_said WriteFailed ran = (ran.0.0 ∙ same.written ports.Complaint, ran.0.1 ∙ same.faults ports.Complaint)
   ran_said OutOfMemory ran = rw ran (same.written ports.Complaint, same.faults ports.Complaint)
+  ran_said _ ran = absurd ran
 
 -- the wakes of a run that wrote all are those of its texts
 pub ran_counts : (answer : Answer) (t : Texts) (o : Outcome) (a : Outside) (before after : ℕ) → IfSome a.files (λ (files : Files). answer files (Ok t)) → (o ≡ Accepted → after ≡ before + t.wakes) → Counts answer o a before after

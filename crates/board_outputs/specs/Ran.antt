@@ -5,7 +5,7 @@ use Rattle.sim_base.specs.declared.bench.WriteEnd.{WriteEnd}
 use Rattle.sim_base.specs.declared.bench.WriteEnd.TheVariants as writes
 use Rattle.sim_base.specs.Outside.{Outside, SameOthers, Opens}
 use Rattle.outcome_model.specs.Stop.{Texts}
-use Rattle.outcome_model.specs.Outcome.{Outcome, Accepted, NoRequest, Stopped, ReadFailed, WriteFailed, OutOfMemory, IsFaultless, Hold, Begin, OutputRose}
+use Rattle.outcome_model.specs.Outcome.{Outcome, Accepted, WriteFailed, OutOfMemory, IsFaultless, Hold, Begin, OutputRose}
 use Rattle.outcome_model.specs.Work.{SaidNothing}
 use Rattle.board_outputs.specs.Run.{Outputs, texts_for}
 
@@ -28,8 +28,6 @@ WritesUpToReport writes.Failed out wave bytes wakes a b = (report : List ℕ) �
 -- the writing of all texts by an outcome; where memory runs out nothing has happened
 abbrev pub Ran : Outcome → Texts → Outside → Outside → Type 0
 Ran Accepted texts a b = Writes writes.Ok texts a b
-Ran NoRequest texts a b = ⊥
-Ran (Stopped s) texts a b = ⊥
-Ran (ReadFailed name) texts a b = ⊥
 Ran WriteFailed texts a b = Writes writes.Failed texts a b
 Ran OutOfMemory texts a b = b ≡ a
+Ran _ texts a b = ⊥

@@ -6,7 +6,7 @@ use Rattle.sim_base.specs.declared.bench.Port.{Port}
 use Rattle.sim_base.specs.declared.bench.Port.TheVariants as ports
 use Rattle.sim_base.specs.Causes.{Rose}
 use Rattle.sim_base.specs.Outside.{Outside, SameOthers, SamePorts, Files, IsKept, IsNamed, is_openable}
-use Rattle.outcome_model.specs.Stop.{Stop, Missing, Refused, Output, Texts, report_alone, accepted}
+use Rattle.outcome_model.specs.Stop.{Stop, Missing, Output, Texts, report_alone, accepted}
 use Rattle.outcome_model.specs.Work.{Reading, Is, ReadStops, RanOn, IsOneReading}
 use Rattle.outcome_model.specs.Outcome.{Outcome, Accepted, NoRequest, Stopped, ReadFailed, WriteFailed, OutOfMemory, IsUntouched, IsOn, BeginsOn, Hold, Begin, OutputRose, status_of}
 use Rattle.outcome_model.specs.Promises.{IsOne, CountsWakes}
@@ -20,25 +20,19 @@ untouched_port p a b same = ((same.written p, same.name p), same.opened p)
 -- where a file that a request reads ends the work
 pub stopped_by : {X : Type 0} (answer : Answer) (reading : Reading X) → ((files : Files) (s : Stop) → reading files (Err s) → answer files (Err s)) →
     (o : Outcome) (a b : Outside) → ReadStops o reading a b → SamePorts a b → Ends answer o a b
-stopped_by answer reading is Accepted a b s same = absurd s
-stopped_by answer reading is NoRequest a b s same = absurd s
 stopped_by answer reading is (Stopped t) a b s same = (if_some a.files _ _ (λ (files : Files) (e : reading files (Err t)). is files t e) s, λ p ne. untouched_port p a b same)
 stopped_by answer reading is (ReadFailed n) a b s same = (
   if_some a.files _ _ (λ (files : Files) (e : reading (remove files n) (Err (Missing n))). is (remove files n) (Missing n) e) s.0,
   s.1,
   λ p ne. untouched_port p a b same,
 )
-stopped_by answer reading is WriteFailed a b s same = absurd s
 stopped_by answer reading is OutOfMemory a b s same = λ p ne. untouched_port p a b same
+stopped_by answer reading is _ a b s same = absurd s
 
 -- and then no wakes are counted
 pub stops_counts : {X : Type 0} (answer : Answer) (reading : Reading X) (o : Outcome) (a b : Outside) (before after : ℕ) → ReadStops o reading a b → Counts answer o a before after
 stops_counts answer reading Accepted a b before after s = absurd s
-stops_counts answer reading NoRequest a b before after s = λ e. absurd (cc)
-stops_counts answer reading (Stopped t) a b before after s = λ e. absurd (cc)
-stops_counts answer reading (ReadFailed n) a b before after s = λ e. absurd (cc)
-stops_counts answer reading WriteFailed a b before after s = λ e. absurd (cc)
-stops_counts answer reading OutOfMemory a b before after s = λ e. absurd (cc)
+stops_counts answer reading _ a b before after s = λ e. absurd (cc)
 
 -- the same of a request that is answered by the texts of what is read
 module _ {X : Type 0} (reading : Reading X) (texts : X → Texts) where
@@ -64,21 +58,13 @@ module _ {X : Type 0} (reading : Reading X) (texts : X → Texts) where
 -- a request whose texts are the acceptance alone counts no wakes
 pub accepted_counts : (answer : Answer) → ((files : Files) (t : Texts) → answer files (Ok t) → t ≡ accepted) → (o : Outcome) (a b : Outside) (n : ℕ) → Ends answer o a b → Counts answer o a n n
 accepted_counts answer only Accepted a b n ends = λ e. if_some a.files _ _ (λ (files : Files) (x : (t : Texts) × answer files (Ok t) × Hold t a b). (x.0, x.1, rw (only files x.0 x.1) (omega arith))) ends.1
-accepted_counts answer only NoRequest a b n ends = absurd ends
-accepted_counts answer only (Stopped s) a b n ends = λ e. absurd (cc)
-accepted_counts answer only (ReadFailed name) a b n ends = λ e. absurd (cc)
-accepted_counts answer only WriteFailed a b n ends = λ e. absurd (cc)
-accepted_counts answer only OutOfMemory a b n ends = λ e. absurd (cc)
+accepted_counts answer only _ a b n ends = λ e. absurd (cc)
 
 -- what counts wakes for a request counts them for what is asked
 pub counts_asked : {R : Type 0} (answers : R → Answer) (r : R) (o : Outcome) (a : Outside) (before after : ℕ) → Counts (answers r) o a before after → CountsWakes answers (status_of o) (Some r) a before after
 counts_asked answers r Accepted a before after counts = λ e files told. let x = rw told at (counts refl) in (r, x.0, refl, x.1, x.2)
-counts_asked answers r NoRequest a before after counts = λ e. absurd (cc)
-counts_asked answers r (Stopped (Refused n f)) a before after counts = λ e. absurd (cc)
 counts_asked answers r (Stopped (Missing n)) a before after counts = λ e. absurd (cc)
-counts_asked answers r (ReadFailed n) a before after counts = λ e. absurd (cc)
-counts_asked answers r WriteFailed a before after counts = λ e. absurd (cc)
-counts_asked answers r OutOfMemory a before after counts = λ e. absurd (cc)
+counts_asked answers r _ a before after counts = λ e. absurd (cc)
 
 -- a text on one port alone
 abbrev pub alone : Port → Output → Texts
@@ -90,33 +76,25 @@ alone ports.Complaint out = record { serial = []; wave = None; report = None; wa
 -- what holds of a port that can be opened, and of all others
 at_ports : (P : Port → Type 0) (p : Port) → is_openable p ≡ true → P p → ((q : Port) → q ≢ p → P q) → (q : Port) → P q
 at_ports P ports.Wave out x f ports.Wave = x
-at_ports P ports.Wave out x f ports.Serial = f ports.Serial (λ e. cc)
-at_ports P ports.Wave out x f ports.Report = f ports.Report (λ e. cc)
-at_ports P ports.Wave out x f ports.Complaint = f ports.Complaint (λ e. cc)
+at_ports P ports.Wave out x f q = f q (λ e. cc)
 at_ports P ports.Report out x f ports.Report = x
-at_ports P ports.Report out x f ports.Serial = f ports.Serial (λ e. cc)
-at_ports P ports.Report out x f ports.Wave = f ports.Wave (λ e. cc)
-at_ports P ports.Report out x f ports.Complaint = f ports.Complaint (λ e. cc)
-at_ports P ports.Serial out x f q = absurd (cc)
-at_ports P ports.Complaint out x f q = absurd (cc)
+at_ports P ports.Report out x f q = f q (λ e. cc)
+at_ports P _ out x f q = absurd (cc)
 
 holds_alone : (p : Port) (out : Output) (a b : Outside) → is_openable p ≡ true → IsOn (Some out) p a b → ((q : Port) → q ≢ p → IsKept q a b) → Hold (alone p out) a b
 holds_alone ports.Wave out a b can on others = record { serial = grows_same _ _ (others ports.Serial (λ e. cc)).0; wave = on; report = others ports.Report (λ e. cc) }
 holds_alone ports.Report out a b can on others = record { serial = grows_same _ _ (others ports.Serial (λ e. cc)).0; wave = others ports.Wave (λ e. cc); report = on }
-holds_alone ports.Serial out a b can on others = absurd (cc)
-holds_alone ports.Complaint out a b can on others = absurd (cc)
+holds_alone _ out a b can on others = absurd (cc)
 
 begins_alone : (p : Port) (out : Output) (a b : Outside) → is_openable p ≡ true → BeginsOn (Some out) p a b → ((q : Port) → q ≢ p → IsKept q a b) → Begin (alone p out) a b
 begins_alone ports.Wave out a b can on others = record { serial = ([], front_all [], grows_same _ _ (others ports.Serial (λ e. cc)).0); wave = on; report = others ports.Report (λ e. cc) }
 begins_alone ports.Report out a b can on others = record { serial = ([], front_all [], grows_same _ _ (others ports.Serial (λ e. cc)).0); wave = others ports.Wave (λ e. cc); report = on }
-begins_alone ports.Serial out a b can on others = absurd (cc)
-begins_alone ports.Complaint out a b can on others = absurd (cc)
+begins_alone _ out a b can on others = absurd (cc)
 
 output_rose : (p : Port) (a b : Outside) → is_openable p ≡ true → Rose (a.faults p) (b.faults p) → OutputRose a b
 output_rose ports.Wave a b out up = inl up
 output_rose ports.Report a b out up = inr (inr up)
-output_rose ports.Serial a b out up = absurd (cc)
-output_rose ports.Complaint a b out up = absurd (cc)
+output_rose _ a b out up = absurd (cc)
 
 -- what a port has become since the files were read, it has become since before
 module _ (a m b : Outside) (same : SamePorts a m) where
@@ -153,9 +131,6 @@ module _ (answer : Answer) (a m b : Outside) (reads : m.read_faults ≡ a.read_f
       holds_alone p out a b can (on_after a m b same p (Some out) ran.0) (λ q ne. kept p q others ne),
     )) is,
   )
-  alone_ran p can NoRequest out is ran others = absurd ran
-  alone_ran p can (Stopped s) out is ran others = absurd ran
-  alone_ran p can (ReadFailed name) out is ran others = absurd ran
   alone_ran p can WriteFailed out is ran others = (
     output_rose p a b can (rw (← same.faults p) ran.0),
     if_some a.files _ _ (λ (files : Files) (e : answer files (Ok (alone p out))). (
@@ -165,6 +140,7 @@ module _ (answer : Answer) (a m b : Outside) (reads : m.read_faults ≡ a.read_f
     )) is,
   )
   alone_ran p can OutOfMemory out is ran others = λ q ne. at_ports (λ q. IsUntouched q a b) p can (untouched_after a m b same p ran.0) (λ q other. (kept p q others other, others.opened q other ∙ same.opened q)) q
+  alone_ran p can _ out is ran others = absurd ran
 
 module _ (a m b : Outside) (others : SameOthers ports.Complaint m b) where
   kept_on : (p : Port) → p ≢ ports.Complaint → IsKept p a m → IsKept p a b
@@ -197,12 +173,9 @@ module _ (a m b : Outside) (others : SameOthers ports.Complaint m b) where
   told_asked answer OutOfMemory quiet h = λ p ne. untouched_on p ne (h p ne)
 
   told_unasked : (o : Outcome) → EndsUnasked o a m → EndsUnasked o a b
-  told_unasked Accepted h = absurd h
   told_unasked NoRequest h = λ p ne. untouched_on p ne (h p ne)
-  told_unasked (Stopped s) h = absurd h
-  told_unasked (ReadFailed name) h = absurd h
-  told_unasked WriteFailed h = absurd h
   told_unasked OutOfMemory h = λ p ne. untouched_on p ne (h p ne)
+  told_unasked _ h = absurd h
 
 -- what happened happens still once the line is on Complaint
 pub told : {R : Type 0} (answers : R → Answer) (o : Outcome) (asked : Option R) (a m b : Outside) → (o ≡ Accepted → b ≡ m) → Happens answers o asked a m → SameOthers ports.Complaint m b → Happens answers o asked a b

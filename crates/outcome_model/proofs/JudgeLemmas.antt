@@ -9,7 +9,7 @@ use Rattle.sim_base.specs.declared.fault.Place.TheVariants as places
 use Rattle.sim_base.specs.Refusals.{FileTooLong}
 use Rattle.sim_base.specs.Outside.{Outside, Files}
 use Rattle.outcome_model.specs.Stop.{Stop, Missing, Refused, file_within, read_from, JudgedAs, JudgedWithin, JudgedFrom}
-use Rattle.outcome_model.specs.Outcome.{Outcome, Accepted, NoRequest, Stopped, ReadFailed, WriteFailed, OutOfMemory}
+use Rattle.outcome_model.specs.Outcome.{Outcome, Stopped, ReadFailed, OutOfMemory}
 use Rattle.outcome_model.specs.Work.{IsFile, JudgedFile, ReadStops, IsSteady, IsOneReading}
 use Rattle.outcome_model.proofs.ReadLemmas.{if_some, gone}
 
@@ -99,12 +99,10 @@ module _ {X : Type 0} (name : List ℕ) (judges : List ℕ → Result X Refusal 
 
   -- where it can't be read, nothing is judged
   pub unread : (o : Outcome) (a b : Outside) → ReadStops o (IsFile name whole) a b → ReadStops o (JudgedFile name judges) a b
-  unread Accepted a b s = absurd s
-  unread NoRequest a b s = absurd s
   unread (Stopped t) a b s = if_some a.files _ _ (λ (files : Files) (e : file_within 1048576 files name whole ≡ Err t). stop_from (get files name) t e) s
   unread (ReadFailed n) a b s = (if_some a.files _ _ (λ (files : Files) (e : file_within 1048576 (remove files n) name whole ≡ Err (Missing n)). stop_from (get (remove files n) name) (Missing n) e) s.0, s.1)
-  unread WriteFailed a b s = absurd s
   unread OutOfMemory a b s = tt
+  unread _ a b s = absurd s
 
   -- where its bytes were read, they are judged
   pub judged : (bytes : List ℕ) (x : X) (told : Option Files) → IfSome told (λ files. IsFile name whole files (Ok bytes)) → judges bytes (Ok x) → IfSome told (λ files. JudgedFile name judges files (Ok x))

@@ -23,12 +23,9 @@ no_output a b none (inr (inl x)) = none.1 ports.Serial x
 no_output a b none (inr (inr x)) = none.1 ports.Report x
 
 unasked : (o : Outcome) (a b : Outside) → EndsUnasked o a b → (status_of o ≡ 2) ⊎ (status_of o ≡ 7)
-unasked Accepted a b h = absurd h
 unasked NoRequest a b h = inl refl
-unasked (Stopped s) a b h = absurd h
-unasked (ReadFailed name) a b h = absurd h
-unasked WriteFailed a b h = absurd h
 unasked OutOfMemory a b h = inr refl
+unasked _ a b h = absurd h
 
 -- no status but 2 and 7 comes where nothing is asked for
 unasked_not : {X : Type 0} (o : Outcome) (a b : Outside) (n : ℕ) → EndsUnasked o a b → status_of o ≡ n → (n ≡ 2 → ⊥) → (n ≡ 7 → ⊥) → X
@@ -36,13 +33,9 @@ unasked_not o a b n h e two seven = elim (unasked o a b h) [ inl x ↦ absurd (t
 
 module _ (answer : Answer) (a b : Outside) where
   not_two : (o : Outcome) → Ends answer o a b → status_of o ≡ 2 → ⊥
-  not_two Accepted h e = omega arith
   not_two NoRequest h e = h
   not_two (Stopped (Missing name)) h e = omega arith
-  not_two (Stopped (Refused name r)) h e = omega arith
-  not_two (ReadFailed name) h e = omega arith
-  not_two WriteFailed h e = omega arith
-  not_two OutOfMemory h e = omega arith
+  not_two _ h e = omega arith
 
   held_same : (t u : Texts) → AreSame t u → Hold t a b → Hold u a b
   held_same t u same h = record {
@@ -94,12 +87,9 @@ module _ {R : Type 0} (answers : R → Answer) (a b : Outside) where
       stopped_one (answers r) a b (one r) o (subst (λ (x : R). Ends (answers x) o a b) is h) said files s f g
 
   pub answered : (o : Outcome) (asked : Option R) → Happens answers o asked a b → IsAnswered answers (status_of o) asked a b
-  answered Accepted None h none seven = absurd h
   answered NoRequest None h none seven = if_always a.files _ (λ files. refl)
-  answered (Stopped s) None h none seven = absurd h
-  answered (ReadFailed name) None h none seven = absurd h
-  answered WriteFailed None h none seven = absurd h
   answered OutOfMemory None h none seven = absurd (seven refl)
+  answered _ None h none seven = absurd h
   answered Accepted (Some r) h none seven = if_some a.files _ _ (λ (files : Files) (y : (t : Texts) × answers r files (Ok t) × Hold t a b). (Ok y.0, y.1, refl)) h.1
   answered NoRequest (Some r) h none seven = absurd h
   answered (Stopped s) (Some r) h none seven = if_some a.files _ _ (λ (files : Files) (e : answers r files (Err s)). (Err s, e, refl)) h.0
@@ -113,56 +103,39 @@ module _ {R : Type 0} (answers : R → Answer) (a b : Outside) where
     h.0,
     λ files f. (let x = at_told a.files (λ files. (t : Texts) × answers r files (Ok t) × Hold t a b) h.1 files f in (r, x.0, refl, x.1, x.2)),
   )
-  holds_answer NoRequest (Some r) h e = absurd h
   holds_answer (Stopped (Missing name)) (Some r) h e = absurd (omega arith)
-  holds_answer (Stopped (Refused name q)) (Some r) h e = absurd (omega arith)
-  holds_answer (ReadFailed name) (Some r) h e = absurd (omega arith)
-  holds_answer WriteFailed (Some r) h e = absurd (omega arith)
-  holds_answer OutOfMemory (Some r) h e = absurd (omega arith)
+  holds_answer _ (Some r) h e = absurd (omega arith)
 
   pub holds_front : (o : Outcome) (asked : Option R) → Happens answers o asked a b → HoldsFront answers (status_of o) asked a b
   holds_front o None h e = unasked_not o a b 6 h e (λ x. omega (arith, x)) (λ x. omega (arith, x))
   holds_front WriteFailed (Some r) h e = λ files f.
       let x = at_told a.files (λ files. (t : Texts) × answers r files (Ok t) × Begin t a b) h.1 files f in
       (r, x.0, refl, x.1, x.2)
-  holds_front Accepted (Some r) h e = absurd (omega arith)
-  holds_front NoRequest (Some r) h e = absurd h
   holds_front (Stopped (Missing name)) (Some r) h e = absurd (omega arith)
-  holds_front (Stopped (Refused name q)) (Some r) h e = absurd (omega arith)
-  holds_front (ReadFailed name) (Some r) h e = absurd (omega arith)
-  holds_front OutOfMemory (Some r) h e = absurd (omega arith)
+  holds_front _ (Some r) h e = absurd (omega arith)
 
   pub true_stop : (o : Outcome) (asked : Option R) → Happens answers o asked a b → IsTrueStop answers (status_of o) asked a
   true_stop o None h (inl e) = unasked_not o a b 3 h e (λ x. omega (arith, x)) (λ x. omega (arith, x))
   true_stop o None h (inr e) = unasked_not o a b 4 h e (λ x. omega (arith, x)) (λ x. omega (arith, x))
   true_stop (Stopped s) (Some r) h e = λ files f. (r, s, refl, at_told a.files (λ files. answers r files (Err s)) h.0 files f, refl)
-  true_stop Accepted (Some r) h e = elim e [ inl x ↦ absurd (omega arith) | inr x ↦ absurd (omega arith) ]
-  true_stop NoRequest (Some r) h e = absurd h
-  true_stop (ReadFailed name) (Some r) h e = elim e [ inl x ↦ absurd (omega arith) | inr x ↦ absurd (omega arith) ]
-  true_stop WriteFailed (Some r) h e = elim e [ inl x ↦ absurd (omega arith) | inr x ↦ absurd (omega arith) ]
-  true_stop OutOfMemory (Some r) h e = elim e [ inl x ↦ absurd (omega arith) | inr x ↦ absurd (omega arith) ]
+  true_stop _ (Some r) h e = elim e [ inl x ↦ absurd (omega arith) | inr x ↦ absurd (omega arith) ]
 
   pub has_cause : (o : Outcome) (asked : Option R) → Happens answers o asked a b → HasCause (status_of o) a b
   has_cause o None h = (λ e. unasked_not o a b 5 h e (λ x. omega (arith, x)) (λ x. omega (arith, x)), λ e. unasked_not o a b 6 h e (λ x. omega (arith, x)) (λ x. omega (arith, x)))
   has_cause (ReadFailed name) (Some r) h = (λ e. h.1, λ e. absurd (omega arith))
   has_cause WriteFailed (Some r) h = (λ e. absurd (omega arith), λ e. h.0)
-  has_cause Accepted (Some r) h = (λ e. absurd (omega arith), λ e. absurd (omega arith))
-  has_cause NoRequest (Some r) h = absurd h
   has_cause (Stopped (Missing name)) (Some r) h = (λ e. absurd (omega arith), λ e. absurd (omega arith))
-  has_cause (Stopped (Refused name q)) (Some r) h = (λ e. absurd (omega arith), λ e. absurd (omega arith))
-  has_cause OutOfMemory (Some r) h = (λ e. absurd (omega arith), λ e. absurd (omega arith))
+  has_cause _ (Some r) h = (λ e. absurd (omega arith), λ e. absurd (omega arith))
 
   pub complains_alone : (o : Outcome) (asked : Option R) → Happens answers o asked a b → ComplainsAlone (status_of o) a b
   complains_alone Accepted asked h zero six = absurd (zero refl)
-  complains_alone NoRequest None h zero six = h
-  complains_alone NoRequest (Some r) h zero six = absurd h
-  complains_alone (Stopped s) None h zero six = absurd h
-  complains_alone (Stopped s) (Some r) h zero six = h.1
-  complains_alone (ReadFailed name) None h zero six = absurd h
-  complains_alone (ReadFailed name) (Some r) h zero six = h.2
   complains_alone WriteFailed asked h zero six = absurd (six refl)
+  complains_alone (Stopped s) (Some r) h zero six = h.1
+  complains_alone (ReadFailed name) (Some r) h zero six = h.2
+  complains_alone NoRequest None h zero six = h
   complains_alone OutOfMemory None h zero six = h
   complains_alone OutOfMemory (Some r) h zero six = h
+  complains_alone _ asked h zero six = absurd h
 
 pub is_status : (o : Outcome) → IsStatus (status_of o)
 is_status Accepted = inl refl

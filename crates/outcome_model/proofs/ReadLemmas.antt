@@ -8,7 +8,7 @@ use Rattle.std.specs.Cmp.{eq_by_cmp_equiv}
 use Rattle.sim_base.specs.declared.fault.Refusal.{Refusal}
 use Rattle.sim_base.specs.Outside.{Outside, SamePorts, Files}
 use Rattle.outcome_model.specs.Stop.{Stop, Missing, file_within, read_from}
-use Rattle.outcome_model.specs.Outcome.{Outcome, Accepted, NoRequest, Stopped, ReadFailed, WriteFailed, OutOfMemory}
+use Rattle.outcome_model.specs.Outcome.{Outcome, Stopped, ReadFailed, OutOfMemory}
 use Rattle.outcome_model.specs.Work.{Reading, Is, IsFileWithin, IsFile, Then, ReadStops, Got, IsSteady, IsOneReading}
 
 pub if_some : {X : Type 0} (o : Option X) (P Q : X → Type 0) → ((x : X) → P x → Q x) → IfSome o P → IfSome o Q
@@ -35,12 +35,10 @@ named_stop reading o said a b s (inr memory) = rw memory tt
 module _ {X Y : Type 0} (first : Reading X) (next : X → Reading Y) where
   -- the first ends the work
   pub first_stops : (o : Outcome) (a b : Outside) → ReadStops o first a b → ReadStops o (Then first next) a b
-  first_stops Accepted a b s = absurd s
-  first_stops NoRequest a b s = absurd s
   first_stops (Stopped t) a b s = if_some a.files _ _ (λ (files : Files) (e : first files (Err t)). (Err t, e, refl)) s
   first_stops (ReadFailed n) a b s = (if_some a.files _ _ (λ (files : Files) (e : first (remove files n) (Err (Missing n))). (Err (Missing n), e, refl)) s.0, s.1)
-  first_stops WriteFailed a b s = absurd s
   first_stops OutOfMemory a b s = tt
+  first_stops _ a b s = absurd s
 
   module _ (steady : IsSteady first) (x : X) where
     missing_behind : (files : Files) (n : List ℕ) → first files (Ok x) → next x (remove files n) (Err (Missing n)) → Then first next (remove files n) (Err (Missing n))
@@ -55,12 +53,10 @@ module _ {X Y : Type 0} (first : Reading X) (next : X → Reading Y) where
 
     -- the second ends the work
     second_stops : (o : Outcome) (a m b : Outside) → IfSome a.files (λ files. first files (Ok x)) → m.read_faults ≡ a.read_faults → SamePorts a m → ReadStops o (next x) m b → ReadStops o (Then first next) a b
-    second_stops Accepted a m b is reads same s = absurd s
-    second_stops NoRequest a m b is reads same s = absurd s
     second_stops (Stopped t) a m b is reads same s = both a.files (λ files. next x files (Err t)) _ (λ files f e. (Ok x, f, e)) is (rw same.files at s)
     second_stops (ReadFailed n) a m b is reads same s = (both a.files (λ files. next x (remove files n) (Err (Missing n))) _ (λ files f e. missing_behind files n f e) is (rw same.files at s.0), rw (← reads) s.1)
-    second_stops WriteFailed a m b is reads same s = absurd s
     second_stops OutOfMemory a m b is reads same s = tt
+    second_stops _ a m b is reads same s = absurd s
 
     -- what the second gives, both give
     pub got_both : {V E : Type 0} (view : V → Y) (out : E → Outcome) (r : Result V E) (a m b : Outside) → SamePorts a m → IfSome a.files (λ files. first files (Ok x)) × (m.read_faults ≡ a.read_faults) → Got view out r (next x) m b →

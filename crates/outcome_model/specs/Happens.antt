@@ -19,11 +19,11 @@ AnswerOf reading texts = Then reading (λ x. Is (λ files. Ok (texts x)))
 -- wrong: were that file not there, its absence would be the first event.
 abbrev pub Ends : Answer → Outcome → Outside → Outside → Type 0
 Ends answer Accepted a b = IsFaultless a b × IfSome a.files (λ files. (t : Texts) × answer files (Ok t) × Hold t a b)
-Ends answer NoRequest a b = ⊥
 Ends answer (Stopped s) a b = IfSome a.files (λ files. answer files (Err s)) × IsSilent a b
 Ends answer (ReadFailed name) a b = IfSome a.files (λ files. answer (remove files name) (Err (Missing name))) × Rose a.read_faults b.read_faults × IsSilent a b
 Ends answer WriteFailed a b = OutputRose a b × IfSome a.files (λ files. (t : Texts) × answer files (Ok t) × Begin t a b)
 Ends answer OutOfMemory a b = IsSilent a b
+Ends answer NoRequest a b = ⊥
 
 -- Where all was written, a count of wakes rose by those that the texts cost.
 abbrev pub Counts : Answer → Outcome → Outside → ℕ → ℕ → Type 0
@@ -31,12 +31,9 @@ Counts answer outcome a before after = outcome ≡ Accepted → IfSome a.files (
 
 -- What happens where nothing is asked for.
 abbrev pub EndsUnasked : Outcome → Outside → Outside → Type 0
-EndsUnasked Accepted a b = ⊥
 EndsUnasked NoRequest a b = IsSilent a b
-EndsUnasked (Stopped s) a b = ⊥
-EndsUnasked (ReadFailed name) a b = ⊥
-EndsUnasked WriteFailed a b = ⊥
 EndsUnasked OutOfMemory a b = IsSilent a b
+EndsUnasked _ a b = ⊥
 
 -- What happens to what is asked for, where each request has its answer.
 abbrev pub Happens : {R : Type 0} → (R → Answer) → Outcome → Option R → Outside → Outside → Type 0

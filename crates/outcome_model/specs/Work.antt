@@ -9,7 +9,7 @@ use Rattle.sim_base.specs.declared.bench.WriteEnd.TheVariants as writes
 use Rattle.sim_base.specs.Causes.{Rose}
 use Rattle.sim_base.specs.Outside.{Outside, Files, Grows, IsFront}
 use Rattle.outcome_model.specs.Stop.{Stop, Missing, Output, file_within, Judged}
-use Rattle.outcome_model.specs.Outcome.{Outcome, Accepted, NoRequest, Stopped, ReadFailed, WriteFailed, OutOfMemory, IsUntouched, IsOn, BeginsOn}
+use Rattle.outcome_model.specs.Outcome.{Outcome, Accepted, Stopped, ReadFailed, WriteFailed, OutOfMemory, IsUntouched, IsOn, BeginsOn}
 
 -- a text was written on a port, or a first part of it where a write failed
 abbrev pub Wrote : WriteEnd → Port → List ℕ → Outside → Outside → Type 0
@@ -51,12 +51,10 @@ Then {X = X} first next files result = (x : Result X Stop) × first files x × B
 
 -- the cause of an outcome that ends the reading of a file
 abbrev pub ReadStops : {X : Type 0} → Outcome → Reading X → Outside → Outside → Type 0
-ReadStops Accepted reading a b = ⊥
-ReadStops NoRequest reading a b = ⊥
 ReadStops (Stopped s) reading a b = IfSome a.files (λ files. reading files (Err s))
 ReadStops (ReadFailed name) reading a b = IfSome a.files (λ files. reading (remove files name) (Err (Missing name))) × Rose a.read_faults b.read_faults
-ReadStops WriteFailed reading a b = ⊥
 ReadStops OutOfMemory reading a b = Unit {0}
+ReadStops _ reading a b = ⊥
 
 -- what reading a file gives
 abbrev pub Got : {V E X : Type 0} → (V → X) → (E → Outcome) → Result V E → Reading X → Outside → Outside → Type 0
@@ -69,11 +67,9 @@ SaidNothing a b = (b.written ports.Complaint ≡ a.written ports.Complaint) × (
 -- what the writing of a text on a port, opened for it, leaves there
 abbrev pub RanOn : Port → Outcome → Output → Outside → Outside → Type 0
 RanOn p Accepted out a b = IsOn (Some out) p a b × (b.faults p ≡ a.faults p)
-RanOn p NoRequest out a b = ⊥
-RanOn p (Stopped s) out a b = ⊥
-RanOn p (ReadFailed name) out a b = ⊥
 RanOn p WriteFailed out a b = Rose (a.faults p) (b.faults p) × BeginsOn (Some out) p a b
 RanOn p OutOfMemory out a b = IsUntouched p a b × (b.faults p ≡ a.faults p)
+RanOn p _ out a b = ⊥
 
 -- A reading of files gives the same where a file that it does not read is not there; where one that it reads is not there,
 -- that is the first event.
