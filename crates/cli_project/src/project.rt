@@ -10,8 +10,9 @@ ghost use Rattle.board_model.specs.Fits.{AreInputs};
 ghost use Rattle.board_build.specs.IsPlan.{IsPlan};
 ghost use Rattle.chip_module.specs.Sources.{HasFewPins, pins_of};
 ghost use Rattle.cli_work.specs.Outcomes.{outcome_of};
-ghost use Rattle.project_model.specs.Work.{file_of_rule, ScriptIn, WaveIn, PlanIn, BehindChips, BehindDiagram, BehindFirmware, BehindProject, WorkIn};
-ghost use Rattle.cli_project.specs.Works.{IsRising, cycles_of, work_of};
+ghost use Rattle.project_model.specs.Work.{file_of_rule, ScriptIn, WaveIn, PlanIn, BehindChips, BehindDiagram};
+ghost use Rattle.project_model.specs.Work.{BehindFirmware, BehindProject, WorkIn};
+ghost use Rattle.cli_project.specs.Works.{IsRising, IsSound, cycles_of, planned, script_path, wave_path, work_of};
 
 use crate::chips::read_chips;
 use crate::documents::{DiagramFile, ProjectFile, ScriptFile, name_in, read_in};
@@ -37,10 +38,19 @@ pub struct Work {
     pub wave: Vec<u8>,
 }
 
+/// Where a work is read: the folder of a project, and the files of a script and of a wave, if they are named.
+#[derive(Clone, Copy)]
+struct Paths<'a> {
+    folder: &'a str,
+    script: Option<&'a str>,
+    wave: Option<&'a str>,
+}
+
 /// The end of the work by a rule of the board, with the file that the rule names; out of memory where
 /// that name has no room.
 fn refused_by_rule(alloc: Global, folder: &str, script: Option<&str>, refusal: Refusal) -> WorkEnd
-    ensures { (outcome_of result ≡ ends.Stopped (Refused (file_of_rule folder.now (option_map (λ s. s.now) script.entry) refusal) refusal)) ⊎ (outcome_of result ≡ ends.OutOfMemory) }
+    ensures { (outcome_of result ≡ ends.Stopped (Refused (file_of_rule folder.now (option_map (λ s. s.now) script.entry) refusal) refusal))
+        ⊎ (outcome_of result ≡ ends.OutOfMemory) }
 {
     match script {
         Some(name) if refusal.number == SCRIPT_PART => {
@@ -69,7 +79,8 @@ pub fn plan_board(
     requires pins { All HasFewPins chips.now }
     requires parts { length diagram.now.parts ≤ 64 }
     requires rising { IsRising 0 (cycles_of rows.now) }
-    ensures got { (a : Outside) → Got (λ p. p) outcome_of result (PlanIn folder.now (option_map (λ s. s.now) script.entry) project.now diagram.now chips.now rows.now) a a }
+    ensures got { (a : Outside) → Got (λ p. p) outcome_of result
+        (PlanIn folder.now (option_map (λ s. s.now) script.entry) project.now diagram.now chips.now rows.now) a a }
     ensures plan { IfOk result (λ plan. IsPlan (pins_of chips.now) plan) }
     ensures inputs { IfOk result (λ plan. AreInputs (length plan.parts) plan.inputs) }
 {
@@ -89,7 +100,8 @@ fn read_script_of<B: Bench>(
     script: Option<&str>,
     bench: &mut B,
 ) -> Result<Script, WorkEnd>
-    ensures got { Got (λ s. s) outcome_of result (ScriptIn (option_map (λ s. s.now) script.entry)) (B.outside bench.old) (B.outside bench.new) }
+    ensures got { Got (λ s. s) outcome_of result (ScriptIn (option_map (λ s. s.now) script.entry))
+        (B.outside bench.old) (B.outside bench.new) }
     ensures ports { SamePorts (B.outside bench.old) (B.outside bench.new) }
     ensures rising { IfOk result (λ rows. IsRising 0 (cycles_of rows)) }
 {
@@ -105,7 +117,8 @@ fn read_wave_of<B: Bench>(
     wave: Option<&str>,
     bench: &mut B,
 ) -> Result<Vec<u8>, WorkEnd>
-    ensures got { Got (λ w. w.items) outcome_of result (WaveIn (option_map (λ s. s.now) wave.entry)) (B.outside bench.old) (B.outside bench.new) }
+    ensures got { Got (λ w. w.items) outcome_of result (WaveIn (option_map (λ s. s.now) wave.entry))
+        (B.outside bench.old) (B.outside bench.new) }
     ensures ports { SamePorts (B.outside bench.old) (B.outside bench.new) }
     ensures short { IfOk result (λ w. length w.items ≤ 16777216) }
 {
@@ -121,9 +134,7 @@ fn read_wave_of<B: Bench>(
 /// The script, the wave, and then the rules of the board: the plan, and the bytes of the wave.
 fn read_plan<B: Bench>(
     alloc: Global,
-    folder: &str,
-    script: Option<&str>,
-    wave: Option<&str>,
+    paths: Paths<'_>,
     project: &Project,
     diagram: &Diagram,
     chips: &[ChipSource],
@@ -133,24 +144,30 @@ fn read_plan<B: Bench>(
     requires each { length chips.now ≡ length project.now.chips }
     requires pins { All HasFewPins chips.now }
     requires parts { length diagram.now.parts ≤ 64 }
-    ensures got { (flash bytes : List ℕ) → Got (λ r. record { project = project.now; flash = flash; diagram = bytes; chips = chips.now; plan = r.0; wave = r.1.items }) outcome_of result (BehindChips folder.now (option_map (λ s. s.now) script.entry) (option_map (λ s. s.now) wave.entry) project.now flash (diagram.now, bytes) chips.now) (B.outside bench.old) (B.outside bench.new) }
+    ensures got { (flash bytes : List ℕ) → Got (λ r. planned project.now flash bytes chips.now r.0 r.1.items) outcome_of result
+        (BehindChips paths.entry.folder.now (script_path paths.entry) (wave_path paths.entry) project.now flash (diagram.now, bytes) chips.now)
+        (B.outside bench.old) (B.outside bench.new) }
     ensures ports { SamePorts (B.outside bench.old) (B.outside bench.new) }
-    ensures plan { IfOk result (λ r. IsPlan (pins_of chips.now) r.0) }
-    ensures inputs { IfOk result (λ r. AreInputs (length r.0.parts) r.0.inputs) }
-    ensures short { IfOk result (λ r. length r.1.items ≤ 16777216) }
+    ensures sound { (flash bytes : List ℕ) → IfOk result (λ r. IsSound (planned project.now flash bytes chips.now r.0 r.1.items)) }
 {
-    let rows = read_script_of(alloc, script, bench)?;
-    let wave = read_wave_of(alloc, wave, bench)?;
-    let plan = plan_board(alloc, folder, script, project, diagram, chips, &rows)?;
+    let rows = read_script_of(alloc, paths.script, bench)?;
+    let wave = read_wave_of(alloc, paths.wave, bench)?;
+    let plan = plan_board(
+        alloc,
+        paths.folder,
+        paths.script,
+        project,
+        diagram,
+        chips,
+        &rows,
+    )?;
     Ok((plan, wave))
 }
 
-/// What comes behind the chips.
+/// What comes after the chips.
 fn read_behind_chips<B: Bench>(
     alloc: Global,
-    folder: &str,
-    script: Option<&str>,
-    wave: Option<&str>,
+    paths: Paths<'_>,
     project: Project,
     flash: Flash,
     drawn: (Diagram, List<u8>),
@@ -161,25 +178,14 @@ fn read_behind_chips<B: Bench>(
     requires each { length chips ≡ length project.chips }
     requires pins { All HasFewPins chips }
     requires parts { length drawn.0.parts ≤ 64 }
-    ensures got { Got work_of outcome_of result (BehindChips folder.now (option_map (λ s. s.now) script.entry) (option_map (λ s. s.now) wave.entry) project flash drawn chips) (B.outside bench.old) (B.outside bench.new) }
+    ensures got { Got work_of outcome_of result
+        (BehindChips paths.entry.folder.now (script_path paths.entry) (wave_path paths.entry) project flash drawn chips)
+        (B.outside bench.old) (B.outside bench.new) }
     ensures ports { SamePorts (B.outside bench.old) (B.outside bench.new) }
-    ensures plan { IfOk result (λ w. IsPlan (pins_of w.chips) w.plan) }
-    ensures few { IfOk result (λ w. All HasFewPins w.chips) }
-    ensures inputs { IfOk result (λ w. AreInputs (length w.plan.parts) w.plan.inputs) }
-    ensures short { IfOk result (λ w. length w.wave.items ≤ 16777216) }
-    ensures each { IfOk result (λ w. length w.chips ≡ length w.project.chips) }
+    ensures sound { IfOk result (λ w. IsSound (work_of w)) }
 {
     let (diagram, bytes) = drawn;
-    let read = read_plan(
-        alloc,
-        folder,
-        script,
-        wave,
-        &project,
-        &diagram,
-        chips.as_slice(),
-        bench,
-    );
+    let read = read_plan(alloc, paths, &project, &diagram, chips.as_slice(), bench);
     drop(diagram);
     match read {
         Ok((plan, wave)) => Ok(Work {
@@ -199,12 +205,10 @@ fn read_behind_chips<B: Bench>(
     }
 }
 
-/// The chips, and what comes behind them.
+/// The chips, and what comes after them.
 fn read_behind_diagram<B: Bench>(
     alloc: Global,
-    folder: &str,
-    script: Option<&str>,
-    wave: Option<&str>,
+    paths: Paths<'_>,
     project: Project,
     flash: Flash,
     drawn: (Diagram, List<u8>),
@@ -212,18 +216,14 @@ fn read_behind_diagram<B: Bench>(
 ) -> Result<Work, WorkEnd>
     requires chips { length project.chips ≤ 8 }
     requires parts { length drawn.0.parts ≤ 64 }
-    ensures got { Got work_of outcome_of result (BehindDiagram folder.now (option_map (λ s. s.now) script.entry) (option_map (λ s. s.now) wave.entry) project flash drawn) (B.outside bench.old) (B.outside bench.new) }
+    ensures got { Got work_of outcome_of result
+        (BehindDiagram paths.entry.folder.now (script_path paths.entry) (wave_path paths.entry) project flash drawn)
+        (B.outside bench.old) (B.outside bench.new) }
     ensures ports { SamePorts (B.outside bench.old) (B.outside bench.new) }
-    ensures plan { IfOk result (λ w. IsPlan (pins_of w.chips) w.plan) }
-    ensures few { IfOk result (λ w. All HasFewPins w.chips) }
-    ensures inputs { IfOk result (λ w. AreInputs (length w.plan.parts) w.plan.inputs) }
-    ensures short { IfOk result (λ w. length w.wave.items ≤ 16777216) }
-    ensures each { IfOk result (λ w. length w.chips ≡ length w.project.chips) }
+    ensures sound { IfOk result (λ w. IsSound (work_of w)) }
 {
-    match read_chips(alloc, folder, project.chips.as_slice(), bench) {
-        Ok(chips) => read_behind_chips(
-            alloc, folder, script, wave, project, flash, drawn, chips, bench,
-        ),
+    match read_chips(alloc, paths.folder, project.chips.as_slice(), bench) {
+        Ok(chips) => read_behind_chips(alloc, paths, project, flash, drawn, chips, bench),
         Err(end) => {
             drop(drawn);
             drop(project);
@@ -232,27 +232,23 @@ fn read_behind_diagram<B: Bench>(
     }
 }
 
-/// The diagram, and what comes behind it.
+/// The diagram, and what comes after it.
 fn read_behind_firmware<B: Bench>(
     alloc: Global,
-    folder: &str,
-    script: Option<&str>,
-    wave: Option<&str>,
+    paths: Paths<'_>,
     project: Project,
     flash: Flash,
     bench: &mut B,
 ) -> Result<Work, WorkEnd>
     requires chips { length project.chips ≤ 8 }
-    ensures got { Got work_of outcome_of result (BehindFirmware folder.now (option_map (λ s. s.now) script.entry) (option_map (λ s. s.now) wave.entry) project flash) (B.outside bench.old) (B.outside bench.new) }
+    ensures got { Got work_of outcome_of result
+        (BehindFirmware paths.entry.folder.now (script_path paths.entry) (wave_path paths.entry) project flash)
+        (B.outside bench.old) (B.outside bench.new) }
     ensures ports { SamePorts (B.outside bench.old) (B.outside bench.new) }
-    ensures plan { IfOk result (λ w. IsPlan (pins_of w.chips) w.plan) }
-    ensures few { IfOk result (λ w. All HasFewPins w.chips) }
-    ensures inputs { IfOk result (λ w. AreInputs (length w.plan.parts) w.plan.inputs) }
-    ensures short { IfOk result (λ w. length w.wave.items ≤ 16777216) }
-    ensures each { IfOk result (λ w. length w.chips ≡ length w.project.chips) }
+    ensures sound { IfOk result (λ w. IsSound (work_of w)) }
 {
-    match read_in::<DiagramFile, B>(alloc, folder, "diagram.json", bench) {
-        Ok(drawn) => read_behind_diagram(alloc, folder, script, wave, project, flash, drawn, bench),
+    match read_in::<DiagramFile, B>(alloc, paths.folder, "diagram.json", bench) {
+        Ok(drawn) => read_behind_diagram(alloc, paths, project, flash, drawn, bench),
         Err(end) => {
             drop(project);
             Err(end)
@@ -260,26 +256,22 @@ fn read_behind_firmware<B: Bench>(
     }
 }
 
-/// The firmware, and what comes behind it.
+/// The firmware, and what comes after it.
 fn read_behind_project<B: Bench>(
     alloc: Global,
-    folder: &str,
-    script: Option<&str>,
-    wave: Option<&str>,
+    paths: Paths<'_>,
     project: Project,
     bench: &mut B,
 ) -> Result<Work, WorkEnd>
     requires chips { length project.chips ≤ 8 }
-    ensures got { Got work_of outcome_of result (BehindProject folder.now (option_map (λ s. s.now) script.entry) (option_map (λ s. s.now) wave.entry) project) (B.outside bench.old) (B.outside bench.new) }
+    ensures got { Got work_of outcome_of result
+        (BehindProject paths.entry.folder.now (script_path paths.entry) (wave_path paths.entry) project)
+        (B.outside bench.old) (B.outside bench.new) }
     ensures ports { SamePorts (B.outside bench.old) (B.outside bench.new) }
-    ensures plan { IfOk result (λ w. IsPlan (pins_of w.chips) w.plan) }
-    ensures few { IfOk result (λ w. All HasFewPins w.chips) }
-    ensures inputs { IfOk result (λ w. AreInputs (length w.plan.parts) w.plan.inputs) }
-    ensures short { IfOk result (λ w. length w.wave.items ≤ 16777216) }
-    ensures each { IfOk result (λ w. length w.chips ≡ length w.project.chips) }
+    ensures sound { IfOk result (λ w. IsSound (work_of w)) }
 {
-    match read_in::<HexFile, B>(alloc, folder, project.firmware.as_str(), bench) {
-        Ok(flash) => read_behind_firmware(alloc, folder, script, wave, project, flash, bench),
+    match read_in::<HexFile, B>(alloc, paths.folder, project.firmware.as_str(), bench) {
+        Ok(flash) => read_behind_firmware(alloc, paths, project, flash, bench),
         Err(end) => {
             drop(project);
             Err(end)
@@ -296,7 +288,9 @@ pub fn read_work<B: Bench>(
     wave: Option<&str>,
     bench: &mut B,
 ) -> Result<Work, WorkEnd>
-    ensures got { Got work_of outcome_of result (WorkIn folder.now (option_map (λ s. s.now) script.entry) (option_map (λ s. s.now) wave.entry)) (B.outside bench.old) (B.outside bench.new) }
+    ensures got { Got work_of outcome_of result
+        (WorkIn folder.now (option_map (λ s. s.now) script.entry) (option_map (λ s. s.now) wave.entry))
+        (B.outside bench.old) (B.outside bench.new) }
     ensures ports { SamePorts (B.outside bench.old) (B.outside bench.new) }
     ensures plan { IfOk result (λ w. IsPlan (pins_of w.chips) w.plan) }
     ensures few { IfOk result (λ w. All HasFewPins w.chips) }
@@ -305,5 +299,10 @@ pub fn read_work<B: Bench>(
     ensures each { IfOk result (λ w. length w.chips ≡ length w.project.chips) }
 {
     let project = read_in::<ProjectFile, B>(alloc, folder, "wokwi.toml", bench)?;
-    read_behind_project(alloc, folder, script, wave, project, bench)
+    let paths = Paths {
+        folder,
+        script,
+        wave,
+    };
+    read_behind_project(alloc, paths, project, bench)
 }

@@ -1,29 +1,20 @@
-use Rattle.std.proofs.Common.{ℕ, List, [], Option, Bor}
-use Rattle.std.specs.Option.{option_map}
-use Rattle.sim_base.specs.Outside.{Outside}
+use Rattle.std.proofs.Common.{ℕ, List, []}
 use Rattle.outcome_model.proofs.ReadLemmas.{first_stops, got_both}
 use Rattle.project_model.specs.Work.{ChipsAfter, BehindChips}
 use Rattle.cli_work.specs.Outcomes.{outcome_of}
-use Rattle.cli_project.specs.Works.{work_of}
+use Rattle.cli_project.specs.Works.{script_path, wave_path, work_of}
 use Rattle.cli_project.proofs.ProjectLemmas.{steady_chips}
 use Rattle.cli_project.proofs.project.read_behind_diagram.Goals as goal
 
 pub returns-in-Err-clause-got : goal.returns-in-Err-clause-got
 returns-in-Err-clause-got g c =
-    let a : Outside = g.B.Bench.outside c.args.bench.now in
-    let b : Outside = g.B.Bench.outside c.read_chips.new.bench in
-    let folder : List ℕ = c.args.folder.now in
-    let script : Option (List ℕ) = option_map (λ (s : Bor (List ℕ)). s.now) c.args.script in
-    let wave : Option (List ℕ) = option_map (λ (s : Bor (List ℕ)). s.now) c.args.wave in
-    first_stops (ChipsAfter folder [] c.args.project.chips) (BehindChips folder script wave c.args.project c.args.flash c.args.drawn) (outcome_of c.in-Err.end) a b (rw c.as_slice.ensures at c.in-Err.ensures.got)
+    let folder : List ℕ = c.args.paths.folder.now in
+    let next = BehindChips folder (script_path c.args.paths) (wave_path c.args.paths) c.args.project c.args.flash c.args.drawn in
+    first_stops (ChipsAfter folder [] c.args.project.chips) next (outcome_of c.in-Err.end) _ _ (rw c.as_slice.ensures at c.in-Err.ensures.got)
 
 pub returns-in-Ok-clause-got : goal.returns-in-Ok-clause-got
 returns-in-Ok-clause-got g c =
-    let a : Outside = g.B.Bench.outside c.args.bench.now in
-    let b : Outside = g.B.Bench.outside c.read_chips.new.bench in
-    let d : Outside = g.B.Bench.outside c.read_behind_chips.new.bench in
-    let folder : List ℕ = c.args.folder.now in
-    let script : Option (List ℕ) = option_map (λ (s : Bor (List ℕ)). s.now) c.args.script in
-    let wave : Option (List ℕ) = option_map (λ (s : Bor (List ℕ)). s.now) c.args.wave in
-    got_both (ChipsAfter folder [] c.args.project.chips) (BehindChips folder script wave c.args.project c.args.flash c.args.drawn) (steady_chips folder [] c.args.project.chips) c.in-Ok.chips work_of outcome_of c.read_behind_chips.result a b d c.in-Ok.ensures.ports
-    (rw c.as_slice.ensures at c.in-Ok.ensures.got) c.read_behind_chips.ensures.got
+    let folder : List ℕ = c.args.paths.folder.now in
+    let next = BehindChips folder (script_path c.args.paths) (wave_path c.args.paths) c.args.project c.args.flash c.args.drawn in
+    got_both (ChipsAfter folder [] c.args.project.chips) next (steady_chips folder [] c.args.project.chips) c.in-Ok.chips work_of outcome_of
+    c.read_behind_chips.result _ _ _ c.in-Ok.ensures.ports (rw c.as_slice.ensures at c.in-Ok.ensures.got) c.read_behind_chips.ensures.got

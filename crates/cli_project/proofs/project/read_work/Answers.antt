@@ -1,14 +1,15 @@
 use Rattle.std.proofs.Common.{ℕ, List, Option, Bor, codes, arith}
 use Rattle.std.specs.Option.{option_map}
 use Rattle.std.proofs.lemmas.Result.{err_from_is_err_and}
-use Rattle.sim_base.specs.Outside.{Outside}
 use Rattle.document_model.specs.Project.{project_text}
 use Rattle.document_model.proofs.LimitLemmas.{few_chips}
 use Rattle.project_model.specs.Work.{in_folder, BehindProject}
 use Rattle.outcome_model.specs.Work.{IsFile}
 use Rattle.outcome_model.proofs.ReadLemmas.{first_stops, got_both, steady_file}
 use Rattle.cli_work.specs.Outcomes.{outcome_of}
-use Rattle.cli_project.specs.Works.{work_of}
+use Rattle.cli_project.specs.declared.project.Work.{Work}
+use Rattle.cli_project.specs.Works.{IsSound, work_of}
+use Rattle.cli_project.proofs.ProjectLemmas.{if_ok}
 use Rattle.cli_project.proofs.project.read_work.Goals as goal
 
 pub read_behind_project-requires : goal.read_behind_project-requires
@@ -16,21 +17,33 @@ read_behind_project-requires g c = let read = c.in_ok-project.ensures.read in om
 
 pub returns-in_err-project-clause-got : goal.returns-in_err-project-clause-got
 returns-in_err-project-clause-got g c =
-    let a : Outside = g.B.Bench.outside c.args.bench.now in
-    let b : Outside = g.B.Bench.outside c.read_in.new.bench in
     let folder : List ℕ = c.args.folder.now in
     let script : Option (List ℕ) = option_map (λ (s : Bor (List ℕ)). s.now) c.args.script in
     let wave : Option (List ℕ) = option_map (λ (s : Bor (List ℕ)). s.now) c.args.wave in
     let q = err_from_is_err_and c.from_residual.result c.from_residual.ensures.1 in
     let e = c.in_err-project.field-0.0 in
-    rw (q.1, q.2) (first_stops (IsFile (in_folder folder (codes "wokwi.toml")) project_text) (BehindProject folder script wave) (outcome_of e) a b c.in_err-project.ensures.got)
+    rw (q.1, q.2) (first_stops (IsFile (in_folder folder (codes "wokwi.toml")) project_text) (BehindProject folder script wave) (outcome_of e) _ _ c.in_err-project.ensures.got)
 
 pub returns-clause-got : goal.returns-clause-got
 returns-clause-got g c =
-    let a : Outside = g.B.Bench.outside c.args.bench.now in
-    let b : Outside = g.B.Bench.outside c.read_in.new.bench in
-    let d : Outside = g.B.Bench.outside c.read_behind_project.new.bench in
     let folder : List ℕ = c.args.folder.now in
     let script : Option (List ℕ) = option_map (λ (s : Bor (List ℕ)). s.now) c.args.script in
     let wave : Option (List ℕ) = option_map (λ (s : Bor (List ℕ)). s.now) c.args.wave in
-    got_both (IsFile (in_folder folder (codes "wokwi.toml")) project_text) (BehindProject folder script wave) (steady_file (in_folder folder (codes "wokwi.toml")) project_text) c.in_ok-project.project work_of outcome_of c.read_behind_project.result a b d c.in_ok-project.ensures.ports (c.in_ok-project.ensures.got) c.read_behind_project.ensures.got
+    let file : List ℕ = in_folder folder (codes "wokwi.toml") in
+    got_both (IsFile file project_text) (BehindProject folder script wave) (steady_file file project_text) c.in_ok-project.project work_of outcome_of
+    c.read_behind_project.result _ _ _ c.in_ok-project.ensures.ports c.in_ok-project.ensures.got c.read_behind_project.ensures.got
+
+pub returns-clause-plan : goal.returns-clause-plan
+returns-clause-plan g c = if_ok c.read_behind_project.result _ _ (λ (w : Work) (is : IsSound (work_of w)). is.plan) c.read_behind_project.ensures.sound
+
+pub returns-clause-few : goal.returns-clause-few
+returns-clause-few g c = if_ok c.read_behind_project.result _ _ (λ (w : Work) (is : IsSound (work_of w)). is.few_pins) c.read_behind_project.ensures.sound
+
+pub returns-clause-inputs : goal.returns-clause-inputs
+returns-clause-inputs g c = if_ok c.read_behind_project.result _ _ (λ (w : Work) (is : IsSound (work_of w)). is.inputs) c.read_behind_project.ensures.sound
+
+pub returns-clause-short : goal.returns-clause-short
+returns-clause-short g c = if_ok c.read_behind_project.result _ _ (λ (w : Work) (is : IsSound (work_of w)). is.short) c.read_behind_project.ensures.sound
+
+pub returns-clause-each : goal.returns-clause-each
+returns-clause-each g c = if_ok c.read_behind_project.result _ _ (λ (w : Work) (is : IsSound (work_of w)). is.each) c.read_behind_project.ensures.sound
