@@ -30,10 +30,12 @@ pub fn run<B: Bench, L: Ledger>(
 ) -> WorkEnd
     requires some { 0 < micros }
     requires end { micros ≤ 10000000 }
-    ensures ends { Ends (RunAnswer folder.now micros (option_map (λ s. s.now) script.entry) budget (outputs_of outputs.entry)) (outcome_of result) (B.outside bench.old) (B.outside bench.new) }
+    ensures ends { Ends (RunAnswer folder.now micros (option_map (λ s. s.now) script.entry) budget (outputs_of outputs.entry))
+        (outcome_of result) (B.outside bench.old) (B.outside bench.new) }
     ensures isolated { Ends (AnswerSuch Isolated folder.now micros (option_map (λ s. s.now) script.entry) budget (outputs_of outputs.entry))
         (outcome_of result) (B.outside bench.old) (B.outside bench.new) }
-    ensures counts { Counts (RunAnswer folder.now micros (option_map (λ s. s.now) script.entry) budget (outputs_of outputs.entry)) (outcome_of result) (B.outside bench.old) steps.old steps.new }
+    ensures counts { Counts (RunAnswer folder.now micros (option_map (λ s. s.now) script.entry) budget (outputs_of outputs.entry))
+        (outcome_of result) (B.outside bench.old) steps.old steps.new }
     ensures silent { SaidNothing (B.outside bench.old) (B.outside bench.new) }
 {
     match read_work(alloc, folder, script, None, bench) {
