@@ -6,7 +6,7 @@ use Rattle.sim_base.specs.declared.bench.Port.TheVariants as ports
 use Rattle.sim_base.specs.declared.bench.Port.{Port}
 use Rattle.sim_base.specs.Outside.{Outside, SamePorts, SameOthers, Files}
 use Rattle.outcome_model.specs.Stop.{Stop, Missing, Refused, Output, Texts, printed}
-use Rattle.outcome_model.specs.Outcome.{Outcome, Accepted, NoRequest, Stopped, ReadFailed, WriteFailed, OutOfMemory, Hold, Begin, status_of}
+use Rattle.outcome_model.specs.Outcome.{Outcome, Accepted, WriteFailed, OutOfMemory, Hold, Begin}
 use Rattle.outcome_model.specs.Work.{Reading, Is, ReadStops, RanOn, SaidNothing, IsSteady, IsOneReading}
 use Rattle.outcome_model.specs.Happens.{Answer, Ends}
 use Rattle.outcome_model.specs.Promises.{IsOne}
@@ -85,22 +85,17 @@ module _ (answer : Answer) (wakes : ℕ) where
   pub ends_counted : (o : Outcome) (a b : Outside) → Ends uncounted o a b → Ends answer o a b
   ends_counted Accepted a b e =
       (e.0, if_some a.files _ _ (λ (files : Files) (x : (t : Texts) × uncounted files (Ok t) × Hold t a b). (costing x.0, x.1, held x.0 a b x.2)) e.1)
-  ends_counted NoRequest a b e = e
-  ends_counted (Stopped s) a b e = e
-  ends_counted (ReadFailed name) a b e = e
   ends_counted WriteFailed a b e =
       (e.0, if_some a.files _ _ (λ (files : Files) (x : (t : Texts) × uncounted files (Ok t) × Begin t a b). (costing x.0, x.1, begun x.0 a b x.2)) e.1)
-  ends_counted OutOfMemory a b e = e
+  ends_counted _ a b e = e
 
 -- the same of what happens behind calls that leave the ports alone
 module _ (a m b : Outside) (same : SamePorts a m) where
   pub ran_after : (p : Port) (o : Outcome) (out : Output) → RanOn p o out m b → RanOn p o out a b
   ran_after p Accepted out ran = (on_after a m b same p (Some out) ran.0, ran.1 ∙ same.faults p)
-  ran_after p NoRequest out ran = absurd ran
-  ran_after p (Stopped s) out ran = absurd ran
-  ran_after p (ReadFailed name) out ran = absurd ran
   ran_after p WriteFailed out ran = (rw (← same.faults p) ran.0, begins_after a m b same p (Some out) ran.1)
   ran_after p OutOfMemory out ran = (untouched_after a m b same p ran.0, ran.1 ∙ same.faults p)
+  ran_after p _ out ran = absurd ran
 
   pub others_after : (p : Port) → m.read_faults ≡ a.read_faults → SameOthers p m b → SameOthers p a b
   others_after p reads others = record {

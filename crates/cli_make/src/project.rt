@@ -1,14 +1,11 @@
 //! The generated project, checked as one that is read.
 ghost use Rattle.std.specs.Prelude.{◌≡◌, ◌≤◌, ◌∷◌, [], length, IfOk};
-ghost use Rattle.std.specs.List.{All};
 ghost use Rattle.sim_base.specs.Outside.{Outside};
 ghost use Rattle.outcome_model.specs.Work.{Got};
-ghost use Rattle.board_model.specs.Fits.{AreInputs};
-ghost use Rattle.board_build.specs.IsPlan.{IsPlan};
 ghost use Rattle.board_make.specs.Board.{chip_file};
-ghost use Rattle.chip_module.specs.Sources.{HasFewPins, pins_of};
+ghost use Rattle.chip_module.specs.Sources.{HasFewPins};
 ghost use Rattle.project_model.specs.Work.{in_folder};
-ghost use Rattle.cli_project.specs.Works.{work_of};
+ghost use Rattle.cli_project.specs.Works.{IsSound, work_of};
 ghost use Rattle.cli_work.specs.Outcomes.{outcome_of};
 ghost use Rattle.cli_make.specs.Answer.{BehindModule, JudgedBytes, MadeIn, folder};
 
@@ -57,9 +54,7 @@ fn behind_module(
     requires parts { length diagram.now.parts ≤ 64 }
     requires few { HasFewPins chip }
     ensures got { (a : Outside) → Got work_of outcome_of result (BehindModule project flash diagram.now chip) a a }
-    ensures plan { IfOk result (λ w. IsPlan (pins_of w.chips) w.plan) }
-    ensures few { IfOk result (λ w. All HasFewPins w.chips) }
-    ensures inputs { IfOk result (λ w. AreInputs (length w.plan.parts) w.plan.inputs) }
+    ensures sound { IfOk result (λ w. IsSound (work_of w)) }
 {
     let Ok(chips) = only(alloc, chip) else {
         return Err(WorkEnd::OutOfMemory);
@@ -93,9 +88,7 @@ fn behind_module(
 /// The firmware, the chip and the plan of a seed's board, or the end of the work by a rule that they break.
 pub(crate) fn made_work(alloc: Global, seed: u32) -> Result<Work, WorkEnd>
     ensures got { (a : Outside) → Got work_of outcome_of result (MadeIn seed) a a }
-    ensures plan { IfOk result (λ w. IsPlan (pins_of w.chips) w.plan) }
-    ensures few { IfOk result (λ w. All HasFewPins w.chips) }
-    ensures inputs { IfOk result (λ w. AreInputs (length w.plan.parts) w.plan.inputs) }
+    ensures sound { IfOk result (λ w. IsSound (work_of w)) }
 {
     let Ok(made) = make(alloc, seed) else {
         return Err(WorkEnd::OutOfMemory);

@@ -1,16 +1,12 @@
 //! `make SEED --us N`: the generated board runs, and one line says what it counts.
-ghost use Rattle.std.specs.Prelude.{◌≡◌, ◌≤◌, ◌<◌, ◌+◌, length, IfOk, string_bytes};
-ghost use Rattle.std.specs.List.{All};
+ghost use Rattle.std.specs.Prelude.{◌≡◌, ◌≤◌, ◌<◌, ◌+◌, IfOk, string_bytes};
 ghost use Rattle.sim_base.specs.Outside.{SameOthers, SamePorts};
 ghost use Rattle.outcome_model.specs.Happens.{Ends, Counts};
 ghost use Rattle.outcome_model.specs.Outcome as ends;
 ghost use Rattle.outcome_model.specs.Stop.{printed};
 ghost use Rattle.outcome_model.specs.Work.{RanOn, SaidNothing};
-ghost use Rattle.board_model.specs.Fits.{AreInputs};
-ghost use Rattle.board_build.specs.IsPlan.{IsPlan};
-ghost use Rattle.chip_module.specs.Sources.{HasFewPins, pins_of};
 ghost use Rattle.cli_board.specs.Run.{run_wakes};
-ghost use Rattle.cli_project.specs.Works.{work_of};
+ghost use Rattle.cli_project.specs.Works.{IsSound, work_of};
 ghost use Rattle.cli_work.specs.Outcomes.{outcome_of};
 ghost use Rattle.cli_make.specs.Answer.{MakeAnswer, contents, line, made_line};
 
@@ -41,9 +37,7 @@ fn counted_line<B: Bench, L: Ledger>(
     bench: &mut B,
     steps: &mut Steps<L>,
 ) -> Result<String, OutOfMemory>
-    requires plan { IsPlan (pins_of work.chips) work.plan }
-    requires few_pins { All HasFewPins work.chips }
-    requires inputs { AreInputs (length work.plan.parts) work.plan.inputs }
+    requires sound { IsSound (work_of work) }
     requires some { 0 < n }
     requires end { n ≤ MOST_CYCLES }
     ensures line { IfOk result (λ s. string_bytes s ≡ made_line seed n (work_of work)) }
@@ -79,9 +73,7 @@ fn run_made<B: Bench, L: Ledger>(
     bench: &mut B,
     steps: &mut Steps<L>,
 ) -> WorkEnd
-    requires plan { IsPlan (pins_of work.chips) work.plan }
-    requires few_pins { All HasFewPins work.chips }
-    requires inputs { AreInputs (length work.plan.parts) work.plan.inputs }
+    requires sound { IsSound (work_of work) }
     requires some { 0 < n }
     requires end { n ≤ MOST_CYCLES }
     ensures ran { RanOn Port.Report (outcome_of result) (printed (made_line seed n (work_of work))) (B.outside bench.old) (B.outside bench.new) }

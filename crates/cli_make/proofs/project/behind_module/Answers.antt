@@ -1,7 +1,9 @@
-use Rattle.std.proofs.Common.{◌∙◌, ℕ, List, [], ◌∷◌, None, Ok, refl, ap, sym}
+use Rattle.std.proofs.Common.{◌∙◌, ◌<◌, ℕ, List, [], ◌∷◌, None, Ok, refl, arith, ap, sym}
+use Rattle.std.proofs.lemmas.List.Elements.{All-push}
 use Rattle.outcome_model.specs.Work.{Reading}
 use Rattle.outcome_model.proofs.ReadLemmas.{if_always, first_stops, got_both, steady_rule}
 use Rattle.board_build.specs.declared.plan.Plan.{Plan}
+use Rattle.chip_module.specs.Sources.{HasFewPins}
 use Rattle.chip_module.specs.declared.source.ChipSource.{ChipSource}
 use Rattle.document_model.specs.declared.project.Project.{Project}
 use Rattle.project_model.specs.Work as model
@@ -40,3 +42,12 @@ returns-in-Err-clause-got c = λ a.
     let planned : Reading Plan = PlanIn folder None c.args.project c.args.diagram.now (chip ∷ []) [] in
     first_stops planned (with_plan c.args.project c.args.flash chip) (outcome_of c.in-Err.end) a a
     (rw (c.as_slice.ensures, c.in-Ok.ensures, c.new-rows.ensures) at (c.in-Err.ensures.got a))
+
+pub returns-in-Ok-plan_board-clause-sound : goal.returns-in-Ok-plan_board-clause-sound
+returns-in-Ok-plan_board-clause-sound c = record {
+  plan = rw c.as_slice.ensures at c.in-Ok-plan_board.ensures.plan;
+  few_pins = rw c.in-Ok.ensures (All-push HasFewPins [] c.args.chip (λ (k : ℕ) (d : ChipSource) (none : k < 0). absurd (omega (arith, none))) c.requires.few);
+  each = rw (c.in-Ok.ensures, c.requires.chips) refl;
+  inputs = c.in-Ok-plan_board.ensures.inputs;
+  short = rw c.new-wave.ensures.items (omega arith);
+}

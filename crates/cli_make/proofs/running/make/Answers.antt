@@ -10,23 +10,20 @@ use Rattle.cli_make.specs.Answer.{MadeIn, MakeAnswer, made_texts}
 use Rattle.cli_make.proofs.MakeLemmas.{make_answer, make_stops, made_ends, made_silent}
 use Rattle.cli_make.proofs.running.make.Goals as goal
 
-pub returns-in-Ok-clause-ends : goal.returns-in-Ok-clause-ends
-returns-in-Ok-clause-ends g c =
+pub returns-in-Ok : goal.returns-in-Ok
+returns-in-Ok g c =
     let a : Outside = g.B.Bench.outside c.args.bench.now in
-    made_ends c.args.seed c.args.micros (work_of c.in-Ok.work) (outcome_of c.run_made.result) a (g.B.Bench.outside c.run_made.new.bench)
-    (c.in-Ok.ensures.got a).0 c.run_made.ensures.ran c.run_made.ensures.others
-
-pub returns-in-Ok-clause-counts : goal.returns-in-Ok-clause-counts
-returns-in-Ok-clause-counts g c =
-    let a : Outside = g.B.Bench.outside c.args.bench.now in
+    let b : Outside = g.B.Bench.outside c.run_made.new.bench in
     let seed : ℕ = c.args.seed in
     let us : ℕ = c.args.micros in
     let work : Work = work_of c.in-Ok.work in
-    ran_counts (MakeAnswer seed us) (made_texts seed (16 * us) work) (outcome_of c.run_made.result) a c.args.steps.now c.run_made.new.steps
-    (make_answer seed us a.files work (c.in-Ok.ensures.got a).0) c.run_made.ensures.steps
-
-pub returns-in-Ok-clause-silent : goal.returns-in-Ok-clause-silent
-returns-in-Ok-clause-silent g c = made_silent (g.B.Bench.outside c.args.bench.now) (g.B.Bench.outside c.run_made.new.bench) c.run_made.ensures.others
+    let o = outcome_of c.run_made.result in
+    let read = (c.in-Ok.ensures.got a).0 in
+    record {
+      ends = made_ends seed us work o a b read c.run_made.ensures.ran c.run_made.ensures.others;
+      counts = ran_counts (MakeAnswer seed us) (made_texts seed (16 * us) work) o a c.args.steps.now c.run_made.new.steps (make_answer seed us a.files work read) c.run_made.ensures.steps;
+      silent = made_silent a b c.run_made.ensures.others;
+    }
 
 pub returns-in-Err-clause-ends : goal.returns-in-Err-clause-ends
 returns-in-Err-clause-ends g c =
