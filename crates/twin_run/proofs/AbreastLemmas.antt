@@ -1,5 +1,5 @@
 -- A twin goes on by steady cycles or by one cycle, and what it is answered with at its end.
-use Rattle.std.proofs.Common.{◌≡◌, ℕ, zero, suc, ◌+◌, ◌-◌, ◌<◌, ◌≤◌, List, ◌∙◌, length, map, true, Option, None, Some, refl, ap, sym, arith, subst, get_or}
+use Rattle.std.proofs.Common.{◌≡◌, ℕ, zero, suc, ◌+◌, ◌-◌, ◌<◌, ◌≤◌, List, ◌∙◌, length, map, true, Option, None, Some, refl, ap, sym, arith, subst, get_or, inl, inr}
 use Rattle.std.specs.Prelude.{slice_get, if◌then◌else◌}
 use Rattle.std.specs.Option.{option_or}
 use Rattle.std.proofs.lemmas.List.{length-map}
@@ -9,16 +9,17 @@ use Rattle.sim_base.specs.declared.signal.Level.{Level}
 use Rattle.sim_base.specs.declared.wiring.Wiring.{Wiring}
 use Rattle.sim_base.specs.declared.wiring.Input.{Input}
 use Rattle.part_law.specs.Machine.{Machine, Laws, glide, IsQuiet}
+use Rattle.part_law.specs.declared.part.Part.{Ghosts}
 use Rattle.part_law.proofs.MachineLemmas.{glide_holds, glide_pins}
-use Rattle.board_model.specs.Board.{level_at, own_nets, levels_of, input_at, states}
+use Rattle.board_model.specs.Board.{level_at, own_nets, levels_of, states}
 use Rattle.board_model.specs.Fits.{Fits}
 use Rattle.board_model.specs.Resolve.{resolve}
 use Rattle.board_model.specs.Rows.{Shown, shown_of, shown_before}
-use Rattle.board_model.specs.Fresh.{AreFresh}
 use Rattle.board_model.proofs.Lists.{get_within, length-below, some_map, some_same}
+use Rattle.board_model.proofs.RoomLemmas.{fits_after}
 use Rattle.board_model.proofs.Steps.{length-states}
 use Rattle.board_laws.specs.Active.{active_in, active_at, active_pairs}
-use Rattle.board_laws.specs.FirstDiff.{Difference, part_diff, stepped_beside, first_beside, first_diff, SamePins}
+use Rattle.board_laws.specs.FirstDiff.{Difference, part_diff, stepped_beside, first_beside, first_diff}
 use Rattle.board_laws.specs.Steady.{IsSteady}
 use Rattle.board_laws.specs.Twin.{chips_before, with_chips}
 use Rattle.board_laws.specs.Worlds.{is_chip, SameRest, SameChips}
@@ -29,295 +30,390 @@ use Rattle.board_laws.specs.Stands.{Stands}
 use Rattle.board_laws.proofs.StandsLaw.{stands_here, stands_shows}
 use Rattle.board_laws.proofs.SteadyLaw.{steady_states}
 use Rattle.board_laws.proofs.WithChips.{rest_with_chips, get-with_chips}
+use Rattle.board_run.specs.BoardView.{BoardView}
 use Rattle.board_run.specs.Lagging.{AreDue}
 use Rattle.board_run.specs.Seen.{levels_on}
-use Rattle.board_run.proofs.NextLemmas.{quiet_until}
+use Rattle.board_run.proofs.NextLemmas.{below_or, quiet_until}
 use Rattle.board_run.proofs.StepLemmas.{fits_pins}
-use Rattle.board_run.proofs.TurnLemmas.{some_there}
-use Rattle.twin_run.specs.Beside.{IsChipOf, HasChips, ChipsStand, ChipsHold, ChipsTurned, Abreast, beside_at, beside_pairs}
-use Rattle.twin_run.specs.Twins.{HaveNoContacts, IsTwin, differs, end_of, chip_pairs}
+use Rattle.twin_run.specs.Beside.{Abreast, AreBehind, AreComparable, BoardWent, ChipsStand, ChipsTurned, HasRoom, IsChipOf, active_beside, beside_at, beside_pairs, difference_of, own_at}
+use Rattle.twin_run.specs.Twins.{AreTwins, HaveNoContacts, IsTwin, TwinView, differs, end_of, chip_pairs, other_states}
+use Rattle.twin_run.specs.declared.beside.Beside.{Beside}
+use Rattle.twin_run.specs.declared.chips.Chips.{Chips}
 use Rattle.twin_run.specs.declared.twin.TwinEnd.TheVariants as ends
 use Rattle.twin_run.proofs.DifferenceLemmas.{by_drives}
 use Rattle.twin_run.proofs.MuteLemmas.{active_before, rest_before, rest_up_to, sees_first}
-use Rattle.twin_run.proofs.BesideLemmas.{As, Bs, chip_inside, pins_beside, pairs_rise, length-beside, chips_sleep, none_in, stand_next, may_next, fit_next, held_next, counted}
+use Rattle.twin_run.proofs.BesideLemmas.{a_at, behind_next, chip_inside, chips_sleep, counted, none_in, pairs_rise, pins_beside, sized_a, sized_b, stand_next}
 
-module _ {S P : Type 0} (m : Machine S) (laws : Laws m) (w : Wiring) (inputs : List Input) (state : P → S) (now wakes : P → ℕ) (xs ys : List S)
-    (pins : SamePins m w xs ys) (sized : length w.chip ≡ length xs) (unscripted : (t k : ℕ) → is_chip w k ≡ true → input_at inputs t k ≡ None) where
-  abbrev A : ℕ → List S
-  A t = As m laws w inputs state now wakes xs ys t
-
-  abbrev B : ℕ → List S
-  B t = Bs m laws w inputs state now wakes xs ys t
-
-  abbrev Is : ℕ → List P → List P → List (Option ℕ) → List Level → ℕ → ℕ → Type 0
-  Is t parts chips dues before steps more = Abreast m w inputs state now wakes xs ys t parts chips dues before steps more
-
-  -- no difference was found in cycle t
-  same_at : (t : ℕ) → part_diff m w t 0 (A t) (B t) ≡ None → SameChips m w (A t) (B t)
-  same_at t none = same_chips m w t (A t) (B t) (pins_beside m laws w inputs state now wakes xs ys pins t) none
-
-  sized_a : (t : ℕ) → length (A t) ≡ length w.chip
-  sized_a t = length-states m w inputs xs 0 t ∙ sym sized
-
-  sized_b : (t : ℕ) → length (B t) ≡ length w.chip
-  sized_b t = length-beside m w inputs xs ys t ∙ sym pins.long ∙ sym sized
-
-  a_at : (t k : ℕ) → is_chip w k ≡ true → (s : S) × (slice_get (A t) k ≡ Some s)
-  a_at t k is = some_there (A t) k (let l = chip_inside w.chip k is in let z = sized_a t in omega (arith, l, z))
-
-  b_at : (t k : ℕ) → is_chip w k ≡ true → (s : S) × (slice_get (B t) k ≡ Some s)
-  b_at t k is = some_there (B t) k (let l = chip_inside w.chip k is in let z = sized_b t in omega (arith, l, z))
-
-  module _ (t steps more : ℕ) (parts chips : List P) (dues : List (Option ℕ)) (before : List Level) (is : Is t parts chips dues before steps more) where
-    -- a chip has as many pins as the board's
-    alike_pins : (k : ℕ) (q : P) (s : S) → IsChipOf w chips k q → slice_get (A t) k ≡ Some s → length (m.drives (state q)) ≡ length (m.drives s)
-    alike_pins k q s of es =
-        let b = b_at t k of.0 in
-        ap length (stands_shows m laws t (now q) (state q) b.0 (is.stand k q b.0 of b.1)).drives ∙ sym ((pins_beside m laws w inputs state now wakes xs ys pins t).each k s b.0 es b.1 of.0)
-
-    -- what `difference` compares is what the boards show
-    pub diff_is : part_diff m w t 0 (map state parts) (with_chips w (map state parts) (map state chips)) ≡ part_diff m w t 0 (A t) (B t)
-    diff_is =
-        let here = is.states_are in
-        let rest = rest_with_chips w (map state parts) (map state chips) in
-        let sizes : length (map state parts) ≡ length (A t) = ap length here in
-        let za = sized_a t in
-        let zb = sized_b t in
-        let long = rest.long in
-        by_drives m w t 0 (map state parts) (with_chips w (map state parts) (map state chips)) (B t) (omega (arith, sizes, za, zb, long)) (λ k a b ea eb chip.
-        let z : 0 + k ≡ k = omega arith in
-        let one : is_chip w k ≡ true = ap (is_chip w) (sym z) ∙ chip in
-        let q = is.has k one in
-        let inside : k < length (map state parts) = (let l = chip_inside w.chip k one in omega (arith, l, sizes, za)) in
-        let at = get-with_chips w k (map state parts) (map state chips) (state q.0) inside one (some_map state chips (chips_before w k) q.0 q.1) in
-        ap m.drives (some_same (sym ea ∙ at)) ∙ (stands_shows m laws t (now q.0) (state q.0) b (is.stand k q.0 b (one, q.1) eb)).drives)
-        ∙ ap (λ (l : List S). part_diff m w t 0 l (B t)) here
-
-    pub as_many : length parts ≡ length xs
-    as_many = (let e : length (map state parts) ≡ length parts = simp length-map refl in sym e) ∙ ap length is.states_are ∙ length-states m w inputs xs 0 t
-
-    -- what is asked of two parts that are compared
-    pub compared : (k : ℕ) (p q : P) → slice_get parts k ≡ Some p → is_chip w k ≡ true → slice_get chips (chips_before w k) ≡ Some q → length (m.drives (state q)) ≡ length (m.drives (state p))
-    compared k p q ep one eq = alike_pins k q (state p) (one, eq) (ap (λ (l : List S). slice_get l k) (sym is.states_are) ∙ some_map state parts k p ep)
-
-    -- by steady cycles in which no chip is due
-    pub goes_still : (u most : ℕ) (new : List P) → part_diff m w t 0 (A t) (B t) ≡ None →
-        0 < t → t < u → u ≤ MOST_CYCLES → ((j x : ℕ) → slice_get dues j ≡ Some (Some x) → u ≤ x) → IsSteady m w inputs (map state parts) t (u - t) → map state new ≡ states m w inputs (map state parts) t (u - t) →
-        most ≡ more + active_pairs m w inputs (map state parts) t (u - t) → Is u new chips dues before steps most
-    goes_still u most new none after less end late steady moved counts =
-        let e : t + (u - t) ≡ u = omega (arith, less) in
-        let here = is.states_are in
-        let still : IsSteady m w inputs (A t) t (u - t) = subst (λ (l : List S). IsSteady m w inputs l t (u - t)) here steady in
-        let quiet_to : (k : ℕ) (q : P) → IsChipOf w chips k q → IsQuiet m (state q) (now q) (t + (u - t) - now q) = λ k q of. subst (λ (v : ℕ). IsQuiet m (state q) (now q) (v - now q)) (sym e) (quiet k q of) in
-        let holds = hold still in
-        let stand : ChipsStand m w state now wakes (t + (u - t)) chips (B (t + (u - t))) = chips_sleep m laws w inputs state now wakes xs ys t (u - t) chips still is.stand quiet_to holds (u - t) (omega arith) in
-        let nothing : first_beside m w inputs xs ys 0 (t + (u - t)) ≡ None = none_in m laws w inputs state now wakes xs ys t (u - t) chips still is.stand quiet_to holds is.has (same_at t none) pins is.none (u - t) (omega arith) in
-        let z : 0 + t ≡ t = omega arith in
-        let pairs = pairs_split m w inputs xs 0 t (u - t) ∙ ap (λ (v : ℕ). active_pairs m w inputs xs 0 t + active_pairs m w inputs (A t) v (u - t)) z in
-        let split : A (t + (u - t)) ≡ states m w inputs (A t) t (u - t) = states_split m w inputs xs 0 t (u - t) ∙ ap (λ (v : ℕ). states m w inputs (A t) v (u - t)) z in
-        let more_pairs = ap (λ (l : List S). active_pairs m w inputs l t (u - t)) here in
-        let rise = pairs_rise m w inputs xs ys t (u - t) in
-        let so_far = is.steps_are in
-        let end_pairs = ap (active_pairs m w inputs xs 0) e in
-        let end_beside = ap (beside_pairs m w inputs xs ys) e in
-        record {
-          states_are = moved ∙ ap (λ (l : List S). states m w inputs l t (u - t)) here ∙ sym split ∙ ap A e;
-          has = is.has;
-          stand = subst (λ (v : ℕ). ChipsStand m w state now wakes v chips (B v)) e stand;
-          may = λ k q d of ed. let x = is.may k q d of ed in let l = x.not_later in record { not_later = omega (arith, l, less); count = x.count; quiet = quiet k q of; first = x.first };
-          dues_long = is.dues_long;
-          fit = is.fit;
-          held = λ _. is.held after;
-          of_board = λ _. board_still still (sym split ∙ ap A e);
-          none = ap (first_beside m w inputs xs ys 0) (sym e) ∙ nothing;
-          rose = let r = is.rose in omega (arith, r, counts);
-          steps_are = omega (arith, so_far, counts, pairs, more_pairs, rise, end_pairs, end_beside);
-        }
-      where
-        quiet : (k : ℕ) (q : P) → IsChipOf w chips k q → IsQuiet m (state q) (now q) (u - now q)
-        quiet k q of =
-            let within : chips_before w k < length dues = (let l = slice_get_within chips (chips_before w k) q of.1 in let d = is.dues_long in omega (arith, l, d)) in
-            let d = get_or dues (chips_before w k) None in
-            let ed : slice_get dues (chips_before w k) ≡ Some d = get_within dues (chips_before w k) None within in
-            quiet_until m state now wakes t u d q (omega (arith, less)) end (is.may k q d of ed) (λ x e l. late (chips_before w k) x (ed ∙ ap Some e))
-
-        hold : IsSteady m w inputs (A t) t (u - t) → (k : ℕ) (q : P) → IsChipOf w chips k q → m.held (state q) ≡ levels_on m w (levels_of m w (A t)) k (state q)
-        hold still k q of =
-            let a = a_at t k of.0 in
-            let n = alike_pins k q a.0 of a.1 in
-            is.held after k q of ∙ ap (λ (i : ℕ). map (level_at before) (own_nets w k i)) n ∙ sym (is.of_board after k a.0 of.0 a.1) ∙ still.held k a.0 a.1
-            ∙ ap (λ (i : ℕ). map (level_at (levels_of m w (A t))) (own_nets w k i)) (sym n)
-
-        board_still : IsSteady m w inputs (A t) t (u - t) → states m w inputs (A t) t (u - t) ≡ A u → (k : ℕ) (s : S) → is_chip w k ≡ true → slice_get (A u) k ≡ Some s → m.held s ≡ levels_on m w before k s
-        board_still still e k s one es =
-            let a = a_at t k one in
-            let at : slice_get (states m w inputs (A t) t (u - t)) k ≡ Some s = ap (λ (l : List S). slice_get l k) e ∙ es in
-            let g : s ≡ glide m a.0 t (u - t) = (steady_states m laws w inputs (A t) t (u - t) still (u - t) (omega arith)).each k a.0 s a.1 at in
-            ap m.held g ∙ glide_holds m laws a.0 t (u - t) ∙ is.of_board after k a.0 one a.1
-            ∙ ap (λ (i : ℕ). map (level_at before) (own_nets w k i)) (sym (ap (λ (x : S). length (m.drives x)) g ∙ glide_pins m laws a.0 t (u - t)))
-
-    -- by one cycle, in which the chips had their turns
-    pub goes_step : (most last : ℕ) (new moved : List P) (after : List (Option ℕ)) (ls : List Level) → part_diff m w t 0 (A t) (B t) ≡ None → t < MOST_CYCLES →
-        map state new ≡ states m w inputs (map state parts) t 1 → most ≡ more + active_pairs m w inputs (map state parts) t 1 → ls ≡ levels_of m w (A t) →
-        ChipsTurned m w state now wakes before ls t (length w.chip) chips moved dues after most last → Is (t + 1) new moved after ls steps last
-    unfolding first_beside
-    goes_step most last new moved after ls none end states_new counts are turned =
-        let e : t + 1 ≡ suc t = omega arith in
-        let here = is.states_are in
-        let turns : ChipsTurned m w state now wakes before (levels_of m w (A t)) t (length w.chip) chips moved dues after most last = subst (λ (l : List Level). ChipsTurned m w state now wakes before l t (length w.chip) chips moved dues after most last) are turned in
-        let zb = sized_b t in
-        let held = held_next m laws w inputs state now wakes xs ys t chips moved dues after before most last end turns is.has is.may is.stand is.dues_long is.held unscripted zb in
-        let all : length ys ≡ length w.chip = sym pins.long ∙ sym sized in
-        let pairs = counted m laws w inputs state now wakes xs ys t chips moved dues after before most last end turns is.has is.may is.stand is.dues_long is.held unscripted zb all in
-        let z : 0 + t ≡ t = omega arith in
-        let board_pairs = pairs_split m w inputs xs 0 t 1 ∙ ap (λ (v : ℕ). active_pairs m w inputs xs 0 t + active_pairs m w inputs (A t) v 1) z in
-        let more_pairs = ap (λ (l : List S). active_pairs m w inputs l t 1) here in
-        let so_far = is.steps_are in
-        let woken = turned.steps_are in
-        record {
-          states_are = states_new ∙ ap (λ (l : List S). states m w inputs l t 1) here ∙ sym (states_split m w inputs xs 0 t 1 ∙ ap (λ (v : ℕ). states m w inputs (A t) v 1) z);
-          has = λ k one.
-              let q = is.has k one in
-              let within : chips_before w k < length moved = (let l = slice_get_within chips (chips_before w k) q.0 q.1 in let n = turned.long in omega (arith, l, n)) in
-              (get_or moved (chips_before w k) q.0, get_within moved (chips_before w k) q.0 within);
-          stand = stand_next m laws w inputs state now wakes xs ys t chips moved dues after before most last end turns is.has is.may is.stand is.dues_long is.held unscripted;
-          may = may_next m laws w inputs state now wakes xs ys t chips moved dues after before most last end turns is.has is.may is.stand is.dues_long is.held unscripted zb;
-          dues_long = turned.dues_long ∙ is.dues_long ∙ sym turned.long;
-          fit = fit_next m laws w inputs state now wakes xs ys t chips moved dues after before most last end turns is.has is.may is.stand is.dues_long is.held unscripted zb is.fit;
-          held = λ _. subst (λ (l : List Level). ChipsHold m w state now wakes l moved) (sym are) held;
-          of_board = λ _ k s one es.
-              held_before m w inputs laws xs 0 t k s (ap (λ (v : ℕ). slice_get (A v) k) (sym e) ∙ es)
-              ∙ ap (λ (l : List Level). levels_on m w l k s) (sym are);
-          none = ap (first_beside m w inputs xs ys 0) e ∙ ap (λ o. option_or o (part_diff m w (0 + t) 0 (A t) (B t))) is.none ∙ ap (λ (v : ℕ). part_diff m w v 0 (A t) (B t)) z ∙ none;
-          rose = let r = is.rose in omega (arith, r, counts, woken);
-          steps_are = omega (arith, so_far, counts, board_pairs, more_pairs, pairs, woken);
-        }
-
-  -- a difference that was found stays the first
-  stays : (t : ℕ) (d : Difference) → first_beside m w inputs xs ys 0 t ≡ Some d → (j : ℕ) → first_beside m w inputs xs ys 0 (t + j) ≡ Some d
-  unfolding first_beside
-  stays t d found zero = let e : t + 0 ≡ t = omega arith in ap (first_beside m w inputs xs ys 0) e ∙ found
-  stays t d found (suc j) =
-      let e : t + suc j ≡ suc (t + j) = omega arith in
-      ap (first_beside m w inputs xs ys 0) e ∙ ap (λ o. option_or o (part_diff m w (0 + (t + j)) 0 (A (t + j)) (B (t + j)))) (stays t d found j)
-
-  module _ (free : HaveNoContacts m w xs ys) (rest : SameRest w xs ys) where
-    sees : (n : ℕ) → first_beside m w inputs xs ys 0 n ≡ first_diff m w inputs xs ys 0 n
-    sees n = sees_first m w inputs xs ys laws free rest pins n
-
-    or_first : {A : Type 0} (o q : Option A) → option_or o q ≡ None → o ≡ None
-    or_first None q h = refl
-    or_first (Some x) q h = absurd cc
-
-    -- before the first difference the chips are active where they are in their own board
-    pairs_are : (t : ℕ) → first_diff m w inputs xs ys 0 t ≡ None → beside_pairs m w inputs xs ys t ≡ chip_pairs m w inputs ys t
-    unfolding first_diff
-    pairs_are zero none = refl
-    pairs_are (suc t) none =
-        let z : 0 + t ≡ t = omega arith in
-        let before = pairs_are t (or_first _ _ none) in
-        let same = sum_same m w inputs (length ys) (beside_at m w inputs xs ys t) (λ k. if is_chip w k then active_at m w inputs ys 0 k t else 0)
-        (λ k. ap (λ (x : ℕ). if is_chip w k then x else 0)
-        (ap (λ (v : ℕ). active_in m w inputs (levels_of m w (A t)) v k (slice_get (B t) k)) (sym z) ∙ active_before m w inputs xs ys laws free rest pins t none k)) in
-        omega (arith, before, same)
-
-    pub ends_same : (n steps more : ℕ) (parts chips : List P) (dues : List (Option ℕ)) (before : List Level) → Is n parts chips dues before steps more → IsTwin m w inputs xs ys n ends.Same steps more
-    ends_same n steps more parts chips dues before is =
-        let none : first_diff m w inputs xs ys 0 n ≡ None = sym (sees n) ∙ is.none in
-        let so_far = is.steps_are in
-        let pairs = pairs_are n none in
-        record {
-          sees = ap end_of (sym none);
-          rose = is.rose;
-          wakes = omega (arith, so_far, pairs);
-          rest = rest_before m w inputs xs ys laws free rest pins n none;
-        }
-
-    pub ends_differ : (t n steps more : ℕ) (parts chips : List P) (dues : List (Option ℕ)) (before : List Level) (d : Difference) → Is t parts chips dues before steps more → t < n →
-        part_diff m w t 0 (A t) (B t) ≡ Some d → d.cycle ≡ t → IsTwin m w inputs xs ys n (differs d) steps more
-    unfolding first_beside
-    ends_differ t n steps more parts chips dues before d is less found at =
-        let e : suc t + (n - suc t) ≡ n = omega (arith, less) in
-        let first : first_beside m w inputs xs ys 0 (suc t) ≡ Some d = ap (λ o. option_or o (part_diff m w (0 + t) 0 (A t) (B t))) is.none ∙ ap (λ (v : ℕ). part_diff m w v 0 (A t) (B t)) (let z : 0 + t ≡ t = omega arith in z) ∙ found in
-        let all : first_diff m w inputs xs ys 0 n ≡ Some d = sym (sees n) ∙ ap (first_beside m w inputs xs ys 0) (sym e) ∙ stays (suc t) d first (n - suc t) in
-        let none : first_diff m w inputs xs ys 0 t ≡ None = sym (sees t) ∙ is.none in
-        let so_far = is.steps_are in
-        let pairs = pairs_are t none in
-        let one_pairs = ap (active_pairs m w inputs xs 0) at in
-        let other_pairs = ap (chip_pairs m w inputs ys) at in
-        record {
-          sees = ap end_of (sym all);
-          rose = is.rose;
-          wakes = omega (arith, so_far, pairs, one_pairs, other_pairs);
-          rest = λ u l. rest_up_to m w inputs xs ys laws free rest pins n d all u (omega (arith, l));
-        }
-
--- a twin at its start
-pub abreast_start : {S P : Type 0} (m : Machine S) (laws : Laws m) (w : Wiring) (inputs : List Input) (state : P → S) (now wakes : P → ℕ) (parts chips : List P) (dues : List (Option ℕ)) (before : List Level) (steps : ℕ) →
-    Fits m w (map state parts) → HasChips w chips → AreFresh m state now wakes chips → SamePins m w (map state parts) (with_chips w (map state parts) (map state chips)) → AreDue m state now wakes chips dues → length dues ≡ length chips →
-    Abreast m w inputs state now wakes (map state parts) (with_chips w (map state parts) (map state chips)) 0 parts chips dues before steps steps
-unfolding states stepped_beside first_beside
-abreast_start {S = S} {P = P} m laws w inputs state now wakes parts chips dues before steps fits has fresh pins due long = record {
-  states_are = refl;
-  has = has;
-  stand = λ k q s of es.
-      let same : state q ≡ s = some_same (sym (at k q of) ∙ es) in
-      subst (λ (x : S). Stands m 0 (now q) (state q) x) same
-      (subst (λ (a : ℕ). Stands m 0 a (state q) (state q)) (sym (fresh.at_start (chips_before w k) q of.1)) (stands_here m laws 0 (state q) (fresh.are_valid (chips_before w k) q of.1)));
-  may = λ k q d of ed.
-      let zero_now = fresh.at_start (chips_before w k) q of.1 in
-      let never = fresh.never_woken (chips_before w k) q of.1 in
-      record { not_later = omega (arith, zero_now); count = omega (arith, never); quiet = λ i (h : i < 0 - now q). absurd (omega arith); first = due (chips_before w k) q d of.1 ed };
-  dues_long = long;
-  fit = λ k q of.
-      let a = some_there (map state parts) k (inside k of.0) in
-      let same = pins.each k a.0 (state q) a.1 (at k q of) of.0 in
-      let room = fits_pins m w (map state parts) fits k a.0 a.1 in
-      omega (arith, same, room);
-  held = λ (later : 0 < 0). absurd (omega arith);
-  of_board = λ (later : 0 < 0). absurd (omega arith);
-  none = refl;
-  rose = omega arith;
-  steps_are = omega arith;
-}
-  where
-    inside : (k : ℕ) → is_chip w k ≡ true → k < length (map state parts)
-    inside k is = let l = chip_inside w.chip k is in let z = fits.chips in omega (arith, l, z)
-
-    at : (k : ℕ) (q : P) → IsChipOf w chips k q → slice_get (with_chips w (map state parts) (map state chips)) k ≡ Some (state q)
-    at k q of = get-with_chips w k (map state parts) (map state chips) (state q) (inside k of.0) of.0 (some_map state chips (chips_before w k) q of.1)
-
-module _ {S : Type 0} (m : Machine S) (w : Wiring) (inputs : List Input) (ss : List S) (t : ℕ) where
-  -- over no cycles nothing happens
-  pub none_passed : ss ≡ states m w inputs ss t (t - t)
-  unfolding states
-  none_passed = let e : t - t ≡ 0 = omega arith in sym (ap (states m w inputs ss t) e)
-
-  pub none_counted : (steps : ℕ) → steps ≡ steps + active_pairs m w inputs ss t (t - t)
-  none_counted steps = let e : t - t ≡ 0 = omega arith in (let z : steps ≡ steps + 0 = omega arith in z) ∙ ap (λ (n : ℕ). steps + active_pairs m w inputs ss t n) (sym e)
-
+module _ {S : Type 0} (m : Machine S) (w : Wiring) (ss : List S) where
   -- what the cycle before showed, after one
-  pub shown_once : (c : ℕ) (before : Option Shown) → c ≡ t → shown_before m w inputs before ss c (t + 1 - c) ≡ Some (shown_of m w ss)
+  pub shown_once : (inputs : List Input) (t c : ℕ) (before : Option Shown) → c ≡ t → shown_before m w inputs before ss c (t + 1 - c) ≡ Some (shown_of m w ss)
   unfolding shown_before states
-  shown_once c before at = let e : t + 1 - c ≡ 1 = omega (arith, at) in ap (shown_before m w inputs before ss c) e
+  shown_once inputs t c before at = let e : t + 1 - c ≡ 1 = omega (arith, at) in ap (shown_before m w inputs before ss c) e
 
   pub length_levels : length (levels_of m w ss) ≡ w.nets
   unfolding resolve
   length_levels = simp length-map (length-below w.nets)
 
--- parts in the same states are as good
-pub abreast_again : {S P : Type 0} (m : Machine S) (w : Wiring) (inputs : List Input) (state : P → S) (now wakes : P → ℕ) (xs ys : List S) (t : ℕ) (parts other chips : List P) (dues : List (Option ℕ)) (before : List Level)
-    (steps more last : ℕ) → Abreast m w inputs state now wakes xs ys t parts chips dues before steps more → map state other ≡ map state parts → last ≡ more → Abreast m w inputs state now wakes xs ys t other chips dues before steps last
-abreast_again m w inputs state now wakes xs ys t parts other chips dues before steps more last is same counts = record {
-  states_are = same ∙ is.states_are;
-  has = is.has;
-  stand = is.stand;
-  may = is.may;
-  dues_long = is.dues_long;
-  fit = is.fit;
-  held = is.held;
-  of_board = is.of_board;
-  none = is.none;
-  rose = let r = is.rose in omega (arith, r, counts);
-  steps_are = let s = is.steps_are in omega (arith, s, counts);
-}
+module _ {P : Type 0} (part : Ghosts P) (laws : Laws part.machine) (start : TwinView P) where
+  abbrev m : Machine part.State
+  m = part.machine
+
+  abbrev w : Wiring
+  w = start.board.wiring
+
+  abbrev inputs : List Input
+  inputs = start.board.inputs
+
+  abbrev xs : List part.State
+  xs = map part.state start.board.parts
+
+  abbrev ys : List part.State
+  ys = other_states part.state start
+
+  abbrev A : ℕ → List part.State
+  A t = own_at part start t
+
+  abbrev B : ℕ → List part.State
+  B t = beside_at part start t
+
+  -- a twin at its start
+  pub abreast_start : (chips : Chips P) (steps : ℕ) → AreTwins m part.state part.now part.wake_count start → start.board.cycle ≡ 0 → chips.parts ≡ start.chips → AreDue m part.state part.now part.wake_count start.chips chips.dues →
+      length chips.dues ≡ length chips.parts → length chips.levels ≡ w.nets → length chips.own ≡ length w.net_of → Abreast part start (record { board = start.board; chips = chips }) steps steps
+  unfolding states stepped_beside first_beside
+  abreast_start chips steps twins zero_cycle are due long nets room =
+      subst (λ (n : ℕ). Abreast part start (record { board = record (start.board) { cycle = n }; chips = chips }) steps steps) (sym zero_cycle)
+      (subst (λ (l : List P). Abreast part start (record { board = record (start.board) { cycle = 0 }; chips = record chips { parts = l } }) steps steps) (sym are) at_start)
+    where
+      inside : (k : ℕ) → is_chip w k ≡ true → k < length xs
+      inside k is = let l = chip_inside w.chip k is in let z = twins.fits.chips in omega (arith, l, z)
+
+      at : (k : ℕ) (q : P) → IsChipOf w start.chips k q → slice_get ys k ≡ Some (part.state q)
+      at k q of = get-with_chips w k xs (map part.state start.chips) (part.state q) (inside k of.0) of.0 (some_map part.state start.chips (chips_before w k) q of.1)
+
+      at_start : Abreast part start (record { board = record (start.board) { cycle = 0 }; chips = record chips { parts = start.chips } }) steps steps
+      at_start = record {
+        twins = twins;
+        alive = twins.alive;
+        same_wiring = refl;
+        same_inputs = refl;
+        states_are = refl;
+        behind = record {
+          has = twins.each;
+          may = λ k q d of ed.
+              let zero_now = twins.fresh.at_start (chips_before w k) q of.1 in
+              let never = twins.fresh.never_woken (chips_before w k) q of.1 in
+              record { not_later = omega (arith, zero_now); count = omega (arith, never); quiet = λ i (h : i < 0 - part.now q). absurd (omega arith); first = due (chips_before w k) q d of.1 ed };
+          dues_long = long ∙ ap length are;
+          levels_long = nets;
+          own_long = room;
+          fit = λ k q of.
+              let a = a_at part laws start twins 0 k of.0 in
+              let same = twins.pins.each k a.0 (part.state q) a.1 (at k q of) of.0 in
+              let has = fits_pins m w xs twins.fits k a.0 a.1 in
+              omega (arith, same, has);
+          held = λ (later : 0 < 0). absurd (omega arith);
+        };
+        stand = λ k q s of es.
+            let same : part.state q ≡ s = some_same (sym (at k q of) ∙ es) in
+            subst (λ (x : part.State). Stands m 0 (part.now q) (part.state q) x) same
+            (subst (λ (a : ℕ). Stands m 0 a (part.state q) (part.state q)) (sym (twins.fresh.at_start (chips_before w k) q of.1))
+            (stands_here m laws 0 (part.state q) (twins.fresh.are_valid (chips_before w k) q of.1)));
+        of_board = λ (later : 0 < 0). absurd (omega arith);
+        none = refl;
+        rose = omega arith;
+        steps_are = omega arith;
+        woken = refl;
+      }
+
+  module _ (b : Beside P) (steps more : ℕ) (is : Abreast part start b steps more) where
+    abbrev t : ℕ
+    t = b.board.cycle
+
+    -- a chip has as many pins as the board's
+    alike_pins : (k : ℕ) (q : P) (s : part.State) → IsChipOf w b.chips.parts k q → slice_get (A t) k ≡ Some s → length (m.drives (part.state q)) ≡ length (m.drives s)
+    alike_pins k q s of es =
+        let inside : k < length (B t) = (let l = chip_inside w.chip k of.0 in let z = sized_b part laws start is.twins t in omega (arith, l, z)) in
+        let other : part.State = get_or (B t) k s in
+        let eb : slice_get (B t) k ≡ Some other = get_within (B t) k s inside in
+        ap length (stands_shows m laws t (part.now q) (part.state q) other (is.stand k q other of eb)).drives ∙ sym ((pins_beside part laws start is.twins t).each k s other es eb of.0)
+
+    many : length b.board.parts ≡ length start.board.parts
+    many =
+        let one : length (map part.state b.board.parts) ≡ length b.board.parts = simp length-map refl in
+        let other : length xs ≡ length start.board.parts = simp length-map refl in
+        sym one ∙ ap length is.states_are ∙ length-states m w inputs xs 0 t ∙ other
+
+    -- what is asked of chips that are compared
+    pub comparable : AreComparable part b.board.wiring b.board.parts b.chips.parts
+    comparable = subst (λ (v : Wiring). AreComparable part v b.board.parts b.chips.parts) (sym is.same_wiring) (record {
+      few = let f = is.twins.few in let e = many in omega (arith, f, e);
+      sized = is.twins.fits.chips ∙ (let other : length xs ≡ length start.board.parts = simp length-map refl in other) ∙ sym many;
+      has = is.behind.has;
+      pins = λ k p q ep of. alike_pins k q (part.state p) of (ap (λ (l : List part.State). slice_get l k) (sym is.states_are) ∙ some_map part.state b.board.parts k p ep);
+    })
+
+    pub room_kept : HasRoom b
+    room_kept = record {
+      dues = is.behind.dues_long;
+      levels = is.behind.levels_long ∙ sym (ap (λ (v : Wiring). v.nets) is.same_wiring);
+      own = is.behind.own_long ∙ sym (ap (λ (v : Wiring). length v.net_of) is.same_wiring);
+    }
+
+    pub fits_still : Fits m w (map part.state b.board.parts)
+    fits_still = subst (Fits m w) (sym is.states_are) (fits_after m laws w inputs xs 0 t is.twins.fits)
+
+    -- what `difference` compares is what the boards show
+    pub diff_is : difference_of part b ≡ part_diff m w t 0 (A t) (B t)
+    diff_is =
+        let parts : List part.State = map part.state b.board.parts in
+        let others : List part.State = with_chips w parts (map part.state b.chips.parts) in
+        let rest = rest_with_chips w parts (map part.state b.chips.parts) in
+        let sizes : length parts ≡ length (A t) = ap length is.states_are in
+        let za = sized_a part laws start is.twins t in
+        let zb = sized_b part laws start is.twins t in
+        let long = rest.long in
+        ap (λ (v : Wiring). part_diff m v t 0 parts (with_chips v parts (map part.state b.chips.parts))) is.same_wiring
+        ∙ by_drives m w t 0 parts others (B t) (omega (arith, sizes, za, zb, long)) (λ k x y ex ey chip.
+        let z : 0 + k ≡ k = omega arith in
+        let one : is_chip w k ≡ true = ap (is_chip w) (sym z) ∙ chip in
+        let q = is.behind.has k one in
+        let inside : k < length parts = (let l = chip_inside w.chip k one in omega (arith, l, sizes, za)) in
+        let at = get-with_chips w k parts (map part.state b.chips.parts) (part.state q.0) inside one (some_map part.state b.chips.parts (chips_before w k) q.0 q.1) in
+        ap m.drives (some_same (sym ex ∙ at)) ∙ (stands_shows m laws t (part.now q.0) (part.state q.0) y (is.stand k q.0 y (one, q.1) ey)).drives)
+        ∙ ap (λ (l : List part.State). part_diff m w t 0 l (B t)) is.states_are
+
+    -- what is asked for a turn of the chips
+    pub may_step : (v : Wiring) → v ≡ b.board.wiring → AreBehind part v t b.chips × (length v.first_pin ≡ length v.chip)
+    may_step v same = subst (λ (x : Wiring). AreBehind part x t b.chips × (length x.first_pin ≡ length x.chip)) (sym (same ∙ is.same_wiring)) (is.behind, is.twins.fits.parts ∙ sym is.twins.fits.chips)
+
+    -- after the board went on
+    module _ (new : BoardView P) (most : ℕ) (did : BoardWent part b.board.wiring b.board.inputs b.board new more most) where
+      abbrev u : ℕ
+      u = new.cycle
+
+      went : BoardWent part w inputs b.board new more most
+      went = subst (λ (v : Wiring). BoardWent part v inputs b.board new more most) is.same_wiring
+          (subst (λ (l : List Input). BoardWent part b.board.wiring l b.board new more most) is.same_inputs did)
+
+      there : t + (u - t) ≡ u
+      there = let o = went.order in omega (arith, o)
+
+      split : A u ≡ states m w inputs (A t) t (u - t)
+      split =
+          let z : 0 + t ≡ t = omega arith in
+          ap A (sym there) ∙ states_split m w inputs xs 0 t (u - t) ∙ ap (λ (v : ℕ). states m w inputs (A t) v (u - t)) z
+
+      board_is : map part.state new.parts ≡ A u
+      board_is = went.states_are ∙ ap (λ (l : List part.State). states m w inputs l t (u - t)) is.states_are ∙ sym split
+
+      pairs : most + active_pairs m w inputs xs 0 t ≡ more + active_pairs m w inputs xs 0 u
+      pairs =
+          let z : 0 + t ≡ t = omega arith in
+          let s = pairs_split m w inputs xs 0 t (u - t) ∙ ap (λ (v : ℕ). active_pairs m w inputs xs 0 t + active_pairs m w inputs (A t) v (u - t)) z in
+          let e = ap (active_pairs m w inputs xs 0) there in
+          let l = ap (λ (l : List part.State). active_pairs m w inputs l t (u - t)) is.states_are in
+          let c = went.steps_are in
+          omega (arith, s, e, l, c)
+
+      -- where it is in the same cycle, its chips drive as they did
+      pub same_there : u ≡ t → difference_of part b ≡ None → difference_of part (record b { board = new }) ≡ None
+      same_there at none =
+          let still : map part.state new.parts ≡ map part.state b.board.parts = board_is ∙ ap A at ∙ sym is.states_are in
+          ap (λ (v : Wiring). part_diff m v u 0 (map part.state new.parts) (with_chips v (map part.state new.parts) (map part.state b.chips.parts))) went.same_wiring
+          ∙ ap (λ (c : ℕ). part_diff m b.board.wiring c 0 (map part.state new.parts) (with_chips b.board.wiring (map part.state new.parts) (map part.state b.chips.parts))) at
+          ∙ ap (λ (l : List part.State). part_diff m b.board.wiring t 0 l (with_chips b.board.wiring l (map part.state b.chips.parts))) still ∙ none
+
+      -- by steady cycles, if by any, in which no chip is due
+      module _ (none : difference_of part b ≡ None) (end : u ≤ MOST_CYCLES) (late : t < u → (j x : ℕ) → slice_get b.chips.dues j ≡ Some (Some x) → u ≤ x)
+          (still : t < u → (0 < t) × IsSteady m b.board.wiring b.board.inputs (map part.state b.board.parts) t (u - t)) where
+        same_now : SameChips m w (A t) (B t)
+        same_now = same_chips m w t (A t) (B t) (pins_beside part laws start is.twins t) (sym diff_is ∙ none)
+
+        stays : u ≡ t → Abreast part start (record b { board = new }) steps most
+        stays at = record {
+          twins = is.twins;
+          alive = went.alive;
+          same_wiring = went.same_wiring ∙ is.same_wiring;
+          same_inputs = went.same_inputs ∙ is.same_inputs;
+          states_are = board_is;
+          behind = subst (λ (c : ℕ). AreBehind part w c b.chips) (sym at) is.behind;
+          stand = subst (λ (c : ℕ). ChipsStand part w c b.chips.parts (B c)) (sym at) is.stand;
+          of_board = subst (λ (c : ℕ). 0 < c → (k : ℕ) (s : part.State) → is_chip w k ≡ true → slice_get (A c) k ≡ Some s → m.held s ≡ levels_on m w b.chips.levels k s) (sym at) is.of_board;
+          none = ap (first_beside m w inputs xs ys 0) at ∙ is.none;
+          rose = let r = is.rose in let c = went.steps_are in omega (arith, r, c);
+          steps_are =
+              let s = is.steps_are in
+              let p = pairs in
+              let e = ap (beside_pairs part start) at in
+              omega (arith, s, p, e);
+          woken = let a = went.woken in let o = is.woken in omega (arith, a, o);
+        }
+
+        module _ (less : t < u) where
+          steady : IsSteady m w inputs (A t) t (u - t)
+          steady =
+              subst (λ (l : List part.State). IsSteady m w inputs l t (u - t)) is.states_are (subst (λ (v : Wiring). IsSteady m v inputs (map part.state b.board.parts) t (u - t)) is.same_wiring
+              (subst (λ (l : List Input). IsSteady m b.board.wiring l (map part.state b.board.parts) t (u - t)) is.same_inputs (still less).1))
+
+          quiet : (k : ℕ) (q : P) → IsChipOf w b.chips.parts k q → IsQuiet m (part.state q) (part.now q) (u - part.now q)
+          quiet k q of =
+              let within : chips_before w k < length b.chips.dues = (let l = slice_get_within b.chips.parts (chips_before w k) q of.1 in let d = is.behind.dues_long in omega (arith, l, d)) in
+              let d = get_or b.chips.dues (chips_before w k) None in
+              let ed : slice_get b.chips.dues (chips_before w k) ≡ Some d = get_within b.chips.dues (chips_before w k) None within in
+              quiet_until m part.state part.now part.wake_count t u d q (omega (arith, less)) end (is.behind.may k q d of ed) (λ x e l. late less (chips_before w k) x (ed ∙ ap Some e))
+
+          quiet_to : (k : ℕ) (q : P) → IsChipOf w b.chips.parts k q → IsQuiet m (part.state q) (part.now q) (t + (u - t) - part.now q)
+          quiet_to k q of = subst (λ (v : ℕ). IsQuiet m (part.state q) (part.now q) (v - part.now q)) (sym there) (quiet k q of)
+
+          hold : (k : ℕ) (q : P) → IsChipOf w b.chips.parts k q → m.held (part.state q) ≡ levels_on m w (levels_of m w (A t)) k (part.state q)
+          hold k q of =
+              let after = (still less).0 in
+              let a = a_at part laws start is.twins t k of.0 in
+              let n = alike_pins k q a.0 of a.1 in
+              is.behind.held after k q of ∙ ap (λ (i : ℕ). map (level_at b.chips.levels) (own_nets w k i)) n ∙ sym (is.of_board after k a.0 of.0 a.1) ∙ steady.held k a.0 a.1
+              ∙ ap (λ (i : ℕ). map (level_at (levels_of m w (A t))) (own_nets w k i)) (sym n)
+
+          goes : Abreast part start (record b { board = new }) steps most
+          goes = record {
+            twins = is.twins;
+            alive = went.alive;
+            same_wiring = went.same_wiring ∙ is.same_wiring;
+            same_inputs = went.same_inputs ∙ is.same_inputs;
+            states_are = board_is;
+            behind = record {
+              has = is.behind.has;
+              may = λ k q d of ed.
+                  let x = is.behind.may k q d of ed in
+                  let l = x.not_later in
+                  record { not_later = omega (arith, l, less); count = x.count; quiet = quiet k q of; first = x.first };
+              dues_long = is.behind.dues_long;
+              levels_long = is.behind.levels_long;
+              own_long = is.behind.own_long;
+              fit = is.behind.fit;
+              held = λ _. is.behind.held (still less).0;
+            };
+            stand = subst (λ (v : ℕ). ChipsStand part w v b.chips.parts (B v)) there (chips_sleep part laws start is.twins t (u - t) b.chips.parts steady is.stand quiet_to hold (u - t) (omega arith));
+            of_board = λ _ k s one es.
+                let after = (still less).0 in
+                let a = a_at part laws start is.twins t k one in
+                let g : s ≡ glide m a.0 t (u - t) =
+                (steady_states m laws w inputs (A t) t (u - t) steady (u - t) (omega arith)).each k a.0 s a.1 (ap (λ (l : List part.State). slice_get l k) (sym split) ∙ es) in
+                ap m.held g ∙ glide_holds m laws a.0 t (u - t) ∙ is.of_board after k a.0 one a.1
+                ∙ ap (λ (i : ℕ). map (level_at b.chips.levels) (own_nets w k i)) (sym (ap (λ (x : part.State). length (m.drives x)) g ∙ glide_pins m laws a.0 t (u - t)));
+            none = ap (first_beside m w inputs xs ys 0) (sym there)
+                ∙ none_in part laws start is.twins t (u - t) b.chips.parts steady is.stand quiet_to hold is.behind.has same_now is.none (u - t) (omega arith);
+            rose = let r = is.rose in let c = went.steps_are in omega (arith, r, c);
+            steps_are =
+                let s = is.steps_are in
+                let p = pairs in
+                let r = pairs_rise part laws start is.twins t (u - t) in
+                let e = ap (beside_pairs part start) there in
+                omega (arith, s, p, r, e);
+            woken = let a = went.woken in let o = is.woken in omega (arith, a, o);
+          }
+
+      -- by one cycle, in which the chips had their turns
+      pub steps_on : (next : Chips P) (last : ℕ) (v : Wiring) (ls : List Level) → difference_of part b ≡ None → t < MOST_CYCLES → u ≡ t + 1 → v ≡ b.board.wiring → ls ≡ levels_of m b.board.wiring (map part.state b.board.parts) →
+          ChipsTurned part v ls t b.chips (length v.chip) next most last → next.levels ≡ ls → length next.own ≡ length b.chips.own → Abreast part start (record { board = new; chips = next }) steps last
+      unfolding first_beside
+      steps_on next last v ls none end at same read turned kept room =
+          let are : ls ≡ levels_of m w (A t) = read ∙ ap (λ (x : Wiring). levels_of m x (map part.state b.board.parts)) is.same_wiring ∙ ap (levels_of m w) is.states_are in
+          let turns : ChipsTurned part w (levels_of m w (A t)) t b.chips (length w.chip) next most last =
+          subst (λ (l : List Level). ChipsTurned part w l t b.chips (length w.chip) next most last) are
+          (subst (λ (x : Wiring). ChipsTurned part x ls t b.chips (length x.chip) next most last) (same ∙ is.same_wiring) turned) in
+          let s : t + 1 ≡ suc t = omega arith in
+          let up = at ∙ s in
+          let c = counted part laws start is.twins t b.chips next most last end turns is.behind is.stand in
+          record {
+            twins = is.twins;
+            alive = went.alive;
+            same_wiring = went.same_wiring ∙ is.same_wiring;
+            same_inputs = went.same_inputs ∙ is.same_inputs;
+            states_are = board_is;
+            behind = subst (λ (v : ℕ). AreBehind part w v next) (sym at) (behind_next part laws start is.twins t b.chips next most last end turns is.behind is.stand (kept ∙ are) (length_levels m w (A t)) room);
+            stand = subst (λ (v : ℕ). ChipsStand part w v next.parts (B v)) (sym at) (stand_next part laws start is.twins t b.chips next most last end turns is.behind is.stand);
+            of_board = λ _ k s one es.
+                held_before m w inputs laws xs 0 t k s (ap (λ (v : ℕ). slice_get (A v) k) (sym up) ∙ es)
+                ∙ ap (λ (l : List Level). levels_on m w l k s) (sym (kept ∙ are));
+            none = ap (first_beside m w inputs xs ys 0) up ∙ ap (λ o. option_or o (part_diff m w (0 + t) 0 (A t) (B t))) is.none
+                ∙ ap (λ (v : ℕ). part_diff m w v 0 (A t) (B t)) (let z : 0 + t ≡ t = omega arith in z) ∙ sym diff_is ∙ none;
+            rose = let r = is.rose in let a = went.steps_are in let o = turned.steps_are in omega (arith, r, a, o);
+            steps_are =
+                let o = is.steps_are in
+                let p = pairs in
+                let e = ap (beside_pairs part start) at in
+                omega (arith, o, p, c, e);
+            woken = let a = went.woken in let o = is.woken in let x = turned.woken in omega (arith, a, o, x);
+          }
+
+      pub goes_still : difference_of part b ≡ None → u ≤ MOST_CYCLES → (t < u → (j x : ℕ) → slice_get b.chips.dues j ≡ Some (Some x) → u ≤ x) →
+          (t < u → (0 < t) × IsSteady m b.board.wiring b.board.inputs (map part.state b.board.parts) t (u - t)) → Abreast part start (record b { board = new }) steps most
+      goes_still none end late still = elim (below_or t u) [
+        | inl less ↦ goes none end late still less
+        | inr more_or ↦ stays none end late still (let o = went.order in omega (arith, o, more_or))
+      ]
+
+    -- A difference that was found stays the first.
+    holds_on : (c : ℕ) (d : Difference) → first_beside m w inputs xs ys 0 c ≡ Some d → (j : ℕ) → first_beside m w inputs xs ys 0 (c + j) ≡ Some d
+    unfolding first_beside
+    holds_on c d found zero = let e : c + 0 ≡ c = omega arith in ap (first_beside m w inputs xs ys 0) e ∙ found
+    holds_on c d found (suc j) =
+        let e : c + suc j ≡ suc (c + j) = omega arith in
+        ap (first_beside m w inputs xs ys 0) e ∙ ap (λ o. option_or o (part_diff m w (0 + (c + j)) 0 (A (c + j)) (B (c + j)))) (holds_on c d found j)
+
+    or_first : {X : Type 0} (o q : Option X) → option_or o q ≡ None → o ≡ None
+    or_first None q h = refl
+    or_first (Some x) q h = absurd cc
+
+    module _ (free : HaveNoContacts m w xs ys) where
+      rest : SameRest w xs ys
+      rest = rest_with_chips w xs (map part.state start.chips)
+
+      sees : (n : ℕ) → first_beside m w inputs xs ys 0 n ≡ first_diff m w inputs xs ys 0 n
+      sees n = sees_first m w inputs xs ys laws free rest is.twins.pins n
+
+      -- before the first difference the chips are active where they are in their own board
+      pairs_are : (c : ℕ) → first_diff m w inputs xs ys 0 c ≡ None → beside_pairs part start c ≡ chip_pairs m w inputs ys c
+      unfolding first_diff
+      pairs_are zero none = refl
+      pairs_are (suc c) none =
+          let z : 0 + c ≡ c = omega arith in
+          let before = pairs_are c (or_first _ _ none) in
+          let same = sum_same m w inputs (length ys) (active_beside part start c) (λ k. if is_chip w k then active_at m w inputs ys 0 k c else 0)
+          (λ k. ap (λ (x : ℕ). if is_chip w k then x else 0)
+          (ap (λ (v : ℕ). active_in m w inputs (levels_of m w (A c)) v k (slice_get (B c) k)) (sym z) ∙ active_before m w inputs xs ys laws free rest is.twins.pins c none k)) in
+          omega (arith, before, same)
+
+      pub ends_same : (n : ℕ) → t ≡ n → IsTwin m w inputs xs ys n ends.Same steps more
+      ends_same n at =
+          let none : first_diff m w inputs xs ys 0 n ≡ None = sym (sees n) ∙ ap (first_beside m w inputs xs ys 0) (sym at) ∙ is.none in
+          let so_far = is.steps_are in
+          let own = ap (active_pairs m w inputs xs 0) at in
+          let other = ap (beside_pairs part start) at in
+          let all = pairs_are n none in
+          record {
+            sees = ap end_of (sym none);
+            rose = is.rose;
+            wakes = omega (arith, so_far, own, other, all);
+            rest = rest_before m w inputs xs ys laws free rest is.twins.pins n none;
+          }
+
+      pub ends_differ : (n : ℕ) (d : Difference) → t < n → difference_of part b ≡ Some d → d.cycle ≡ t → IsTwin m w inputs xs ys n (differs d) steps more
+      unfolding first_beside
+      ends_differ n d less found at =
+          let e : suc t + (n - suc t) ≡ n = omega (arith, less) in
+          let z : 0 + t ≡ t = omega arith in
+          let first : first_beside m w inputs xs ys 0 (suc t) ≡ Some d =
+          ap (λ o. option_or o (part_diff m w (0 + t) 0 (A t) (B t))) is.none ∙ ap (λ (v : ℕ). part_diff m w v 0 (A t) (B t)) z ∙ sym diff_is ∙ found in
+          let all : first_diff m w inputs xs ys 0 n ≡ Some d = sym (sees n) ∙ ap (first_beside m w inputs xs ys 0) (sym e) ∙ holds_on (suc t) d first (n - suc t) in
+          let none : first_diff m w inputs xs ys 0 t ≡ None = sym (sees t) ∙ is.none in
+          let so_far = is.steps_are in
+          let same = pairs_are t none in
+          let own = ap (active_pairs m w inputs xs 0) at in
+          let other = ap (chip_pairs m w inputs ys) at in
+          record {
+            sees = ap end_of (sym all);
+            rose = is.rose;
+            wakes = omega (arith, so_far, same, own, other);
+            rest = λ v l. rest_up_to m w inputs xs ys laws free rest is.twins.pins n d all v (omega (arith, l));
+          }

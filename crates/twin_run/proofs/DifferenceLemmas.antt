@@ -37,7 +37,8 @@ by_drives {S = S} m w t i (x ∷ xs) (y ∷ ys) (z ∷ zs) long same =
         ap (λ (l : List Drive). option_or (if is_chip w i then found (pin_diff 0 (m.drives x) l) else None) (part_diff m w t (i + 1) xs ys)) d
     here false is = rw is refl
 
-drop_here : {A : Type 0} (xs : List A) (k : ℕ) (x : A) → slice_get xs k ≡ Some x → drop k xs ≡ x ∷ drop (k + 1) xs
+-- a list from one of its items on
+pub drop_here : {A : Type 0} (xs : List A) (k : ℕ) (x : A) → slice_get xs k ≡ Some x → drop k xs ≡ x ∷ drop (k + 1) xs
 drop_here xs k x e = drop_more xs k x (slice_get_within xs k x e) ∙ ap (λ y. y ∷ drop (k + 1) xs) (get_or_from_slice_get xs k x x e)
 
 -- pin by pin

@@ -1,6 +1,6 @@
 mod DifferenceLemmas
+mod WakesLemmas
 mod TurnedLemmas
 mod BesideLemmas
 mod MuteLemmas
 mod AbreastLemmas
-mod WakesLemmas

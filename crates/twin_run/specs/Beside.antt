@@ -1,102 +1,174 @@
--- A twin on its way: the chips of a second board, left behind at earlier cycles beside the first board. No public clause cites
--- this.
-use Rattle.std.specs.Prelude.{◌≡◌, ℕ, ◌+◌, ◌<◌, ◌≤◌, List, length, map, Bool, not, true, Option, None, Some, slice_get, slice_index, if◌then◌else◌}
+-- A twin on its way: a board, and beside it the chips of a second one, each left behind where it was woken last. No public clause
+-- cites this.
+use Rattle.std.specs.Prelude.{◌≡◌, ℕ, ◌+◌, ◌-◌, ◌<◌, ◌≤◌, List, length, map, Bool, not, true, false, Option, None, Some, slice_get, slice_set, slice_index, if◌then◌else◌}
+use Rattle.std.specs.List.{sum_by}
 use Rattle.sim_base.specs.declared.signal.Level.{Level}
 use Rattle.sim_base.specs.declared.wiring.Wiring.{Wiring}
 use Rattle.sim_base.specs.declared.wiring.Input.{Input}
-use Rattle.part_law.specs.Machine.{Machine, IsFirstDue}
-use Rattle.board_model.specs.Board.{input_at, levels_of, states}
+use Rattle.part_law.specs.Machine.{IsFirstDue}
+use Rattle.part_law.specs.declared.part.Part.{Ghosts}
+use Rattle.board_model.specs.Board.{level_at, levels_of, states}
 use Rattle.board_model.specs.Rows.{same_list, same_level}
 use Rattle.board_laws.specs.Active.{active_in, active_pairs, sum_below}
-use Rattle.board_laws.specs.FirstDiff.{SamePins, stepped_beside, first_beside}
+use Rattle.board_laws.specs.FirstDiff.{Difference, part_diff, stepped_beside, first_beside}
 use Rattle.board_laws.specs.Stands.{Stands}
-use Rattle.board_laws.specs.Twin.{chips_before}
+use Rattle.board_laws.specs.Twin.{chips_before, with_chips}
 use Rattle.board_laws.specs.Worlds.{is_chip}
+use Rattle.board_run.specs.BoardView.{BoardView}
 use Rattle.board_run.specs.Lagging.{MayTurn, to_wake, turned}
 use Rattle.board_run.specs.Seen.{levels_on}
+use Rattle.twin_run.specs.declared.beside.Beside.{Beside}
+use Rattle.twin_run.specs.declared.chips.Chips.{Chips}
+use Rattle.twin_run.specs.Twins.{AreTwins, TwinView, other_states, wakes_in}
 
-module _ {P : Type 0} (w : Wiring) where
-  -- the chip of part k among those of the parts that are chips
-  abbrev pub IsChipOf : List P → ℕ → P → Type 0
-  IsChipOf chips k q = (is_chip w k ≡ true) × (slice_get chips (chips_before w k) ≡ Some q)
+abbrev pub view_of : {P : Type 0} → Beside P → TwinView P
+view_of b = record { board = b.board; chips = b.chips.parts }
 
-  abbrev pub HasChips : List P → Type 0
-  HasChips chips = (k : ℕ) → is_chip w k ≡ true → (q : P) × (slice_get chips (chips_before w k) ≡ Some q)
+-- there is room for what is kept of the chips
+pub record HasRoom {P : Type 0} (b : Beside P) : Type 0 where
+  pub dues : length b.chips.dues ≡ length b.chips.parts
+  pub levels : length b.chips.levels ≡ b.board.wiring.nets
+  pub own : length b.chips.own ≡ length b.board.wiring.net_of
 
-module _ {S P : Type 0} (m : Machine S) (w : Wiring) (state : P → S) (now wakes : P → ℕ) where
-  -- each stands for the state of its part at cycle t
-  abbrev pub ChipsStand : ℕ → List P → List S → Type 0
-  ChipsStand t chips ss = (k : ℕ) (q : P) (s : S) → IsChipOf w chips k q → slice_get ss k ≡ Some s → Stands m t (now q) (state q) s
+-- the chip of part k among those of the parts that are chips
+abbrev pub IsChipOf : {P : Type 0} → Wiring → List P → ℕ → P → Type 0
+IsChipOf w chips k q = (is_chip w k ≡ true) × (slice_get chips (chips_before w k) ≡ Some q)
 
-  -- its pins have nets
-  abbrev pub ChipsFit : List P → Type 0
-  ChipsFit chips = (k : ℕ) (q : P) → IsChipOf w chips k q → slice_index w.first_pin k + length (m.drives (state q)) ≤ length w.net_of
-
-  -- each holds the levels that its part's pins had
-  abbrev pub ChipsHold : List Level → List P → Type 0
-  ChipsHold ls chips = (k : ℕ) (q : P) → IsChipOf w chips k q → m.held (state q) ≡ levels_on m w ls k (state q)
-
-  -- each may be left behind up to cycle t
-  abbrev pub ChipsMay : ℕ → List P → List (Option ℕ) → Type 0
-  ChipsMay t chips dues = (k : ℕ) (q : P) (d : Option ℕ) → IsChipOf w chips k q → slice_get dues (chips_before w k) ≡ Some d → MayTurn m state now wakes t d q
-
-  -- whether a level of part k's pins is another one
-  abbrev pub differs_on : List Level → List Level → ℕ → P → Bool
-  differs_on before ls k q = not (same_list same_level (levels_on m w ls k (state q)) (levels_on m w before k (state q)))
-
-  -- the chip of part k had its turn in cycle t, and another one is due at d
-  pub record ChipTurned (before ls : List Level) (t k : ℕ) (p q : P) (d e : Option ℕ) : Type 0 where
+module _ {P : Type 0} (part : Ghosts P) where
+  -- A chip that was p is q after its turn on the levels of its pins, in which it was woken or left as it was, and is due at e.
+  pub record TookTurn (wake : Bool) (t : ℕ) (own : List Level) (p q : P) (e : Option ℕ) : Type 0 where
     pub byte : Option ℕ
-    pub changed : Bool
-    pub turn : turned m state now wakes (to_wake d t None (differs_on before ls k p)) t (levels_on m w ls k (state p)) None p q byte changed
-    pub first : IsFirstDue m (state q) (now q) e
+    pub turn : turned part.machine part.state part.now part.wake_count wake t own None p q byte true
+    pub first : IsFirstDue part.machine (part.state q) (part.now q) e
 
-  -- 1 where the chip, if there is one, is woken
-  abbrev pub wake_of : List Level → List Level → ℕ → ℕ → Option P → Option (Option ℕ) → ℕ
-  wake_of before ls t k (Some q) (Some d) = if to_wake d t None (differs_on before ls k q) then 1 else 0
-  wake_of before ls t k q d = 0
+  -- whether it is woken on these levels of its nets, where it holds those
+  abbrev pub wakes_on : List Level → List Level → ℕ → List ℕ → Option ℕ → Bool
+  wakes_on before ls t nets d = to_wake d t None (not (same_list same_level (map (level_at ls) nets) (map (level_at before) nets)))
 
-  abbrev pub chip_wake : List Level → List Level → ℕ → List P → List (Option ℕ) → ℕ → ℕ
-  chip_wake before ls t chips dues k = if is_chip w k then wake_of before ls t k (slice_get chips (chips_before w k)) (slice_get dues (chips_before w k)) else 0
+  -- The chip at place j may have its turn: it was left behind, and holds the levels that were kept of its nets.
+  pub record MayTurnAt (c : Chips P) (j : ℕ) (nets : List ℕ) (t : ℕ) : Type 0 where
+    pub chip : P
+    pub due : Option ℕ
+    pub here : slice_get c.parts j ≡ Some chip
+    pub due_is : slice_get c.dues j ≡ Some due
+    pub may : MayTurn part.machine part.state part.now part.wake_count t due chip
+    pub pins : length nets ≡ length (part.machine.drives (part.state chip))
+    pub held : 0 < t → part.machine.held (part.state chip) ≡ map (level_at c.levels) nets
 
-  -- the chips of the parts before part i had their turn, and the others are as they were
-  pub record ChipsTurned (before ls : List Level) (t i : ℕ) (old new : List P) (dues after : List (Option ℕ)) (steps more : ℕ) : Type 0 where
-    pub long : length new ≡ length old
-    pub dues_long : length after ≡ length dues
-    pub turns : (k : ℕ) (p q : P) (d e : Option ℕ) → k < i → IsChipOf w old k p → slice_get new (chips_before w k) ≡ Some q → slice_get dues (chips_before w k) ≡ Some d → slice_get after (chips_before w k) ≡ Some e →
-        ChipTurned before ls t k p q d e
-    pub rest : (j : ℕ) → chips_before w i ≤ j → slice_get new j ≡ slice_get old j
-    pub dues_rest : (j : ℕ) → chips_before w i ≤ j → slice_get after j ≡ slice_get dues j
-    pub steps_are : more ≡ steps + sum_below i (chip_wake before ls t old dues)
+  -- and had it
+  pub record TurnedAt (ls : List Level) (old new : Chips P) (j : ℕ) (nets : List ℕ) (t steps more : ℕ) : Type 0 where
+    pub chip : P
+    pub due : Option ℕ
+    pub parts_are : new.parts ≡ slice_set old.parts j chip
+    pub dues_are : new.dues ≡ slice_set old.dues j due
+    pub levels_are : new.levels ≡ old.levels
+    pub own_long : length new.own ≡ length old.own
+    pub took : (p : P) (d : Option ℕ) → slice_get old.parts j ≡ Some p → slice_get old.dues j ≡ Some d →
+        TookTurn (wakes_on old.levels ls t nets d) t (map (level_at ls) nets) p chip due × (more ≡ steps + (if wakes_on old.levels ls t nets d then 1 else 0))
 
--- the pairs of a cycle below n and a chip of the second board that is active in it, beside the first board
-module _ {S : Type 0} (m : Machine S) (w : Wiring) (inputs : List Input) (xs ys : List S) where
-  abbrev pub beside_at : ℕ → ℕ → ℕ
-  beside_at t k =
-      if is_chip w k then active_in m w inputs (levels_of m w (states m w inputs xs 0 t)) t k (slice_get (stepped_beside m w inputs xs ys 0 t) k) else 0
+  module _ (w : Wiring) where
+    -- each stands for the state of its part at cycle t
+    abbrev pub ChipsStand : ℕ → List P → List part.State → Type 0
+    ChipsStand t chips ss = (k : ℕ) (q : P) (s : part.State) → IsChipOf w chips k q → slice_get ss k ≡ Some s → Stands part.machine t (part.now q) (part.state q) s
 
-  abbrev pub beside_pairs : ℕ → ℕ
-  beside_pairs n = sum_below n (λ t. sum_below (length ys) (beside_at t))
+    -- They can be compared with the chips of these parts.
+    pub record AreComparable (parts chips : List P) : Type 0 where
+      pub few : length parts ≤ 64
+      pub sized : length w.chip ≡ length parts
+      pub has : (k : ℕ) → is_chip w k ≡ true → (q : P) × (slice_get chips (chips_before w k) ≡ Some q)
+      pub pins : (k : ℕ) (p q : P) → slice_get parts k ≡ Some p → IsChipOf w chips k q → length (part.machine.drives (part.state q)) ≡ length (part.machine.drives (part.state p))
 
--- Two boards at cycle 0 that differ in chips with as many pins, whose script is for no chip.
-pub record ArePair {S : Type 0} (m : Machine S) (w : Wiring) (inputs : List Input) (xs ys : List S) : Type 0 where
-  pub pins : SamePins m w xs ys
-  pub sized : length w.chip ≡ length xs
-  pub unscripted : (t k : ℕ) → is_chip w k ≡ true → input_at inputs t k ≡ None
+    -- The board went on.
+    pub record BoardWent (inputs : List Input) (old new : BoardView P) (steps more : ℕ) : Type 0 where
+      pub order : old.cycle ≤ new.cycle
+      pub alive : new.given_up ≡ false
+      pub same_wiring : new.wiring ≡ old.wiring
+      pub same_inputs : new.inputs ≡ old.inputs
+      pub states_are : map part.state new.parts ≡ states part.machine w inputs (map part.state old.parts) old.cycle (new.cycle - old.cycle)
+      pub steps_are : more ≡ steps + active_pairs part.machine w inputs (map part.state old.parts) old.cycle (new.cycle - old.cycle)
+      pub woken : sum_by part.wake_count new.parts + steps ≡ sum_by part.wake_count old.parts + more
 
--- A twin at cycle t, of which nothing differed before: the board's parts, the chips with their due cycles, and the levels of
--- the cycle before.
-pub record Abreast {S P : Type 0} (m : Machine S) (w : Wiring) (inputs : List Input) (state : P → S) (now wakes : P → ℕ) (xs ys : List S) (t : ℕ) (parts chips : List P) (dues : List (Option ℕ)) (before : List Level)
-    (steps more : ℕ) : Type 0 where
-  pub states_are : map state parts ≡ states m w inputs xs 0 t
-  pub has : HasChips w chips
-  pub stand : ChipsStand m w state now wakes t chips (stepped_beside m w inputs xs ys 0 t)
-  pub may : ChipsMay m w state now wakes t chips dues
-  pub dues_long : length dues ≡ length chips
-  pub fit : ChipsFit m w state now wakes chips
-  pub held : 0 < t → ChipsHold m w state now wakes before chips
-  -- before are the levels that the board's chips hold
-  pub of_board : 0 < t → (k : ℕ) (s : S) → is_chip w k ≡ true → slice_get (states m w inputs xs 0 t) k ≡ Some s → m.held s ≡ levels_on m w before k s
-  pub none : first_beside m w inputs xs ys 0 t ≡ None
-  pub rose : steps ≤ more
-  pub steps_are : more ≤ steps + active_pairs m w inputs xs 0 t + beside_pairs m w inputs xs ys t
+    -- Each part that is a chip has one, which may be left behind up to cycle t and holds the levels that were kept.
+    pub record AreBehind (t : ℕ) (c : Chips P) : Type 0 where
+      pub has : (k : ℕ) → is_chip w k ≡ true → (q : P) × (slice_get c.parts (chips_before w k) ≡ Some q)
+      pub may : (k : ℕ) (q : P) (d : Option ℕ) → IsChipOf w c.parts k q → slice_get c.dues (chips_before w k) ≡ Some d →
+          MayTurn part.machine part.state part.now part.wake_count t d q
+      pub dues_long : length c.dues ≡ length c.parts
+      pub levels_long : length c.levels ≡ w.nets
+      pub own_long : length c.own ≡ length w.net_of
+      pub fit : (k : ℕ) (q : P) → IsChipOf w c.parts k q → slice_index w.first_pin k + length (part.machine.drives (part.state q)) ≤ length w.net_of
+      pub held : 0 < t → (k : ℕ) (q : P) → IsChipOf w c.parts k q → part.machine.held (part.state q) ≡ levels_on part.machine w c.levels k (part.state q)
+
+    -- whether a level of part k's pins is another one than its chip holds
+    abbrev pub differs_on : List Level → Chips P → ℕ → P → Bool
+    differs_on ls old k q = not (same_list same_level (levels_on part.machine w ls k (part.state q)) (levels_on part.machine w old.levels k (part.state q)))
+
+    module _ (ls : List Level) (t : ℕ) (old : Chips P) where
+      -- 1 where the chip, if there is one, is woken
+      abbrev pub wake_of : ℕ → Option P → Option (Option ℕ) → ℕ
+      wake_of k (Some q) (Some d) = if to_wake d t None (differs_on ls old k q) then 1 else 0
+      wake_of k q d = 0
+
+      abbrev pub chip_wake : ℕ → ℕ
+      chip_wake k = if is_chip w k then wake_of k (slice_get old.parts (chips_before w k)) (slice_get old.dues (chips_before w k)) else 0
+
+      -- The chips of the parts before part i had their turn in cycle t, and the others are as they were.
+      pub record ChipsTurned (i : ℕ) (new : Chips P) (steps more : ℕ) : Type 0 where
+        pub long : length new.parts ≡ length old.parts
+        pub dues_long : length new.dues ≡ length old.dues
+        pub turns : (k : ℕ) (p q : P) (d e : Option ℕ) → k < i → IsChipOf w old.parts k p → slice_get new.parts (chips_before w k) ≡ Some q →
+            slice_get old.dues (chips_before w k) ≡ Some d → slice_get new.dues (chips_before w k) ≡ Some e →
+            TookTurn (to_wake d t None (differs_on ls old k p)) t (levels_on part.machine w ls k (part.state p)) p q e
+        pub rest : (j : ℕ) → chips_before w i ≤ j → slice_get new.parts j ≡ slice_get old.parts j
+        pub dues_rest : (j : ℕ) → chips_before w i ≤ j → slice_get new.dues j ≡ slice_get old.dues j
+        pub steps_are : more ≡ steps + sum_below i chip_wake
+        pub woken : sum_by part.wake_count new.parts + steps ≡ sum_by part.wake_count old.parts + more
+
+  -- the pairs of a cycle below n and a chip of the second board that is active in it, beside the first board
+  module _ (start : TwinView P) where
+    abbrev pub own_at : ℕ → List part.State
+    own_at t = states part.machine start.board.wiring start.board.inputs (map part.state start.board.parts) 0 t
+
+    abbrev pub beside_at : ℕ → List part.State
+    beside_at t = stepped_beside part.machine start.board.wiring start.board.inputs (map part.state start.board.parts) (other_states part.state start) 0 t
+
+    abbrev pub active_beside : ℕ → ℕ → ℕ
+    active_beside t k =
+        if is_chip start.board.wiring k
+        then active_in part.machine start.board.wiring start.board.inputs (levels_of part.machine start.board.wiring (own_at t)) t k (slice_get (beside_at t) k)
+        else 0
+
+    abbrev pub beside_pairs : ℕ → ℕ
+    beside_pairs n = sum_below n (λ t. sum_below (length (other_states part.state start)) (active_beside t))
+
+    -- A twin on its way from its start, of which nothing differed before.
+    pub record Abreast (b : Beside P) (steps more : ℕ) : Type 0 where
+      pub twins : AreTwins part.machine part.state part.now part.wake_count start
+      pub alive : b.board.given_up ≡ false
+      pub same_wiring : b.board.wiring ≡ start.board.wiring
+      pub same_inputs : b.board.inputs ≡ start.board.inputs
+      pub states_are : map part.state b.board.parts ≡ own_at b.board.cycle
+      pub behind : AreBehind start.board.wiring b.board.cycle b.chips
+      pub stand : ChipsStand start.board.wiring b.board.cycle b.chips.parts (beside_at b.board.cycle)
+      -- the board's chips hold the same levels
+      pub of_board : 0 < b.board.cycle → (k : ℕ) (s : part.State) → is_chip start.board.wiring k ≡ true → slice_get (own_at b.board.cycle) k ≡ Some s →
+          part.machine.held s ≡ levels_on part.machine start.board.wiring b.chips.levels k s
+      pub none : first_beside part.machine start.board.wiring start.board.inputs (map part.state start.board.parts) (other_states part.state start) 0 b.board.cycle ≡ None
+      pub rose : steps ≤ more
+      pub steps_are : more ≤ steps + active_pairs part.machine start.board.wiring start.board.inputs (map part.state start.board.parts) 0 b.board.cycle + beside_pairs b.board.cycle
+      pub woken : sum_by part.wake_count b.board.parts + sum_by part.wake_count b.chips.parts + steps ≡ wakes_in part.wake_count start + more
+
+  -- from wherever it started
+  pub record OnWay (b : Beside P) (more : ℕ) : Type 0 where
+    pub start : TwinView P
+    pub steps : ℕ
+    pub is : Abreast start b steps more
+
+  -- it went on, from wherever it started
+  abbrev pub WentOn : Beside P → Beside P → ℕ → ℕ → Type 0
+  WentOn old new more most = (start : TwinView P) (steps : ℕ) → Abreast start old steps more → Abreast start new steps most
+
+  -- how its chips drive otherwise in its cycle
+  abbrev pub difference_of : Beside P → Option Difference
+  difference_of b =
+      part_diff part.machine b.board.wiring b.board.cycle 0 (map part.state b.board.parts) (with_chips b.board.wiring (map part.state b.board.parts) (map part.state b.chips.parts))

@@ -3,6 +3,9 @@
 //! `Twin::new` alone takes memory and may answer `OutOfMemory`.
 #![tactic(auto)]
 
+mod beside;
+mod chips;
+mod compare;
 mod twin;
 
 pub use twin::{Twin, TwinEnd};

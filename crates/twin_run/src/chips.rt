@@ -1,0 +1,165 @@
+//! The chips of a second board, which are moved beside a first.
+ghost use Rattle.std.specs.Prelude.{◌≡◌, ◌≢◌, ℕ, ◌+◌, ◌<◌, ◌≤◌, length, map, take, true, not, None, Some, Option, slice_get, if◌then◌else◌};
+ghost use Rattle.board_model.specs.Board.{level_at};
+ghost use Rattle.board_model.specs.Rows.{same_level, same_list};
+ghost use Rattle.board_run.specs.Lagging.{AreDue, MayTurn, to_wake};
+ghost use Rattle.twin_run.specs.Beside.{AreBehind, ChipsTurned, MayTurnAt, TookTurn, TurnedAt};
+
+use board_run::level_of_net;
+use part_law::Part;
+use sim_base::{Level, List, MOST_CYCLES, Steps, Wiring};
+use std::sync::ledger::Ledger;
+
+/// Chips in the order of the parts that they stand for, each of which stands where it was woken last.
+#[derive(Drop)]
+pub(crate) struct Chips<P> {
+    pub(crate) parts: List<P>,
+    /// When each is due.
+    pub(crate) dues: List<Option<u32>>,
+    /// The levels of the nets that they hold on their pins.
+    pub(crate) levels: List<Level>,
+    /// Room for the levels of the pins of one.
+    pub(crate) own: List<Level>,
+}
+
+fn is_same_level(a: Level, b: Level) -> bool
+    ensures { result ≡ same_level a b }
+{
+    a == b
+}
+
+/// Writes the levels of these nets, and tells whether one is another than before.
+fn read_levels(nets: &[u16], before: &[Level], now: &[Level], own: &mut List<Level>) -> bool
+    requires room { length nets.now ≤ length own.old }
+    ensures own { take (length nets.now) own.new ≡ map (level_at now.now) nets.now }
+    ensures long { length own.new ≡ length own.old }
+    ensures differs { result ≡ not (same_list same_level (map (level_at now.now) nets.now) (map (level_at before.now) nets.now)) }
+{
+    let mut same = true;
+    for i in 0..nets.len() {
+        let level = level_of_net(now, nets[i]);
+        let was = level_of_net(before, nets[i]);
+        same = same & is_same_level(level, was);
+        *own.item_mut(i) = level;
+    }
+    !same
+}
+
+/// Whether a chip is woken in a cycle: it is due, or a level on its pins differs from the one that it holds.
+fn is_to_wake(due: Option<u32>, t: u32, differs: bool) -> bool
+    ensures { result ≡ to_wake due t None differs }
+{
+    match due {
+        Some(u) => u == t || differs,
+        None => differs,
+    }
+}
+
+/// The turn of a chip in a cycle, on these levels of its pins.
+fn take_turn<P: Part, L: Ledger>(
+    chip: &mut P,
+    due: &mut Option<u32>,
+    own: &[Level],
+    differs: bool,
+    t: u32,
+    steps: &mut Steps<L>,
+)
+    requires end { t < MOST_CYCLES }
+    requires may { MayTurn P.machine P.state P.now P.wake_count t due.old chip.old }
+    requires pins { length own.now ≡ length (P.machine.drives (P.state chip.old)) }
+    requires differs { differs ≡ true → 0 < t → P.machine.held (P.state chip.old) ≢ own.now }
+    ensures took { TookTurn P.Part (to_wake due.old t None differs) t own.now chip.old chip.new due.new }
+    ensures steps { steps.new ≡ steps.old + (if to_wake due.old t None differs then 1 else 0) }
+{
+    if is_to_wake(*due, t, differs) {
+        chip.settle(t);
+        steps.tick();
+        chip.wake(own, None);
+        *due = chip.due();
+    }
+}
+
+/// The least of these cycles, if it is before `n`, and else `n`.
+pub(crate) fn least_due(dues: &[Option<u32>], n: u32) -> u32
+    ensures within { result ≤ n }
+    ensures due { (j u : ℕ) → slice_get dues.now j ≡ Some (Some u) → result ≤ u }
+{
+    let mut least = n;
+    for i in 0..dues.len() {
+        least = earlier(dues[i], least);
+    }
+    least
+}
+
+fn earlier(due: Option<u32>, n: u32) -> u32
+    ensures within { result ≤ n }
+    ensures due { (u : ℕ) → due ≡ Some u → result ≤ u }
+{
+    match due {
+        Some(u) if u < n => u,
+        _ => n,
+    }
+}
+
+/// Asks each chip when it is due.
+pub(crate) fn ask_dues<P: Part>(chips: &[P], dues: &mut List<Option<u32>>)
+    requires { length dues.old ≡ length chips.now }
+    ensures long { length dues.new ≡ length dues.old }
+    ensures due { AreDue P.machine P.state P.now P.wake_count chips.now dues.new }
+{
+    for j in 0..chips.len() {
+        *dues.item_mut(j) = chips[j].due();
+    }
+}
+
+impl<P: Part> Chips<P> {
+    /// The turn of the chip at a place in a cycle, on the levels of the nets of its pins.
+    fn turn_chip<L: Ledger>(
+        &mut self,
+        j: usize,
+        nets: &[u16],
+        now: &[Level],
+        t: u32,
+        steps: &mut Steps<L>,
+    )
+        requires end { t < MOST_CYCLES }
+        requires room { (j < length self.old.parts) × (j < length self.old.dues) × (length nets.now ≤ length self.old.own) }
+        requires may { MayTurnAt P.Part self.old j nets.now t }
+        ensures { TurnedAt P.Part now.now self.old self.new j nets.now t steps.old steps.new }
+    {
+        let differs = read_levels(nets, self.levels.as_slice(), now, &mut self.own);
+        let mut due = self.dues.as_slice()[j];
+        let own = &self.own.as_slice()[..nets.len()];
+        take_turn(self.parts.item_mut(j), &mut due, own, differs, t, steps);
+        *self.dues.item_mut(j) = due;
+    }
+
+    /// Gives each its turn in a cycle, on the levels that the board had in it.
+    pub(crate) fn turn<L: Ledger>(
+        &mut self,
+        wiring: &Wiring,
+        now: &[Level],
+        t: u32,
+        steps: &mut Steps<L>,
+    )
+        requires end { t < MOST_CYCLES }
+        requires places { length wiring.now.first_pin ≡ length wiring.now.chip }
+        requires levels { length now.now ≡ wiring.now.nets }
+        requires behind { AreBehind P.Part wiring.now t self.old }
+        ensures turned { ChipsTurned P.Part wiring.now now.now t self.old (length wiring.now.chip) self.new steps.old steps.new }
+        ensures levels { self.new.levels ≡ now.now }
+        ensures own { length self.new.own ≡ length self.old.own }
+    {
+        let net_of = wiring.net_of.as_slice();
+        let mut j = 0;
+        for k in 0..wiring.chip.len() {
+            if wiring.chip.as_slice()[k] {
+                let first = wiring.first_pin.as_slice()[k] as usize;
+                let pins = self.parts.as_slice()[j].pins() as usize;
+                self.turn_chip(j, &net_of[first..first + pins], now, t, steps);
+                j += 1;
+            }
+        }
+        self.levels.as_mut_slice().copy_from_slice(now);
+    }
+}
