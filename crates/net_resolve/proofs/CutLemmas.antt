@@ -7,7 +7,7 @@ use Rattle.std.specs.Prelude.{◌==◌, if◌then◌else◌, slice_get, slice_in
 use Rattle.board_model.specs.Pairs.{ArePairs}
 use Rattle.board_model.proofs.Lists.{some_same, some_map, get_map_some, get_within, get_set_same, get_set_other, lent_whole, take_whole}
 use Rattle.net_resolve.specs.Wired.{Wired}
-use Rattle.net_resolve.specs.Subcircuits.{SubcircuitView, IsCut, IsSubcircuit, AreSubcircuits, AreOwn, picked, labels_of}
+use Rattle.net_resolve.specs.Subcircuits.{SubcircuitView, IsCut, IsSubcircuit, AreSubcircuits, AreOwn, own_pair, picked, labels_of}
 use Rattle.net_resolve.specs.Sorted.{ArePicked}
 use Rattle.net_resolve.proofs.PickLemmas.{picked_key}
 use Rattle.net_resolve.proofs.SubcircuitLemmas.{net_there}
@@ -200,11 +200,10 @@ module _ (w : Wired) (labels : List ℕ) (cut : IsCut w labels) (q : ℕ) (nets 
   pub own_pairs_are : (whole : List (ℕ × ℕ)) → ArePairs w.nets whole →
       ((k : ℕ) (c : ℕ × ℕ) → slice_get whole k ≡ Some c → slice_index labels c.0 ≡ slice_index labels c.1) →
       (places : List ℕ) → places ≡ picked q 0 (labels_of labels whole) →
-      AreOwn nets whole places (map (λ k. (slice_index numbers (get_or whole k (0, 0)).0, slice_index numbers (get_or whole k (0, 0)).1)) places)
+      AreOwn nets whole places (map (own_pair numbers whole) places)
   own_pairs_are whole within joined places are = record {
     long = simp length-map refl;
     each = λ j k c o ep ec eo.
-        let pair : ℕ → ℕ × ℕ = λ k. (slice_index numbers (get_or whole k (0, 0)).0, slice_index numbers (get_or whole k (0, 0)).1) in
         let key = picked_within q (labels_of labels whole) j k (subst (λ (l : List ℕ). slice_get l j ≡ Some k) are ep) in
         let s = get_map_some (λ (x : ℕ × ℕ). slice_index labels x.0) whole k q key in
         let same : s.0 ≡ c = some_same (sym s.1 ∙ ec) in
@@ -212,7 +211,7 @@ module _ (w : Wired) (labels : List ℕ) (cut : IsCut w labels) (q : ℕ) (nets 
         let second : slice_index labels c.1 ≡ q = sym (joined k c ec) ∙ first in
         let at = within k c ec in
         let is : get_or whole k (0, 0) ≡ c = get_or_from_slice_get whole k c (0, 0) ec in
-        let mine : o ≡ pair k = some_same (sym eo ∙ some_map pair places j k ep) in
+        let mine : o ≡ own_pair numbers whole k = some_same (sym eo ∙ some_map (own_pair numbers whole) places j k ep) in
         let zero_is : o.0 ≡ slice_index numbers c.0 = ap (λ (x : ℕ × ℕ). x.0) mine ∙ ap (λ (x : ℕ × ℕ). slice_index numbers x.0) is in
         let one_is : o.1 ≡ slice_index numbers c.1 = ap (λ (x : ℕ × ℕ). x.1) mine ∙ ap (λ (x : ℕ × ℕ). slice_index numbers x.1) is in
         (ap (slice_get nets) zero_is ∙ number_of c.0 at.0 first, ap (slice_get nets) one_is ∙ number_of c.1 at.1 second);
@@ -221,9 +220,9 @@ module _ (w : Wired) (labels : List ℕ) (cut : IsCut w labels) (q : ℕ) (nets 
   pub own_pair_below : (whole : List (ℕ × ℕ)) → ArePairs w.nets whole →
       ((k : ℕ) (c : ℕ × ℕ) → slice_get whole k ≡ Some c → slice_index labels c.0 ≡ slice_index labels c.1) →
       (places : List ℕ) → places ≡ picked q 0 (labels_of labels whole) → (j k : ℕ) → slice_get places j ≡ Some k →
-      (slice_index numbers (get_or whole k (0, 0)).0 < length nets) × (slice_index numbers (get_or whole k (0, 0)).1 < length nets)
+      ((own_pair numbers whole k).0 < length nets) × ((own_pair numbers whole k).1 < length nets)
   own_pair_below whole within joined places are j k e =
-      let pair : ℕ → ℕ × ℕ = λ k. (slice_index numbers (get_or whole k (0, 0)).0, slice_index numbers (get_or whole k (0, 0)).1) in
+      let pair = own_pair numbers whole in
       let c = get_or whole k (0, 0) in
       let at : slice_get whole k ≡ Some c = get_within whole k (0, 0) (pair_places labels whole q places are j k e) in
       let ends = (own_pairs_are whole within joined places are).each j k c (pair k) e at (some_map pair places j k e) in

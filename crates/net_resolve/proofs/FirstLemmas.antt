@@ -1,5 +1,5 @@
 -- Nets as they are made: nothing was resolved yet.
-use Rattle.std.proofs.Common.{◌≡◌, ℕ, ◌<◌, ◌≤◌, List, [], length, map, replicate, Bool, true, false, refl, ap, sym, ◌∙◌, subst, arith}
+use Rattle.std.proofs.Common.{◌≡◌, ℕ, ◌<◌, ◌≤◌, List, [], length, map, replicate, Bool, true, false, ap, sym, ◌∙◌, subst, arith}
 use Rattle.std.proofs.lemmas.List.{length-replicate}
 use Rattle.sim_base.specs.declared.signal.Drive.{Drive}
 use Rattle.sim_base.specs.declared.signal.Drive.TheVariants as drives
@@ -9,9 +9,10 @@ use Rattle.sim_base.specs.declared.wiring.Wiring.{Wiring}
 use Rattle.board_model.specs.Board.{level_at}
 use Rattle.net_resolve.specs.Circuit.{Circuit}
 use Rattle.net_resolve.specs.Marked.{has}
-use Rattle.net_resolve.specs.Subcircuits.{SubcircuitView, IsCut, AreSubcircuits, AreRight, unresolved, circuit_of}
+use Rattle.net_resolve.specs.Wired.{Wired, wired}
+use Rattle.net_resolve.specs.Subcircuits.{SubcircuitView, IsCut, AreSubcircuits, AreRight, circuit_of}
 use Rattle.net_resolve.proofs.PinLemmas.{pins_z}
-use Rattle.net_resolve.proofs.RightLemmas.{cut_moved, subs_moved, right_none}
+use Rattle.net_resolve.proofs.RightLemmas.{right_none}
 
 abbrev circuit : ℕ → List ℕ → List (ℕ × ℕ) → List (ℕ × ℕ) → List Drive → List Bool → List Level → List ℕ → Circuit
 circuit n ns cs rs ds cl ls ch = record { nets = n; net_of = ns; contacts = cs; resistors = rs; drives = ds; closed = cl; levels = ls; changed = ch }
@@ -45,15 +46,15 @@ module _ (w : Wiring) (n : ℕ) (net_of : List ℕ) (contacts resistors : List (
   count : n ≡ w.nets
   count = count_is n w.nets ls en els
 
-  first_cut : IsCut (unresolved n net_of contacts resistors) labels
-  first_cut =
-      subst (λ (rs : List (ℕ × ℕ)). IsCut (unresolved n net_of contacts rs) labels) (sym er)
-      (cut_moved w.resistors (sym count) (sym es) (sym ec) refl cut)
+  same : circuit_of w ≡ wired n net_of contacts resistors
+  same =
+      ap (λ (x : ℕ). wired x w.net_of w.contacts w.resistors) (sym count)
+      ∙ ap (λ (x : List ℕ). wired n x w.contacts w.resistors) (sym es)
+      ∙ ap (λ (x : List (ℕ × ℕ)). wired n net_of x w.resistors) (sym ec)
+      ∙ ap (wired n net_of contacts) (sym er)
 
-  first_subs : (subs : List SubcircuitView) → AreSubcircuits (circuit_of w) labels subs → AreSubcircuits (unresolved n net_of contacts resistors) labels subs
-  first_subs subs are =
-      subst (λ (rs : List (ℕ × ℕ)). AreSubcircuits (unresolved n net_of contacts rs) labels subs) (sym er)
-      (subs_moved w.resistors (sym count) (sym es) (sym ec) refl refl are)
+  first_cut : IsCut (wired n net_of contacts resistors) labels
+  first_cut = subst (λ (x : Wired). IsCut x labels) same cut
 
   pub first_invariant : (subs : List SubcircuitView) → length subs ≡ w.nets → AreSubcircuits (circuit_of w) labels subs →
       (room : ℕ) (marked : List ℕ) → room ≡ w.nets → room ≤ 65535 → ((q : ℕ) → q < w.nets → has marked q ≡ true) →
@@ -62,9 +63,9 @@ module _ (w : Wiring) (n : ℕ) (net_of : List ℕ) (contacts resistors : List (
       (pair_count flags : ℕ) (cl : List Bool) → pair_count ≡ length contacts → flags ≡ length cl → cl ≡ replicate (length w.contacts) false →
       (pin_ls : List Level) → pin_ls ≡ replicate (length w.net_of) levels.Z →
       record {
-        cut : IsCut (unresolved n net_of contacts resistors) labels;
-        subcircuits : AreSubcircuits (unresolved n net_of contacts resistors) labels subs;
-        right : AreRight (unresolved n net_of contacts resistors) labels marked cl ds ls;
+        cut : IsCut (wired n net_of contacts resistors) labels;
+        subcircuits : AreSubcircuits (wired n net_of contacts resistors) labels subs;
+        right : AreRight (wired n net_of contacts resistors) labels marked cl ds ls;
         few : n ≤ 65536;
         subcircuits_long : length subs ≡ n;
         marks_room : room ≡ n;
@@ -75,8 +76,8 @@ module _ (w : Wiring) (n : ℕ) (net_of : List ℕ) (contacts resistors : List (
       }
   first_invariant subs subs_long are room marked room_is few all changed_room changed_is net_count driven ds ek ed eds pair_count flags cl ep ef ecl pin_ls epl = record {
     cut = first_cut;
-    subcircuits = first_subs subs are;
-    right = right_none (unresolved n net_of contacts resistors) labels first_cut marked cl ds ls (λ q l. all q (subst (λ (k : ℕ). q < k) count l));
+    subcircuits = subst (λ (x : Wired). AreSubcircuits x labels subs) same are;
+    right = right_none (wired n net_of contacts resistors) labels first_cut marked cl ds ls (λ q l. all q (subst (λ (k : ℕ). q < k) count l));
     few = omega (arith, few, room_is, count);
     subcircuits_long = subs_long ∙ sym count;
     marks_room = room_is ∙ sym count;

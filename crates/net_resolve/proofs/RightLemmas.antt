@@ -10,11 +10,12 @@ use Rattle.sim_base.specs.declared.signal.Level.{Level}
 use Rattle.board_model.specs.Walks.{below}
 use Rattle.board_model.specs.Resolve.{level_of, resolve}
 use Rattle.board_model.proofs.Lists.{some_same, some_map, get_map_some, get_within, get_set_same, get_set_other, get-below, length-below, same_lists}
-use Rattle.net_resolve.specs.Wired.{Wired}
+use Rattle.net_resolve.specs.Wired.{Wired, levels_of}
 use Rattle.net_resolve.specs.Circuit.{AreChanged}
 use Rattle.net_resolve.specs.Marked.{has, Moves, Noted}
-use Rattle.net_resolve.specs.Subcircuits.{Lacks, SubcircuitView, IsCut, IsSubcircuit, AreSubcircuits, AreRight, FitsIn, AreApart, unresolved, labels_of, level_now}
+use Rattle.net_resolve.specs.Subcircuits.{Lacks, SubcircuitView, IsCut, IsSubcircuit, AreSubcircuits, AreRight, FitsIn, AreApart, own_wired, labels_of, level_now}
 use Rattle.net_resolve.proofs.SubcircuitLemmas.{nets_once, net_label, net_labelled, net_there, others_lack, own_level}
+use Rattle.net_resolve.proofs.PinLemmas.{all_pins}
 use Rattle.net_resolve.proofs.MarkLemmas.{has_first, has_rest, still_fresh}
 use Rattle.net_resolve.proofs.CutLemmas.{map_here, map-map, picked_within, pin_places, pair_places}
 
@@ -85,18 +86,19 @@ module _ (w : Wired) (labels : List ℕ) (cut : IsCut w labels) where
         ∙ own_level w labels cut q s is cs2 ds2 (own_closed cs) (own_drives ds) ld2 c2 d2 t.0 n t.1)
 
     -- it can be resolved
-    pub fits_in : (drives_long closed_long levels_long : ℕ) → drives_long ≡ length w.net_of → closed_long ≡ length w.contacts → levels_long ≡ w.nets → FitsIn drives_long closed_long levels_long s
-    fits_in dl cl ll ed ec el = record {
-      pins = λ j k e. omega (arith, ed, pin_places labels w.net_of q s.pins is.pins_are j k e);
+    pub fits_in : (closed_long levels_long : ℕ) → closed_long ≡ length w.contacts → levels_long ≡ w.nets → FitsIn w.net_of closed_long levels_long s
+    fits_in cl ll ec el = record {
+      pins = pin_places labels w.net_of q s.pins is.pins_are;
       contacts = λ j k e. omega (arith, ec, pair_places labels w.contacts q s.contacts is.contacts_are j k e);
       nets = λ j k e. omega (arith, el, cut.long, slice_get_within labels k q (net_labelled labels q s.nets is.nets_are j k e));
       once = nets_once labels q s.nets is.nets_are;
+      whole = all_pins w labels q s is;
     }
 
     -- its nets are right once it is resolved, and the others as they were
     pub right_step : (rest : List ℕ) (cs : List Bool) (ds : List Drive) (old new : List Level) → length cs ≡ length w.contacts → length ds ≡ length w.net_of →
         ((own_cs : List Bool) (own_ds : List Drive) → map Some own_cs ≡ map (slice_get cs) s.contacts → map Some own_ds ≡ map (slice_get ds) s.pins →
-        (j n : ℕ) → slice_get s.nets j ≡ Some n → slice_get new n ≡ slice_get (resolve (length s.nets) s.own_nets s.own_contacts s.own_resistors own_cs own_ds) j) →
+        (j n : ℕ) → slice_get s.nets j ≡ Some n → slice_get new n ≡ slice_get (levels_of (own_wired s) own_cs own_ds) j) →
         ((n : ℕ) → Lacks s.nets n → slice_get new n ≡ slice_get old n) → AreRight w labels (q ∷ rest) cs ds old → AreRight w labels rest cs ds new
     right_step rest cs ds old new lc ld put others right n l e = elim (eqb_tells (slice_index labels n) q) [
       | inl t ↦
@@ -199,35 +201,11 @@ module _ (w : Wired) (labels : List ℕ) (cut : IsCut w labels) where
       some_same (sym ex ∙ is ∙ sym at ∙ ey))
 
 -- what is held of lists holds of lists that are the same
-pub cut_moved : {n n2 : ℕ} {ns ns2 : List ℕ} {cs cs2 : List (ℕ × ℕ)} {ls ls2 : List ℕ} (rs : List (ℕ × ℕ)) → n ≡ n2 → ns ≡ ns2 → cs ≡ cs2 → ls ≡ ls2 →
-    IsCut (unresolved n ns cs rs) ls → IsCut (unresolved n2 ns2 cs2 rs) ls2
-cut_moved {n = n} {n2 = n2} {ns = ns} {ns2 = ns2} {cs = cs} {cs2 = cs2} {ls = ls} {ls2 = ls2} rs en es ec el h =
-    subst (λ (x : List ℕ). IsCut (unresolved n2 ns2 cs2 rs) x) el
-    (subst (λ (x : List (ℕ × ℕ)). IsCut (unresolved n2 ns2 x rs) ls) ec
-    (subst (λ (x : List ℕ). IsCut (unresolved n2 x cs rs) ls) es
-    (subst (λ (x : ℕ). IsCut (unresolved x ns cs rs) ls) en h)))
-
-pub subs_moved : {n n2 : ℕ} {ns ns2 : List ℕ} {cs cs2 : List (ℕ × ℕ)} {ls ls2 : List ℕ} {ss ss2 : List SubcircuitView} (rs : List (ℕ × ℕ)) → n ≡ n2 → ns ≡ ns2 → cs ≡ cs2 → ls ≡ ls2 → ss ≡ ss2 →
-    AreSubcircuits (unresolved n ns cs rs) ls ss → AreSubcircuits (unresolved n2 ns2 cs2 rs) ls2 ss2
-subs_moved {n = n} {n2 = n2} {ns = ns} {ns2 = ns2} {cs = cs} {cs2 = cs2} {ls = ls} {ls2 = ls2} {ss = ss} {ss2 = ss2} rs en es ec el e h =
-    subst (λ (x : List SubcircuitView). AreSubcircuits (unresolved n2 ns2 cs2 rs) ls2 x) e
-    (subst (λ (x : List ℕ). AreSubcircuits (unresolved n2 ns2 cs2 rs) x ss) el
-    (subst (λ (x : List (ℕ × ℕ)). AreSubcircuits (unresolved n2 ns2 x rs) ls ss) ec
-    (subst (λ (x : List ℕ). AreSubcircuits (unresolved n2 x cs rs) ls ss) es
-    (subst (λ (x : ℕ). AreSubcircuits (unresolved x ns cs rs) ls ss) en h))))
-
-pub right_moved : {n n2 : ℕ} {ns ns2 : List ℕ} {cs cs2 : List (ℕ × ℕ)} {ls ls2 : List ℕ} {st st2 : List ℕ} {cl cl2 : List Bool} {ds ds2 : List Drive} {lv lv2 : List Level} (rs : List (ℕ × ℕ)) →
-    n ≡ n2 → ns ≡ ns2 → cs ≡ cs2 → ls ≡ ls2 → st ≡ st2 → cl ≡ cl2 → ds ≡ ds2 → lv ≡ lv2 →
-    AreRight (unresolved n ns cs rs) ls st cl ds lv → AreRight (unresolved n2 ns2 cs2 rs) ls2 st2 cl2 ds2 lv2
-right_moved {n = n} {n2 = n2} {ns = ns} {ns2 = ns2} {cs = cs} {cs2 = cs2} {ls = ls} {ls2 = ls2} {st = st} {st2 = st2} {cl = cl} {cl2 = cl2} {ds = ds} {ds2 = ds2} {lv = lv} {lv2 = lv2} rs en es ec el est ecl eds elv h =
-    subst (λ (x : List Level). AreRight (unresolved n2 ns2 cs2 rs) ls2 st2 cl2 ds2 x) elv
-    (subst (λ (x : List Drive). AreRight (unresolved n2 ns2 cs2 rs) ls2 st2 cl2 x lv) eds
-    (subst (λ (x : List Bool). AreRight (unresolved n2 ns2 cs2 rs) ls2 st2 x ds lv) ecl
-    (subst (λ (x : List ℕ). AreRight (unresolved n2 ns2 cs2 rs) ls2 x cl ds lv) est
-    (subst (λ (x : List ℕ). AreRight (unresolved n2 ns2 cs2 rs) x st cl ds lv) el
-    (subst (λ (x : List (ℕ × ℕ)). AreRight (unresolved n2 ns2 x rs) ls st cl ds lv) ec
-    (subst (λ (x : List ℕ). AreRight (unresolved n2 x cs rs) ls st cl ds lv) es
-    (subst (λ (x : ℕ). AreRight (unresolved x ns cs rs) ls st cl ds lv) en h)))))))
+pub right_moved : {st st2 : List ℕ} {cs cs2 : List Bool} {ds ds2 : List Drive} {ls ls2 : List Level} (w : Wired) (labels : List ℕ) → st ≡ st2 → cs ≡ cs2 → ds ≡ ds2 → ls ≡ ls2 →
+    AreRight w labels st cs ds ls → AreRight w labels st2 cs2 ds2 ls2
+right_moved {cs2 = cs2} {ds = ds} w labels es ec ed el right n l e =
+    ap (λ (x : List Level). slice_get x n) (sym el) ∙ right n l (ap (λ (x : List ℕ). has x (slice_index labels n)) es ∙ e)
+    ∙ ap (λ (x : List Bool). Some (level_now w x ds n)) ec ∙ ap (λ (x : List Drive). Some (level_now w cs2 x n)) ed
 
 -- where everything is marked nothing is said
 pub right_none : (w : Wired) (labels : List ℕ) → IsCut w labels → (marked : List ℕ) (cs : List Bool) (ds : List Drive) (levels : List Level) → ((q : ℕ) → q < w.nets → has marked q ≡ true) → AreRight w labels marked cs ds levels

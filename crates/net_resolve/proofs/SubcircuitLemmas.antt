@@ -9,8 +9,8 @@ use Rattle.board_model.specs.Walks.{below}
 use Rattle.board_model.specs.Nets.{joins, joined_by}
 use Rattle.board_model.specs.Resolve.{contact_joins, level_of, resolve}
 use Rattle.board_model.proofs.Lists.{some_same, some_map, get_map_some, get_within, get-below}
-use Rattle.net_resolve.specs.Wired.{Wired}
-use Rattle.net_resolve.specs.Subcircuits.{Lacks, AreOnce, SubcircuitView, IsCut, IsSubcircuit, AreOwn, picked, labels_of, level_now}
+use Rattle.net_resolve.specs.Wired.{Wired, levels_of}
+use Rattle.net_resolve.specs.Subcircuits.{Lacks, AreOnce, SubcircuitView, IsCut, IsSubcircuit, AreOwn, own_wired, picked, labels_of, level_now}
 use Rattle.union_find.proofs.PairLemmas.{joins_cases, joins_is, joins_swap, contact_of, contact_is, contact_bounds}
 use Rattle.net_resolve.proofs.ReachLemmas.{any_at, any_some}
 use Rattle.net_resolve.proofs.PickLemmas.{picked_key, picked_at, picked_once}
@@ -225,7 +225,7 @@ module _ (w : Wired) (labels : List ℕ) (cut : IsCut w labels) (q : ℕ) (s : S
 
   -- what the subcircuit alone gives its nets
   pub own_level : (i n : ℕ) → slice_get s.nets i ≡ Some n →
-      slice_get (resolve (length s.nets) s.own_nets s.own_contacts s.own_resistors own_cs own_ds) i ≡ Some (level_now w cs ds n)
+      slice_get (levels_of (own_wired s) own_cs own_ds) i ≡ Some (level_now w cs ds n)
   unfolding resolve
   own_level i n e =
       some_map (level_of (length s.nets) s.own_nets s.own_contacts s.own_resistors own_cs own_ds) (below (length s.nets)) i i (get-below (length s.nets) i (slice_get_within s.nets i n e))

@@ -1,11 +1,11 @@
 -- Nets cut into subcircuits, which no contact and no resistor connects. No public clause cites this.
-use Rattle.std.specs.Prelude.{◌≡◌, ℕ, ◌+◌, ◌<◌, ◌≤◌, ◌==◌, List, [], ◌∷◌, length, map, Bool, Some, slice_get, slice_index, if◌then◌else◌}
+use Rattle.std.specs.Prelude.{◌≡◌, ℕ, ◌+◌, ◌<◌, ◌≤◌, ◌==◌, List, [], ◌∷◌, length, map, Bool, Some, slice_get, slice_index, slice_index_or, if◌then◌else◌}
 use Rattle.std.specs.Prelude.{false}
 use Rattle.sim_base.specs.declared.signal.Drive.{Drive}
 use Rattle.sim_base.specs.declared.signal.Level.{Level}
 use Rattle.board_model.specs.Resolve.{level_of}
 use Rattle.sim_base.specs.declared.wiring.Wiring.{Wiring}
-use Rattle.net_resolve.specs.Wired.{Wired}
+use Rattle.net_resolve.specs.Wired.{Wired, wired}
 use Rattle.net_resolve.specs.Marked.{has}
 use Rattle.board_model.specs.Pairs.{ArePairs}
 
@@ -33,12 +33,12 @@ pub record SubcircuitView : Type 0 where
   pub own_contacts : List (ℕ × ℕ)
   pub own_resistors : List (ℕ × ℕ)
 
--- nets and what joins them, before anything was resolved
-abbrev pub unresolved : ℕ → List ℕ → List (ℕ × ℕ) → List (ℕ × ℕ) → Wired
-unresolved nets net_of contacts resistors = record { nets = nets; net_of = net_of; contacts = contacts; resistors = resistors; levels = [] }
+-- a subcircuit as a board of its own
+abbrev pub own_wired : SubcircuitView → Wired
+own_wired s = wired (length s.nets) s.own_nets s.own_contacts s.own_resistors
 
 abbrev pub circuit_of : Wiring → Wired
-circuit_of w = unresolved w.nets w.net_of w.contacts w.resistors
+circuit_of w = wired w.nets w.net_of w.contacts w.resistors
 
 -- Each net has the number of its subcircuit, and what is joined has the same one.
 pub record IsCut (w : Wired) (labels : List ℕ) : Type 0 where
@@ -54,6 +54,10 @@ pub record IsCut (w : Wired) (labels : List ℕ) : Type 0 where
 pub record AreOwn (nets : List ℕ) (whole : List (ℕ × ℕ)) (places : List ℕ) (own : List (ℕ × ℕ)) : Type 0 where
   pub long : length own ≡ length places
   pub each : (j k : ℕ) (c o : ℕ × ℕ) → slice_get places j ≡ Some k → slice_get whole k ≡ Some c → slice_get own j ≡ Some o → (slice_get nets o.0 ≡ Some c.0) × (slice_get nets o.1 ≡ Some c.1)
+
+-- the new numbers of the nets of the pair at place k
+abbrev pub own_pair : List ℕ → List (ℕ × ℕ) → ℕ → ℕ × ℕ
+own_pair numbers pairs k = (slice_index numbers (slice_index_or pairs k (0, 0)).0, slice_index numbers (slice_index_or pairs k (0, 0)).1)
 
 -- the numbers of the subcircuits of pairs
 abbrev pub labels_of : List ℕ → List (ℕ × ℕ) → List ℕ
@@ -87,9 +91,10 @@ AreSubcircuits w labels subs = (q : ℕ) (s : SubcircuitView) → slice_get subs
 abbrev pub AreApart : List SubcircuitView → Type 0
 AreApart subs = (p q j k n : ℕ) (s t : SubcircuitView) → slice_get subs p ≡ Some s → slice_get subs q ≡ Some t → slice_get s.nets j ≡ Some n → slice_get t.nets k ≡ Some n → p ≡ q
 
--- the numbers that a subcircuit has are of a board's pins, contacts and nets
-pub record FitsIn (pins_count contacts_count nets_count : ℕ) (s : SubcircuitView) : Type 0 where
-  pub pins : (j k : ℕ) → slice_get s.pins j ≡ Some k → k < pins_count
+-- the numbers that a subcircuit has are of a board's pins, contacts and nets, and it has all pins on its nets
+pub record FitsIn (net_of : List ℕ) (contacts_count nets_count : ℕ) (s : SubcircuitView) : Type 0 where
+  pub pins : (j k : ℕ) → slice_get s.pins j ≡ Some k → k < length net_of
   pub contacts : (j k : ℕ) → slice_get s.contacts j ≡ Some k → k < contacts_count
   pub nets : (j k : ℕ) → slice_get s.nets j ≡ Some k → k < nets_count
   pub once : AreOnce s.nets
+  pub whole : HasAllPins net_of s

@@ -1,8 +1,9 @@
 //! The nets of a board, cut into subcircuits.
-ghost use Rattle.std.specs.Prelude.{◌≡◌, ℕ, ◌<◌, ◌≤◌, ◌++◌, [], ◌∷◌, List, length, map, replicate, Some, slice_get, slice_index, slice_index_or, slice_set, IfOk, OnOk, vec_len};
+ghost use Rattle.std.specs.Prelude.{◌≡◌, ℕ, ◌<◌, ◌≤◌, ◌++◌, [], ◌∷◌, List, length, map, Some, slice_get, slice_index};
+ghost use Rattle.std.specs.Prelude.{slice_index_or, slice_set, IfOk, OnOk, vec_len};
 ghost use Rattle.board_model.specs.Fits.{IsWiring};
 ghost use Rattle.union_find.specs.Forest.{AreLabels};
-ghost use Rattle.net_resolve.specs.Subcircuits.{IsCut, IsSubcircuit, AreSubcircuits, AreOnce, picked, labels_of, circuit_of};
+ghost use Rattle.net_resolve.specs.Subcircuits.{IsCut, IsSubcircuit, AreSubcircuits, AreOnce, own_pair, picked, labels_of, circuit_of};
 ghost use Rattle.net_resolve.specs.Sorted.{ArePicked, IsSorted};
 ghost use Rattle.board_model.specs.Pairs.{ArePairs};
 
@@ -103,35 +104,6 @@ fn pair_labels(alloc: Global, labels: &[u16], pairs: &[(u16, u16)]) -> Result<Ve
     Ok(keys)
 }
 
-/// The pins of each label.
-fn sort_pins(
-    alloc: Global,
-    wiring: &Wiring,
-    labels: &[u16],
-) -> Result<List<List<usize>>, OutOfMemory>
-    requires { IsCut (circuit_of wiring.now) labels.now }
-    ensures { IfOk result (λ ls. ArePicked wiring.now.nets (map (slice_index labels.now) wiring.now.net_of) ls) }
-{
-    let keys = pin_labels(alloc, labels, wiring.net_of.as_slice())?;
-    sort_places(alloc, &keys, wiring.nets as usize)
-}
-
-/// The places of each label among pairs of nets.
-fn sort_pairs(
-    alloc: Global,
-    labels: &[u16],
-    pairs: &[(u16, u16)],
-    count: usize,
-) -> Result<List<List<usize>>, OutOfMemory>
-    requires labels { (n : ℕ) → slice_index labels.now n ≤ n }
-    requires long { length labels.now ≡ count }
-    requires pairs { ArePairs count pairs.now }
-    ensures { IfOk result (λ ls. ArePicked count (labels_of labels.now pairs.now) ls) }
-{
-    let keys = pair_labels(alloc, labels, pairs)?;
-    sort_places(alloc, &keys, count)
-}
-
 /// Sorts what a wiring has by labels of its nets.
 fn sort_by(alloc: Global, wiring: &Wiring, labels: List<u16>) -> Result<Sorted, OutOfMemory>
     requires { IsCut (circuit_of wiring.now) labels }
@@ -140,9 +112,12 @@ fn sort_by(alloc: Global, wiring: &Wiring, labels: List<u16>) -> Result<Sorted, 
     let count = wiring.nets as usize;
     let keys = labels.as_slice();
     let nets = sort_places(alloc, keys, count)?;
-    let pins = sort_pins(alloc, wiring, keys)?;
-    let contacts = sort_pairs(alloc, keys, wiring.contacts.as_slice(), count)?;
-    let resistors = sort_pairs(alloc, keys, wiring.resistors.as_slice(), count)?;
+    let pin_keys = pin_labels(alloc, keys, wiring.net_of.as_slice())?;
+    let pins = sort_places(alloc, &pin_keys, count)?;
+    let contact_keys = pair_labels(alloc, keys, wiring.contacts.as_slice())?;
+    let contacts = sort_places(alloc, &contact_keys, count)?;
+    let resistor_keys = pair_labels(alloc, keys, wiring.resistors.as_slice())?;
+    let resistors = sort_places(alloc, &resistor_keys, count)?;
     Ok(Sorted {
         labels,
         nets,
@@ -205,7 +180,7 @@ fn own_pairs(
 ) -> Result<Vec<(u16, u16)>, AllocError>
     requires places { (j k : ℕ) → slice_get places.now j ≡ Some k → k < length pairs.now }
     requires nets { ArePairs (length numbers.now) pairs.now }
-    ensures { IfOk result (λ v. v.items ≡ map (λ k. (slice_index numbers.now (slice_index_or pairs.now k (0, 0)).0, slice_index numbers.now (slice_index_or pairs.now k (0, 0)).1)) places.now) }
+    ensures { IfOk result (λ v. v.items ≡ map (own_pair numbers.now pairs.now) places.now) }
 {
     let mut own = Vec::new(alloc);
     for j in 0..places.len() {
@@ -213,36 +188,6 @@ fn own_pairs(
         own.push((numbers[a as usize], numbers[b as usize]))?;
     }
     Ok(own)
-}
-
-/// The nets of a subcircuit, by the new numbers.
-fn own_whole(
-    alloc: Global,
-    wiring: &Wiring,
-    count: usize,
-    pins: &[usize],
-    contacts: &[usize],
-    resistors: &[usize],
-    numbers: &[u16],
-) -> Result<Whole, OutOfMemory>
-    requires wiring { IsWiring wiring.now }
-    requires few { count ≤ 65536 }
-    requires numbers { length numbers.now ≡ wiring.now.nets }
-    requires pins { (j k : ℕ) → slice_get pins.now j ≡ Some k → k < length wiring.now.net_of }
-    requires contacts { (j k : ℕ) → slice_get contacts.now j ≡ Some k → k < length wiring.now.contacts }
-    requires resistors { (j k : ℕ) → slice_get resistors.now j ≡ Some k → k < length wiring.now.resistors }
-    requires own_pins { (j k : ℕ) → slice_get pins.now j ≡ Some k → slice_index numbers.now (slice_index wiring.now.net_of k) < count }
-    requires own_contacts { (j k : ℕ) → slice_get contacts.now j ≡ Some k → (slice_index numbers.now (slice_index_or wiring.now.contacts k (0, 0)).0 < count) × (slice_index numbers.now (slice_index_or wiring.now.contacts k (0, 0)).1 < count) }
-    requires own_resistors { (j k : ℕ) → slice_get resistors.now j ≡ Some k → (slice_index numbers.now (slice_index_or wiring.now.resistors k (0, 0)).0 < count) × (slice_index numbers.now (slice_index_or wiring.now.resistors k (0, 0)).1 < count) }
-    ensures nets { IfOk result (λ w. w.nets ≡ count) }
-    ensures net_of { IfOk result (λ w. w.net_of ≡ map (λ k. slice_index numbers.now (slice_index wiring.now.net_of k)) pins.now) }
-    ensures contacts { IfOk result (λ w. w.contacts ≡ map (λ k. (slice_index numbers.now (slice_index_or wiring.now.contacts k (0, 0)).0, slice_index numbers.now (slice_index_or wiring.now.contacts k (0, 0)).1)) contacts.now) }
-    ensures resistors { IfOk result (λ w. w.resistors ≡ map (λ k. (slice_index numbers.now (slice_index_or wiring.now.resistors k (0, 0)).0, slice_index numbers.now (slice_index_or wiring.now.resistors k (0, 0)).1)) resistors.now) }
-{
-    let net_of = own_nets(alloc, wiring.net_of.as_slice(), pins, numbers)?;
-    let own_contacts = own_pairs(alloc, wiring.contacts.as_slice(), contacts, numbers)?;
-    let own_resistors = own_pairs(alloc, wiring.resistors.as_slice(), resistors, numbers)?;
-    Whole::new(alloc, count, net_of, own_contacts, own_resistors)
 }
 
 fn list_at(lists: &List<List<usize>>, q: usize) -> &[usize]
@@ -272,39 +217,14 @@ fn cut_out(
     let contacts = list_at(&sorted.contacts, q);
     let resistors = list_at(&sorted.resistors, q);
     number(nets, numbers);
-    let whole = own_whole(
-        alloc,
-        wiring,
-        nets.len(),
-        pins,
-        contacts,
-        resistors,
-        numbers,
-    )?;
+    let net_of = own_nets(alloc, wiring.net_of.as_slice(), pins, numbers)?;
+    let own_contacts = own_pairs(alloc, wiring.contacts.as_slice(), contacts, numbers)?;
+    let own_resistors = own_pairs(alloc, wiring.resistors.as_slice(), resistors, numbers)?;
+    let whole = Whole::new(alloc, nets.len(), net_of, own_contacts, own_resistors)?;
     Subcircuit::new(alloc, nets, pins, contacts, whole)
 }
 
-/// All subcircuits, in the order of their numbers; a number that is no label is that of one without nets.
-fn cut_numbered(
-    alloc: Global,
-    wiring: &Wiring,
-    sorted: &Sorted,
-    numbers: &mut [u16],
-) -> Result<Vec<Subcircuit>, OutOfMemory>
-    requires wiring { IsWiring wiring.now }
-    requires sorted { IsSorted (circuit_of wiring.now) sorted.now }
-    requires numbers { length numbers.old ≡ wiring.now.nets }
-    ensures long { IfOk result (λ v. length v.items ≡ wiring.now.nets) }
-    ensures subcircuits { IfOk result (λ v. AreSubcircuits (circuit_of wiring.now) sorted.now.labels v.items) }
-{
-    let mut subcircuits = Vec::new(alloc);
-    for q in 0..wiring.nets as usize {
-        subcircuits.push(cut_out(alloc, wiring, sorted, q, numbers)?)?;
-    }
-    Ok(subcircuits)
-}
-
-/// All subcircuits of a wiring, in the order of their numbers.
+/// All subcircuits of a wiring, in the order of their numbers; a number that is no label is that of one without nets.
 pub(crate) fn cut_all(
     alloc: Global,
     wiring: &Wiring,
@@ -316,5 +236,9 @@ pub(crate) fn cut_all(
     ensures subcircuits { IfOk result (λ v. AreSubcircuits (circuit_of wiring.now) sorted.now.labels v.items) }
 {
     let mut numbers = zeros(alloc, wiring.nets as usize)?;
-    cut_numbered(alloc, wiring, sorted, numbers.as_mut_slice())
+    let mut subcircuits = Vec::new(alloc);
+    for q in 0..wiring.nets as usize {
+        subcircuits.push(cut_out(alloc, wiring, sorted, q, &mut numbers)?)?;
+    }
+    Ok(subcircuits)
 }

@@ -38,7 +38,8 @@ fn sum_groups(net_of: &[u16], drives: &[Drive], groups: &[u16], strong: &mut [Le
     requires pins { length drives.now ≡ length net_of.now }
     requires nets { (k : ℕ) → k < length net_of.now → slice_index net_of.now k < length groups.now }
     requires groups { (n : ℕ) → n < length groups.now → slice_index groups.now n < length strong.old }
-    ensures { (g : ℕ) → g < length strong.old → sum_at strong.new g ≡ added strong_level (λ n. slice_index groups.now n == g) Level.Z (zip net_of.now drives.now) }
+    ensures { (g : ℕ) → g < length strong.old →
+        sum_at strong.new g ≡ added strong_level (λ n. slice_index groups.now n == g) Level.Z (zip net_of.now drives.now) }
 {
     clear(strong);
     add_strong(net_of, drives, groups, strong);
@@ -58,7 +59,9 @@ fn find_areas(
     requires bridges { length bridges.old ≡ length resistors.now }
     requires areas { length areas.old ≡ length groups.now }
     ensures labels { AreLabels areas.new }
-    ensures joins { Joins (contact_joins resistors.now (map (λ r. is_loose groups.now strong.now r.0 && is_loose groups.now strong.now r.1) resistors.now)) groups.now areas.new }
+    ensures joins { Joins
+        (contact_joins resistors.now (map (λ r. is_loose groups.now strong.now r.0 && is_loose groups.now strong.now r.1) resistors.now))
+        groups.now areas.new }
 {
     areas.copy_from_slice(groups);
     if put_bridges(resistors, groups, strong, bridges) {
@@ -83,7 +86,8 @@ fn sum_areas(
     requires places { length areas.now ≡ length groups.now }
     requires areas { (n : ℕ) → n < length areas.now → slice_index areas.now n < length sums.old }
     ensures { (a : ℕ) → a < length sums.old → sum_at sums.new a
-        ≡ added weak_level (λ n. is_loose groups.now strong.now n && (slice_index areas.now n == a)) (resistors_add groups.now strong.now areas.now a Level.Z resistors.now) (zip net_of.now drives.now) }
+        ≡ added weak_level (λ n. is_loose groups.now strong.now n && (slice_index areas.now n == a))
+        (resistors_add groups.now strong.now areas.now a Level.Z resistors.now) (zip net_of.now drives.now) }
 {
     clear(sums);
     add_resistors(resistors, groups, strong, areas, sums);
@@ -112,7 +116,8 @@ pub(crate) fn resolve_groups(
     requires areas { length areas.old ≡ length groups.now }
     requires sums { length sums.old ≡ length groups.now }
     requires levels { length levels.old ≡ length groups.now }
-    ensures { (contacts : List (ℕ × ℕ)) (closed : List Bool) → AreGroups contacts closed groups.now → levels.new ≡ resolve (length groups.now) net_of.now contacts resistors.now closed drives.now }
+    ensures { (contacts : List (ℕ × ℕ)) (closed : List Bool) → AreGroups contacts closed groups.now →
+        levels.new ≡ resolve (length groups.now) net_of.now contacts resistors.now closed drives.now }
 {
     sum_groups(net_of, drives, groups, strong);
     if put_strong(groups, strong, levels) {

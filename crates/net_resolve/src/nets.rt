@@ -1,23 +1,23 @@
 //! The nets of a board.
-ghost use Rattle.std.specs.Prelude.{◌≡◌, ℕ, ◌<◌, ◌≤◌, List, [], length, map, replicate, Some, eqb, slice_get, slice_set, slice_index, slice_index_or, IfOk, vec_len, true, false};
+ghost use Rattle.std.specs.Prelude.{◌≡◌, ℕ, ◌<◌, ◌≤◌, List, [], length, map, replicate, Some, eqb, true, false, IfOk, vec_len};
+ghost use Rattle.std.specs.Prelude.{slice_get, slice_set, slice_index, slice_index_or};
 ghost use Rattle.std.specs.List.{IsDistinct};
 ghost use Rattle.board_model.specs.Fits.{IsWiring};
 ghost use Rattle.board_model.specs.Board.{level_at};
 ghost use Rattle.board_model.specs.Resolve.{resolve};
 ghost use Rattle.net_resolve.specs.Circuit.{Circuit, AreChanged};
 ghost use Rattle.net_resolve.specs.Marked.{has, Noted};
-ghost use Rattle.net_resolve.specs.Sorted.{IsSorted};
 ghost use Rattle.net_resolve.specs.Wired.{Wired};
-ghost use Rattle.net_resolve.specs.Subcircuits.{SubcircuitView, IsCut, AreSubcircuits, AreApart, AreRight, FitsIn, HasAllPins, circuit_of};
+ghost use Rattle.net_resolve.specs.Subcircuits.{SubcircuitView, IsCut, AreSubcircuits, AreApart, AreRight, FitsIn, circuit_of};
 ghost use Rattle.board_model.specs.Pairs.{ArePairs};
 
-use crate::cut::{Sorted, cut_all, sort};
+use crate::cut::{cut_all, sort};
 use crate::marks::{Marks, Numbers};
 use crate::resolution::{is_same_drive, is_same_flag};
 use crate::room::{all_z, no_drives, no_flags};
 use crate::subcircuit::Subcircuit;
 use sim_base::{Drive, Level, OutOfMemory, Wiring};
-use std::alloc::{AllocError, Global};
+use std::alloc::Global;
 use std::marker::Model;
 
 /// The nets of a board, with what joins them, what drives them and the levels that were resolved
@@ -47,7 +47,8 @@ impl Model for Nets {
     ghost use Rattle.std.specs.Prelude.{◌≡◌, ◌≤◌, length, map, vec_len};
     ghost use Rattle.board_model.specs.Board.{level_at};
     ghost use Rattle.net_resolve.specs.Circuit.{Circuit};
-    ghost use Rattle.net_resolve.specs.Subcircuits.{IsCut, AreSubcircuits, AreRight, unresolved};
+    ghost use Rattle.net_resolve.specs.Wired.{wired};
+    ghost use Rattle.net_resolve.specs.Subcircuits.{IsCut, AreSubcircuits, AreRight};
 
     ghost Value = { Circuit };
 
@@ -63,9 +64,10 @@ impl Model for Nets {
     } };
 
     ghost invariant = { λ a. record {
-      cut : IsCut (unresolved (vec_len a.levels) a.net_of.items a.contacts.items a.resistors.items) a.labels.items;
-      subcircuits : AreSubcircuits (unresolved (vec_len a.levels) a.net_of.items a.contacts.items a.resistors.items) a.labels.items a.subcircuits.items;
-      right : AreRight (unresolved (vec_len a.levels) a.net_of.items a.contacts.items a.resistors.items) a.labels.items a.marks.marked a.closed.items a.drives.items a.levels.items;
+      cut : IsCut (wired (vec_len a.levels) a.net_of.items a.contacts.items a.resistors.items) a.labels.items;
+      subcircuits : AreSubcircuits (wired (vec_len a.levels) a.net_of.items a.contacts.items a.resistors.items) a.labels.items a.subcircuits.items;
+      right : AreRight (wired (vec_len a.levels) a.net_of.items a.contacts.items a.resistors.items)
+          a.labels.items a.marks.marked a.closed.items a.drives.items a.levels.items;
       few : vec_len a.levels ≤ 65536;
       subcircuits_long : length a.subcircuits.items ≡ vec_len a.levels;
       marks_room : a.marks.room ≡ vec_len a.levels;
@@ -115,7 +117,8 @@ fn keep_closed(
     requires labels { (n : ℕ) → n < length labels.now → slice_index labels.now n < marks.old.room }
     ensures kept { kept.new ≡ slice_set kept.old contact closed }
     ensures room { marks.new.room ≡ marks.old.room }
-    ensures marks { Noted (slice_get kept.old contact ≡ Some closed) (slice_index labels.now (slice_index_or contacts.now contact (0, 0)).0) marks.old.marked marks.new.marked }
+    ensures marks { Noted (slice_get kept.old contact ≡ Some closed)
+        (slice_index labels.now (slice_index_or contacts.now contact (0, 0)).0) marks.old.marked marks.new.marked }
 {
     if !is_same_flag(kept[contact], closed) {
         kept[contact] = closed;
@@ -141,55 +144,25 @@ fn resolve_subcircuits(
     requires room { changed.old.room ≡ length levels.old }
     requires none { changed.old.marked ≡ [] }
     requires apart { AreApart subcircuits.old }
-    requires fits { (q : ℕ) (s : SubcircuitView) → slice_get subcircuits.old q ≡ Some s → FitsIn (length drives.now) (length closed.now) (length levels.old) s }
+    requires fits { (q : ℕ) (s : SubcircuitView) → slice_get subcircuits.old q ≡ Some s →
+        FitsIn net_of.now (length closed.now) (length levels.old) s }
     requires each { length net_of.now ≡ length drives.now }
     requires nets { (k n : ℕ) → slice_get net_of.now k ≡ Some n → n < length levels.old }
-    requires whole { (q : ℕ) (s : SubcircuitView) → slice_get subcircuits.old q ≡ Some s → HasAllPins net_of.now s }
     requires pin_levels { pin_levels.old ≡ map (level_at levels.old) net_of.now }
     ensures same { subcircuits.new ≡ subcircuits.old }
     ensures none { marks.new.marked ≡ [] }
     ensures marks_room { marks.new.room ≡ marks.old.room }
     ensures room { changed.new.room ≡ changed.old.room }
-    ensures right { (w : Wired) (labels : List ℕ) → IsCut w labels → AreSubcircuits w labels subcircuits.old → length closed.now ≡ length w.contacts → length drives.now ≡ length w.net_of →
+    ensures right { (w : Wired) (labels : List ℕ) → IsCut w labels → AreSubcircuits w labels subcircuits.old →
+        length closed.now ≡ length w.contacts → length drives.now ≡ length w.net_of →
         AreRight w labels marks.old.marked closed.now drives.now levels.old → AreRight w labels [] closed.now drives.now levels.new }
-    ensures changed { (w : Wired) (labels : List ℕ) → IsCut w labels → AreSubcircuits w labels subcircuits.old → length levels.old ≡ w.nets → AreChanged levels.old levels.new changed.new.marked }
+    ensures changed { (w : Wired) (labels : List ℕ) → IsCut w labels → AreSubcircuits w labels subcircuits.old →
+        length levels.old ≡ w.nets → AreChanged levels.old levels.new changed.new.marked }
     ensures pin_levels { pin_levels.new ≡ map (level_at levels.new) net_of.now }
 {
     while let Some(q) = marks.take() {
         subcircuits[q as usize].resolve(drives, closed, net_of, levels, pin_levels, changed);
     }
-}
-
-/// The net of each pin of a wiring, its contacts and its resistors.
-fn copy_wiring(
-    alloc: Global,
-    wiring: &Wiring,
-) -> Result<(Vec<u16>, Vec<(u16, u16)>, Vec<(u16, u16)>), AllocError>
-    ensures net_of { IfOk result (λ v. v.0.items ≡ wiring.now.net_of) }
-    ensures contacts { IfOk result (λ v. v.1.items ≡ wiring.now.contacts) }
-    ensures resistors { IfOk result (λ v. v.2.items ≡ wiring.now.resistors) }
-{
-    let net_of = Vec::from_slice(alloc, wiring.net_of.as_slice())?;
-    let contacts = Vec::from_slice(alloc, wiring.contacts.as_slice())?;
-    let resistors = Vec::from_slice(alloc, wiring.resistors.as_slice())?;
-    Ok((net_of, contacts, resistors))
-}
-
-/// The number of each net's subcircuit, and the subcircuits, of a wiring that is sorted.
-fn cut_sorted(
-    alloc: Global,
-    wiring: &Wiring,
-    sorted: &Sorted,
-) -> Result<(Vec<u16>, Vec<Subcircuit>), OutOfMemory>
-    requires wiring { IsWiring wiring.now }
-    requires sorted { IsSorted (circuit_of wiring.now) sorted.now }
-    ensures cut { IfOk result (λ v. IsCut (circuit_of wiring.now) v.0.items) }
-    ensures long { IfOk result (λ v. length v.1.items ≡ wiring.now.nets) }
-    ensures subcircuits { IfOk result (λ v. AreSubcircuits (circuit_of wiring.now) v.0.items v.1.items) }
-{
-    let labels = Vec::from_slice(alloc, sorted.labels.as_slice())?;
-    let subcircuits = cut_all(alloc, wiring, sorted)?;
-    Ok((labels, subcircuits))
 }
 
 /// The number of each net's subcircuit, and the subcircuits.
@@ -200,37 +173,9 @@ fn cut_wiring(alloc: Global, wiring: &Wiring) -> Result<(Vec<u16>, Vec<Subcircui
     ensures subcircuits { IfOk result (λ v. AreSubcircuits (circuit_of wiring.now) v.0.items v.1.items) }
 {
     let sorted = sort(alloc, wiring)?;
-    cut_sorted(alloc, wiring, &sorted)
-}
-
-/// What the pins drive, which contacts are closed, and the levels of the nets and of the pins, before
-/// anything is set.
-fn first_state(
-    alloc: Global,
-    wiring: &Wiring,
-) -> Result<(Vec<Drive>, Vec<bool>, Vec<Level>, Vec<Level>), AllocError>
-    ensures drives { IfOk result (λ v. v.0.items ≡ replicate (length wiring.now.net_of) Drive.Z) }
-    ensures closed { IfOk result (λ v. v.1.items ≡ replicate (length wiring.now.contacts) false) }
-    ensures levels { IfOk result (λ v. v.2.items ≡ replicate wiring.now.nets Level.Z) }
-    ensures pin_levels { IfOk result (λ v. v.3.items ≡ replicate (length wiring.now.net_of) Level.Z) }
-{
-    let drives = no_drives(alloc, wiring.net_of.len())?;
-    let closed = no_flags(alloc, wiring.contacts.len())?;
-    let levels = all_z(alloc, wiring.nets as usize)?;
-    let pin_levels = all_z(alloc, wiring.net_of.len())?;
-    Ok((drives, closed, levels, pin_levels))
-}
-
-/// The marks of so many subcircuits, all set, and room for the numbers of as many nets.
-fn first_marks(alloc: Global, count: u16) -> Result<(Marks, Numbers), OutOfMemory>
-    ensures room { IfOk result (λ m. m.0.room ≡ count) }
-    ensures few { IfOk result (λ m. m.0.room ≤ 65535) }
-    ensures all { IfOk result (λ m. (n : ℕ) → n < count → has m.0.marked n ≡ true) }
-    ensures none { IfOk result (λ m. m.1 ≡ record { room = count; marked = [] }) }
-{
-    let marks = Marks::all(alloc, count)?;
-    let changed = Numbers::new(alloc, count)?;
-    Ok((marks, changed))
+    let labels = Vec::from_slice(alloc, sorted.labels.as_slice())?;
+    let subcircuits = cut_all(alloc, wiring, &sorted)?;
+    Ok((labels, subcircuits))
 }
 
 impl Nets {
@@ -249,10 +194,16 @@ impl Nets {
           changed = [];
         }) }
     {
-        let (marks, changed) = first_marks(alloc, wiring.nets)?;
+        let marks = Marks::all(alloc, wiring.nets)?;
+        let changed = Numbers::new(alloc, wiring.nets)?;
         let (labels, subcircuits) = cut_wiring(alloc, wiring)?;
-        let (net_of, contacts, resistors) = copy_wiring(alloc, wiring)?;
-        let (drives, closed, levels, pin_levels) = first_state(alloc, wiring)?;
+        let net_of = Vec::from_slice(alloc, wiring.net_of.as_slice())?;
+        let contacts = Vec::from_slice(alloc, wiring.contacts.as_slice())?;
+        let resistors = Vec::from_slice(alloc, wiring.resistors.as_slice())?;
+        let drives = no_drives(alloc, wiring.net_of.len())?;
+        let closed = no_flags(alloc, wiring.contacts.len())?;
+        let levels = all_z(alloc, wiring.nets as usize)?;
+        let pin_levels = all_z(alloc, wiring.net_of.len())?;
         Ok(Nets {
             net_of,
             contacts,
@@ -302,7 +253,10 @@ impl Nets {
     /// which one of these was set to something else are looked at.
     #[inline(always)]
     pub fn resolve_marked(&mut self)
-        ensures levels { self.new ≡ record self.old { levels = resolve self.old.nets self.old.net_of self.old.contacts self.old.resistors self.old.closed self.old.drives; changed = self.new.changed } }
+        ensures levels { self.new ≡ record self.old {
+          levels = resolve self.old.nets self.old.net_of self.old.contacts self.old.resistors self.old.closed self.old.drives;
+          changed = self.new.changed;
+        } }
         ensures changed { AreChanged self.old.levels self.new.levels self.new.changed }
     {
         self.changed.clear();

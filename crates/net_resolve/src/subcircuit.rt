@@ -1,18 +1,18 @@
 //! Nets that no contact and no resistor connects with others: their levels are found alone.
 ghost use Rattle.std.specs.Prelude.{◌≡◌, ◌≢◌, ℕ, ◌<◌, ◌≤◌, List, length, map, Some, slice_get, slice_set, slice_index, IfOk, vec_len, Bool, true, false};
 ghost use Rattle.sim_base.specs.declared.signal.Drive.{Drive};
-ghost use Rattle.board_model.specs.Resolve.{resolve};
+ghost use Rattle.net_resolve.specs.Wired.{levels_of};
 ghost use Rattle.net_resolve.specs.Marked.{Moves, has};
 ghost use Rattle.board_model.specs.Board.{level_at};
-ghost use Rattle.net_resolve.specs.Subcircuits.{SubcircuitView, Lacks, AreOnce, HasAllPins};
-ghost use Rattle.net_resolve.specs.Resolutions.{IsResolution, AreResolutions, last_of};
+ghost use Rattle.net_resolve.specs.Subcircuits.{SubcircuitView, Lacks, AreOnce, FitsIn, own_wired};
+ghost use Rattle.net_resolve.specs.Resolutions.{IsResolution, AreResolutions, ArePlaces, IsBy, last_of};
 
 use crate::marks::Numbers;
 use crate::resolution::{Kept, Resolution};
-use crate::room::{no_drives, no_flags};
+use crate::room::{all_z, no_drives, no_flags};
 use crate::whole::Whole;
 use sim_base::{Drive, Level, OutOfMemory};
-use std::alloc::{AllocError, Global};
+use std::alloc::Global;
 use std::marker::Model;
 
 /// Some nets of a board, which are numbered anew from 0, with the pins, contacts and resistors on them.
@@ -33,7 +33,14 @@ impl Model for Subcircuit {
 
     ghost Value = { SubcircuitView };
 
-    ghost view = { λ a. record { nets = a.nets.items; pins = a.pins.items; contacts = a.contacts.items; own_nets = a.whole.net_of; own_contacts = a.whole.contacts; own_resistors = a.whole.resistors } };
+    ghost view = { λ a. record {
+      nets = a.nets.items;
+      pins = a.pins.items;
+      contacts = a.contacts.items;
+      own_nets = a.whole.net_of;
+      own_contacts = a.whole.contacts;
+      own_resistors = a.whole.resistors;
+    } };
 
     ghost invariant = { λ a. record {
       nets_long : vec_len a.nets ≡ a.whole.nets;
@@ -126,62 +133,26 @@ fn put_pins(pins: &[usize], net_of: &[u16], levels: &[Level], into: &mut [Level]
 /// The levels of some nets where no pin drives and no contact is closed.
 fn first_resolution(
     alloc: Global,
+    nets: usize,
     pins: usize,
     contacts: usize,
     whole: &mut Whole,
 ) -> Result<Resolution, OutOfMemory>
+    requires nets { nets ≡ whole.old.nets }
     requires pins { pins ≡ length whole.old.net_of }
     requires contacts { contacts ≡ length whole.old.contacts }
-    ensures same { whole.new ≡ record whole.old { levels = whole.new.levels } }
+    ensures same { whole.new ≡ whole.old }
     ensures found { IfOk result (λ r. IsResolution whole.old r) }
 {
     let drives = no_drives(alloc, pins)?;
     let closed = no_flags(alloc, contacts)?;
-    whole.resolve(&drives, &closed);
-    let levels = Vec::from_slice(alloc, whole.levels())?;
+    let mut levels = all_z(alloc, nets)?;
+    whole.resolve(&drives, &closed, &mut levels);
     Ok(Resolution {
         drives,
         closed,
         levels,
     })
-}
-
-/// The same, twice.
-fn first_resolutions(
-    alloc: Global,
-    pins: usize,
-    contacts: usize,
-    whole: &mut Whole,
-) -> Result<Kept, OutOfMemory>
-    requires pins { pins ≡ length whole.old.net_of }
-    requires contacts { contacts ≡ length whole.old.contacts }
-    ensures same { whole.new ≡ record whole.old { levels = whole.new.levels } }
-    ensures kept { IfOk result (λ k. AreResolutions whole.old k) }
-{
-    let first = first_resolution(alloc, pins, contacts, whole)?;
-    let second = first_resolution(alloc, pins, contacts, whole)?;
-    Ok(Kept {
-        first,
-        second,
-        flipped: false,
-    })
-}
-
-/// The numbers of a subcircuit's nets, pins and contacts.
-fn copied(
-    alloc: Global,
-    nets: &[usize],
-    pins: &[usize],
-    contacts: &[usize],
-) -> Result<(Vec<usize>, Vec<usize>, Vec<usize>), AllocError>
-    ensures nets { IfOk result (λ v. v.0.items ≡ nets.now) }
-    ensures pins { IfOk result (λ v. v.1.items ≡ pins.now) }
-    ensures contacts { IfOk result (λ v. v.2.items ≡ contacts.now) }
-{
-    let own_nets = Vec::from_slice(alloc, nets)?;
-    let own_pins = Vec::from_slice(alloc, pins)?;
-    let own_contacts = Vec::from_slice(alloc, contacts)?;
-    Ok((own_nets, own_pins, own_contacts))
 }
 
 /// Resolves some nets of a board by the drives and contacts at some places.
@@ -194,20 +165,15 @@ fn resolve_at(
     found: &mut Resolution,
     whole: &mut Whole,
 )
-    requires pins { (j k : ℕ) → slice_get pins.now j ≡ Some k → k < length drives.now }
-    requires contacts { (j k : ℕ) → slice_get contacts.now j ≡ Some k → k < length closed.now }
-    requires pins_long { length pins.now ≡ length whole.old.net_of }
-    requires contacts_long { length contacts.now ≡ length whole.old.contacts }
+    requires places { ArePlaces whole.old drives.now closed.now pins.now contacts.now }
     requires found { IsResolution whole.old found.old }
-    ensures same { whole.new ≡ record whole.old { levels = whole.new.levels } }
+    ensures same { whole.new ≡ whole.old }
     ensures found { IsResolution whole.old found.new }
-    ensures drives { map Some found.new.drives.items ≡ map (slice_get drives.now) pins.now }
-    ensures closed { map Some found.new.closed.items ≡ map (slice_get closed.now) contacts.now }
+    ensures by { IsBy drives.now closed.now pins.now contacts.now found.new }
 {
     gather(drives, pins, &mut found.drives);
     gather(closed, contacts, &mut found.closed);
-    whole.resolve(&found.drives, &found.closed);
-    found.levels.copy_from_slice(whole.levels());
+    whole.resolve(&found.drives, &found.closed, &mut found.levels);
 }
 
 /// Resolves some nets of a board by the drives and contacts at some places, where the resolution is one by others.
@@ -220,15 +186,11 @@ fn resolve_unless_known(
     found: &mut Resolution,
     whole: &mut Whole,
 )
-    requires pins { (j k : ℕ) → slice_get pins.now j ≡ Some k → k < length drives.now }
-    requires contacts { (j k : ℕ) → slice_get contacts.now j ≡ Some k → k < length closed.now }
-    requires pins_long { length pins.now ≡ length whole.old.net_of }
-    requires contacts_long { length contacts.now ≡ length whole.old.contacts }
+    requires places { ArePlaces whole.old drives.now closed.now pins.now contacts.now }
     requires found { IsResolution whole.old found.old }
-    ensures same { whole.new ≡ record whole.old { levels = whole.new.levels } }
+    ensures same { whole.new ≡ whole.old }
     ensures found { IsResolution whole.old found.new }
-    ensures drives { map Some found.new.drives.items ≡ map (slice_get drives.now) pins.now }
-    ensures closed { map Some found.new.closed.items ≡ map (slice_get closed.now) contacts.now }
+    ensures by { IsBy drives.now closed.now pins.now contacts.now found.new }
 {
     if !found.holds(drives, closed, pins, contacts) {
         resolve_at(drives, closed, pins, contacts, found, whole);
@@ -245,15 +207,11 @@ fn resolve_other(
     kept: &mut Kept,
     whole: &mut Whole,
 )
-    requires pins { (j k : ℕ) → slice_get pins.now j ≡ Some k → k < length drives.now }
-    requires contacts { (j k : ℕ) → slice_get contacts.now j ≡ Some k → k < length closed.now }
-    requires pins_long { length pins.now ≡ length whole.old.net_of }
-    requires contacts_long { length contacts.now ≡ length whole.old.contacts }
+    requires places { ArePlaces whole.old drives.now closed.now pins.now contacts.now }
     requires kept { AreResolutions whole.old kept.old }
-    ensures same { whole.new ≡ record whole.old { levels = whole.new.levels } }
+    ensures same { whole.new ≡ whole.old }
     ensures kept { AreResolutions whole.old kept.new }
-    ensures drives { map Some (last_of kept.new).drives.items ≡ map (slice_get drives.now) pins.now }
-    ensures closed { map Some (last_of kept.new).closed.items ≡ map (slice_get closed.now) contacts.now }
+    ensures by { IsBy drives.now closed.now pins.now contacts.now (last_of kept.new) }
 {
     kept.flipped = !kept.flipped;
     if kept.flipped {
@@ -274,11 +232,26 @@ impl Subcircuit {
         requires nets { length nets.now ≡ whole.nets }
         requires pins { length pins.now ≡ length whole.net_of }
         requires contacts { length contacts.now ≡ length whole.contacts }
-        ensures { IfOk result (λ s. s ≡ record { nets = nets.now; pins = pins.now; contacts = contacts.now; own_nets = whole.net_of; own_contacts = whole.contacts; own_resistors = whole.resistors }) }
+        ensures { IfOk result (λ s. s ≡ record {
+          nets = nets.now;
+          pins = pins.now;
+          contacts = contacts.now;
+          own_nets = whole.net_of;
+          own_contacts = whole.contacts;
+          own_resistors = whole.resistors;
+        }) }
     {
         let mut whole = whole;
-        let kept = first_resolutions(alloc, pins.len(), contacts.len(), &mut whole)?;
-        let (nets, pins, contacts) = copied(alloc, nets, pins, contacts)?;
+        let first = first_resolution(alloc, nets.len(), pins.len(), contacts.len(), &mut whole)?;
+        let second = first_resolution(alloc, nets.len(), pins.len(), contacts.len(), &mut whole)?;
+        let nets = Vec::from_slice(alloc, nets)?;
+        let pins = Vec::from_slice(alloc, pins)?;
+        let contacts = Vec::from_slice(alloc, contacts)?;
+        let kept = Kept {
+            first,
+            second,
+            flipped: false,
+        };
         Ok(Subcircuit {
             nets,
             pins,
@@ -300,20 +273,19 @@ impl Subcircuit {
         pin_levels: &mut [Level],
         changed: &mut Numbers,
     )
-        requires pins { (j k : ℕ) → slice_get self.old.pins j ≡ Some k → k < length drives.now }
-        requires contacts { (j k : ℕ) → slice_get self.old.contacts j ≡ Some k → k < length closed.now }
-        requires nets { (j k : ℕ) → slice_get self.old.nets j ≡ Some k → k < length levels.old }
-        requires once { AreOnce self.old.nets }
+        requires fits { FitsIn net_of.now (length closed.now) (length levels.old) self.old }
         requires few { length levels.old ≤ 65536 }
         requires room { changed.old.room ≡ length levels.old }
         requires fresh { (j n : ℕ) → slice_get self.old.nets j ≡ Some n → has changed.old.marked n ≡ false }
         requires each { length net_of.now ≡ length drives.now }
         requires within { (k n : ℕ) → slice_get net_of.now k ≡ Some n → n < length levels.old }
-        requires whole { HasAllPins net_of.now self.old }
         requires pin_levels { pin_levels.old ≡ map (level_at levels.old) net_of.now }
         ensures same { self.new ≡ self.old }
-        ensures put { (own_closed : List Bool) (own_drives : List Drive) → map Some own_closed ≡ map (slice_get closed.now) self.old.contacts → map Some own_drives ≡ map (slice_get drives.now) self.old.pins →
-            (j n : ℕ) → slice_get self.old.nets j ≡ Some n → slice_get levels.new n ≡ slice_get (resolve (length self.old.nets) self.old.own_nets self.old.own_contacts self.old.own_resistors own_closed own_drives) j }
+        ensures put { (own_closed : List Bool) (own_drives : List Drive) →
+            map Some own_closed ≡ map (slice_get closed.now) self.old.contacts →
+            map Some own_drives ≡ map (slice_get drives.now) self.old.pins →
+            (j n : ℕ) → slice_get self.old.nets j ≡ Some n →
+            slice_get levels.new n ≡ slice_get (levels_of (own_wired self.old) own_closed own_drives) j }
         ensures others { (n : ℕ) → Lacks self.old.nets n → slice_get levels.new n ≡ slice_get levels.old n }
         ensures room { changed.new.room ≡ changed.old.room }
         ensures moves { Moves levels.old levels.new changed.old.marked changed.new.marked }

@@ -3,7 +3,8 @@ ghost use Rattle.std.specs.Prelude.{◌≡◌, ℕ, ◌<◌, ◌&&◌, ◌==◌,
 ghost use Rattle.std.specs.List.{zip};
 ghost use Rattle.board_model.specs.Resolve.{level_of_values};
 ghost use Rattle.board_model.specs.Walks.{below};
-ghost use Rattle.net_resolve.specs.Sums.{has_high, has_low, is_z, together, strong_level, weak_level, sum_at, added, is_loose, own_level, over_adds, resistors_add, level_here};
+ghost use Rattle.net_resolve.specs.Sums.{has_high, has_low, is_z, together, strong_level, weak_level, sum_at, added};
+ghost use Rattle.net_resolve.specs.Sums.{is_loose, own_level, over_adds, resistors_add, level_here};
 ghost use Rattle.board_model.specs.Pairs.{ArePairs};
 
 use crate::groups::is_net_loose;
@@ -124,7 +125,8 @@ fn add_weak_of(
     requires group { slice_index groups.now net < length strong.now }
     requires places { length areas.now ≡ length groups.now }
     requires area { slice_index areas.now net < length sums.old }
-    ensures { (a : ℕ) → sum_at sums.new a ≡ added weak_level (λ n. is_loose groups.now strong.now n && (slice_index areas.now n == a)) (sum_at sums.old a) ((net, drive) ∷ []) }
+    ensures { (a : ℕ) → sum_at sums.new a
+        ≡ added weak_level (λ n. is_loose groups.now strong.now n && (slice_index areas.now n == a)) (sum_at sums.old a) ((net, drive) ∷ []) }
 {
     if is_net_loose(groups, strong, net) {
         let area = areas[net as usize] as usize;
@@ -146,7 +148,8 @@ pub(crate) fn add_weak(
     requires groups { (n : ℕ) → n < length groups.now → slice_index groups.now n < length strong.now }
     requires places { length areas.now ≡ length groups.now }
     requires areas { (n : ℕ) → n < length areas.now → slice_index areas.now n < length sums.old }
-    ensures { (a : ℕ) → sum_at sums.new a ≡ added weak_level (λ n. is_loose groups.now strong.now n && (slice_index areas.now n == a)) (sum_at sums.old a) (zip net_of.now drives.now) }
+    ensures { (a : ℕ) → sum_at sums.new a
+        ≡ added weak_level (λ n. is_loose groups.now strong.now n && (slice_index areas.now n == a)) (sum_at sums.old a) (zip net_of.now drives.now) }
 {
     for i in 0..net_of.len() {
         add_weak_of(net_of[i], drives[i], groups, strong, areas, sums);

@@ -1,81 +1,89 @@
-use Rattle.std.proofs.Common.{◌≡◌, ◌∙◌, ℕ, List, length, map, arith, sym, ap, subst}
+use Rattle.std.proofs.Common.{◌≡◌, ◌∙◌, ℕ, List, length, map, arith, sym, ap, subst, Some}
 use Rattle.std.proofs.lemmas.List.{length-map}
 use Rattle.std.proofs.lemmas.Option.{slice_get_within}
 use Rattle.std.proofs.lemmas.Result.{IfOk-weaker}
-use Rattle.std.specs.Prelude.{slice_get}
-use Rattle.net_resolve.specs.Subcircuits.{SubcircuitView, IsSubcircuit, AreOwn, circuit_of}
+use Rattle.std.specs.Prelude.{slice_get, slice_index}
+use Rattle.net_resolve.specs.Subcircuits.{SubcircuitView, IsSubcircuit, AreOwn, own_pair, circuit_of}
+use Rattle.net_resolve.specs.Wired.{Wired}
 use Rattle.net_resolve.proofs.SubcircuitLemmas.{nets_once, net_labelled}
-use Rattle.net_resolve.proofs.CutLemmas.{picked_length, pin_places, pair_places, own_nets_are, own_net_below, own_pairs_are, own_pair_below}
+use Rattle.net_resolve.proofs.CutLemmas.{mapped_below, pairs_below, picked_length, pin_places, pair_places, own_nets_are, own_net_below, own_pairs_are, own_pair_below}
+use Rattle.net_resolve.proofs.WholeLemmas.{pairs_moved}
 use Rattle.net_resolve.proofs.cut.cut_out.Goals as goal
 
-pub number-requires-clause-few : goal.number-requires-clause-few
-number-requires-clause-few c =
+pub number-requires : goal.number-requires
+number-requires c =
     let s = c.requires.sorted in
     let labels = c.args.sorted.now.labels in
-    let are = s.nets.each c.args.q c.list_at-nets.result.now c.list_at-nets.ensures in
-    omega (arith, ap length are, picked_length c.args.q 0 labels, s.cut.long, c.requires.few)
+    let nets = c.list_at-nets.result.now in
+    let are = s.nets.each c.args.q nets c.list_at-nets.ensures in
+    record {
+      few = omega (arith, ap length are, picked_length c.args.q 0 labels, s.cut.long, c.requires.few);
+      within = λ i n e. let l = slice_get_within labels n c.args.q (net_labelled labels c.args.q nets are i n e) in
+          omega (arith, l, s.cut.long, c.requires.numbers);
+      once = nets_once labels c.args.q nets are;
+    }
 
-pub number-requires-clause-within : goal.number-requires-clause-within
-number-requires-clause-within c = λ i n e.
-    let s = c.requires.sorted in
+pub own_nets-requires : goal.own_nets-requires
+own_nets-requires c =
+    let w = c.args.wiring.now in
+    let are = c.requires.sorted.pins.each c.args.q c.list_at-pins.result.now c.list_at-pins.ensures in
+    record {
+      pins = λ j k e. omega (arith, pin_places c.args.sorted.now.labels w.net_of c.args.q c.list_at-pins.result.now are j k e, ap length c.as_slice.ensures);
+      nets = λ k n e. omega (arith, c.requires.wiring.pins k n (subst (λ (ns : List ℕ). slice_get ns k ≡ Some n) c.as_slice.ensures e), c.number.auto.numbers, c.requires.numbers);
+    }
+
+pub own_pairs-requires : goal.own_pairs-requires
+own_pairs-requires c =
+    let w = c.args.wiring.now in
+    let are = c.requires.sorted.contacts.each c.args.q c.list_at-contacts.result.now c.list_at-contacts.ensures in
+    record {
+      places = λ j k e. omega (arith, pair_places c.args.sorted.now.labels w.contacts c.args.q c.list_at-contacts.result.now are j k e, ap length c.as_slice-2.ensures);
+      nets = pairs_moved (sym c.as_slice-2.ensures) (sym (c.number.auto.numbers ∙ c.requires.numbers)) c.requires.wiring.contacts;
+    }
+
+pub own_pairs-requires-2 : goal.own_pairs-requires-2
+own_pairs-requires-2 c =
+    let w = c.args.wiring.now in
+    let are = c.requires.sorted.resistors.each c.args.q c.list_at-resistors.result.now c.list_at-resistors.ensures in
+    record {
+      places = λ j k e. omega (arith, pair_places c.args.sorted.now.labels w.resistors c.args.q c.list_at-resistors.result.now are j k e, ap length c.as_slice-3.ensures);
+      nets = pairs_moved (sym c.as_slice-3.ensures) (sym (c.number.auto.numbers ∙ c.requires.numbers)) c.requires.wiring.resistors;
+    }
+
+pub new-requires : goal.new-requires
+new-requires c =
+    let w = circuit_of c.args.wiring.now in
     let labels = c.args.sorted.now.labels in
-    let are = s.nets.each c.args.q c.list_at-nets.result.now c.list_at-nets.ensures in
-    let l = slice_get_within labels n c.args.q (net_labelled labels c.args.q c.list_at-nets.result.now are i n e) in
-    omega (arith, l, s.cut.long, c.requires.numbers)
-
-pub number-requires-clause-once : goal.number-requires-clause-once
-number-requires-clause-once c =
-    let labels = c.args.sorted.now.labels in
-    nets_once labels c.args.q c.list_at-nets.result.now (c.requires.sorted.nets.each c.args.q c.list_at-nets.result.now c.list_at-nets.ensures)
-
-pub own_whole-requires-clause-few : goal.own_whole-requires-clause-few
-own_whole-requires-clause-few c =
-    let s = c.requires.sorted in
-    let labels = c.args.sorted.now.labels in
-    let are = s.nets.each c.args.q c.list_at-nets.result.now c.list_at-nets.ensures in
-    omega (arith, ap length are, picked_length c.args.q 0 labels, s.cut.long, c.requires.few)
-
-pub own_whole-requires-clause-pins : goal.own_whole-requires-clause-pins
-own_whole-requires-clause-pins c =
-    pin_places c.args.sorted.now.labels c.args.wiring.now.net_of c.args.q c.list_at-pins.result.now (c.requires.sorted.pins.each c.args.q c.list_at-pins.result.now c.list_at-pins.ensures)
-
-pub own_whole-requires-clause-contacts : goal.own_whole-requires-clause-contacts
-own_whole-requires-clause-contacts c =
-    pair_places c.args.sorted.now.labels c.args.wiring.now.contacts c.args.q c.list_at-contacts.result.now (c.requires.sorted.contacts.each c.args.q c.list_at-contacts.result.now c.list_at-contacts.ensures)
-
-pub own_whole-requires-clause-resistors : goal.own_whole-requires-clause-resistors
-own_whole-requires-clause-resistors c =
-    pair_places c.args.sorted.now.labels c.args.wiring.now.resistors c.args.q c.list_at-resistors.result.now (c.requires.sorted.resistors.each c.args.q c.list_at-resistors.result.now c.list_at-resistors.ensures)
-
-pub own_whole-requires-clause-own_pins : goal.own_whole-requires-clause-own_pins
-own_whole-requires-clause-own_pins c =
     let s = c.requires.sorted in
     let q = c.args.q in
     let nets = c.list_at-nets.result.now in
+    let pins = c.list_at-pins.result.now in
+    let contacts = c.list_at-contacts.result.now in
+    let resistors = c.list_at-resistors.result.now in
+    let numbers = c.number.new.numbers in
     let are = s.nets.each q nets c.list_at-nets.ensures in
-    let long : length c.number.new.numbers ≡ c.args.wiring.now.nets = omega (arith, c.number.auto.numbers, c.requires.numbers) in
-    own_net_below (circuit_of c.args.wiring.now) c.args.sorted.now.labels s.cut q nets are c.number.new.numbers long c.number.ensures
-    c.list_at-pins.result.now (s.pins.each q c.list_at-pins.result.now c.list_at-pins.ensures)
+    let long : length numbers ≡ w.nets = c.number.auto.numbers ∙ c.requires.numbers in
+    record {
+      few = omega (arith, ap length are, picked_length q 0 labels, s.cut.long, c.requires.few);
+      pins = mapped_below (λ (k : ℕ). slice_index numbers (slice_index w.net_of k)) pins c.in_ok-net_of.net_of.items (length nets)
+          (c.in_ok-net_of.ensures ∙ ap (λ (ns : List ℕ). map (λ (k : ℕ). slice_index numbers (slice_index ns k)) pins) c.as_slice.ensures)
+          (own_net_below w labels s.cut q nets are numbers long c.number.ensures pins (s.pins.each q pins c.list_at-pins.ensures));
+      contacts = pairs_below (own_pair numbers w.contacts) contacts c.in_ok-own_contacts.own_contacts.items (length nets)
+          (c.in_ok-own_contacts.ensures ∙ ap (λ (ps : List (ℕ × ℕ)). map (own_pair numbers ps) contacts) c.as_slice-2.ensures)
+          (own_pair_below w labels s.cut q nets are numbers long c.number.ensures w.contacts s.cut.contacts_within s.cut.contacts_joined contacts (s.contacts.each q contacts c.list_at-contacts.ensures));
+      resistors = pairs_below (own_pair numbers w.resistors) resistors c.in_ok-own_resistors.own_resistors.items (length nets)
+          (c.in_ok-own_resistors.ensures ∙ ap (λ (ps : List (ℕ × ℕ)). map (own_pair numbers ps) resistors) c.as_slice-3.ensures)
+          (own_pair_below w labels s.cut q nets are numbers long c.number.ensures w.resistors s.cut.resistors_within s.cut.resistors_joined resistors (s.resistors.each q resistors c.list_at-resistors.ensures));
+    }
 
-pub own_whole-requires-clause-own_contacts : goal.own_whole-requires-clause-own_contacts
-own_whole-requires-clause-own_contacts c =
-    let s = c.requires.sorted in
-    let q = c.args.q in
-    let nets = c.list_at-nets.result.now in
-    let are = s.nets.each q nets c.list_at-nets.ensures in
-    let long : length c.number.new.numbers ≡ c.args.wiring.now.nets = omega (arith, c.number.auto.numbers, c.requires.numbers) in
-    own_pair_below (circuit_of c.args.wiring.now) c.args.sorted.now.labels s.cut q nets are c.number.new.numbers long c.number.ensures
-    c.args.wiring.now.contacts s.cut.contacts_within s.cut.contacts_joined c.list_at-contacts.result.now (s.contacts.each q c.list_at-contacts.result.now c.list_at-contacts.ensures)
-
-pub own_whole-requires-clause-own_resistors : goal.own_whole-requires-clause-own_resistors
-own_whole-requires-clause-own_resistors c =
-    let s = c.requires.sorted in
-    let q = c.args.q in
-    let nets = c.list_at-nets.result.now in
-    let are = s.nets.each q nets c.list_at-nets.ensures in
-    let long : length c.number.new.numbers ≡ c.args.wiring.now.nets = omega (arith, c.number.auto.numbers, c.requires.numbers) in
-    own_pair_below (circuit_of c.args.wiring.now) c.args.sorted.now.labels s.cut q nets are c.number.new.numbers long c.number.ensures
-    c.args.wiring.now.resistors s.cut.resistors_within s.cut.resistors_joined c.list_at-resistors.result.now (s.resistors.each q c.list_at-resistors.result.now c.list_at-resistors.ensures)
+pub new-requires-2 : goal.new-requires-2
+new-requires-2 c =
+    let made = c.in_ok-whole.ensures in
+    record {
+      nets = sym (ap (λ (w : Wired). w.nets) made);
+      pins = sym (ap (λ (w : Wired). length w.net_of) made ∙ ap length c.in_ok-net_of.ensures ∙ length-map c.list_at-pins.result.now _);
+      contacts = sym (ap (λ (w : Wired). length w.contacts) made ∙ ap length c.in_ok-own_contacts.ensures ∙ length-map c.list_at-contacts.result.now _);
+    }
 
 pub returns : goal.returns
 returns c =
@@ -92,23 +100,28 @@ returns c =
     let pins_are = s.pins.each q pins c.list_at-pins.ensures in
     let contacts_are = s.contacts.each q contacts c.list_at-contacts.ensures in
     let resistors_are = s.resistors.each q resistors c.list_at-resistors.ensures in
-    let long : length numbers ≡ w.nets = omega (arith, c.number.auto.numbers, c.requires.numbers) in
+    let long : length numbers ≡ w.nets = c.number.auto.numbers ∙ c.requires.numbers in
     let whole = c.in_ok-whole.whole in
     let made = c.in_ok-whole.ensures in
+    let own_net_of : whole.net_of ≡ map (λ (k : ℕ). slice_index numbers (slice_index w.net_of k)) pins =
+    ap (λ (x : Wired). x.net_of) made ∙ c.in_ok-net_of.ensures ∙ ap (λ (ns : List ℕ). map (λ (k : ℕ). slice_index numbers (slice_index ns k)) pins) c.as_slice.ensures in
+    let own_contacts : whole.contacts ≡ map (own_pair numbers w.contacts) contacts =
+    ap (λ (x : Wired). x.contacts) made ∙ c.in_ok-own_contacts.ensures ∙ ap (λ (ps : List (ℕ × ℕ)). map (own_pair numbers ps) contacts) c.as_slice-2.ensures in
+    let own_resistors : whole.resistors ≡ map (own_pair numbers w.resistors) resistors =
+    ap (λ (x : Wired). x.resistors) made ∙ c.in_ok-own_resistors.ensures ∙ ap (λ (ps : List (ℕ × ℕ)). map (own_pair numbers ps) resistors) c.as_slice-3.ensures in
     let view : SubcircuitView = record { nets = nets; pins = pins; contacts = contacts; own_nets = whole.net_of; own_contacts = whole.contacts; own_resistors = whole.resistors } in
-    let mine_contacts : AreOwn nets w.contacts contacts whole.contacts = subst (λ (l : List (ℕ × ℕ)). AreOwn nets w.contacts contacts l) (sym made.contacts)
-    (own_pairs_are w labels s.cut q nets nets_are numbers long c.number.ensures w.contacts s.cut.contacts_within s.cut.contacts_joined contacts contacts_are) in
-    let mine_resistors : AreOwn nets w.resistors resistors whole.resistors = subst (λ (l : List (ℕ × ℕ)). AreOwn nets w.resistors resistors l) (sym made.resistors)
+    let mine_resistors : AreOwn nets w.resistors resistors whole.resistors = subst (λ (l : List (ℕ × ℕ)). AreOwn nets w.resistors resistors l) (sym own_resistors)
     (own_pairs_are w labels s.cut q nets nets_are numbers long c.number.ensures w.resistors s.cut.resistors_within s.cut.resistors_joined resistors resistors_are) in
     let it : IsSubcircuit w labels q view = record {
       nets_are = nets_are;
       pins_are = pins_are;
       contacts_are = contacts_are;
-      own_nets_are = ap (map (slice_get nets)) made.net_of ∙ own_nets_are w labels s.cut q nets nets_are numbers long c.number.ensures pins pins_are;
-      own_contacts_are = mine_contacts;
+      own_nets_are = ap (map (slice_get nets)) own_net_of ∙ own_nets_are w labels s.cut q nets nets_are numbers long c.number.ensures pins pins_are;
+      own_contacts_are = subst (λ (l : List (ℕ × ℕ)). AreOwn nets w.contacts contacts l) (sym own_contacts)
+          (own_pairs_are w labels s.cut q nets nets_are numbers long c.number.ensures w.contacts s.cut.contacts_within s.cut.contacts_joined contacts contacts_are);
       own_resistors_are = subst (λ (l : List ℕ). AreOwn nets w.resistors l whole.resistors) resistors_are mine_resistors;
     } in
-    IfOk-weaker c.new.result _ _ (λ (v : SubcircuitView) e. subst (λ (x : SubcircuitView). IsSubcircuit w labels q x) (sym e) it) c.new.ensures
+    IfOk-weaker c.new-2.result _ _ (λ (v : SubcircuitView) e. subst (λ (x : SubcircuitView). IsSubcircuit w labels q x) (sym e) it) c.new-2.ensures
 
 pub list_at-nets-requires : goal.list_at-nets-requires
 list_at-nets-requires c = omega (arith, c.requires.q, c.requires.sorted.nets.long)
@@ -121,18 +134,3 @@ list_at-contacts-requires c = omega (arith, c.requires.q, c.requires.sorted.cont
 
 pub list_at-resistors-requires : goal.list_at-resistors-requires
 list_at-resistors-requires c = omega (arith, c.requires.q, c.requires.sorted.resistors.long)
-
-pub own_whole-requires-clause-wiring : goal.own_whole-requires-clause-wiring
-own_whole-requires-clause-wiring c = c.requires.wiring
-
-pub own_whole-requires-clause-numbers : goal.own_whole-requires-clause-numbers
-own_whole-requires-clause-numbers c = c.number.auto.numbers ∙ c.requires.numbers
-
-pub new-requires-clause-nets : goal.new-requires-clause-nets
-new-requires-clause-nets c = sym c.in_ok-whole.ensures.nets
-
-pub new-requires-clause-pins : goal.new-requires-clause-pins
-new-requires-clause-pins c = sym (ap length c.in_ok-whole.ensures.net_of ∙ length-map c.list_at-pins.result.now _)
-
-pub new-requires-clause-contacts : goal.new-requires-clause-contacts
-new-requires-clause-contacts c = sym (ap length c.in_ok-whole.ensures.contacts ∙ length-map c.list_at-contacts.result.now _)

@@ -1,38 +1,55 @@
-use Rattle.std.proofs.Common.{◌∙◌, ap, sym, subst, refl, ℕ, List, map, length, ◌≤◌}
-use Rattle.std.specs.Prelude.{slice_index}
+use Rattle.std.proofs.Common.{◌≡◌, ◌∙◌, ap, arith, sym, subst, ℕ, List, map, length, Some}
+use Rattle.std.specs.Prelude.{slice_get, slice_index}
 use Rattle.net_resolve.specs.Sorted.{ArePicked}
-use Rattle.net_resolve.specs.Subcircuits.{IsCut, labels_of, circuit_of}
-use Rattle.net_resolve.proofs.CutLemmas.{labels_below}
+use Rattle.net_resolve.specs.Subcircuits.{labels_of, circuit_of}
+use Rattle.net_resolve.proofs.CutLemmas.{labels_below, net_labels_below, pair_labels_below}
 use Rattle.net_resolve.proofs.WholeLemmas.{pairs_moved}
 use Rattle.net_resolve.proofs.cut.sort_by.Goals as goal
 
 pub sort_places-requires : goal.sort_places-requires
 sort_places-requires c = labels_below c.args.labels c.requires.long c.requires.below c.as_slice-keys.result.now c.as_slice-keys.ensures
 
-pub sort_pins-requires : goal.sort_pins-requires
-sort_pins-requires c = subst (λ (ls : List ℕ). IsCut (circuit_of c.args.wiring.now) ls) (sym c.as_slice-keys.ensures) c.requires
+pub pin_labels-requires : goal.pin_labels-requires
+pin_labels-requires c = λ k n e.
+    omega (arith, c.requires.pins_within k n (subst (λ (ns : List ℕ). slice_get ns k ≡ Some n) c.as_slice.ensures e), ap length c.as_slice-keys.ensures, c.requires.long)
 
-pub sort_pairs-requires : goal.sort_pairs-requires
-sort_pairs-requires c = record {
-  labels = subst (λ (ls : List ℕ). (n : ℕ) → slice_index ls n ≤ n) (sym c.as_slice-keys.ensures) c.requires.below;
-  long = ap length c.as_slice-keys.ensures ∙ c.requires.long;
-  pairs = pairs_moved (sym c.as_slice.ensures) refl c.requires.contacts_within;
-}
+pub sort_places-requires-2 : goal.sort_places-requires-2
+sort_places-requires-2 c =
+    let w = c.args.wiring.now in
+    net_labels_below (circuit_of w) c.args.labels c.requires c.deref.result.now
+    (c.deref.ensures.value ∙ c.in_ok-pin_keys.ensures ∙ ap (λ (ns : List ℕ). map (slice_index c.as_slice-keys.result.now) ns) c.as_slice.ensures
+    ∙ ap (λ (ls : List ℕ). map (slice_index ls) w.net_of) c.as_slice-keys.ensures)
 
-pub sort_pairs-requires-2 : goal.sort_pairs-requires-2
-sort_pairs-requires-2 c = record {
-  labels = subst (λ (ls : List ℕ). (n : ℕ) → slice_index ls n ≤ n) (sym c.as_slice-keys.ensures) c.requires.below;
-  long = ap length c.as_slice-keys.ensures ∙ c.requires.long;
-  pairs = pairs_moved (sym c.as_slice-2.ensures) refl c.requires.resistors_within;
-}
+pub pair_labels-requires : goal.pair_labels-requires
+pair_labels-requires c = pairs_moved (sym c.as_slice-2.ensures) (sym (ap length c.as_slice-keys.ensures ∙ c.requires.long)) c.requires.contacts_within
+
+pub sort_places-requires-3 : goal.sort_places-requires-3
+sort_places-requires-3 c =
+    let w = c.args.wiring.now in
+    pair_labels_below c.args.labels c.requires.below w.contacts w.nets c.requires.contacts_within c.deref-2.result.now
+    (c.deref-2.ensures.value ∙ c.in_ok-contact_keys.ensures ∙ ap (labels_of c.as_slice-keys.result.now) c.as_slice-2.ensures ∙ ap (λ (ls : List ℕ). labels_of ls w.contacts) c.as_slice-keys.ensures)
+
+pub pair_labels-requires-2 : goal.pair_labels-requires-2
+pair_labels-requires-2 c = pairs_moved (sym c.as_slice-3.ensures) (sym (ap length c.as_slice-keys.ensures ∙ c.requires.long)) c.requires.resistors_within
+
+pub sort_places-requires-4 : goal.sort_places-requires-4
+sort_places-requires-4 c =
+    let w = c.args.wiring.now in
+    pair_labels_below c.args.labels c.requires.below w.resistors w.nets c.requires.resistors_within c.deref-3.result.now
+    (c.deref-3.ensures.value ∙ c.in_ok-resistor_keys.ensures ∙ ap (labels_of c.as_slice-keys.result.now) c.as_slice-3.ensures ∙ ap (λ (ls : List ℕ). labels_of ls w.resistors) c.as_slice-keys.ensures)
 
 pub returns : goal.returns
 returns c =
     let w = c.args.wiring.now in
+    let same = c.as_slice-keys.ensures in
+    let keys = c.as_slice-keys.result.now in
     record {
       cut = c.requires;
-      nets = subst (λ (ls : List ℕ). ArePicked w.nets ls c.in_ok-nets.nets) c.as_slice-keys.ensures c.in_ok-nets.ensures;
-      pins = subst (λ (ls : List ℕ). ArePicked w.nets (map (slice_index ls) w.net_of) c.in_ok-pins.pins) c.as_slice-keys.ensures c.in_ok-pins.ensures;
-      contacts = subst (λ (ks : List ℕ). ArePicked w.nets ks c.in_ok-contacts.contacts) (ap (λ (ls : List ℕ). labels_of ls c.as_slice.result.now) c.as_slice-keys.ensures ∙ ap (labels_of c.args.labels) c.as_slice.ensures) c.in_ok-contacts.ensures;
-      resistors = subst (λ (ks : List ℕ). ArePicked w.nets ks c.in_ok-resistors.resistors) (ap (λ (ls : List ℕ). labels_of ls c.as_slice-2.result.now) c.as_slice-keys.ensures ∙ ap (labels_of c.args.labels) c.as_slice-2.ensures) c.in_ok-resistors.ensures;
+      nets = subst (λ (ks : List ℕ). ArePicked w.nets ks c.in_ok-nets.nets) same c.in_ok-nets.ensures;
+      pins = subst (λ (ks : List ℕ). ArePicked w.nets ks c.in_ok-pins.pins)
+          (c.deref.ensures.value ∙ c.in_ok-pin_keys.ensures ∙ ap (λ (ns : List ℕ). map (slice_index keys) ns) c.as_slice.ensures ∙ ap (λ (ls : List ℕ). map (slice_index ls) w.net_of) same) c.in_ok-pins.ensures;
+      contacts = subst (λ (ks : List ℕ). ArePicked w.nets ks c.in_ok-contacts.contacts)
+          (c.deref-2.ensures.value ∙ c.in_ok-contact_keys.ensures ∙ ap (labels_of keys) c.as_slice-2.ensures ∙ ap (λ (ls : List ℕ). labels_of ls w.contacts) same) c.in_ok-contacts.ensures;
+      resistors = subst (λ (ks : List ℕ). ArePicked w.nets ks c.in_ok-resistors.resistors)
+          (c.deref-3.ensures.value ∙ c.in_ok-resistor_keys.ensures ∙ ap (labels_of keys) c.as_slice-3.ensures ∙ ap (λ (ls : List ℕ). labels_of ls w.resistors) same) c.in_ok-resistors.ensures;
     }

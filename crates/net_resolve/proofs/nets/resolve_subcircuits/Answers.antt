@@ -1,7 +1,7 @@
 use Rattle.std.proofs.Common.{◌≡◌, ◌<◌, ◌∙◌, ℕ, List, arith, get_or, length, ap, sym, refl, subst, Some}
 use Rattle.std.proofs.lemmas.Option.{slice_get-get_or}
 use Rattle.std.specs.Prelude.{slice_get, slice_set}
-use Rattle.net_resolve.specs.Subcircuits.{SubcircuitView, AreRight}
+use Rattle.net_resolve.specs.Subcircuits.{SubcircuitView, AreRight, FitsIn}
 use Rattle.net_resolve.proofs.MarkLemmas.{has_first}
 use Rattle.net_resolve.proofs.RightLemmas.{fresh_step, set_same, right_step, changed_step}
 use Rattle.net_resolve.proofs.nets.resolve_subcircuits.Goals as goal
@@ -9,63 +9,24 @@ use Rattle.net_resolve.proofs.nets.resolve_subcircuits.Goals as goal
 pub bounds-subcircuits-q : goal.bounds-subcircuits-q
 bounds-subcircuits-q c = omega (arith, c.in-Some.ensures.low, c.loop-q.invariant.marks_room, c.requires.marks_room, c.loop-q.auto.subcircuits)
 
-pub resolve-requires-clause-pins : goal.resolve-requires-clause-pins
-resolve-requires-clause-pins c =
+pub resolve-requires : goal.resolve-requires
+resolve-requires c =
     let l = c.loop-q in
     let q = c.in-Some.q in
     let d = c.index-subcircuits-q.result in
     let inside : q < length l.subcircuits = omega (arith, c.in-Some.ensures.low, l.invariant.marks_room, c.requires.marks_room, l.auto.subcircuits) in
-    let first = subst (λ (x : List SubcircuitView). slice_get x q ≡ Some (get_or l.subcircuits q d)) l.invariant.same (slice_get-get_or l.subcircuits q d inside) in
-    (c.requires.fits q (get_or l.subcircuits q d) first).pins
-
-pub resolve-requires-clause-contacts : goal.resolve-requires-clause-contacts
-resolve-requires-clause-contacts c =
-    let l = c.loop-q in
-    let q = c.in-Some.q in
-    let d = c.index-subcircuits-q.result in
-    let inside : q < length l.subcircuits = omega (arith, c.in-Some.ensures.low, l.invariant.marks_room, c.requires.marks_room, l.auto.subcircuits) in
-    let first = subst (λ (x : List SubcircuitView). slice_get x q ≡ Some (get_or l.subcircuits q d)) l.invariant.same (slice_get-get_or l.subcircuits q d inside) in
-    (c.requires.fits q (get_or l.subcircuits q d) first).contacts
-
-pub resolve-requires-clause-nets : goal.resolve-requires-clause-nets
-resolve-requires-clause-nets c =
-    let l = c.loop-q in
-    let q = c.in-Some.q in
-    let d = c.index-subcircuits-q.result in
-    let inside : q < length l.subcircuits = omega (arith, c.in-Some.ensures.low, l.invariant.marks_room, c.requires.marks_room, l.auto.subcircuits) in
-    let first = subst (λ (x : List SubcircuitView). slice_get x q ≡ Some (get_or l.subcircuits q d)) l.invariant.same (slice_get-get_or l.subcircuits q d inside) in
-    λ j k e. omega (arith, (c.requires.fits q (get_or l.subcircuits q d) first).nets j k e, l.auto.levels)
-
-pub resolve-requires-clause-once : goal.resolve-requires-clause-once
-resolve-requires-clause-once c =
-    let l = c.loop-q in
-    let q = c.in-Some.q in
-    let d = c.index-subcircuits-q.result in
-    let inside : q < length l.subcircuits = omega (arith, c.in-Some.ensures.low, l.invariant.marks_room, c.requires.marks_room, l.auto.subcircuits) in
-    let first = subst (λ (x : List SubcircuitView). slice_get x q ≡ Some (get_or l.subcircuits q d)) l.invariant.same (slice_get-get_or l.subcircuits q d inside) in
-    (c.requires.fits q (get_or l.subcircuits q d) first).once
-
-pub resolve-requires-clause-whole : goal.resolve-requires-clause-whole
-resolve-requires-clause-whole c =
-    let l = c.loop-q in
-    let q = c.in-Some.q in
-    let d = c.index-subcircuits-q.result in
-    let inside : q < length l.subcircuits = omega (arith, c.in-Some.ensures.low, l.invariant.marks_room, c.requires.marks_room, l.auto.subcircuits) in
-    let first = subst (λ (x : List SubcircuitView). slice_get x q ≡ Some (get_or l.subcircuits q d)) l.invariant.same (slice_get-get_or l.subcircuits q d inside) in
-    c.requires.whole q (get_or l.subcircuits q d) first
-
-pub resolve-requires-clause-fresh : goal.resolve-requires-clause-fresh
-resolve-requires-clause-fresh c =
-    let l = c.loop-q in
-    let q = c.in-Some.q in
-    let d = c.index-subcircuits-q.result in
-    let inside : q < length l.subcircuits = omega (arith, c.in-Some.ensures.low, l.invariant.marks_room, c.requires.marks_room, l.auto.subcircuits) in
-    let first = subst (λ (x : List SubcircuitView). slice_get x q ≡ Some (get_or l.subcircuits q d)) l.invariant.same (slice_get-get_or l.subcircuits q d inside) in
+    let s = get_or l.subcircuits q d in
+    let first = subst (λ (x : List SubcircuitView). slice_get x q ≡ Some s) l.invariant.same (slice_get-get_or l.subcircuits q d inside) in
     let t = c.in-Some.ensures.taken in
-    λ j n e. l.invariant.fresh q j n (get_or l.subcircuits q d) (sym (t.rest q) ∙ has_first c.take.new.self.marked q q refl) first e
-
-pub resolve-requires-clause-within : goal.resolve-requires-clause-within
-resolve-requires-clause-within c = λ k n e. omega (arith, c.requires.nets k n e, c.loop-q.auto.levels)
+    record {
+      fits = subst (λ (n : ℕ). FitsIn c.args.net_of.now (length c.args.closed.now) n s) (sym l.auto.levels) (c.requires.fits q s first);
+      few = omega (arith, c.requires.few, l.auto.levels);
+      room = l.invariant.room ∙ c.requires.room ∙ sym l.auto.levels;
+      fresh = λ j n e. l.invariant.fresh q j n s (sym (t.rest q) ∙ has_first c.take.new.self.marked q q refl) first e;
+      each = c.requires.each;
+      within = λ k n e. omega (arith, c.requires.nets k n e, l.auto.levels);
+      pin_levels = l.invariant.pin_levels;
+    }
 
 pub loop-q-preserved : goal.loop-q-preserved
 loop-q-preserved c =

@@ -1,15 +1,18 @@
-use Rattle.std.proofs.Common.{◌∙◌, ap, arith}
-use Rattle.net_resolve.specs.Wired.{Wired}
-use Rattle.net_resolve.proofs.ResolutionLemmas.{resolve_same}
+use Rattle.std.proofs.Common.{◌∙◌, ap, arith, length}
+use Rattle.board_model.proofs.Lists.{lent_whole}
+use Rattle.net_resolve.proofs.ResolutionLemmas.{levels_same}
 use Rattle.net_resolve.proofs.subcircuit.first_resolution.Goals as goal
+
+pub resolve-requires-clause-levels : goal.resolve-requires-clause-levels
+resolve-requires-clause-levels c = omega (arith, ap length c.deref_mut.ensures.value, c.in_ok-levels.levels.ok.0, c.in_ok-levels.ensures.len, c.requires.nets)
 
 pub returns-clause-found : goal.returns-clause-found
 returns-clause-found c =
-    let w = c.args.whole.now in
+    let levels = c.in_ok-levels.levels in
     record {
-      drives_long = omega (arith, c.in_ok-drives.ensures.len, c.requires.pins);
-      closed_long = omega (arith, c.in_ok-closed.ensures.len, c.requires.contacts);
-      levels_long = omega (arith, c.in_ok-levels.ensures.len, c.levels.ensures.nets, ap (λ (x : Wired). x.nets) c.resolve.ensures);
-      levels_are = c.in_ok-levels.ensures.items ∙ c.levels.ensures.levels ∙ ap (λ (x : Wired). x.levels) c.resolve.ensures
-          ∙ resolve_same w c.deref-2.ensures.value c.deref.ensures.value;
+      drives_long = c.in_ok-drives.ensures.len ∙ c.requires.pins;
+      closed_long = c.in_ok-closed.ensures.len ∙ c.requires.contacts;
+      levels_long = c.in_ok-levels.ensures.len ∙ c.requires.nets;
+      levels_are = lent_whole levels.len levels.items c.resolve.new.levels levels.ok.0 (c.resolve.auto.levels ∙ ap length c.deref_mut.ensures.value)
+          ∙ c.resolve.ensures.levels ∙ levels_same c.args.whole.now c.deref-2.ensures.value c.deref.ensures.value;
     }

@@ -1,26 +1,33 @@
-use Rattle.std.proofs.Common.{ap}
+use Rattle.std.proofs.Common.{◌∙◌, ℕ, ap, replicate, false}
 use Rattle.std.specs.Prelude.{vec_len}
+use Rattle.sim_base.specs.declared.signal.Drive.TheVariants as drives
+use Rattle.sim_base.specs.declared.signal.Level.TheVariants as levels
 use Rattle.net_resolve.specs.Marked.{MarksView}
 use Rattle.net_resolve.proofs.FirstLemmas.{first_circuit, first_invariant}
 use Rattle.net_resolve.proofs.nets.Nets.new.Goals as goal
 
 pub invariant_of-result : goal.invariant_of-result
 invariant_of-result c =
-    let v = c.in_ok-net_of in
-    let s = c.in_ok-drives in
+    let net_of = c.in_ok-net_of.net_of in
+    let contacts = c.in_ok-contacts.contacts in
+    let ds = c.in_ok-drives.drives in
+    let cs = c.in_ok-closed.closed in
+    let ls = c.in_ok-levels.levels in
     let m = c.in_ok-marks in
-    first_invariant c.args.wiring.now (vec_len s.levels) v.net_of.items v.contacts.items v.resistors.items s.levels.items
-    s.levels.ok.0 v.ensures.net_of v.ensures.contacts v.ensures.resistors s.ensures.levels c.in_ok-labels.labels.items c.in_ok-labels.ensures.cut
+    first_invariant c.args.wiring.now (vec_len ls) net_of.items contacts.items c.in_ok-resistors.resistors.items ls.items
+    ls.ok.0 (c.in_ok-net_of.ensures.items ∙ c.as_slice.ensures) (c.in_ok-contacts.ensures.items ∙ c.as_slice-2.ensures) (c.in_ok-resistors.ensures.items ∙ c.as_slice-3.ensures)
+    c.in_ok-levels.ensures.items c.in_ok-labels.labels.items c.in_ok-labels.ensures.cut
     c.in_ok-labels.subcircuits.items c.in_ok-labels.ensures.long c.in_ok-labels.ensures.subcircuits
-    m.marks.room m.marks.marked m.ensures.room m.ensures.few m.ensures.all m.changed.room (ap (λ (x : MarksView). x.room) m.ensures.none)
-    (vec_len v.net_of) (vec_len s.drives) s.drives.items v.net_of.ok.0 s.drives.ok.0 s.ensures.drives
-    (vec_len v.contacts) (vec_len s.closed) s.closed.items v.contacts.ok.0 s.closed.ok.0 s.ensures.closed
-    s.pin_levels.items s.ensures.pin_levels
+    m.marks.room m.marks.marked m.ensures.room m.ensures.few m.ensures.all c.in_ok-changed.changed.room (ap (λ (x : MarksView). x.room) c.in_ok-changed.ensures)
+    (vec_len net_of) (vec_len ds) ds.items net_of.ok.0 ds.ok.0 (c.in_ok-drives.ensures.items ∙ ap (λ (k : ℕ). replicate k drives.Z) c.len.ensures)
+    (vec_len contacts) (vec_len cs) cs.items contacts.ok.0 cs.ok.0 (c.in_ok-closed.ensures.items ∙ ap (λ (k : ℕ). replicate k false) c.len-2.ensures)
+    c.in_ok-pin_levels.pin_levels.items (c.in_ok-pin_levels.ensures.items ∙ ap (λ (k : ℕ). replicate k levels.Z) c.len-3.ensures)
 
 pub returns : goal.returns
 returns c =
-    let v = c.in_ok-net_of in
-    let s = c.in_ok-drives in
-    let m = c.in_ok-marks in
-    first_circuit c.args.wiring.now (vec_len s.levels) v.net_of.items v.contacts.items v.resistors.items s.drives.items s.closed.items s.levels.items m.changed.marked
-    s.levels.ok.0 v.ensures.net_of v.ensures.contacts v.ensures.resistors s.ensures.drives s.ensures.closed s.ensures.levels (ap (λ (x : MarksView). x.marked) m.ensures.none)
+    let ls = c.in_ok-levels.levels in
+    first_circuit c.args.wiring.now (vec_len ls) c.in_ok-net_of.net_of.items c.in_ok-contacts.contacts.items c.in_ok-resistors.resistors.items
+    c.in_ok-drives.drives.items c.in_ok-closed.closed.items ls.items c.in_ok-changed.changed.marked
+    ls.ok.0 (c.in_ok-net_of.ensures.items ∙ c.as_slice.ensures) (c.in_ok-contacts.ensures.items ∙ c.as_slice-2.ensures) (c.in_ok-resistors.ensures.items ∙ c.as_slice-3.ensures)
+    (c.in_ok-drives.ensures.items ∙ ap (λ (k : ℕ). replicate k drives.Z) c.len.ensures) (c.in_ok-closed.ensures.items ∙ ap (λ (k : ℕ). replicate k false) c.len-2.ensures)
+    c.in_ok-levels.ensures.items (ap (λ (x : MarksView). x.marked) c.in_ok-changed.ensures)

@@ -3,7 +3,8 @@ use Rattle.std.specs.Prelude.{slice_get, slice_set, slice_index, slice_index_or}
 use Rattle.board_model.proofs.Lists.{lent_whole}
 use Rattle.net_resolve.specs.Circuit.{Circuit}
 use Rattle.net_resolve.specs.Marked.{Noted}
-use Rattle.net_resolve.specs.Subcircuits.{AreRight, unresolved}
+use Rattle.net_resolve.specs.Wired.{wired}
+use Rattle.net_resolve.specs.Subcircuits.{AreRight}
 use Rattle.net_resolve.proofs.RightLemmas.{right_contact}
 use Rattle.net_resolve.proofs.nets.Nets.set_contact.Goals as goal
 
@@ -30,7 +31,7 @@ invariant_of-self c =
     let r = c.keep_closed in
     let k = c.args.contact in
     let b = c.args.closed in
-    let w = unresolved i.levels.len i.net_of.items i.contacts.items i.resistors.items in
+    let w = wired i.levels.len i.net_of.items i.contacts.items i.resistors.items in
     let noted : Noted (slice_get i.closed.items k ≡ Some b) (slice_index i.labels.items (slice_index_or i.contacts.items k (0, 0)).0) i.marks.marked r.new.marks.marked =
     subst (λ (ls : List ℕ). Noted (slice_get i.closed.items k ≡ Some b) (slice_index ls (slice_index_or i.contacts.items k (0, 0)).0) i.marks.marked r.new.marks.marked) c.deref-2.ensures.value
     (subst (λ (ps : List (ℕ × ℕ)). Noted (slice_get i.closed.items k ≡ Some b) (slice_index c.deref-2.result.now (slice_index_or ps k (0, 0)).0) i.marks.marked r.new.marks.marked) c.deref.ensures.value

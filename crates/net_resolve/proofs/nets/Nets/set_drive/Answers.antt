@@ -4,7 +4,8 @@ use Rattle.sim_base.specs.declared.signal.Drive.{Drive}
 use Rattle.board_model.proofs.Lists.{lent_whole}
 use Rattle.net_resolve.specs.Circuit.{Circuit}
 use Rattle.net_resolve.specs.Marked.{Noted}
-use Rattle.net_resolve.specs.Subcircuits.{AreRight, unresolved}
+use Rattle.net_resolve.specs.Wired.{wired}
+use Rattle.net_resolve.specs.Subcircuits.{AreRight}
 use Rattle.net_resolve.proofs.RightLemmas.{right_drive}
 use Rattle.net_resolve.proofs.nets.Nets.set_drive.Goals as goal
 
@@ -30,7 +31,7 @@ invariant_of-self c =
     let r = c.keep_drive in
     let pin = c.args.pin in
     let d = c.args.drive in
-    let w = unresolved i.levels.len i.net_of.items i.contacts.items i.resistors.items in
+    let w = wired i.levels.len i.net_of.items i.contacts.items i.resistors.items in
     let noted : Noted (slice_get i.drives.items pin ≡ Some d) (slice_index i.labels.items (slice_index i.net_of.items pin)) i.marks.marked r.new.marks.marked =
     subst (λ (ls : List ℕ). Noted (slice_get i.drives.items pin ≡ Some d) (slice_index ls (slice_index i.net_of.items pin)) i.marks.marked r.new.marks.marked) c.deref-2.ensures.value
     (subst (λ (ns : List ℕ). Noted (slice_get i.drives.items pin ≡ Some d) (slice_index c.deref-2.result.now (slice_index ns pin)) i.marks.marked r.new.marks.marked) c.deref.ensures.value

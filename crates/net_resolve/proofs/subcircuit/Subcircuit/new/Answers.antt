@@ -1,16 +1,18 @@
-use Rattle.std.proofs.Common.{◌∙◌, ap, sym, length}
+use Rattle.std.proofs.Common.{◌∙◌, ap, sym, subst, length}
 use Rattle.net_resolve.specs.Wired.{Wired}
-use Rattle.net_resolve.proofs.ResolutionLemmas.{resolutions_moved}
+use Rattle.net_resolve.specs.Resolutions.{IsResolution}
 use Rattle.net_resolve.proofs.subcircuit.Subcircuit.new.Goals as goal
 
 pub invariant_of-result : goal.invariant_of-result
 invariant_of-result c =
-    let w = c.args.whole in
-    let f = c.first_resolutions in
-    let v = c.in_ok-nets in
+    let late = sym c.first_resolution-2.ensures.same in
+    let same = sym c.first_resolution.ensures.same ∙ late in
     record {
-      nets_long = v.nets.ok.0 ∙ ap length v.ensures.nets ∙ c.requires.nets ∙ sym (ap (λ (x : Wired). x.nets) f.ensures.same);
-      pins_long = v.pins.ok.0 ∙ ap length v.ensures.pins ∙ c.requires.pins ∙ sym (ap (λ (x : Wired). length x.net_of) f.ensures.same);
-      contacts_long = v.contacts.ok.0 ∙ ap length v.ensures.contacts ∙ c.requires.contacts ∙ sym (ap (λ (x : Wired). length x.contacts) f.ensures.same);
-      kept = resolutions_moved w f.new.whole c.in_ok-kept.kept f.ensures.same c.in_ok-kept.ensures.kept;
+      nets_long = c.in_ok-nets.nets.ok.0 ∙ ap length c.in_ok-nets.ensures.items ∙ c.requires.nets ∙ ap (λ (x : Wired). x.nets) same;
+      pins_long = c.in_ok-pins.pins.ok.0 ∙ ap length c.in_ok-pins.ensures.items ∙ c.requires.pins ∙ ap (λ (x : Wired). length x.net_of) same;
+      contacts_long = c.in_ok-contacts.contacts.ok.0 ∙ ap length c.in_ok-contacts.ensures.items ∙ c.requires.contacts ∙ ap (λ (x : Wired). length x.contacts) same;
+      kept = record {
+        first = subst (λ (w : Wired). IsResolution w c.in_ok-first.first) same c.in_ok-first.ensures.found;
+        second = subst (λ (w : Wired). IsResolution w c.in_ok-second.second) late c.in_ok-second.ensures.found;
+      };
     }

@@ -1,47 +1,50 @@
 use Rattle.std.proofs.Common.{◌≡◌, ◌∙◌, ℕ, sym, ap, subst, arith, length, map, List, Some, refl}
 use Rattle.std.specs.Prelude.{slice_get}
 use Rattle.sim_base.specs.declared.signal.Level.{Level}
-use Rattle.board_model.specs.Resolve.{resolve}
-use Rattle.net_resolve.specs.Wired.{Wired}
-use Rattle.net_resolve.specs.Resolutions.{last_of}
+use Rattle.net_resolve.specs.Wired.{Wired, wired, levels_of}
+use Rattle.net_resolve.specs.Resolutions.{AreResolutions, last_of}
 use Rattle.net_resolve.specs.declared.resolution.Resolution.{Resolution}
 use Rattle.std.proofs.lemmas.List.{length-map}
-use Rattle.net_resolve.specs.Subcircuits.{Lacks, SubcircuitView}
-use Rattle.net_resolve.proofs.ResolutionLemmas.{resolutions_moved, last_is, resolve_same}
+use Rattle.net_resolve.specs.Subcircuits.{Lacks, AreOnce, SubcircuitView}
+use Rattle.net_resolve.proofs.ResolutionLemmas.{last_is, levels_same}
 use Rattle.net_resolve.proofs.PlaceLemmas.{same_somes}
 use Rattle.net_resolve.proofs.PinLemmas.{pins_follow}
 use Rattle.net_resolve.proofs.subcircuit.Subcircuit.resolve.Goals as goal
 
-pub resolve_other-requires-clause-pins : goal.resolve_other-requires-clause-pins
-resolve_other-requires-clause-pins c = λ j k e. c.requires.pins j k (subst (λ (l : List ℕ). slice_get l j ≡ Some k) (c.deref.ensures.value ∙ ap (λ (v : SubcircuitView). v.pins) c.self.view_is) e)
+pub resolve_other-requires-clause-places : goal.resolve_other-requires-clause-places
+resolve_other-requires-clause-places c =
+    let v = c.self.invariant in
+    let pins = c.deref.ensures.value ∙ ap (λ (v : SubcircuitView). v.pins) c.self.view_is in
+    let contacts = c.deref-2.ensures.value ∙ ap (λ (v : SubcircuitView). v.contacts) c.self.view_is in
+    record {
+      pins_within = λ j k e. omega (arith, c.requires.each, c.requires.fits.pins j k (subst (λ (l : List ℕ). slice_get l j ≡ Some k) pins e));
+      contacts_within = λ j k e. c.requires.fits.contacts j k (subst (λ (l : List ℕ). slice_get l j ≡ Some k) contacts e);
+      pins_long = omega (arith, c.deref.ensures.len, v.pins_long);
+      contacts_long = omega (arith, c.deref-2.ensures.len, v.contacts_long);
+    }
 
-pub resolve_other-requires-clause-contacts : goal.resolve_other-requires-clause-contacts
-resolve_other-requires-clause-contacts c = λ j k e. c.requires.contacts j k (subst (λ (l : List ℕ). slice_get l j ≡ Some k) (c.deref-2.ensures.value ∙ ap (λ (v : SubcircuitView). v.contacts) c.self.view_is) e)
-
-pub scatter-requires-clause-places : goal.scatter-requires-clause-places
-scatter-requires-clause-places c = λ j k e. c.requires.nets j k (subst (λ (l : List ℕ). slice_get l j ≡ Some k) (c.deref-4.ensures.value ∙ ap (λ (v : SubcircuitView). v.nets) c.self.view_is) e)
-
-pub scatter-requires-clause-fresh : goal.scatter-requires-clause-fresh
-scatter-requires-clause-fresh c = λ j n e. c.requires.fresh j n (subst (λ (l : List ℕ). slice_get l j ≡ Some n) (c.deref-4.ensures.value ∙ ap (λ (v : SubcircuitView). v.nets) c.self.view_is) e)
-
-pub scatter-requires-clause-each : goal.scatter-requires-clause-each
-scatter-requires-clause-each c = omega (arith, c.deref-3.ensures.len, ap (λ (a : Resolution). a.levels.len) c.last.ensures, (last_is c.self.inside.whole c.resolve_other.new.kept c.resolve_other.ensures.kept).levels_long, c.self.invariant.nets_long, c.deref-4.ensures.len)
-
-pub scatter-requires-clause-once : goal.scatter-requires-clause-once
-scatter-requires-clause-once c = λ i j n a b.
-    let same = c.deref-4.ensures.value ∙ ap (λ (v : SubcircuitView). v.nets) c.self.view_is in
-    c.requires.once i j n (subst (λ (l : List ℕ). slice_get l i ≡ Some n) same a) (subst (λ (l : List ℕ). slice_get l j ≡ Some n) same b)
+pub scatter-requires : goal.scatter-requires
+scatter-requires c =
+    let nets = c.deref-4.ensures.value ∙ ap (λ (v : SubcircuitView). v.nets) c.self.view_is in
+    let found = last_is c.self.inside.whole c.resolve_other.new.kept c.resolve_other.ensures.kept in
+    record {
+      places = λ j k e. c.requires.fits.nets j k (subst (λ (l : List ℕ). slice_get l j ≡ Some k) nets e);
+      each = omega (arith, c.deref-3.ensures.len, ap (λ (a : Resolution). a.levels.len) c.last.ensures, found.levels_long, c.self.invariant.nets_long, c.deref-4.ensures.len);
+      once = subst AreOnce (sym nets) c.requires.fits.once;
+      few = c.requires.few;
+      room = c.requires.room;
+      fresh = λ j n e. c.requires.fresh j n (subst (λ (l : List ℕ). slice_get l j ≡ Some n) nets e);
+    }
 
 pub invariant_of-self : goal.invariant_of-self
 invariant_of-self c =
     let v = c.self.invariant in
-    let w = c.self.inside.whole in
     let same = c.resolve_other.ensures.same in
     record {
       nets_long = v.nets_long ∙ sym (ap (λ (x : Wired). x.nets) same);
       pins_long = v.pins_long ∙ sym (ap (λ (x : Wired). length x.net_of) same);
       contacts_long = v.contacts_long ∙ sym (ap (λ (x : Wired). length x.contacts) same);
-      kept = resolutions_moved w c.resolve_other.new.whole c.resolve_other.new.kept same c.resolve_other.ensures.kept;
+      kept = subst (λ (x : Wired). AreResolutions x c.resolve_other.new.kept) (sym same) c.resolve_other.ensures.kept;
     }
 
 pub returns-clause-others : goal.returns-clause-others
@@ -59,23 +62,22 @@ returns-clause-put c = λ cs ds ec ed j n e.
     let put = c.scatter.ensures.put j n (subst (λ (l : List ℕ). slice_get l j ≡ Some n) (sym nets) e) in
     let at_pins = ed ∙ ap (λ (l : List ℕ). map (slice_get c.args.drives.now) l) (sym pins) in
     let at_contacts = ec ∙ ap (λ (l : List ℕ). map (slice_get c.args.closed.now) l) (sym contacts) in
-    let same_cs : found.closed.items ≡ cs = same_somes found.closed.items cs (c.resolve_other.ensures.closed ∙ sym at_contacts) in
-    let same_ds : found.drives.items ≡ ds = same_somes found.drives.items ds (c.resolve_other.ensures.drives ∙ sym at_pins) in
-    let levels = c.deref-3.ensures.value ∙ ap (λ (a : Resolution). a.levels.items) c.last.ensures ∙ (last_is w c.resolve_other.new.kept c.resolve_other.ensures.kept).levels_are ∙ resolve_same w same_cs same_ds in
+    let same_cs : found.closed.items ≡ cs = same_somes found.closed.items cs (c.resolve_other.ensures.by.closed_are ∙ sym at_contacts) in
+    let same_ds : found.drives.items ≡ ds = same_somes found.drives.items ds (c.resolve_other.ensures.by.drives_are ∙ sym at_pins) in
+    let levels = c.deref-3.ensures.value ∙ ap (λ (a : Resolution). a.levels.items) c.last.ensures ∙ (last_is w c.resolve_other.new.kept c.resolve_other.ensures.kept).levels_are ∙ levels_same w same_cs same_ds in
     let count : w.nets ≡ length c.args.self.now.nets = omega (arith, c.self.invariant.nets_long, c.deref-4.ensures.len, ap length nets) in
     put ∙ ap (λ (l : List Level). slice_get l j) levels
-    ∙ ap (λ (x : ℕ). slice_get (resolve x w.net_of w.contacts w.resistors cs ds) j) count
-    ∙ ap (λ (v : SubcircuitView). slice_get (resolve (length c.args.self.now.nets) v.own_nets v.own_contacts v.own_resistors cs ds) j) v
+    ∙ ap (λ (x : ℕ). slice_get (levels_of (wired x w.net_of w.contacts w.resistors) cs ds) j) count
+    ∙ ap (λ (v : SubcircuitView). slice_get (levels_of (wired (length c.args.self.now.nets) v.own_nets v.own_contacts v.own_resistors) cs ds) j) v
 
-pub put_pins-requires-clause-pins : goal.put_pins-requires-clause-pins
-put_pins-requires-clause-pins c = λ j k e.
-    omega (arith, c.requires.each, c.requires.pins j k (subst (λ (l : List ℕ). slice_get l j ≡ Some k) (c.deref-5.ensures.value ∙ ap (λ (v : SubcircuitView). v.pins) c.self.view_is) e))
-
-pub put_pins-requires-clause-nets : goal.put_pins-requires-clause-nets
-put_pins-requires-clause-nets c = λ k n e. omega (arith, c.requires.within k n e, c.scatter.auto.into)
-
-pub put_pins-requires-clause-room : goal.put_pins-requires-clause-room
-put_pins-requires-clause-room c = ap length c.requires.pin_levels ∙ simp length-map refl
+pub put_pins-requires : goal.put_pins-requires
+put_pins-requires c =
+    let pins = c.deref-5.ensures.value ∙ ap (λ (v : SubcircuitView). v.pins) c.self.view_is in
+    record {
+      pins = λ j k e. c.requires.fits.pins j k (subst (λ (l : List ℕ). slice_get l j ≡ Some k) pins e);
+      nets = λ k n e. omega (arith, c.requires.within k n e, c.scatter.auto.into);
+      room = ap length c.requires.pin_levels ∙ simp length-map refl;
+    }
 
 pub returns-clause-pin_levels : goal.returns-clause-pin_levels
 returns-clause-pin_levels c =
@@ -84,4 +86,4 @@ returns-clause-pin_levels c =
     let long = ap length c.requires.pin_levels ∙ simp length-map refl in
     pins_follow c.args.net_of.now c.deref-5.result.now c.deref-4.result.now c.args.levels.now c.scatter.new.into c.args.pin_levels.now c.put_pins.new.into
     (c.put_pins.auto.into ∙ long) c.requires.pin_levels c.put_pins.ensures.put c.put_pins.ensures.others
-    (λ k n e lacks. subst (λ (l : List ℕ). Lacks l n) (sym nets) (c.requires.whole k n e (subst (λ (l : List ℕ). Lacks l k) pins lacks))) c.scatter.ensures.others
+    (λ k n e lacks. subst (λ (l : List ℕ). Lacks l n) (sym nets) (c.requires.fits.whole k n e (subst (λ (l : List ℕ). Lacks l k) pins lacks))) c.scatter.ensures.others

@@ -1,24 +1,33 @@
-use Rattle.std.proofs.Common.{◌∙◌, length, arith, sym, ap, refl}
+use Rattle.std.proofs.Common.{◌∙◌, length, arith, ap, sym, refl}
+use Rattle.board_model.proofs.Lists.{lent_whole}
 use Rattle.net_resolve.proofs.WholeLemmas.{pairs_moved, groups_moved}
 use Rattle.net_resolve.proofs.whole.Whole.new.Goals as goal
 
-pub first_choices-requires-clause-contacts : goal.first_choices-requires-clause-contacts
-first_choices-requires-clause-contacts c = pairs_moved (sym c.deref.ensures.value) refl c.requires.contacts
+pub group_nets-requires : goal.group_nets-requires
+group_nets-requires c =
+    let groups = c.in_ok-groups.groups in
+    let closed = c.in_ok-closed in
+    let long = sym (ap length c.deref_mut.ensures.value ∙ sym groups.ok.0 ∙ c.in_ok-groups.ensures) in
+    record {
+      contacts = pairs_moved (sym c.deref.ensures.value) long c.requires.contacts;
+      closed = omega (arith, ap length c.deref-2.ensures.value, closed.closed.ok.0, closed.ensures.len, c.len.ensures, c.args.contacts.ok.0, ap length c.deref.ensures.value);
+      few = omega (arith, long, c.requires.few);
+    }
 
 pub invariant_of-result : goal.invariant_of-result
 invariant_of-result c =
-    let a = c.in_ok-closed in
-    let b = c.in_ok-strong in
+    let groups = c.in_ok-groups.groups in
+    let long = c.in_ok-groups.ensures in
+    let lent = lent_whole groups.len groups.items c.group_nets.new.groups groups.ok.0 (c.group_nets.auto.groups ∙ ap length c.deref_mut.ensures.value) in
     record {
-      few = omega (arith, c.requires.few, a.ensures.groups);
-      pins_within = λ k n e. omega (arith, c.requires.pins k n e, a.ensures.groups);
-      contacts_within = pairs_moved refl (sym a.ensures.groups) c.requires.contacts;
-      resistors_within = pairs_moved refl (sym a.ensures.groups) c.requires.resistors;
-      grouped = groups_moved c.deref.ensures.value refl refl a.ensures.grouped;
-      closed_long = a.ensures.closed ∙ ap length c.deref.ensures.value ∙ sym c.args.contacts.ok.0;
-      strong_long = b.ensures.strong ∙ sym a.ensures.groups;
-      bridges_long = a.ensures.bridges ∙ ap length c.deref-2.ensures.value ∙ sym c.args.resistors.ok.0;
-      areas_long = b.ensures.areas ∙ sym a.ensures.groups;
-      sums_long = b.ensures.sums ∙ sym a.ensures.groups;
-      levels_long = b.ensures.len ∙ sym a.ensures.groups;
+      few = omega (arith, c.requires.few, long);
+      pins_within = λ k n e. omega (arith, c.requires.pins k n e, long);
+      contacts_within = pairs_moved refl (sym long) c.requires.contacts;
+      resistors_within = pairs_moved refl (sym long) c.requires.resistors;
+      grouped = groups_moved c.deref.ensures.value c.deref-2.ensures.value (sym lent) c.group_nets.ensures;
+      closed_long = omega (arith, c.in_ok-closed.ensures.len, c.len.ensures, c.args.contacts.ok.0);
+      strong_long = c.in_ok-strong.ensures.len ∙ sym long;
+      bridges_long = omega (arith, c.in_ok-bridges.ensures.len, c.len-2.ensures, c.args.resistors.ok.0);
+      areas_long = c.in_ok-areas.ensures ∙ sym long;
+      sums_long = c.in_ok-sums.ensures.len ∙ sym long;
     }

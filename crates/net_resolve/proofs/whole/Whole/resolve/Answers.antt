@@ -1,10 +1,8 @@
 use Rattle.std.proofs.Common.{◌≡◌, ◌∙◌, ℕ, List, length, arith, sym, ap, refl, subst, Some}
 use Rattle.std.specs.Prelude.{slice_get}
-use Rattle.board_model.specs.Resolve.{resolve}
 use Rattle.board_model.proofs.Lists.{lent_whole}
-use Rattle.sim_base.specs.declared.signal.Level.{Level}
 use Rattle.union_find.specs.Forest.{AreLabels}
-use Rattle.net_resolve.specs.Wired.{Wired}
+use Rattle.net_resolve.specs.Wired.{Wired, levels_of}
 use Rattle.net_resolve.proofs.WholeLemmas.{pairs_moved, groups_moved, resolve_moved}
 use Rattle.net_resolve.proofs.whole.Whole.resolve.Goals as goal
 
@@ -39,7 +37,7 @@ resolve_groups-requires c =
       bridges = ap length c.deref_mut-4.ensures.value ∙ sym i.bridges.ok.0 ∙ v.bridges_long ∙ i.resistors.ok.0 ∙ ap length (sym c.deref-3.ensures.value);
       areas = ap length c.deref_mut-5.ensures.value ∙ sym i.areas.ok.0 ∙ v.areas_long ∙ count;
       sums = ap length c.deref_mut-6.ensures.value ∙ sym i.sums.ok.0 ∙ v.sums_long ∙ count;
-      levels = ap length c.deref_mut-7.ensures.value ∙ sym i.levels.ok.0 ∙ v.levels_long ∙ count;
+      levels = c.requires.levels ∙ ap (λ (x : Wired). x.nets) (sym c.self.view_is) ∙ count;
     }
 
 pub invariant_of-self : goal.invariant_of-self
@@ -60,21 +58,20 @@ invariant_of-self c =
       bridges_long = v.bridges_long;
       areas_long = v.areas_long;
       sums_long = v.sums_long;
-      levels_long = v.levels_long;
     }
 
-pub returns : goal.returns
-returns c =
+pub returns-clause-same : goal.returns-clause-same
+returns-clause-same c = c.self.view_is
+
+pub returns-clause-levels : goal.returns-clause-levels
+returns-clause-levels c =
     let i = c.self.inside in
     let r = c.regroup in
-    let q = c.resolve_groups in
     let closed = c.args.closed.now in
     let drives = c.args.drives.now in
     let long = r.auto.groups ∙ ap length c.deref_mut-2.ensures.value in
     let groups = c.deref-4.ensures.value ∙ lent_whole i.groups.len i.groups.items r.new.groups i.groups.ok.0 long in
     let count : length c.deref-4.result.now ≡ i.groups.len = ap length groups ∙ long ∙ sym i.groups.ok.0 in
-    let found = q.ensures c.deref.result.now closed (groups_moved refl refl (sym groups) r.ensures.grouped) in
-    let levels = lent_whole i.levels.len i.levels.items q.new.levels i.levels.ok.0 (q.auto.levels ∙ ap length c.deref_mut-7.ensures.value) in
-    ap (λ (ls : List Level). record { nets = i.groups.len; net_of = i.net_of.items; contacts = i.contacts.items; resistors = i.resistors.items; levels = ls })
-    (levels ∙ found ∙ resolve_moved closed drives count c.deref-2.ensures.value c.deref.ensures.value c.deref-3.ensures.value)
-    ∙ ap (λ (x : Wired). record x { levels = resolve x.nets x.net_of x.contacts x.resistors closed drives }) c.self.view_is
+    c.resolve_groups.ensures c.deref.result.now closed (groups_moved refl refl (sym groups) r.ensures.grouped)
+    ∙ resolve_moved closed drives count c.deref-2.ensures.value c.deref.ensures.value c.deref-3.ensures.value
+    ∙ ap (λ (x : Wired). levels_of x closed drives) c.self.view_is

@@ -1,9 +1,11 @@
 use Rattle.std.proofs.Common.{◌≡◌, length}
+use Rattle.std.specs.Prelude.{vec_len}
 use Rattle.net_resolve.specs.Subcircuits.{AreSubcircuits, circuit_of}
-use Rattle.net_resolve.proofs.cut.cut_numbered.Given as goal
+use Rattle.net_resolve.proofs.cut.cut_all.Given as goal
 
 abbrev pub invariant-loop-q : goal.invariant-loop-q
 invariant-loop-q l = record {
+  numbers : vec_len l.numbers ≡ l.wiring.nets;
   long : length l.subcircuits.items ≡ l.q;
   subcircuits : AreSubcircuits (circuit_of l.wiring) l.sorted.labels l.subcircuits.items;
 }
