@@ -1,12 +1,12 @@
 -- From the steps of a call to what it does.
-use Rattle.std.proofs.Common.{◌≡◌, ◌≢◌, ℕ, List, [], true, refl, arith, ap, sym, ◌∙◌, Option, Some, None, Result, Ok, Err, inl, inr, IfSome}
+use Rattle.std.proofs.Common.{◌≡◌, ◌≢◌, ℕ, List, [], true, refl, ap, sym, ◌∙◌, Option, Some, None, Result, Ok, Err, inl, inr, IfSome}
 use Rattle.std.specs.Option.{option_map}
 use Rattle.std.specs.FinMap.{remove}
 use Rattle.sim_base.specs.declared.bench.Port.{Port}
 use Rattle.sim_base.specs.declared.bench.Port.TheVariants as ports
 use Rattle.sim_base.specs.Causes.{Rose}
 use Rattle.sim_base.specs.Outside.{Outside, SameOthers, SamePorts, Files, IsKept, IsNamed, is_openable}
-use Rattle.outcome_model.specs.Stop.{Stop, Missing, Output, Texts, report_alone, accepted}
+use Rattle.outcome_model.specs.Stop.{Stop, Missing, Output, Texts, report_alone}
 use Rattle.outcome_model.specs.Work.{Reading, Is, ReadStops, RanOn, IsOneReading}
 use Rattle.outcome_model.specs.Outcome.{Outcome, Accepted, NoRequest, Stopped, ReadFailed, WriteFailed, OutOfMemory, IsUntouched, IsOn, BeginsOn, Hold, Begin, OutputRose, status_of}
 use Rattle.outcome_model.specs.Promises.{IsOne, CountsWakes}
@@ -54,11 +54,6 @@ module _ {X : Type 0} (reading : Reading X) (texts : X → Texts) where
         one_text = λ files t u e f. (let same : t ≡ u = both.one_given files t u e f in (ap (λ (x : Texts). x.serial) same, ap (λ (x : Texts). x.wave) same, ap (λ (x : Texts). x.report) same));
         one_stop = both.one_stop;
       }
-
--- a request whose texts are the acceptance alone counts no wakes
-pub accepted_counts : (answer : Answer) → ((files : Files) (t : Texts) → answer files (Ok t) → t ≡ accepted) → (o : Outcome) (a b : Outside) (n : ℕ) → Ends answer o a b → Counts answer o a n n
-accepted_counts answer only Accepted a b n ends = λ e. if_some a.files _ _ (λ (files : Files) (x : (t : Texts) × answer files (Ok t) × Hold t a b). (x.0, x.1, rw (only files x.0 x.1) (omega arith))) ends.1
-accepted_counts answer only _ a b n ends = λ e. absurd (cc)
 
 -- what counts wakes for a request counts them for what is asked
 pub counts_asked : {R : Type 0} (answers : R → Answer) (r : R) (o : Outcome) (a : Outside) (before after : ℕ) → Counts (answers r) o a before after → CountsWakes answers (status_of o) (Some r) a before after
