@@ -1,14 +1,14 @@
 -- Each request has one answer, and those that run no board count no wakes.
-use Rattle.std.proofs.Common.{◌≡◌, ℕ, List, Option, None, Some, Ok, refl, arith}
+use Rattle.std.proofs.Common.{◌≡◌, ℕ, List, Option, None, Some, Ok, refl, ap, arith}
 use Rattle.sim_base.specs.Outside.{Outside, Files}
-use Rattle.outcome_model.specs.Outcome.{Hold, Outcome, Accepted, NoRequest, Stopped, ReadFailed, WriteFailed, OutOfMemory, status_of}
+use Rattle.outcome_model.specs.Outcome.{Hold, Outcome, Accepted, Stopped, status_of}
 use Rattle.outcome_model.specs.Happens.{Answer, Ends}
 use Rattle.outcome_model.specs.Happens as outcomes
-use Rattle.outcome_model.proofs.EndLemmas.{accepted_counts, counts_asked}
+use Rattle.outcome_model.proofs.EndLemmas.{counts_asked}
 use Rattle.outcome_model.proofs.ReadLemmas.{if_some}
 use Rattle.cli_project.specs.Answer.{CheckAnswer}
 use Rattle.cli_project.proofs.ProjectLemmas.{one_check, check_only}
-use Rattle.outcome_model.specs.Stop.{Missing, Refused, Texts}
+use Rattle.outcome_model.specs.Stop.{Missing, Texts}
 use Rattle.cli_module.specs.Answer.{ModuleAnswer}
 use Rattle.words_model.specs.Request.{NamedBus, Request, Bare, Check, Module, Run, Replay, Twin, Make, Decode}
 use Rattle.outcome_model.specs.Promises.{HoldsAnswer, IsOne}
@@ -50,14 +50,8 @@ held_so one other is status asked a b holds = λ e.
 with_run : (one other : RunBy) → ((folder : List ℕ) (us : ℕ) (script : Option (List ℕ)) (budget : ℕ) (out : Outputs) (files : Files) (t : Texts) →
     one folder us script budget out files (Ok t) → other folder us script budget out files (Ok t)) →
     (r : Request) (files : Files) (t : Texts) → AnswersWith one ReplayAnswer r files (Ok t) → AnswersWith other ReplayAnswer r files (Ok t)
-with_run one other is (Bare hex us) files t e = e
-with_run one other is (Check folder) files t e = e
-with_run one other is (Module name) files t e = e
 with_run one other is (Run folder us budget named) files t e = is folder us named.script budget (outputs_to named) files t e
-with_run one other is (Replay folder wave us named) files t e = e
-with_run one other is (Twin folder second us budget) files t e = e
-with_run one other is (Make seed us) files t e = e
-with_run one other is (Decode wave bus) files t e = e
+with_run one other is _ files t e = e
 
 -- what the ports hold after a run whose chips are isolated
 module _ (a b : Outside) (o : Outcome) (asked : Option Request) (happens : HappensIsolated o asked a b) where
@@ -80,43 +74,31 @@ module _ (a b : Outside) (o : Outcome) (asked : Option Request) (happens : Happe
   pub holds_shown : HoldsShown (status_of o) asked a b
   holds_shown = held_such AreShown (λ has plan n so. so.shown)
 
+-- a request whose texts cost no wakes counts none
+none_counted : (answer : Answer) → ((files : Files) (t : Texts) → answer files (Ok t) → t.wakes ≡ 0) → (o : Outcome) (a b : Outside) (n : ℕ) → Ends answer o a b → outcomes.Counts answer o a n n
+none_counted answer only Accepted a b n ends = λ e. if_some a.files _ _ (λ (files : Files) (x : (t : Texts) × answer files (Ok t) × Hold t a b). (x.0, x.1, rw (only files x.0 x.1) (omega arith))) ends.1
+none_counted answer only _ a b n ends = λ e. absurd (cc)
+
 pub check_counts : (folder : List ℕ) (o : Outcome) (a b : Outside) (n : ℕ) → Ends (CheckAnswer folder) o a b → outcomes.Counts (CheckAnswer folder) o a n n
-check_counts folder o a b n ends = accepted_counts (CheckAnswer folder) (check_only folder) o a b n ends
+check_counts folder = none_counted (CheckAnswer folder) (λ files t is. ap (λ (u : Texts). u.wakes) (check_only folder files t is))
 
 pub module_counts : (name : List ℕ) (o : Outcome) (a b : Outside) (n : ℕ) → Ends (ModuleAnswer name) o a b → outcomes.Counts (ModuleAnswer name) o a n n
-module_counts name o a b n ends = accepted_counts (ModuleAnswer name) (module_only name) o a b n ends
-
--- an answer that counts no wakes
-silent_counts : (answer : Answer) → ((files : Files) (t : Texts) → answer files (Ok t) → t.wakes ≡ 0) → (o : Outcome) (a b : Outside) (n : ℕ) → Ends answer o a b → outcomes.Counts answer o a n n
-silent_counts answer only Accepted a b n ends = λ e. if_some a.files _ _ (λ (files : Files) (x : (t : Texts) × answer files (Ok t) × Hold t a b). (x.0, x.1, rw (only files x.0 x.1) (omega arith))) ends.1
-silent_counts answer only NoRequest a b n ends = absurd ends
-silent_counts answer only (Stopped s) a b n ends = λ e. absurd (cc)
-silent_counts answer only (ReadFailed name) a b n ends = λ e. absurd (cc)
-silent_counts answer only WriteFailed a b n ends = λ e. absurd (cc)
-silent_counts answer only OutOfMemory a b n ends = λ e. absurd (cc)
+module_counts name = none_counted (ModuleAnswer name) (λ files t is. ap (λ (u : Texts). u.wakes) (module_only name files t is))
 
 pub decode_counts : (wave : List ℕ) (bus : NamedBus) (o : Outcome) (a b : Outside) (n : ℕ) → Ends (Answers (Decode wave bus)) o a b → outcomes.Counts (Answers (Decode wave bus)) o a n n
-decode_counts wave bus o a b n ends = silent_counts (Answers (Decode wave bus)) (decode_wakes wave (first_line bus) (second_line bus) (bus_of bus)) o a b n ends
+decode_counts wave bus = none_counted (Answers (Decode wave bus)) (decode_wakes wave (first_line bus) (second_line bus) (bus_of bus))
 
 -- where nothing is asked for, the status is not 0
 pub counted : (o : Outcome) (asked : Option Request) (a b : Outside) (before after : ℕ) → Happens o asked a b → Counts o asked a before after → CountsWakes (status_of o) asked a before after
 counted o (Some r) a b before after happens counts = counts_asked Answers r o a before after counts
 counted Accepted None a b before after happens counts = absurd happens
-counted NoRequest None a b before after happens counts = λ e. absurd (cc)
-counted (Stopped (Refused n f)) None a b before after happens counts = absurd happens
-counted (Stopped (Missing n)) None a b before after happens counts = absurd happens
-counted (ReadFailed n) None a b before after happens counts = absurd happens
-counted WriteFailed None a b before after happens counts = absurd happens
-counted OutOfMemory None a b before after happens counts = λ e. absurd (cc)
+counted (Stopped (Missing n)) None a b before after happens counts = λ e. absurd (cc)
+counted _ None a b before after happens counts = λ e. absurd (cc)
 
 -- where no board was run
-pub none_counted : (asked : Option Request) (n : ℕ) → CountsNone asked n n
-none_counted None n = refl
-none_counted (Some (Check folder)) n = refl
-none_counted (Some (Module name)) n = refl
-none_counted (Some (Decode wave bus)) n = refl
-none_counted (Some (Bare hex us)) n = tt
-none_counted (Some (Run folder us budget named)) n = tt
-none_counted (Some (Replay folder wave us named)) n = tt
-none_counted (Some (Twin folder other us budget)) n = tt
-none_counted (Some (Make seed us)) n = tt
+pub boardless : (asked : Option Request) (n : ℕ) → CountsNone asked n n
+boardless None n = refl
+boardless (Some (Check folder)) n = refl
+boardless (Some (Module name)) n = refl
+boardless (Some (Decode wave bus)) n = refl
+boardless _ n = tt

@@ -55,7 +55,7 @@ fn decode_bus<B: Bench>(alloc: Global, wave: &str, bus: NamedBus<'_>, bench: &mu
 }
 
 /// The work that the words ask for; Complaint is left alone.
-#[tactic(auto, using(crate::proofs::AnswerLemmas::check_counts, crate::proofs::AnswerLemmas::module_counts, crate::proofs::AnswerLemmas::decode_counts, crate::proofs::AnswerLemmas::none_counted))]
+#[tactic(auto, using(crate::proofs::AnswerLemmas::check_counts, crate::proofs::AnswerLemmas::module_counts, crate::proofs::AnswerLemmas::decode_counts, crate::proofs::AnswerLemmas::boardless))]
 fn work<B: Bench, L: Ledger>(
     alloc: Global,
     words: &[String],
