@@ -1,6 +1,7 @@
 #!/usr/bin/env python3
-"""Tests of refuse.c, memory.py and limits.py: programs in the simulator's place that do not answer refused memory as they must
-are found, and what limits.py makes is what it says."""
+"""Tests of refuse.c, memory.py, kit.py and limits.py: programs in the simulator's place that do not answer refused memory as they
+must are found, and what limits.py makes is what it says."""
+import os
 import pathlib
 import shutil
 import subprocess
@@ -10,6 +11,7 @@ import unittest
 
 sys.path.insert(0, str(pathlib.Path(__file__).resolve().parent))
 sys.dont_write_bytecode = True
+import kit
 import limits
 import memory
 
@@ -58,6 +60,50 @@ class Memory(unittest.TestCase):
             last, tried, bad = self.tried(mistake)
             self.assertEqual((last, tried), (3, 3))
             self.assertTrue(any(said in line for line in bad), (mistake, bad))
+
+
+# in the place of rt: each case whose name is at least as long as the number is refused, the others are run; MISTAKE comes first
+RT = r"""#!/bin/sh
+n=$3
+while [ $# -gt 2 ]; do shift; done
+for args in "$2"/*.args; do
+    name=$(basename "$args" .args) status=7
+    MISTAKE
+    echo "== $name"
+    echo "allocations: 9" >&2
+    if [ ${#name} -ge "$n" ]; then echo "out of memory" >&2; else
+        "$PROGRAM" $(cat "$args"); status=$?
+    fi
+    echo "case=$name run=ended status=$status runners=1 proved=no" >&2
+done
+"""
+ECHO = "#!/bin/sh\necho $*\n[ $1 != check ]\n"
+
+
+class Kit(unittest.TestCase):
+    def setUp(self):
+        room = tempfile.TemporaryDirectory()
+        self.addCleanup(room.cleanup)
+        self.room = pathlib.Path(room.name)
+
+    def tried(self, mistake, *numbers):
+        for name, text in (("rt", RT.replace("MISTAKE", mistake)), ("program", ECHO)):
+            (self.room / name).write_text(text)
+            (self.room / name).chmod(0o755)
+        environment = os.environ | {"PROGRAM": str(self.room / "program"), "PATH": f"{self.room}:{os.environ['PATH']}"}
+        ended = subprocess.run([sys.executable, "-B", kit.__file__, *numbers], env=environment, capture_output=True, text=True)
+        return ended.returncode, ended.stdout
+
+    def test_refused_as_it_must_be(self):
+        self.assertEqual(self.tried("", "1", "6"), (0, "kit: request 1 is refused to 9 of 9 commands: bare run replay twin make check check-missing module decode\n"
+            "kit: request 6 is refused to 4 of 9 commands: replay check-missing module decode\n"))
+
+    def test_mistakes_are_found(self):
+        for mistake in ["echo x", "[ $name = make ] && status=0", "[ $name = twin ] && echo fault >&2", "[ $name = run ] && continue", "name=a-longer-one"]:
+            self.assertEqual(self.tried(mistake, "1")[0], 1, mistake)
+        # no command makes so many requests; another answer than the program's
+        self.assertEqual(self.tried("", "100")[0], 1)
+        self.assertEqual(self.tried("[ $name = run ] && echo x", "6")[0], 1)
 
 
 class Limits(unittest.TestCase):
