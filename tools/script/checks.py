@@ -81,11 +81,13 @@ def main(names):
     if names == ["--list"]:
         print("\n".join(f"{name}: {' '.join(words)}" for name, words in known.items()))
         return 0
-    is_installed = "--installed" in names
-    names = [it for it in names if it != "--installed"]
+    is_installed, only_looks = "--installed" in names, "--known" in names
+    names = [it for it in names if it not in ("--installed", "--known")]
     for name in names:
         if name not in known:
             made.stop(f"there is no check {name}; there are {', '.join(known)}", 2)
+    if only_looks:
+        return 0
     if not os.access(os.environ.get("PROGRAM", ""), os.X_OK):
         made.stop("PROGRAM names no program to test; ./mudflatjar test does", 2)
     for it in (signal.SIGINT, signal.SIGTERM, signal.SIGHUP):
