@@ -1,5 +1,5 @@
 //! The units' part of a cycle, which the watchdog may end in a reset.
-ghost use Rattle.std.specs.Prelude.{◌≡◌, ◌+◌, ◌<◌, List, ℕ, true, false, length, if◌then◌else◌};
+ghost use Rattle.std.specs.Prelude.{◌≡◌, ◌+◌, ◌<◌, List, ℕ, false, length, if◌then◌else◌};
 ghost use Rattle.part_law.specs.Spans.{all_pins};
 ghost use Rattle.avr_mcu.specs.Devices.{devices};
 ghost use Rattle.avr_mcu.specs.McuOf.{units_acted, restarted};
@@ -14,13 +14,12 @@ use sim_base::{Level, MOST_CYCLES};
 use unit_law::hull;
 
 /// What the units' part of a cycle leaves beside their state: the byte that leaves, the pins whose drives may have changed,
-/// the cycle in which the next instruction starts, and whether it is known that no unit had an event.
+/// and the cycle in which the next instruction starts.
 #[derive(Clone, Copy)]
 pub(crate) struct Turned {
     pub(crate) byte: Option<u8>,
     pub(crate) span: Span,
     pub(crate) next: u32,
-    pub(crate) rests: bool,
 }
 
 // One cycle of the units on the levels that they hold, behind the core's part, which may have touched some pins.
@@ -39,8 +38,6 @@ pub(crate) fn tick(
     ensures here { units.new.cycle ≡ cycle + 1 }
     ensures pads { (moved : Span) × (result.span ≡ hull touched moved)
         × (SameBut devices moved units.new.units.devices units.old.units.devices) }
-    ensures core { result.rests ≡ true → core.new ≡ core.old }
-    ensures next { result.rests ≡ true → result.next ≡ next }
 {
     if cycle < units.due() {
         units.skip(cycle + 1);
@@ -48,7 +45,6 @@ pub(crate) fn tick(
             byte: None,
             span: touched,
             next,
-            rests: true,
         }
     } else {
         turn(core, units, next, cycle, touched)
@@ -65,7 +61,6 @@ fn turn(core: &mut Core, units: &mut Units, next: u32, cycle: u32, touched: Span
     ensures here { units.new.cycle ≡ cycle + 1 }
     ensures pads { (moved : Span) × (result.span ≡ hull touched moved)
         × (SameBut devices moved units.new.units.devices units.old.units.devices) }
-    ensures turned { result.rests ≡ false }
 {
     let (byte, resets, moved) = units.turn();
     let (next, moved) = restart_if(resets, core, units, next, cycle + 1, moved);
@@ -73,7 +68,6 @@ fn turn(core: &mut Core, units: &mut Units, next: u32, cycle: u32, touched: Span
         byte,
         span: hull(touched, moved),
         next,
-        rests: false,
     }
 }
 
@@ -101,7 +95,6 @@ pub(crate) fn hear(
         byte,
         span: hull(touched, moved),
         next,
-        rests: false,
     }
 }
 
