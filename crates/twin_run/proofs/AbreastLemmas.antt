@@ -12,11 +12,9 @@ use Rattle.part_law.specs.Machine.{Machine, Laws, glide, IsQuiet}
 use Rattle.part_law.specs.declared.part.Part.{Ghosts}
 use Rattle.part_law.proofs.MachineLemmas.{glide_holds, glide_pins}
 use Rattle.board_model.specs.Board.{level_at, own_nets, levels_of, states}
-use Rattle.board_model.specs.Fits.{Fits}
 use Rattle.board_model.specs.Resolve.{resolve}
 use Rattle.board_model.specs.Rows.{Shown, shown_of, shown_before}
 use Rattle.board_model.proofs.Lists.{get_within, length-below, some_map, some_same}
-use Rattle.board_model.proofs.RoomLemmas.{fits_after}
 use Rattle.board_model.proofs.Steps.{length-states}
 use Rattle.board_laws.specs.Active.{active_in, active_at, active_pairs}
 use Rattle.board_laws.specs.FirstDiff.{Difference, part_diff, stepped_beside, first_beside, first_diff}
@@ -35,8 +33,8 @@ use Rattle.board_run.specs.Lagging.{AreDue}
 use Rattle.board_run.specs.Seen.{levels_on}
 use Rattle.board_run.proofs.NextLemmas.{below_or, quiet_until}
 use Rattle.board_run.proofs.StepLemmas.{fits_pins}
-use Rattle.twin_run.specs.Beside.{Abreast, AreBehind, AreComparable, BoardWent, ChipsStand, ChipsTurned, HasRoom, IsChipOf, active_beside, beside_at, beside_pairs, difference_of, own_at}
-use Rattle.twin_run.specs.Twins.{AreTwins, HaveNoContacts, IsTwin, TwinView, differs, end_of, chip_pairs, other_states}
+use Rattle.twin_run.specs.Beside.{Abreast, AreBehind, AreComparable, BoardAt, BoardWent, ChipsAt, ChipsStand, ChipsTurned, HasRoom, IsChipOf, active_beside, beside_at, beside_pairs, difference_of, own_at, own_pairs, view_of}
+use Rattle.twin_run.specs.Twins.{AreTwins, HaveNoContacts, IsTwin, TwinView, differs, end_of, chip_pairs, other_states, wakes_in}
 use Rattle.twin_run.specs.declared.beside.Beside.{Beside}
 use Rattle.twin_run.specs.declared.chips.Chips.{Chips}
 use Rattle.twin_run.specs.declared.twin.TwinEnd.TheVariants as ends
@@ -93,36 +91,36 @@ module _ {P : Type 0} (part : Ghosts P) (laws : Laws part.machine) (start : Twin
       at_start : Abreast part start (record { board = record (start.board) { cycle = 0 }; chips = record chips { parts = start.chips } }) steps steps
       at_start = record {
         twins = twins;
-        alive = twins.alive;
-        same_wiring = refl;
-        same_inputs = refl;
-        states_are = refl;
-        behind = record {
-          has = twins.each;
-          may = λ k q d of ed.
-              let zero_now = twins.fresh.at_start (chips_before w k) q of.1 in
-              let never = twins.fresh.never_woken (chips_before w k) q of.1 in
-              record { not_later = omega (arith, zero_now); count = omega (arith, never); quiet = λ i (h : i < 0 - part.now q). absurd (omega arith); first = due (chips_before w k) q d of.1 ed };
-          dues_long = long ∙ ap length are;
-          levels_long = nets;
-          own_long = room;
-          fit = λ k q of.
-              let a = a_at part laws start twins 0 k of.0 in
-              let same = twins.pins.each k a.0 (part.state q) a.1 (at k q of) of.0 in
-              let has = fits_pins m w xs twins.fits k a.0 a.1 in
-              omega (arith, same, has);
-          held = λ (later : 0 < 0). absurd (omega arith);
+        board = record { alive = twins.alive; same_wiring = refl; same_inputs = refl; states_are = refl; woken = omega arith };
+        chips = record {
+          behind = record {
+            has = twins.each;
+            may = λ k q d of ed.
+                let zero_now = twins.fresh.at_start (chips_before w k) q of.1 in
+                let never = twins.fresh.never_woken (chips_before w k) q of.1 in
+                record { not_later = omega (arith, zero_now); count = omega (arith, never); quiet = λ i (h : i < 0 - part.now q). absurd (omega arith); first = due (chips_before w k) q d of.1 ed };
+            dues_long = long ∙ ap length are;
+            levels_long = nets;
+            own_long = room;
+            fit = λ k q of.
+                let a = a_at part laws start twins 0 k of.0 in
+                let same = twins.pins.each k a.0 (part.state q) a.1 (at k q of) of.0 in
+                let has = fits_pins m w xs twins.fits k a.0 a.1 in
+                omega (arith, same, has);
+            held = λ (later : 0 < 0). absurd (omega arith);
+          };
+          stand = λ k q s of es.
+              let same : part.state q ≡ s = some_same (sym (at k q of) ∙ es) in
+              subst (λ (x : part.State). Stands m 0 (part.now q) (part.state q) x) same
+              (subst (λ (a : ℕ). Stands m 0 a (part.state q) (part.state q)) (sym (twins.fresh.at_start (chips_before w k) q of.1))
+              (stands_here m laws 0 (part.state q) (twins.fresh.are_valid (chips_before w k) q of.1)));
+          of_board = λ (later : 0 < 0). absurd (omega arith);
+          none = refl;
         };
-        stand = λ k q s of es.
-            let same : part.state q ≡ s = some_same (sym (at k q of) ∙ es) in
-            subst (λ (x : part.State). Stands m 0 (part.now q) (part.state q) x) same
-            (subst (λ (a : ℕ). Stands m 0 a (part.state q) (part.state q)) (sym (twins.fresh.at_start (chips_before w k) q of.1))
-            (stands_here m laws 0 (part.state q) (twins.fresh.are_valid (chips_before w k) q of.1)));
-        of_board = λ (later : 0 < 0). absurd (omega arith);
-        none = refl;
-        rose = omega arith;
-        steps_are = omega arith;
-        woken = refl;
+        wakes = 0;
+        woken = omega arith;
+        most = omega arith;
+        counted = omega arith;
       }
 
   module _ (b : Beside P) (steps more : ℕ) (is : Abreast part start b steps more) where
@@ -135,32 +133,32 @@ module _ {P : Type 0} (part : Ghosts P) (laws : Laws part.machine) (start : Twin
         let inside : k < length (B t) = (let l = chip_inside w.chip k of.0 in let z = sized_b part laws start is.twins t in omega (arith, l, z)) in
         let other : part.State = get_or (B t) k s in
         let eb : slice_get (B t) k ≡ Some other = get_within (B t) k s inside in
-        ap length (stands_shows m laws t (part.now q) (part.state q) other (is.stand k q other of eb)).drives ∙ sym ((pins_beside part laws start is.twins t).each k s other es eb of.0)
+        ap length (stands_shows m laws t (part.now q) (part.state q) other (is.chips.stand k q other of eb)).drives ∙ sym ((pins_beside part laws start is.twins t).each k s other es eb of.0)
 
     many : length b.board.parts ≡ length start.board.parts
     many =
         let one : length (map part.state b.board.parts) ≡ length b.board.parts = simp length-map refl in
         let other : length xs ≡ length start.board.parts = simp length-map refl in
-        sym one ∙ ap length is.states_are ∙ length-states m w inputs xs 0 t ∙ other
+        sym one ∙ ap length is.board.states_are ∙ length-states m w inputs xs 0 t ∙ other
 
     -- what is asked of chips that are compared
     pub comparable : AreComparable part b.board.wiring b.board.parts b.chips.parts
-    comparable = subst (λ (v : Wiring). AreComparable part v b.board.parts b.chips.parts) (sym is.same_wiring) (record {
+    comparable = subst (λ (v : Wiring). AreComparable part v b.board.parts b.chips.parts) (sym is.board.same_wiring) (record {
       few = let f = is.twins.few in let e = many in omega (arith, f, e);
       sized = is.twins.fits.chips ∙ (let other : length xs ≡ length start.board.parts = simp length-map refl in other) ∙ sym many;
-      has = is.behind.has;
-      pins = λ k p q ep of. alike_pins k q (part.state p) of (ap (λ (l : List part.State). slice_get l k) (sym is.states_are) ∙ some_map part.state b.board.parts k p ep);
+      has = is.chips.behind.has;
+      pins = λ k p q ep of. alike_pins k q (part.state p) of (ap (λ (l : List part.State). slice_get l k) (sym is.board.states_are) ∙ some_map part.state b.board.parts k p ep);
     })
 
     pub room_kept : HasRoom b
     room_kept = record {
-      dues = is.behind.dues_long;
-      levels = is.behind.levels_long ∙ sym (ap (λ (v : Wiring). v.nets) is.same_wiring);
-      own = is.behind.own_long ∙ sym (ap (λ (v : Wiring). length v.net_of) is.same_wiring);
+      dues = is.chips.behind.dues_long;
+      levels = is.chips.behind.levels_long ∙ sym (ap (λ (v : Wiring). v.nets) is.board.same_wiring);
+      own = is.chips.behind.own_long ∙ sym (ap (λ (v : Wiring). length v.net_of) is.board.same_wiring);
     }
 
-    pub fits_still : Fits m w (map part.state b.board.parts)
-    fits_still = subst (Fits m w) (sym is.states_are) (fits_after m laws w inputs xs 0 t is.twins.fits)
+    pub all_woken : wakes_in part.wake_count (view_of b) + steps ≡ wakes_in part.wake_count start + more
+    all_woken = let o = is.board.woken in let x = is.woken in let c = is.counted in omega (arith, o, x, c)
 
     -- what `difference` compares is what the boards show
     pub diff_is : difference_of part b ≡ part_diff m w t 0 (A t) (B t)
@@ -168,23 +166,23 @@ module _ {P : Type 0} (part : Ghosts P) (laws : Laws part.machine) (start : Twin
         let parts : List part.State = map part.state b.board.parts in
         let others : List part.State = with_chips w parts (map part.state b.chips.parts) in
         let rest = rest_with_chips w parts (map part.state b.chips.parts) in
-        let sizes : length parts ≡ length (A t) = ap length is.states_are in
+        let sizes : length parts ≡ length (A t) = ap length is.board.states_are in
         let za = sized_a part laws start is.twins t in
         let zb = sized_b part laws start is.twins t in
         let long = rest.long in
-        ap (λ (v : Wiring). part_diff m v t 0 parts (with_chips v parts (map part.state b.chips.parts))) is.same_wiring
+        ap (λ (v : Wiring). part_diff m v t 0 parts (with_chips v parts (map part.state b.chips.parts))) is.board.same_wiring
         ∙ by_drives m w t 0 parts others (B t) (omega (arith, sizes, za, zb, long)) (λ k x y ex ey chip.
         let z : 0 + k ≡ k = omega arith in
         let one : is_chip w k ≡ true = ap (is_chip w) (sym z) ∙ chip in
-        let q = is.behind.has k one in
+        let q = is.chips.behind.has k one in
         let inside : k < length parts = (let l = chip_inside w.chip k one in omega (arith, l, sizes, za)) in
         let at = get-with_chips w k parts (map part.state b.chips.parts) (part.state q.0) inside one (some_map part.state b.chips.parts (chips_before w k) q.0 q.1) in
-        ap m.drives (some_same (sym ex ∙ at)) ∙ (stands_shows m laws t (part.now q.0) (part.state q.0) y (is.stand k q.0 y (one, q.1) ey)).drives)
-        ∙ ap (λ (l : List part.State). part_diff m w t 0 l (B t)) is.states_are
+        ap m.drives (some_same (sym ex ∙ at)) ∙ (stands_shows m laws t (part.now q.0) (part.state q.0) y (is.chips.stand k q.0 y (one, q.1) ey)).drives)
+        ∙ ap (λ (l : List part.State). part_diff m w t 0 l (B t)) is.board.states_are
 
     -- what is asked for a turn of the chips
     pub may_step : (v : Wiring) → v ≡ b.board.wiring → AreBehind part v t b.chips × (length v.first_pin ≡ length v.chip)
-    may_step v same = subst (λ (x : Wiring). AreBehind part x t b.chips × (length x.first_pin ≡ length x.chip)) (sym (same ∙ is.same_wiring)) (is.behind, is.twins.fits.parts ∙ sym is.twins.fits.chips)
+    may_step v same = subst (λ (x : Wiring). AreBehind part x t b.chips × (length x.first_pin ≡ length x.chip)) (sym (same ∙ is.board.same_wiring)) (is.chips.behind, is.twins.fits.parts ∙ sym is.twins.fits.chips)
 
     -- after the board went on
     module _ (new : BoardView P) (most : ℕ) (did : BoardWent part b.board.wiring b.board.inputs b.board new more most) where
@@ -192,8 +190,8 @@ module _ {P : Type 0} (part : Ghosts P) (laws : Laws part.machine) (start : Twin
       u = new.cycle
 
       went : BoardWent part w inputs b.board new more most
-      went = subst (λ (v : Wiring). BoardWent part v inputs b.board new more most) is.same_wiring
-          (subst (λ (l : List Input). BoardWent part b.board.wiring l b.board new more most) is.same_inputs did)
+      went = subst (λ (v : Wiring). BoardWent part v inputs b.board new more most) is.board.same_wiring
+          (subst (λ (l : List Input). BoardWent part b.board.wiring l b.board new more most) is.board.same_inputs did)
 
       there : t + (u - t) ≡ u
       there = let o = went.order in omega (arith, o)
@@ -204,21 +202,32 @@ module _ {P : Type 0} (part : Ghosts P) (laws : Laws part.machine) (start : Twin
           ap A (sym there) ∙ states_split m w inputs xs 0 t (u - t) ∙ ap (λ (v : ℕ). states m w inputs (A t) v (u - t)) z
 
       board_is : map part.state new.parts ≡ A u
-      board_is = went.states_are ∙ ap (λ (l : List part.State). states m w inputs l t (u - t)) is.states_are ∙ sym split
+      board_is = went.states_are ∙ ap (λ (l : List part.State). states m w inputs l t (u - t)) is.board.states_are ∙ sym split
 
-      pairs : most + active_pairs m w inputs xs 0 t ≡ more + active_pairs m w inputs xs 0 u
+      pairs : own_pairs part start u ≡ own_pairs part start t + active_pairs m b.board.wiring b.board.inputs (map part.state b.board.parts) t (u - t)
       pairs =
           let z : 0 + t ≡ t = omega arith in
-          let s = pairs_split m w inputs xs 0 t (u - t) ∙ ap (λ (v : ℕ). active_pairs m w inputs xs 0 t + active_pairs m w inputs (A t) v (u - t)) z in
-          let e = ap (active_pairs m w inputs xs 0) there in
-          let l = ap (λ (l : List part.State). active_pairs m w inputs l t (u - t)) is.states_are in
-          let c = went.steps_are in
-          omega (arith, s, e, l, c)
+          ap (own_pairs part start) (sym there) ∙ pairs_split m w inputs xs 0 t (u - t) ∙ ap (λ (v : ℕ). own_pairs part start t + active_pairs m w inputs (A t) v (u - t)) z
+          ∙ ap (λ (l : List part.State). own_pairs part start t + active_pairs m w inputs l t (u - t)) (sym is.board.states_are)
+          ∙ ap (λ (v : Wiring). own_pairs part start t + active_pairs m v inputs (map part.state b.board.parts) t (u - t)) (sym is.board.same_wiring)
+          ∙ ap (λ (l : List Input). own_pairs part start t + active_pairs m b.board.wiring l (map part.state b.board.parts) t (u - t)) (sym is.board.same_inputs)
+
+      board_on : BoardAt part start new
+      board_on = record {
+        alive = did.alive;
+        same_wiring = did.same_wiring ∙ is.board.same_wiring;
+        same_inputs = did.same_inputs ∙ is.board.same_inputs;
+        states_are = board_is;
+        woken = let a = did.woken in let o = is.board.woken in let p = pairs in omega (arith, a, o, p);
+      }
+
+      counts : most ≡ steps + own_pairs part start u + is.wakes
+      counts = let a = did.steps_are in let o = is.counted in let p = pairs in omega (arith, a, o, p)
 
       -- where it is in the same cycle, its chips drive as they did
       pub same_there : u ≡ t → difference_of part b ≡ None → difference_of part (record b { board = new }) ≡ None
       same_there at none =
-          let still : map part.state new.parts ≡ map part.state b.board.parts = board_is ∙ ap A at ∙ sym is.states_are in
+          let still : map part.state new.parts ≡ map part.state b.board.parts = board_is ∙ ap A at ∙ sym is.board.states_are in
           ap (λ (v : Wiring). part_diff m v u 0 (map part.state new.parts) (with_chips v (map part.state new.parts) (map part.state b.chips.parts))) went.same_wiring
           ∙ ap (λ (c : ℕ). part_diff m b.board.wiring c 0 (map part.state new.parts) (with_chips b.board.wiring (map part.state new.parts) (map part.state b.chips.parts))) at
           ∙ ap (λ (l : List part.State). part_diff m b.board.wiring t 0 l (with_chips b.board.wiring l (map part.state b.chips.parts))) still ∙ none
@@ -232,35 +241,26 @@ module _ {P : Type 0} (part : Ghosts P) (laws : Laws part.machine) (start : Twin
         stays : u ≡ t → Abreast part start (record b { board = new }) steps most
         stays at = record {
           twins = is.twins;
-          alive = went.alive;
-          same_wiring = went.same_wiring ∙ is.same_wiring;
-          same_inputs = went.same_inputs ∙ is.same_inputs;
-          states_are = board_is;
-          behind = subst (λ (c : ℕ). AreBehind part w c b.chips) (sym at) is.behind;
-          stand = subst (λ (c : ℕ). ChipsStand part w c b.chips.parts (B c)) (sym at) is.stand;
-          of_board = subst (λ (c : ℕ). 0 < c → (k : ℕ) (s : part.State) → is_chip w k ≡ true → slice_get (A c) k ≡ Some s → m.held s ≡ levels_on m w b.chips.levels k s) (sym at) is.of_board;
-          none = ap (first_beside m w inputs xs ys 0) at ∙ is.none;
-          rose = let r = is.rose in let c = went.steps_are in omega (arith, r, c);
-          steps_are =
-              let s = is.steps_are in
-              let p = pairs in
-              let e = ap (beside_pairs part start) at in
-              omega (arith, s, p, e);
-          woken = let a = went.woken in let o = is.woken in omega (arith, a, o);
+          board = board_on;
+          chips = subst (λ (c : ℕ). ChipsAt part start c b.chips) (sym at) is.chips;
+          wakes = is.wakes;
+          woken = is.woken;
+          most = (let s = is.most in let e = ap (beside_pairs part start) at in omega (arith, s, e));
+          counted = counts;
         }
 
         module _ (less : t < u) where
           steady : IsSteady m w inputs (A t) t (u - t)
           steady =
-              subst (λ (l : List part.State). IsSteady m w inputs l t (u - t)) is.states_are (subst (λ (v : Wiring). IsSteady m v inputs (map part.state b.board.parts) t (u - t)) is.same_wiring
-              (subst (λ (l : List Input). IsSteady m b.board.wiring l (map part.state b.board.parts) t (u - t)) is.same_inputs (still less).1))
+              subst (λ (l : List part.State). IsSteady m w inputs l t (u - t)) is.board.states_are (subst (λ (v : Wiring). IsSteady m v inputs (map part.state b.board.parts) t (u - t)) is.board.same_wiring
+              (subst (λ (l : List Input). IsSteady m b.board.wiring l (map part.state b.board.parts) t (u - t)) is.board.same_inputs (still less).1))
 
           quiet : (k : ℕ) (q : P) → IsChipOf w b.chips.parts k q → IsQuiet m (part.state q) (part.now q) (u - part.now q)
           quiet k q of =
-              let within : chips_before w k < length b.chips.dues = (let l = slice_get_within b.chips.parts (chips_before w k) q of.1 in let d = is.behind.dues_long in omega (arith, l, d)) in
+              let within : chips_before w k < length b.chips.dues = (let l = slice_get_within b.chips.parts (chips_before w k) q of.1 in let d = is.chips.behind.dues_long in omega (arith, l, d)) in
               let d = get_or b.chips.dues (chips_before w k) None in
               let ed : slice_get b.chips.dues (chips_before w k) ≡ Some d = get_within b.chips.dues (chips_before w k) None within in
-              quiet_until m part.state part.now part.wake_count t u d q (omega (arith, less)) end (is.behind.may k q d of ed) (λ x e l. late less (chips_before w k) x (ed ∙ ap Some e))
+              quiet_until m part.state part.now part.wake_count t u d q (omega (arith, less)) end (is.chips.behind.may k q d of ed) (λ x e l. late less (chips_before w k) x (ed ∙ ap Some e))
 
           quiet_to : (k : ℕ) (q : P) → IsChipOf w b.chips.parts k q → IsQuiet m (part.state q) (part.now q) (t + (u - t) - part.now q)
           quiet_to k q of = subst (λ (v : ℕ). IsQuiet m (part.state q) (part.now q) (v - part.now q)) (sym there) (quiet k q of)
@@ -270,46 +270,41 @@ module _ {P : Type 0} (part : Ghosts P) (laws : Laws part.machine) (start : Twin
               let after = (still less).0 in
               let a = a_at part laws start is.twins t k of.0 in
               let n = alike_pins k q a.0 of a.1 in
-              is.behind.held after k q of ∙ ap (λ (i : ℕ). map (level_at b.chips.levels) (own_nets w k i)) n ∙ sym (is.of_board after k a.0 of.0 a.1) ∙ steady.held k a.0 a.1
+              is.chips.behind.held after k q of ∙ ap (λ (i : ℕ). map (level_at b.chips.levels) (own_nets w k i)) n ∙ sym (is.chips.of_board after k a.0 of.0 a.1) ∙ steady.held k a.0 a.1
               ∙ ap (λ (i : ℕ). map (level_at (levels_of m w (A t))) (own_nets w k i)) (sym n)
 
           goes : Abreast part start (record b { board = new }) steps most
           goes = record {
             twins = is.twins;
-            alive = went.alive;
-            same_wiring = went.same_wiring ∙ is.same_wiring;
-            same_inputs = went.same_inputs ∙ is.same_inputs;
-            states_are = board_is;
-            behind = record {
-              has = is.behind.has;
-              may = λ k q d of ed.
-                  let x = is.behind.may k q d of ed in
-                  let l = x.not_later in
-                  record { not_later = omega (arith, l, less); count = x.count; quiet = quiet k q of; first = x.first };
-              dues_long = is.behind.dues_long;
-              levels_long = is.behind.levels_long;
-              own_long = is.behind.own_long;
-              fit = is.behind.fit;
-              held = λ _. is.behind.held (still less).0;
+            board = board_on;
+            chips = record {
+              behind = record {
+                has = is.chips.behind.has;
+                may = λ k q d of ed.
+                    let x = is.chips.behind.may k q d of ed in
+                    let l = x.not_later in
+                    record { not_later = omega (arith, l, less); count = x.count; quiet = quiet k q of; first = x.first };
+                dues_long = is.chips.behind.dues_long;
+                levels_long = is.chips.behind.levels_long;
+                own_long = is.chips.behind.own_long;
+                fit = is.chips.behind.fit;
+                held = λ _. is.chips.behind.held (still less).0;
+              };
+              stand = subst (λ (v : ℕ). ChipsStand part w v b.chips.parts (B v)) there (chips_sleep part laws start is.twins t (u - t) b.chips.parts steady is.chips.stand quiet_to hold (u - t) (omega arith));
+              of_board = λ _ k s one es.
+                  let after = (still less).0 in
+                  let a = a_at part laws start is.twins t k one in
+                  let g : s ≡ glide m a.0 t (u - t) =
+                  (steady_states m laws w inputs (A t) t (u - t) steady (u - t) (omega arith)).each k a.0 s a.1 (ap (λ (l : List part.State). slice_get l k) (sym split) ∙ es) in
+                  ap m.held g ∙ glide_holds m laws a.0 t (u - t) ∙ is.chips.of_board after k a.0 one a.1
+                  ∙ ap (λ (i : ℕ). map (level_at b.chips.levels) (own_nets w k i)) (sym (ap (λ (x : part.State). length (m.drives x)) g ∙ glide_pins m laws a.0 t (u - t)));
+              none = ap (first_beside m w inputs xs ys 0) (sym there)
+                  ∙ none_in part laws start is.twins t (u - t) b.chips.parts steady is.chips.stand quiet_to hold is.chips.behind.has same_now is.chips.none (u - t) (omega arith);
             };
-            stand = subst (λ (v : ℕ). ChipsStand part w v b.chips.parts (B v)) there (chips_sleep part laws start is.twins t (u - t) b.chips.parts steady is.stand quiet_to hold (u - t) (omega arith));
-            of_board = λ _ k s one es.
-                let after = (still less).0 in
-                let a = a_at part laws start is.twins t k one in
-                let g : s ≡ glide m a.0 t (u - t) =
-                (steady_states m laws w inputs (A t) t (u - t) steady (u - t) (omega arith)).each k a.0 s a.1 (ap (λ (l : List part.State). slice_get l k) (sym split) ∙ es) in
-                ap m.held g ∙ glide_holds m laws a.0 t (u - t) ∙ is.of_board after k a.0 one a.1
-                ∙ ap (λ (i : ℕ). map (level_at b.chips.levels) (own_nets w k i)) (sym (ap (λ (x : part.State). length (m.drives x)) g ∙ glide_pins m laws a.0 t (u - t)));
-            none = ap (first_beside m w inputs xs ys 0) (sym there)
-                ∙ none_in part laws start is.twins t (u - t) b.chips.parts steady is.stand quiet_to hold is.behind.has same_now is.none (u - t) (omega arith);
-            rose = let r = is.rose in let c = went.steps_are in omega (arith, r, c);
-            steps_are =
-                let s = is.steps_are in
-                let p = pairs in
-                let r = pairs_rise part laws start is.twins t (u - t) in
-                let e = ap (beside_pairs part start) there in
-                omega (arith, s, p, r, e);
-            woken = let a = went.woken in let o = is.woken in omega (arith, a, o);
+            wakes = is.wakes;
+            woken = is.woken;
+            most = (let s = is.most in let r = pairs_rise part laws start is.twins t (u - t) in let e = ap (beside_pairs part start) there in omega (arith, s, r, e));
+            counted = counts;
           }
 
       -- by one cycle, in which the chips had their turns
@@ -317,33 +312,29 @@ module _ {P : Type 0} (part : Ghosts P) (laws : Laws part.machine) (start : Twin
           ChipsTurned part v ls t b.chips (length v.chip) next most last → next.levels ≡ ls → length next.own ≡ length b.chips.own → Abreast part start (record { board = new; chips = next }) steps last
       unfolding first_beside
       steps_on next last v ls none end at same read turned kept room =
-          let are : ls ≡ levels_of m w (A t) = read ∙ ap (λ (x : Wiring). levels_of m x (map part.state b.board.parts)) is.same_wiring ∙ ap (levels_of m w) is.states_are in
+          let are : ls ≡ levels_of m w (A t) = read ∙ ap (λ (x : Wiring). levels_of m x (map part.state b.board.parts)) is.board.same_wiring ∙ ap (levels_of m w) is.board.states_are in
           let turns : ChipsTurned part w (levels_of m w (A t)) t b.chips (length w.chip) next most last =
           subst (λ (l : List Level). ChipsTurned part w l t b.chips (length w.chip) next most last) are
-          (subst (λ (x : Wiring). ChipsTurned part x ls t b.chips (length x.chip) next most last) (same ∙ is.same_wiring) turned) in
+          (subst (λ (x : Wiring). ChipsTurned part x ls t b.chips (length x.chip) next most last) (same ∙ is.board.same_wiring) turned) in
           let s : t + 1 ≡ suc t = omega arith in
           let up = at ∙ s in
-          let c = counted part laws start is.twins t b.chips next most last end turns is.behind is.stand in
+          let c = counted part laws start is.twins t b.chips next most last end turns is.chips.behind is.chips.stand in
           record {
             twins = is.twins;
-            alive = went.alive;
-            same_wiring = went.same_wiring ∙ is.same_wiring;
-            same_inputs = went.same_inputs ∙ is.same_inputs;
-            states_are = board_is;
-            behind = subst (λ (v : ℕ). AreBehind part w v next) (sym at) (behind_next part laws start is.twins t b.chips next most last end turns is.behind is.stand (kept ∙ are) (length_levels m w (A t)) room);
-            stand = subst (λ (v : ℕ). ChipsStand part w v next.parts (B v)) (sym at) (stand_next part laws start is.twins t b.chips next most last end turns is.behind is.stand);
-            of_board = λ _ k s one es.
-                held_before m w inputs laws xs 0 t k s (ap (λ (v : ℕ). slice_get (A v) k) (sym up) ∙ es)
-                ∙ ap (λ (l : List Level). levels_on m w l k s) (sym (kept ∙ are));
-            none = ap (first_beside m w inputs xs ys 0) up ∙ ap (λ o. option_or o (part_diff m w (0 + t) 0 (A t) (B t))) is.none
-                ∙ ap (λ (v : ℕ). part_diff m w v 0 (A t) (B t)) (let z : 0 + t ≡ t = omega arith in z) ∙ sym diff_is ∙ none;
-            rose = let r = is.rose in let a = went.steps_are in let o = turned.steps_are in omega (arith, r, a, o);
-            steps_are =
-                let o = is.steps_are in
-                let p = pairs in
-                let e = ap (beside_pairs part start) at in
-                omega (arith, o, p, c, e);
-            woken = let a = went.woken in let o = is.woken in let x = turned.woken in omega (arith, a, o, x);
+            board = board_on;
+            chips = record {
+              behind = subst (λ (v : ℕ). AreBehind part w v next) (sym at) (behind_next part laws start is.twins t b.chips next most last end turns is.chips.behind is.chips.stand (kept ∙ are) (length_levels m w (A t)) room);
+              stand = subst (λ (v : ℕ). ChipsStand part w v next.parts (B v)) (sym at) (stand_next part laws start is.twins t b.chips next most last end turns is.chips.behind is.chips.stand);
+              of_board = λ _ k s one es.
+                  held_before m w inputs laws xs 0 t k s (ap (λ (v : ℕ). slice_get (A v) k) (sym up) ∙ es)
+                  ∙ ap (λ (l : List Level). levels_on m w l k s) (sym (kept ∙ are));
+              none = ap (first_beside m w inputs xs ys 0) up ∙ ap (λ o. option_or o (part_diff m w (0 + t) 0 (A t) (B t))) is.chips.none
+                  ∙ ap (λ (v : ℕ). part_diff m w v 0 (A t) (B t)) (let z : 0 + t ≡ t = omega arith in z) ∙ sym diff_is ∙ none;
+            };
+            wakes = is.wakes + (last - most);
+            woken = (let o = is.woken in let x = turned.woken in let k = turned.steps_are in omega (arith, o, x, k));
+            most = (let o = is.most in let e = ap (beside_pairs part start) at in omega (arith, o, c, e));
+            counted = (let k = turned.steps_are in let n = counts in omega (arith, k, n));
           }
 
       pub goes_still : difference_of part b ≡ None → u ≤ MOST_CYCLES → (t < u → (j x : ℕ) → slice_get b.chips.dues j ≡ Some (Some x) → u ≤ x) →
@@ -386,15 +377,16 @@ module _ {P : Type 0} (part : Ghosts P) (laws : Laws part.machine) (start : Twin
 
       pub ends_same : (n : ℕ) → t ≡ n → IsTwin m w inputs xs ys n ends.Same steps more
       ends_same n at =
-          let none : first_diff m w inputs xs ys 0 n ≡ None = sym (sees n) ∙ ap (first_beside m w inputs xs ys 0) (sym at) ∙ is.none in
-          let so_far = is.steps_are in
-          let own = ap (active_pairs m w inputs xs 0) at in
+          let none : first_diff m w inputs xs ys 0 n ≡ None = sym (sees n) ∙ ap (first_beside m w inputs xs ys 0) (sym at) ∙ is.chips.none in
+          let so_far = is.most in
+          let c = is.counted in
+          let own = ap (own_pairs part start) at in
           let other = ap (beside_pairs part start) at in
           let all = pairs_are n none in
           record {
             sees = ap end_of (sym none);
-            rose = is.rose;
-            wakes = omega (arith, so_far, own, other, all);
+            rose = omega (arith, c);
+            wakes = omega (arith, so_far, c, own, other, all);
             rest = rest_before m w inputs xs ys laws free rest is.twins.pins n none;
           }
 
@@ -404,16 +396,17 @@ module _ {P : Type 0} (part : Ghosts P) (laws : Laws part.machine) (start : Twin
           let e : suc t + (n - suc t) ≡ n = omega (arith, less) in
           let z : 0 + t ≡ t = omega arith in
           let first : first_beside m w inputs xs ys 0 (suc t) ≡ Some d =
-          ap (λ o. option_or o (part_diff m w (0 + t) 0 (A t) (B t))) is.none ∙ ap (λ (v : ℕ). part_diff m w v 0 (A t) (B t)) z ∙ sym diff_is ∙ found in
+          ap (λ o. option_or o (part_diff m w (0 + t) 0 (A t) (B t))) is.chips.none ∙ ap (λ (v : ℕ). part_diff m w v 0 (A t) (B t)) z ∙ sym diff_is ∙ found in
           let all : first_diff m w inputs xs ys 0 n ≡ Some d = sym (sees n) ∙ ap (first_beside m w inputs xs ys 0) (sym e) ∙ holds_on (suc t) d first (n - suc t) in
-          let none : first_diff m w inputs xs ys 0 t ≡ None = sym (sees t) ∙ is.none in
-          let so_far = is.steps_are in
+          let none : first_diff m w inputs xs ys 0 t ≡ None = sym (sees t) ∙ is.chips.none in
+          let so_far = is.most in
+          let c = is.counted in
           let same = pairs_are t none in
-          let own = ap (active_pairs m w inputs xs 0) at in
+          let own = ap (own_pairs part start) at in
           let other = ap (chip_pairs m w inputs ys) at in
           record {
             sees = ap end_of (sym all);
-            rose = is.rose;
-            wakes = omega (arith, so_far, same, own, other);
+            rose = omega (arith, c);
+            wakes = omega (arith, so_far, c, same, own, other);
             rest = λ v l. rest_up_to m w inputs xs ys laws free rest is.twins.pins n d all v (omega (arith, l));
           }

@@ -1,5 +1,5 @@
 -- The turns of the chips, part by part.
-use Rattle.std.proofs.Common.{◌≡◌, ◌≢◌, inl, inr, ℕ, zero, suc, ◌+◌, ◌-◌, ◌<◌, ◌≤◌, List, ◌∙◌, length, map, take, drop, Bool, true, false, Option, None, Some, refl, ap, sym, arith, subst, get_or, length-set, length-drop, length-take-le}
+use Rattle.std.proofs.Common.{◌≡◌, ◌≢◌, inl, inr, ℕ, zero, suc, ◌+◌, ◌-◌, ◌<◌, ◌≤◌, List, [], ◌∷◌, ◌∙◌, length, map, take, drop, Bool, true, false, Option, None, Some, refl, ap, sym, arith, subst, get_or, length-set, length-drop, length-take-le}
 use Rattle.std.specs.Prelude.{slice_get, slice_index, slice_set, ◌&&◌, not, if◌then◌else◌}
 use Rattle.std.proofs.lemmas.List.Sums.{sum_by-set}
 use Rattle.std.proofs.lemmas.Option.{get_or_from_slice_get, slice_get-get_or, slice_get_within}
@@ -8,14 +8,14 @@ use Rattle.sim_base.specs.declared.wiring.Wiring.{Wiring}
 use Rattle.part_law.specs.declared.part.Part.{Ghosts}
 use Rattle.board_model.specs.Board.{level_at, own_nets}
 use Rattle.board_model.specs.Rows.{same_list, same_level}
-use Rattle.board_model.proofs.Lists.{some_same, lt_or_eq, get_set_same, get_set_other, get_within}
+use Rattle.board_model.proofs.Lists.{some_same, lt_or_eq, get_set_same, get_set_other}
 use Rattle.board_laws.specs.Active.{sum_below}
 use Rattle.board_laws.specs.Twin.{chips_before}
 use Rattle.board_laws.specs.Worlds.{is_chip}
 use Rattle.board_laws.proofs.StretchLaw.{levels_are}
 use Rattle.board_run.specs.Lagging.{MayTurn, to_wake}
 use Rattle.board_run.specs.Seen.{levels_on}
-use Rattle.twin_run.specs.Beside.{AreBehind, ChipsTurned, IsChipOf, MayTurnAt, TookTurn, TurnedAt, chip_wake, differs_on, wake_of, wakes_on}
+use Rattle.twin_run.specs.Beside.{AreBehind, ChipsTurned, IsChipOf, TookTurn, chip_wake, differs_on, wake_of}
 use Rattle.twin_run.specs.declared.chips.Chips.{Chips}
 use Rattle.twin_run.proofs.DifferenceLemmas.{drop_here}
 use Rattle.twin_run.proofs.WakesLemmas.{turn_woken}
@@ -73,32 +73,14 @@ other_levels nets before now held own differs holds own_is differs_is is same =
     let e : same_list same_level (map (level_at now) nets) was ≡ true = ap (λ (l : List Level). same_list same_level l was) now_is ∙ levels_are was in
     absurd (let x : not true ≡ true = ap not (sym e) ∙ sym differs_is ∙ is in cc)
 
-module _ {P : Type 0} (part : Ghosts P) (old : Chips P) (j : ℕ) (nets : List ℕ) (t : ℕ) (p : P) (d : Option ℕ) (ep : slice_get old.parts j ≡ Some p) (ed : slice_get old.dues j ≡ Some d) where
-  -- what is asked for the turn of the chip that stands there
-  pub may_here : MayTurnAt part old j nets t →
-      MayTurn part.machine part.state part.now part.wake_count t d p × (length nets ≡ length (part.machine.drives (part.state p))) × (0 < t → part.machine.held (part.state p) ≡ map (level_at old.levels) nets)
-  may_here may =
-      let at = λ (x : P) (v : Option ℕ). MayTurn part.machine part.state part.now part.wake_count t v x × (length nets ≡ length (part.machine.drives (part.state x)))
-      × (0 < t → part.machine.held (part.state x) ≡ map (level_at old.levels) nets) in
-      subst (at p) (some_same (sym may.due_is ∙ ed)) (subst (λ (x : P). at x may.due) (some_same (sym may.here ∙ ep)) (may.may, may.pins, may.held))
-
-  -- and what its turn leaves
-  pub turned_here : (ls own room : List Level) (differs : Bool) (q : P) (e : Option ℕ) (steps more : ℕ) → own ≡ map (level_at ls) nets →
-      differs ≡ not (same_list same_level (map (level_at ls) nets) (map (level_at old.levels) nets)) → length room ≡ length old.own → TookTurn part (to_wake d t None differs) t own p q e →
-      more ≡ steps + (if to_wake d t None differs then 1 else 0) → TurnedAt part ls old (record { parts = slice_set old.parts j q; dues = slice_set old.dues j e; levels = old.levels; own = room }) j nets t steps more
-  turned_here ls own room differs q e steps more own_is differs_is long took counts = record {
-    chip = q;
-    due = e;
-    parts_are = refl;
-    dues_are = refl;
-    levels_are = refl;
-    own_long = long;
-    took = λ x v ex ev.
-        let at = λ (y : P) (u : Option ℕ) (b : Bool) (l : List Level). TookTurn part (to_wake u t None b) t l y q e × (more ≡ steps + (if to_wake u t None b then 1 else 0)) in
-        subst (λ (y : P). at y v (not (same_list same_level (map (level_at ls) nets) (map (level_at old.levels) nets))) (map (level_at ls) nets)) (some_same (sym ep ∙ ex))
-        (subst (λ (u : Option ℕ). at p u (not (same_list same_level (map (level_at ls) nets) (map (level_at old.levels) nets))) (map (level_at ls) nets)) (some_same (sym ed ∙ ev))
-        (subst (λ (b : Bool). at p d b (map (level_at ls) nets)) differs_is (subst (at p d differs) own_is (took, counts))));
-  }
+-- nets that are lent fit where all do
+pub few_lent : (a b : ℕ) (nets : List ℕ) → length (take a (drop b nets)) ≤ length nets
+few_lent a b nets = let l = length-drop b nets in let t = length-take-most a (drop b nets) in omega (arith, l, t)
+  where
+    length-take-most : (n : ℕ) (xs : List ℕ) → length (take n xs) ≤ length xs
+    length-take-most zero xs = omega arith
+    length-take-most (suc n) [] = omega arith
+    length-take-most (suc n) (x ∷ xs) = (let r = length-take-most n xs in omega (arith, r))
 
 module _ {P : Type 0} (part : Ghosts P) (w : Wiring) (ls : List Level) (t : ℕ) (old : Chips P) (steps : ℕ) where
   abbrev Turns : ℕ → Chips P → ℕ → Type 0
@@ -137,112 +119,72 @@ module _ {P : Type 0} (part : Ghosts P) (w : Wiring) (ls : List Level) (t : ℕ)
         woken = so_far.woken;
       }
 
-  -- a chip that had its turn
-  module _ (i more last : ℕ) (new next : Chips P) (nets : List ℕ) (p : P) (d : Option ℕ) (so_far : Turns i new more) (of : IsChipOf w old.parts i p)
-      (ed : slice_get old.dues (chips_before w i) ≡ Some d) (held : new.levels ≡ old.levels) (are : nets ≡ own_nets w i (length (part.machine.drives (part.state p))))
-      (turn : TurnedAt part ls new next (chips_before w i) nets t more last) where
-    abbrev q : P
-    q = turn.chip
-
-    abbrev f : Option ℕ
-    f = turn.due
-
-    here : slice_get new.parts (chips_before w i) ≡ Some p
-    here = so_far.rest (chips_before w i) (omega arith) ∙ of.1
-
-    abbrev Took : List Level → List ℕ → Type 0
-    Took before ns = TookTurn part (wakes_on part before ls t ns d) t (map (level_at ls) ns) p q f × (last ≡ more + (if wakes_on part before ls t ns d then 1 else 0))
-
-    took : Took old.levels (own_nets w i (length (part.machine.drives (part.state p))))
-    took =
-        let due = so_far.dues_rest (chips_before w i) (omega arith) ∙ ed in
-        subst (λ (before : List Level). Took before (own_nets w i (length (part.machine.drives (part.state p))))) held (subst (Took new.levels) are (turn.took p d here due))
-
-    pub turned_more : Turns (i + 1) next last
-    turned_more = subst (λ (xs : List P). Turns (i + 1) (record next { parts = xs }) last) (sym turn.parts_are)
-        (subst (λ (ds : List (Option ℕ)). Turns (i + 1) (record next { parts = slice_set new.parts (chips_before w i) q; dues = ds }) last) (sym turn.dues_are) all)
-      where
-        e : i + 1 ≡ suc i
-        e = omega arith
-
-        in_new : chips_before w i < length new.parts
-        in_new = slice_get_within new.parts (chips_before w i) p here
-
-        in_dues : chips_before w i < length new.dues
-        in_dues = let l = slice_get_within old.dues (chips_before w i) d ed in let long = so_far.dues_long in omega (arith, l, long)
-
-        one : chip_wake part w ls t old i ≡ (if to_wake d t None (differs_on part w ls old i p) then 1 else 0)
-        one =
-            ap (λ (b : Bool). if b then wake_of part w ls t old i (slice_get old.parts (chips_before w i)) (slice_get old.dues (chips_before w i)) else 0) of.0
-            ∙ ap (λ (o : Option P). wake_of part w ls t old i o (slice_get old.dues (chips_before w i))) of.1
-            ∙ ap (λ (o : Option (Option ℕ)). wake_of part w ls t old i (Some p) o) ed
-
-        all : Turns (i + 1) (record next { parts = slice_set new.parts (chips_before w i) q; dues = slice_set new.dues (chips_before w i) f }) last
-        all =
-            let place = before_next w i true of.0 in
-            let s = so_far.steps_are in
-            let counts : last ≡ more + (if to_wake d t None (differs_on part w ls old i p) then 1 else 0) = took.1 in
-            let sum = ap (λ (x : ℕ). sum_below x (chip_wake part w ls t old)) e in
-            record {
-              long = length-set new.parts (chips_before w i) q ∙ so_far.long;
-              dues_long = length-set new.dues (chips_before w i) f ∙ so_far.dues_long;
-              turns = λ k x y g h l is ey eg eh. elim (lt_or_eq k i (omega (arith, l))) [
-                | inl less ↦
-                    let other : chips_before w k ≢ chips_before w i = (let b = before_below w k i less is.0 in λ z. absurd (omega (arith, b, z))) in
-                    so_far.turns k x y g h less is (sym (get_set_other new.parts (chips_before w i) (chips_before w k) q other) ∙ ey) eg
-                    (sym (get_set_other new.dues (chips_before w i) (chips_before w k) f other) ∙ eh)
-                | inr same ↦
-                    let at : chips_before w k ≡ chips_before w i = ap (chips_before w) same in
-                    let p_is : p ≡ x = some_same (sym of.1 ∙ ap (slice_get old.parts) (sym at) ∙ is.1) in
-                    let d_is : d ≡ g = some_same (sym ed ∙ ap (slice_get old.dues) (sym at) ∙ eg) in
-                    let q_is : q ≡ y = some_same (sym (get_set_same new.parts (chips_before w i) q in_new) ∙ ap (slice_get (slice_set new.parts (chips_before w i) q)) (sym at) ∙ ey) in
-                    let f_is : f ≡ h = some_same (sym (get_set_same new.dues (chips_before w i) f in_dues) ∙ ap (slice_get (slice_set new.dues (chips_before w i) f)) (sym at) ∙ eh) in
-                    let did = λ (n : ℕ) (a b : P) (u v : Option ℕ). TookTurn part (to_wake u t None (differs_on part w ls old n a)) t (levels_on part.machine w ls n (part.state a)) a b v in
-                    subst (λ (n : ℕ). did n x y g h) (sym same) (subst (λ (a : P). did i a y g h) p_is (subst (λ (b : P). did i p b g h) q_is
-                    (subst (λ (u : Option ℕ). did i p q u h) d_is (subst (λ (v : Option ℕ). did i p q d v) f_is took.0))))
-              ];
-              rest = λ j l. get_set_other new.parts (chips_before w i) j q (λ z. absurd (omega (arith, l, place, z))) ∙ so_far.rest j (omega (arith, l, place));
-              dues_rest = λ j l. get_set_other new.dues (chips_before w i) j f (λ z. absurd (omega (arith, l, place, z))) ∙ so_far.dues_rest j (omega (arith, l, place));
-              steps_are = omega (arith, s, one, sum, counts);
-              woken =
-                  let set_is = sum_by-set part.wake_count new.parts (chips_before w i) q p in_new in
-                  let was = ap part.wake_count (get_or_from_slice_get new.parts (chips_before w i) p p here) in
-                  let wake = turn_woken part.machine part.state part.now part.wake_count (to_wake d t None (differs_on part w ls old i p)) t (levels_on part.machine w ls i (part.state p)) None p q took.0.byte true took.0.turn in
-                  let so = so_far.woken in
-                  omega (arith, set_is, was, wake, counts, so);
-            }
-
-  -- the chip of part i, whose turn comes next, and how many pins it has
+  -- the chip of part i, which is as it was
   module _ (i more : ℕ) (new : Chips P) (so_far : Turns i new more) (behind : AreBehind part w t old) (is : is_chip w i ≡ true) where
-    pub chip_next : (p : P) × IsChipOf w old.parts i p × (slice_get new.parts (chips_before w i) ≡ Some p)
-    chip_next = let p = behind.has i is in (p.0, (is, p.1), so_far.rest (chips_before w i) (omega arith) ∙ p.1)
-
-    pub due_next : (d : Option ℕ) × (slice_get old.dues (chips_before w i) ≡ Some d)
-    due_next =
+    pub inside_next : (chips_before w i < length new.parts) × (chips_before w i < length new.dues)
+    inside_next =
         let p = behind.has i is in
-        let within : chips_before w i < length old.dues = (let l = slice_get_within old.parts (chips_before w i) p.0 p.1 in let n = behind.dues_long in omega (arith, l, n)) in
-        (get_or old.dues (chips_before w i) None, get_within old.dues (chips_before w i) None within)
+        let l = slice_get_within old.parts (chips_before w i) p.0 p.1 in
+        let a = so_far.long in
+        let b = so_far.dues_long in
+        let c = behind.dues_long in
+        (omega (arith, l, a), omega (arith, l, b, c))
 
-    pub may_next : (nets : List ℕ) → nets ≡ own_nets w i (length (part.machine.drives (part.state chip_next.0))) → new.levels ≡ old.levels → length new.own ≡ length old.own →
-        (chips_before w i < length new.parts) × (chips_before w i < length new.dues) × (length nets ≤ length new.own) × MayTurnAt part new (chips_before w i) nets t
-    may_next nets are held room =
-        let p = chip_next in
-        let d = due_next in
-        let fit = behind.fit i p.0 p.1 in
-        let pins = ap length are ∙ length_own w i (length (part.machine.drives (part.state p.0))) fit in
-        let own = behind.own_long in
-        let due = so_far.dues_rest (chips_before w i) (omega arith) ∙ d.1 in (
-          slice_get_within new.parts (chips_before w i) p.0 p.2,
-          slice_get_within new.dues (chips_before w i) d.0 due,
-          omega (arith, fit, pins, own, room),
+    module _ (p : P) (d : Option ℕ) (ep : slice_get new.parts (chips_before w i) ≡ Some p) (ed : slice_get new.dues (chips_before w i) ≡ Some d) where
+      of : IsChipOf w old.parts i p
+      of = (is, sym (so_far.rest (chips_before w i) (omega arith)) ∙ ep)
+
+      due : slice_get old.dues (chips_before w i) ≡ Some d
+      due = sym (so_far.dues_rest (chips_before w i) (omega arith)) ∙ ed
+
+      -- what is asked for its turn
+      pub may_next : MayTurn part.machine part.state part.now part.wake_count t d p × (slice_index w.first_pin i + length (part.machine.drives (part.state p)) ≤ length w.net_of)
+          × (0 < t → part.machine.held (part.state p) ≡ levels_on part.machine w old.levels i (part.state p))
+      may_next = (behind.may i p d of due, behind.fit i p of, λ later. behind.held later i p of)
+
+      one : chip_wake part w ls t old i ≡ (if to_wake d t None (differs_on part w ls old i p) then 1 else 0)
+      one =
+          ap (λ (b : Bool). if b then wake_of part w ls t old i (slice_get old.parts (chips_before w i)) (slice_get old.dues (chips_before w i)) else 0) is
+          ∙ ap (λ (o : Option P). wake_of part w ls t old i o (slice_get old.dues (chips_before w i))) of.1
+          ∙ ap (λ (o : Option (Option ℕ)). wake_of part w ls t old i (Some p) o) due
+
+      -- and what it leaves
+      pub turned_more : (q : P) (f : Option ℕ) (last : ℕ) (own : List Level) → TookTurn part (to_wake d t None (differs_on part w ls old i p)) t (levels_on part.machine w ls i (part.state p)) p q f →
+          last ≡ more + (if to_wake d t None (differs_on part w ls old i p) then 1 else 0) →
+          Turns (i + 1) (record { parts = slice_set new.parts (chips_before w i) q; dues = slice_set new.dues (chips_before w i) f; levels = new.levels; own = own }) last
+      turned_more q f last own took counts =
+          let e : i + 1 ≡ suc i = omega arith in
+          let in_new = inside_next.0 in
+          let in_dues = inside_next.1 in
+          let place = before_next w i true is in
+          let s = so_far.steps_are in
+          let wake = one in
+          let sum = ap (λ (x : ℕ). sum_below x (chip_wake part w ls t old)) e in
           record {
-            chip = p.0;
-            due = d.0;
-            here = p.2;
-            due_is = due;
-            may = behind.may i p.0 d.0 p.1 d.1;
-            pins = pins;
-            held = λ later.
-                behind.held later i p.0 p.1 ∙ ap (map (level_at old.levels)) (sym are) ∙ ap (λ (l : List Level). map (level_at l) nets) (sym held);
-          },
-        )
+            long = length-set new.parts (chips_before w i) q ∙ so_far.long;
+            dues_long = length-set new.dues (chips_before w i) f ∙ so_far.dues_long;
+            turns = λ k x y g h l is_x ey eg eh. elim (lt_or_eq k i (omega (arith, l))) [
+              | inl less ↦
+                  let other : chips_before w k ≢ chips_before w i = (let b = before_below w k i less is_x.0 in λ z. absurd (omega (arith, b, z))) in
+                  so_far.turns k x y g h less is_x (sym (get_set_other new.parts (chips_before w i) (chips_before w k) q other) ∙ ey) eg
+                  (sym (get_set_other new.dues (chips_before w i) (chips_before w k) f other) ∙ eh)
+              | inr same ↦
+                  let at : chips_before w k ≡ chips_before w i = ap (chips_before w) same in
+                  let p_is : p ≡ x = some_same (sym of.1 ∙ ap (slice_get old.parts) (sym at) ∙ is_x.1) in
+                  let d_is : d ≡ g = some_same (sym due ∙ ap (slice_get old.dues) (sym at) ∙ eg) in
+                  let q_is : q ≡ y = some_same (sym (get_set_same new.parts (chips_before w i) q in_new) ∙ ap (slice_get (slice_set new.parts (chips_before w i) q)) (sym at) ∙ ey) in
+                  let f_is : f ≡ h = some_same (sym (get_set_same new.dues (chips_before w i) f in_dues) ∙ ap (slice_get (slice_set new.dues (chips_before w i) f)) (sym at) ∙ eh) in
+                  let did = λ (n : ℕ) (a b : P) (u v : Option ℕ). TookTurn part (to_wake u t None (differs_on part w ls old n a)) t (levels_on part.machine w ls n (part.state a)) a b v in
+                  subst (λ (n : ℕ). did n x y g h) (sym same) (subst (λ (a : P). did i a y g h) p_is (subst (λ (b : P). did i p b g h) q_is
+                  (subst (λ (u : Option ℕ). did i p q u h) d_is (subst (λ (v : Option ℕ). did i p q d v) f_is took))))
+            ];
+            rest = λ j l. get_set_other new.parts (chips_before w i) j q (λ z. absurd (omega (arith, l, place, z))) ∙ so_far.rest j (omega (arith, l, place));
+            dues_rest = λ j l. get_set_other new.dues (chips_before w i) j f (λ z. absurd (omega (arith, l, place, z))) ∙ so_far.dues_rest j (omega (arith, l, place));
+            steps_are = omega (arith, s, wake, sum, counts);
+            woken =
+                let set_is = sum_by-set part.wake_count new.parts (chips_before w i) q p in_new in
+                let was = ap part.wake_count (get_or_from_slice_get new.parts (chips_before w i) p p ep) in
+                let turn = turn_woken part.machine part.state part.now part.wake_count (to_wake d t None (differs_on part w ls old i p)) t (levels_on part.machine w ls i (part.state p)) None p q took.byte true took.turn in
+                let so = so_far.woken in
+                omega (arith, set_is, was, turn, counts, so);
+          }

@@ -36,10 +36,10 @@ sum_each f rise old new long each (suc i) l =
     omega (arith, a, b, at_a, at_b, next_a, next_b, e, rest)
 
 -- the parts of a board
-pub board_woken : {S P : Type 0} (m : Machine S) (w : Wiring) (inputs : List Input) (state : P → S) (wakes : P → ℕ) (old new : List P) (c n steps more : ℕ) → map state new ≡ states m w inputs (map state old) c n →
-    ((k : ℕ) (p q : P) → slice_get old k ≡ Some p → slice_get new k ≡ Some q → wakes q ≡ wakes p + active_cycles m w inputs (map state old) c n k) → more ≡ steps + active_pairs m w inputs (map state old) c n →
-    sum_by wakes new + steps ≡ sum_by wakes old + more
-board_woken m w inputs state wakes old new c n steps more moved each counts =
+pub board_woken : {S P : Type 0} (m : Machine S) (w : Wiring) (inputs : List Input) (state : P → S) (wakes : P → ℕ) (old new : List P) (c n : ℕ) → map state new ≡ states m w inputs (map state old) c n →
+    ((k : ℕ) (p q : P) → slice_get old k ≡ Some p → slice_get new k ≡ Some q → wakes q ≡ wakes p + active_cycles m w inputs (map state old) c n k) →
+    sum_by wakes new ≡ sum_by wakes old + active_pairs m w inputs (map state old) c n
+board_woken m w inputs state wakes old new c n moved each =
     let a : length (map state old) ≡ length old = simp length-map refl in
     let b : length (map state new) ≡ length new = simp length-map refl in
     let long : length new ≡ length old = sym b ∙ ap length moved ∙ length-states m w inputs (map state old) c n ∙ a in
@@ -49,7 +49,7 @@ board_woken m w inputs state wakes old new c n steps more moved each counts =
     let whole_new = ap (sum_by wakes) (take_whole (length old) new (omega (arith, long))) in
     let pairs = pairs_by_parts m w inputs (map state old) c n in
     let sized = ap (λ (k : ℕ). sum_below k rise) a in
-    omega (arith, all, whole_old, whole_new, pairs, sized, counts)
+    omega (arith, all, whole_old, whole_new, pairs, sized)
 
 -- a turn is one wake or none
 pub turn_woken : {S P : Type 0} (m : Machine S) (state : P → S) (now wakes : P → ℕ) (wake : Bool) (t : ℕ) (own : List Level) (input : Option ℕ) (p q : P) (byte : Option ℕ) (changed : Bool) →

@@ -1,13 +1,13 @@
 -- A twin on its way: a board, and beside it the chips of a second one, each left behind where it was woken last. No public clause
 -- cites this.
-use Rattle.std.specs.Prelude.{◌≡◌, ℕ, ◌+◌, ◌-◌, ◌<◌, ◌≤◌, List, length, map, Bool, not, true, false, Option, None, Some, slice_get, slice_set, slice_index, if◌then◌else◌}
+use Rattle.std.specs.Prelude.{◌≡◌, ℕ, ◌+◌, ◌-◌, ◌<◌, ◌≤◌, List, length, map, Bool, not, true, false, Option, None, Some, slice_get, slice_index, if◌then◌else◌}
 use Rattle.std.specs.List.{sum_by}
 use Rattle.sim_base.specs.declared.signal.Level.{Level}
 use Rattle.sim_base.specs.declared.wiring.Wiring.{Wiring}
 use Rattle.sim_base.specs.declared.wiring.Input.{Input}
 use Rattle.part_law.specs.Machine.{IsFirstDue}
 use Rattle.part_law.specs.declared.part.Part.{Ghosts}
-use Rattle.board_model.specs.Board.{level_at, levels_of, states}
+use Rattle.board_model.specs.Board.{levels_of, states}
 use Rattle.board_model.specs.Rows.{same_list, same_level}
 use Rattle.board_laws.specs.Active.{active_in, active_pairs, sum_below}
 use Rattle.board_laws.specs.FirstDiff.{Difference, part_diff, stepped_beside, first_beside}
@@ -19,7 +19,7 @@ use Rattle.board_run.specs.Lagging.{MayTurn, to_wake, turned}
 use Rattle.board_run.specs.Seen.{levels_on}
 use Rattle.twin_run.specs.declared.beside.Beside.{Beside}
 use Rattle.twin_run.specs.declared.chips.Chips.{Chips}
-use Rattle.twin_run.specs.Twins.{AreTwins, TwinView, other_states, wakes_in}
+use Rattle.twin_run.specs.Twins.{AreTwins, TwinView, other_states}
 
 abbrev pub view_of : {P : Type 0} → Beside P → TwinView P
 view_of b = record { board = b.board; chips = b.chips.parts }
@@ -41,31 +41,6 @@ module _ {P : Type 0} (part : Ghosts P) where
     pub turn : turned part.machine part.state part.now part.wake_count wake t own None p q byte true
     pub first : IsFirstDue part.machine (part.state q) (part.now q) e
 
-  -- whether it is woken on these levels of its nets, where it holds those
-  abbrev pub wakes_on : List Level → List Level → ℕ → List ℕ → Option ℕ → Bool
-  wakes_on before ls t nets d = to_wake d t None (not (same_list same_level (map (level_at ls) nets) (map (level_at before) nets)))
-
-  -- The chip at place j may have its turn: it was left behind, and holds the levels that were kept of its nets.
-  pub record MayTurnAt (c : Chips P) (j : ℕ) (nets : List ℕ) (t : ℕ) : Type 0 where
-    pub chip : P
-    pub due : Option ℕ
-    pub here : slice_get c.parts j ≡ Some chip
-    pub due_is : slice_get c.dues j ≡ Some due
-    pub may : MayTurn part.machine part.state part.now part.wake_count t due chip
-    pub pins : length nets ≡ length (part.machine.drives (part.state chip))
-    pub held : 0 < t → part.machine.held (part.state chip) ≡ map (level_at c.levels) nets
-
-  -- and had it
-  pub record TurnedAt (ls : List Level) (old new : Chips P) (j : ℕ) (nets : List ℕ) (t steps more : ℕ) : Type 0 where
-    pub chip : P
-    pub due : Option ℕ
-    pub parts_are : new.parts ≡ slice_set old.parts j chip
-    pub dues_are : new.dues ≡ slice_set old.dues j due
-    pub levels_are : new.levels ≡ old.levels
-    pub own_long : length new.own ≡ length old.own
-    pub took : (p : P) (d : Option ℕ) → slice_get old.parts j ≡ Some p → slice_get old.dues j ≡ Some d →
-        TookTurn (wakes_on old.levels ls t nets d) t (map (level_at ls) nets) p chip due × (more ≡ steps + (if wakes_on old.levels ls t nets d then 1 else 0))
-
   module _ (w : Wiring) where
     -- each stands for the state of its part at cycle t
     abbrev pub ChipsStand : ℕ → List P → List part.State → Type 0
@@ -85,8 +60,8 @@ module _ {P : Type 0} (part : Ghosts P) where
       pub same_wiring : new.wiring ≡ old.wiring
       pub same_inputs : new.inputs ≡ old.inputs
       pub states_are : map part.state new.parts ≡ states part.machine w inputs (map part.state old.parts) old.cycle (new.cycle - old.cycle)
+      pub woken : sum_by part.wake_count new.parts ≡ sum_by part.wake_count old.parts + active_pairs part.machine w inputs (map part.state old.parts) old.cycle (new.cycle - old.cycle)
       pub steps_are : more ≡ steps + active_pairs part.machine w inputs (map part.state old.parts) old.cycle (new.cycle - old.cycle)
-      pub woken : sum_by part.wake_count new.parts + steps ≡ sum_by part.wake_count old.parts + more
 
     -- Each part that is a chip has one, which may be left behind up to cycle t and holds the levels that were kept.
     pub record AreBehind (t : ℕ) (c : Chips P) : Type 0 where
@@ -141,22 +116,35 @@ module _ {P : Type 0} (part : Ghosts P) where
     abbrev pub beside_pairs : ℕ → ℕ
     beside_pairs n = sum_below n (λ t. sum_below (length (other_states part.state start)) (active_beside t))
 
-    -- A twin on its way from its start, of which nothing differed before.
+    abbrev pub own_pairs : ℕ → ℕ
+    own_pairs n = active_pairs part.machine start.board.wiring start.board.inputs (map part.state start.board.parts) 0 n
+
+    -- The first board at its cycle.
+    pub record BoardAt (b : BoardView P) : Type 0 where
+      pub alive : b.given_up ≡ false
+      pub same_wiring : b.wiring ≡ start.board.wiring
+      pub same_inputs : b.inputs ≡ start.board.inputs
+      pub states_are : map part.state b.parts ≡ own_at b.cycle
+      pub woken : sum_by part.wake_count b.parts ≡ sum_by part.wake_count start.board.parts + own_pairs b.cycle
+
+    -- The second one's chips beside it at cycle t, where nothing differed before.
+    pub record ChipsAt (t : ℕ) (c : Chips P) : Type 0 where
+      pub behind : AreBehind start.board.wiring t c
+      pub stand : ChipsStand start.board.wiring t c.parts (beside_at t)
+      -- the board's chips hold the same levels
+      pub of_board : 0 < t → (k : ℕ) (s : part.State) → is_chip start.board.wiring k ≡ true → slice_get (own_at t) k ≡ Some s →
+          part.machine.held s ≡ levels_on part.machine start.board.wiring c.levels k s
+      pub none : first_beside part.machine start.board.wiring start.board.inputs (map part.state start.board.parts) (other_states part.state start) 0 t ≡ None
+
+    -- A twin on its way from its start, with so many wakes of the chips.
     pub record Abreast (b : Beside P) (steps more : ℕ) : Type 0 where
       pub twins : AreTwins part.machine part.state part.now part.wake_count start
-      pub alive : b.board.given_up ≡ false
-      pub same_wiring : b.board.wiring ≡ start.board.wiring
-      pub same_inputs : b.board.inputs ≡ start.board.inputs
-      pub states_are : map part.state b.board.parts ≡ own_at b.board.cycle
-      pub behind : AreBehind start.board.wiring b.board.cycle b.chips
-      pub stand : ChipsStand start.board.wiring b.board.cycle b.chips.parts (beside_at b.board.cycle)
-      -- the board's chips hold the same levels
-      pub of_board : 0 < b.board.cycle → (k : ℕ) (s : part.State) → is_chip start.board.wiring k ≡ true → slice_get (own_at b.board.cycle) k ≡ Some s →
-          part.machine.held s ≡ levels_on part.machine start.board.wiring b.chips.levels k s
-      pub none : first_beside part.machine start.board.wiring start.board.inputs (map part.state start.board.parts) (other_states part.state start) 0 b.board.cycle ≡ None
-      pub rose : steps ≤ more
-      pub steps_are : more ≤ steps + active_pairs part.machine start.board.wiring start.board.inputs (map part.state start.board.parts) 0 b.board.cycle + beside_pairs b.board.cycle
-      pub woken : sum_by part.wake_count b.board.parts + sum_by part.wake_count b.chips.parts + steps ≡ wakes_in part.wake_count start + more
+      pub board : BoardAt b.board
+      pub chips : ChipsAt b.board.cycle b.chips
+      pub wakes : ℕ
+      pub woken : sum_by part.wake_count b.chips.parts ≡ sum_by part.wake_count start.chips + wakes
+      pub most : wakes ≤ beside_pairs b.board.cycle
+      pub counted : more ≡ steps + own_pairs b.board.cycle + wakes
 
   -- from wherever it started
   pub record OnWay (b : Beside P) (more : ℕ) : Type 0 where

@@ -3,7 +3,7 @@ ghost use Rattle.std.specs.Prelude.{◌≡◌, ◌≢◌, ℕ, ◌+◌, ◌<◌,
 ghost use Rattle.board_model.specs.Board.{level_at};
 ghost use Rattle.board_model.specs.Rows.{same_level, same_list};
 ghost use Rattle.board_run.specs.Lagging.{AreDue, MayTurn, to_wake};
-ghost use Rattle.twin_run.specs.Beside.{AreBehind, ChipsTurned, MayTurnAt, TookTurn, TurnedAt};
+ghost use Rattle.twin_run.specs.Beside.{AreBehind, ChipsTurned, TookTurn};
 
 use board_run::level_of_net;
 use part_law::Part;
@@ -43,6 +43,13 @@ fn read_levels(nets: &[u16], before: &[Level], now: &[Level], own: &mut List<Lev
         *own.item_mut(i) = level;
     }
     !same
+}
+
+fn first_of(levels: &[Level], count: usize) -> &[Level]
+    requires { count ≤ length levels.now }
+    ensures { result.now ≡ take count levels.now }
+{
+    &levels[..count]
 }
 
 /// Whether a chip is woken in a cycle: it is due, or a level on its pins differs from the one that it holds.
@@ -113,27 +120,6 @@ pub(crate) fn ask_dues<P: Part>(chips: &[P], dues: &mut List<Option<u32>>)
 }
 
 impl<P: Part> Chips<P> {
-    /// The turn of the chip at a place in a cycle, on the levels of the nets of its pins.
-    fn turn_chip<L: Ledger>(
-        &mut self,
-        j: usize,
-        nets: &[u16],
-        now: &[Level],
-        t: u32,
-        steps: &mut Steps<L>,
-    )
-        requires end { t < MOST_CYCLES }
-        requires room { (j < length self.old.parts) × (j < length self.old.dues) × (length nets.now ≤ length self.old.own) }
-        requires may { MayTurnAt P.Part self.old j nets.now t }
-        ensures { TurnedAt P.Part now.now self.old self.new j nets.now t steps.old steps.new }
-    {
-        let differs = read_levels(nets, self.levels.as_slice(), now, &mut self.own);
-        let mut due = self.dues.as_slice()[j];
-        let own = &self.own.as_slice()[..nets.len()];
-        take_turn(self.parts.item_mut(j), &mut due, own, differs, t, steps);
-        *self.dues.item_mut(j) = due;
-    }
-
     /// Gives each its turn in a cycle, on the levels that the board had in it.
     pub(crate) fn turn<L: Ledger>(
         &mut self,
@@ -156,7 +142,12 @@ impl<P: Part> Chips<P> {
             if wiring.chip.as_slice()[k] {
                 let first = wiring.first_pin.as_slice()[k] as usize;
                 let pins = self.parts.as_slice()[j].pins() as usize;
-                self.turn_chip(j, &net_of[first..first + pins], now, t, steps);
+                let nets = &net_of[first..first + pins];
+                let differs = read_levels(nets, self.levels.as_slice(), now, &mut self.own);
+                let mut due = self.dues.as_slice()[j];
+                let own = first_of(self.own.as_slice(), nets.len());
+                take_turn(self.parts.item_mut(j), &mut due, own, differs, t, steps);
+                *self.dues.item_mut(j) = due;
                 j += 1;
             }
         }

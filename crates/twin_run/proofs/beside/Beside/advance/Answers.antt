@@ -2,10 +2,10 @@ use Rattle.std.proofs.Common.{arith}
 use Rattle.twin_run.proofs.beside.Beside.advance.Goals as goal
 
 pub cycle-t-requires : goal.cycle-t-requires
-cycle-t-requires g c = c.requires.way.is.alive
+cycle-t-requires g c = c.requires.way.is.board.alive
 
 pub cycle-requires : goal.cycle-requires
-cycle-requires g c = let x = c.requires.way in (c.go_still.ensures.went x.start x.steps x.is).alive
+cycle-requires g c = let x = c.requires.way in (c.go_still.ensures.went x.start x.steps x.is).board.alive
 
 pub step-requires : goal.step-requires
 step-requires g c =

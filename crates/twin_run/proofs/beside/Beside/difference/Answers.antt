@@ -9,10 +9,10 @@ use Rattle.twin_run.proofs.AbreastLemmas.{comparable}
 use Rattle.twin_run.proofs.beside.Beside.difference.Goals as goal
 
 pub parts-requires : goal.parts-requires
-parts-requires g c = c.requires.1.is.alive
+parts-requires g c = c.requires.1.is.board.alive
 
 pub cycle-t-requires : goal.cycle-t-requires
-cycle-t-requires g c = c.requires.1.is.alive
+cycle-t-requires g c = c.requires.1.is.board.alive
 
 pub difference-requires : goal.difference-requires
 difference-requires g c =

@@ -7,11 +7,11 @@ use Rattle.twin_run.proofs.WakesLemmas.{board_woken}
 use Rattle.twin_run.proofs.beside.Beside.go_still.Goals as goal
 
 pub cycle-t-requires : goal.cycle-t-requires
-cycle-t-requires g c = c.requires.way.is.alive
+cycle-t-requires g c = c.requires.way.is.board.alive
 
 pub run_still-requires : goal.run_still-requires
 run_still-requires g c = record {
-  alive = c.requires.way.is.alive;
+  alive = c.requires.way.is.board.alive;
   order = subst (λ (t : ℕ). t < c.least_due-next.result) c.cycle-t.ensures c.if-t-next.true;
   end = omega (arith, c.least_due-next.ensures.within, c.requires.end);
 }
@@ -33,7 +33,7 @@ returns-then-t-next g c =
       same_inputs = e.inputs;
       states_are = e.states;
       steps_are = e.steps;
-      woken = board_woken p.machine b.wiring b.inputs p.state p.wake_count b.parts new.parts b.cycle (new.cycle - b.cycle) c.args.steps.now last e.states e.woken e.steps;
+      woken = board_woken p.machine b.wiring b.inputs p.state p.wake_count b.parts new.parts b.cycle (new.cycle - b.cycle) e.states e.woken;
     } in
     let due = subst (λ (ds : List (Option ℕ)). (j u : ℕ) → slice_get ds j ≡ Some (Some u) → c.least_due-next.result ≤ u) c.as_slice.ensures c.least_due-next.ensures.due in
     let near : new.cycle ≤ c.least_due-next.result = e.within in

@@ -4,7 +4,7 @@ use Rattle.board_run.specs.Lagging.{AreDue}
 use Rattle.twin_run.specs.Beside.{difference_of, view_of}
 use Rattle.twin_run.specs.Twins.{IsTwin, cycle_of, differs, other_states}
 use Rattle.twin_run.specs.declared.twin.TwinEnd.{TwinEnd}
-use Rattle.twin_run.proofs.AbreastLemmas.{abreast_start, ends_differ, ends_same, room_kept}
+use Rattle.twin_run.proofs.AbreastLemmas.{abreast_start, all_woken, ends_differ, ends_same, room_kept}
 use Rattle.twin_run.proofs.DifferenceLemmas.{answer_of, no_answer}
 use Rattle.twin_run.proofs.beside.Beside.run.Goals as goal
 
@@ -21,7 +21,7 @@ loop-self-init g c =
     }
 
 pub cycle-requires : goal.cycle-requires
-cycle-requires g c = c.loop-self.invariant.abreast.alive
+cycle-requires g c = c.loop-self.invariant.abreast.board.alive
 
 pub difference-requires : goal.difference-requires
 difference-requires g c = (c.loop-self.steps, record { start = view_of c.args.self.now; steps = c.args.steps.now; is = c.loop-self.invariant.abreast })
@@ -41,7 +41,7 @@ returns-in-Some g c =
       twin = λ free.
           subst (λ (e : TwinEnd). IsTwin p.machine b.board.wiring b.board.inputs (map p.state b.board.parts) (other_states p.state (view_of b)) c.args.n e c.args.steps.now l.steps) d.2
           (ends_differ p g.met.P.Part.laws (view_of b) l.self c.args.steps.now l.steps is free c.args.n d.0 less d.1 at);
-      woken = is.woken;
+      woken = all_woken p g.met.P.Part.laws (view_of b) l.self c.args.steps.now l.steps is;
     }
 
 pub advance-requires : goal.advance-requires
@@ -70,5 +70,5 @@ returns g c =
     record {
       room = room_kept p g.met.P.Part.laws (view_of b) l.self c.args.steps.now l.steps is;
       twin = λ free. ends_same p g.met.P.Part.laws (view_of b) l.self c.args.steps.now l.steps is free c.args.n at;
-      woken = is.woken;
+      woken = all_woken p g.met.P.Part.laws (view_of b) l.self c.args.steps.now l.steps is;
     }

@@ -1,4 +1,5 @@
 use Rattle.std.proofs.Common.{◌≡◌, ◌+◌, ◌-◌, ◌∙◌, ℕ, ap, sym, refl, subst, map, length, arith, None, Some}
+use Rattle.std.specs.List.{sum_by}
 use Rattle.sim_base.specs.declared.wiring.Wiring.{Wiring}
 use Rattle.board_model.specs.Board.{states}
 use Rattle.board_model.specs.Rows.{shown_of}
@@ -9,10 +10,10 @@ use Rattle.twin_run.proofs.WakesLemmas.{board_woken}
 use Rattle.twin_run.proofs.beside.Beside.step.Goals as goal
 
 pub cycle-t-requires : goal.cycle-t-requires
-cycle-t-requires g c = c.requires.way.is.alive
+cycle-t-requires g c = c.requires.way.is.board.alive
 
 pub run-requires-clause-alive : goal.run-requires-clause-alive
-run-requires-clause-alive g c = c.requires.way.is.alive
+run-requires-clause-alive g c = c.requires.way.is.board.alive
 
 pub run-requires-clause-later : goal.run-requires-clause-later
 run-requires-clause-later g c = λ u eu. absurd (let x : None ≡ Some u = sym c.new.ensures ∙ eu in cc)
@@ -63,7 +64,8 @@ returns g c =
       same_inputs = e.inputs;
       states_are = states_are;
       steps_are = steps_are;
-      woken = board_woken m b.wiring b.inputs p.state p.wake_count b.parts new.parts b.cycle (t + 1 - b.cycle) c.args.steps.now c.run.new.steps (e.states refl) (e.woken refl) (e.steps refl);
+      woken = board_woken m b.wiring b.inputs p.state p.wake_count b.parts new.parts b.cycle (t + 1 - b.cycle) (e.states refl) (e.woken refl)
+          ∙ ap (λ (n : ℕ). sum_by p.wake_count b.parts + active_pairs m b.wiring b.inputs ss b.cycle (n - b.cycle)) (sym next);
     } in
     let shown = e.before refl ∙ shown_once m b.wiring ss b.inputs t b.cycle b.before (sym at) in
     let read = c.levels.ensures (shown_of m b.wiring ss) shown in
