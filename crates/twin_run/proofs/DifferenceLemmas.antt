@@ -1,8 +1,8 @@
 -- The first difference of two sets of chips, part by part and pin by pin.
-use Rattle.std.proofs.Common.{◌≡◌, ℕ, suc, ◌+◌, ◌≤◌, List, [], ◌∷◌, ◌∙◌, length, drop, Bool, true, false, Option, None, Some, refl, ap, sym, arith}
+use Rattle.std.proofs.Common.{◌≡◌, ℕ, suc, ◌+◌, List, [], ◌∷◌, ◌∙◌, length, drop, Bool, true, false, Option, None, Some, refl, ap, sym, arith}
 use Rattle.std.specs.Prelude.{slice_get, if◌then◌else◌}
 use Rattle.std.specs.Option.{option_or, option_map}
-use Rattle.std.proofs.lemmas.List.{drop_more, drop_all}
+use Rattle.std.proofs.lemmas.List.{drop_more}
 use Rattle.std.proofs.lemmas.Option.{get_or_from_slice_get, slice_get_within}
 use Rattle.sim_base.specs.declared.signal.Drive.{Drive}
 use Rattle.sim_base.specs.declared.wiring.Wiring.{Wiring}
@@ -46,9 +46,6 @@ pub pins_more : (xs ys : List Drive) (k : ℕ) (x y : Drive) → slice_get xs k 
     pin_diff k (drop k xs) (drop k ys) ≡ (if same_drive x y then pin_diff (k + 1) (drop (k + 1) xs) (drop (k + 1) ys) else Some (k, x, y))
 pins_more xs ys k x y ex ey =
     ap (λ (l : List Drive). pin_diff k l (drop k ys)) (drop_here xs k x ex) ∙ ap (λ (l : List Drive). pin_diff k (x ∷ drop (k + 1) xs) l) (drop_here ys k y ey)
-
-pub pins_end : (xs ys : List Drive) (k : ℕ) → length xs ≤ k → pin_diff k (drop k xs) (drop k ys) ≡ None
-pins_end xs ys k h = ap (λ (l : List Drive). pin_diff k l (drop k ys)) (drop_all k xs h)
 
 -- part by part, where zs are the other board's chips
 module _ {S : Type 0} (m : Machine S) (w : Wiring) (t : ℕ) (xs zs : List S) where
@@ -94,9 +91,6 @@ module _ {S : Type 0} (m : Machine S) (w : Wiring) (t : ℕ) (xs zs : List S) wh
       go (c ∷ l) =
           ap (λ (b : Bool). part_diff m w t k (x ∷ drop (k + 1) xs) (if b then c ∷ with_chips_from w (k + 1) (drop (k + 1) xs) l else x ∷ with_chips_from w (k + 1) (drop (k + 1) xs) (c ∷ l))) none
           ∙ ap (λ (b : Bool). option_or (if b then found k (pin_diff 0 (m.drives x) (m.drives x)) else None) (part_diff m w t (k + 1) (drop (k + 1) xs) (with_chips_from w (k + 1) (drop (k + 1) xs) (c ∷ l)))) none
-
-  pub from_end : (k j : ℕ) → length xs ≤ k → from k j ≡ None
-  from_end k j h = ap (λ (l : List S). part_diff m w t k l (with_chips_from w k l (drop j zs))) (drop_all k xs h)
 
 -- what an answer was made of
 pub no_answer : (o : Option Difference) → None ≡ option_map differs o → o ≡ None

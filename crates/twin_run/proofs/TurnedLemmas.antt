@@ -2,7 +2,7 @@
 use Rattle.std.proofs.Common.{◌≡◌, ◌≢◌, inl, inr, ℕ, zero, suc, ◌+◌, ◌-◌, ◌<◌, ◌≤◌, List, [], ◌∷◌, ◌∙◌, length, map, take, drop, Bool, true, false, Option, None, Some, refl, ap, sym, arith, subst, get_or, length-set, length-drop, length-take-le}
 use Rattle.std.specs.Prelude.{slice_get, slice_index, slice_set, ◌&&◌, not, if◌then◌else◌}
 use Rattle.std.proofs.lemmas.List.Sums.{sum_by-set}
-use Rattle.std.proofs.lemmas.Option.{get_or_from_slice_get, slice_get-get_or, slice_get_within}
+use Rattle.std.proofs.lemmas.Option.{get_or_from_slice_get, slice_get-get_or, slice_get_within, unwrap_or-slice_get}
 use Rattle.sim_base.specs.declared.signal.Level.{Level}
 use Rattle.sim_base.specs.declared.wiring.Wiring.{Wiring}
 use Rattle.part_law.specs.declared.part.Part.{Ghosts}
@@ -45,11 +45,9 @@ before_after w k (suc j) is = let e : k + 1 + suc j ≡ suc (k + 1 + j) = omega 
 before_below : (w : Wiring) (k i : ℕ) → k < i → is_chip w k ≡ true → chips_before w k < chips_before w i
 before_below w k i less is = let e : k + 1 + (i - (k + 1)) ≡ i = omega (arith, less) in subst (λ (x : ℕ). chips_before w k < chips_before w x) e (before_after w k (i - (k + 1)) is)
 
--- the nets that are lent to the pins of a part
-pub nets_lent : (w : Wiring) (k first pins n : ℕ) (nets : List ℕ) → nets ≡ w.net_of → first ≡ slice_index w.first_pin k → pins ≡ n → take (first + pins - first) (drop first nets) ≡ own_nets w k n
-nets_lent w k first pins n nets are at count =
-    let e : first + pins - first ≡ n = omega (arith, count) in
-    ap (λ (i : ℕ). take i (drop first nets)) e ∙ ap (λ (i : ℕ). take n (drop i nets)) at ∙ ap (λ (l : List ℕ). take n (drop (slice_index w.first_pin k) l)) are
+-- what the wiring tells of a part
+pub chip_is : (w : Wiring) (k : ℕ) {b : Bool} (chips : List Bool) → chips ≡ w.chip → get_or chips k false ≡ b → is_chip w k ≡ b
+chip_is w k chips same read = unwrap_or-slice_get w.chip k false ∙ ap (λ (l : List Bool). get_or l k false) (sym same) ∙ read
 
 pub length_own : (w : Wiring) (k n : ℕ) → slice_index w.first_pin k + n ≤ length w.net_of → length (own_nets w k n) ≡ n
 length_own w k n room =
@@ -119,28 +117,42 @@ module _ {P : Type 0} (part : Ghosts P) (w : Wiring) (ls : List Level) (t : ℕ)
         woken = so_far.woken;
       }
 
-  -- the chip of part i, which is as it was
-  module _ (i more : ℕ) (new : Chips P) (so_far : Turns i new more) (behind : AreBehind part w t old) (is : is_chip w i ≡ true) where
-    pub inside_next : (chips_before w i < length new.parts) × (chips_before w i < length new.dues)
+  -- the chip of part i, which stands at place j as it was
+  module _ (i j more : ℕ) (new : Chips P) (so_far : Turns i new more) (behind : AreBehind part w t old) (is : is_chip w i ≡ true) (place : j ≡ chips_before w i) where
+    pub inside_next : (j < length new.parts) × (j < length new.dues)
     inside_next =
         let p = behind.has i is in
         let l = slice_get_within old.parts (chips_before w i) p.0 p.1 in
         let a = so_far.long in
         let b = so_far.dues_long in
         let c = behind.dues_long in
-        (omega (arith, l, a), omega (arith, l, b, c))
+        (omega (arith, l, a, place), omega (arith, l, b, c, place))
 
-    module _ (p : P) (d : Option ℕ) (ep : slice_get new.parts (chips_before w i) ≡ Some p) (ed : slice_get new.dues (chips_before w i) ≡ Some d) where
+    module _ (p : P) (dues : List (Option ℕ)) (here : slice_get new.parts j ≡ Some p) (same : dues ≡ new.dues) where
+      abbrev d : Option ℕ
+      d = get_or dues j None
+
       of : IsChipOf w old.parts i p
-      of = (is, sym (so_far.rest (chips_before w i) (omega arith)) ∙ ep)
+      of = (is, sym (so_far.rest (chips_before w i) (omega arith)) ∙ ap (slice_get new.parts) (sym place) ∙ here)
 
       due : slice_get old.dues (chips_before w i) ≡ Some d
-      due = sym (so_far.dues_rest (chips_before w i) (omega arith)) ∙ ed
+      due = sym (so_far.dues_rest (chips_before w i) (omega arith)) ∙ ap (slice_get new.dues) (sym place)
+          ∙ slice_get-get_or new.dues j None inside_next.1 ∙ ap (λ (ds : List (Option ℕ)). Some (get_or ds j None)) (sym same)
 
       -- what is asked for its turn
       pub may_next : MayTurn part.machine part.state part.now part.wake_count t d p × (slice_index w.first_pin i + length (part.machine.drives (part.state p)) ≤ length w.net_of)
           × (0 < t → part.machine.held (part.state p) ≡ levels_on part.machine w old.levels i (part.state p))
       may_next = (behind.may i p d of due, behind.fit i p of, λ later. behind.held later i p of)
+
+      -- the nets of its pins are lent
+      pub nets_next : (parts : List P) (firsts net_of : List ℕ) (y : P) (pins : ℕ) → parts ≡ new.parts → firsts ≡ w.first_pin → net_of ≡ w.net_of → y ≡ get_or parts j y → pins ≡ length (part.machine.drives (part.state y)) →
+          take (get_or firsts i 0 + pins - get_or firsts i 0) (drop (get_or firsts i 0) net_of) ≡ own_nets w i (length (part.machine.drives (part.state p)))
+      nets_next parts firsts net_of y pins parts_are firsts_are nets_are read count =
+          let first : ℕ = get_or firsts i 0 in
+          let y_is : y ≡ p = read ∙ ap (λ (xs : List P). get_or xs j y) parts_are ∙ get_or_from_slice_get new.parts j p y here in
+          let n : ℕ = length (part.machine.drives (part.state p)) in
+          let pins_are : first + pins - first ≡ n = (let c = count ∙ ap (λ (x : P). length (part.machine.drives (part.state x))) y_is in omega (arith, c)) in
+          ap (λ (k : ℕ). take k (drop first net_of)) pins_are ∙ ap (λ (l : List ℕ). take n (drop first l)) nets_are ∙ ap (λ (l : List ℕ). take n (drop (get_or l i 0) w.net_of)) firsts_are
 
       one : chip_wake part w ls t old i ≡ (if to_wake d t None (differs_on part w ls old i p) then 1 else 0)
       one =
@@ -148,42 +160,40 @@ module _ {P : Type 0} (part : Ghosts P) (w : Wiring) (ls : List Level) (t : ℕ)
           ∙ ap (λ (o : Option P). wake_of part w ls t old i o (slice_get old.dues (chips_before w i))) of.1
           ∙ ap (λ (o : Option (Option ℕ)). wake_of part w ls t old i (Some p) o) due
 
-      -- and what it leaves
+      -- and what its turn leaves
       pub turned_more : (q : P) (f : Option ℕ) (last : ℕ) (own : List Level) → TookTurn part (to_wake d t None (differs_on part w ls old i p)) t (levels_on part.machine w ls i (part.state p)) p q f →
           last ≡ more + (if to_wake d t None (differs_on part w ls old i p) then 1 else 0) →
-          Turns (i + 1) (record { parts = slice_set new.parts (chips_before w i) q; dues = slice_set new.dues (chips_before w i) f; levels = new.levels; own = own }) last
+          Turns (i + 1) (record { parts = slice_set new.parts j q; dues = slice_set new.dues j f; levels = new.levels; own = own }) last
       turned_more q f last own took counts =
           let e : i + 1 ≡ suc i = omega arith in
-          let in_new = inside_next.0 in
-          let in_dues = inside_next.1 in
-          let place = before_next w i true is in
+          let after = before_next w i true is in
           let s = so_far.steps_are in
           let wake = one in
           let sum = ap (λ (x : ℕ). sum_below x (chip_wake part w ls t old)) e in
           record {
-            long = length-set new.parts (chips_before w i) q ∙ so_far.long;
-            dues_long = length-set new.dues (chips_before w i) f ∙ so_far.dues_long;
+            long = length-set new.parts j q ∙ so_far.long;
+            dues_long = length-set new.dues j f ∙ so_far.dues_long;
             turns = λ k x y g h l is_x ey eg eh. elim (lt_or_eq k i (omega (arith, l))) [
               | inl less ↦
-                  let other : chips_before w k ≢ chips_before w i = (let b = before_below w k i less is_x.0 in λ z. absurd (omega (arith, b, z))) in
-                  so_far.turns k x y g h less is_x (sym (get_set_other new.parts (chips_before w i) (chips_before w k) q other) ∙ ey) eg
-                  (sym (get_set_other new.dues (chips_before w i) (chips_before w k) f other) ∙ eh)
-              | inr same ↦
-                  let at : chips_before w k ≡ chips_before w i = ap (chips_before w) same in
+                  let other : chips_before w k ≢ j = (let b = before_below w k i less is_x.0 in λ z. absurd (omega (arith, b, z, place))) in
+                  so_far.turns k x y g h less is_x (sym (get_set_other new.parts j (chips_before w k) q other) ∙ ey) eg (sym (get_set_other new.dues j (chips_before w k) f other) ∙ eh)
+              | inr same_part ↦
+                  let at : chips_before w k ≡ chips_before w i = ap (chips_before w) same_part in
+                  let at_j : chips_before w k ≡ j = at ∙ sym place in
                   let p_is : p ≡ x = some_same (sym of.1 ∙ ap (slice_get old.parts) (sym at) ∙ is_x.1) in
                   let d_is : d ≡ g = some_same (sym due ∙ ap (slice_get old.dues) (sym at) ∙ eg) in
-                  let q_is : q ≡ y = some_same (sym (get_set_same new.parts (chips_before w i) q in_new) ∙ ap (slice_get (slice_set new.parts (chips_before w i) q)) (sym at) ∙ ey) in
-                  let f_is : f ≡ h = some_same (sym (get_set_same new.dues (chips_before w i) f in_dues) ∙ ap (slice_get (slice_set new.dues (chips_before w i) f)) (sym at) ∙ eh) in
+                  let q_is : q ≡ y = some_same (sym (get_set_same new.parts j q inside_next.0) ∙ ap (slice_get (slice_set new.parts j q)) (sym at_j) ∙ ey) in
+                  let f_is : f ≡ h = some_same (sym (get_set_same new.dues j f inside_next.1) ∙ ap (slice_get (slice_set new.dues j f)) (sym at_j) ∙ eh) in
                   let did = λ (n : ℕ) (a b : P) (u v : Option ℕ). TookTurn part (to_wake u t None (differs_on part w ls old n a)) t (levels_on part.machine w ls n (part.state a)) a b v in
-                  subst (λ (n : ℕ). did n x y g h) (sym same) (subst (λ (a : P). did i a y g h) p_is (subst (λ (b : P). did i p b g h) q_is
+                  subst (λ (n : ℕ). did n x y g h) (sym same_part) (subst (λ (a : P). did i a y g h) p_is (subst (λ (b : P). did i p b g h) q_is
                   (subst (λ (u : Option ℕ). did i p q u h) d_is (subst (λ (v : Option ℕ). did i p q d v) f_is took))))
             ];
-            rest = λ j l. get_set_other new.parts (chips_before w i) j q (λ z. absurd (omega (arith, l, place, z))) ∙ so_far.rest j (omega (arith, l, place));
-            dues_rest = λ j l. get_set_other new.dues (chips_before w i) j f (λ z. absurd (omega (arith, l, place, z))) ∙ so_far.dues_rest j (omega (arith, l, place));
+            rest = λ k l. get_set_other new.parts j k q (λ z. absurd (omega (arith, l, after, place, z))) ∙ so_far.rest k (omega (arith, l, after));
+            dues_rest = λ k l. get_set_other new.dues j k f (λ z. absurd (omega (arith, l, after, place, z))) ∙ so_far.dues_rest k (omega (arith, l, after));
             steps_are = omega (arith, s, wake, sum, counts);
             woken =
-                let set_is = sum_by-set part.wake_count new.parts (chips_before w i) q p in_new in
-                let was = ap part.wake_count (get_or_from_slice_get new.parts (chips_before w i) p p ep) in
+                let set_is = sum_by-set part.wake_count new.parts j q p inside_next.0 in
+                let was = ap part.wake_count (get_or_from_slice_get new.parts j p p here) in
                 let turn = turn_woken part.machine part.state part.now part.wake_count (to_wake d t None (differs_on part w ls old i p)) t (levels_on part.machine w ls i (part.state p)) None p q took.byte true took.turn in
                 let so = so_far.woken in
                 omega (arith, set_is, was, turn, counts, so);
