@@ -292,6 +292,7 @@ pub fn read_work<B: Bench>(
         (WorkIn folder.now (option_map (λ s. s.now) script.entry) (option_map (λ s. s.now) wave.entry))
         (B.outside bench.old) (B.outside bench.new) }
     ensures ports { SamePorts (B.outside bench.old) (B.outside bench.new) }
+    ensures sound { IfOk result (λ w. IsSound (work_of w)) }
     ensures plan { IfOk result (λ w. IsPlan (pins_of w.chips) w.plan) }
     ensures few { IfOk result (λ w. All HasFewPins w.chips) }
     ensures inputs { IfOk result (λ w. AreInputs (length w.plan.parts) w.plan.inputs) }

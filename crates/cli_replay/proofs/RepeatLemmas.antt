@@ -1,6 +1,5 @@
 -- A play of the wave that a run wrote has the texts of that run.
 use Rattle.std.proofs.Common.{◌≡◌, ◌∙◌, ◌≤◌, ◌<◌, ◌*◌, ℕ, List, length, Option, None, Some, Result, Ok, Err, IfSome, ap, sym, refl, ◌⊎◌, inl, inr, arith}
-use Rattle.std.specs.List.{All}
 use Rattle.sim_base.specs.Outside.{Outside, SamePorts, Files}
 use Rattle.sim_base.specs.declared.fault.Refusal.{Refusal}
 use Rattle.sim_base.specs.declared.limits.TheConstants.{MOST_CYCLES}
@@ -16,9 +15,8 @@ use Rattle.board_model.specs.Rows.{rows}
 use Rattle.board_laws.specs.Player.{DriveRows, PlayerState}
 use Rattle.board_laws.specs.Play.{or_player}
 use Rattle.board_build.specs.declared.plan.Plan.{Plan}
-use Rattle.board_build.specs.IsPlan.{IsPlan}
 use Rattle.board_report.specs.Report.{play_part_text, rest_text}
-use Rattle.chip_module.specs.Sources.{HasFewPins, pins_of}
+use Rattle.chip_module.specs.Sources.{pins_of}
 use Rattle.any_part.specs.AnyPart.{AnyState, any}
 use Rattle.any_part.specs.Start.{Contents}
 use Rattle.board_outputs.specs.Variables.{board_variables}
@@ -32,7 +30,7 @@ use Rattle.replay_law.proofs.ReplayLaw.{replayed}
 use Rattle.replay_law.proofs.VariableLemmas.{few_shown}
 use Rattle.project_model.specs.Work.{WorkIn}
 use Rattle.cli_project.specs.declared.project.Work as declared_works
-use Rattle.cli_project.specs.Works.{work_of}
+use Rattle.cli_project.specs.Works.{IsSound, work_of}
 use Rattle.cli_replay.specs.declared.replaying.Play as declared
 use Rattle.cli_replay.specs.Answer.{IsOfNoRun, Play, RepeatAnswer, RepeatIn, RepeatsRun, RowsIn, contents, part_rows_of, play_wakes, replay_texts}
 use Rattle.cli_replay.specs.Plays.{IsReady, play_of}
@@ -61,10 +59,10 @@ module _ (n : ℕ) (some : 0 < n) (most : n ≤ MOST_CYCLES) (p : declared.Play)
   part_rows = part_rows_of (play_of p)
 
   begun : (budget : ℕ) → play_starts (has budget) plan n part_rows ≡ play_starts (has 0) plan n part_rows
-  begun budget = starts_same (has budget) (has 0) plan ready.plan ready.plan refl part_rows
+  begun budget = starts_same (has budget) (has 0) plan ready.sound.plan ready.sound.plan refl part_rows
 
   law : (budget : ℕ) → IsReplayed (has budget) plan n (own_drives (has budget) plan n)
-  law budget = replayed (has budget) plan ready.plan n (few_shown p.work.chips plan ready.few_pins ready.plan) (omega (arith, most)) some
+  law budget = replayed (has budget) plan ready.sound.plan n (few_shown p.work.chips plan ready.sound.few_pins ready.sound.plan) (omega (arith, most)) some
 
   module _ (budget : ℕ) (is : p.work.wave.items ≡ run_wave (has budget) plan n) where
     drives_same : own_drives (has budget) plan n ≡ p.rows
@@ -102,7 +100,7 @@ module _ (name : List ℕ) (n : ℕ) (some : 0 < n) (most : n ≤ MOST_CYCLES) w
       IfSome a.files (λ files. RepeatIn name n (work_of p.work) files (Ok (play_of p)))
   repeats_got p ready a read = if_some a.files _ _ (λ (files : Files) (e : RowsIn name n (work_of p.work) files (Ok (play_of p))). (e, repeats n some most p ready)) read
 
-  module _ (work : declared_works.Work) (plan : IsPlan (pins_of work.chips) work.plan) (few : All HasFewPins work.chips) where
+  module _ (work : declared_works.Work) (sound : IsSound (work_of work)) where
     abbrev said : Result (List DriveRows) Refusal
     said = wave_rows (board_variables (pins_of work.chips) work.plan) (length work.plan.wiring.net_of) n work.wave.items
 
@@ -113,7 +111,7 @@ module _ (name : List ℕ) (n : ℕ) (some : 0 < n) (most : n ≤ MOST_CYCLES) w
     of_no_run : (r : Refusal) → said ≡ Err r → IsOfNoRun n (work_of work)
     of_no_run r bad = λ budget is.
         let has : Contents = record (contents (work_of work)) { budget = budget } in
-        let law : IsReplayed has work.plan n (own_drives has work.plan n) = replayed has work.plan plan n (few_shown work.chips work.plan few plan) (omega (arith, most)) some in
+        let law : IsReplayed has work.plan n (own_drives has work.plan n) = replayed has work.plan sound.plan n (few_shown work.chips work.plan sound.few_pins sound.plan) (omega (arith, most)) some in
         refused_not (own_drives has work.plan n) r
         (ap (λ (w : List ℕ). wave_rows (board_variables (pins_of work.chips) work.plan) (length work.plan.wiring.net_of) n w) is ∙ law.read) bad
 

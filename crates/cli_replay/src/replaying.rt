@@ -1,16 +1,12 @@
 //! `replay FOLDER WAVE --us N [--script FILE] [--vcd FILE] [--report FILE]`: a project with a player of what a wave says in
 //! place of each chip.
-ghost use Rattle.std.specs.Prelude.{◌≡◌, ◌≤◌, ◌<◌, ◌+◌, Some, IfOk, length};
-ghost use Rattle.std.specs.List.{All};
+ghost use Rattle.std.specs.Prelude.{◌≡◌, ◌≤◌, ◌<◌, ◌+◌, Some, IfOk};
 ghost use Rattle.std.specs.Option.{option_map};
 ghost use Rattle.sim_base.specs.Outside.{Outside, SamePorts};
 ghost use Rattle.outcome_model.specs.Outcome as ends;
 ghost use Rattle.outcome_model.specs.Happens.{Ends, Counts};
-ghost use Rattle.board_model.specs.Fits.{AreInputs};
-ghost use Rattle.board_build.specs.IsPlan.{IsPlan};
-ghost use Rattle.chip_module.specs.Sources.{HasFewPins, pins_of};
 ghost use Rattle.cli_work.specs.Outcomes.{outcome_of};
-ghost use Rattle.cli_project.specs.Works.{work_of};
+ghost use Rattle.cli_project.specs.Works.{IsSound, work_of};
 ghost use Rattle.board_outputs.specs.Outputs.{outputs_of};
 ghost use Rattle.board_outputs.specs.Ran.{Ran};
 ghost use Rattle.outcome_model.specs.Work.{Got, SaidNothing, Then};
@@ -39,10 +35,7 @@ struct Play {
 
 /// What the wave of a work says in `n` cycles, at most `MOST_CYCLES`.
 fn read_rows(alloc: Global, name: &str, work: Work, n: u32) -> Result<Play, WorkEnd>
-    requires plan { IsPlan (pins_of work.chips) work.plan }
-    requires few_pins { All HasFewPins work.chips }
-    requires inputs { AreInputs (length work.plan.parts) work.plan.inputs }
-    requires short { length work.wave.items ≤ 16777216 }
+    requires sound { IsSound (work_of work) }
     requires some { 0 < n }
     requires end { n ≤ MOST_CYCLES }
     ensures got { (a : Outside) → Got play_of outcome_of result (RowsIn name.now n (work_of work)) a a }

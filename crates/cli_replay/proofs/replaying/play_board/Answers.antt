@@ -18,8 +18,8 @@ use Rattle.cli_replay.proofs.replaying.play_board.Goals as goal
 
 pub load_played-requires-clause-few : goal.load_played-requires-clause-few
 load_played-requires-clause-few g c =
-    let short : All IsShort (pins_of c.args.play.work.chips) = All-map IsShort (λ (chip : ChipSource). chip.pins) c.args.play.work.chips c.requires.ready.few_pins in
-    omega (arith, c.requires.ready.pins, pins_few (pins_of c.args.play.work.chips) c.args.play.work.plan short c.requires.ready.plan)
+    let short : All IsShort (pins_of c.args.play.work.chips) = All-map IsShort (λ (chip : ChipSource). chip.pins) c.args.play.work.chips c.requires.ready.sound.few_pins in
+    omega (arith, c.requires.ready.pins, pins_few (pins_of c.args.play.work.chips) c.args.play.work.plan short c.requires.ready.sound.plan)
 
 pub returns-in-Ok-write_run-clause-ran : goal.returns-in-Ok-write_run-clause-ran
 returns-in-Ok-write_run-clause-ran g c =

@@ -29,9 +29,7 @@ returns-in-Ok-read_wave-clause-got c = λ a. (rows_got c.args.name.now c.args.n 
 
 ready : (c : goal.In-Ok-read_wave) → IsReady c.args.n (record { work = c.args.work; head = c.in-Ok.head; rows = c.in-Ok-read_wave.rows })
 ready c = record {
-  plan = c.requires.plan;
-  few_pins = c.requires.few_pins;
-  inputs = c.requires.inputs;
+  sound = c.requires.sound;
   head = shown c;
   pins = c.in-Ok-read_wave.ensures.pins ∙ c.len-pins.ensures;
   order = rows_ordered (board_variables (pins_of c.args.work.chips) c.args.work.plan) (length c.args.work.plan.wiring.net_of) c.args.n c.args.work.wave.items c.in-Ok-read_wave.rows (said c);
@@ -63,4 +61,4 @@ returns-in-Err-Refused-clause-got c = λ a. rows_stop c.args.name.now c.args.n (
 
 pub returns-in-Err-Refused-clause-repeated : goal.returns-in-Err-Refused-clause-repeated
 returns-in-Err-Refused-clause-repeated c = λ a.
-    repeats_stop c.args.name.now c.args.n c.requires.some c.requires.end c.args.work c.requires.plan c.requires.few_pins c.in-Err-Refused.refusal (outcome_of c.stopped.result) a (refused c) c.stopped.ensures
+    repeats_stop c.args.name.now c.args.n c.requires.some c.requires.end c.args.work c.requires.sound c.in-Err-Refused.refusal (outcome_of c.stopped.result) a (refused c) c.stopped.ensures

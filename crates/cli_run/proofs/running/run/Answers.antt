@@ -43,7 +43,7 @@ returns-in-Ok g c =
       ends = ran_ends (RunAnswer folder us script budget out) texts a m b got.1 same o is ran;
       isolated =
           ran_ends (AnswerSuch Isolated folder us script budget out) texts a m b got.1 same o
-          (isolated_answer folder us script budget out a.files work c.in-Ok.ensures.plan got.0) ran;
+          (isolated_answer folder us script budget out a.files work c.in-Ok.ensures.sound.plan got.0) ran;
       counts = ran_counts (RunAnswer folder us script budget out) texts o a steps c.run_board.new.steps is counted;
       silent = ran_said (RunAnswer folder us script budget out) texts a m b got.1 same o ran;
     }
