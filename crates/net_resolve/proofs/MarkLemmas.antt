@@ -8,7 +8,7 @@ use Rattle.std.specs.List.{IsDistinct, AllByRecursion}
 use Rattle.std.specs.Prelude.{slice_get, slice_set, option_to_list, Option, None, MatchOption, IfSome}
 use Rattle.sim_base.specs.declared.signal.Level.{Level}
 use Rattle.board_model.proofs.Lists.{get_set_same, get_set_other}
-use Rattle.net_resolve.specs.Marked.{has, with_mark, Taken, Moves, Noted}
+use Rattle.net_resolve.specs.Marked.{has, with_mark, Taken, Moves}
 
 has_more : (ns : List ℕ) (n m : ℕ) → has (ns ++ n ∷ []) m ≡ (has ns m || (eqb m n || false))
 has_more ns n m = list_any-append (eqb m) ns (n ∷ [])
@@ -110,15 +110,6 @@ still_fresh old new before after n moves off same = elim (cases_Bool (has after 
 
 pub has_rest : (ns : List ℕ) (n m : ℕ) → has ns m ≡ true → has (n ∷ ns) m ≡ true
 has_rest ns n m h = elim (cases_Bool (eqb m n)) [ inl t ↦ rw t refl | inr f ↦ rw (f, h) refl ]
-
-pub noted_none : (Same : Type 0) (q : ℕ) (ns : List ℕ) → Same → Noted Same q ns ns
-noted_none Same q ns same = record { more = λ p h. h; same = λ h. same }
-
-pub noted_mark : (Same : Type 0) (q : ℕ) (ns : List ℕ) → Noted Same q ns (with_mark q ns)
-noted_mark Same q ns = record {
-  more = λ p h. with_less ns q p h;
-  same = λ h. let on = with_has ns q in absurd cc;
-}
 
 pub has_first : (ns : List ℕ) (n m : ℕ) → m ≡ n → has (n ∷ ns) m ≡ true
 has_first ns n m e = let same : eqb m n ≡ true = eq-eqb m n e in rw same refl

@@ -3,20 +3,20 @@ use Rattle.std.proofs.Common.{◌≡◌, ℕ, zero, suc, ◌<◌, List, [], ◌�
 use Rattle.std.proofs.lemmas.Bool.Decides.{eqb_tells}
 use Rattle.std.proofs.lemmas.List.{length-map}
 use Rattle.std.proofs.lemmas.Option.{slice_get_within}
-use Rattle.std.specs.Prelude.{slice_get, slice_index, slice_index_or, slice_set}
+use Rattle.std.specs.Prelude.{slice_get, slice_index, slice_set}
 use Rattle.sim_base.specs.declared.signal.Drive.{Drive}
 use Rattle.sim_base.specs.declared.signal.Drive.TheVariants as drives
 use Rattle.sim_base.specs.declared.signal.Level.{Level}
 use Rattle.board_model.specs.Walks.{below}
 use Rattle.board_model.specs.Resolve.{level_of, resolve}
-use Rattle.board_model.proofs.Lists.{some_same, some_map, get_map_some, get_within, get_set_same, get_set_other, get-below, length-below, same_lists}
+use Rattle.board_model.proofs.Lists.{some_same, some_map, get_within, get_set_other, get-below, length-below, same_lists}
 use Rattle.net_resolve.specs.Wired.{Wired, levels_of}
 use Rattle.net_resolve.specs.Circuit.{AreChanged}
-use Rattle.net_resolve.specs.Marked.{has, Moves, Noted}
+use Rattle.net_resolve.specs.Marked.{has, with_mark, Moves}
 use Rattle.net_resolve.specs.Subcircuits.{Lacks, SubcircuitView, IsCut, IsSubcircuit, AreSubcircuits, AreRight, FitsIn, AreApart, own_wired, labels_of, level_now}
 use Rattle.net_resolve.proofs.SubcircuitLemmas.{nets_once, net_label, net_labelled, net_there, others_lack, own_level}
 use Rattle.net_resolve.proofs.PinLemmas.{all_pins}
-use Rattle.net_resolve.proofs.MarkLemmas.{has_first, has_rest, still_fresh}
+use Rattle.net_resolve.proofs.MarkLemmas.{has_first, has_rest, still_fresh, with_has, with_less}
 use Rattle.net_resolve.proofs.CutLemmas.{map_here, map-map, picked_within, pin_places, pair_places}
 
 -- a list with an item put where it stands
@@ -24,6 +24,17 @@ pub set_same : {A : Type 0} (xs : List A) (i : ℕ) (x : A) → slice_get xs i �
 set_same [] i x e = refl
 set_same {A = A} (y ∷ xs) zero x e = ap (λ (z : A). z ∷ xs) (sym (some_same e))
 set_same {A = A} (y ∷ xs) (suc i) x e = ap (λ (l : List A). y ∷ l) (set_same xs i x e)
+
+-- where an item is set whose key is marked, those whose keys are not are as they were
+set_marked : {A : Type 0} (keys marked : List ℕ) (xs : List A) (i : ℕ) (x : A) (key : ℕ) → slice_get keys i ≡ Some key →
+    (k q : ℕ) → slice_get keys k ≡ Some q → has (with_mark key marked) q ≡ false → slice_get xs k ≡ slice_get (slice_set xs i x) k
+set_marked keys marked xs i x key at k q f e = elim (eqb_tells k i) [
+  | inl t ↦
+      let same : key ≡ q = some_same (sym at ∙ ap (slice_get keys) (sym t.1) ∙ f) in
+      let on : has (with_mark key marked) q ≡ true = ap (has (with_mark key marked)) (sym same) ∙ with_has marked key in
+      absurd cc
+  | inr o ↦ sym (get_set_other xs i k x o.1)
+]
 
 -- while subcircuits are resolved: what changed, and that the nets of those that are left wait
 pub record Begun (labels rest : List ℕ) (first now : List Level) (moved : List ℕ) : Type 0 where
@@ -158,36 +169,22 @@ module _ (w : Wired) (labels : List ℕ) (cut : IsCut w labels) where
       ∙ ap Some (same_level q s.0 (are q s.0 s.1) cs cs2 ds ds2 lc ld ld2 (λ k f. same_ds k q f e) (λ k f. same_cs k q f e) n l refl)
 
   -- a pin drives something else
-  pub right_drive : (subs : List SubcircuitView) → length subs ≡ w.nets → AreSubcircuits w labels subs → (marked more : List ℕ) (cs : List Bool) (ds : List Drive) (levels : List Level) (pin : ℕ) (d : Drive) →
-      length cs ≡ length w.contacts → length ds ≡ length w.net_of → pin < length ds → Noted (slice_get ds pin ≡ Some d) (slice_index labels (slice_index w.net_of pin)) marked more →
-      AreRight w labels marked cs ds levels → AreRight w labels more cs (slice_set ds pin d) levels
-  right_drive subs long are marked more cs ds levels pin d lc ld inside noted =
-      right_kept subs long are marked more cs cs ds (slice_set ds pin d) levels lc ld (length-set ds pin d ∙ ld) noted.more
-      (λ k q f e. elim (eqb_tells k pin) [
-        | inl t ↦
-            let net = get_map_some (slice_index labels) w.net_of k q f in
-            let here : slice_index w.net_of pin ≡ net.0 = some_same (sym (get_within w.net_of pin 0 (omega (arith, ld))) ∙ ap (slice_get w.net_of) (sym t.1) ∙ net.1) in
-            let key : slice_index labels (slice_index w.net_of pin) ≡ q = ap (slice_index labels) here ∙ net.2 in
-            ap (slice_get ds) t.1 ∙ noted.same (ap (has more) key ∙ e) ∙ sym (get_set_same ds pin d inside) ∙ ap (slice_get (slice_set ds pin d)) (sym t.1)
-        | inr o ↦ sym (get_set_other ds pin k d o.1)
-      ])
-      (λ k q f e. refl)
+  pub right_drive : (subs : List SubcircuitView) → length subs ≡ w.nets → AreSubcircuits w labels subs → (marked : List ℕ) (cs : List Bool) (ds : List Drive) (levels : List Level) (pin net : ℕ) (d : Drive) →
+      length cs ≡ length w.contacts → length ds ≡ length w.net_of → slice_get w.net_of pin ≡ Some net →
+      AreRight w labels marked cs ds levels → AreRight w labels (with_mark (slice_index labels net) marked) cs (slice_set ds pin d) levels
+  right_drive subs long are marked cs ds levels pin net d lc ld at =
+      let key = slice_index labels net in
+      right_kept subs long are marked (with_mark key marked) cs cs ds (slice_set ds pin d) levels lc ld (length-set ds pin d ∙ ld) (with_less marked key)
+      (set_marked (map (slice_index labels) w.net_of) marked ds pin d key (some_map (slice_index labels) w.net_of pin net at)) (λ k q f e. refl)
 
   -- a contact is closed or opened
-  pub right_contact : (subs : List SubcircuitView) → length subs ≡ w.nets → AreSubcircuits w labels subs → (marked more : List ℕ) (cs : List Bool) (ds : List Drive) (levels : List Level) (contact : ℕ) (c : Bool) →
-      length cs ≡ length w.contacts → length ds ≡ length w.net_of → contact < length cs → Noted (slice_get cs contact ≡ Some c) (slice_index labels (slice_index_or w.contacts contact (0, 0)).0) marked more →
-      AreRight w labels marked cs ds levels → AreRight w labels more (slice_set cs contact c) ds levels
-  right_contact subs long are marked more cs ds levels contact c lc ld inside noted =
-      right_kept subs long are marked more cs (slice_set cs contact c) ds ds levels lc ld ld noted.more
-      (λ k q f e. refl)
-      (λ k q f e. elim (eqb_tells k contact) [
-        | inl t ↦
-            let pair = get_map_some (λ (p : ℕ × ℕ). slice_index labels p.0) w.contacts k q f in
-            let here : slice_index_or w.contacts contact (0, 0) ≡ pair.0 = some_same (sym (get_within w.contacts contact (0, 0) (omega (arith, lc))) ∙ ap (slice_get w.contacts) (sym t.1) ∙ pair.1) in
-            let key : slice_index labels (slice_index_or w.contacts contact (0, 0)).0 ≡ q = ap (λ (p : ℕ × ℕ). slice_index labels p.0) here ∙ pair.2 in
-            ap (slice_get cs) t.1 ∙ noted.same (ap (has more) key ∙ e) ∙ sym (get_set_same cs contact c inside) ∙ ap (slice_get (slice_set cs contact c)) (sym t.1)
-        | inr o ↦ sym (get_set_other cs contact k c o.1)
-      ])
+  pub right_contact : (subs : List SubcircuitView) → length subs ≡ w.nets → AreSubcircuits w labels subs → (marked : List ℕ) (cs : List Bool) (ds : List Drive) (levels : List Level) (contact : ℕ) (pair : ℕ × ℕ) (b : Bool) →
+      length cs ≡ length w.contacts → length ds ≡ length w.net_of → slice_get w.contacts contact ≡ Some pair →
+      AreRight w labels marked cs ds levels → AreRight w labels (with_mark (slice_index labels pair.0) marked) (slice_set cs contact b) ds levels
+  right_contact subs long are marked cs ds levels contact pair b lc ld at =
+      let key = slice_index labels pair.0 in
+      right_kept subs long are marked (with_mark key marked) cs (slice_set cs contact b) ds ds levels lc ld ld (with_less marked key) (λ k q f e. refl)
+      (set_marked (labels_of labels w.contacts) marked cs contact b key (some_map (λ (p : ℕ × ℕ). slice_index labels p.0) w.contacts contact pair at))
 
   -- where nothing is marked the levels are those of the definition
   pub right_all : (cs : List Bool) (ds : List Drive) (levels : List Level) → length levels ≡ w.nets →

@@ -26,8 +26,3 @@ pub record Taken (n : ℕ) (before after : List ℕ) : Type 0 where
 pub record Moves (old new : List Level) (before after : List ℕ) : Type 0 where
   pub differ : (n : ℕ) → has after n ≡ true → (has before n ≡ true) ⊎ (slice_get new n ≢ slice_get old n)
   pub others : (n : ℕ) → has after n ≡ false → (has before n ≡ false) × (slice_get new n ≡ slice_get old n)
-
--- A number is marked beside others, but where something stays as it was.
-pub record Noted (Same : Type 0) (q : ℕ) (before after : List ℕ) : Type 0 where
-  pub more : (p : ℕ) → has after p ≡ false → has before p ≡ false
-  pub same : has after q ≡ false → Same

@@ -2,7 +2,6 @@
 ghost use Rattle.std.specs.Prelude.{◌≡◌, ℕ, ◌<◌, ◌≤◌, ◌++◌, [], ◌∷◌, List, length, map, Some, slice_get, slice_index};
 ghost use Rattle.std.specs.Prelude.{slice_index_or, slice_set, IfOk, OnOk, vec_len};
 ghost use Rattle.board_model.specs.Fits.{IsWiring};
-ghost use Rattle.union_find.specs.Forest.{AreLabels};
 ghost use Rattle.net_resolve.specs.Subcircuits.{IsCut, IsSubcircuit, AreSubcircuits, AreOnce, own_pair, picked, labels_of, circuit_of};
 ghost use Rattle.net_resolve.specs.Sorted.{ArePicked, IsSorted};
 ghost use Rattle.board_model.specs.Pairs.{ArePairs};
@@ -23,19 +22,6 @@ pub(crate) struct Sorted {
     pins: List<List<usize>>,
     contacts: List<List<usize>>,
     resistors: List<List<usize>>,
-}
-
-/// Labels each net; those that a contact or a resistor joins get the same label.
-fn label_nets(contacts: &[(u16, u16)], resistors: &[(u16, u16)], labels: &mut [u16])
-    requires few { length labels.old ≤ 65536 }
-    requires contacts { ArePairs (length labels.old) contacts.now }
-    requires resistors { ArePairs (length labels.old) resistors.now }
-    ensures labels { AreLabels labels.new }
-    ensures contacts { (k : ℕ) (c : ℕ × ℕ) → slice_get contacts.now k ≡ Some c → slice_index labels.new c.0 ≡ slice_index labels.new c.1 }
-    ensures resistors { (k : ℕ) (r : ℕ × ℕ) → slice_get resistors.now k ≡ Some r → slice_index labels.new r.0 ≡ slice_index labels.new r.1 }
-{
-    label_pairs(contacts, labels);
-    join_pairs(resistors, labels);
 }
 
 /// So many empty lists.
@@ -133,11 +119,9 @@ pub(crate) fn sort(alloc: Global, wiring: &Wiring) -> Result<Sorted, OutOfMemory
     ensures { IfOk result (λ s. IsSorted (circuit_of wiring.now) s) }
 {
     let mut labels = zeros(alloc, wiring.nets as usize)?;
-    label_nets(
-        wiring.contacts.as_slice(),
-        wiring.resistors.as_slice(),
-        labels.as_mut_slice(),
-    );
+    let places = labels.as_mut_slice();
+    label_pairs(wiring.contacts.as_slice(), places);
+    join_pairs(wiring.resistors.as_slice(), places);
     sort_by(alloc, wiring, List::from_vec(labels))
 }
 

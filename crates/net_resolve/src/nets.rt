@@ -1,15 +1,14 @@
 //! The nets of a board.
 ghost use Rattle.std.specs.Prelude.{◌≡◌, ℕ, ◌<◌, ◌≤◌, List, [], length, map, replicate, Some, eqb, true, false, IfOk, vec_len};
-ghost use Rattle.std.specs.Prelude.{slice_get, slice_set, slice_index, slice_index_or};
+ghost use Rattle.std.specs.Prelude.{slice_get, slice_set};
 ghost use Rattle.std.specs.List.{IsDistinct};
 ghost use Rattle.board_model.specs.Fits.{IsWiring};
 ghost use Rattle.board_model.specs.Board.{level_at};
 ghost use Rattle.board_model.specs.Resolve.{resolve};
 ghost use Rattle.net_resolve.specs.Circuit.{Circuit, AreChanged};
-ghost use Rattle.net_resolve.specs.Marked.{has, Noted};
+ghost use Rattle.net_resolve.specs.Marked.{has};
 ghost use Rattle.net_resolve.specs.Wired.{Wired};
 ghost use Rattle.net_resolve.specs.Subcircuits.{SubcircuitView, IsCut, AreSubcircuits, AreApart, AreRight, FitsIn, circuit_of};
-ghost use Rattle.board_model.specs.Pairs.{ArePairs};
 
 use crate::cut::{cut_all, sort};
 use crate::marks::{Marks, Numbers};
@@ -76,55 +75,6 @@ impl Model for Nets {
       closed_long : vec_len a.closed ≡ vec_len a.contacts;
       pin_levels : a.pin_levels.items ≡ map (level_at a.levels.items) a.net_of.items;
     } };
-}
-
-/// Keeps what a pin drives, and marks its subcircuit where it drove something else.
-#[inline]
-fn keep_drive(
-    pin: usize,
-    drive: Drive,
-    net_of: &[u16],
-    labels: &[u16],
-    drives: &mut [Drive],
-    marks: &mut Marks,
-)
-    requires pin { pin < length drives.old }
-    requires pins { length drives.old ≡ length net_of.now }
-    requires nets { (k n : ℕ) → slice_get net_of.now k ≡ Some n → n < length labels.now }
-    requires labels { (n : ℕ) → n < length labels.now → slice_index labels.now n < marks.old.room }
-    ensures drives { drives.new ≡ slice_set drives.old pin drive }
-    ensures room { marks.new.room ≡ marks.old.room }
-    ensures marks { Noted (slice_get drives.old pin ≡ Some drive) (slice_index labels.now (slice_index net_of.now pin)) marks.old.marked marks.new.marked }
-{
-    if !is_same_drive(drives[pin], drive) {
-        drives[pin] = drive;
-        marks.mark(labels[net_of[pin] as usize]);
-    }
-}
-
-/// Keeps whether a contact is closed, and marks its subcircuit where that changed.
-fn keep_closed(
-    contact: usize,
-    closed: bool,
-    contacts: &[(u16, u16)],
-    labels: &[u16],
-    kept: &mut [bool],
-    marks: &mut Marks,
-)
-    requires contact { contact < length kept.old }
-    requires contacts { length kept.old ≡ length contacts.now }
-    requires nets { ArePairs (length labels.now) contacts.now }
-    requires labels { (n : ℕ) → n < length labels.now → slice_index labels.now n < marks.old.room }
-    ensures kept { kept.new ≡ slice_set kept.old contact closed }
-    ensures room { marks.new.room ≡ marks.old.room }
-    ensures marks { Noted (slice_get kept.old contact ≡ Some closed)
-        (slice_index labels.now (slice_index_or contacts.now contact (0, 0)).0) marks.old.marked marks.new.marked }
-{
-    if !is_same_flag(kept[contact], closed) {
-        kept[contact] = closed;
-        let (first, _) = contacts[contact];
-        marks.mark(labels[first as usize]);
-    }
 }
 
 /// Resolves the subcircuits that are marked, takes their marks off, and keeps the levels of the pins.
@@ -219,34 +169,29 @@ impl Nets {
         })
     }
 
-    /// Sets what a pin drives. Levels follow with `resolve_marked`.
+    /// Sets what a pin drives, and marks its subcircuit if it drove something else. Levels follow with
+    /// `resolve_marked`.
     pub fn set_drive(&mut self, pin: usize, drive: Drive)
         requires { pin < length self.old.net_of }
         ensures { self.new ≡ record self.old { drives = slice_set self.old.drives pin drive } }
     {
-        keep_drive(
-            pin,
-            drive,
-            &self.net_of,
-            &self.labels,
-            &mut self.drives,
-            &mut self.marks,
-        );
+        if !is_same_drive(self.drives[pin], drive) {
+            self.drives[pin] = drive;
+            self.marks.mark(self.labels[self.net_of[pin] as usize]);
+        }
     }
 
-    /// Sets whether a contact is closed. Levels follow with `resolve_marked`.
+    /// Sets whether a contact is closed, and marks its subcircuit if that changed. Levels follow with
+    /// `resolve_marked`.
     pub fn set_contact(&mut self, contact: usize, closed: bool)
         requires { contact < length self.old.contacts }
         ensures { self.new ≡ record self.old { closed = slice_set self.old.closed contact closed } }
     {
-        keep_closed(
-            contact,
-            closed,
-            &self.contacts,
-            &self.labels,
-            &mut self.closed,
-            &mut self.marks,
-        );
+        if !is_same_flag(self.closed[contact], closed) {
+            self.closed[contact] = closed;
+            let (first, _) = self.contacts[contact];
+            self.marks.mark(self.labels[first as usize]);
+        }
     }
 
     /// Finds the levels by what the pins drive and which contacts are closed. Only the subcircuits in
