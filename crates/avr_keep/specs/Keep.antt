@@ -68,7 +68,6 @@ abbrev pub keep : UnitMachine Keep
 keep = record {
   step = λ u t before now. stepped u t;
   due = λ u t. dog.watchdog_due u.watchdog t || eeprom_due u.eeprom t;
-  hears = λ u before now. false;
   requests = λ u l. requests u;
   pad = λ u p. untouched;
   sends = λ u t. None;

@@ -40,18 +40,14 @@ pub keep_laws : Laws keep
 keep_laws = record {
   keeps_pad = λ s t l p h. refl;
   keeps_requests = λ s t l h. ap requests (quiet s t h);
-  keeps_hears = λ s t l before now h. refl;
   keeps_silent = λ s t h. refl;
   deaf = λ s t l k h. refl;
-  unheard = λ s t before now due h. refl;
-  unheard_requests = λ s before now h. refl;
   reads_pad = λ s t a p. refl;
   writes_pad = λ s t a x p h. refl;
   bits_pad = λ s t a k x p h. refl;
   taken_pad = λ s v p. refl;
   power_laws = record {
     keeps_rouses = λ s t l k h. ap rouses (quiet s t h);
-    unheard_rouses = λ s before now h. refl;
     keeps_resets = λ s t u l h. ap (λ (v : Keep). resets v.watchdog u) (quiet s t h);
     resets_due = λ s t h. let d = or_parts (watchdog_due s.watchdog t) _ h in
         ap (λ (b : Bool). b && not s.watchdog.wdie) (or_parts (comes s.watchdog.window t) (times_out s.watchdog t) d.0).1;

@@ -207,7 +207,6 @@ pub(crate) fn hear<G: AwakeGroup>(
     if notices(group, next.due, cycle, before, now) {
         step(group, next, cycle, before, now)
     } else {
-        group.stay(cycle, before, now);
         (None, false, Span::none())
     }
 }

@@ -119,11 +119,6 @@ changes_sensed u before now = record u {
 abbrev pub ports_step : Ports → List Level → List Level → Ports
 ports_step u before now = changes_sensed (edges_sensed u before now) before now
 
--- Whether no edge is sensed, no change of a pin chosen and no external interrupt enabled: a change of levels is none then.
-abbrev pub is_deaf : Ports → Bool
-is_deaf u =
-    u.eicra % 16 == 0 && (u.pcmsk0 == 0 && (u.pcmsk1 == 0 && (u.pcmsk2 == 0 && (not (is_set u.eimsk 0) && not (is_set u.eimsk 1)))))
-
 -- An external interrupt; at sense 0 the low level requests by itself.
 abbrev pub requests_int : Bool → ℕ → Bool → Bool
 requests_int flag sense high = flag || (sense == 0 && not high)
@@ -234,7 +229,6 @@ abbrev pub ports : UnitMachine Ports
 ports = record {
   step = λ u t before now. ports_step u before now;
   due = λ u t. false;
-  hears = λ u before now. not (is_deaf u);
   requests = requests;
   pad = port_pad;
   sends = λ u t. None;

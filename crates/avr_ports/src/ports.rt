@@ -2,7 +2,8 @@
 ghost use Rattle.std.specs.Prelude.{◌≡◌, ◌+◌, ◌-◌, ◌<◌, ◌≤◌, ◌==◌, ◌&&◌, ◌||◌, ℕ, [], length, true, false, not};
 ghost use Rattle.unit_law.specs.Bits.{is_set};
 ghost use Rattle.unit_law.specs.UnitMachine.{least, steps};
-ghost use Rattle.avr_ports.specs.Ports.{requests, requests_int, acts_by_ones, register, with_register, with_register_bit, moves, bit_moves, edges_sensed, changes_sensed, ports_step, is_deaf};
+ghost use Rattle.avr_ports.specs.Ports.{requests, requests_int, acts_by_ones, register, with_register, with_register_bit, moves, bit_moves, edges_sensed, changes_sensed, ports_step};
+ghost use Rattle.avr_ports.specs.Deaf.{is_deaf};
 ghost use Rattle.avr_ports.specs.declared.registers.Register.TheVariants.{PCIFR, EIFR, EICRA};
 
 use crate::pins::{bit_pad, is_change, is_edge, on, pinb, pinc, pind, requests_int};

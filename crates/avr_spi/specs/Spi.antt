@@ -134,7 +134,6 @@ abbrev pub spi : UnitMachine Spi
 spi = record {
   step = λ u t before now. stepped u t (ss_low before) (ss_low now) (miso now);
   due = λ u t. comes (next_event u.shifter.transfer) t || comes u.look t;
-  hears = λ u before now. watches u && (ss_low now && not (ss_low before));
   requests = λ u l. requests u;
   pad = spi_pad;
   sends = λ u t. None;

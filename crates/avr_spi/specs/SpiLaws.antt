@@ -27,7 +27,7 @@ unselected w before now false h none = none
 unlooked : (u : Spi) (t : ℕ) → comes u.look t ≡ false → looked u t ≡ u
 unlooked u t h = ap (λ (o : Option ℕ). record u { look = o }) (cond-false (comes u.look t) None u.look h)
 
-quiet_by : (u : Spi) (t : ℕ) (before now b : Bool) → comes (next_event u.shifter.transfer) t ≡ false → comes u.look t ≡ false →
+pub quiet_by : (u : Spi) (t : ℕ) (before now b : Bool) → comes (next_event u.shifter.transfer) t ≡ false → comes u.look t ≡ false →
     (watches u && (now && not before)) ≡ false → stepped u t before now b ≡ u
 quiet_by u t before now b h k none =
     cond-false (is_selected u t before now) (deselected (looked u t) t) (record (looked u t) { shifter = shifted u.shifter u.shifter.transfer t b }) (unselected (watches u) before now (comes u.look t) k none)
@@ -38,11 +38,6 @@ pub quiet : (u : Spi) (t : ℕ) (l : List Level) → spi.due u t ≡ false → s
 quiet u t l h =
     let d = or_parts (comes (next_event u.shifter.transfer) t) (comes u.look t) h in
     quiet_by u t (ss_low l) (ss_low l) (miso l) d.0 d.1 (and_opposite (watches u) (ss_low l))
-
-unheard : (u : Spi) (t : ℕ) (before now : List Level) → spi.due u t ≡ false → spi.hears u before now ≡ false → spi.step u t before now ≡ u
-unheard u t before now h none =
-    let d = or_parts (comes (next_event u.shifter.transfer) t) (comes u.look t) h in
-    quiet_by u t (ss_low before) (ss_low now) (miso now) d.0 d.1 none
 
 read_pad : (u : Spi) (o : Option Register) (p : ℕ) → spi_pad (at_register o u (after_read u)) p ≡ spi_pad u p
 read_pad u None p = refl
@@ -66,11 +61,8 @@ pub spi_laws : Laws spi
 spi_laws = record {
   keeps_pad = λ s t l p h. ap (λ (u : Spi). spi_pad u p) (quiet s t l h);
   keeps_requests = λ s t l h. ap requests (quiet s t l h);
-  keeps_hears = λ s t l before now h. ap (λ (u : Spi). spi.hears u before now) (quiet s t l h);
   keeps_silent = λ s t h. refl;
   deaf = λ s t l k h. quiet s t l h ∙ sym (quiet s t k h);
-  unheard = λ s t before now h none. unheard s t before now h none ∙ sym (quiet s t now h);
-  unheard_requests = λ s before now h. refl;
   reads_pad = λ s t a p. read_pad s (register_at a) p;
   writes_pad = λ s t a x p h. at_pad s t (register_at a) (λ r. x) p h;
   bits_pad = λ s t a k x p h. at_pad s t (register_at a) (λ r. with_bit (kept s r) k x) p h;

@@ -2,6 +2,7 @@
 use Rattle.std.proofs.Common.{◌≡◌, ◌∙◌, ℕ, ◌+◌, ◌-◌, ◌<◌, List, [], false, None, arith, ap, sym, refl}
 use Rattle.sim_base.specs.declared.signal.Level.{Level}
 use Rattle.unit_law.specs.UnitMachine.{UnitMachine, Laws, FirstDue, least, steps}
+use Rattle.unit_law.specs.Unheard.{Unheard}
 use Rattle.unit_law.proofs.UnitLemmas.{step_none, step_last}
 
 -- what they show in the next cycle
@@ -14,7 +15,7 @@ module _ {U : Type 0} (m : UnitMachine U) (laws : Laws m) (state : ℕ → U) (t
   pub pass_silent : None ≡ m.sends (state t) t
   pass_silent = sym (laws.keeps_silent (state t) t pass_due)
 
-  module _ (before now : List Level) (none : m.hears (state t) before now ≡ false) (waits : state (t + 1) ≡ steps m (state t) t (t + 1 - t)) where
+  module _ (before now : List Level) (none : Unheard m (state t) t before now) (waits : state (t + 1) ≡ steps m (state t) t (t + 1 - t)) where
     still : state (t + 1) ≡ m.step (state t) t now now
     still =
         let one : t + 1 - t ≡ 0 + 1 = omega arith in
@@ -23,9 +24,9 @@ module _ {U : Type 0} (m : UnitMachine U) (laws : Laws m) (state : ℕ → U) (t
         ∙ ap (λ (x : ℕ). m.step (state t) x [] []) z ∙ laws.deaf (state t) t [] now pass_due
 
     pub pass_state : state (t + 1) ≡ m.step (state t) t before now
-    pass_state = still ∙ sym (laws.unheard (state t) t before now pass_due none)
+    pass_state = still ∙ sym (none.steps pass_due)
 
     pub pass_request : (request : ℕ) → request ≡ least (m.requests (state t) before) → request ≡ least (m.requests (state (t + 1)) now)
     pass_request request is =
-        is ∙ laws.unheard_requests (state t) before now none ∙ ap least (sym (laws.keeps_requests (state t) t now pass_due))
+        is ∙ none.requests ∙ ap least (sym (laws.keeps_requests (state t) t now pass_due))
         ∙ ap (λ (x : U). least (m.requests x now)) (sym still)

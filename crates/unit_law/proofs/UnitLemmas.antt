@@ -6,6 +6,7 @@ use Rattle.sim_base.specs.declared.limits.TheConstants.{MOST_CYCLES}
 use Rattle.unit_law.specs.UnitMachine.{UnitMachine, At, Laws, least, steps, IsQuiet, IsFirstDue, FirstDue}
 use Rattle.unit_law.specs.Lagging.{lag_first, quiet_requests}
 use Rattle.unit_law.specs.Late.{late_state, Lags, LateStands, Rests}
+use Rattle.unit_law.specs.Unheard.{Unheard}
 
 le_or : (a b : ℕ) → (a ≤ b) ⊎ (b < a)
 le_or a b = grind arith
@@ -20,18 +21,12 @@ module _ {U : Type 0} (m : UnitMachine U) where
   unfolding steps
   step_last s t n k h = let e : k ≡ suc n = omega arith in ap (steps m s t) e
 
-  -- over quiet cycles what is asked of pins, requests and what is heard stay
+  -- over quiet cycles what is asked of pins stays
   pub quiet_pad : Laws m → (s : U) (t n p : ℕ) → IsQuiet m s t n → m.pad (steps m s t n) p ≡ m.pad s p
   unfolding steps
   quiet_pad laws s t zero p quiet = refl
   quiet_pad laws s t (suc n) p quiet =
       laws.keeps_pad (steps m s t n) (t + n) [] p (quiet n (omega arith)) ∙ quiet_pad laws s t n p (λ k (h : k < n). quiet k (omega arith))
-
-  pub quiet_hears : Laws m → (s : U) (t n : ℕ) (before now : List Level) → IsQuiet m s t n → m.hears (steps m s t n) before now ≡ m.hears s before now
-  unfolding steps
-  quiet_hears laws s t zero before now quiet = refl
-  quiet_hears laws s t (suc n) before now quiet =
-      laws.keeps_hears (steps m s t n) (t + n) [] before now (quiet n (omega arith)) ∙ quiet_hears laws s t n before now (λ k (h : k < n). quiet k (omega arith))
 
   -- and so does what ends power-down, or resets
   pub quiet_rouses : Laws m → (s : U) (t n : ℕ) (l : List Level) → IsQuiet m s t n → m.power.rouses (steps m s t n) l ≡ m.power.rouses s l
@@ -95,18 +90,10 @@ module _ {U : Type 0} (m : UnitMachine U) where
       let f : s.cycle + (t - s.cycle) ≡ t = omega (arith, le) in
       step_last s.unit s.cycle (t - s.cycle) (t + 1 - s.cycle) e ∙ ap (λ (x : ℕ). m.step (late_state m s t) x [] []) f
 
-  late_due : (s : At U) (due t : ℕ) → Lags m s due t → t < due → m.due (late_state m s t) t ≡ false
+  pub late_due : (s : At U) (due t : ℕ) → Lags m s due t → t < due → m.due (late_state m s t) t ≡ false
   late_due s due t h less =
       let f : s.cycle + (t - s.cycle) ≡ t = omega (arith, h.lags) in
       ap (m.due (late_state m s t)) (sym f) ∙ h.first.quiet (t - s.cycle) (omega (arith, less, h.lags))
-
-  -- a cycle leaves a unit as it lags where it takes no notice of the change
-  pub rests_deaf : Laws m → (s : At U) (due t : ℕ) (before now : List Level) → Lags m s due t → t < due → m.hears s.unit before now ≡ false → Rests m s due before now t
-  rests_deaf laws s due t before now h less none = record {
-    early = less;
-    steps = laws.unheard (late_state m s t) t before now (late_due s due t h less) (quiet_hears laws s.unit s.cycle (t - s.cycle) before now (late_quiet s due t h) ∙ none);
-    requests = laws.unheard_requests s.unit before now none;
-  }
 
   -- what such a cycle leaves
   pub rest_state : Laws m → (s : At U) (due t : ℕ) (before now : List Level) → Lags m s due t → Rests m s due before now t →
@@ -140,15 +127,7 @@ module _ {U : Type 0} (m : UnitMachine U) (laws : Laws m) (t d : ℕ) (state : �
       let z : t + 0 ≡ t = omega arith in
       ap (λ (x : U). m.due x t) (sym (step_none m (state t) t 0 refl)) ∙ ap (m.due (steps m (state t) t 0)) (sym z) ∙ first.quiet 0 (omega (arith, less))
 
-  pub move_none : t < d → (before now : List Level) → m.hears (state t) before now ≡ false → (p : ℕ) → m.pad (m.step (state t) t before now) p ≡ m.pad (state t) p
+  pub move_none : t < d → (before now : List Level) → Unheard m (state t) t before now → (p : ℕ) → m.pad (m.step (state t) t before now) p ≡ m.pad (state t) p
   move_none less before now none p =
       let h = group_due less in
-      ap (λ (x : U). m.pad x p) (laws.unheard (state t) t before now h none) ∙ laws.keeps_pad (state t) t now p h
-
--- a unit that may be asked on these levels may be asked on those
-pub late_stays : {U : Type 0} (m : UnitMachine U) → Laws m → (t : ℕ) (before now : List Level) {s : At U} {due request : ℕ} →
-    LateStands m s due request before t → m.hears (late_state m s t) before now ≡ false → LateStands m s due request now t
-late_stays m laws t before now {s} {due} {request} h none = record {
-  late = h.late;
-  requests = h.requests ∙ laws.unheard_requests s.unit before now (sym (quiet_hears m laws s.unit s.cycle (t - s.cycle) before now (late_quiet m s due t h.late)) ∙ none);
-}
+      ap (λ (x : U). m.pad x p) (none.steps h) ∙ laws.keeps_pad (state t) t now p h

@@ -22,7 +22,6 @@ module _ {U : Type 0} (m : UnitMachine U) where
   clocked = record {
     step = λ u t before now. if u.runs then record u { unit = m.step u.unit u.cycle before now; cycle = u.cycle + 1 } else u;
     due = λ u t. u.runs && m.due u.unit u.cycle;
-    hears = λ u before now. m.hears u.unit before now;
     requests = λ u l. m.requests u.unit l;
     pad = λ u p. m.pad u.unit p;
     sends = λ u t. if u.runs then m.sends u.unit u.cycle else None;
@@ -42,18 +41,14 @@ module _ {U : Type 0} (m : UnitMachine U) where
   clocked_laws p = record {
     keeps_pad = λ s t l i h. kept (λ u. m.pad u i) s l (p.keeps_pad s.unit s.cycle l i) s.runs h;
     keeps_requests = λ s t l h. kept (λ u. m.requests u l) s l (p.keeps_requests s.unit s.cycle l) s.runs h;
-    keeps_hears = λ s t l before now h. kept (λ u. m.hears u before now) s l (p.keeps_hears s.unit s.cycle l before now) s.runs h;
     keeps_silent = λ s t h. silent s (p.keeps_silent s.unit s.cycle) s.runs h;
     deaf = λ s t l k h. same s l l k k (p.deaf s.unit s.cycle l k) s.runs h;
-    unheard = λ s t before now h none. same s before now now now (λ d. p.unheard s.unit s.cycle before now d none) s.runs h;
-    unheard_requests = λ s before now none. p.unheard_requests s.unit before now none;
     reads_pad = λ s t a i. p.reads_pad s.unit s.cycle a i;
     writes_pad = λ s t a x i h. p.writes_pad s.unit s.cycle a x i h;
     bits_pad = λ s t a k x i h. p.bits_pad s.unit s.cycle a k x i h;
     taken_pad = λ s v i. p.taken_pad s.unit v i;
     power_laws = record {
       keeps_rouses = λ s t l k h. refl;
-      unheard_rouses = λ s before now h. refl;
       keeps_resets = λ s t u l h. refl;
       resets_due = λ s t h. refl;
       wdr_pad = λ s t i. refl;

@@ -1,6 +1,7 @@
 pub mod Bits
 pub mod Pad
 pub mod UnitMachine
+pub mod Unheard
 pub mod Coming
 pub mod Lagging
 pub mod Both

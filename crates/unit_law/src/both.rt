@@ -111,12 +111,6 @@ impl<U: Unit, G: Group> Group for Both<U, G> {
         self.first.step(cycle, before, now, more)
     }
 
-    #[inline(always)]
-    fn stay(&self, cycle: u32, before: &[Level], now: &[Level]) {
-        self.first.stay(cycle, before, now);
-        self.second.stay(cycle, before, now);
-    }
-
     #[inline]
     fn due(&self) -> u32 {
         self.first.due().min(self.second.due())

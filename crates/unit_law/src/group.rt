@@ -3,6 +3,7 @@ ghost use Rattle.std.specs.Prelude.{◌≡◌, ℕ, ◌+◌, ◌-◌, ◌<◌, �
 ghost use Rattle.sim_base.specs.declared.signal.Level.{Level};
 ghost use Rattle.sim_base.specs.declared.signal.Level.TheVariants as levels;
 ghost use Rattle.unit_law.specs.UnitMachine.{UnitMachine, Laws, least, steps, IsQuiet, FirstDue};
+ghost use Rattle.unit_law.specs.Unheard.{Unheard};
 ghost use Rattle.unit_law.specs.Pad.{joined};
 ghost use Rattle.unit_law.specs.Both.{first_of_two};
 ghost use Rattle.unit_law.specs.Placed.{StepMoves, IsWithin};
@@ -39,11 +40,11 @@ pub trait Group {
     fn has(reg: u8) -> bool
         ensures { result ≡ machine.has reg };
 
-    /// Whether one of them takes notice of a change of the levels.
+    /// Whether one of them takes notice of a change of the levels: where none does they may be asked on the others too.
     fn hears(&self, before: &[Level], now: &[Level]) -> bool
         requires before { length before.now ≡ PORT_PINS }
         requires levels { length now.now ≡ PORT_PINS }
-        ensures { (l : List Level) (t : ℕ) → stands self.now l t → result ≡ machine.hears (state self.now t) before.now now.now };
+        ensures { result ≡ false → (t : ℕ) → stands self.now before.now t → Unheard machine (state self.now t) t before.now now.now × stands self.now now.now t };
 
     /// Whether a read of the register leaves them as they are.
     fn reading_keeps(reg: u8) -> bool
@@ -100,12 +101,6 @@ pub trait Group {
         ensures pads { StepMoves machine (state self.old cycle) cycle before.now now.now result.1 }
         ensures state { state self.new (cycle + 1) ≡ machine.step (state self.old cycle) cycle before.now now.now }
         ensures stands { stands self.new now.now (cycle + 1) };
-
-    /// Levels change of which they take no notice: nothing needs to be done.
-    fn stay(&self, cycle: u32, before: &[Level], now: &[Level])
-        requires here { stands self.now before.now cycle }
-        requires deaf { machine.hears (state self.now cycle) before.now now.now ≡ false }
-        ensures { stands self.now now.now cycle };
 
     /// The first cycle with an event, or `MOST_CYCLES`.
     fn due(&self) -> u32
@@ -179,7 +174,8 @@ pub fn wait<G: Group>(group: &G, cycle: u32, to: u32, levels: &[Level])
     let _ = levels;
 }
 
-/// Whether a unit has an event or takes notice of the change of the levels; `due` is the first cycle with an event.
+/// Whether a unit has an event or takes notice of the change of the levels; `due` is the first cycle with an event. Where none
+/// does, nothing needs to be done.
 #[inline]
 pub fn notices<G: Group>(group: &G, due: u32, cycle: u32, before: &[Level], now: &[Level]) -> bool
     requires due { due ≡ G.until group.now }
@@ -187,7 +183,8 @@ pub fn notices<G: Group>(group: &G, due: u32, cycle: u32, before: &[Level], now:
     requires levels { length now.now ≡ PORT_PINS }
     requires here { G.stands group.now before.now cycle }
     ensures quiet { result ≡ false → cycle < due }
-    ensures deaf { result ≡ false → G.machine.hears (G.state group.now cycle) before.now now.now ≡ false }
+    ensures unheard { result ≡ false → Unheard G.machine (G.state group.now cycle) cycle before.now now.now }
+    ensures stands { result ≡ false → G.stands group.now now.now cycle }
 {
     if due <= cycle {
         true

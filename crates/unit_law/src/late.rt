@@ -110,9 +110,6 @@ impl<U: Unit> Group for Late<U> {
         (first_of_two(byte, others.0), hull(others.1, moved))
     }
 
-    #[inline(always)]
-    fn stay(&self, _cycle: u32, _before: &[Level], _now: &[Level]) {}
-
     #[inline]
     fn due(&self) -> u32 {
         self.due

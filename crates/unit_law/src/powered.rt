@@ -118,12 +118,6 @@ impl<A: AwakeGroup, B: Group + Drop> Group for Powered<A, B> {
         self.awake.step(cycle, before, now, more)
     }
 
-    #[inline(always)]
-    fn stay(&self, cycle: u32, before: &[Level], now: &[Level]) {
-        self.awake.stay(cycle, before, now);
-        self.clocked.stay(self.clock.own(cycle), before, now);
-    }
-
     #[inline]
     fn due(&self) -> u32 {
         self.awake.due().min(self.clock.board(self.clocked.due()))

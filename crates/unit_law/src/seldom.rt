@@ -101,14 +101,8 @@ impl<G: Group> Group for Seldom<G> {
             self.request = self.group.request(now);
             moved
         } else {
-            self.group.stay(cycle, before, now);
             others
         }
-    }
-
-    #[inline(always)]
-    fn stay(&self, cycle: u32, before: &[Level], now: &[Level]) {
-        self.group.stay(cycle, before, now);
     }
 
     #[inline]

@@ -10,12 +10,6 @@ notices-requires-clause-due g c = c.requires.ready.due_is
 pub notices-requires-clause-here : goal.notices-requires-clause-here
 notices-requires-clause-here g c = c.requires.ready.asked
 
-pub stay-requires-clause-here : goal.stay-requires-clause-here
-stay-requires-clause-here g c = c.requires.ready.asked
-
-pub stay-requires-clause-deaf : goal.stay-requires-clause-deaf
-stay-requires-clause-deaf g c = c.notices.ensures.deaf c.if-notices.false
-
 pub returns-else-notices : goal.returns-else-notices
 returns-else-notices g c =
     let o = g.G.Group in
@@ -28,11 +22,11 @@ returns-else-notices g c =
     let r = c.requires.ready in
     let near = c.notices.ensures.quiet c.if-notices.false in
     let less : t < o.until s = omega (arith, near, r.due_is) in
-    let none = c.notices.ensures.deaf c.if-notices.false in
+    let none = c.notices.ensures.unheard c.if-notices.false in
     let first = g.met.G.Group.first s before t r.asked in
     let later : t ≤ t + 1 = omega arith in
     let soon : t + 1 ≤ o.until s = omega (arith, less) in
-    let on = g.met.G.Group.waits s now t (t + 1) c.stay.ensures later soon in
+    let on = g.met.G.Group.waits s now t (t + 1) (c.notices.ensures.stands c.if-notices.false) later soon in
     let waits = on.1 in
     let asked = on.0 in
     record {

@@ -1,5 +1,5 @@
-use Rattle.std.proofs.Common.{◌≡◌, ◌∙◌, ◌<◌, not, Bool, true, false, refl, sym, arith}
-use Rattle.unit_law.proofs.UnitLemmas.{rests_deaf}
+use Rattle.std.proofs.Common.{◌≡◌, ◌<◌, not, Bool, true, false, refl, arith}
+use Rattle.unit_law.proofs.UnheardLemmas.{rests_unheard}
 use Rattle.unit_law.proofs.late.rests.Goals as goal
 
 not_true : (b : Bool) → not b ≡ true → b ≡ false
@@ -7,8 +7,8 @@ not_true true h = cc
 not_true false h = refl
 
 pub returns-else-due-cycle : goal.returns-else-due-cycle
-returns-else-due-cycle g c = λ deaf.
+returns-else-due-cycle g c = λ none.
     let late = c.if-due-cycle.false in
     let less : c.args.cycle < c.args.due = omega (arith, late) in
-    rests_deaf g.U.Unit.machine g.met.U.Unit.laws (g.U.Unit.shows c.args.unit.now) c.args.due c.args.cycle c.args.before.now c.args.now.now c.requires.here less
-    (sym c.hears.ensures ∙ not_true c.hears.result deaf)
+    rests_unheard g.U.Unit.machine g.met.U.Unit.laws (g.U.Unit.shows c.args.unit.now) c.args.due c.args.cycle c.args.before.now c.args.now.now c.requires.here less
+    (c.hears.ensures (not_true c.hears.result none))

@@ -10,12 +10,6 @@ notices-requires-clause-due g c = c.requires.here.due_is
 pub notices-requires-clause-here : goal.notices-requires-clause-here
 notices-requires-clause-here g c = c.requires.here.here
 
-pub stay-requires-clause-here : goal.stay-requires-clause-here
-stay-requires-clause-here g c = c.requires.here.here
-
-pub stay-requires-clause-deaf : goal.stay-requires-clause-deaf
-stay-requires-clause-deaf g c = c.notices.ensures.deaf c.if-notices.false
-
 pub returns-then-notices-clause-stands : goal.returns-then-notices-clause-stands
 returns-then-notices-clause-stands g c = record {
   here = c.step-moved.ensures.stands;
@@ -36,11 +30,11 @@ returns-else-notices g c =
     let same = r.due_is in
     let near = c.notices.ensures.quiet c.if-notices.false in
     let less : t < o.until s = omega (arith, near, same) in
-    let none = c.notices.ensures.deaf c.if-notices.false in
+    let none = c.notices.ensures.unheard c.if-notices.false in
     let first = g.met.G.Group.first s before t r.here in
     let later : t ≤ t + 1 = omega arith in
     let soon : t + 1 ≤ o.until s = omega (arith, less) in
-    let on = g.met.G.Group.waits s now t (t + 1) c.stay.ensures later soon in
+    let on = g.met.G.Group.waits s now t (t + 1) (c.notices.ensures.stands c.if-notices.false) later soon in
     record {
       byte = ap (λ (x : Option ℕ). first_of_two x c.args.others.0) (pass_silent m laws (o.state s) t (o.until s) first less);
       others = λ p out. out;

@@ -1,0 +1,5 @@
+use Rattle.std.proofs.Common.{refl}
+use Rattle.avr_twi.proofs.twi.TwiUnit.hears.Goals as goal
+
+pub returns : goal.returns
+returns c = λ none n quiet. record { steps = λ due. refl; requests = refl; rouses = refl }
