@@ -10,7 +10,7 @@ use Rattle.avr_adc.specs.declared.registers.Register.{Register}
 use Rattle.avr_adc.specs.declared.registers.Register.TheVariants.{ADCL, ADCH, ADCSRA, ADCSRB, ADMUX}
 use Rattle.avr_adc.specs.Registers.{register_at}
 use Rattle.avr_adc.specs.Adc.{Adc, adc, divisor, begun, sampled, is_free_running, ended, stepped, after_read, started, controlled, with_control, with_register, kept}
-use Rattle.sheet_law.specs.Life.{Act, Nothing, Read, Write, WriteBit, Enter, acted, state, stepping}
+use Rattle.unit_life.specs.Life.{Act, Nothing, Read, Write, WriteBit, Enter, acted, state, stepping}
 use Rattle.sheet_law.specs.AdcConversion.{IsStarted, IsConverted, length_of, next_length}
 
 -- ---- what the processor does while a conversion is on the way

@@ -1,7 +1,3 @@
-mod BitLemmas
-mod SpiLemmas
-mod SpiBits
-pub mod SpiLaw
 pub mod AdcLaw
 pub mod UsartFrameLaw
 pub mod UsartReceptionLaw

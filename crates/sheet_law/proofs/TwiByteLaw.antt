@@ -17,9 +17,9 @@ use Rattle.avr_twi.specs.Status.{code}
 use Rattle.avr_twi.specs.Packet.{wanted, answered, packet, bit_of, is_sent, is_sent_of, data_after, data_of}
 use Rattle.avr_twi.specs.Master.{going, ended, lost, bit_over, sent}
 use Rattle.avr_twi.specs.Twi.{Twi, twi, half_period, open_drain, sda}
-use Rattle.sheet_law.specs.Life.{Act, state, stepping}
+use Rattle.unit_life.specs.Life.{Act, state, stepping}
 use Rattle.sheet_law.specs.TwiActions.{line_bit, sends, IsBegun, Holds, IsDone, data_reads, loses, IsByte, IsLost}
-use Rattle.sheet_law.proofs.BitLemmas.{bit_written}
+use Rattle.unit_life.proofs.BitLemmas.{bit_written}
 use Rattle.sheet_law.proofs.TwiHalves.{Ends, holds, follows, first_half, with_control}
 use Rattle.sheet_law.proofs.TwiLaw.{some, stands, On, on_to, ends_of, same_cycles, rebased, is_done}
 

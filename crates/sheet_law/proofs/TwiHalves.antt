@@ -14,7 +14,7 @@ use Rattle.avr_twi.specs.declared.master.Master.{Master}
 use Rattle.avr_twi.specs.Registers.{register_at}
 use Rattle.avr_twi.specs.Master.{sda_of, scl_of, going, acted as moved, advanced, free, begun, idle_begins, controlled}
 use Rattle.avr_twi.specs.Twi.{Twi, twi, half_period, prescaler, open_drain, sda, scl, with_register, kept}
-use Rattle.sheet_law.specs.Life.{Act, Nothing, Read, Write, WriteBit, Enter, acted, state, stepping}
+use Rattle.unit_life.specs.Life.{Act, Nothing, Read, Write, WriteBit, Enter, acted, state, stepping}
 use Rattle.sheet_law.specs.TwiActions.{IsBegun, Shows, Holds}
 
 -- ---- what the processor does while an action is on the way: it may write registers, but not clear TWEN

@@ -15,9 +15,9 @@ use Rattle.avr_twi.specs.declared.master.Master.{Master}
 use Rattle.avr_twi.specs.Status.{code}
 use Rattle.avr_twi.specs.Master.{going, ended, stopped, begun}
 use Rattle.avr_twi.specs.Twi.{Twi, twi, half_period, open_drain, sda, scl}
-use Rattle.sheet_law.specs.Life.{Act, state, stepping}
+use Rattle.unit_life.specs.Life.{Act, state, stepping}
 use Rattle.sheet_law.specs.TwiActions.{next_half, IsBegun, Holds, IsDone, IsFree, IsStart, IsStop}
-use Rattle.sheet_law.proofs.BitLemmas.{bit_written}
+use Rattle.unit_life.proofs.BitLemmas.{bit_written}
 use Rattle.sheet_law.proofs.TwiHalves.{Stands, Ends, holds, ends, follows, first_half, half_some, next_some, with_control}
 
 module _ (acts : ℕ → Act) (levels : ℕ → List Level) (u : Twi) (t : ℕ) where

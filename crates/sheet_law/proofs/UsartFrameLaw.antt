@@ -19,7 +19,7 @@ use Rattle.avr_usart.specs.Registers.{register_at}
 use Rattle.avr_usart.specs.Format.{frame_bits, has_parity, parity_bit, frame_bit}
 use Rattle.avr_usart.specs.Transmitter.{begun, loaded, frame_over, is_last, bit_over, transmitted, emitted, line, txd}
 use Rattle.avr_usart.specs.Usart.{Usart, usart, txen, format_of, after_read, with_register, kept}
-use Rattle.sheet_law.specs.Life.{Act, Nothing, Read, Write, WriteBit, Enter, acted, state, stepping}
+use Rattle.unit_life.specs.Life.{Act, Nothing, Read, Write, WriteBit, Enter, acted, state, stepping}
 use Rattle.sheet_law.specs.UsartFrame.{txd_is, IsLoaded, IsSent, last, ending}
 
 -- ---- what the processor does to the transmitter while a frame is on the way: at most it fills the buffer and clears TXC

@@ -17,9 +17,9 @@ use Rattle.avr_usart.specs.Registers.{register_at}
 use Rattle.avr_usart.specs.Format.{has_parity, parity_bit, is_parity}
 use Rattle.avr_usart.specs.Receiver.{deaf, differ, heard, next_bit, ended, sampled, is_start, received}
 use Rattle.avr_usart.specs.Usart.{Usart, usart, rxen, rxd, format_of, after_read, with_register, kept}
-use Rattle.sheet_law.specs.Life.{Act, Nothing, Read, Write, WriteBit, Enter, acted, before, state, stepping}
+use Rattle.unit_life.specs.Life.{Act, Nothing, Read, Write, WriteBit, Enter, acted, before, state, stepping}
 use Rattle.sheet_law.specs.UsartReception.{format, middle, line, stop, IsFalling, TakesNothing, IsNoise, IsReceived}
-use Rattle.sheet_law.proofs.BitLemmas.{bit_written, bits_written}
+use Rattle.unit_life.proofs.BitLemmas.{bit_written, bits_written}
 
 -- ---- what the processor does while a frame comes in: it may take bytes from the queue, but not clear RXEN
 

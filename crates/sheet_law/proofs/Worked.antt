@@ -1,16 +1,14 @@
 -- What the laws ask for comes about: small cases, worked by the definitions themselves.
 use Rattle.std.proofs.Common.{◌≡◌, ℕ, zero, suc, ◌≤◌, List, [], Bool, true, false, refl, arith}
-use Rattle.std.specs.Prelude.{◌&&◌, not, replicate}
+use Rattle.std.specs.Prelude.{replicate}
 use Rattle.std.proofs.lemmas.Bool.{agree_below, agree_below_at}
 use Rattle.sim_base.specs.declared.signal.Level.{Level}
 use Rattle.sim_base.specs.declared.signal.Level.TheVariants as levels
 use Rattle.unit_law.specs.Bits.{is_set}
-use Rattle.avr_spi.specs.Spi.{Spi, spi, is_master, ss_low}
 use Rattle.avr_adc.specs.Adc.{Adc, adc}
 use Rattle.avr_usart.specs.Usart.{Usart, usart, rxen}
 use Rattle.avr_twi.specs.Twi.{twi}
-use Rattle.sheet_law.specs.Life.{Act, Nothing, Read, Write, state, stepping}
-use Rattle.sheet_law.specs.SpiTransfer.{IsUndisturbed}
+use Rattle.unit_life.specs.Life.{Act, Nothing, Read, Write, state, stepping}
 use Rattle.sheet_law.specs.AdcConversion.{IsStarted}
 use Rattle.sheet_law.specs.UsartFrame.{IsLoaded}
 use Rattle.sheet_law.specs.UsartReception.{IsFalling}
@@ -28,19 +26,6 @@ high n = replicate 20 levels.High
 -- a test that computes to one answer in each of so many cycles
 always : (f : ℕ → Bool) (b : Bool) (k n : ℕ) → agree_below f (λ _. b) (suc k) ≡ true → n ≤ k → f n ≡ b
 always f b k n all le = agree_below_at f (λ _. b) (suc k) n all (omega (arith, le))
-
--- a master with SPI2X, whose SS is an output, and which polls SPSR
-master : Spi
-master = record (spi.reset) { spcr = 0x50; spsr = 1; ddrb = 0x2C }
-
-transfer : IsUndisturbed (polls 0x4E 0xA5 0x4D) high master 0 0xA5
-unfolding state polls high master
-transfer = record {
-  idle = refl;
-  written = refl;
-  master = λ n le. always (λ n. is_master (stepping spi (polls 0x4E 0xA5 0x4D) high master 0 n).spcr) true 16 n refl le;
-  unselected = λ n le. always (λ n. not (is_set (stepping spi (polls 0x4E 0xA5 0x4D) high master 0 n).ddrb 2) && ss_low (high n)) false 16 n refl le;
-}
 
 -- a conversion that is not the first, by half of the processor's clock
 ready : Adc

@@ -4,7 +4,7 @@ use Rattle.std.specs.Prelude.{◌≡◌, ℕ, ◌+◌, ◌*◌, ◌%◌, ◌≤�
 use Rattle.sim_base.specs.declared.signal.Level.{Level}
 use Rattle.unit_law.specs.Bits.{is_set}
 use Rattle.avr_adc.specs.Adc.{Adc, adc, begun, divisor, sampled, is_free_running}
-use Rattle.sheet_law.specs.Life.{Act, Write, state, stepping}
+use Rattle.unit_life.specs.Life.{Act, Write, state, stepping}
 
 -- The ADC is u at the beginning of cycle t.
 module _ (acts : ℕ → Act) (levels : ℕ → List Level) (u : Adc) (t : ℕ) where

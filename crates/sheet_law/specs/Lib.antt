@@ -1,5 +1,3 @@
-pub mod Life
-pub mod SpiTransfer
 pub mod AdcConversion
 pub mod UsartFrame
 pub mod UsartReception

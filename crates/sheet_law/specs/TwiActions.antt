@@ -8,7 +8,7 @@ use Rattle.avr_twi.specs.declared.packet.Kind.TheVariants.{SlaW, SlaR, DataOut, 
 use Rattle.avr_twi.specs.Packet.{answered}
 use Rattle.avr_twi.specs.Status.{code}
 use Rattle.avr_twi.specs.Twi.{Twi, twi, half_period, open_drain, sda, scl}
-use Rattle.sheet_law.specs.Life.{Act, Write, state, stepping}
+use Rattle.unit_life.specs.Life.{Act, Write, state, stepping}
 
 -- Bit i of a byte, and the answer, which is bit 8: what the master lets SDA be. Of a byte out the receiver answers; of a byte in the
 -- master does, with 0 where TWEA is set.

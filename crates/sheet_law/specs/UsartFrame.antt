@@ -9,7 +9,7 @@ use Rattle.avr_usart.specs.declared.format.Format.{Format}
 use Rattle.avr_usart.specs.Format.{frame_bits, has_parity, parity_bit}
 use Rattle.avr_usart.specs.Transmitter.{begun}
 use Rattle.avr_usart.specs.Usart.{Usart, usart, txen, format_of}
-use Rattle.sheet_law.specs.Life.{Act, Write, state, stepping}
+use Rattle.unit_life.specs.Life.{Act, Write, state, stepping}
 
 -- TXD is an output with this value, whatever DDRD and PORTD are
 abbrev pub txd_is : Bool → Pad

@@ -7,7 +7,7 @@ use Rattle.avr_usart.specs.declared.format.Format.{Format}
 use Rattle.avr_usart.specs.Format.{has_parity, parity_bit}
 use Rattle.avr_usart.specs.Receiver.{queued, is_full, differ}
 use Rattle.avr_usart.specs.Usart.{Usart, usart, rxen, rxd, format_of}
-use Rattle.sheet_law.specs.Life.{Act, before, state, stepping}
+use Rattle.unit_life.specs.Life.{Act, before, state, stepping}
 
 -- The USART is u at the beginning of cycle t.
 module _ (acts : ℕ → Act) (levels : ℕ → List Level) (u : Usart) (t : ℕ) where

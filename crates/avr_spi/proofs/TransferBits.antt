@@ -10,16 +10,16 @@ use Rattle.avr_spi.specs.declared.shifter.Transfer.{Transfer}
 use Rattle.avr_spi.specs.declared.shifter.Shifter.{Shifter}
 use Rattle.avr_spi.specs.Shifter.{mosi_of, going, bit_over, acted as moved, shifted, is_second}
 use Rattle.avr_spi.specs.Spi.{Spi, spi, is_master, ss_low, miso}
-use Rattle.sheet_law.specs.Life.{Act, before, state, stepping}
-use Rattle.sheet_law.specs.SpiTransfer.{place}
-use Rattle.sheet_law.proofs.SpiLemmas.{kept_act, one_cycle}
+use Rattle.unit_life.specs.Life.{Act, before, state, stepping}
+use Rattle.avr_spi.specs.SpiTransfer.{place}
+use Rattle.avr_spi.proofs.TransferLemmas.{kept_act, one_cycle}
 
--- d is the cycles of a bit, and h those of half a bit
-module _ (acts : ℕ → Act) (levels : ℕ → List Level) (u : Spi) (t x d h : ℕ) (two : d ≡ h + h) (least : 1 ≤ h)
-    (masters : (n : ℕ) → n ≤ 8 * d → is_master (stepping spi acts levels u t n).spcr ≡ true)
-    (unselected : (n : ℕ) → n ≤ 8 * d → (not (is_set (stepping spi acts levels u t n).ddrb 2) && ss_low (levels (t + n))) ≡ false) where
+-- The SPI is u where SPDR is written in cycle t, and v then; d is the cycles of a bit, and h those of half a bit.
+module _ (acts : ℕ → Act) (levels : ℕ → List Level) (u v : Spi) (t x d h : ℕ) (two : d ≡ h + h) (least : 1 ≤ h)
+    (masters : (n : ℕ) → n ≤ 8 * d → is_master (stepping spi acts levels v t n).spcr ≡ true)
+    (unselected : (n : ℕ) → n ≤ 8 * d → (not (is_set (stepping spi acts levels v t n).ddrb 2) && ss_low (levels (t + n))) ≡ false) where
   abbrev pub at : ℕ → Spi
-  at n = state spi acts levels u t n
+  at n = state spi acts levels v t n
 
   abbrev pub dord : Bool
   dord = is_set u.spcr 5
@@ -52,12 +52,12 @@ module _ (acts : ℕ → Act) (levels : ℕ → List Level) (u : Spi) (t x d h :
   steps : (n : ℕ) (y : Transfer) → n ≤ 8 * d → Stands n y → Steps n y (λ s. shifted s (Some y) (t + n) (input n))
   unfolding state
   steps n y le s =
-      let v = stepping spi acts levels u t n in
+      let now = stepping spi acts levels v t n in
       let k = kept_act (at n) (t + n) (acts (t + n)) y s.transfer (masters n le) in
-      let one = one_cycle v (t + n) (ss_low (before levels (t + n))) (ss_low (levels (t + n))) (input n) (unselected n le) in
+      let one = one_cycle now (t + n) (ss_low (before levels (t + n))) (ss_low (levels (t + n))) (input n) (unselected n le) in
       record {
-        old = v.shifter;
-        new = ap (λ (w : Spi). w.shifter) one ∙ ap (λ (o : Option Transfer). shifted v.shifter o (t + n) (input n)) (k.transfer ∙ s.transfer);
+        old = now.shifter;
+        new = ap (λ (w : Spi). w.shifter) one ∙ ap (λ (o : Option Transfer). shifted now.shifter o (t + n) (input n)) (k.transfer ∙ s.transfer);
         transfer = k.transfer ∙ s.transfer;
         mosi = k.mosi ∙ s.mosi;
         master = ap (λ (w : Spi). is_master w.spcr) one ∙ masters n le;

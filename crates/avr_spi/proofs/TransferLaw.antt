@@ -12,12 +12,13 @@ use Rattle.avr_spi.specs.declared.shifter.Phase.TheVariants.{First}
 use Rattle.avr_spi.specs.declared.shifter.Transfer.{Transfer}
 use Rattle.avr_spi.specs.declared.shifter.Shifter.{Shifter}
 use Rattle.avr_spi.specs.Shifter.{divisor, half_bit, differ, sck}
-use Rattle.avr_spi.specs.Spi.{Spi, spi, is_master, looked, ss_low, miso}
-use Rattle.sheet_law.specs.Life.{Act, Write, acted, before, state}
-use Rattle.sheet_law.specs.SpiTransfer.{cycles_of_bit, place, first_half, IsUndisturbed, IsTransferred}
-use Rattle.sheet_law.proofs.BitLemmas.{bit_written, bits_written}
-use Rattle.sheet_law.proofs.SpiLemmas.{first_cycle, was_master, was_unselected, with_transfer}
-use Rattle.sheet_law.proofs.SpiBits.{bit, Stands, Half, in_first, in_second, ends, next}
+use Rattle.avr_spi.specs.declared.registers.Register.TheVariants.{SPDR}
+use Rattle.avr_spi.specs.Spi.{Spi, spi, is_master, looked, stepped, with_register, ss_low, miso}
+use Rattle.unit_life.specs.Life.{Act, Nothing, acted, before, state}
+use Rattle.avr_spi.specs.SpiTransfer.{cycles_of_bit, place, first_half, IsUndisturbed, IsTransferred, Transfers}
+use Rattle.unit_life.proofs.BitLemmas.{bit_written, bits_written}
+use Rattle.avr_spi.proofs.TransferLemmas.{first_cycle, was_master, was_unselected, with_transfer}
+use Rattle.avr_spi.proofs.TransferBits.{bit, Stands, Half, in_first, in_second, ends, next}
 
 -- ---- the table of the cycles of a bit
 
@@ -72,9 +73,12 @@ sck_second true false = refl
 sck_second false true = refl
 sck_second false false = refl
 
-module _ (acts : ℕ → Act) (levels : ℕ → List Level) (u : Spi) (t x : ℕ) (free : IsUndisturbed acts levels u t x) where
+module _ (acts : ℕ → Act) (levels : ℕ → List Level) (u : Spi) (t x : ℕ) (free : IsUndisturbed acts levels u (with_register u t SPDR x) t x) where
+  abbrev v : Spi
+  v = with_register u t SPDR x
+
   abbrev at : ℕ → Spi
-  at n = state spi acts levels u t n
+  at n = state spi acts levels v t n
 
   abbrev d : ℕ
   d = cycles_of_bit (is_set u.spsr 0) (u.spcr % 4)
@@ -92,10 +96,10 @@ module _ (acts : ℕ → Act) (levels : ℕ → List Level) (u : Spi) (t x : ℕ
   least = (two_halves (is_set u.spsr 0) (u.spcr % 4)).1
 
   abbrev stands : ℕ → Transfer → Type 0
-  stands = Stands acts levels u t x d h two least free.master free.unselected
+  stands = Stands acts levels u v t x d h two least free.master free.unselected
 
   abbrev bit_at : ℕ → Phase → ℕ → ℕ → Transfer
-  bit_at = bit acts levels u t x d h two least free.master free.unselected
+  bit_at = bit acts levels u v t x d h two least free.master free.unselected
 
   -- what MISO reads in the first cycle of the second half of bit i
   abbrev read_at : ℕ → Bool
@@ -111,19 +115,23 @@ module _ (acts : ℕ → Act) (levels : ℕ → List Level) (u : Spi) (t x : ℕ
   half : half_bit (is_set u.spsr 0) u.spcr ≡ h
   half = half_is (is_set u.spsr 0) (u.spcr % 4)
 
-  begins : stands 1 (bit_at 0 First (t + 0 + h) 0)
+  begins : stands 1 (bit_at 0 First (t + h) 0)
   unfolding state
   begins =
       let now : t + 0 ≡ t = omega arith in
-      let does : acts (t + 0) ≡ Write 0x4E x = ap acts now ∙ free.written in
-      let master : is_master u.spcr ≡ true = was_master u (t + 0) x free.idle
-      (subst (λ (a : Act). is_master (acted spi u (t + 0) a).spcr ≡ true) does (free.master 0 (omega arith))) in
-      let unselected : (not (is_set u.ddrb 2) && ss_low (levels (t + 0))) ≡ false = was_unselected u (t + 0) x free.idle (ss_low (levels (t + 0)))
-      (subst (λ (a : Act). (not (is_set (acted spi u (t + 0) a).ddrb 2) && ss_low (levels (t + 0))) ≡ false) does (free.unselected 0 (omega arith))) in
-      let one : at 1 ≡ looked (with_transfer u (t + 0) x free.idle) (t + 0) =
-      ap (λ (a : Act). spi.step (acted spi u (t + 0) a) (t + 0) (before levels (t + 0)) (levels (t + 0))) does
-      ∙ first_cycle u (t + 0) x free.idle (ss_low (before levels (t + 0))) (ss_low (levels (t + 0))) (miso (levels (t + 0))) master unselected
-      (ne_eqb (t + 0 + half_bit (is_set u.spsr 0) u.spcr) (t + 0) (later (t + 0) (half_bit (is_set u.spsr 0) u.spcr) (subst (λ (k : ℕ). 1 ≤ k) (sym half) least))) in
+      let nothing : acts (t + 0) ≡ Nothing = ap acts now ∙ free.nothing in
+      let master : is_master u.spcr ≡ true = was_master u t x free.idle
+      (subst (λ (a : Act). is_master (acted spi v (t + 0) a).spcr ≡ true) nothing (free.master 0 (omega arith))) in
+      let unselected : (not (is_set u.ddrb 2) && ss_low (levels (t + 0))) ≡ false = was_unselected u t x free.idle (ss_low (levels (t + 0)))
+      (subst (λ (a : Act). (not (is_set (acted spi v (t + 0) a).ddrb 2) && ss_low (levels (t + 0))) ≡ false) nothing (free.unselected 0 (omega arith))) in
+      let same : at 1 ≡ stepped v t (ss_low (before levels t)) (ss_low (levels t)) (miso (levels t)) =
+      ap (λ (a : Act). spi.step (acted spi v (t + 0) a) (t + 0) (before levels (t + 0)) (levels (t + 0))) nothing
+      ∙ ap (λ (c : ℕ). spi.step v c (before levels c) (levels c)) now in
+      let one : at 1 ≡ looked (with_transfer u t x free.idle) t =
+      same
+      ∙ first_cycle u t x free.idle (ss_low (before levels t)) (ss_low (levels t)) (miso (levels t)) master
+      (subst (λ (c : ℕ). (not (is_set u.ddrb 2) && ss_low (levels c)) ≡ false) now unselected)
+      (ne_eqb (t + half_bit (is_set u.spsr 0) u.spcr) t (later t (half_bit (is_set u.spsr 0) u.spcr) (subst (λ (k : ℕ). 1 ≤ k) (sym half) least))) in
       record {
         transfer = ap (λ (v : Spi). v.shifter.transfer) one ∙ ap kept_half half;
         mosi = ap (λ (v : Spi). v.shifter.mosi) one;
@@ -136,7 +144,7 @@ module _ (acts : ℕ → Act) (levels : ℕ → List Level) (u : Spi) (t x : ℕ
       later c k more e = omega (arith, more, e)
 
       kept_half : ℕ → Option Transfer
-      kept_half k = Some (record { dord = dord; cpol = is_set u.spcr 3; cpha = is_set u.spcr 2; half = k; byte = x; read = 0; place = 0; phase = First; event = t + 0 + k })
+      kept_half k = Some (record { dord = dord; cpol = is_set u.spcr 3; cpha = is_set u.spcr 2; half = k; byte = x; read = 0; place = 0; phase = First; event = t + k })
 
   -- ---- each bit
 
@@ -145,17 +153,20 @@ module _ (acts : ℕ → Act) (levels : ℕ → List Level) (u : Spi) (t x : ℕ
 
   bit_begins : (i : ℕ) → i < 8 → stands (suc (i * d)) (bit_at i First (t + i * d + h) (came i))
   unfolding came
-  bit_begins zero less = let none : 0 ≡ zero * d = omega arith in subst (λ (k : ℕ). stands (suc k) (bit_at 0 First (t + k + h) 0)) none begins
+  bit_begins zero less =
+      let none : 0 ≡ zero * d = omega arith in
+      let now : t ≡ t + zero * d = omega arith in
+      subst (λ (k : ℕ). stands (suc (zero * d)) (bit_at 0 First (k + h) 0)) now (subst (λ (k : ℕ). stands (suc k) (bit_at 0 First (t + h) 0)) none begins)
   bit_begins (suc i) less =
-      next acts levels u t x d h two least free.master free.unselected i (i * d) (came i) (within i (omega (arith, less))) (bit_begins i (omega (arith, less)))
+      next acts levels u v t x d h two least free.master free.unselected i (i * d) (came i) (within i (omega (arith, less))) (bit_begins i (omega (arith, less)))
       (suc i) (suc i * d) (omega (arith, less)) (omega arith) (suc-mul i d)
 
   first_of_bit : (i n : ℕ) → i < 8 → i * d < n → n ≤ i * d + h → stands n (bit_at i First (t + i * d + h) (came i))
-  first_of_bit i n less more le = in_first acts levels u t x d h two least free.master free.unselected i (i * d) (came i) (within i less) (bit_begins i less) n more le
+  first_of_bit i n less more le = in_first acts levels u v t x d h two least free.master free.unselected i (i * d) (came i) (within i less) (bit_begins i less) n more le
 
   rest_of_bit : (i n : ℕ) (less : i < 8) → i * d + h < n → n ≤ i * d + d →
-      Half acts levels u t x d h two least free.master free.unselected i (i * d) (came i) (within i less) (bit_begins i less) n
-  rest_of_bit i n less more le = in_second acts levels u t x d h two least free.master free.unselected i (i * d) (came i) (within i less) (bit_begins i less) n more le
+      Half acts levels u v t x d h two least free.master free.unselected i (i * d) (came i) (within i less) (bit_begins i less) n
+  rest_of_bit i n less more le = in_second acts levels u v t x d h two least free.master free.unselected i (i * d) (came i) (within i less) (bit_begins i less) n more le
 
   record OnWay (i n : ℕ) : Type 0 where
     phase : Phase
@@ -225,7 +236,7 @@ module _ (acts : ℕ → Act) (levels : ℕ → List Level) (u : Spi) (t x : ℕ
   unfolding came
   ends_so =
       let seven : 7 < 8 = omega arith in
-      let e = ends acts levels u t x d h two least free.master free.unselected 7 (7 * d) (came 7) (within 7 seven) (bit_begins 7 seven) in
+      let e = ends acts levels u v t x d h two least free.master free.unselected 7 (7 * d) (came 7) (within 7 seven) (bit_begins 7 seven) in
       let cycle : suc (7 * d + d) ≡ 8 * d + 1 = omega arith in
       subst IsOver cycle (record {
         transfer = ap (λ (s : Shifter). s.transfer) e.step.new;
@@ -234,8 +245,8 @@ module _ (acts : ℕ → Act) (levels : ℕ → List Level) (u : Spi) (t x : ℕ
         buffer = ap (λ (s : Shifter). s.buffer) e.step.new;
       })
 
-  pub spi_transfer : IsTransferred acts levels u t x
-  spi_transfer = record {
+  transferred : IsTransferred acts levels u v t x
+  transferred = record {
     mosi = λ i n less more le. pad_mosi i n (in_bit i n less more (subst (λ (k : ℕ). n ≤ k) (next_row i d) le));
     first = λ i n less more le. pad_sck n (bit_at i First (t + i * d + h) (came i)) (first_of_bit i n less more le) ∙ ap valued (sck_first (is_set u.spcr 3) (is_set u.spcr 2));
     second = λ i n less more le.
@@ -258,3 +269,6 @@ module _ (acts : ℕ → Act) (levels : ℕ → List Level) (u : Spi) (t x : ℕ
 
       next_row : (i k : ℕ) → (i + 1) * k ≡ i * k + k
       next_row i k = let e : i + 1 ≡ suc i = omega arith in ap (λ (j : ℕ). j * k) e ∙ suc-mul i k
+
+pub spi_transfers : (u : Spi) (t x : ℕ) → Transfers u (with_register u t SPDR x) t x
+spi_transfers u t x = record { transfer = λ acts levels free. transferred acts levels u t x free }

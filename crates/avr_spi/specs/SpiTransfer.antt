@@ -4,7 +4,7 @@ use Rattle.sim_base.specs.declared.signal.Level.{Level}
 use Rattle.unit_law.specs.Bits.{is_set}
 use Rattle.unit_law.specs.Pad.{untouched, valued}
 use Rattle.avr_spi.specs.Spi.{Spi, spi, is_master, ss_low, miso}
-use Rattle.sheet_law.specs.Life.{Act, Write, state, stepping}
+use Rattle.unit_life.specs.Life.{Act, Nothing, state, stepping}
 
 -- the cycles of a bit, by SPI2X and SPR1:0 ("Relationship Between SCK and the Oscillator Frequency")
 abbrev pub cycles_of_bit : Bool → ℕ → ℕ
@@ -20,11 +20,11 @@ abbrev pub first_half : Bool → Bool → Bool
 first_half cpol false = cpol
 first_half cpol true = not cpol
 
--- The SPI is u at the beginning of cycle t, in which x is written to SPDR.
-module _ (acts : ℕ → Act) (levels : ℕ → List Level) (u : Spi) (t x : ℕ) where
-  -- at the beginning of cycle t + n
+-- SPDR is written with x in cycle t; the SPI is u before that, and v then.
+module _ (acts : ℕ → Act) (levels : ℕ → List Level) (u v : Spi) (t x : ℕ) where
+  -- at the beginning of cycle t + n, from the next one on
   abbrev pub at : ℕ → Spi
-  at n = state spi acts levels u t n
+  at n = state spi acts levels v t n
 
   abbrev pub d : ℕ
   d = cycles_of_bit (is_set u.spsr 0) (u.spcr % 4)
@@ -38,13 +38,13 @@ module _ (acts : ℕ → Act) (levels : ℕ → List Level) (u : Spi) (t x : ℕ
   abbrev pub cpha : Bool
   cpha = is_set u.spcr 2
 
-  -- No transfer is on the way. Up to the end of this one SPE and MSTR are set, and SS is no input at Low. Whatever else the
-  -- processor does: it may poll SPSR, or write SPDR again.
+  -- No transfer is on the way. Up to the end of this one SPE and MSTR are set, and SS is no input at Low. In cycle t the processor does
+  -- nothing more; later it may do what it likes: it may poll SPSR, or write SPDR again.
   pub record IsUndisturbed : Type 0 where
     pub idle : u.shifter.transfer ≡ None
-    pub written : acts t ≡ Write 0x4E x
-    pub master : (n : ℕ) → n ≤ 8 * d → is_master (stepping spi acts levels u t n).spcr ≡ true
-    pub unselected : (n : ℕ) → n ≤ 8 * d → (not (is_set (stepping spi acts levels u t n).ddrb 2) && ss_low (levels (t + n))) ≡ false
+    pub nothing : acts t ≡ Nothing
+    pub master : (n : ℕ) → n ≤ 8 * d → is_master (stepping spi acts levels v t n).spcr ≡ true
+    pub unselected : (n : ℕ) → n ≤ 8 * d → (not (is_set (stepping spi acts levels v t n).ddrb 2) && ss_low (levels (t + n))) ≡ false
 
   pub record IsTransferred : Type 0 where
     -- bit i takes the cycles t + 1 + i d to t + (i + 1) d, and MOSI holds it all that time
@@ -64,3 +64,7 @@ module _ (acts : ℕ → Act) (levels : ℕ → List Level) (u : Spi) (t x : ℕ
     -- then no transfer is on the way, and MOSI keeps the last bit
     pub over : (at (8 * d + 1)).shifter.transfer ≡ None
     pub rests : (at (8 * d + 1)).shifter.mosi ≡ is_set x (place dord 7)
+
+-- What comes of the write, whatever the processor does then and whatever is on the pins.
+pub record Transfers (u v : Spi) (t x : ℕ) : Type 0 where
+  pub transfer : (acts : ℕ → Act) (levels : ℕ → List Level) → IsUndisturbed acts levels u v t x → IsTransferred acts levels u v t x

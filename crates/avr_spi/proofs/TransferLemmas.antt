@@ -12,7 +12,7 @@ use Rattle.avr_spi.specs.declared.shifter.Shifter.{Shifter}
 use Rattle.avr_spi.specs.Registers.{register_at}
 use Rattle.avr_spi.specs.Shifter.{begun, started, acted as moved, shifted}
 use Rattle.avr_spi.specs.Spi.{Spi, spi, is_master, is_selected, looked, deselected, stepped, accessed, after_read, loaded, with_register, kept}
-use Rattle.sheet_law.specs.Life.{Act, Nothing, Read, Write, WriteBit, Enter, acted}
+use Rattle.unit_life.specs.Life.{Act, Nothing, Read, Write, WriteBit, Enter, acted}
 
 -- what the processor does to the shift register while a transfer is on the way: at most it clears SPIF
 pub record IsKept (old new : Shifter) : Type 0 where
@@ -83,17 +83,17 @@ module _ (u : Spi) (t x : ℕ) (idle : u.shifter.transfer ≡ None) where
   abbrev pub with_transfer : Spi
   with_transfer = record (accessed u) { shifter = started (accessed u).shifter first }
 
-  written : acted spi u t (Write 0x4E x) ≡ (if is_master u.spcr then with_transfer else accessed u)
+  written : with_register u t SPDR x ≡ (if is_master u.spcr then with_transfer else accessed u)
   written = ap (λ (o : Option Transfer). loaded (accessed u) o t x) idle
 
-  pub was_master : is_master (acted spi u t (Write 0x4E x)).spcr ≡ true → is_master u.spcr ≡ true
+  pub was_master : is_master (with_register u t SPDR x).spcr ≡ true → is_master u.spcr ≡ true
   was_master h = ap is_master (sym (ap (λ (v : Spi). v.spcr) written ∙ written_spcr u (is_master u.spcr) (started (accessed u).shifter first))) ∙ h
 
-  pub was_unselected : (now : Bool) → (not (is_set (acted spi u t (Write 0x4E x)).ddrb 2) && now) ≡ false → (not (is_set u.ddrb 2) && now) ≡ false
+  pub was_unselected : (now : Bool) → (not (is_set (with_register u t SPDR x).ddrb 2) && now) ≡ false → (not (is_set u.ddrb 2) && now) ≡ false
   was_unselected now h = ap (λ (r : ℕ). not (is_set r 2) && now) (sym (ap (λ (v : Spi). v.ddrb) written ∙ written_ddrb u (is_master u.spcr) (started (accessed u).shifter first))) ∙ h
 
   pub first_cycle : (before now in_bit : Bool) → is_master u.spcr ≡ true → (not (is_set u.ddrb 2) && now) ≡ false → (first.event == t) ≡ false →
-      stepped (acted spi u t (Write 0x4E x)) t before now in_bit ≡ looked with_transfer t
+      stepped (with_register u t SPDR x) t before now in_bit ≡ looked with_transfer t
   first_cycle before now in_bit m free later =
       ap (λ (v : Spi). stepped v t before now in_bit) (written ∙ cond-true (is_master u.spcr) with_transfer (accessed u) m)
       ∙ one_cycle with_transfer t before now in_bit free
