@@ -1,17 +1,14 @@
 -- What the laws ask for comes about: small cases, worked by the definitions themselves.
-use Rattle.std.proofs.Common.{◌≡◌, ℕ, zero, suc, ◌≤◌, List, [], Bool, true, false, refl, arith}
+use Rattle.std.proofs.Common.{◌≡◌, ℕ, zero, suc, ◌≤◌, List, Bool, true, false, refl, arith}
 use Rattle.std.specs.Prelude.{replicate}
 use Rattle.std.proofs.lemmas.Bool.{agree_below, agree_below_at}
 use Rattle.sim_base.specs.declared.signal.Level.{Level}
 use Rattle.sim_base.specs.declared.signal.Level.TheVariants as levels
 use Rattle.unit_law.specs.Bits.{is_set}
 use Rattle.avr_adc.specs.Adc.{Adc, adc}
-use Rattle.avr_usart.specs.Usart.{Usart, usart, rxen}
 use Rattle.avr_twi.specs.Twi.{twi}
-use Rattle.unit_life.specs.Life.{Act, Nothing, Read, Write, state, stepping}
+use Rattle.unit_life.specs.Life.{Act, Read, Write, state, stepping}
 use Rattle.sheet_law.specs.AdcConversion.{IsStarted}
-use Rattle.sheet_law.specs.UsartFrame.{IsLoaded}
-use Rattle.sheet_law.specs.UsartReception.{IsFalling}
 use Rattle.sheet_law.specs.TwiActions.{IsBegun, IsFree}
 
 -- a write in cycle 0, and then one register read in each cycle
@@ -39,31 +36,6 @@ conversion = record {
   aden = refl;
   adsc = refl;
   enabled = λ n le. always (λ n. (stepping adc (polls 0x7A 0xC0 0x7A) high ready 0 n).aden) true 26 n refl le;
-}
-
--- 8 cycles a bit, 5 data bits, no parity, one stop bit
-idle : Usart
-idle = record (usart.reset) { ucsra = 2; ucsrb = 0x18; ucsrc = 0 }
-
-frame : IsLoaded (polls 0xC6 0x15 0xC0) high idle 0 0x15
-unfolding polls idle
-frame = record { idle = refl; written = refl; enabled = refl }
-
-nothing : ℕ → Act
-nothing n = Nothing
-
--- RXD falls in cycle 1
-falls : ℕ → List Level
-falls zero = replicate 20 levels.High
-falls (suc n) = []
-
-reception : IsFalling nothing falls idle 1 52
-unfolding state nothing falls idle
-reception = record {
-  idle = refl;
-  high = refl;
-  low = refl;
-  enabled = λ n le. always (λ n. rxen (stepping usart nothing falls idle 1 n)) true 52 n refl le;
 }
 
 -- a START on a free bus, and a STOP, with 8 cycles for half a period

@@ -1,4 +1,2 @@
 pub mod AdcConversion
-pub mod UsartFrame
-pub mod UsartReception
 pub mod TwiActions

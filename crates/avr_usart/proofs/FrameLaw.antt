@@ -20,7 +20,7 @@ use Rattle.avr_usart.specs.Format.{frame_bits, has_parity, parity_bit, frame_bit
 use Rattle.avr_usart.specs.Transmitter.{begun, loaded, frame_over, is_last, bit_over, transmitted, emitted, line, txd}
 use Rattle.avr_usart.specs.Usart.{Usart, usart, txen, format_of, after_read, with_register, kept}
 use Rattle.unit_life.specs.Life.{Act, Nothing, Read, Write, WriteBit, Enter, acted, state, stepping}
-use Rattle.sheet_law.specs.UsartFrame.{txd_is, IsLoaded, IsSent, last, ending}
+use Rattle.avr_usart.specs.UsartFrame.{txd_is, IsLoaded, IsSent, SendsFrame, last, ending}
 
 -- ---- what the processor does to the transmitter while a frame is on the way: at most it fills the buffer and clears TXC
 
@@ -320,34 +320,39 @@ bit_some u = by (is_set u.ucsra 1) u.ubrr
     by true n = omega arith
     by false n = omega arith
 
-module _ (acts : ℕ → Act) (levels : ℕ → List Level) (u : Usart) (t x : ℕ) (is : IsLoaded acts levels u t x) where
+module _ (acts : ℕ → Act) (levels : ℕ → List Level) (u : Usart) (t x : ℕ) (is : IsLoaded acts u t) where
   abbrev format : Format
   format = format_of u
 
-  abbrev loaded_now : Transmitter
-  loaded_now = record (u.transmitter) { frame = Some (begun format (t + 0) x) }
+  abbrev written : Usart
+  written = with_register u t UDR0 x
 
-  loads : (acted usart u (t + 0) (Write 0xC6 x)).transmitter ≡ loaded_now
+  abbrev loaded_now : Transmitter
+  loaded_now = record (u.transmitter) { frame = Some (begun format t x) }
+
+  loads : written.transmitter ≡ loaded_now
   loads =
-      ap (λ (o : Option Frame). loaded u.transmitter o (txen u) format (t + 0) x) is.idle
+      ap (λ (o : Option Frame). loaded u.transmitter o (txen u) format t x) is.idle
       ∙ cond-true (txen u) loaded_now u.transmitter is.enabled
 
-  first_cycle : (state usart acts levels u t 1).transmitter ≡ loaded_now
+  here : t + 0 ≡ t
+  here = omega arith
+
+  first_cycle : (state usart acts levels written t 1).transmitter ≡ loaded_now
   unfolding state
   first_cycle =
-      let now : t + 0 ≡ t = omega arith in
-      let does : acts (t + 0) ≡ Write 0xC6 x = ap acts now ∙ is.written in
-      ap (λ (a : Act). transmitted (acted usart u (t + 0) a).transmitter (acted usart u (t + 0) a).transmitter.frame (format_of (acted usart u (t + 0) a)) (t + 0)) does
+      let nothing : acts (t + 0) ≡ Nothing = ap acts here ∙ is.nothing in
+      ap (λ (a : Act). transmitted (acted usart written (t + 0) a).transmitter (acted usart written (t + 0) a).transmitter.frame (format_of (acted usart written (t + 0) a)) (t + 0)) nothing
       ∙ ap (λ (s : Transmitter). transmitted s s.frame format (t + 0)) loads
-      ∙ cond-false (t + 0 + format.bit == t + 0) (bit_over loaded_now (begun format (t + 0) x) format (t + 0)) loaded_now
-      (ne_eqb (t + 0 + format.bit) (t + 0) (later (t + 0) format.bit (bit_some u)))
+      ∙ cond-false (t + format.bit == t + 0) (bit_over loaded_now (begun format t x) format (t + 0)) loaded_now
+      (ne_eqb (t + format.bit) (t + 0) (later t format.bit (bit_some u)))
     where
-      later : (c k : ℕ) → 1 ≤ k → c + k ≡ c → ⊥
+      later : (c k : ℕ) → 1 ≤ k → c + k ≡ c + 0 → ⊥
       later c k more e = omega (arith, more, e)
 
-  pub usart_frame : IsSent acts levels u t format (x % 2 ^ format.size) 0
-  usart_frame = is_sent acts levels u t format (x % 2 ^ format.size) 0 (bit_some u)
-      (record { frame = ap (λ (s : Transmitter). s.frame) first_cycle; clear = λ none. none })
+  frame_sent : IsSent acts levels written t format (x % 2 ^ format.size) 0
+  frame_sent = is_sent acts levels written t format (x % 2 ^ format.size) 0 (bit_some u)
+      (record { frame = ap (λ (s : Transmitter). s.frame) first_cycle ∙ ap (λ (c : ℕ). Some (begun format c x)) (sym here); clear = λ none. none })
 
 module _ (acts : ℕ → Act) (levels : ℕ → List Level) (u : Usart) (t : ℕ) (format : Format) (y from z : ℕ) (sent : IsSent acts levels u t format y from)
     (waits : (ending acts levels u t format from).transmitter.buffer ≡ Some z) where
@@ -357,8 +362,14 @@ module _ (acts : ℕ → Act) (levels : ℕ → List Level) (u : Usart) (t : ℕ
   abbrev until : ℕ
   until = last acts levels u t format from
 
-  pub usart_next_frame : IsSent acts levels u t now (z % 2 ^ now.size) until
-  usart_next_frame =
+  next_sent : IsSent acts levels u t now (z % 2 ^ now.size) until
+  next_sent =
       let one_more : suc until ≡ until + 1 = omega arith in
       is_sent acts levels u t now (z % 2 ^ now.size) until (bit_some (ending acts levels u t format from))
       (record { frame = ap (λ (m : ℕ). (state usart acts levels u t m).transmitter.frame) one_more ∙ sent.begins z waits; clear = λ none. ap (λ (m : ℕ). (state usart acts levels u t m).transmitter.txc) one_more ∙ none })
+
+pub usart_sends_frame : (u : Usart) (t x : ℕ) → SendsFrame u (with_register u t UDR0 x) t x
+usart_sends_frame u t x = record {
+  frame = λ acts levels is. frame_sent acts levels u t x is;
+  next = λ acts levels format y from z sent waits. next_sent acts levels (with_register u t UDR0 x) t format y from z sent waits;
+}

@@ -1,27 +1,29 @@
 -- A frame that the USART receives (data sheet, "USART0", "Data Reception - The USART Receiver", "Receiver Flags"; one sample in the middle
 -- of each bit is the profile's).
-use Rattle.std.specs.Prelude.{◌≡◌, ℕ, ◌+◌, ◌*◌, ◌/◌, ◌^◌, ◌<◌, ◌≤◌, ◌||◌, not, Bool, true, false, List, None}
+use Rattle.std.specs.Prelude.{◌≡◌, ℕ, zero, suc, ◌+◌, ◌*◌, ◌/◌, ◌^◌, ◌<◌, ◌≤◌, ◌||◌, not, Bool, true, false, List, None}
 use Rattle.sim_base.specs.declared.signal.Level.{Level}
 use Rattle.unit_law.specs.Bits.{is_set, one}
 use Rattle.avr_usart.specs.declared.format.Format.{Format}
 use Rattle.avr_usart.specs.Format.{has_parity, parity_bit}
 use Rattle.avr_usart.specs.Receiver.{queued, is_full, differ}
 use Rattle.avr_usart.specs.Usart.{Usart, usart, rxen, rxd, format_of}
-use Rattle.unit_life.specs.Life.{Act, before, state, stepping}
+use Rattle.unit_life.specs.Life.{Act, state, stepping}
 
--- The USART is u at the beginning of cycle t.
-module _ (acts : ℕ → Act) (levels : ℕ → List Level) (u : Usart) (t : ℕ) where
-  -- at the beginning of cycle t + n
+-- The USART is u in the step of cycle t, and v after it.
+module _ (acts : ℕ → Act) (levels : ℕ → List Level) (u v : Usart) (t : ℕ) where
+  -- at the beginning of cycle t + n, after what the processor did in cycle t
   abbrev pub at : ℕ → Usart
-  at n = state usart acts levels u t n
+  at zero = u
+  at (suc n) = state usart acts levels v (suc t) n
 
   -- what the processor leaves in cycle t + n
   abbrev pub done : ℕ → Usart
-  done n = stepping usart acts levels u t n
+  done zero = u
+  done (suc n) = stepping usart acts levels v (suc t) n
 
   -- the format that holds when the frame begins
   abbrev pub format : Format
-  format = format_of (done 0)
+  format = format_of u
 
   -- bit k is sampled in cycle t + k B + B / 2
   abbrev pub middle : ℕ → ℕ
@@ -34,11 +36,11 @@ module _ (acts : ℕ → Act) (levels : ℕ → List Level) (u : Usart) (t : ℕ
   abbrev pub stop : ℕ
   stop = format.size + 1 + one (has_parity format.parity)
 
-  -- RXD falls in cycle t, while nothing is received; RXEN is set for so many cycles
-  pub record IsFalling (cycles : ℕ) : Type 0 where
-    pub idle : (done 0).receiver.reception ≡ None
-    pub high : rxd (before levels t) ≡ true
-    pub low : rxd (levels t) ≡ false
+  -- RXD falls in cycle t from these levels to those, while nothing is received; RXEN is set for so many cycles
+  pub record IsFalling (from to : List Level) (cycles : ℕ) : Type 0 where
+    pub idle : u.receiver.reception ≡ None
+    pub high : rxd from ≡ true
+    pub low : rxd to ≡ false
     pub enabled : (n : ℕ) → n ≤ cycles → rxen (done n) ≡ true
 
   -- the receiver takes nothing into its queue in the step of cycle t + n
@@ -67,3 +69,11 @@ module _ (acts : ℕ → Act) (levels : ℕ → List Level) (u : Usart) (t : ℕ
     pub dor : (at (middle stop + 1)).receiver.dor ≡ ((done (middle stop)).receiver.dor || is_full (done (middle stop)).receiver.queue)
     -- and the next start bit may come
     pub idle : (at (middle stop + 1)).receiver.reception ≡ None
+
+-- What comes of a falling RXD, whatever else the processor does then and whatever is on the pins.
+pub record HearsFrame (u v : Usart) (t : ℕ) (from to : List Level) : Type 0 where
+  -- a frame whose start bit reads 0 in its middle is received, and any other one is noise
+  pub frame : (acts : ℕ → Act) (levels : ℕ → List Level) → IsFalling acts levels u v t from to (middle acts levels u v t (stop acts levels u v t)) →
+      line acts levels u v t 0 ≡ false → IsReceived acts levels u v t
+  pub noise : (acts : ℕ → Act) (levels : ℕ → List Level) → IsFalling acts levels u v t from to (middle acts levels u v t 0) →
+      line acts levels u v t 0 ≡ true → IsNoise acts levels u v t

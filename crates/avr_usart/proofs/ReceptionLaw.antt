@@ -16,9 +16,9 @@ use Rattle.avr_usart.specs.declared.registers.Register.TheVariants.{UCSR0A, UCSR
 use Rattle.avr_usart.specs.Registers.{register_at}
 use Rattle.avr_usart.specs.Format.{has_parity, parity_bit, is_parity}
 use Rattle.avr_usart.specs.Receiver.{deaf, differ, heard, next_bit, ended, sampled, is_start, received}
-use Rattle.avr_usart.specs.Usart.{Usart, usart, rxen, rxd, format_of, after_read, with_register, kept}
+use Rattle.avr_usart.specs.Usart.{Usart, usart, rxen, rxd, format_of, after_read, with_register, kept as kept_bits, stepped}
 use Rattle.unit_life.specs.Life.{Act, Nothing, Read, Write, WriteBit, Enter, acted, before, state, stepping}
-use Rattle.sheet_law.specs.UsartReception.{format, middle, line, stop, IsFalling, TakesNothing, IsNoise, IsReceived}
+use Rattle.avr_usart.specs.UsartReception.{at as life, done as left, format, middle, line, stop, IsFalling, TakesNothing, IsNoise, IsReceived, HearsFrame}
 use Rattle.unit_life.proofs.BitLemmas.{bit_written, bits_written}
 
 -- ---- what the processor does while a frame comes in: it may take bytes from the queue, but not clear RXEN
@@ -46,7 +46,7 @@ kept_act : (v : Usart) (t : ℕ) (a : Act) → rxen (acted usart v t a) ≡ true
 kept_act v t Nothing on = refl
 kept_act v t (Read a) on = kept_read v (register_at a)
 kept_act v t (Write a x) on = kept_write v t (register_at a) (λ r. x) on
-kept_act v t (WriteBit a k b) on = kept_write v t (register_at a) (λ r. with_bit (kept v r) k b) on
+kept_act v t (WriteBit a k b) on = kept_write v t (register_at a) (λ r. with_bit (kept_bits v r) k b) on
 kept_act v t (Enter w) on = refl
 
 -- ---- one sample
@@ -80,35 +80,41 @@ parity_sample s r t high e there =
 
 -- ---- a frame on the way
 
-module _ (acts : ℕ → Act) (levels : ℕ → List Level) (u : Usart) (t : ℕ) where
+module _ (acts : ℕ → Act) (levels : ℕ → List Level) (u v : Usart) (t : ℕ) where
   abbrev at : ℕ → Usart
-  at n = state usart acts levels u t n
+  at n = life acts levels u v t n
 
   abbrev done : ℕ → Usart
-  done n = stepping usart acts levels u t n
+  done n = left acts levels u v t n
 
   record Stands (r : Reception) (n : ℕ) : Type 0 where
     reception : (at n).receiver.reception ≡ Some r
 
-  -- what the step of cycle t + n makes of the receiver
-  module _ (r : Reception) (n : ℕ) (enabled : rxen (done n) ≡ true) (s : Stands r n) where
-    steps : (at (suc n)).receiver ≡ (if r.sample == t + n then sampled (done n).receiver r (t + n) (rxd (levels (t + n))) else (done n).receiver)
+  kept : (n : ℕ) → rxen (done (suc n)) ≡ true → (done (suc n)).receiver.reception ≡ (at (suc n)).receiver.reception
+  kept n on = kept_act (at (suc n)) (suc t + n) (acts (suc t + n)) on
+
+  -- what the step of cycle t + suc n makes of the receiver
+  module _ (r : Reception) (n : ℕ) (enabled : rxen (done (suc n)) ≡ true) (s : Stands r (suc n)) where
+    steps : (at (suc (suc n))).receiver ≡ (if r.sample == t + suc n then sampled (done (suc n)).receiver r (t + suc n) (rxd (levels (t + suc n))) else (done (suc n)).receiver)
     unfolding state
-    steps = ap (λ (o : Option Reception). received (done n).receiver o (rxen (done n)) (format_of (done n)) (t + n) (rxd (before levels (t + n))) (rxd (levels (t + n))))
-        (kept_act (at n) (t + n) (acts (t + n)) enabled ∙ s.reception)
+    steps =
+        let same_cycle : suc t + n ≡ t + suc n = omega arith in
+        ap (λ (o : Option Reception). received (done (suc n)).receiver o (rxen (done (suc n))) (format_of (done (suc n))) (suc t + n) (rxd (before levels (suc t + n))) (rxd (levels (suc t + n))))
+        (kept n enabled ∙ s.reception)
+        ∙ ap (λ (c : ℕ). if r.sample == c then sampled (done (suc n)).receiver r c (rxd (levels c)) else (done (suc n)).receiver) same_cycle
 
     -- nothing changes before the next sample
-    waits : t + n < r.sample → (at (suc n)).receiver ≡ (done n).receiver
-    waits soon = steps ∙ cond-false (r.sample == t + n) _ _ (ne_eqb r.sample (t + n) (λ e. omega (arith, e, soon)))
+    waits : t + suc n < r.sample → (at (suc (suc n))).receiver ≡ (done (suc n)).receiver
+    waits soon = steps ∙ cond-false (r.sample == t + suc n) _ _ (ne_eqb r.sample (t + suc n) (λ e. omega (arith, e, soon)))
 
-    samples : r.sample ≡ t + n → (at (suc n)).receiver ≡ sampled (done n).receiver r (t + n) (rxd (levels (t + n)))
-    samples e = steps ∙ cond-true (r.sample == t + n) _ _ (eq-eqb r.sample (t + n) e)
+    samples : r.sample ≡ t + suc n → (at (suc (suc n))).receiver ≡ sampled (done (suc n)).receiver r (t + suc n) (rxd (levels (t + suc n)))
+    samples e = steps ∙ cond-true (r.sample == t + suc n) _ _ (eq-eqb r.sample (t + suc n) e)
 
-    still : (at (suc n)).receiver ≡ (done n).receiver → Stands r (suc n)
-    still same = record { reception = ap (λ (x : Receiver). x.reception) same ∙ kept_act (at n) (t + n) (acts (t + n)) enabled ∙ s.reception }
+    still : (at (suc (suc n))).receiver ≡ (done (suc n)).receiver → Stands r (suc (suc n))
+    still same = record { reception = ap (λ (x : Receiver). x.reception) same ∙ kept n enabled ∙ s.reception }
 
   -- a step that changes at most the reception
-  takes_nothing : (n : ℕ) (o : Option Reception) → (at (suc n)).receiver ≡ record ((done n).receiver) { reception = o } → TakesNothing acts levels u t n
+  takes_nothing : (n : ℕ) (o : Option Reception) → (at (suc n)).receiver ≡ record ((done n).receiver) { reception = o } → TakesNothing acts levels u v t n
   takes_nothing n o e =
       let one_more : n + 1 ≡ suc n = omega arith in
       record {
@@ -116,39 +122,44 @@ module _ (acts : ℕ → Act) (levels : ℕ → List Level) (u : Usart) (t : ℕ
         dor = ap (λ (m : ℕ). (at m).receiver.dor) one_more ∙ ap (λ (x : Receiver). x.dor) e;
       }
 
-  same_receiver : (n : ℕ) → (at (suc n)).receiver ≡ (done n).receiver → TakesNothing acts levels u t n
+  same_receiver : (n : ℕ) → (at (suc n)).receiver ≡ (done n).receiver → TakesNothing acts levels u v t n
   same_receiver n e = takes_nothing n (done n).receiver.reception e
 
   goes : (n : ℕ) (r z : Reception) → (at (suc n)).receiver ≡ record ((done n).receiver) { reception = Some r } → r ≡ z → Stands z (suc n)
   goes n r z e same = record { reception = ap (λ (x : Receiver). x.reception) e ∙ ap (λ (q : Reception). Some q) same }
 
-  -- up to the next sample, which is in cycle t + to
-  module _ (r : Reception) (from to : ℕ) (sample : r.sample ≡ t + to) (enabled : (n : ℕ) → n ≤ to → rxen (done n) ≡ true) (begins : Stands r from) where
-    stands : (k n : ℕ) → n ≡ from + k → n ≤ to → Stands r n
-    stands zero n e le = let here : from ≡ n = omega (arith, e) in subst (Stands r) here begins
+  -- after cycle t + from, up to the next sample, which is in cycle t + to
+  module _ (r : Reception) (from to : ℕ) (sample : r.sample ≡ t + to) (enabled : (n : ℕ) → n ≤ to → rxen (done n) ≡ true) (begins : Stands r (suc from)) where
+    stands : (k n : ℕ) → n ≡ suc (from + k) → n ≤ to → Stands r n
+    stands zero n e le = let here : suc from ≡ n = omega (arith, e) in subst (Stands r) here begins
     stands (suc k) n e le =
-        let next : suc (from + k) ≡ n = omega (arith, e) in
-        let on = enabled (from + k) (omega (arith, e, le)) in
-        let s = stands k (from + k) refl (omega (arith, e, le)) in
+        let next : suc (suc (from + k)) ≡ n = omega (arith, e) in
+        let on = enabled (suc (from + k)) (omega (arith, e, le)) in
+        let s = stands k (suc (from + k)) refl (omega (arith, e, le)) in
         subst (Stands r) next (still r (from + k) on s (waits r (from + k) on s (omega (arith, e, le, sample))))
 
-    stands_at : (n : ℕ) → from ≤ n → n ≤ to → Stands r n
-    stands_at n more le = stands (n - from) n (omega (arith, more)) le
+    stands_at : (n : ℕ) → from < n → n ≤ to → Stands r n
+    stands_at n more le = stands (n - suc from) n (omega (arith, more)) le
 
-    quiet : (n : ℕ) → from ≤ n → n < to → TakesNothing acts levels u t n
-    quiet n more less = same_receiver n (waits r n (enabled n (omega (arith, less))) (stands_at n more (omega (arith, less))) (omega (arith, less, sample)))
+    quiet : (n : ℕ) → from < n → n < to → TakesNothing acts levels u v t n
+    quiet zero more less = absurd (omega (arith, more))
+    quiet (suc n) more less = same_receiver (suc n) (waits r n (enabled (suc n) (omega (arith, less))) (stands_at (suc n) more (omega (arith, less))) (omega (arith, less, sample)))
 
-    samples_then : from ≤ to → (at (suc to)).receiver ≡ sampled (done to).receiver r (t + to) (rxd (levels (t + to)))
-    samples_then some = samples r to (enabled to (omega arith)) (stands_at to some (omega arith)) sample
+    samples_then : from < to → (at (suc to)).receiver ≡ sampled (done to).receiver r (t + to) (rxd (levels (t + to)))
+    samples_then some = by to refl
+      where
+        by : (m : ℕ) → m ≡ to → (at (suc m)).receiver ≡ sampled (done m).receiver r (t + m) (rxd (levels (t + m)))
+        by zero e = absurd (omega (arith, e, some))
+        by (suc m) e = samples r m (enabled (suc m) (omega (arith, e))) (stands_at (suc m) (omega (arith, e, some)) (omega (arith, e))) (sample ∙ ap (λ (c : ℕ). t + c) (sym e))
 
   abbrev f : Format
-  f = format acts levels u t
+  f = format acts levels u v t
 
   abbrev mid : ℕ → ℕ
-  mid k = middle acts levels u t k
+  mid k = middle acts levels u v t k
 
   abbrev heard_at : ℕ → Bool
-  heard_at k = line acts levels u t k
+  heard_at k = line acts levels u v t k
 
   -- bit k is sampled next
   abbrev bit : ℕ → ℕ → Bool → Reception
@@ -174,7 +185,7 @@ module _ (acts : ℕ → Act) (levels : ℕ → List Level) (u : Usart) (t : ℕ
       plain a b c d e = omega (arith, e)
 
   some_bit : (1 ≤ f.bit) × (1 ≤ f.bit / 2)
-  some_bit = by (is_set (done 0).ucsra 1) (done 0).ubrr
+  some_bit = by (is_set u.ucsra 1) u.ubrr
     where
       by : (b : Bool) (n : ℕ) → (1 ≤ (if b then 8 else 16) * (n + 1)) × (1 ≤ (if b then 8 else 16) * (n + 1) / 2)
       by true n = (omega arith, omega arith)
@@ -209,28 +220,27 @@ module _ (acts : ℕ → Act) (levels : ℕ → List Level) (u : Usart) (t : ℕ
 
   -- ---- from the falling edge on
 
-  module _ (cycles : ℕ) (falls : IsFalling acts levels u t cycles) where
-    begins : (at 1).receiver ≡ record ((done 0).receiver) { reception = Some (heard f (t + 0)) }
+  module _ (from to : List Level) (steps_so : v.receiver ≡ received u.receiver u.receiver.reception (rxen u) f t (rxd from) (rxd to))
+      (cycles : ℕ) (falls : IsFalling acts levels u v t from to cycles) where
+    begins : (at 1).receiver ≡ record (u.receiver) { reception = Some (heard f t) }
     unfolding state
     begins =
-        let now : t + 0 ≡ t = omega arith in
-        let high : rxd (before levels (t + 0)) ≡ true = ap (λ (k : ℕ). rxd (before levels k)) now ∙ falls.high in
-        let low : rxd (levels (t + 0)) ≡ false = ap (λ (k : ℕ). rxd (levels k)) now ∙ falls.low in
-        ap (λ (o : Option Reception). received (done 0).receiver o (rxen (done 0)) f (t + 0) (rxd (before levels (t + 0))) (rxd (levels (t + 0)))) falls.idle
-        ∙ cond-true (is_start (rxen (done 0)) (rxd (before levels (t + 0))) (rxd (levels (t + 0)))) (record ((done 0).receiver) { reception = Some (heard f (t + 0)) }) (done 0).receiver
-        (and_from _ _ (falls.enabled 0 (omega arith)) (and_from _ _ high (ap not low)))
+        steps_so
+        ∙ ap (λ (o : Option Reception). received u.receiver o (rxen u) f t (rxd from) (rxd to)) falls.idle
+        ∙ cond-true (is_start (rxen u) (rxd from) (rxd to)) (record (u.receiver) { reception = Some (heard f t) }) u.receiver
+        (and_from _ _ (falls.enabled 0 (omega arith)) (and_from _ _ falls.high (ap not falls.low)))
 
-    heard_is : heard f (t + 0) ≡ bit 0 0 false
+    heard_is : heard f t ≡ bit 0 0 false
     heard_is = ap at_cycle (plain t f.bit (f.bit / 2))
       where
         at_cycle : ℕ → Reception
         at_cycle s = record { format = f; place = 0; sample = s; byte = 0; upe = false }
 
-        plain : (a b c : ℕ) → a + 0 + c ≡ a + (0 * b + c)
+        plain : (a b c : ℕ) → a + c ≡ a + (0 * b + c)
         plain a b c = omega arith
 
     start_stands : Stands (bit 0 0 false) 1
-    start_stands = goes 0 (heard f (t + 0)) (bit 0 0 false) begins heard_is
+    start_stands = goes 0 (heard f t) (bit 0 0 false) begins heard_is
 
     some : 1 ≤ mid 0
     some = let s = some_bit.1 in omega (arith, s)
@@ -239,17 +249,17 @@ module _ (acts : ℕ → Act) (levels : ℕ → List Level) (u : Usart) (t : ℕ
       enabled_first : (n : ℕ) → n ≤ mid 0 → rxen (done n) ≡ true
       enabled_first n le = falls.enabled n (omega (arith, le, few))
 
-      up_to_start : (n : ℕ) → n < mid 0 → TakesNothing acts levels u t n
-      up_to_start zero less = takes_nothing 0 (Some (heard f (t + 0))) begins
-      up_to_start (suc n) less = quiet (bit 0 0 false) 1 (mid 0) refl enabled_first start_stands (suc n) (omega arith) less
+      up_to_start : (n : ℕ) → n < mid 0 → TakesNothing acts levels u v t n
+      up_to_start zero less = takes_nothing 0 (Some (heard f t)) begins
+      up_to_start (suc n) less = quiet (bit 0 0 false) 0 (mid 0) refl enabled_first start_stands (suc n) (omega arith) less
 
       start_sampled : (at (suc (mid 0))).receiver ≡ sampled (done (mid 0)).receiver (bit 0 0 false) (t + mid 0) (heard_at 0)
-      start_sampled = samples_then (bit 0 0 false) 1 (mid 0) refl enabled_first start_stands some
+      start_sampled = samples_then (bit 0 0 false) 0 (mid 0) refl enabled_first start_stands some
 
-      with_last : (n : ℕ) → n ≤ mid 0 → TakesNothing acts levels u t (mid 0) → TakesNothing acts levels u t n
+      with_last : (n : ℕ) → n ≤ mid 0 → TakesNothing acts levels u v t (mid 0) → TakesNothing acts levels u v t n
       with_last n le at_last = elim (cases_lt n (mid 0)) [
         | inl less ↦ up_to_start n less
-        | inr more ↦ let here : mid 0 ≡ n = omega (arith, le, more) in subst (TakesNothing acts levels u t) here at_last
+        | inr more ↦ let here : mid 0 ≡ n = omega (arith, le, more) in subst (TakesNothing acts levels u v t) here at_last
       ]
 
       noise_after : heard_at 0 ≡ true → (at (suc (mid 0))).receiver ≡ record ((done (mid 0)).receiver) { reception = None }
@@ -257,7 +267,7 @@ module _ (acts : ℕ → Act) (levels : ℕ → List Level) (u : Usart) (t : ℕ
           start_sampled ∙ ap (λ (b : Bool). sampled (done (mid 0)).receiver (bit 0 0 false) (t + mid 0) b) high
           ∙ noise_sample (done (mid 0)).receiver (bit 0 0 false) (t + mid 0) refl
 
-      noise_so : heard_at 0 ≡ true → IsNoise acts levels u t
+      noise_so : heard_at 0 ≡ true → IsNoise acts levels u v t
       noise_so high =
           let one_more : mid 0 + 1 ≡ suc (mid 0) = omega arith in
           record {
@@ -267,9 +277,9 @@ module _ (acts : ℕ → Act) (levels : ℕ → List Level) (u : Usart) (t : ℕ
 
     -- ---- a start bit that is one
 
-    module _ (whole : mid (stop acts levels u t) ≤ cycles) (clean : heard_at 0 ≡ false) where
+    module _ (whole : mid (stop acts levels u v t) ≤ cycles) (clean : heard_at 0 ≡ false) where
       abbrev last : ℕ
-      last = stop acts levels u t
+      last = stop acts levels u v t
 
       enabled_to : (k : ℕ) → k ≤ last → (n : ℕ) → n ≤ mid k → rxen (done n) ≡ true
       enabled_to k le n less = let m = mid_grows k last le in falls.enabled n (omega (arith, less, m, whole))
@@ -277,7 +287,7 @@ module _ (acts : ℕ → Act) (levels : ℕ → List Level) (u : Usart) (t : ℕ
       -- bit k is sampled next, and nothing came into the queue
       record Stage (k j x : ℕ) (e : Bool) : Type 0 where
         stands_so : Stands (bit k x e) (suc (mid j))
-        nothing : (n : ℕ) → n ≤ mid j → TakesNothing acts levels u t n
+        nothing : (n : ℕ) → n ≤ mid j → TakesNothing acts levels u v t n
 
       -- the sample of a bit that leaves the queue alone
       module _ (k j x : ℕ) (e : Bool) (is : k ≡ j + 1) (le : k ≤ last) (s : Stage k j x e) where
@@ -288,18 +298,18 @@ module _ (acts : ℕ → Act) (levels : ℕ → List Level) (u : Usart) (t : ℕ
         before_sample = let m = ap mid is ∙ mid_next j in let p = some_bit.0 in omega (arith, m, p)
 
         sample_of : (at (suc (mid k))).receiver ≡ sampled (done (mid k)).receiver (bit k x e) (t + mid k) (heard_at k)
-        sample_of = samples_then (bit k x e) (suc (mid j)) (mid k) refl on s.stands_so before_sample
+        sample_of = samples_then (bit k x e) (mid j) (mid k) refl on s.stands_so before_sample
 
-        until_sample : (n : ℕ) → n < mid k → TakesNothing acts levels u t n
+        until_sample : (n : ℕ) → n < mid k → TakesNothing acts levels u v t n
         until_sample n less = elim (cases_lt (mid j) n) [
-          | inl more ↦ quiet (bit k x e) (suc (mid j)) (mid k) refl on s.stands_so n more less
+          | inl more ↦ quiet (bit k x e) (mid j) (mid k) refl on s.stands_so n more less
           | inr early ↦ s.nothing n early
         ]
 
-        through_sample : TakesNothing acts levels u t (mid k) → (n : ℕ) → n ≤ mid k → TakesNothing acts levels u t n
+        through_sample : TakesNothing acts levels u v t (mid k) → (n : ℕ) → n ≤ mid k → TakesNothing acts levels u v t n
         through_sample at_last n le_n = elim (cases_lt n (mid k)) [
           | inl less ↦ until_sample n less
-          | inr more ↦ let here : mid k ≡ n = omega (arith, le_n, more) in subst (TakesNothing acts levels u t) here at_last
+          | inr more ↦ let here : mid k ≡ n = omega (arith, le_n, more) in subst (TakesNothing acts levels u v t) here at_last
         ]
 
         next_stage : (x' : ℕ) (e' : Bool) →
@@ -338,7 +348,7 @@ module _ (acts : ℕ → Act) (levels : ℕ → List Level) (u : Usart) (t : ℕ
 
       -- the first stop bit
       finish : (j : ℕ) (e : Bool) → last ≡ j + 1 → Stage last j (came f.size) e → is_parity f last ≡ false →
-          (has_parity f.parity ≡ false → e ≡ false) → (has_parity f.parity ≡ true → e ≡ differ (heard_at (f.size + 1)) (parity_bit f.parity (came f.size))) → IsReceived acts levels u t
+          (has_parity f.parity ≡ false → e ≡ false) → (has_parity f.parity ≡ true → e ≡ differ (heard_at (f.size + 1)) (parity_bit f.parity (came f.size))) → IsReceived acts levels u v t
       finish j e is s not_parity plain parity =
           let le : last ≤ last = omega arith in
           let over = sample_of last j (came f.size) e is le s
@@ -370,10 +380,10 @@ module _ (acts : ℕ → Act) (levels : ℕ → List Level) (u : Usart) (t : ℕ
           (sample_of (f.size + 1) f.size (came f.size) false refl small s
           ∙ parity_sample (done (mid (f.size + 1))).receiver (bit (f.size + 1) (came f.size) false) (t + mid (f.size + 1)) (heard_at (f.size + 1)) refl there)
 
-      received_so : IsReceived acts levels u t
+      received_so : IsReceived acts levels u v t
       received_so = by (has_parity f.parity) refl
         where
-          by : (p : Bool) → has_parity f.parity ≡ p → IsReceived acts levels u t
+          by : (p : Bool) → has_parity f.parity ≡ p → IsReceived acts levels u v t
           by false none =
               let last_is : last ≡ f.size + 1 = ap (λ (b : Bool). f.size + 1 + one b) none ∙ (let e : f.size + 1 + 0 ≡ f.size + 1 = omega arith in e) in
               finish f.size false last_is (subst (λ (k : ℕ). Stage k f.size (came f.size) false) (sym last_is) (data_stage f.size (omega arith)))
@@ -384,9 +394,11 @@ module _ (acts : ℕ → Act) (levels : ℕ → List Level) (u : Usart) (t : ℕ
               (and_right (has_parity f.parity) (last == f.size + 1) (ne_eqb last (f.size + 1) (λ z. omega (arith, z, last_is))))
               (λ none. absurd (both_ways (has_parity f.parity) none there)) (λ _. refl)
 
-  -- a frame whose start bit reads 0 in its middle, and a start bit that does not
-  pub usart_reception : IsFalling acts levels u t (middle acts levels u t (stop acts levels u t)) → line acts levels u t 0 ≡ false → IsReceived acts levels u t
-  usart_reception falls clean = received_so (middle acts levels u t (stop acts levels u t)) falls (omega arith) clean
-
-  pub usart_noise : IsFalling acts levels u t (middle acts levels u t 0) → line acts levels u t 0 ≡ true → IsNoise acts levels u t
-  usart_noise falls high = noise_so (middle acts levels u t 0) falls (omega arith) high
+-- a frame whose start bit reads 0 in its middle, and a start bit that does not
+pub usart_hears_frame : (u : Usart) (t : ℕ) (from to : List Level) → HearsFrame u (stepped u t (rxd from) (rxd to)) t from to
+usart_hears_frame u t from to = record {
+  frame = λ acts levels falls clean. let v = stepped u t (rxd from) (rxd to) in
+      received_so acts levels u v t from to refl (middle acts levels u v t (stop acts levels u v t)) falls (omega arith) clean;
+  noise = λ acts levels falls high. let v = stepped u t (rxd from) (rxd to) in
+      noise_so acts levels u v t from to refl (middle acts levels u v t 0) falls (omega arith) high;
+}
