@@ -1,4 +1,3 @@
-pub mod AdcLaw
 mod TwiHalves
 pub mod TwiLaw
 pub mod TwiByteLaw

@@ -1,14 +1,12 @@
 -- What the laws ask for comes about: small cases, worked by the definitions themselves.
-use Rattle.std.proofs.Common.{◌≡◌, ℕ, zero, suc, ◌≤◌, List, Bool, true, false, refl, arith}
+use Rattle.std.proofs.Common.{◌≡◌, ℕ, zero, suc, ◌≤◌, List, Bool, true, refl, arith}
 use Rattle.std.specs.Prelude.{replicate}
 use Rattle.std.proofs.lemmas.Bool.{agree_below, agree_below_at}
 use Rattle.sim_base.specs.declared.signal.Level.{Level}
 use Rattle.sim_base.specs.declared.signal.Level.TheVariants as levels
 use Rattle.unit_law.specs.Bits.{is_set}
-use Rattle.avr_adc.specs.Adc.{Adc, adc}
 use Rattle.avr_twi.specs.Twi.{twi}
 use Rattle.unit_life.specs.Life.{Act, Read, Write, state, stepping}
-use Rattle.sheet_law.specs.AdcConversion.{IsStarted}
 use Rattle.sheet_law.specs.TwiActions.{IsBegun, IsFree}
 
 -- a write in cycle 0, and then one register read in each cycle
@@ -23,20 +21,6 @@ high n = replicate 20 levels.High
 -- a test that computes to one answer in each of so many cycles
 always : (f : ℕ → Bool) (b : Bool) (k n : ℕ) → agree_below f (λ _. b) (suc k) ≡ true → n ≤ k → f n ≡ b
 always f b k n all le = agree_below_at f (λ _. b) (suc k) n all (omega (arith, le))
-
--- a conversion that is not the first, by half of the processor's clock
-ready : Adc
-ready = record (adc.reset) { aden = true; first = false }
-
-conversion : IsStarted (polls 0x7A 0xC0 0x7A) high ready 0 0xC0 26
-unfolding state polls high ready
-conversion = record {
-  idle = refl;
-  written = refl;
-  aden = refl;
-  adsc = refl;
-  enabled = λ n le. always (λ n. (stepping adc (polls 0x7A 0xC0 0x7A) high ready 0 n).aden) true 26 n refl le;
-}
 
 -- a START on a free bus, and a STOP, with 8 cycles for half a period
 start : IsBegun (polls 0xBC 0xA4 0xBC) high twi.reset 0 0xA4 24

@@ -1,2 +1,1 @@
-pub mod AdcConversion
 pub mod TwiActions

@@ -11,7 +11,7 @@ use Rattle.avr_adc.specs.declared.registers.Register.TheVariants.{ADCL, ADCH, AD
 use Rattle.avr_adc.specs.Registers.{register_at}
 use Rattle.avr_adc.specs.Adc.{Adc, adc, divisor, begun, sampled, is_free_running, ended, stepped, after_read, started, controlled, with_control, with_register, kept}
 use Rattle.unit_life.specs.Life.{Act, Nothing, Read, Write, WriteBit, Enter, acted, state, stepping}
-use Rattle.sheet_law.specs.AdcConversion.{IsStarted, IsConverted, length_of, next_length}
+use Rattle.avr_adc.specs.AdcConversion.{IsStarted, IsConverted, Converts, length_of, next_length}
 
 -- ---- what the processor does while a conversion is on the way
 
@@ -158,60 +158,59 @@ length_some : (b : Bool) (d : ℕ) → 2 ≤ d → 1 ≤ (if b then 25 else 13) 
 length_some true d h = omega (arith, h)
 length_some false d h = omega (arith, h)
 
-module _ (acts : ℕ → Act) (levels : ℕ → List Level) (u : Adc) (t x : ℕ) (is : IsStarted acts levels u t x (length_of acts levels u t x)) where
+module _ (acts : ℕ → Act) (levels : ℕ → List Level) (u : Adc) (t x : ℕ) (is : IsStarted acts levels u (with_control u t x) t x (length_of u x)) where
+  abbrev written : Adc
+  written = with_control u t x
+
   abbrev cycles : ℕ
-  cycles = length_of acts levels u t x
+  cycles = length_of u x
 
   abbrev first_one : Conversion
-  first_one = record { end = t + 0 + cycles; channel = u.admux % 16 }
+  first_one = record { end = t + cycles; channel = u.admux % 16 }
 
   abbrev after_write : Adc
   after_write = record (controlled u x) { first = false; conversion = Some first_one }
 
-  started_at : acted adc u (t + 0) (Write 0x7A x) ≡ after_write
+  started_at : written ≡ after_write
   started_at =
-      ap (λ (o : Option Conversion). if is_set x 7 && is_set x 6 then started (controlled u x) o (t + 0) else controlled u x) is.idle
+      ap (λ (o : Option Conversion). if is_set x 7 && is_set x 6 then started (controlled u x) o t else controlled u x) is.idle
       ∙ cond-true (is_set x 7 && is_set x 6) after_write (controlled u x) (and_from (is_set x 7) (is_set x 6) is.aden is.adsc)
 
-  begins : Stands acts levels u t 1 first_one 1
+  long : 1 ≤ cycles
+  long = length_some (u.first || not u.aden) (divisor (x % 8)) (divisor_some (x % 8))
+
+  begins : Stands acts levels written t 1 first_one 1
   unfolding state
   begins =
       let now : t + 0 ≡ t = omega arith in
-      let does : acts (t + 0) ≡ Write 0x7A x = ap acts now ∙ is.written in
-      let one : state adc acts levels u t 1 ≡ after_write =
-      ap (λ (a : Act). stepped (acted adc u (t + 0) a) (acted adc u (t + 0) a).conversion (t + 0) (levels (t + 0))) does
-      ∙ ap (λ (v : Adc). stepped v v.conversion (t + 0) (levels (t + 0))) started_at
+      let nothing : acts (t + 0) ≡ Nothing = ap acts now ∙ is.nothing in
+      let one : state adc acts levels written t 1 ≡ after_write =
+      ap (λ (a : Act). stepped (acted adc written (t + 0) a) (acted adc written (t + 0) a).conversion (t + 0) (levels (t + 0))) nothing
+      ∙ ap (λ (w : Adc). stepped w w.conversion (t + 0) (levels (t + 0))) started_at
       ∙ cond-false (first_one.end == t + 0) (ended after_write first_one (t + 0) (levels (t + 0))) after_write
-      (ne_eqb (t + 0 + cycles) (t + 0) (later (t + 0) cycles (length_some (u.first || not u.aden) (divisor (x % 8)) (divisor_some (x % 8))))) in
+      (ne_eqb (t + cycles) (t + 0) (later t cycles long)) in
       record {
-        conversion = ap (λ (v : Adc). v.conversion) one;
+        conversion = ap (λ (w : Adc). w.conversion) one;
         result = refl;
         clear = λ none. none;
-        first = ap (λ (v : Adc). v.first) one;
-        on = ap (λ (v : Adc). v.aden) one ∙ is.aden;
+        first = ap (λ (w : Adc). w.first) one;
+        on = ap (λ (w : Adc). w.aden) one ∙ is.aden;
       }
     where
-      later : (c k : ℕ) → 1 ≤ k → c + k ≡ c → ⊥
+      later : (c k : ℕ) → 1 ≤ k → c + k ≡ c + 0 → ⊥
       later c k more e = omega (arith, more, e)
 
-  same_end : t + 0 + cycles ≡ t + cycles
-  same_end = plain t cycles
-    where
-      plain : (a b : ℕ) → a + 0 + b ≡ a + b
-      plain a b = omega arith
-
-  pub adc_conversion : IsConverted acts levels u t 1 cycles (u.admux % 16)
-  adc_conversion =
-      converted acts levels u t 1 first_one cycles same_end is.enabled begins (length_some (u.first || not u.aden) (divisor (x % 8)) (divisor_some (x % 8)))
+  first_conversion : IsConverted acts levels written t 1 cycles (u.admux % 16)
+  first_conversion = converted acts levels written t 1 first_one cycles refl is.enabled begins long
 
 module _ (acts : ℕ → Act) (levels : ℕ → List Level) (u : Adc) (t from last channel : ℕ) (done : IsConverted acts levels u t from last channel)
     (free : is_free_running (stepping adc acts levels u t last) ≡ true) where
   abbrev ending : Adc
   ending = stepping adc acts levels u t last
 
-  pub adc_next_conversion : ((n : ℕ) → n ≤ last + next_length acts levels u t last → (stepping adc acts levels u t n).aden ≡ true) →
+  next_conversion : ((n : ℕ) → n ≤ last + next_length acts levels u t last → (stepping adc acts levels u t n).aden ≡ true) →
       IsConverted acts levels u t (last + 1) (last + next_length acts levels u t last) (ending.admux % 16)
-  adc_next_conversion enabled =
+  next_conversion enabled =
       converted acts levels u t (last + 1) (begun (t + last) 13 ending.adps ending.admux) (last + next_length acts levels u t last)
       (joined t last (next_length acts levels u t last)) enabled
       (record { conversion = done.begins free; result = refl; clear = λ none. none; first = done.further; on = done.enabled })
@@ -225,3 +224,9 @@ module _ (acts : ℕ → Act) (levels : ℕ → List Level) (u : Adc) (t from la
 
       later : (a b : ℕ) → 1 ≤ b → a + 1 ≤ a + b
       later a b h = omega (arith, h)
+
+pub adc_converts : (u : Adc) (t x : ℕ) → Converts u (with_register u t ADCSRA x) t x
+adc_converts u t x = record {
+  conversion = λ acts levels is. first_conversion acts levels u t x is;
+  next = λ acts levels from last channel done free enabled. next_conversion acts levels (with_register u t ADCSRA x) t from last channel done free enabled;
+}
