@@ -13,15 +13,16 @@ use Rattle.avr_twi.specs.declared.packet.Kind.TheVariants.{SlaW, SlaR, DataOut, 
 use Rattle.avr_twi.specs.declared.packet.Packet.{Packet}
 use Rattle.avr_twi.specs.declared.master.Stage.TheVariants.{BitLow, BitHigh, StopLow, StartRelease}
 use Rattle.avr_twi.specs.declared.master.Master.{Master}
+use Rattle.avr_twi.specs.declared.registers.Register.TheVariants.{TWCR}
 use Rattle.avr_twi.specs.Status.{code}
 use Rattle.avr_twi.specs.Packet.{wanted, answered, packet, bit_of, is_sent, is_sent_of, data_after, data_of}
 use Rattle.avr_twi.specs.Master.{going, ended, lost, bit_over, sent}
-use Rattle.avr_twi.specs.Twi.{Twi, twi, half_period, open_drain, sda}
+use Rattle.avr_twi.specs.Twi.{Twi, twi, half_period, with_register, open_drain, sda}
 use Rattle.unit_life.specs.Life.{Act, state, stepping}
-use Rattle.sheet_law.specs.TwiActions.{line_bit, sends, IsBegun, Holds, IsDone, data_reads, loses, IsByte, IsLost}
+use Rattle.avr_twi.specs.TwiActions.{line_bit, sends, IsBegun, Holds, IsDone, data_reads, loses, IsByte, IsLost, MasterDoes}
 use Rattle.unit_life.proofs.BitLemmas.{bit_written}
-use Rattle.sheet_law.proofs.TwiHalves.{Ends, holds, follows, first_half, with_control}
-use Rattle.sheet_law.proofs.TwiLaw.{some, stands, On, on_to, ends_of, same_cycles, rebased, is_done}
+use Rattle.avr_twi.proofs.HalvesLemmas.{Ends, Wrote, holds, follows, first_half, with_control}
+use Rattle.avr_twi.proofs.ActionLaw.{some, stands, On, on_to, ends_of, same_cycles, rebased, is_done, twi_start, twi_stop, twi_stop_start}
 
 -- the packet at its bit i, with what was read so far
 abbrev at_bit : Kind → ℕ → Bool → ℕ → ℕ → Packet
@@ -51,12 +52,12 @@ sent_is DataIn i = refl
 apart : (i n : ℕ) → i < n → n < 8 → (7 - i) ≢ (7 - n)
 apart i n h l e = omega (arith, h, l, e)
 
-module _ (acts : ℕ → Act) (levels : ℕ → List Level) (u : Twi) (t : ℕ) (kind : Kind) (twdr : ℕ) (twea : Bool) where
+module _ (acts : ℕ → Act) (levels : ℕ → List Level) (u v : Twi) (t : ℕ) (kind : Kind) (twdr : ℕ) (twea : Bool) where
   abbrev at : ℕ → Twi
-  at n = state twi acts levels u t n
+  at n = state twi acts levels v t n
 
   abbrev done : ℕ → Twi
-  done n = stepping twi acts levels u t n
+  done n = stepping twi acts levels v t n
 
   abbrev h : ℕ
   h = half_period u
@@ -66,11 +67,11 @@ module _ (acts : ℕ → Act) (levels : ℕ → List Level) (u : Twi) (t : ℕ) 
   until i = (i + 1) * (2 * h)
 
   abbrev reads : ℕ → Bool
-  reads i = data_reads acts levels u t (until i)
+  reads i = data_reads acts levels u v t (until i)
 
   -- whether another master sends a 0 where this one sends a 1
   abbrev is_lost : ℕ → Bool
-  is_lost i = loses acts levels u t kind twdr twea i
+  is_lost i = loses acts levels u v t kind twdr twea i
 
   -- what was read of the byte before bit i
   unfoldable came : ℕ → ℕ
@@ -94,7 +95,7 @@ module _ (acts : ℕ → Act) (levels : ℕ → List Level) (u : Twi) (t : ℕ) 
   ]
 
   -- TWEN is set for k bits, and the bus is kept up to the last of them
-  module _ (k : ℕ) (few : k ≤ 9) (on : On acts levels u t (k * (2 * h))) (begins : stands acts levels u t (BitLow (packet kind twdr twea)) 0 false)
+  module _ (k : ℕ) (few : k ≤ 9) (on : On acts levels u v t (k * (2 * h))) (begins : stands acts levels u v t (BitLow (packet kind twdr twea)) 0 false)
       (keeps : (j : ℕ) → suc j < k → is_lost j ≡ false) where
     abbrev base : ℕ → ℕ
     base i = i * (2 * h)
@@ -105,19 +106,19 @@ module _ (acts : ℕ → Act) (levels : ℕ → List Level) (u : Twi) (t : ℕ) 
     until_is : (i : ℕ) → base i + h + h ≡ until i
     until_is i = let one_more : i + 1 ≡ suc i = omega arith in sym (ap (λ (j : ℕ). j * (2 * h)) one_more ∙ row i)
 
-    on_high : (i : ℕ) → i < k → On acts levels u t (base i + h + h)
-    on_high i less = subst (On acts levels u t) (row i) (on_to acts levels u t (k * (2 * h)) (base (suc i)) (mul-le-mul_right (2 * h) less) on)
+    on_high : (i : ℕ) → i < k → On acts levels u v t (base i + h + h)
+    on_high i less = subst (On acts levels u v t) (row i) (on_to acts levels u v t (k * (2 * h)) (base (suc i)) (mul-le-mul_right (2 * h) less) on)
 
-    on_low : (i : ℕ) → i < k → On acts levels u t (base i + h)
-    on_low i less = on_to acts levels u t (base i + h + h) (base i + h) (omega arith) (on_high i less)
+    on_low : (i : ℕ) → i < k → On acts levels u v t (base i + h)
+    on_low i less = on_to acts levels u v t (base i + h + h) (base i + h) (omega arith) (on_high i less)
 
-    module _ (i : ℕ) (less : i < k) (starts : stands acts levels u t (BitLow (bit i)) (base i) false) where
-      high_begins : stands acts levels u t (BitHigh (bit i)) (base i + h) true
-      high_begins = follows acts levels u t (BitLow (bit i)) h (base i) false (some acts levels u t) (on_low i less) starts (BitHigh (bit i)) h
-          (ends_of acts levels u t (BitLow (bit i)) (base i) false (on_low i less) starts).new
+    module _ (i : ℕ) (less : i < k) (starts : stands acts levels u v t (BitLow (bit i)) (base i) false) where
+      high_begins : stands acts levels u v t (BitHigh (bit i)) (base i + h) true
+      high_begins = follows acts levels u v t (BitLow (bit i)) h (base i) false (some acts levels u v t) (on_low i less) starts (BitHigh (bit i)) h
+          (ends_of acts levels u v t (BitLow (bit i)) (base i) false (on_low i less) starts).new
 
-      abbrev final : Ends acts levels u t (BitHigh (bit i)) h (base i + h) true (some acts levels u t) (on_high i less) high_begins
-      final = ends_of acts levels u t (BitHigh (bit i)) (base i + h) true (on_high i less) high_begins
+      abbrev final : Ends acts levels u v t (BitHigh (bit i)) h (base i + h) true (some acts levels u v t) (on_high i less) high_begins
+      final = ends_of acts levels u v t (BitHigh (bit i)) (base i + h) true (on_high i less) high_begins
 
       -- what the last cycle leaves
       bit_ends : (at (suc (base i + h + h))).master ≡ bit_over (done (base i + h + h)).master (bit i) h (t + (base i + h + h)) (reads i)
@@ -131,30 +132,30 @@ module _ (acts : ℕ → Act) (levels : ℕ → List Level) (u : Twi) (t : ℕ) 
       lost_bit : is_lost i ≡ true → (at (suc (base i + h + h))).master ≡ lost (done (base i + h + h)).master (bit i)
       lost_bit yes_lost = bit_ends ∙ cond-true (is_sent (bit i) && (bit_of (bit i) && not (reads i))) _ _ (lost_is i ∙ yes_lost)
 
-      low_so : Holds acts levels u t (base i) (base i + h) (line_bit kind twdr twea i) false
-      low_so = subst (λ (b : Bool). Holds acts levels u t (base i) (base i + h) b false) (bit_is kind twdr twea i (came i))
-          (holds acts levels u t (BitLow (bit i)) h (base i) false (some acts levels u t) (on_low i less) starts)
+      low_so : Holds acts levels u v t (base i) (base i + h) (line_bit kind twdr twea i) false
+      low_so = subst (λ (b : Bool). Holds acts levels u v t (base i) (base i + h) b false) (bit_is kind twdr twea i (came i))
+          (holds acts levels u v t (BitLow (bit i)) h (base i) false (some acts levels u v t) (on_low i less) starts)
 
-      high_so : Holds acts levels u t (base i + h) (until i) (line_bit kind twdr twea i) true
-      high_so = subst (λ (b : Bool). Holds acts levels u t (base i + h) (until i) b true) (bit_is kind twdr twea i (came i))
-          (same_cycles acts levels u t (base i + h) (base i + h + h) (base i + h) (until i) (bit_of (bit i)) true refl (until_is i)
-          (holds acts levels u t (BitHigh (bit i)) h (base i + h) true (some acts levels u t) (on_high i less) high_begins))
+      high_so : Holds acts levels u v t (base i + h) (until i) (line_bit kind twdr twea i) true
+      high_so = subst (λ (b : Bool). Holds acts levels u v t (base i + h) (until i) b true) (bit_is kind twdr twea i (came i))
+          (same_cycles acts levels u v t (base i + h) (base i + h + h) (base i + h) (until i) (bit_of (bit i)) true refl (until_is i)
+          (holds acts levels u v t (BitHigh (bit i)) h (base i + h) true (some acts levels u v t) (on_high i less) high_begins))
 
-    bit_begins : (i : ℕ) → i < k → stands acts levels u t (BitLow (bit i)) (base i) false
+    bit_begins : (i : ℕ) → i < k → stands acts levels u v t (BitLow (bit i)) (base i) false
     unfolding came
     bit_begins zero less =
         let e : 0 ≡ zero * (2 * h) = omega arith in
-        rebased acts levels u t (BitLow (bit 0)) 0 (base 0) false e
-        (subst (λ (p : Packet). stands acts levels u t (BitLow p) 0 false) (packet_is kind twdr twea) begins)
+        rebased acts levels u v t (BitLow (bit 0)) 0 (base 0) false e
+        (subst (λ (p : Packet). stands acts levels u v t (BitLow p) 0 false) (packet_is kind twdr twea) begins)
     bit_begins (suc i) less =
         let early : i < k = omega (arith, less) in
         let s = bit_begins i early in
         let one_more : i + 1 ≡ suc i = omega arith in
         let went = kept_bit i early s (keeps i less) ∙ cond-false (i == 8) _ _ (ne_eqb i 8 (λ e. omega (arith, e, less, few))) in
-        let next = follows acts levels u t (BitHigh (bit i)) h (base i + h) true (some acts levels u t) (on_high i early) (high_begins i early s)
+        let next = follows acts levels u v t (BitHigh (bit i)) h (base i + h) true (some acts levels u v t) (on_high i early) (high_begins i early s)
         (BitLow (at_bit kind twdr twea (i + 1) (came (suc i)))) h went in
-        rebased acts levels u t (BitLow (bit (suc i))) (base i + h + h) (base (suc i)) false (sym (row i))
-        (subst (λ (j : ℕ). stands acts levels u t (BitLow (at_bit kind twdr twea j (came (suc i)))) (base i + h + h) false) one_more next)
+        rebased acts levels u v t (BitLow (bit (suc i))) (base i + h + h) (base (suc i)) false (sym (row i))
+        (subst (λ (j : ℕ). stands acts levels u v t (BitLow (at_bit kind twdr twea j (came (suc i)))) (base i + h + h) false) one_more next)
 
     -- the answer ends the byte
     module _ (whole : k ≡ 9) (answer : is_lost 8 ≡ false) where
@@ -170,12 +171,12 @@ module _ (acts : ℕ → Act) (levels : ℕ → List Level) (u : Twi) (t : ℕ) 
       end_is : suc end ≡ until 8 + 1
       end_is = let e = until_is 8 in omega (arith, e)
 
-      byte_so : IsByte acts levels u t kind twdr twea
+      byte_so : IsByte acts levels u v t kind twdr twea
       byte_so = record {
         low = λ i less. let in_k : i < k = omega (arith, less, whole) in low_so i in_k (bit_begins i in_k);
         high = λ i less. let in_k : i < k = omega (arith, less, whole) in high_so i in_k (bit_begins i in_k);
-        done = subst (λ (n : ℕ). IsDone acts levels u t (code (answered kind (reads 8))) (n + 1)) (until_is 8)
-            (is_done acts levels u t end (record ((done end).master) { twdr = data_after (bit 8) (done end).master.twdr }) (answered kind (reads 8)) (final 8 eighth (bit_begins 8 eighth)).on answered_so);
+        done = subst (λ (n : ℕ). IsDone acts levels u v t (code (answered kind (reads 8))) (n + 1)) (until_is 8)
+            (is_done acts levels u v t end (record ((done end).master) { twdr = data_after (bit 8) (done end).master.twdr }) (answered kind (reads 8)) (final 8 eighth (bit_begins 8 eighth)).on answered_so);
         byte = λ incoming i less.
             ap (λ (n : ℕ). is_set (at n).master.twdr (7 - i)) (sym end_is)
             ∙ ap (λ (m : Master). is_set m.twdr (7 - i)) answered_so
@@ -183,8 +184,8 @@ module _ (acts : ℕ → Act) (levels : ℕ → List Level) (u : Twi) (t : ℕ) 
             ∙ came_bits 8 (omega arith) i less;
       }
 
-  lost_so : (i : ℕ) → i < 9 → On acts levels u t ((i + 1) * (2 * h)) → stands acts levels u t (BitLow (packet kind twdr twea)) 0 false →
-      ((j : ℕ) → j < i → is_lost j ≡ false) → is_lost i ≡ true → IsLost acts levels u t i
+  lost_so : (i : ℕ) → i < 9 → On acts levels u v t ((i + 1) * (2 * h)) → stands acts levels u v t (BitLow (packet kind twdr twea)) 0 false →
+      ((j : ℕ) → j < i → is_lost j ≡ false) → is_lost i ≡ true → IsLost acts levels u v t i
   lost_so i less on begins keeps gone =
       let few : i + 1 ≤ 9 = omega (arith, less) in
       let kept : (j : ℕ) → suc j < i + 1 → is_lost j ≡ false = λ j before_it. keeps j (omega (arith, before_it)) in
@@ -206,24 +207,34 @@ module _ (acts : ℕ → Act) (levels : ℕ → List Level) (u : Twi) (t : ℕ) 
 
 -- ---- the byte that the status asks for
 
-module _ (acts : ℕ → Act) (levels : ℕ → List Level) (u : Twi) (t : ℕ) (kind : Kind) (x : ℕ) (twsta : is_set x 5 ≡ false) (twsto : is_set x 4 ≡ false)
-    (asks : wanted u.master.status u.master.twdr ≡ Some kind) where
+module _ (acts : ℕ → Act) (levels : ℕ → List Level) (u v : Twi) (t : ℕ) (kind : Kind) (x : ℕ) (twsta : is_set x 5 ≡ false) (twsto : is_set x 4 ≡ false)
+    (asks : wanted u.master.status u.master.twdr ≡ Some kind)
+    (wrote : Wrote acts levels u v t x) where
   abbrev width : ℕ
   width = 2 * half_period u
 
-  byte_begins : (cycles : ℕ) → IsBegun acts levels u t x cycles → stands acts levels u t (BitLow (packet kind u.master.twdr (is_set x 6))) 0 false
+  byte_begins : (cycles : ℕ) → IsBegun acts levels u v t x cycles → stands acts levels u v t (BitLow (packet kind u.master.twdr (is_set x 6))) 0 false
   byte_begins cycles is =
       let m = with_control u.master x in
-      first_half acts levels u t x cycles is (BitLow (packet kind u.master.twdr (is_set x 6)))
-      (cond-false (is_set x 4) (going m (StopLow (is_set x 5)) (half_period u) (t + 0)) _ twsto
-      ∙ cond-false (is_set x 5) (going m (StartRelease (not m.scl)) (half_period u) (t + 0)) _ twsta
-      ∙ ap (λ (o : Option Kind). sent m o (half_period u) (t + 0)) asks)
+      first_half acts levels u v t x cycles wrote is (BitLow (packet kind u.master.twdr (is_set x 6)))
+      (cond-false (is_set x 4) (going m (StopLow (is_set x 5)) (half_period u) t) _ twsto
+      ∙ cond-false (is_set x 5) (going m (StartRelease (not m.scl)) (half_period u) t) _ twsta
+      ∙ ap (λ (o : Option Kind). sent m o (half_period u) t) asks)
 
-  pub twi_byte : IsBegun acts levels u t x (9 * width) → ((i : ℕ) → i < 9 → loses acts levels u t kind u.master.twdr (is_set x 6) i ≡ false) → IsByte acts levels u t kind u.master.twdr (is_set x 6)
+  pub twi_byte : IsBegun acts levels u v t x (9 * width) → ((i : ℕ) → i < 9 → loses acts levels u v t kind u.master.twdr (is_set x 6) i ≡ false) → IsByte acts levels u v t kind u.master.twdr (is_set x 6)
   twi_byte is keeps =
-      byte_so acts levels u t kind u.master.twdr (is_set x 6) 9 (omega arith) is.enabled (byte_begins (9 * width) is) (λ j less. keeps j (omega (arith, less))) refl (keeps 8 (omega arith))
+      byte_so acts levels u v t kind u.master.twdr (is_set x 6) 9 (omega arith) is.enabled (byte_begins (9 * width) is) (λ j less. keeps j (omega (arith, less))) refl (keeps 8 (omega arith))
 
-  pub twi_loss : (i : ℕ) → i < 9 → IsBegun acts levels u t x ((i + 1) * width) → ((j : ℕ) → j < i → loses acts levels u t kind u.master.twdr (is_set x 6) j ≡ false) →
-      loses acts levels u t kind u.master.twdr (is_set x 6) i ≡ true → IsLost acts levels u t i
+  pub twi_loss : (i : ℕ) → i < 9 → IsBegun acts levels u v t x ((i + 1) * width) → ((j : ℕ) → j < i → loses acts levels u v t kind u.master.twdr (is_set x 6) j ≡ false) →
+      loses acts levels u v t kind u.master.twdr (is_set x 6) i ≡ true → IsLost acts levels u v t i
   twi_loss i less is keeps gone =
-      lost_so acts levels u t kind u.master.twdr (is_set x 6) i less is.enabled (byte_begins ((i + 1) * width) is) keeps gone
+      lost_so acts levels u v t kind u.master.twdr (is_set x 6) i less is.enabled (byte_begins ((i + 1) * width) is) keeps gone
+
+pub twi_does : (u : Twi) (t x : ℕ) → MasterDoes u (with_register u t TWCR x) t x
+twi_does u t x = record {
+  start = λ acts levels r is twsta twsto bus. twi_start acts levels u (with_register u t TWCR x) t x r refl is twsta twsto bus;
+  byte = λ acts levels kind twsta twsto asks is keeps. twi_byte acts levels u (with_register u t TWCR x) t kind x twsta twsto asks refl is keeps;
+  loss = λ acts levels kind twsta twsto asks i less is keeps gone. twi_loss acts levels u (with_register u t TWCR x) t kind x twsta twsto asks refl i less is keeps gone;
+  stop = λ acts levels is twsto. twi_stop acts levels u (with_register u t TWCR x) t x refl is twsto;
+  stop_start = λ acts levels r is twsto twsta bus. twi_stop_start acts levels u (with_register u t TWCR x) t x r refl is twsto twsta bus;
+}

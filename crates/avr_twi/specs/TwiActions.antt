@@ -1,14 +1,14 @@
 -- What the TWI does on its lines as a master (data sheet, "2-wire Serial Interface", "2-wire Serial Interface Bus Definition", "Data Transfer
 -- and Frame Format"; in which cycles the halves of a period begin is the profile's).
-use Rattle.std.specs.Prelude.{◌≡◌, ℕ, ◌+◌, ◌-◌, ◌*◌, ◌<◌, ◌≤◌, ◌==◌, ◌&&◌, not, Bool, true, false, if◌then◌else◌, List, None}
+use Rattle.std.specs.Prelude.{◌≡◌, ℕ, ◌+◌, ◌-◌, ◌*◌, ◌<◌, ◌≤◌, ◌==◌, ◌&&◌, not, Bool, true, false, if◌then◌else◌, List, None, Some}
 use Rattle.sim_base.specs.declared.signal.Level.{Level}
 use Rattle.unit_law.specs.Bits.{is_set}
 use Rattle.avr_twi.specs.declared.packet.Kind.{Kind}
 use Rattle.avr_twi.specs.declared.packet.Kind.TheVariants.{SlaW, SlaR, DataOut, DataIn}
-use Rattle.avr_twi.specs.Packet.{answered}
+use Rattle.avr_twi.specs.Packet.{answered, wanted}
 use Rattle.avr_twi.specs.Status.{code}
 use Rattle.avr_twi.specs.Twi.{Twi, twi, half_period, open_drain, sda, scl}
-use Rattle.unit_life.specs.Life.{Act, Write, state, stepping}
+use Rattle.unit_life.specs.Life.{Act, Nothing, state, stepping}
 
 -- Bit i of a byte, and the answer, which is bit 8: what the master lets SDA be. Of a byte out the receiver answers; of a byte in the
 -- master does, with 0 where TWEA is set.
@@ -25,23 +25,23 @@ sends SlaR i = not (i == 8)
 sends DataOut i = not (i == 8)
 sends DataIn i = i == 8
 
--- The TWI is u at the beginning of cycle t.
-module _ (acts : ℕ → Act) (levels : ℕ → List Level) (u : Twi) (t : ℕ) where
-  -- at the beginning of cycle t + n
+-- TWCR is written in cycle t; the TWI is u before that, and v then.
+module _ (acts : ℕ → Act) (levels : ℕ → List Level) (u v : Twi) (t : ℕ) where
+  -- at the beginning of cycle t + n, from the next one on
   abbrev pub at : ℕ → Twi
-  at n = state twi acts levels u t n
+  at n = state twi acts levels v t n
 
   -- half a period of SCL
   abbrev pub h : ℕ
   h = half_period u
 
-  -- In cycle t TWCR is written with TWINT and TWEN, and nothing is going on. TWEN is set for so many cycles.
+  -- TWINT and TWEN are written, and nothing is going on. In cycle t the processor does nothing more; for so many cycles it leaves TWEN set.
   pub record IsBegun (x cycles : ℕ) : Type 0 where
     pub idle : u.master.action ≡ None
-    pub written : acts t ≡ Write 0xBC x
+    pub nothing : acts t ≡ Nothing
     pub twint : is_set x 7 ≡ true
     pub twen : is_set x 2 ≡ true
-    pub enabled : (n : ℕ) → n ≤ cycles → is_set (stepping twi acts levels u t n).master.twcr 2 ≡ true
+    pub enabled : (n : ℕ) → n ≤ cycles → is_set (stepping twi acts levels v t n).master.twcr 2 ≡ true
 
   -- what is on the pins of SDA and SCL at the beginning of cycle t + n: each is released, or Low
   pub record Shows (sda_free scl_free : Bool) (n : ℕ) : Type 0 where
@@ -106,7 +106,7 @@ module _ (acts : ℕ → Act) (levels : ℕ → List Level) (u : Twi) (t : ℕ) 
 
   -- half a period at the end of a STOP
   abbrev pub next_half : ℕ
-  next_half = half_period (stepping twi acts levels u t (2 * h))
+  next_half = half_period (stepping twi acts levels v t (2 * h))
 
   pub record IsStop : Type 0 where
     -- both are Low, then SCL is released, and then SDA
@@ -117,3 +117,25 @@ module _ (acts : ℕ → Act) (levels : ℕ → List Level) (u : Twi) (t : ℕ) 
     pub twsto : is_set (at (2 * h + 1)).master.twcr 4 ≡ false
     pub twint : (at (2 * h + 1)).master.twint ≡ false
     pub twsr : code (at (2 * h + 1)).master.status ≡ 0xF8
+
+-- What comes of the write of x to TWCR, whatever else the processor does then and whatever is on the pins.
+pub record MasterDoes (u v : Twi) (t x : ℕ) : Type 0 where
+  -- TWSTA without TWSTO: a START, once the bus is free
+  pub start : (acts : ℕ → Act) (levels : ℕ → List Level) (r : ℕ) → IsBegun acts levels u v t x ((r + 3) * half_period u) → is_set x 5 ≡ true → is_set x 4 ≡ false →
+      IsFree acts levels u v t 0 (half_period u) r → IsStart acts levels u v t 0 (half_period u) r (not u.master.scl)
+  -- neither: the byte that the status asks for, if no bit of it is lost
+  pub byte : (acts : ℕ → Act) (levels : ℕ → List Level) (kind : Kind) → is_set x 5 ≡ false → is_set x 4 ≡ false → wanted u.master.status u.master.twdr ≡ Some kind →
+      IsBegun acts levels u v t x (9 * (2 * half_period u)) →
+      ((i : ℕ) → i < 9 → loses acts levels u v t kind u.master.twdr (is_set x 6) i ≡ false) → IsByte acts levels u v t kind u.master.twdr (is_set x 6)
+  -- and up to a bit that is
+  pub loss : (acts : ℕ → Act) (levels : ℕ → List Level) (kind : Kind) → is_set x 5 ≡ false → is_set x 4 ≡ false → wanted u.master.status u.master.twdr ≡ Some kind →
+      (i : ℕ) → i < 9 → IsBegun acts levels u v t x ((i + 1) * (2 * half_period u)) →
+      ((j : ℕ) → j < i → loses acts levels u v t kind u.master.twdr (is_set x 6) j ≡ false) → loses acts levels u v t kind u.master.twdr (is_set x 6) i ≡ true →
+      IsLost acts levels u v t i
+  -- TWSTO: a STOP
+  pub stop : (acts : ℕ → Act) (levels : ℕ → List Level) → IsBegun acts levels u v t x (2 * half_period u) → is_set x 4 ≡ true → IsStop acts levels u v t
+  -- with TWSTA too a START follows, while SCL is not held
+  pub stop_start : (acts : ℕ → Act) (levels : ℕ → List Level) (r : ℕ) →
+      IsBegun acts levels u v t x (2 * half_period u + (r + 3) * next_half acts levels u v t) → is_set x 4 ≡ true → is_set x 5 ≡ true →
+      IsFree acts levels u v t (2 * half_period u) (next_half acts levels u v t) r →
+      IsStart acts levels u v t (2 * half_period u) (next_half acts levels u v t) r false

@@ -15,7 +15,7 @@ use Rattle.avr_twi.specs.Registers.{register_at}
 use Rattle.avr_twi.specs.Master.{sda_of, scl_of, going, acted as moved, advanced, free, begun, idle_begins, controlled}
 use Rattle.avr_twi.specs.Twi.{Twi, twi, half_period, prescaler, open_drain, sda, scl, with_register, kept}
 use Rattle.unit_life.specs.Life.{Act, Nothing, Read, Write, WriteBit, Enter, acted, state, stepping}
-use Rattle.sheet_law.specs.TwiActions.{IsBegun, Shows, Holds}
+use Rattle.avr_twi.specs.TwiActions.{IsBegun, Shows, Holds}
 
 -- ---- what the processor does while an action is on the way: it may write registers, but not clear TWEN
 
@@ -76,12 +76,12 @@ kept_act v t (Enter w) a e on = same v.master a e
 
 -- ---- one cycle
 
-module _ (acts : ℕ → Act) (levels : ℕ → List Level) (u : Twi) (t : ℕ) where
+module _ (acts : ℕ → Act) (levels : ℕ → List Level) (u v : Twi) (t : ℕ) where
   abbrev pub at : ℕ → Twi
-  at n = state twi acts levels u t n
+  at n = state twi acts levels v t n
 
   abbrev pub done : ℕ → Twi
-  done n = stepping twi acts levels u t n
+  done n = stepping twi acts levels v t n
 
   -- half a period is on the way at the beginning of cycle t + n
   pub record Stands (stage : Stage) (half event : ℕ) (clock : Bool) (n : ℕ) : Type 0 where
@@ -116,7 +116,7 @@ module _ (acts : ℕ → Act) (levels : ℕ → List Level) (u : Twi) (t : ℕ) 
 
   -- ---- half a period
 
-  pub pads : (stage : Stage) (half event : ℕ) (clock : Bool) (n : ℕ) → Stands stage half event clock n → Shows acts levels u t (sda_of stage) clock n
+  pub pads : (stage : Stage) (half event : ℕ) (clock : Bool) (n : ℕ) → Stands stage half event clock n → Shows acts levels u v t (sda_of stage) clock n
   pads stage half event clock n s = record {
     data_pin = ap (λ (b : Bool). if b then open_drain (at n).master.sda else untouched) s.on ∙ ap open_drain s.line;
     clock_pin = ap (λ (b : Bool). if b then open_drain (at n).master.scl else untouched) s.on ∙ ap open_drain s.clock_is;
@@ -135,7 +135,7 @@ module _ (acts : ℕ → Act) (levels : ℕ → List Level) (u : Twi) (t : ℕ) 
     stands_at : (n : ℕ) → b < n → n ≤ b + half → Stands stage half (t + b + half) clock n
     stands_at n more le = stays (n - suc b) n (omega (arith, more)) le
 
-    pub holds : Holds acts levels u t b (b + half) (sda_of stage) clock
+    pub holds : Holds acts levels u v t b (b + half) (sda_of stage) clock
     holds n more le = let s = stands_at n more le in (pads stage half (t + b + half) clock n s, s.twint)
 
     last_stands : Stands stage half (t + b + half) clock (b + half)
@@ -187,29 +187,37 @@ module _ (acts : ℕ → Act) (levels : ℕ → List Level) (u : Twi) (t : ℕ) 
       plain : (k : ℕ) → 1 ≤ 8 + k
       plain k = omega arith
 
-  pub first_half : (x cycles : ℕ) (is : IsBegun acts levels u t x cycles) (stage : Stage) →
-      begun (with_control u.master x) (half_period u) (t + 0) ≡ going (with_control u.master x) stage (half_period u) (t + 0) →
+  -- the write leaves that in v
+  abbrev pub Wrote : ℕ → Type 0
+  Wrote x = v.master ≡ controlled u.master x (half_period u) t
+
+  pub first_half : (x cycles : ℕ) (wrote : Wrote x) (is : IsBegun acts levels u v t x cycles) (stage : Stage) →
+      begun (with_control u.master x) (half_period u) t ≡ going (with_control u.master x) stage (half_period u) t →
       Stands stage (half_period u) (t + 0 + half_period u) (scl_of stage u.master.scl) 1
   unfolding state
-  first_half x cycles is stage what =
+  first_half x cycles wrote is stage what =
       let now : t + 0 ≡ t = omega arith in
-      let does : acts (t + 0) ≡ Write 0xBC x = ap acts now ∙ is.written in
-      let wrote : controlled u.master x (half_period u) (t + 0) ≡ going (with_control u.master x) stage (half_period u) (t + 0) =
-      cond-false (not (is_set x 2)) (free (with_control u.master x)) _ (not_from_true (is_set x 2) is.twen)
-      ∙ cond-true (is_set x 7) (idle_begins (with_control u.master x) u.master.action (half_period u) (t + 0)) (with_control u.master x) is.twint
-      ∙ ap (λ (o : Option Action). idle_begins (with_control u.master x) o (half_period u) (t + 0)) is.idle
+      let nothing : acts (t + 0) ≡ Nothing = ap acts now ∙ is.nothing in
+      let begins : v.master ≡ going (with_control u.master x) stage (half_period u) t =
+      wrote
+      ∙ cond-false (not (is_set x 2)) (free (with_control u.master x)) _ (not_from_true (is_set x 2) is.twen)
+      ∙ cond-true (is_set x 7) (idle_begins (with_control u.master x) u.master.action (half_period u) t) (with_control u.master x) is.twint
+      ∙ ap (λ (o : Option Action). idle_begins (with_control u.master x) o (half_period u) t) is.idle
       ∙ what in
-      let went : (at 1).master ≡ going (with_control u.master x) stage (half_period u) (t + 0) =
-      ap (λ (a : Act). advanced (acted twi u (t + 0) a).master (acted twi u (t + 0) a).master.action (t + 0) (sda (levels (t + 0))) (scl (levels (t + 0))) (half_period (acted twi u (t + 0) a))) does
-      ∙ ap (λ (m : Master). advanced m m.action (t + 0) (sda (levels (t + 0))) (scl (levels (t + 0))) (half_period u)) wrote
-      ∙ cond-false (t + 0 + half_period u == t + 0) _ _ (ne_eqb (t + 0 + half_period u) (t + 0) (later (t + 0) (half_period u) half_some)) in
+      let went : (at 1).master ≡ going (with_control u.master x) stage (half_period u) t =
+      ap (λ (a : Act). advanced (acted twi v (t + 0) a).master (acted twi v (t + 0) a).master.action (t + 0) (sda (levels (t + 0))) (scl (levels (t + 0))) (half_period (acted twi v (t + 0) a))) nothing
+      ∙ ap (λ (m : Master). advanced m m.action (t + 0) (sda (levels (t + 0))) (scl (levels (t + 0))) (half_period v)) begins
+      ∙ cond-false (t + half_period u == t + 0) _ _ (ne_eqb (t + half_period u) (t + 0) (later t (half_period u) half_some)) in
       record {
-        action = ap (λ (m : Master). m.action) went;
+        action = ap (λ (m : Master). m.action) went ∙ ap (λ (c : ℕ). Some (event_at c)) (sym now);
         line = ap (λ (m : Master). m.sda) went;
         clock_is = ap (λ (m : Master). m.scl) went;
         twint = ap (λ (m : Master). m.twint) went ∙ and_right u.master.twint (not (is_set x 7)) (not_from_true (is_set x 7) is.twint);
         on = ap (λ (m : Master). is_set m.twcr 2) went ∙ is.twen;
       }
     where
-      later : (c k : ℕ) → 1 ≤ k → c + k ≡ c → ⊥
+      event_at : ℕ → Action
+      event_at c = record { half = half_period u; stage = stage; event = c + half_period u }
+
+      later : (c k : ℕ) → 1 ≤ k → c + k ≡ c + 0 → ⊥
       later c k more e = omega (arith, more, e)

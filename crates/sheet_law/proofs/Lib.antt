@@ -1,4 +1,0 @@
-mod TwiHalves
-pub mod TwiLaw
-pub mod TwiByteLaw
-mod Worked
