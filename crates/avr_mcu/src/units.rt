@@ -1,5 +1,5 @@
 //! The units with SRAM and the plain registers: the data bus of the core.
-ghost use Rattle.std.specs.Prelude.{◌≡◌, ◌+◌, ◌-◌, ◌<◌, ◌≤◌, ℕ, List, length, true, false, replicate, slice_index_or, IfOk, vec_len, if◌then◌else◌, ◌%◌, ◌==◌, ◌&&◌, not};
+ghost use Rattle.std.specs.Prelude.{◌≡◌, ◌+◌, ◌-◌, ◌<◌, ◌≤◌, ℕ, List, length, true, false, replicate, slice_index_or, IfOk, vec_len, if◌then◌else◌, ◌%◌, ◌==◌, ◌&&◌, not, nat_lt};
 ghost use Rattle.sim_base.specs.declared.signal.Level.{Level};
 ghost use Rattle.sim_base.specs.declared.signal.Level.TheVariants as levels;
 ghost use Rattle.unit_law.specs.Bits.{is_set};
@@ -7,6 +7,7 @@ ghost use Rattle.unit_law.specs.Pad.{driven};
 ghost use Rattle.unit_law.specs.UnitMachine.{steps, IsQuiet, FirstDue};
 ghost use Rattle.avr_adc.specs.declared.registers.TheConstants.{ADSC};
 ghost use Rattle.avr_mcu.specs.Devices.{devices};
+ghost use Rattle.avr_mcu.specs.Ready.{Calm};
 ghost use Rattle.avr_mcu.specs.Units.{UnitsAt, unit_bus, reset, pins, request, units_step, units_restarted, with_smcr, above, above_in, with_above, plain, plain_of, with_plain, register, after_read, with_register, with_register_bit, at_port, wire_pins, one_pin, pins_of, pins_of_bit, touched_by};
 ghost use Rattle.part_law.specs.Spans.{no_pins};
 ghost use Rattle.avr_core.specs.declared.state.Mode.TheVariants.{Sleep};
@@ -26,7 +27,7 @@ use part_law::Span;
 use sim_base::{Drive, Level, MOST_CYCLES, OutOfMemory};
 use std::alloc::{AllocError, Global};
 use std::marker::Model;
-use unit_law::{Group, PORT_PINS, Signal, has_bit, with_bit};
+use unit_law::{Group, PORT_PINS, Signal, VECTORS, has_bit, with_bit};
 
 /// General purpose I/O registers, which only keep what is written (data sheet, "Register Summary").
 const GPIOR0: u8 = 0x3E;
@@ -43,7 +44,7 @@ const SRAM: u16 = 0x0100;
 const SRAM_END: u16 = 0x0900;
 
 /// The units, before the step of `cycle`, with the levels of the Uno's pins in the cycle before. The devices may
-/// stand at an earlier cycle; `next` is what comes next of them.
+/// stand at an earlier cycle; `next` is what comes next of them. Cycles before `calm` bring instructions alone.
 #[derive(Drop)]
 pub(crate) struct Units {
     devices: Devices,
@@ -57,13 +58,14 @@ pub(crate) struct Units {
     cycle: u32,
     next: Next,
     touched: Span,
+    calm: u32,
 }
 
 impl Model for Units {
     ghost use Rattle.std.specs.Prelude.{◌≡◌, ◌≤◌, length, vec_len};
     ghost use Rattle.avr_mcu.specs.Devices.{Devices as State};
     ghost use Rattle.avr_mcu.specs.Units.{UnitsAt, pins};
-    ghost use Rattle.avr_mcu.specs.Ready.{Ready};
+    ghost use Rattle.avr_mcu.specs.Ready.{Ready, Calm};
     ghost use Rattle.sim_base.specs.declared.limits.TheConstants.{MOST_CYCLES};
     ghost use Rattle.avr_mcu.specs.declared.pins.TheConstants.{UNO_PINS};
 
@@ -77,6 +79,7 @@ impl Model for Units {
       held : length u.held ≡ UNO_PINS;
       ready : Ready ⟦<Devices as Group>⟧.machine (⟦<Devices as Group>⟧.state u.devices) (⟦<Devices as Group>⟧.until u.devices) (⟦<Devices as Group>⟧.stands u.devices) (pins u.held) u.cycle u.next.due u.next.request;
       end : u.cycle ≤ MOST_CYCLES;
+      calm : Calm u.calm u.next.due u.next.request u.touched;
     } };
 }
 
@@ -100,6 +103,7 @@ impl Units {
             cycle: 0,
             next,
             touched: Span::none(),
+            calm: 0,
         })
     }
 
@@ -134,6 +138,24 @@ impl Units {
         self.next.request
     }
 
+    /// Whether the cycles up to this one bring instructions alone. It may answer no where they do, until `calm_down` looks.
+    #[inline(always)]
+    pub(crate) fn is_calm(&self, next: u32) -> bool
+        ensures before { result ≡ true → (due : ℕ) × (FirstDue devices self.now.units.devices self.now.cycle due) × (next < due) }
+        ensures passes { result ≡ true → 26 ≤ request devices self.now.units self.now.held }
+        ensures still { result ≡ true → nat_lt self.now.touched.from self.now.touched.to ≡ false }
+    {
+        next < self.calm
+    }
+
+    /// Looks until when cycles bring instructions alone.
+    #[inline]
+    pub(crate) fn calm_down(&mut self)
+        ensures { self.new ≡ self.old }
+    {
+        self.calm = calm_of(self.next, self.touched);
+    }
+
     /// The pins of which a write since `begin` may have changed what they are asked for.
     #[inline]
     pub(crate) fn touched(&self) -> Span
@@ -154,6 +176,7 @@ impl Units {
     pub(crate) fn taken(&mut self, vector: u8)
         ensures { self.new ≡ record self.old { units = record (self.old.units) { devices = devices.taken self.old.units.devices vector } } }
     {
+        self.calm = 0;
         taken(
             &mut self.devices,
             &mut self.next,
@@ -204,6 +227,7 @@ impl Units {
     fn give(&mut self, signal: Signal)
         ensures { self.new ≡ record self.old { units = record (self.old.units) { devices = signalled devices signal self.old.units.devices self.old.cycle } } }
     {
+        self.calm = 0;
         give(
             &mut self.devices,
             &mut self.next,
@@ -261,6 +285,7 @@ impl Units {
         ensures pads { SameBut devices result.2 (devices.step self.old.units.devices self.old.cycle (pins self.old.held) (pins levels.now)) self.old.units.devices }
         ensures state { self.new ≡ record self.old { units = units_step devices self.old.units self.old.cycle self.old.held levels.now; held = levels.now; cycle = self.old.cycle + 1 } }
     {
+        self.calm = 0;
         let told = hear(
             &mut self.devices,
             &mut self.next,
@@ -282,6 +307,7 @@ impl Units {
         ensures pads { SameBut devices result.2 (devices.step self.old.units.devices self.old.cycle (pins self.old.held) (pins self.old.held)) self.old.units.devices }
         ensures state { self.new ≡ record self.old { units = units_step devices self.old.units self.old.cycle self.old.held self.old.held; cycle = self.old.cycle + 1 } }
     {
+        self.calm = 0;
         let told = turn(
             &mut self.devices,
             &mut self.next,
@@ -362,6 +388,7 @@ impl Units {
             &self.held[..PORT_PINS],
             reg,
         );
+        self.calm = calm_of(self.next, self.touched);
         match told {
             Some(value) => value,
             None => self.plain(reg),
@@ -387,8 +414,14 @@ impl Units {
             value,
         );
         match told {
-            Some(moves) => self.touched = touched_by(self.touched, moves, pins_of(reg)),
-            None => self.set_plain(reg, value),
+            Some(moves) => {
+                self.touched = touched_by(self.touched, moves, pins_of(reg));
+                self.calm = calm_of(self.next, self.touched);
+            }
+            None => {
+                self.calm = calm_of(self.next, self.touched);
+                self.set_plain(reg, value);
+            }
         }
     }
 
@@ -423,12 +456,30 @@ impl Units {
             value,
         );
         match told {
-            Some(moves) => self.touched = touched_by(self.touched, moves, pins_of_bit(reg, bit)),
+            Some(moves) => {
+                self.touched = touched_by(self.touched, moves, pins_of_bit(reg, bit));
+                self.calm = calm_of(self.next, self.touched);
+            }
             None => {
+                self.calm = calm_of(self.next, self.touched);
                 let byte = with_bit(self.plain(reg), bit, value);
                 self.set_plain(reg, byte);
             }
         }
+    }
+}
+
+// Before which cycle instructions come alone.
+#[inline]
+fn calm_of(next: Next, touched: Span) -> u32
+    ensures { Calm result next.due next.request touched }
+{
+    if touched.has_any() {
+        0
+    } else if next.request < VECTORS {
+        0
+    } else {
+        next.due
     }
 }
 

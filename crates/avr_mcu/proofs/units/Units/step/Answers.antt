@@ -5,6 +5,7 @@ use Rattle.avr_mcu.specs.Devices.{Devices}
 use Rattle.avr_mcu.specs.contracts.units.Units.{the_view}
 use Rattle.avr_mcu.proofs.UnitsLemmas.{units_held}
 use Rattle.avr_mcu.proofs.CallLemmas.{units_still}
+use Rattle.avr_mcu.proofs.CalmLemmas.{calm_none}
 use Rattle.avr_mcu.proofs.units.Units.step.Goals as goal
 
 pub hear-told-requires-clause-ready : goal.hear-told-requires-clause-ready
@@ -32,6 +33,7 @@ invariant_of-self c =
       held = ap length c.copy_from_slice.ensures.after ∙ c.requires.levels;
       ready = rw e c.hear-told.ensures.ready;
       end = omega (arith, c.requires.end);
+      calm = calm_none _ _ _;
     }
 
 pub returns-clause-resets : goal.returns-clause-resets

@@ -3,6 +3,7 @@ use Rattle.avr_mcu.specs.Devices.{Devices, devices}
 use Rattle.avr_mcu.specs.Units.{UnitsAt, pins}
 use Rattle.avr_mcu.specs.contracts.units.Units.{the_view}
 use Rattle.avr_mcu.proofs.UnitsLemmas.{units_at}
+use Rattle.avr_mcu.proofs.CalmLemmas.{calm_none}
 use Rattle.avr_mcu.proofs.units.Units.turn.Goals as goal
 
 pub turn-told-requires-clause-ready : goal.turn-told-requires-clause-ready
@@ -26,6 +27,7 @@ invariant_of-self c = record {
   held = c.self.invariant.held;
   ready = c.turn-told.ensures.ready;
   end = omega (arith, c.requires);
+  calm = calm_none _ _ _;
 }
 
 pub returns-clause-resets : goal.returns-clause-resets
