@@ -160,7 +160,7 @@ pub(crate) fn give<G: AwakeGroup>(
 
 // One cycle, from the levels before to those now: the byte that leaves, whether it ends in a reset of the watchdog, and the
 // pins of which it may have changed what they are asked for.
-#[inline]
+#[inline(always)]
 fn step<G: AwakeGroup>(
     group: &mut G,
     next: &mut Next,
@@ -212,7 +212,7 @@ pub(crate) fn hear<G: AwakeGroup>(
 }
 
 /// The same on levels that stay.
-#[inline]
+#[inline(always)]
 pub(crate) fn turn<G: AwakeGroup>(
     group: &mut G,
     next: &mut Next,

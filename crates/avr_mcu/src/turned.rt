@@ -52,7 +52,7 @@ pub(crate) fn tick(
 }
 
 // The same where a unit has an event.
-#[inline(never)]
+#[inline(always)]
 fn turn(core: &mut Core, units: &mut Units, next: u32, cycle: u32, touched: Span) -> Turned
     requires here { units.old.cycle ≡ cycle }
     requires end { cycle < MOST_CYCLES }

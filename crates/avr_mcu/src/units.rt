@@ -299,7 +299,7 @@ impl Units {
     }
 
     /// The same on the levels that it holds.
-    #[inline(never)]
+    #[inline(always)]
     pub(crate) fn turn(&mut self) -> (Option<u8>, bool, Span)
         requires end { self.old.cycle < MOST_CYCLES }
         ensures byte { result.0 ≡ devices.sends self.old.units.devices self.old.cycle }
