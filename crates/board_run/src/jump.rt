@@ -75,7 +75,7 @@ fn first_input(inputs: &[Input], input: usize, t: u32, n: u32) -> u32
 
 /// The first part that is due, and up to which cycle it is alone from cycle t on: no other part is due and the script says
 /// nothing.
-#[inline]
+#[inline(always)]
 fn first_alone(
     dues: &mut DueTree,
     inputs: &[Input],
@@ -128,7 +128,7 @@ impl<P: Part> Engine<P> {
     }
 
     /// The part that may go on by itself, and up to which cycle, not after n.
-    #[inline]
+    #[inline(always)]
     pub(crate) fn find_alone(&mut self, n: u32) -> Option<(u8, u32)>
         requires before { self.old.cycle < n }
         requires may { MayRun P.Part self.old }

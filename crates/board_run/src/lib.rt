@@ -22,5 +22,4 @@ mod unwatched;
 
 pub use board::{Board, RunEnd};
 pub use gather::{is_same_drive, level_of_net};
-pub use turn::take_turn;
 pub use unwatched::Unwatched;

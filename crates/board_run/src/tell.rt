@@ -49,8 +49,10 @@ fn set_pins<P: Part>(part: &P, span: Span, at: usize, nets: &mut Nets) -> bool
     let mut changed = false;
     for pin in from..to {
         let drive = part.drive(pin);
-        changed = changed | drives_other(nets, at + pin as usize, drive);
-        nets.set_drive(at + pin as usize, drive);
+        if drives_other(nets, at + pin as usize, drive) {
+            nets.set_drive(at + pin as usize, drive);
+            changed = true;
+        }
     }
     changed
 }

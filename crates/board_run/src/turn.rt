@@ -8,7 +8,7 @@ ghost use Rattle.board_run.specs.Parts.{has_part};
 ghost use Rattle.board_run.specs.Engine.{own_of, MayTurnOn, TurnedOn, MayTurnPart, TurnedTo, TurnedAt, TurnedPart};
 
 use crate::engine::Engine;
-use crate::gather::{find_input, put_levels};
+use crate::gather::find_input;
 use crate::part_set::PartSet;
 use event_queue::DueTree;
 use part_law::Part;
@@ -67,41 +67,8 @@ fn wake_late<P: Part, L: Ledger>(
     (byte, part.changed())
 }
 
-/// A part's turn in a cycle: where it is active it is woken on the levels of its pins' nets, for which there is room.
-#[inline]
-pub fn take_turn<P: Part, L: Ledger>(
-    part: &mut P,
-    due: &mut Option<u32>,
-    levels: &[Level],
-    nets: &[u16],
-    own: &mut [Level],
-    differs: bool,
-    input: Option<u16>,
-    t: u32,
-    steps: &mut Steps<L>,
-) -> (Option<u8>, bool)
-    requires end { t < MOST_CYCLES }
-    requires may { MayTurn P.machine P.state P.now P.wake_count t due.old part.old }
-    requires pins { length nets.now ≡ length (P.machine.drives (P.state part.old)) }
-    requires room { length own.old ≡ length nets.now }
-    requires differs { differs ≡ true → 0 < t → P.machine.held (P.state part.old) ≢ map (level_at levels.now) nets.now }
-    ensures turn { turned P.machine P.state P.now P.wake_count (to_wake due.old t input differs)
-        t (map (level_at levels.now) nets.now) input part.old part.new result.0 result.1 }
-    ensures first { IsFirstDue P.machine (P.state part.new) (P.now part.new) due.new }
-    ensures later { (u : ℕ) → due.new ≡ Some u → t < u }
-    ensures others { result.1 ≡ true → OthersStay P.machine P.state P.now P.wake_count P.moves t part.old part.new }
-    ensures steps { steps.new ≡ steps.old + (if to_wake due.old t input differs then 1 else 0) }
-{
-    if is_to_wake(*due, t, input, differs) {
-        put_levels(levels, nets, own);
-        wake_late(part, due, own, input, t, steps)
-    } else {
-        (None, false)
-    }
-}
-
-/// The same where the levels of its pins are at hand.
-#[inline]
+/// A part's turn in a cycle: where it is active it is woken on the levels of its pins.
+#[inline(always)]
 fn take_turn_on<P: Part, L: Ledger>(
     part: &mut P,
     due: &mut Option<u32>,

@@ -1,10 +1,11 @@
-use Rattle.std.proofs.Common.{◌≡◌, ◌≢◌, ◌<◌, ◌≤◌, ◌+◌, ◌∙◌, inl, inr, ℕ, ap, sym, arith, length, List, length-set}
+use Rattle.std.proofs.Common.{◌≡◌, ◌≢◌, ◌<◌, ◌≤◌, ◌+◌, ◌∙◌, inl, inr, ℕ, ap, sym, arith, length, List, length-set, true, false}
 use Rattle.std.specs.Prelude.{slice_get, slice_set}
-use Rattle.std.proofs.lemmas.Bool.{or_cases, or_parts}
+use Rattle.event_queue.proofs.TreeLemmas.{set_same}
 use Rattle.sim_base.specs.declared.signal.Drive.{Drive}
 use Rattle.net_resolve.specs.Circuit.{Circuit}
 use Rattle.board_model.proofs.Lists.{lt_or_eq, get_set_same, get_set_other}
 use Rattle.board_run.proofs.ReadLemmas.{span_put, span_there}
+use Rattle.board_run.proofs.tell.set_pins.Goals.{then-drives_other, else-drives_other}
 use Rattle.board_run.proofs.tell.set_pins.Goals as goal
 
 pub overflow_add-at : goal.overflow_add-at
@@ -16,32 +17,40 @@ loop-pin-preserved g c =
     let pin = c.loop-pin.pin in
     let i = c.loop-pin.invariant in
     let room : c.args.at + pin < length ds = omega (arith, i.long, c.requires.room, c.requires.long, c.pins.ensures) in
-    let new = ap (λ (x : Circuit). x.drives) c.set_drive.ensures in
+    let d = c.drive-drive.result in
+    let told : c.if-drives_other.nets ≡ record c.loop-pin.nets { drives = slice_set ds (c.args.at + pin) d } = elim c.if-drives_other.branch [
+      | then-drives_other w ↦ w.nets-is ∙ w.set_drive.ensures
+      | else-drives_other w ↦ w.nets-is ∙ ap (λ (l : List Drive). record c.loop-pin.nets { drives = l }) (sym (set_same ds (c.args.at + pin) d (c.drives_other.ensures.same w.if-drives_other.false)))
+    ] in
+    let new = ap (λ (x : Circuit). x.drives) told in
     let was : slice_get ds (c.args.at + pin) ≡ slice_get c.args.nets.now.drives (c.args.at + pin) = i.rest (c.args.at + pin) (inr (omega arith)) in
     let to : c.min-to.result ≤ c.pins.result = grind (arith, c.min-to.ensures) in
     record {
-      long = ap length new ∙ length-set ds (c.args.at + pin) c.drive-drive.result ∙ i.long;
+      long = ap length new ∙ length-set ds (c.args.at + pin) d ∙ i.long;
       told = λ j from h. elim (lt_or_eq j pin h) [
-        | inl less ↦ (let other : c.args.at + j ≢ c.args.at + pin = omega arith in ap (λ (l : List Drive). slice_get l (c.args.at + j)) new ∙ get_set_other ds (c.args.at + pin) (c.args.at + j) c.drive-drive.result other ∙ i.told j from less)
-        | inr same ↦ ap (λ (l : List Drive). slice_get l (c.args.at + j)) new ∙ ap (λ (k : ℕ). slice_get (slice_set ds (c.args.at + pin) c.drive-drive.result) (c.args.at + k)) same
-            ∙ get_set_same ds (c.args.at + pin) c.drive-drive.result room ∙ sym c.drive-drive.ensures ∙ ap (slice_get (g.P.Part.machine.drives (g.P.Part.state c.args.part.now))) (sym same)
+        | inl less ↦ (let other : c.args.at + j ≢ c.args.at + pin = omega arith in ap (λ (l : List Drive). slice_get l (c.args.at + j)) new ∙ get_set_other ds (c.args.at + pin) (c.args.at + j) d other ∙ i.told j from less)
+        | inr same ↦ ap (λ (l : List Drive). slice_get l (c.args.at + j)) new ∙ ap (λ (k : ℕ). slice_get (slice_set ds (c.args.at + pin) d) (c.args.at + k)) same
+            ∙ get_set_same ds (c.args.at + pin) d room ∙ sym c.drive-drive.ensures ∙ ap (slice_get (g.P.Part.machine.drives (g.P.Part.state c.args.part.now))) (sym same)
       ];
       rest = λ x h. elim h [
-        | inl less ↦ (let other : x ≢ c.args.at + pin = omega (arith, less) in ap (λ (l : List Drive). slice_get l x) new ∙ get_set_other ds (c.args.at + pin) x c.drive-drive.result other ∙ i.rest x (inl less))
-        | inr more ↦ (let other : x ≢ c.args.at + pin = omega (arith, more) in ap (λ (l : List Drive). slice_get l x) new ∙ get_set_other ds (c.args.at + pin) x c.drive-drive.result other ∙ i.rest x (inr (omega (arith, more))))
+        | inl less ↦ (let other : x ≢ c.args.at + pin = omega (arith, less) in ap (λ (l : List Drive). slice_get l x) new ∙ get_set_other ds (c.args.at + pin) x d other ∙ i.rest x (inl less))
+        | inr more ↦ (let other : x ≢ c.args.at + pin = omega (arith, more) in ap (λ (l : List Drive). slice_get l x) new ∙ get_set_other ds (c.args.at + pin) x d other ∙ i.rest x (inr (omega (arith, more))))
       ];
       same = λ none j from h.
-          let both = or_parts c.loop-pin.changed c.drives_other-changed.result none in
+          let both : (c.loop-pin.changed ≡ false) × (c.drives_other.result ≡ false) = elim c.if-drives_other.branch [
+            | then-drives_other w ↦ absurd (let wrong : true ≡ false = sym w.changed-is ∙ none in cc)
+            | else-drives_other w ↦ (sym w.changed-is ∙ none, w.if-drives_other.false)
+          ] in
           elim (lt_or_eq j pin h) [
             | inl less ↦ i.same both.0 j from less
-            | inr same ↦ ap (λ (k : ℕ). slice_get c.args.nets.now.drives (c.args.at + k)) same ∙ sym was ∙ c.drives_other-changed.ensures.same both.1 ∙ sym c.drive-drive.ensures
+            | inr same ↦ ap (λ (k : ℕ). slice_get c.args.nets.now.drives (c.args.at + k)) same ∙ sym was ∙ c.drives_other.ensures.same both.1 ∙ sym c.drive-drive.ensures
                 ∙ ap (slice_get (g.P.Part.machine.drives (g.P.Part.state c.args.part.now))) (sym same)
           ];
-      other = λ one has. elim (or_cases c.loop-pin.changed c.drives_other-changed.result one) [
-        | inl before ↦ i.other before has
-        | inr here ↦ c.drives_other-changed.ensures.other here (was ∙ has pin (omega (arith, c.loop-pin-test.true, c.pins.ensures, c.min-to.ensures, to)) ∙ c.drive-drive.ensures)
+      other = λ one has. elim c.if-drives_other.branch [
+        | else-drives_other w ↦ i.other (sym w.changed-is ∙ one) has
+        | then-drives_other w ↦ c.drives_other.ensures.other w.if-drives_other.true (was ∙ has pin (omega (arith, c.loop-pin-test.true, c.pins.ensures, c.min-to.ensures, to)) ∙ c.drive-drive.ensures)
       ];
-      others = c.set_drive.ensures ∙ ap (λ (x : Circuit). record x { drives = slice_set ds (c.args.at + pin) c.drive-drive.result }) i.others ∙ ap (λ (xs : List Drive). record c.args.nets.now { drives = xs }) (sym new);
+      others = told ∙ ap (λ (x : Circuit). record x { drives = slice_set ds (c.args.at + pin) d }) i.others ∙ ap (λ (xs : List Drive). record c.args.nets.now { drives = xs }) (sym new);
     }
 
 pub returns-clause-put : goal.returns-clause-put
