@@ -20,7 +20,7 @@ use Rattle.board_run.specs.declared.turn.Woken.{Woken}
 use Rattle.board_run.specs.Parts.{has_part}
 use Rattle.board_run.specs.Lagging.{to_wake, Replaced}
 use Rattle.board_run.specs.Seen.{Suits, levels_on, shown_at}
-use Rattle.board_run.specs.CutOff.{rows_from, bytes_from, IsCutOff}
+use Rattle.board_run.specs.CutOff.{bytes_from, IsCutOff}
 use Rattle.board_run.specs.Engine.{kept_of, given, states_of, rows_to, bytes_to, IsNext, Watches, MayRun, MayTurnPart, TurnedAt, MayTell, WentOn, Rests, Settled, FailedIn, Showed}
 use Rattle.board_run.proofs.TurnLemmas.{turned_room, turned_still, turned_others, Placed, placed}
 use Rattle.board_run.specs.declared.engine.Engine.{Engine}

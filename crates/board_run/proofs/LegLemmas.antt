@@ -32,7 +32,7 @@ use Rattle.sim_base.specs.Rows.{StopsWithin, AreFronts, Handed}
 use Rattle.sim_base.specs.declared.limits.TheConstants.{MOST_CYCLES}
 use Rattle.board_run.proofs.NextLemmas.{quiet_until}
 use Rattle.board_run.proofs.HandLemmas.{stops_after, nothing_more}
-use Rattle.board_run.proofs.ShowLemmas.{fronts, still_of, still_same}
+use Rattle.board_run.proofs.ShowLemmas.{fronts, still_of, still_same, chips_same}
 use Rattle.board_run.proofs.ShowLemmas.{shown_is}
 use Rattle.board_model.proofs.RoomLemmas.{SameRoom, fits_room, chips_room}
 use Rattle.board_run.proofs.LagLemmas.{lags_stand, stand_show, lag_of, Ts}
@@ -246,6 +246,7 @@ module _ {S P : Type 0} (m : Machine S) (laws : Laws m) (w : Wiring) (state : P 
       fits = lags.fits;
       suits = lags.suits;
       chips_long = lags.chips_long;
+      chips_are = lags.chips_are;
       fresh = lags.fresh;
       told = lags.told;
       holds = λ k p ep later. lags.holds k p ep after;
@@ -414,6 +415,7 @@ module _ {S P : Type 0} (m : Machine S) (laws : Laws m) (w : Wiring) (state : P 
     fits = fits_room m w (map state mid) (map state new) longer same_room lags.fits;
     suits = lags.suits;
     chips_long = lags.chips_long ∙ chips_room m w.chip (map state mid) (map state new) longer same_room;
+    chips_are = λ none. lags.chips_are none ∙ sym (chips_same m state w.chip mid new long (λ k p q ep eq. (still k p q ep eq).0));
     fresh = λ none. still_of m w state mid new kept.seen long (λ k p q ep eq. still k p q ep eq) (lags.fresh none);
     told = record {
       drives_are = lags.told.drives_are ∙ sym (still_same m.drives state mid new long (λ k p q ep eq. (still k p q ep eq).0));
@@ -472,10 +474,10 @@ module _ {S P : Type 0} (m : Machine S) (laws : Laws m) (w : Wiring) (state : P 
   }
 
 -- a board at cycle 0 of which nothing was read
-pub lags_start : {S P : Type 0} (m : Machine S) (w : Wiring) (state : P → S) (now wakes : P → ℕ) (parts : List P) (kept : Kept) → kept.stale ≡ true → length parts ≤ 64 → AreFresh m state now wakes parts →
+pub lags_start : {S P : Type 0} (m : Machine S) (w : Wiring) (state : P → S) (now wakes : P → ℕ) (parts : List P) (kept : Kept) → kept.stale ≡ true → kept.seen.chips_stale ≡ true → length parts ≤ 64 → AreFresh m state now wakes parts →
     length kept.dues ≡ length parts → AreDue m state now wakes parts kept.dues → length kept.answers ≡ length parts → AreNone kept.answers → IsTold m (map state parts) kept.seen.circuit → Fits m w (map state parts) → Suits w kept.seen →
     length kept.seen.chip_drives ≡ length (chip_drives_of m w.chip (map state parts)) → Lags m w state now wakes 0 parts kept
-lags_start m w state now wakes parts kept stale few new dues_long due answers_long silent told fits suits chips = record {
+lags_start m w state now wakes parts kept stale chips_stale few new dues_long due answers_long silent told fits suits chips = record {
   few = few;
   may = λ k p d ep ed.
       let at = new.at_start k p ep in
@@ -488,6 +490,7 @@ lags_start m w state now wakes parts kept stale few new dues_long due answers_lo
   fits = fits;
   suits = suits;
   chips_long = chips;
+  chips_are = λ none. absurd (let e : true ≡ false = sym chips_stale ∙ none in cc);
   fresh = λ none. absurd (let e : true ≡ false = sym stale ∙ none in cc);
   told = told;
   holds = λ k p ep (later : 0 < 0). absurd (omega arith);

@@ -1,6 +1,6 @@
 -- What a board shows, and how it is read.
-use Rattle.std.proofs.Common.{◌≡◌, ℕ, zero, suc, ◌+◌, ◌-◌, ◌<◌, List, [], ◌∷◌, ◌++◌, length, map, Bool, true, false, not, Option, None, Some, refl, ap, sym, ◌∙◌, arith, append_assoc}
-use Rattle.std.specs.Prelude.{◌==◌, ◌||◌, ◌&&◌, if◌then◌else◌, replicate, slice_get}
+use Rattle.std.proofs.Common.{◌≡◌, ℕ, zero, suc, ◌+◌, ◌-◌, ◌<◌, List, [], ◌∷◌, ◌++◌, length, map, Bool, true, false, not, Option, None, Some, refl, ap, sym, ◌∙◌, ◌⊎◌, inl, inr, arith, append_assoc}
+use Rattle.std.specs.Prelude.{◌==◌, ◌||◌, ◌&&◌, if◌then◌else◌, replicate, slice_get, slice_set}
 use Rattle.std.specs.List.{flat_map}
 use Rattle.std.proofs.lemmas.List.{length-map, append-nil}
 use Rattle.std.proofs.lemmas.Bool.{and_parts}
@@ -15,7 +15,8 @@ use Rattle.board_model.specs.Board.{drives_of, contacts_of, levels_of, bytes_of,
 use Rattle.board_model.specs.Rows.{Shown, same_level, same_drive, same_list, same_shown, chip_drives_of, shown_of, is_new, row_if, shown_before, rows}
 use Rattle.board_model.proofs.Lists.{some_same, get_map_some, flat_map_same}
 use Rattle.board_model.proofs.SameLemmas.{level_same, drive_same, list_same, levels_mean}
-use Rattle.board_run.specs.Seen.{Seen, IsOf, AreStill, shown, shown_at}
+use Rattle.board_run.specs.Seen.{Seen, IsOf, AreStill, AreChips, shown, shown_at}
+use Rattle.board_run.specs.Lagging.{Shifted}
 use Rattle.board_run.specs.Upcoming.{AreBehind}
 use Rattle.board_run.proofs.HandLemmas.{appends_none}
 
@@ -82,7 +83,8 @@ still_same f state old new long each = flat_map_same f (map state new) (map stat
     let b = get_map_some state old k y ey in
     ap f (sym a.2) ∙ each k b.0 a.0 b.1 a.1 ∙ ap f b.2)
 
-chips_same : {S P : Type 0} (m : Machine S) (state : P → S) (chips : List Bool) (old new : List P) → length new ≡ length old →
+-- chips that drive what they did, whatever the other parts drive
+pub chips_same : {S P : Type 0} (m : Machine S) (state : P → S) (chips : List Bool) (old new : List P) → length new ≡ length old →
     ((k : ℕ) (p q : P) → slice_get old k ≡ Some p → slice_get new k ≡ Some q → m.drives (state q) ≡ m.drives (state p)) → chip_drives_of m chips (map state new) ≡ chip_drives_of m chips (map state old)
 chips_same m state [] old new long each = refl
 chips_same m state (c ∷ chips) [] [] long each = refl
@@ -92,6 +94,22 @@ chips_same m state (c ∷ chips) (p ∷ old) (q ∷ new) long each =
     let a : m.drives (state q) ≡ m.drives (state p) = each 0 p q refl refl in
     ap (λ (d : List Drive). (if c then d else []) ++ chip_drives_of m chips (map state new)) a
     ∙ ap (λ (l : List Drive). (if c then m.drives (state p) else []) ++ l) (chips_same m state chips old new (omega arith) (λ k x y ex ey. each (suc k) x y ex ey))
+
+-- where one part is another one, which drives the same or is no chip
+chips_set : {S P : Type 0} (m : Machine S) (state : P → S) (chips : List Bool) (old : List P) (i : ℕ) (q : P) →
+    ((p : P) → slice_get old i ≡ Some p → slice_get chips i ≡ Some true → m.drives (state q) ≡ m.drives (state p)) → chip_drives_of m chips (map state (slice_set old i q)) ≡ chip_drives_of m chips (map state old)
+chips_set m state [] old i q same = refl
+chips_set m state (c ∷ chips) [] i q same = refl
+chips_set m state (true ∷ chips) (p ∷ old) zero q same = ap (λ (d : List Drive). d ++ chip_drives_of m chips (map state old)) (same p refl refl)
+chips_set m state (false ∷ chips) (p ∷ old) zero q same = refl
+chips_set m state (c ∷ chips) (p ∷ old) (suc i) q same = ap (λ (l : List Drive). (if c then m.drives (state p) else []) ++ l) (chips_set m state chips old i q (λ x ex is. same x ex is))
+
+pub chips_told : {S P : Type 0} (m : Machine S) (w : Wiring) (state : P → S) (old : List P) (i : ℕ) (p q : P) (changed : Bool) → slice_get old i ≡ Some p → Shifted m state p q changed →
+    (changed ≡ false) ⊎ (slice_get w.chip i ≡ Some false) → AreChips m w (map state old) (map state (slice_set old i q))
+chips_told {P = P} m w state old i p q changed was shifted why = chips_set m state w.chip old i q (λ x ex chip. elim why [
+  | inl none ↦ (shifted.same none).0 ∙ ap (λ (y : P). m.drives (state y)) (some_same (sym was ∙ ex))
+  | inr other ↦ absurd (let wrong : Some false ≡ Some true = sym other ∙ chip in cc)
+])
 
 -- what was read of parts that stayed still is still so
 pub still_of : {S P : Type 0} (m : Machine S) (w : Wiring) (state : P → S) (old new : List P) (seen : Seen) → length new ≡ length old → AreStill m state old new → IsOf m w (map state old) seen → IsOf m w (map state new) seen

@@ -41,6 +41,7 @@ module _ {S P : Type 0} (m : Machine S) (w : Wiring) (state : P → S) (now wake
     pub fits : Fits m w (map state parts)
     pub suits : Suits w kept.seen
     pub chips_long : length kept.seen.chip_drives ≡ length (chip_drives_of m w.chip (map state parts))
+    pub chips_are : kept.seen.chips_stale ≡ false → kept.seen.chip_drives ≡ chip_drives_of m w.chip (map state parts)
     pub fresh : kept.stale ≡ false → IsOf m w (map state parts) kept.seen
     pub told : IsTold m (map state parts) kept.seen.circuit
     pub holds : (k : ℕ) (p : P) → slice_get parts k ≡ Some p → 0 < t → m.held (state p) ≡ levels_on m w kept.seen.circuit.levels k (state p)

@@ -169,7 +169,9 @@ impl<P: Part> Engine<P> {
             let span = parts[i].moved();
             let pins = set_pins(&parts[i], span, first, &mut reading.nets);
             let contacts = tell_contacts(parts, i, &mut reading.nets);
-            pins | contacts
+            let changed = pins | contacts;
+            reading.chips_stale = reading.chips_stale | (changed & self.wiring.chip.as_slice()[i]);
+            changed
         } else {
             false
         }

@@ -74,5 +74,9 @@ keep_chips-same_drives-requires-clause-places g c = λ k l.
     let long : length (map p.state c.args.parts.now) ≡ length c.args.parts.now = simp length-map refl in
     ap (λ (ns : List ℕ). slice_index ns k) c.as_slice-2.ensures ∙ c.requires.fits.places k (omega (arith, l, long))
 
+pub keep_chips-same_drives-requires-clause-fresh : goal.keep_chips-same_drives-requires-clause-fresh
+keep_chips-same_drives-requires-clause-fresh g c = λ none.
+    c.requires.chips_are none ∙ ap (λ (chips : List Bool). chip_drives_of g.P.Part.machine chips (map g.P.Part.state c.args.parts.now)) (sym c.as_slice.ensures)
+
 pub keep_chips-same_drives-requires-clause-told : goal.keep_chips-same_drives-requires-clause-told
 keep_chips-same_drives-requires-clause-told g c = c.drives.ensures.drives ∙ ap (λ (x : Circuit). x.drives) c.resolve_marked.ensures.levels ∙ c.requires.told.drives_are

@@ -4,7 +4,7 @@ use Rattle.board_run.proofs.ReadLemmas.{none_differ}
 use Rattle.board_run.proofs.engine.Engine.refresh.Goals as goal
 
 pub read-requires : goal.read-requires
-read-requires g c = let l = c.requires.lags in record { fits = l.fits; suits = l.suits; chips_long = l.chips_long; told = l.told }
+read-requires g c = let l = c.requires.lags in record { fits = l.fits; suits = l.suits; chips_long = l.chips_long; chips_are = l.chips_are; told = l.told }
 
 pub returns-then-self : goal.returns-then-self
 returns-then-self g c = record { rest = refl; read = c.read.ensures }

@@ -1,4 +1,4 @@
-use Rattle.std.proofs.Common.{◌≡◌, ◌+◌, ◌∙◌, [], ◌∷◌, map, ap, sym, refl, subst, List}
+use Rattle.std.proofs.Common.{◌+◌, ◌∙◌, [], ◌∷◌, map, ap, sym, refl, subst, List}
 use Rattle.std.specs.Prelude.{◌==◌, ◌||◌, not, if◌then◌else◌}
 use Rattle.std.proofs.lemmas.Bool.{or_parts, not-false}
 use Rattle.sim_base.specs.Rows.{Row, Handed, Appends, IsBehind}

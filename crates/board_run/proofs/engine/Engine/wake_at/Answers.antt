@@ -1,5 +1,5 @@
-use Rattle.std.proofs.Common.{arith, ◌≡◌, ◌+◌, ◌-◌, ◌≤◌, ◌∙◌, ℕ, List, length, map, take, drop, refl, sym, ap, subst, Bool, true, Option, Some, None, rules, length-take-le}
-use Rattle.std.specs.Prelude.{slice_get, slice_set}
+use Rattle.std.proofs.Common.{arith, ◌≡◌, ◌-◌, ◌≤◌, ◌∙◌, ℕ, List, length, map, take, drop, refl, sym, ap, subst, Bool, true, Option, Some, None, rules, length-take-le}
+use Rattle.std.specs.Prelude.{slice_set}
 use Rattle.event_queue.proofs.TreeLemmas.{set_same}
 use Rattle.sim_base.specs.declared.signal.Level.{Level}
 use Rattle.sim_base.specs.declared.wiring.Input.{Input}
