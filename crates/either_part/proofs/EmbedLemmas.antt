@@ -82,5 +82,6 @@ module _ {A B : Type 0} (m : Machine A) (n : Machine B) (f : A → B) (e : Embed
       same_contacts = λ j h. ap n.contacts (glide_in a t j) ∙ e.contacts (glide m a t j) ∙ w.same.same_contacts j h ∙ sym (e.contacts a);
     };
     sent_is = sent_in a t k ∙ w.sent_is;
+    silent = sent_in a t (k - 1) ∙ w.silent;
     dues_are = dues_in a t k ∙ w.dues_are;
   }

@@ -1,11 +1,15 @@
 -- A part that goes on by itself from due cycle to due cycle.
-use Rattle.std.proofs.Common.{◌≡◌, ℕ, zero, suc, ◌+◌, ◌-◌, ◌<◌, ◌≤◌, List, ◌++◌, true, false, Option, None, Some, refl, ap, sym, ◌∙◌, arith, subst, ◌⊎◌, inl, inr}
+use Rattle.std.proofs.Common.{◌≡◌, ℕ, zero, suc, ◌+◌, ◌-◌, ◌<◌, ◌≤◌, List, [], ◌∷◌, ◌++◌, true, false, Option, None, Some, refl, ap, sym, ◌∙◌, arith, subst, ◌⊎◌, inl, inr}
 use Rattle.std.specs.Prelude.{if◌then◌else◌}
 use Rattle.std.specs.Option.{option_to_list, is_some}
 use Rattle.sim_base.specs.declared.limits.TheConstants.{MOST_CYCLES}
-use Rattle.part_law.specs.Machine.{Machine, Laws, idle, idle_byte, glide, dues, IsQuiet, IsFirstDue, IsSame}
+use Rattle.part_law.specs.Machine.{Machine, Laws, idle, idle_byte, glide, dues, sent, IsQuiet, IsFirstDue, IsSame}
 use Rattle.part_law.specs.Going.{Gone, Woke}
 use Rattle.part_law.proofs.MachineLemmas.{glide_valid}
+
+front_none : {A : Type 0} (xs ys : List A) → xs ++ ys ≡ [] → xs ≡ []
+front_none [] ys h = refl
+front_none (x ∷ xs) ys h = absurd cc
 
 module _ {S : Type 0} (m : Machine S) where
   pub gone_none : (s : S) (t : ℕ) → Gone m s t 0 0 s
@@ -40,8 +44,17 @@ module _ {S : Type 0} (m : Machine S) where
         state = ap (λ (y : S). idle m y (t + n)) g.state;
         same = same_more s t n d x g;
         sent_is = ap (λ (l : List ℕ). l ++ option_to_list (idle_byte m (glide m s t n) (t + n))) g.silent ∙ ap (λ (y : S). option_to_list (idle_byte m y (t + n))) (sym g.state);
+        silent = (let e : suc n - 1 ≡ n = omega arith in ap (λ (j : ℕ). sent m s t j) e ∙ g.silent);
         dues_are = ap (λ b. dues m s t n + (if b then 1 else 0)) there ∙ omega (arith, g.dues_are);
       }
+
+  silent_before : (s : S) (t n : ℕ) → sent m s t n ≡ [] → sent m s t (n - 1) ≡ []
+  silent_before s t zero h = let e : zero - 1 ≡ zero = omega arith in ap (λ (j : ℕ). sent m s t j) e
+  silent_before s t (suc n) h = let e : suc n - 1 ≡ n = omega arith in ap (λ (j : ℕ). sent m s t j) e ∙ front_none _ _ h
+
+  -- it ended without a byte
+  pub gone_woke : (s : S) (t n d : ℕ) (x : S) → Gone m s t n d x → Woke m s t n d x None
+  gone_woke s t n d x g = record { state = g.state; same = g.same; sent_is = g.silent; silent = silent_before s t n g.silent; dues_are = g.dues_are }
 
   -- where a wake showed nothing
   pub woke_on : (s : S) (t n d : ℕ) (x y : S) → Gone m s t n d x → Woke m s t (suc n) (suc d) y None → m.drives y ≡ m.drives x → m.contacts y ≡ m.contacts x → Gone m s t (suc n) (suc d) y

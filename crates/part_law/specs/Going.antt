@@ -1,5 +1,5 @@
 -- A part that goes on by itself on held levels, without script values. No public clause cites this.
-use Rattle.std.specs.Prelude.{◌≡◌, ℕ, [], Option}
+use Rattle.std.specs.Prelude.{◌≡◌, ℕ, ◌-◌, [], Option}
 use Rattle.std.specs.Option.{option_to_list}
 use Rattle.part_law.specs.Machine.{Machine, glide, dues, sent, IsSame}
 
@@ -18,4 +18,5 @@ module _ {S : Type 0} (m : Machine S) where
     pub state : y ≡ glide m s t n
     pub same : IsSame m s t n
     pub sent_is : sent m s t n ≡ option_to_list byte
+    pub silent : sent m s t (n - 1) ≡ []
     pub dues_are : dues m s t n ≡ d

@@ -1,5 +1,5 @@
 //! What a part is to an engine.
-ghost use Rattle.std.specs.Prelude.{◌≡◌, ℕ, ◌+◌, ◌-◌, ◌<◌, ◌≤◌, Bool, true, false, List, length, take, slice_get, Option, None, Some};
+ghost use Rattle.std.specs.Prelude.{◌≡◌, ℕ, ◌+◌, ◌-◌, ◌<◌, ◌≤◌, Bool, true, false, List, [], length, take, slice_get, Option, None, Some};
 ghost use Rattle.part_law.specs.Machine.{Machine, Laws, glide, dues, sent, IsQuiet, IsFirstDue, IsSame, MayWake, Hears};
 ghost use Rattle.part_law.specs.Spans.{IsIn};
 ghost use Rattle.std.specs.Option.{option_to_list};
@@ -139,8 +139,8 @@ pub trait Part {
 
     /// Goes on by itself on the levels that it holds, where no script value comes before cycle `limit`:
     /// it is woken in each cycle in which it is due, up to the first wake that may have changed a drive
-    /// or a contact or that emitted a byte, and else up to `limit`. `steps` ticks once a wake. A part may
-    /// stop earlier, but goes on by one cycle at least.
+    /// or a contact or that emitted a byte, and else up to `limit`; after a byte it goes no further.
+    /// `steps` ticks once a wake. A part may stop earlier, but goes on by one cycle at least.
     fn go_on<L: Ledger>(&mut self, limit: u32, steps: &mut Steps<L>) -> Went
         requires later { now self.old ≤ limit }
         requires end { limit ≤ MOST_CYCLES }
@@ -158,6 +158,7 @@ pub trait Part {
         ensures others { (pin : ℕ) → moves self.new pin ≡ false → slice_get (machine.drives (state self.new)) pin ≡ slice_get (machine.drives (state self.old)) pin }
         ensures contacts { result.changed ≡ false → machine.contacts (state self.new) ≡ machine.contacts (state self.old) }
         ensures sent { sent machine (state self.old) (now self.old) (result.to - now self.old) ≡ option_to_list result.byte }
+        ensures silent { sent machine (state self.old) (now self.old) (result.to - now self.old - 1) ≡ [] }
     {
         while let Some(u) = below(self.due(), limit) {
             self.settle(u);

@@ -2,7 +2,7 @@ use Rattle.std.proofs.Common.{◌≡◌, ◌∙◌, ◌+◌, ◌-◌, refl, arit
 use Rattle.std.specs.Prelude.{slice_get}
 use Rattle.std.proofs.lemmas.Bool.{or_parts}
 use Rattle.part_law.specs.Going.{Gone}
-use Rattle.part_law.proofs.GoingLemmas.{jumped, jumped_on, gone_to, none_there, due_at, quiet_to}
+use Rattle.part_law.proofs.GoingLemmas.{jumped, jumped_on, gone_to, gone_woke, none_there, due_at, quiet_to}
 use Rattle.part_law.proofs.part.Part.go_on.Goals as goal
 
 pub settle-requires-clause-later : goal.settle-requires-clause-later
@@ -33,6 +33,7 @@ returns-then-changed-is_some g c =
       contacts = λ e. woken.contacts (sym c.changed-changed.ensures ∙ e) ∙ w.0.contacts;
       others = λ pin none. woken.others pin none ∙ ap (λ ds. slice_get ds pin) w.0.drives;
       sent = w.1.sent_is;
+      silent = w.1.silent;
     }
 
 pub loop-u-preserved : goal.loop-u-preserved
@@ -81,4 +82,5 @@ returns g c =
       contacts = λ e. ap p.machine.contacts settled.state ∙ w.contacts;
       others = λ pin none. ap (λ ds. slice_get ds pin) (ap p.machine.drives settled.state ∙ w.drives);
       sent = w.silent;
+      silent = (gone_woke p.machine (p.state c.args.self.now) (p.now c.args.self.now) (c.args.limit - p.now c.args.self.now) _ _ w).silent;
     }
