@@ -233,11 +233,11 @@ module _ {S P : Type 0} (m : Machine S) (laws : Laws m) (w : Wiring) (state : P 
             (ap m.contacts z_is ∙ flat_each m.contacts End Js (sym like.long) (λ k x y ex ey. ap (λ s. length (m.contacts s)) (like.each k y x ey ex) ∙ glide_ports m laws y t (u - t)) (cs ∙ late_contacts further) who z s0 ez there);
       }
 
-  pub alone_rows : rows m w inputs (shown_at t kept.seen) Js t (u - t) ≡ []
-  alone_rows = ap (λ (o : Option Shown). rows m w inputs o Js t (u - t)) shown_same ∙ steady_rows m laws w inputs Js t (u - t) steady (u - t) (omega arith)
+  pub alone_rows : (n : ℕ) → n ≤ u - t → rows m w inputs (shown_at t kept.seen) Js t n ≡ []
+  alone_rows n within = ap (λ (o : Option Shown). rows m w inputs o Js t n) shown_same ∙ steady_rows m laws w inputs Js t (u - t) steady n within
 
-  pub alone_bytes : bytes m w inputs Js t (u - t) ≡ sent m s0 t (u - t)
-  alone_bytes = steady_bytes m laws w inputs Js t (u - t) steady who s0 there valid calm (u - t) (omega arith)
+  pub alone_bytes : (n : ℕ) → n ≤ u - t → bytes m w inputs Js t n ≡ sent m s0 t n
+  alone_bytes n within = steady_bytes m laws w inputs Js t (u - t) steady who s0 there valid calm n within
 
   -- a part after the stretch, with what it was
   record After (k : ℕ) (p z : P) : Type 0 where
@@ -341,14 +341,14 @@ behind_between inputs i t u limit from within first last = record {
 
 module _ {S P : Type 0} (m : Machine S) (laws : Laws m) (w : Wiring) (state : P → S) (now wakes : P → ℕ) (inputs : List Input) where
   -- what a stretch of one part does that ends at cycle u
-  pub record Goes (t u : ℕ) (parts new : List P) (kept after : Kept) (steps more : ℕ) (bs : List ℕ) : Type 0 where
+  pub record Goes (t u : ℕ) (parts new : List P) (kept after : Kept) (steps more : ℕ) (bs : ℕ → List ℕ) : Type 0 where
     pub lags : Lags m w state now wakes u new after
     pub behind : AreBehind inputs after.input u
     pub leg : Leg m w state now wakes inputs t u parts new kept.seen after.seen steps more
     pub steady : IsSteady m w inputs (Ts m laws w state now wakes t parts) t (u - t)
     pub tells : LastTells m w inputs after.stale (Ts m laws w state now wakes t parts) t (u - t)
-    pub row_none : rows m w inputs (shown_at t kept.seen) (Ts m laws w state now wakes t parts) t (u - t) ≡ []
-    pub bytes_are : bytes m w inputs (Ts m laws w state now wakes t parts) t (u - t) ≡ bs
+    pub row_none : (n : ℕ) → n ≤ u - t → rows m w inputs (shown_at t kept.seen) (Ts m laws w state now wakes t parts) t n ≡ []
+    pub bytes_are : (n : ℕ) → n ≤ u - t → bytes m w inputs (Ts m laws w state now wakes t parts) t n ≡ bs n
 
   -- where a part was found that goes on alone up to a limit, and it did
   pub alone_goes : (moves : P → ℕ → Bool) (t limit : ℕ) (parts : List P) (kept : Kept) (changed : Bool) (steps more who : ℕ) (p q : P) (d : Option ℕ) (by : Went) (seen : Seen) →
@@ -356,7 +356,7 @@ module _ {S P : Type 0} (m : Machine S) (laws : Laws m) (w : Wiring) (state : P 
       (seen.chips_stale ≡ false → AreChips m w (map state parts) (map state (slice_set parts who q))) →
       Lags m w state now wakes t parts kept → kept.stale ≡ false → 0 < t → AreBehind inputs kept.input t → limit ≤ MOST_CYCLES → IsAlone inputs kept.dues kept.input who t limit →
       slice_get parts who ≡ Some p → WentBy m state now wakes moves t limit p q d by steps more → Shifted m state p q changed →
-      Goes t by.to parts (slice_set parts who q) kept (record { input = kept.input; stale = changed; dues = slice_set kept.dues who d; seen = seen; answers = kept.answers }) steps more (sent m (glided m state now wakes t p) t (by.to - t))
+      Goes t by.to parts (slice_set parts who q) kept (record { input = kept.input; stale = changed; dues = slice_set kept.dues who d; seen = seen; answers = kept.answers }) steps more (sent m (glided m state now wakes t p) t)
   alone_goes moves t limit parts kept changed steps more who p q d by seen rest is_told chips lags fresh later behind end alone here went shifted =
       let u = by.to in
       let ds = seen.circuit.drives in
@@ -378,7 +378,7 @@ module _ {S P : Type 0} (m : Machine S) (laws : Laws m) (w : Wiring) (state : P 
       let contacts_were = glide_contacts m laws (state p) (now p) (t - now p) (lags.valid who p here) lagged in
       let drives = λ (none : changed ≡ false). (shifted.same none).0 ∙ sym drives_were in
       let contacts = λ (none : changed ≡ false). (shifted.same none).1 ∙ sym contacts_were in
-      subst (λ (s : Seen). Goes t u parts (slice_set parts who q) kept (record { input = kept.input; stale = changed; dues = slice_set kept.dues who d; seen = s; answers = kept.answers }) steps more (sent m (glided m state now wakes t p) t (u - t))) (sym rest)
+      subst (λ (s : Seen). Goes t u parts (slice_set parts who q) kept (record { input = kept.input; stale = changed; dues = slice_set kept.dues who d; seen = s; answers = kept.answers }) steps more (sent m (glided m state now wakes t p) t)) (sym rest)
       (record {
         lags = alone_lags m laws w state now wakes inputs t u parts kept lags fresh later order who p q here quiet silent went.same went.state_is went.now_is went.woken_is changed d ds cs seen.chips_stale told chips went.first drives contacts;
         behind = behind_between inputs kept.input t u limit order within behind alone.behind;

@@ -1,5 +1,5 @@
 -- What an engine did on its way: ways follow on each other, and nothing is shown while it passes over cycles.
-use Rattle.std.proofs.Common.{◌≡◌, ◌++◌, ◌⊎◌, ℕ, ◌+◌, ◌-◌, ◌<◌, ◌≤◌, ◌∙◌, List, [], length, Bool, true, false, refl, ap, sym, arith, subst, inl, inr}
+use Rattle.std.proofs.Common.{◌≡◌, ◌++◌, ℕ, ◌+◌, ◌-◌, ◌<◌, ◌≤◌, ◌∙◌, List, [], Bool, true, false, refl, ap, sym, arith, subst, inl, inr}
 use Rattle.sim_base.specs.Rows.{Row, StopsWithin}
 use Rattle.sim_base.specs.declared.bench.WriteEnd.{WriteEnd}
 use Rattle.sim_base.specs.declared.bench.WriteEnd.TheVariants as writes
@@ -10,9 +10,8 @@ use Rattle.sim_base.specs.declared.wiring.Input.{Input}
 use Rattle.part_law.specs.Machine.{Laws}
 use Rattle.part_law.specs.declared.part.Part.{Ghosts}
 use Rattle.board_run.specs.Changes.{LastTells}
-use Rattle.std.specs.Prelude.{slice_get, slice_index, Option, Some}
-use Rattle.board_model.specs.Board.{input_at, bytes}
-use Rattle.board_model.specs.Rows.{Shown, shown_before, rows}
+use Rattle.std.specs.Prelude.{slice_get, slice_index, Some}
+use Rattle.board_model.specs.Board.{input_at}
 use Rattle.board_model.proofs.Lists.{some_same}
 use Rattle.net_resolve.specs.Circuit.{Circuit}
 use Rattle.board_run.specs.declared.part_set.PartSet.{PartSet}
@@ -20,15 +19,15 @@ use Rattle.board_run.specs.declared.turn.Woken.{Woken}
 use Rattle.board_run.specs.Parts.{has_part}
 use Rattle.board_run.specs.Lagging.{to_wake, Replaced}
 use Rattle.board_run.specs.Seen.{Suits, levels_on, shown_at}
-use Rattle.board_run.specs.CutOff.{bytes_from, IsCutOff}
 use Rattle.board_run.specs.Engine.{kept_of, given, states_of, rows_to, bytes_to, IsNext, Watches, MayRun, MayTurnPart, TurnedAt, MayTell, WentOn, Rests, Settled, FailedIn, Showed}
 use Rattle.board_run.proofs.TurnLemmas.{turned_room, turned_still, turned_others, Placed, placed}
 use Rattle.board_run.specs.declared.engine.Engine.{Engine}
-use Rattle.board_run.proofs.HandLemmas.{handed_nothing, handed_then, stops_more}
+use Rattle.board_run.proofs.HandLemmas.{handed_nothing, handed_then}
 use Rattle.board_run.proofs.ShowLemmas.{none_handed}
 use Rattle.board_run.proofs.NextLemmas.{below_or}
 use Rattle.board_run.proofs.StretchLemmas.{unchanged}
-use Rattle.board_run.proofs.LegLemmas.{Jumps, leg_none, leg_then, tells_then, rows_on, bytes_on, jumps_to, legs_stop, shown_front, settled_lags, settled_leg}
+use Rattle.board_run.proofs.LegLemmas.{Jumps, leg_none, leg_then, tells_then, rows_on, bytes_on, jumps_to, settled_lags, settled_leg}
+use Rattle.board_run.proofs.CutOffLemmas.{no_rows, no_bytes, cut_here, cut_within, cut_then}
 
 module _ {P : Type 0} (part : Ghosts P) (laws : Laws part.machine) where
   -- nothing happened yet
@@ -179,68 +178,37 @@ module _ {P : Type 0} (part : Ghosts P) (laws : Laws part.machine) where
             (second.ok is).1,
           );
           failed = λ is.
-              let f = (second.failed is).1 in
-              let order : mid.cycle ≤ f.mid.cycle = f.leg.order in (
+              let f = (second.failed is).1 in (
                 rw (← handed.no_fault) (second.failed is).0,
                 record {
-                  mid = f.mid;
-                  more = f.more;
-                  between = f.between;
-                  same_wiring = f.same_wiring;
-                  same_inputs = f.same_inputs;
-                  leg = leg_then part.machine laws old.wiring part.state part.now part.wake_count old.inputs old.cycle mid.cycle f.mid.cycle steps more f.more old.parts mid.parts f.mid.parts old.reading mid.reading f.mid.reading first.on.leg f.leg;
-                  handed = handed_then watcher.whole watcher.faults watcher.stands out between f.between _ _ _ _ _ _ handed f.handed
-                      (rows_on part.machine laws old.wiring part.state part.now part.wake_count old.inputs old.cycle mid.cycle f.mid.cycle steps more old.parts mid.parts old.reading mid.reading first.on.leg order)
-                      (bytes_on part.machine laws old.wiring part.state part.now part.wake_count old.inputs old.cycle mid.cycle f.mid.cycle steps more old.parts mid.parts old.reading mid.reading first.on.leg order);
-                  further = f.further;
-                  stops = f.stops;
-                  last = f.last;
+                  v = f.v;
+                  follows = f.follows;
+                  cut_off = cut_then part.machine laws old.wiring part.state part.now part.wake_count old.inputs watcher.whole watcher.faults watcher.stands watcher.stopped old.cycle mid.cycle f.v steps more old.parts mid.parts old.reading mid.reading
+                      out between after first.on.leg handed f.cut_off;
                 },
               );
           place = more_went.place ∙ first.place;
         }
 
-    -- a write failed in its first cycle, or in cycles that show at most one byte
-    pub fails_here : (e : Engine P) (u steps : ℕ) (out after : W) → watcher.whole out ≡ true → e.cycle < u → StopsWithin (watcher.stands out) (watcher.stopped after) (rows_to part e u) (bytes_to part e u) →
-        (u ≡ e.cycle + 1) ⊎ ((rows_to part e u ≡ []) × (length (bytes_to part e u) ≤ 1)) → FailedIn part watcher e u steps out after
-    fails_here e u steps out after whole further stops last = record {
-      mid = e;
-      more = steps;
-      between = out;
-      same_wiring = refl;
-      same_inputs = refl;
-      leg = leg_none part.machine laws e.wiring part.state part.now part.wake_count e.inputs e.cycle steps e.parts e.reading;
-      handed = none_handed part.machine e.wiring e.inputs (shown_at e.cycle e.reading) (states_of part e) e.cycle watcher.whole watcher.faults watcher.stands out whole;
-      further = further;
-      stops = stops;
-      last = last;
+    -- a write failed in cycle v, before which nothing is shown
+    pub fails_here : (e : Engine P) (v u : ℕ) (out after : W) → watcher.whole out ≡ true → e.cycle ≤ v → u ≡ v + 1 → rows_to part e v ≡ [] → bytes_to part e v ≡ [] →
+        StopsWithin (watcher.stands out) (watcher.stopped after) (rows_to part e u) (bytes_to part e u) → FailedIn part watcher e u out after
+    fails_here e v u out after whole from follows no_row no_byte stops = record {
+      v = v;
+      follows = follows;
+      cut_off = cut_here part.machine e.wiring e.inputs (shown_at e.cycle e.reading) (states_of part e) e.cycle watcher.whole watcher.faults watcher.stands watcher.stopped v u from follows out after whole no_row no_byte stops;
     }
 
-    -- so the run was cut off there
-    pub cut_off : (e : Engine P) (u steps : ℕ) (out after : W) → FailedIn part watcher e u steps out after →
-        IsCutOff part.machine e.wiring e.inputs (shown_at e.cycle e.reading) (states_of part e) e.cycle u watcher.whole watcher.faults watcher.stands watcher.stopped out after
-    cut_off e u steps out after f =
-        let m = part.machine in
-        let w = e.wiring in
-        let is = e.inputs in
-        let v = f.mid.cycle in
-        let board = same_board e f.mid f.same_wiring f.same_inputs in
-        let rows_are = ap (λ (x : Engine P). rows_to part x u) board ∙ ap (λ (o : Option Shown). rows m w is o (states_of part f.mid) v (u - v)) (sym f.leg.before_is)
-        ∙ ap (λ (ss : List part.State). rows m w is (shown_before m w is (shown_at e.cycle e.reading) (states_of part e) e.cycle (v - e.cycle)) ss v (u - v)) f.leg.states_are in
-        let bytes_are = ap (λ (x : Engine P). bytes_to part x u) board ∙ ap (λ (ss : List part.State). bytes m w is ss v (u - v)) f.leg.states_are in
-        let both = λ (rs : List Row) (bs : List ℕ). StopsWithin (watcher.stands f.between) (watcher.stopped after) rs bs × ((u ≡ v + 1) ⊎ ((rs ≡ []) × (length bs ≤ 1))) in
-        let there = subst (λ (rs : List Row). both rs (bytes_from m w is (shown_at e.cycle e.reading) (states_of part e) e.cycle v u)) rows_are (subst (λ (bs : List ℕ). both (rows_to part f.mid u) bs) bytes_are (f.stops, f.last)) in
-        record { v = v; between = f.between; from = f.leg.order; further = f.further; handed = f.handed; stops = there.0; last = there.1 }
+    -- in its first cycle
+    pub fails_first : (e : Engine P) (out after : W) → watcher.whole out ≡ true → StopsWithin (watcher.stands out) (watcher.stopped after) (rows_to part e (e.cycle + 1)) (bytes_to part e (e.cycle + 1)) →
+        FailedIn part watcher e (e.cycle + 1) out after
+    fails_first e out after whole stops = fails_here e e.cycle (e.cycle + 1) out after whole (omega arith) refl
+        (no_rows part.machine e.wiring e.inputs (shown_at e.cycle e.reading) (states_of part e) e.cycle) (no_bytes part.machine e.wiring e.inputs (shown_at e.cycle e.reading) (states_of part e) e.cycle) stops
 
-    -- and within all that it shows
-    pub fails_within : (e : Engine P) (u n steps : ℕ) (out after : W) → u ≤ n → FailedIn part watcher e u steps out after → StopsWithin (watcher.stands out) (watcher.stopped after) (rows_to part e n) (bytes_to part e n)
-    fails_within e u n steps out after within f =
-        let there = subst (λ (x : Engine P). StopsWithin (watcher.stands f.between) (watcher.stopped after) (rows_to part x u) (bytes_to part x u)) (same_board e f.mid f.same_wiring f.same_inputs) f.stops in
-        let far = f.further in
-        stops_more (watcher.stands out) (watcher.stopped after) _ _ _ _
-        (legs_stop part.machine laws e.wiring part.state part.now part.wake_count e.inputs watcher.whole watcher.faults watcher.stands watcher.stopped out f.between after e.cycle f.mid.cycle u steps f.more e.parts f.mid.parts e.reading f.mid.reading
-        (omega (arith, far)) f.leg f.handed there)
-        (shown_front part.machine laws e.wiring part.state part.now part.wake_count e.inputs e.cycle u n (shown_at e.cycle e.reading) (states_of part e) (let order = f.leg.order in omega (arith, order, far)) within)
+    -- it has stopped within all that the board shows
+    pub fails_within : (e : Engine P) (u n : ℕ) (out after : W) → u ≤ n → FailedIn part watcher e u out after → StopsWithin (watcher.stands out) (watcher.stopped after) (rows_to part e n) (bytes_to part e n)
+    fails_within e u n out after within f =
+        cut_within part.machine e.wiring e.inputs (shown_at e.cycle e.reading) (states_of part e) e.cycle watcher.whole watcher.faults watcher.stands watcher.stopped f.v u f.cut_off.from f.follows out after n within f.cut_off
 
     -- and nothing happens up to the next cycle in which something may
     pub showed_next : (old mid : Engine P) (steps more : ℕ) (out after : W) (n u : ℕ) → Showed part watcher writes.Ok old mid steps more out after → IsNext mid n u → n ≤ MOST_CYCLES →

@@ -1,5 +1,5 @@
 -- A watcher is handed one part after another.
-use Rattle.std.proofs.Common.{◌≡◌, ℕ, zero, suc, ◌+◌, ◌<◌, ◌≤◌, List, [], ◌∷◌, ◌++◌, ◌∙◌, Option, None, Some, refl, ap, sym, subst, append_assoc, take, drop, length, add-one, Bool, true, arith}
+use Rattle.std.proofs.Common.{◌≡◌, ℕ, zero, suc, ◌+◌, ◌<◌, List, [], ◌∷◌, ◌++◌, ◌∙◌, Option, None, Some, refl, ap, sym, subst, append_assoc, take, drop, length, add-one, Bool, true}
 use Rattle.std.specs.Prelude.{slice_get}
 use Rattle.std.specs.Option.{option_to_list}
 use Rattle.sim_base.specs.Rows.{Row, Appends, StopsWithin, AreFronts, Handed}
@@ -73,21 +73,6 @@ whole_front rows bytes = record { more_rows = []; more_bytes = []; whole_rows = 
 pub stops_whole : (old new : List Row → List ℕ → Type 0) (rows : List Row) (bytes : List ℕ) → Appends old new rows bytes → StopsWithin old new rows bytes
 stops_whole old new rows bytes p = (rows, bytes, whole_front rows bytes, p)
 
--- what has stopped within a first part has stopped within all
-pub stops_more : (old new : List Row → List ℕ → Type 0) (r1 rows : List Row) (b1 bytes : List ℕ) → StopsWithin old new r1 b1 → AreFronts r1 b1 rows bytes → StopsWithin old new rows bytes
-stops_more old new r1 rows b1 bytes s front =
-    let f = s.2 in (
-      s.0,
-      s.1,
-      record {
-        more_rows = f.more_rows ++ front.more_rows;
-        more_bytes = f.more_bytes ++ front.more_bytes;
-        whole_rows = sym (append_assoc s.0 f.more_rows front.more_rows) ∙ ap (λ (l : List Row). l ++ front.more_rows) f.whole_rows ∙ front.whole_rows;
-        whole_bytes = sym (append_assoc s.1 f.more_bytes front.more_bytes) ∙ ap (λ (l : List ℕ). l ++ front.more_bytes) f.whole_bytes ∙ front.whole_bytes;
-      },
-      s.3,
-    )
-
 module _ {W : Type 0} (whole : W → Bool) (faults : W → ℕ) (stands : W → List Row → List ℕ → Type 0) where
   -- rows and then bytes
   pub handed_both : (a b c : W) (r r' : List Row) (bs bs' : List ℕ) → Handed whole faults stands a b r [] → Handed whole faults stands b c [] bs → r ≡ r' → bs ≡ bs' → Handed whole faults stands a c r' bs'
@@ -128,10 +113,6 @@ bytes_stop whole faults stands stopped a b c xs i x h p e =
 pub one_byte : (b : Option ℕ) → options (b ∷ []) ≡ option_to_list b
 one_byte None = refl
 one_byte (Some x) = refl
-
-pub at_most_one : (b : Option ℕ) → length (options (b ∷ [])) ≤ 1
-at_most_one None = omega arith
-at_most_one (Some x) = omega arith
 
 -- a watcher that was handed nothing
 pub handed_nothing : {W : Type 0} (whole : W → Bool) (faults : W → ℕ) (stands : W → List Row → List ℕ → Type 0) (w : W) → whole w ≡ true → Handed whole faults stands w w [] []

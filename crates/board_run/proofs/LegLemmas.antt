@@ -6,7 +6,6 @@ use Rattle.std.proofs.lemmas.List.{length-map}
 use Rattle.sim_base.specs.declared.signal.Level.{Level}
 use Rattle.sim_base.specs.declared.wiring.Wiring.{Wiring}
 use Rattle.sim_base.specs.declared.wiring.Input.{Input}
-use Rattle.sim_base.specs.Rows.{Row}
 use Rattle.part_law.specs.Machine.{Machine, Laws, glide, idle, IsQuiet}
 use Rattle.part_law.proofs.MachineLemmas.{glide_drives, glide_contacts}
 use Rattle.board_model.specs.Board.{level_at, own_nets, input_at, drives_of, contacts_of, states, bytes}
@@ -28,11 +27,9 @@ use Rattle.board_run.specs.Changes.{Tells, LastTells}
 use Rattle.board_run.specs.Seen.{Seen, Suits, IsOf, IsTold, shown, shown_at}
 use Rattle.board_run.specs.Lagging.{glided, AreDue}
 use Rattle.board_run.specs.Legs.{Kept, Lags, Leg}
-use Rattle.sim_base.specs.Rows.{StopsWithin, AreFronts, Handed}
 use Rattle.sim_base.specs.declared.limits.TheConstants.{MOST_CYCLES}
 use Rattle.board_run.proofs.NextLemmas.{quiet_until}
-use Rattle.board_run.proofs.HandLemmas.{stops_after, nothing_more}
-use Rattle.board_run.proofs.ShowLemmas.{fronts, still_of, still_same, chips_same}
+use Rattle.board_run.proofs.ShowLemmas.{still_of, still_same, chips_same}
 use Rattle.board_run.proofs.ShowLemmas.{shown_is}
 use Rattle.board_model.proofs.RoomLemmas.{SameRoom, fits_room, chips_room}
 use Rattle.board_run.proofs.LagLemmas.{lags_stand, stand_show, lag_of, Ts}
@@ -277,6 +274,30 @@ module _ {S P : Type 0} (m : Machine S) (laws : Laws m) (w : Wiring) (state : P 
       ∙ ap (λ (l : List S). so_far ++ bytes m w inputs l (t + (u - t)) (v - u)) (sym first.states_are)
       ∙ ap (λ (c : ℕ). so_far ++ bytes m w inputs (Ts m laws w state now wakes u mid) c (v - u)) there
 
+  -- after a leg the board is in the same states as from where it led
+  pub states_on : (t u v a b : ℕ) (old mid : List P) (before seen : Seen) → Leg m w state now wakes inputs t u old mid before seen a b → u ≤ v →
+      states m w inputs (Ts m laws w state now wakes t old) t (v - t) ≡ states m w inputs (Ts m laws w state now wakes u mid) u (v - u)
+  states_on t u v a b old mid before seen first later =
+      let l = first.order in
+      let ss = Ts m laws w state now wakes t old in
+      let count : v - t ≡ (u - t) + (v - u) = omega (arith, l, later) in
+      let there : t + (u - t) ≡ u = omega (arith, l) in
+      ap (states m w inputs ss t) count ∙ states_split m w inputs ss t (u - t) (v - u)
+      ∙ ap (λ (s : List S). states m w inputs s (t + (u - t)) (v - u)) (sym first.states_are)
+      ∙ ap (λ (c : ℕ). states m w inputs (Ts m laws w state now wakes u mid) c (v - u)) there
+
+  pub shown_on : (t u v a b : ℕ) (old mid : List P) (before seen : Seen) → Leg m w state now wakes inputs t u old mid before seen a b → u ≤ v →
+      shown_before m w inputs (shown_at t before) (Ts m laws w state now wakes t old) t (v - t) ≡ shown_before m w inputs (shown_at u seen) (Ts m laws w state now wakes u mid) u (v - u)
+  shown_on t u v a b old mid before seen first later =
+      let l = first.order in
+      let ss = Ts m laws w state now wakes t old in
+      let count : v - t ≡ (u - t) + (v - u) = omega (arith, l, later) in
+      let there : t + (u - t) ≡ u = omega (arith, l) in
+      ap (shown_before m w inputs (shown_at t before) ss t) count ∙ shown_split m w inputs (shown_at t before) ss t (u - t) (v - u)
+      ∙ ap (λ (o : Option Shown). shown_before m w inputs o (states m w inputs ss t (u - t)) (t + (u - t)) (v - u)) first.before_is
+      ∙ ap (λ (s : List S). shown_before m w inputs (shown_at u seen) s (t + (u - t)) (v - u)) (sym first.states_are)
+      ∙ ap (λ (c : ℕ). shown_before m w inputs (shown_at u seen) (Ts m laws w state now wakes u mid) c (v - u)) there
+
   -- what a jump does
   pub record Jumps (t u : ℕ) (parts : List P) (kept : Kept) (steps : ℕ) : Type 0 where
     pub leg : Leg m w state now wakes inputs t u parts parts kept.seen kept.seen steps steps
@@ -317,27 +338,6 @@ module _ {S P : Type 0} (m : Machine S) (laws : Laws m) (w : Wiring) (state : P 
         tells = λ _. jump_tells t u parts kept lags e after order quiet silent;
         lags = jump_lags t u parts kept lags e after order quiet silent;
       }
-
-  -- what is shown up to a cycle is the first part of what is shown up to a later one
-  pub shown_front : (c u n : ℕ) (before : Option Shown) (ss : List S) → c ≤ u → u ≤ n → AreFronts (rows m w inputs before ss c (u - c)) (bytes m w inputs ss c (u - c)) (rows m w inputs before ss c (n - c)) (bytes m w inputs ss c (n - c))
-  shown_front c u n before ss first last =
-      let e : (u - c) + (n - u) ≡ n - c = omega arith in
-      subst (λ (k : ℕ). AreFronts (rows m w inputs before ss c (u - c)) (bytes m w inputs ss c (u - c)) (rows m w inputs before ss c k) (bytes m w inputs ss c k)) e (fronts m w inputs before ss c (u - c) (n - u))
-
-  -- where it stops after a leg, the run has stopped within what it shows in all
-  pub legs_stop : {W : Type 0} (whole : W → Bool) (faults : W → ℕ) (stands stopped : W → List Row → List ℕ → Type 0) (x y z : W) (c t n a b : ℕ) (old mid : List P) (before seen : Seen) → t ≤ n →
-      Leg m w state now wakes inputs c t old mid before seen a b →
-      Handed whole faults stands x y (rows m w inputs (shown_at c before) (Ts m laws w state now wakes c old) c (t - c)) (bytes m w inputs (Ts m laws w state now wakes c old) c (t - c)) →
-      StopsWithin (stands y) (stopped z) (rows m w inputs (shown_at t seen) (Ts m laws w state now wakes t mid) t (n - t)) (bytes m w inputs (Ts m laws w state now wakes t mid) t (n - t)) →
-      StopsWithin (stands x) (stopped z) (rows m w inputs (shown_at c before) (Ts m laws w state now wakes c old) c (n - c)) (bytes m w inputs (Ts m laws w state now wakes c old) c (n - c))
-  legs_stop whole faults stands stopped x y z c t n a b old mid before seen less leg h stops =
-      stops_after stands stopped x y z _ _ _ _ _ _ h.appended stops
-      (record {
-        more_rows = [];
-        more_bytes = [];
-        whole_rows = sym (nothing_more _) ∙ sym (rows_on c t n a b old mid before seen leg less);
-        whole_bytes = sym (nothing_more _) ∙ sym (bytes_on c t n a b old mid before seen leg less);
-      })
 
   -- parts that stand at the cycle are the board's
   pub at_here : (t : ℕ) (parts : List P) → ((k : ℕ) (p : P) → slice_get parts k ≡ Some p → now p ≡ t) → Ts m laws w state now wakes t parts ≡ map state parts

@@ -10,6 +10,7 @@ pub mod PartLemmas
 pub mod TurnLemmas
 pub mod LagLemmas
 pub mod LegLemmas
+pub mod CutOffLemmas
 pub mod NextLemmas
 pub mod AloneLemmas
 pub mod EngineLemmas

@@ -4,7 +4,7 @@ use Rattle.std.specs.Option.{is_some}
 use Rattle.sim_base.specs.declared.signal.Level.{Level}
 use Rattle.sim_base.specs.declared.wiring.Input.{Input}
 use Rattle.sim_base.specs.Causes.{Rose}
-use Rattle.sim_base.specs.Rows.{Row, Handed, Appends, StopsWithin, IsBehind}
+use Rattle.sim_base.specs.Rows.{Row, Handed, Appends, IsBehind}
 use Rattle.sim_base.specs.declared.bench.WriteEnd.{WriteEnd}
 use Rattle.sim_base.specs.declared.bench.WriteEnd.TheVariants as writes
 use Rattle.sim_base.specs.declared.limits.TheConstants.{MOST_CYCLES}
@@ -16,6 +16,7 @@ use Rattle.board_model.specs.Rows.{rows, row_if}
 use Rattle.board_model.specs.Fits.{Fits}
 use Rattle.board_laws.specs.Steady.{IsSteady}
 use Rattle.board_run.specs.Changes.{LastTells}
+use Rattle.board_run.specs.CutOff.{IsCutOff}
 use Rattle.board_run.specs.Upcoming.{AreBehind, IsInOrder}
 use Rattle.board_run.specs.Seen.{Suits, IsTold, IsRead, AreChips, levels_on, retold, shown_at}
 use Rattle.board_run.specs.Parts.{has_part, AreNone}
@@ -206,25 +207,18 @@ module _ {P : Type 0} (part : Ghosts P) where
         → (part.state q ≡ glided part.machine part.state part.now part.wake_count old.cycle p) × (part.now q ≡ old.cycle) × (part.wake_count q ≡ part.wake_count p)
     pub due : AreDue part.machine part.state part.now part.wake_count new.parts new.dues
 
--- It came to a cycle, having handed out all that the board shows meanwhile; then a write failed. The cycles from there to u are one, or show no row and at most one byte.
-pub record FailedIn {P W : Type 0} (part : Ghosts P) (watcher : Watching W) (old : Engine P) (u steps : ℕ) (out after : W) : Type 0 where
-  pub mid : Engine P
-  pub more : ℕ
-  pub between : W
-  pub same_wiring : mid.wiring ≡ old.wiring
-  pub same_inputs : mid.inputs ≡ old.inputs
-  pub leg : Leg part.machine old.wiring part.state part.now part.wake_count old.inputs old.cycle mid.cycle old.parts mid.parts old.reading mid.reading steps more
-  pub handed : Handed watcher.whole watcher.faults watcher.stands out between (rows_to part old mid.cycle) (bytes_to part old mid.cycle)
-  pub further : mid.cycle < u
-  pub stops : StopsWithin (watcher.stands between) (watcher.stopped after) (rows_to part mid u) (bytes_to part mid u)
-  pub last : (u ≡ mid.cycle + 1) ⊎ ((rows_to part mid u ≡ []) × (length (bytes_to part mid u) ≤ 1))
+-- A write failed in the cycle before u.
+pub record FailedIn {P W : Type 0} (part : Ghosts P) (watcher : Watching W) (old : Engine P) (u : ℕ) (out after : W) : Type 0 where
+  pub v : ℕ
+  pub follows : u ≡ v + 1
+  pub cut_off : IsCutOff part.machine old.wiring old.inputs (shown_at old.cycle old.reading) (states_of part old) old.cycle v watcher.whole watcher.faults watcher.stands watcher.stopped out after
 
--- It went on, and what the board shows meanwhile was handed out; or it ended where a write failed.
+-- It went on, and what the board shows meanwhile was handed out; or it ended with the cycle in which a write failed.
 pub record Showed {P W : Type 0} (part : Ghosts P) (watcher : Watching W) (end : WriteEnd) (old new : Engine P) (steps more : ℕ) (out after : W) : Type 0 where
   pub on : WentOn part old new steps more
   pub ok : end ≡ writes.Ok → Handed watcher.whole watcher.faults watcher.stands out after (rows_to part old new.cycle) (bytes_to part old new.cycle)
       × IsBehind watcher.last watcher.seen after new.cycle new.reading.circuit.levels
-  pub failed : end ≡ writes.Failed → Rose (watcher.faults out) (watcher.faults after) × FailedIn part watcher old new.cycle steps out after
+  pub failed : end ≡ writes.Failed → Rose (watcher.faults out) (watcher.faults after) × FailedIn part watcher old new.cycle out after
   pub place : watcher.place after ≡ watcher.place out
 
 -- The row of its cycle was handed out, if it has one, or writing failed within it; some parts have a pin whose level is another one than before.

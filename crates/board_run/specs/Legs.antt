@@ -1,5 +1,5 @@
 -- A board on its way whose parts lag behind: what holds at a cycle, and what a leg of the way does. No public clause cites this.
-use Rattle.std.specs.Prelude.{◌≡◌, ◌≢◌, ℕ, ◌+◌, ◌-◌, ◌<◌, ◌≤◌, List, length, map, Bool, true, false, Option, None, Some, slice_get}
+use Rattle.std.specs.Prelude.{◌≡◌, ◌≢◌, ℕ, ◌+◌, ◌-◌, ◌<◌, ◌≤◌, List, [], length, map, Bool, true, false, Option, None, Some, slice_get}
 use Rattle.sim_base.specs.declared.wiring.Wiring.{Wiring}
 use Rattle.sim_base.specs.declared.wiring.Input.{Input}
 use Rattle.std.specs.Option.{option_to_list}
@@ -65,6 +65,7 @@ pub record WentBy {S P : Type 0} (m : Machine S) (state : P → S) (now wakes : 
   pub steps_are : more ≡ steps + dues m (glided m state now wakes t p) t (went.to - t)
   pub same : IsSame m (glided m state now wakes t p) t (went.to - t)
   pub sent_is : sent m (glided m state now wakes t p) t (went.to - t) ≡ option_to_list went.byte
+  pub silent : sent m (glided m state now wakes t p) t (went.to - t - 1) ≡ []
   pub drives : went.changed ≡ false → m.drives (state q) ≡ m.drives (glided m state now wakes t p)
   pub contacts : went.changed ≡ false → m.contacts (state q) ≡ m.contacts (glided m state now wakes t p)
   pub others : (pin : ℕ) → moves q pin ≡ false → slice_get (m.drives (state q)) pin ≡ slice_get (m.drives (glided m state now wakes t p)) pin

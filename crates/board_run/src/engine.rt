@@ -30,7 +30,7 @@ pub(crate) struct Engine<P> {
 }
 
 impl<P: Part> Engine<P> {
-    /// Runs the cycles up to n - 1; its parts may lag behind at the end. It ends with the first write that fails.
+    /// Runs the cycles up to n - 1; its parts may lag behind at the end. It ends with the cycle of the first write that fails.
     pub(crate) fn run<W: Watcher, L: Ledger>(
         &mut self,
         n: u32,

@@ -1,4 +1,4 @@
-use Rattle.std.proofs.Common.{◌≡◌, ◌+◌, ◌≤◌, ◌∙◌, ap, sym, refl, arith, subst, List, length, inl}
+use Rattle.std.proofs.Common.{◌≡◌, ◌+◌, ◌≤◌, ◌∙◌, ap, sym, refl, arith, subst, List, length}
 use Rattle.sim_base.specs.declared.bench.WriteEnd.TheVariants as writes
 use Rattle.sim_base.specs.declared.wiring.Input.{Input}
 use Rattle.board_run.specs.Upcoming.{AreBehind, IsInOrder}
@@ -6,7 +6,7 @@ use Rattle.board_run.specs.Seen.{Seen}
 use Rattle.board_run.specs.Engine.{kept_of, MayTurnOn, TurnedOn, Showed}
 use Rattle.board_run.specs.declared.engine.Engine.{Engine}
 use Rattle.board_run.proofs.HandLemmas.{handed_both, stopped_first, stopped_second}
-use Rattle.board_run.proofs.EngineLemmas.{fails_here}
+use Rattle.board_run.proofs.EngineLemmas.{fails_first}
 use Rattle.board_run.proofs.LagLemmas.{Happens, happens, lags_differ}
 use Rattle.board_run.proofs.engine.Engine.event.Given.{Over}
 use Rattle.board_run.proofs.engine.Engine.event.Goals.{After-turn-woken}
@@ -115,8 +115,8 @@ returns-in-Ok g c =
             failed = λ is.
                 let f = hand.ensures.failed is in (
                   rw (← ok.no_fault) f.0,
-                  fails_here p g.met.P.Part.laws o e (e.cycle + 1) c.args.steps.now out hand.new.out c.requires.watches.whole (omega arith)
-                      (stopped_second o.whole o.faults o.stands o.stopped out c.show-shown.new.out hand.new.out _ _ _ _ ok f.1 h.rows_are h.bytes_are) (inl refl),
+                  fails_first p g.met.P.Part.laws o e out hand.new.out c.requires.watches.whole
+                      (stopped_second o.whole o.faults o.stands o.stopped out c.show-shown.new.out hand.new.out _ _ _ _ ok f.1 h.rows_are h.bytes_are),
                 );
             place = hand.ensures.place ∙ s.place;
           });
@@ -152,8 +152,8 @@ returns-in-Failed g c =
             ok = λ (is : writes.Failed ≡ writes.Ok). absurd cc;
             failed = λ _. (
               f.0,
-              fails_here p g.met.P.Part.laws o e (e.cycle + 1) c.args.steps.now out c.show-shown.new.out c.requires.watches.whole (omega arith)
-                  (stopped_first (o.stands out) (o.stopped c.show-shown.new.out) _ _ _ f.1 h.rows_are) (inl refl),
+              fails_first p g.met.P.Part.laws o e out c.show-shown.new.out c.requires.watches.whole
+                  (stopped_first (o.stands out) (o.stopped c.show-shown.new.out) _ _ _ f.1 h.rows_are),
             );
             place = s.place;
           });

@@ -1,4 +1,4 @@
-use Rattle.std.proofs.Common.{◌-◌, ◌∙◌, ap, arith, sym, refl, subst, ℕ, ◌≤◌, List, [], ◌∷◌, length, Option, get_or, length-set, inr}
+use Rattle.std.proofs.Common.{◌≡◌, ◌+◌, ◌-◌, ◌<◌, ◌∙◌, ap, arith, sym, refl, subst, ℕ, ◌≤◌, List, [], ◌∷◌, Option, get_or, length-set, inr}
 use Rattle.std.specs.Prelude.{slice_set}
 use Rattle.sim_base.specs.Rows.{Row, Handed, StopsWithin}
 use Rattle.part_law.specs.Machine.{sent}
@@ -11,7 +11,7 @@ use Rattle.board_run.specs.declared.engine.Engine.{Engine}
 use Rattle.board_run.proofs.AloneLemmas.{went_replaces, Goes, alone_goes}
 use Rattle.board_run.proofs.ShowLemmas.{chips_told}
 use Rattle.board_run.proofs.TurnLemmas.{turned_others}
-use Rattle.board_run.proofs.HandLemmas.{one_byte, at_most_one, stops_whole}
+use Rattle.board_run.proofs.HandLemmas.{one_byte, stops_whole}
 use Rattle.board_run.proofs.EngineLemmas.{fails_here}
 use Rattle.board_run.proofs.engine.Engine.stretch.Given.{Over}
 use Rattle.board_run.proofs.engine.Engine.stretch.Goals.{After-tell-self}
@@ -55,7 +55,7 @@ tell-self-requires g c =
 goes : (g : Over) (c : After-tell-self g) → Goes g.P.Part.machine g.met.P.Part.laws c.args.self.now.wiring g.P.Part.state g.P.Part.now g.P.Part.wake_count c.args.self.now.inputs c.args.self.now.cycle c.go_alone-went.result.to
     c.args.self.now.parts (slice_set c.args.self.now.parts c.args.who c.go_alone-went.new.part) (kept_of c.args.self.now)
     (record { input = c.args.self.now.input; stale = c.tell-self.result; dues = slice_set c.args.self.now.dues c.args.who c.go_alone-went.new.due; seen = c.tell-self.new.self.reading; answers = c.args.self.now.answers })
-    c.args.steps.now c.go_alone-went.new.steps (sent g.P.Part.machine (glided g.P.Part.machine g.P.Part.state g.P.Part.now g.P.Part.wake_count c.args.self.now.cycle c.item_mut.result.now) c.args.self.now.cycle (c.go_alone-went.result.to - c.args.self.now.cycle))
+    c.args.steps.now c.go_alone-went.new.steps (sent g.P.Part.machine (glided g.P.Part.machine g.P.Part.state g.P.Part.now g.P.Part.wake_count c.args.self.now.cycle c.item_mut.result.now) c.args.self.now.cycle)
 goes g c =
     let p = g.P.Part in
     let w = c.go_alone-went in
@@ -80,7 +80,10 @@ returns g c =
     let hand = c.hand_byte in
     let went = goes g (goal.at.returns g c).After-tell-self in
     let same = c.tell-self.ensures.same ∙ ap (λ (ds : List (Option ℕ)). let y : Engine g.row.P.Denot = record e { parts = slice_set e.parts c.args.who w.new.part; dues = ds; reading = c.tell-self.new.self.reading } in y) c.set.ensures in
-    let bytes = one_byte w.result.byte ∙ sym w.ensures.sent_is ∙ sym went.bytes_are in
+    let row_none = went.row_none (w.result.to - e.cycle) (omega arith) in
+    let bytes = one_byte w.result.byte ∙ sym w.ensures.sent_is ∙ sym (went.bytes_are (w.result.to - e.cycle) (omega arith)) in
+    let last : w.result.to - 1 - e.cycle ≡ w.result.to - e.cycle - 1 = omega arith in
+    let before : w.result.to - 1 - e.cycle ≤ w.result.to - e.cycle = omega arith in
     record {
       further = w.ensures.further;
       within = w.ensures.within;
@@ -94,7 +97,7 @@ returns g c =
           tells = λ _. went.tells;
         };
         ok = λ is. (
-          subst (λ (bs : List ℕ). Handed o.whole o.faults o.stands c.args.out.now hand.new.out (rows_to p e w.result.to) bs) bytes (subst (λ (rs : List Row). Handed o.whole o.faults o.stands c.args.out.now hand.new.out rs (options (w.result.byte ∷ []))) (sym went.row_none) (hand.ensures.ok is)),
+          subst (λ (bs : List ℕ). Handed o.whole o.faults o.stands c.args.out.now hand.new.out (rows_to p e w.result.to) bs) bytes (subst (λ (rs : List Row). Handed o.whole o.faults o.stands c.args.out.now hand.new.out rs (options (w.result.byte ∷ []))) (sym row_none) (hand.ensures.ok is)),
           λ z ez.
               let was = c.requires.watches.later z (sym (hand.ensures.last is) ∙ ez) in
               let before = was.0 in
@@ -104,9 +107,10 @@ returns g c =
         failed = λ is.
             let f = hand.ensures.failed is in (
               f.0,
-              fails_here p g.met.P.Part.laws o e w.result.to c.args.steps.now c.args.out.now hand.new.out c.requires.watches.whole w.ensures.further
-                  (subst (λ (bs : List ℕ). StopsWithin (o.stands c.args.out.now) (o.stopped hand.new.out) (rows_to p e w.result.to) bs) bytes (subst (λ (rs : List Row). StopsWithin (o.stands c.args.out.now) (o.stopped hand.new.out) rs (options (w.result.byte ∷ []))) (sym went.row_none) (stops_whole (o.stands c.args.out.now) (o.stopped hand.new.out) [] _ f.1)))
-                  (inr (went.row_none, subst (λ (bs : List ℕ). length bs ≤ 1) bytes (at_most_one w.result.byte))),
+              fails_here p g.met.P.Part.laws o e (w.result.to - 1) w.result.to c.args.out.now hand.new.out c.requires.watches.whole (omega (arith, w.ensures.further)) (omega (arith, w.ensures.further))
+                  (went.row_none (w.result.to - 1 - e.cycle) before)
+                  (went.bytes_are (w.result.to - 1 - e.cycle) before ∙ ap (λ (n : ℕ). sent p.machine (glided p.machine p.state p.now p.wake_count e.cycle c.item_mut.result.now) e.cycle n) last ∙ w.ensures.silent)
+                  (subst (λ (bs : List ℕ). StopsWithin (o.stands c.args.out.now) (o.stopped hand.new.out) (rows_to p e w.result.to) bs) bytes (subst (λ (rs : List Row). StopsWithin (o.stands c.args.out.now) (o.stopped hand.new.out) rs (options (w.result.byte ∷ []))) (sym row_none) (stops_whole (o.stands c.args.out.now) (o.stopped hand.new.out) [] _ f.1))),
             );
         place = hand.ensures.place;
       });
