@@ -1,5 +1,5 @@
 -- What the law of a conversion asks for comes about: a small case, worked by the definition itself.
-use Rattle.std.proofs.Common.{ℕ, true, false, refl}
+use Rattle.std.proofs.Common.{true, false, refl}
 use Rattle.unit_life.specs.Life.{state, stepping}
 use Rattle.unit_life.proofs.Cases.{polls, high, always}
 use Rattle.avr_adc.specs.declared.registers.Register.TheVariants.{ADCSRA}

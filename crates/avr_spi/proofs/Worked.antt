@@ -1,5 +1,5 @@
 -- What the law of a transfer asks for comes about: a small case, worked by the definition itself.
-use Rattle.std.proofs.Common.{ℕ, true, false, refl}
+use Rattle.std.proofs.Common.{true, false, refl}
 use Rattle.std.specs.Prelude.{◌&&◌, not}
 use Rattle.unit_law.specs.Bits.{is_set}
 use Rattle.unit_life.specs.Life.{state, stepping}

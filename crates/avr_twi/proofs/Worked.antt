@@ -1,5 +1,5 @@
 -- What the laws of a START and of a STOP ask for comes about: small cases, worked by the definition itself.
-use Rattle.std.proofs.Common.{ℕ, true, refl, arith}
+use Rattle.std.proofs.Common.{true, refl, arith}
 use Rattle.unit_law.specs.Bits.{is_set}
 use Rattle.unit_life.specs.Life.{state, stepping}
 use Rattle.unit_life.proofs.Cases.{polls, high, always}

@@ -17,7 +17,7 @@ use Rattle.avr_usart.specs.Registers.{register_at}
 use Rattle.avr_usart.specs.Format.{has_parity, parity_bit, is_parity}
 use Rattle.avr_usart.specs.Receiver.{deaf, differ, heard, next_bit, ended, sampled, is_start, received}
 use Rattle.avr_usart.specs.Usart.{Usart, usart, rxen, rxd, format_of, after_read, with_register, kept as kept_bits, stepped}
-use Rattle.unit_life.specs.Life.{Act, Nothing, Read, Write, WriteBit, Enter, acted, before, state, stepping}
+use Rattle.unit_life.specs.Life.{Act, Nothing, Read, Write, WriteBit, Enter, acted, before, state}
 use Rattle.avr_usart.specs.UsartReception.{at as life, done as left, format, middle, line, stop, IsFalling, TakesNothing, IsNoise, IsReceived, HearsFrame}
 use Rattle.unit_life.proofs.BitLemmas.{bit_written, bits_written}
 

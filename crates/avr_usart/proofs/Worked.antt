@@ -1,9 +1,9 @@
 -- What the laws of a frame ask for comes about: small cases, worked by the definition itself.
-use Rattle.std.proofs.Common.{ℕ, zero, suc, List, [], true, refl}
+use Rattle.std.proofs.Common.{ℕ, List, [], true, refl}
 use Rattle.std.specs.Prelude.{replicate}
 use Rattle.sim_base.specs.declared.signal.Level.{Level}
 use Rattle.sim_base.specs.declared.signal.Level.TheVariants as levels
-use Rattle.unit_life.specs.Life.{Act, Nothing, state, stepping}
+use Rattle.unit_life.specs.Life.{Act, Nothing, state}
 use Rattle.unit_life.proofs.Cases.{polls, always}
 use Rattle.avr_usart.specs.Usart.{Usart, usart, rxen, rxd, stepped}
 use Rattle.avr_usart.specs.UsartFrame.{IsLoaded}
