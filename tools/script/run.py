@@ -89,7 +89,8 @@ def start(program, given, said):
 
 def end_by(number):
     """Ends as a program that the signal ended."""
-    signal.signal(number, signal.SIG_DFL)
+    if number != signal.SIGKILL:
+        signal.signal(number, signal.SIG_DFL)
     os.kill(os.getpid(), number)
     sys.exit(128 + number)
 

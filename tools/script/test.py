@@ -3,9 +3,11 @@
 import os
 import pathlib
 import re
+import signal
 import subprocess
 import sys
 import tempfile
+import time
 import unittest
 
 sys.path.insert(0, str(pathlib.Path(__file__).resolve().parent))
@@ -14,6 +16,7 @@ import manual
 import pages
 import run
 import tell
+import tool
 import words
 
 ROOT = pathlib.Path(__file__).resolve().parents[2]
@@ -205,6 +208,53 @@ class Sentences(unittest.TestCase):
         for given in (["run", "x", "--report", "f"], ["run", "x", "--report=f"], ["check", "x"], ["run", "--report", "-", "--report", "-"], ["rnu"]):
             self.assertEqual(run.with_report(given, 7), (given, None))
         self.assertEqual(run.with_report(["run", "--", "--report"], 7)[0], ["run", "--report=/dev/fd/7", "--", "--report"])
+
+
+class Tools(unittest.TestCase):
+    BEGINS = """import os, subprocess, sys
+child = subprocess.Popen(["sleep", "60"])
+with open(sys.argv[1] + ".new", "w") as file:
+    file.write(str(child.pid))
+os.rename(sys.argv[1] + ".new", sys.argv[1])
+try:
+    child.wait()
+finally:
+    os.unlink(sys.argv[1])
+"""
+
+    def started(self, text, *given):
+        folder = tempfile.TemporaryDirectory()
+        self.addCleanup(folder.cleanup)
+        file = pathlib.Path(folder.name, "it.py")
+        file.write_text(text)
+        return file, subprocess.Popen([sys.executable, "-BESs", str(ROOT / "tools/script/tool.py"), str(file), "it", *given], stdout=subprocess.PIPE, stderr=subprocess.DEVNULL)
+
+    def test_words_and_status(self):
+        _, tool_ = self.started("import sys\nprint(sys.argv[1:])\nsys.exit(3)", "x", "--us", "2s")
+        self.assertEqual((tool_.communicate()[0], tool_.returncode), (b"['x', '--us', '2000000']\n", 3))
+        _, tool_ = self.started("import os\nos.kill(os.getpid(), 9)")
+        tool_.communicate()
+        self.assertEqual(tool_.returncode, -9)
+
+    def test_a_signal_ends_all_that_was_begun(self):
+        for number in (signal.SIGTERM, signal.SIGHUP, signal.SIGINT):
+            with tempfile.TemporaryDirectory() as folder:
+                noted = pathlib.Path(folder, "pid")
+                _, tool_ = self.started(self.BEGINS, str(noted))
+                while not noted.exists():
+                    time.sleep(0.05)
+                child = noted.read_text()
+                tool_.send_signal(number)
+                tool_.communicate(timeout=60)
+                self.assertEqual(tool_.returncode, -number)
+                self.assertFalse(noted.exists())
+                state = pathlib.Path("/proc", child, "stat")
+                self.assertTrue(not state.exists() or state.read_text().split()[2] == "Z")
+
+    def test_an_older_python_is_told(self):
+        play, checks = str(ROOT / "tools/wokwi/play"), str(ROOT / "tools/script/checks.py")
+        self.assertEqual(tool.too_old(play, (3, 10, 12)), "this needs Python 3.11 or later, and python3 is 3.10")
+        self.assertEqual([tool.too_old(play, (3, 11, 2)), tool.too_old(checks, (3, 8, 10))], [None, None])
 
 
 class Build(unittest.TestCase):
