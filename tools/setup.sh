@@ -27,6 +27,7 @@ tests sigrok-cli sigrok-cli
 tests gtkwave vcd2fst
 tests arduino-core-avr /usr/share/arduino/hardware/arduino/avr/cores/arduino/Arduino.h
 tests python3-yaml /usr/lib/python3/dist-packages/yaml
+tests python3-luma.oled /usr/lib/python3/dist-packages/luma/oled
 tests parallel parallel
 tests nodejs node
 tests binaryen wasm-opt
