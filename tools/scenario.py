@@ -1,6 +1,8 @@
 #!/usr/bin/env python3
 """Runs a scenario as Wokwi's automation has them:  tools/scenario.py [OPTIONS] FOLDER [SCENARIO.yaml]
 
+Without SCENARIO.yaml and --expect-text it is the folder's own: scenario.yaml, NAME.scenario.yaml or NAME.test.yaml.
+
   --timeout TIME       the simulated time that all may take; else the scenario's `timeout`, else 10s, which is the most
   --expect-text TEXT   waits for this text after the steps
   --fail-text TEXT     fails where this text is sent
@@ -33,6 +35,7 @@ PASSED, FAILED, MISUSED, OVER = 0, 1, 2, 42
 MOST = 10_000_000  # microseconds of a run
 UNITS = {"ns": 0.016, "us": 16, "ms": 16_000, "s": 16_000_000}
 TYPIST = "mudflatjar-typist"
+FILE = re.compile(r"(?:.*\.)?(?:scenario|test)\.ya?ml")
 
 
 class Stop(Exception):
@@ -414,6 +417,17 @@ def moved(board, name, control, value):
 
 # ---- a scenario's file
 
+def own_scenario(folder):
+    """The one scenario that is in a folder."""
+    try:
+        names = sorted(name for name in os.listdir(folder) if FILE.fullmatch(name))
+    except OSError as fault:
+        raise misused(f"{folder}: {fault.strerror}") from None
+    if len(names) != 1:
+        raise misused(f"{folder} has {', '.join(names) or 'no scenario'}: name one, or give --expect-text")
+    return os.path.join(folder, names[0])
+
+
 def read_steps(path):
     """(the steps as (word, value), the other keys) of a scenario's file."""
     try:
@@ -504,18 +518,19 @@ def main(words):
     parser.add_argument("folder", nargs="?")
     parser.add_argument("scenario", nargs="?")
     given = parser.parse_args(words)
-    if given.help or not given.folder or not (given.scenario or given.expect_text):
+    if given.help or not given.folder:
         print(__doc__, file=sys.stdout if given.help else sys.stderr)
         return PASSED if given.help else MISUSED
     say = (lambda text: None) if given.quiet else lambda text: print(text, flush=True)
     try:
         limit = cycles(given.timeout, "--timeout") if given.timeout else None
+        path = given.scenario or (None if given.expect_text else own_scenario(given.folder))
     except Stop as stop:
         print(f"scenario: {stop}", file=sys.stderr)
         return stop.status
     if limit and limit > MOST * CYCLES:
         print("scenario: a run has 10 s at most, so that is the time", file=sys.stderr)
-    status, text = play(given.folder, given.scenario, program_path(given.program), limit, given.expect_text, given.fail_text, given.baud, say,
+    status, text = play(given.folder, path, program_path(given.program), limit, given.expect_text, given.fail_text, given.baud, say,
                         {"serial": given.serial, "vcd": given.vcd, "report": given.report})
     if status:
         print(f"scenario: {text}", file=sys.stderr)

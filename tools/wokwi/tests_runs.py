@@ -126,6 +126,19 @@ class Scenarios(WithWork):
         self.assertEqual(call("scenario.py", folder, "--expect-text", "hello 0", "--fail-text", "hello 1")[0], 0)
         self.assertEqual(call("scenario.py", folder, "--expect-text", "bye", "--fail-text", "hello 1", "--timeout", "200ms")[0], 1)
 
+    def test_the_scenario_of_the_folder(self):
+        folder = os.path.join(self.work, "serial")
+        shutil.copytree(os.path.join(EXAMPLES, "serial-hello"), folder)
+        status, _, err = call("scenario.py", folder)
+        self.assertEqual((status, "has no scenario: name one" in err), (2, True))
+        self.put("serial/a.scenario.yaml", "steps:\n  - wait-serial: hello 1\n")
+        self.assertEqual(call("scenario.py", folder)[0], 0)
+        self.put("serial/b.test.yaml", "steps: []\n")
+        status, _, err = call("scenario.py", folder)
+        self.assertEqual((status, "has a.scenario.yaml, b.test.yaml: name one" in err), (2, True))
+        for words, text in (((os.path.join(self.work, "none"),), "No such file"), ((os.path.join(folder, "a.scenario.yaml"), "--expect-text", "x"), "Not a directory")):
+            self.assertIn(text, call("scenario.py", *words)[2])
+
     def test_outputs_of_the_end(self):
         names = [os.path.join(self.work, name) for name in ("serial", "report", "wave")]
         status, _, _ = self.play("  - wait-serial: hello 0\n", "serial-hello", "--quiet", "--serial", names[0], "--report", names[1], "--vcd", names[2])
@@ -184,7 +197,7 @@ class RunTests(WithWork):
         self.assertEqual(status, 0)
         self.assertRegex(out, r"^3 passed, 0 failed, in [0-9.]+ s\n$")
         self.put("a/expected/report.txt", self.read("a/expected/report.txt").replace("lit 2", "lit 3"))
-        junit = os.path.join(self.work, "out.xml")
+        junit = os.path.join(self.work, "made", "out.xml")
         keep = os.path.join(self.work, "kept")
         status, out, _ = call("run-tests", self.work, "--junit", junit, "--keep", keep)
         self.assertEqual(status, 1)
@@ -197,7 +210,9 @@ class RunTests(WithWork):
         self.assertIn("lit 2", self.read(f"kept/{kept}/report.txt"))
         self.assertEqual(call("run-tests", self.work, "--update")[0], 0)
         self.assertIn("lit 2", self.read("a/expected/report.txt"))
-        self.assertEqual(call("run-tests", self.work)[0], 0)
+        self.assertEqual(call("run-tests", self.work, "--keep", keep)[0], 0)
+        self.assertEqual(os.listdir(keep), [])
+        self.assertIn("File exists", call("run-tests", self.work, "--junit", os.path.join(junit, "x.xml"))[2])
 
     def test_update_fills_an_empty_folder(self):
         folder = self.button("a")
@@ -216,11 +231,15 @@ class RunTests(WithWork):
         self.put("a/expected/wave.vcd", "")
         self.assertEqual(call("run-tests", folder, "--update")[0], 0)
         self.assertEqual(call("run-tests", folder)[0], 0)
-        self.put("a/expected/wave.vcd", self.read("a/expected/wave.vcd").replace("#600000000", "#600000625"))
-        self.assertEqual(call("run-tests", folder)[0], 1)
+        wave = self.read("a/expected/wave.vcd")
+        for changed, place in ((wave.replace("#600000000", "#600000625"), "differs from 60000 us on, line "), (wave.replace("\n#600000000", ""), "differs from 60000 us on, line "),
+                               (wave.replace("#0\n$dumpvars\nz!", "#0\n$dumpvars\n1!"), "differs from 0 us on, line "), (wave.replace("btn1.1.l", "btn2.1.l"), "differs in its declarations, line ")):
+            self.put("a/expected/wave.vcd", changed)
+            status, out, _ = call("run-tests", folder)
+            self.assertEqual((status, f"wave.vcd: {place}" in out), (1, True), out)
 
     def test_what_keeps_a_test_from_running(self):
-        for files, text in (({"us_txt": "long"}, "is no time"), ({"us_txt": "0"}, "status 2"), ({"script_txt": "5us push btn1\n"}, "refused 80 ScriptLine line 1"),
+        for files, text in (({"us_txt": "long"}, "is no time"), ({"us_txt": "0"}, "0 is no time from 1us to 10s"), ({"us_txt": "11s"}, "11s is no time from 1us to 10s"), ({"script_txt": "5us push btn1\n"}, "refused 80 ScriptLine line 1"),
                             ({"diagram_json": "{"}, "is no diagram"), ({"wokwi_toml": "[wokwi]\nversion = 1\nfirmware = 'none.hex'\n"}, ""),
                             ({"scenario_yaml": "steps:\n  - jump: 1\n"}, "there is no step jump")):
             folder = self.button("a", **files)
