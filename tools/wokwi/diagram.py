@@ -67,6 +67,7 @@ class Lowering:
         self.drawn = []  # the editor's wires, as a page draws them
         self.inner = []  # wires between the parts that one part has become
         self.level = {}  # of each net, one end that is on it
+        self.is_board = True  # whether what is left is one that the simulator takes
         self.nets = Joined()
         self.ids = {part["id"] for part in diagram["parts"]}
         self.begin()
@@ -312,16 +313,20 @@ class Lowering:
 
     # ---- the outcome
 
+    def refuse_board(self, fault):
+        self.faults.append(fault)
+        self.is_board = False
+
     def outcome(self):
         """The new diagram; what breaks a rule of a whole board is among the faults."""
         kinds = [part["type"] for part in self.parts]
         unos = kinds.count("wokwi-arduino-uno")
         if unos != 1:
-            self.faults.append("there is no Arduino Uno" if not unos else "there is more than one Arduino Uno")
+            self.refuse_board("there is no Arduino Uno" if not unos else "there is more than one Arduino Uno")
         chips = sum(kind.startswith("chip-") for kind in kinds)
         for count, most, what in ((len(kinds), MOST_PARTS, "parts"), (len(self.wires), MOST_WIRES, "connections"), (chips, MOST_CHIPS, "parts that are chips")):
             if count > most:
-                self.faults.append(f"there are {count} {what}, and {most} is the most")
+                self.refuse_board(f"there are {count} {what}, and {most} is the most")
         made = {"version": 1, "author": self.diagram.get("author", ""), "editor": "wokwi", "parts": self.parts, "connections": self.wires, "dependencies": {}}
         drawn = self.drawing() if self.scenery else self.diagram.get("drawn")
         return dict(made, drawn=drawn) if drawn else made

@@ -4,7 +4,7 @@
 Breadboards become wires, parts that the simulator lacks become parts and chips that it has, or are left out with their
 wires kept; a sketch is built where there is no firmware, and chips in C where there is no module. It says on standard
 error what it did. Where it can't do something it says what, by part and wire, writes nothing and ends with 1; with
---anyway it leaves such parts and wires out. docs/PROJECTS.md, "A folder of Wokwi's editor", has the rest."""
+--anyway it leaves such parts and wires out, if what stays is a board. docs/PROJECTS.md, "A folder of Wokwi's editor", has the rest."""
 import json
 import os
 import re
@@ -37,6 +37,8 @@ def read_json(path, what):
             return json.load(file, parse_constant=no_number)
     except FileNotFoundError:
         raise Fault(f"{path} is missing") from None
+    except OSError as fault:
+        raise Fault(f"{path}: {fault.strerror}") from None
     except (ValueError, RecursionError) as fault:
         raise Fault(f"{path} is no {what}: {fault}") from None
 
@@ -177,7 +179,7 @@ def lower(folder, out, anyway=False, firmware=None, edit=None, change=None, say=
         return [str(fault)]
     for note in lowering.notes:
         say(note)
-    if lowering.faults and not anyway:
+    if lowering.faults and not (anyway and lowering.is_board):
         return lowering.faults
     for fault in lowering.faults:
         say(f"left out: {fault}")

@@ -206,6 +206,7 @@ class Parts(unittest.TestCase):
             ({"version": 1, "parts": [], "connections": []}, "there is no Arduino Uno"),
             (uno(part("wokwi-led", "uno")), "uno: a second part has this id"),
             (uno(part("wokwi-pi-pico", "pico")), "pico (wokwi-pi-pico): has another microcontroller than the Uno"),
+            (uno(part("board-esp32-devkit-c-v4", "esp")), "esp (board-esp32-devkit-c-v4): has another microcontroller than the Uno"),
             (uno(part("wokwi-teapot", "t")), "t (wokwi-teapot): is no type that is known here"),
             (uno(part("chip-own", "c")), "c (chip-own): the folder has no chip own"),
             (uno(part("wokwi-7segment", "d", digits="5")), "d (wokwi-7segment): digits is '5', and not one of 1, 2, 3, 4"),
@@ -340,6 +341,8 @@ class Folders(unittest.TestCase):
         self.assertEqual(self.lower(), ["sd (wokwi-microsd-card): is not there"])
         self.assertEqual(self.lower(anyway=True), [])
         self.assertEqual(len(json.loads(self.made("diagram.json"))["parts"]), 2)
+        self.put("diagram.json", json.dumps({"version": 1, "parts": [part("wokwi-arduino-mega", "mega")], "connections": []}))
+        self.assertEqual(self.lower(anyway=True), ["mega (wokwi-arduino-mega): has another microcontroller than the Uno", "there is no Arduino Uno"])
 
     def test_names_of_chips_stay_in_the_folder(self):
         self.put("any.hex", EMPTY_HEX)

@@ -340,16 +340,25 @@ class Play(WithWork):
         self.assertIn("led led1 off lit 2", self.read("report"))
         self.assertIn("$enddefinitions", self.read("wave"))
 
-    def test_a_halt_is_told(self):
+    def test_what_the_script_says_of_a_run_is_said(self):
         self.put("empty.hex", ":00000001FF\n")
-        self.assertIn("has halted at word address 0x0000 on the word 0xFFFF", call("wokwi/play", os.path.join(self.work, "empty.hex"), "--us", "10")[2])
+        self.assertIn("uno: the core halted at word address 0x0000, on the word 0xFFFF: empty flash", call("wokwi/play", os.path.join(self.work, "empty.hex"), "--us", "10")[2])
+        self.put("clkpr.hex", ":0600000000936100FFCF38\n:00000001FF\n")
+        self.assertIn("wrote to the clock and power control (CLKPR 0x61), which is not simulated", call("wokwi/play", os.path.join(self.work, "clkpr.hex"), "--us", "10", "--quiet")[2])
+        self.put("s.txt", "5ms press btn1\n")
+        status, _, err = call("wokwi/play", os.path.join(EXAMPLES, "button"), "--us", "10", "--script", os.path.join(self.work, "s.txt"))
+        self.assertEqual((status, 'line 1 is "5ms press btn1"' in err), (3, True))
 
-    def test_the_picture_of_an_oled_is_shown(self):
+    def test_pictures_of_displays_are_shown(self):
         _, _, err = call("wokwi/play", os.path.join(EXAMPLES, "oled-hello"), "--us", "80ms")
         lines = err.splitlines()
         self.assertIn("play: oled oled1 on", lines)
         self.assertIn("play: █" + "▀" * 126 + "█", lines)
         self.assertNotIn(" page ", err)
+        lines = call("wokwi/play", os.path.join(EXAMPLES, "chip-display"), "--us", "100ms")[2].splitlines()
+        self.assertIn("play: chip bars1 alive", lines)
+        self.assertTrue(lines[-1].startswith("play: ▀") or lines[-1].startswith("play: █"), lines[-1])
+        self.assertNotIn(" row ", "".join(lines))
 
     def test_the_page(self):
         page = os.path.join(self.work, "page.html")
@@ -362,6 +371,7 @@ class Play(WithWork):
         self.assertEqual(call("wokwi/play", self.work, "--us", "11s")[0], 2)
         self.assertEqual(call("wokwi/play", os.path.join(self.work, "none"))[0], 1)
         self.assertEqual(call("wokwi/play", self.work)[0], 1)
+        self.assertIn("play: /none: no program is there", call("wokwi/play", os.path.join(EXAMPLES, "button"), "--program", "/none")[2])
         self.put("bad.hex", "x\n")
         self.assertEqual(call("wokwi/play", os.path.join(self.work, "bad.hex"))[0], 3)
 
