@@ -162,8 +162,8 @@ def main(words):
         print(f"look: {name}: {error.strerror}", file=sys.stderr)
         return 1
     print(f"look: {name}, {len(text.encode()):,} bytes, {sum(map(len, seen.waves.waves)):,} changes, {time.time() - begun:.1f} s", file=sys.stderr)
-    if given.open and not picture:
-        webbrowser.open(pathlib.Path(name).absolute().as_uri())
+    if given.open and not picture and not webbrowser.open(pathlib.Path(name).absolute().as_uri()):
+        print("look: there is no browser to open it in", file=sys.stderr)
     return 0
 
 

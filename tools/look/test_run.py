@@ -9,6 +9,7 @@ import os
 import re
 import sys
 import tempfile
+import unittest.mock
 import xml.etree.ElementTree as ET
 from array import array
 
@@ -278,9 +279,12 @@ def check_words():
         with quiet():
             with contextlib.redirect_stderr(io.StringIO()) as said:
                 assert main([box, "--us", "10", "-o", out]) == 4
-            assert "has no wokwi.toml" in said.getvalue() and "./mudflatjar play" in said.getvalue(), said.getvalue()
+            assert "has no wokwi.toml" in said.getvalue() and f"./mudflatjar play {box} --page PAGE.html" in said.getvalue(), said.getvalue()
             assert main([examples.folder_of("blink"), "--us", "10", "-o", os.path.join(box, "no", "such.html")]) == 1
         assert not os.path.exists(out)
+        with unittest.mock.patch("webbrowser.open", return_value=False), contextlib.redirect_stderr(io.StringIO()) as said:
+            assert main([examples.folder_of("blink"), "--us", "10", "-o", out, "--open"]) == 0
+        assert said.getvalue().endswith("look: there is no browser to open it in\n"), said.getvalue()
 
 
 class quiet:

@@ -46,7 +46,7 @@ def commit():
     """The commit at hand, or nothing where there is no git."""
     if not shutil.which("git"):
         return ""
-    ran = subprocess.run(["git", "-C", str(ROOT), "rev-parse", "--verify", "-q", "HEAD"], stdout=subprocess.PIPE, stderr=subprocess.DEVNULL, stdin=subprocess.DEVNULL)
+    ran = subprocess.run(["git", "-C", str(ROOT), "-c", "safe.directory=*", "rev-parse", "--verify", "-q", "HEAD"], stdout=subprocess.PIPE, stderr=subprocess.DEVNULL, stdin=subprocess.DEVNULL)
     return ran.stdout.decode().strip()
 
 

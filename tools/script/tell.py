@@ -110,13 +110,14 @@ def line_of(file, number):
 
 def no_project(command, folder):
     """Sentences about a word that should be a project's folder and is not."""
+    play = f"./mudflatjar play {shown(folder)}" + (" --page PAGE.html" if command == "look" else "")
     if not os.path.lexists(folder):
         yield f"there is no folder {shown(folder)}"
     elif not os.path.isdir(folder):
-        remedy = f"./mudflatjar play {shown(folder)} runs it on an Uno alone" if folder.lower().endswith(PLAYED) else "docs/PROJECTS.md says what is in one"
+        remedy = f"{play} runs it on an Uno alone" if folder.lower().endswith(PLAYED) else "docs/PROJECTS.md says what is in one"
         yield f"{shown(folder)} is a file, and {command} takes a project's folder: {remedy}"
     elif not os.path.lexists(f"{folder}/wokwi.toml"):
-        yield f"{shown(folder)} has no wokwi.toml, which names a project's firmware (docs/PROJECTS.md): ./mudflatjar play {shown(folder)} builds its sketch and runs it all the same"
+        yield f"{shown(folder)} has no wokwi.toml, which names a project's firmware (docs/PROJECTS.md): {play} builds its sketch and runs it all the same"
 
 
 def unread(given):
