@@ -9,6 +9,8 @@ use Rattle.sim_base.specs.declared.wiring.Wiring.{Wiring}
 use Rattle.board_model.specs.Board.{level_at}
 use Rattle.net_resolve.specs.Circuit.{Circuit}
 use Rattle.net_resolve.specs.Marked.{has}
+use Rattle.net_resolve.specs.Shown.{AreShown}
+use Rattle.net_resolve.specs.declared.shown.Shown.{Shown}
 use Rattle.net_resolve.specs.Wired.{Wired, wired}
 use Rattle.net_resolve.specs.Subcircuits.{SubcircuitView, IsCut, AreSubcircuits, AreRight, circuit_of}
 use Rattle.net_resolve.proofs.PinLemmas.{pins_z}
@@ -40,11 +42,11 @@ first_circuit w n net_of contacts resistors ds cl ls changed en es ec er ed ef e
     ∙ ap (λ (x : List ℕ). circuit w.nets w.net_of w.contacts w.resistors ds2 cl2 ls2 x) eh
 
 -- what holds of them: all are marked
-module _ (w : Wiring) (n : ℕ) (net_of : List ℕ) (contacts resistors : List (ℕ × ℕ)) (ls : List Level)
-    (en : n ≡ length ls) (es : net_of ≡ w.net_of) (ec : contacts ≡ w.contacts) (er : resistors ≡ w.resistors) (els : ls ≡ replicate w.nets levels.Z)
+module _ (w : Wiring) (n : ℕ) (net_of : List ℕ) (contacts resistors : List (ℕ × ℕ)) (shown : Shown)
+    (en : n ≡ length shown.levels.items) (es : net_of ≡ w.net_of) (ec : contacts ≡ w.contacts) (er : resistors ≡ w.resistors) (els : shown.levels.items ≡ replicate w.nets levels.Z)
     (labels : List ℕ) (cut : IsCut (circuit_of w) labels) where
   count : n ≡ w.nets
-  count = count_is n w.nets ls en els
+  count = count_is n w.nets shown.levels.items en els
 
   same : circuit_of w ≡ wired n net_of contacts resistors
   same =
@@ -58,31 +60,30 @@ module _ (w : Wiring) (n : ℕ) (net_of : List ℕ) (contacts resistors : List (
 
   pub first_invariant : (subs : List SubcircuitView) → length subs ≡ w.nets → AreSubcircuits (circuit_of w) labels subs →
       (room : ℕ) (marked : List ℕ) → room ≡ w.nets → room ≤ 65535 → ((q : ℕ) → q < w.nets → has marked q ≡ true) →
-      (changed_room : ℕ) → changed_room ≡ w.nets →
+      shown.changed.room ≡ w.nets → shown.pin_levels.items ≡ replicate (length w.net_of) levels.Z →
       (net_count driven : ℕ) (ds : List Drive) → net_count ≡ length net_of → driven ≡ length ds → ds ≡ replicate (length w.net_of) drives.Z →
       (pair_count flags : ℕ) (cl : List Bool) → pair_count ≡ length contacts → flags ≡ length cl → cl ≡ replicate (length w.contacts) false →
-      (pin_ls : List Level) → pin_ls ≡ replicate (length w.net_of) levels.Z →
       record {
         cut : IsCut (wired n net_of contacts resistors) labels;
         subcircuits : AreSubcircuits (wired n net_of contacts resistors) labels subs;
-        right : AreRight (wired n net_of contacts resistors) labels marked cl ds ls;
-        few : n ≤ 65536;
+        right : AreRight (wired n net_of contacts resistors) labels marked cl ds shown.levels.items;
         subcircuits_long : length subs ≡ n;
         marks_room : room ≡ n;
-        changed_room : changed_room ≡ n;
         drives_long : driven ≡ net_count;
         closed_long : flags ≡ pair_count;
-        pin_levels : pin_ls ≡ map (level_at ls) net_of;
+        shown : AreShown net_of shown;
       }
-  first_invariant subs subs_long are room marked room_is few all changed_room changed_is net_count driven ds ek ed eds pair_count flags cl ep ef ecl pin_ls epl = record {
+  first_invariant subs subs_long are room marked room_is few all changed_is epl net_count driven ds ek ed eds pair_count flags cl ep ef ecl = record {
     cut = first_cut;
     subcircuits = subst (λ (x : Wired). AreSubcircuits x labels subs) same are;
-    right = right_none (wired n net_of contacts resistors) labels first_cut marked cl ds ls (λ q l. all q (subst (λ (k : ℕ). q < k) count l));
-    few = omega (arith, few, room_is, count);
+    right = right_none (wired n net_of contacts resistors) labels first_cut marked cl ds shown.levels.items (λ q l. all q (subst (λ (k : ℕ). q < k) count l));
     subcircuits_long = subs_long ∙ sym count;
     marks_room = room_is ∙ sym count;
-    changed_room = changed_is ∙ sym count;
     drives_long = ed ∙ ap length eds ∙ length-replicate (length w.net_of) drives.Z ∙ sym (ek ∙ ap length es);
     closed_long = ef ∙ ap length ecl ∙ length-replicate (length w.contacts) false ∙ sym (ep ∙ ap length ec);
-    pin_levels = epl ∙ ap (λ (k : ℕ). replicate k levels.Z) (ap length (sym es)) ∙ pins_z w.nets net_of ∙ ap (λ (x : List Level). map (level_at x) net_of) (sym els);
+    shown = record {
+      room = record { few = omega (arith, few, room_is, count, en); room = changed_is ∙ sym count ∙ en };
+      within = λ k m e. omega (arith, first_cut.pins_within k m e, en);
+      pins = epl ∙ ap (λ (k : ℕ). replicate k levels.Z) (ap length (sym es)) ∙ pins_z w.nets net_of ∙ ap (λ (x : List Level). map (level_at x) net_of) (sym els);
+    };
   }

@@ -1,5 +1,5 @@
 -- Numbers that are marked, each once.
-use Rattle.std.proofs.Common.{◌≡◌, ◌≢◌, ℕ, ◌+◌, ◌<◌, ◌≤◌, List, [], ◌∷◌, ◌++◌, length, Bool, true, false, ◌||◌, refl, ap, sym, ◌∙◌, arith, inl, inr, Some, eqb, eq-eqb, length-append, subst}
+use Rattle.std.proofs.Common.{◌≡◌, ◌≢◌, ℕ, ◌+◌, ◌<◌, ◌≤◌, List, [], ◌∷◌, ◌++◌, length, Bool, true, false, ◌||◌, refl, ap, sym, ◌∙◌, arith, inl, inr, Some, eqb, eq-eqb, length-append, length-set, subst}
 use Rattle.std.proofs.lemmas.Bool.{cases_Bool, or_parts}
 use Rattle.std.proofs.lemmas.Bool.Decides.{eqb_tells}
 use Rattle.std.proofs.lemmas.List.Folds.{list_any-append}
@@ -8,7 +8,8 @@ use Rattle.std.specs.List.{IsDistinct, AllByRecursion}
 use Rattle.std.specs.Prelude.{slice_get, slice_set, option_to_list, Option, None, MatchOption, IfSome}
 use Rattle.sim_base.specs.declared.signal.Level.{Level}
 use Rattle.board_model.proofs.Lists.{get_set_same, get_set_other}
-use Rattle.net_resolve.specs.Marked.{has, with_mark, Taken, Moves}
+use Rattle.net_resolve.specs.Marked.{MarksView, has, with_mark, Taken}
+use Rattle.net_resolve.specs.Shown.{Moves}
 
 has_more : (ns : List ℕ) (n m : ℕ) → has (ns ++ n ∷ []) m ≡ (has ns m || (eqb m n || false))
 has_more ns n m = list_any-append (eqb m) ns (n ∷ [])
@@ -59,26 +60,30 @@ distinct_push (x ∷ ns) n h once = (all ns once.0, distinct_push ns n (or_parts
     all (y ∷ ys) h = (h.0, all ys h.1)
 
 -- a level was put in its place, or was there
-pub moves_none : (levels : List Level) (ns : List ℕ) → Moves levels levels ns ns
-moves_none levels ns = record { differ = λ n h. inl h; others = λ n h. (h, refl) }
+pub moves_none : (levels : List Level) (ms : MarksView) → Moves levels levels ms ms
+moves_none levels ms = record { long = refl; room = refl; differ = λ n h. inl h; others = λ n h. (h, refl) }
 
-pub moves_put : (levels : List Level) (ns : List ℕ) (n : ℕ) (x : Level) → n < length levels → slice_get levels n ≢ Some x → Moves levels (slice_set levels n x) ns (with_mark n ns)
-moves_put levels ns n x inside ne = record {
+pub moves_put : (levels : List Level) (ms : MarksView) (n : ℕ) (x : Level) → n < length levels → slice_get levels n ≢ Some x → Moves levels (slice_set levels n x) ms (record ms { marked = with_mark n ms.marked })
+moves_put levels ms n x inside ne = record {
+  long = length-set levels n x;
+  room = refl;
   differ = λ m h. elim (eqb_tells m n) [
     | inl e ↦ inr (λ same. ne (ap (slice_get levels) (sym e.1) ∙ sym same ∙ ap (slice_get (slice_set levels n x)) e.1 ∙ get_set_same levels n x inside))
-    | inr f ↦ inl (sym (with_other ns n m f.1) ∙ h)
+    | inr f ↦ inl (sym (with_other ms.marked n m f.1) ∙ h)
   ];
   others = λ m h. elim (eqb_tells m n) [
     | inl e ↦
-        let on : has (with_mark n ns) m ≡ true = ap (has (with_mark n ns)) e.1 ∙ with_has ns n in
+        let on : has (with_mark n ms.marked) m ≡ true = ap (has (with_mark n ms.marked)) e.1 ∙ with_has ms.marked n in
         absurd cc
-    | inr f ↦ (sym (with_other ns n m f.1) ∙ h, get_set_other levels n m x f.1)
+    | inr f ↦ (sym (with_other ms.marked n m f.1) ∙ h, get_set_other levels n m x f.1)
   ];
 }
 
 -- a move of one place after moves of others
-pub moves_then : (a b c : List Level) (before between after : List ℕ) (n : ℕ) → Moves a b before between → slice_get b n ≡ slice_get a n → Moves b c between after → ((m : ℕ) → m ≢ n → slice_get c m ≡ slice_get b m) → Moves a c before after
+pub moves_then : (a b c : List Level) (before between after : MarksView) (n : ℕ) → Moves a b before between → slice_get b n ≡ slice_get a n → Moves b c between after → ((m : ℕ) → m ≢ n → slice_get c m ≡ slice_get b m) → Moves a c before after
 moves_then a b c before between after n first same second only = record {
+  long = second.long ∙ first.long;
+  room = second.room ∙ first.room;
   differ = λ m h. elim (second.differ m h) [
     | inl earlier ↦ elim (first.differ m earlier) [
       | inl old ↦ inl old
@@ -99,8 +104,8 @@ moves_then a b c before between after n first same second only = record {
 }
 
 -- a number that was not marked, and whose level stands, is not marked
-pub still_fresh : (old new : List Level) (before after : List ℕ) (n : ℕ) → Moves old new before after → has before n ≡ false → slice_get new n ≡ slice_get old n → has after n ≡ false
-still_fresh old new before after n moves off same = elim (cases_Bool (has after n)) [
+pub still_fresh : (old new : List Level) (before after : MarksView) (n : ℕ) → Moves old new before after → has before.marked n ≡ false → slice_get new n ≡ slice_get old n → has after.marked n ≡ false
+still_fresh old new before after n moves off same = elim (cases_Bool (has after.marked n)) [
   | inl on ↦ elim (moves.differ n on) [
     | inl earlier ↦ absurd cc
     | inr moved ↦ absurd (moved same)

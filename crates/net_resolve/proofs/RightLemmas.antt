@@ -12,7 +12,8 @@ use Rattle.board_model.specs.Resolve.{level_of, resolve}
 use Rattle.board_model.proofs.Lists.{some_same, some_map, get_within, get_set_other, get-below, length-below, same_lists}
 use Rattle.net_resolve.specs.Wired.{Wired, levels_of}
 use Rattle.net_resolve.specs.Circuit.{AreChanged}
-use Rattle.net_resolve.specs.Marked.{has, with_mark, Moves}
+use Rattle.net_resolve.specs.Marked.{MarksView, has, with_mark}
+use Rattle.net_resolve.specs.Shown.{Moves}
 use Rattle.net_resolve.specs.Subcircuits.{Lacks, SubcircuitView, IsCut, IsSubcircuit, AreSubcircuits, AreRight, FitsIn, AreApart, own_wired, labels_of, level_now}
 use Rattle.net_resolve.proofs.SubcircuitLemmas.{nets_once, net_label, net_labelled, net_there, others_lack, own_level}
 use Rattle.net_resolve.proofs.PinLemmas.{all_pins}
@@ -45,8 +46,8 @@ pub record Begun (labels rest : List ℕ) (first now : List Level) (moved : List
 abbrev pub AreFresh : List SubcircuitView → List ℕ → List ℕ → Type 0
 AreFresh subs rest moved = (q j n : ℕ) (s : SubcircuitView) → has rest q ≡ true → slice_get subs q ≡ Some s → slice_get s.nets j ≡ Some n → has moved n ≡ false
 
-pub fresh_step : (subs : List SubcircuitView) (q : ℕ) (s : SubcircuitView) (rest before after : List ℕ) (old new : List Level) → AreApart subs → slice_get subs q ≡ Some s → has rest q ≡ false →
-    ((n : ℕ) → Lacks s.nets n → slice_get new n ≡ slice_get old n) → Moves old new before after → AreFresh subs (q ∷ rest) before → AreFresh subs rest after
+pub fresh_step : (subs : List SubcircuitView) (q : ℕ) (s : SubcircuitView) (rest : List ℕ) (before after : MarksView) (old new : List Level) → AreApart subs → slice_get subs q ≡ Some s → has rest q ≡ false →
+    ((n : ℕ) → Lacks s.nets n → slice_get new n ≡ slice_get old n) → Moves old new before after → AreFresh subs (q ∷ rest) before.marked → AreFresh subs rest after.marked
 fresh_step subs q s rest before after old new apart at once others moves fresh p j n t left there e =
     still_fresh old new before after n moves (fresh p j n t (has_rest rest q p left) there e) (others n (λ k f.
     let same : q ≡ p = apart q p k j n s t at there f e in
@@ -97,12 +98,15 @@ module _ (w : Wired) (labels : List ℕ) (cut : IsCut w labels) where
         ∙ own_level w labels cut q s is cs2 ds2 (own_closed cs) (own_drives ds) ld2 c2 d2 t.0 n t.1)
 
     -- it can be resolved
-    pub fits_in : (closed_long levels_long : ℕ) → closed_long ≡ length w.contacts → levels_long ≡ w.nets → FitsIn w.net_of closed_long levels_long s
-    fits_in cl ll ec el = record {
+    pub fits_in : (drives_long closed_long levels_long : ℕ) → drives_long ≡ length w.net_of → closed_long ≡ length w.contacts → levels_long ≡ w.nets → FitsIn w.net_of drives_long closed_long levels_long s
+    fits_in dl cl ll ed ec el = record {
+      each = sym ed;
       pins = pin_places labels w.net_of q s.pins is.pins_are;
       contacts = λ j k e. omega (arith, ec, pair_places labels w.contacts q s.contacts is.contacts_are j k e);
-      nets = λ j k e. omega (arith, el, cut.long, slice_get_within labels k q (net_labelled labels q s.nets is.nets_are j k e));
-      once = nets_once labels q s.nets is.nets_are;
+      nets = record {
+        within = λ j k e. omega (arith, el, cut.long, slice_get_within labels k q (net_labelled labels q s.nets is.nets_are j k e));
+        once = nets_once labels q s.nets is.nets_are;
+      };
       whole = all_pins w labels q s is;
     }
 
@@ -123,8 +127,8 @@ module _ (w : Wired) (labels : List ℕ) (cut : IsCut w labels) where
     ]
 
     -- the nets whose levels changed since the first, where those of this subcircuit had not
-    pub changed_step : (rest before after : List ℕ) (first old new : List Level) → length first ≡ w.nets → length old ≡ w.nets → has rest q ≡ false →
-        ((n : ℕ) → Lacks s.nets n → slice_get new n ≡ slice_get old n) → Moves old new before after → Begun labels (q ∷ rest) first old before → Begun labels rest first new after
+    pub changed_step : (rest : List ℕ) (before after : MarksView) (first old new : List Level) → length first ≡ w.nets → length old ≡ w.nets → has rest q ≡ false →
+        ((n : ℕ) → Lacks s.nets n → slice_get new n ≡ slice_get old n) → Moves old new before after → Begun labels (q ∷ rest) first old before.marked → Begun labels rest first new after.marked
     changed_step rest before after first old new lf lo apart others moves begun = record {
       changed = record {
         differ = λ n h. elim (moves.differ n h) [

@@ -6,3 +6,5 @@ pub mod Wired
 pub mod Subcircuits
 pub mod Sorted
 pub mod Resolutions
+pub mod Shown
+pub mod Rooms

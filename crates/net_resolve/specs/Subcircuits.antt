@@ -91,10 +91,15 @@ AreSubcircuits w labels subs = (q : ℕ) (s : SubcircuitView) → slice_get subs
 abbrev pub AreApart : List SubcircuitView → Type 0
 AreApart subs = (p q j k n : ℕ) (s t : SubcircuitView) → slice_get subs p ≡ Some s → slice_get subs q ≡ Some t → slice_get s.nets j ≡ Some n → slice_get t.nets k ≡ Some n → p ≡ q
 
+-- different numbers below a count
+pub record AreNumbers (count : ℕ) (ns : List ℕ) : Type 0 where
+  pub within : (j n : ℕ) → slice_get ns j ≡ Some n → n < count
+  pub once : AreOnce ns
+
 -- the numbers that a subcircuit has are of a board's pins, contacts and nets, and it has all pins on its nets
-pub record FitsIn (net_of : List ℕ) (contacts_count nets_count : ℕ) (s : SubcircuitView) : Type 0 where
+pub record FitsIn (net_of : List ℕ) (drives_count contacts_count nets_count : ℕ) (s : SubcircuitView) : Type 0 where
+  pub each : length net_of ≡ drives_count
   pub pins : (j k : ℕ) → slice_get s.pins j ≡ Some k → k < length net_of
   pub contacts : (j k : ℕ) → slice_get s.contacts j ≡ Some k → k < contacts_count
-  pub nets : (j k : ℕ) → slice_get s.nets j ≡ Some k → k < nets_count
-  pub once : AreOnce s.nets
+  pub nets : AreNumbers nets_count s.nets
   pub whole : HasAllPins net_of s

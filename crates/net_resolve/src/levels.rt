@@ -1,18 +1,34 @@
 //! The levels of all nets, from what the pins drive now.
-ghost use Rattle.std.specs.Prelude.{◌≡◌, ℕ, ◌<◌, ◌≤◌, ◌&&◌, ◌==◌, List, length, map, Some, slice_get, slice_index, Bool};
+ghost use Rattle.std.specs.Prelude.{◌≡◌, ℕ, ◌<◌, ◌≤◌, ◌&&◌, ◌==◌, List, length, map, Some, slice_get, slice_index, Bool, IfOk};
 ghost use Rattle.std.specs.List.{zip};
 ghost use Rattle.board_model.specs.Walks.{below};
 ghost use Rattle.board_model.specs.Resolve.{contact_joins, resolve};
 ghost use Rattle.sim_base.specs.declared.signal.Level.{Level};
 ghost use Rattle.union_find.specs.Forest.{AreLabels, Joins};
 ghost use Rattle.net_resolve.specs.Groups.{AreGroups};
+ghost use Rattle.net_resolve.specs.Rooms.{FitsRoom};
 ghost use Rattle.net_resolve.specs.Sums.{sum_at, added, strong_level, weak_level, is_loose, resistors_add};
 ghost use Rattle.board_model.specs.Pairs.{ArePairs};
 
 use crate::groups::put_bridges;
+use crate::room::{all_z, no_flags, zeros};
 use crate::sums::{add_resistors, add_strong, add_weak, put_levels, put_strong};
-use sim_base::{Drive, Level};
+use sim_base::{Drive, Level, OutOfMemory};
+use std::alloc::Global;
 use union_find::{join_chosen, label_chosen};
+
+/// Room in which levels are found.
+#[derive(Drop)]
+pub(crate) struct Room {
+    /// The strong value of each group.
+    strong: Vec<Level>,
+    /// Which resistors connect two groups without a strong value.
+    bridges: Vec<bool>,
+    /// The area of each net: groups without a strong value that resistors connect.
+    areas: Vec<u16>,
+    /// What comes together in each area.
+    sums: Vec<Level>,
+}
 
 /// Starts each sum with nothing.
 fn clear(sums: &mut [Level])
@@ -94,36 +110,57 @@ fn sum_areas(
     add_weak(net_of, drives, groups, strong, areas, sums);
 }
 
-/// Writes the level of each net. Weak drives and resistors are looked at only where a group has no strong value. The other
-/// lists are room to work in.
-pub(crate) fn resolve_groups(
-    net_of: &[u16],
-    drives: &[Drive],
-    resistors: &[(u16, u16)],
-    groups: &[u16],
-    strong: &mut [Level],
-    bridges: &mut [bool],
-    areas: &mut [u16],
-    sums: &mut [Level],
-    levels: &mut [Level],
-)
-    requires pins { length drives.now ≡ length net_of.now }
-    requires nets { (k n : ℕ) → slice_get net_of.now k ≡ Some n → n < length groups.now }
-    requires resistors { ArePairs (length groups.now) resistors.now }
-    requires labels { AreLabels groups.now }
-    requires strong { length strong.old ≡ length groups.now }
-    requires bridges { length bridges.old ≡ length resistors.now }
-    requires areas { length areas.old ≡ length groups.now }
-    requires sums { length sums.old ≡ length groups.now }
-    requires levels { length levels.old ≡ length groups.now }
-    ensures { (contacts : List (ℕ × ℕ)) (closed : List Bool) → AreGroups contacts closed groups.now →
-        levels.new ≡ resolve (length groups.now) net_of.now contacts resistors.now closed drives.now }
-{
-    sum_groups(net_of, drives, groups, strong);
-    if put_strong(groups, strong, levels) {
-        return;
+impl Room {
+    /// Room for so many nets and resistors.
+    pub(crate) fn new(alloc: Global, nets: usize, resistors: usize) -> Result<Room, OutOfMemory>
+        ensures { IfOk result (λ r. FitsRoom nets resistors r) }
+    {
+        let strong = all_z(alloc, nets)?;
+        let bridges = no_flags(alloc, resistors)?;
+        let areas = zeros(alloc, nets)?;
+        let sums = all_z(alloc, nets)?;
+        Ok(Room {
+            strong,
+            bridges,
+            areas,
+            sums,
+        })
     }
-    find_areas(resistors, groups, strong, bridges, areas);
-    sum_areas(net_of, drives, resistors, groups, strong, areas, sums);
-    put_levels(groups, strong, areas, sums, levels);
+
+    /// Writes the level of each net. Weak drives and resistors are looked at only where a group has no strong value.
+    pub(crate) fn resolve(
+        &mut self,
+        net_of: &[u16],
+        drives: &[Drive],
+        resistors: &[(u16, u16)],
+        groups: &[u16],
+        levels: &mut [Level],
+    )
+        requires pins { length drives.now ≡ length net_of.now }
+        requires nets { (k n : ℕ) → slice_get net_of.now k ≡ Some n → n < length groups.now }
+        requires resistors { ArePairs (length groups.now) resistors.now }
+        requires labels { AreLabels groups.now }
+        requires room { FitsRoom (length groups.now) (length resistors.now) self.old }
+        requires levels { length levels.old ≡ length groups.now }
+        ensures room { FitsRoom (length groups.now) (length resistors.now) self.new }
+        ensures levels { (contacts : List (ℕ × ℕ)) (closed : List Bool) → AreGroups contacts closed groups.now →
+            levels.new ≡ resolve (length groups.now) net_of.now contacts resistors.now closed drives.now }
+    {
+        let strong = self.strong.as_mut_slice();
+        sum_groups(net_of, drives, groups, strong);
+        if put_strong(groups, strong, levels) {
+            return;
+        }
+        let areas = self.areas.as_mut_slice();
+        find_areas(
+            resistors,
+            groups,
+            strong,
+            self.bridges.as_mut_slice(),
+            areas,
+        );
+        let sums = self.sums.as_mut_slice();
+        sum_areas(net_of, drives, resistors, groups, strong, areas, sums);
+        put_levels(groups, strong, areas, sums, levels);
+    }
 }

@@ -10,6 +10,7 @@ mod marks;
 mod nets;
 mod resolution;
 mod room;
+mod shown;
 mod subcircuit;
 mod sums;
 mod whole;

@@ -1,5 +1,5 @@
 //! The nets of a board.
-ghost use Rattle.std.specs.Prelude.{◌≡◌, ℕ, ◌<◌, ◌≤◌, List, [], length, map, replicate, Some, eqb, true, false, IfOk, vec_len};
+ghost use Rattle.std.specs.Prelude.{◌≡◌, ℕ, ◌<◌, [], length, map, replicate, Some, eqb, true, false, IfOk};
 ghost use Rattle.std.specs.Prelude.{slice_get, slice_set};
 ghost use Rattle.std.specs.List.{IsDistinct};
 ghost use Rattle.board_model.specs.Fits.{IsWiring};
@@ -7,13 +7,13 @@ ghost use Rattle.board_model.specs.Board.{level_at};
 ghost use Rattle.board_model.specs.Resolve.{resolve};
 ghost use Rattle.net_resolve.specs.Circuit.{Circuit, AreChanged};
 ghost use Rattle.net_resolve.specs.Marked.{has};
-ghost use Rattle.net_resolve.specs.Wired.{Wired};
-ghost use Rattle.net_resolve.specs.Subcircuits.{SubcircuitView, IsCut, AreSubcircuits, AreApart, AreRight, FitsIn, circuit_of};
+ghost use Rattle.net_resolve.specs.Subcircuits.{IsCut, AreSubcircuits, circuit_of};
 
 use crate::cut::{cut_all, sort};
 use crate::marks::{Marks, Numbers};
 use crate::resolution::{is_same_drive, is_same_flag};
 use crate::room::{all_z, no_drives, no_flags};
+use crate::shown::Shown;
 use crate::subcircuit::Subcircuit;
 use sim_base::{Drive, Level, OutOfMemory, Wiring};
 use std::alloc::Global;
@@ -35,84 +35,41 @@ pub struct Nets {
     closed: Vec<bool>,
     /// The subcircuits that are to be resolved again.
     marks: Marks,
-    levels: Vec<Level>,
-    /// The level of each pin's net.
-    pin_levels: Vec<Level>,
-    /// The nets whose levels the last resolution changed.
-    changed: Numbers,
+    /// The levels, and the nets whose levels the last resolution changed.
+    shown: Shown,
 }
 
 impl Model for Nets {
-    ghost use Rattle.std.specs.Prelude.{◌≡◌, ◌≤◌, length, map, vec_len};
-    ghost use Rattle.board_model.specs.Board.{level_at};
+    ghost use Rattle.std.specs.Prelude.{◌≡◌, length, vec_len};
     ghost use Rattle.net_resolve.specs.Circuit.{Circuit};
     ghost use Rattle.net_resolve.specs.Wired.{wired};
     ghost use Rattle.net_resolve.specs.Subcircuits.{IsCut, AreSubcircuits, AreRight};
+    ghost use Rattle.net_resolve.specs.Shown.{AreShown};
 
     ghost Value = { Circuit };
 
     ghost view = { λ a. record {
-      nets = vec_len a.levels;
+      nets = vec_len a.shown.levels;
       net_of = a.net_of.items;
       contacts = a.contacts.items;
       resistors = a.resistors.items;
       drives = a.drives.items;
       closed = a.closed.items;
-      levels = a.levels.items;
-      changed = a.changed.marked;
+      levels = a.shown.levels.items;
+      changed = a.shown.changed.marked;
     } };
 
     ghost invariant = { λ a. record {
-      cut : IsCut (wired (vec_len a.levels) a.net_of.items a.contacts.items a.resistors.items) a.labels.items;
-      subcircuits : AreSubcircuits (wired (vec_len a.levels) a.net_of.items a.contacts.items a.resistors.items) a.labels.items a.subcircuits.items;
-      right : AreRight (wired (vec_len a.levels) a.net_of.items a.contacts.items a.resistors.items)
-          a.labels.items a.marks.marked a.closed.items a.drives.items a.levels.items;
-      few : vec_len a.levels ≤ 65536;
-      subcircuits_long : length a.subcircuits.items ≡ vec_len a.levels;
-      marks_room : a.marks.room ≡ vec_len a.levels;
-      changed_room : a.changed.room ≡ vec_len a.levels;
+      cut : IsCut (wired (vec_len a.shown.levels) a.net_of.items a.contacts.items a.resistors.items) a.labels.items;
+      subcircuits : AreSubcircuits (wired (vec_len a.shown.levels) a.net_of.items a.contacts.items a.resistors.items) a.labels.items a.subcircuits.items;
+      right : AreRight (wired (vec_len a.shown.levels) a.net_of.items a.contacts.items a.resistors.items)
+          a.labels.items a.marks.marked a.closed.items a.drives.items a.shown.levels.items;
+      subcircuits_long : length a.subcircuits.items ≡ vec_len a.shown.levels;
+      marks_room : a.marks.room ≡ vec_len a.shown.levels;
       drives_long : vec_len a.drives ≡ vec_len a.net_of;
       closed_long : vec_len a.closed ≡ vec_len a.contacts;
-      pin_levels : a.pin_levels.items ≡ map (level_at a.levels.items) a.net_of.items;
+      shown : AreShown a.net_of.items a.shown;
     } };
-}
-
-/// Resolves the subcircuits that are marked, takes their marks off, and keeps the levels of the pins.
-#[inline(always)]
-fn resolve_subcircuits(
-    drives: &[Drive],
-    closed: &[bool],
-    net_of: &[u16],
-    marks: &mut Marks,
-    subcircuits: &mut [Subcircuit],
-    levels: &mut [Level],
-    pin_levels: &mut [Level],
-    changed: &mut Numbers,
-)
-    requires marks_room { marks.old.room ≡ length subcircuits.old }
-    requires few { length levels.old ≤ 65536 }
-    requires room { changed.old.room ≡ length levels.old }
-    requires none { changed.old.marked ≡ [] }
-    requires apart { AreApart subcircuits.old }
-    requires fits { (q : ℕ) (s : SubcircuitView) → slice_get subcircuits.old q ≡ Some s →
-        FitsIn net_of.now (length closed.now) (length levels.old) s }
-    requires each { length net_of.now ≡ length drives.now }
-    requires nets { (k n : ℕ) → slice_get net_of.now k ≡ Some n → n < length levels.old }
-    requires pin_levels { pin_levels.old ≡ map (level_at levels.old) net_of.now }
-    ensures same { subcircuits.new ≡ subcircuits.old }
-    ensures none { marks.new.marked ≡ [] }
-    ensures marks_room { marks.new.room ≡ marks.old.room }
-    ensures room { changed.new.room ≡ changed.old.room }
-    ensures right { (w : Wired) (labels : List ℕ) → IsCut w labels → AreSubcircuits w labels subcircuits.old →
-        length closed.now ≡ length w.contacts → length drives.now ≡ length w.net_of →
-        AreRight w labels marks.old.marked closed.now drives.now levels.old → AreRight w labels [] closed.now drives.now levels.new }
-    ensures changed { (w : Wired) (labels : List ℕ) → IsCut w labels → AreSubcircuits w labels subcircuits.old →
-        length levels.old ≡ w.nets → AreChanged levels.old levels.new changed.new.marked }
-    ensures pin_levels { pin_levels.new ≡ map (level_at levels.new) net_of.now }
-{
-    while let Some(q) = marks.take() {
-        subcircuits[q as usize].resolve(drives, closed, net_of, levels, pin_levels, changed);
-    }
 }
 
 /// The number of each net's subcircuit, and the subcircuits.
@@ -163,9 +120,11 @@ impl Nets {
             drives,
             closed,
             marks,
-            levels,
-            pin_levels,
-            changed,
+            shown: Shown {
+                levels,
+                pin_levels,
+                changed,
+            },
         })
     }
 
@@ -204,17 +163,15 @@ impl Nets {
         } }
         ensures changed { AreChanged self.old.levels self.new.levels self.new.changed }
     {
-        self.changed.clear();
-        resolve_subcircuits(
-            &self.drives,
-            &self.closed,
-            &self.net_of,
-            &mut self.marks,
-            &mut self.subcircuits,
-            &mut self.levels,
-            &mut self.pin_levels,
-            &mut self.changed,
-        );
+        self.shown.changed.clear();
+        while let Some(q) = self.marks.take() {
+            self.subcircuits[q as usize].resolve(
+                &self.drives,
+                &self.closed,
+                &self.net_of,
+                &mut self.shown,
+            );
+        }
     }
 
     /// What each pin drives.
@@ -238,7 +195,7 @@ impl Nets {
         requires { net < self.now.nets }
         ensures { slice_get self.now.levels net ≡ Some result }
     {
-        self.levels[net as usize]
+        self.shown.levels[net as usize]
     }
 
     /// The levels of all nets.
@@ -246,7 +203,7 @@ impl Nets {
         ensures levels { result.now ≡ self.now.levels }
         ensures nets { length result.now ≡ self.now.nets }
     {
-        &self.levels
+        &self.shown.levels
     }
 
     /// The level of each pin's net.
@@ -254,7 +211,7 @@ impl Nets {
         ensures levels { result.now ≡ map (level_at self.now.levels) self.now.net_of }
         ensures pins { length result.now ≡ length self.now.net_of }
     {
-        &self.pin_levels
+        &self.shown.pin_levels
     }
 
     /// The nets whose levels the last resolution changed.
@@ -263,7 +220,7 @@ impl Nets {
         ensures once { IsDistinct eqb result.now }
         ensures nets { (n : ℕ) → has result.now n ≡ true → n < self.now.nets }
     {
-        self.changed.items()
+        self.shown.changed.items()
     }
 }
 

@@ -1,15 +1,15 @@
 //! Nets that no contact and no resistor connects with others: their levels are found alone.
-ghost use Rattle.std.specs.Prelude.{◌≡◌, ◌≢◌, ℕ, ◌<◌, ◌≤◌, List, length, map, Some, slice_get, slice_set, slice_index, IfOk, vec_len, Bool, true, false};
+ghost use Rattle.std.specs.Prelude.{◌≡◌, ℕ, ◌<◌, List, length, map, Some, slice_get, IfOk, Bool, false};
 ghost use Rattle.sim_base.specs.declared.signal.Drive.{Drive};
 ghost use Rattle.net_resolve.specs.Wired.{levels_of};
-ghost use Rattle.net_resolve.specs.Marked.{Moves, has};
-ghost use Rattle.board_model.specs.Board.{level_at};
-ghost use Rattle.net_resolve.specs.Subcircuits.{SubcircuitView, Lacks, AreOnce, FitsIn, own_wired};
+ghost use Rattle.net_resolve.specs.Marked.{has};
+ghost use Rattle.net_resolve.specs.Subcircuits.{SubcircuitView, Lacks, FitsIn, own_wired};
 ghost use Rattle.net_resolve.specs.Resolutions.{IsResolution, AreResolutions, ArePlaces, IsBy, last_of};
+ghost use Rattle.net_resolve.specs.Shown.{AreShown, Moves};
 
-use crate::marks::Numbers;
 use crate::resolution::{Kept, Resolution};
 use crate::room::{all_z, no_drives, no_flags};
+use crate::shown::Shown;
 use crate::whole::Whole;
 use sim_base::{Drive, Level, OutOfMemory};
 use std::alloc::Global;
@@ -58,75 +58,6 @@ fn gather<T: Copy>(from: &[T], places: &[usize], into: &mut [T])
 {
     for j in 0..places.len() {
         into[j] = from[places[j]];
-    }
-}
-
-#[inline(always)]
-fn is_same_level(a: Level, b: Level) -> bool
-    ensures same { result ≡ true → a ≡ b }
-    ensures differs { result ≡ false → a ≢ b }
-{
-    a == b
-}
-
-/// Puts a level in its place, and lists the place where that had another.
-#[inline(always)]
-fn put_level(level: Level, place: usize, into: &mut [Level], changed: &mut Numbers)
-    requires place { place < length into.old }
-    requires few { length into.old ≤ 65536 }
-    requires room { changed.old.room ≡ length into.old }
-    requires fresh { has changed.old.marked place ≡ false }
-    ensures put { into.new ≡ slice_set into.old place level }
-    ensures room { changed.new.room ≡ changed.old.room }
-    ensures moves { Moves into.old into.new changed.old.marked changed.new.marked }
-{
-    if !is_same_level(into[place], level) {
-        into[place] = level;
-        changed.add(place as u16);
-    }
-}
-
-/// Puts each level in its place, and lists the places that had others.
-#[inline(always)]
-fn scatter(levels: &[Level], places: &[usize], into: &mut [Level], changed: &mut Numbers)
-    requires places { (j k : ℕ) → slice_get places.now j ≡ Some k → k < length into.old }
-    requires each { length levels.now ≡ length places.now }
-    requires once { AreOnce places.now }
-    requires few { length into.old ≤ 65536 }
-    requires room { changed.old.room ≡ length into.old }
-    requires fresh { (j k : ℕ) → slice_get places.now j ≡ Some k → has changed.old.marked k ≡ false }
-    ensures put { (j k : ℕ) → slice_get places.now j ≡ Some k → slice_get into.new k ≡ slice_get levels.now j }
-    ensures others { (k : ℕ) → Lacks places.now k → slice_get into.new k ≡ slice_get into.old k }
-    ensures room { changed.new.room ≡ changed.old.room }
-    ensures moves { Moves into.old into.new changed.old.marked changed.new.marked }
-{
-    for j in 0..places.len() {
-        put_level(levels[j], places[j], into, changed);
-    }
-}
-
-/// Puts the level of a pin's net in the pin's place.
-#[inline]
-fn put_pin(pin: usize, net_of: &[u16], levels: &[Level], into: &mut [Level])
-    requires pin { pin < length net_of.now }
-    requires nets { (k n : ℕ) → slice_get net_of.now k ≡ Some n → n < length levels.now }
-    requires room { length into.old ≡ length net_of.now }
-    ensures { into.new ≡ slice_set into.old pin (level_at levels.now (slice_index net_of.now pin)) }
-{
-    into[pin] = levels[net_of[pin] as usize];
-}
-
-/// Puts the level of its net in the place of each of these pins.
-#[inline(always)]
-fn put_pins(pins: &[usize], net_of: &[u16], levels: &[Level], into: &mut [Level])
-    requires pins { (j k : ℕ) → slice_get pins.now j ≡ Some k → k < length net_of.now }
-    requires nets { (k n : ℕ) → slice_get net_of.now k ≡ Some n → n < length levels.now }
-    requires room { length into.old ≡ length net_of.now }
-    ensures put { (j k : ℕ) → slice_get pins.now j ≡ Some k → slice_get into.new k ≡ slice_get (map (level_at levels.now) net_of.now) k }
-    ensures others { (k : ℕ) → Lacks pins.now k → slice_get into.new k ≡ slice_get into.old k }
-{
-    for j in 0..pins.len() {
-        put_pin(pins[j], net_of, levels, into);
     }
 }
 
@@ -261,35 +192,27 @@ impl Subcircuit {
         })
     }
 
-    /// Finds the levels of its nets, by what the pins of the board drive and which contacts are closed,
-    /// lists the nets whose levels change, and keeps the levels of the pins, which are those of their nets.
+    /// Finds the levels of its nets, by what the pins of the board drive and which contacts are closed, and shows them.
     #[inline(always)]
     pub(crate) fn resolve(
         &mut self,
         drives: &[Drive],
         closed: &[bool],
         net_of: &[u16],
-        levels: &mut [Level],
-        pin_levels: &mut [Level],
-        changed: &mut Numbers,
+        shown: &mut Shown,
     )
-        requires fits { FitsIn net_of.now (length closed.now) (length levels.old) self.old }
-        requires few { length levels.old ≤ 65536 }
-        requires room { changed.old.room ≡ length levels.old }
-        requires fresh { (j n : ℕ) → slice_get self.old.nets j ≡ Some n → has changed.old.marked n ≡ false }
-        requires each { length net_of.now ≡ length drives.now }
-        requires within { (k n : ℕ) → slice_get net_of.now k ≡ Some n → n < length levels.old }
-        requires pin_levels { pin_levels.old ≡ map (level_at levels.old) net_of.now }
+        requires fits { FitsIn net_of.now (length drives.now) (length closed.now) (length shown.old.levels.items) self.old }
+        requires fresh { (j n : ℕ) → slice_get self.old.nets j ≡ Some n → has shown.old.changed.marked n ≡ false }
+        requires shown { AreShown net_of.now shown.old }
         ensures same { self.new ≡ self.old }
         ensures put { (own_closed : List Bool) (own_drives : List Drive) →
             map Some own_closed ≡ map (slice_get closed.now) self.old.contacts →
             map Some own_drives ≡ map (slice_get drives.now) self.old.pins →
             (j n : ℕ) → slice_get self.old.nets j ≡ Some n →
-            slice_get levels.new n ≡ slice_get (levels_of (own_wired self.old) own_closed own_drives) j }
-        ensures others { (n : ℕ) → Lacks self.old.nets n → slice_get levels.new n ≡ slice_get levels.old n }
-        ensures room { changed.new.room ≡ changed.old.room }
-        ensures moves { Moves levels.old levels.new changed.old.marked changed.new.marked }
-        ensures pin_levels { pin_levels.new ≡ map (level_at levels.new) net_of.now }
+            slice_get shown.new.levels.items n ≡ slice_get (levels_of (own_wired self.old) own_closed own_drives) j }
+        ensures others { (n : ℕ) → Lacks self.old.nets n → slice_get shown.new.levels.items n ≡ slice_get shown.old.levels.items n }
+        ensures shown { AreShown net_of.now shown.new }
+        ensures moves { Moves shown.old.levels.items shown.new.levels.items shown.old.changed shown.new.changed }
     {
         resolve_other(
             drives,
@@ -299,7 +222,7 @@ impl Subcircuit {
             &mut self.kept,
             &mut self.whole,
         );
-        scatter(&self.kept.last().levels, &self.nets, levels, changed);
-        put_pins(&self.pins, net_of, levels, pin_levels);
+        shown.put_levels(&self.kept.last().levels, &self.nets);
+        shown.put_pins(&self.pins, net_of);
     }
 }

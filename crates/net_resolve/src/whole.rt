@@ -4,8 +4,8 @@ ghost use Rattle.net_resolve.specs.Wired.{Wired, wired, levels_of};
 ghost use Rattle.net_resolve.specs.Groups.{AreGroups};
 ghost use Rattle.board_model.specs.Pairs.{ArePairs};
 
-use crate::levels::{group_nets, resolve_groups};
-use crate::room::{all_z, no_flags, zeros};
+use crate::levels::{Room, group_nets};
+use crate::room::{no_flags, zeros};
 use sim_base::{Drive, Level, OutOfMemory};
 use std::alloc::Global;
 use std::marker::Model;
@@ -20,14 +20,7 @@ pub(crate) struct Whole {
     closed: Vec<bool>,
     /// The group of each net: a net of it that stands for all that closed contacts lead to.
     groups: Vec<u16>,
-    /// The strong value of each group.
-    strong: Vec<Level>,
-    /// Which resistors connect two groups without a strong value.
-    bridges: Vec<bool>,
-    /// The area of each net: groups without a strong value that resistors connect.
-    areas: Vec<u16>,
-    /// What comes together in each area.
-    sums: Vec<Level>,
+    room: Room,
 }
 
 impl Model for Whole {
@@ -35,6 +28,7 @@ impl Model for Whole {
     ghost use Rattle.board_model.specs.Pairs.{ArePairs};
     ghost use Rattle.net_resolve.specs.Wired.{Wired};
     ghost use Rattle.net_resolve.specs.Groups.{AreGroups};
+    ghost use Rattle.net_resolve.specs.Rooms.{FitsRoom};
 
     ghost Value = { Wired };
 
@@ -52,10 +46,7 @@ impl Model for Whole {
       resistors_within : ArePairs (vec_len a.groups) a.resistors.items;
       grouped : AreGroups a.contacts.items a.closed.items a.groups.items;
       closed_long : vec_len a.closed ≡ vec_len a.contacts;
-      strong_long : vec_len a.strong ≡ vec_len a.groups;
-      bridges_long : vec_len a.bridges ≡ vec_len a.resistors;
-      areas_long : vec_len a.areas ≡ vec_len a.groups;
-      sums_long : vec_len a.sums ≡ vec_len a.groups;
+      room : FitsRoom (vec_len a.groups) (vec_len a.resistors) a.room;
     } };
 }
 
@@ -93,20 +84,14 @@ impl Whole {
         let closed = no_flags(alloc, contacts.len())?;
         let mut groups = zeros(alloc, count)?;
         group_nets(&contacts, &closed, &mut groups);
-        let bridges = no_flags(alloc, resistors.len())?;
-        let strong = all_z(alloc, count)?;
-        let areas = zeros(alloc, count)?;
-        let sums = all_z(alloc, count)?;
+        let room = Room::new(alloc, count, resistors.len())?;
         Ok(Whole {
             net_of,
             contacts,
             resistors,
             closed,
             groups,
-            strong,
-            bridges,
-            areas,
-            sums,
+            room,
         })
     }
 
@@ -119,16 +104,6 @@ impl Whole {
         ensures levels { levels.new ≡ levels_of self.old closed.now drives.now }
     {
         regroup(&self.contacts, closed, &mut self.closed, &mut self.groups);
-        resolve_groups(
-            &self.net_of,
-            drives,
-            &self.resistors,
-            &self.groups,
-            &mut self.strong,
-            &mut self.bridges,
-            &mut self.areas,
-            &mut self.sums,
-            levels,
-        );
+        self.room.resolve(&self.net_of, drives, &self.resistors, &self.groups, levels);
     }
 }

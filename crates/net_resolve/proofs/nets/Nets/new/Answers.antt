@@ -14,14 +14,15 @@ invariant_of-result c =
     let cs = c.in_ok-closed.closed in
     let ls = c.in_ok-levels.levels in
     let m = c.in_ok-marks in
-    first_invariant c.args.wiring.now (vec_len ls) net_of.items contacts.items c.in_ok-resistors.resistors.items ls.items
+    first_invariant c.args.wiring.now (vec_len ls) net_of.items contacts.items c.in_ok-resistors.resistors.items
+    (record { levels = ls; pin_levels = c.in_ok-pin_levels.pin_levels; changed = c.in_ok-changed.changed })
     ls.ok.0 (c.in_ok-net_of.ensures.items ∙ c.as_slice.ensures) (c.in_ok-contacts.ensures.items ∙ c.as_slice-2.ensures) (c.in_ok-resistors.ensures.items ∙ c.as_slice-3.ensures)
     c.in_ok-levels.ensures.items c.in_ok-labels.labels.items c.in_ok-labels.ensures.cut
     c.in_ok-labels.subcircuits.items c.in_ok-labels.ensures.long c.in_ok-labels.ensures.subcircuits
-    m.marks.room m.marks.marked m.ensures.room m.ensures.few m.ensures.all c.in_ok-changed.changed.room (ap (λ (x : MarksView). x.room) c.in_ok-changed.ensures)
+    m.marks.room m.marks.marked m.ensures.room m.ensures.few m.ensures.all
+    (ap (λ (x : MarksView). x.room) c.in_ok-changed.ensures) (c.in_ok-pin_levels.ensures.items ∙ ap (λ (k : ℕ). replicate k levels.Z) c.len-3.ensures)
     (vec_len net_of) (vec_len ds) ds.items net_of.ok.0 ds.ok.0 (c.in_ok-drives.ensures.items ∙ ap (λ (k : ℕ). replicate k drives.Z) c.len.ensures)
     (vec_len contacts) (vec_len cs) cs.items contacts.ok.0 cs.ok.0 (c.in_ok-closed.ensures.items ∙ ap (λ (k : ℕ). replicate k false) c.len-2.ensures)
-    c.in_ok-pin_levels.pin_levels.items (c.in_ok-pin_levels.ensures.items ∙ ap (λ (k : ℕ). replicate k levels.Z) c.len-3.ensures)
 
 pub returns : goal.returns
 returns c =

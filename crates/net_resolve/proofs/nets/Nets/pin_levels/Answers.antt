@@ -4,4 +4,4 @@ use Rattle.net_resolve.specs.Circuit.{Circuit}
 use Rattle.net_resolve.proofs.nets.Nets.pin_levels.Goals as goal
 
 pub returns-clause-levels : goal.returns-clause-levels
-returns-clause-levels c = c.deref.ensures.value ∙ c.self.invariant.pin_levels ∙ ap (λ (x : Circuit). map (level_at x.levels) x.net_of) c.self.view_is
+returns-clause-levels c = c.deref.ensures.value ∙ c.self.invariant.shown.pins ∙ ap (λ (x : Circuit). map (level_at x.levels) x.net_of) c.self.view_is

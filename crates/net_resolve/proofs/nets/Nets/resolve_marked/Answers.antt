@@ -1,92 +1,163 @@
-use Rattle.std.proofs.Common.{◌≡◌, ◌∙◌, ℕ, List, [], ◌++◌, length, map, take, drop, arith, sym, ap, refl, subst, Some}
-use Rattle.std.specs.Prelude.{slice_get}
+use Rattle.std.proofs.Common.{◌≡◌, ◌<◌, ◌∙◌, ℕ, List, [], length, map, Bool, true, arith, sym, ap, refl, subst, Some}
+use Rattle.std.specs.Prelude.{slice_get, slice_set}
+use Rattle.std.specs.Vec.{with_item}
+use Rattle.sim_base.specs.declared.signal.Drive.{Drive}
 use Rattle.sim_base.specs.declared.signal.Level.{Level}
-use Rattle.board_model.specs.Board.{level_at}
 use Rattle.board_model.specs.Resolve.{resolve}
-use Rattle.board_model.proofs.Lists.{lent_whole}
+use Rattle.board_model.proofs.Lists.{get_within}
 use Rattle.net_resolve.specs.Circuit.{Circuit, AreChanged}
-use Rattle.net_resolve.specs.Marked.{MarksView}
-use Rattle.net_resolve.specs.Wired.{wired}
-use Rattle.net_resolve.specs.Subcircuits.{SubcircuitView, AreSubcircuits, AreApart, FitsIn}
-use Rattle.net_resolve.proofs.RightLemmas.{right_moved, right_all, fits_in, subs_apart}
+use Rattle.net_resolve.specs.Marked.{MarksView, has}
+use Rattle.net_resolve.specs.Wired.{Wired, wired}
+use Rattle.net_resolve.specs.Shown.{AreShown}
+use Rattle.net_resolve.specs.Subcircuits.{SubcircuitView, IsCut, AreSubcircuits, AreRight, FitsIn}
+use Rattle.net_resolve.specs.declared.nets.Nets.TheInside.{Inside}
+use Rattle.net_resolve.proofs.MarkLemmas.{has_first}
+use Rattle.net_resolve.proofs.RightLemmas.{set_same, right_step, changed_step, fresh_step, subs_apart, right_all, fits_in}
 use Rattle.net_resolve.proofs.nets.Nets.resolve_marked.Goals as goal
 
-pub resolve_subcircuits-requires : goal.resolve_subcircuits-requires
-resolve_subcircuits-requires c =
+-- the nets of what Nets has inside, of which there are so many
+abbrev wired_of : Inside → ℕ → Wired
+wired_of x n = wired n x.net_of.items x.contacts.items x.resistors.items
+
+abbrev seen_of : Inside → ℕ → List Level → List ℕ → Circuit
+seen_of x n levels changed = record {
+  nets = n;
+  net_of = x.net_of.items;
+  contacts = x.contacts.items;
+  resistors = x.resistors.items;
+  drives = x.drives.items;
+  closed = x.closed.items;
+  levels = levels;
+  changed = changed;
+}
+
+pub loop-q-init : goal.loop-q-init
+loop-q-init c =
+    let v = c.self.invariant in
+    let none = ap (λ (m : MarksView). m.marked) c.clear.ensures in
+    record {
+      same = refl;
+      subcircuits = refl;
+      nets = refl;
+      marks_room = refl;
+      right = v.right;
+      begun = record {
+        changed = record {
+          differ = λ n h.
+              let on : has [] n ≡ true = ap (λ (ms : List ℕ). has ms n) (sym none) ∙ h in
+              absurd cc;
+          others = λ n h. refl;
+        };
+        waits = λ n h. refl;
+      };
+      fresh = λ q j n s on at e. ap (λ (ms : List ℕ). has ms n) none;
+      shown = record {
+        room = record { few = v.shown.room.few; room = ap (λ (m : MarksView). m.room) c.clear.ensures ∙ v.shown.room.room };
+        within = v.shown.within;
+        pins = v.shown.pins;
+      };
+    }
+
+pub resolve-requires : goal.resolve-requires
+resolve-requires c =
     let i = c.self.inside in
     let v = c.self.invariant in
-    let w = wired i.levels.len i.net_of.items i.contacts.items i.resistors.items in
-    let subs = c.deref_mut.ensures.value in
-    let net_of = c.deref-3.ensures.value in
-    let levels : length c.deref_mut-2.result.now ≡ i.levels.len = ap length c.deref_mut-2.ensures.value ∙ sym i.levels.ok.0 in
-    let closed : length c.deref-2.result.now ≡ length w.contacts = ap length c.deref-2.ensures.value ∙ sym i.closed.ok.0 ∙ v.closed_long ∙ i.contacts.ok.0 in
+    let now = c.loop-q.self-inside in
+    let inv = c.loop-q.invariant in
+    let q = c.in-Some.q in
+    let s = c.index_mut.result.now in
+    let inside : q < length now.subcircuits.items = omega (arith, c.in-Some.ensures.low, inv.marks_room, v.marks_room, ap length inv.subcircuits, v.subcircuits_long) in
+    let first = subst (λ (x : List SubcircuitView). slice_get x q ≡ Some s) inv.subcircuits (get_within now.subcircuits.items q s inside ∙ ap Some (sym c.index_mut.ensures.value)) in
+    let net_of = c.deref-in-Some-2.ensures.value ∙ ap (λ (x : Inside). x.net_of.items) inv.same in
+    let drives = ap length (c.deref.ensures.value ∙ ap (λ (x : Inside). x.drives.items) inv.same) ∙ sym i.drives.ok.0 ∙ v.drives_long ∙ i.net_of.ok.0 in
+    let closed = ap length (c.deref-in-Some.ensures.value ∙ ap (λ (x : Inside). x.closed.items) inv.same) ∙ sym i.closed.ok.0 ∙ v.closed_long ∙ i.contacts.ok.0 in
+    let levels = sym now.shown.levels.ok.0 ∙ inv.nets in
     record {
-      marks_room = v.marks_room ∙ sym (ap length subs ∙ v.subcircuits_long);
-      few = omega (arith, v.few, levels);
-      room = ap (λ (m : MarksView). m.room) c.clear.ensures ∙ v.changed_room ∙ sym levels;
-      none = ap (λ (m : MarksView). m.marked) c.clear.ensures;
-      apart = subst (λ (ss : List SubcircuitView). AreApart ss) (sym subs) (subs_apart w i.labels.items i.subcircuits.items v.subcircuits);
-      fits = λ q s e. subst (λ (ns : List ℕ). FitsIn ns (length c.deref-2.result.now) (length c.deref_mut-2.result.now) s) (sym net_of)
-          (fits_in w i.labels.items v.cut q s (v.subcircuits q s (subst (λ (ss : List SubcircuitView). slice_get ss q ≡ Some s) subs e)) (length c.deref-2.result.now) (length c.deref_mut-2.result.now) closed levels);
-      each = ap length net_of ∙ sym i.net_of.ok.0 ∙ sym v.drives_long ∙ i.drives.ok.0 ∙ sym (ap length c.deref.ensures.value);
-      nets = λ k n e. omega (arith, v.cut.pins_within k n (subst (λ (ns : List ℕ). slice_get ns k ≡ Some n) net_of e), levels);
-      pin_levels = c.deref_mut-3.ensures.value ∙ v.pin_levels ∙ ap (λ (ls : List Level). map (level_at ls) i.net_of.items) (sym c.deref_mut-2.ensures.value)
-          ∙ ap (map (level_at c.deref_mut-2.result.now)) (sym net_of);
+      fits = subst (λ (ns : List ℕ). FitsIn ns (length c.deref.result.now) (length c.deref-in-Some.result.now) (length now.shown.levels.items) s) (sym net_of)
+          (fits_in (wired_of i i.shown.levels.len) i.labels.items v.cut q s (v.subcircuits q s first) (length c.deref.result.now) (length c.deref-in-Some.result.now) (length now.shown.levels.items) drives closed levels);
+      fresh = λ j n e. inv.fresh q j n s (sym (c.in-Some.ensures.taken.rest q) ∙ has_first c.take.new.self.marked q q refl) first e;
+      shown = subst (λ (ns : List ℕ). AreShown ns now.shown) (sym net_of) inv.shown;
+    }
+
+pub loop-q-preserved : goal.loop-q-preserved
+loop-q-preserved c =
+    let i = c.self.inside in
+    let v = c.self.invariant in
+    let w = wired_of i i.shown.levels.len in
+    let labels = i.labels.items in
+    let now = c.loop-q.self-inside in
+    let inv = c.loop-q.invariant in
+    let q = c.in-Some.q in
+    let t = c.in-Some.ensures.taken in
+    let rest = c.take.new.self.marked in
+    let s = c.index_mut.result.now in
+    let r = c.resolve in
+    let inside : q < length now.subcircuits.items = omega (arith, c.in-Some.ensures.low, inv.marks_room, v.marks_room, ap length inv.subcircuits, v.subcircuits_long) in
+    let at = get_within now.subcircuits.items q s inside ∙ ap Some (sym c.index_mut.ensures.value) in
+    let first = subst (λ (x : List SubcircuitView). slice_get x q ≡ Some s) inv.subcircuits at in
+    let is = v.subcircuits q s first in
+    let drives = c.deref.ensures.value ∙ ap (λ (x : Inside). x.drives.items) inv.same in
+    let closed = c.deref-in-Some.ensures.value ∙ ap (λ (x : Inside). x.closed.items) inv.same in
+    let levels = sym now.shown.levels.ok.0 ∙ inv.nets in
+    record {
+      same = ap (λ (x : Inside). let y : Inside = record x { subcircuits = with_item now.subcircuits q r.new.self; marks = c.take.new.self; shown = r.new.shown } in y) inv.same;
+      subcircuits = ap (slice_set now.subcircuits.items q) r.ensures.same ∙ set_same now.subcircuits.items q s at ∙ inv.subcircuits;
+      nets = r.new.shown.levels.ok.0 ∙ r.ensures.moves.long ∙ levels;
+      marks_room = c.in-Some.ensures.room ∙ inv.marks_room;
+      right = right_step w labels v.cut q s is rest i.closed.items i.drives.items now.shown.levels.items r.new.shown.levels.items
+          (sym i.closed.ok.0 ∙ v.closed_long ∙ i.contacts.ok.0) (sym i.drives.ok.0 ∙ v.drives_long ∙ i.net_of.ok.0)
+          (λ cs ds ec ed. r.ensures.put cs ds (ec ∙ ap (λ (x : List Bool). map (slice_get x) s.contacts) (sym closed)) (ed ∙ ap (λ (x : List Drive). map (slice_get x) s.pins) (sym drives)))
+          r.ensures.others (λ n less off. inv.right n less (sym (t.rest _) ∙ off));
+      begun = changed_step w labels v.cut q s is rest now.shown.changed r.new.shown.changed i.shown.levels.items now.shown.levels.items r.new.shown.levels.items (sym i.shown.levels.ok.0) levels t.gone
+          r.ensures.others r.ensures.moves (record { changed = inv.begun.changed; waits = λ n on. inv.begun.waits n (sym (t.rest _) ∙ on) });
+      fresh = fresh_step i.subcircuits.items q s rest now.shown.changed r.new.shown.changed now.shown.levels.items r.new.shown.levels.items (subs_apart w labels i.subcircuits.items v.subcircuits) first t.gone
+          r.ensures.others r.ensures.moves (λ p j n o on. inv.fresh p j n o (sym (t.rest p) ∙ on));
+      shown = subst (λ (ns : List ℕ). AreShown ns r.new.shown) (c.deref-in-Some-2.ensures.value ∙ ap (λ (x : Inside). x.net_of.items) inv.same) r.ensures.shown;
     }
 
 pub invariant_of-self : goal.invariant_of-self
 invariant_of-self c =
     let i = c.self.inside in
     let v = c.self.invariant in
-    let r = c.resolve_subcircuits in
-    let rs = i.resistors.items in
-    let w = wired i.levels.len i.net_of.items i.contacts.items rs in
-    let subs = lent_whole i.subcircuits.len i.subcircuits.items r.new.subcircuits i.subcircuits.ok.0 (r.auto.subcircuits ∙ ap length c.deref_mut.ensures.value) in
-    let levels = lent_whole i.levels.len i.levels.items r.new.levels i.levels.ok.0 (r.auto.levels ∙ ap length c.deref_mut-2.ensures.value) in
-    let same = subs ∙ r.ensures.same ∙ c.deref_mut.ensures.value in
-    let found = r.ensures.right w i.labels.items v.cut (subst (λ (ss : List SubcircuitView). AreSubcircuits w i.labels.items ss) (sym c.deref_mut.ensures.value) v.subcircuits)
-    (omega (arith, ap length c.deref-2.ensures.value, v.closed_long, i.closed.ok.0, i.contacts.ok.0)) (omega (arith, ap length c.deref.ensures.value, v.drives_long, i.drives.ok.0, i.net_of.ok.0))
-    (right_moved {st = i.marks.marked} w i.labels.items refl (sym c.deref-2.ensures.value) (sym c.deref.ensures.value) (sym c.deref_mut-2.ensures.value) v.right) in
+    let now = c.loop-q.self-inside in
+    let inv = c.loop-q.invariant in
+    let back = sym inv.same in
+    let more = sym inv.nets in
+    let n = now.shown.levels.len in
+    let none = c.in_default.ensures.taken in
     record {
-      cut = v.cut;
-      subcircuits = subst (λ (ss : List SubcircuitView). AreSubcircuits w i.labels.items ss) (sym same) v.subcircuits;
-      right = right_moved w i.labels.items (sym r.ensures.none) c.deref-2.ensures.value c.deref.ensures.value (sym levels) found;
-      few = v.few;
-      subcircuits_long = ap length same ∙ v.subcircuits_long;
-      marks_room = r.ensures.marks_room ∙ v.marks_room;
-      changed_room = r.ensures.room ∙ ap (λ (m : MarksView). m.room) c.clear.ensures ∙ v.changed_room;
-      drives_long = v.drives_long;
-      closed_long = v.closed_long;
-      pin_levels = lent_whole i.pin_levels.len i.pin_levels.items r.new.pin_levels i.pin_levels.ok.0 (r.auto.pin_levels ∙ ap length c.deref_mut-3.ensures.value)
-          ∙ r.ensures.pin_levels ∙ ap (λ (ls : List Level). map (level_at ls) c.deref-3.result.now) (sym levels)
-          ∙ ap (λ (ns : List ℕ). map (level_at (take i.levels.len (r.new.levels ++ drop (length r.new.levels) i.levels.items))) ns) c.deref-3.ensures.value;
+      cut = subst (λ (x : Inside). IsCut (wired_of x n) x.labels.items) back (subst (λ (k : ℕ). IsCut (wired_of i k) i.labels.items) more v.cut);
+      subcircuits = subst (λ (x : Inside). AreSubcircuits (wired_of x n) x.labels.items now.subcircuits.items) back
+          (subst (λ (k : ℕ). AreSubcircuits (wired_of i k) i.labels.items now.subcircuits.items) more
+          (subst (λ (ss : List SubcircuitView). AreSubcircuits (wired_of i i.shown.levels.len) i.labels.items ss) (sym inv.subcircuits) v.subcircuits));
+      right = subst (λ (x : Inside). AreRight (wired_of x n) x.labels.items c.take.new.self.marked x.closed.items x.drives.items now.shown.levels.items) back
+          (subst (λ (k : ℕ). AreRight (wired_of i k) i.labels.items c.take.new.self.marked i.closed.items i.drives.items now.shown.levels.items) more
+          (subst (λ (ms : List ℕ). AreRight (wired_of i i.shown.levels.len) i.labels.items ms i.closed.items i.drives.items now.shown.levels.items) (none.0 ∙ sym none.1) inv.right));
+      subcircuits_long = ap length inv.subcircuits ∙ v.subcircuits_long ∙ more;
+      marks_room = c.in_default.ensures.room ∙ inv.marks_room ∙ v.marks_room ∙ more;
+      drives_long = subst (λ (x : Inside). x.drives.len ≡ x.net_of.len) back v.drives_long;
+      closed_long = subst (λ (x : Inside). x.closed.len ≡ x.contacts.len) back v.closed_long;
+      shown = subst (λ (x : Inside). AreShown x.net_of.items now.shown) back inv.shown;
     }
 
 pub returns-clause-levels : goal.returns-clause-levels
 returns-clause-levels c =
     let i = c.self.inside in
     let v = c.self.invariant in
-    let r = c.resolve_subcircuits in
-    let rs = i.resistors.items in
-    let w = wired i.levels.len i.net_of.items i.contacts.items rs in
-    let levels = lent_whole i.levels.len i.levels.items r.new.levels i.levels.ok.0 (r.auto.levels ∙ ap length c.deref_mut-2.ensures.value) in
-    let found = r.ensures.right w i.labels.items v.cut (subst (λ (ss : List SubcircuitView). AreSubcircuits w i.labels.items ss) (sym c.deref_mut.ensures.value) v.subcircuits)
-    (omega (arith, ap length c.deref-2.ensures.value, v.closed_long, i.closed.ok.0, i.contacts.ok.0)) (omega (arith, ap length c.deref.ensures.value, v.drives_long, i.drives.ok.0, i.net_of.ok.0))
-    (right_moved {st = i.marks.marked} w i.labels.items refl (sym c.deref-2.ensures.value) (sym c.deref.ensures.value) (sym c.deref_mut-2.ensures.value) v.right) in
-    let are = right_all w i.labels.items v.cut i.closed.items i.drives.items r.new.levels (omega (arith, r.auto.levels, ap length c.deref_mut-2.ensures.value, i.levels.ok.0))
-    (right_moved {st = []} w i.labels.items refl c.deref-2.ensures.value c.deref.ensures.value refl found) in
-    ap (λ (ls : List Level). record { nets = i.levels.len; net_of = i.net_of.items; contacts = i.contacts.items; resistors = rs; drives = i.drives.items; closed = i.closed.items; levels = ls; changed = r.new.changed.marked }) (levels ∙ are)
-    ∙ ap (λ (x : Circuit). record x { levels = resolve x.nets x.net_of x.contacts x.resistors x.closed x.drives; changed = r.new.changed.marked }) c.self.view_is
+    let now = c.loop-q.self-inside in
+    let inv = c.loop-q.invariant in
+    let n = i.shown.levels.len in
+    let levels = now.shown.levels.items in
+    let changed = now.shown.changed.marked in
+    let w = wired_of i n in
+    let found = subst (λ (ms : List ℕ). AreRight w i.labels.items ms i.closed.items i.drives.items levels) c.in_default.ensures.taken.0 inv.right in
+    let are = right_all w i.labels.items v.cut i.closed.items i.drives.items levels (sym now.shown.levels.ok.0 ∙ inv.nets) found in
+    ap (λ (x : Inside). seen_of x now.shown.levels.len levels changed) inv.same
+    ∙ ap (λ (k : ℕ). seen_of i k levels changed) inv.nets
+    ∙ ap (λ (ls : List Level). seen_of i n ls changed) are
+    ∙ ap (λ (x : Circuit). let y : Circuit = record x { levels = resolve x.nets x.net_of x.contacts x.resistors x.closed x.drives; changed = changed } in y) c.self.view_is
 
 pub returns-clause-changed : goal.returns-clause-changed
 returns-clause-changed c =
-    let i = c.self.inside in
-    let v = c.self.invariant in
-    let r = c.resolve_subcircuits in
-    let rs = i.resistors.items in
-    let w = wired i.levels.len i.net_of.items i.contacts.items rs in
-    let levels = lent_whole i.levels.len i.levels.items r.new.levels i.levels.ok.0 (r.auto.levels ∙ ap length c.deref_mut-2.ensures.value) in
-    let found = r.ensures.changed w i.labels.items v.cut (subst (λ (ss : List SubcircuitView). AreSubcircuits w i.labels.items ss) (sym c.deref_mut.ensures.value) v.subcircuits)
-    (omega (arith, ap length c.deref_mut-2.ensures.value, i.levels.ok.0)) in
-    subst (λ (ls : List Level). AreChanged c.args.self.now.levels ls r.new.changed.marked) (sym levels)
-    (subst (λ (ls : List Level). AreChanged ls r.new.levels r.new.changed.marked) (c.deref_mut-2.ensures.value ∙ ap (λ (x : Circuit). x.levels) c.self.view_is) found)
+    let now = c.loop-q.self-inside in
+    subst (λ (ls : List Level). AreChanged ls now.shown.levels.items now.shown.changed.marked) (ap (λ (x : Circuit). x.levels) c.self.view_is) c.loop-q.invariant.begun.changed

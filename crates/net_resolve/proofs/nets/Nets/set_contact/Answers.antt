@@ -36,7 +36,7 @@ invariant_of-self c =
     let k = c.args.contact in
     let b = c.args.closed in
     let pair = c.index-then-not-is_same_flag.result.now in
-    let w = wired i.levels.len i.net_of.items i.contacts.items i.resistors.items in
+    let w = wired i.shown.levels.len i.net_of.items i.contacts.items i.resistors.items in
     let inside : k < length i.contacts.items = omega (arith, c.requires, ap length (ap (λ (x : Circuit). x.contacts) c.self.view_is)) in
     let at = get_within i.contacts.items k pair inside ∙ ap Some (sym c.index-then-not-is_same_flag.ensures) in
     let within : pair.0 < length i.labels.items = omega (arith, (v.cut.contacts_within k pair at).0, v.cut.long) in
@@ -45,16 +45,14 @@ invariant_of-self c =
     record {
       cut = v.cut;
       subcircuits = v.subcircuits;
-      right = subst (λ (ms : List ℕ). AreRight w i.labels.items ms (slice_set i.closed.items k b) i.drives.items i.levels.items) (sym marked)
-          (right_contact w i.labels.items v.cut i.subcircuits.items v.subcircuits_long v.subcircuits i.marks.marked i.closed.items i.drives.items i.levels.items k pair b
+      right = subst (λ (ms : List ℕ). AreRight w i.labels.items ms (slice_set i.closed.items k b) i.drives.items i.shown.levels.items) (sym marked)
+          (right_contact w i.labels.items v.cut i.subcircuits.items v.subcircuits_long v.subcircuits i.marks.marked i.closed.items i.drives.items i.shown.levels.items k pair b
           (omega (arith, v.closed_long, i.closed.ok.0, i.contacts.ok.0)) (omega (arith, v.drives_long, i.drives.ok.0, i.net_of.ok.0)) at v.right);
-      few = v.few;
       subcircuits_long = v.subcircuits_long;
       marks_room = ap (λ (m : MarksView). m.room) c.mark.ensures ∙ v.marks_room;
-      changed_room = v.changed_room;
       drives_long = v.drives_long;
       closed_long = v.closed_long;
-      pin_levels = v.pin_levels;
+      shown = v.shown;
     }
 
 pub returns-else-not-is_same_flag : goal.returns-else-not-is_same_flag
@@ -65,6 +63,6 @@ returns-else-not-is_same_flag c =
     let inside : k < length i.closed.items = omega (arith, c.requires, ap length (ap (λ (x : Circuit). x.contacts) c.self.view_is), c.self.invariant.closed_long, i.closed.ok.0, i.contacts.ok.0) in
     let at = get_within i.closed.items k c.index.result.now inside ∙ ap Some (sym c.index.ensures ∙ c.is_same_flag.ensures c.if-not-is_same_flag.false) in
     sym c.self.view_is
-    ∙ ap (λ (bs : List Bool). record { nets = i.levels.len; net_of = i.net_of.items; contacts = i.contacts.items; resistors = i.resistors.items; drives = i.drives.items; closed = bs; levels = i.levels.items; changed = i.changed.marked })
+    ∙ ap (λ (bs : List Bool). record { nets = i.shown.levels.len; net_of = i.net_of.items; contacts = i.contacts.items; resistors = i.resistors.items; drives = i.drives.items; closed = bs; levels = i.shown.levels.items; changed = i.shown.changed.marked })
     (sym (set_same i.closed.items k b at))
     ∙ ap (λ (x : Circuit). record x { closed = slice_set x.closed k b }) c.self.view_is

@@ -37,7 +37,7 @@ invariant_of-self c =
     let pin = c.args.pin in
     let d = c.args.drive in
     let net = c.index-then-not-is_same_drive.result.now in
-    let w = wired i.levels.len i.net_of.items i.contacts.items i.resistors.items in
+    let w = wired i.shown.levels.len i.net_of.items i.contacts.items i.resistors.items in
     let inside : pin < length i.net_of.items = omega (arith, c.requires, ap length (ap (λ (x : Circuit). x.net_of) c.self.view_is)) in
     let at = get_within i.net_of.items pin net inside ∙ ap Some (sym c.index-then-not-is_same_drive.ensures) in
     let within : net < length i.labels.items = omega (arith, v.cut.pins_within pin net at, v.cut.long) in
@@ -46,16 +46,14 @@ invariant_of-self c =
     record {
       cut = v.cut;
       subcircuits = v.subcircuits;
-      right = subst (λ (ms : List ℕ). AreRight w i.labels.items ms i.closed.items (slice_set i.drives.items pin d) i.levels.items) (sym marked)
-          (right_drive w i.labels.items v.cut i.subcircuits.items v.subcircuits_long v.subcircuits i.marks.marked i.closed.items i.drives.items i.levels.items pin net d
+      right = subst (λ (ms : List ℕ). AreRight w i.labels.items ms i.closed.items (slice_set i.drives.items pin d) i.shown.levels.items) (sym marked)
+          (right_drive w i.labels.items v.cut i.subcircuits.items v.subcircuits_long v.subcircuits i.marks.marked i.closed.items i.drives.items i.shown.levels.items pin net d
           (omega (arith, v.closed_long, i.closed.ok.0, i.contacts.ok.0)) (omega (arith, v.drives_long, i.drives.ok.0, i.net_of.ok.0)) at v.right);
-      few = v.few;
       subcircuits_long = v.subcircuits_long;
       marks_room = ap (λ (m : MarksView). m.room) c.mark.ensures ∙ v.marks_room;
-      changed_room = v.changed_room;
       drives_long = v.drives_long;
       closed_long = v.closed_long;
-      pin_levels = v.pin_levels;
+      shown = v.shown;
     }
 
 pub returns-else-not-is_same_drive : goal.returns-else-not-is_same_drive
@@ -66,6 +64,6 @@ returns-else-not-is_same_drive c =
     let inside : pin < length i.drives.items = omega (arith, c.requires, ap length (ap (λ (x : Circuit). x.net_of) c.self.view_is), c.self.invariant.drives_long, i.drives.ok.0, i.net_of.ok.0) in
     let at = get_within i.drives.items pin c.index.result.now inside ∙ ap Some (sym c.index.ensures ∙ c.is_same_drive.ensures c.if-not-is_same_drive.false) in
     sym c.self.view_is
-    ∙ ap (λ (ds : List Drive). record { nets = i.levels.len; net_of = i.net_of.items; contacts = i.contacts.items; resistors = i.resistors.items; drives = ds; closed = i.closed.items; levels = i.levels.items; changed = i.changed.marked })
+    ∙ ap (λ (ds : List Drive). record { nets = i.shown.levels.len; net_of = i.net_of.items; contacts = i.contacts.items; resistors = i.resistors.items; drives = ds; closed = i.closed.items; levels = i.shown.levels.items; changed = i.shown.changed.marked })
     (sym (set_same i.drives.items pin d at))
     ∙ ap (λ (x : Circuit). record x { drives = slice_set x.drives pin d }) c.self.view_is

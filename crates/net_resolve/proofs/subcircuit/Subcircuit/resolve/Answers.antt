@@ -5,7 +5,9 @@ use Rattle.net_resolve.specs.Wired.{Wired, wired, levels_of}
 use Rattle.net_resolve.specs.Resolutions.{AreResolutions, last_of}
 use Rattle.net_resolve.specs.declared.resolution.Resolution.{Resolution}
 use Rattle.std.proofs.lemmas.List.{length-map}
-use Rattle.net_resolve.specs.Subcircuits.{Lacks, AreOnce, SubcircuitView}
+use Rattle.net_resolve.specs.Subcircuits.{Lacks, AreNumbers, SubcircuitView}
+use Rattle.net_resolve.specs.Shown.{AreShown, Moves}
+use Rattle.net_resolve.specs.declared.shown.Shown.{Shown}
 use Rattle.net_resolve.proofs.ResolutionLemmas.{last_is, levels_same}
 use Rattle.net_resolve.proofs.PlaceLemmas.{same_somes}
 use Rattle.net_resolve.proofs.PinLemmas.{pins_follow}
@@ -17,22 +19,20 @@ resolve_other-requires-clause-places c =
     let pins = c.deref.ensures.value ∙ ap (λ (v : SubcircuitView). v.pins) c.self.view_is in
     let contacts = c.deref-2.ensures.value ∙ ap (λ (v : SubcircuitView). v.contacts) c.self.view_is in
     record {
-      pins_within = λ j k e. omega (arith, c.requires.each, c.requires.fits.pins j k (subst (λ (l : List ℕ). slice_get l j ≡ Some k) pins e));
+      pins_within = λ j k e. omega (arith, c.requires.fits.each, c.requires.fits.pins j k (subst (λ (l : List ℕ). slice_get l j ≡ Some k) pins e));
       contacts_within = λ j k e. c.requires.fits.contacts j k (subst (λ (l : List ℕ). slice_get l j ≡ Some k) contacts e);
       pins_long = omega (arith, c.deref.ensures.len, v.pins_long);
       contacts_long = omega (arith, c.deref-2.ensures.len, v.contacts_long);
     }
 
-pub scatter-requires : goal.scatter-requires
-scatter-requires c =
+pub put_levels-requires : goal.put_levels-requires
+put_levels-requires c =
     let nets = c.deref-4.ensures.value ∙ ap (λ (v : SubcircuitView). v.nets) c.self.view_is in
     let found = last_is c.self.inside.whole c.resolve_other.new.kept c.resolve_other.ensures.kept in
     record {
-      places = λ j k e. c.requires.fits.nets j k (subst (λ (l : List ℕ). slice_get l j ≡ Some k) nets e);
+      nets = subst (λ (l : List ℕ). AreNumbers (length c.args.shown.now.levels.items) l) (sym nets) c.requires.fits.nets;
       each = omega (arith, c.deref-3.ensures.len, ap (λ (a : Resolution). a.levels.len) c.last.ensures, found.levels_long, c.self.invariant.nets_long, c.deref-4.ensures.len);
-      once = subst AreOnce (sym nets) c.requires.fits.once;
-      few = c.requires.few;
-      room = c.requires.room;
+      room = c.requires.shown.room;
       fresh = λ j n e. c.requires.fresh j n (subst (λ (l : List ℕ). slice_get l j ≡ Some n) nets e);
     }
 
@@ -47,9 +47,19 @@ invariant_of-self c =
       kept = subst (λ (x : Wired). AreResolutions x c.resolve_other.new.kept) (sym same) c.resolve_other.ensures.kept;
     }
 
+-- the levels as they were put, which the pins follow
+abbrev later : {a b : Shown} → a ≡ b → a.levels.items ≡ b.levels.items
+later e = ap (λ (s : Shown). s.levels.items) e
+
 pub returns-clause-others : goal.returns-clause-others
 returns-clause-others c = λ n lacks.
-    c.scatter.ensures.others n (λ j e. lacks j (subst (λ (l : List ℕ). slice_get l j ≡ Some n) (c.deref-4.ensures.value ∙ ap (λ (v : SubcircuitView). v.nets) c.self.view_is) e))
+    ap (λ (l : List Level). slice_get l n) (later c.put_pins.ensures.rest)
+    ∙ c.put_levels.ensures.others n (λ j e. lacks j (subst (λ (l : List ℕ). slice_get l j ≡ Some n) (c.deref-4.ensures.value ∙ ap (λ (v : SubcircuitView). v.nets) c.self.view_is) e))
+
+pub returns-clause-moves : goal.returns-clause-moves
+returns-clause-moves c =
+    let old = c.args.shown.now in
+    subst (λ (s : Shown). Moves old.levels.items s.levels.items old.changed s.changed) (sym c.put_pins.ensures.rest) c.put_levels.ensures.moves
 
 pub returns-clause-put : goal.returns-clause-put
 returns-clause-put c = λ cs ds ec ed j n e.
@@ -59,7 +69,7 @@ returns-clause-put c = λ cs ds ec ed j n e.
     let nets = c.deref-4.ensures.value ∙ ap (λ (v : SubcircuitView). v.nets) v in
     let pins = c.deref.ensures.value ∙ ap (λ (v : SubcircuitView). v.pins) v in
     let contacts = c.deref-2.ensures.value ∙ ap (λ (v : SubcircuitView). v.contacts) v in
-    let put = c.scatter.ensures.put j n (subst (λ (l : List ℕ). slice_get l j ≡ Some n) (sym nets) e) in
+    let put = ap (λ (l : List Level). slice_get l n) (later c.put_pins.ensures.rest) ∙ c.put_levels.ensures.put j n (subst (λ (l : List ℕ). slice_get l j ≡ Some n) (sym nets) e) in
     let at_pins = ed ∙ ap (λ (l : List ℕ). map (slice_get c.args.drives.now) l) (sym pins) in
     let at_contacts = ec ∙ ap (λ (l : List ℕ). map (slice_get c.args.closed.now) l) (sym contacts) in
     let same_cs : found.closed.items ≡ cs = same_somes found.closed.items cs (c.resolve_other.ensures.by.closed_are ∙ sym at_contacts) in
@@ -75,15 +85,23 @@ put_pins-requires c =
     let pins = c.deref-5.ensures.value ∙ ap (λ (v : SubcircuitView). v.pins) c.self.view_is in
     record {
       pins = λ j k e. c.requires.fits.pins j k (subst (λ (l : List ℕ). slice_get l j ≡ Some k) pins e);
-      nets = λ k n e. omega (arith, c.requires.within k n e, c.scatter.auto.into);
-      room = ap length c.requires.pin_levels ∙ simp length-map refl;
+      nets = λ k n e. omega (arith, c.requires.shown.within k n e, c.put_levels.ensures.moves.long);
+      each = ap length c.put_levels.ensures.pins ∙ ap length c.requires.shown.pins ∙ simp length-map refl;
     }
 
-pub returns-clause-pin_levels : goal.returns-clause-pin_levels
-returns-clause-pin_levels c =
+pub returns-clause-shown : goal.returns-clause-shown
+returns-clause-shown c =
     let nets = c.deref-4.ensures.value ∙ ap (λ (v : SubcircuitView). v.nets) c.self.view_is in
     let pins = c.deref-5.ensures.value ∙ ap (λ (v : SubcircuitView). v.pins) c.self.view_is in
-    let long = ap length c.requires.pin_levels ∙ simp length-map refl in
-    pins_follow c.args.net_of.now c.deref-5.result.now c.deref-4.result.now c.args.levels.now c.scatter.new.into c.args.pin_levels.now c.put_pins.new.into
-    (c.put_pins.auto.into ∙ long) c.requires.pin_levels c.put_pins.ensures.put c.put_pins.ensures.others
-    (λ k n e lacks. subst (λ (l : List ℕ). Lacks l n) (sym nets) (c.requires.fits.whole k n e (subst (λ (l : List ℕ). Lacks l k) pins lacks))) c.scatter.ensures.others
+    let old = c.args.shown.now in
+    let put = c.put_levels.new.self in
+    let net_of = c.args.net_of.now in
+    let moves = c.put_levels.ensures.moves in
+    let found : AreShown net_of (record put { pin_levels = c.put_pins.new.self.pin_levels }) = record {
+      room = record { few = omega (arith, c.requires.shown.room.few, moves.long); room = moves.room ∙ c.requires.shown.room.room ∙ sym moves.long };
+      within = λ k n e. omega (arith, c.requires.shown.within k n e, moves.long);
+      pins = pins_follow net_of c.deref-5.result.now c.deref-4.result.now old.levels.items put.levels.items put.pin_levels.items c.put_pins.new.self.pin_levels.items
+          c.put_pins.ensures.long (c.put_levels.ensures.pins ∙ c.requires.shown.pins) c.put_pins.ensures.put c.put_pins.ensures.others
+          (λ k n e lacks. subst (λ (l : List ℕ). Lacks l n) (sym nets) (c.requires.fits.whole k n e (subst (λ (l : List ℕ). Lacks l k) pins lacks))) c.put_levels.ensures.others;
+    } in
+    subst (λ (s : Shown). AreShown net_of s) (sym c.put_pins.ensures.rest) found

@@ -26,8 +26,10 @@ invariant_of-result c =
       resistors_within = pairs_moved refl (sym long) c.requires.resistors;
       grouped = groups_moved c.deref.ensures.value c.deref-2.ensures.value (sym lent) c.group_nets.ensures;
       closed_long = omega (arith, c.in_ok-closed.ensures.len, c.len.ensures, c.args.contacts.ok.0);
-      strong_long = c.in_ok-strong.ensures.len ∙ sym long;
-      bridges_long = omega (arith, c.in_ok-bridges.ensures.len, c.len-2.ensures, c.args.resistors.ok.0);
-      areas_long = c.in_ok-areas.ensures ∙ sym long;
-      sums_long = c.in_ok-sums.ensures.len ∙ sym long;
+      room = record {
+        strong = c.in_ok-room.ensures.strong ∙ sym long;
+        bridges = omega (arith, c.in_ok-room.ensures.bridges, c.len-2.ensures, c.args.resistors.ok.0);
+        areas = c.in_ok-room.ensures.areas ∙ sym long;
+        sums = c.in_ok-room.ensures.sums ∙ sym long;
+      };
     }

@@ -20,8 +20,8 @@ regroup-requires c =
       grouped = groups_moved (sym contacts) (sym c.deref_mut.ensures.value) (sym groups) v.grouped;
     }
 
-pub resolve_groups-requires : goal.resolve_groups-requires
-resolve_groups-requires c =
+pub resolve-requires : goal.resolve-requires
+resolve-requires c =
     let i = c.self.inside in
     let v = c.self.invariant in
     let r = c.regroup in
@@ -33,10 +33,12 @@ resolve_groups-requires c =
       nets = λ k n e. omega (arith, count, v.pins_within k n (subst (λ (l : List ℕ). slice_get l k ≡ Some n) c.deref-2.ensures.value e));
       resistors = pairs_moved (sym c.deref-3.ensures.value) count v.resistors_within;
       labels = subst (λ (l : List ℕ). AreLabels l) (sym groups) r.ensures.grouped.classes.labels;
-      strong = ap length c.deref_mut-3.ensures.value ∙ sym i.strong.ok.0 ∙ v.strong_long ∙ count;
-      bridges = ap length c.deref_mut-4.ensures.value ∙ sym i.bridges.ok.0 ∙ v.bridges_long ∙ i.resistors.ok.0 ∙ ap length (sym c.deref-3.ensures.value);
-      areas = ap length c.deref_mut-5.ensures.value ∙ sym i.areas.ok.0 ∙ v.areas_long ∙ count;
-      sums = ap length c.deref_mut-6.ensures.value ∙ sym i.sums.ok.0 ∙ v.sums_long ∙ count;
+      room = record {
+        strong = v.room.strong ∙ count;
+        bridges = v.room.bridges ∙ i.resistors.ok.0 ∙ ap length (sym c.deref-3.ensures.value);
+        areas = v.room.areas ∙ count;
+        sums = v.room.sums ∙ count;
+      };
       levels = c.requires.levels ∙ ap (λ (x : Wired). x.nets) (sym c.self.view_is) ∙ count;
     }
 
@@ -47,6 +49,8 @@ invariant_of-self c =
     let r = c.regroup in
     let groups = lent_whole i.groups.len i.groups.items r.new.groups i.groups.ok.0 (r.auto.groups ∙ ap length c.deref_mut-2.ensures.value) in
     let closed = lent_whole i.closed.len i.closed.items r.new.kept i.closed.ok.0 (r.auto.kept ∙ ap length c.deref_mut.ensures.value) in
+    let room = c.resolve.ensures.room in
+    let count : length c.deref-4.result.now ≡ i.groups.len = ap length (c.deref-4.ensures.value ∙ groups) ∙ r.auto.groups ∙ ap length c.deref_mut-2.ensures.value ∙ sym i.groups.ok.0 in
     record {
       few = v.few;
       pins_within = v.pins_within;
@@ -54,10 +58,12 @@ invariant_of-self c =
       resistors_within = v.resistors_within;
       grouped = groups_moved c.deref.ensures.value (sym (closed ∙ r.ensures.kept)) (sym groups) r.ensures.grouped;
       closed_long = v.closed_long;
-      strong_long = v.strong_long;
-      bridges_long = v.bridges_long;
-      areas_long = v.areas_long;
-      sums_long = v.sums_long;
+      room = record {
+        strong = room.strong ∙ count;
+        bridges = room.bridges ∙ ap length c.deref-3.ensures.value ∙ sym i.resistors.ok.0;
+        areas = room.areas ∙ count;
+        sums = room.sums ∙ count;
+      };
     }
 
 pub returns-clause-same : goal.returns-clause-same
@@ -72,6 +78,6 @@ returns-clause-levels c =
     let long = r.auto.groups ∙ ap length c.deref_mut-2.ensures.value in
     let groups = c.deref-4.ensures.value ∙ lent_whole i.groups.len i.groups.items r.new.groups i.groups.ok.0 long in
     let count : length c.deref-4.result.now ≡ i.groups.len = ap length groups ∙ long ∙ sym i.groups.ok.0 in
-    c.resolve_groups.ensures c.deref.result.now closed (groups_moved refl refl (sym groups) r.ensures.grouped)
+    c.resolve.ensures.levels c.deref.result.now closed (groups_moved refl refl (sym groups) r.ensures.grouped)
     ∙ resolve_moved closed drives count c.deref-2.ensures.value c.deref.ensures.value c.deref-3.ensures.value
     ∙ ap (λ (x : Wired). levels_of x closed drives) c.self.view_is

@@ -1,0 +1,26 @@
+use Rattle.std.proofs.Common.{◌≡◌, length}
+use Rattle.std.specs.Prelude.{vec_len}
+use Rattle.net_resolve.specs.Wired.{wired}
+use Rattle.net_resolve.specs.Shown.{AreShown}
+use Rattle.net_resolve.specs.Subcircuits.{AreRight}
+use Rattle.net_resolve.proofs.RightLemmas.{Begun, AreFresh}
+use Rattle.net_resolve.proofs.nets.Nets.resolve_marked.Given as goal
+
+abbrev pub invariant-loop-q : goal.invariant-loop-q
+invariant-loop-q l =
+    let now = l.self-inside in
+    let first = l.initial.self-inside in
+    let w = wired (vec_len first.shown.levels) first.net_of.items first.contacts.items first.resistors.items in
+    record {
+      same : now ≡ record first { subcircuits = now.subcircuits; marks = now.marks; shown = now.shown };
+      subcircuits : now.subcircuits.items ≡ first.subcircuits.items;
+      nets : vec_len now.shown.levels ≡ vec_len first.shown.levels;
+      marks_room : now.marks.room ≡ first.marks.room;
+      right : AreRight w first.labels.items now.marks.marked first.closed.items first.drives.items now.shown.levels.items;
+      begun : Begun first.labels.items now.marks.marked first.shown.levels.items now.shown.levels.items now.shown.changed.marked;
+      fresh : AreFresh first.subcircuits.items now.marks.marked now.shown.changed.marked;
+      shown : AreShown first.net_of.items now.shown;
+    }
+
+abbrev pub decreases-loop-q : goal.decreases-loop-q
+decreases-loop-q l = length l.self-inside.marks.marked
