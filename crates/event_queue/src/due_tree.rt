@@ -60,6 +60,7 @@ fn at(dues: &[Option<u32>], best: &[Entry; 64], place: usize) -> Entry
 }
 
 /// Lets part i meet the others anew, from its place to the top.
+#[inline(never)]
 fn replay(dues: &[Option<u32>], best: &mut [Entry; 64], i: usize)
     requires few { length dues.now ≤ 64 }
     requires part { i < length dues.now }
@@ -121,6 +122,17 @@ fn is_part(alone: Option<u8>, i: u8) -> bool
     match alone {
         Some(j) => j == i,
         None => false,
+    }
+}
+
+/// Whether no part is known to be alone.
+#[inline]
+fn is_none_alone(alone: Option<u8>) -> bool
+    ensures { result ≡ true → alone ≡ None }
+{
+    match alone {
+        Some(_) => false,
+        None => true,
     }
 }
 
@@ -240,10 +252,15 @@ impl DueTree {
             self.dues[i as usize] = due;
             return;
         }
+        if due.is_some() & is_none_alone(self.alone) {
+            self.dues[i as usize] = due;
+            replay(&self.dues, &mut self.best, i as usize);
+            return;
+        }
         self.renew(i, due);
     }
 
-    /// The same for a part that may meet others.
+    /// The same where a part is alone or comes to be.
     #[inline(never)]
     fn renew(&mut self, i: u8, due: Option<u32>)
         requires { i < length self.old }
