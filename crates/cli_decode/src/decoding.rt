@@ -23,7 +23,8 @@ fn read_lines<B: Bench>(
     second: Option<&str>,
     bench: &mut B,
 ) -> Result<LevelRows, Stop>
-    ensures got { Got (λ l. l) (stop_of wave.now) result (LevelsIn wave.now first.now (option_map (λ s. s.now) second.entry)) (B.outside bench.old) (B.outside bench.new) }
+    ensures got { Got (λ l. l) (stop_of wave.now) result (LevelsIn wave.now first.now (option_map (λ s. s.now) second.entry))
+        (B.outside bench.old) (B.outside bench.new) }
     ensures ports { SamePorts (B.outside bench.old) (B.outside bench.new) }
     ensures heard { IfOk result AreHeard }
     ensures lines { IfOk result (λ l. length l.rows ≡ names_given (option_map (λ s. s.now) second.entry)) }
@@ -44,7 +45,8 @@ fn read_wave_lines<B: Bench>(
     second: Option<&str>,
     bench: &mut B,
 ) -> Result<LevelRows, WorkEnd>
-    ensures got { Got (λ l. l) outcome_of result (LevelsIn wave.now first.now (option_map (λ s. s.now) second.entry)) (B.outside bench.old) (B.outside bench.new) }
+    ensures got { Got (λ l. l) outcome_of result (LevelsIn wave.now first.now (option_map (λ s. s.now) second.entry))
+        (B.outside bench.old) (B.outside bench.new) }
     ensures ports { SamePorts (B.outside bench.old) (B.outside bench.new) }
     ensures heard { IfOk result AreHeard }
     ensures lines { IfOk result (λ l. length l.rows ≡ names_given (option_map (λ s. s.now) second.entry)) }
@@ -84,7 +86,8 @@ pub fn decode<B: Bench>(
 ) -> WorkEnd
     requires bus { IsBus bus }
     requires names { names_given (option_map (λ s. s.now) second) ≡ line_count bus }
-    ensures ends { Ends (DecodeAnswer wave.now first.now (option_map (λ s. s.now) second.entry) bus) (outcome_of result) (B.outside bench.old) (B.outside bench.new) }
+    ensures ends { Ends (DecodeAnswer wave.now first.now (option_map (λ s. s.now) second.entry) bus) (outcome_of result)
+        (B.outside bench.old) (B.outside bench.new) }
     ensures silent { SaidNothing (B.outside bench.old) (B.outside bench.new) }
 {
     match read_wave_lines(alloc, wave, first, second, bench) {

@@ -38,7 +38,8 @@ pub(crate) fn read_texts<'a>(
     given: &'a [String],
 ) -> Result<Option<ArgMatches<'a>>, AllocError>
     requires { length words.now < 100 }
-    ensures { IfOk result (λ o. option_map (λ m. rows_of (found_of m)) o ≡ option_map (map row) (texts_of (record { words = map (λ w. w.now) words.now; options = map (λ o. o.now) options.now }) (map string_bytes given.entry.now))) }
+    ensures { IfOk result (λ o. option_map (λ m. rows_of (found_of m)) o ≡ option_map (map row)
+        (texts_of (record { words = map (λ w. w.now) words.now; options = map (λ o. o.now) options.now }) (map string_bytes given.entry.now))) }
 {
     let command = command(alloc, words, options)?;
     match command.try_get_matches_from(given) {

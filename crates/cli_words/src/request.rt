@@ -2,8 +2,11 @@
 ghost use Rattle.std.specs.Prelude.{◌≡◌, ◌≤◌, ◌<◌, map, string_bytes, IfOk, IfSome};
 ghost use Rattle.std.specs.Option.{option_map, option_and_then};
 ghost use Rattle.words_model.specs.Words.{Given, texts_of};
-ghost use Rattle.words_model.specs.Request.{bit_of, bus_of, decode_of, decode_syntax, i2c_of, is_absent, lacks_i2c, lacks_spi, lacks_uart, mode_of, spi_of, uart_of};
-ghost use Rattle.words_model.specs.Request.{request_of, asked_by, bare_syntax, bare_of, check_syntax, check_of, module_syntax, module_of, run_syntax, run_of, replay_syntax, replay_of, twin_syntax, twin_of, seed_of, make_syntax, make_of, path_of, file_of, named_of, micros_of, budget_of};
+ghost use Rattle.words_model.specs.Request.{request_of, asked_by, path_of, file_of, named_of, micros_of, budget_of};
+ghost use Rattle.words_model.specs.Request.{bare_syntax, bare_of, check_syntax, check_of, module_syntax, module_of};
+ghost use Rattle.words_model.specs.Request.{run_syntax, run_of, replay_syntax, replay_of, twin_syntax, twin_of};
+ghost use Rattle.words_model.specs.Request.{make_syntax, make_of, seed_of, decode_syntax, decode_of};
+ghost use Rattle.words_model.specs.Request.{bus_of, uart_of, spi_of, i2c_of, bit_of, mode_of, is_absent, lacks_uart, lacks_spi, lacks_i2c};
 ghost use Rattle.cli_words.specs.Commands.{AreOf};
 ghost use Rattle.cli_words.specs.Asked.{asked_of, bus_by, named_by, IsNamedBus, IsRunTime};
 
