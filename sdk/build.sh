@@ -61,14 +61,15 @@ done
 
 # ---- the tools
 
+setup=" (./mudflatjar setup chips)"
 have() { command -v "$1" >/dev/null; }
-have "$clang" || { say "there is no $clang: install Debian's packages clang and lld, or name a compiler by CLANG"; exit 1; }
-have "$("$clang" --print-prog-name=wasm-ld)" || { say "there is no wasm-ld, the linker: install Debian's package lld"; exit 1; }
+have "$clang" || { say "there is no $clang: install Debian's packages clang and lld$setup, or name a compiler by CLANG"; exit 1; }
+have "$("$clang" --print-prog-name=wasm-ld)" || { say "there is no wasm-ld, the linker: install Debian's package lld$setup"; exit 1; }
 target=--target=wasm32
 [ -n "$libc" ] && target=--target=wasm32-wasi
 if [ -n "$libc" ]; then
-    [ -f "$("$clang" $target --print-file-name=libc.a)" ] || { say "there is no C library: install Debian's package wasi-libc"; exit 1; }
-    [ -f "$("$clang" $target --print-libgcc-file-name)" ] || { say "the C library needs libclang_rt.builtins-wasm32.a: install Debian's package libclang-rt-dev-wasm32"; exit 1; }
+    [ -f "$("$clang" $target --print-file-name=libc.a)" ] || { say "there is no C library: install Debian's package wasi-libc$setup"; exit 1; }
+    [ -f "$("$clang" $target --print-libgcc-file-name)" ] || { say "the C library needs libclang_rt.builtins-wasm32.a: install Debian's package libclang-rt-dev-wasm32$setup"; exit 1; }
 fi
 
 # ---- compile and link

@@ -146,7 +146,7 @@ case "$*" in
 esac
 END
 chmod +x stand-in
-CLANG=$work/none says "no compiler" 1 "there is no $work/none: install Debian's packages clang and lld, or name a compiler by CLANG" -o a.wasm good.c
+CLANG=$work/none says "no compiler" 1 "there is no $work/none: install Debian's packages clang and lld (./mudflatjar setup chips), or name a compiler by CLANG" -o a.wasm good.c
 CLANG=$work/stand-in LD=$work/none says "no linker" 1 "there is no wasm-ld, the linker: install Debian's package lld" -o a.wasm good.c
 CLANG=$work/stand-in LIBRARY=libc.a says "no library" 1 "there is no C library: install Debian's package wasi-libc" --libc -o a.wasm good.c
 CLANG=$work/stand-in BUILTINS=none says "no builtins" 1 "install Debian's package libclang-rt-dev-wasm32" --libc -o a.wasm good.c
