@@ -374,6 +374,8 @@ class Play(WithWork):
         self.assertIn("play: /none: no program is there", call("wokwi/play", os.path.join(EXAMPLES, "button"), "--program", "/none")[2])
         self.put("bad.hex", "x\n")
         self.assertEqual(call("wokwi/play", os.path.join(self.work, "bad.hex"))[0], 3)
+        file = self.put("notes.txt", "x\n")
+        self.assertEqual(call("wokwi/play", file)[1:], ("", f"play: {file}: it is neither a sketch (.ino) nor a firmware (.hex, .elf)\n"))
 
 
 class Unity(WithWork):
