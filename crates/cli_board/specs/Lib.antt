@@ -1,3 +1,4 @@
+pub mod Contents
 pub mod Counted
 pub mod Reports
 pub mod Run

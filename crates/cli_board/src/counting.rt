@@ -1,21 +1,19 @@
 //! A plan of which nothing is written.
-ghost use Rattle.std.specs.Prelude.{◌≡◌, ◌≤◌, ◌<◌, ◌+◌, length, IfOk};
+ghost use Rattle.std.specs.Prelude.{◌≡◌, ◌≤◌, ◌<◌, length, IfOk};
 ghost use Rattle.std.specs.List.{All};
 ghost use Rattle.sim_base.specs.Outside.{SamePorts};
 ghost use Rattle.board_model.specs.Fits.{AreInputs};
 ghost use Rattle.board_build.specs.IsPlan.{IsPlan};
 ghost use Rattle.chip_module.specs.Sources.{HasFewPins, pins_of};
-ghost use Rattle.vcd_text.specs.Writers.{capped};
-ghost use Rattle.cli_board.specs.Counted.{run_changes};
-ghost use Rattle.cli_board.specs.Run.{run_bytes, run_wakes};
+ghost use Rattle.cli_board.specs.Contents.{contents_of};
+ghost use Rattle.cli_board.specs.Counted.{IsCounted};
 
-use crate::running::make_head;
+use crate::running::{Contents, make_head};
 use any_part::load;
 use board_build::Plan;
 use board_outputs::count;
 use board_run::Board;
-use chip_module::ChipSource;
-use sim_base::{Bench, Flash, MOST_CYCLES, OutOfMemory, Steps};
+use sim_base::{Bench, MOST_CYCLES, OutOfMemory, Steps};
 use std::alloc::Global;
 use std::mem::drop;
 use std::sync::ledger::Ledger;
@@ -24,25 +22,26 @@ use std::sync::ledger::Ledger;
 /// changes its wave has after the initial values, and how many bytes its Uno sends.
 pub fn count_board<B: Bench, L: Ledger>(
     alloc: Global,
-    flash: Flash,
-    chips: &[ChipSource],
+    contents: Contents<'_>,
     plan: Plan,
-    budget: u32,
     n: u32,
     bench: &mut B,
     steps: &mut Steps<L>,
 ) -> Result<(u64, u64), OutOfMemory>
-    requires plan { IsPlan (pins_of chips.now) plan }
-    requires few_pins { All HasFewPins chips.now }
+    requires plan { IsPlan (pins_of contents.chips.now) plan }
+    requires few_pins { All HasFewPins contents.chips.now }
     requires inputs { AreInputs (length plan.parts) plan.inputs }
     requires some { 0 < n }
     requires end { n ≤ MOST_CYCLES }
-    ensures changes { IfOk result (λ r. r.0 ≡ capped (run_changes (record { flash = flash; chips = chips.now; budget = budget }) plan n)) }
-    ensures sent { IfOk result (λ r. r.1 ≡ capped (length (run_bytes (record { flash = flash; chips = chips.now; budget = budget }) plan n))) }
+    ensures counted { IfOk result (λ r. IsCounted (contents_of contents.entry) plan n r.0 r.1 steps.old steps.new) }
     ensures ports { SamePorts (B.outside bench.old) (B.outside bench.new) }
     ensures reads { (B.outside bench.new).read_faults ≡ (B.outside bench.old).read_faults }
-    ensures steps { IfOk result (λ r. steps.new ≡ steps.old + run_wakes (record { flash = flash; chips = chips.now; budget = budget }) plan n) }
 {
+    let Contents {
+        flash,
+        chips,
+        budget,
+    } = contents;
     // Each drop is one call, where one at the end of the scope is proved field by field on each way out.
     let Ok(mut head) = make_head(alloc, &plan, chips) else {
         drop(flash);

@@ -10,4 +10,4 @@ mod running;
 
 pub use counting::count_board;
 pub use playing::write_run;
-pub use running::{make_head, run_board};
+pub use running::{Contents, make_head, run_board};

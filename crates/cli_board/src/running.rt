@@ -9,6 +9,7 @@ ghost use Rattle.cli_work.specs.Outcomes.{outcome_of};
 ghost use Rattle.board_outputs.specs.Outputs.{outputs_of};
 ghost use Rattle.board_outputs.specs.Ran.{Ran};
 ghost use Rattle.board_outputs.specs.Variables.{board_variables};
+ghost use Rattle.cli_board.specs.Contents.{contents_of};
 ghost use Rattle.cli_board.specs.Run.{run_texts, run_wakes};
 
 use crate::playing::write_run;
@@ -34,31 +35,40 @@ pub fn make_head(alloc: Global, plan: &Plan, chips: &[ChipSource]) -> Result<Wav
     wave_head(alloc, plan, pins.as_slice())
 }
 
+/// What the parts of a board are loaded with: the flash image, the chips of its project, and the fuel of each call into a chip.
+pub struct Contents<'a> {
+    pub flash: Flash,
+    pub chips: &'a [ChipSource],
+    pub budget: u32,
+}
+
 /// Takes all memory that the run of a plan for `n` cycles needs, at most `MOST_CYCLES`, and runs it with
-/// the chips of its project, each call into which gets this much fuel. The wave and the report are
-/// opened, then the wave and the bytes are written, and then the report.
+/// these contents. The wave and the report are opened, then the wave and the bytes are written, and then the report.
 pub fn run_board<B: Bench, L: Ledger>(
     alloc: Global,
-    flash: Flash,
-    chips: &[ChipSource],
+    contents: Contents<'_>,
     plan: Plan,
-    budget: u32,
     n: u32,
     outputs: Outputs,
     bench: &mut B,
     steps: &mut Steps<L>,
 ) -> WorkEnd
-    requires plan { IsPlan (pins_of chips.now) plan }
-    requires few_pins { All HasFewPins chips.now }
+    requires plan { IsPlan (pins_of contents.chips.now) plan }
+    requires few_pins { All HasFewPins contents.chips.now }
     requires inputs { AreInputs (length plan.parts) plan.inputs }
     requires some { 0 < n }
     requires end { n ≤ MOST_CYCLES }
     ensures ran { Ran (outcome_of result)
-        (run_texts (outputs_of outputs.entry) (record { flash = flash; chips = chips.now; budget = budget }) plan n)
+        (run_texts (outputs_of outputs.entry) (contents_of contents.entry) plan n)
         (B.outside bench.old) (B.outside bench.new) }
     ensures steps { outcome_of result ≡ ends.Accepted →
-        steps.new ≡ steps.old + run_wakes (record { flash = flash; chips = chips.now; budget = budget }) plan n }
+        steps.new ≡ steps.old + run_wakes (contents_of contents.entry) plan n }
 {
+    let Contents {
+        flash,
+        chips,
+        budget,
+    } = contents;
     // Each drop is one call, where one at the end of the scope is proved field by field on each way out.
     let Ok(mut head) = make_head(alloc, &plan, chips) else {
         drop(flash);

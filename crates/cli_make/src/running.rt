@@ -11,7 +11,7 @@ ghost use Rattle.cli_work.specs.Outcomes.{outcome_of};
 ghost use Rattle.cli_make.specs.Answer.{MakeAnswer, contents, line, made_line};
 
 use crate::project::made_work;
-use cli_board::count_board;
+use cli_board::{Contents, count_board};
 use cli_project::Work;
 use cli_work::{WorkEnd, write_text};
 use sim_base::{Bench, MOST_CYCLES, OutOfMemory, Port, Steps};
@@ -51,16 +51,12 @@ fn counted_line<B: Bench, L: Ledger>(
         plan,
         ..
     } = work;
-    let (changes, sent) = count_board(
-        alloc,
+    let contents = Contents {
         flash,
-        chips.as_slice(),
-        plan,
-        BUDGET,
-        n,
-        bench,
-        steps,
-    )?;
+        chips: chips.as_slice(),
+        budget: BUDGET,
+    };
+    let (changes, sent) = count_board(alloc, contents, plan, n, bench, steps)?;
     Ok(line(alloc, seed, n, changes, sent)?)
 }
 

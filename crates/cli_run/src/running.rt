@@ -9,7 +9,7 @@ ghost use Rattle.isolation.specs.Isolated.{Isolated};
 ghost use Rattle.cli_run.specs.Answer.{RunAnswer, AnswerSuch};
 
 use board_outputs::Outputs;
-use cli_board::run_board;
+use cli_board::{Contents, run_board};
 use cli_project::{Work, read_work};
 use cli_work::WorkEnd;
 use sim_base::{Bench, Steps};
@@ -46,17 +46,12 @@ pub fn run<B: Bench, L: Ledger>(
                 plan,
                 ..
             } = work;
-            run_board(
-                alloc,
+            let contents = Contents {
                 flash,
-                chips.as_slice(),
-                plan,
+                chips: chips.as_slice(),
                 budget,
-                16 * micros,
-                outputs,
-                bench,
-                steps,
-            )
+            };
+            run_board(alloc, contents, plan, 16 * micros, outputs, bench, steps)
         }
         Err(outcome) => outcome,
     }

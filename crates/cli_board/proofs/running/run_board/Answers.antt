@@ -5,6 +5,7 @@ use Rattle.board_run.specs.BoardView.{BoardView}
 use Rattle.board_report.specs.Report.{part_text}
 use Rattle.board_outputs.specs.Outputs.{outputs_of}
 use Rattle.board_laws.specs.Active.{active_pairs}
+use Rattle.cli_board.specs.Contents.{contents_of}
 use Rattle.cli_board.proofs.CountLemmas.{counted_is}
 use Rattle.cli_board.proofs.PlayLemmas.{same_texts}
 use Rattle.cli_board.proofs.running.run_board.Goals as goal
@@ -26,6 +27,6 @@ returns-in-Failed-clause-ran g c =
 pub returns-in-Ok-end-clause-steps : goal.returns-in-Ok-end-clause-steps
 returns-in-Ok-end-clause-steps g c accepted =
     let is = c.in-Ok-new.ensures in
-    counted_is (λ vs w inputs ss. c.args.steps.now + active_pairs any w inputs ss 0 c.args.n) c.in-Ok.head.variables c.in-Ok-new.board (record { flash = c.args.flash; chips = c.args.chips.now; budget = c.args.budget }) c.args.plan c.write_run-end.new.steps
+    counted_is (λ vs w inputs ss. c.args.steps.now + active_pairs any w inputs ss 0 c.args.n) c.in-Ok.head.variables c.in-Ok-new.board (contents_of c.args.contents) c.args.plan c.write_run-end.new.steps
     c.in-Ok.ensures (ap (λ (x : BoardView AnyPart). x.wiring) is) (ap (λ (x : BoardView AnyPart). x.inputs) is) (ap (λ (x : BoardView AnyPart). map state_of x.parts) is ∙ c.in-Ok-load.ensures.states)
     (c.write_run-end.ensures.steps c.in-Ok-end.is)

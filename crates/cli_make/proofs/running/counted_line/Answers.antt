@@ -15,13 +15,13 @@ returns-clause-line g c =
     let work : Work = work_of c.args.work in
     let has : List ChipSource → Contents = λ (chips : List ChipSource). record { flash = work.flash; chips = chips; budget = 1000000 } in
     c.in_ok-line.ensures ∙ line_is c.args.seed n _ _ work
-    (c.in_ok-changes.ensures.changes ∙ ap (λ (chips : List ChipSource). capped (run_changes (has chips) work.plan n)) c.as_slice.ensures)
-    (c.in_ok-changes.ensures.sent ∙ ap (λ (chips : List ChipSource). capped (length (run_bytes (has chips) work.plan n))) c.as_slice.ensures)
+    (c.in_ok-changes.ensures.counted.changes_are ∙ ap (λ (chips : List ChipSource). capped (run_changes (has chips) work.plan n)) c.as_slice.ensures)
+    (c.in_ok-changes.ensures.counted.sent_is ∙ ap (λ (chips : List ChipSource). capped (length (run_bytes (has chips) work.plan n))) c.as_slice.ensures)
 
 pub returns-clause-steps : goal.returns-clause-steps
 returns-clause-steps g c =
     let n : ℕ = c.args.n in
     let work : Work = work_of c.args.work in
     let has : List ChipSource → Contents = λ (chips : List ChipSource). record { flash = work.flash; chips = chips; budget = 1000000 } in
-    c.in_ok-changes.ensures.steps
+    c.in_ok-changes.ensures.counted.wakes_are
     ∙ ap (λ (chips : List ChipSource). c.args.steps.now + run_wakes (has chips) work.plan n) c.as_slice.ensures
