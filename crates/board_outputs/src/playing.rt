@@ -1,14 +1,12 @@
 //! A board that runs from cycle 0, and what it writes.
-ghost use Rattle.std.specs.Prelude.{◌≡◌, ◌≤◌, ◌<◌, ◌+◌, None, true, false, map, is_some};
+ghost use Rattle.std.specs.Prelude.{◌≡◌, ◌≤◌, ◌<◌, true, is_some};
 ghost use Rattle.std.specs.Option.{option_map};
 ghost use Rattle.sim_base.specs.Outside.{is_openable};
 ghost use Rattle.text_model.specs.Wave.{wave_text};
-ghost use Rattle.board_model.specs.Board.{bytes, states};
-ghost use Rattle.board_model.specs.Rows.{rows};
-ghost use Rattle.board_laws.specs.Active.{active_pairs};
 ghost use Rattle.vcd_text.specs.Ports.{texts, Writes as WritesTexts};
 ghost use Rattle.board_outputs.specs.Outputs.{outputs_of};
 ghost use Rattle.board_outputs.specs.Ran.{OpensNamed, WritesUpToReport};
+ghost use Rattle.board_outputs.specs.Start.{HasRun, IsAtStart, bytes_in, rows_in, wakes_in};
 
 use board_run::{Board, RunEnd};
 use part_law::Part;
@@ -47,18 +45,14 @@ fn play<P: Part, B: Bench, L: Ledger>(
     bench: &mut B,
     steps: &mut Steps<L>,
 ) -> WriteEnd
-    requires cycle { board.old.cycle ≡ 0 }
-    requires alive { board.old.given_up ≡ false }
-    requires before { board.old.before ≡ None }
+    requires start { IsAtStart board.old }
     requires some { 0 < n }
     requires end { n ≤ MOST_CYCLES }
     requires opened { wave ≡ true → (B.outside bench.old).opened Port.Wave ≡ true }
-    ensures wrote { WritesTexts result (texts wave serial
-        (wave_text head.old.variables (rows P.machine board.old.wiring board.old.inputs None (map P.state board.old.parts) 0 n) n)
-        (bytes P.machine board.old.wiring board.old.inputs (map P.state board.old.parts) 0 n)) (B.outside bench.old) (B.outside bench.new) }
-    ensures alive { result ≡ WriteEnd.Ok → board.new.given_up ≡ false }
-    ensures states { result ≡ WriteEnd.Ok → map P.state board.new.parts ≡ states P.machine board.old.wiring board.old.inputs (map P.state board.old.parts) 0 n }
-    ensures steps { result ≡ WriteEnd.Ok → steps.new ≡ steps.old + active_pairs P.machine board.old.wiring board.old.inputs (map P.state board.old.parts) 0 n }
+    ensures wrote { WritesTexts result
+        (texts wave serial (wave_text head.old.variables (rows_in P.Part board.old n) n) (bytes_in P.Part board.old n))
+        (B.outside bench.old) (B.outside bench.new) }
+    ensures ran { result ≡ WriteEnd.Ok → HasRun P.Part board.old n board.new steps.old steps.new }
 {
     let start = Snapshot::of(&*bench);
     let mut writer = WaveWriter::new(head, bench, &start, wave, serial);
@@ -78,19 +72,14 @@ pub fn open_and_play<P: Part, B: Bench, L: Ledger>(
     bench: &mut B,
     steps: &mut Steps<L>,
 ) -> WriteEnd
-    requires cycle { board.old.cycle ≡ 0 }
-    requires alive { board.old.given_up ≡ false }
-    requires before { board.old.before ≡ None }
+    requires start { IsAtStart board.old }
     requires some { 0 < n }
     requires end { n ≤ MOST_CYCLES }
     ensures wrote { WritesUpToReport result (outputs_of outputs.entry)
-        (wave_text head.old.variables (rows P.machine board.old.wiring board.old.inputs None (map P.state board.old.parts) 0 n) n)
-        (bytes P.machine board.old.wiring board.old.inputs (map P.state board.old.parts) 0 n)
-        (active_pairs P.machine board.old.wiring board.old.inputs (map P.state board.old.parts) 0 n) (B.outside bench.old) (B.outside bench.new) }
+        (wave_text head.old.variables (rows_in P.Part board.old n) n) (bytes_in P.Part board.old n) (wakes_in P.Part board.old n)
+        (B.outside bench.old) (B.outside bench.new) }
     ensures opened { result ≡ WriteEnd.Ok → is_some outputs.entry.report ≡ true → (B.outside bench.new).opened Port.Report ≡ true }
-    ensures alive { result ≡ WriteEnd.Ok → board.new.given_up ≡ false }
-    ensures states { result ≡ WriteEnd.Ok → map P.state board.new.parts ≡ states P.machine board.old.wiring board.old.inputs (map P.state board.old.parts) 0 n }
-    ensures steps { result ≡ WriteEnd.Ok → steps.new ≡ steps.old + active_pairs P.machine board.old.wiring board.old.inputs (map P.state board.old.parts) 0 n }
+    ensures ran { result ≡ WriteEnd.Ok → HasRun P.Part board.old n board.new steps.old steps.new }
 {
     match open_named(Port::Wave, outputs.wave, bench) {
         WriteEnd::Ok => {}

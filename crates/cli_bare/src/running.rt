@@ -1,11 +1,12 @@
 //! `bare HEX --us N`: one Uno without wires.
-ghost use Rattle.std.specs.Prelude.{◌≡◌, ◌≤◌, ◌<◌, ◌+◌, [], IfOk, None, false, map};
+ghost use Rattle.std.specs.Prelude.{◌≡◌, ◌≤◌, ◌<◌, ◌+◌, [], IfOk, map};
 ghost use Rattle.outcome_model.specs.Outcome as ends;
 ghost use Rattle.outcome_model.specs.Happens.{Ends, Counts};
 ghost use Rattle.outcome_model.specs.Work.{SaidNothing};
 ghost use Rattle.cli_work.specs.Outcomes.{outcome_of};
 ghost use Rattle.avr_mcu.specs.Mcu.{McuAt};
 ghost use Rattle.board_outputs.specs.Ran.{Ran};
+ghost use Rattle.board_outputs.specs.Start.{IsAtStart};
 ghost use Rattle.cli_bare.specs.Answer.{BareAnswer};
 ghost use Rattle.cli_bare.specs.Bare.{uno_wiring, uno_plan, uno_starts, bare_run};
 
@@ -26,9 +27,7 @@ fn make_board(alloc: Global, plan: Plan, flash: Flash) -> Result<Board<Mcu>, Out
     ensures wiring { IfOk result (λ b. b.wiring ≡ uno_wiring) }
     ensures inputs { IfOk result (λ b. b.inputs ≡ []) }
     ensures states { IfOk result (λ b. map (λ (p : McuAt). p.mcu) b.parts ≡ uno_starts flash) }
-    ensures cycle { IfOk result (λ b. b.cycle ≡ 0) }
-    ensures alive { IfOk result (λ b. b.given_up ≡ false) }
-    ensures before { IfOk result (λ b. b.before ≡ None) }
+    ensures start { IfOk result (λ b. IsAtStart b) }
 {
     match make_parts(alloc, flash) {
         Ok(parts) => Board::new(alloc, parts, plan.wiring, plan.inputs),

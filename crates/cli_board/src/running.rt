@@ -12,7 +12,7 @@ ghost use Rattle.board_outputs.specs.Variables.{board_variables};
 ghost use Rattle.cli_board.specs.Contents.{contents_of};
 ghost use Rattle.cli_board.specs.Run.{run_texts, run_wakes};
 
-use crate::playing::write_run;
+use crate::playing::{Listing, write_run};
 use any_part::load;
 use board_build::Plan;
 use board_outputs::{Outputs, wave_head};
@@ -86,16 +86,11 @@ pub fn run_board<B: Bench, L: Ledger>(
         drop(planned);
         return WorkEnd::OutOfMemory;
     };
-    let end = write_run(
-        &mut board,
-        &mut head,
-        planned.as_slice(),
-        true,
-        n,
-        outputs,
-        bench,
-        steps,
-    );
+    let listing = Listing {
+        parts: planned.as_slice(),
+        chips: true,
+    };
+    let end = write_run(&mut board, &mut head, listing, n, outputs, bench, steps);
     drop(board);
     drop(head);
     drop(planned);

@@ -16,7 +16,7 @@ ghost use Rattle.cli_replay.specs.Plays.{IsReady, play_of};
 
 use board_outputs::Outputs;
 use board_run::Board;
-use cli_board::{make_head, write_run};
+use cli_board::{Listing, make_head, write_run};
 use cli_project::{Work, read_work};
 use cli_work::{Stop, WorkEnd, stopped};
 use played_part::load_played;
@@ -110,10 +110,11 @@ fn play_board<B: Bench, L: Ledger>(
     let Ok(mut board) = Board::new(alloc, parts, plan.wiring, plan.inputs) else {
         return WorkEnd::OutOfMemory;
     };
-    let planned = planned.as_slice();
-    match write_run(
-        &mut board, &mut head, planned, false, n, outputs, bench, steps,
-    ) {
+    let listing = Listing {
+        parts: planned.as_slice(),
+        chips: false,
+    };
+    match write_run(&mut board, &mut head, listing, n, outputs, bench, steps) {
         WriteEnd::Ok => WorkEnd::Accepted,
         WriteEnd::Failed => WorkEnd::WriteFailed,
     }

@@ -20,7 +20,7 @@ returns-clause-changes g c =
     let stood = (c.in-Done.ensures.handed refl).appended [] [] c.new-writer.ensures.stands in
     from_zero (λ (before : Option Shown) t k. c.counts.result.0 ≡
     capped (wave_count c.args.head.now.variables (rows g.P.Part.machine v.wiring v.inputs before (map g.P.Part.state v.parts) t k)))
-    v.cycle c.args.n v.before c.requires.cycle c.requires.before
+    v.cycle c.args.n v.before c.requires.start.cycle c.requires.start.before
     ((c.counts.ensures made sent stood).0 ∙ ap (λ (t : Tied). capped (wave_count t.variables made)) place)
 
 pub returns-clause-sent : goal.returns-clause-sent
@@ -30,7 +30,7 @@ returns-clause-sent g c =
     let sent : List ℕ = bytes g.P.Part.machine v.wiring v.inputs (map g.P.Part.state v.parts) v.cycle (c.args.n - v.cycle) in
     let stood = (c.in-Done.ensures.handed refl).appended [] [] c.new-writer.ensures.stands in
     from_zero (λ (before : Option Shown) t k. c.counts.result.1 ≡ capped (length (bytes g.P.Part.machine v.wiring v.inputs (map g.P.Part.state v.parts) t k)))
-    v.cycle c.args.n v.before c.requires.cycle c.requires.before (c.counts.ensures made sent stood).1
+    v.cycle c.args.n v.before c.requires.start.cycle c.requires.start.before (c.counts.ensures made sent stood).1
 
 pub returns-clause-ports : goal.returns-clause-ports
 returns-clause-ports g c =
@@ -58,7 +58,7 @@ pub returns-clause-steps : goal.returns-clause-steps
 returns-clause-steps g c =
     let v = c.args.board.now in
     from_zero (λ (before : Option Shown) t k. c.run.new.steps ≡ c.args.steps.now + active_pairs g.P.Part.machine v.wiring v.inputs (map g.P.Part.state v.parts) t k)
-    v.cycle c.args.n v.before c.requires.cycle c.requires.before (c.in-Done.ensures.steps refl)
+    v.cycle c.args.n v.before c.requires.start.cycle c.requires.start.before (c.in-Done.ensures.steps refl)
 
 pub unreachable-requires : goal.unreachable-requires
 unreachable-requires g c =
