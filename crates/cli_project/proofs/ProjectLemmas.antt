@@ -91,11 +91,6 @@ module _ (folder : List ℕ) (read : List ChipSource) where
   no_chips [] none told = if_always told _ (λ files. refl)
   no_chips (c ∷ cs) none told = absurd (omega (arith, none))
 
--- what follows of what a result holds
-pub if_ok : {V E : Type 0} (r : Result V E) (P Q : V → Type 0) → ((v : V) → P v → Q v) → IfOk r P → IfOk r Q
-if_ok (Ok v) P Q f is = f v is
-if_ok (Err e) P Q f is = tt
-
 -- two runs of calls leave the ports alone, and none at all does
 pub same_both : (a m b : Outside) → SamePorts a m → SamePorts m b → SamePorts a b
 same_both a m b x y = record { files = y.files ∙ x.files; written = λ p. y.written p ∙ x.written p; name = λ p. y.name p ∙ x.name p; opened = λ p. y.opened p ∙ x.opened p; faults = λ p. y.faults p ∙ x.faults p }

@@ -293,11 +293,6 @@ pub fn read_work<B: Bench>(
         (B.outside bench.old) (B.outside bench.new) }
     ensures ports { SamePorts (B.outside bench.old) (B.outside bench.new) }
     ensures sound { IfOk result (λ w. IsSound (work_of w)) }
-    ensures plan { IfOk result (λ w. IsPlan (pins_of w.chips) w.plan) }
-    ensures few { IfOk result (λ w. All HasFewPins w.chips) }
-    ensures inputs { IfOk result (λ w. AreInputs (length w.plan.parts) w.plan.inputs) }
-    ensures short { IfOk result (λ w. length w.wave.items ≤ 16777216) }
-    ensures each { IfOk result (λ w. length w.chips ≡ length w.project.chips) }
 {
     let project = read_in::<ProjectFile, B>(alloc, folder, "wokwi.toml", bench)?;
     let paths = Paths {

@@ -1,17 +1,14 @@
 //! The projects of two folders.
-ghost use Rattle.std.specs.Prelude.{◌≡◌, ◌⊎◌, None, IfOk, length};
-ghost use Rattle.std.specs.List.{All};
+ghost use Rattle.std.specs.Prelude.{◌≡◌, ◌⊎◌, IfOk};
 ghost use Rattle.sim_base.specs.Outside.{Outside, SamePorts};
 ghost use Rattle.sim_base.specs.declared.fault.Place.TheVariants as places;
 ghost use Rattle.sim_base.specs.Refusals.{TwinDiffers};
 ghost use Rattle.outcome_model.specs.Stop.{Refused};
 ghost use Rattle.outcome_model.specs.Outcome as ends;
 ghost use Rattle.outcome_model.specs.Work.{Got, Is};
-ghost use Rattle.board_build.specs.IsPlan.{IsPlan};
-ghost use Rattle.chip_module.specs.Sources.{HasFewPins, pins_of};
 ghost use Rattle.project_model.specs.Work.{in_folder};
 ghost use Rattle.cli_work.specs.Outcomes.{outcome_of};
-ghost use Rattle.cli_project.specs.Works.{work_of};
+ghost use Rattle.cli_project.specs.Works.{IsSound, work_of};
 ghost use Rattle.cli_twin.specs.Pairs.{IsReady, pair_of};
 ghost use Rattle.cli_twin.specs.Shared.{PairIn, other_path, paired};
 
@@ -46,11 +43,8 @@ fn differs(alloc: Global, folder: &str, path: &str) -> WorkEnd
 
 /// Two projects as a pair, or the first file of the other's folder that differs.
 fn make_pair(alloc: Global, folder: &str, one: Work, other: Work) -> Result<Pair, WorkEnd>
-    requires plan { IsPlan (pins_of one.chips) one.plan }
-    requires few_one { All HasFewPins one.chips }
-    requires few_other { All HasFewPins other.chips }
-    requires each_one { length one.chips ≡ length one.project.chips }
-    requires each_other { length other.chips ≡ length other.project.chips }
+    requires sound_one { IsSound (work_of one) }
+    requires sound_other { IsSound (work_of other) }
     ensures got { (a : Outside) → Got pair_of outcome_of result
         (Is (λ files. paired folder.now (record { one = work_of one; other = work_of other }) (other_path (work_of one) (work_of other)))) a a }
     ensures ready { IfOk result IsReady }

@@ -7,9 +7,7 @@ use Rattle.project_model.specs.Work.{in_folder, BehindProject}
 use Rattle.outcome_model.specs.Work.{IsFile}
 use Rattle.outcome_model.proofs.ReadLemmas.{first_stops, got_both, steady_file}
 use Rattle.cli_work.specs.Outcomes.{outcome_of}
-use Rattle.cli_project.specs.declared.project.Work.{Work}
-use Rattle.cli_project.specs.Works.{IsSound, work_of}
-use Rattle.cli_project.proofs.ProjectLemmas.{if_ok}
+use Rattle.cli_project.specs.Works.{work_of}
 use Rattle.cli_project.proofs.project.read_work.Goals as goal
 
 pub read_behind_project-requires : goal.read_behind_project-requires
@@ -32,18 +30,3 @@ returns-clause-got g c =
     let file : List ℕ = in_folder folder (codes "wokwi.toml") in
     got_both (IsFile file project_text) (BehindProject folder script wave) (steady_file file project_text) c.in_ok-project.project work_of outcome_of
     c.read_behind_project.result _ _ _ c.in_ok-project.ensures.ports c.in_ok-project.ensures.got c.read_behind_project.ensures.got
-
-pub returns-clause-plan : goal.returns-clause-plan
-returns-clause-plan g c = if_ok c.read_behind_project.result _ _ (λ (w : Work) (is : IsSound (work_of w)). is.plan) c.read_behind_project.ensures.sound
-
-pub returns-clause-few : goal.returns-clause-few
-returns-clause-few g c = if_ok c.read_behind_project.result _ _ (λ (w : Work) (is : IsSound (work_of w)). is.few_pins) c.read_behind_project.ensures.sound
-
-pub returns-clause-inputs : goal.returns-clause-inputs
-returns-clause-inputs g c = if_ok c.read_behind_project.result _ _ (λ (w : Work) (is : IsSound (work_of w)). is.inputs) c.read_behind_project.ensures.sound
-
-pub returns-clause-short : goal.returns-clause-short
-returns-clause-short g c = if_ok c.read_behind_project.result _ _ (λ (w : Work) (is : IsSound (work_of w)). is.short) c.read_behind_project.ensures.sound
-
-pub returns-clause-each : goal.returns-clause-each
-returns-clause-each g c = if_ok c.read_behind_project.result _ _ (λ (w : Work) (is : IsSound (work_of w)). is.each) c.read_behind_project.ensures.sound

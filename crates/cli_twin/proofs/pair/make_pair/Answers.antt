@@ -5,11 +5,8 @@ use Rattle.cli_twin.proofs.pair.make_pair.Goals as goal
 
 pub returns-in-None-clause-ready : goal.returns-in-None-clause-ready
 returns-in-None-clause-ready c = record {
-  plan = c.requires.plan;
-  few_one = c.requires.few_one;
-  few_other = c.requires.few_other;
-  each_one = c.requires.each_one;
-  each_other = c.requires.each_other;
+  sound_one = c.requires.sound_one;
+  sound_other = c.requires.sound_other;
   shared = sym c.in-None.ensures;
-  pins = (shared (work_of c.args.one) (work_of c.args.other) c.requires.each_one c.requires.each_other (sym c.in-None.ensures)).pins;
+  pins = (shared (work_of c.args.one) (work_of c.args.other) c.requires.sound_one.each c.requires.sound_other.each (sym c.in-None.ensures)).pins;
 }

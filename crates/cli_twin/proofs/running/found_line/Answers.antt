@@ -25,5 +25,5 @@ returns g c =
     ∙ ap (λ (chips : List ChipSource). line (pins_of chips) c.as_slice-3.result.now n (diff_of end)) c.as_slice-2.ensures
     ∙ ap (λ (parts : List PlanPart). line (pins_of pair.one.chips) parts n (diff_of end)) c.as_slice-3.ensures in
     record {
-      found = was_found budget n pair c.requires.ready.plan c.requires.ready.pins c.in_ok-twin.twin c.in_ok-twin.planned end _ c.args.steps.now c.run-end.new.steps loaded says c.run-end.ensures.twin;
+      found = was_found budget n pair c.requires.ready.sound_one.plan c.requires.ready.pins c.in_ok-twin.twin c.in_ok-twin.planned end _ c.args.steps.now c.run-end.new.steps loaded says c.run-end.ensures.twin;
     }

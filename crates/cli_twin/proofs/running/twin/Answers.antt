@@ -16,13 +16,13 @@ returns-in-Ok-found_line-clause-ends g c =
     let o = outcome_of c.write_text.result in
     let said = one_part c.as_bytes.result.now ∙ c.as_bytes.ensures.value in
     let ran = subst (λ (t : List ℕ). RanOn ports.Report o (printed t) m b) said c.write_text.ensures.ran in
-    twin_ends c.args.folder.now c.args.other.now c.args.micros c.args.budget (pair_of c.in-Ok.pair) c.in-Ok.ensures.ready.each_one c.in-Ok.ensures.ready.each_other
+    twin_ends c.args.folder.now c.args.other.now c.args.micros c.args.budget (pair_of c.in-Ok.pair) c.in-Ok.ensures.ready.sound_one.each c.in-Ok.ensures.ready.sound_other.each
     (string_bytes c.in-Ok-found_line.line) c.args.steps.now c.found_line.new.steps c.in-Ok-found_line.ensures.found o a m b c.in-Ok.ensures.got.0 c.in-Ok.ensures.got.1 c.in-Ok.ensures.ports
     ran c.write_text.ensures.others
 
 pub returns-in-Ok-found_line-clause-counts : goal.returns-in-Ok-found_line-clause-counts
 returns-in-Ok-found_line-clause-counts g c =
-    twin_counts c.args.folder.now c.args.other.now c.args.micros c.args.budget (pair_of c.in-Ok.pair) c.in-Ok.ensures.ready.each_one c.in-Ok.ensures.ready.each_other
+    twin_counts c.args.folder.now c.args.other.now c.args.micros c.args.budget (pair_of c.in-Ok.pair) c.in-Ok.ensures.ready.sound_one.each c.in-Ok.ensures.ready.sound_other.each
     (string_bytes c.in-Ok-found_line.line) c.args.steps.now c.found_line.new.steps c.in-Ok-found_line.ensures.found (outcome_of c.write_text.result) (g.B.Bench.outside c.args.bench.now)
     c.in-Ok.ensures.got.0
 
