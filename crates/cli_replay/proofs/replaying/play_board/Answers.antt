@@ -26,7 +26,7 @@ returns-in-Ok-write_run-clause-ran g c =
     let is = c.in-Ok-new.ensures in
     same_texts (or_player any) play_part_text false writes.Ok (outputs_of c.args.outputs) c.args.n (g.B.Bench.outside c.args.bench.now) (g.B.Bench.outside c.write_run.new.bench) _ _ _ _ _ _ _ _ _ _
     c.requires.ready.head (ap (λ (x : BoardView PlayedPart). x.wiring) is) (ap (λ (x : BoardView PlayedPart). x.inputs) is)
-    (ap (λ (x : BoardView PlayedPart). map state_of x.parts) is ∙ rw c.as_slice.ensures at c.in-Ok.ensures.states) c.as_slice-planned.ensures
+    (ap (λ (x : BoardView PlayedPart). map state_of x.parts) is ∙ rw c.as_slice.ensures at c.in-Ok.ensures.states) c.as_slice-2.ensures
     (c.in-Ok-write_run.ensures.wrote _ (λ parts same. same))
 
 pub returns-clause-ran : goal.returns-clause-ran
@@ -34,7 +34,7 @@ returns-clause-ran g c =
     let is = c.in-Ok-new.ensures in
     same_texts (or_player any) play_part_text false writes.Failed (outputs_of c.args.outputs) c.args.n (g.B.Bench.outside c.args.bench.now) (g.B.Bench.outside c.write_run.new.bench) _ _ _ _ _ _ _ _ _ _
     c.requires.ready.head (ap (λ (x : BoardView PlayedPart). x.wiring) is) (ap (λ (x : BoardView PlayedPart). x.inputs) is)
-    (ap (λ (x : BoardView PlayedPart). map state_of x.parts) is ∙ rw c.as_slice.ensures at c.in-Ok.ensures.states) c.as_slice-planned.ensures
+    (ap (λ (x : BoardView PlayedPart). map state_of x.parts) is ∙ rw c.as_slice.ensures at c.in-Ok.ensures.states) c.as_slice-2.ensures
     (c.in-Failed.ensures.wrote _ (λ parts same. same))
 
 pub returns-in-Ok-write_run-clause-steps : goal.returns-in-Ok-write_run-clause-steps
