@@ -132,14 +132,14 @@ fn made(alloc: Global, row: &Row, bytes: &[u8]) -> Result<Chip, Fault>
 }
 
 /// Runs a chip through the groups of its row.
-fn run_all(rt: &HostRuntime, mut chip: Chip, words: Split<char>) -> io::Result<()>
-    requires { chip.wakes ≤ chip.cycle }
+fn run_all(rt: &HostRuntime, chip: &mut Chip, words: Split<char>) -> io::Result<()>
+    requires { chip.old.wakes ≤ chip.old.cycle }
 {
     let mut shown = String::new(rt.alloc());
     for text in words {
-        run(rt, &mut chip, text, &mut shown)?;
+        run(rt, chip, text, &mut shown)?;
     }
-    tell_end(rt, &chip)
+    tell_end(rt, chip)
 }
 
 fn tell_row(rt: &HostRuntime, row: &Row, words: Split<char>) -> io::Result<()> {
@@ -149,7 +149,7 @@ fn tell_row(rt: &HostRuntime, row: &Row, words: Split<char>) -> io::Result<()> {
         return println!(rt; " too long");
     }
     match made(rt.alloc(), row, bytes.as_slice()) {
-        Ok(chip) => run_all(rt, chip, words),
+        Ok(mut chip) => run_all(rt, &mut chip, words),
         Err(fault) => tell_refused(rt, fault),
     }
 }
