@@ -254,7 +254,7 @@ class RunTests(WithWork):
         folder = self.button("a")
         self.put("a/expected/other.txt", "")
         self.assertIn("expected/other.txt: a run writes", call("run-tests", folder)[1])
-        self.assertIn("it is not done in 0.001 s", call("run-tests", folder, "--limit", "0.001")[1])
+        self.assertIn("it is not done in 1e-06 s", call("run-tests", folder, "--limit", "0.000001")[1])
 
     def test_shards_have_each_test_once(self):
         for n in range(7):
