@@ -1,5 +1,5 @@
 -- The watchdog and the EEPROM as one unit: what goes on over sleep and over a watchdog reset (profile).
-use Rattle.std.specs.Prelude.{ℕ, ◌/◌, ◌%◌, ◌==◌, ◌&&◌, ◌||◌, Bool, false, if◌then◌else◌, List, [], ◌∷◌, None, is_some, is_none}
+use Rattle.std.specs.Prelude.{ℕ, ◌/◌, ◌%◌, ◌==◌, ◌&&◌, ◌||◌, Bool, if◌then◌else◌, List, [], ◌∷◌, None, is_some, is_none}
 use Rattle.unit_law.specs.Bits.{with_bit}
 use Rattle.unit_law.specs.Pad.{untouched}
 use Rattle.unit_law.specs.UnitMachine.{UnitMachine, at_register}
@@ -72,8 +72,6 @@ keep = record {
   pad = λ u p. untouched;
   sends = λ u t. None;
   has = λ a. is_some (register_at a);
-  moves = λ u a x. false;
-  bit_moves = λ u a k x. false;
   answers = λ u t l a. at_register (register_at a) 0 (register u);
   read = λ u t a. u;
   write = λ u t a x. at_register (register_at a) u (λ r. with_register u t r x);

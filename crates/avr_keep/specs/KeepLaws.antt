@@ -3,6 +3,7 @@ use Rattle.std.specs.Prelude.{◌≡◌, ◌==◌, ◌&&◌, not, ℕ, Bool, fal
 use Rattle.std.proofs.Common.{refl, ap, ◌∙◌}
 use Rattle.std.proofs.lemmas.Bool.{or_parts, cond-false}
 use Rattle.unit_law.specs.Coming.{comes}
+use Rattle.unit_law.specs.Reach.{Reaches, nowhere, nowhere_reaches}
 use Rattle.unit_law.specs.UnitMachine.{Laws}
 use Rattle.avr_keep.specs.declared.watchdog.Watchdog.{Watchdog}
 use Rattle.avr_keep.specs.declared.eeprom.Programming.{Programming}
@@ -43,8 +44,6 @@ keep_laws = record {
   keeps_silent = λ s t h. refl;
   deaf = λ s t l k h. refl;
   reads_pad = λ s t a p. refl;
-  writes_pad = λ s t a x p h. refl;
-  bits_pad = λ s t a k x p h. refl;
   taken_pad = λ s v p. refl;
   power_laws = record {
     keeps_rouses = λ s t l k h. ap rouses (quiet s t h);
@@ -55,3 +54,6 @@ keep_laws = record {
     doze_pad = λ s p. refl;
   };
 }
+
+pub keep_reaches : Reaches keep nowhere
+keep_reaches = nowhere_reaches keep (λ new old p. refl)

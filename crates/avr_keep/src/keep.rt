@@ -43,13 +43,16 @@ impl Model for Keep {
 
 impl Unit for Keep {
     ghost use Rattle.avr_keep.specs.Keep.{Keep as State, keep};
-    ghost use Rattle.avr_keep.specs.KeepLaws.{keep_laws};
+    ghost use Rattle.avr_keep.specs.KeepLaws.{keep_laws, keep_reaches};
+    ghost use Rattle.unit_law.specs.Reach.{nowhere};
 
     ghost State = { State };
 
     ghost machine = { keep };
 
     ghost shows = { λ u. u };
+
+    ghost reach = { nowhere };
 
     fn new() -> Keep {
         Keep {
@@ -77,16 +80,6 @@ impl Unit for Keep {
     }
 
     #[inline]
-    fn moves(&self, _reg: u8, _value: u8) -> bool {
-        false
-    }
-
-    #[inline]
-    fn bit_moves(&self, _reg: u8, _bit: u8, _value: bool) -> bool {
-        false
-    }
-
-    #[inline]
     fn hears(&self, _before: &[Level], _now: &[Level]) -> bool {
         false
     }
@@ -95,13 +88,15 @@ impl Unit for Keep {
         self.register(register_at(reg).unwrap())
     }
 
-    fn write(&mut self, reg: u8, value: u8) {
+    fn write(&mut self, reg: u8, value: u8) -> Span {
         self.set_register(register_at(reg).unwrap(), value);
+        Span::none()
     }
 
-    fn write_bit(&mut self, reg: u8, bit: u8, value: bool) {
+    fn write_bit(&mut self, reg: u8, bit: u8, value: bool) -> Span {
         let register = register_at(reg).unwrap();
         self.set_register(register, with_bit(self.kept(register), bit, value));
+        Span::none()
     }
 
     fn skip(&mut self, to: u32) {
@@ -149,6 +144,8 @@ impl Unit for Keep {
     }
 
     ghost laws = { keep_laws };
+
+    ghost reaches = { keep_reaches };
 }
 
 impl Awake for Keep {

@@ -1,6 +1,6 @@
 -- One cycle of the microcontroller and cycles in which nothing is due, as the code does them.
 use Rattle.std.proofs.Common.{◌≡◌, ℕ, zero, suc, ◌+◌, ◌-◌, ◌<◌, ◌≤◌, ◌∙◌, List, [], map, length, Bool, true, false, ◌&&◌, ◌||◌, not, nat_lt, None, Some, ◌⊎◌, inl, inr, arith, ap, sym, subst, refl, slice_get}
-use Rattle.std.specs.Prelude.{if◌then◌else◌, ◌==◌, slice_set, max, min}
+use Rattle.std.specs.Prelude.{if◌then◌else◌, ◌==◌, max, min}
 use Rattle.std.specs.List.{range_with_len}
 use Rattle.std.proofs.lemmas.Bool.Decides.{nat_tests}
 use Rattle.std.proofs.lemmas.Option.{slice_get-get_or, slice_get_past}
@@ -13,26 +13,21 @@ use Rattle.sim_base.specs.declared.signal.Level.{Level}
 use Rattle.sim_base.specs.declared.limits.TheConstants.{MOST_CYCLES}
 use Rattle.part_law.specs.Machine.{glide, idle, IsQuiet, IsFirstDue}
 use Rattle.part_law.specs.declared.span.Span.{Span}
-use Rattle.part_law.specs.Spans.{IsIn, no_pins, all_pins}
-use Rattle.part_law.proofs.SpanLemmas.{none_in, not_joined}
+use Rattle.part_law.specs.Spans.{IsIn, all_pins}
+use Rattle.part_law.proofs.SpanLemmas.{none_in}
 use Rattle.avr_core.specs.CoreState.{Core}
-use Rattle.avr_core.specs.AvrStep.{Did, avr_step, flash_word}
-use Rattle.avr_core.specs.declared.state.Mode.{Mode}
-use Rattle.avr_core.specs.declared.state.Mode.TheVariants as modes
-use Rattle.avr_core.proofs.BusLemmas.{step_leads, entered_leads}
-use Rattle.unit_law.specs.Bits.{with_bit}
+use Rattle.avr_core.specs.AvrStep.{Did}
 use Rattle.unit_law.specs.declared.pins.TheConstants.{PORT_PINS}
 use Rattle.unit_law.specs.UnitMachine.{UnitMachine, least, steps, FirstDue}
 use Rattle.unit_law.specs.UnitMachine as unit
 use Rattle.unit_law.specs.Lagging.{quiet_requests}
 use Rattle.unit_law.proofs.UnitLemmas.{step_none, step_last}
-use Rattle.avr_adc.specs.declared.registers.TheConstants.{ADCSRA, ADSC}
 use Rattle.avr_mcu.specs.declared.pins.TheConstants.{UNO_PINS}
-use Rattle.avr_mcu.specs.Units.{Units, UnitsAt, unit_bus, with_smcr, pins, request, units_step, plain, with_plain, with_register, data_at, touches, bit_touches, pins_of, pins_of_bit, touched_by}
+use Rattle.avr_mcu.specs.Units.{UnitsAt, pins, request, units_step}
+use Rattle.avr_mcu.specs.Touched.{Touched, bare}
 use Rattle.unit_law.specs.Placed.{hull, SameBut}
 use Rattle.unit_law.proofs.HullLemmas.{apart}
-use Rattle.avr_mcu.proofs.ReachLemmas.{Reaches}
-use Rattle.avr_mcu.specs.McuOf.{Mcu, mcu, mcu_step, ready, enters, starts, with_sleep, with_wdr, with_doze, is_deep, dozed, idled, reset_watchdog, instructed, performed, acted, core_acted, units_acted, restarted, uno_drive, uno_drives}
+use Rattle.avr_mcu.specs.McuOf.{Mcu, mcu, mcu_step, ready, enters, starts, performed, acted, core_acted, units_acted, restarted, uno_drive, uno_drives}
 use Rattle.avr_mcu.specs.McuLawsOf.{drive_same, drives_same, length-uno_drives, rests, rested}
 use Rattle.avr_mcu.specs.McuState.{state_of}
 
@@ -59,138 +54,24 @@ module _ {D : Type 0} (m : UnitMachine D) (laws : unit.Laws m) where
       lt_or : (a b : ℕ) → (a < b) ⊎ (b ≤ a)
       lt_or a b = grind arith
 
-  module _ (reach : Reaches m) where
-    -- What a call of the bus leads to: the same cycle and levels, and the same of the pins that were not touched.
-    pub record Leads (s x : UnitsAt D) : Type 0 where
-      pub cycle : x.cycle ≡ s.cycle
-      pub held : x.held ≡ s.held
-      pub steady : (p : ℕ) → p < PORT_PINS → ¬ IsIn x.touched p → (¬ IsIn s.touched p) × (m.pad x.units.devices p ≡ m.pad s.units.devices p)
-
-    leads_same : (s : UnitsAt D) → Leads s s
-    leads_same s = record { cycle = refl; held = refl; steady = λ p l out. (out, refl) }
-
-    leads_on : (s t u : UnitsAt D) → Leads s t → Leads t u → Leads s u
-    leads_on s t u f g = record {
-      cycle = g.cycle ∙ f.cycle;
-      held = g.held ∙ f.held;
-      steady = λ p l out. let k = g.steady p l out in let i = f.steady p l k.0 in (i.0, k.1 ∙ i.1);
-    }
-
-    plain_devices : (u : Units D) (a x : ℕ) → (with_plain m u a x).devices ≡ u.devices
-    plain_devices u a x = by (a == 0x3E) (a == 0x4A) (a == 0x4B) (a == 0x53)
-      where
-        by : (b c d e : Bool) → (if b then record u { gpior0 = x } else if c then record u { gpior1 = x } else if d then record u { gpior2 = x } else if e then record u { smcr = x } else record u { ignored = slice_set u.ignored a true }).devices ≡ u.devices
-        by true c d e = refl
-        by false true d e = refl
-        by false false true e = refl
-        by false false false true = refl
-        by false false false false = refl
-
-    read_leads : (s : UnitsAt D) (a : ℕ) → Leads s ((unit_bus m).read s a)
-    read_leads s a = record { cycle = refl; held = refl; steady = λ p l out. (out, by (nat_lt a 0x0100 && m.has a) p) }
-      where
-        by : (b : Bool) (p : ℕ) → m.pad (if b then record (s.units) { devices = m.read s.units.devices s.cycle a } else s.units).devices p ≡ m.pad s.units.devices p
-        by true p = laws.reads_pad s.units.devices s.cycle a p
-        by false p = refl
-
-    -- a pin that was not touched was not before, and the write moves nothing or does not reach it
-    untouched : (t : Span) (moves : Bool) (reached : Span) (p : ℕ) → ¬ IsIn (touched_by t moves reached) p → (¬ IsIn t p) × ((moves ≡ false) ⊎ (¬ IsIn reached p))
-    untouched t true reached p out = let both = not_joined t reached p out in (both.0, inr both.1)
-    untouched t false reached p out = (out, inl refl)
-
-    write_leads : (s : UnitsAt D) (a x : ℕ) → Leads s ((unit_bus m).write s a x)
-    write_leads s a x = record { cycle = refl; held = refl; steady = λ p l out. let e = untouched s.touched (touches m s.units a x) (pins_of a) p out in (e.0, by (nat_lt a 0x0100) (m.has a) (nat_lt a 0x0900) p l e.1) }
-      where
-        by : (b c d : Bool) (p : ℕ) → p < PORT_PINS → ((if b then (if c then m.moves s.units.devices a x else false) else false) ≡ false) ⊎ (¬ IsIn (pins_of a) p) →
-            m.pad (if b then (if c then record (s.units) { devices = m.write s.units.devices s.cycle a x } else with_plain m s.units a x) else if d then record (s.units) { sram = slice_set s.units.sram (a - 0x0100) x } else s.units).devices p ≡ m.pad s.units.devices p
-        by true true d p l (inl h) = laws.writes_pad s.units.devices s.cycle a x p h
-        by true true d p l (inr h) = reach.writes s.units.devices s.cycle a x p l h
-        by true false d p l h = ap (λ (u : D). m.pad u p) (plain_devices s.units a x)
-        by false c true p l h = refl
-        by false c false p l h = refl
-
-    bits_lead : (s : UnitsAt D) (a k : ℕ) (x : Bool) → Leads s ((unit_bus m).write_bit s a k x)
-    bits_lead s a k x = record {
-      cycle = refl;
-      held = refl;
-      steady = λ p l out. let e = untouched s.touched (bit_touches m s.units a k x) (pins_of_bit a k) p out in
-          (e.0, by (nat_lt a 0x0100) (m.has a) (nat_lt a 0x0900) (with_bit (plain m s.units a) k x) (with_bit (data_at m s.units s.cycle [] a) k x) p l e.1);
-    }
-      where
-        by : (b c d : Bool) (y z p : ℕ) → p < PORT_PINS → ((if b then (if c then m.bit_moves s.units.devices a k x else false) else false) ≡ false) ⊎ (¬ IsIn (pins_of_bit a k) p) →
-            m.pad (if b then (if c then record (s.units) { devices = m.write_bit s.units.devices s.cycle a k x } else with_plain m s.units a y)
-            else if b then with_register m s.units s.cycle a z
-            else if d then record (s.units) { sram = slice_set s.units.sram (a - 0x0100) z } else s.units).devices p ≡ m.pad s.units.devices p
-        by true true d y z p l (inl h) = laws.bits_pad s.units.devices s.cycle a k x p h
-        by true true d y z p l (inr h) = reach.bits s.units.devices s.cycle a k x p l h
-        by true false d y z p l h = ap (λ (u : D). m.pad u p) (plain_devices s.units a y)
-        by false c true y z p l h = refl
-        by false c false y z p l h = refl
-
-    sleep_leads : (mode : Mode) (s : UnitsAt D) → Leads s (with_sleep m mode s)
-    sleep_leads modes.Run s = leads_same s
-    sleep_leads modes.Sleep s = bits_lead s ADCSRA ADSC true
-    sleep_leads (modes.Halt w) s = leads_same s
-
-    smcr_leads : (x : ℕ) (s : UnitsAt D) → Leads s (with_smcr x s)
-    smcr_leads x s = record { cycle = refl; held = refl; steady = λ p l out. (out, refl) }
-
-    wdr_leads : (s : UnitsAt D) → Leads s (with_wdr m s)
-    wdr_leads s = record { cycle = refl; held = refl; steady = λ p l out. (out, laws.power_laws.wdr_pad s.units.devices s.cycle p) }
-
-    doze_leads : (s : UnitsAt D) → Leads s (with_doze m s)
-    doze_leads s = record { cycle = refl; held = refl; steady = λ p l out. (out, laws.power_laws.doze_pad s.units.devices p) }
-
-    core_leads : (flash : List ℕ) (core : Core) (s : UnitsAt D) → Leads s (avr_step (unit_bus m) flash core s).bus
-    core_leads flash core s = step_leads (unit_bus m) Leads leads_same leads_on read_leads write_leads bits_lead flash core s
-
-    -- an instruction leads there too
-    instructed_leads : (flash : List ℕ) (core : Core) (s : UnitsAt D) → Leads s (instructed m flash core s).bus
-    instructed_leads flash core s = by (flash_word flash core.pc == 0x95A8) (flash_word flash core.pc == 0x9588) (is_deep m s)
-      where
-        d : Did (UnitsAt D)
-        d = avr_step (unit_bus m) flash core s
-
-        e : Did (UnitsAt D)
-        e = avr_step (unit_bus m) flash core (with_smcr 1 s)
-
-        by : (x y z : Bool) → Leads s (if x then reset_watchdog m flash core s else if y then (if z then dozed m flash core s else idled m flash core s) else d).bus
-        by true y z = leads_on s d.bus _ (core_leads flash core s) (wdr_leads d.bus)
-        by false true true =
-            leads_on s (with_smcr 1 s) _ (smcr_leads 1 s) (leads_on (with_smcr 1 s) e.bus _ (core_leads flash core (with_smcr 1 s))
-            (leads_on e.bus (with_smcr s.units.smcr e.bus) _ (smcr_leads s.units.smcr e.bus) (doze_leads (with_smcr s.units.smcr e.bus))))
-        by false true false = leads_on s d.bus _ (core_leads flash core s) (sleep_leads d.core.mode d.bus)
-        by false false z = core_leads flash core s
-
-    -- and so does an entry
-    performed_leads : (b : Bool) (flash : List ℕ) (core : Core) (s : UnitsAt D) → Leads s (performed m b flash core s).bus
-    performed_leads false flash core s = instructed_leads flash core s
-    performed_leads true flash core s =
-        let v = request m s.units s.held in
-        let g = entered_leads (unit_bus m) Leads leads_same leads_on read_leads write_leads bits_lead v core s in
-        record { cycle = g.cycle; held = g.held; steady = λ p l out. let k = g.steady p l out in (k.0, laws.taken_pad _ v p ∙ k.1) }
-
-    pub did_leads : (b : Bool) (flash : List ℕ) (core : Core) (s : UnitsAt D) (d : Did (UnitsAt D)) → d ≡ performed m b flash core s → Leads s d.bus
-    did_leads b flash core s d e = subst (λ (x : Did (UnitsAt D)). Leads s x.bus) (sym e) (performed_leads b flash core s)
-
-    -- the core does something
-    pub act_is : (flash : List ℕ) (core : Core) (next : ℕ) (s : UnitsAt D) (cycle : ℕ) (b : Bool) (d : Did (UnitsAt D)) → d ≡ performed m b flash core (record s { touched = no_pins }) →
-        s.cycle ≡ cycle → next ≤ cycle → b ≡ enters m (state_of flash core next s) → ready core.mode b ≡ true →
-        state_of flash d.core (cycle + d.cycles) d.bus ≡ core_acted m (state_of flash core next s) cycle
-    act_is flash core next s cycle b d e here l is go =
-        let x : Mcu D = state_of flash core next s in
-        let late : nat_lt cycle next ≡ false = grind (arith, nat_tests) in
-        let run : ready core.mode (enters m x) ≡ true = ap (ready core.mode) (sym is) ∙ go in
-        let starts_is : starts m x cycle ≡ true = rw late run in
-        let at : ℕ → UnitsAt D = λ u. record { units = s.units; held = s.held; cycle = u; touched = no_pins } in
-        let by : Did (UnitsAt D) → Mcu D = λ y. record { flash = flash; core = y.core; next = cycle + y.cycles; units = y.bus.units; held = s.held } in
-        ap (λ (l : List Level). record x { core = d.core; next = cycle + d.cycles; units = d.bus.units; held = l }) (did_leads b flash core (at s.cycle) d e).held
-        ∙ ap by e ∙ ap (λ (u : ℕ). by (performed m b flash core (at u))) here
-        ∙ ap (λ (c : Bool). by (performed m c flash core (at cycle))) is
-        ∙ sym (ap (λ (c : Bool). if c then acted m x cycle else x) starts_is)
+  -- the core does something
+  pub act_is : (flash : List ℕ) (core after : Core) (next cycles : ℕ) (s x : Touched D) (cycle : ℕ) (b : Bool) → record { core = after; bus = bare x; cycles = cycles } ≡ performed m b flash core (bare s) →
+      x.held ≡ s.held → s.cycle ≡ cycle → next ≤ cycle → b ≡ enters m (state_of flash core next s) → ready core.mode b ≡ true →
+      state_of flash after (cycle + cycles) x ≡ core_acted m (state_of flash core next s) cycle
+  act_is flash core after next cycles s x cycle b e held here l is go =
+      let y : Mcu D = state_of flash core next s in
+      let late : nat_lt cycle next ≡ false = grind (arith, nat_tests) in
+      let run : ready core.mode (enters m y) ≡ true = ap (ready core.mode) (sym is) ∙ go in
+      let starts_is : starts m y cycle ≡ true = rw late run in
+      let at : ℕ → UnitsAt D = λ u. record { units = s.units; held = s.held; cycle = u } in
+      let by : Did (UnitsAt D) → Mcu D = λ d. record { flash = flash; core = d.core; next = cycle + d.cycles; units = d.bus.units; held = s.held } in
+      ap (λ (l : List Level). record y { core = after; next = cycle + cycles; units = x.units; held = l }) held
+      ∙ ap by e ∙ ap (λ (u : ℕ). by (performed m b flash core (at u))) here
+      ∙ ap (λ (c : Bool). by (performed m c flash core (at cycle))) is
+      ∙ sym (ap (λ (c : Bool). if c then acted m y cycle else y) starts_is)
 
   -- or not
-  pub act_not : (flash : List ℕ) (core : Core) (next : ℕ) (s : UnitsAt D) (cycle : ℕ) (b c : Bool) → b ≡ enters m (state_of flash core next s) →
+  pub act_not : (flash : List ℕ) (core : Core) (next : ℕ) (s : Touched D) (cycle : ℕ) (b c : Bool) → b ≡ enters m (state_of flash core next s) →
       c ≡ ready core.mode b → (not (nat_lt cycle next) && c) ≡ false → state_of flash core next s ≡ core_acted m (state_of flash core next s) cycle
   act_not flash core next s cycle b c is e h =
       let x : Mcu D = state_of flash core next s in
@@ -218,11 +99,11 @@ module _ {D : Type 0} (m : UnitMachine D) (laws : unit.Laws m) where
       sym (ap (λ (x : Bool). if x then restarted m b (t + 1) else b) (laws.power_laws.resets_due a.units.devices t none))
 
   -- where one has, it is their step and perhaps a reset, as the code does it
-  pub turned_is : (flash : List ℕ) (core : Core) (next : ℕ) (u v : UnitsAt D) (t : ℕ) (b : Bool) (l : List Level) (y : Mcu D) → u.cycle ≡ t → b ≡ m.power.resets u.units.devices u.cycle →
+  pub turned_is : (flash : List ℕ) (core : Core) (next : ℕ) (u v : Touched D) (t : ℕ) (b : Bool) (l : List Level) (y : Mcu D) → u.cycle ≡ t → b ≡ m.power.resets u.units.devices u.cycle →
       v ≡ record u { units = units_step m u.units u.cycle u.held l; held = l; cycle = u.cycle + 1 } →
       y ≡ (if b then restarted m (state_of flash core next v) (t + 1) else state_of flash core next v) → y ≡ units_acted m (state_of flash core next u) t l
   turned_is flash core next u v t b l y here is_b is_v is_y =
-      let by : Bool → UnitsAt D → Mcu D = λ c x. if c then restarted m (state_of flash core next x) (t + 1) else state_of flash core next x in
+      let by : Bool → Touched D → Mcu D = λ c x. if c then restarted m (state_of flash core next x) (t + 1) else state_of flash core next x in
       is_y ∙ ap (by b) is_v ∙ ap (λ c. by c (record u { units = units_step m u.units u.cycle u.held l; held = l; cycle = u.cycle + 1 })) is_b
       ∙ ap (λ (k : ℕ). if m.power.resets u.units.devices k then restarted m (state_of flash core next (record u { units = units_step m u.units k u.held l; held = l })) (t + 1)
       else state_of flash core next (record u { units = units_step m u.units k u.held l; held = l })) here
@@ -250,7 +131,7 @@ module _ {D : Type 0} (m : UnitMachine D) (laws : unit.Laws m) where
     wake_drive p out = drive_get new old p (λ l. woken_pad p l out)
 
   -- one cycle of the units without an event
-  pub rest_is : (s : UnitsAt D) (t d : ℕ) → s.cycle ≡ t → FirstDue m s.units.devices s.cycle d → t < d →
+  pub rest_is : (s : Touched D) (t d : ℕ) → s.cycle ≡ t → FirstDue m s.units.devices s.cycle d → t < d →
       (unit.IsQuiet m s.units.devices s.cycle (t + 1 - s.cycle))
       × (m.due s.units.devices t ≡ false)
       × (steps m s.units.devices s.cycle (t + 1 - s.cycle) ≡ m.step s.units.devices t (pins s.held) (pins s.held))
@@ -362,14 +243,14 @@ module _ {D : Type 0} (m : UnitMachine D) (laws : unit.Laws m) where
     due_none d is_d more = waits_quiet s t (MOST_CYCLES - t) (λ k (i : k < MOST_CYCLES - t). quiet_to k (omega (arith, i, is_d, more)))
 
   -- one cycle of the units without an event, as the code does it
-  pub rest_turn : (s : UnitsAt D) (t d : ℕ) → s.cycle ≡ t → FirstDue m s.units.devices s.cycle d → t < d →
+  pub rest_turn : (s : Touched D) (t d : ℕ) → s.cycle ≡ t → FirstDue m s.units.devices s.cycle d → t < d →
       record s { units = record (s.units) { devices = steps m s.units.devices s.cycle (t + 1 - s.cycle) }; cycle = t + 1 } ≡ record s { units = units_step m s.units t s.held s.held; cycle = t + 1 }
   rest_turn s t d here first less = ap (λ (x : D). record s { units = record (s.units) { devices = x }; cycle = t + 1 }) (rest_is s t d here first less).2
 
-  pub rest_pads : (s : UnitsAt D) (t d p : ℕ) → s.cycle ≡ t → FirstDue m s.units.devices s.cycle d → t < d → m.pad (m.step s.units.devices t (pins s.held) (pins s.held)) p ≡ m.pad s.units.devices p
+  pub rest_pads : (s : Touched D) (t d p : ℕ) → s.cycle ≡ t → FirstDue m s.units.devices s.cycle d → t < d → m.pad (m.step s.units.devices t (pins s.held) (pins s.held)) p ≡ m.pad s.units.devices p
   rest_pads s t d p here first less = laws.keeps_pad s.units.devices t (pins s.held) p (rest_is s t d here first less).1
 
-  pub rest_silent : (s : UnitsAt D) (t d : ℕ) → s.cycle ≡ t → FirstDue m s.units.devices s.cycle d → t < d → None ≡ m.sends s.units.devices t
+  pub rest_silent : (s : Touched D) (t d : ℕ) → s.cycle ≡ t → FirstDue m s.units.devices s.cycle d → t < d → None ≡ m.sends s.units.devices t
   rest_silent s t d here first less = sym (laws.keeps_silent s.units.devices t (rest_is s t d here first less).1)
 
   -- a requested vector that is entered is one

@@ -67,7 +67,8 @@ pub(crate) fn read<G: Group>(
     }
 }
 
-/// Writes a register, if the group has it: whether that may change what a pin is asked for.
+/// Writes a register, if the group has it: the pins that were touched before with those of which that may change what they are asked
+/// for.
 #[inline]
 pub(crate) fn write<G: Group>(
     group: &mut G,
@@ -76,19 +77,20 @@ pub(crate) fn write<G: Group>(
     levels: &[Level],
     reg: u8,
     value: u8,
-) -> Option<bool>
+    touched: Span,
+) -> Option<Span>
     requires levels { length levels.now ≡ PORT_PINS }
     requires ready { Ready G.machine (G.state group.old) (G.until group.old) (G.stands group.old) levels.now cycle next.old.due next.old.request }
-    ensures moves { result ≡ (if G.machine.has reg then Some (G.machine.moves (G.state group.old cycle) reg value) else None) }
+    ensures touched { result ≡ (if G.machine.has reg then Some (G.touch.writes (G.state group.old cycle) reg value touched) else None) }
     ensures state { G.state group.new cycle ≡ (if G.machine.has reg then G.machine.write (G.state group.old cycle) cycle reg value else G.state group.old cycle) }
     ensures ready { Ready G.machine (G.state group.new) (G.until group.new) (G.stands group.new) levels.now cycle next.new.due next.new.request }
 {
     if G::has(reg) {
-        let moves = group.write(cycle, levels, reg, value);
+        let touched = group.write(cycle, levels, reg, value, touched);
         if !G::writing_keeps_next(reg) {
             *next = next_of(group, levels);
         }
-        Some(moves)
+        Some(touched)
     } else {
         None
     }
@@ -104,20 +106,21 @@ pub(crate) fn write_bit<G: Group>(
     reg: u8,
     bit: u8,
     value: bool,
-) -> Option<bool>
+    touched: Span,
+) -> Option<Span>
     requires bit { bit < 8 }
     requires levels { length levels.now ≡ PORT_PINS }
     requires ready { Ready G.machine (G.state group.old) (G.until group.old) (G.stands group.old) levels.now cycle next.old.due next.old.request }
-    ensures moves { result ≡ (if G.machine.has reg then Some (G.machine.bit_moves (G.state group.old cycle) reg bit value) else None) }
+    ensures touched { result ≡ (if G.machine.has reg then Some (G.touch.bits (G.state group.old cycle) reg bit value touched) else None) }
     ensures state { G.state group.new cycle ≡ (if G.machine.has reg then G.machine.write_bit (G.state group.old cycle) cycle reg bit value else G.state group.old cycle) }
     ensures ready { Ready G.machine (G.state group.new) (G.until group.new) (G.stands group.new) levels.now cycle next.new.due next.new.request }
 {
     if G::has(reg) {
-        let moves = group.write_bit(cycle, levels, reg, bit, value);
+        let touched = group.write_bit(cycle, levels, reg, bit, value, touched);
         if !G::writing_keeps_next(reg) {
             *next = next_of(group, levels);
         }
-        Some(moves)
+        Some(touched)
     } else {
         None
     }

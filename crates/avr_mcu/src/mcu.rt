@@ -6,6 +6,7 @@ ghost use Rattle.avr_core.specs.declared.state.Mode.TheVariants.{Run};
 ghost use Rattle.avr_mcu.specs.Devices.{devices};
 ghost use Rattle.avr_mcu.specs.McuOf.{mcu, start, ready, enters, starts, entering, instructed, reset_watchdog, is_deep, dozed, idled, performed, core_acted, units_acted, restarted, uno_drive};
 ghost use Rattle.avr_mcu.specs.McuState.{state_of};
+ghost use Rattle.avr_mcu.specs.Touched.{Touched, bare, Leads};
 ghost use Rattle.avr_mcu.specs.Units.{unit_bus, request};
 ghost use Rattle.avr_mcu.specs.declared.pins.TheConstants.{UNO_PINS};
 ghost use Rattle.part_law.specs.Machine.{IsFirstDue};
@@ -338,7 +339,8 @@ fn perform(
     requires program { IsProgram flash.now program.now }
     requires awake { ¬ HasHalted core.old.mode }
     requires enters { enters ≡ true → request devices units.old.units units.old.held < 26 }
-    ensures did { record { core = core.new; bus = units.new; cycles = result.0 } ≡ performed devices enters flash.now core.old (record units.old { touched = no_pins }) }
+    ensures did { record { core = core.new; bus = bare units.new; cycles = result.0 } ≡ performed devices enters flash.now core.old (bare units.old) }
+    ensures leads { Leads devices (record units.old { touched = no_pins }) units.new }
     ensures pads { SameBut devices result.1 units.new.units.devices units.old.units.devices }
 {
     units.begin();
@@ -351,7 +353,8 @@ fn do_one(core: &mut Core, program: &[Instr], flash: &Flash, units: &mut Units, 
     requires program { IsProgram flash.now program.now }
     requires awake { ¬ HasHalted core.old.mode }
     requires enters { enters ≡ true → request devices units.old.units units.old.held < 26 }
-    ensures { record { core = core.new; bus = units.new; cycles = result } ≡ performed devices enters flash.now core.old units.old }
+    ensures did { record { core = core.new; bus = bare units.new; cycles = result } ≡ performed devices enters flash.now core.old (bare units.old) }
+    ensures leads { Leads devices units.old units.new }
 {
     if enters {
         enter(core, units)
@@ -364,7 +367,8 @@ fn do_one(core: &mut Core, program: &[Instr], flash: &Flash, units: &mut Units, 
 fn enter(core: &mut Core, units: &mut Units) -> u8
     requires awake { ¬ HasHalted core.old.mode }
     requires vector { request devices units.old.units units.old.held < 26 }
-    ensures { record { core = core.new; bus = units.new; cycles = result } ≡ entering devices core.old units.old }
+    ensures did { record { core = core.new; bus = bare units.new; cycles = result } ≡ entering devices core.old (bare units.old) }
+    ensures leads { Leads devices units.old units.new }
 {
     let vector = units.request();
     let cycles = core.enter(units, vector);

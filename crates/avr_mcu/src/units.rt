@@ -5,13 +5,14 @@ ghost use Rattle.sim_base.specs.declared.signal.Level.TheVariants as levels;
 ghost use Rattle.unit_law.specs.Bits.{is_set};
 ghost use Rattle.unit_law.specs.Pad.{driven};
 ghost use Rattle.unit_law.specs.UnitMachine.{steps, IsQuiet, FirstDue};
-ghost use Rattle.avr_adc.specs.declared.registers.TheConstants.{ADSC};
-ghost use Rattle.avr_mcu.specs.Devices.{devices};
+ghost use Rattle.avr_adc.specs.declared.registers.TheConstants.{ADCSRA, ADSC};
+ghost use Rattle.avr_mcu.specs.Devices.{devices, devices_touch};
+ghost use Rattle.avr_mcu.specs.Units.{reset, pins, request, units_step, units_restarted, above, above_in, with_above, plain, plain_of, with_plain, register, after_read, with_register, with_register_bit};
+ghost use Rattle.avr_mcu.specs.Touched.{Touched, bare, touched_bus};
 ghost use Rattle.avr_mcu.specs.Ready.{Calm};
-ghost use Rattle.avr_mcu.specs.Units.{UnitsAt, unit_bus, reset, pins, request, units_step, units_restarted, with_smcr, above, above_in, with_above, plain, plain_of, with_plain, register, after_read, with_register, with_register_bit, at_port, wire_pins, one_pin, pins_of, pins_of_bit, touched_by};
 ghost use Rattle.part_law.specs.Spans.{no_pins};
-ghost use Rattle.avr_core.specs.declared.state.Mode.TheVariants.{Sleep};
-ghost use Rattle.avr_mcu.specs.McuOf.{with_sleep, with_wdr, with_doze, is_deep};
+ghost use Rattle.avr_mcu.specs.McuOf.{is_deep};
+ghost use Rattle.unit_law.specs.Reach.{touched_if};
 ghost use Rattle.unit_law.specs.Placed.{SameBut};
 ghost use Rattle.unit_law.specs.Signals.{signalled};
 
@@ -20,9 +21,6 @@ use crate::devices::Devices;
 use crate::pins::UNO_PINS;
 use avr_adc::{ADCSRA, ADSC};
 use avr_core::DataBus;
-use avr_ports::{PINB, PINC, PIND, PORTB, PORTC, PORTD};
-use avr_spi::{SPDR, SPI_PINS};
-use avr_twi::{TWCR, TWI_PINS};
 use part_law::Span;
 use sim_base::{Drive, Level, MOST_CYCLES, OutOfMemory};
 use std::alloc::{AllocError, Global};
@@ -64,12 +62,13 @@ pub(crate) struct Units {
 impl Model for Units {
     ghost use Rattle.std.specs.Prelude.{◌≡◌, ◌≤◌, length, vec_len};
     ghost use Rattle.avr_mcu.specs.Devices.{Devices as State};
-    ghost use Rattle.avr_mcu.specs.Units.{UnitsAt, pins};
+    ghost use Rattle.avr_mcu.specs.Units.{pins};
+    ghost use Rattle.avr_mcu.specs.Touched.{Touched};
     ghost use Rattle.avr_mcu.specs.Ready.{Ready, Calm};
     ghost use Rattle.sim_base.specs.declared.limits.TheConstants.{MOST_CYCLES};
     ghost use Rattle.avr_mcu.specs.declared.pins.TheConstants.{UNO_PINS};
 
-    ghost Value = { UnitsAt State };
+    ghost Value = { Touched State };
 
     ghost view = { λ u. record { units = record { devices = ⟦<Devices as Group>⟧.state u.devices u.cycle; sram = u.sram.items; gpior0 = u.gpior0; gpior1 = u.gpior1; gpior2 = u.gpior2; smcr = u.smcr; ignored = u.ignored.items }; held = u.held; cycle = u.cycle; touched = u.touched } };
 
@@ -188,14 +187,14 @@ impl Units {
 
     /// What WDR does.
     pub(crate) fn wdr(&mut self)
-        ensures { self.new ≡ with_wdr devices self.old }
+        ensures { self.new ≡ record self.old { units = record (self.old.units) { devices = devices.power.wdr self.old.units.devices self.old.cycle } } }
     {
         self.give(Signal::Wdr);
     }
 
     /// Whether SLEEP enters power-down: SMCR has SE and that mode, and no conversion of the ADC is on the way.
     pub(crate) fn is_deep(&mut self) -> bool
-        ensures value { result ≡ is_deep devices self.old }
+        ensures value { result ≡ is_deep devices (bare self.old) }
         ensures state { self.new ≡ self.old }
     {
         let smcr = self.smcr();
@@ -211,14 +210,14 @@ impl Units {
     }
 
     pub(crate) fn set_smcr(&mut self, value: u8)
-        ensures { self.new ≡ with_smcr value self.old }
+        ensures { self.new ≡ record self.old { units = record (self.old.units) { smcr = value } } }
     {
         self.smcr = value;
     }
 
     /// Entering power-down.
     pub(crate) fn doze(&mut self)
-        ensures { self.new ≡ with_doze devices self.old }
+        ensures { self.new ≡ record self.old { units = record (self.old.units) { devices = devices.power.doze self.old.units.devices } } }
     {
         self.give(Signal::Doze);
     }
@@ -252,7 +251,7 @@ impl Units {
     /// Entering idle sleep: sets ADSC alone.
     #[inline(never)]
     pub(crate) fn sleep(&mut self)
-        ensures { self.new ≡ with_sleep devices Sleep self.old }
+        ensures { self.new ≡ (touched_bus devices devices_touch).write_bit self.old ADCSRA ADSC true }
     {
         self.write_bit(u16::from(ADCSRA), ADSC, true);
     }
@@ -322,9 +321,9 @@ impl Units {
 impl DataBus for Units {
     ghost use Rattle.avr_mcu.specs.Devices.{Devices as State};
 
-    ghost State = { UnitsAt State };
+    ghost State = { Touched State };
 
-    ghost bus = { unit_bus devices };
+    ghost bus = { touched_bus devices devices_touch };
 
     ghost state = { λ u. u };
 
@@ -403,7 +402,7 @@ impl Units {
 
     // Writes a register, or notes that there is none.
     fn set_register(&mut self, reg: u8, value: u8)
-        ensures { self.new ≡ record self.old { units = with_register devices self.old.units self.old.cycle reg value; touched = touched_by self.old.touched (if devices.has reg then devices.moves self.old.units.devices reg value else false) (pins_of reg) } }
+        ensures { self.new ≡ record self.old { units = with_register devices self.old.units self.old.cycle reg value; touched = touched_if (devices.has reg) (devices_touch.writes self.old.units.devices reg value) self.old.touched } }
     {
         let told = write(
             &mut self.devices,
@@ -412,10 +411,11 @@ impl Units {
             &self.held[..PORT_PINS],
             reg,
             value,
+            self.touched,
         );
         match told {
-            Some(moves) => {
-                self.touched = touched_by(self.touched, moves, pins_of(reg));
+            Some(touched) => {
+                self.touched = touched;
                 self.calm = calm_of(self.next, self.touched);
             }
             None => {
@@ -444,7 +444,7 @@ impl Units {
     // Writes one bit of a register alone.
     fn set_register_bit(&mut self, reg: u8, bit: u8, value: bool)
         requires { bit < 8 }
-        ensures { self.new ≡ record self.old { units = with_register_bit devices self.old.units self.old.cycle reg bit value; touched = touched_by self.old.touched (if devices.has reg then devices.bit_moves self.old.units.devices reg bit value else false) (pins_of_bit reg bit) } }
+        ensures { self.new ≡ record self.old { units = with_register_bit devices self.old.units self.old.cycle reg bit value; touched = touched_if (devices.has reg) (devices_touch.bits self.old.units.devices reg bit value) self.old.touched } }
     {
         let told = write_bit(
             &mut self.devices,
@@ -454,10 +454,11 @@ impl Units {
             reg,
             bit,
             value,
+            self.touched,
         );
         match told {
-            Some(moves) => {
-                self.touched = touched_by(self.touched, moves, pins_of_bit(reg, bit));
+            Some(touched) => {
+                self.touched = touched;
                 self.calm = calm_of(self.next, self.touched);
             }
             None => {
@@ -488,84 +489,6 @@ fn is_power_down(smcr: u8, control: u8) -> bool
     ensures { result ≡ (smcr % 16 == 5 && not (is_set control ADSC)) }
 {
     smcr % 16 == 5 && !has_bit(control, ADSC)
-}
-
-// What is given for the port whose PINx or PORTx a register is, and what else where it is none.
-#[inline]
-fn at_port(reg: u8, b: Span, c: Span, d: Span, other: Span) -> Span
-    ensures { result ≡ at_port reg b c d other }
-{
-    match reg {
-        PINB | PORTB => b,
-        PINC | PORTC => c,
-        PIND | PORTD => d,
-        _ => other,
-    }
-}
-
-// The pins that SPDR and TWCR reach, and all pins for another register.
-#[inline]
-fn wire_pins(reg: u8) -> Span
-    ensures { result ≡ wire_pins reg }
-{
-    match reg {
-        SPDR => SPI_PINS,
-        TWCR => TWI_PINS,
-        _ => Span::all(),
-    }
-}
-
-// A pin alone.
-#[inline]
-fn one_pin(pin: u8) -> Span
-    requires { pin < 255 }
-    ensures { result ≡ one_pin pin }
-{
-    Span {
-        from: pin,
-        to: pin + 1,
-    }
-}
-
-// The pins that a write of a register may reach.
-#[inline]
-fn pins_of(reg: u8) -> Span
-    ensures { result ≡ pins_of reg }
-{
-    at_port(
-        reg,
-        Span { from: 8, to: 14 },
-        Span { from: 14, to: 20 },
-        Span { from: 0, to: 8 },
-        wire_pins(reg),
-    )
-}
-
-// The pins that a write of one bit alone may reach.
-#[inline]
-fn pins_of_bit(reg: u8, bit: u8) -> Span
-    requires { bit < 8 }
-    ensures { result ≡ pins_of_bit reg bit }
-{
-    at_port(
-        reg,
-        one_pin(8 + bit),
-        one_pin(14 + bit),
-        one_pin(bit),
-        Span::all(),
-    )
-}
-
-// The pins that were touched, after a write that may move those that it reaches or none.
-#[inline]
-fn touched_by(touched: Span, moves: bool, reached: Span) -> Span
-    ensures { result ≡ touched_by touched moves reached }
-{
-    if moves {
-        touched.joined(reached)
-    } else {
-        touched
-    }
 }
 
 // What an address from SRAM on reads.

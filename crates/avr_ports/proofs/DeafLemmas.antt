@@ -1,5 +1,5 @@
 -- Ports that are deaf take no notice of a change of levels.
-use Rattle.std.proofs.Common.{◌≡◌, ℕ, ◌+◌, ◌%◌, ◌∙◌, Bool, true, false, ◌&&◌, ◌||◌, not, List, [], refl, sym, arith}
+use Rattle.std.proofs.Common.{◌≡◌, ℕ, ◌%◌, ◌∙◌, Bool, true, false, ◌&&◌, ◌||◌, not, List, [], refl, sym, arith}
 use Rattle.std.specs.Prelude.{if◌then◌else◌, ◌==◌, min}
 use Rattle.std.specs.Int.Bits.{and_zero_r}
 use Rattle.std.proofs.lemmas.Bool.Decides.{nat_tests}

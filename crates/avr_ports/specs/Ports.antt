@@ -200,30 +200,11 @@ acts_by_ones PCIFR = true
 acts_by_ones EIFR = true
 acts_by_ones r = false
 
--- Whether a write changes what a pin is asked for: a PORTx or DDRx that gets another value, a 1 in PINx.
-abbrev pub moves : Ports → Register → ℕ → Bool
-moves u PINB x = not (x == 0)
-moves u DDRB x = not (x == u.ddrb)
-moves u PORTB x = not (x == u.portb)
-moves u PINC x = not (x == 0)
-moves u DDRC x = not (x == u.ddrc)
-moves u PORTC x = not (x == u.portc)
-moves u PIND x = not (x == 0)
-moves u DDRD x = not (x == u.ddrd)
-moves u PORTD x = not (x == u.portd)
-moves u r x = false
-
 -- SBI (1) and CBI (0) write one bit alone.
 abbrev pub with_register_bit : Ports → Register → ℕ → Bool → Ports
 with_register_bit u r k x =
     if acts_by_ones r then (if x then with_register u r (2 ^ k) else u)
     else with_register u r (with_bit (register u [] r) k x)
-
--- whether that changes what a pin is asked for
-abbrev pub bit_moves : Ports → Register → ℕ → Bool → Bool
-bit_moves u r k x =
-    if acts_by_ones r then (if x then moves u r (2 ^ k) else false)
-    else moves u r (with_bit (register u [] r) k x)
 
 abbrev pub ports : UnitMachine Ports
 ports = record {
@@ -233,8 +214,6 @@ ports = record {
   pad = port_pad;
   sends = λ u t. None;
   has = λ a. is_some (register_at a);
-  moves = λ u a x. at_register (register_at a) false (λ r. moves u r x);
-  bit_moves = λ u a k x. at_register (register_at a) false (λ r. bit_moves u r k x);
   answers = λ u t l a. at_register (register_at a) 0 (register u l);
   read = λ u t a. u;
   write = λ u t a x. at_register (register_at a) u (λ r. with_register u r x);

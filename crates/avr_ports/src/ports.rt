@@ -2,8 +2,9 @@
 ghost use Rattle.std.specs.Prelude.{◌≡◌, ◌+◌, ◌-◌, ◌<◌, ◌≤◌, ◌==◌, ◌&&◌, ◌||◌, ℕ, [], length, true, false, not};
 ghost use Rattle.unit_law.specs.Bits.{is_set};
 ghost use Rattle.unit_law.specs.UnitMachine.{least, steps};
-ghost use Rattle.avr_ports.specs.Ports.{requests, requests_int, acts_by_ones, register, with_register, with_register_bit, moves, bit_moves, edges_sensed, changes_sensed, ports_step};
+ghost use Rattle.avr_ports.specs.Ports.{requests, requests_int, acts_by_ones, register, with_register, with_register_bit, edges_sensed, changes_sensed, ports_step};
 ghost use Rattle.avr_ports.specs.Deaf.{is_deaf};
+ghost use Rattle.avr_ports.specs.PortReach.{moves, bit_moves, pins_of, pin_of, one_pin, reached, bit_reached};
 ghost use Rattle.avr_ports.specs.declared.registers.Register.TheVariants.{PCIFR, EIFR, EICRA};
 
 use crate::pins::{bit_pad, is_change, is_edge, on, pinb, pinc, pind, requests_int};
@@ -12,7 +13,7 @@ use part_law::Span;
 use sim_base::{Level, MOST_CYCLES};
 use std::marker::Model;
 use unit_law::{
-    Awake, PORT_PINS, Pad, Request, Unit, VECTORS, has_bit, least, mask, one, with_bit,
+    Awake, PORT_PINS, Pad, Request, Unit, VECTORS, has_bit, least, mask, one, pins_if, with_bit,
 };
 
 /// The ports, before the step of `cycle`.
@@ -54,12 +55,15 @@ impl Model for Ports {
 impl Unit for Ports {
     ghost use Rattle.avr_ports.specs.Ports.{Ports as State, ports};
     ghost use Rattle.avr_ports.specs.PortLaws.{ports_laws};
+    ghost use Rattle.avr_ports.specs.PortReach.{ports_reach, ports_reaches};
 
     ghost State = { State };
 
     ghost machine = { ports };
 
     ghost shows = { λ p. p };
+
+    ghost reach = { ports_reach };
 
     fn new() -> Ports {
         Ports {
@@ -109,22 +113,6 @@ impl Unit for Ports {
     }
 
     #[inline]
-    fn moves(&self, reg: u8, value: u8) -> bool {
-        match register_at(reg) {
-            Some(register) => self.register_moves(register, value),
-            None => false,
-        }
-    }
-
-    #[inline]
-    fn bit_moves(&self, reg: u8, bit: u8, value: bool) -> bool {
-        match register_at(reg) {
-            Some(register) => self.register_bit_moves(register, bit, value),
-            None => false,
-        }
-    }
-
-    #[inline]
     fn hears(&self, _before: &[Level], _now: &[Level]) -> bool {
         !self.is_deaf()
     }
@@ -135,13 +123,19 @@ impl Unit for Ports {
     }
 
     #[inline]
-    fn write(&mut self, reg: u8, value: u8) {
-        self.set_register(register_at(reg).unwrap(), value);
+    fn write(&mut self, reg: u8, value: u8) -> Span {
+        let register = register_at(reg).unwrap();
+        let moved = self.reached(register, value);
+        self.set_register(register, value);
+        moved
     }
 
     #[inline]
-    fn write_bit(&mut self, reg: u8, bit: u8, value: bool) {
-        self.set_register_bit(register_at(reg).unwrap(), bit, value);
+    fn write_bit(&mut self, reg: u8, bit: u8, value: bool) -> Span {
+        let register = register_at(reg).unwrap();
+        let moved = self.bit_reached(register, bit, value);
+        self.set_register_bit(register, bit, value);
+        moved
     }
 
     #[inline]
@@ -192,6 +186,8 @@ impl Unit for Ports {
     }
 
     ghost laws = { ports_laws };
+
+    ghost reaches = { ports_reaches };
 }
 
 impl Awake for Ports {
@@ -354,6 +350,26 @@ impl Ports {
         }
     }
 
+    // The pins that a write of a register reaches: those of its port, where it changes what they are asked for.
+    #[inline]
+    fn reached(&self, register: Register, value: u8) -> Span
+        ensures { result ≡ reached self.now.unit register value }
+    {
+        pins_if(self.register_moves(register, value), pins_of(register))
+    }
+
+    // The pin that a write of one bit alone reaches.
+    #[inline]
+    fn bit_reached(&self, register: Register, bit: u8, value: bool) -> Span
+        requires { bit < 8 }
+        ensures { result ≡ bit_reached self.now.unit register bit value }
+    {
+        pins_if(
+            self.register_bit_moves(register, bit, value),
+            pin_of(register, bit),
+        )
+    }
+
     // Whether writing a register changes what a pin is asked for; a 1 in PINx toggles PORTx.
     #[inline]
     fn register_moves(&self, register: Register, value: u8) -> bool
@@ -464,5 +480,44 @@ impl Ports {
         self.pcif0 = self.pcif0 | is_change(self.pcmsk0, pinb(before), pinb(now));
         self.pcif1 = self.pcif1 | is_change(self.pcmsk1, pinc(before), pinc(now));
         self.pcif2 = self.pcif2 | is_change(self.pcmsk2, pind(before), pind(now));
+    }
+}
+
+// The pins of a register's port.
+#[inline]
+fn pins_of(register: Register) -> Span
+    ensures { result ≡ pins_of register }
+{
+    match register {
+        Register::PINB | Register::DDRB | Register::PORTB => Span { from: 8, to: 14 },
+        Register::PINC | Register::DDRC | Register::PORTC => Span { from: 14, to: 20 },
+        Register::PIND | Register::DDRD | Register::PORTD => Span { from: 0, to: 8 },
+        _ => Span::none(),
+    }
+}
+
+// The pin of a bit of it.
+#[inline]
+fn pin_of(register: Register, bit: u8) -> Span
+    requires { bit < 8 }
+    ensures { result ≡ pin_of register bit }
+{
+    match register {
+        Register::PINB | Register::DDRB | Register::PORTB => one_pin(8 + bit),
+        Register::PINC | Register::DDRC | Register::PORTC => one_pin(14 + bit),
+        Register::PIND | Register::DDRD | Register::PORTD => one_pin(bit),
+        _ => Span::none(),
+    }
+}
+
+// A pin alone.
+#[inline]
+fn one_pin(pin: u8) -> Span
+    requires { pin < 255 }
+    ensures { result ≡ one_pin pin }
+{
+    Span {
+        from: pin,
+        to: pin + 1,
     }
 }

@@ -1,28 +1,12 @@
 -- Which pins the SPI asks for something.
 use Rattle.std.proofs.Common.{◌≡◌, ◌∙◌, ℕ, Bool, true, false, not, ap, arith, refl, sym}
 use Rattle.std.specs.Prelude.{if◌then◌else◌, ◌==◌}
-use Rattle.unit_law.specs.Pad.{untouched}
 use Rattle.unit_law.specs.UnitMachine.{At}
-use Rattle.unit_law.specs.Placed.{Placed, SameBut, placed_same}
+use Rattle.unit_law.specs.Placed.{SameBut, placed_same}
 use Rattle.unit_law.proofs.HullLemmas.{outside}
 use Rattle.avr_spi.specs.Shifter.{differ, shifted}
+use Rattle.avr_spi.specs.SpiReach.{spi_placed}
 use Rattle.avr_spi.specs.Spi.{Spi, spi, is_selected, deselected, looked, stepped}
-
-always : (b : Bool) → (if b then untouched else untouched) ≡ untouched
-always true = refl
-always false = refl
-
-pub spi_placed : Placed spi (record { from = 11; to = 14 })
-spi_placed u p less out = rw (mosi, miso, clock) (always _)
-  where
-    mosi : (p == 11) ≡ false
-    mosi = outside 11 14 11 p out (omega arith) (omega arith)
-
-    miso : (p == 12) ≡ false
-    miso = outside 11 14 12 p out (omega arith) (omega arith)
-
-    clock : (p == 13) ≡ false
-    clock = outside 11 14 13 p out (omega arith) (omega arith)
 
 -- so what changes it changes nothing of others
 pub spi_same : (new old : Spi) → SameBut spi (record { from = 11; to = 14 }) new old

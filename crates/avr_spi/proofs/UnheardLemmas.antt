@@ -1,5 +1,5 @@
 -- A change of levels of which the SPI takes no notice: SS does not fall, or is not watched.
-use Rattle.std.proofs.Common.{◌≡◌, ◌∙◌, ℕ, List, [], Bool, false, ◌&&◌, not, sym, refl}
+use Rattle.std.proofs.Common.{◌≡◌, ◌∙◌, ℕ, List, [], false, ◌&&◌, not, sym, refl}
 use Rattle.std.proofs.lemmas.Bool.{or_parts}
 use Rattle.sim_base.specs.declared.signal.Level.{Level}
 use Rattle.unit_law.specs.Coming.{comes}

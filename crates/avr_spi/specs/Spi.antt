@@ -13,7 +13,7 @@ use Rattle.avr_spi.specs.declared.registers.Register.{Register}
 use Rattle.avr_spi.specs.declared.registers.Register.TheVariants.{DDRB, SPCR, SPSR, SPDR}
 use Rattle.avr_spi.specs.declared.shifter.Transfer.{Transfer}
 use Rattle.avr_spi.specs.declared.shifter.Shifter.{Shifter}
-use Rattle.avr_spi.specs.Registers.{register_at, moves_pad}
+use Rattle.avr_spi.specs.Registers.{register_at}
 use Rattle.avr_spi.specs.Shifter.{begun, started, given_up, shifted, next_event, sck, still}
 
 -- DDRB, SPCR and bits 5:0 of SPSR as they were written, WCOL, whether SPSR was read with a flag set, the cycle in which SS
@@ -138,8 +138,6 @@ spi = record {
   pad = spi_pad;
   sends = λ u t. None;
   has = λ a. is_some (register_at a);
-  moves = λ u a x. at_register (register_at a) false moves_pad;
-  bit_moves = λ u a k x. at_register (register_at a) false moves_pad;
   answers = λ u t l a. at_register (register_at a) 0 (register u);
   read = λ u t a. at_register (register_at a) u (after_read u);
   write = λ u t a x. at_register (register_at a) u (λ r. with_register u t r x);

@@ -4,16 +4,15 @@ use Rattle.std.proofs.Common.{refl, ap, sym, ◌∙◌}
 use Rattle.std.proofs.lemmas.Bool.{or_parts, cond-false}
 use Rattle.sim_base.proofs.BoolLemmas.{and_opposite}
 use Rattle.sim_base.specs.declared.signal.Level.{Level}
-use Rattle.unit_law.specs.Bits.{with_bit}
 use Rattle.unit_law.specs.Coming.{comes}
 use Rattle.unit_law.specs.UnitMachine.{Laws, powerless_laws, at_register}
 use Rattle.avr_spi.specs.declared.registers.Register.{Register}
 use Rattle.avr_spi.specs.declared.registers.Register.TheVariants.{DDRB, SPCR, SPSR, SPDR}
 use Rattle.avr_spi.specs.declared.shifter.Transfer.{Transfer}
 use Rattle.avr_spi.specs.declared.shifter.Shifter.{Shifter}
-use Rattle.avr_spi.specs.Registers.{register_at, moves_pad}
+use Rattle.avr_spi.specs.Registers.{register_at}
 use Rattle.avr_spi.specs.Shifter.{shifted, acted, next_event}
-use Rattle.avr_spi.specs.Spi.{Spi, spi, spi_pad, requests, stepped, watches, is_selected, deselected, looked, with_register, after_read, kept, ss_low, miso}
+use Rattle.avr_spi.specs.Spi.{Spi, spi, spi_pad, requests, stepped, watches, is_selected, deselected, looked, after_read, ss_low, miso}
 
 quiet_clock : (s : Shifter) (o : Option Transfer) (t : ℕ) (b : Bool) → comes (next_event o) t ≡ false → shifted s o t b ≡ s
 quiet_clock s None t b h = refl
@@ -46,17 +45,6 @@ read_pad u (Some SPCR) p = refl
 read_pad u (Some SPSR) p = refl
 read_pad u (Some SPDR) p = refl
 
-write_pad : (u : Spi) (t : ℕ) (r : Register) (x p : ℕ) → moves_pad r ≡ false → spi_pad (with_register u t r x) p ≡ spi_pad u p
-write_pad u t SPCR x p h = cc
-write_pad u t SPDR x p h = cc
-write_pad u t SPSR x p h = refl
-write_pad u t DDRB x p h = refl
-
-at_pad : (u : Spi) (t : ℕ) (o : Option Register) (x : Register → ℕ) (p : ℕ) → at_register o false moves_pad ≡ false →
-    spi_pad (at_register o u (λ r. with_register u t r (x r))) p ≡ spi_pad u p
-at_pad u t None x p h = refl
-at_pad u t (Some r) x p h = write_pad u t r (x r) p h
-
 pub spi_laws : Laws spi
 spi_laws = record {
   keeps_pad = λ s t l p h. ap (λ (u : Spi). spi_pad u p) (quiet s t l h);
@@ -64,8 +52,6 @@ spi_laws = record {
   keeps_silent = λ s t h. refl;
   deaf = λ s t l k h. quiet s t l h ∙ sym (quiet s t k h);
   reads_pad = λ s t a p. read_pad s (register_at a) p;
-  writes_pad = λ s t a x p h. at_pad s t (register_at a) (λ r. x) p h;
-  bits_pad = λ s t a k x p h. at_pad s t (register_at a) (λ r. with_bit (kept s r) k x) p h;
   taken_pad = λ s v p. refl;
   power_laws = powerless_laws spi refl;
 }

@@ -1,24 +1,14 @@
 -- Which pins the timer asks for something.
-use Rattle.std.proofs.Common.{◌≡◌, ℕ, List, Bool, true, false, sym, arith, refl}
-use Rattle.std.specs.Prelude.{◌==◌, if◌then◌else◌}
+use Rattle.std.proofs.Common.{◌≡◌, ℕ, List, Bool, true, false, sym}
+use Rattle.std.specs.Prelude.{if◌then◌else◌}
 use Rattle.sim_base.specs.declared.signal.Level.{Level}
 use Rattle.part_law.specs.declared.span.Span.{Span}
 use Rattle.part_law.specs.Spans.{no_pins}
 use Rattle.unit_law.specs.Placed.{Placed, StepMoves, placed_same}
-use Rattle.unit_law.proofs.HullLemmas.{outside}
 use Rattle.avr_count.specs.Outputs.{has_pins}
 use Rattle.avr_count.specs.Timing.{counter_step}
 use Rattle.avr_count.proofs.TimerLemmas.{no_pins as no_outputs}
 use Rattle.avr_timer16.specs.Timer16.{Timer16, timer16, timing, mode_of}
-
-pub timer1_placed : Placed timer16 (record { from = 9; to = 11 })
-timer1_placed u p less out = rw (first, second) refl
-  where
-    first : (p == 9) ≡ false
-    first = outside 9 11 9 p out (omega arith) (omega arith)
-
-    second : (p == 10) ≡ false
-    second = outside 9 11 10 p out (omega arith) (omega arith)
 
 -- a cycle changes what it asks of its pins alone, and of none without an output
 pub timer_moves : (u : Timer16) (t : ℕ) (before now : List Level) (pins : Span) (b : Bool) → Placed timer16 pins → b ≡ has_pins (mode_of u.tccra u.tccrb) →

@@ -1,35 +1,15 @@
 -- Which pins the timers ask for something.
-use Rattle.std.proofs.Common.{◌≡◌, ℕ, List, Bool, true, false, sym, arith, refl}
-use Rattle.std.specs.Prelude.{◌==◌, if◌then◌else◌}
+use Rattle.std.proofs.Common.{◌≡◌, ℕ, List, Bool, true, false, sym}
+use Rattle.std.specs.Prelude.{if◌then◌else◌}
 use Rattle.sim_base.specs.declared.signal.Level.{Level}
 use Rattle.part_law.specs.declared.span.Span.{Span}
 use Rattle.part_law.specs.Spans.{no_pins}
 use Rattle.unit_law.specs.Placed.{Placed, StepMoves, placed_same}
-use Rattle.unit_law.proofs.HullLemmas.{outside}
 use Rattle.avr_count.specs.Outputs.{has_pins}
 use Rattle.avr_count.specs.Timing.{counter_step}
 use Rattle.avr_count.proofs.TimerLemmas.{no_pins as no_outputs}
 use Rattle.avr_timer8.specs.declared.registers.Which.{Which}
-use Rattle.avr_timer8.specs.declared.registers.Which.TheVariants.{Zero, Two}
 use Rattle.avr_timer8.specs.Timer8.{Timer8, timer8, timing, mode_of, pin_a, pin_b}
-
-pub timer0_placed : Placed (timer8 Zero) (record { from = 5; to = 7 })
-timer0_placed u p less out = rw (first, second) refl
-  where
-    first : (p == 6) ≡ false
-    first = outside 5 7 6 p out (omega arith) (omega arith)
-
-    second : (p == 5) ≡ false
-    second = outside 5 7 5 p out (omega arith) (omega arith)
-
-pub timer2_placed : Placed (timer8 Two) (record { from = 3; to = 12 })
-timer2_placed u p less out = rw (first, second) refl
-  where
-    first : (p == 11) ≡ false
-    first = outside 3 12 11 p out (omega arith) (omega arith)
-
-    second : (p == 3) ≡ false
-    second = outside 3 12 3 p out (omega arith) (omega arith)
 
 -- a cycle changes what it asks of its pins alone, and of none without an output
 pub timer_moves : (w : Which) (pins : Span) → Placed (timer8 w) pins → (u : Timer8) (t : ℕ) (before now : List Level) (b : Bool) → b ≡ has_pins (mode_of u.tccra u.tccrb) →

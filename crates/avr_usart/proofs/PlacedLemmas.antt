@@ -5,20 +5,11 @@ use Rattle.sim_base.specs.declared.signal.Level.{Level}
 use Rattle.part_law.specs.Spans.{no_pins}
 use Rattle.unit_law.specs.Pad.{untouched}
 use Rattle.unit_law.specs.declared.pad.Pad.{Pad}
-use Rattle.unit_law.specs.Placed.{Placed, StepMoves}
+use Rattle.unit_law.specs.Placed.{StepMoves}
 use Rattle.unit_law.proofs.HullLemmas.{outside}
 use Rattle.avr_usart.specs.Transmitter.{changes_line}
 use Rattle.avr_usart.specs.Usart.{Usart, usart, rxen, txen, format_of}
 use Rattle.avr_usart.specs.UsartLaws.{txd_kept}
-
-pub usart_placed : Placed usart (record { from = 0; to = 2 })
-usart_placed u p less out = rw (zero_is, one_is) refl
-  where
-    zero_is : (p == 0) ≡ false
-    zero_is = outside 0 2 0 p out (omega arith) (omega arith)
-
-    one_is : (p == 1) ≡ false
-    one_is = outside 0 2 1 p out (omega arith) (omega arith)
 
 -- a cycle changes what it asks of TXD alone, and of no pin where the line has the same level
 pub usart_moves : (u : Usart) (t : ℕ) (before now : List Level) (b : Bool) → b ≡ changes_line u.transmitter.frame → StepMoves usart u t before now (if b then record { from = 1; to = 2 } else no_pins)

@@ -1,10 +1,10 @@
 -- A change of levels of which units take no notice: of two, of one by a clock, of one that lags.
 use Rattle.std.proofs.Common.{◌≡◌, ◌∙◌, ℕ, ◌+◌, ◌-◌, ◌<◌, List, [], Bool, true, false, ap, sym, subst, arith, refl}
-use Rattle.std.specs.Prelude.{if◌then◌else◌, ◌||◌, ◌&&◌, ◌++◌, min}
+use Rattle.std.specs.Prelude.{if◌then◌else◌, ◌||◌, ◌&&◌, min}
 use Rattle.std.proofs.lemmas.Bool.{or_parts}
 use Rattle.sim_base.specs.declared.signal.Level.{Level}
 use Rattle.unit_law.specs.declared.request.Request.{Request}
-use Rattle.unit_law.specs.UnitMachine.{UnitMachine, At, Laws, IsQuiet, least, steps}
+use Rattle.unit_law.specs.UnitMachine.{UnitMachine, At, Laws, least, steps}
 use Rattle.unit_law.specs.Both.{both, least-append}
 use Rattle.unit_law.specs.Clocked.{Clocked, clocked}
 use Rattle.unit_law.specs.Lagging.{quiet_requests}

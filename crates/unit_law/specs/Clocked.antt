@@ -26,8 +26,6 @@ module _ {U : Type 0} (m : UnitMachine U) where
     pad = λ u p. m.pad u.unit p;
     sends = λ u t. if u.runs then m.sends u.unit u.cycle else None;
     has = m.has;
-    moves = λ u a x. m.moves u.unit a x;
-    bit_moves = λ u a k x. m.bit_moves u.unit a k x;
     answers = λ u t l a. m.answers u.unit u.cycle l a;
     read = λ u t a. record u { unit = m.read u.unit u.cycle a };
     write = λ u t a x. record u { unit = m.write u.unit u.cycle a x };
@@ -44,8 +42,6 @@ module _ {U : Type 0} (m : UnitMachine U) where
     keeps_silent = λ s t h. silent s (p.keeps_silent s.unit s.cycle) s.runs h;
     deaf = λ s t l k h. same s l l k k (p.deaf s.unit s.cycle l k) s.runs h;
     reads_pad = λ s t a i. p.reads_pad s.unit s.cycle a i;
-    writes_pad = λ s t a x i h. p.writes_pad s.unit s.cycle a x i h;
-    bits_pad = λ s t a k x i h. p.bits_pad s.unit s.cycle a k x i h;
     taken_pad = λ s v i. p.taken_pad s.unit v i;
     power_laws = record {
       keeps_rouses = λ s t l k h. refl;

@@ -15,3 +15,4 @@ pub mod Power
 pub mod Signals
 pub mod Clock
 pub mod PowerLaws
+pub mod Reach

@@ -3,6 +3,7 @@ ghost use Rattle.std.specs.Prelude.{◌≡◌, ℕ, ◌+◌, ◌-◌, ◌<◌, �
 ghost use Rattle.sim_base.specs.declared.signal.Level.{Level};
 ghost use Rattle.unit_law.specs.Both.{first_of_two};
 ghost use Rattle.unit_law.specs.Placed.{hull};
+ghost use Rattle.unit_law.specs.Reach.{touched_if};
 
 use crate::group::{AwakeGroup, Group};
 use crate::late::Late;
@@ -26,12 +27,15 @@ impl<U: Unit, G: Group> Group for Both<U, G> {
     ghost use Rattle.unit_law.specs.Both.{both, both_laws};
     ghost use Rattle.unit_law.specs.BothLaws.{both_wait, first_both};
     ghost use Rattle.unit_law.specs.Late.{late_waits, late_first};
+    ghost use Rattle.unit_law.specs.Reach.{alone, alone_touches, both_touch, both_touches};
 
     ghost State = { U.State × G.State };
 
     ghost machine = { both U.machine G.machine };
 
     ghost state = { λ s t. (⟦<Late<U> as Group>⟧.state s.first t, G.state s.second t) };
+
+    ghost touch = { both_touch U.machine G.machine (alone U.reach) G.touch };
 
     ghost until = { λ s. min (⟦<Late<U> as Group>⟧.until s.first) (G.until s.second) };
 
@@ -87,17 +91,23 @@ impl<U: Unit, G: Group> Group for Both<U, G> {
     }
 
     #[inline]
-    fn write(&mut self, cycle: u32, levels: &[Level], reg: u8, value: u8) -> bool {
-        let first = write_where(&mut self.first, cycle, levels, reg, value);
-        let second = write_where(&mut self.second, cycle, levels, reg, value);
-        first | second
+    fn write(&mut self, cycle: u32, levels: &[Level], reg: u8, value: u8, touched: Span) -> Span {
+        let more = write_where(&mut self.second, cycle, levels, reg, value, touched);
+        write_where(&mut self.first, cycle, levels, reg, value, more)
     }
 
     #[inline]
-    fn write_bit(&mut self, cycle: u32, levels: &[Level], reg: u8, bit: u8, value: bool) -> bool {
-        let first = write_bit_where(&mut self.first, cycle, levels, reg, bit, value);
-        let second = write_bit_where(&mut self.second, cycle, levels, reg, bit, value);
-        first | second
+    fn write_bit(
+        &mut self,
+        cycle: u32,
+        levels: &[Level],
+        reg: u8,
+        bit: u8,
+        value: bool,
+        touched: Span,
+    ) -> Span {
+        let more = write_bit_where(&mut self.second, cycle, levels, reg, bit, value, touched);
+        write_bit_where(&mut self.first, cycle, levels, reg, bit, value, more)
     }
 
     fn step(
@@ -139,6 +149,8 @@ impl<U: Unit, G: Group> Group for Both<U, G> {
 
     ghost laws = { both_laws U.machine G.machine U.laws G.laws };
 
+    ghost touches = { both_touches U.machine G.machine (alone U.reach) G.touch (alone_touches U.machine U.reach U.reaches) G.touches };
+
     ghost waits = { λ s l t u h le soon. both_wait U.machine G.machine (⟦<Late<U> as Group>⟧.until s.first) (G.until s.second) (⟦<Late<U> as Group>⟧.state s.first) (G.state s.second) (⟦<Late<U> as Group>⟧.stands s.first) (G.stands s.second) l t u (λ l t u h le soon. late_waits U.machine (U.shows s.first.unit) s.first.due s.first.request l t u h le soon) (G.waits s.second) h le soon };
 
     ghost first = { λ s l t h. first_both U.machine G.machine (⟦<Late<U> as Group>⟧.state s.first t, G.state s.second t) t (⟦<Late<U> as Group>⟧.until s.first) (G.until s.second) (late_first U.machine (U.shows s.first.unit) s.first.due s.first.request l t h.0) (G.first s.second l t h.1) };
@@ -171,7 +183,8 @@ pub(crate) fn first_of_two(first: Option<u8>, second: Option<u8>) -> Option<u8>
     }
 }
 
-// Writes a register where the group has it, and answers whether that may change what it asks of a pin.
+// Writes a register where the group has it, and answers the pins that were touched before with those of which that may change
+// what they are asked for.
 #[inline]
 pub(crate) fn write_where<G: Group>(
     group: &mut G,
@@ -179,17 +192,18 @@ pub(crate) fn write_where<G: Group>(
     levels: &[Level],
     reg: u8,
     value: u8,
-) -> bool
+    touched: Span,
+) -> Span
     requires levels { length levels.now ≡ PORT_PINS }
     requires here { G.stands group.old levels.now cycle }
-    ensures moves { result ≡ (if G.machine.has reg then G.machine.moves (G.state group.old cycle) reg value else false) }
+    ensures moved { result ≡ touched_if (G.machine.has reg) (G.touch.writes (G.state group.old cycle) reg value) touched }
     ensures state { G.state group.new cycle ≡ (if G.machine.has reg then G.machine.write (G.state group.old cycle) cycle reg value else G.state group.old cycle) }
     ensures stands { G.stands group.new levels.now cycle }
 {
     if G::has(reg) {
-        group.write(cycle, levels, reg, value)
+        group.write(cycle, levels, reg, value, touched)
     } else {
-        false
+        touched
     }
 }
 
@@ -202,18 +216,19 @@ pub(crate) fn write_bit_where<G: Group>(
     reg: u8,
     bit: u8,
     value: bool,
-) -> bool
+    touched: Span,
+) -> Span
     requires bit { bit < 8 }
     requires levels { length levels.now ≡ PORT_PINS }
     requires here { G.stands group.old levels.now cycle }
-    ensures moves { result ≡ (if G.machine.has reg then G.machine.bit_moves (G.state group.old cycle) reg bit value else false) }
+    ensures moved { result ≡ touched_if (G.machine.has reg) (G.touch.bits (G.state group.old cycle) reg bit value) touched }
     ensures state { G.state group.new cycle ≡ (if G.machine.has reg then G.machine.write_bit (G.state group.old cycle) cycle reg bit value else G.state group.old cycle) }
     ensures stands { G.stands group.new levels.now cycle }
 {
     if G::has(reg) {
-        group.write_bit(cycle, levels, reg, bit, value)
+        group.write_bit(cycle, levels, reg, bit, value, touched)
     } else {
-        false
+        touched
     }
 }
 

@@ -8,6 +8,7 @@ ghost use Rattle.unit_law.specs.Pad.{joined};
 ghost use Rattle.unit_law.specs.Both.{first_of_two};
 ghost use Rattle.unit_law.specs.Placed.{StepMoves, IsWithin};
 ghost use Rattle.unit_law.specs.Next.{WritesKeepNext};
+ghost use Rattle.unit_law.specs.Reach.{Touch, Touches};
 ghost use Rattle.unit_law.specs.Signals.{signalled};
 
 use crate::pad::Pad;
@@ -24,6 +25,9 @@ pub trait Group {
     ghost machine: { UnitMachine State };
 
     ghost state: { Self → ℕ → State };
+
+    /// The pins that a write touches.
+    ghost touch: { Touch State };
 
     /// The first cycle with an event.
     ghost until: { Self → ℕ };
@@ -63,22 +67,31 @@ pub trait Group {
         ensures state { state self.new cycle ≡ machine.read (state self.old cycle) cycle reg }
         ensures stands { stands self.new levels.now cycle };
 
-    /// Writes a register in a cycle, and answers whether that may change what they ask of a pin.
-    fn write(&mut self, cycle: u32, levels: &[Level], reg: u8, value: u8) -> bool
+    /// Writes a register in a cycle, and answers the pins that were touched before with those of which that may change what they
+    /// are asked for.
+    fn write(&mut self, cycle: u32, levels: &[Level], reg: u8, value: u8, touched: Span) -> Span
         requires register { machine.has reg ≡ true }
         requires levels { length levels.now ≡ PORT_PINS }
         requires here { stands self.old levels.now cycle }
-        ensures moves { result ≡ machine.moves (state self.old cycle) reg value }
+        ensures moved { result ≡ touch.writes (state self.old cycle) reg value touched }
         ensures state { state self.new cycle ≡ machine.write (state self.old cycle) cycle reg value }
         ensures stands { stands self.new levels.now cycle };
 
     /// Writes one bit alone, as SBI and CBI do, with the same answer.
-    fn write_bit(&mut self, cycle: u32, levels: &[Level], reg: u8, bit: u8, value: bool) -> bool
+    fn write_bit(
+        &mut self,
+        cycle: u32,
+        levels: &[Level],
+        reg: u8,
+        bit: u8,
+        value: bool,
+        touched: Span,
+    ) -> Span
         requires register { machine.has reg ≡ true }
         requires bit { bit < 8 }
         requires levels { length levels.now ≡ PORT_PINS }
         requires here { stands self.old levels.now cycle }
-        ensures moves { result ≡ machine.bit_moves (state self.old cycle) reg bit value }
+        ensures moved { result ≡ touch.bits (state self.old cycle) reg bit value touched }
         ensures state { state self.new cycle ≡ machine.write_bit (state self.old cycle) cycle reg bit value }
         ensures stands { stands self.new levels.now cycle };
 
@@ -131,6 +144,8 @@ pub trait Group {
         ensures { (l : List Level) (t : ℕ) → stands self.now l t → result ≡ joined (machine.pad (state self.now t) pin) others };
 
     ghost laws: { Laws machine };
+
+    ghost touches: { Touches machine touch };
 
     /// Over cycles without an event nothing needs to be done.
     ghost waits: { (s : Self) (l : List Level) (t u : ℕ) → stands s l t → t ≤ u → u ≤ until s → stands s l u × (state s u ≡ steps machine (state s t) t (u - t)) };

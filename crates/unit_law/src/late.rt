@@ -27,12 +27,15 @@ pub struct Late<U> {
 
 impl<U: Unit> Group for Late<U> {
     ghost use Rattle.unit_law.specs.Late.{LateStands, late_state, late_waits, late_first};
+    ghost use Rattle.unit_law.specs.Reach.{alone, alone_touches};
 
     ghost State = { U.State };
 
     ghost machine = { U.machine };
 
     ghost state = { λ s t. late_state U.machine (U.shows s.unit) t };
+
+    ghost touch = { alone U.reach };
 
     ghost until = { λ s. s.due };
 
@@ -75,22 +78,28 @@ impl<U: Unit> Group for Late<U> {
         value
     }
 
-    fn write(&mut self, cycle: u32, levels: &[Level], reg: u8, value: u8) -> bool {
+    fn write(&mut self, cycle: u32, levels: &[Level], reg: u8, value: u8, touched: Span) -> Span {
         catch_up(&mut self.unit, self.due, cycle);
-        let moves = self.unit.moves(reg, value);
-        self.unit.write(reg, value);
+        let moved = self.unit.write(reg, value);
         self.due = first_due(&self.unit);
         self.request = self.unit.request(levels);
-        moves
+        hull(touched, moved)
     }
 
-    fn write_bit(&mut self, cycle: u32, levels: &[Level], reg: u8, bit: u8, value: bool) -> bool {
+    fn write_bit(
+        &mut self,
+        cycle: u32,
+        levels: &[Level],
+        reg: u8,
+        bit: u8,
+        value: bool,
+        touched: Span,
+    ) -> Span {
         catch_up(&mut self.unit, self.due, cycle);
-        let moves = self.unit.bit_moves(reg, bit, value);
-        self.unit.write_bit(reg, bit, value);
+        let moved = self.unit.write_bit(reg, bit, value);
         self.due = first_due(&self.unit);
         self.request = self.unit.request(levels);
-        moves
+        hull(touched, moved)
     }
 
     fn step(
@@ -137,6 +146,8 @@ impl<U: Unit> Group for Late<U> {
     }
 
     ghost laws = { U.laws };
+
+    ghost touches = { alone_touches U.machine U.reach U.reaches };
 
     ghost waits = { λ s l t u h le soon. late_waits U.machine (U.shows s.unit) s.due s.request l t u h le soon };
 

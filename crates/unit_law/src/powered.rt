@@ -31,12 +31,15 @@ impl<A: AwakeGroup, B: Group + Drop> Group for Powered<A, B> {
     ghost use Rattle.unit_law.specs.Clocked.{Clocked};
     ghost use Rattle.unit_law.specs.Power.{powered, powered_laws};
     ghost use Rattle.unit_law.specs.PowerLaws.{PowerStands, power_waits, power_first};
+    ghost use Rattle.unit_law.specs.Reach.{powered_touch, powered_touches};
 
     ghost State = { A.State × Clocked B.State };
 
     ghost machine = { powered A.machine B.machine };
 
     ghost state = { λ s t. (A.state s.awake t, clocked_at s.clock (B.state s.clocked) t) };
+
+    ghost touch = { powered_touch A.machine B.machine A.touch B.touch };
 
     ghost until = { λ s. min (A.until s.awake) (board_cycle s.clock (B.until s.clocked)) };
 
@@ -92,19 +95,25 @@ impl<A: AwakeGroup, B: Group + Drop> Group for Powered<A, B> {
     }
 
     #[inline]
-    fn write(&mut self, cycle: u32, levels: &[Level], reg: u8, value: u8) -> bool {
+    fn write(&mut self, cycle: u32, levels: &[Level], reg: u8, value: u8, touched: Span) -> Span {
         let own = self.clock.own(cycle);
-        let first = write_where(&mut self.awake, cycle, levels, reg, value);
-        let second = write_where(&mut self.clocked, own, levels, reg, value);
-        first | second
+        let more = write_where(&mut self.clocked, own, levels, reg, value, touched);
+        write_where(&mut self.awake, cycle, levels, reg, value, more)
     }
 
     #[inline]
-    fn write_bit(&mut self, cycle: u32, levels: &[Level], reg: u8, bit: u8, value: bool) -> bool {
+    fn write_bit(
+        &mut self,
+        cycle: u32,
+        levels: &[Level],
+        reg: u8,
+        bit: u8,
+        value: bool,
+        touched: Span,
+    ) -> Span {
         let own = self.clock.own(cycle);
-        let first = write_bit_where(&mut self.awake, cycle, levels, reg, bit, value);
-        let second = write_bit_where(&mut self.clocked, own, levels, reg, bit, value);
-        first | second
+        let more = write_bit_where(&mut self.clocked, own, levels, reg, bit, value, touched);
+        write_bit_where(&mut self.awake, cycle, levels, reg, bit, value, more)
     }
 
     fn step(
@@ -150,6 +159,8 @@ impl<A: AwakeGroup, B: Group + Drop> Group for Powered<A, B> {
     }
 
     ghost laws = { powered_laws A.machine B.machine A.laws B.laws };
+
+    ghost touches = { powered_touches A.machine B.machine A.touch B.touch A.touches B.touches };
 
     ghost waits = { λ s l t u h le soon. power_waits A.machine B.machine s.clock (A.until s.awake) (B.until s.clocked) (A.state s.awake) (B.state s.clocked) (A.stands s.awake) (B.stands s.clocked) l t u (A.waits s.awake) (B.waits s.clocked) h le soon };
 

@@ -26,6 +26,8 @@ impl<G: Group> Group for Seldom<G> {
 
     ghost state = { λ s t. G.state s.group t };
 
+    ghost touch = { G.touch };
+
     ghost until = { λ s. s.due };
 
     ghost stands = { λ s l t. SeldomStands G.machine (G.state s.group) (G.until s.group) (G.stands s.group) s.due s.request l t };
@@ -72,19 +74,29 @@ impl<G: Group> Group for Seldom<G> {
     }
 
     #[inline]
-    fn write(&mut self, cycle: u32, levels: &[Level], reg: u8, value: u8) -> bool {
-        let moves = self.group.write(cycle, levels, reg, value);
+    fn write(&mut self, cycle: u32, levels: &[Level], reg: u8, value: u8, touched: Span) -> Span {
+        let moved = self.group.write(cycle, levels, reg, value, touched);
         self.due = self.group.due();
         self.request = self.group.request(levels);
-        moves
+        moved
     }
 
     #[inline]
-    fn write_bit(&mut self, cycle: u32, levels: &[Level], reg: u8, bit: u8, value: bool) -> bool {
-        let moves = self.group.write_bit(cycle, levels, reg, bit, value);
+    fn write_bit(
+        &mut self,
+        cycle: u32,
+        levels: &[Level],
+        reg: u8,
+        bit: u8,
+        value: bool,
+        touched: Span,
+    ) -> Span {
+        let moved = self
+            .group
+            .write_bit(cycle, levels, reg, bit, value, touched);
         self.due = self.group.due();
         self.request = self.group.request(levels);
-        moves
+        moved
     }
 
     #[inline]
@@ -132,6 +144,8 @@ impl<G: Group> Group for Seldom<G> {
     }
 
     ghost laws = { G.laws };
+
+    ghost touches = { G.touches };
 
     ghost waits = { λ s l t u h le soon. seldom_waits G.machine (G.state s.group) (G.until s.group) (G.stands s.group) G.laws (G.waits s.group) (G.first s.group) s.due s.request l t u h le soon };
 

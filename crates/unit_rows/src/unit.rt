@@ -3,7 +3,7 @@
 //! - `pin10=L`, `pins=H`: the level of a pin, or of all, in the cycle to come; before the first all are Z
 //! - `C1=18`, `C0.1=1`: a register is written, or one bit of it
 //! - `C0?20`, `C0?none`: a register is read, and has this value; there is none
-//! - `C1.18?moves`, `C1.18?stays`: whether a write of this value may move a pin
+//! - `C1.18?moves`, `C1.18?stays`: a register is written, and whether that may move a pin
 //! - `to=40`: cycle by cycle up to this one, without a byte that leaves
 //! - `next=136`, `next=136,55`: the next event is in this cycle, and this byte leaves there; it is gone over
 //! - `next=none`: no event is to come
@@ -210,15 +210,15 @@ fn writes<U: Unit>(unit: &mut U, name: &str, value: &str) -> Option<()>
     Some(())
 }
 
-/// Reads a register, or asks whether a write may move a pin, and compares: `C0?20`, `C0?none`, `C1.18?moves`.
+/// Reads a register, or writes one and asks whether that may move a pin, and compares: `C0?20`, `C0?none`, `C1.18?moves`.
 fn reads<U: Unit>(unit: &mut U, turn: &Turn, word: &str) -> Option<bool>
     ensures { (U.shows unit.new).cycle ≡ (U.shows unit.old).cycle }
 {
     let (name, value) = word.split_once('?')?;
     if let Some((name, written)) = name.split_once('.') {
         let reg = register::<U>(name)?;
-        let moves = unit.moves(reg, u8::from_str_radix(written, 16).ok()?);
-        return Some(value == if moves { "moves" } else { "stays" });
+        let moved = unit.write(reg, u8::from_str_radix(written, 16).ok()?);
+        return Some(value == if moved.has_any() { "moves" } else { "stays" });
     }
     let reg = u8::from_str_radix(name, 16).ok()?;
     if value == "none" || !U::has(reg) {

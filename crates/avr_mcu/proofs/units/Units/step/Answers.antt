@@ -1,6 +1,7 @@
 use Rattle.std.proofs.Common.{◌≡◌, ◌∙◌, ◌+◌, length, ap, sym, arith}
 use Rattle.avr_mcu.specs.Devices.{devices}
-use Rattle.avr_mcu.specs.Units.{UnitsAt, pins}
+use Rattle.avr_mcu.specs.Units.{pins}
+use Rattle.avr_mcu.specs.Touched.{Touched}
 use Rattle.avr_mcu.specs.Devices.{Devices}
 use Rattle.avr_mcu.specs.contracts.units.Units.{the_view}
 use Rattle.avr_mcu.proofs.UnitsLemmas.{units_held}
@@ -12,12 +13,12 @@ pub hear-told-requires-clause-ready : goal.hear-told-requires-clause-ready
 hear-told-requires-clause-ready c = c.self.invariant.ready
 
 pub returns-clause-byte : goal.returns-clause-byte
-returns-clause-byte c = c.hear-told.ensures.byte ∙ ap (λ (y : UnitsAt Devices). devices.sends y.units.devices y.cycle) c.self.view_is
+returns-clause-byte c = c.hear-told.ensures.byte ∙ ap (λ (y : Touched Devices). devices.sends y.units.devices y.cycle) c.self.view_is
 
 pub returns-clause-state : goal.returns-clause-state
 returns-clause-state c =
     let v = the_view c.self.inside in
-    units_held devices c.args.self.now v c.self.view_is (λ (y : UnitsAt Devices). devices.step y.units.devices y.cycle (pins y.held) (pins c.args.levels.now)) _ c.args.levels.now _ (λ (y : UnitsAt Devices). y.cycle + 1)
+    units_held devices c.args.self.now v c.self.view_is (λ (y : Touched Devices). devices.step y.units.devices y.cycle (pins y.held) (pins c.args.levels.now)) _ c.args.levels.now _ (λ (y : Touched Devices). y.cycle + 1)
     (c.hear-told.ensures.state ∙ ap (devices.step v.units.devices v.cycle (pins v.held)) c.seen.ensures.value) c.copy_from_slice.ensures.after
 
 pub returns-clause-pads : goal.returns-clause-pads
@@ -37,4 +38,4 @@ invariant_of-self c =
     }
 
 pub returns-clause-resets : goal.returns-clause-resets
-returns-clause-resets c = c.hear-told.ensures.resets ∙ ap (λ (y : UnitsAt Devices). devices.power.resets y.units.devices y.cycle) c.self.view_is
+returns-clause-resets c = c.hear-told.ensures.resets ∙ ap (λ (y : Touched Devices). devices.power.resets y.units.devices y.cycle) c.self.view_is

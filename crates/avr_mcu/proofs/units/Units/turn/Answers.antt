@@ -1,6 +1,7 @@
 use Rattle.std.proofs.Common.{◌≡◌, ◌∙◌, ◌+◌, ap, subst, arith}
 use Rattle.avr_mcu.specs.Devices.{Devices, devices}
-use Rattle.avr_mcu.specs.Units.{UnitsAt, pins}
+use Rattle.avr_mcu.specs.Units.{pins}
+use Rattle.avr_mcu.specs.Touched.{Touched}
 use Rattle.avr_mcu.specs.contracts.units.Units.{the_view}
 use Rattle.avr_mcu.proofs.UnitsLemmas.{units_at}
 use Rattle.avr_mcu.proofs.CalmLemmas.{calm_none}
@@ -10,15 +11,15 @@ pub turn-told-requires-clause-ready : goal.turn-told-requires-clause-ready
 turn-told-requires-clause-ready c = c.self.invariant.ready
 
 pub returns-clause-byte : goal.returns-clause-byte
-returns-clause-byte c = c.turn-told.ensures.byte ∙ ap (λ (y : UnitsAt Devices). devices.sends y.units.devices y.cycle) c.self.view_is
+returns-clause-byte c = c.turn-told.ensures.byte ∙ ap (λ (y : Touched Devices). devices.sends y.units.devices y.cycle) c.self.view_is
 
 pub returns-clause-state : goal.returns-clause-state
 returns-clause-state c =
-    units_at devices c.args.self.now (the_view c.self.inside) c.self.view_is (λ (y : UnitsAt Devices). devices.step y.units.devices y.cycle (pins y.held) (pins y.held)) _ (λ (y : UnitsAt Devices). y.cycle + 1) c.turn-told.ensures.state
+    units_at devices c.args.self.now (the_view c.self.inside) c.self.view_is (λ (y : Touched Devices). devices.step y.units.devices y.cycle (pins y.held) (pins y.held)) _ (λ (y : Touched Devices). y.cycle + 1) c.turn-told.ensures.state
 
 pub returns-clause-pads : goal.returns-clause-pads
 returns-clause-pads c = λ p l out.
-    subst (λ (y : UnitsAt Devices). devices.pad (devices.step y.units.devices y.cycle (pins y.held) (pins y.held)) p ≡ devices.pad y.units.devices p) c.self.view_is (c.turn-told.ensures.pads p l out)
+    subst (λ (y : Touched Devices). devices.pad (devices.step y.units.devices y.cycle (pins y.held) (pins y.held)) p ≡ devices.pad y.units.devices p) c.self.view_is (c.turn-told.ensures.pads p l out)
 
 pub invariant_of-self : goal.invariant_of-self
 invariant_of-self c = record {
@@ -31,4 +32,4 @@ invariant_of-self c = record {
 }
 
 pub returns-clause-resets : goal.returns-clause-resets
-returns-clause-resets c = c.turn-told.ensures.resets ∙ ap (λ (y : UnitsAt Devices). devices.power.resets y.units.devices y.cycle) c.self.view_is
+returns-clause-resets c = c.turn-told.ensures.resets ∙ ap (λ (y : Touched Devices). devices.power.resets y.units.devices y.cycle) c.self.view_is
