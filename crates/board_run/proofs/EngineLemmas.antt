@@ -241,6 +241,15 @@ module _ {P : Type 0} (part : Ghosts P) (laws : Laws part.machine) where
           })
     ]
 
+    -- where nothing happens before that
+    pub showed_passed : (e mid : Engine P) (steps : ℕ) (out : W) (n : ℕ) → MayRun part e → Watches watcher e out → IsNext e n mid.cycle → mid ≡ record e { cycle = mid.cycle } → n ≤ MOST_CYCLES →
+        Showed part watcher writes.Ok e mid steps steps out out
+    showed_passed e mid steps out n may watches next rest end =
+        let here : IsNext (record e { cycle = e.cycle }) n mid.cycle =
+        record { from = next.from; within = next.within; stays = next.stays; late = next.late; silent = next.silent; behind = next.behind; event = next.event } in
+        subst (λ (x : Engine P). Showed part watcher writes.Ok e x steps steps out out) (sym rest)
+        (showed_next e (record e { cycle = e.cycle }) steps steps out out n mid.cycle (showed_none e steps out may watches) here end)
+
     pub showed_settled : (end : WriteEnd) (old mid new : Engine P) (steps more : ℕ) (out after : W) → Showed part watcher end old mid steps more out after → Settled part mid new → Showed part watcher end old new steps more out after
     showed_settled end old mid new steps more out after went s = subst (λ (e : Engine P). Showed part watcher end old e steps more out after) (sym s.same)
         (record { on = on_settled old mid new steps more went.on s; ok = went.ok; failed = went.failed; place = went.place })

@@ -54,7 +54,7 @@ impl<P: Part> Engine<P> {
         WriteEnd::Ok
     }
 
-    /// Goes on by a stretch of one part that is alone, or by one cycle and on to the next in which something may happen.
+    /// Goes on by a stretch of one part that is alone, or to the next cycle in which something may happen, and by that one.
     fn advance<W: Watcher, L: Ledger>(
         &mut self,
         n: u32,
@@ -71,13 +71,31 @@ impl<P: Part> Engine<P> {
     {
         match self.find_alone(n) {
             Some((who, limit)) => self.stretch(who, limit, out, steps),
-            None => match self.event(out, steps) {
-                WriteEnd::Ok => {
-                    self.skip(n);
-                    WriteEnd::Ok
-                }
-                WriteEnd::Failed => WriteEnd::Failed,
-            },
+            None => self.next_event(n, out, steps),
+        }
+    }
+
+    /// Passes over the cycles in which nothing happens, and goes on by the next one, if that is before n.
+    #[inline(always)]
+    fn next_event<W: Watcher, L: Ledger>(
+        &mut self,
+        n: u32,
+        out: &mut W,
+        steps: &mut Steps<L>,
+    ) -> WriteEnd
+        requires order { self.old.cycle < n }
+        requires end { n ≤ MOST_CYCLES }
+        requires may { MayRun P.Part self.old }
+        requires watches { Watches W.Watcher self.old out.old }
+        ensures further { self.old.cycle < self.new.cycle }
+        ensures within { self.new.cycle ≤ n }
+        ensures showed { Showed P.Part W.Watcher result self.old self.new steps.old steps.new out.old out.new }
+    {
+        self.skip(n);
+        if self.cycle < n {
+            self.event(out, steps)
+        } else {
+            WriteEnd::Ok
         }
     }
 

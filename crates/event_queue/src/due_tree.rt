@@ -276,6 +276,16 @@ impl DueTree {
         };
     }
 
+    /// Notes whether one part alone is due.
+    pub fn note_alone(&mut self)
+        ensures { self.new ≡ self.old }
+    {
+        if !self.dues.is_empty() {
+            join(&self.dues, &mut self.best, self.alone);
+            self.alone = only_due(&self.dues, &self.best);
+        }
+    }
+
     /// The least due cycle, with the least part that has it.
     #[inline]
     pub fn first(&self) -> Option<(u32, u8)>

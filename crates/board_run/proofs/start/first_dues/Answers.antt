@@ -31,4 +31,4 @@ loop-i-preserved g c =
 pub returns-clause-due : goal.returns-clause-due
 returns-clause-due g c = λ k y d ey ed.
     let within = slice_get_within c.args.parts.now k y ey in
-    c.loop-i.invariant.due k y d (omega (arith, within, c.loop-i-test.false)) ey ed
+    c.loop-i.invariant.due k y d (omega (arith, within, c.loop-i-test.false)) ey (ap (λ (ds : List (Option ℕ)). slice_get ds k) (sym c.note_alone.ensures) ∙ ed)
