@@ -22,6 +22,14 @@ if_always (Some x) P f = f x
 pub gone : (files : Files) (name : List ℕ) → get (remove files name) name ≡ None
 gone files name = get-remove nat_list_cmp_total files name name ∙ ap (λ (b : Bool). cond b None (get files name)) ((eq_by_cmp_equiv nat_list_cmp_total).refl name)
 
+-- where a file is not there, another is as before, unless it is that one
+pub removed : (files : Files) (name n : List ℕ) → (get (remove files n) name ≡ get files name) ⊎ ((name ≡ n) × (get (remove files n) name ≡ None))
+removed files name n = by (is_eq (slice_cmp nat_cmp name n)) refl
+  where
+    by : (b : Bool) → is_eq (slice_cmp nat_cmp name n) ≡ b → (get (remove files n) name ≡ get files name) ⊎ ((name ≡ n) × (get (remove files n) name ≡ None))
+    by true same = let is : name ≡ n = (bytes_eq-Decides name n).0 (sym (is_eq-slice_cmp name n) ∙ same) in inr (is, rw is (gone files n))
+    by false other = inl (get-remove nat_list_cmp_total files n name ∙ ap (λ (b : Bool). cond b None (get files name)) other)
+
 -- were the file not there, that would be the first event
 pub not_there : {X : Type 0} (limit : ℕ) (files : Files) (name : List ℕ) (reading : List ℕ → Result X Refusal) → file_within limit (remove files name) name reading ≡ Err (Missing name)
 not_there limit files name reading = rw (gone files name) refl
@@ -66,13 +74,10 @@ module _ {X Y : Type 0} (first : Reading X) (next : X → Reading Y) where
 
 -- one file is read alike where another is not there
 pub steady_within : {X : Type 0} (limit : ℕ) (name : List ℕ) (reading : List ℕ → Result X Refusal) → IsSteady (IsFileWithin limit name reading)
-steady_within limit name reading files n x e = go (is_eq (slice_cmp nat_cmp name n)) refl
-  where
-    go : (b : Bool) → is_eq (slice_cmp nat_cmp name n) ≡ b → (file_within limit (remove files n) name reading ≡ Ok x) ⊎ (file_within limit (remove files n) name reading ≡ Err (Missing n))
-    go true same =
-        let is : n ≡ name = sym ((bytes_eq-Decides name n).0 (sym (is_eq-slice_cmp name n) ∙ same)) in
-        inr (rw is (not_there limit files name reading))
-    go false other = inl (ap (read_from name limit reading) (get-remove nat_list_cmp_total files n name ∙ ap (λ (b : Bool). cond b None (get files name)) other) ∙ e)
+steady_within limit name reading files n x e = elim (removed files name n) [
+  | inl kept ↦ inl (ap (read_from name limit reading) kept ∙ e)
+  | inr g ↦ inr (rw (g.1, g.0) refl)
+]
 
 pub steady_file : {X : Type 0} (name : List ℕ) (reading : List ℕ → Result X Refusal) → IsSteady (IsFile name reading)
 steady_file = steady_within 1048576

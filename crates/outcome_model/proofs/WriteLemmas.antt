@@ -8,10 +8,9 @@ use Rattle.sim_base.specs.declared.bench.Port.TheVariants as ports
 use Rattle.sim_base.specs.declared.bench.WriteEnd.{WriteEnd}
 use Rattle.sim_base.specs.declared.bench.WriteEnd.TheVariants as writes
 use Rattle.sim_base.specs.Causes.{WriteCause}
-use Rattle.sim_base.specs.Outside.{Outside, Files, SameOthers, Becomes, Grows, IsFront, IsNamed, WriteLeaves, Opens}
-use Rattle.outcome_model.specs.Outcome.{Outcome, Accepted, WriteFailed, Complains}
-use Rattle.outcome_model.specs.Work.{Wrote, RanOn}
-use Rattle.outcome_model.specs.Stop.{Output}
+use Rattle.sim_base.specs.Outside.{Outside, Files, SameOthers, Becomes, Grows, IsFront, IsNamed, WriteLeaves}
+use Rattle.outcome_model.specs.Outcome.{Complains}
+use Rattle.outcome_model.specs.Work.{Wrote}
 use Rattle.outcome_model.proofs.ReadLemmas.{if_some}
 
 pub grows_more : (a b c : Option (List ℕ)) (xs ys zs : List ℕ) → Grows a b xs → Grows b c ys → xs ++ ys ≡ zs → Grows a c zs
@@ -25,9 +24,6 @@ grows_same (Some w) b e = e ∙ ap Some (sym (append-nil w))
 -- a first part behind a whole text
 pub front_after : (text front bytes : List ℕ) → IsFront front bytes → IsFront (text ++ front) (text ++ bytes)
 front_after text front bytes f = record { rest = f.rest; whole = append_assoc text front f.rest ∙ ap (λ (l : List ℕ). text ++ l) f.whole }
-
-pub front_more : (front text more : List ℕ) → IsFront front text → IsFront front (text ++ more)
-front_more front text more f = record { rest = f.rest ++ more; whole = sym (append_assoc front f.rest more) ∙ ap (λ (l : List ℕ). l ++ more) f.whole }
 
 pub front_all : (text : List ℕ) → IsFront text text
 front_all text = record { rest = []; whole = append-nil text }
@@ -49,10 +45,6 @@ wrote_next writes.Failed p a b c text bytes w leaves cause = (
   ),
   rw (← w.1) cause.1,
 )
-
--- where the writing had failed before, it has failed
-pub wrote_failed : (p : Port) (a b : Outside) (text bytes : List ℕ) → Wrote writes.Failed p text a b → Wrote writes.Failed p (text ++ bytes) a b
-wrote_failed p a b text bytes w = ((w.0.0, front_more w.0.0 text bytes w.0.1, w.0.2), w.1)
 
 module _ {X : Type 0} (f : X → List ℕ) where
   part_suc : (ps : List X) (i : ℕ) (d : X) → i < length ps → concat (map f (take i ps)) ++ f (get_or ps i d) ≡ concat (map f (take (suc i) ps))
@@ -103,22 +95,6 @@ pub becomes : (a b c : Option (List ℕ)) (text : List ℕ) → Becomes a b [] �
 becomes None b c text p q = q ∙ ap (option_map (λ (l : List ℕ). l ++ text)) p
 becomes (Some w) b c text p q = q ∙ ap (option_map (λ (l : List ℕ). l ++ text)) p
 
--- how the work ends by how its writing ends
-abbrev pub end_of : WriteEnd → Outcome
-end_of writes.Ok = Accepted
-end_of writes.Failed = WriteFailed
-
 -- a name that stays over writes
 pub still_named : (p : Port) (name : List ℕ) (a m b : Outside) → IsNamed p name a m → b.name p ≡ m.name p → IsNamed p name a b
 still_named p name a m b named same = if_some a.files _ _ (λ (files : Files) (e : m.name p ≡ Some name). same ∙ e) named
-
--- a text on a port that was opened for it
-pub ran_text : (end : WriteEnd) (p : Port) (out : Output) (a m b : Outside) → Opens writes.Ok p out.name a m → Wrote end p out.text m b → b.name p ≡ m.name p → RanOn p (end_of end) out a b
-ran_text writes.Ok p out a m b opens w same = ((becomes (a.written p) (m.written p) (b.written p) out.text opens.1 w.0, still_named p out.name a m b opens.2 same), w.1 ∙ opens.3)
-ran_text writes.Failed p out a m b opens w same = (
-  rw (← opens.3) w.1,
-  inr (w.0.0, w.0.1, becomes (a.written p) (m.written p) (b.written p) w.0.0 opens.1 w.0.2, still_named p out.name a m b opens.2 same),
-)
-
-pub unopened : (p : Port) (out : Output) (a b : Outside) → Opens writes.Failed p out.name a b → RanOn p WriteFailed out a b
-unopened p out a b opens = (opens.3, elim opens.1 [ inl same ↦ inl same | inr empty ↦ inr ([], front_none out.text, empty.0, empty.1) ])
