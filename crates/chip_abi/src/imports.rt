@@ -9,7 +9,7 @@ ghost use Rattle.chip_abi.specs.Imports.{typed, found, read_imports, imports_of}
 
 use crate::host_name::{HostName, named, params_of, results_of};
 use sim_base::refusals::{IMPORT_TYPE, IMPORT_UNKNOWN};
-use sim_base::{Fault, List, Place, Refusal};
+use sim_base::{Fault, List, OutOfMemory, Place, Refusal};
 use std::alloc::Global;
 use std::marker::Model;
 use wasm_code::{FuncType, ValType};
@@ -37,6 +37,16 @@ impl ImportMap {
         ensures { slice_get self.now import ≡ Some result }
     {
         self.names.as_slice()[import as usize]
+    }
+
+    /// The same names once more.
+    pub fn copy(&self, alloc: Global) -> Result<ImportMap, OutOfMemory>
+        ensures { IfOk result (λ copy. copy ≡ self.now) }
+    {
+        let names = self.names.as_slice().to_vec(alloc)?;
+        Ok(ImportMap {
+            names: List::from_vec(names),
+        })
     }
 }
 

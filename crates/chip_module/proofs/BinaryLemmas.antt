@@ -1,5 +1,6 @@
 -- Bytes are accepted as one module or refused once, and not both.
 use Rattle.std.proofs.Common.{◌≡◌, ◌∙◌, ℕ, List, Result, Ok, Err, Option, Some, inl, inr, subst, sym, ap}
+use Rattle.sim_base.specs.Reads.{Reads}
 use Rattle.sim_base.specs.declared.fault.Refusal.{Refusal}
 use Rattle.sim_base.specs.declared.fault.Fault.{Fault}
 use Rattle.sim_base.specs.declared.fault.Place.{Place}
@@ -8,10 +9,10 @@ use Rattle.sim_base.specs.declared.fault.Fault.TheVariants as faults
 use Rattle.wasm_decode.specs.declared.module.Module.{Module}
 use Rattle.wasm_decode.specs.ModuleText.{IsBroken}
 use Rattle.wasm_validate.specs.Rules.{chip_init}
-use Rattle.wasm_validate.specs.Validity.{IsValid, Breaks}
+use Rattle.wasm_validate.specs.Validity.{IsValid, IsRefused, Breaks}
 use Rattle.chip_abi.specs.declared.host_name.HostName.{HostName}
 use Rattle.chip_abi.specs.Imports.{imports_of}
-use Rattle.chip_module.specs.Binary.{Binary, IsBinary, IsReading, Judges}
+use Rattle.chip_module.specs.Binary.{Binary, IsBinary, IsReading, IsTextOf, Judges}
 
 known_or_not : (names : List HostName) (r : Refusal) (found : Result (List HostName) Refusal) → found ≡ Ok names → found ≡ Err r → ⊥
 known_or_not names r found good bad = absurd cc
@@ -65,6 +66,17 @@ pub broken_reading : (bytes : List ℕ) (e : Fault) → IsBroken bytes e → IsR
 broken_reading bytes (faults.Refused r) b = inl b
 broken_reading bytes faults.OutOfMemory b = tt
 
--- what was read once is not refused
-pub read_again : (bytes : List ℕ) (b : Binary) (e : Fault) (r : Refusal) → IsBinary bytes b → e ≡ faults.Refused r → IsReading bytes (Err e) → ⊥
-read_again bytes b e r good is bad = not_both bytes b r good (subst (λ (f : Fault). IsReading bytes (Err f)) is bad)
+module _ (bytes : List ℕ) (wasm : Module) (is : IsTextOf bytes wasm) where
+  -- a module that breaks a rule
+  pub invalid_reading : (e : Fault) → IsRefused wasm e → IsReading bytes (Err e)
+  invalid_reading (faults.Refused r) breaks = inr (inl (record { wasm = wasm; text = is.text; only = is.only; breaks = breaks }))
+  invalid_reading faults.OutOfMemory breaks = tt
+
+  -- a valid module, by what it imports
+  pub known_reading : (init : ℕ) (table : List HostName) → IsValid wasm init → imports_of wasm ≡ Ok table → IsReading bytes (Ok (record { wasm = wasm; init = init; table = table }))
+  known_reading init table valid imports = record { text = is.text; only = is.only; valid = valid; imports = imports }
+
+  pub foreign_reading : (init : ℕ) → IsValid wasm init → (e : Fault) → Reads {X = List HostName} {Y = List HostName} (λ names. names) (Err e) (imports_of wasm) → IsReading bytes (Err e)
+  foreign_reading init valid (faults.Refused r) imports =
+      inr (inr (record { wasm = wasm; init = init; text = is.text; only = is.only; valid = valid; imports = imports }))
+  foreign_reading init valid faults.OutOfMemory imports = tt

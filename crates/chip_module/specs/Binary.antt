@@ -15,6 +15,11 @@ pub record Binary : Type 0 where
   pub init : ℕ
   pub table : List HostName
 
+-- the bytes are the text of this module and of no other
+pub record IsTextOf (bytes : List ℕ) (wasm : Module) : Type 0 where
+  pub text : ModuleText bytes wasm
+  pub only : (m : Module) → ModuleText bytes m → m ≡ wasm
+
 -- the bytes are the text of this module and of no other, it keeps all rules, and the host has all that it imports
 pub record IsBinary (bytes : List ℕ) (b : Binary) : Type 0 where
   pub text : ModuleText bytes b.wasm

@@ -1,10 +1,8 @@
 //! The module of a chip.
-ghost use Rattle.std.specs.Prelude.{◌≡◌, ◌≤◌, Ok, IfOk, length};
-ghost use Rattle.wasm_decode.specs.declared.module.Module.{Module as Wasm};
-ghost use Rattle.wasm_decode.specs.ModuleText.{ModuleText};
+ghost use Rattle.std.specs.Prelude.{◌≡◌, ◌≤◌, ℕ, List, Ok, IfOk, length};
 ghost use Rattle.wasm_validate.specs.Validity.{IsValid};
 ghost use Rattle.chip_abi.specs.Imports.{imports_of};
-ghost use Rattle.chip_module.specs.Binary.{IsReading};
+ghost use Rattle.chip_module.specs.Binary.{IsReading, IsTextOf};
 
 use chip_abi::{ImportMap, check_imports};
 use sim_base::{Fault, OutOfMemory};
@@ -13,51 +11,42 @@ use std::marker::Model;
 use wasm_decode::{Module, decode};
 use wasm_validate::{Valid, validate};
 
-/// A module that was accepted, with its bytes.
+/// A module that was accepted. Its copies share it.
 #[derive(Drop)]
 pub struct ChipModule {
-    bytes: Vec<u8>,
     valid: Valid,
     map: ImportMap,
 }
 
 impl Model for ChipModule {
-    ghost use Rattle.std.specs.Prelude.{◌≤◌, length};
-    ghost use Rattle.chip_module.specs.Binary.{Binary, IsBinary};
+    ghost use Rattle.std.specs.Prelude.{◌≡◌, Ok};
+    ghost use Rattle.chip_abi.specs.Imports.{imports_of};
+    ghost use Rattle.chip_module.specs.Binary.{Binary};
 
     ghost Value = { Binary };
 
     ghost view = { λ m. record { wasm = m.valid.wasm; init = m.valid.init; table = m.map } };
 
-    ghost invariant = { λ m. record {
-      short : length m.bytes.items ≤ 1048576;
-      binary : IsBinary m.bytes.items (record { wasm = m.valid.wasm; init = m.valid.init; table = m.map });
-    } };
+    ghost invariant = { λ m. imports_of m.valid.wasm ≡ Ok m.map };
 }
 
 /// A valid module, by its imports.
-fn with_imports(alloc: Global, bytes: Vec<u8>, valid: Valid) -> Result<ChipModule, Fault>
-    requires short { length bytes.items ≤ 1048576 }
-    requires text { ModuleText bytes.items valid.wasm }
-    requires only { (m : Wasm) → ModuleText bytes.items m → m ≡ valid.wasm }
-    requires valid { IsValid valid.wasm valid.init }
-    ensures { IsReading bytes.items result }
+fn with_imports(alloc: Global, valid: Valid) -> Result<ChipModule, Fault>
+    requires { IsValid valid.wasm valid.init }
+    ensures { (bytes : List ℕ) → IsTextOf bytes valid.wasm → IsReading bytes result }
 {
     match check_imports(alloc, &valid) {
-        Ok(map) => Ok(ChipModule { bytes, valid, map }),
+        Ok(map) => Ok(ChipModule { valid, map }),
         Err(fault) => Err(fault),
     }
 }
 
 /// A decoded module, by the rules that it keeps.
-fn validated(alloc: Global, bytes: Vec<u8>, wasm: Module) -> Result<ChipModule, Fault>
-    requires short { length bytes.items ≤ 1048576 }
-    requires text { ModuleText bytes.items wasm }
-    requires only { (m : Wasm) → ModuleText bytes.items m → m ≡ wasm }
-    ensures { IsReading bytes.items result }
+fn validated(alloc: Global, wasm: Module) -> Result<ChipModule, Fault>
+    ensures { (bytes : List ℕ) → IsTextOf bytes wasm → IsReading bytes result }
 {
     match validate(alloc, wasm) {
-        Ok(valid) => with_imports(alloc, bytes, valid),
+        Ok(valid) => with_imports(alloc, valid),
         Err(fault) => Err(fault),
     }
 }
@@ -70,21 +59,18 @@ impl ChipModule {
         ensures { IsReading bytes.items result }
     {
         match decode(alloc, &bytes) {
-            Ok(wasm) => validated(alloc, bytes, wasm),
+            Ok(wasm) => validated(alloc, wasm),
             Err(fault) => Err(fault),
         }
     }
 
-    /// The same module once more, decoded anew.
+    /// The same module, shared; what it imports is copied.
     pub fn copy(&self, alloc: Global) -> Result<ChipModule, OutOfMemory>
         ensures { IfOk result (λ copy. copy ≡ self.now) }
     {
-        let bytes = Vec::from_slice(alloc, &self.bytes)?;
-        match ChipModule::read(alloc, bytes) {
-            Ok(copy) => Ok(copy),
-            Err(Fault::OutOfMemory) => Err(OutOfMemory),
-            Err(Fault::Refused(_)) => unreachable!(),
-        }
+        let valid = self.valid.share()?;
+        let map = self.map.copy(alloc)?;
+        Ok(ChipModule { valid, map })
     }
 
     /// The valid module, and the names of its imported functions.

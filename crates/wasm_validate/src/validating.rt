@@ -25,7 +25,7 @@ pub fn validate(alloc: Global, module: Module) -> Result<Valid, Fault>
     ensures { IsValidated «module» result }
 {
     match known(alloc, &module) {
-        Ok((imports, chip_init)) => Ok(Valid::new(module, imports, chip_init)),
+        Ok((imports, chip_init)) => Ok(Valid::new(alloc, module, imports, chip_init)?),
         Err(fault) => {
             // One call, where a drop at the end of the scope is proved list by list.
             drop(module);
