@@ -18,8 +18,8 @@ use Rattle.union_find.specs.Forest.{AreLabels, IsForest, root_of, same_or, Joins
 use Rattle.net_resolve.specs.Groups.{AreGroups}
 use Rattle.net_resolve.specs.Sums.{is_loose, sum_at, added, strong_level}
 use Rattle.union_find.proofs.ForestLemmas.{label_root}
-use Rattle.union_find.proofs.PairLemmas.{joins_cases, contact_of, contact_is, contact_bounds, same_or_swap, walks_start, all_joined}
-use Rattle.net_resolve.proofs.ReachLemmas.{any_at, any_some, one_label, loose_is, loose_group, contact_passes}
+use Rattle.union_find.proofs.PairLemmas.{joins_cases, contact_of, contact_is, contact_bounds, joined_bounds, same_or_swap, walks_start, all_joined}
+use Rattle.net_resolve.proofs.ReachLemmas.{any_at, any_some, one_label, loose_is, loose_group, contact_passes, passes_ends}
 
 -- What holds once the strong drives are summed by group.
 pub record Grouped (net_of : List ℕ) (contacts resistors : List (ℕ × ℕ)) (closed : List Bool) (ds : List Drive) (groups : List ℕ) (strong : List Level) : Type 0 where
@@ -80,22 +80,12 @@ module _ (net_of : List ℕ) (contacts resistors : List (ℕ × ℕ)) (closed : 
   label_here : (n : ℕ) → n < length groups → root_of groups n ≡ slice_index groups n
   label_here n l = label_root groups g.groups_are.classes.labels n l
 
-  pub joined_within : (x y : ℕ) → joined_by resistors x y ≡ true → (x < length groups) × (y < length groups)
-  joined_within x y h =
-      let s = any_some (λ pair. joins pair x y) resistors h in
-      let e = g.resistors_within s.0 s.1 s.2 in
-      elim (joins_cases s.1 x y s.3) [
-        | inl same ↦ (subst (λ (z : ℕ). z < length groups) same.0 e.0, subst (λ (z : ℕ). z < length groups) same.1 e.1)
-        | inr back ↦ (subst (λ (z : ℕ). z < length groups) back.1 e.1, subst (λ (z : ℕ). z < length groups) back.0 e.0)
-      ]
+  joined_within : (x y : ℕ) → joined_by resistors x y ≡ true → (x < length groups) × (y < length groups)
+  joined_within = joined_bounds (length groups) resistors g.resistors_within
 
   pub passes_within : (x y : ℕ) → passes (length groups) net_of contacts resistors closed ds x y ≡ true → (x < length groups) × (y < length groups)
-  passes_within x y h =
-      let both = and_parts (not (is_driven (length groups) net_of contacts resistors closed ds x)) (contact_joins contacts closed x y || joined_by resistors x y) h in
-      elim (or_cases (contact_joins contacts closed x y) (joined_by resistors x y) both.1) [
-        | inl l ↦ contact_bounds (length groups) contacts closed g.groups_are.contacts_within x y l
-        | inr r ↦ joined_within x y r
-      ]
+  passes_within =
+      passes_ends (length groups) net_of contacts resistors closed ds (contact_bounds (length groups) contacts closed g.groups_are.contacts_within) joined_within
 
   -- a walk within groups and over bridges stays among loose nets
   bridge_walk : (n m : ℕ) → n < length groups → is_loose groups strong n ≡ true → Walk (same_or groups (contact_joins resistors (bridges_of groups strong resistors))) n m →

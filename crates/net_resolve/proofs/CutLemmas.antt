@@ -1,7 +1,8 @@
 -- Nets that are cut into subcircuits.
-use Rattle.std.proofs.Common.{◌≡◌, ◌≢◌, ℕ, zero, suc, ◌+◌, ◌<◌, ◌≤◌, List, [], ◌∷◌, ◌++◌, length, map, take, drop, Bool, true, false, refl, ap, sym, ◌∙◌, arith, ◌⊎◌, inl, inr, subst, Some, get_or, add-one, append_assoc, drop-cons, length-append}
+use Rattle.std.proofs.Common.{◌≡◌, ◌≢◌, ℕ, zero, suc, ◌+◌, ◌<◌, ◌≤◌, List, [], ◌∷◌, ◌++◌, length, map, take, drop, Bool, true, false, refl, ap, sym, ◌∙◌, arith, ◌⊎◌, inl, inr, subst, Some, get_or, add-one, append_assoc, append-nil, drop-cons, length-append}
 use Rattle.std.proofs.lemmas.Bool.Decides.{eqb_tells}
-use Rattle.std.proofs.lemmas.List.{length-map}
+use Rattle.std.proofs.lemmas.List.{length-map, map_more, drop_all}
+use mathlib.Core.List.{map-map}
 use Rattle.std.proofs.lemmas.Option.{slice_get_within, get_or_from_slice_get}
 use Rattle.std.specs.Prelude.{◌==◌, if◌then◌else◌, slice_get, slice_index, slice_set}
 use Rattle.board_model.specs.Pairs.{ArePairs}
@@ -10,14 +11,12 @@ use Rattle.net_resolve.specs.Wired.{Wired}
 use Rattle.net_resolve.specs.Subcircuits.{SubcircuitView, IsCut, IsSubcircuit, AreSubcircuits, AreOwn, own_pair, picked, labels_of}
 use Rattle.net_resolve.specs.Sorted.{ArePicked}
 use Rattle.net_resolve.proofs.PickLemmas.{picked_key}
+use Rattle.net_resolve.proofs.ReachLemmas.{map_here}
 use Rattle.net_resolve.proofs.SubcircuitLemmas.{net_there}
 
 -- what is still to be added to the list of each key
 abbrev pub AreAdding : List ℕ → ℕ → List (List ℕ) → Type 0
 AreAdding keys k lists = (q : ℕ) (l : List ℕ) → slice_get lists q ≡ Some l → l ++ picked q k (drop k keys) ≡ picked q 0 keys
-
-pub adding_none : (keys : List ℕ) (lists : List (List ℕ)) → ((q : ℕ) (l : List ℕ) → slice_get lists q ≡ Some l → l ≡ []) → AreAdding keys 0 lists
-adding_none keys lists empty q l e = ap (λ (x : List ℕ). x ++ picked q 0 keys) (empty q l e)
 
 pub adding_more : (keys : List ℕ) (k : ℕ) (lists : List (List ℕ)) → k < length keys → get_or keys k 0 < length lists → AreAdding keys k lists →
     AreAdding keys (k + 1) (slice_set lists (get_or keys k 0) (get_or lists (get_or keys k 0) [] ++ k ∷ []))
@@ -43,17 +42,7 @@ adding_more keys k lists h within adding q l e =
     ]
 
 pub adding_done : (keys : List ℕ) (k : ℕ) (lists : List (List ℕ)) → length keys ≤ k → AreAdding keys k lists → (q : ℕ) (l : List ℕ) → slice_get lists q ≡ Some l → l ≡ picked q 0 keys
-adding_done keys k lists h adding q l e = sym (append_nil l) ∙ ap (λ (x : List ℕ). l ++ picked q k x) (sym (drop_all k keys h)) ∙ adding q l e
-  where
-    append_nil : (l : List ℕ) → l ++ [] ≡ l
-    append_nil [] = refl
-    append_nil (x ∷ l) = ap (λ (y : List ℕ). x ∷ y) (append_nil l)
-
-    drop_all : (n : ℕ) (xs : List ℕ) → length xs ≤ n → drop n xs ≡ []
-    drop_all zero [] h = refl
-    drop_all (suc n) [] h = refl
-    drop_all zero (x ∷ xs) h = absurd (omega arith)
-    drop_all (suc n) (x ∷ xs) h = drop_all n xs (omega arith)
+adding_done keys k lists h adding q l e = sym (append-nil l) ∙ ap (λ (x : List ℕ). l ++ picked q k x) (sym (drop_all k keys h)) ∙ adding q l e
 
 -- lists that were lent are those that were added to
 pub picked_lent : (count : ℕ) (keys : List ℕ) (lists new : List (List ℕ)) → length new ≡ length lists → length lists ≡ count →
@@ -72,11 +61,11 @@ place_added lists key place past new within e =
 abbrev pub AreEmpty : List (List ℕ) → Type 0
 AreEmpty lists = (q : ℕ) (l : List ℕ) → slice_get lists q ≡ Some l → l ≡ []
 
-pub empty_more : (lists : List (List ℕ)) → AreEmpty lists → AreEmpty (lists ++ [] ∷ [])
-empty_more [] h zero l e = sym (some_same e)
-empty_more [] h (suc q) l e = absurd cc
-empty_more (x ∷ lists) h zero l e = h 0 l e
-empty_more (x ∷ lists) h (suc q) l e = empty_more lists (λ k m f. h (suc k) m f) q l e
+-- what is mapped stays below a bound
+pub mapped_below : {A : Type 0} (f : A → ℕ) (xs : List A) (ys : List ℕ) (count : ℕ) → ys ≡ map f xs → ((j : ℕ) (x : A) → slice_get xs j ≡ Some x → f x < count) → (k y : ℕ) → slice_get ys k ≡ Some y → y < count
+mapped_below f xs ys count are each k y e =
+    let x = get_map_some f xs k y (ap (λ (l : List ℕ). slice_get l k) (sym are) ∙ e) in
+    omega (arith, each k x.0 x.1, x.2)
 
 -- labels are below their count
 pub labels_below : {count : ℕ} (labels : List ℕ) → length labels ≡ count → ((n : ℕ) → slice_index labels n ≤ n) → (keys : List ℕ) → keys ≡ labels → (k key : ℕ) → slice_get keys k ≡ Some key → key < count
@@ -87,23 +76,13 @@ labels_below labels long below keys same k key e =
 -- the labels of nets are numbers of nets
 pub net_labels_below : (w : Wired) (labels : List ℕ) → IsCut w labels → (keys : List ℕ) → keys ≡ map (slice_index labels) w.net_of →
     (k key : ℕ) → slice_get keys k ≡ Some key → key < w.nets
-net_labels_below w labels cut keys ek k key e =
-    let n = get_map_some (slice_index labels) w.net_of k key (ap (λ (l : List ℕ). slice_get l k) (sym ek) ∙ e) in
-    omega (arith, cut.below n.0, n.2, cut.pins_within k n.0 n.1)
+net_labels_below w labels cut keys ek = mapped_below (slice_index labels) w.net_of keys w.nets ek (λ j n at. omega (arith, cut.below n, cut.pins_within j n at))
 
 pub pair_labels_below : (labels : List ℕ) → ((n : ℕ) → slice_index labels n ≤ n) → (pairs : List (ℕ × ℕ)) (count : ℕ) →
     ArePairs count pairs → (keys : List ℕ) → keys ≡ labels_of labels pairs →
     (k key : ℕ) → slice_get keys k ≡ Some key → key < count
-pair_labels_below labels below pairs count within keys ek k key e =
-    let c = get_map_some (λ (x : ℕ × ℕ). slice_index labels x.0) pairs k key (ap (λ (l : List ℕ). slice_get l k) (sym ek) ∙ e) in
-    let l = within k c.0 c.1 in
-    omega (arith, below c.0.0, c.2, l.0)
-
--- what is mapped stays below a bound
-pub mapped_below : {A : Type 0} (f : A → ℕ) (xs : List A) (ys : List ℕ) (count : ℕ) → ys ≡ map f xs → ((j : ℕ) (x : A) → slice_get xs j ≡ Some x → f x < count) → (k y : ℕ) → slice_get ys k ≡ Some y → y < count
-mapped_below f xs ys count are each k y e =
-    let x = get_map_some f xs k y (ap (λ (l : List ℕ). slice_get l k) (sym are) ∙ e) in
-    omega (arith, each k x.0 x.1, x.2)
+pair_labels_below labels below pairs count within keys ek =
+    mapped_below (λ (x : ℕ × ℕ). slice_index labels x.0) pairs keys count ek (λ j c at. omega (arith, below c.0, (within j c at).0))
 
 pub pairs_below : {A : Type 0} (f : A → ℕ × ℕ) (xs : List A) (ys : List (ℕ × ℕ)) (count : ℕ) → ys ≡ map f xs → ((j : ℕ) (x : A) → slice_get xs j ≡ Some x → ((f x).0 < count) × ((f x).1 < count)) →
     ArePairs count ys
@@ -112,15 +91,6 @@ pairs_below f xs ys count are each k y e =
     let at = each k x.0 x.1 in
     (omega (arith, at.0, ap (λ (z : ℕ × ℕ). z.0) x.2), omega (arith, at.1, ap (λ (z : ℕ × ℕ). z.1) x.2))
 
--- one more item of a list that is mapped from the front
-pub map_more : {A B : Type 0} (f : A → B) (xs : List A) (i : ℕ) (d : A) → i < length xs → map f (take (i + 1) xs) ≡ map f (take i xs) ++ f (get_or xs i d) ∷ []
-map_more {A = A} {B = B} f xs i d h = rw add-one (more xs i h)
-  where
-    more : (xs : List A) (i : ℕ) → i < length xs → map f (take (suc i) xs) ≡ map f (take i xs) ++ f (get_or xs i d) ∷ []
-    more [] i h = absurd (omega arith)
-    more (x ∷ xs) zero h = refl
-    more (x ∷ xs) (suc i) h = ap (λ (l : List B). f x ∷ l) (more xs i (omega arith))
-
 -- all items of a list that was mapped from the front
 pub map_all : {A B : Type 0} (f : A → B) (xs : List A) (i : ℕ) (ys : List B) → length xs ≤ i → ys ≡ map f (take i xs) → ys ≡ map f xs
 map_all {A = A} f xs i ys h e = e ∙ ap (λ (l : List A). map f l) (take_whole i xs h)
@@ -128,17 +98,6 @@ map_all {A = A} f xs i ys h e = e ∙ ap (λ (l : List A). map f l) (take_whole 
 -- one more item was put behind those that were mapped
 pub map_next : {A B : Type 0} (f : A → B) (xs : List A) (i : ℕ) (d : A) (ys zs : List B) → i < length xs → ys ≡ map f (take i xs) → zs ≡ ys ++ f (get_or xs i d) ∷ [] → zs ≡ map f (take (i + 1) xs)
 map_next {B = B} f xs i d ys zs h e put = put ∙ ap (λ (l : List B). l ++ f (get_or xs i d) ∷ []) e ∙ sym (map_more f xs i d h)
-
-pub map_here : {A B : Type 0} (f g : A → B) (xs : List A) → ((j : ℕ) (x : A) → slice_get xs j ≡ Some x → f x ≡ g x) → map f xs ≡ map g xs
-map_here f g [] same = refl
-map_here f g (x ∷ xs) same =
-    let a : f x ≡ g x = same 0 x refl in
-    let b : map f xs ≡ map g xs = map_here f g xs (λ j y e. same (suc j) y e) in
-    cc
-
-pub map-map : {A B C : Type 0} (f : B → C) (g : A → B) (xs : List A) → map f (map g xs) ≡ map (λ x. f (g x)) xs
-map-map f g [] = refl
-map-map {C = C} f g (x ∷ xs) = ap (λ (l : List C). f (g x) ∷ l) (map-map f g xs)
 
 -- there are no more places of a key than places
 pub picked_length : (key k : ℕ) (xs : List ℕ) → length (picked key k xs) ≤ length xs
@@ -156,19 +115,12 @@ picked_within key xs j m e =
     let same : s.0 ≡ m = omega (arith, s.1) in
     subst (λ (z : ℕ). slice_get xs z ≡ Some key) same s.2
 
--- the pins of a subcircuit are pins
-pub pin_places : (labels ns : List ℕ) (q : ℕ) (pins : List ℕ) → pins ≡ picked q 0 (map (slice_index labels) ns) → (j k : ℕ) → slice_get pins j ≡ Some k → k < length ns
-pin_places labels ns q pins are j k e =
-    let key = picked_within q (map (slice_index labels) ns) j k (subst (λ (l : List ℕ). slice_get l j ≡ Some k) are e) in
-    let n = get_map_some (slice_index labels) ns k q key in
-    slice_get_within ns k n.0 n.1
-
--- some places of pairs are those of pairs
-pub pair_places : (labels : List ℕ) (whole : List (ℕ × ℕ)) (q : ℕ) (places : List ℕ) → places ≡ picked q 0 (labels_of labels whole) → (j k : ℕ) → slice_get places j ≡ Some k → k < length whole
-pair_places labels whole q places are j k e =
-    let key = picked_within q (labels_of labels whole) j k (subst (λ (l : List ℕ). slice_get l j ≡ Some k) are e) in
-    let c = get_map_some (λ (x : ℕ × ℕ). slice_index labels x.0) whole k q key in
-    slice_get_within whole k c.0 c.1
+-- the places of a key are places of the list
+pub places_within : {A : Type 0} (f : A → ℕ) (xs : List A) (q : ℕ) (places : List ℕ) → places ≡ picked q 0 (map f xs) →
+    (j k : ℕ) → slice_get places j ≡ Some k → k < length xs
+places_within f xs q places are j k e =
+    let x = get_map_some f xs k q (picked_within q (map f xs) j k (subst (λ (l : List ℕ). slice_get l j ≡ Some k) are e)) in
+    slice_get_within xs k x.0 x.1
 
 module _ (w : Wired) (labels : List ℕ) (cut : IsCut w labels) (q : ℕ) (nets : List ℕ) (nets_are : nets ≡ picked q 0 labels)
     (numbers : List ℕ) (long : length numbers ≡ w.nets) (numbered : (i n : ℕ) → slice_get nets i ≡ Some n → slice_get numbers n ≡ Some i) where
@@ -224,7 +176,7 @@ module _ (w : Wired) (labels : List ℕ) (cut : IsCut w labels) (q : ℕ) (nets 
   own_pair_below whole within joined places are j k e =
       let pair = own_pair numbers whole in
       let c = get_or whole k (0, 0) in
-      let at : slice_get whole k ≡ Some c = get_within whole k (0, 0) (pair_places labels whole q places are j k e) in
+      let at : slice_get whole k ≡ Some c = get_within whole k (0, 0) (places_within (λ (x : ℕ × ℕ). slice_index labels x.0) whole q places are j k e) in
       let ends = (own_pairs_are whole within joined places are).each j k c (pair k) e at (some_map pair places j k e) in
       (slice_get_within nets (pair k).0 c.0 ends.0, slice_get_within nets (pair k).1 c.1 ends.1)
 

@@ -16,7 +16,8 @@ use Rattle.board_model.proofs.WalkLemmas.{walk_sound, walk_complete}
 use Rattle.board_model.proofs.Lists.{some_same, get_within, get-below, length-below}
 use Rattle.net_resolve.specs.Subcircuits.{Lacks, AreOnce}
 use Rattle.net_resolve.proofs.ValueLemmas.{any_value}
-use Rattle.net_resolve.proofs.ResolveLemmas.{two_values, AreStrong, values_any, strong_flat, strong_first, any_flat_some, any_flat_at}
+use Rattle.net_resolve.proofs.ReachLemmas.{passes_ends}
+use Rattle.net_resolve.proofs.ResolveLemmas.{AreStrong, strong_flat, strong_first, value_found, value_there}
 
 -- the second list has the pins of these nets, by the nets' places, in the order of the first list
 pub data Sub (nets : List ℕ) : List (ℕ × Drive) → List (ℕ × Drive) → Type 0 where
@@ -84,14 +85,10 @@ strong_levels : (xs ys ws : List Drive) → AreStrong xs → AreStrong ys → an
 strong_levels xs ys ws sa sb high low = elim (strong_first xs sa) [
   | inl a ↦ elim (strong_first ys sb) [
     | inl b ↦ ap (λ (l : List Drive). level_of_drives (l ++ ws)) (a.0 ∙ sym b.0)
-    | inr b ↦
-        let e : (any_value true ys || any_value false ys) ≡ false = ap (λ (x : Bool). x || any_value false ys) (sym high) ∙ ap (λ (x : Bool). any_value true xs || x) (sym low) ∙ a.1 in
-        absurd cc
+    | inr b ↦ absurd (cc (high, low, a.1, b.0))
   ]
   | inr a ↦ elim (strong_first ys sb) [
-    | inl b ↦
-        let e : (any_value true ys || any_value false ys) ≡ true = ap (λ (x : Bool). x || any_value false ys) (sym high) ∙ ap (λ (x : Bool). any_value true xs || x) (sym low) ∙ a.0 in
-        absurd cc
+    | inl b ↦ absurd (cc (high, low, a.0, b.1))
     | inr b ↦
         a.1 ws
         ∙ ap (λ (x : Bool). level_of_values x (any_value false (xs ++ ws))) (joined true high)
@@ -105,32 +102,6 @@ strong_levels xs ys ws sa sb high low = elim (strong_first xs sa) [
         list_any-append (λ (d : Drive). is_value v (value_of d)) xs ws
         ∙ ap (λ (x : Bool). x || any_value v ws) e
         ∙ sym (list_any-append (λ (d : Drive). is_value v (value_of d)) ys ws)
-
--- what is collected from numbers of which some count, each with its strong values
-abbrev collects : (ℕ → Bool) → (ℕ → Bool) → (ℕ → Bool) → ℕ → List Drive
-collects c a b count = flat_map (λ m. if c m then two_values (a m) (b m) else []) (below count)
-
--- a value is collected exactly where a number that counts has it
-value_found : (v : Bool) (c a b : ℕ → Bool) (count : ℕ) → any_value v (collects c a b count) ≡ true → (m : ℕ) × (m < count) × (c m ≡ true) × ((if v then a m else b m) ≡ true)
-value_found v c a b count h =
-    let s = any_flat_some (λ (d : Drive). is_value v (value_of d)) (λ (m : ℕ). if c m then two_values (a m) (b m) else []) (below count) h in
-    let l : s.0 < count = omega (arith, slice_get_within (below count) s.0 s.1 s.2, length-below count) in
-    let same : s.0 ≡ s.1 = some_same (sym (get-below count s.0 l) ∙ s.2) in
-    let r = here s.1 (c s.1) refl s.3 in
-    (s.1, subst (λ (z : ℕ). z < count) same l, r.0, r.1)
-  where
-    here : (m : ℕ) (x : Bool) → c m ≡ x → any_value v (if c m then two_values (a m) (b m) else []) ≡ true → (c m ≡ true) × ((if v then a m else b m) ≡ true)
-    here m true e h =
-        let k : any_value v (two_values (a m) (b m)) ≡ true = subst (λ (x : Bool). any_value v (if x then two_values (a m) (b m) else []) ≡ true) e h in
-        (e, sym (values_any v (a m) (b m)) ∙ k)
-    here m false e h =
-        let k : any_value v [] ≡ true = subst (λ (x : Bool). any_value v (if x then two_values (a m) (b m) else []) ≡ true) e h in
-        absurd cc
-
-value_there : (v : Bool) (c a b : ℕ → Bool) (count m : ℕ) → m < count → c m ≡ true → (if v then a m else b m) ≡ true → any_value v (collects c a b count) ≡ true
-value_there v c a b count m l e h =
-    any_flat_at (λ (d : Drive). is_value v (value_of d)) (λ (n : ℕ). if c n then two_values (a n) (b n) else []) (below count) m m (get-below count m l)
-    (rw e (values_any v (a m) (b m) ∙ h))
 
 -- One board within another: the nets of the inner one are some of the outer one, by their places.
 pub record IsInner (count : ℕ) (net_of : List ℕ) (contacts resistors : List (ℕ × ℕ)) (closed : List Bool) (ds : List Drive)
@@ -202,20 +173,11 @@ module _ (count : ℕ) (net_of : List ℕ) (contacts resistors : List (ℕ × �
       ]
 
   passes_in_within : (i j : ℕ) → passes_in i j ≡ true → (i < length nets) × (j < length nets)
-  passes_in_within i j h =
-      let both = and_parts (not (driven_in i)) (contact_joins own_contacts own_closed i j || joined_by own_resistors i j) h in
-      elim (or_cases (contact_joins own_contacts own_closed i j) (joined_by own_resistors i j) both.1) [
-        | inl c ↦ inner.own_contacts_within i j c
-        | inr r ↦ inner.own_resistors_within i j r
-      ]
+  passes_in_within =
+      passes_ends (length nets) own_of own_contacts own_resistors own_closed own_ds inner.own_contacts_within inner.own_resistors_within
 
   passes_out_within : (a b : ℕ) → passes_out a b ≡ true → (a < count) × (b < count)
-  passes_out_within a b h =
-      let both = and_parts (not (driven_out a)) (contact_joins contacts closed a b || joined_by resistors a b) h in
-      elim (or_cases (contact_joins contacts closed a b) (joined_by resistors a b) both.1) [
-        | inl c ↦ inner.contacts_within a b c
-        | inr r ↦ inner.resistors_within a b r
-      ]
+  passes_out_within = passes_ends count net_of contacts resistors closed ds inner.contacts_within inner.resistors_within
 
   abbrev reaches_out : ℕ → ℕ → Bool
   reaches_out = reaches count net_of contacts resistors closed ds
@@ -235,26 +197,19 @@ module _ (count : ℕ) (net_of : List ℕ) (contacts resistors : List (ℕ × �
   abbrev values_in : ℕ → List Drive
   values_in i = flat_map (λ j. if reaches_in i j then strong_values (length nets) own_of own_contacts own_resistors own_closed own_ds j else []) (below (length nets))
 
-  picks : Bool → Bool → Bool → Bool
-  picks v a b = if v then a else b
-
-  chosen_same : (v : Bool) (i n : ℕ) → slice_get nets i ≡ Some n → (if v then strong_out n true else strong_out n false) ≡ (if v then strong_in i true else strong_in i false)
-  chosen_same true i n e = strong_same i n true e
-  chosen_same false i n e = strong_same i n false e
-
   values_same : (v : Bool) (i n : ℕ) → slice_get nets i ≡ Some n → any_value v (values_out n) ≡ any_value v (values_in i)
   values_same v i n e = both_ways (any_value v (values_out n)) (any_value v (values_in i))
       (λ h.
-      let s = value_found v (reaches_out n) (λ m. strong_out m true) (λ m. strong_out m false) count h in
+      let s = value_found v (reaches_out n) strong_out count h in
       let t = leads_to nets inner.once passes_out passes_in passes_to passes_back passes_in_within count passes_out_within i n s.0 e s.2 in
-      value_there v (reaches_in i) (λ m. strong_in m true) (λ m. strong_in m false) (length nets) t.0 (slice_get_within nets t.0 s.0 t.1)
-      (sym (reaches_same i t.0 n s.0 e t.1) ∙ s.2) (sym (chosen_same v t.0 s.0 t.1) ∙ s.3))
+      value_there v (reaches_in i) strong_in (length nets) t.0 (slice_get_within nets t.0 s.0 t.1)
+      (sym (reaches_same i t.0 n s.0 e t.1) ∙ s.2) (sym (strong_same t.0 s.0 v t.1) ∙ s.3))
       (λ h.
-      let s = value_found v (reaches_in i) (λ m. strong_in m true) (λ m. strong_in m false) (length nets) h in
+      let s = value_found v (reaches_in i) strong_in (length nets) h in
       let m = get_or nets s.0 0 in
       let at : slice_get nets s.0 ≡ Some m = get_within nets s.0 0 s.1 in
-      value_there v (reaches_out n) (λ x. strong_out x true) (λ x. strong_out x false) count m (inner.nets_within s.0 m at)
-      (reaches_same i s.0 n m e at ∙ s.2) (chosen_same v s.0 m at ∙ s.3))
+      value_there v (reaches_out n) strong_out count m (inner.nets_within s.0 m at)
+      (reaches_same i s.0 n m e at ∙ s.2) (strong_same s.0 m v at ∙ s.3))
 
   abbrev weak_out : ℕ → List Drive
   weak_out n = map (λ p. p.1) (filter (λ p. reaches_out n p.0 && not (driven_out p.0) && is_weak p.1) (zip net_of ds))
@@ -272,8 +227,8 @@ module _ (count : ℕ) (net_of : List ℕ) (contacts resistors : List (ℕ × �
   collected_same i n e =
       ap (λ (l : List Drive). level_of_drives (values_out n ++ l)) (weak_same i n e)
       ∙ strong_levels (values_out n) (values_in i) (weak_in i)
-      (strong_flat (reaches_out n) (λ m. strong_out m true) (λ m. strong_out m false) (below count))
-      (strong_flat (reaches_in i) (λ m. strong_in m true) (λ m. strong_in m false) (below (length nets)))
+      (strong_flat (reaches_out n) strong_out (below count))
+      (strong_flat (reaches_in i) strong_in (below (length nets)))
       (values_same true i n e) (values_same false i n e)
 
   -- a net has one level on both boards

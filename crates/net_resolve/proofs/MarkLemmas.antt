@@ -59,10 +59,6 @@ distinct_push (x ∷ ns) n h once = (all ns once.0, distinct_push ns n (or_parts
     all [] h = (apart, h)
     all (y ∷ ys) h = (h.0, all ys h.1)
 
--- a level was put in its place, or was there
-pub moves_none : (levels : List Level) (ms : MarksView) → Moves levels levels ms ms
-moves_none levels ms = record { long = refl; room = refl; differ = λ n h. inl h; others = λ n h. (h, refl) }
-
 pub moves_put : (levels : List Level) (ms : MarksView) (n : ℕ) (x : Level) → n < length levels → slice_get levels n ≢ Some x → Moves levels (slice_set levels n x) ms (record ms { marked = with_mark n ms.marked })
 moves_put levels ms n x inside ne = record {
   long = length-set levels n x;

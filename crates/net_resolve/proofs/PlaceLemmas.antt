@@ -24,9 +24,6 @@ pub record Put {A : Type 0} (from : List A) (places : List ℕ) (j : ℕ) (old n
   pub there : (i k : ℕ) → i < j → slice_get places i ≡ Some k → slice_get new k ≡ slice_get from i
   pub others : (k : ℕ) → ((i : ℕ) → i < j → slice_get places i ≡ Some k → ⊥) → slice_get new k ≡ slice_get old k
 
-pub put_none : {A : Type 0} (from : List A) (places : List ℕ) (old : List A) → Put from places 0 old old
-put_none from places old = record { there = λ i k l. absurd (omega arith); others = λ k h. refl }
-
 pub put_more : {A : Type 0} (from : List A) (places : List ℕ) (j : ℕ) (old new : List A) (m : ℕ) (x : A) →
     AreOnce places → Put from places j old new →
     slice_get places j ≡ Some m → m < length new → slice_get from j ≡ Some x → Put from places (j + 1) old (slice_set new m x)

@@ -1,6 +1,6 @@
 -- Groups are what closed contacts lead to, and areas what is reached over nets without a strong value.
-use Rattle.std.proofs.Common.{◌≡◌, ℕ, zero, suc, ◌<◌, List, [], ◌∷◌, length, Bool, true, false, not, refl, ap, sym, ◌∙◌, arith, inl, inr, Some, eq-eqb}
-use Rattle.std.proofs.lemmas.Bool.{eqb-true, or_cases, or_left, or_right, and_from}
+use Rattle.std.proofs.Common.{◌≡◌, ℕ, zero, suc, ◌<◌, List, [], ◌∷◌, length, map, Bool, true, false, not, refl, ap, sym, ◌∙◌, arith, inl, inr, Some, eq-eqb}
+use Rattle.std.proofs.lemmas.Bool.{eqb-true, or_cases, or_left, or_right, and_from, and_parts}
 use Rattle.std.specs.Prelude.{◌==◌, ◌&&◌, ◌||◌, slice_get, slice_index}
 use Rattle.std.specs.List.{zip, list_any}
 use Rattle.std.specs.Cmp.{both_ways}
@@ -31,6 +31,14 @@ any_some test (y ∷ xs) h = elim (or_cases (test y) (list_any test xs) h) [
   | inr r ↦ let s = any_some test xs r in (suc s.0, s.1, s.2, s.3)
 ]
 
+-- functions that agree on the items of a list
+pub map_here : {A B : Type 0} (f g : A → B) (xs : List A) → ((j : ℕ) (x : A) → slice_get xs j ≡ Some x → f x ≡ g x) → map f xs ≡ map g xs
+map_here f g [] same = refl
+map_here f g (x ∷ xs) same =
+    let a : f x ≡ g x = same 0 x refl in
+    let b : map f xs ≡ map g xs = map_here f g xs (λ j y e. same (suc j) y e) in
+    cc
+
 -- tests that agree on the pins of nets that there are
 pub any_same : (count : ℕ) (f h : ℕ × Drive → Bool) → ((n : ℕ) (d : Drive) → n < count → f (n, d) ≡ h (n, d)) → (ns : List ℕ) (ds : List Drive) →
     ((k n : ℕ) → slice_get ns k ≡ Some n → n < count) → list_any f (zip ns ds) ≡ list_any h (zip ns ds)
@@ -40,6 +48,14 @@ any_same count f h same (n ∷ ns) (d ∷ ds) within =
     let a : f (n, d) ≡ h (n, d) = same n d (within 0 n refl) in
     let b : list_any f (zip ns ds) ≡ list_any h (zip ns ds) = any_same count f h same ns ds (λ k m e. within (suc k) m e) in
     cc
+
+-- a step is between nets that there are
+pub passes_ends : (count : ℕ) (net_of : List ℕ) (contacts resistors : List (ℕ × ℕ)) (closed : List Bool) (ds : List Drive) →
+    ((x y : ℕ) → contact_joins contacts closed x y ≡ true → (x < count) × (y < count)) → ((x y : ℕ) → joined_by resistors x y ≡ true → (x < count) × (y < count)) →
+    (x y : ℕ) → passes count net_of contacts resistors closed ds x y ≡ true → (x < count) × (y < count)
+passes_ends count net_of contacts resistors closed ds by_contact by_resistor x y h =
+    let both = and_parts (not (is_driven count net_of contacts resistors closed ds x)) (contact_joins contacts closed x y || joined_by resistors x y) h in
+    elim (or_cases (contact_joins contacts closed x y) (joined_by resistors x y) both.1) [ inl c ↦ by_contact x y c | inr r ↦ by_resistor x y r ]
 
 module _ (contacts : List (ℕ × ℕ)) (closed : List Bool) (groups : List ℕ) (g : AreGroups contacts closed groups) where
   contact_within : (x y : ℕ) → contact_joins contacts closed x y ≡ true → (x < length groups) × (y < length groups)

@@ -22,9 +22,9 @@ use Rattle.board_model.proofs.Lists.{some_same, get-below, length-below, get_map
 use Rattle.union_find.specs.Forest.{AreLabels, Joins}
 use Rattle.net_resolve.specs.Sums.{is_loose, sum_at, added, weak_level, over_adds, resistors_add, together, own_level, level_here}
 use Rattle.union_find.proofs.PairLemmas.{joins_cases, joins_is, joins_swap}
-use Rattle.net_resolve.proofs.ReachLemmas.{any_at, any_some, one_label, strong_is}
+use Rattle.net_resolve.proofs.ReachLemmas.{any_at, any_some, map_here, one_label, strong_is}
 use Rattle.net_resolve.proofs.AreaLemmas.{Grouped, bridges_of, loose_here, passes_within, area_is}
-use Rattle.net_resolve.proofs.ValueLemmas.{values_together, any_value, weak_of, weak_added, weak_alone}
+use Rattle.net_resolve.proofs.ValueLemmas.{values_together, or_end, any_value, weak_of, weak_added, weak_alone}
 
 -- what is added where the same pins count
 added_same : (gives : Drive → Level) (count : ℕ) (f h : ℕ → Bool) → ((n : ℕ) → n < count → f n ≡ h n) → (ns : List ℕ) (ds : List Drive) (sum : Level) →
@@ -55,14 +55,40 @@ abbrev pub two_values : Bool → Bool → List Drive
 two_values a b = (if a then drives.High ∷ [] else []) ++ (if b then drives.Low ∷ [] else [])
 
 pub values_any : (v a b : Bool) → any_value v (two_values a b) ≡ (if v then a else b)
-values_any true true true = refl
-values_any true true false = refl
+values_any true true b = refl
 values_any true false true = refl
 values_any true false false = refl
 values_any false true true = refl
 values_any false true false = refl
 values_any false false true = refl
 values_any false false false = refl
+
+values_of : (f : Bool → Bool) (v : Bool) → any_value v (two_values (f true) (f false)) ≡ f v
+values_of f true = values_any true (f true) (f false)
+values_of f false = values_any false (f true) (f false)
+
+-- what is collected from numbers of which some count, each with its strong values
+abbrev pub collects : (ℕ → Bool) → (ℕ → Bool → Bool) → ℕ → List Drive
+collects c f count = flat_map (λ m. if c m then two_values (f m true) (f m false) else []) (below count)
+
+-- a value is collected exactly where a number that counts has it
+pub value_found : (v : Bool) (c : ℕ → Bool) (f : ℕ → Bool → Bool) (count : ℕ) → any_value v (collects c f count) ≡ true →
+    (m : ℕ) × (m < count) × (c m ≡ true) × (f m v ≡ true)
+value_found v c f count h =
+    let s = any_flat_some (λ (d : Drive). is_value v (value_of d)) (λ (m : ℕ). if c m then two_values (f m true) (f m false) else []) (below count) h in
+    let l : s.0 < count = omega (arith, slice_get_within (below count) s.0 s.1 s.2, length-below count) in
+    let same : s.0 ≡ s.1 = some_same (sym (get-below count s.0 l) ∙ s.2) in
+    let r = here s.1 (c s.1) refl s.3 in
+    (s.1, subst (λ (z : ℕ). z < count) same l, r.0, r.1)
+  where
+    here : (m : ℕ) (x : Bool) → c m ≡ x → any_value v (if x then two_values (f m true) (f m false) else []) ≡ true → (c m ≡ true) × (f m v ≡ true)
+    here m true e h = (e, sym (values_of (f m) v) ∙ h)
+    here m false e h = absurd cc
+
+pub value_there : (v : Bool) (c : ℕ → Bool) (f : ℕ → Bool → Bool) (count m : ℕ) → m < count → c m ≡ true → f m v ≡ true → any_value v (collects c f count) ≡ true
+value_there v c f count m l e h =
+    any_flat_at (λ (d : Drive). is_value v (value_of d)) (λ (n : ℕ). if c n then two_values (f n true) (f n false) else []) (below count) m m (get-below count m l)
+    (rw e (values_of (f m) v ∙ h))
 
 abbrev pub AreStrong : List Drive → Type 0
 AreStrong [] = Unit {0}
@@ -83,9 +109,10 @@ strong_maybe : (c a b : Bool) (ds : List Drive) → AreStrong ds → AreStrong (
 strong_maybe true a b ds s = strong_join a b ds s
 strong_maybe false a b ds s = s
 
-pub strong_flat : (c a b : ℕ → Bool) (ns : List ℕ) → AreStrong (flat_map (λ m. if c m then two_values (a m) (b m) else []) ns)
-strong_flat c a b [] = tt
-strong_flat c a b (n ∷ ns) = strong_maybe (c n) (a n) (b n) (flat_map (λ m. if c m then two_values (a m) (b m) else []) ns) (strong_flat c a b ns)
+pub strong_flat : (c : ℕ → Bool) (f : ℕ → Bool → Bool) (ns : List ℕ) → AreStrong (flat_map (λ m. if c m then two_values (f m true) (f m false) else []) ns)
+strong_flat c f [] = tt
+strong_flat c f (n ∷ ns) =
+    strong_maybe (c n) (f n true) (f n false) (flat_map (λ m. if c m then two_values (f m true) (f m false) else []) ns) (strong_flat c f ns)
 
 -- strong values are none, or more than a lone wiper
 pub strong_first : (ds : List Drive) → AreStrong ds → ((ds ≡ []) × ((any_value true ds || any_value false ds) ≡ false))
@@ -102,25 +129,16 @@ or_four : (h a b c : Bool) → (((h || a) || b) || c) ≡ (h || ((a || b) || c))
 or_four true a b c = refl
 or_four false a b c = refl
 
-or_end : (a b : Bool) → level_of_values a b ≡ level_of_values (a || false) (b || false)
-or_end true true = refl
-or_end true false = refl
-or_end false true = refl
-or_end false false = refl
-
 both_none : (a b : Bool) → (a || b) ≡ false → level_of_values a b ≡ levels.Z
 both_none true b h = absurd cc
 both_none false true h = absurd cc
 both_none false false h = refl
 
 map_same : (f h : ℕ → Level) (count : ℕ) → ((n : ℕ) → n < count → f n ≡ h n) → map f (below count) ≡ map h (below count)
-map_same f h count same = same_lists (map f (below count)) (map h (below count)) (simp length-map refl) (λ k x y ex ey.
-    let sx = get_map_some f (below count) k x ex in
-    let sy = get_map_some h (below count) k y ey in
-    let lk : k < count = omega (arith, slice_get_within (below count) k sx.0 sx.1, length-below count) in
-    let kx : k ≡ sx.0 = some_same (sym (get-below count k lk) ∙ sx.1) in
-    let ky : k ≡ sy.0 = some_same (sym (get-below count k lk) ∙ sy.1) in
-    sym sx.2 ∙ ap f (sym kx) ∙ same k lk ∙ ap h ky ∙ sy.2)
+map_same f h count same = map_here f h (below count) (λ k x e.
+    let l : k < count = omega (arith, slice_get_within (below count) k x e, length-below count) in
+    let is : k ≡ x = some_same (sym (get-below count k l) ∙ e) in
+    ap f (sym is) ∙ same k l ∙ ap h is)
 
 module _ (net_of : List ℕ) (contacts resistors : List (ℕ × ℕ)) (closed : List Bool) (ds : List Drive) (groups : List ℕ) (strong : List Level)
     (g : Grouped net_of contacts resistors closed ds groups strong) (areas : List ℕ) (long : length areas ≡ length groups) (labels : AreLabels areas)
@@ -171,18 +189,7 @@ module _ (net_of : List ℕ) (contacts resistors : List (ℕ × ℕ)) (closed : 
 
   -- the strong values that are reached from n
   abbrev reached_values : ℕ → List Drive
-  reached_values n = flat_map (λ m. if reaches (length groups) net_of contacts resistors closed ds n m then strong_values (length groups) net_of contacts resistors closed ds m else []) (below (length groups))
-
-  values_at : (n m : ℕ) (v : Bool) → reaches (length groups) net_of contacts resistors closed ds n m ≡ true → has_strong (length groups) net_of contacts resistors closed ds m v ≡ true →
-      any_value v (if reaches (length groups) net_of contacts resistors closed ds n m then strong_values (length groups) net_of contacts resistors closed ds m else []) ≡ true
-  values_at n m v e h = rw e (
-      values_any v (has_strong (length groups) net_of contacts resistors closed ds m true) (has_strong (length groups) net_of contacts resistors closed ds m false)
-      ∙ choose v h)
-    where
-      choose : (v : Bool) → has_strong (length groups) net_of contacts resistors closed ds m v ≡ true →
-          (if v then has_strong (length groups) net_of contacts resistors closed ds m true else has_strong (length groups) net_of contacts resistors closed ds m false) ≡ true
-      choose true h = h
-      choose false h = h
+  reached_values n = collects (reaches (length groups) net_of contacts resistors closed ds n) (has_strong (length groups) net_of contacts resistors closed ds) (length groups)
 
   -- what is brought over one resistor is reached
   brought : (n from to : ℕ) (v : Bool) → n < length groups → from < length groups → to < length groups → is_loose groups strong n ≡ true → joined_by resistors to from ≡ true →
@@ -197,8 +204,7 @@ module _ (net_of : List ℕ) (contacts resistors : List (ℕ × ℕ)) (closed : 
       let pass : step to from ≡ true = and_from (not (is_driven (length groups) net_of contacts resistors closed ds to)) (contact_joins contacts closed to from || joined_by resistors to from)
       (sym (loose to lt) ∙ d.1) (or_right (contact_joins contacts closed to from) (joined_by resistors to from) by) in
       let at_from : reaches (length groups) net_of contacts resistors closed ds n from ≡ true = walk_complete (length groups) step within n from ln (further to from way pass) in
-      any_flat_at (λ (e : Drive). is_value v (value_of e)) (λ (m : ℕ). if reaches (length groups) net_of contacts resistors closed ds n m then strong_values (length groups) net_of contacts resistors closed ds m else [])
-      (below (length groups)) from from (get-below (length groups) from lf) (values_at n from v at_from a.1)
+      value_there v (reaches (length groups) net_of contacts resistors closed ds n) (has_strong (length groups) net_of contacts resistors closed ds) (length groups) from lf at_from a.1
 
   -- a net with a strong value is reached over a resistor from a loose one
   last_step : (n m : ℕ) → n < length groups → is_loose groups strong n ≡ true → is_loose groups strong m ≡ false → Walk (passes (length groups) net_of contacts resistors closed ds) n m →
@@ -242,25 +248,6 @@ module _ (net_of : List ℕ) (contacts resistors : List (ℕ × ℕ)) (closed : 
             (ap (λ (x : ℕ). brings v (slice_index areas n) x r.1.1) e.0 ∙ ap (λ (x : ℕ). brings v (slice_index areas n) m x) e.1 ∙ it)
       ])
 
-  values_from : (n m : ℕ) (v : Bool) → any_value v (if reaches (length groups) net_of contacts resistors closed ds n m then strong_values (length groups) net_of contacts resistors closed ds m else []) ≡ true →
-      (reaches (length groups) net_of contacts resistors closed ds n m ≡ true) × (has_strong (length groups) net_of contacts resistors closed ds m v ≡ true)
-  values_from n m v h = go (reaches (length groups) net_of contacts resistors closed ds n m) refl
-    where
-      choose : (v : Bool) → (if v then has_strong (length groups) net_of contacts resistors closed ds m true else has_strong (length groups) net_of contacts resistors closed ds m false)
-          ≡ has_strong (length groups) net_of contacts resistors closed ds m v
-      choose true = refl
-      choose false = refl
-
-      go : (c : Bool) → reaches (length groups) net_of contacts resistors closed ds n m ≡ c →
-          (reaches (length groups) net_of contacts resistors closed ds n m ≡ true) × (has_strong (length groups) net_of contacts resistors closed ds m v ≡ true)
-      go true e =
-          let k : any_value v (strong_values (length groups) net_of contacts resistors closed ds m) ≡ true =
-          subst (λ (c : Bool). any_value v (if c then strong_values (length groups) net_of contacts resistors closed ds m else []) ≡ true) e h in
-          (e, sym (choose v) ∙ sym (values_any v (has_strong (length groups) net_of contacts resistors closed ds m true) (has_strong (length groups) net_of contacts resistors closed ds m false)) ∙ k)
-      go false e =
-          let k : any_value v [] ≡ true = subst (λ (c : Bool). any_value v (if c then strong_values (length groups) net_of contacts resistors closed ds m else []) ≡ true) e h in
-          absurd cc
-
   adds_are : (n : ℕ) (v : Bool) → n < length groups → is_loose groups strong n ≡ true → list_any (adds v (slice_index areas n)) resistors ≡ any_value v (reached_values n)
   adds_are n v ln free = both_ways (list_any (adds v (slice_index areas n)) resistors) (any_value v (reached_values n))
       (λ h.
@@ -273,11 +260,8 @@ module _ (net_of : List ℕ) (contacts resistors : List (ℕ × ℕ)) (closed : 
         | inr r ↦ brought n s.1.0 s.1.1 v ln at.0 at.1 free back r
       ])
       (λ h.
-      let s = any_flat_some (λ (e : Drive). is_value v (value_of e)) (λ (m : ℕ). if reaches (length groups) net_of contacts resistors closed ds n m then strong_values (length groups) net_of contacts resistors closed ds m else []) (below (length groups)) h in
-      let lm : s.0 < length groups = omega (arith, slice_get_within (below (length groups)) s.0 s.1 s.2, length-below (length groups)) in
-      let same : s.0 ≡ s.1 = some_same (sym (get-below (length groups) s.0 lm) ∙ s.2) in
-      let from = values_from n s.1 v s.3 in
-      some_brings n s.1 v ln (subst (λ (x : ℕ). x < length groups) same lm) free from.0 from.1)
+      let s = value_found v (reaches (length groups) net_of contacts resistors closed ds n) (has_strong (length groups) net_of contacts resistors closed ds) (length groups) h in
+      some_brings n s.0 v ln s.1 free s.2 s.3)
 
   -- the sums by area
   module _ (sums : List Level)
@@ -317,7 +301,7 @@ module _ (net_of : List ℕ) (contacts resistors : List (ℕ × ℕ)) (closed : 
     loose_level n ln free =
         let rs = reached_values n in
         let ws = weak_of (counts n) (zip net_of ds) in
-        sum_is n ln free ∙ elim (strong_first rs (strong_flat (λ m. reaches (length groups) net_of contacts resistors closed ds n m) (λ m. has_strong (length groups) net_of contacts resistors closed ds m true) (λ m. has_strong (length groups) net_of contacts resistors closed ds m false) (below (length groups)))) [
+        sum_is n ln free ∙ elim (strong_first rs (strong_flat (reaches (length groups) net_of contacts resistors closed ds n) (has_strong (length groups) net_of contacts resistors closed ds) (below (length groups)))) [
           | inl none ↦
               ap (λ (l : Level). added weak_level (counts n) l (zip net_of ds)) (both_none (any_value true rs) (any_value false rs) none.1)
               ∙ weak_alone (counts n) (zip net_of ds) ∙ ap (λ (xs : List Drive). level_of_drives (xs ++ ws)) (sym none.0)

@@ -18,7 +18,9 @@ use Rattle.net_resolve.specs.Subcircuits.{Lacks, SubcircuitView, IsCut, IsSubcir
 use Rattle.net_resolve.proofs.SubcircuitLemmas.{nets_once, net_label, net_labelled, net_there, others_lack, own_level}
 use Rattle.net_resolve.proofs.PinLemmas.{all_pins}
 use Rattle.net_resolve.proofs.MarkLemmas.{has_first, has_rest, still_fresh, with_has, with_less}
-use Rattle.net_resolve.proofs.CutLemmas.{map_here, map-map, picked_within, pin_places, pair_places}
+use mathlib.Core.List.{map-map}
+use Rattle.net_resolve.proofs.ReachLemmas.{map_here}
+use Rattle.net_resolve.proofs.CutLemmas.{picked_within, places_within}
 
 -- a list with an item put where it stands
 pub set_same : {A : Type 0} (xs : List A) (i : ℕ) (x : A) → slice_get xs i ≡ Some x → slice_set xs i x ≡ xs
@@ -75,12 +77,12 @@ module _ (w : Wired) (labels : List ℕ) (cut : IsCut w labels) where
     own_drives_are : (ds : List Drive) → length ds ≡ length w.net_of → map Some (own_drives ds) ≡ map (slice_get ds) s.pins
     own_drives_are ds long = map-map (λ (x : Drive). Some x) (λ (k : ℕ). get_or ds k drives.Z) s.pins
         ∙ map_here (λ (k : ℕ). Some (get_or ds k drives.Z)) (slice_get ds) s.pins (λ j k e.
-        sym (get_within ds k drives.Z (omega (arith, long, pin_places labels w.net_of q s.pins is.pins_are j k e))))
+        sym (get_within ds k drives.Z (omega (arith, long, places_within (slice_index labels) w.net_of q s.pins is.pins_are j k e))))
 
     own_closed_are : (cs : List Bool) → length cs ≡ length w.contacts → map Some (own_closed cs) ≡ map (slice_get cs) s.contacts
     own_closed_are cs long = map-map (λ (x : Bool). Some x) (λ (k : ℕ). get_or cs k false) s.contacts
         ∙ map_here (λ (k : ℕ). Some (get_or cs k false)) (slice_get cs) s.contacts (λ j k e.
-        sym (get_within cs k false (omega (arith, long, pair_places labels w.contacts q s.contacts is.contacts_are j k e))))
+        sym (get_within cs k false (omega (arith, long, places_within (λ (x : ℕ × ℕ). slice_index labels x.0) w.contacts q s.contacts is.contacts_are j k e))))
 
     -- what the pins and contacts of other subcircuits do does not matter
     same_level : (cs cs2 : List Bool) (ds ds2 : List Drive) → length cs ≡ length w.contacts → length ds ≡ length w.net_of → length ds2 ≡ length w.net_of →
@@ -101,8 +103,8 @@ module _ (w : Wired) (labels : List ℕ) (cut : IsCut w labels) where
     pub fits_in : (drives_long closed_long levels_long : ℕ) → drives_long ≡ length w.net_of → closed_long ≡ length w.contacts → levels_long ≡ w.nets → FitsIn w.net_of drives_long closed_long levels_long s
     fits_in dl cl ll ed ec el = record {
       each = sym ed;
-      pins = pin_places labels w.net_of q s.pins is.pins_are;
-      contacts = λ j k e. omega (arith, ec, pair_places labels w.contacts q s.contacts is.contacts_are j k e);
+      pins = places_within (slice_index labels) w.net_of q s.pins is.pins_are;
+      contacts = λ j k e. omega (arith, ec, places_within (λ (x : ℕ × ℕ). slice_index labels x.0) w.contacts q s.contacts is.contacts_are j k e);
       nets = record {
         within = λ j k e. omega (arith, el, cut.long, slice_get_within labels k q (net_labelled labels q s.nets is.nets_are j k e));
         once = nets_once labels q s.nets is.nets_are;
@@ -200,13 +202,6 @@ module _ (w : Wired) (labels : List ℕ) (cut : IsCut w labels) where
       let is = right k l refl in
       let at = some_map (level_of w.nets w.net_of w.contacts w.resistors cs ds) (below w.nets) k k (get-below w.nets k l) in
       some_same (sym ex ∙ is ∙ sym at ∙ ey))
-
--- what is held of lists holds of lists that are the same
-pub right_moved : {st st2 : List ℕ} {cs cs2 : List Bool} {ds ds2 : List Drive} {ls ls2 : List Level} (w : Wired) (labels : List ℕ) → st ≡ st2 → cs ≡ cs2 → ds ≡ ds2 → ls ≡ ls2 →
-    AreRight w labels st cs ds ls → AreRight w labels st2 cs2 ds2 ls2
-right_moved {cs2 = cs2} {ds = ds} w labels es ec ed el right n l e =
-    ap (λ (x : List Level). slice_get x n) (sym el) ∙ right n l (ap (λ (x : List ℕ). has x (slice_index labels n)) es ∙ e)
-    ∙ ap (λ (x : List Bool). Some (level_now w x ds n)) ec ∙ ap (λ (x : List Drive). Some (level_now w cs2 x n)) ed
 
 -- where everything is marked nothing is said
 pub right_none : (w : Wired) (labels : List ℕ) → IsCut w labels → (marked : List ℕ) (cs : List Bool) (ds : List Drive) (levels : List Level) → ((q : ℕ) → q < w.nets → has marked q ≡ true) → AreRight w labels marked cs ds levels

@@ -11,7 +11,7 @@ use Rattle.board_model.specs.Resolve.{contact_joins, level_of, resolve}
 use Rattle.board_model.proofs.Lists.{some_same, some_map, get_map_some, get_within, get-below}
 use Rattle.net_resolve.specs.Wired.{Wired, levels_of}
 use Rattle.net_resolve.specs.Subcircuits.{Lacks, AreOnce, SubcircuitView, IsCut, IsSubcircuit, AreOwn, own_wired, picked, labels_of, level_now}
-use Rattle.union_find.proofs.PairLemmas.{joins_cases, joins_is, joins_swap, contact_of, contact_is, contact_bounds}
+use Rattle.union_find.proofs.PairLemmas.{joins_cases, joins_is, joins_swap, contact_of, contact_is, contact_bounds, joined_bounds}
 use Rattle.net_resolve.proofs.ReachLemmas.{any_at, any_some}
 use Rattle.net_resolve.proofs.PickLemmas.{picked_key, picked_at, picked_once}
 use Rattle.net_resolve.proofs.LocalLemmas.{Sub, none, passed, taken, IsInner, inner_level}
@@ -173,18 +173,6 @@ module _ (labels : List ℕ) (q : ℕ) (nets : List ℕ) (are : nets ≡ picked 
 module _ (w : Wired) (labels : List ℕ) (cut : IsCut w labels) (q : ℕ) (s : SubcircuitView) (is : IsSubcircuit w labels q s)
     (cs : List Bool) (ds : List Drive) (own_cs : List Bool) (own_ds : List Drive) (long : length ds ≡ length w.net_of)
     (closed : map Some own_cs ≡ map (slice_get cs) s.contacts) (driven : map Some own_ds ≡ map (slice_get ds) s.pins) where
-  contacts_inside : (a b : ℕ) → contact_joins w.contacts cs a b ≡ true → (a < w.nets) × (b < w.nets)
-  contacts_inside = contact_bounds w.nets w.contacts cs cut.contacts_within
-
-  resistors_inside : (a b : ℕ) → joined_by w.resistors a b ≡ true → (a < w.nets) × (b < w.nets)
-  resistors_inside a b h =
-      let r = any_some (λ pair. joins pair a b) w.resistors h in
-      let e = cut.resistors_within r.0 r.1 r.2 in
-      elim (joins_cases r.1 a b r.3) [
-        | inl one ↦ (subst (λ (z : ℕ). z < w.nets) one.0 e.0, subst (λ (z : ℕ). z < w.nets) one.1 e.1)
-        | inr two ↦ (subst (λ (z : ℕ). z < w.nets) two.1 e.1, subst (λ (z : ℕ). z < w.nets) two.0 e.0)
-      ]
-
   abbrev bonds : List ℕ
   bonds = picked q 0 (labels_of labels w.resistors)
 
@@ -192,8 +180,8 @@ module _ (w : Wired) (labels : List ℕ) (cut : IsCut w labels) (q : ℕ) (s : S
   inner = record {
     once = nets_once labels q s.nets is.nets_are;
     nets_within = λ i n e. omega (arith, cut.long, slice_get_within labels n q (net_labelled labels q s.nets is.nets_are i n e));
-    contacts_within = contacts_inside;
-    resistors_within = resistors_inside;
+    contacts_within = contact_bounds w.nets w.contacts cs cut.contacts_within;
+    resistors_within = joined_bounds w.nets w.resistors cut.resistors_within;
     own_contacts_within = λ i j h.
         let d = contact_of s.own_contacts own_cs i j h in
         pair_within labels q s.nets is.nets_are w.contacts cut.contacts_joined s.contacts is.contacts_are s.own_contacts is.own_contacts_are d.0 d.1 i j d.2 d.4;

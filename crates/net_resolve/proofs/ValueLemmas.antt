@@ -1,5 +1,5 @@
 -- What the sums of levels are, by the values of the drives that were added.
-use Rattle.std.proofs.Common.{◌≡◌, ℕ, List, [], ◌∷◌, ◌++◌, map, Bool, true, false, not, refl, ap, sym, ◌∙◌, arith, append_assoc}
+use Rattle.std.proofs.Common.{◌≡◌, ℕ, List, [], ◌∷◌, ◌++◌, map, Bool, true, false, not, refl, ap, sym, ◌∙◌, arith, append_assoc, append-nil}
 use Rattle.std.specs.Prelude.{◌&&◌, ◌||◌, if◌then◌else◌, filter}
 use Rattle.std.specs.List.{list_any}
 use Rattle.std.proofs.Math.Bool.{or_assoc, or-not_self, or-false}
@@ -25,10 +25,11 @@ values_together false true true true = refl
 values_together false true true false = refl
 values_together false true false true = refl
 values_together false true false false = refl
-values_together false false true true = refl
-values_together false false true false = refl
-values_together false false false true = refl
-values_together false false false false = refl
+values_together false false c d = refl
+
+-- with no other drives
+pub or_end : (a b : Bool) → level_of_values a b ≡ level_of_values (a || false) (b || false)
+or_end a b = sym (ap (λ (x : Bool). level_of_values x (b || false)) (or-false a) ∙ ap (level_of_values a) (or-false b))
 
 strong_values_of : (d : Drive) → strong_level d ≡ level_of_values (is_value true (strong_of d)) (is_value false (strong_of d))
 strong_values_of drives.Z = refl
@@ -50,12 +51,6 @@ pub strong_added : (counts : ℕ → Bool) (ps : List (ℕ × Drive)) (a b : Boo
     ≡ level_of_values (a || list_any (λ p. counts p.0 && is_value true (strong_of p.1)) ps) (b || list_any (λ p. counts p.0 && is_value false (strong_of p.1)) ps)
 unfolding added
 strong_added counts [] a b = or_end a b
-  where
-    or_end : (x y : Bool) → level_of_values x y ≡ level_of_values (x || false) (y || false)
-    or_end true true = refl
-    or_end true false = refl
-    or_end false true = refl
-    or_end false false = refl
 strong_added counts (p ∷ ps) a b = go (strong_added counts ps) (counts p.0) refl
   where
     go : ((x y : Bool) → added strong_level counts (level_of_values x y) ps
@@ -79,29 +74,20 @@ any_value v ds = list_any (λ d. is_value v (value_of d)) ds
 abbrev pub weak_of : (ℕ → Bool) → List (ℕ × Drive) → List Drive
 weak_of counts ps = map (λ p. p.1) (filter (λ p. counts p.0 && is_weak p.1) ps)
 
-weak_high : (d : Drive) → is_weak d ≡ true → has_high (weak_level d) ≡ is_value true (value_of d)
-weak_high drives.Z h = absurd cc
-weak_high drives.Low h = absurd cc
-weak_high drives.High h = absurd cc
-weak_high drives.PullLow h = refl
-weak_high drives.PullHigh h = refl
-weak_high (drives.Wiper w) h = refl
+-- what a weak drive adds: its values, of which there is one
+record IsWeak (d : Drive) : Type 0 where
+  high : has_high (weak_level d) ≡ is_value true (value_of d)
+  low : has_low (weak_level d) ≡ is_value false (value_of d)
+  there : is_z (weak_level d) ≡ false
+  some : (is_value true (value_of d) || is_value false (value_of d)) ≡ true
 
-weak_low : (d : Drive) → is_weak d ≡ true → has_low (weak_level d) ≡ is_value false (value_of d)
-weak_low drives.Z h = absurd cc
-weak_low drives.Low h = absurd cc
-weak_low drives.High h = absurd cc
-weak_low drives.PullLow h = refl
-weak_low drives.PullHigh h = refl
-weak_low (drives.Wiper w) h = refl
-
-weak_there : (d : Drive) → is_weak d ≡ true → is_z (weak_level d) ≡ false
-weak_there drives.Z h = absurd cc
-weak_there drives.Low h = absurd cc
-weak_there drives.High h = absurd cc
-weak_there drives.PullLow h = refl
-weak_there drives.PullHigh h = refl
-weak_there (drives.Wiper w) h = refl
+weak_is : (d : Drive) → is_weak d ≡ true → IsWeak d
+weak_is drives.Z h = absurd cc
+weak_is drives.Low h = absurd cc
+weak_is drives.High h = absurd cc
+weak_is drives.PullLow h = record { high = refl; low = refl; there = refl; some = refl }
+weak_is drives.PullHigh h = record { high = refl; low = refl; there = refl; some = refl }
+weak_is (drives.Wiper w) h = record { high = refl; low = refl; there = refl; some = or-not_self (is_upper w) }
 
 other_none : (d : Drive) → is_weak d ≡ false → weak_level d ≡ levels.Z
 other_none drives.Z h = refl
@@ -110,14 +96,6 @@ other_none drives.High h = refl
 other_none drives.PullLow h = absurd cc
 other_none drives.PullHigh h = absurd cc
 other_none (drives.Wiper w) h = absurd cc
-
-some_value : (d : Drive) → is_weak d ≡ true → (is_value true (value_of d) || is_value false (value_of d)) ≡ true
-some_value drives.Z h = absurd cc
-some_value drives.Low h = absurd cc
-some_value drives.High h = absurd cc
-some_value drives.PullLow h = refl
-some_value drives.PullHigh h = refl
-some_value (drives.Wiper w) h = or-not_self (is_upper w)
 
 plus_z : (l : Level) → together l levels.Z ≡ l
 plus_z levels.Low = refl
@@ -152,12 +130,6 @@ pub weak_added : (counts : ℕ → Bool) (ps : List (ℕ × Drive)) (a b : Bool)
     added weak_level counts (level_of_values a b) ps ≡ level_of_values (a || any_value true (weak_of counts ps)) (b || any_value false (weak_of counts ps))
 unfolding added
 weak_added counts [] a b h = or_end a b
-  where
-    or_end : (x y : Bool) → level_of_values x y ≡ level_of_values (x || false) (y || false)
-    or_end true true = refl
-    or_end true false = refl
-    or_end false true = refl
-    or_end false false = refl
 weak_added counts (p ∷ ps) a b h = go (weak_added counts ps) (counts p.0) refl (is_weak p.1) refl
   where
     go : ((x y : Bool) → (x || y) ≡ true → added weak_level counts (level_of_values x y) ps
@@ -174,11 +146,11 @@ weak_added counts (p ∷ ps) a b h = go (weak_added counts ps) (counts p.0) refl
         let lo = is_value false (value_of p.1) in
         let there : is_z (level_of_values a b) ≡ false = is_z_values a b ∙ not_from_true (a || b) h in
         let sum : together (level_of_values a b) (weak_level p.1) ≡ level_of_values (a || hi) (b || lo) =
-        both_there (level_of_values a b) (weak_level p.1) there (weak_there p.1 f)
+        both_there (level_of_values a b) (weak_level p.1) there (weak_is p.1 f).there
         ∙ ap (λ (x : Bool). level_of_values (x || has_high (weak_level p.1)) (has_low (level_of_values a b) || has_low (weak_level p.1))) (has_high_values a b)
-        ∙ ap (λ (x : Bool). level_of_values (a || x) (has_low (level_of_values a b) || has_low (weak_level p.1))) (weak_high p.1 f)
+        ∙ ap (λ (x : Bool). level_of_values (a || x) (has_low (level_of_values a b) || has_low (weak_level p.1))) (weak_is p.1 f).high
         ∙ ap (λ (x : Bool). level_of_values (a || hi) (x || has_low (weak_level p.1))) (has_low_values a b)
-        ∙ ap (λ (x : Bool). level_of_values (a || hi) (b || x)) (weak_low p.1 f) in
+        ∙ ap (λ (x : Bool). level_of_values (a || hi) (b || x)) (weak_is p.1 f).low in
         ap (λ (l : Level). added weak_level counts l ps) sum
         ∙ ih (a || hi) (b || lo) (or_some_left a b hi lo h)
         ∙ ap (λ (x : Bool). level_of_values x ((b || lo) || any_value false (weak_of counts ps))) (or_assoc a hi (any_value true (weak_of counts ps)))
@@ -218,16 +190,16 @@ more_sum e es sum d s h =
     let hi = any_value true (e ∷ es ++ d ∷ []) in
     let lo = any_value false (e ∷ es ++ d ∷ []) in
     let highs : (has_high sum || has_high (weak_level d)) ≡ hi =
-    ap (λ (x : Bool). x || has_high (weak_level d)) s.high ∙ ap (λ (x : Bool). any_value true (e ∷ es) || x) (weak_high d h) ∙ sym (any_value_end true (e ∷ es) d) in
+    ap (λ (x : Bool). x || has_high (weak_level d)) s.high ∙ ap (λ (x : Bool). any_value true (e ∷ es) || x) (weak_is d h).high ∙ sym (any_value_end true (e ∷ es) d) in
     let lows : (has_low sum || has_low (weak_level d)) ≡ lo =
-    ap (λ (x : Bool). x || has_low (weak_level d)) s.low ∙ ap (λ (x : Bool). any_value false (e ∷ es) || x) (weak_low d h) ∙ sym (any_value_end false (e ∷ es) d) in
+    ap (λ (x : Bool). x || has_low (weak_level d)) s.low ∙ ap (λ (x : Bool). any_value false (e ∷ es) || x) (weak_is d h).low ∙ sym (any_value_end false (e ∷ es) d) in
     let is : together sum (weak_level d) ≡ level_of_values hi lo =
-    both_there sum (weak_level d) s.there (weak_there d h)
+    both_there sum (weak_level d) s.there (weak_is d h).there
     ∙ ap (λ (x : Bool). level_of_values x (has_low sum || has_low (weak_level d))) highs
     ∙ ap (λ (y : Bool). level_of_values hi y) lows in
     let some : (hi || lo) ≡ true =
     ap (λ (x : Bool). x || lo) (any_value_end true (e ∷ es) d) ∙ ap (λ (y : Bool). (any_value true (e ∷ es) || is_value true (value_of d)) || y) (any_value_end false (e ∷ es) d)
-    ∙ or_some (any_value true (e ∷ es)) (any_value false (e ∷ es)) (is_value true (value_of d)) (is_value false (value_of d)) (some_value d h) in
+    ∙ or_some (any_value true (e ∷ es)) (any_value false (e ∷ es)) (is_value true (value_of d)) (is_value false (value_of d)) (weak_is d h).some in
     record {
       there = ap is_z is ∙ is_z_values hi lo ∙ not_from_true (hi || lo) some;
       high = ap has_high is ∙ has_high_values hi lo;
@@ -238,11 +210,7 @@ more_sum e es sum d s h =
 rest_added : (counts : ℕ → Bool) (ps : List (ℕ × Drive)) (e : Drive) (es : List Drive) (sum : Level) → IsSum (e ∷ es) sum →
     added weak_level counts sum ps ≡ level_of_drives (e ∷ es ++ weak_of counts ps)
 unfolding added
-rest_added counts [] e es sum s = s.is ∙ ap (λ (l : List Drive). level_of_drives (e ∷ l)) (sym (append_nil es))
-  where
-    append_nil : (l : List Drive) → l ++ [] ≡ l
-    append_nil [] = refl
-    append_nil (x ∷ xs) = ap (λ (l : List Drive). x ∷ l) (append_nil xs)
+rest_added counts [] e es sum s = s.is ∙ ap (λ (l : List Drive). level_of_drives (e ∷ l)) (sym (append-nil es))
 rest_added counts (p ∷ ps) e es sum s = go (rest_added counts ps) (counts p.0) refl (is_weak p.1) refl
   where
     go : ((f : Drive) (fs : List Drive) (l : Level) → IsSum (f ∷ fs) l → added weak_level counts l ps ≡ level_of_drives (f ∷ fs ++ weak_of counts ps)) →

@@ -6,7 +6,7 @@ use Rattle.std.specs.Prelude.{slice_get, slice_index}
 use Rattle.net_resolve.specs.Subcircuits.{SubcircuitView, IsSubcircuit, AreOwn, own_pair, circuit_of}
 use Rattle.net_resolve.specs.Wired.{Wired}
 use Rattle.net_resolve.proofs.SubcircuitLemmas.{nets_once, net_labelled}
-use Rattle.net_resolve.proofs.CutLemmas.{mapped_below, pairs_below, picked_length, pin_places, pair_places, own_nets_are, own_net_below, own_pairs_are, own_pair_below}
+use Rattle.net_resolve.proofs.CutLemmas.{mapped_below, pairs_below, picked_length, places_within, own_nets_are, own_net_below, own_pairs_are, own_pair_below}
 use Rattle.net_resolve.proofs.WholeLemmas.{pairs_moved}
 use Rattle.net_resolve.proofs.cut.cut_out.Goals as goal
 
@@ -28,7 +28,7 @@ own_nets-requires c =
     let w = c.args.wiring.now in
     let are = c.requires.sorted.pins.each c.args.q c.list_at-pins.result.now c.list_at-pins.ensures in
     record {
-      pins = λ j k e. omega (arith, pin_places c.args.sorted.now.labels w.net_of c.args.q c.list_at-pins.result.now are j k e, ap length c.as_slice.ensures);
+      pins = λ j k e. omega (arith, places_within (slice_index c.args.sorted.now.labels) w.net_of c.args.q c.list_at-pins.result.now are j k e, ap length c.as_slice.ensures);
       nets = λ k n e. omega (arith, c.requires.wiring.pins k n (subst (λ (ns : List ℕ). slice_get ns k ≡ Some n) c.as_slice.ensures e), c.number.auto.numbers, c.requires.numbers);
     }
 
@@ -37,7 +37,7 @@ own_pairs-requires c =
     let w = c.args.wiring.now in
     let are = c.requires.sorted.contacts.each c.args.q c.list_at-contacts.result.now c.list_at-contacts.ensures in
     record {
-      places = λ j k e. omega (arith, pair_places c.args.sorted.now.labels w.contacts c.args.q c.list_at-contacts.result.now are j k e, ap length c.as_slice-2.ensures);
+      places = λ j k e. omega (arith, places_within (λ (x : ℕ × ℕ). slice_index c.args.sorted.now.labels x.0) w.contacts c.args.q c.list_at-contacts.result.now are j k e, ap length c.as_slice-2.ensures);
       nets = pairs_moved (sym c.as_slice-2.ensures) (sym (c.number.auto.numbers ∙ c.requires.numbers)) c.requires.wiring.contacts;
     }
 
@@ -46,7 +46,7 @@ own_pairs-requires-2 c =
     let w = c.args.wiring.now in
     let are = c.requires.sorted.resistors.each c.args.q c.list_at-resistors.result.now c.list_at-resistors.ensures in
     record {
-      places = λ j k e. omega (arith, pair_places c.args.sorted.now.labels w.resistors c.args.q c.list_at-resistors.result.now are j k e, ap length c.as_slice-3.ensures);
+      places = λ j k e. omega (arith, places_within (λ (x : ℕ × ℕ). slice_index c.args.sorted.now.labels x.0) w.resistors c.args.q c.list_at-resistors.result.now are j k e, ap length c.as_slice-3.ensures);
       nets = pairs_moved (sym c.as_slice-3.ensures) (sym (c.number.auto.numbers ∙ c.requires.numbers)) c.requires.wiring.resistors;
     }
 
