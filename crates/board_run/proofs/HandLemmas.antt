@@ -1,9 +1,12 @@
 -- A watcher is handed one part after another.
-use Rattle.std.proofs.Common.{◌≡◌, ℕ, zero, suc, ◌+◌, ◌<◌, List, [], ◌∷◌, ◌++◌, ◌∙◌, Option, None, Some, refl, ap, sym, subst, append_assoc, take, drop, length, add-one, Bool, true}
+use Rattle.std.proofs.Common.{◌≡◌, ℕ, zero, suc, ◌+◌, ◌<◌, List, [], ◌∷◌, ◌++◌, ◌∙◌, Option, None, Some, refl, ap, sym, subst, append_assoc, take, drop, length, add-one, Bool, true, append-nil, get_or, take-append-drop}
 use Rattle.std.specs.Prelude.{slice_get}
 use Rattle.std.specs.Option.{option_to_list}
 use Rattle.sim_base.specs.Rows.{Row, Appends, StopsWithin, AreFronts, Handed}
+use Rattle.std.proofs.lemmas.List.{take_more}
+use Rattle.std.proofs.lemmas.Option.{get_or_from_slice_get}
 use Rattle.board_model.specs.Board.{options}
+use Rattle.board_run.proofs.PartLemmas.{drop_item}
 
 -- something is not nothing
 pub some_none : {A B : Type 0} {x : A} → Some x ≡ None → B
@@ -15,30 +18,19 @@ options-append (None ∷ xs) ys = options-append xs ys
 options-append (Some x ∷ xs) ys = ap (λ (l : List ℕ). x ∷ l) (options-append xs ys)
 
 pub nothing_more : {A : Type 0} (xs : List A) → xs ≡ xs ++ []
-nothing_more [] = refl
-nothing_more {A = A} (x ∷ xs) = ap (λ (l : List A). x ∷ l) (nothing_more xs)
+nothing_more xs = sym (append-nil xs)
 
 -- the bytes of one more answer
 pub options_more : (xs : List (Option ℕ)) (i : ℕ) (x : Option ℕ) → i < length xs → slice_get xs i ≡ Some x → options (take (i + 1) xs) ≡ options (take i xs) ++ options (x ∷ [])
-options_more xs i x h e = rw add-one (more xs i x e)
-  where
-    more : (xs : List (Option ℕ)) (i : ℕ) (x : Option ℕ) → slice_get xs i ≡ Some x → options (take (suc i) xs) ≡ options (take i xs) ++ options (x ∷ [])
-    more [] i x e = cc
-    more (z ∷ xs) zero x e = let same : z ≡ x = cc in ap (λ (y : Option ℕ). options (y ∷ [])) same
-    more (None ∷ xs) (suc i) x e = more xs i x e
-    more (Some z ∷ xs) (suc i) x e = ap (λ (l : List ℕ). z ∷ l) (more xs i x e)
+options_more xs i x h e =
+    ap options (take_more xs i x h) ∙ options-append (take i xs) (get_or xs i x ∷ [])
+    ∙ ap (λ (y : Option ℕ). options (take i xs) ++ options (y ∷ [])) (get_or_from_slice_get xs i x x e)
 
 -- and the bytes of those that are left
 pub options_split : (xs : List (Option ℕ)) (i : ℕ) (x : Option ℕ) → slice_get xs i ≡ Some x → options (take i xs) ++ (options (x ∷ []) ++ options (drop (i + 1) xs)) ≡ options xs
-options_split xs i x e = rw add-one (split xs i x e)
-  where
-    split : (xs : List (Option ℕ)) (i : ℕ) (x : Option ℕ) → slice_get xs i ≡ Some x → options (take i xs) ++ (options (x ∷ []) ++ options (drop (suc i) xs)) ≡ options xs
-    split [] i x e = cc
-    split (z ∷ xs) zero x e =
-        let same : z ≡ x = cc in
-        sym (options-append (x ∷ []) xs) ∙ ap (λ (y : Option ℕ). options (y ∷ xs)) (sym same)
-    split (None ∷ xs) (suc i) x e = split xs i x e
-    split (Some z ∷ xs) (suc i) x e = ap (λ (l : List ℕ). z ∷ l) (split xs i x e)
+options_split xs i x e =
+    ap (λ (l : List ℕ). options (take i xs) ++ l) (sym (options-append (x ∷ []) (drop (i + 1) xs))) ∙ sym (options-append (take i xs) (x ∷ drop (i + 1) xs))
+    ∙ ap (λ (l : List (Option ℕ)). options (take i xs ++ l)) (sym (drop_item xs i x e)) ∙ ap options (take-append-drop i xs)
 
 module _ {W : Type 0} (stands : W → List Row → List ℕ → Type 0) where
   pub appends_none : (w : W) → Appends (stands w) (stands w) [] []
@@ -74,15 +66,20 @@ pub stops_whole : (old new : List Row → List ℕ → Type 0) (rows : List Row)
 stops_whole old new rows bytes p = (rows, bytes, whole_front rows bytes, p)
 
 module _ {W : Type 0} (whole : W → Bool) (faults : W → ℕ) (stands : W → List Row → List ℕ → Type 0) where
-  -- rows and then bytes
-  pub handed_both : (a b c : W) (r r' : List Row) (bs bs' : List ℕ) → Handed whole faults stands a b r [] → Handed whole faults stands b c [] bs → r ≡ r' → bs ≡ bs' → Handed whole faults stands a c r' bs'
-  handed_both a b c r r' bs bs' p q er eb = record {
+  pub handed_then : (a b c : W) (r1 r2 r : List Row) (b1 b2 bs : List ℕ) →
+      Handed whole faults stands a b r1 b1 → Handed whole faults stands b c r2 b2 → r ≡ r1 ++ r2 → bs ≡ b1 ++ b2 → Handed whole faults stands a c r bs
+  handed_then a b c r1 r2 r b1 b2 bs p q er eb = record {
     is_whole = q.is_whole;
     no_fault = q.no_fault ∙ p.no_fault;
     appended =
-        subst (λ (l : List ℕ). Appends (stands a) (stands c) r' l) eb
-        (subst (λ (l : List Row). Appends (stands a) (stands c) l bs) (sym (nothing_more r) ∙ er) (appends_then stands stands a b c r [] [] bs p.appended q.appended));
+        subst (λ (l : List ℕ). Appends (stands a) (stands c) r l) (sym eb)
+        (subst (λ (l : List Row). Appends (stands a) (stands c) l (b1 ++ b2)) (sym er) (appends_then stands stands a b c r1 r2 b1 b2 p.appended q.appended));
   }
+
+  -- rows and then bytes
+  pub handed_both : (a b c : W) (r r' : List Row) (bs bs' : List ℕ) →
+      Handed whole faults stands a b r [] → Handed whole faults stands b c [] bs → r ≡ r' → bs ≡ bs' → Handed whole faults stands a c r' bs'
+  handed_both a b c r r' bs bs' p q er eb = handed_then a b c r [] r' [] bs bs' p q (sym er ∙ nothing_more r) (sym eb)
 
   pub stopped_second : (stopped : W → List Row → List ℕ → Type 0) (a b c : W) (r r' : List Row) (bs bs' : List ℕ) →
       Handed whole faults stands a b r [] → StopsWithin (stands b) (stopped c) [] bs → r ≡ r' → bs ≡ bs' → StopsWithin (stands a) (stopped c) r' bs'
@@ -92,16 +89,6 @@ module _ {W : Type 0} (whole : W → Bool) (faults : W → ℕ) (stands : W → 
 
 pub stopped_first : (old new : List Row → List ℕ → Type 0) (r r' : List Row) (bs : List ℕ) → Appends old new r [] → r ≡ r' → StopsWithin old new r' bs
 stopped_first old new r r' bs p er = (r, [], record { more_rows = []; more_bytes = bs; whole_rows = sym (nothing_more r) ∙ er; whole_bytes = refl }, p)
-
-module _ {W : Type 0} (whole : W → Bool) (faults : W → ℕ) (stands : W → List Row → List ℕ → Type 0) where
-  pub handed_then : (a b c : W) (r1 r2 r : List Row) (b1 b2 bs : List ℕ) → Handed whole faults stands a b r1 b1 → Handed whole faults stands b c r2 b2 → r ≡ r1 ++ r2 → bs ≡ b1 ++ b2 → Handed whole faults stands a c r bs
-  handed_then a b c r1 r2 r b1 b2 bs p q er eb = record {
-    is_whole = q.is_whole;
-    no_fault = q.no_fault ∙ p.no_fault;
-    appended =
-        subst (λ (l : List ℕ). Appends (stands a) (stands c) r l) (sym eb)
-        (subst (λ (l : List Row). Appends (stands a) (stands c) l (b1 ++ b2)) (sym er) (appends_then stands stands a b c r1 r2 b1 b2 p.appended q.appended));
-  }
 
 -- one that stops at a byte has stopped within all bytes
 pub bytes_stop : {W : Type 0} (whole : W → Bool) (faults : W → ℕ) (stands stopped : W → List Row → List ℕ → Type 0) (a b c : W) (xs : List (Option ℕ)) (i : ℕ) (x : Option ℕ) →

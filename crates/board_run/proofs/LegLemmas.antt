@@ -29,8 +29,7 @@ use Rattle.board_run.specs.Lagging.{glided, AreDue}
 use Rattle.board_run.specs.Legs.{Kept, Lags, Leg}
 use Rattle.sim_base.specs.declared.limits.TheConstants.{MOST_CYCLES}
 use Rattle.board_run.proofs.NextLemmas.{quiet_until}
-use Rattle.board_run.proofs.ShowLemmas.{still_of, still_same, chips_same}
-use Rattle.board_run.proofs.ShowLemmas.{shown_is}
+use Rattle.board_run.proofs.ShowLemmas.{still_of, still_same, chips_same, shown_is, later_shown}
 use Rattle.board_model.proofs.RoomLemmas.{SameRoom, fits_room, chips_room}
 use Rattle.board_run.proofs.LagLemmas.{lags_stand, stand_show, lag_of, Ts}
 
@@ -65,11 +64,8 @@ module _ {S : Type 0} (m : Machine S) where
             ∙ sym (glide_split r a (t - a) (u - t)) ∙ ap (glide m r a) f;
       }
 
-later_first : (t : ℕ) → 0 < t → (t == 0) ≡ false
-later_first t h = grind arith
-
 pub shown_later : (t : ℕ) (seen : Seen) → 0 < t → shown_at t seen ≡ Some (shown seen)
-shown_later t seen h = ap (λ (b : Bool). if b then None else Some (shown seen)) (later_first t h)
+shown_later t seen h = later_shown t 0 seen h
 
 module _ {S P : Type 0} (m : Machine S) (laws : Laws m) (w : Wiring) (state : P → S) (now wakes : P → ℕ) (inputs : List Input) where
   pub leg_none : (t steps : ℕ) (parts : List P) (seen : Seen) → Leg m w state now wakes inputs t t parts parts seen seen steps steps

@@ -17,27 +17,27 @@ use Rattle.board_run.proofs.ScriptLemmas.{others_leave}
 pub below_or : (u t : ℕ) → (u < t) ⊎ (t ≤ u)
 below_or u t = grind arith
 
+-- a due cycle is not before the cycle in which it may be
+pub due_late : {S P : Type 0} (m : Machine S) (state : P → S) (now wakes : P → ℕ) (t u : ℕ) (p : P) → MayTurn m state now wakes t (Some u) p → t ≤ u
+due_late m state now wakes t u p may = elim (below_or u t) [
+  | inl less ↦
+      let a = may.first.0 in
+      let e : now p + (u - now p) ≡ u = omega (arith, a) in
+      let at : u - now p < t - now p = omega (arith, a, less) in
+      let no : m.due (glide m (state p) (now p) (u - now p)) u ≡ false =
+      subst (λ (x : ℕ). m.due (glide m (state p) (now p) (u - now p)) x ≡ false) e (may.quiet (u - now p) at) in
+      absurd (let yes : m.due (glide m (state p) (now p) (u - now p)) u ≡ true = may.first.3 in cc)
+  | inr more ↦ more
+]
+
 -- nothing is due before v, if the due cycle is not before it
 pub quiet_until : {S P : Type 0} (m : Machine S) (state : P → S) (now wakes : P → ℕ) (t v : ℕ) (d : Option ℕ) (p : P) → t ≤ v → v ≤ MOST_CYCLES → MayTurn m state now wakes t d p →
     ((u : ℕ) → d ≡ Some u → t ≤ u → v ≤ u) → IsQuiet m (state p) (now p) (v - now p)
-quiet_until m state now wakes t v d p order end may late = go d may.first late
-  where
-    before : now p ≤ t
-    before = may.not_later
-
-    go : (d : Option ℕ) → IsFirstDue m (state p) (now p) d → ((u : ℕ) → d ≡ Some u → t ≤ u → v ≤ u) → IsQuiet m (state p) (now p) (v - now p)
-    go None first late = λ k (h : k < v - now p). first k (omega arith)
-    go (Some u) first late = elim (below_or u t) [
-      | inl less ↦
-          let a = first.0 in
-          let e : now p + (u - now p) ≡ u = omega (arith, a) in
-          let at : u - now p < t - now p = omega (arith, a) in
-          let no : m.due (glide m (state p) (now p) (u - now p)) u ≡ false = subst (λ (x : ℕ). m.due (glide m (state p) (now p) (u - now p)) x ≡ false) e (may.quiet (u - now p) at) in
-          absurd (let yes : m.due (glide m (state p) (now p) (u - now p)) u ≡ true = first.3 in cc)
-      | inr more ↦
-          let l : v ≤ u = late u refl more in
-          λ k (h : k < v - now p). first.2 k (omega arith)
-    ]
+quiet_until m state now wakes t v None p order end may late = λ k (h : k < v - now p). let before = may.not_later in may.first k (omega (arith, before))
+quiet_until m state now wakes t v (Some u) p order end may late =
+    let before = may.not_later in
+    let l : v ≤ u = late u refl (due_late m state now wakes t u p may) in
+    λ k (h : k < v - now p). may.first.2 k (omega (arith, before))
 
 -- the script says nothing before its next value
 pub silent_until : (inputs : List Input) (i t v : ℕ) (d : Input) → IsInOrder inputs → AreBehind inputs i t → (i < length inputs → v ≤ (get_or inputs i d).cycle) → (x k : ℕ) → t ≤ x → x < v → input_at inputs x k ≡ None
@@ -66,23 +66,15 @@ some_there [] k h = absurd (omega arith)
 some_there (p ∷ ps) zero h = (p, refl)
 some_there (p ∷ ps) (suc k) h = some_there ps k (omega arith)
 
-pub due_late : {S P : Type 0} (m : Machine S) (state : P → S) (now wakes : P → ℕ) (t u : ℕ) (p : P) → MayTurn m state now wakes t (Some u) p → t ≤ u
-due_late m state now wakes t u p may = elim (below_or u t) [
-  | inl less ↦
-      let a = may.first.0 in
-      let e : now p + (u - now p) ≡ u = omega (arith, a) in
-      let at : u - now p < t - now p = omega (arith, a, less) in
-      let no : m.due (glide m (state p) (now p) (u - now p)) u ≡ false = subst (λ (x : ℕ). m.due (glide m (state p) (now p) (u - now p)) x ≡ false) e (may.quiet (u - now p) at) in
-      absurd (let yes : m.due (glide m (state p) (now p) (u - now p)) u ≡ true = may.first.3 in cc)
-  | inr more ↦ more
-]
-
 -- no part that lags behind was due before
+pub dues_late : {S P : Type 0} (m : Machine S) (state : P → S) (now wakes : P → ℕ) (t : ℕ) (parts : List P) (dues : List (Option ℕ)) →
+    length dues ≡ length parts → ((k : ℕ) (p : P) (d : Option ℕ) → slice_get parts k ≡ Some p → slice_get dues k ≡ Some d → MayTurn m state now wakes t d p) → AreLate dues t
+dues_late m state now wakes t parts dues long may k u ed =
+    let p = some_there parts k (omega (arith, slice_get_within dues k (Some u) ed, long)) in
+    due_late m state now wakes t u p.0 (may k p.0 (Some u) p.1 ed)
+
 pub lags_late : {S P : Type 0} (m : Machine S) (w : Wiring) (state : P → S) (now wakes : P → ℕ) (t : ℕ) (parts : List P) (kept : Kept) → Lags m w state now wakes t parts kept → AreLate kept.dues t
-lags_late {P = P} m w state now wakes t parts kept lags k u ed =
-    let inside : k < length parts = omega (arith, slice_get_within kept.dues k (Some u) ed, lags.dues_long) in
-    let here = some_there parts k inside in
-    due_late m state now wakes t u here.0 (lags.may k here.0 (Some u) here.1 ed)
+lags_late m w state now wakes t parts kept lags = dues_late m state now wakes t parts kept.dues lags.dues_long lags.may
 
 -- the first due cycle is not after any
 pub first_least : (dues : List (Option ℕ)) (first : Option (ℕ × ℕ)) (x : ℕ) → IsFirst dues first → ((u i : ℕ) → first ≡ Some (u, i) → x ≤ u) → AreLate dues x

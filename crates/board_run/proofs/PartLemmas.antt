@@ -7,8 +7,9 @@ use Rattle.std.proofs.lemmas.Bool.Decides.{eqb_tells}
 use Rattle.std.proofs.lemmas.List.Folds.{list_any_more}
 use Rattle.std.proofs.lemmas.Nat.Bits.{bit_at_or, bit_at-zero, bit_at-lt, bit_at_set_same, bit_at_set_other}
 use Rattle.std.proofs.lemmas.Nat.{shr-shr}
-use Rattle.std.proofs.lemmas.Option.{slice_get_within}
-use Rattle.std.proofs.lemmas.Bool.{or_parts, and_right}
+use Rattle.std.proofs.lemmas.List.{drop_more}
+use Rattle.std.proofs.lemmas.Option.{slice_get_within, slice_get_past, get_or_from_slice_get}
+use Rattle.std.proofs.lemmas.Bool.{or_parts, and_right, eqb-true, eq-eqb}
 use Rattle.std.proofs.Math.Bool.{or-true, or-false}
 use Rattle.sim_base.specs.declared.signal.Level.{Level}
 use Rattle.sim_base.specs.declared.signal.Level.TheVariants as levels
@@ -25,7 +26,8 @@ use Rattle.net_resolve.specs.Marked.{has}
 use Rattle.board_run.specs.declared.part_set.PartSet.{PartSet}
 use Rattle.board_run.specs.Parts.{has_part, end_of, part_nets, AreOn}
 use Rattle.board_run.specs.Seen.{levels_on}
-use Rattle.board_run.proofs.ReadLemmas.{place_more}
+use Rattle.net_resolve.proofs.ReachLemmas.{any_at, any_some}
+use Rattle.board_run.proofs.ReadLemmas.{less_or, place_more}
 
 or_bits : (a b : ℕ) → a < 2 → b < 2 → (max a b == 1) ≡ ((a == 1) || (b == 1))
 or_bits zero zero ha hb = refl
@@ -76,41 +78,6 @@ any_false f [] e j x ex = absurd cc
 any_false f (y ∷ xs) e zero x ex = ap f (sym (some_same ex)) ∙ (or_parts (f y) (list_any f xs) e).0
 any_false f (y ∷ xs) e (suc j) x ex = any_false f xs (or_parts (f y) (list_any f xs) e).1 j x ex
 
-pub any_true : {A : Type 0} (f : A → Bool) (xs : List A) (j : ℕ) (x : A) → slice_get xs j ≡ Some x → f x ≡ true → list_any f xs ≡ true
-any_true f [] j x ex fx = absurd cc
-any_true f (y ∷ xs) zero x ex fx = ap (λ (b : Bool). b || list_any f xs) (ap f (some_same ex) ∙ fx)
-any_true f (y ∷ xs) (suc j) x ex fx = ap (λ (b : Bool). f y || b) (any_true f xs j x ex fx) ∙ or-true (f y)
-
-any_some : {A : Type 0} (f : A → Bool) (xs : List A) → list_any f xs ≡ true → (j : ℕ) × (x : A) × (slice_get xs j ≡ Some x) × (f x ≡ true)
-any_some f [] e = absurd cc
-any_some {A} f (y ∷ xs) e = go (f y) refl (λ h. any_some f xs h)
-  where
-    go : (b : Bool) → f y ≡ b → (list_any f xs ≡ true → (j : ℕ) × (x : A) × (slice_get xs j ≡ Some x) × (f x ≡ true)) → (j : ℕ) × (x : A) × (slice_get (y ∷ xs) j ≡ Some x) × (f x ≡ true)
-    go true is rest = (0, y, refl, is)
-    go false is rest =
-        let r = rest (sym (ap (λ (b : Bool). b || list_any f xs) is) ∙ e) in
-        (suc r.0, r.1, r.2, r.3)
-
-get_none : {A : Type 0} (xs : List A) (k : ℕ) → length xs ≤ k → slice_get xs k ≡ None
-get_none [] k h = refl
-get_none (x ∷ xs) zero h = absurd (omega arith)
-get_none (x ∷ xs) (suc k) h = get_none xs k (omega arith)
-
-less_or : (j n : ℕ) → (j < n) ⊎ (n ≤ j)
-less_or j n = grind arith
-
-pub eqb_same : (a b : ℕ) → eqb a b ≡ true → a ≡ b
-eqb_same a b e = elim (eqb_tells a b) [
-  | inl same ↦ same.1
-  | inr other ↦ absurd (let wrong : true ≡ false = sym e ∙ other.0 in cc)
-]
-
-pub eqb_self : (a b : ℕ) → a ≡ b → eqb a b ≡ true
-eqb_self a b e = elim (eqb_tells a b) [
-  | inl same ↦ same.0
-  | inr other ↦ absurd (other.1 e)
-]
-
 -- one more net that part i has a pin on
 pub put_more : (on : List PartSet) (nets : List ℕ) (i j n0 n k : ℕ) (a b c d : PartSet) → j < length nets → n0 ≡ get_or nets j 0 → slice_get on n0 ≡ Some c → has_part d k ≡ (has_part c k || (k == i)) →
     ((b : PartSet) → slice_get on n ≡ Some b → has_part b k ≡ (has_part a k || ((k == i) && list_any (eqb n) (take j nets)))) → slice_get (slice_set on n0 d) n ≡ Some b →
@@ -119,7 +86,7 @@ put_more on nets i j n0 n k a b c d within is_net ec ed before eb = elim (eqb_te
   | inl same ↦
       let b_is : d ≡ b = some_same (sym (get_set_same on n0 d (slice_get_within on n0 c ec)) ∙ ap (slice_get (slice_set on n0 d)) (sym same.1) ∙ eb) in
       let was = before c (ap (slice_get on) same.1 ∙ ec) in
-      let this : eqb n (get_or nets j 0) ≡ true = eqb_self n (get_or nets j 0) (same.1 ∙ is_net) in
+      let this : eqb n (get_or nets j 0) ≡ true = eq-eqb n (get_or nets j 0) (same.1 ∙ is_net) in
       ap (λ (s : PartSet). has_part s k) (sym b_is) ∙ ed ∙ ap (λ (x : Bool). x || (k == i)) was ∙ both (has_part a k) (k == i) (list_any (eqb n) (take j nets))
       ∙ sym (ap (λ (x : Bool). has_part a k || ((k == i) && x)) (list_any_more (eqb n) nets j 0 within ∙ ap (λ (x : Bool). list_any (eqb n) (take j nets) || x) this))
   | inr other ↦
@@ -145,7 +112,7 @@ module _ {S : Type 0} (m : Machine S) (w : Wiring) (ss : List S) (fits : Fits m 
             let e : slice_get w.first_pin (k + 1) ≡ Some (slice_index w.first_pin (k + 1)) = get_within w.first_pin (k + 1) 0 (omega (arith, fits.parts, less)) in
             ap (λ (o : Option ℕ). unwrap_or o (length w.net_of)) e ∙ fits.places (k + 1) less ∙ more ∙ ap (λ (n : ℕ). n + length (m.drives s)) (sym place)
         | inr all ↦
-            let e : slice_get w.first_pin (k + 1) ≡ None = get_none w.first_pin (k + 1) (omega (arith, fits.parts, all)) in
+            let e : slice_get w.first_pin (k + 1) ≡ None = slice_get_past w.first_pin (k + 1) (omega (arith, fits.parts, all)) in
             let whole = ap (λ (xs : List S). length (flat_map m.drives xs)) (take_whole (k + 1) ss all) in
             ap (λ (o : Option ℕ). unwrap_or o (length w.net_of)) e ∙ fits.pins ∙ sym whole ∙ more ∙ ap (λ (n : ℕ). n + length (m.drives s)) (sym place)
       ]
@@ -186,8 +153,8 @@ module _ {S : Type 0} (m : Machine S) (w : Wiring) (ss : List S) (fits : Fits m 
             by false gone = ap (λ (o : Option Level). unwrap_or o levels.Z) (is.others x gone)
             by true there_is =
                 let r = any_some (eqb x) changed there_is in
-                let same : x ≡ r.1 = eqb_same x r.1 r.3 in
-                let there : list_any (eqb r.1) ns ≡ true = any_true (eqb r.1) ns i x ex (eqb_self r.1 x (sym same)) in
+                let same : x ≡ r.1 = eqb-true x r.1 r.3 in
+                let there : list_any (eqb r.1) ns ≡ true = any_at (eqb r.1) ns i x ex (eq-eqb r.1 x (sym same)) in
                 absurd (let wrong : true ≡ false = sym there ∙ sym (here r.0 r.1 r.2) ∙ any_false f changed e r.0 r.1 r.2 in cc)
 
         go : (b c : Bool) → list_any f changed ≡ b → same_list same_level (levels_on m w after k s) (levels_on m w before k s) ≡ c → b ≡ not c
@@ -202,18 +169,17 @@ module _ {S : Type 0} (m : Machine S) (w : Wiring) (ss : List S) (fits : Fits m 
             let r = any_some f changed eb in
             let n = r.1 in
             let q = any_some (eqb n) ns (sym (here r.0 n r.2) ∙ r.3) in
-            let n_is : n ≡ q.1 = eqb_same n q.1 q.3 in
+            let n_is : n ≡ q.1 = eqb-true n q.1 q.3 in
             let whole = levels_mean (map (level_at after) ns) (map (level_at before) ns) ec in
             let at : level_at after q.1 ≡ level_at before q.1 = some_same (sym (some_map (level_at after) ns q.0 q.1 q.2) ∙ ap (λ (l : List Level). slice_get l q.0) whole ∙ some_map (level_at before) ns q.0 q.1 q.2) in
             let at_n : level_at after n ≡ level_at before n = subst (λ (x : ℕ). level_at after x ≡ level_at before x) (sym n_is) at in
             let within = valid r.0 n r.2 in
             let kept : slice_get after n ≡ slice_get before n = level_of after n (omega (arith, later, within)) ∙ ap Some at_n ∙ sym (level_of before n (omega (arith, long, within))) in
-            absurd (is.differ n (any_true (eqb n) changed r.0 n r.2 (eqb_self n n refl)) kept)
+            absurd (is.differ n (any_at (eqb n) changed r.0 n r.2 (eq-eqb n n refl)) kept)
 
-drop_item : {A : Type 0} (xs : List A) (j : ℕ) (x : A) → slice_get xs j ≡ Some x → drop j xs ≡ x ∷ drop (j + 1) xs
-drop_item [] j x e = absurd cc
-drop_item {A} (y ∷ xs) zero x e = ap (λ (z : A). z ∷ xs) (some_same e)
-drop_item {A} (y ∷ xs) (suc j) x e = let n : suc j + 1 ≡ suc (j + 1) = omega arith in drop_item xs j x e ∙ ap (λ (k : ℕ). x ∷ drop k (y ∷ xs)) (sym n)
+pub drop_item : {A : Type 0} (xs : List A) (j : ℕ) (x : A) → slice_get xs j ≡ Some x → drop j xs ≡ x ∷ drop (j + 1) xs
+drop_item {A} xs j x e =
+    drop_more xs j x (slice_get_within xs j x e) ∙ ap (λ (z : A). z ∷ drop (j + 1) xs) (get_or_from_slice_get xs j x x e)
 
 -- a script's value for another part
 pub given_next : (given : List Input) (j t k : ℕ) (x : Input) → slice_get given j ≡ Some x → x.part ≢ k → input_from None (drop (j + 1) given) t k ≡ input_from None (drop j given) t k
@@ -224,7 +190,7 @@ given_next given j t k x e other =
 
 -- a part that is put or not
 pub put_here : (a : Bool) (i : ℕ) (x : Bool) → a ≡ false → (a || ((i == i) && x)) ≡ x
-put_here a i x none = ap (λ (b : Bool). b || ((i == i) && x)) none ∙ ap (λ (b : Bool). b && x) (eqb_self i i refl)
+put_here a i x none = ap (λ (b : Bool). b || ((i == i) && x)) none ∙ ap (λ (b : Bool). b && x) (eq-eqb i i refl)
 
 pub put_elsewhere : (a : Bool) (k i : ℕ) (x : Bool) → k ≢ i → (a || ((k == i) && x)) ≡ a
 put_elsewhere a k i x other = elim (eqb_tells k i) [

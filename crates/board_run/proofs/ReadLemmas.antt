@@ -1,7 +1,8 @@
 -- What is read of parts part by part, each at its place.
-use Rattle.std.proofs.Common.{◌≡◌, ◌≢◌, ◌⊎◌, inl, inr, ℕ, zero, suc, ◌+◌, ◌-◌, ◌<◌, ◌≤◌, List, [], ◌∷◌, ◌++◌, length, map, take, Bool, true, false, Some, refl, ap, sym, ◌∙◌, arith, subst, add-one, length-append, length-set}
+use Rattle.std.proofs.Common.{◌≡◌, ◌≢◌, ◌⊎◌, inl, inr, ℕ, zero, suc, ◌+◌, ◌-◌, ◌<◌, ◌≤◌, List, [], ◌∷◌, ◌++◌, length, map, take, Bool, true, false, Some, refl, ap, sym, ◌∙◌, arith, subst, add-one, append_assoc, length-append, length-set}
 use Rattle.std.specs.Prelude.{◌==◌, min, not, slice_get, slice_set}
 use Rattle.std.specs.List.{flat_map}
+use Rattle.std.proofs.lemmas.List.{map-set, take-set}
 use Rattle.std.proofs.lemmas.Option.{slice_get_within}
 use Rattle.sim_base.specs.declared.signal.Level.{Level}
 use Rattle.sim_base.specs.declared.signal.Drive.{Drive}
@@ -19,9 +20,6 @@ use Rattle.net_resolve.specs.Marked.{has}
 use Rattle.board_run.specs.Seen.{Seen, Suits, IsOf, retold, HasAt, Put, Gathered, IsTold, AreDiffering, levels_on}
 use Rattle.board_run.specs.declared.part_set.PartSet.{PartSet}
 use Rattle.board_run.specs.Parts.{has_part}
-
-pub put_none : {A : Type 0} (at : ℕ) (items xs : List A) → Put at 0 items xs xs
-put_none at items xs = record { long = refl; here = λ j (h : j < 0). absurd (omega arith); before = λ j h. refl; after = λ j h. refl }
 
 -- one more item
 pub put_more : {A : Type 0} (at n : ℕ) (items old mid : List A) (x : A) → Put at n items old mid → slice_get items n ≡ Some x → at + n < length mid → Put at (n + 1) items old (slice_set mid (at + n) x)
@@ -42,7 +40,7 @@ put_more at n items old mid x put ex room = record {
 pub put_there : {A : Type 0} (at : ℕ) (items xs : List A) → HasAt at items xs → Put at (length items) items xs xs
 put_there at items xs has = record { long = refl; here = has; before = λ j h. refl; after = λ j h. refl }
 
-less_or : (j n : ℕ) → (j < n) ⊎ (n ≤ j)
+pub less_or : (j n : ℕ) → (j < n) ⊎ (n ≤ j)
 less_or j n = grind arith
 
 -- the pins of a span were put, and the others were there
@@ -83,7 +81,48 @@ get_right : {B : Type 0} (xs ys : List B) (j : ℕ) → slice_get (xs ++ ys) (le
 get_right [] ys j = let e : 0 + j ≡ j = omega arith in ap (slice_get ys) e
 get_right (x ∷ xs) ys j = let e : suc (length xs) + j ≡ suc (length xs + j) = omega arith in ap (slice_get (x ∷ (xs ++ ys))) e ∙ get_right xs ys j
 
+-- items that were put in place of as many between two lists
+put_between : {B : Type 0} (front was items after old xs : List B) (at : ℕ) → length items ≡ length was → at ≡ length front → old ≡ front ++ (was ++ after) →
+    Put at (length items) items old xs → xs ≡ front ++ (items ++ after)
+put_between {B} front was items after old xs at long place is put =
+    let as_long : length (front ++ (was ++ after)) ≡ length (front ++ (items ++ after)) = simp length-append (omega (arith, long)) in
+    same_lists xs (front ++ (items ++ after)) (put.long ∙ ap length is ∙ as_long) (λ x a b ea eb. some_same (sym ea ∙ here x ∙ eb))
+  where
+    here : (x : ℕ) → slice_get xs x ≡ slice_get (front ++ (items ++ after)) x
+    here x = elim (less_or x at) [
+      | inl less ↦
+          let l : x < length front = omega (arith, less, place) in
+          put.before x less ∙ ap (λ (l : List B). slice_get l x) is ∙ get_left front (was ++ after) x l ∙ sym (get_left front (items ++ after) x l)
+      | inr from ↦ elim (less_or x (at + length items)) [
+        | inl inside ↦
+            let e : at + (x - at) ≡ x = omega (arith, from) in
+            let g : length front + (x - at) ≡ x = omega (arith, from, place) in
+            let within : x - at < length items = omega (arith, from, inside) in
+            ap (slice_get xs) (sym e) ∙ put.here (x - at) within ∙ sym (get_left items after (x - at) within)
+            ∙ sym (get_right front (items ++ after) (x - at)) ∙ ap (slice_get (front ++ (items ++ after))) g
+        | inr beyond ↦
+            let past = λ (ys : List B) (same : length ys ≡ length items).
+            let n : x ≡ length front + (length ys + (x - at - length items)) = omega (arith, beyond, place, same) in
+            ap (slice_get (front ++ (ys ++ after))) n ∙ get_right front (ys ++ after) (length ys + (x - at - length items))
+            ∙ get_right ys after (x - at - length items) in
+            put.after x beyond ∙ ap (λ (l : List B). slice_get l x) is ∙ past was (sym long) ∙ sym (past items refl)
+      ]
+    ]
+
 module _ {S B : Type 0} (f : S → List B) where
+  -- all items, and those where one part has others: the same before them and behind them
+  flat_set : (ss : List S) (i : ℕ) (s new : S) → slice_get ss i ≡ Some s →
+      (after : List B) × (flat_map f ss ≡ flat_map f (take i ss) ++ (f s ++ after))
+      × (flat_map f (slice_set ss i new) ≡ flat_map f (take i ss) ++ (f new ++ after))
+  flat_set [] i s new e = absurd cc
+  flat_set (y ∷ ss) zero s new e = (flat_map f ss, ap (λ (z : S). f z ++ flat_map f ss) (some_same e), refl)
+  flat_set (y ∷ ss) (suc i) s new e =
+      let (after, was, is) = flat_set ss i s new e in (
+        after,
+        ap (λ (l : List B). f y ++ l) was ∙ sym (append_assoc (f y) (flat_map f (take i ss)) (f s ++ after)),
+        ap (λ (l : List B). f y ++ l) is ∙ sym (append_assoc (f y) (flat_map f (take i ss)) (f new ++ after)),
+      )
+
   -- the place after one more part
   pub place_more : (ss : List S) (i : ℕ) (s : S) → slice_get ss i ≡ Some s → length (flat_map f (take (i + 1) ss)) ≡ length (flat_map f (take i ss)) + length (f s)
   place_more ss i s es = rw add-one (more ss i es)
@@ -99,15 +138,10 @@ module _ {S B : Type 0} (f : S → List B) where
 
   -- an item of part i among those of all
   pub flat_get : (ss : List S) (i : ℕ) (s : S) (j : ℕ) → slice_get ss i ≡ Some s → j < length (f s) → slice_get (flat_map f ss) (length (flat_map f (take i ss)) + j) ≡ slice_get (f s) j
-  flat_get [] i s j e h = absurd cc
-  flat_get (x ∷ ss) zero s j e h =
-      let a : x ≡ s = some_same e in
-      let z : 0 + j ≡ j = omega arith in
-      ap (slice_get (f x ++ flat_map f ss)) z ∙ get_left (f x) (flat_map f ss) j (subst (λ (y : S). j < length (f y)) (sym a) h) ∙ ap (λ (y : S). slice_get (f y) j) a
-  flat_get (x ∷ ss) (suc i) s j e h =
-      let n = length (flat_map f (take i ss)) in
-      let l : length (f x ++ flat_map f (take i ss)) + j ≡ length (f x) + (n + j) = omega (arith, length-append (f x) (flat_map f (take i ss))) in
-      ap (slice_get (f x ++ flat_map f ss)) l ∙ get_right (f x) (flat_map f ss) (n + j) ∙ flat_get ss i s j e h
+  flat_get ss i s j e h =
+      let (after, was, is) = flat_set ss i s s e in
+      let before = flat_map f (take i ss) in
+      ap (λ (l : List B). slice_get l (length before + j)) was ∙ get_right before (f s ++ after) j ∙ get_left (f s) after j h
 
   -- parts with as much room stand at the same places
   same_place : (xs ys : List S) → length xs ≡ length ys → ((k : ℕ) (x y : S) → slice_get xs k ≡ Some x → slice_get ys k ≡ Some y → length (f x) ≡ length (f y)) → (i : ℕ) → length (flat_map f (take i xs)) ≡ length (flat_map f (take i ys))
@@ -126,17 +160,11 @@ module _ {S B : Type 0} (f : S → List B) where
       some_same (sym ea ∙ sym (flat_get xs k x j ex (slice_get_within (f x) j a ea)) ∙ ap (λ (l : List B). slice_get l (length (flat_map f (take k xs)) + j)) same
       ∙ ap (λ (n : ℕ). slice_get (flat_map f ys) (n + j)) (same_place xs ys long each k) ∙ flat_get ys k y j ey (slice_get_within (f y) j b eb) ∙ eb))
 
-  lt_ge : (j n : ℕ) → (j < n) ⊎ (n ≤ j)
-  lt_ge j n = grind arith
-
-  pub gathered_none : (ss : List S) (xs : List B) → Gathered f ss 0 0 xs xs
-  gathered_none ss xs = record { place = refl; long = refl; done = λ j (h : j < 0). absurd (omega arith); rest = λ j h. refl }
-
   pub gathered_more : (ss : List S) (i at n : ℕ) (old mid new : List B) (s : S) → slice_get ss i ≡ Some s → n ≡ length (f s) → Gathered f ss i at old mid → Put at (length (f s)) (f s) mid new → Gathered f ss (i + 1) (at + n) old new
   gathered_more ss i at n old mid new s es count g put = record {
     place = let more = place_more ss i s es in omega (arith, g.place, more, count);
     long = put.long ∙ g.long;
-    done = λ j h. elim (lt_ge j at) [
+    done = λ j h. elim (less_or j at) [
       | inl less ↦ put.before j less ∙ g.done j less
       | inr far ↦
           let e : at + (j - at) ≡ j = omega arith in
@@ -154,81 +182,12 @@ module _ {S B : Type 0} (f : S → List B) where
       let l = slice_get_within (flat_map f ss) k y ey in
       some_same (sym ex ∙ g.done k (omega (arith, l, whole, g.place)) ∙ ey))
 
--- One part among all has other items, as many.
-module _ {S B : Type 0} (f : S → List B) where
-  flat_before : (ss : List S) (i : ℕ) (new : S) (x : ℕ) → x < length (flat_map f (take i ss)) → slice_get (flat_map f (slice_set ss i new)) x ≡ slice_get (flat_map f ss) x
-  flat_before [] zero new x h = absurd (omega arith)
-  flat_before [] (suc i) new x h = absurd (omega arith)
-  flat_before (y ∷ ss) zero new x h = absurd (omega arith)
-  flat_before (y ∷ ss) (suc i) new x h = elim (lt_ge f x (length (f y))) [
-    | inl less ↦ get_left (f y) (flat_map f (slice_set ss i new)) x less ∙ sym (get_left (f y) (flat_map f ss) x less)
-    | inr more ↦
-        let e : length (f y) + (x - length (f y)) ≡ x = omega arith in
-        let l = length-append (f y) (flat_map f (take i ss)) in
-        ap (slice_get (f y ++ flat_map f (slice_set ss i new))) (sym e) ∙ get_right (f y) (flat_map f (slice_set ss i new)) (x - length (f y))
-        ∙ flat_before ss i new (x - length (f y)) (omega (arith, l, h, more))
-        ∙ sym (get_right (f y) (flat_map f ss) (x - length (f y))) ∙ ap (slice_get (f y ++ flat_map f ss)) e
-  ]
-
-  flat_after : (ss : List S) (i : ℕ) (s new : S) (x : ℕ) → slice_get ss i ≡ Some s → length (f new) ≡ length (f s) → length (flat_map f (take i ss)) + length (f new) ≤ x →
-      slice_get (flat_map f (slice_set ss i new)) x ≡ slice_get (flat_map f ss) x
-  flat_after [] i s new x es long h = absurd cc
-  flat_after (y ∷ ss) zero s new x es long h =
-      let same : length (f y) ≡ length (f s) = ap (λ (z : S). length (f z)) (some_same es) in
-      let e : length (f new) + (x - length (f new)) ≡ x = omega (arith, h) in
-      let g : length (f y) + (x - length (f new)) ≡ x = omega (arith, h, same, long) in
-      ap (slice_get (f new ++ flat_map f ss)) (sym e) ∙ get_right (f new) (flat_map f ss) (x - length (f new))
-      ∙ sym (get_right (f y) (flat_map f ss) (x - length (f new))) ∙ ap (slice_get (f y ++ flat_map f ss)) g
-  flat_after (y ∷ ss) (suc i) s new x es long h =
-      let l = length-append (f y) (flat_map f (take i ss)) in
-      let e : length (f y) + (x - length (f y)) ≡ x = omega (arith, l, h) in
-      ap (slice_get (f y ++ flat_map f (slice_set ss i new))) (sym e) ∙ get_right (f y) (flat_map f (slice_set ss i new)) (x - length (f y))
-      ∙ flat_after ss i s new (x - length (f y)) es long (omega (arith, l, h))
-      ∙ sym (get_right (f y) (flat_map f ss) (x - length (f y))) ∙ ap (slice_get (f y ++ flat_map f ss)) e
-
-  flat_here : (ss : List S) (i : ℕ) (new : S) (j : ℕ) → i < length ss → j < length (f new) → slice_get (flat_map f (slice_set ss i new)) (length (flat_map f (take i ss)) + j) ≡ slice_get (f new) j
-  flat_here [] i new j within h = absurd (omega arith)
-  flat_here (y ∷ ss) zero new j within h =
-      let z : 0 + j ≡ j = omega arith in
-      ap (slice_get (f new ++ flat_map f ss)) z ∙ get_left (f new) (flat_map f ss) j h
-  flat_here (y ∷ ss) (suc i) new j within h =
-      let n = length (flat_map f (take i ss)) in
-      let l : length (f y ++ flat_map f (take i ss)) + j ≡ length (f y) + (n + j) = omega (arith, length-append (f y) (flat_map f (take i ss))) in
-      ap (slice_get (f y ++ flat_map f (slice_set ss i new))) l ∙ get_right (f y) (flat_map f (slice_set ss i new)) (n + j) ∙ flat_here ss i new j (omega arith) h
-
-  flat_long : (ss : List S) (i : ℕ) (s new : S) → slice_get ss i ≡ Some s → length (f new) ≡ length (f s) → length (flat_map f (slice_set ss i new)) ≡ length (flat_map f ss)
-  flat_long [] i s new es long = absurd cc
-  flat_long (y ∷ ss) zero s new es long =
-      let same : length (f y) ≡ length (f s) = ap (λ (z : S). length (f z)) (some_same es) in
-      omega (arith, length-append (f new) (flat_map f ss), length-append (f y) (flat_map f ss), same, long)
-  flat_long (y ∷ ss) (suc i) s new es long =
-      let rest = flat_long ss i s new es long in
-      omega (arith, length-append (f y) (flat_map f (slice_set ss i new)), length-append (f y) (flat_map f ss), rest)
-
   -- what was put in place of them is what all parts have
   pub put_is : (ss : List S) (i at : ℕ) (s new : S) (old xs : List B) → slice_get ss i ≡ Some s → length (f new) ≡ length (f s) → at ≡ length (flat_map f (take i ss)) → old ≡ flat_map f ss →
       Put at (length (f new)) (f new) old xs → xs ≡ flat_map f (slice_set ss i new)
   put_is ss i at s new old xs es long place is put =
-      let whole : length xs ≡ length (flat_map f (slice_set ss i new)) = put.long ∙ ap length is ∙ sym (flat_long ss i s new es long) in
-      same_lists xs (flat_map f (slice_set ss i new)) whole (λ x a b ea eb. some_same (sym ea ∙ here x ∙ eb))
-    where
-      here : (x : ℕ) → slice_get xs x ≡ slice_get (flat_map f (slice_set ss i new)) x
-      here x = elim (lt_ge f x at) [
-        | inl less ↦ put.before x less ∙ ap (λ l. slice_get l x) is ∙ sym (flat_before ss i new x (omega (arith, less, place)))
-        | inr from ↦ elim (lt_ge f x (at + length (f new))) [
-          | inl inside ↦
-              let e : at + (x - at) ≡ x = omega (arith, from) in
-              let g : length (flat_map f (take i ss)) + (x - at) ≡ x = omega (arith, from, place) in
-              let within : x - at < length (f new) = omega (arith, from, inside) in
-              ap (slice_get xs) (sym e) ∙ put.here (x - at) within ∙ sym (flat_here ss i new (x - at) (slice_get_within ss i s es) within) ∙ ap (slice_get (flat_map f (slice_set ss i new))) g
-          | inr beyond ↦ put.after x beyond ∙ ap (λ l. slice_get l x) is ∙ sym (flat_after ss i s new x es long (omega (arith, beyond, place)))
-        ]
-      ]
-
-map_set : {A B : Type 0} (f : A → B) (xs : List A) (i : ℕ) (y : A) → map f (slice_set xs i y) ≡ slice_set (map f xs) i (f y)
-map_set f [] i y = refl
-map_set f (x ∷ xs) zero y = refl
-map_set f (x ∷ xs) (suc i) y = ap (λ l. f x ∷ l) (map_set f xs i y)
+      let (after, was, now) = flat_set ss i s new es in
+      put_between (flat_map f (take i ss)) (f s) (f new) after old xs at long place (is ∙ was) put ∙ sym now
 
 -- The nets are told what one part has.
 module _ {S P : Type 0} (m : Machine S) (state : P → S) (parts : List P) (i : ℕ) (p q : P) (c new : Circuit) (here : slice_get parts i ≡ Some p) (told : IsTold m (map state parts) c)
@@ -237,21 +196,17 @@ module _ {S P : Type 0} (m : Machine S) (state : P → S) (parts : List P) (i : 
   at = some_map state parts i p here
 
   before_same : {B : Type 0} (f : S → List B) → length (flat_map f (take i (map state (slice_set parts i q)))) ≡ length (flat_map f (take i (map state parts)))
-  before_same f = ap (λ l. length (flat_map f (take i l))) (map_set state parts i q) ∙ ap (λ l. length (flat_map f l)) (take_set (map state parts) i (state q))
-    where
-      take_set : (xs : List S) (k : ℕ) (y : S) → take k (slice_set xs k y) ≡ take k xs
-      take_set [] zero y = refl
-      take_set [] (suc k) y = refl
-      take_set (x ∷ xs) zero y = refl
-      take_set (x ∷ xs) (suc k) y = ap (λ l. x ∷ l) (take_set xs k y)
+  before_same f = ap (λ l. length (flat_map f (take i l))) (map-set state parts i q) ∙ ap (λ l. length (flat_map f l)) (take-set (map state parts) i (state q))
 
   pub told_more : (first : ℕ) → first ≡ length (drives_of m (take i (map state parts))) →
       Put first (length (m.drives (state q))) (m.drives (state q)) c.drives new.drives →
       Put (length (contacts_of m (take i (map state (slice_set parts i q))))) (length (m.contacts (state q))) (m.contacts (state q)) c.closed new.closed →
       IsTold m (map state (slice_set parts i q)) new
   told_more first place ds cs = record {
-    drives_are = put_is m.drives (map state parts) i first (state p) (state q) c.drives new.drives at pins place told.drives_are ds ∙ ap (drives_of m) (sym (map_set state parts i q));
-    closed_are = put_is m.contacts (map state parts) i _ (state p) (state q) c.closed new.closed at ports (before_same m.contacts) told.closed_are cs ∙ ap (contacts_of m) (sym (map_set state parts i q));
+    drives_are = put_is m.drives (map state parts) i first (state p) (state q) c.drives new.drives at pins place told.drives_are ds
+        ∙ ap (drives_of m) (sym (map-set state parts i q));
+    closed_are = put_is m.contacts (map state parts) i _ (state p) (state q) c.closed new.closed at ports (before_same m.contacts) told.closed_are cs
+        ∙ ap (contacts_of m) (sym (map-set state parts i q));
   }
 
   -- it has them already, where it is still

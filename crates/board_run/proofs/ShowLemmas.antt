@@ -64,11 +64,6 @@ row_is m w ss t old new there same e f is =
     ∙ ap (λ (l : List Level). rows_of (is_new (shown_at t old) (shown_of m w ss)) l new.circuit.drives) is.levels_are
     ∙ ap (λ (d : List Drive). rows_of (is_new (shown_at t old) (shown_of m w ss)) (levels_of m w ss) d) is.drives_are
 
--- many that are the same
-pub long_all : {A : Type 0} (x : A) (n : ℕ) → length (replicate n x) ≡ n
-long_all x zero = refl
-long_all x (suc n) = ap suc (long_all x n)
-
 -- one of many that are the same
 pub get_all : {A : Type 0} (n k : ℕ) (x b : A) → slice_get (replicate n x) k ≡ Some b → b ≡ x
 get_all zero k x b e = absurd cc

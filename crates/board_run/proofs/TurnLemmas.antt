@@ -22,23 +22,15 @@ use Rattle.sim_base.specs.declared.limits.TheConstants.{MOST_CYCLES}
 use Rattle.board_model.proofs.Lists.{some_same, lt_or_eq, get_set_same, get_set_other, get_within, get_map_some}
 use Rattle.board_model.proofs.Steps.{length-steps_from, get_step}
 use Rattle.board_run.proofs.StepLemmas.{get_answer}
-use Rattle.board_run.proofs.NextLemmas.{due_late}
+pub use Rattle.board_run.proofs.NextLemmas.{some_there}
 use Rattle.board_run.specs.declared.part_set.PartSet.{PartSet}
 use Rattle.board_run.specs.Parts.{has_part, AreNone}
 use Rattle.board_model.specs.Fits.{Fits}
 use Rattle.board_model.proofs.RoomLemmas.{SameRoom, fits_room}
 use Rattle.board_run.specs.Seen.{IsTold, HasAt, Put, levels_on}
-use Rattle.board_run.proofs.ReadLemmas.{told_more, still_told, told_still, others_told}
+use Rattle.board_run.proofs.ReadLemmas.{less_or, told_more, still_told, told_still, others_told}
 use Rattle.net_resolve.specs.Circuit.{Circuit}
 use Rattle.board_run.specs.Lagging.{is_at, to_wake, glided, AreLate, MayTurn, MayTurnAt, turned, Awaits, HadTurn, Turns, AreDue, Replaced, TookTurn}
-
-pub less_or : (j n : ℕ) → (j < n) ⊎ (n ≤ j)
-less_or j n = grind arith
-
-pub some_there : {A : Type 0} (xs : List A) (k : ℕ) → k < length xs → (a : A) × (slice_get xs k ≡ Some a)
-some_there [] k h = absurd (omega arith)
-some_there (x ∷ xs) zero h = (x, refl)
-some_there (x ∷ xs) (suc k) h = some_there xs k (omega arith)
 
 zero_or_more : (t : ℕ) → (t ≡ 0) ⊎ (0 < t)
 zero_or_more t = grind arith
@@ -374,25 +366,6 @@ module _ {S P : Type 0} (m : Machine S) (laws : Laws m) (w : Wiring) (given inpu
         had_turn m laws w inputs state now wakes ls t k p p s due None None own false false end may stands refl differs_is input_is turn,
         ap (λ (b : Bool). if b then 1 else 0) (sym (wake_is m laws w inputs state now wakes ls t k p s due None false end may stands differs_is input_is) ∙ asleep),
       )
-
--- a due cycle that is not this one comes later
-pub later_due : {S P : Type 0} (m : Machine S) (state : P → S) (now wakes : P → ℕ) (t u : ℕ) (p : P) → MayTurn m state now wakes t (Some u) p → is_at (Some u) t ≡ false → t < u
-later_due m state now wakes t u p may none =
-    let late = due_late m state now wakes t u p may in
-    elim (eqb_tells u t) [
-      | inl same ↦ absurd (let wrong : true ≡ false = sym same.0 ∙ none in cc)
-      | inr other ↦ apart t u late (λ e. other.1 (sym e))
-    ]
-  where
-    apart : (t u : ℕ) → t ≤ u → t ≢ u → t < u
-    apart t u h e = grind arith
-
--- no part that lags behind was due before
-pub dues_late : {S P : Type 0} (m : Machine S) (state : P → S) (now wakes : P → ℕ) (t : ℕ) (parts : List P) (dues : List (Option ℕ)) → length dues ≡ length parts →
-    ((k : ℕ) (p : P) (d : Option ℕ) → slice_get parts k ≡ Some p → slice_get dues k ≡ Some d → MayTurn m state now wakes t d p) → AreLate dues t
-dues_late m state now wakes t parts dues long may k u ed =
-    let p = some_there parts k (omega (arith, slice_get_within dues k (Some u) ed, long)) in
-    due_late m state now wakes t u p.0 (may k p.0 (Some u) p.1 ed)
 
 -- where one part's due cycle was renewed, and comes later
 pub late_set : (dues new : List (Option ℕ)) (i t : ℕ) (d : Option ℕ) → i < length dues → new ≡ slice_set dues i d → AreLate dues t → ((u : ℕ) → d ≡ Some u → t < u) → AreLate new t

@@ -129,16 +129,6 @@ module _ (folder other : List ℕ) (us budget : ℕ) where
         if_some a.files _ _ (λ (files : Files) (g : PairIn folder other files (Ok pair)).
         (line_texts budget (16 * us) pair (after - before), answer_told pair one two text before after found files g, risen before after found.twin.rose)) given
 
--- Complaint is left alone
-pub twin_silent : (a m b : Outside) → SamePorts a m → SameOthers ports.Report m b → SaidNothing a b
-twin_silent a m b same others = (
-  others.written ports.Complaint (λ e. cc) ∙ same.written ports.Complaint,
-  others.faults ports.Complaint (λ e. cc) ∙ same.faults ports.Complaint,
-)
-
-pub same_silent : (a m : Outside) → SamePorts a m → SaidNothing a m
-same_silent a m same = (same.written ports.Complaint, same.faults ports.Complaint)
-
 -- one part is the whole text
 pub one_part : (xs : List ℕ) → concat (xs ∷ []) ≡ xs
 one_part xs = append-nil xs

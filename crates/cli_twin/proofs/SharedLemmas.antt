@@ -47,11 +47,6 @@ module _ {A : Type 0} (same : A → A → Bool) where
       go true rest = rest
       go false rest = refl
 
-  -- what is told of two lists from a place on
-  pub same_from : (xs ys : List A) (i : ℕ) (d e : A) → i < length xs → i < length ys →
-      same_list same (drop i xs) (drop i ys) ≡ (same (get_or xs i d) (get_or ys i e) && same_list same (drop (i + 1) xs) (drop (i + 1) ys))
-  same_from xs ys i d e here there = rw (drop_more xs i d here, drop_more ys i e there) refl
-
 pub below_none : (a b : List ℕ) → same_below 0 a b ≡ true
 unfolding same_below
 below_none a b = refl

@@ -26,7 +26,8 @@ module _ {X : Type 0} (name : List ℕ) (judges : List ℕ → Result X Refusal 
   ]
 
   -- either all that it is worth is one stop, or it has bytes, which are judged
-  judged_is : (told : Option (List ℕ)) → ((one : Stop) × ((r : Result X Stop) → JudgedFrom name judges told r → Err one ≡ r)) ⊎ ((bytes : List ℕ) × ((r : Result X Stop) → JudgedFrom name judges told r → JudgedAs name (judges bytes) r))
+  judged_is : (told : Option (List ℕ)) → ((one : Stop) × ((r : Result X Stop) → JudgedFrom name judges told r → Err one ≡ r))
+      ⊎ ((bytes : List ℕ) × ((r : Result X Stop) → JudgedFrom name judges told r → JudgedAs name (judges bytes) r))
   judged_is None = inl (Missing name, λ r e. e)
   judged_is (Some bytes) = by (nat_lt 1048576 (length bytes))
     where

@@ -1,4 +1,4 @@
-use Rattle.std.proofs.Common.{get_or, ◌≡◌, ◌∙◌, refl, sym, ap, arith, length, map, List, ℕ, Bool}
+use Rattle.std.proofs.Common.{get_or, ◌≡◌, ◌∙◌, refl, sym, ap, arith, length, map, List, ℕ, Bool, eq-eqb}
 use Rattle.std.specs.Prelude.{◌&&◌, ◌==◌, eqb, slice_get, slice_index}
 use Rattle.std.proofs.lemmas.List.{length-map}
 use Rattle.sim_base.specs.declared.signal.Level.{Level}
@@ -8,7 +8,8 @@ use Rattle.net_resolve.specs.Circuit.{Circuit, AreChanged}
 use Rattle.std.specs.List.{list_any}
 use Rattle.board_run.specs.Parts.{has_part}
 use Rattle.board_run.proofs.ReadLemmas.{none_changed}
-use Rattle.board_run.proofs.PartLemmas.{any_true, eqb_self, differ_is}
+use Rattle.net_resolve.proofs.ReachLemmas.{any_at}
+use Rattle.board_run.proofs.PartLemmas.{differ_is}
 use Rattle.board_run.proofs.reading.read_all.Goals as goal
 
 pub returns : goal.returns
@@ -55,14 +56,14 @@ returns g c =
           ∙ ap (λ (x : Bool). same_list same_level old.levels (levels_of m w ss) && x) (kept.ensures.same ∙ ap (λ (chips : List Bool). same_list same_drive c.args.chip_drives.now (chip_drives_of m chips ss)) c.as_slice.ensures);
       differs = λ k s es. c.parts_on-differ.ensures k ∙ ap (list_any (λ (n : ℕ). has_part (get_or c.args.on.now n (record { bits = 0 })) k)) c.changed-2.ensures.changed
           ∙ differ_is m w ss c.requires.fits old.levels new.levels new.changed c.args.on.now suits.wired.levels_long later suits.on_long suits.on_are are
-          (λ j n en. let there = c.changed-2.ensures.nets n (any_true (eqb n) c.changed-2.result.now j n (ap (λ (ns : List ℕ). slice_get ns j) c.changed-2.ensures.changed ∙ en) (eqb_self n n refl)) in omega (arith, there, nets)) (record { bits = 0 }) k s es;
+          (λ j n en. let there = c.changed-2.ensures.nets n (any_at (eqb n) c.changed-2.result.now j n (ap (λ (ns : List ℕ). slice_get ns j) c.changed-2.ensures.changed ∙ en) (eq-eqb n n refl)) in omega (arith, there, nets)) (record { bits = 0 }) k s es;
     }
 
 pub parts_on-differ-requires : goal.parts_on-differ-requires
 parts_on-differ-requires g c = λ j n en.
     let suits = c.requires.suits in
     let nets = ap (λ (x : Circuit). x.nets) c.resolve_marked.ensures.levels ∙ suits.wired.nets in
-    let there = c.changed-2.ensures.nets n (any_true (eqb n) c.changed-2.result.now j n en (eqb_self n n refl)) in
+    let there = c.changed-2.ensures.nets n (any_at (eqb n) c.changed-2.result.now j n en (eq-eqb n n refl)) in
     omega (arith, there, nets, suits.on_long)
 
 pub keep_chips-same_drives-requires-clause-firsts : goal.keep_chips-same_drives-requires-clause-firsts

@@ -1,5 +1,5 @@
 use Rattle.std.proofs.Common.{◌∙◌, sym, ap, length, subst, List}
-use Rattle.board_run.proofs.ShowLemmas.{long_all}
+use Rattle.std.proofs.lemmas.List.{length-replicate}
 use Rattle.board_model.proofs.Lists.{lent_whole}
 use Rattle.board_run.specs.declared.part_set.PartSet.{PartSet}
 use Rattle.board_run.specs.Parts.{AreOn}
@@ -12,6 +12,6 @@ returns c =
     let long = c.put_parts.auto.on ∙ ap length c.as_mut_slice.ensures.value in
     let whole = lent_whole on.len on.items c.put_parts.new.on on.ok.0 long in
     record {
-      long = ap length whole ∙ long ∙ ap length c.in_ok-on.ensures ∙ long_all _ w.nets;
+      long = ap length whole ∙ long ∙ ap length c.in_ok-on.ensures ∙ length-replicate w.nets _;
       on = subst (λ (l : List PartSet). AreOn w l) (sym whole) c.put_parts.ensures.on;
     }

@@ -1,7 +1,8 @@
 use Rattle.std.proofs.Common.{◌∙◌, ap, length, List, ℕ, Option, None, refl, sym, true}
+use Rattle.std.proofs.lemmas.List.{length-replicate}
 use Rattle.std.specs.Prelude.{slice_get}
 use Rattle.board_run.specs.Legs.{Kept}
-use Rattle.board_run.proofs.ShowLemmas.{long_all, get_all}
+use Rattle.board_run.proofs.ShowLemmas.{get_all}
 use Rattle.board_run.proofs.LegLemmas.{lags_start}
 use Rattle.board_run.proofs.start.begin.Goals as goal
 
@@ -13,6 +14,6 @@ returns g c =
     let none = c.in_ok-answers.ensures in
     let kept : Kept = record { input = 0; stale = true; dues = c.in_ok-dues.dues; seen = c.in_ok-reading.reading; answers = c.in_ok-answers.answers } in
     lags_start p.machine c.args.wiring.now p.state p.now p.wake_count c.args.parts.now kept refl seen.stale c.requires.few c.requires.fresh dues.dues dues.due
-    (ap length none ∙ long_all None (length c.args.parts.now))
+    (ap length none ∙ length-replicate (length c.args.parts.now) None)
     (λ k a e. get_all (length c.args.parts.now) k None a (ap (λ (xs : List (Option ℕ)). slice_get xs k) (sym none) ∙ e))
     seen.told c.requires.fits seen.suits seen.chips

@@ -1,6 +1,6 @@
 use Rattle.std.proofs.Common.{◌∙◌, sym, ap, arith, length}
+use Rattle.std.proofs.lemmas.List.{length-replicate}
 use Rattle.net_resolve.specs.Circuit.{Circuit}
-use Rattle.board_run.proofs.ShowLemmas.{long_all}
 use Rattle.board_run.proofs.start.told_nets.Goals as goal
 
 pub tell_all-requires : goal.tell_all-requires
@@ -16,8 +16,8 @@ tell_all-requires g c =
         omega (arith, c.as_slice-net_of.type_inv.0, c.as_slice-net_of.type_inv.1, ap length c.as_slice-net_of.ensures, pins),
         omega (arith, c.as_slice-contacts.type_inv.0, c.as_slice-contacts.type_inv.1, ap length c.as_slice-contacts.ensures, contacts),
       );
-      drives_long = ap (λ (x : Circuit). length x.drives) fresh ∙ long_all _ (length w.net_of) ∙ sym pins;
-      closed_long = ap (λ (x : Circuit). length x.closed) fresh ∙ long_all _ (length w.contacts) ∙ sym contacts;
+      drives_long = ap (λ (x : Circuit). length x.drives) fresh ∙ length-replicate (length w.net_of) _ ∙ sym pins;
+      closed_long = ap (λ (x : Circuit). length x.closed) fresh ∙ length-replicate (length w.contacts) _ ∙ sym contacts;
     }
 
 pub returns : goal.returns
@@ -31,6 +31,6 @@ returns g c =
         net_of = ap (λ (x : Circuit). x.net_of) made ∙ ap (λ (x : Circuit). x.net_of) fresh;
         contacts = ap (λ (x : Circuit). x.contacts) made ∙ ap (λ (x : Circuit). x.contacts) fresh;
         resistors = ap (λ (x : Circuit). x.resistors) made ∙ ap (λ (x : Circuit). x.resistors) fresh;
-        levels_long = ap (λ (x : Circuit). length x.levels) made ∙ ap (λ (x : Circuit). length x.levels) fresh ∙ long_all _ c.args.wiring.now.nets;
+        levels_long = ap (λ (x : Circuit). length x.levels) made ∙ ap (λ (x : Circuit). length x.levels) fresh ∙ length-replicate c.args.wiring.now.nets _;
       };
     }

@@ -1,4 +1,4 @@
-use Rattle.std.proofs.Common.{drop, [], ◌≡◌, ◌≢◌, ◌∙◌, arith, sym, ap, get_or, length, List, None, false, true}
+use Rattle.std.proofs.Common.{drop, [], ◌≡◌, ◌≢◌, ◌∙◌, arith, sym, ap, get_or, length, List, None, false, true, eq-eqb}
 use Rattle.std.proofs.lemmas.List.{drop_all}
 use Rattle.std.proofs.lemmas.Option.{slice_get-get_or}
 use Rattle.std.proofs.lemmas.Bool.{or_parts}
@@ -6,7 +6,7 @@ use Rattle.sim_base.specs.declared.wiring.Input.{Input}
 use Rattle.board_model.specs.Board.{input_from}
 use Rattle.board_run.specs.declared.part_set.PartSet.{PartSet}
 use Rattle.board_run.specs.Parts.{has_part}
-use Rattle.board_run.proofs.PartLemmas.{given_next, eqb_self}
+use Rattle.board_run.proofs.PartLemmas.{given_next}
 use Rattle.board_run.proofs.turn.with_given.Goals as goal
 use Rattle.board_run.proofs.turn.with_given.Goals.{then-input-lt64, else-input-lt64}
 
@@ -21,7 +21,7 @@ loop-input-preserved c =
         | then-input-lt64 w ↦
             let e = sym (w.with-set.ensures k) ∙ ap (λ (s : PartSet). has_part s k) (sym w.set-is) ∙ none in
             let inv = c.loop-input.invariant.marked t k few (or_parts _ _ e).0 in
-            let other : x.part ≢ k = λ same. (let wrong : true ≡ false = sym (eqb_self k x.part (sym same)) ∙ (or_parts _ _ e).1 in cc) in
+            let other : x.part ≢ k = λ same. (let wrong : true ≡ false = sym (eq-eqb k x.part (sym same)) ∙ (or_parts _ _ e).1 in cc) in
             (inv.0, given_next xs j t k x at other ∙ inv.1)
         | else-input-lt64 w ↦
             let inv = c.loop-input.invariant.marked t k few (ap (λ (s : PartSet). has_part s k) (sym w.set-is) ∙ none) in

@@ -15,7 +15,8 @@ use Rattle.board_run.specs.Parts.{has_part, AreNone}
 use Rattle.board_run.specs.Engine.{given, MayTurnPart, TurnedPart}
 use Rattle.board_run.proofs.ReadLemmas.{retold_suits}
 use Rattle.board_run.proofs.WakeLemmas.{silent_more, nothing_there}
-use Rattle.board_run.proofs.TurnLemmas.{some_there, turns_none, turns_pass, turns_on, begun_none, begun_on, due_set, dues_late, late_set, passed_set}
+use Rattle.board_run.proofs.NextLemmas.{dues_late}
+use Rattle.board_run.proofs.TurnLemmas.{some_there, turns_none, turns_pass, turns_on, begun_none, begun_on, due_set, late_set, passed_set}
 use Rattle.board_run.proofs.engine.Engine.turn.Given.{Over}
 use Rattle.board_run.proofs.engine.Engine.turn.Goals.{After-with_given-marked, After-turn_part-woken, then-silent, else-silent}
 use Rattle.board_run.proofs.engine.Engine.turn.Goals as goal
