@@ -11,7 +11,7 @@ use Rattle.board_model.specs.Resolve.{resolve}
 use Rattle.board_model.specs.Board.{drives_of, contacts_of, part_step, steps_from, board_step, levels_of, states, options, bytes_of, bytes}
 use Rattle.board_model.specs.Rows.{Shown, shown_of, row_of, row_if, shown_before, rows, chip_drives_of, is_new}
 use Rattle.board_laws.specs.Alike.{Alike, SameShow}
-use Rattle.board_laws.proofs.Beside.{Beside}
+use Rattle.board_laws.proofs.Beside.{Beside, EmitSame}
 use Rattle.board_laws.proofs.AlikeLemmas.{alike_weaker, map_alike, flat_map_alike, chip_drives_alike}
 use Rattle.board_model.proofs.Steps.{get_step, length-steps_from, length-board_step, get_from}
 
@@ -100,15 +100,15 @@ module _ {A B : Type 0} (m : Machine A) (n : Machine B) (w : Wiring) (inputs : L
   beside_levels t h = same_levels m n w _ _ (shows_same t h (beside_states t (omega arith)))
 
   -- the bytes are the same
-  pub beside_bytes : (t : ℕ) → t ≤ end → bytes m w inputs xs c t ≡ bytes n w inputs ys c t
+  pub beside_bytes : EmitSame m n w inputs xs ys c end R → (t : ℕ) → t ≤ end → bytes m w inputs xs c t ≡ bytes n w inputs ys c t
   unfolding bytes
-  beside_bytes zero h = refl
-  beside_bytes (suc t) h =
+  beside_bytes emit zero h = refl
+  beside_bytes emit (suc t) h =
       let l : t < end = omega arith in
       let like : Alike (R t) (states m w inputs xs c t) (states n w inputs ys c t) = beside_states t (omega arith) in
-      let a : bytes m w inputs xs c t ≡ bytes n w inputs ys c t = beside_bytes t (omega arith) in
+      let a : bytes m w inputs xs c t ≡ bytes n w inputs ys c t = beside_bytes emit t (omega arith) in
       let b : bytes_of m w inputs (states m w inputs xs c t) (c + t) ≡ bytes_of n w inputs (states n w inputs ys c t) (c + t) =
-      bytes_alike m n w inputs (R t) (states m w inputs xs c t) (states n w inputs ys c t) (c + t) (beside_levels t l) like (λ k a b ea eb. beside.emits t k a b l ea eb) in
+      bytes_alike m n w inputs (R t) (states m w inputs xs c t) (states n w inputs ys c t) (c + t) (beside_levels t l) like (λ k a b ea eb. emit t k a b l ea eb) in
       ap (λ (x : List ℕ). x ++ bytes_of m w inputs (states m w inputs xs c t) (c + t)) a ∙ ap (λ (x : List ℕ). bytes n w inputs ys c t ++ x) b
 
   beside_before : (before : Option Shown) (t : ℕ) → t ≤ end → shown_before m w inputs before xs c t ≡ shown_before n w inputs before ys c t

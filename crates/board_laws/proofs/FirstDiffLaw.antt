@@ -11,10 +11,10 @@ use Rattle.board_model.specs.Board.{levels_of, steps_from, states}
 use Rattle.board_model.specs.Rows.{same_drive}
 use Rattle.board_model.proofs.Lists.{some_same, lt_or_eq}
 use Rattle.board_laws.specs.Alike.{Alike}
-use Rattle.board_laws.specs.Worlds.{is_chip, IsQuietKind, TheseAre, SameRest, SameChips}
+use Rattle.board_laws.specs.Worlds.{is_chip, TheseAre, SameRest, SameChips}
 use Rattle.board_laws.specs.FirstDiff.{Difference, pin_diff, part_diff, SamePins, first_diff, stepped_beside, first_beside}
 use Rattle.board_model.proofs.Steps.{length-states, pins_of_states, state_before}
-use Rattle.board_laws.proofs.WorldsLaw.{worlds_states, worlds_levels}
+use Rattle.board_laws.proofs.WorldsLaw.{bare_states, bare_levels}
 use Rattle.board_model.proofs.SameLemmas.{drive_means}
 
 no_pin : (p : ℕ) (xs ys : List Drive) → length xs ≡ length ys → pin_diff p xs ys ≡ None → xs ≡ ys
@@ -85,8 +85,17 @@ module _ {S : Type 0} (m : Machine S) (w : Wiring) where
       here more true (Some p) h = ap (λ (d : Difference). d.cycle) (some_same (sym h))
       here more false o h = more h
 
-module _ {S : Type 0} (m : Machine S) (laws : Laws m) (IsOf : S → Type 0) (kind : IsQuietKind m IsOf) (w : Wiring) (inputs : List Input) (xs ys : List S) (c : ℕ)
-    (one : TheseAre IsOf (is_chip w) xs) (other : TheseAre IsOf (is_chip w) ys) (rest : SameRest w xs ys) (pins : SamePins m w xs ys) where
+-- A part without contacts gets none.
+pub stays_bare : {S : Type 0} (m : Machine S) → Laws m → (s : S) (t : ℕ) (l : List Level) (i : Option ℕ) → m.contacts s ≡ [] → m.contacts (m.step s t l i).0 ≡ []
+stays_bare m laws s t l i none = nothing (m.contacts (m.step s t l i).0) (laws.keeps_contacts s t l i ∙ ap length none)
+  where
+    nothing : (xs : List Bool) → length xs ≡ 0 → xs ≡ []
+    nothing [] e = refl
+    nothing (x ∷ xs) e = absurd (omega (arith, e))
+
+-- Two boards whose chips have no contacts.
+module _ {S : Type 0} (m : Machine S) (laws : Laws m) (w : Wiring) (inputs : List Input) (xs ys : List S) (c : ℕ)
+    (one : TheseAre (λ s. m.contacts s ≡ []) (is_chip w) xs) (other : TheseAre (λ s. m.contacts s ≡ []) (is_chip w) ys) (rest : SameRest w xs ys) (pins : SamePins m w xs ys) where
   no_diff : ℕ → Type 0
   no_diff t = part_diff m w (c + t) 0 (states m w inputs xs c t) (states m w inputs ys c t) ≡ None
 
@@ -127,7 +136,7 @@ module _ {S : Type 0} (m : Machine S) (laws : Laws m) (IsOf : S → Type 0) (kin
 
   -- where there is no difference, the rest is the same, at the end too
   pub rest_same : (n : ℕ) → first_diff m w inputs xs ys c n ≡ None → (t : ℕ) → t ≤ n → SameRest w (states m w inputs xs c t) (states m w inputs ys c t)
-  rest_same n h t l = worlds_states m IsOf kind w inputs xs ys c n one other rest (none_before n h) t l
+  rest_same n h t l = bare_states m (λ s. m.contacts s ≡ []) (stays_bare m laws) (λ s none. none) w inputs xs ys c n one other rest (none_before n h) t l
 
   -- Up to the first difference, its cycle included, the rest is the same.
   pub rest_until : (n : ℕ) (d : Difference) → first_diff m w inputs xs ys c n ≡ Some d → (t : ℕ) → c + t ≤ d.cycle → SameRest w (states m w inputs xs c t) (states m w inputs ys c t)
@@ -142,7 +151,7 @@ module _ {S : Type 0} (m : Machine S) (laws : Laws m) (IsOf : S → Type 0) (kin
   beside_is (suc n) h =
       let before : stepped_beside m w inputs xs ys c n ≡ states m w inputs ys c n = beside_is n (or_first _ _ h) in
       let same : levels_of m w (states m w inputs xs c n) ≡ levels_of m w (states m w inputs ys c n) =
-      worlds_levels m IsOf kind w inputs xs ys c (suc n) one other rest (none_before (suc n) h) n (omega arith) in
+      bare_levels m (λ s. m.contacts s ≡ []) (stays_bare m laws) (λ s none. none) w inputs xs ys c (suc n) one other rest (none_before (suc n) h) n (omega arith) in
       ap (λ (ls : List Level). map (λ r. r.0) (steps_from m w inputs ls (c + n) 0 (stepped_beside m w inputs xs ys c n))) same
       ∙ ap (λ (l : List S). map (λ r. r.0) (steps_from m w inputs (levels_of m w (states m w inputs ys c n)) (c + n) 0 l)) before
 

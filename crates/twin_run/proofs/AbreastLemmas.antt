@@ -1,9 +1,8 @@
 -- A twin goes on by steady cycles or by one cycle, and what it is answered with at its end.
-use Rattle.std.proofs.Common.{◌≡◌, ℕ, zero, suc, ◌+◌, ◌-◌, ◌<◌, ◌≤◌, List, ◌∙◌, length, map, true, Option, None, Some, refl, ap, sym, arith, subst, get_or, inl, inr}
+use Rattle.std.proofs.Common.{◌≡◌, ℕ, zero, suc, ◌+◌, ◌-◌, ◌<◌, List, ◌∙◌, length, map, true, Option, None, Some, refl, ap, sym, arith, subst}
 use Rattle.std.specs.Prelude.{slice_get, if◌then◌else◌}
 use Rattle.std.specs.Option.{option_or}
 use Rattle.std.proofs.lemmas.List.{length-map}
-use Rattle.std.proofs.lemmas.Option.{slice_get_within}
 use Rattle.sim_base.specs.declared.limits.TheConstants.{MOST_CYCLES}
 use Rattle.sim_base.specs.declared.signal.Level.{Level}
 use Rattle.sim_base.specs.declared.wiring.Wiring.{Wiring}
@@ -14,33 +13,32 @@ use Rattle.part_law.proofs.MachineLemmas.{glide_holds, glide_pins}
 use Rattle.board_model.specs.Board.{level_at, own_nets, levels_of, states}
 use Rattle.board_model.specs.Resolve.{resolve}
 use Rattle.board_model.specs.Rows.{Shown, shown_of, shown_before}
-use Rattle.board_model.proofs.Lists.{get_within, length-below, some_map, some_same}
+use Rattle.board_model.proofs.Lists.{length-below, some_map, some_same}
 use Rattle.board_model.proofs.Steps.{length-states}
 use Rattle.board_laws.specs.Active.{active_in, active_at, active_pairs}
 use Rattle.board_laws.specs.FirstDiff.{Difference, part_diff, stepped_beside, first_beside, first_diff}
 use Rattle.board_laws.specs.Steady.{IsSteady}
 use Rattle.board_laws.specs.Twin.{chips_before, with_chips}
-use Rattle.board_laws.specs.Worlds.{is_chip, SameRest, SameChips}
+use Rattle.board_laws.specs.Worlds.{is_chip, SameRest}
 use Rattle.board_laws.proofs.ActiveLaw.{held_before}
-use Rattle.board_laws.proofs.FirstDiffLaw.{same_chips}
+use Rattle.board_laws.proofs.FirstDiffLaw.{beside_sees, rest_same, rest_until, same_chips}
 use Rattle.board_laws.proofs.Splits.{states_split, pairs_split, sum_same}
 use Rattle.board_laws.specs.Stands.{Stands}
-use Rattle.board_laws.proofs.StandsLaw.{stands_here, stands_shows}
+use Rattle.board_laws.proofs.StandsLaw.{stands_here, stands_holds, stands_shows, stands_valid}
 use Rattle.board_laws.proofs.SteadyLaw.{steady_states}
+use Rattle.board_laws.proofs.TwinLaw.{beside_active}
 use Rattle.board_laws.proofs.WithChips.{rest_with_chips, get-with_chips}
 use Rattle.board_run.specs.BoardView.{BoardView}
-use Rattle.board_run.specs.Lagging.{AreDue}
 use Rattle.board_run.specs.Seen.{levels_on}
-use Rattle.board_run.proofs.NextLemmas.{below_or, quiet_until}
+use Rattle.board_run.proofs.LegLemmas.{quiet_rest, stands_later}
 use Rattle.board_run.proofs.StepLemmas.{fits_pins}
-use Rattle.twin_run.specs.Beside.{Abreast, AreBehind, AreComparable, BoardAt, BoardWent, ChipsAt, ChipsStand, ChipsTurned, HasRoom, IsChipOf, active_beside, beside_at, beside_pairs, difference_of, own_at, own_pairs, view_of}
+use Rattle.twin_run.specs.Beside.{Abreast, AreBehind, AreComparable, BoardAt, BoardWent, ChipsAt, ChipsTurned, HasRoom, IsChipOf, active_beside, at_cycle, beside_at, beside_pairs, difference_of, own_at, own_pairs, view_of}
 use Rattle.twin_run.specs.Twins.{AreTwins, HaveNoContacts, IsTwin, TwinView, differs, end_of, chip_pairs, other_states, wakes_in}
 use Rattle.twin_run.specs.declared.beside.Beside.{Beside}
 use Rattle.twin_run.specs.declared.chips.Chips.{Chips}
 use Rattle.twin_run.specs.declared.twin.TwinEnd.TheVariants as ends
 use Rattle.twin_run.proofs.DifferenceLemmas.{by_drives}
-use Rattle.twin_run.proofs.MuteLemmas.{active_before, rest_before, rest_up_to, sees_first}
-use Rattle.twin_run.proofs.BesideLemmas.{a_at, behind_next, chip_inside, chips_sleep, counted, none_in, pairs_rise, pins_beside, sized_a, sized_b, stand_next}
+use Rattle.twin_run.proofs.BesideLemmas.{Sleeps, a_at, behind_next, beside_glides, chip_inside, counted, none_in, pairs_rise, pins_beside, sized_a, sized_b, stand_next}
 
 module _ {S : Type 0} (m : Machine S) (w : Wiring) (ss : List S) where
   -- what the cycle before showed, after one
@@ -75,18 +73,17 @@ module _ {P : Type 0} (part : Ghosts P) (laws : Laws part.machine) (start : Twin
   B t = beside_at part start t
 
   -- a twin at its start
-  pub abreast_start : (chips : Chips P) (steps : ℕ) → AreTwins m part.state part.now part.wake_count start → start.board.cycle ≡ 0 → chips.parts ≡ start.chips → AreDue m part.state part.now part.wake_count start.chips chips.dues →
-      length chips.dues ≡ length chips.parts → length chips.levels ≡ w.nets → length chips.own ≡ length w.net_of → Abreast part start (record { board = start.board; chips = chips }) steps steps
+  pub abreast_start : (chips : Chips P) (steps : ℕ) → AreTwins m part.state part.now part.wake_count start → start.board.cycle ≡ 0 → chips.parts ≡ start.chips →
+      length chips.levels ≡ w.nets → length chips.own ≡ length w.net_of → Abreast part start (record { board = start.board; chips = chips }) steps steps
   unfolding states stepped_beside first_beside
-  abreast_start chips steps twins zero_cycle are due long nets room =
+  abreast_start chips steps twins zero_cycle are nets room =
       subst (λ (n : ℕ). Abreast part start (record { board = record (start.board) { cycle = n }; chips = chips }) steps steps) (sym zero_cycle)
       (subst (λ (l : List P). Abreast part start (record { board = record (start.board) { cycle = 0 }; chips = record chips { parts = l } }) steps steps) (sym are) at_start)
     where
-      inside : (k : ℕ) → is_chip w k ≡ true → k < length xs
-      inside k is = let l = chip_inside w.chip k is in let z = twins.fits.chips in omega (arith, l, z)
-
       at : (k : ℕ) (q : P) → IsChipOf w start.chips k q → slice_get ys k ≡ Some (part.state q)
-      at k q of = get-with_chips w k xs (map part.state start.chips) (part.state q) (inside k of.0) of.0 (some_map part.state start.chips (chips_before w k) q of.1)
+      at k q of =
+          let inside : k < length xs = (let l = chip_inside w.chip k of.0 in let z = twins.fits.chips in omega (arith, l, z)) in
+          get-with_chips w k xs (map part.state start.chips) (part.state q) inside of.0 (some_map part.state start.chips (chips_before w k) q of.1)
 
       at_start : Abreast part start (record { board = record (start.board) { cycle = 0 }; chips = record chips { parts = start.chips } }) steps steps
       at_start = record {
@@ -95,25 +92,23 @@ module _ {P : Type 0} (part : Ghosts P) (laws : Laws part.machine) (start : Twin
         chips = record {
           behind = record {
             has = twins.each;
-            may = λ k q d of ed.
+            each = λ k q of.
                 let zero_now = twins.fresh.at_start (chips_before w k) q of.1 in
                 let never = twins.fresh.never_woken (chips_before w k) q of.1 in
-                record { not_later = omega (arith, zero_now); count = omega (arith, never); quiet = λ i (h : i < 0 - part.now q). absurd (omega arith); first = due (chips_before w k) q d of.1 ed };
-            dues_long = long ∙ ap length are;
-            levels_long = nets;
-            own_long = room;
+                record {
+                  stands = subst (λ (a : ℕ). Stands m 0 a (part.state q) (glide m (part.state q) a (0 - a))) (sym zero_now) (stands_here m laws 0 (part.state q) (twins.fresh.are_valid (chips_before w k) q of.1));
+                  count = omega (arith, never);
+                  holds = λ (later : 0 < 0). absurd (omega arith);
+                };
             fit = λ k q of.
                 let a = a_at part laws start twins 0 k of.0 in
                 let same = twins.pins.each k a.0 (part.state q) a.1 (at k q of) of.0 in
                 let has = fits_pins m w xs twins.fits k a.0 a.1 in
                 omega (arith, same, has);
-            held = λ (later : 0 < 0). absurd (omega arith);
+            levels_long = nets;
+            own_long = room;
           };
-          stand = λ k q s of es.
-              let same : part.state q ≡ s = some_same (sym (at k q of) ∙ es) in
-              subst (λ (x : part.State). Stands m 0 (part.now q) (part.state q) x) same
-              (subst (λ (a : ℕ). Stands m 0 a (part.state q) (part.state q)) (sym (twins.fresh.at_start (chips_before w k) q of.1))
-              (stands_here m laws 0 (part.state q) (twins.fresh.are_valid (chips_before w k) q of.1)));
+          stand = λ k q of. at k q of ∙ ap (λ (a : ℕ). Some (glide m (part.state q) a (0 - a))) (sym (twins.fresh.at_start (chips_before w k) q of.1));
           of_board = λ (later : 0 < 0). absurd (omega arith);
           none = refl;
         };
@@ -130,10 +125,8 @@ module _ {P : Type 0} (part : Ghosts P) (laws : Laws part.machine) (start : Twin
     -- a chip has as many pins as the board's
     alike_pins : (k : ℕ) (q : P) (s : part.State) → IsChipOf w b.chips.parts k q → slice_get (A t) k ≡ Some s → length (m.drives (part.state q)) ≡ length (m.drives s)
     alike_pins k q s of es =
-        let inside : k < length (B t) = (let l = chip_inside w.chip k of.0 in let z = sized_b part laws start is.twins t in omega (arith, l, z)) in
-        let other : part.State = get_or (B t) k s in
-        let eb : slice_get (B t) k ≡ Some other = get_within (B t) k s inside in
-        ap length (stands_shows m laws t (part.now q) (part.state q) other (is.chips.stand k q other of eb)).drives ∙ sym ((pins_beside part laws start is.twins t).each k s other es eb of.0)
+        ap length (stands_shows m laws t (part.now q) (part.state q) (at_cycle part t q) (is.chips.behind.each k q of).stands).drives
+        ∙ sym ((pins_beside part laws start is.twins t).each k s (at_cycle part t q) es (is.chips.stand k q of) of.0)
 
     many : length b.board.parts ≡ length start.board.parts
     many =
@@ -152,7 +145,6 @@ module _ {P : Type 0} (part : Ghosts P) (laws : Laws part.machine) (start : Twin
 
     pub room_kept : HasRoom b
     room_kept = record {
-      dues = is.chips.behind.dues_long;
       levels = is.chips.behind.levels_long ∙ sym (ap (λ (v : Wiring). v.nets) is.board.same_wiring);
       own = is.chips.behind.own_long ∙ sym (ap (λ (v : Wiring). length v.net_of) is.board.same_wiring);
     }
@@ -177,7 +169,9 @@ module _ {P : Type 0} (part : Ghosts P) (laws : Laws part.machine) (start : Twin
         let q = is.chips.behind.has k one in
         let inside : k < length parts = (let l = chip_inside w.chip k one in omega (arith, l, sizes, za)) in
         let at = get-with_chips w k parts (map part.state b.chips.parts) (part.state q.0) inside one (some_map part.state b.chips.parts (chips_before w k) q.0 q.1) in
-        ap m.drives (some_same (sym ex ∙ at)) ∙ (stands_shows m laws t (part.now q.0) (part.state q.0) y (is.chips.stand k q.0 y (one, q.1) ey)).drives)
+        let of : IsChipOf w b.chips.parts k q.0 = (one, q.1) in
+        ap m.drives (some_same (sym ex ∙ at)) ∙ (stands_shows m laws t (part.now q.0) (part.state q.0) (at_cycle part t q.0) (is.chips.behind.each k q.0 of).stands).drives
+        ∙ ap m.drives (some_same (sym (is.chips.stand k q.0 of) ∙ ey)))
         ∙ ap (λ (l : List part.State). part_diff m w t 0 l (B t)) is.board.states_are
 
     -- what is asked for a turn of the chips
@@ -204,13 +198,11 @@ module _ {P : Type 0} (part : Ghosts P) (laws : Laws part.machine) (start : Twin
       board_is : map part.state new.parts ≡ A u
       board_is = went.states_are ∙ ap (λ (l : List part.State). states m w inputs l t (u - t)) is.board.states_are ∙ sym split
 
-      pairs : own_pairs part start u ≡ own_pairs part start t + active_pairs m b.board.wiring b.board.inputs (map part.state b.board.parts) t (u - t)
+      pairs : own_pairs part start u ≡ own_pairs part start t + active_pairs m w inputs (map part.state b.board.parts) t (u - t)
       pairs =
           let z : 0 + t ≡ t = omega arith in
           ap (own_pairs part start) (sym there) ∙ pairs_split m w inputs xs 0 t (u - t) ∙ ap (λ (v : ℕ). own_pairs part start t + active_pairs m w inputs (A t) v (u - t)) z
           ∙ ap (λ (l : List part.State). own_pairs part start t + active_pairs m w inputs l t (u - t)) (sym is.board.states_are)
-          ∙ ap (λ (v : Wiring). own_pairs part start t + active_pairs m v inputs (map part.state b.board.parts) t (u - t)) (sym is.board.same_wiring)
-          ∙ ap (λ (l : List Input). own_pairs part start t + active_pairs m b.board.wiring l (map part.state b.board.parts) t (u - t)) (sym is.board.same_inputs)
 
       board_on : BoardAt part start new
       board_on = record {
@@ -218,11 +210,11 @@ module _ {P : Type 0} (part : Ghosts P) (laws : Laws part.machine) (start : Twin
         same_wiring = did.same_wiring ∙ is.board.same_wiring;
         same_inputs = did.same_inputs ∙ is.board.same_inputs;
         states_are = board_is;
-        woken = let a = did.woken in let o = is.board.woken in let p = pairs in omega (arith, a, o, p);
+        woken = let a = went.woken in let o = is.board.woken in let p = pairs in omega (arith, a, o, p);
       }
 
       counts : most ≡ steps + own_pairs part start u + is.wakes
-      counts = let a = did.steps_are in let o = is.counted in let p = pairs in omega (arith, a, o, p)
+      counts = let a = went.steps_are in let o = is.counted in let p = pairs in omega (arith, a, o, p)
 
       -- where it is in the same cycle, its chips drive as they did
       pub same_there : u ≡ t → difference_of part b ≡ None → difference_of part (record b { board = new }) ≡ None
@@ -232,80 +224,75 @@ module _ {P : Type 0} (part : Ghosts P) (laws : Laws part.machine) (start : Twin
           ∙ ap (λ (c : ℕ). part_diff m b.board.wiring c 0 (map part.state new.parts) (with_chips b.board.wiring (map part.state new.parts) (map part.state b.chips.parts))) at
           ∙ ap (λ (l : List part.State). part_diff m b.board.wiring t 0 l (with_chips b.board.wiring l (map part.state b.chips.parts))) still ∙ none
 
-      -- by steady cycles, if by any, in which no chip is due
-      module _ (none : difference_of part b ≡ None) (end : u ≤ MOST_CYCLES) (late : t < u → (j x : ℕ) → slice_get b.chips.dues j ≡ Some (Some x) → u ≤ x)
-          (still : t < u → (0 < t) × IsSteady m b.board.wiring b.board.inputs (map part.state b.board.parts) t (u - t)) where
-        same_now : SameChips m w (A t) (B t)
-        same_now = same_chips m w t (A t) (B t) (pins_beside part laws start is.twins t) (sym diff_is ∙ none)
+      -- by no cycle
+      pub stays : u ≡ t → Abreast part start (record b { board = new }) steps most
+      stays at = record {
+        twins = is.twins;
+        board = board_on;
+        chips = subst (λ (c : ℕ). ChipsAt part start c b.chips) (sym at) is.chips;
+        wakes = is.wakes;
+        woken = is.woken;
+        most = (let s = is.most in let e = ap (beside_pairs part start) at in omega (arith, s, e));
+        counted = counts;
+      }
 
-        stays : u ≡ t → Abreast part start (record b { board = new }) steps most
-        stays at = record {
+      -- by steady cycles in which no chip is due
+      module _ (none : difference_of part b ≡ None) (less : t < u) (after : 0 < t) (still : IsSteady m b.board.wiring b.board.inputs (map part.state b.board.parts) t (u - t))
+          (quiet : (j : ℕ) (q : P) → slice_get b.chips.parts j ≡ Some q → IsQuiet m (part.state q) (part.now q) (u - part.now q)) where
+        steady : IsSteady m w inputs (A t) t (u - t)
+        steady =
+            subst (λ (l : List part.State). IsSteady m w inputs l t (u - t)) is.board.states_are (subst (λ (v : Wiring). IsSteady m v inputs (map part.state b.board.parts) t (u - t)) is.board.same_wiring
+            (subst (λ (l : List Input). IsSteady m b.board.wiring l (map part.state b.board.parts) t (u - t)) is.board.same_inputs still))
+
+        later : (k : ℕ) (q : P) → IsChipOf w b.chips.parts k q → Stands m u (part.now q) (part.state q) (glide m (at_cycle part t q) t (u - t))
+        later k q of = stands_later m (part.state q) (at_cycle part t q) (part.now q) t u (omega (arith, less)) (is.chips.behind.each k q of).stands (quiet (chips_before w k) q of.1)
+
+        sleep : (k : ℕ) (q : P) → IsChipOf w b.chips.parts k q → Sleeps part laws start is.twins t (u - t) k (at_cycle part t q)
+        sleep k q of =
+            let before = is.chips.behind.each k q of in
+            let a = a_at part laws start is.twins t k of.0 in
+            let n = alike_pins k q a.0 of a.1 in
+            record {
+              at = is.chips.stand k q of;
+              valid = stands_valid m laws t (part.now q) (part.state q) (at_cycle part t q) before.stands;
+              quiet = quiet_rest m (part.state q) (at_cycle part t q) (part.now q) t u before.stands.not_later (omega (arith, less)) refl (quiet (chips_before w k) q of.1);
+              held = stands_holds m laws t (part.now q) (part.state q) (at_cycle part t q) before.stands ∙ before.holds after
+                  ∙ ap (λ (i : ℕ). map (level_at b.chips.levels) (own_nets w k i)) n ∙ sym (is.chips.of_board after k a.0 of.0 a.1) ∙ steady.held k a.0 a.1
+                  ∙ ap (λ (i : ℕ). map (level_at (levels_of m w (A t))) (own_nets w k i)) ((pins_beside part laws start is.twins t).each k a.0 (at_cycle part t q) a.1 (is.chips.stand k q of) of.0);
+            }
+
+        pub goes : Abreast part start (record b { board = new }) steps most
+        goes = record {
           twins = is.twins;
           board = board_on;
-          chips = subst (λ (c : ℕ). ChipsAt part start c b.chips) (sym at) is.chips;
+          chips = record {
+            behind = record {
+              has = is.chips.behind.has;
+              each = λ k q of.
+                  let before = is.chips.behind.each k q of in
+                  let st = later k q of in
+                  record { stands = subst (λ (x : part.State). Stands m u (part.now q) (part.state q) x) st.is st; count = before.count; holds = λ _. before.holds after };
+              fit = is.chips.behind.fit;
+              levels_long = is.chips.behind.levels_long;
+              own_long = is.chips.behind.own_long;
+            };
+            stand = λ k q of.
+                ap (λ (v : ℕ). slice_get (B v) k) (sym there) ∙ beside_glides part laws start is.twins t (u - t) steady k (at_cycle part t q) (sleep k q of) (u - t) (omega arith) ∙ ap Some (later k q of).is;
+            of_board = λ _ k s one es.
+                let a = a_at part laws start is.twins t k one in
+                let g : s ≡ glide m a.0 t (u - t) =
+                (steady_states m laws w inputs (A t) t (u - t) steady (u - t) (omega arith)).each k a.0 s a.1 (ap (λ (l : List part.State). slice_get l k) (sym split) ∙ es) in
+                ap m.held g ∙ glide_holds m laws a.0 t (u - t) ∙ is.chips.of_board after k a.0 one a.1
+                ∙ ap (λ (i : ℕ). map (level_at b.chips.levels) (own_nets w k i)) (sym (ap (λ (x : part.State). length (m.drives x)) g ∙ glide_pins m laws a.0 t (u - t)));
+            none = ap (first_beside m w inputs xs ys 0) (sym there)
+                ∙ none_in part laws start is.twins t (u - t) steady (λ k one. let q = is.chips.behind.has k one in (at_cycle part t q.0, sleep k q.0 (one, q.1)))
+                (same_chips m w t (A t) (B t) (pins_beside part laws start is.twins t) (sym diff_is ∙ none)) is.chips.none (u - t) (omega arith);
+          };
           wakes = is.wakes;
           woken = is.woken;
-          most = (let s = is.most in let e = ap (beside_pairs part start) at in omega (arith, s, e));
+          most = (let s = is.most in let r = pairs_rise part laws start is.twins t (u - t) in let e = ap (beside_pairs part start) there in omega (arith, s, r, e));
           counted = counts;
         }
-
-        module _ (less : t < u) where
-          steady : IsSteady m w inputs (A t) t (u - t)
-          steady =
-              subst (λ (l : List part.State). IsSteady m w inputs l t (u - t)) is.board.states_are (subst (λ (v : Wiring). IsSteady m v inputs (map part.state b.board.parts) t (u - t)) is.board.same_wiring
-              (subst (λ (l : List Input). IsSteady m b.board.wiring l (map part.state b.board.parts) t (u - t)) is.board.same_inputs (still less).1))
-
-          quiet : (k : ℕ) (q : P) → IsChipOf w b.chips.parts k q → IsQuiet m (part.state q) (part.now q) (u - part.now q)
-          quiet k q of =
-              let within : chips_before w k < length b.chips.dues = (let l = slice_get_within b.chips.parts (chips_before w k) q of.1 in let d = is.chips.behind.dues_long in omega (arith, l, d)) in
-              let d = get_or b.chips.dues (chips_before w k) None in
-              let ed : slice_get b.chips.dues (chips_before w k) ≡ Some d = get_within b.chips.dues (chips_before w k) None within in
-              quiet_until m part.state part.now part.wake_count t u d q (omega (arith, less)) end (is.chips.behind.may k q d of ed) (λ x e l. late less (chips_before w k) x (ed ∙ ap Some e))
-
-          quiet_to : (k : ℕ) (q : P) → IsChipOf w b.chips.parts k q → IsQuiet m (part.state q) (part.now q) (t + (u - t) - part.now q)
-          quiet_to k q of = subst (λ (v : ℕ). IsQuiet m (part.state q) (part.now q) (v - part.now q)) (sym there) (quiet k q of)
-
-          hold : (k : ℕ) (q : P) → IsChipOf w b.chips.parts k q → m.held (part.state q) ≡ levels_on m w (levels_of m w (A t)) k (part.state q)
-          hold k q of =
-              let after = (still less).0 in
-              let a = a_at part laws start is.twins t k of.0 in
-              let n = alike_pins k q a.0 of a.1 in
-              is.chips.behind.held after k q of ∙ ap (λ (i : ℕ). map (level_at b.chips.levels) (own_nets w k i)) n ∙ sym (is.chips.of_board after k a.0 of.0 a.1) ∙ steady.held k a.0 a.1
-              ∙ ap (λ (i : ℕ). map (level_at (levels_of m w (A t))) (own_nets w k i)) (sym n)
-
-          goes : Abreast part start (record b { board = new }) steps most
-          goes = record {
-            twins = is.twins;
-            board = board_on;
-            chips = record {
-              behind = record {
-                has = is.chips.behind.has;
-                may = λ k q d of ed.
-                    let x = is.chips.behind.may k q d of ed in
-                    let l = x.not_later in
-                    record { not_later = omega (arith, l, less); count = x.count; quiet = quiet k q of; first = x.first };
-                dues_long = is.chips.behind.dues_long;
-                levels_long = is.chips.behind.levels_long;
-                own_long = is.chips.behind.own_long;
-                fit = is.chips.behind.fit;
-                held = λ _. is.chips.behind.held (still less).0;
-              };
-              stand = subst (λ (v : ℕ). ChipsStand part w v b.chips.parts (B v)) there (chips_sleep part laws start is.twins t (u - t) b.chips.parts steady is.chips.stand quiet_to hold (u - t) (omega arith));
-              of_board = λ _ k s one es.
-                  let after = (still less).0 in
-                  let a = a_at part laws start is.twins t k one in
-                  let g : s ≡ glide m a.0 t (u - t) =
-                  (steady_states m laws w inputs (A t) t (u - t) steady (u - t) (omega arith)).each k a.0 s a.1 (ap (λ (l : List part.State). slice_get l k) (sym split) ∙ es) in
-                  ap m.held g ∙ glide_holds m laws a.0 t (u - t) ∙ is.chips.of_board after k a.0 one a.1
-                  ∙ ap (λ (i : ℕ). map (level_at b.chips.levels) (own_nets w k i)) (sym (ap (λ (x : part.State). length (m.drives x)) g ∙ glide_pins m laws a.0 t (u - t)));
-              none = ap (first_beside m w inputs xs ys 0) (sym there)
-                  ∙ none_in part laws start is.twins t (u - t) b.chips.parts steady is.chips.stand quiet_to hold is.chips.behind.has same_now is.chips.none (u - t) (omega arith);
-            };
-            wakes = is.wakes;
-            woken = is.woken;
-            most = (let s = is.most in let r = pairs_rise part laws start is.twins t (u - t) in let e = ap (beside_pairs part start) there in omega (arith, s, r, e));
-            counted = counts;
-          }
 
       -- by one cycle, in which the chips had their turns
       pub steps_on : (next : Chips P) (last : ℕ) (v : Wiring) (ls : List Level) → difference_of part b ≡ None → t < MOST_CYCLES → u ≡ t + 1 → v ≡ b.board.wiring → ls ≡ levels_of m b.board.wiring (map part.state b.board.parts) →
@@ -317,32 +304,24 @@ module _ {P : Type 0} (part : Ghosts P) (laws : Laws part.machine) (start : Twin
           subst (λ (l : List Level). ChipsTurned part w l t b.chips (length w.chip) next most last) are
           (subst (λ (x : Wiring). ChipsTurned part x ls t b.chips (length x.chip) next most last) (same ∙ is.board.same_wiring) turned) in
           let s : t + 1 ≡ suc t = omega arith in
-          let up = at ∙ s in
           let c = counted part laws start is.twins t b.chips next most last end turns is.chips.behind is.chips.stand in
           record {
             twins = is.twins;
             board = board_on;
-            chips = record {
-              behind = subst (λ (v : ℕ). AreBehind part w v next) (sym at) (behind_next part laws start is.twins t b.chips next most last end turns is.chips.behind is.chips.stand (kept ∙ are) (length_levels m w (A t)) room);
-              stand = subst (λ (v : ℕ). ChipsStand part w v next.parts (B v)) (sym at) (stand_next part laws start is.twins t b.chips next most last end turns is.chips.behind is.chips.stand);
-              of_board = λ _ k s one es.
-                  held_before m w inputs laws xs 0 t k s (ap (λ (v : ℕ). slice_get (A v) k) (sym up) ∙ es)
-                  ∙ ap (λ (l : List Level). levels_on m w l k s) (sym (kept ∙ are));
-              none = ap (first_beside m w inputs xs ys 0) up ∙ ap (λ o. option_or o (part_diff m w (0 + t) 0 (A t) (B t))) is.chips.none
+            chips = subst (λ (v : ℕ). ChipsAt part start v next) (sym at) (record {
+              behind = behind_next part laws start is.twins t b.chips next most last end turns is.chips.behind is.chips.stand (kept ∙ are) (length_levels m w (A t)) room;
+              stand = stand_next part laws start is.twins t b.chips next most last end turns is.chips.behind is.chips.stand;
+              of_board = λ _ k z one es.
+                  held_before m w inputs laws xs 0 t k z (ap (λ (v : ℕ). slice_get (A v) k) (sym s) ∙ es)
+                  ∙ ap (λ (l : List Level). levels_on m w l k z) (sym (kept ∙ are));
+              none = ap (first_beside m w inputs xs ys 0) s ∙ ap (λ o. option_or o (part_diff m w (0 + t) 0 (A t) (B t))) is.chips.none
                   ∙ ap (λ (v : ℕ). part_diff m w v 0 (A t) (B t)) (let z : 0 + t ≡ t = omega arith in z) ∙ sym diff_is ∙ none;
-            };
+            });
             wakes = is.wakes + (last - most);
             woken = (let o = is.woken in let x = turned.woken in let k = turned.steps_are in omega (arith, o, x, k));
             most = (let o = is.most in let e = ap (beside_pairs part start) at in omega (arith, o, c, e));
             counted = (let k = turned.steps_are in let n = counts in omega (arith, k, n));
           }
-
-      pub goes_still : difference_of part b ≡ None → u ≤ MOST_CYCLES → (t < u → (j x : ℕ) → slice_get b.chips.dues j ≡ Some (Some x) → u ≤ x) →
-          (t < u → (0 < t) × IsSteady m b.board.wiring b.board.inputs (map part.state b.board.parts) t (u - t)) → Abreast part start (record b { board = new }) steps most
-      goes_still none end late still = elim (below_or t u) [
-        | inl less ↦ goes none end late still less
-        | inr more_or ↦ stays none end late still (let o = went.order in omega (arith, o, more_or))
-      ]
 
     -- A difference that was found stays the first.
     holds_on : (c : ℕ) (d : Difference) → first_beside m w inputs xs ys 0 c ≡ Some d → (j : ℕ) → first_beside m w inputs xs ys 0 (c + j) ≡ Some d
@@ -361,7 +340,7 @@ module _ {P : Type 0} (part : Ghosts P) (laws : Laws part.machine) (start : Twin
       rest = rest_with_chips w xs (map part.state start.chips)
 
       sees : (n : ℕ) → first_beside m w inputs xs ys 0 n ≡ first_diff m w inputs xs ys 0 n
-      sees n = sees_first m w inputs xs ys laws free rest is.twins.pins n
+      sees n = beside_sees m laws w inputs xs ys 0 free.one free.other rest is.twins.pins n
 
       -- before the first difference the chips are active where they are in their own board
       pairs_are : (c : ℕ) → first_diff m w inputs xs ys 0 c ≡ None → beside_pairs part start c ≡ chip_pairs m w inputs ys c
@@ -372,7 +351,7 @@ module _ {P : Type 0} (part : Ghosts P) (laws : Laws part.machine) (start : Twin
           let before = pairs_are c (or_first _ _ none) in
           let same = sum_same m w inputs (length ys) (active_beside part start c) (λ k. if is_chip w k then active_at m w inputs ys 0 k c else 0)
           (λ k. ap (λ (x : ℕ). if is_chip w k then x else 0)
-          (ap (λ (v : ℕ). active_in m w inputs (levels_of m w (A c)) v k (slice_get (B c) k)) (sym z) ∙ active_before m w inputs xs ys laws free rest is.twins.pins c none k)) in
+          (ap (λ (v : ℕ). active_in m w inputs (levels_of m w (A c)) v k (slice_get (B c) k)) (sym z) ∙ beside_active m laws w inputs xs ys 0 free.one free.other rest is.twins.pins c none k)) in
           omega (arith, before, same)
 
       pub ends_same : (n : ℕ) → t ≡ n → IsTwin m w inputs xs ys n ends.Same steps more
@@ -387,7 +366,7 @@ module _ {P : Type 0} (part : Ghosts P) (laws : Laws part.machine) (start : Twin
             sees = ap end_of (sym none);
             rose = omega (arith, c);
             wakes = omega (arith, so_far, c, own, other, all);
-            rest = rest_before m w inputs xs ys laws free rest is.twins.pins n none;
+            rest = rest_same m laws w inputs xs ys 0 free.one free.other rest is.twins.pins n none;
           }
 
       pub ends_differ : (n : ℕ) (d : Difference) → t < n → difference_of part b ≡ Some d → d.cycle ≡ t → IsTwin m w inputs xs ys n (differs d) steps more
@@ -408,5 +387,5 @@ module _ {P : Type 0} (part : Ghosts P) (laws : Laws part.machine) (start : Twin
             sees = ap end_of (sym all);
             rose = omega (arith, c);
             wakes = omega (arith, so_far, c, same, own, other);
-            rest = λ v l. rest_up_to m w inputs xs ys laws free rest is.twins.pins n d all v (omega (arith, l));
+            rest = λ v l. rest_until m laws w inputs xs ys 0 free.one free.other rest is.twins.pins n d all v (omega (arith, l));
           }

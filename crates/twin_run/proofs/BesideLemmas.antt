@@ -1,72 +1,37 @@
--- Chips that were left behind beside a board: over steady cycles they may sleep, and in a cycle each is woken or sleeps.
-use Rattle.std.proofs.Common.{◌≡◌, ℕ, zero, suc, ◌+◌, ◌-◌, ◌<◌, ◌≤◌, List, [], ◌∷◌, ◌∙◌, length, map, Bool, true, false, Option, None, Some, refl, ap, sym, arith, subst, get_or}
-use Rattle.std.specs.Prelude.{slice_get, unwrap_or, not, if◌then◌else◌}
-use Rattle.std.specs.Option.{option_or}
+-- Chips that were left behind beside a board: over steady cycles in which none is due they sleep, and in a cycle each is woken or sleeps.
+use Rattle.std.proofs.Common.{◌≡◌, ℕ, zero, suc, ◌+◌, ◌<◌, ◌≤◌, List, [], ◌∷◌, ◌∙◌, length, map, Bool, true, false, Option, None, Some, refl, ap, sym, arith, subst}
+use Rattle.std.specs.Prelude.{slice_get, unwrap_or, not, ◌||◌, if◌then◌else◌}
+use Rattle.std.specs.Option.{is_some, option_or}
 use Rattle.std.proofs.lemmas.List.{length-map}
 use Rattle.std.proofs.lemmas.Option.{slice_get_within}
 use Rattle.sim_base.specs.declared.limits.TheConstants.{MOST_CYCLES}
 use Rattle.sim_base.specs.declared.signal.Level.{Level}
 use Rattle.sim_base.specs.declared.wiring.Wiring.{Wiring}
 use Rattle.sim_base.specs.declared.wiring.Input.{Input}
-use Rattle.part_law.specs.Machine.{Machine, Laws, glide, IsQuiet, IsFirstDue}
+use Rattle.part_law.specs.Machine.{Machine, Laws, glide, IsQuiet}
+use Rattle.part_law.specs.declared.part.Part.{Ghosts}
+use Rattle.part_law.proofs.MachineLemmas.{glide_drives, glide_holds, glide_pins}
 use Rattle.board_model.specs.Board.{level_at, own_nets, levels_of, input_at, part_step, steps_from, states}
 use Rattle.board_model.specs.Rows.{same_list, same_level}
-use Rattle.board_model.proofs.Lists.{get_map_some, get_within, some_same}
-use Rattle.board_model.proofs.Steps.{get_from, get_step, length-states, length-steps_from}
-use Rattle.board_laws.specs.Active.{active_in, is_active, sum_below}
-use Rattle.part_law.specs.declared.part.Part.{Ghosts}
+use Rattle.board_model.proofs.Lists.{some_map, some_same}
+use Rattle.board_model.proofs.Steps.{get-steps_from, length-states, length-steps_from, pins_of_states, state_before}
+use Rattle.board_laws.specs.Active.{active_in, sum_below}
 use Rattle.board_laws.specs.FirstDiff.{part_diff, stepped_beside, first_beside, SamePins}
 use Rattle.board_laws.specs.Stands.{Stands}
 use Rattle.board_laws.specs.Steady.{IsSteady}
 use Rattle.board_laws.specs.Twin.{chips_before}
 use Rattle.board_laws.specs.Worlds.{is_chip, SameChips}
 use Rattle.board_laws.proofs.Splits.{states_split, sum_same, sum_split}
-use Rattle.board_laws.proofs.StandsLaw.{stands_holds, stands_shows, stands_sleeps}
+use Rattle.board_laws.proofs.StandsLaw.{stands_holds, stands_shows}
 use Rattle.board_laws.proofs.SteadyLaw.{steady_levels, steady_states}
-use Rattle.board_laws.proofs.StretchLaw.{levels_are}
 use Rattle.board_laws.proofs.TwinLaw.{none_where_same}
-use Rattle.board_run.specs.Lagging.{HadTurn, to_wake}
+use Rattle.board_run.specs.Lagging.{HadTurn}
 use Rattle.board_run.specs.Seen.{levels_on}
-use Rattle.board_run.proofs.TurnLemmas.{had_turn, some_there, wake_is}
-use Rattle.twin_run.specs.Beside.{AreBehind, ChipsStand, ChipsTurned, IsChipOf, TookTurn, active_beside, beside_at, beside_pairs, chip_wake, differs_on, own_at, wake_of}
+use Rattle.board_run.proofs.TurnLemmas.{had_turn, some_there}
+use Rattle.twin_run.specs.Beside.{AreBehind, ChipsTurned, IsChipOf, active_beside, at_cycle, beside_at, beside_pairs, chip_wake, own_at, wake_in, wake_of}
 use Rattle.twin_run.specs.Twins.{AreTwins, TwinView, other_states}
 use Rattle.twin_run.specs.declared.chips.Chips.{Chips}
-
-module _ {S : Type 0} (m : Machine S) (w : Wiring) (inputs : List Input) where
-  -- where nothing is due or scripted and the levels are those that it holds, a part is not active
-  pub asleep : (ls : List Level) (t k : ℕ) (s : S) → m.due s t ≡ false → input_at inputs t k ≡ None → m.held s ≡ map (level_at ls) (own_nets w k (length (m.drives s))) → is_active m w inputs ls t k s ≡ false
-  asleep ls t k s due none held =
-      let own : List Level = map (level_at ls) (own_nets w k (length (m.drives s))) in
-      let same : same_list same_level own (m.held s) ≡ true = ap (same_list same_level own) held ∙ levels_are own in
-      rw (due, none, same) refl
-
-  module _ (xs ys : List S) where
-    -- what a part that is stepped beside the board came from
-    pub beside_from : (t k : ℕ) (u : S) → slice_get (stepped_beside m w inputs xs ys 0 (suc t)) k ≡ Some u →
-        (s : S) × (slice_get (stepped_beside m w inputs xs ys 0 t) k ≡ Some s) × ((part_step m w inputs (levels_of m w (states m w inputs xs 0 t)) t k s).0 ≡ u)
-    unfolding stepped_beside
-    beside_from t k u e =
-        let z : 0 + t ≡ t = omega arith in
-        let ls : List Level = levels_of m w (states m w inputs xs 0 t) in
-        let r = get_map_some (λ (x : S × Option ℕ). x.0) (steps_from m w inputs ls (0 + t) 0 (stepped_beside m w inputs xs ys 0 t)) k u e in
-        let f = get_step m w inputs ls (0 + t) k (stepped_beside m w inputs xs ys 0 t) r.0 r.1 in
-        (f.0, f.1, ap (λ (v : ℕ). (part_step m w inputs ls v k f.0).0) (sym z) ∙ ap (λ (x : S × Option ℕ). x.0) f.2 ∙ r.2)
-
-    pub length-beside : (t : ℕ) → length (stepped_beside m w inputs xs ys 0 t) ≡ length ys
-    unfolding stepped_beside
-    length-beside zero = refl
-    length-beside (suc t) =
-        let ls : List Level = levels_of m w (states m w inputs xs 0 t) in
-        (simp length-map refl) ∙ length-steps_from m w inputs ls (0 + t) 0 (stepped_beside m w inputs xs ys 0 t) ∙ length-beside t
-
-    -- what a part of the board came from
-    pub board_from : (t k : ℕ) (u : S) → slice_get (states m w inputs xs 0 (suc t)) k ≡ Some u →
-        (s : S) × (slice_get (states m w inputs xs 0 t) k ≡ Some s) × ((part_step m w inputs (levels_of m w (states m w inputs xs 0 t)) t k s).0 ≡ u)
-    unfolding states
-    board_from t k u e =
-        let z : 0 + t ≡ t = omega arith in
-        let f = get_from m w inputs (states m w inputs xs 0 t) (0 + t) k u e in
-        (f.0, f.1, ap (λ (v : ℕ). (part_step m w inputs (levels_of m w (states m w inputs xs 0 t)) v k f.0).0) (sym z) ∙ f.2)
+use Rattle.twin_run.proofs.TurnedLemmas.{before_below}
 
 pub chip_inside : (l : List Bool) (k : ℕ) → unwrap_or (slice_get l k) false ≡ true → k < length l
 chip_inside [] k is = absurd cc
@@ -98,83 +63,85 @@ module _ {P : Type 0} (part : Ghosts P) (laws : Laws part.machine) (start : Twin
   pub sized_a : (t : ℕ) → length (As t) ≡ length w.chip
   sized_a t = length-states m w inputs xs 0 t ∙ sym twins.fits.chips
 
+  length-beside : (t : ℕ) → length (Bs t) ≡ length ys
+  unfolding stepped_beside
+  length-beside zero = refl
+  length-beside (suc t) = (simp length-map refl) ∙ length-steps_from m w inputs (levels_of m w (As t)) (0 + t) 0 (Bs t) ∙ length-beside t
+
   pub sized_b : (t : ℕ) → length (Bs t) ≡ length w.chip
-  sized_b t = length-beside m w inputs xs ys t ∙ sym twins.pins.long ∙ sym twins.fits.chips
+  sized_b t = length-beside t ∙ sym twins.pins.long ∙ sym twins.fits.chips
 
   pub a_at : (t k : ℕ) → is_chip w k ≡ true → (s : part.State) × (slice_get (As t) k ≡ Some s)
   a_at t k is = some_there (As t) k (let l = chip_inside w.chip k is in let z = sized_a t in omega (arith, l, z))
-
-  pub b_at : (t k : ℕ) → is_chip w k ≡ true → (s : part.State) × (slice_get (Bs t) k ≡ Some s)
-  b_at t k is = some_there (Bs t) k (let l = chip_inside w.chip k is in let z = sized_b t in omega (arith, l, z))
 
   -- more cycles have no fewer pairs
   pub pairs_rise : (a b : ℕ) → beside_pairs part start a ≤ beside_pairs part start (a + b)
   pairs_rise a b = let e = sum_split m w inputs (λ t. sum_below (length ys) (active_beside part start t)) a b in omega (arith, e)
 
+  -- a part beside the board takes its step on the levels of that
+  beside_next : (t k : ℕ) (s : part.State) → slice_get (Bs t) k ≡ Some s → slice_get (Bs (suc t)) k ≡ Some (part_step m w inputs (levels_of m w (As t)) t k s).0
+  unfolding stepped_beside
+  beside_next t k s e =
+      let z : 0 + t ≡ t = omega arith in
+      let ls : List Level = levels_of m w (As t) in
+      some_map (λ (r : part.State × Option ℕ). r.0) (steps_from m w inputs ls (0 + t) 0 (Bs t)) k _ (get-steps_from m w inputs ls (0 + t) k (Bs t) s e)
+      ∙ ap (λ (v : ℕ). Some (part_step m w inputs ls v k s).0) z
+
+  -- and keeps its pins
+  kept : (k : ℕ) (y : part.State) → slice_get ys k ≡ Some y → (t : ℕ) → (s : part.State) × (slice_get (Bs t) k ≡ Some s) × (length (m.drives s) ≡ length (m.drives y))
+  unfolding stepped_beside
+  kept k y e zero = (y, e, refl)
+  kept k y e (suc t) = let f = kept k y e t in (_, beside_next t k f.0 f.1, laws.keeps_pins f.0 t _ _ ∙ f.2)
+
   pub pins_beside : (t : ℕ) → SamePins m w (As t) (Bs t)
-  unfolding states stepped_beside
-  pins_beside zero = twins.pins
-  pins_beside (suc t) = record {
-    long = length-states m w inputs xs 0 (suc t) ∙ twins.pins.long ∙ sym (length-beside m w inputs xs ys (suc t));
+  pins_beside t = record {
+    long = sized_a t ∙ sym (sized_b t);
     each = λ k a b ea eb is.
-        let f = board_from m w inputs xs ys t k a ea in
-        let g = beside_from m w inputs xs ys t k b eb in
-        ap (λ (s : part.State). length (m.drives s)) (sym f.2) ∙ laws.keeps_pins f.0 t _ _ ∙ (pins_beside t).each k f.0 g.0 f.1 g.1 is
-        ∙ sym (laws.keeps_pins g.0 t _ _) ∙ ap (λ (s : part.State). length (m.drives s)) g.2;
+        let x = state_before m w inputs xs 0 t k a ea in
+        let y = some_there ys k (let l = slice_get_within (Bs t) k b eb in let z = length-beside t in omega (arith, l, z)) in
+        let s = kept k y.0 y.1 t in
+        pins_of_states m w inputs laws xs 0 t k x.0 a x.1 ea ∙ twins.pins.each k x.0 y.0 x.1 y.1 is ∙ sym s.2 ∙ ap (λ (u : part.State). length (m.drives u)) (some_same (sym s.1 ∙ eb));
   }
 
-  -- over steady cycles of the board in which no chip is due, they sleep
-  module _ (c n : ℕ) (chips : List P) (steady : IsSteady m w inputs (As c) c n) (stand : ChipsStand part w c chips (Bs c))
-      (quiet : (k : ℕ) (q : P) → IsChipOf w chips k q → IsQuiet m (part.state q) (part.now q) (c + n - part.now q))
-      (hold : (k : ℕ) (q : P) → IsChipOf w chips k q → m.held (part.state q) ≡ levels_on m w (levels_of m w (As c)) k (part.state q)) where
+  -- a chip in state s beside the board at cycle c, which is not due in the n cycles from c on and holds the levels of its pins
+  pub record Sleeps (c n k : ℕ) (s : part.State) : Type 0 where
+    pub at : slice_get (Bs c) k ≡ Some s
+    pub valid : m.valid s c ≡ true
+    pub quiet : IsQuiet m s c n
+    pub held : m.held s ≡ levels_on m w (levels_of m w (As c)) k s
+
+  -- over steady cycles of the board
+  module _ (c n : ℕ) (steady : IsSteady m w inputs (As c) c n) where
     later : (t : ℕ) → As (c + t) ≡ states m w inputs (As c) c t
     later t = let z : 0 + c ≡ c = omega arith in states_split m w inputs xs 0 c t ∙ ap (λ (v : ℕ). states m w inputs (As c) v t) z
 
     levels_stay : (t : ℕ) → t < n → levels_of m w (As (c + t)) ≡ levels_of m w (As c)
     levels_stay t l = ap (levels_of m w) (later t) ∙ sym (steady_levels m laws w inputs (As c) c n steady t l)
 
-    pub chips_sleep : (t : ℕ) → t ≤ n → ChipsStand part w (c + t) chips (Bs (c + t))
-    chips_sleep zero l k q u of eu =
-        let e : c + 0 ≡ c = omega arith in
-        (subst (λ (v : ℕ). ChipsStand part w v chips (Bs v)) (sym e) stand) k q u of eu
-    chips_sleep (suc t) l k q u of eu =
-        let e : c + suc t ≡ suc (c + t) = omega arith in
-        let from = beside_from m w inputs xs ys (c + t) k u (ap (λ (i : ℕ). slice_get (Bs i) k) (sym e) ∙ eu) in
-        let s : part.State = from.0 in
-        let st : Stands m (c + t) (part.now q) (part.state q) s = chips_sleep t (omega (arith, l)) k q s of from.1 in
-        let late = st.not_later in
-        let there : part.now q + (c + t - part.now q) ≡ c + t = omega (arith, late) in
-        let due : m.due s (c + t) ≡ false =
-        ap (λ (x : part.State). m.due x (c + t)) st.is ∙ ap (λ (v : ℕ). m.due (glide m (part.state q) (part.now q) (c + t - part.now q)) v) (sym there)
-        ∙ quiet k q of (c + t - part.now q) (omega (arith, late, l)) in
-        let pins = ap length (stands_shows m laws (c + t) (part.now q) (part.state q) s st).drives in
-        let held : m.held s ≡ map (level_at (levels_of m w (As (c + t)))) (own_nets w k (length (m.drives s))) =
-        stands_holds m laws (c + t) (part.now q) (part.state q) s st ∙ hold k q of
-        ∙ ap (λ (i : ℕ). map (level_at (levels_of m w (As c))) (own_nets w k i)) pins
-        ∙ ap (λ (ls : List Level). map (level_at ls) (own_nets w k (length (m.drives s)))) (sym (levels_stay t (omega (arith, l)))) in
-        let no = asleep m w inputs (levels_of m w (As (c + t))) (c + t) k s due (steady.silent t k (omega (arith, l))) held in
-        let next = stands_sleeps m laws w inputs (levels_of m w (As (c + t))) k (c + t) (part.now q) (part.state q) s st no in
-        let f : c + t + 1 ≡ c + suc t = omega arith in
-        subst (λ (i : ℕ). Stands m i (part.now q) (part.state q) u) f (subst (λ (x : part.State). Stands m (c + t + 1) (part.now q) (part.state q) x) from.2 next)
+    pub beside_glides : (k : ℕ) (s : part.State) → Sleeps c n k s → (t : ℕ) → t ≤ n → slice_get (Bs (c + t)) k ≡ Some (glide m s c t)
+    beside_glides k s is zero l = let z : c + 0 ≡ c = omega arith in ap (λ (i : ℕ). slice_get (Bs i) k) z ∙ is.at
+    beside_glides k s is (suc t) l =
+        let u : c + suc t ≡ suc (c + t) = omega arith in
+        let x : part.State = glide m s c t in
+        let own : levels_on m w (levels_of m w (As (c + t))) k x ≡ m.held x =
+        ap (λ (ls : List Level). levels_on m w ls k x) (levels_stay t (omega (arith, l))) ∙ ap (λ (i : ℕ). map (level_at (levels_of m w (As c))) (own_nets w k i)) (glide_pins m laws s c t)
+        ∙ sym is.held ∙ sym (glide_holds m laws s c t) in
+        ap (λ (i : ℕ). slice_get (Bs i) k) u ∙ beside_next (c + t) k x (beside_glides k s is t (omega (arith, l)))
+        ∙ ap (λ (ls : List Level). Some (m.step x (c + t) ls (input_at inputs (c + t) k)).0) own
+        ∙ ap (λ (o : Option ℕ). Some (m.step x (c + t) (m.held x) o).0) (steady.silent t k (omega (arith, l)))
 
-    module _ (has : (k : ℕ) → is_chip w k ≡ true → (q : P) × (slice_get chips (chips_before w k) ≡ Some q)) (same : SameChips m w (As c) (Bs c)) where
+    module _ (sleep : (k : ℕ) → is_chip w k ≡ true → (s : part.State) × Sleeps c n k s) (same : SameChips m w (As c) (Bs c)) where
       chips_same : (t : ℕ) → t < n → SameChips m w (As (c + t)) (Bs (c + t))
       chips_same t l = record {
         long = (pins_beside (c + t)).long;
         each = λ k a b ea eb is.
-            let q = has k is in
-            let of : IsChipOf w chips k q.0 = (is, q.1) in
-            let in_a : k < length (As c) = (let x = slice_get_within (As (c + t)) k a ea in let y = length-states m w inputs xs 0 (c + t) in let z = length-states m w inputs xs 0 c in omega (arith, x, y, z)) in
-            let in_b : k < length (Bs c) = (let x = same.long in omega (arith, in_a, x)) in
-            let a0 : part.State = get_or (As c) k a in
-            let b0 : part.State = get_or (Bs c) k b in
-            let ea0 : slice_get (As c) k ≡ Some a0 = get_within (As c) k a in_a in
-            let eb0 : slice_get (Bs c) k ≡ Some b0 = get_within (Bs c) k b in_b in
+            let s = sleep k is in
+            let a0 = a_at c k is in
             let at_a : slice_get (states m w inputs (As c) c t) k ≡ Some a = ap (λ (l : List part.State). slice_get l k) (sym (later t)) ∙ ea in
-            let one : m.drives a ≡ m.drives a0 =
-            ap m.drives ((steady_states m laws w inputs (As c) c n steady t (omega (arith, l))).each k a0 a ea0 at_a) ∙ (steady.same k a0 ea0).same_drives t l in
-            one ∙ same.each k a0 b0 ea0 eb0 is ∙ sym (stands_shows m laws c (part.now q.0) (part.state q.0) b0 (stand k q.0 b0 of eb0)).drives
-            ∙ (stands_shows m laws (c + t) (part.now q.0) (part.state q.0) b (chips_sleep t (omega (arith, l)) k q.0 b of eb)).drives;
+            let one : m.drives a ≡ m.drives a0.0 = ap m.drives ((steady_states m laws w inputs (As c) c n steady t (omega (arith, l))).each k a0.0 a a0.1 at_a) ∙ (steady.same k a0.0 a0.1).same_drives t l in
+            let other : m.drives b ≡ m.drives s.0 =
+            ap m.drives (some_same (sym eb ∙ beside_glides k s.0 s.1 t (omega (arith, l)))) ∙ glide_drives m laws s.0 c t s.1.valid (λ i (h : i < t). s.1.quiet i (omega (arith, h, l))) in
+            one ∙ same.each k a0.0 s.0 a0.1 s.1.at is ∙ sym other;
       }
 
       -- no difference comes in it
@@ -189,91 +156,64 @@ module _ {P : Type 0} (part : Ghosts P) (laws : Laws part.machine) (start : Twin
 
   -- A cycle in which the chips had their turns.
   module _ (t : ℕ) (old new : Chips P) (steps more : ℕ) (end : t < MOST_CYCLES) (turned : ChipsTurned part w (levels_of m w (As t)) t old (length w.chip) new steps more)
-      (behind : AreBehind part w t old) (stand : ChipsStand part w t old.parts (Bs t)) where
+      (behind : AreBehind part w t old) (stand : (k : ℕ) (q : P) → IsChipOf w old.parts k q → slice_get (Bs t) k ≡ Some (at_cycle part t q)) where
     abbrev ls : List Level
     ls = levels_of m w (As t)
 
-    due_of : (k : ℕ) (q : P) → IsChipOf w old.parts k q → (d : Option ℕ) × (slice_get old.dues (chips_before w k) ≡ Some d)
-    due_of k q of =
-        let within : chips_before w k < length old.dues = (let l = slice_get_within old.parts (chips_before w k) q of.1 in let n = behind.dues_long in omega (arith, l, n)) in
-        (get_or old.dues (chips_before w k) None, get_within old.dues (chips_before w k) None within)
+    up : suc t ≡ t + 1
+    up = omega arith
 
-    next_of : (k : ℕ) (q : P) → IsChipOf w old.parts k q → (d : Option ℕ) × (slice_get new.dues (chips_before w k) ≡ Some d)
-    next_of k q of =
-        let within : chips_before w k < length new.dues = (let l = slice_get_within old.parts (chips_before w k) q of.1 in let n = behind.dues_long in let d = turned.dues_long in omega (arith, l, n, d)) in
-        (get_or new.dues (chips_before w k) None, get_within new.dues (chips_before w k) None within)
+    pins_there : (k : ℕ) (p : P) → IsChipOf w old.parts k p → length (m.drives (part.state p)) ≡ length (m.drives (at_cycle part t p))
+    pins_there k p of = ap length (stands_shows m laws t (part.now p) (part.state p) (at_cycle part t p) (behind.each k p of).stands).drives
 
-    was_of : (k : ℕ) (q : P) → IsChipOf w new.parts k q → (p : P) × IsChipOf w old.parts k p
-    was_of k q of = let p = behind.has k of.0 in (p.0, (of.0, p.1))
+    had : (k : ℕ) (q : P) → IsChipOf w new.parts k q → (p : P) × IsChipOf w old.parts k p × (byte : Option ℕ) × HadTurn m w inputs part.state part.now part.wake_count ls t k p q (at_cycle part t p) byte true
+    had k q of =
+        let x = behind.has k of.0 in
+        let p = x.0 in
+        let s = at_cycle part t p in
+        let b = behind.each k p (of.0, x.1) in
+        let took = turned.done.each (chips_before w k) p q (before_below w k (length w.chip) (chip_inside w.chip k of.0) of.0) x.1 of.1 k of.0 refl in
+        let own : levels_on m w ls k (part.state p) ≡ levels_on m w ls k s = ap (λ (n : ℕ). map (level_at ls) (own_nets w k n)) (pins_there k p (of.0, x.1)) in (
+          p,
+          (of.0, x.1),
+          took.byte,
+          had_turn m laws w inputs part.state part.now part.wake_count ls t k p q s took.due None took.byte (levels_on m w ls k (part.state p)) took.differs true end
+              (record { not_later = b.stands.not_later; count = b.count; quiet = b.stands.quiet; first = took.first }) b.stands own
+              (λ later. took.differs_is later ∙ ap (λ (l : List Level). not (same_list same_level l (m.held (part.state p)))) own
+              ∙ ap (λ (l : List Level). not (same_list same_level (levels_on m w ls k s) l)) (sym (stands_holds m laws t (part.now p) (part.state p) s b.stands)))
+              (sym (twins.unscripted t k of.0)) took.turn,
+        )
 
-    same_pins : (k : ℕ) (p : P) (s : part.State) → IsChipOf w old.parts k p → slice_get (Bs t) k ≡ Some s → length (m.drives (part.state p)) ≡ length (m.drives s)
-    same_pins k p s of es = ap length (stands_shows m laws t (part.now p) (part.state p) s (stand k p s of es)).drives
-
-    differing : (k : ℕ) (p : P) (s : part.State) → IsChipOf w old.parts k p → slice_get (Bs t) k ≡ Some s → 0 < t → differs_on part w ls old k p ≡ not (same_list same_level (levels_on m w ls k s) (m.held s))
-    differing k p s of es later =
-        let pins = same_pins k p s of es in
-        let holds : levels_on m w old.levels k (part.state p) ≡ m.held s = sym (behind.held later k p of) ∙ sym (stands_holds m laws t (part.now p) (part.state p) s (stand k p s of es)) in
-        ap (λ (n : ℕ). not (same_list same_level (map (level_at ls) (own_nets w k n)) (levels_on m w old.levels k (part.state p)))) pins
-        ∙ ap (λ (l : List Level). not (same_list same_level (levels_on m w ls k s) l)) holds
-
-    turn_of : (k : ℕ) (p q : P) (of : IsChipOf w old.parts k p) → slice_get new.parts (chips_before w k) ≡ Some q →
-        TookTurn part (to_wake (due_of k p of).0 t None (differs_on part w ls old k p)) t (levels_on m w ls k (part.state p)) p q (next_of k p of).0
-    turn_of k p q of eq = turned.turns k p q (due_of k p of).0 (next_of k p of).0 (chip_inside w.chip k of.0) of eq (due_of k p of).1 (next_of k p of).1
-
-    had : (k : ℕ) (p q : P) (s : part.State) (of : IsChipOf w old.parts k p) (eq : slice_get new.parts (chips_before w k) ≡ Some q) → slice_get (Bs t) k ≡ Some s →
-        HadTurn m w inputs part.state part.now part.wake_count ls t k p q s (turn_of k p q of eq).byte true
-    had k p q s of eq es =
-        let r = turn_of k p q of eq in
-        let d = due_of k p of in
-        had_turn m laws w inputs part.state part.now part.wake_count ls t k p q s d.0 None r.byte (levels_on m w ls k (part.state p)) (differs_on part w ls old k p) true end (behind.may k p d.0 of d.1)
-        (stand k p s of es) (ap (λ (n : ℕ). map (level_at ls) (own_nets w k n)) (same_pins k p s of es)) (differing k p s of es) (sym (twins.unscripted t k of.0)) r.turn
-
-    pub stand_next : ChipsStand part w (t + 1) new.parts (Bs (t + 1))
-    stand_next k q u of eu =
-        let e : t + 1 ≡ suc t = omega arith in
-        let from = beside_from m w inputs xs ys t k u (ap (λ (n : ℕ). slice_get (Bs n) k) (sym e) ∙ eu) in
-        let p = was_of k q of in
-        subst (λ (s : part.State). Stands m (t + 1) (part.now q) (part.state q) s) from.2 (had k p.0 q from.0 p.1 of.1 from.1).stands
-
-    pins_next : (k : ℕ) (p q : P) → IsChipOf w old.parts k p → slice_get new.parts (chips_before w k) ≡ Some q → length (m.drives (part.state q)) ≡ length (m.drives (part.state p))
-    pins_next k p q of eq =
-        let s = b_at t k of.0 in
-        let h = had k p q s.0 of eq s.1 in
-        ap length (stands_shows m laws (t + 1) (part.now q) (part.state q) _ h.stands).drives ∙ laws.keeps_pins s.0 t _ _ ∙ sym (same_pins k p s.0 of s.1)
+    pub stand_next : (k : ℕ) (q : P) → IsChipOf w new.parts k q → slice_get (Bs (t + 1)) k ≡ Some (at_cycle part (t + 1) q)
+    stand_next k q of =
+        let h = had k q of in
+        ap (λ (v : ℕ). slice_get (Bs v) k) (sym up) ∙ beside_next t k (at_cycle part t h.0) (stand k h.0 h.1) ∙ ap Some h.3.stands.is
 
     pub behind_next : new.levels ≡ ls → length ls ≡ w.nets → length new.own ≡ length old.own → AreBehind part w (t + 1) new
     behind_next are long room = record {
-      has = λ k one.
-          let p = behind.has k one in
-          let within : chips_before w k < length new.parts = (let l = slice_get_within old.parts (chips_before w k) p.0 p.1 in let n = turned.long in omega (arith, l, n)) in
-          (get_or new.parts (chips_before w k) p.0, get_within new.parts (chips_before w k) p.0 within);
-      may = λ k q e of ee.
-          let p = was_of k q of in
-          let s = b_at t k of.0 in
-          let h = had k p.0 q s.0 p.1 of.1 s.1 in
-          let n = next_of k p.0 p.1 in
-          let first = (turn_of k p.0 q p.1 of.1).first in
+      has = λ k is.
+          let p = behind.has k is in
+          some_there new.parts (chips_before w k) (let l = slice_get_within old.parts (chips_before w k) p.0 p.1 in let n = turned.done.long in omega (arith, l, n));
+      each = λ k q of.
+          let h = had k q of in
+          let s = at_cycle part t h.0 in
+          let st = h.3.stands in
+          let pins = ap length (stands_shows m laws (t + 1) (part.now q) (part.state q) _ st).drives ∙ laws.keeps_pins s t _ _ in
           record {
-            not_later = h.stands.not_later;
-            count = h.count;
-            quiet = h.stands.quiet;
-            first = subst (λ (d : Option ℕ). IsFirstDue m (part.state q) (part.now q) d) (some_same (sym n.1 ∙ ee)) first;
+            stands = subst (λ (x : part.State). Stands m (t + 1) (part.now q) (part.state q) x) st.is st;
+            count = h.3.count;
+            holds = λ _.
+                sym (stands_holds m laws (t + 1) (part.now q) (part.state q) _ st) ∙ laws.holds_levels s t _ _ ∙ ap (λ (n : ℕ). map (level_at ls) (own_nets w k n)) (sym pins)
+                ∙ ap (λ (l : List Level). levels_on m w l k (part.state q)) (sym are);
           };
-      dues_long = turned.dues_long ∙ behind.dues_long ∙ sym turned.long;
+      fit = λ k q of.
+          let h = had k q of in
+          let pins = ap length (stands_shows m laws (t + 1) (part.now q) (part.state q) _ h.3.stands).drives ∙ laws.keeps_pins (at_cycle part t h.0) t _ _ in
+          let there = pins_there k h.0 h.1 in
+          let fit = behind.fit k h.0 h.1 in
+          omega (arith, pins, there, fit);
       levels_long = ap length are ∙ long;
       own_long = room ∙ behind.own_long;
-      fit = λ k q of.
-          let p = was_of k q of in
-          let n = pins_next k p.0 q p.1 of.1 in
-          let f = behind.fit k p.0 p.1 in
-          omega (arith, n, f);
-      held = λ _ k q of.
-          let p = was_of k q of in
-          let s = b_at t k of.0 in
-          let h = had k p.0 q s.0 p.1 of.1 s.1 in
-          sym (stands_holds m laws (t + 1) (part.now q) (part.state q) _ h.stands) ∙ laws.holds_levels s.0 t _ _
-          ∙ ap (λ (n : ℕ). map (level_at ls) (own_nets w k n)) (sym (same_pins k p.0 s.0 p.1 s.1) ∙ sym (pins_next k p.0 q p.1 of.1))
-          ∙ ap (λ (l : List Level). levels_on m w l k (part.state q)) (sym are);
     }
 
     count_at : (k : ℕ) → chip_wake part w ls t old k ≡ active_beside part start t k
@@ -283,24 +223,19 @@ module _ {P : Type 0} (part : Ghosts P) (laws : Laws part.machine) (start : Twin
         go false none = rw none refl
         go true is =
             let p = behind.has k is in
-            let of : IsChipOf w old.parts k p.0 = (is, p.1) in
-            let d = due_of k p.0 of in
-            let s = b_at t k is in
-            let woken = wake_is m laws w inputs part.state part.now part.wake_count ls t k p.0 s.0 d.0 None (differs_on part w ls old k p.0) end (behind.may k p.0 d.0 of d.1) (stand k p.0 s.0 of s.1)
-            (differing k p.0 s.0 of s.1) (sym (twins.unscripted t k is)) in
-            ap (λ (b : Bool). if b then wake_of part w ls t old k (slice_get old.parts (chips_before w k)) (slice_get old.dues (chips_before w k)) else 0) is
-            ∙ ap (λ (o : Option P). wake_of part w ls t old k o (slice_get old.dues (chips_before w k))) p.1
-            ∙ ap (λ (o : Option (Option ℕ)). wake_of part w ls t old k (Some p.0) o) d.1
-            ∙ ap (λ (b : Bool). if b then 1 else 0) woken
-            ∙ ap (active_in m w inputs ls t k) (sym s.1)
+            let s = at_cycle part t p.0 in
+            ap (λ (b : Bool). if b then wake_of part w ls t old k (slice_get old.parts (chips_before w k)) else 0) is
+            ∙ ap (wake_of part w ls t old k) p.1
+            ∙ ap (λ (n : ℕ). wake_in part t (map (level_at ls) (own_nets w k n)) s) (pins_there k p.0 (is, p.1))
+            ∙ ap (λ (o : Option ℕ). if m.due s t || (is_some o || not (same_list same_level (levels_on m w ls k s) (m.held s))) then 1 else 0) (sym (twins.unscripted t k is))
+            ∙ ap (active_in m w inputs ls t k) (sym (stand k p.0 (is, p.1)))
             ∙ sym (ap (λ (b : Bool). if b then active_in m w inputs ls t k (slice_get (Bs t) k) else 0) is)
 
     pub counted : more + beside_pairs part start t ≡ steps + beside_pairs part start (t + 1)
     counted =
-        let e : t + 1 ≡ suc t = omega arith in
         let same = sum_same m w inputs (length w.chip) (chip_wake part w ls t old) (active_beside part start t) count_at in
         let all : length ys ≡ length w.chip = sym twins.pins.long ∙ sym twins.fits.chips in
         let sum = ap (λ (n : ℕ). sum_below n (active_beside part start t)) all in
         let s = turned.steps_are in
-        let f : beside_pairs part start (t + 1) ≡ beside_pairs part start t + sum_below (length ys) (active_beside part start t) = ap (beside_pairs part start) e in
+        let f : beside_pairs part start (t + 1) ≡ beside_pairs part start t + sum_below (length ys) (active_beside part start t) = ap (beside_pairs part start) (sym up) in
         omega (arith, same, sum, s, f)

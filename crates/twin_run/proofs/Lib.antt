@@ -2,5 +2,4 @@ mod DifferenceLemmas
 mod WakesLemmas
 mod TurnedLemmas
 mod BesideLemmas
-mod MuteLemmas
 mod AbreastLemmas

@@ -1,11 +1,10 @@
 -- How often parts were woken, beside the count of steps.
-use Rattle.std.proofs.Common.{◌≡◌, ℕ, zero, suc, ◌+◌, ◌≤◌, List, ◌∙◌, length, map, take, Bool, true, false, Option, Some, refl, ap, sym, arith}
-use Rattle.std.specs.Prelude.{slice_get, if◌then◌else◌}
+use Rattle.std.proofs.Common.{◌≡◌, ℕ, zero, suc, ◌+◌, ◌≤◌, List, ◌∙◌, length, map, take, Some, refl, ap, sym, arith}
+use Rattle.std.specs.Prelude.{slice_get}
 use Rattle.std.specs.List.{sum_by}
 use Rattle.std.proofs.lemmas.List.{length-map}
 use Rattle.std.proofs.lemmas.List.Sums.{sum_by_more}
 use Rattle.std.proofs.lemmas.Option.{get_or_from_slice_get}
-use Rattle.sim_base.specs.declared.signal.Level.{Level}
 use Rattle.sim_base.specs.declared.wiring.Wiring.{Wiring}
 use Rattle.sim_base.specs.declared.wiring.Input.{Input}
 use Rattle.part_law.specs.Machine.{Machine}
@@ -14,7 +13,6 @@ use Rattle.board_model.proofs.Lists.{take_whole}
 use Rattle.board_model.proofs.Steps.{length-states}
 use Rattle.board_laws.specs.Active.{active_cycles, active_pairs, sum_below}
 use Rattle.board_laws.proofs.ActiveLaw.{pairs_by_parts}
-use Rattle.board_run.specs.Lagging.{turned}
 use Rattle.board_run.proofs.TurnLemmas.{some_there}
 
 -- the first i of them, each of which rose by so much
@@ -50,9 +48,3 @@ board_woken m w inputs state wakes old new c n moved each =
     let pairs = pairs_by_parts m w inputs (map state old) c n in
     let sized = ap (λ (k : ℕ). sum_below k rise) a in
     omega (arith, all, whole_old, whole_new, pairs, sized)
-
--- a turn is one wake or none
-pub turn_woken : {S P : Type 0} (m : Machine S) (state : P → S) (now wakes : P → ℕ) (wake : Bool) (t : ℕ) (own : List Level) (input : Option ℕ) (p q : P) (byte : Option ℕ) (changed : Bool) →
-    turned m state now wakes wake t own input p q byte changed → wakes q ≡ wakes p + (if wake then 1 else 0)
-turn_woken m state now wakes true t own input p q byte changed turn = turn.woken
-turn_woken m state now wakes false t own input p q byte changed turn = let e = ap wakes turn.0 in omega (arith, e)

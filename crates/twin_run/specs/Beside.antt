@@ -1,21 +1,22 @@
 -- A twin on its way: a board, and beside it the chips of a second one, each left behind where it was woken last. No public clause
 -- cites this.
-use Rattle.std.specs.Prelude.{◌≡◌, ℕ, ◌+◌, ◌-◌, ◌<◌, ◌≤◌, List, length, map, Bool, not, true, false, Option, None, Some, slice_get, slice_index, if◌then◌else◌}
+use Rattle.std.specs.Prelude.{◌≡◌, ℕ, ◌+◌, ◌-◌, ◌<◌, ◌≤◌, List, length, map, Bool, not, ◌||◌, true, false, Option, None, Some, slice_get, slice_index, slice_set, if◌then◌else◌}
 use Rattle.std.specs.List.{sum_by}
 use Rattle.sim_base.specs.declared.signal.Level.{Level}
 use Rattle.sim_base.specs.declared.wiring.Wiring.{Wiring}
 use Rattle.sim_base.specs.declared.wiring.Input.{Input}
 use Rattle.part_law.specs.Machine.{IsFirstDue}
 use Rattle.part_law.specs.declared.part.Part.{Ghosts}
-use Rattle.board_model.specs.Board.{levels_of, states}
+use Rattle.board_model.specs.Board.{level_at, levels_of, states}
 use Rattle.board_model.specs.Rows.{same_list, same_level}
+use Rattle.board_model.proofs.Lists.{Done}
 use Rattle.board_laws.specs.Active.{active_in, active_pairs, sum_below}
 use Rattle.board_laws.specs.FirstDiff.{Difference, part_diff, stepped_beside, first_beside}
 use Rattle.board_laws.specs.Stands.{Stands}
 use Rattle.board_laws.specs.Twin.{chips_before, with_chips}
 use Rattle.board_laws.specs.Worlds.{is_chip}
 use Rattle.board_run.specs.BoardView.{BoardView}
-use Rattle.board_run.specs.Lagging.{MayTurn, to_wake, turned}
+use Rattle.board_run.specs.Lagging.{glided, to_wake, turned}
 use Rattle.board_run.specs.Seen.{levels_on}
 use Rattle.twin_run.specs.declared.beside.Beside.{Beside}
 use Rattle.twin_run.specs.declared.chips.Chips.{Chips}
@@ -26,7 +27,6 @@ view_of b = record { board = b.board; chips = b.chips.parts }
 
 -- there is room for what is kept of the chips
 pub record HasRoom {P : Type 0} (b : Beside P) : Type 0 where
-  pub dues : length b.chips.dues ≡ length b.chips.parts
   pub levels : length b.chips.levels ≡ b.board.wiring.nets
   pub own : length b.chips.own ≡ length b.board.wiring.net_of
 
@@ -35,17 +35,50 @@ abbrev pub IsChipOf : {P : Type 0} → Wiring → List P → ℕ → P → Type 
 IsChipOf w chips k q = (is_chip w k ≡ true) × (slice_get chips (chips_before w k) ≡ Some q)
 
 module _ {P : Type 0} (part : Ghosts P) where
-  -- A chip that was p is q after its turn on the levels of its pins, in which it was woken or left as it was, and is due at e.
-  pub record TookTurn (wake : Bool) (t : ℕ) (own : List Level) (p q : P) (e : Option ℕ) : Type 0 where
+  -- where a chip is at cycle t, if nothing comes
+  abbrev pub at_cycle : ℕ → P → part.State
+  at_cycle t p = glided part.machine part.state part.now part.wake_count t p
+
+  -- 1 where a chip in this state is active in cycle t on these levels of its pins, else 0
+  abbrev pub wake_in : ℕ → List Level → part.State → ℕ
+  wake_in t own s = if part.machine.due s t || not (same_list same_level own (part.machine.held s)) then 1 else 0
+
+  -- A chip that was p is q after its turn in cycle t on these levels of its pins: it was woken, or left as it was.
+  pub record TookTurn (t : ℕ) (own : List Level) (p q : P) : Type 0 where
+    pub differs : Bool
+    pub differs_is : 0 < t → differs ≡ not (same_list same_level own (part.machine.held (part.state p)))
+    pub due : Option ℕ
+    pub first : IsFirstDue part.machine (part.state p) (part.now p) due
     pub byte : Option ℕ
-    pub turn : turned part.machine part.state part.now part.wake_count wake t own None p q byte true
-    pub first : IsFirstDue part.machine (part.state q) (part.now q) e
+    pub turn : turned part.machine part.state part.now part.wake_count (to_wake due t None differs) t own None p q byte true
+
+  -- a chip that may be left behind up to cycle t, and holds these levels
+  pub record IsBehind (t : ℕ) (held : List Level) (p : P) : Type 0 where
+    pub stands : Stands part.machine t (part.now p) (part.state p) (at_cycle t p)
+    pub count : part.wake_count p ≤ part.now p
+    pub holds : 0 < t → part.machine.held (part.state p) ≡ held
+
+  -- chip j may have its turn in cycle t, with these nets at its pins
+  pub record MayTurnChip (t : ℕ) (nets : List ℕ) (c : Chips P) (j : ℕ) : Type 0 where
+    pub p : P
+    pub here : slice_get c.parts j ≡ Some p
+    pub behind : IsBehind t (map (level_at c.levels) nets) p
+    pub pins : length nets ≡ length (part.machine.drives (part.state p))
+    pub room : length nets ≤ length c.own
+
+  -- and had it, on these levels
+  pub record TurnedChip (t : ℕ) (own : List Level) (j : ℕ) (old new : Chips P) (steps more : ℕ) : Type 0 where
+    pub p : P
+    pub q : P
+    pub here : slice_get old.parts j ≡ Some p
+    pub parts : new.parts ≡ slice_set old.parts j q
+    pub levels : new.levels ≡ old.levels
+    pub own_long : length new.own ≡ length old.own
+    pub took : TookTurn t own p q
+    pub counted : more ≡ steps + wake_in t own (at_cycle t p)
+    pub woken : part.wake_count q + steps ≡ part.wake_count p + more
 
   module _ (w : Wiring) where
-    -- each stands for the state of its part at cycle t
-    abbrev pub ChipsStand : ℕ → List P → List part.State → Type 0
-    ChipsStand t chips ss = (k : ℕ) (q : P) (s : part.State) → IsChipOf w chips k q → slice_get ss k ≡ Some s → Stands part.machine t (part.now q) (part.state q) s
-
     -- They can be compared with the chips of these parts.
     pub record AreComparable (parts chips : List P) : Type 0 where
       pub few : length parts ≤ 64
@@ -66,36 +99,27 @@ module _ {P : Type 0} (part : Ghosts P) where
     -- Each part that is a chip has one, which may be left behind up to cycle t and holds the levels that were kept.
     pub record AreBehind (t : ℕ) (c : Chips P) : Type 0 where
       pub has : (k : ℕ) → is_chip w k ≡ true → (q : P) × (slice_get c.parts (chips_before w k) ≡ Some q)
-      pub may : (k : ℕ) (q : P) (d : Option ℕ) → IsChipOf w c.parts k q → slice_get c.dues (chips_before w k) ≡ Some d →
-          MayTurn part.machine part.state part.now part.wake_count t d q
-      pub dues_long : length c.dues ≡ length c.parts
+      pub each : (k : ℕ) (q : P) → IsChipOf w c.parts k q → IsBehind t (levels_on part.machine w c.levels k (part.state q)) q
+      pub fit : (k : ℕ) (q : P) → IsChipOf w c.parts k q → slice_index w.first_pin k + length (part.machine.drives (part.state q)) ≤ length w.net_of
       pub levels_long : length c.levels ≡ w.nets
       pub own_long : length c.own ≡ length w.net_of
-      pub fit : (k : ℕ) (q : P) → IsChipOf w c.parts k q → slice_index w.first_pin k + length (part.machine.drives (part.state q)) ≤ length w.net_of
-      pub held : 0 < t → (k : ℕ) (q : P) → IsChipOf w c.parts k q → part.machine.held (part.state q) ≡ levels_on part.machine w c.levels k (part.state q)
-
-    -- whether a level of part k's pins is another one than its chip holds
-    abbrev pub differs_on : List Level → Chips P → ℕ → P → Bool
-    differs_on ls old k q = not (same_list same_level (levels_on part.machine w ls k (part.state q)) (levels_on part.machine w old.levels k (part.state q)))
 
     module _ (ls : List Level) (t : ℕ) (old : Chips P) where
       -- 1 where the chip, if there is one, is woken
-      abbrev pub wake_of : ℕ → Option P → Option (Option ℕ) → ℕ
-      wake_of k (Some q) (Some d) = if to_wake d t None (differs_on ls old k q) then 1 else 0
-      wake_of k q d = 0
+      abbrev pub wake_of : ℕ → Option P → ℕ
+      wake_of k None = 0
+      wake_of k (Some q) = wake_in t (levels_on part.machine w ls k (part.state q)) (at_cycle t q)
 
       abbrev pub chip_wake : ℕ → ℕ
-      chip_wake k = if is_chip w k then wake_of k (slice_get old.parts (chips_before w k)) (slice_get old.dues (chips_before w k)) else 0
+      chip_wake k = if is_chip w k then wake_of k (slice_get old.parts (chips_before w k)) else 0
+
+      -- chip j had its turn as the chip of a part
+      abbrev pub TookAs : ℕ → P → P → Type 0
+      TookAs j p q = (k : ℕ) → is_chip w k ≡ true → chips_before w k ≡ j → TookTurn t (levels_on part.machine w ls k (part.state p)) p q
 
       -- The chips of the parts before part i had their turn in cycle t, and the others are as they were.
       pub record ChipsTurned (i : ℕ) (new : Chips P) (steps more : ℕ) : Type 0 where
-        pub long : length new.parts ≡ length old.parts
-        pub dues_long : length new.dues ≡ length old.dues
-        pub turns : (k : ℕ) (p q : P) (d e : Option ℕ) → k < i → IsChipOf w old.parts k p → slice_get new.parts (chips_before w k) ≡ Some q →
-            slice_get old.dues (chips_before w k) ≡ Some d → slice_get new.dues (chips_before w k) ≡ Some e →
-            TookTurn (to_wake d t None (differs_on ls old k p)) t (levels_on part.machine w ls k (part.state p)) p q e
-        pub rest : (j : ℕ) → chips_before w i ≤ j → slice_get new.parts j ≡ slice_get old.parts j
-        pub dues_rest : (j : ℕ) → chips_before w i ≤ j → slice_get new.dues j ≡ slice_get old.dues j
+        pub done : Done TookAs (chips_before w i) old.parts new.parts
         pub steps_are : more ≡ steps + sum_below i chip_wake
         pub woken : sum_by part.wake_count new.parts + steps ≡ sum_by part.wake_count old.parts + more
 
@@ -130,7 +154,7 @@ module _ {P : Type 0} (part : Ghosts P) where
     -- The second one's chips beside it at cycle t, where nothing differed before.
     pub record ChipsAt (t : ℕ) (c : Chips P) : Type 0 where
       pub behind : AreBehind start.board.wiring t c
-      pub stand : ChipsStand start.board.wiring t c.parts (beside_at t)
+      pub stand : (k : ℕ) (q : P) → IsChipOf start.board.wiring c.parts k q → slice_get (beside_at t) k ≡ Some (at_cycle t q)
       -- the board's chips hold the same levels
       pub of_board : 0 < t → (k : ℕ) (s : part.State) → is_chip start.board.wiring k ≡ true → slice_get (own_at t) k ≡ Some s →
           part.machine.held s ≡ levels_on part.machine start.board.wiring c.levels k s

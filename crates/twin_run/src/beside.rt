@@ -4,7 +4,7 @@ ghost use Rattle.std.specs.Option.{option_map};
 ghost use Rattle.twin_run.specs.Beside.{HasRoom, OnWay, WentOn, difference_of, view_of};
 ghost use Rattle.twin_run.specs.Twins.{AreTwins, HaveNoContacts, IsTwin, cycle_of, differs, other_states, wakes_in};
 
-use crate::chips::{Chips, ask_dues, least_due};
+use crate::chips::{Chips, least_due};
 use crate::compare::difference;
 use crate::twin::TwinEnd;
 use board_run::{Board, RunEnd, Unwatched};
@@ -42,7 +42,7 @@ impl<P: Part> Beside<P> {
         ensures went { WentOn P.Part self.old self.new steps.old steps.new }
     {
         let t = self.board.cycle();
-        let next = least_due(self.chips.dues.as_slice(), n);
+        let next = least_due(self.chips.parts.as_slice(), n);
         if t > 0 && t < next {
             self.board.run_still(next, steps);
         }
@@ -93,7 +93,6 @@ impl<P: Part> Beside<P> {
             (other_states P.state (view_of self.old)) n result steps.old steps.new }
         ensures woken { wakes_in P.wake_count (view_of self.new) + steps.old ≡ wakes_in P.wake_count (view_of self.old) + steps.new }
     {
-        ask_dues(self.chips.parts.as_slice(), &mut self.chips.dues);
         while self.board.cycle() < n {
             if let Some(end) = self.difference() {
                 return end;

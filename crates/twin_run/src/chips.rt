@@ -1,9 +1,11 @@
 //! The chips of a second board, which are moved beside a first.
-ghost use Rattle.std.specs.Prelude.{◌≡◌, ◌≢◌, ℕ, ◌+◌, ◌<◌, ◌≤◌, length, map, take, true, not, None, Some, Option, slice_get, if◌then◌else◌};
+ghost use Rattle.std.specs.Prelude.{◌≡◌, ℕ, ◌+◌, ◌-◌, ◌<◌, ◌≤◌, length, map, take, not, None, Some, slice_get};
+ghost use Rattle.part_law.specs.Machine.{IsQuiet};
 ghost use Rattle.board_model.specs.Board.{level_at};
 ghost use Rattle.board_model.specs.Rows.{same_level, same_list};
-ghost use Rattle.board_run.specs.Lagging.{AreDue, MayTurn, to_wake};
-ghost use Rattle.twin_run.specs.Beside.{AreBehind, ChipsTurned, TookTurn};
+ghost use Rattle.board_laws.specs.Stands.{Stands};
+ghost use Rattle.board_run.specs.Lagging.{glided, to_wake};
+ghost use Rattle.twin_run.specs.Beside.{AreBehind, ChipsTurned, MayTurnChip, TookTurn, TurnedChip, wake_in};
 
 use board_run::level_of_net;
 use part_law::Part;
@@ -14,8 +16,6 @@ use std::sync::ledger::Ledger;
 #[derive(Drop)]
 pub(crate) struct Chips<P> {
     pub(crate) parts: List<P>,
-    /// When each is due.
-    pub(crate) dues: List<Option<u32>>,
     /// The levels of the nets that they hold on their pins.
     pub(crate) levels: List<Level>,
     /// Room for the levels of the pins of one.
@@ -62,64 +62,74 @@ fn is_to_wake(due: Option<u32>, t: u32, differs: bool) -> bool
     }
 }
 
-/// The turn of a chip in a cycle, on these levels of its pins.
+/// The turn of a chip in a cycle, on these levels of its pins: it is woken where it is active.
 fn take_turn<P: Part, L: Ledger>(
     chip: &mut P,
-    due: &mut Option<u32>,
     own: &[Level],
     differs: bool,
     t: u32,
     steps: &mut Steps<L>,
 )
     requires end { t < MOST_CYCLES }
-    requires may { MayTurn P.machine P.state P.now P.wake_count t due.old chip.old }
+    requires stands { Stands P.machine t (P.now chip.old) (P.state chip.old) (glided P.machine P.state P.now P.wake_count t chip.old) }
+    requires count { P.wake_count chip.old ≤ P.now chip.old }
     requires pins { length own.now ≡ length (P.machine.drives (P.state chip.old)) }
-    requires differs { differs ≡ true → 0 < t → P.machine.held (P.state chip.old) ≢ own.now }
-    ensures took { TookTurn P.Part (to_wake due.old t None differs) t own.now chip.old chip.new due.new }
-    ensures steps { steps.new ≡ steps.old + (if to_wake due.old t None differs then 1 else 0) }
+    requires differs { 0 < t → differs ≡ not (same_list same_level own.now (P.machine.held (P.state chip.old))) }
+    ensures took { TookTurn P.Part t own.now chip.old chip.new }
+    ensures woken { P.wake_count chip.new + steps.old ≡ P.wake_count chip.old + steps.new }
+    ensures steps { steps.new ≡ steps.old + wake_in P.Part t own.now (glided P.machine P.state P.now P.wake_count t chip.old) }
 {
-    if is_to_wake(*due, t, differs) {
+    if is_to_wake(chip.due(), t, differs) {
         chip.settle(t);
         steps.tick();
         chip.wake(own, None);
-        *due = chip.due();
     }
 }
 
-/// The least of these cycles, if it is before `n`, and else `n`.
-pub(crate) fn least_due(dues: &[Option<u32>], n: u32) -> u32
+/// The cycle in which the chip is due, if it is before `n`, and else `n`.
+fn earlier<P: Part>(chip: &P, n: u32) -> u32
+    requires end { n ≤ MOST_CYCLES }
     ensures within { result ≤ n }
-    ensures due { (j u : ℕ) → slice_get dues.now j ≡ Some (Some u) → result ≤ u }
+    ensures quiet { IsQuiet P.machine (P.state chip.now) (P.now chip.now) (result - P.now chip.now) }
 {
-    let mut least = n;
-    for i in 0..dues.len() {
-        least = earlier(dues[i], least);
-    }
-    least
-}
-
-fn earlier(due: Option<u32>, n: u32) -> u32
-    ensures within { result ≤ n }
-    ensures due { (u : ℕ) → due ≡ Some u → result ≤ u }
-{
-    match due {
+    match chip.due() {
         Some(u) if u < n => u,
         _ => n,
     }
 }
 
-/// Asks each chip when it is due.
-pub(crate) fn ask_dues<P: Part>(chips: &[P], dues: &mut List<Option<u32>>)
-    requires { length dues.old ≡ length chips.now }
-    ensures long { length dues.new ≡ length dues.old }
-    ensures due { AreDue P.machine P.state P.now P.wake_count chips.now dues.new }
+/// The first cycle in which one of these chips is due, if it is before `n`, and else `n`.
+pub(crate) fn least_due<P: Part>(chips: &[P], n: u32) -> u32
+    requires end { n ≤ MOST_CYCLES }
+    ensures within { result ≤ n }
+    ensures quiet { (j : ℕ) (q : _) → slice_get chips.now j ≡ Some q → IsQuiet P.machine (P.state q) (P.now q) (result - P.now q) }
 {
+    let mut least = n;
     for j in 0..chips.len() {
-        *dues.item_mut(j) = chips[j].due();
+        least = earlier(&chips[j], least);
     }
+    least
 }
 
 impl<P: Part> Chips<P> {
+    /// Gives chip j its turn in a cycle, on the levels of these nets.
+    fn turn_chip<L: Ledger>(
+        &mut self,
+        j: usize,
+        nets: &[u16],
+        now: &[Level],
+        t: u32,
+        steps: &mut Steps<L>,
+    )
+        requires end { t < MOST_CYCLES }
+        requires may { MayTurnChip P.Part t nets.now self.old j }
+        ensures { TurnedChip P.Part t (map (level_at now.now) nets.now) j self.old self.new steps.old steps.new }
+    {
+        let differs = read_levels(nets, self.levels.as_slice(), now, &mut self.own);
+        let own = first_of(self.own.as_slice(), nets.len());
+        take_turn(self.parts.item_mut(j), own, differs, t, steps);
+    }
+
     /// Gives each its turn in a cycle, on the levels that the board had in it.
     pub(crate) fn turn<L: Ledger>(
         &mut self,
@@ -142,12 +152,7 @@ impl<P: Part> Chips<P> {
             if wiring.chip.as_slice()[k] {
                 let first = wiring.first_pin.as_slice()[k] as usize;
                 let pins = self.parts.as_slice()[j].pins() as usize;
-                let nets = &net_of[first..first + pins];
-                let differs = read_levels(nets, self.levels.as_slice(), now, &mut self.own);
-                let mut due = self.dues.as_slice()[j];
-                let own = first_of(self.own.as_slice(), nets.len());
-                take_turn(self.parts.item_mut(j), &mut due, own, differs, t, steps);
-                *self.dues.item_mut(j) = due;
+                self.turn_chip(j, &net_of[first..first + pins], now, t, steps);
                 j += 1;
             }
         }

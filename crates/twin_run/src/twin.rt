@@ -49,12 +49,10 @@ impl<P: Part + Drop> Twin<P> {
     pub fn new(alloc: Global, a: Board<P>, chips: List<P>) -> Result<Twin<P>, OutOfMemory>
         ensures { IfOk result (λ t. t ≡ record { board = a; chips = chips }) }
     {
-        let dues = vec![in alloc; None; chips.len()]?;
         let levels = vec![in alloc; Level::Z; a.wiring().nets as usize]?;
         let own = vec![in alloc; Level::Z; a.wiring().net_of.len()]?;
         let chips = Chips {
             parts: chips,
-            dues: List::from_vec(dues),
             levels: List::from_vec(levels),
             own: List::from_vec(own),
         };

@@ -8,7 +8,7 @@ use Rattle.board_laws.specs.Worlds.{is_chip}
 use Rattle.board_run.proofs.TurnLemmas.{some_there}
 use Rattle.twin_run.specs.Twins.{differs}
 use Rattle.twin_run.proofs.DifferenceLemmas.{chip_differs, chip_same, from, rest_more}
-use Rattle.twin_run.proofs.TurnedLemmas.{before_most, before_next}
+use Rattle.twin_run.proofs.TurnedLemmas.{before_next}
 use Rattle.twin_run.proofs.compare.difference.Goals as goal
 use Rattle.twin_run.proofs.compare.difference.Goals.{then-as_slice-k+in_default, else-as_slice-k}
 
@@ -27,11 +27,6 @@ returns-in-Some-clause-found g c =
     let found = chip_differs p.machine w c.args.t (map p.state parts) (map p.state chips) l.k l.j c.in-Some.pin (p.state c.index-parts-k.result) (p.state c.index-chips-j.result) c.in-Some.a c.in-Some.b
     (some_map p.state parts l.k c.index-parts-k.result at) (some_map p.state chips l.j c.index-chips-j.result there) is (sym c.pin_difference.ensures ∙ c.in-Some.is) in
     sym (ap (option_map differs) (sym l.invariant.same ∙ found))
-
-pub overflow_add-j : goal.overflow_add-j
-overflow_add-j g c =
-    let most = before_most c.args.wiring.now c.loop-k.k in
-    omega (arith, most, c.loop-k.invariant.place, c.loop-k-test.true, c.requires.few)
 
 pub loop-k-preserved : goal.loop-k-preserved
 loop-k-preserved g c =

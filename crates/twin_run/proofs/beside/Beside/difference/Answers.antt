@@ -8,12 +8,6 @@ use Rattle.twin_run.specs.Twins.{differs}
 use Rattle.twin_run.proofs.AbreastLemmas.{comparable}
 use Rattle.twin_run.proofs.beside.Beside.difference.Goals as goal
 
-pub parts-requires : goal.parts-requires
-parts-requires g c = c.requires.1.is.board.alive
-
-pub cycle-t-requires : goal.cycle-t-requires
-cycle-t-requires g c = c.requires.1.is.board.alive
-
 pub difference-requires : goal.difference-requires
 difference-requires g c =
     let b = c.args.self.now in
@@ -22,9 +16,6 @@ difference-requires g c =
     subst (λ (v : Wiring). at v c.as_slice-parts.result.now c.as_slice.result.now) (sym c.wiring.ensures)
     (subst (λ (l : List g.row.P.Denot). at b.board.wiring l c.as_slice.result.now) (sym (c.as_slice-parts.ensures ∙ c.parts.ensures))
     (subst (at b.board.wiring b.board.parts) (sym c.as_slice.ensures) (comparable g.P.Part g.met.P.Part.laws way.start b way.steps c.requires.0 way.is)))
-
-pub returns-clause-cycle : goal.returns-clause-cycle
-returns-clause-cycle g c = λ e is. c.difference.ensures.cycle e is ∙ c.cycle-t.ensures
 
 pub returns-clause-found : goal.returns-clause-found
 returns-clause-found g c =

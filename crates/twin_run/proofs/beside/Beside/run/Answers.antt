@@ -1,11 +1,10 @@
-use Rattle.std.proofs.Common.{◌≡◌, ◌<◌, ◌∙◌, ap, sym, refl, subst, arith, List, Some, map}
+use Rattle.std.proofs.Common.{◌≡◌, ◌<◌, ◌∙◌, ap, sym, refl, subst, arith, Some, map}
 use Rattle.std.specs.Option.{option_map}
-use Rattle.board_run.specs.Lagging.{AreDue}
 use Rattle.twin_run.specs.Beside.{difference_of, view_of}
 use Rattle.twin_run.specs.Twins.{IsTwin, cycle_of, differs, other_states}
 use Rattle.twin_run.specs.declared.twin.TwinEnd.{TwinEnd}
 use Rattle.twin_run.proofs.AbreastLemmas.{abreast_start, all_woken, ends_differ, ends_same, room_kept}
-use Rattle.twin_run.proofs.DifferenceLemmas.{answer_of, no_answer}
+use Rattle.twin_run.proofs.DifferenceLemmas.{answer_of}
 use Rattle.twin_run.proofs.beside.Beside.run.Goals as goal
 
 pub loop-self-init : goal.loop-self-init
@@ -14,17 +13,10 @@ loop-self-init g c =
     let b = c.args.self.now in
     let twins = c.requires.twins in
     let room = c.requires.room in
-    let due = subst (λ (l : List g.row.P.Denot). AreDue p.machine p.state p.now p.wake_count l c.ask_dues.new.dues) c.as_slice.ensures c.ask_dues.ensures.due in
     record {
       within = (let start = twins.start in omega (arith, start));
-      abreast = abreast_start p g.met.P.Part.laws (view_of b) (record (b.chips) { dues = c.ask_dues.new.dues }) c.args.steps.now twins twins.start refl due (c.ask_dues.ensures.long ∙ room.dues) room.levels room.own;
+      abreast = abreast_start p g.met.P.Part.laws (view_of b) b.chips c.args.steps.now twins twins.start refl room.levels room.own;
     }
-
-pub cycle-requires : goal.cycle-requires
-cycle-requires g c = c.loop-self.invariant.abreast.board.alive
-
-pub difference-requires : goal.difference-requires
-difference-requires g c = (c.loop-self.steps, record { start = view_of c.args.self.now; steps = c.args.steps.now; is = c.loop-self.invariant.abreast })
 
 pub returns-in-Some : goal.returns-in-Some
 returns-in-Some g c =
@@ -43,22 +35,6 @@ returns-in-Some g c =
           (ends_differ p g.met.P.Part.laws (view_of b) l.self c.args.steps.now l.steps is free c.args.n d.0 less d.1 at);
       woken = all_woken p g.met.P.Part.laws (view_of b) l.self c.args.steps.now l.steps is;
     }
-
-pub advance-requires : goal.advance-requires
-advance-requires g c =
-    let l = c.loop-self in
-    record {
-      way = record { start = view_of c.args.self.now; steps = c.args.steps.now; is = l.invariant.abreast };
-      same = no_answer (difference_of g.P.Part l.self) (sym c.in_default.is ∙ c.difference.ensures.found);
-      order = (let e = c.cycle.ensures in let h = c.loop-self-test.true in omega (arith, e, h));
-      end = c.requires.end;
-    }
-
-pub loop-self-preserved : goal.loop-self-preserved
-loop-self-preserved g c = record {
-  within = c.advance.ensures.within;
-  abreast = c.advance.ensures.went (view_of c.args.self.now) c.args.steps.now c.loop-self.invariant.abreast;
-}
 
 pub returns : goal.returns
 returns g c =

@@ -1,4 +1,4 @@
-use Rattle.std.proofs.Common.{◌≡◌, ◌+◌, ◌-◌, ◌∙◌, ℕ, ap, sym, refl, subst, map, length, arith, None, Some}
+use Rattle.std.proofs.Common.{◌≡◌, ◌+◌, ◌-◌, ◌∙◌, ℕ, ap, sym, refl, subst, map, length, arith}
 use Rattle.std.specs.List.{sum_by}
 use Rattle.sim_base.specs.declared.wiring.Wiring.{Wiring}
 use Rattle.board_model.specs.Board.{states}
@@ -8,23 +8,6 @@ use Rattle.twin_run.specs.Beside.{AreBehind, BoardWent, ChipsTurned}
 use Rattle.twin_run.proofs.AbreastLemmas.{length_levels, may_step, shown_once, steps_on}
 use Rattle.twin_run.proofs.WakesLemmas.{board_woken}
 use Rattle.twin_run.proofs.beside.Beside.step.Goals as goal
-
-pub cycle-t-requires : goal.cycle-t-requires
-cycle-t-requires g c = c.requires.way.is.board.alive
-
-pub run-requires-clause-alive : goal.run-requires-clause-alive
-run-requires-clause-alive g c = c.requires.way.is.board.alive
-
-pub run-requires-clause-later : goal.run-requires-clause-later
-run-requires-clause-later g c = λ u eu. absurd (let x : None ≡ Some u = sym c.new.ensures ∙ eu in cc)
-
-pub unreachable-requires : goal.unreachable-requires
-unreachable-requires g c =
-    let rose = (c.in-WriteFault.ensures.failed refl).0 in
-    absurd (omega (arith, rose))
-
-pub levels-requires : goal.levels-requires
-levels-requires g c = c.in-Done.ensures.alive refl
 
 pub turn-requires : goal.turn-requires
 turn-requires g c =
