@@ -1,9 +1,11 @@
 -- The parts of a plan with a player of a wave's drives in place of each chip, at cycle 0 (profile).
-use Rattle.std.specs.Prelude.{◌≡◌, ℕ, List, true, Option, Some, slice_get, slice_index, take, drop, if◌then◌else◌}
+use Rattle.std.specs.Prelude.{◌≡◌, ◌≤◌, ℕ, List, length, true, Option, Some, slice_get, slice_index, take, drop, if◌then◌else◌}
+use Rattle.std.specs.List.{All}
 use Rattle.std.specs.Option.{option_map}
 use Rattle.std.proofs.Common.{inl, inr}
 use Rattle.board_laws.specs.Player.{DriveRows, new_player}
 use Rattle.board_laws.specs.Play.{or_player}
+use Rattle.trace_run.specs.Rows.{AreInOrder}
 use Rattle.board_build.specs.declared.plan.PlanKind.{PlanKind}
 use Rattle.board_build.specs.declared.plan.PlanPart.{PlanPart}
 use Rattle.board_build.specs.declared.plan.Plan.{Plan}
@@ -21,6 +23,12 @@ rows_from chip_pins rows first kind = take (count_of chip_pins kind) (drop first
 -- those of part k of a plan
 abbrev pub rows_of_part : List (List (Option (List ℕ))) → Plan → List DriveRows → ℕ → List DriveRows
 rows_of_part chip_pins plan rows k = rows_from chip_pins rows (slice_index plan.wiring.first_pin k) (option_map (λ part. part.kind) (slice_get plan.parts k))
+
+-- what is said of each pin of a plan's board, in the order of cycles
+pub record AreRowsFor (plan : Plan) (rows : List DriveRows) : Type 0 where
+  pub pins : length rows ≡ length plan.wiring.net_of
+  pub few : length rows ≤ 4096
+  pub order : All AreInOrder rows
 
 -- how a part begins: a chip as a player of the rows of its pins, and any other part as in a run
 abbrev pub play_start : Contents → List DriveRows → ℕ → PlanPart → Option PlayedState

@@ -15,7 +15,7 @@ ghost use Rattle.chip_module.specs.Sources.{HasFewPins, pins_of};
 ghost use Rattle.any_part.specs.AnyPart.{any};
 ghost use Rattle.any_part.specs.Start.{starts, new_uno};
 ghost use Rattle.played_part.specs.Played.{state_of, cycle_of, wakes_of};
-ghost use Rattle.played_part.specs.Start.{Begins, play_start, rows_of_part};
+ghost use Rattle.played_part.specs.Start.{AreRowsFor, Begins, play_start, rows_of_part};
 
 use crate::part::PlayedPart;
 use any_part::stock_part;
@@ -111,9 +111,7 @@ pub fn load_played(
 ) -> Result<List<PlayedPart>, OutOfMemory>
     requires plan { IsPlan (pins_of chips.now) plan.now }
     requires few_pins { All HasFewPins chips.now }
-    requires pins { length rows.now ≡ length plan.now.wiring.net_of }
-    requires few { length rows.now ≤ 4096 }
-    requires order { All AreInOrder rows.now }
+    requires rows { AreRowsFor plan.now rows.now }
     ensures states { IfOk result (λ parts. map state_of parts ≡ played (is_chip plan.now.wiring)
         (rows_of_part (pins_of chips.now) plan.now rows.now)
         (starts (record { flash = flash; chips = chips.now; budget = 0 }) plan.now.parts)) }

@@ -16,10 +16,14 @@ use Rattle.board_outputs.proofs.VariableLemmas.{pins_few}
 use Rattle.cli_replay.proofs.ReplayLemmas.{same_wakes}
 use Rattle.cli_replay.proofs.replaying.play_board.Goals as goal
 
-pub load_played-requires-clause-few : goal.load_played-requires-clause-few
-load_played-requires-clause-few g c =
+pub load_played-requires-clause-rows : goal.load_played-requires-clause-rows
+load_played-requires-clause-rows g c =
     let short : All IsShort (pins_of c.args.play.work.chips) = All-map IsShort (λ (chip : ChipSource). chip.pins) c.args.play.work.chips c.requires.ready.sound.few_pins in
-    omega (arith, c.requires.ready.pins, pins_few (pins_of c.args.play.work.chips) c.args.play.work.plan short c.requires.ready.sound.plan)
+    record {
+      pins = c.requires.ready.pins;
+      few = omega (arith, c.requires.ready.pins, pins_few (pins_of c.args.play.work.chips) c.args.play.work.plan short c.requires.ready.sound.plan);
+      order = c.requires.ready.order;
+    }
 
 pub returns-in-Ok-write_run-clause-ran : goal.returns-in-Ok-write_run-clause-ran
 returns-in-Ok-write_run-clause-ran g c =

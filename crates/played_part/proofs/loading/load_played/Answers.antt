@@ -63,7 +63,7 @@ new_part-requires-clause-fits c =
     let is : part ≡ get_or parts l.i part = rw (sym c.as_slice-planned.ensures) c.index-planned-i.is in
     let at : slice_get parts l.i ≡ Some part = slice_get_read parts (length parts) l.i part refl inside is in
     let has : Contents = record { flash = c.args.flash; chips = c.args.chips.now; budget = 0 } in
-    rw (c.from-first.ensures, c.as_slice-firsts.ensures, c.requires.pins) (part_fits has c.args.plan.now c.requires.plan l.i part at)
+    rw (c.from-first.ensures, c.as_slice-firsts.ensures, c.requires.rows.pins) (part_fits has c.args.plan.now c.requires.plan l.i part at)
 
 pub loop-i-preserved : goal.loop-i-preserved
 loop-i-preserved c =
@@ -77,10 +77,10 @@ loop-i-preserved c =
     let one = sym (unos_counted parts) ∙ c.requires.plan.one_uno in
     let has : Contents = record { flash = c.args.flash; chips = c.args.chips.now; budget = 0 } in
     let begins = c.in_ok-part.ensures.begins c.args.flash (λ here. l.invariant.uno ∙ uno_there c.args.flash parts l.i part inside is one here) in
-    let all : List PlayedState = all_played has plan c.requires.plan c.args.rows.now c.requires.pins in
+    let all : List PlayedState = all_played has plan c.requires.plan c.args.rows.now c.requires.rows.pins in
     let first : c.from-first.result ≡ slice_index plan.wiring.first_pin l.i = c.from-first.ensures ∙ ap (λ (firsts : List ℕ). slice_index firsts l.i) c.as_slice-firsts.ensures in
     let there : slice_get all l.i ≡ Some (state_of c.in_ok-part.part) =
-    play_at has plan c.requires.plan c.args.rows.now c.requires.pins l.i part at
+    play_at has plan c.requires.plan c.args.rows.now c.requires.rows.pins l.i part at
     ∙ ap (λ (n : ℕ). play_start has c.args.rows.now n part) (sym first)
     ∙ begins.state in
     record {
@@ -98,8 +98,8 @@ returns-clause-states c =
     let plan = c.args.plan.now in
     let has : Contents = record { flash = c.args.flash; chips = c.args.chips.now; budget = 0 } in
     let past : length plan.parts ≤ l.i = rw (sym c.as_slice-planned.ensures) c.loop-i-test.false in
-    let all : List PlayedState = all_played has plan c.requires.plan c.args.rows.now c.requires.pins in
-    l.invariant.states ∙ take_all l.i all (omega (arith, past, played_many has plan c.requires.plan c.args.rows.now c.requires.pins))
+    let all : List PlayedState = all_played has plan c.requires.plan c.args.rows.now c.requires.rows.pins in
+    l.invariant.states ∙ take_all l.i all (omega (arith, past, played_many has plan c.requires.plan c.args.rows.now c.requires.rows.pins))
 
 pub returns-clause-all : goal.returns-clause-all
 returns-clause-all c =
@@ -107,8 +107,8 @@ returns-clause-all c =
     let plan = c.args.plan.now in
     let has : Contents = record { flash = c.args.flash; chips = c.args.chips.now; budget = 0 } in
     let past : length plan.parts ≤ l.i = rw (sym c.as_slice-planned.ensures) c.loop-i-test.false in
-    let all : List PlayedState = all_played has plan c.requires.plan c.args.rows.now c.requires.pins in
-    let many = played_many has plan c.requires.plan c.args.rows.now c.requires.pins in
+    let all : List PlayedState = all_played has plan c.requires.plan c.args.rows.now c.requires.rows.pins in
+    let many = played_many has plan c.requires.plan c.args.rows.now c.requires.rows.pins in
     sym (length-map l.parts state_of) ∙ ap (λ (s : List PlayedState). length s) (l.invariant.states ∙ take_all l.i all (omega (arith, past, many))) ∙ many
 
 pub returns-clause-fresh : goal.returns-clause-fresh
@@ -126,6 +126,6 @@ returns-clause-fits c =
     let plan = c.args.plan.now in
     let has : Contents = record { flash = c.args.flash; chips = c.args.chips.now; budget = 0 } in
     let past : length plan.parts ≤ l.i = rw (sym c.as_slice-planned.ensures) c.loop-i-test.false in
-    let all : List PlayedState = all_played has plan c.requires.plan c.args.rows.now c.requires.pins in
-    let many = played_many has plan c.requires.plan c.args.rows.now c.requires.pins in
-    rw (l.invariant.states ∙ take_all l.i all (omega (arith, past, many))) (all_fit has plan c.requires.plan c.args.rows.now c.requires.pins)
+    let all : List PlayedState = all_played has plan c.requires.plan c.args.rows.now c.requires.rows.pins in
+    let many = played_many has plan c.requires.plan c.args.rows.now c.requires.rows.pins in
+    rw (l.invariant.states ∙ take_all l.i all (omega (arith, past, many))) (all_fit has plan c.requires.plan c.args.rows.now c.requires.rows.pins)
