@@ -11,7 +11,7 @@ ghost use Rattle.cli_make.specs.Answer.{BehindModule, JudgedBytes, MadeIn, folde
 
 use board_make::{Made, make};
 use chip_module::{ChipModule, ChipSource};
-use cli_project::{Work, plan_board};
+use cli_project::{ScriptedProject, Work, plan_board};
 use cli_work::{Stop, WorkEnd, stopped};
 use document_model::{Diagram, Project};
 use sim_base::{Fault, Flash, List, OutOfMemory};
@@ -60,15 +60,11 @@ fn behind_module(
         return Err(WorkEnd::OutOfMemory);
     };
     let rows = List::new(alloc);
-    match plan_board(
-        alloc,
-        "make",
-        None,
-        &project,
-        diagram,
-        chips.as_slice(),
-        &rows,
-    ) {
+    let scripted = ScriptedProject {
+        folder: "make",
+        script: None,
+    };
+    match plan_board(alloc, scripted, &project, diagram, chips.as_slice(), &rows) {
         Ok(plan) => {
             let bytes = List::new(alloc);
             let wave = Vec::new(alloc);

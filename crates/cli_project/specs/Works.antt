@@ -11,6 +11,7 @@ use Rattle.chip_module.specs.Sources.{HasFewPins, pins_of}
 use Rattle.chip_module.specs.declared.source.ChipSource.{ChipSource}
 use Rattle.project_model.specs.Work as projects
 use Rattle.cli_project.specs.declared.project.Paths.{Paths}
+use Rattle.cli_project.specs.declared.project.ScriptedProject.{ScriptedProject}
 use Rattle.cli_project.specs.declared.project.Work.{Work}
 
 abbrev pub work_of : Work → projects.Work
@@ -29,8 +30,8 @@ pub record IsSound (w : projects.Work) : Type 0 where
 abbrev pub planned : Project → List ℕ → List ℕ → List ChipSource → Plan → List ℕ → projects.Work
 planned project flash diagram chips plan wave = record { project = project; flash = flash; diagram = diagram; chips = chips; plan = plan; wave = wave }
 
-abbrev pub script_path : Paths → Option (List ℕ)
-script_path paths = option_map (λ s. s.now) paths.script
+abbrev pub script_path : ScriptedProject → Option (List ℕ)
+script_path scripted = option_map (λ s. s.now) scripted.script
 
 abbrev pub wave_path : Paths → Option (List ℕ)
 wave_path paths = option_map (λ s. s.now) paths.wave

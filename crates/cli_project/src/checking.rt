@@ -5,7 +5,7 @@ ghost use Rattle.outcome_model.specs.Happens.{Ends};
 ghost use Rattle.cli_project.specs.Answer.{CheckAnswer};
 ghost use Rattle.cli_work.specs.Outcomes.{outcome_of};
 
-use crate::project::read_work;
+use crate::project::read_folder;
 use cli_work::{WorkEnd, write_text};
 use sim_base::{Bench, Port};
 use std::alloc::Global;
@@ -17,7 +17,7 @@ pub fn check<B: Bench>(alloc: Global, folder: &str, bench: &mut B) -> WorkEnd
     ensures ends { Ends (CheckAnswer folder.now) (outcome_of result) (B.outside bench.old) (B.outside bench.new) }
     ensures silent { SaidNothing (B.outside bench.old) (B.outside bench.new) }
 {
-    match read_work(alloc, folder, None, None, bench) {
+    match read_folder(alloc, folder, bench) {
         Ok(work) => {
             // One call, where a drop at the end of the scope is proved list by list.
             drop(work);

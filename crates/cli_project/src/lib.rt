@@ -9,4 +9,4 @@ mod project;
 
 pub use checking::check;
 pub use documents::name_in;
-pub use project::{Work, plan_board, read_work};
+pub use project::{ScriptedProject, Work, plan_board, read_folder, read_work};

@@ -1,5 +1,5 @@
 //! A project, from its folder, with a script and a wave.
-ghost use Rattle.std.specs.Prelude.{◌≡◌, ◌⊎◌, ◌≤◌, ℕ, List, IfOk, length};
+ghost use Rattle.std.specs.Prelude.{◌≡◌, ◌⊎◌, ◌≤◌, ℕ, List, None, IfOk, length};
 ghost use Rattle.std.specs.List.{All};
 ghost use Rattle.std.specs.Option.{option_map};
 ghost use Rattle.sim_base.specs.Outside.{Outside, SamePorts};
@@ -38,25 +38,31 @@ pub struct Work {
     pub wave: Vec<u8>,
 }
 
-/// Where a work is read: the folder of a project, and the files of a script and of a wave, if they are named.
+/// A project that is to be run: its folder, and the file of the script that acts on its board, if one is named.
+#[derive(Clone, Copy)]
+pub struct ScriptedProject<'a> {
+    pub folder: &'a str,
+    pub script: Option<&'a str>,
+}
+
+/// Where a work is read: a project and its script, and the file of a wave, if one is named.
 #[derive(Clone, Copy)]
 struct Paths<'a> {
-    folder: &'a str,
-    script: Option<&'a str>,
+    scripted: ScriptedProject<'a>,
     wave: Option<&'a str>,
 }
 
 /// The end of the work by a rule of the board, with the file that the rule names; out of memory where
 /// that name has no room.
-fn refused_by_rule(alloc: Global, folder: &str, script: Option<&str>, refusal: Refusal) -> WorkEnd
-    ensures { (outcome_of result ≡ ends.Stopped (Refused (file_of_rule folder.now (option_map (λ s. s.now) script.entry) refusal) refusal))
+fn refused_by_rule(alloc: Global, scripted: ScriptedProject<'_>, refusal: Refusal) -> WorkEnd
+    ensures { (outcome_of result ≡ ends.Stopped (Refused (file_of_rule scripted.entry.folder.now (script_path scripted.entry) refusal) refusal))
         ⊎ (outcome_of result ≡ ends.OutOfMemory) }
 {
-    match script {
+    match scripted.script {
         Some(name) if refusal.number == SCRIPT_PART => {
             stopped(alloc, name, Stop::Refused(refusal))
         }
-        _ => match name_in(alloc, folder, "diagram.json") {
+        _ => match name_in(alloc, scripted.folder, "diagram.json") {
             Ok(name) => stopped(alloc, name.as_str(), Stop::Refused(refusal)),
             Err(_) => WorkEnd::OutOfMemory,
         },
@@ -67,8 +73,7 @@ fn refused_by_rule(alloc: Global, folder: &str, script: Option<&str>, refusal: R
 /// script, if it is named, or the folder's diagram.
 pub fn plan_board(
     alloc: Global,
-    folder: &str,
-    script: Option<&str>,
+    scripted: ScriptedProject<'_>,
     project: &Project,
     diagram: &Diagram,
     chips: &[ChipSource],
@@ -80,7 +85,7 @@ pub fn plan_board(
     requires parts { length diagram.now.parts ≤ 64 }
     requires rising { IsRising 0 (cycles_of rows.now) }
     ensures got { (a : Outside) → Got (λ p. p) outcome_of result
-        (PlanIn folder.now (option_map (λ s. s.now) script.entry) project.now diagram.now chips.now rows.now) a a }
+        (PlanIn scripted.entry.folder.now (script_path scripted.entry) project.now diagram.now chips.now rows.now) a a }
     ensures plan { IfOk result (λ plan. IsPlan (pins_of chips.now) plan) }
     ensures inputs { IfOk result (λ plan. AreInputs (length plan.parts) plan.inputs) }
 {
@@ -89,7 +94,7 @@ pub fn plan_board(
     };
     match build(alloc, project, diagram, pins.as_slice(), rows) {
         Ok(plan) => Ok(plan),
-        Err(Fault::Refused(refusal)) => Err(refused_by_rule(alloc, folder, script, refusal)),
+        Err(Fault::Refused(refusal)) => Err(refused_by_rule(alloc, scripted, refusal)),
         Err(Fault::OutOfMemory) => Err(WorkEnd::OutOfMemory),
     }
 }
@@ -145,22 +150,15 @@ fn read_plan<B: Bench>(
     requires pins { All HasFewPins chips.now }
     requires parts { length diagram.now.parts ≤ 64 }
     ensures got { (flash bytes : List ℕ) → Got (λ r. planned project.now flash bytes chips.now r.0 r.1.items) outcome_of result
-        (BehindChips paths.entry.folder.now (script_path paths.entry) (wave_path paths.entry) project.now flash (diagram.now, bytes) chips.now)
+        (BehindChips paths.entry.scripted.folder.now (script_path paths.entry.scripted) (wave_path paths.entry)
+        project.now flash (diagram.now, bytes) chips.now)
         (B.outside bench.old) (B.outside bench.new) }
     ensures ports { SamePorts (B.outside bench.old) (B.outside bench.new) }
     ensures sound { (flash bytes : List ℕ) → IfOk result (λ r. IsSound (planned project.now flash bytes chips.now r.0 r.1.items)) }
 {
-    let rows = read_script_of(alloc, paths.script, bench)?;
+    let rows = read_script_of(alloc, paths.scripted.script, bench)?;
     let wave = read_wave_of(alloc, paths.wave, bench)?;
-    let plan = plan_board(
-        alloc,
-        paths.folder,
-        paths.script,
-        project,
-        diagram,
-        chips,
-        &rows,
-    )?;
+    let plan = plan_board(alloc, paths.scripted, project, diagram, chips, &rows)?;
     Ok((plan, wave))
 }
 
@@ -179,7 +177,7 @@ fn read_behind_chips<B: Bench>(
     requires pins { All HasFewPins chips }
     requires parts { length drawn.0.parts ≤ 64 }
     ensures got { Got work_of outcome_of result
-        (BehindChips paths.entry.folder.now (script_path paths.entry) (wave_path paths.entry) project flash drawn chips)
+        (BehindChips paths.entry.scripted.folder.now (script_path paths.entry.scripted) (wave_path paths.entry) project flash drawn chips)
         (B.outside bench.old) (B.outside bench.new) }
     ensures ports { SamePorts (B.outside bench.old) (B.outside bench.new) }
     ensures sound { IfOk result (λ w. IsSound (work_of w)) }
@@ -217,12 +215,17 @@ fn read_behind_diagram<B: Bench>(
     requires chips { length project.chips ≤ 8 }
     requires parts { length drawn.0.parts ≤ 64 }
     ensures got { Got work_of outcome_of result
-        (BehindDiagram paths.entry.folder.now (script_path paths.entry) (wave_path paths.entry) project flash drawn)
+        (BehindDiagram paths.entry.scripted.folder.now (script_path paths.entry.scripted) (wave_path paths.entry) project flash drawn)
         (B.outside bench.old) (B.outside bench.new) }
     ensures ports { SamePorts (B.outside bench.old) (B.outside bench.new) }
     ensures sound { IfOk result (λ w. IsSound (work_of w)) }
 {
-    match read_chips(alloc, paths.folder, project.chips.as_slice(), bench) {
+    match read_chips(
+        alloc,
+        paths.scripted.folder,
+        project.chips.as_slice(),
+        bench,
+    ) {
         Ok(chips) => read_behind_chips(alloc, paths, project, flash, drawn, chips, bench),
         Err(end) => {
             drop(drawn);
@@ -242,12 +245,12 @@ fn read_behind_firmware<B: Bench>(
 ) -> Result<Work, WorkEnd>
     requires chips { length project.chips ≤ 8 }
     ensures got { Got work_of outcome_of result
-        (BehindFirmware paths.entry.folder.now (script_path paths.entry) (wave_path paths.entry) project flash)
+        (BehindFirmware paths.entry.scripted.folder.now (script_path paths.entry.scripted) (wave_path paths.entry) project flash)
         (B.outside bench.old) (B.outside bench.new) }
     ensures ports { SamePorts (B.outside bench.old) (B.outside bench.new) }
     ensures sound { IfOk result (λ w. IsSound (work_of w)) }
 {
-    match read_in::<DiagramFile, B>(alloc, paths.folder, "diagram.json", bench) {
+    match read_in::<DiagramFile, B>(alloc, paths.scripted.folder, "diagram.json", bench) {
         Ok(drawn) => read_behind_diagram(alloc, paths, project, flash, drawn, bench),
         Err(end) => {
             drop(project);
@@ -265,12 +268,17 @@ fn read_behind_project<B: Bench>(
 ) -> Result<Work, WorkEnd>
     requires chips { length project.chips ≤ 8 }
     ensures got { Got work_of outcome_of result
-        (BehindProject paths.entry.folder.now (script_path paths.entry) (wave_path paths.entry) project)
+        (BehindProject paths.entry.scripted.folder.now (script_path paths.entry.scripted) (wave_path paths.entry) project)
         (B.outside bench.old) (B.outside bench.new) }
     ensures ports { SamePorts (B.outside bench.old) (B.outside bench.new) }
     ensures sound { IfOk result (λ w. IsSound (work_of w)) }
 {
-    match read_in::<HexFile, B>(alloc, paths.folder, project.firmware.as_str(), bench) {
+    match read_in::<HexFile, B>(
+        alloc,
+        paths.scripted.folder,
+        project.firmware.as_str(),
+        bench,
+    ) {
         Ok(flash) => read_behind_firmware(alloc, paths, project, flash, bench),
         Err(end) => {
             drop(project);
@@ -283,22 +291,29 @@ fn read_behind_project<B: Bench>(
 /// its module and its pins, the script and the wave, read in this order, each checked before the next, and then the rules of the board.
 pub fn read_work<B: Bench>(
     alloc: Global,
-    folder: &str,
-    script: Option<&str>,
+    scripted: ScriptedProject<'_>,
     wave: Option<&str>,
     bench: &mut B,
 ) -> Result<Work, WorkEnd>
     ensures got { Got work_of outcome_of result
-        (WorkIn folder.now (option_map (λ s. s.now) script.entry) (option_map (λ s. s.now) wave.entry))
+        (WorkIn scripted.entry.folder.now (script_path scripted.entry) (option_map (λ s. s.now) wave.entry))
         (B.outside bench.old) (B.outside bench.new) }
     ensures ports { SamePorts (B.outside bench.old) (B.outside bench.new) }
     ensures sound { IfOk result (λ w. IsSound (work_of w)) }
 {
-    let project = read_in::<ProjectFile, B>(alloc, folder, "wokwi.toml", bench)?;
-    let paths = Paths {
+    let project = read_in::<ProjectFile, B>(alloc, scripted.folder, "wokwi.toml", bench)?;
+    read_behind_project(alloc, Paths { scripted, wave }, project, bench)
+}
+
+/// The work that a folder alone holds, without a script and a wave.
+pub fn read_folder<B: Bench>(alloc: Global, folder: &str, bench: &mut B) -> Result<Work, WorkEnd>
+    ensures got { Got work_of outcome_of result (WorkIn folder.now None None) (B.outside bench.old) (B.outside bench.new) }
+    ensures ports { SamePorts (B.outside bench.old) (B.outside bench.new) }
+    ensures sound { IfOk result (λ w. IsSound (work_of w)) }
+{
+    let scripted = ScriptedProject {
         folder,
-        script,
-        wave,
+        script: None,
     };
-    read_behind_project(alloc, paths, project, bench)
+    read_work(alloc, scripted, None, bench)
 }

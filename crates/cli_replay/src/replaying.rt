@@ -1,12 +1,11 @@
 //! `replay FOLDER WAVE --us N [--script FILE] [--vcd FILE] [--report FILE]`: a project with a player of what a wave says in
 //! place of each chip.
 ghost use Rattle.std.specs.Prelude.{◌≡◌, ◌≤◌, ◌<◌, ◌+◌, Some, IfOk};
-ghost use Rattle.std.specs.Option.{option_map};
 ghost use Rattle.sim_base.specs.Outside.{Outside, SamePorts};
 ghost use Rattle.outcome_model.specs.Outcome as ends;
 ghost use Rattle.outcome_model.specs.Happens.{Ends, Counts};
 ghost use Rattle.cli_work.specs.Outcomes.{outcome_of};
-ghost use Rattle.cli_project.specs.Works.{IsSound, work_of};
+ghost use Rattle.cli_project.specs.Works.{IsSound, script_path, work_of};
 ghost use Rattle.board_outputs.specs.Outputs.{outputs_of};
 ghost use Rattle.board_outputs.specs.Ran.{Ran};
 ghost use Rattle.outcome_model.specs.Work.{Got, SaidNothing, Then};
@@ -17,7 +16,7 @@ ghost use Rattle.cli_replay.specs.Plays.{IsReady, play_of};
 use board_outputs::Outputs;
 use board_run::Board;
 use cli_board::{Listing, make_head, write_run};
-use cli_project::{Work, read_work};
+use cli_project::{ScriptedProject, Work, read_work};
 use cli_work::{Stop, WorkEnd, stopped};
 use played_part::load_played;
 use sim_base::{Bench, Fault, MOST_CYCLES, Steps, WriteEnd};
@@ -53,26 +52,25 @@ fn read_rows(alloc: Global, name: &str, work: Work, n: u32) -> Result<Play, Work
     }
 }
 
-/// The work that a folder, a script and a wave hold, and what the wave says in `n` cycles.
+/// The work that a project, its script and a wave hold, and what the wave says in `n` cycles.
 fn read_play<B: Bench>(
     alloc: Global,
-    folder: &str,
+    scripted: ScriptedProject<'_>,
     wave: &str,
-    script: Option<&str>,
     n: u32,
     bench: &mut B,
 ) -> Result<Play, WorkEnd>
     requires some { 0 < n }
     requires end { n ≤ MOST_CYCLES }
-    ensures got { Got play_of outcome_of result (PlayIn folder.now wave.now (option_map (λ s. s.now) script.entry) n)
+    ensures got { Got play_of outcome_of result (PlayIn scripted.entry.folder.now wave.now (script_path scripted.entry) n)
         (B.outside bench.old) (B.outside bench.new) }
     ensures repeated { Got play_of outcome_of result
-        (Then (WorkIn folder.now (option_map (λ s. s.now) script.entry) (Some wave.now)) (RepeatIn wave.now n))
+        (Then (WorkIn scripted.entry.folder.now (script_path scripted.entry) (Some wave.now)) (RepeatIn wave.now n))
         (B.outside bench.old) (B.outside bench.new) }
     ensures ports { SamePorts (B.outside bench.old) (B.outside bench.new) }
     ensures ready { IfOk result (IsReady n) }
 {
-    let work = read_work(alloc, folder, script, Some(wave), bench)?;
+    let work = read_work(alloc, scripted, Some(wave), bench)?;
     read_rows(alloc, wave, work, n)
 }
 
@@ -120,29 +118,28 @@ fn play_board<B: Bench, L: Ledger>(
     }
 }
 
-/// Runs the project of a folder under a script, if one is named, for so many microseconds, 16 cycles each, with a player of what
-/// a wave says in place of each chip, and writes its texts where the outputs say. No module of a chip is run.
+/// Runs a project under its script for so many microseconds, 16 cycles each, with a player of what a wave says in place of each
+/// chip, and writes its texts where the outputs say. No module of a chip is run.
 pub fn replay<B: Bench, L: Ledger>(
     alloc: Global,
-    folder: &str,
-    micros: u32,
-    script: Option<&str>,
+    scripted: ScriptedProject<'_>,
     wave: &str,
+    micros: u32,
     outputs: Outputs,
     bench: &mut B,
     steps: &mut Steps<L>,
 ) -> WorkEnd
     requires some { 0 < micros }
     requires end { micros ≤ 10000000 }
-    ensures ends { Ends (ReplayAnswer folder.now wave.now micros (option_map (λ s. s.now) script.entry) (outputs_of outputs.entry))
+    ensures ends { Ends (ReplayAnswer scripted.entry.folder.now wave.now micros (script_path scripted.entry) (outputs_of outputs.entry))
         (outcome_of result) (B.outside bench.old) (B.outside bench.new) }
-    ensures repeated { Ends (RepeatAnswer folder.now wave.now micros (option_map (λ s. s.now) script.entry) (outputs_of outputs.entry))
+    ensures repeated { Ends (RepeatAnswer scripted.entry.folder.now wave.now micros (script_path scripted.entry) (outputs_of outputs.entry))
         (outcome_of result) (B.outside bench.old) (B.outside bench.new) }
-    ensures counts { Counts (ReplayAnswer folder.now wave.now micros (option_map (λ s. s.now) script.entry) (outputs_of outputs.entry))
+    ensures counts { Counts (ReplayAnswer scripted.entry.folder.now wave.now micros (script_path scripted.entry) (outputs_of outputs.entry))
         (outcome_of result) (B.outside bench.old) steps.old steps.new }
     ensures silent { SaidNothing (B.outside bench.old) (B.outside bench.new) }
 {
-    match read_play(alloc, folder, wave, script, 16 * micros, bench) {
+    match read_play(alloc, scripted, wave, 16 * micros, bench) {
         Ok(play) => play_board(alloc, play, 16 * micros, outputs, bench, steps),
         Err(outcome) => outcome,
     }

@@ -1,28 +1,27 @@
 //! `run FOLDER --us N [--script FILE] [--vcd FILE] [--report FILE] [--budget N]`: a project.
 ghost use Rattle.std.specs.Prelude.{◌≡◌, ◌≤◌, ◌<◌};
-ghost use Rattle.std.specs.Option.{option_map};
 ghost use Rattle.outcome_model.specs.Happens.{Ends, Counts};
 ghost use Rattle.outcome_model.specs.Work.{SaidNothing};
 ghost use Rattle.cli_work.specs.Outcomes.{outcome_of};
+ghost use Rattle.cli_project.specs.Works.{script_path};
 ghost use Rattle.board_outputs.specs.Outputs.{outputs_of};
 ghost use Rattle.isolation.specs.Isolated.{Isolated};
 ghost use Rattle.cli_run.specs.Answer.{RunAnswer, AnswerSuch};
 
 use board_outputs::Outputs;
 use cli_board::{Contents, run_board};
-use cli_project::{Work, read_work};
+use cli_project::{ScriptedProject, Work, read_work};
 use cli_work::WorkEnd;
 use sim_base::{Bench, Steps};
 use std::alloc::Global;
 use std::sync::ledger::Ledger;
 
-/// Runs the project of a folder under a script, if one is named, for so many microseconds, 16 cycles
-/// each, where each call into a chip gets so much fuel, and writes its texts where the outputs say.
+/// Runs a project under its script for so many microseconds, 16 cycles each, where each call into a chip gets so much fuel,
+/// and writes its texts where the outputs say.
 pub fn run<B: Bench, L: Ledger>(
     alloc: Global,
-    folder: &str,
+    scripted: ScriptedProject<'_>,
     micros: u32,
-    script: Option<&str>,
     budget: u32,
     outputs: Outputs,
     bench: &mut B,
@@ -30,15 +29,15 @@ pub fn run<B: Bench, L: Ledger>(
 ) -> WorkEnd
     requires some { 0 < micros }
     requires end { micros ≤ 10000000 }
-    ensures ends { Ends (RunAnswer folder.now micros (option_map (λ s. s.now) script.entry) budget (outputs_of outputs.entry))
+    ensures ends { Ends (RunAnswer scripted.entry.folder.now micros (script_path scripted.entry) budget (outputs_of outputs.entry))
         (outcome_of result) (B.outside bench.old) (B.outside bench.new) }
-    ensures isolated { Ends (AnswerSuch Isolated folder.now micros (option_map (λ s. s.now) script.entry) budget (outputs_of outputs.entry))
+    ensures isolated { Ends (AnswerSuch Isolated scripted.entry.folder.now micros (script_path scripted.entry) budget (outputs_of outputs.entry))
         (outcome_of result) (B.outside bench.old) (B.outside bench.new) }
-    ensures counts { Counts (RunAnswer folder.now micros (option_map (λ s. s.now) script.entry) budget (outputs_of outputs.entry))
+    ensures counts { Counts (RunAnswer scripted.entry.folder.now micros (script_path scripted.entry) budget (outputs_of outputs.entry))
         (outcome_of result) (B.outside bench.old) steps.old steps.new }
     ensures silent { SaidNothing (B.outside bench.old) (B.outside bench.new) }
 {
-    match read_work(alloc, folder, script, None, bench) {
+    match read_work(alloc, scripted, None, bench) {
         Ok(work) => {
             let Work {
                 flash,

@@ -13,7 +13,7 @@ ghost use Rattle.cli_twin.specs.Pairs.{IsReady, pair_of};
 ghost use Rattle.cli_twin.specs.Shared.{PairIn, other_path, paired};
 
 use crate::sharing::other_path;
-use cli_project::{Work, name_in, read_work};
+use cli_project::{Work, name_in, read_folder};
 use cli_work::{Stop, WorkEnd, stopped};
 use sim_base::refusals::TWIN_DIFFERS;
 use sim_base::{Bench, Place, Refusal};
@@ -66,7 +66,7 @@ pub(crate) fn read_pair<B: Bench>(
     ensures ports { SamePorts (B.outside bench.old) (B.outside bench.new) }
     ensures ready { IfOk result IsReady }
 {
-    let one = read_work(alloc, folder, None, None, bench)?;
-    let twin = read_work(alloc, other, None, None, bench)?;
+    let one = read_folder(alloc, folder, bench)?;
+    let twin = read_folder(alloc, other, bench)?;
     make_pair(alloc, other, one, twin)
 }

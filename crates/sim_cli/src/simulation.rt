@@ -17,7 +17,7 @@ use cli_bare::bare;
 use cli_decode::decode;
 use cli_make::make;
 use cli_module::check_module;
-use cli_project::check;
+use cli_project::{ScriptedProject, check};
 use cli_replay::replay;
 use cli_run::run;
 use cli_twin::twin;
@@ -74,30 +74,20 @@ fn work<B: Bench, L: Ledger>(
         Ok(Some(Request::Check(folder))) => check(alloc, folder, bench),
         Ok(Some(Request::Module(file))) => check_module(alloc, file, bench),
         Ok(Some(Request::Run(folder, micros, budget, named))) => {
-            let outputs = outputs_to(named);
-            run(
-                alloc,
+            let scripted = ScriptedProject {
                 folder,
-                micros,
-                named.script,
-                budget,
-                outputs,
-                bench,
-                steps,
-            )
+                script: named.script,
+            };
+            let outputs = outputs_to(named);
+            run(alloc, scripted, micros, budget, outputs, bench, steps)
         }
         Ok(Some(Request::Replay(folder, wave, micros, named))) => {
-            let outputs = outputs_to(named);
-            replay(
-                alloc,
+            let scripted = ScriptedProject {
                 folder,
-                micros,
-                named.script,
-                wave,
-                outputs,
-                bench,
-                steps,
-            )
+                script: named.script,
+            };
+            let outputs = outputs_to(named);
+            replay(alloc, scripted, wave, micros, outputs, bench, steps)
         }
         Ok(Some(Request::Twin(folder, other, micros, budget))) => {
             twin(alloc, folder, other, micros, budget, bench, steps)

@@ -7,7 +7,7 @@ use Rattle.project_model.specs.Work.{in_folder, BehindProject}
 use Rattle.outcome_model.specs.Work.{IsFile}
 use Rattle.outcome_model.proofs.ReadLemmas.{first_stops, got_both, steady_file}
 use Rattle.cli_work.specs.Outcomes.{outcome_of}
-use Rattle.cli_project.specs.Works.{work_of}
+use Rattle.cli_project.specs.Works.{script_path, work_of}
 use Rattle.cli_project.proofs.project.read_work.Goals as goal
 
 pub read_behind_project-requires : goal.read_behind_project-requires
@@ -15,8 +15,8 @@ read_behind_project-requires g c = let read = c.in_ok-project.ensures.read in om
 
 pub returns-in_err-project-clause-got : goal.returns-in_err-project-clause-got
 returns-in_err-project-clause-got g c =
-    let folder : List ℕ = c.args.folder.now in
-    let script : Option (List ℕ) = option_map (λ (s : Bor (List ℕ)). s.now) c.args.script in
+    let folder : List ℕ = c.args.scripted.folder.now in
+    let script : Option (List ℕ) = script_path c.args.scripted in
     let wave : Option (List ℕ) = option_map (λ (s : Bor (List ℕ)). s.now) c.args.wave in
     let q = err_from_is_err_and c.from_residual.result c.from_residual.ensures.1 in
     let e = c.in_err-project.field-0.0 in
@@ -24,8 +24,8 @@ returns-in_err-project-clause-got g c =
 
 pub returns-clause-got : goal.returns-clause-got
 returns-clause-got g c =
-    let folder : List ℕ = c.args.folder.now in
-    let script : Option (List ℕ) = option_map (λ (s : Bor (List ℕ)). s.now) c.args.script in
+    let folder : List ℕ = c.args.scripted.folder.now in
+    let script : Option (List ℕ) = script_path c.args.scripted in
     let wave : Option (List ℕ) = option_map (λ (s : Bor (List ℕ)). s.now) c.args.wave in
     let file : List ℕ = in_folder folder (codes "wokwi.toml") in
     got_both (IsFile file project_text) (BehindProject folder script wave) (steady_file file project_text) c.in_ok-project.project work_of outcome_of

@@ -1,9 +1,9 @@
-use Rattle.std.proofs.Common.{◌*◌, ℕ, List, Option, Bor}
-use Rattle.std.specs.Option.{option_map}
+use Rattle.std.proofs.Common.{◌*◌, ℕ, List, Option}
 use Rattle.sim_base.specs.Outside.{Outside}
 use Rattle.outcome_model.specs.Stop.{Texts}
 use Rattle.outcome_model.proofs.EndLemmas.{stops_counts}
 use Rattle.cli_work.specs.Outcomes.{outcome_of}
+use Rattle.cli_project.specs.Works.{script_path}
 use Rattle.board_outputs.specs.Outputs.{outputs_of}
 use Rattle.board_outputs.proofs.RanLemmas.{ran_ends, ran_said, ran_counts}
 use Rattle.cli_replay.specs.Answer.{Play, PlayIn, RepeatAnswer, ReplayAnswer, replay_texts}
@@ -17,10 +17,10 @@ returns-in-Ok g c =
     let a : Outside = g.B.Bench.outside c.args.bench.now in
     let m : Outside = g.B.Bench.outside c.read_play.new.bench in
     let b : Outside = g.B.Bench.outside c.play_board.new.bench in
-    let folder : List ℕ = c.args.folder.now in
+    let folder : List ℕ = c.args.scripted.folder.now in
     let wave : List ℕ = c.args.wave.now in
     let us : ℕ = c.args.micros in
-    let script : Option (List ℕ) = option_map (λ (f : Bor (List ℕ)). f.now) c.args.script in
+    let script : Option (List ℕ) = script_path c.args.scripted in
     let out = outputs_of c.args.outputs in
     let play : Play = play_of c.in-Ok.play in
     let texts : Texts = replay_texts out (16 * us) play in
@@ -39,16 +39,16 @@ returns-in-Ok g c =
 
 pub returns-in-Err-clause-ends : goal.returns-in-Err-clause-ends
 returns-in-Err-clause-ends g c =
-    let script : Option (List ℕ) = option_map (λ (f : Bor (List ℕ)). f.now) c.args.script in
-    replay_stops c.args.folder.now c.args.wave.now c.args.micros script (outputs_of c.args.outputs) (outcome_of c.in-Err.outcome) _ _ c.in-Err.ensures.got c.in-Err.ensures.ports
+    let script : Option (List ℕ) = script_path c.args.scripted in
+    replay_stops c.args.scripted.folder.now c.args.wave.now c.args.micros script (outputs_of c.args.outputs) (outcome_of c.in-Err.outcome) _ _ c.in-Err.ensures.got c.in-Err.ensures.ports
 
 pub returns-in-Err-clause-repeated : goal.returns-in-Err-clause-repeated
 returns-in-Err-clause-repeated g c =
-    let script : Option (List ℕ) = option_map (λ (f : Bor (List ℕ)). f.now) c.args.script in
-    repeat_stops c.args.folder.now c.args.wave.now c.args.micros script (outputs_of c.args.outputs) (outcome_of c.in-Err.outcome) _ _ c.in-Err.ensures.repeated c.in-Err.ensures.ports
+    let script : Option (List ℕ) = script_path c.args.scripted in
+    repeat_stops c.args.scripted.folder.now c.args.wave.now c.args.micros script (outputs_of c.args.outputs) (outcome_of c.in-Err.outcome) _ _ c.in-Err.ensures.repeated c.in-Err.ensures.ports
 
 pub returns-in-Err-clause-counts : goal.returns-in-Err-clause-counts
 returns-in-Err-clause-counts g c =
-    let script : Option (List ℕ) = option_map (λ (f : Bor (List ℕ)). f.now) c.args.script in
-    stops_counts (ReplayAnswer c.args.folder.now c.args.wave.now c.args.micros script (outputs_of c.args.outputs)) (PlayIn c.args.folder.now c.args.wave.now script (16 * c.args.micros))
+    let script : Option (List ℕ) = script_path c.args.scripted in
+    stops_counts (ReplayAnswer c.args.scripted.folder.now c.args.wave.now c.args.micros script (outputs_of c.args.outputs)) (PlayIn c.args.scripted.folder.now c.args.wave.now script (16 * c.args.micros))
     (outcome_of c.in-Err.outcome) (g.B.Bench.outside c.args.bench.now) (g.B.Bench.outside c.read_play.new.bench) c.args.steps.now c.args.steps.now c.in-Err.ensures.got

@@ -1,5 +1,4 @@
-use Rattle.std.proofs.Common.{◌≡◌, ◌+◌, ◌*◌, ℕ, List, Option, None, Bor, subst}
-use Rattle.std.specs.Option.{option_map}
+use Rattle.std.proofs.Common.{◌≡◌, ◌+◌, ◌*◌, ℕ, List, Option, None, subst}
 use Rattle.sim_base.specs.Outside.{Outside}
 use Rattle.outcome_model.specs.Stop.{Texts}
 use Rattle.project_model.specs.Work.{Work, WorkIn}
@@ -8,7 +7,7 @@ use Rattle.any_part.specs.Start.{Contents}
 use Rattle.outcome_model.specs.Outcome.{Accepted}
 use Rattle.outcome_model.proofs.EndLemmas.{stops_counts}
 use Rattle.cli_work.specs.Outcomes.{outcome_of}
-use Rattle.cli_project.specs.Works.{work_of}
+use Rattle.cli_project.specs.Works.{script_path, work_of}
 use Rattle.board_outputs.specs.Outputs.{outputs_of}
 use Rattle.board_outputs.specs.Ran.{Ran}
 use Rattle.cli_board.specs.Run.{run_texts, run_wakes}
@@ -23,9 +22,9 @@ returns-in-Ok g c =
     let a : Outside = g.B.Bench.outside c.args.bench.now in
     let m : Outside = g.B.Bench.outside c.read_work.new.bench in
     let b : Outside = g.B.Bench.outside c.run_board.new.bench in
-    let folder : List ℕ = c.args.folder.now in
+    let folder : List ℕ = c.args.scripted.folder.now in
     let us : ℕ = c.args.micros in
-    let script : Option (List ℕ) = option_map (λ (f : Bor (List ℕ)). f.now) c.args.script in
+    let script : Option (List ℕ) = script_path c.args.scripted in
     let budget : ℕ = c.args.budget in
     let out = outputs_of c.args.outputs in
     let work : Work = work_of c.in-Ok.work in
@@ -50,16 +49,16 @@ returns-in-Ok g c =
 
 pub returns-in-Err-clause-ends : goal.returns-in-Err-clause-ends
 returns-in-Err-clause-ends g c =
-    let script : Option (List ℕ) = option_map (λ (f : Bor (List ℕ)). f.now) c.args.script in
-    run_stops c.args.folder.now c.args.micros script c.args.budget (outputs_of c.args.outputs) (outcome_of c.in-Err.outcome) _ _ c.in-Err.ensures.got c.in-Err.ensures.ports
+    let script : Option (List ℕ) = script_path c.args.scripted in
+    run_stops c.args.scripted.folder.now c.args.micros script c.args.budget (outputs_of c.args.outputs) (outcome_of c.in-Err.outcome) _ _ c.in-Err.ensures.got c.in-Err.ensures.ports
 
 pub returns-in-Err-clause-isolated : goal.returns-in-Err-clause-isolated
 returns-in-Err-clause-isolated g c =
-    let script : Option (List ℕ) = option_map (λ (f : Bor (List ℕ)). f.now) c.args.script in
-    isolated_stops c.args.folder.now c.args.micros script c.args.budget (outputs_of c.args.outputs) (outcome_of c.in-Err.outcome) _ _ c.in-Err.ensures.got c.in-Err.ensures.ports
+    let script : Option (List ℕ) = script_path c.args.scripted in
+    isolated_stops c.args.scripted.folder.now c.args.micros script c.args.budget (outputs_of c.args.outputs) (outcome_of c.in-Err.outcome) _ _ c.in-Err.ensures.got c.in-Err.ensures.ports
 
 pub returns-in-Err-clause-counts : goal.returns-in-Err-clause-counts
 returns-in-Err-clause-counts g c =
-    let script : Option (List ℕ) = option_map (λ (f : Bor (List ℕ)). f.now) c.args.script in
-    stops_counts (RunAnswer c.args.folder.now c.args.micros script c.args.budget (outputs_of c.args.outputs)) (WorkIn c.args.folder.now script None) (outcome_of c.in-Err.outcome)
+    let script : Option (List ℕ) = script_path c.args.scripted in
+    stops_counts (RunAnswer c.args.scripted.folder.now c.args.micros script c.args.budget (outputs_of c.args.outputs)) (WorkIn c.args.scripted.folder.now script None) (outcome_of c.in-Err.outcome)
     (g.B.Bench.outside c.args.bench.now) (g.B.Bench.outside c.read_work.new.bench) c.args.steps.now c.args.steps.now c.in-Err.ensures.got

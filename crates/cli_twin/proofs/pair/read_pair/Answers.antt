@@ -14,8 +14,8 @@ use Rattle.cli_twin.proofs.pair.read_pair.Goals as goal
 pub returns-in_err-twin-clause-got : goal.returns-in_err-twin-clause-got
 returns-in_err-twin-clause-got g c =
     let a : Outside = g.B.Bench.outside c.args.bench.now in
-    let m : Outside = g.B.Bench.outside c.read_work.new.bench in
-    let b : Outside = g.B.Bench.outside c.read_work-2.new.bench in
+    let m : Outside = g.B.Bench.outside c.read_folder.new.bench in
+    let b : Outside = g.B.Bench.outside c.read_folder-2.new.bench in
     let folder : List ℕ = c.args.folder.now in
     let other : List ℕ = c.args.other.now in
     let one : Work = work_of c.in_ok-one.one in
@@ -28,8 +28,8 @@ returns-in_err-twin-clause-got g c =
 pub returns-clause-got : goal.returns-clause-got
 returns-clause-got g c =
     let a : Outside = g.B.Bench.outside c.args.bench.now in
-    let m : Outside = g.B.Bench.outside c.read_work.new.bench in
-    let b : Outside = g.B.Bench.outside c.read_work-2.new.bench in
+    let m : Outside = g.B.Bench.outside c.read_folder.new.bench in
+    let b : Outside = g.B.Bench.outside c.read_folder-2.new.bench in
     let folder : List ℕ = c.args.folder.now in
     let other : List ℕ = c.args.other.now in
     let one : Work = work_of c.in_ok-one.one in
