@@ -9,14 +9,15 @@ ghost use Rattle.avr_adc.specs.declared.registers.TheConstants.{ADCSRA, ADSC};
 ghost use Rattle.avr_mcu.specs.Devices.{devices, devices_touch};
 ghost use Rattle.avr_mcu.specs.Units.{reset, pins, request, units_step, units_restarted, above, above_in, with_above, plain, plain_of, with_plain, register, after_read, with_register, with_register_bit};
 ghost use Rattle.avr_mcu.specs.Touched.{Touched, bare, touched_bus};
-ghost use Rattle.avr_mcu.specs.Ready.{Calm};
+ghost use Rattle.avr_mcu.specs.Ready.{Ready, Calm};
+ghost use Rattle.avr_mcu.specs.Ask.{after, levels_after, IsFit, left, Tells};
 ghost use Rattle.part_law.specs.Spans.{no_pins};
 ghost use Rattle.avr_mcu.specs.McuOf.{is_deep};
 ghost use Rattle.unit_law.specs.Reach.{touched_if};
 ghost use Rattle.unit_law.specs.Placed.{SameBut};
 ghost use Rattle.unit_law.specs.Signals.{signalled};
 
-use crate::asking::{Next, begin, give, hear, pad_of, read, skip, taken, turn, write, write_bit};
+use crate::asking::{Asking, Hear, Next, Read, Taken, Turn, Write, WriteBit, begin, pad_of};
 use crate::devices::Devices;
 use crate::pins::UNO_PINS;
 use avr_adc::{ADCSRA, ADSC};
@@ -176,12 +177,14 @@ impl Units {
         ensures { self.new ≡ record self.old { units = record (self.old.units) { devices = devices.taken self.old.units.devices vector } } }
     {
         self.calm = 0;
-        taken(
+        let held = &self.held[..PORT_PINS];
+        ask(
             &mut self.devices,
             &mut self.next,
             self.cycle,
-            &self.held[..PORT_PINS],
-            vector,
+            held,
+            held,
+            Taken { vector },
         );
     }
 
@@ -227,11 +230,13 @@ impl Units {
         ensures { self.new ≡ record self.old { units = record (self.old.units) { devices = signalled devices signal self.old.units.devices self.old.cycle } } }
     {
         self.calm = 0;
-        give(
+        let held = &self.held[..PORT_PINS];
+        ask(
             &mut self.devices,
             &mut self.next,
             self.cycle,
-            &self.held[..PORT_PINS],
+            held,
+            held,
             signal,
         );
     }
@@ -264,13 +269,6 @@ impl Units {
         requires quiet { IsQuiet devices self.old.units.devices self.old.cycle (to - self.old.cycle) }
         ensures { self.new ≡ record self.old { units = record (self.old.units) { devices = steps devices self.old.units.devices self.old.cycle (to - self.old.cycle) }; cycle = to } }
     {
-        skip(
-            &self.devices,
-            self.next,
-            self.cycle,
-            to,
-            &self.held[..PORT_PINS],
-        );
         self.cycle = to;
     }
 
@@ -285,12 +283,13 @@ impl Units {
         ensures state { self.new ≡ record self.old { units = units_step devices self.old.units self.old.cycle self.old.held levels.now; held = levels.now; cycle = self.old.cycle + 1 } }
     {
         self.calm = 0;
-        let told = hear(
+        let told = ask(
             &mut self.devices,
             &mut self.next,
             self.cycle,
             &self.held[..PORT_PINS],
             seen(levels),
+            Hear,
         );
         self.held.copy_from_slice(levels);
         self.cycle += 1;
@@ -307,11 +306,14 @@ impl Units {
         ensures state { self.new ≡ record self.old { units = units_step devices self.old.units self.old.cycle self.old.held self.old.held; cycle = self.old.cycle + 1 } }
     {
         self.calm = 0;
-        let told = turn(
+        let held = &self.held[..PORT_PINS];
+        let told = ask(
             &mut self.devices,
             &mut self.next,
             self.cycle,
-            &self.held[..PORT_PINS],
+            held,
+            held,
+            Turn,
         );
         self.cycle += 1;
         told
@@ -380,12 +382,14 @@ impl Units {
         ensures value { result ≡ register devices self.old.units self.old.cycle self.old.held reg }
         ensures state { self.new ≡ record self.old { units = after_read devices self.old.units self.old.cycle reg } }
     {
-        let told = read(
+        let held = &self.held[..PORT_PINS];
+        let told = ask(
             &mut self.devices,
             &mut self.next,
             self.cycle,
-            &self.held[..PORT_PINS],
-            reg,
+            held,
+            held,
+            Read { reg },
         );
         self.calm = calm_of(self.next, self.touched);
         match told {
@@ -404,14 +408,18 @@ impl Units {
     fn set_register(&mut self, reg: u8, value: u8)
         ensures { self.new ≡ record self.old { units = with_register devices self.old.units self.old.cycle reg value; touched = touched_if (devices.has reg) (devices_touch.writes self.old.units.devices reg value) self.old.touched } }
     {
-        let told = write(
+        let held = &self.held[..PORT_PINS];
+        let told = ask(
             &mut self.devices,
             &mut self.next,
             self.cycle,
-            &self.held[..PORT_PINS],
-            reg,
-            value,
-            self.touched,
+            held,
+            held,
+            Write {
+                reg,
+                value,
+                touched: self.touched,
+            },
         );
         match told {
             Some(touched) => {
@@ -446,15 +454,19 @@ impl Units {
         requires { bit < 8 }
         ensures { self.new ≡ record self.old { units = with_register_bit devices self.old.units self.old.cycle reg bit value; touched = touched_if (devices.has reg) (devices_touch.bits self.old.units.devices reg bit value) self.old.touched } }
     {
-        let told = write_bit(
+        let held = &self.held[..PORT_PINS];
+        let told = ask(
             &mut self.devices,
             &mut self.next,
             self.cycle,
-            &self.held[..PORT_PINS],
-            reg,
-            bit,
-            value,
-            self.touched,
+            held,
+            held,
+            WriteBit {
+                reg,
+                bit,
+                value,
+                touched: self.touched,
+            },
         );
         match told {
             Some(touched) => {
@@ -468,6 +480,28 @@ impl Units {
             }
         }
     }
+}
+
+// A call on the devices. Each function that names their type to a generic one proves anew that each of them is a unit, so this one
+// does it for all calls.
+#[inline(always)]
+fn ask<A: Asking>(
+    group: &mut Devices,
+    next: &mut Next,
+    cycle: u32,
+    before: &[Level],
+    now: &[Level],
+    asking: A,
+) -> A::Answer
+    requires fit { IsFit (A.ask asking) cycle }
+    requires before { length before.now ≡ PORT_PINS }
+    requires levels { length now.now ≡ PORT_PINS }
+    requires ready { Ready devices (⟦<Devices as Group>⟧.state group.old) (⟦<Devices as Group>⟧.until group.old) (⟦<Devices as Group>⟧.stands group.old) before.now cycle next.old.due next.old.request }
+    ensures told { Tells devices devices_touch (A.ask asking) (⟦<Devices as Group>⟧.state group.old cycle) cycle before.now now.now (A.told result) }
+    ensures state { ⟦<Devices as Group>⟧.state group.new (after (A.ask asking) cycle) ≡ left devices (A.ask asking) (⟦<Devices as Group>⟧.state group.old cycle) cycle before.now now.now }
+    ensures ready { Ready devices (⟦<Devices as Group>⟧.state group.new) (⟦<Devices as Group>⟧.until group.new) (⟦<Devices as Group>⟧.stands group.new) (levels_after (A.ask asking) before.now now.now) (after (A.ask asking) cycle) next.new.due next.new.request }
+{
+    asking.of(group, next, cycle, before, now)
 }
 
 // Before which cycle instructions come alone.

@@ -6,7 +6,7 @@ invariant_of-self c = record {
   sram = c.self.invariant.sram;
   ignored = c.self.invariant.ignored;
   held = c.self.invariant.held;
-  ready = c.give.ensures.ready;
+  ready = c.ask.ensures.ready;
   end = c.self.invariant.end;
   calm = calm_none _ _ _;
 }

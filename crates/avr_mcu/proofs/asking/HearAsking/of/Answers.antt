@@ -2,7 +2,7 @@ use Rattle.std.proofs.Common.{◌+◌, ◌<◌, ◌≤◌, ℕ, sym, subst, arit
 use Rattle.unit_law.specs.UnitMachine.{FirstDue}
 use Rattle.unit_law.proofs.UnitLemmas.{move_none}
 use Rattle.unit_law.proofs.PassLemmas.{pass_due, pass_silent, pass_state, pass_request}
-use Rattle.avr_mcu.proofs.asking.hear.Goals as goal
+use Rattle.avr_mcu.proofs.asking.HearAsking.of.Goals as goal
 
 pub notices-requires-clause-due : goal.notices-requires-clause-due
 notices-requires-clause-due g c = c.requires.ready.due_is
@@ -30,14 +30,17 @@ returns-else-notices g c =
     let waits = on.1 in
     let asked = on.0 in
     record {
-      byte = pass_silent m laws (o.state s) t (o.until s) first less;
-      resets = sym (laws.power_laws.resets_due (o.state s t) t (pass_due m laws (o.state s) t (o.until s) first less));
-      pads = λ p inside out. move_none m laws t (o.until s) (o.state s) first less before now none p;
+      told = record {
+        byte_is = pass_silent m laws (o.state s) t (o.until s) first less;
+        resets_is = sym (laws.power_laws.resets_due (o.state s t) t (pass_due m laws (o.state s) t (o.until s) first less));
+        pads = λ p inside out. move_none m laws t (o.until s) (o.state s) first less before now none p;
+      };
       state = pass_state m laws (o.state s) t (o.until s) first less before now none waits;
       ready = record {
         asked = asked;
         due_is = r.due_is;
         first = subst (λ (d : ℕ). FirstDue m (o.state s (t + 1)) (t + 1) d) (sym r.due_is) (g.met.G.Group.first s now (t + 1) asked);
         request_is = pass_request m laws (o.state s) t (o.until s) first less before now none waits _ r.request_is;
+        waits = λ u le near. g.met.G.Group.waits s now (t + 1) u asked le near;
       };
     }
