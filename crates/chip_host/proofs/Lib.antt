@@ -1,3 +1,4 @@
+pub mod ArgumentLemmas
 mod HostLemmas
 mod CallLemmas
 mod DueLemmas

@@ -141,15 +141,19 @@ unwatch (Some w) i d = nothing (record d { watches = slice_set d.watches i None 
 
 -- ---- attributes
 
-abbrev pub add_attribute : Result (List ℕ) Trap → ℕ → List (List ℕ × List ℕ) → Inventory → Done
-add_attribute (Err t) default attrs d = fails t d
-add_attribute (Ok name) default attrs d = gives (length d.attributes) (record d { attributes = d.attributes ++ attr_value name default attrs ∷ [] })
+abbrev pub attribute_from : Result (List ℕ) Trap → ℕ → List (List ℕ × List ℕ) → Result ℕ Trap
+attribute_from (Err t) default attrs = Err t
+attribute_from (Ok name) default attrs = Ok (attr_value name default attrs)
+
+abbrev pub add_attribute : Result ℕ Trap → Inventory → Done
+add_attribute (Err t) d = fails t d
+add_attribute (Ok n) d = gives (length d.attributes) (record d { attributes = d.attributes ++ n ∷ [] })
 
 -- name's address, default; answers the id
 abbrev pub attr_init : Moment → ℕ → ℕ → Mem → Inventory → Done
 attr_init a addr default m d =
     if not a.init then fails traps.HostPhase d
-    else if nat_lt (length d.attributes) 64 then add_attribute (text_in 64 (drop addr m.bytes)) default a.given.attrs d
+    else if nat_lt (length d.attributes) 64 then add_attribute (attribute_from (text_in 64 (drop addr m.bytes)) default a.given.attrs) d
     else fails traps.HostLimit d
 
 abbrev pub read_attribute : ℕ → Inventory → Done
@@ -177,35 +181,44 @@ engine_of base id d = if nat_lt id 8 then engine_at d (base + id) else None
 abbrev pub given_pin : Inventory → ℕ → Option ℕ
 given_pin d i = option_map (λ (p : Pin). i) (pin_at d i)
 
-abbrev pub and_then : {X Y : Type 0} → Result X Trap → (X → Result Y Trap) → Result Y Trap
-and_then (Ok x) f = f x
-and_then (Err t) f = Err t
-
 abbrev pub no_calls : Callbacks
 no_calls = record { received = 0; sent = 0; done = 0; connect = 0; read = 0; write = 0; disconnect = 0 }
 
--- user, rx, tx, baud, rx_data, write_done
+-- A configuration is words, one after the other, and is read up to the first that is outside of the memory.
+abbrev pub both : {X Y : Type 0} → Result X Trap → Result Y Trap → Result (X × Y) Trap
+both (Ok x) (Ok y) = Ok (x, y)
+both (Ok x) (Err t) = Err t
+both (Err t) r = Err t
+
+abbrev pub two_words : Mem → ℕ → ℕ → Result (ℕ × ℕ) Trap
+two_words m addr from = both (word_at m (addr + from)) (word_at m (addr + (from + 4)))
+
+abbrev pub four_words : Mem → ℕ → ℕ → Result ((ℕ × ℕ) × (ℕ × ℕ)) Trap
+four_words m addr from = both (two_words m addr from) (two_words m addr (from + 8))
+
+abbrev pub with_two : {X : Type 0} → Result (ℕ × ℕ) Trap → (ℕ → ℕ → Result X Trap) → Result X Trap
+with_two (Ok w) f = f w.0 w.1
+with_two (Err t) f = Err t
+
+abbrev pub with_four : {X : Type 0} → Result ((ℕ × ℕ) × (ℕ × ℕ)) Trap → (ℕ → ℕ → ℕ → ℕ → Result X Trap) → Result X Trap
+with_four (Ok w) f = f w.0.0 w.0.1 w.1.0 w.1.1
+with_four (Err t) f = Err t
+
 abbrev pub uart_from : Mem → ℕ → Inventory → Result Engine Trap
 uart_from m addr d =
-    and_then (word_at m (addr + 0)) (λ (user : ℕ). and_then (word_at m (addr + 4)) (λ (rx : ℕ). and_then (word_at m (addr + 8)) (λ (tx : ℕ).
-    and_then (word_at m (addr + 12)) (λ (baud : ℕ). and_then (word_at m (addr + 16)) (λ (received : ℕ). and_then (word_at m (addr + 20)) (λ (sent : ℕ).
-    Ok (new_engine (uart_of baud) (record { first = given_pin d rx; second = None; out = given_pin d tx }) user (record no_calls { received = received; sent = sent }))))))))
+    with_four (four_words m addr 0) (λ (user rx tx baud : ℕ). with_two (two_words m addr 16) (λ (received sent : ℕ).
+    Ok (new_engine (uart_of baud) (record { first = given_pin d rx; second = None; out = given_pin d tx }) user (record no_calls { received = received; sent = sent }))))
 
--- user, sck, mosi, miso, mode, done
 abbrev pub spi_from : Mem → ℕ → Inventory → Result Engine Trap
 spi_from m addr d =
-    and_then (word_at m (addr + 0)) (λ (user : ℕ). and_then (word_at m (addr + 4)) (λ (sck : ℕ). and_then (word_at m (addr + 8)) (λ (mosi : ℕ).
-    and_then (word_at m (addr + 12)) (λ (miso : ℕ). and_then (word_at m (addr + 16)) (λ (mode : ℕ). and_then (word_at m (addr + 20)) (λ (done : ℕ).
-    Ok (new_engine (spi_of mode) (record { first = given_pin d sck; second = given_pin d mosi; out = given_pin d miso }) user (record no_calls { done = done }))))))))
+    with_four (four_words m addr 0) (λ (user sck mosi miso : ℕ). with_two (two_words m addr 16) (λ (mode done : ℕ).
+    Ok (new_engine (spi_of mode) (record { first = given_pin d sck; second = given_pin d mosi; out = given_pin d miso }) user (record no_calls { done = done }))))
 
--- user, address, scl, sda, connect, read, write, disconnect
 abbrev pub i2c_from : Mem → ℕ → Inventory → Result Engine Trap
 i2c_from m addr d =
-    and_then (word_at m (addr + 0)) (λ (user : ℕ). and_then (word_at m (addr + 4)) (λ (address : ℕ). and_then (word_at m (addr + 8)) (λ (scl : ℕ).
-    and_then (word_at m (addr + 12)) (λ (sda : ℕ). and_then (word_at m (addr + 16)) (λ (connect : ℕ). and_then (word_at m (addr + 20)) (λ (read : ℕ).
-    and_then (word_at m (addr + 24)) (λ (write : ℕ). and_then (word_at m (addr + 28)) (λ (disconnect : ℕ).
+    with_four (four_words m addr 0) (λ (user address scl sda : ℕ). with_four (four_words m addr 16) (λ (connect read write disconnect : ℕ).
     Ok (new_engine (i2c_of address) (record { first = given_pin d scl; second = given_pin d sda; out = given_pin d sda }) user
-    (record no_calls { connect = connect; read = read; write = write; disconnect = disconnect }))))))))))
+    (record no_calls { connect = connect; read = read; write = write; disconnect = disconnect }))))
 
 abbrev pub init_engine : Option ℕ → ℕ → Result Engine Trap → Inventory → Done
 init_engine None base read d = fails traps.HostLimit d

@@ -1,3 +1,5 @@
+pub mod Arguments
+pub mod Rooms
 pub mod Hosts
 pub mod Inventory
 pub mod Attributes

@@ -1,10 +1,17 @@
 //! The values of a chip's attributes.
 ghost use Rattle.std.specs.Prelude.{◌≡◌, ◌<◌, ◌^◌, IfSome, option_map};
+ghost use Rattle.std.specs.Str.{bytes_eq};
 ghost use Rattle.part_catalog.specs.Attributes.{attribute};
 ghost use Rattle.chip_host.specs.Attributes.{below_zero, up_from_zero, whole_number, attr_value};
 
 use numerals::read_numeral;
 use sim_base::Text;
+
+pub(crate) fn is_same(a: &[u8], b: &[u8]) -> bool
+    ensures { result ≡ bytes_eq a.now b.now }
+{
+    a == b
+}
 
 /// The text of an attribute, the later one where there are several.
 fn text_of<'a>(name: &[u8], attrs: &'a [(Text, Text)]) -> Option<&'a [u8]>
@@ -12,7 +19,7 @@ fn text_of<'a>(name: &[u8], attrs: &'a [(Text, Text)]) -> Option<&'a [u8]>
 {
     let mut found: Option<&'a [u8]> = None;
     for (key, text) in attrs {
-        if key.as_str().as_bytes() == name {
+        if is_same(key.as_str().as_bytes(), name) {
             found = Some(text.as_str().as_bytes());
         }
     }

@@ -6,6 +6,7 @@ ghost use Rattle.chip_abi.specs.Imports.{imports_of};
 ghost use Rattle.chip_host.specs.Chip.{IsOver, start_state};
 
 use crate::death::Death;
+use crate::room::filled;
 use crate::shown::{show, turn};
 use crate::turns::Turns;
 use chip_abi::ImportMap;
@@ -40,12 +41,6 @@ impl Model for Chip {
     } };
 }
 
-fn no_drives(alloc: Global, count: usize) -> Result<Vec<Drive>, OutOfMemory>
-    ensures { IfOk result (λ v. length v.items ≡ count) }
-{
-    Ok(vec![in alloc; Drive::Z; count]?)
-}
-
 impl Chip {
     /// A chip at cycle 0, behind the start function and `chipInit`, each with the full budget; its pins by their positions,
     /// the attributes that the diagram gives it, and the size of its display, if it has one. It takes all memory that its
@@ -67,7 +62,7 @@ impl Chip {
     {
         let count = pins.len();
         let turns = Turns::new(alloc, valid, map, pins, attrs, budget, display)?;
-        match no_drives(alloc, count) {
+        match filled(alloc, Drive::Z, count) {
             Ok(mut shown) => {
                 let moved = show(&turns, &mut shown, Span::all());
                 Ok(Chip {

@@ -5,7 +5,7 @@ ghost use Rattle.wasm_code.specs.declared.types.ValType.TheVariants as types;
 ghost use Rattle.wasm_eval.specs.Values.{HasTypes};
 ghost use Rattle.chip_engines.specs.Engine.{IsEngine};
 ghost use Rattle.chip_host.specs.Inventory.{left};
-ghost use Rattle.chip_host.specs.HostCall.{engine_of, given_pin, no_calls, uart_from, spi_from, i2c_from, engine_init, write_uart, start_spi, stop_spi, uarts, spis, i2cs};
+ghost use Rattle.chip_host.specs.HostCall.{engine_of, given_pin, no_calls, two_words, four_words, uart_from, spi_from, i2c_from, engine_init, write_uart, start_spi, stop_spi, uarts, spis, i2cs};
 
 use crate::host::ChipHost;
 use chip_abi::read_word;
@@ -31,6 +31,24 @@ fn no_calls() -> Callbacks
         write: 0,
         disconnect: 0,
     }
+}
+
+fn two_words(memory: &Memory, addr: u32, from: u32) -> Result<(u32, u32), Trap>
+    requires { from < 32 }
+    ensures { result ≡ two_words memory.now addr from }
+{
+    let first = read_word(memory, addr, from)?;
+    let second = read_word(memory, addr, from + 4)?;
+    Ok((first, second))
+}
+
+fn four_words(memory: &Memory, addr: u32, from: u32) -> Result<((u32, u32), (u32, u32)), Trap>
+    requires { from < 24 }
+    ensures { result ≡ four_words memory.now addr from }
+{
+    let first = two_words(memory, addr, from)?;
+    let second = two_words(memory, addr, from + 8)?;
+    Ok((first, second))
 }
 
 impl ChipHost {
@@ -62,12 +80,8 @@ impl ChipHost {
         ensures value { result ≡ uart_from memory.now addr self.now.inventory }
         ensures sound { IfOk result IsEngine }
     {
-        let user = read_word(memory, addr, 0)?;
-        let rx = read_word(memory, addr, 4)?;
-        let tx = read_word(memory, addr, 8)?;
-        let baud = read_word(memory, addr, 12)?;
-        let received = read_word(memory, addr, 16)?;
-        let sent = read_word(memory, addr, 20)?;
+        let ((user, rx), (tx, baud)) = four_words(memory, addr, 0)?;
+        let (received, sent) = two_words(memory, addr, 16)?;
         let pins = Pins {
             first: self.given_pin(rx),
             second: None,
@@ -85,12 +99,8 @@ impl ChipHost {
         ensures value { result ≡ spi_from memory.now addr self.now.inventory }
         ensures sound { IfOk result IsEngine }
     {
-        let user = read_word(memory, addr, 0)?;
-        let sck = read_word(memory, addr, 4)?;
-        let mosi = read_word(memory, addr, 8)?;
-        let miso = read_word(memory, addr, 12)?;
-        let mode = read_word(memory, addr, 16)?;
-        let done = read_word(memory, addr, 20)?;
+        let ((user, sck), (mosi, miso)) = four_words(memory, addr, 0)?;
+        let (mode, done) = two_words(memory, addr, 16)?;
         let pins = Pins {
             first: self.given_pin(sck),
             second: self.given_pin(mosi),
@@ -104,14 +114,8 @@ impl ChipHost {
         ensures value { result ≡ i2c_from memory.now addr self.now.inventory }
         ensures sound { IfOk result IsEngine }
     {
-        let user = read_word(memory, addr, 0)?;
-        let address = read_word(memory, addr, 4)?;
-        let scl = read_word(memory, addr, 8)?;
-        let sda = read_word(memory, addr, 12)?;
-        let connect = read_word(memory, addr, 16)?;
-        let read = read_word(memory, addr, 20)?;
-        let write = read_word(memory, addr, 24)?;
-        let disconnect = read_word(memory, addr, 28)?;
+        let ((user, address), (scl, sda)) = four_words(memory, addr, 0)?;
+        let ((connect, read), (write, disconnect)) = four_words(memory, addr, 16)?;
         let pins = Pins {
             first: self.given_pin(scl),
             second: self.given_pin(sda),

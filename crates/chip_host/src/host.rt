@@ -1,23 +1,24 @@
 //! The host that a chip's module imports from.
-ghost use Rattle.std.specs.Prelude.{◌≡◌, ℕ, ◌<◌, ◌≤◌, ◌==◌, ◌+◌, ◌*◌, [], ◌∷◌, not, length, map, IfOk, IfSome, Some, slice_get, slice_set, option_map, option_to_list, replicate, None, false};
+ghost use Rattle.std.specs.Prelude.{◌≡◌, ℕ, ◌<◌, ◌≤◌, ◌==◌, ◌+◌, ◌++◌, ◌*◌, [], ◌∷◌, not, length, map, drop, IfOk, IfSome, Some, slice_get, slice_set, option_map, option_to_list, None, false};
 ghost use Rattle.std.specs.List.{position_from};
-ghost use Rattle.std.specs.Vec.{vec_capacity};
 ghost use Rattle.wasm_code.specs.declared.types.ValType.TheVariants as types;
 ghost use Rattle.wasm_eval.specs.Values.{HasTypes};
 ghost use Rattle.chip_host.specs.Inventory.{HostState, left, pin_at, watch_at, engine_at, out_pin, with_mode, drive_of, pin_drives};
 ghost use Rattle.chip_abi.specs.HostNames.{type_of_name};
-ghost use Rattle.chip_abi.specs.Reading.{word_at};
+ghost use Rattle.chip_abi.specs.Reading.{word_at, text_in};
 ghost use Rattle.chip_host.specs.FirstDue.{first_due};
 ghost use Rattle.chip_host.specs.Turned.{HasTurned};
-ghost use Rattle.sim_base.specs.declared.signal.Level.TheVariants as levels;
 ghost use Rattle.chip_host.specs.Chip.{first_host};
-ghost use Rattle.chip_output.specs.Output.{new_output, picture};
-ghost use Rattle.chip_host.specs.HostCall.{has_name, kept, set_pin, pin_init, read_pin, write_pin, watch_pin, watch_from, timer_init, timer_from, start_timer, stop_timer, mode_pin, unwatch, started, level_of, attr_init, read_attribute, set_engine, free_id, host_does, host_at};
+ghost use Rattle.chip_output.specs.Output.{picture};
+ghost use Rattle.chip_host.specs.HostCall.{has_name, kept, set_pin, pin_init, read_pin, write_pin, watch_pin, watch_from, timer_init, timer_from, start_timer, stop_timer, mode_pin, unwatch, started, level_of, attribute_from, attr_init, read_attribute, set_engine, free_id, host_does, host_at};
 ghost use Rattle.chip_engines.specs.Engine.{IsEngine};
 ghost use Rattle.chip_engines.specs.FirstDue.{earlier, first_engine};
 
-use crate::attributes::attr_value;
+use crate::arguments::{none, one, three, two, with_long};
+use crate::attributes::{attr_value, is_same};
+use crate::lists::read_or;
 use crate::pin::{Pin, drive_of, with_mode};
+use crate::room::Room;
 use crate::timer::{Delay, Timer, first_due, started, stopped};
 use crate::watch::Watch;
 use chip_abi::{HostName, ImportMap, read_string, read_word};
@@ -89,7 +90,7 @@ fn has_name(text: &[u8], name: &Option<Name>) -> bool
     ensures { result ≡ has_name text.now name.now }
 {
     match name {
-        Some(name) => text == name.bytes(),
+        Some(name) => is_same(text, name.bytes()),
         None => false,
     }
 }
@@ -176,10 +177,7 @@ impl ChipHost {
     fn level(&self, i: u32) -> Level
         ensures { result ≡ level_of self.now.moment.levels i }
     {
-        match self.levels.as_slice().get(i as usize) {
-            Some(level) => *level,
-            None => Level::Z,
-        }
+        read_or(self.levels.as_slice(), i as usize, Level::Z)
     }
 
     fn pin_init(&mut self, addr: u32, mode: u32, memory: &Memory) -> Result<Option<Value>, Trap>
@@ -249,6 +247,16 @@ impl ChipHost {
         }
     }
 
+    fn push_timer(&mut self, timer: Timer)
+        requires { length self.old.inventory.timers < 32 }
+        ensures { self.new ≡ left self.old (record self.old.inventory { timers = self.old.inventory.timers ++ timer ∷ [] }) }
+    {
+        match self.timers.push(timer) {
+            Ok(()) => {}
+            Err(_) => unreachable!(),
+        }
+    }
+
     fn timer_init(&mut self, addr: u32, memory: &Memory) -> Result<Option<Value>, Trap>
         ensures answer { result ≡ (timer_init self.old.moment addr memory.now self.old.inventory).answer }
         ensures after { self.new ≡ left self.old (timer_init self.old.moment addr memory.now self.old.inventory).inventory }
@@ -264,10 +272,8 @@ impl ChipHost {
         match read_timer(memory, addr) {
             Err(trap) => Err(trap),
             Ok(timer) => {
-                match self.timers.push(timer) {
-                    Ok(()) => Ok(Some(Value::I32(id as u32))),
-                    Err(_) => unreachable!(),
-                }
+                self.push_timer(timer);
+                Ok(Some(Value::I32(id as u32)))
             }
         }
     }
@@ -277,9 +283,8 @@ impl ChipHost {
         ensures after { self.new ≡ left self.old (start_timer (slice_get self.old.inventory.timers id) id self.old.moment.now delay again self.old.inventory).inventory }
         ensures gives { IfOk result (λ v. HasTypes (option_to_list v) []) }
     {
-        let now = self.cycle;
-        if (id as usize) < self.timers.len() {
-            self.timers[id as usize] = started(now, delay, again, self.timers[id as usize]);
+        if let Some(timer) = self.timer(id as usize) {
+            self.set_timer(id as usize, started(self.cycle, delay, again, timer));
         }
         Ok(None)
     }
@@ -291,8 +296,8 @@ impl ChipHost {
         ensures after { self.new ≡ left self.old (stop_timer (slice_get self.old.inventory.timers id) id self.old.inventory).inventory }
         ensures gives { IfOk result (λ v. HasTypes (option_to_list v) []) }
     {
-        if (id as usize) < self.timers.len() {
-            self.timers[id as usize] = stopped(self.timers[id as usize]);
+        if let Some(timer) = self.timer(id as usize) {
+            self.set_timer(id as usize, stopped(timer));
         }
         Ok(None)
     }
@@ -319,6 +324,26 @@ impl ChipHost {
         Ok(None)
     }
 
+    // The value of the attribute whose name is at an address.
+    fn attribute(&self, addr: u32, default: u32, memory: &Memory) -> Result<u32, Trap>
+        ensures { result ≡ attribute_from (text_in 64 (drop addr memory.now.bytes)) default self.now.moment.given.attrs }
+    {
+        match read_string(memory, addr) {
+            Ok(name) => Ok(attr_value(name, default, self.attrs.as_slice())),
+            Err(trap) => Err(trap),
+        }
+    }
+
+    fn push_attribute(&mut self, value: u32)
+        requires { length self.old.inventory.attributes < 64 }
+        ensures { self.new ≡ left self.old (record self.old.inventory { attributes = self.old.inventory.attributes ++ value ∷ [] }) }
+    {
+        match self.attributes.push(value) {
+            Ok(()) => {}
+            Err(_) => unreachable!(),
+        }
+    }
+
     fn attr_init(&mut self, addr: u32, default: u32, memory: &Memory) -> Result<Option<Value>, Trap>
         ensures answer { result ≡ (attr_init self.old.moment addr default memory.now self.old.inventory).answer }
         ensures after { self.new ≡ left self.old (attr_init self.old.moment addr default memory.now self.old.inventory).inventory }
@@ -331,14 +356,11 @@ impl ChipHost {
         if id >= 64 {
             return Err(Trap::HostLimit);
         }
-        match read_string(memory, addr) {
+        match self.attribute(addr, default, memory) {
             Err(trap) => Err(trap),
-            Ok(name) => {
-                let value = attr_value(name, default, self.attrs.as_slice());
-                match self.attributes.push(value) {
-                    Ok(()) => Ok(Some(Value::I32(id as u32))),
-                    Err(_) => unreachable!(),
-                }
+            Ok(value) => {
+                self.push_attribute(value);
+                Ok(Some(Value::I32(id as u32)))
             }
         }
     }
@@ -348,10 +370,8 @@ impl ChipHost {
         ensures after { self.now.inventory ≡ (read_attribute id self.now.inventory).inventory }
         ensures gives { IfOk result (λ v. HasTypes (option_to_list v) (types.I32 ∷ [])) }
     {
-        match self.attributes.as_slice().get(id as usize) {
-            Some(value) => Ok(Some(Value::I32(*value))),
-            None => Ok(Some(Value::I32(0))),
-        }
+        let value = read_or(self.attributes.as_slice(), id as usize, 0);
+        Ok(Some(Value::I32(value)))
     }
 
     /// A function of the host that leaves the memory.
@@ -367,151 +387,58 @@ impl ChipHost {
         ensures gives { IfOk result (λ v. HasTypes (option_to_list v) (type_of_name name).results) }
     {
         match name {
-            HostName::PinInit => match args {
-                [Value::I32(addr), Value::I32(mode)] => self.pin_init(*addr, *mode, memory),
-                _ => Err(Trap::Unreachable),
-            },
-            HostName::PinRead => match args {
-                [Value::I32(i)] => self.pin_read(*i),
-                _ => Err(Trap::Unreachable),
-            },
-            HostName::PinWrite => match args {
-                [Value::I32(i), Value::I32(value)] => self.pin_write(*i, *value != 0),
-                _ => Err(Trap::Unreachable),
-            },
-            HostName::PinWatch => match args {
-                [Value::I32(i), Value::I32(addr)] => self.pin_watch(*i, *addr, memory),
-                _ => Err(Trap::Unreachable),
-            },
-            HostName::AttrInit => match args {
-                [Value::I32(addr), Value::I32(default)] => self.attr_init(*addr, *default, memory),
-                _ => Err(Trap::Unreachable),
-            },
-            HostName::AttrRead => match args {
-                [Value::I32(id)] => self.attr_read(*id),
-                _ => Err(Trap::Unreachable),
-            },
-            HostName::TimerInit => match args {
-                [Value::I32(addr)] => self.timer_init(*addr, memory),
-                _ => Err(Trap::Unreachable),
-            },
-            HostName::TimerStart => match args {
-                [Value::I32(id), Value::I32(x), Value::I32(again)] => {
-                    self.timer_start(*id, Delay::Micros(*x), *again != 0)
-                }
-                _ => Err(Trap::Unreachable),
-            },
-            HostName::GetSimNanos => match args {
-                [] => Ok(Some(Value::I64(125 * u64::from(self.cycle) / 2))),
-                _ => Err(Trap::Unreachable),
-            },
-            HostName::PinMode => match args {
-                [Value::I32(i), Value::I32(mode)] => self.pin_mode(*i, *mode),
-                _ => Err(Trap::Unreachable),
-            },
-            HostName::PinWatchStop => match args {
-                [Value::I32(i)] => self.pin_watch_stop(*i),
-                _ => Err(Trap::Unreachable),
-            },
-            HostName::TimerStartNanos => match args {
-                [Value::I32(id), Value::I64(x), Value::I32(again)] => {
-                    self.timer_start(*id, Delay::Nanos(*x), *again != 0)
-                }
-                _ => Err(Trap::Unreachable),
-            },
-            HostName::TimerStop => match args {
-                [Value::I32(id)] => self.timer_stop(*id),
-                _ => Err(Trap::Unreachable),
-            },
-            HostName::UartInit => match args {
-                [Value::I32(addr)] => self.uart_init(*addr, memory),
-                _ => Err(Trap::Unreachable),
-            },
-            HostName::UartWrite => match args {
-                [Value::I32(id), Value::I32(buffer), Value::I32(count)] => {
-                    self.uart_write(*id, *buffer, *count, memory)
-                }
-                _ => Err(Trap::Unreachable),
-            },
-            HostName::SpiInit => match args {
-                [Value::I32(addr)] => self.spi_init(*addr, memory),
-                _ => Err(Trap::Unreachable),
-            },
-            HostName::SpiStart => match args {
-                [Value::I32(id), Value::I32(buffer), Value::I32(count)] => {
-                    self.spi_start(*id, *buffer, *count, memory)
-                }
-                _ => Err(Trap::Unreachable),
-            },
-            HostName::SpiStop => match args {
-                [Value::I32(id)] => self.spi_stop(*id),
-                _ => Err(Trap::Unreachable),
-            },
-            HostName::I2cInit => match args {
-                [Value::I32(addr)] => self.i2c_init(*addr, memory),
-                _ => Err(Trap::Unreachable),
-            },
+            HostName::PinInit => {
+                let (addr, mode) = two(args);
+                self.pin_init(addr, mode, memory)
+            }
+            HostName::PinRead => self.pin_read(one(args)),
+            HostName::PinWrite => {
+                let (i, value) = two(args);
+                self.pin_write(i, value != 0)
+            }
+            HostName::PinWatch => {
+                let (i, addr) = two(args);
+                self.pin_watch(i, addr, memory)
+            }
+            HostName::AttrInit => {
+                let (addr, default) = two(args);
+                self.attr_init(addr, default, memory)
+            }
+            HostName::AttrRead => self.attr_read(one(args)),
+            HostName::TimerInit => self.timer_init(one(args), memory),
+            HostName::TimerStart => {
+                let (id, x, again) = three(args);
+                self.timer_start(id, Delay::Micros(x), again != 0)
+            }
+            HostName::GetSimNanos => {
+                none(args);
+                Ok(Some(Value::I64(125 * u64::from(self.cycle) / 2)))
+            }
+            HostName::PinMode => {
+                let (i, mode) = two(args);
+                self.pin_mode(i, mode)
+            }
+            HostName::PinWatchStop => self.pin_watch_stop(one(args)),
+            HostName::TimerStartNanos => {
+                let (id, x, again) = with_long(args);
+                self.timer_start(id, Delay::Nanos(x), again != 0)
+            }
+            HostName::TimerStop => self.timer_stop(one(args)),
+            HostName::UartInit => self.uart_init(one(args), memory),
+            HostName::UartWrite => {
+                let (id, buffer, count) = three(args);
+                self.uart_write(id, buffer, count, memory)
+            }
+            HostName::SpiInit => self.spi_init(one(args), memory),
+            HostName::SpiStart => {
+                let (id, buffer, count) = three(args);
+                self.spi_start(id, buffer, count, memory)
+            }
+            HostName::SpiStop => self.spi_stop(one(args)),
+            HostName::I2cInit => self.i2c_init(one(args), memory),
             HostName::Output(_) => Err(Trap::Unreachable),
         }
     }
-}
-
-pub fn levels_z(alloc: Global, count: usize) -> Result<Vec<Level>, OutOfMemory>
-    ensures { IfOk result (λ v. v.items ≡ replicate count levels.Z) }
-{
-    Ok(vec![in alloc; Level::Z; count]?)
-}
-
-fn no_pins(alloc: Global, count: usize) -> Result<Vec<Option<Pin>>, OutOfMemory>
-    ensures { IfOk result (λ v. v.items ≡ replicate count None) }
-{
-    Ok(vec![in alloc; None; count]?)
-}
-
-fn no_watches(alloc: Global, count: usize) -> Result<Vec<Option<Watch>>, OutOfMemory>
-    ensures { IfOk result (λ v. v.items ≡ replicate count None) }
-{
-    Ok(vec![in alloc; None; count]?)
-}
-
-fn no_engines(alloc: Global) -> Result<Vec<Option<Engine>>, OutOfMemory>
-    ensures { IfOk result (λ v. v.items ≡ replicate 24 None) }
-{
-    Ok(vec![in alloc; None; 24]?)
-}
-
-// What a host keeps beside what it is given.
-#[derive(Drop)]
-struct Room {
-    levels: Vec<Level>,
-    pins: Vec<Option<Pin>>,
-    watches: Vec<Option<Watch>>,
-    timers: Vec<Timer>,
-    attributes: Vec<u32>,
-    engines: Vec<Option<Engine>>,
-    output: Output,
-}
-
-fn make_room(alloc: Global, count: usize, display: &Option<Display>) -> Result<Room, OutOfMemory>
-    ensures levels { IfOk result (λ r. r.levels.items ≡ replicate count levels.Z) }
-    ensures pins { IfOk result (λ r. r.pins.items ≡ replicate count None) }
-    ensures watches { IfOk result (λ r. r.watches.items ≡ replicate count None) }
-    ensures timers { IfOk result (λ r. r.timers.items ≡ []) }
-    ensures timer_room { IfOk result (λ r. 32 ≤ vec_capacity r.timers) }
-    ensures attributes { IfOk result (λ r. r.attributes.items ≡ []) }
-    ensures attribute_room { IfOk result (λ r. 64 ≤ vec_capacity r.attributes) }
-    ensures engines { IfOk result (λ r. r.engines.items ≡ replicate 24 None) }
-    ensures output { IfOk result (λ r. r.output ≡ new_output display.now) }
-{
-    Ok(Room {
-        levels: levels_z(alloc, count)?,
-        pins: no_pins(alloc, count)?,
-        watches: no_watches(alloc, count)?,
-        timers: Vec::with_capacity(alloc, 32)?,
-        attributes: Vec::with_capacity(alloc, 64)?,
-        engines: no_engines(alloc)?,
-        output: Output::new(alloc, *display)?,
-    })
 }
 
 impl ChipHost {
@@ -526,7 +453,7 @@ impl ChipHost {
         requires { length names ≤ 64 }
         ensures { IfOk result (λ c. c ≡ first_host (record { table = map; names = names; attrs = attrs; display = display })) }
     {
-        match make_room(alloc, names.len(), &display) {
+        match Room::new(alloc, names.len(), &display) {
             Ok(room) => Ok(ChipHost {
                 map,
                 names,
@@ -651,8 +578,11 @@ impl ChipHost {
         ensures { result ≡ out_pin (engine_at self.now.inventory place) }
     {
         match self.engines.as_slice().get(place) {
-            Some(Some(engine)) => engine.pins.out,
-            _ => None,
+            Some(engine) => match engine {
+                Some(engine) => engine.pins.out,
+                None => None,
+            },
+            None => None,
         }
     }
 

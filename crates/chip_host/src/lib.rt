@@ -4,13 +4,16 @@
 //! Only `Chip::new` takes memory.
 #![tactic(auto)]
 
+mod arguments;
 mod attributes;
 mod calls;
 mod chip;
 mod death;
 mod engines;
 mod host;
+mod lists;
 mod pin;
+mod room;
 mod shown;
 mod span;
 mod timer;

@@ -5,7 +5,7 @@ ghost use Rattle.chip_host.specs.Inventory.{with_mode, drive_of};
 use sim_base::Drive;
 
 /// What a pin drives, beside its kept value.
-#[derive(Clone, Copy, Debug, PartialEq, Eq)]
+#[derive(Clone, Copy)]
 pub enum Mode {
     Input,
     Output,
@@ -14,7 +14,7 @@ pub enum Mode {
 }
 
 /// A pin that `pinInit` gave, with the value that it keeps.
-#[derive(Clone, Copy, Debug, PartialEq, Eq)]
+#[derive(Clone, Copy)]
 pub struct Pin {
     pub mode: Mode,
     pub high: bool,

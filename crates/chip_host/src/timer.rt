@@ -7,14 +7,14 @@ ghost use Rattle.chip_host.specs.FirstDue.{first_due};
 use chip_engines::{due_from, earlier};
 
 /// A delay, as it was asked.
-#[derive(Clone, Copy, Debug, PartialEq, Eq)]
+#[derive(Clone, Copy)]
 pub enum Delay {
     Micros(u32),
     Nanos(u64),
 }
 
 /// A timer: the cycle in which it is due, and the delay after which it is due again.
-#[derive(Clone, Copy, Debug, PartialEq, Eq)]
+#[derive(Clone, Copy)]
 pub struct Timer {
     pub user: u32,
     pub callback: u32,

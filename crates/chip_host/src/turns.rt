@@ -11,7 +11,9 @@ ghost use Rattle.chip_engines.specs.Engine.{IsEngine};
 
 use crate::calls::{ask_slot, call_slot, init_of, run_both, start_of};
 use crate::death::Death;
-use crate::host::{ChipHost, levels_z};
+use crate::host::ChipHost;
+use crate::lists::read_or;
+use crate::room::filled;
 use crate::span::{all_if, both, out_span, request_span};
 use crate::timer::{again, is_at};
 use crate::watch::{is_edge, reading};
@@ -91,7 +93,7 @@ impl Turns {
                 return Err(e);
             }
         };
-        let before = match levels_z(alloc, count) {
+        let before = match filled(alloc, Level::Z, count) {
             Ok(before) => before,
             Err(e) => {
                 drop(host);
@@ -270,10 +272,7 @@ impl Turns {
     fn fetch(&self, addr: u32) -> u8
         ensures { result ≡ byte_in self.now.chip.running.memory addr }
     {
-        match self.instance.memory().as_slice().get(addr as usize) {
-            Some(byte) => *byte,
-            None => 0,
-        }
+        read_or(self.instance.memory().as_slice(), addr as usize, 0)
     }
 
     fn store(&mut self, addr: u32, byte: u8)

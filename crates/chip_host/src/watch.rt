@@ -2,10 +2,11 @@
 ghost use Rattle.std.specs.Prelude.{◌≡◌};
 ghost use Rattle.chip_host.specs.Chip.{is_edge, reading};
 
+use crate::lists::read_or;
 use sim_base::{Level, reads_one};
 
 /// A watch on a pin: 1 rising edges, 2 falling ones, 3 both.
-#[derive(Clone, Copy, Debug, PartialEq, Eq)]
+#[derive(Clone, Copy)]
 pub struct Watch {
     pub user: u32,
     pub edge: u32,
@@ -26,8 +27,5 @@ pub(crate) fn is_edge(edge: u32, before: bool, now: bool) -> bool
 pub(crate) fn reading(levels: &[Level], i: usize) -> bool
     ensures { result ≡ reading levels.now i }
 {
-    match levels.get(i) {
-        Some(level) => reads_one(*level),
-        None => false,
-    }
+    reads_one(read_or(levels, i, Level::Z))
 }

@@ -28,7 +28,7 @@ use Rattle.chip_host.specs.declared.timer.Delay.{Delay}
 use Rattle.chip_host.specs.declared.timer.Delay.TheVariants as delays
 use Rattle.chip_host.specs.Inventory.{Inventory, Moment, HostState, joined, pin_at, engine_at, with_mode}
 use Rattle.chip_host.specs.HostCall as calls
-use Rattle.chip_host.specs.HostCall.{Done, and_then, given_pin, uart_from, spi_from, i2c_from, engine_of, set_engine, set_pin, host_at, host_does, call_does, answers, kept}
+use Rattle.chip_host.specs.HostCall.{Done, two_words, four_words, with_two, with_four, given_pin, uart_from, spi_from, i2c_from, engine_of, set_engine, set_pin, host_at, host_does, call_does, answers, kept}
 use Rattle.chip_law.specs.Named.{has_name, is_named, is_at, is_off, IsFree}
 
 -- ---- lists
@@ -173,14 +173,14 @@ module _ (named : List (Option (List ℕ))) (i : ℕ) (un : is_named named i ≡
   stop_on None id d on = on
   stop_on (Some x) id d on = record { pin = on.pin; engines = on.engines }
 
-  add_attribute_on : (r : Result (List ℕ) Trap) (default : ℕ) (attrs : List (List ℕ × List ℕ)) (d : Inventory) → IsFree i d → IsFree i (calls.add_attribute r default attrs d).inventory
-  add_attribute_on (Err t) default attrs d on = on
-  add_attribute_on (Ok name) default attrs d on = record { pin = on.pin; engines = on.engines }
+  add_attribute_on : (r : Result ℕ Trap) (d : Inventory) → IsFree i d → IsFree i (calls.add_attribute r d).inventory
+  add_attribute_on (Err t) d on = on
+  add_attribute_on (Ok n) d on = record { pin = on.pin; engines = on.engines }
 
   attr_init_on : (a : Moment) (addr default : ℕ) (m : Mem) (d : Inventory) → IsFree i d → IsFree i (calls.attr_init a addr default m d).inventory
   attr_init_on a addr default m d on =
       either_on (not a.init) (calls.fails traps.HostPhase d) _ on
-      (either_on (nat_lt (length d.attributes) 64) _ (calls.fails traps.HostLimit d) (add_attribute_on (text_in 64 (drop addr m.bytes)) default a.given.attrs d on) on)
+      (either_on (nat_lt (length d.attributes) 64) _ (calls.fails traps.HostLimit d) (add_attribute_on (calls.attribute_from (text_in 64 (drop addr m.bytes)) default a.given.attrs) d on) on)
 
   -- ---- engines
 
@@ -189,9 +189,13 @@ module _ (named : List (Option (List ℕ))) (i : ℕ) (un : is_named named i ≡
   IsReadOff (Ok e) = IsOff (Some e)
   IsReadOff (Err t) = Unit {0}
 
-  then_off : {X : Type 0} (r : Result X Trap) (f : X → Result Engine Trap) → ((x : X) → IsReadOff (f x)) → IsReadOff (and_then r f)
-  then_off (Ok x) f all = all x
-  then_off (Err t) f all = tt
+  two_off : (r : Result (ℕ × ℕ) Trap) (f : ℕ → ℕ → Result Engine Trap) → ((a b : ℕ) → IsReadOff (f a b)) → IsReadOff (with_two r f)
+  two_off (Ok w) f all = all w.0 w.1
+  two_off (Err t) f all = tt
+
+  four_off : (r : Result ((ℕ × ℕ) × (ℕ × ℕ)) Trap) (f : ℕ → ℕ → ℕ → ℕ → Result Engine Trap) → ((a b c d : ℕ) → IsReadOff (f a b c d)) → IsReadOff (with_four r f)
+  four_off (Ok w) f all = all w.0.0 w.0.1 w.1.0 w.1.1
+  four_off (Err t) f all = tt
 
   given_off : (d : Inventory) → IsFree i d → (j : ℕ) → not (is_at i (given_pin d j)) ≡ true
   given_off d on j = go (pin_at d j) refl
@@ -201,20 +205,14 @@ module _ (named : List (Option (List ℕ))) (i : ℕ) (un : is_named named i ≡
       go (Some p) e = not_from_false (j == i) (ne_eqb j i (λ same. given_other d on j p e (sym same)))
 
   uart_off : (m : Mem) (addr : ℕ) (d : Inventory) → IsFree i d → IsReadOff (uart_from m addr d)
-  uart_off m addr d on =
-      then_off (word_at m (addr + 0)) _ (λ user. then_off (word_at m (addr + 4)) _ (λ rx. then_off (word_at m (addr + 8)) _ (λ tx.
-      then_off (word_at m (addr + 12)) _ (λ baud. then_off (word_at m (addr + 16)) _ (λ received. then_off (word_at m (addr + 20)) _ (λ sent. given_off d on tx))))))
+  uart_off m addr d on = four_off (four_words m addr 0) _ (λ user rx tx baud. two_off (two_words m addr 16) _ (λ received sent. given_off d on tx))
 
   spi_off : (m : Mem) (addr : ℕ) (d : Inventory) → IsFree i d → IsReadOff (spi_from m addr d)
-  spi_off m addr d on =
-      then_off (word_at m (addr + 0)) _ (λ user. then_off (word_at m (addr + 4)) _ (λ sck. then_off (word_at m (addr + 8)) _ (λ mosi.
-      then_off (word_at m (addr + 12)) _ (λ miso. then_off (word_at m (addr + 16)) _ (λ mode. then_off (word_at m (addr + 20)) _ (λ done. given_off d on miso))))))
+  spi_off m addr d on = four_off (four_words m addr 0) _ (λ user sck mosi miso. two_off (two_words m addr 16) _ (λ mode done. given_off d on miso))
 
   i2c_off : (m : Mem) (addr : ℕ) (d : Inventory) → IsFree i d → IsReadOff (i2c_from m addr d)
   i2c_off m addr d on =
-      then_off (word_at m (addr + 0)) _ (λ user. then_off (word_at m (addr + 4)) _ (λ address. then_off (word_at m (addr + 8)) _ (λ scl.
-      then_off (word_at m (addr + 12)) _ (λ sda. then_off (word_at m (addr + 16)) _ (λ connect. then_off (word_at m (addr + 20)) _ (λ read.
-      then_off (word_at m (addr + 24)) _ (λ write. then_off (word_at m (addr + 28)) _ (λ disconnect. given_off d on sda))))))))
+      four_off (four_words m addr 0) _ (λ user address scl sda. four_off (four_words m addr 16) _ (λ connect read write disconnect. given_off d on sda))
 
   init_engine_on : (o : Option ℕ) (base : ℕ) (r : Result Engine Trap) (d : Inventory) → IsFree i d → IsReadOff r → IsFree i (calls.init_engine o base r d).inventory
   init_engine_on None base r d on read = on

@@ -32,7 +32,7 @@ invariant_of-result c =
     record {
       hosts = hosts_known c.args.valid.wasm c.run_both-dead.new.instance.wasm given c.end_set_up.new.self.moment c.requires.map wasm (ap (λ (m : Moment). m.given) moment);
       set = ap (λ (m : Moment). m.init) moment;
-      before = ap (λ (ls : List Level). length ls) c.in-Ok-levels_z.ensures ∙ length-replicate c.len-count.result levels.Z ∙ c.len-count.ensures ∙ sym names;
+      before = c.in-Ok-filled.ensures.len ∙ c.len-count.ensures ∙ sym names;
       levels = ap (λ (m : Moment). length m.levels) moment ∙ length-replicate (length given.names) levels.Z ∙ sym names;
       end = let zero = ap (λ (m : Moment). m.now) moment in omega (arith, zero);
     }
