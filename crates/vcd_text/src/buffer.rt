@@ -1,6 +1,8 @@
 //! A text of bounded length that is built without memory being taken.
-ghost use Rattle.std.specs.Prelude.{◌≡◌, ℕ, List, [], ◌++◌, ◌+◌, ◌≤◌, take, length, IfOk, vec_len};
+ghost use Rattle.std.specs.Prelude.{◌≡◌, ℕ, List, [], ◌++◌, ◌+◌, ◌<◌, ◌≤◌, take, length, IfOk, vec_len};
+ghost use Rattle.std.specs.Fmt.{decimal};
 
+use itoa::write_digits;
 use sim_base::OutOfMemory;
 use std::alloc::{AllocError, Global};
 use std::marker::Model;
@@ -27,6 +29,54 @@ fn blank(alloc: Global, room: usize) -> Result<Vec<u8>, AllocError>
     ensures { IfOk result (λ v. vec_len v ≡ room) }
 {
     vec![in alloc; b' '; room]
+}
+
+/// How many digits a number below 10,000 has.
+#[inline(always)]
+#[tactic(auto, using(itoa::proofs::Decimal::length_one, itoa::proofs::Decimal::length_two, itoa::proofs::Decimal::length_pair))]
+fn count_few(n: u64) -> usize
+    requires { n < 10000 }
+    ensures exact { result ≡ length (decimal n) }
+    ensures few { result ≤ 4 }
+{
+    if n < 10 {
+        1
+    } else if n < 100 {
+        2
+    } else if n < 1_000 {
+        3
+    } else {
+        4
+    }
+}
+
+/// How many digits a number has.
+#[inline(always)]
+#[tactic(auto, using(itoa::proofs::Decimal::length_four))]
+fn count_digits(n: u64) -> usize
+    requires { n < 10000000000000000 }
+    ensures exact { result ≡ length (decimal n) }
+    ensures few { result ≤ 16 }
+{
+    if n < 10_000 {
+        count_few(n)
+    } else if n < 100_000_000 {
+        4 + count_few(n / 10_000)
+    } else if n < 1_000_000_000_000 {
+        8 + count_few(n / 10_000 / 10_000)
+    } else {
+        12 + count_few(n / 10_000 / 10_000 / 10_000)
+    }
+}
+
+/// Fills bytes with the digits of a number.
+#[inline(always)]
+fn fill(n: u64, bytes: &mut [u8])
+    requires { length bytes.old ≡ length (decimal n) }
+    ensures { bytes.new ≡ decimal n }
+{
+    let end = bytes.len();
+    write_digits(n, bytes, end);
 }
 
 impl Buffer {
@@ -61,6 +111,19 @@ impl Buffer {
     {
         let end = self.len + text.len();
         self.bytes[self.len..end].copy_from_slice(text);
+        self.len = end;
+    }
+
+    /// Adds a number in decimal.
+    #[inline(always)]
+    pub(crate) fn push_number(&mut self, n: u64)
+        requires small { n < 10000000000000000 }
+        requires room { length self.old.text + 16 ≤ self.old.room }
+        ensures text { self.new ≡ record self.old { text = self.old.text ++ decimal n } }
+        ensures short { length self.new.text ≤ length self.old.text + 16 }
+    {
+        let end = self.len + count_digits(n);
+        fill(n, &mut self.bytes[self.len..end]);
         self.len = end;
     }
 

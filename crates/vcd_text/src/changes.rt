@@ -130,9 +130,8 @@ pub fn push_time(cycle: u32, out: &mut Buffer)
     ensures text { out.new ≡ record out.old { text = out.old.text ++ time_line cycle } }
     ensures short { length out.new.text ≤ length out.old.text + 42 }
 {
-    let mut digits = itoa::Buffer::new();
     out.push(b"#");
-    out.push(digits.format(625 * u64::from(cycle)).as_bytes());
+    out.push_number(625 * u64::from(cycle));
     out.push(b"\n");
 }
 
