@@ -24,6 +24,32 @@ fn is_same_level(a: Level, b: Level) -> bool
     a == b
 }
 
+/// Puts the level of a pin's net in the pin's place.
+#[inline]
+fn put_pin(pin: usize, net_of: &[u16], levels: &[Level], pin_levels: &mut [Level])
+    requires pin { pin < length net_of.now }
+    requires nets { (k n : ℕ) → slice_get net_of.now k ≡ Some n → n < length levels.now }
+    requires each { length pin_levels.old ≡ length net_of.now }
+    ensures { pin_levels.new ≡ slice_set pin_levels.old pin (level_at levels.now (slice_index net_of.now pin)) }
+{
+    pin_levels[pin] = levels[net_of[pin] as usize];
+}
+
+/// Puts the level of its net in the place of each of these pins.
+#[inline(always)]
+pub(crate) fn put_pins(pins: &[usize], net_of: &[u16], levels: &[Level], pin_levels: &mut [Level])
+    requires pins { (j k : ℕ) → slice_get pins.now j ≡ Some k → k < length net_of.now }
+    requires nets { (k n : ℕ) → slice_get net_of.now k ≡ Some n → n < length levels.now }
+    requires each { length pin_levels.old ≡ length net_of.now }
+    ensures long { length pin_levels.new ≡ length net_of.now }
+    ensures put { (j k : ℕ) → slice_get pins.now j ≡ Some k → slice_get pin_levels.new k ≡ slice_get (map (level_at levels.now) net_of.now) k }
+    ensures others { (k : ℕ) → Lacks pins.now k → slice_get pin_levels.new k ≡ slice_get pin_levels.old k }
+{
+    for j in 0..pins.len() {
+        put_pin(pins[j], net_of, levels, pin_levels);
+    }
+}
+
 impl Shown {
     /// Puts the level of a net in its place, and lists the net where it had another.
     #[inline(always)]
@@ -55,35 +81,6 @@ impl Shown {
     {
         for j in 0..nets.len() {
             self.put_level(levels[j], nets[j]);
-        }
-    }
-
-    /// Puts the level of a pin's net in the pin's place.
-    #[inline]
-    fn put_pin(&mut self, pin: usize, net_of: &[u16])
-        requires pin { pin < length net_of.now }
-        requires nets { (k n : ℕ) → slice_get net_of.now k ≡ Some n → n < length self.old.levels.items }
-        requires each { length self.old.pin_levels.items ≡ length net_of.now }
-        ensures put { self.new.pin_levels.items ≡ slice_set self.old.pin_levels.items pin (level_at self.old.levels.items (slice_index net_of.now pin)) }
-        ensures rest { self.new ≡ record self.old { pin_levels = self.new.pin_levels } }
-    {
-        self.pin_levels[pin] = self.levels[net_of[pin] as usize];
-    }
-
-    /// Puts the level of its net in the place of each of these pins.
-    #[inline(always)]
-    pub(crate) fn put_pins(&mut self, pins: &[usize], net_of: &[u16])
-        requires pins { (j k : ℕ) → slice_get pins.now j ≡ Some k → k < length net_of.now }
-        requires nets { (k n : ℕ) → slice_get net_of.now k ≡ Some n → n < length self.old.levels.items }
-        requires each { length self.old.pin_levels.items ≡ length net_of.now }
-        ensures long { length self.new.pin_levels.items ≡ length net_of.now }
-        ensures put { (j k : ℕ) → slice_get pins.now j ≡ Some k →
-            slice_get self.new.pin_levels.items k ≡ slice_get (map (level_at self.old.levels.items) net_of.now) k }
-        ensures others { (k : ℕ) → Lacks pins.now k → slice_get self.new.pin_levels.items k ≡ slice_get self.old.pin_levels.items k }
-        ensures rest { self.new ≡ record self.old { pin_levels = self.new.pin_levels } }
-    {
-        for j in 0..pins.len() {
-            self.put_pin(pins[j], net_of);
         }
     }
 }

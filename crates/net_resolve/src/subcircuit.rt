@@ -9,7 +9,7 @@ ghost use Rattle.net_resolve.specs.Shown.{AreShown, Moves};
 
 use crate::resolution::{Kept, Resolution};
 use crate::room::{all_z, no_drives, no_flags};
-use crate::shown::Shown;
+use crate::shown::{Shown, put_pins};
 use crate::whole::Whole;
 use sim_base::{Drive, Level, OutOfMemory};
 use std::alloc::Global;
@@ -223,6 +223,6 @@ impl Subcircuit {
             &mut self.whole,
         );
         shown.put_levels(&self.kept.last().levels, &self.nets);
-        shown.put_pins(&self.pins, net_of);
+        put_pins(&self.pins, net_of, &shown.levels, &mut shown.pin_levels);
     }
 }

@@ -6,8 +6,8 @@ use Rattle.net_resolve.specs.Resolutions.{AreResolutions, last_of}
 use Rattle.net_resolve.specs.declared.resolution.Resolution.{Resolution}
 use Rattle.std.proofs.lemmas.List.{length-map}
 use Rattle.net_resolve.specs.Subcircuits.{Lacks, AreNumbers, SubcircuitView}
-use Rattle.net_resolve.specs.Shown.{AreShown, Moves}
-use Rattle.net_resolve.specs.declared.shown.Shown.{Shown}
+use Rattle.board_model.specs.Board.{level_at}
+use Rattle.board_model.proofs.Lists.{lent_whole}
 use Rattle.net_resolve.proofs.ResolutionLemmas.{last_is, levels_same}
 use Rattle.net_resolve.proofs.PlaceLemmas.{same_somes}
 use Rattle.net_resolve.proofs.PinLemmas.{pins_follow}
@@ -47,19 +47,9 @@ invariant_of-self c =
       kept = subst (λ (x : Wired). AreResolutions x c.resolve_other.new.kept) (sym same) c.resolve_other.ensures.kept;
     }
 
--- the levels as they were put, which the pins follow
-abbrev later : {a b : Shown} → a ≡ b → a.levels.items ≡ b.levels.items
-later e = ap (λ (s : Shown). s.levels.items) e
-
 pub returns-clause-others : goal.returns-clause-others
 returns-clause-others c = λ n lacks.
-    ap (λ (l : List Level). slice_get l n) (later c.put_pins.ensures.rest)
-    ∙ c.put_levels.ensures.others n (λ j e. lacks j (subst (λ (l : List ℕ). slice_get l j ≡ Some n) (c.deref-4.ensures.value ∙ ap (λ (v : SubcircuitView). v.nets) c.self.view_is) e))
-
-pub returns-clause-moves : goal.returns-clause-moves
-returns-clause-moves c =
-    let old = c.args.shown.now in
-    subst (λ (s : Shown). Moves old.levels.items s.levels.items old.changed s.changed) (sym c.put_pins.ensures.rest) c.put_levels.ensures.moves
+    c.put_levels.ensures.others n (λ j e. lacks j (subst (λ (l : List ℕ). slice_get l j ≡ Some n) (c.deref-4.ensures.value ∙ ap (λ (v : SubcircuitView). v.nets) c.self.view_is) e))
 
 pub returns-clause-put : goal.returns-clause-put
 returns-clause-put c = λ cs ds ec ed j n e.
@@ -69,7 +59,7 @@ returns-clause-put c = λ cs ds ec ed j n e.
     let nets = c.deref-4.ensures.value ∙ ap (λ (v : SubcircuitView). v.nets) v in
     let pins = c.deref.ensures.value ∙ ap (λ (v : SubcircuitView). v.pins) v in
     let contacts = c.deref-2.ensures.value ∙ ap (λ (v : SubcircuitView). v.contacts) v in
-    let put = ap (λ (l : List Level). slice_get l n) (later c.put_pins.ensures.rest) ∙ c.put_levels.ensures.put j n (subst (λ (l : List ℕ). slice_get l j ≡ Some n) (sym nets) e) in
+    let put = c.put_levels.ensures.put j n (subst (λ (l : List ℕ). slice_get l j ≡ Some n) (sym nets) e) in
     let at_pins = ed ∙ ap (λ (l : List ℕ). map (slice_get c.args.drives.now) l) (sym pins) in
     let at_contacts = ec ∙ ap (λ (l : List ℕ). map (slice_get c.args.closed.now) l) (sym contacts) in
     let same_cs : found.closed.items ≡ cs = same_somes found.closed.items cs (c.resolve_other.ensures.by.closed_are ∙ sym at_contacts) in
@@ -85,23 +75,25 @@ put_pins-requires c =
     let pins = c.deref-5.ensures.value ∙ ap (λ (v : SubcircuitView). v.pins) c.self.view_is in
     record {
       pins = λ j k e. c.requires.fits.pins j k (subst (λ (l : List ℕ). slice_get l j ≡ Some k) pins e);
-      nets = λ k n e. omega (arith, c.requires.shown.within k n e, c.put_levels.ensures.moves.long);
-      each = ap length c.put_levels.ensures.pins ∙ ap length c.requires.shown.pins ∙ simp length-map refl;
+      nets = λ k n e. omega (arith, c.requires.shown.within k n e, c.put_levels.ensures.moves.long, ap length c.deref-6.ensures.value);
+      each = ap length (c.deref_mut.ensures.value ∙ c.put_levels.ensures.pins ∙ c.requires.shown.pins) ∙ simp length-map refl;
     }
 
 pub returns-clause-shown : goal.returns-clause-shown
 returns-clause-shown c =
     let nets = c.deref-4.ensures.value ∙ ap (λ (v : SubcircuitView). v.nets) c.self.view_is in
     let pins = c.deref-5.ensures.value ∙ ap (λ (v : SubcircuitView). v.pins) c.self.view_is in
-    let old = c.args.shown.now in
-    let put = c.put_levels.new.self in
     let net_of = c.args.net_of.now in
-    let moves = c.put_levels.ensures.moves in
-    let found : AreShown net_of (record put { pin_levels = c.put_pins.new.self.pin_levels }) = record {
-      room = record { few = omega (arith, c.requires.shown.room.few, moves.long); room = moves.room ∙ c.requires.shown.room.room ∙ sym moves.long };
-      within = λ k n e. omega (arith, c.requires.shown.within k n e, moves.long);
-      pins = pins_follow net_of c.deref-5.result.now c.deref-4.result.now old.levels.items put.levels.items put.pin_levels.items c.put_pins.new.self.pin_levels.items
-          c.put_pins.ensures.long (c.put_levels.ensures.pins ∙ c.requires.shown.pins) c.put_pins.ensures.put c.put_pins.ensures.others
-          (λ k n e lacks. subst (λ (l : List ℕ). Lacks l n) (sym nets) (c.requires.fits.whole k n e (subst (λ (l : List ℕ). Lacks l k) pins lacks))) c.put_levels.ensures.others;
-    } in
-    subst (λ (s : Shown). AreShown net_of s) (sym c.put_pins.ensures.rest) found
+    let put = c.put_levels.ensures in
+    let room = c.requires.shown.room in
+    let levels = c.deref-6.ensures.value in
+    let old = c.put_levels.new.self.pin_levels in
+    record {
+      room = record { few = omega (arith, room.few, put.moves.long); room = put.moves.room ∙ room.room ∙ sym put.moves.long };
+      within = λ k n e. omega (arith, c.requires.shown.within k n e, put.moves.long);
+      pins = lent_whole old.len old.items c.put_pins.new.pin_levels old.ok.0 (c.put_pins.auto.pin_levels ∙ ap length c.deref_mut.ensures.value) ∙ pins_follow net_of c.deref-5.result.now c.deref-4.result.now c.args.shown.now.levels.items c.deref-6.result.now c.deref_mut.result.now c.put_pins.new.pin_levels
+          c.put_pins.ensures.long (c.deref_mut.ensures.value ∙ put.pins ∙ c.requires.shown.pins) c.put_pins.ensures.put c.put_pins.ensures.others
+          (λ k n e lacks. subst (λ (l : List ℕ). Lacks l n) (sym nets) (c.requires.fits.whole k n e (subst (λ (l : List ℕ). Lacks l k) pins lacks)))
+          (λ n lacks. ap (λ (l : List Level). slice_get l n) levels ∙ put.others n lacks)
+          ∙ ap (λ (l : List Level). map (level_at l) net_of) levels;
+    }
