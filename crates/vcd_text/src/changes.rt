@@ -100,6 +100,7 @@ fn put_shown(
 
 /// Puts the values of all variables in place of those of the last row, and writes the lines of those that are not what
 /// they were; answers how many these are. Where two nets are told that alone changed, variables of others are passed over.
+#[inline(never)]
 pub(crate) fn push_changes(
     nets: Option<(u16, u16)>,
     variables: &[Variable],
@@ -124,7 +125,7 @@ pub(crate) fn push_changes(
     count
 }
 
-#[inline(always)]
+#[inline(never)]
 pub fn push_time(cycle: u32, out: &mut Buffer)
     requires room { length out.old.text + 42 ≤ out.old.room }
     ensures text { out.new ≡ record out.old { text = out.old.text ++ time_line cycle } }
@@ -147,6 +148,7 @@ pub fn push_initial_values(cycle: u32, now: &[u8], out: &mut Buffer)
 }
 
 /// The head of a wave and the initial values.
+#[inline(never)]
 pub(crate) fn push_first(cycle: u32, head: &[u8], now: &[u8], out: &mut Buffer)
     requires few { length now.now ≤ 8930 }
     requires room { length out.old.text + length head.now + 57 + 4 * length now.now ≤ out.old.room }

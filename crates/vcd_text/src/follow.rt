@@ -99,7 +99,7 @@ fn push_chain(
     count
 }
 
-/// The same of the variables of a scope.
+/// The same of the variables of a scope. `push_changes` gets a copy of the row, so the row itself can stay in registers.
 fn push_lines(scope: Scope, links: &Links, row: &Row, values: &mut [u8], out: &mut Buffer) -> u64
     requires few { length links.now.variables.now ≤ 8930 }
     requires long { length values.old ≡ length links.now.variables.now }
@@ -111,9 +111,9 @@ fn push_lines(scope: Scope, links: &Links, row: &Row, values: &mut [u8], out: &m
     ensures count { result ≡ change_count values.old (values_in row.now links.now) }
 {
     match scope {
-        Scope::All => push_changes(None, links.variables, row, values, out),
+        Scope::All => push_changes(None, links.variables, &{ *row }, values, out),
         Scope::NetsAndPins(one, two) => {
-            push_changes(Some((one, two)), links.variables, row, values, out)
+            push_changes(Some((one, two)), links.variables, &{ *row }, values, out)
         }
         Scope::Nets(one, two) => push_chain(one, two, links, row, values, out),
     }
@@ -165,7 +165,7 @@ pub(crate) fn push_row(
     if started {
         push_later(scope, links, row, values, out)
     } else {
-        fill_values(links.variables, row, values);
+        fill_values(links.variables, &{ *row }, values);
         push_first(row.cycle, head, values, out);
         0
     }

@@ -81,6 +81,7 @@ pub(crate) fn of_source(shows: Source, row: &Row) -> u8
 }
 
 /// Puts the value of each variable at its place.
+#[inline(never)]
 pub fn fill_values(variables: &[Variable], row: &Row, now: &mut [u8])
     requires { length now.old ≡ length variables.now }
     ensures { now.new ≡ map (λ v. shown_value row.now.levels.now row.now.drives.now v.shows) (map variable_of variables.now) }
