@@ -27,9 +27,10 @@ use Rattle.any_part.specs.Start.{Contents, start_in, start_of, starts}
 use Rattle.any_part.proofs.StartLemmas.{all_ready, begins_valid, start_at, starts_fit, starts_many}
 use Rattle.isolation.specs.Worlds.{DifferInChips, IsSamePart}
 use Rattle.isolation.proofs.Isolation.{isolated}
-use Rattle.twin_run.specs.Twins.{AreTwins, TwinView}
+use Rattle.twin_run.specs.Twins.{AreTwins, HaveNoContacts}
 use Rattle.cli_twin.specs.Chips.{chip_start, chip_starts}
 use Rattle.cli_twin.specs.Found.{IsLoaded, twin_view}
+use Rattle.cli_twin.proofs.ContactLemmas.{free_of_contacts}
 use Rattle.cli_twin.proofs.WithLemmas.{chip_inside, chips_there, fits_pins, item_there, own_at, with_same}
 
 abbrev is_chip_part : PlanPart → Bool
@@ -108,19 +109,19 @@ module _ (one two : Contents) (plan : Plan) (is : IsPlan (pins_of one.chips) pla
     unscripted = λ t k here. refl;
   }
 
-  pub is_loaded : (parts chips : List AnyPart) (twin : TwinView AnyPart) → map state_of parts ≡ starts one plan.parts → map state_of chips ≡ chip_starts two.budget two.chips plan.parts → length parts ≤ 64 →
-      AreFresh any state_of cycle_of wakes_of chips → twin ≡ twin_view parts chips plan.wiring → IsLoaded one two plan twin plan.parts
-  is_loaded parts chips twin ps cs few fresh same =
-      subst (λ (t : TwinView AnyPart). IsLoaded one two plan t plan.parts) (sym same) (record {
-        twins = are_twins parts chips ps cs few fresh;
-        wiring = refl;
-        inputs = refl;
+  pub is_loaded : (parts chips : List AnyPart) → map state_of parts ≡ starts one plan.parts → map state_of chips ≡ chip_starts two.budget two.chips plan.parts → length parts ≤ 64 →
+      AreFresh any state_of cycle_of wakes_of parts → AreFresh any state_of cycle_of wakes_of chips → IsLoaded one two plan parts chips
+  is_loaded parts chips ps cs few fresh new =
+      let others : with_chips plan.wiring (map state_of parts) (map state_of chips) ≡ starts two plan.parts =
+      ap (λ (ss : List AnyState). with_chips plan.wiring ss (map state_of chips)) ps ∙ ap (λ (ss : List AnyState). with_chips plan.wiring (starts one plan.parts) ss) cs ∙ beside_is in
+      record {
+        fresh = fresh;
+        twins = are_twins parts chips ps cs few new;
+        contacts = subst (λ (ss : List AnyState). HaveNoContacts any plan.wiring ss (with_chips plan.wiring (map state_of parts) (map state_of chips))) (sym ps)
+            (subst (λ (ss : List AnyState). HaveNoContacts any plan.wiring (starts one plan.parts) ss) (sym others) (free_of_contacts one two plan is also));
         own = ps;
-        others = ap (λ (ss : List AnyState). with_chips plan.wiring ss (map state_of chips)) ps
-            ∙ ap (λ (ss : List AnyState). with_chips plan.wiring (starts one plan.parts) ss) cs
-            ∙ beside_is;
-        as_planned = refl;
-      })
+        others = others;
+      }
 
 -- one more part of a plan, a chip or not
 module _ (budget : ℕ) (chips : List ChipSource) (parts : List PlanPart) (i : ℕ) (part : PlanPart) (inside : i < length parts) (at : part ≡ get_or parts i part) (loaded : List AnyPart)

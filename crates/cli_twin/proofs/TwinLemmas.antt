@@ -1,26 +1,24 @@
 -- What the run of a twin says of the runs of two projects.
-use Rattle.std.proofs.Common.{◌≡◌, ◌∙◌, ◌+◌, ◌-◌, ◌≤◌, ℕ, zero, suc, List, [], map, Option, None, Some, refl, ap, sym, subst, arith, zero-add}
+use Rattle.std.proofs.Common.{◌≡◌, ◌∙◌, ◌+◌, ◌-◌, ◌≤◌, ℕ, zero, suc, List, [], false, map, Option, None, Some, true, refl, ap, sym, subst, arith, zero-add}
 use Rattle.std.specs.Option.{option_or}
 use Rattle.sim_base.specs.declared.wiring.Input.{Input}
 use Rattle.sim_base.specs.declared.wiring.Wiring.{Wiring}
 use Rattle.board_laws.specs.Active.{active_pairs}
 use Rattle.board_laws.specs.FirstDiff.{Difference, first_diff, part_diff}
 use Rattle.board_laws.specs.Worlds.{SameRest}
+use Rattle.board_run.specs.BoardView.{BoardView}
 use Rattle.board_build.specs.declared.plan.Plan.{Plan}
-use Rattle.board_build.specs.declared.plan.PlanPart.{PlanPart}
-use Rattle.board_build.specs.IsPlan.{IsPlan}
 use Rattle.chip_module.specs.Sources.{pins_of}
 use Rattle.any_part.specs.AnyPart.{AnyPart, AnyState, any, state_of}
 use Rattle.any_part.specs.Start.{Contents, starts}
 use Rattle.isolation.specs.Worlds.{run_states}
 use Rattle.twin_run.specs.declared.twin.TwinEnd.{TwinEnd}
 use Rattle.twin_run.specs.declared.twin.TwinEnd.TheVariants as ends
-use Rattle.twin_run.specs.Twins.{HaveNoContacts, IsTwin, TwinView, chip_pairs, cycle_of, end_of, other_states}
-use Rattle.cli_twin.proofs.ContactLemmas.{free_of_contacts}
+use Rattle.twin_run.specs.Twins.{IsTwin, TwinView, chip_pairs, cycle_of, end_of, other_states}
 use Rattle.cli_twin.specs.Shared.{Pair}
 use Rattle.cli_twin.specs.Line.{end_at, line, run_diff}
 use Rattle.cli_twin.specs.Answer.{IsLineOf, contents, difference, line_texts, pair_wakes}
-use Rattle.cli_twin.specs.Found.{Found, IsLoaded, beside, diff_of}
+use Rattle.cli_twin.specs.Found.{Found, IsLoaded, beside, diff_of, twin_view}
 
 -- the first difference on one board is that of its two runs
 first_run : (one two : Contents) (plan : Plan) (n : ℕ) → first_diff any plan.wiring plan.inputs (starts one plan.parts) (starts two plan.parts) 0 n ≡ run_diff one plan two plan n
@@ -100,46 +98,21 @@ module _ (budget n : ℕ) (pair : Pair) (inputs : pair.one.plan.inputs ≡ []) (
     pub line_said : IsLineOf budget n pair (line_texts budget n pair 0)
     line_said = record { says = refl; costs = omega arith; rest = same_rest }
 
+-- a twin is of the board that it was made of, whose inputs are none
+pub is_view : {P : Type 0} (parts chips : List P) (w : Wiring) (inputs : List Input) (board : BoardView P) (result : TwinView P) → inputs ≡ [] →
+    board ≡ record { parts = parts; wiring = w; inputs = inputs; cycle = 0; given_up = false; before = None; changed = true } → result ≡ record { board = board; chips = chips } →
+    result ≡ twin_view parts chips w
+is_view {P = P} parts chips w inputs board result none made is =
+    is ∙ ap (λ (b : BoardView P). record { board = b; chips = chips }) made
+    ∙ ap (λ (l : List Input). record { board = record { parts = parts; wiring = w; inputs = l; cycle = 0; given_up = false; before = None; changed = true }; chips = chips }) none
+
 -- a pair that was loaded and run
-pub was_found : (budget n : ℕ) (pair : Pair) (is : IsPlan (pins_of pair.one.chips) pair.one.plan) (pins : pins_of pair.one.chips ≡ pins_of pair.other.chips) (loaded_twin : TwinView AnyPart)
-    (planned : List PlanPart) (end : TwinEnd) (text : List ℕ) (before after : ℕ) → IsLoaded (contents pair.one budget) (beside budget pair) pair.one.plan loaded_twin planned →
-    text ≡ line (pins_of pair.one.chips) planned n (diff_of end) →
-    (HaveNoContacts any loaded_twin.board.wiring (map state_of loaded_twin.board.parts) (other_states state_of loaded_twin) →
-    IsTwin any loaded_twin.board.wiring loaded_twin.board.inputs (map state_of loaded_twin.board.parts) (other_states state_of loaded_twin) n end before after) → Found budget n pair text before after
-was_found budget n pair is pins loaded_twin planned end text before after loaded says run = record {
+pub was_found : (budget n : ℕ) (pair : Pair) (parts chips : List AnyPart) (end : TwinEnd) (text : List ℕ) (before after : ℕ) →
+    IsLoaded (contents pair.one budget) (beside budget pair) pair.one.plan parts chips → text ≡ line (pins_of pair.one.chips) pair.one.plan.parts n (diff_of end) →
+    IsTwin any pair.one.plan.wiring [] (map state_of parts) (other_states state_of (twin_view parts chips pair.one.plan.wiring)) n end before after → Found budget n pair text before after
+was_found budget n pair parts chips end text before after loaded says twin = record {
   end = end;
-  says = says ∙ ap (λ (parts : List PlanPart). line (pins_of pair.one.chips) parts n (diff_of end)) loaded.as_planned;
-  twin = found;
+  says = says;
+  twin = subst (λ (ys : List AnyState). IsTwin any pair.one.plan.wiring [] (starts (contents pair.one budget) pair.one.plan.parts) ys n end before after) loaded.others
+      (subst (λ (xs : List AnyState). IsTwin any pair.one.plan.wiring [] xs (other_states state_of (twin_view parts chips pair.one.plan.wiring)) n end before after) loaded.own twin);
 }
-  where
-    w : Wiring
-    w = pair.one.plan.wiring
-
-    xs : List AnyState
-    xs = starts (contents pair.one budget) pair.one.plan.parts
-
-    ys : List AnyState
-    ys = starts (beside budget pair) pair.one.plan.parts
-
-    own : List AnyState
-    own = map state_of loaded_twin.board.parts
-
-    others : List AnyState
-    others = other_states state_of loaded_twin
-
-    also : IsPlan (pins_of pair.other.chips) pair.one.plan
-    also = subst (λ (names : List (List (Option (List ℕ)))). IsPlan names pair.one.plan) pins is
-
-    free : HaveNoContacts any loaded_twin.board.wiring own others
-    free =
-        subst (λ (v : Wiring). HaveNoContacts any v own others) (sym loaded.wiring)
-        (subst (λ (ss : List AnyState). HaveNoContacts any w ss others) (sym loaded.own)
-        (subst (λ (ss : List AnyState). HaveNoContacts any w xs ss) (sym loaded.others)
-        (free_of_contacts (contents pair.one budget) (beside budget pair) pair.one.plan is also)))
-
-    found : IsTwin any w [] xs ys n end before after
-    found =
-        subst (λ (ss : List AnyState). IsTwin any w [] xs ss n end before after) loaded.others
-        (subst (λ (ss : List AnyState). IsTwin any w [] ss others n end before after) loaded.own
-        (subst (λ (is : List Input). IsTwin any w is own others n end before after) loaded.inputs
-        (subst (λ (v : Wiring). IsTwin any v loaded_twin.board.inputs own others n end before after) loaded.wiring (run free))))

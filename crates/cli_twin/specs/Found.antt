@@ -1,12 +1,12 @@
 -- What the run of a pair finds.
 use Rattle.std.specs.Prelude.{◌≡◌, ℕ, List, [], map, false, Option, None, Some, true}
 use Rattle.sim_base.specs.declared.wiring.Wiring.{Wiring}
+use Rattle.board_model.specs.Fresh.{AreFresh}
 use Rattle.board_laws.specs.FirstDiff.{Difference}
 use Rattle.twin_run.specs.declared.twin.TwinEnd.{TwinEnd}
 use Rattle.twin_run.specs.declared.twin.TwinEnd.TheVariants as ends
-use Rattle.twin_run.specs.Twins.{AreTwins, IsTwin, TwinView, other_states}
+use Rattle.twin_run.specs.Twins.{AreTwins, HaveNoContacts, IsTwin, TwinView, other_states}
 use Rattle.board_build.specs.declared.plan.Plan.{Plan}
-use Rattle.board_build.specs.declared.plan.PlanPart.{PlanPart}
 use Rattle.any_part.specs.AnyPart.{AnyPart, any, state_of, cycle_of, wakes_of}
 use Rattle.any_part.specs.Start.{Contents, starts}
 use Rattle.chip_module.specs.Sources.{pins_of}
@@ -30,14 +30,13 @@ twin_view parts chips wiring = record {
   chips = chips;
 }
 
--- the board of a plan with these contents, beside the chips of others
-pub record IsLoaded (one two : Contents) (plan : Plan) (twin : TwinView AnyPart) (planned : List PlanPart) : Type 0 where
-  pub twins : AreTwins any state_of cycle_of wakes_of twin
-  pub wiring : twin.board.wiring ≡ plan.wiring
-  pub inputs : twin.board.inputs ≡ []
-  pub own : map state_of twin.board.parts ≡ starts one plan.parts
-  pub others : other_states state_of twin ≡ starts two plan.parts
-  pub as_planned : planned ≡ plan.parts
+-- the parts of a plan's board with these contents, and the chips of others beside them
+pub record IsLoaded (one two : Contents) (plan : Plan) (parts chips : List AnyPart) : Type 0 where
+  pub fresh : AreFresh any state_of cycle_of wakes_of parts
+  pub twins : AreTwins any state_of cycle_of wakes_of (twin_view parts chips plan.wiring)
+  pub contacts : HaveNoContacts any plan.wiring (map state_of parts) (other_states state_of (twin_view parts chips plan.wiring))
+  pub own : map state_of parts ≡ starts one plan.parts
+  pub others : other_states state_of (twin_view parts chips plan.wiring) ≡ starts two plan.parts
 
 -- the line of a twin on the first project's board, without a script
 pub record Found (budget n : ℕ) (pair : Pair) (text : List ℕ) (before after : ℕ) : Type 0 where

@@ -18,6 +18,7 @@ use cli_work::{Stop, WorkEnd, stopped};
 use sim_base::refusals::TWIN_DIFFERS;
 use sim_base::{Bench, Place, Refusal};
 use std::alloc::Global;
+use std::mem::drop;
 
 /// A project, and its twin.
 #[derive(Drop)]
@@ -50,7 +51,12 @@ fn make_pair(alloc: Global, folder: &str, one: Work, other: Work) -> Result<Pair
     ensures ready { IfOk result IsReady }
 {
     match other_path(&one, &other) {
-        Some(path) => Err(differs(alloc, folder, path)),
+        Some(path) => {
+            // Each drop is one call, where one at the end of the scope is proved field by field.
+            let end = differs(alloc, folder, path);
+            drop((one, other));
+            Err(end)
+        }
         None => Ok(Pair { one, other }),
     }
 }
@@ -67,6 +73,11 @@ pub(crate) fn read_pair<B: Bench>(
     ensures ready { IfOk result IsReady }
 {
     let one = read_folder(alloc, folder, bench)?;
-    let twin = read_folder(alloc, other, bench)?;
-    make_pair(alloc, other, one, twin)
+    match read_folder(alloc, other, bench) {
+        Ok(twin) => make_pair(alloc, other, one, twin),
+        Err(end) => {
+            drop(one);
+            Err(end)
+        }
+    }
 }

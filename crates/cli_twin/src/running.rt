@@ -1,12 +1,13 @@
 //! `twin FOLDER_A FOLDER_B --us N [--budget N]`: two projects that differ in what their chips are made of, on one board.
-ghost use Rattle.std.specs.Prelude.{◌≡◌, ◌≤◌, ◌<◌, length, map, IfOk, string_bytes};
+ghost use Rattle.std.specs.Prelude.{◌≡◌, ◌≤◌, ◌<◌, [], map, IfOk, string_bytes};
 ghost use Rattle.std.specs.List.{All};
 ghost use Rattle.outcome_model.specs.Happens.{Ends, Counts};
 ghost use Rattle.outcome_model.specs.Work.{SaidNothing};
-ghost use Rattle.board_model.specs.Fits.{Fits, IsWiring};
+ghost use Rattle.board_model.specs.Fits.{IsWiring};
 ghost use Rattle.board_model.specs.Fresh.{AreFresh};
 ghost use Rattle.board_build.specs.IsPlan.{IsPlan};
 ghost use Rattle.chip_module.specs.Sources.{HasFewPins, pins_of};
+ghost use Rattle.twin_run.specs.Twins.{AreTwins, HaveNoContacts, IsTwin, other_states};
 ghost use Rattle.cli_work.specs.Outcomes.{outcome_of};
 ghost use Rattle.cli_twin.specs.Answer.{TwinAnswer};
 ghost use Rattle.cli_twin.specs.Found.{Found, IsLoaded, twin_view};
@@ -16,7 +17,7 @@ use crate::chips::load_chips;
 use crate::line::line;
 use crate::pair::{Pair, read_pair};
 use any_part::{AnyPart, load};
-use board_build::{Plan, PlanPart};
+use board_build::Plan;
 use board_run::Board;
 use chip_module::ChipSource;
 use cli_project::Work;
@@ -24,51 +25,60 @@ use cli_work::{WorkEnd, write_text};
 use part_law::Part;
 use sim_base::{Bench, Flash, List, MOST_CYCLES, OutOfMemory, Port, Steps, Wiring};
 use std::alloc::Global;
+use std::mem::drop;
 use std::sync::ledger::Ledger;
-use twin_run::Twin;
+use twin_run::{Twin, TwinEnd};
 
-/// A board beside the chips of another. No script is for a twin.
-fn twin_of<P: Part + Drop>(
+/// Runs a board beside the chips of another for `n` cycles. No script is for a twin.
+fn run_beside<P: Part + Drop, L: Ledger>(
     alloc: Global,
     parts: List<P>,
     chips: List<P>,
     wiring: Wiring,
-) -> Result<Twin<P>, OutOfMemory>
-    requires few { length parts ≤ 64 }
+    n: u32,
+    steps: &mut Steps<L>,
+) -> Result<TwinEnd, OutOfMemory>
     requires wiring { IsWiring wiring }
-    requires fits { Fits P.machine wiring (map P.state parts) }
     requires fresh { AreFresh P.machine P.state P.now P.wake_count parts }
-    ensures { IfOk result (λ t. t ≡ twin_view parts chips wiring) }
+    requires twins { AreTwins P.machine P.state P.now P.wake_count (twin_view parts chips wiring) }
+    requires contacts { HaveNoContacts P.machine wiring (map P.state parts) (other_states P.state (twin_view parts chips wiring)) }
+    requires end { n ≤ MOST_CYCLES }
+    ensures { IfOk result (λ end. IsTwin P.machine wiring [] (map P.state parts) (other_states P.state (twin_view parts chips wiring))
+        n end steps.old steps.new) }
 {
-    let board = Board::new(alloc, parts, wiring, List::new(alloc))?;
-    Twin::new(alloc, board, chips)
+    // Each drop is one call, where one at the end of the scope is proved field by field on each way out.
+    let Ok(board) = Board::new(alloc, parts, wiring, List::new(alloc)) else {
+        drop(chips);
+        return Err(OutOfMemory);
+    };
+    let mut twin = Twin::new(alloc, board, chips)?;
+    let end = twin.run(n, steps);
+    drop(twin);
+    Ok(end)
 }
 
-/// The board of a project beside the chips of another, and its parts as they are planned.
-fn load_twin(
+/// The parts of a project's board, and the chips of another.
+fn load_sides(
     alloc: Global,
     flash: Flash,
-    plan: Plan,
+    plan: &Plan,
     chips: &[ChipSource],
     others: &[ChipSource],
     budget: u32,
-) -> Result<(Twin<AnyPart>, List<PlanPart>), OutOfMemory>
-    requires plan { IsPlan (pins_of chips.now) plan }
+) -> Result<(List<AnyPart>, List<AnyPart>), OutOfMemory>
+    requires plan { IsPlan (pins_of chips.now) plan.now }
     requires few_pins { All HasFewPins chips.now }
     requires few_others { All HasFewPins others.now }
     requires pins { pins_of chips.now ≡ pins_of others.now }
     ensures { IfOk result (λ r. IsLoaded (record { flash = flash; chips = chips.now; budget = budget })
-        (record { flash = flash; chips = others.now; budget = budget }) plan r.0 r.1) }
+        (record { flash = flash; chips = others.now; budget = budget }) plan.now r.0 r.1) }
 {
-    let parts = load(alloc, &plan, flash, chips, budget)?;
-    let beside = load_chips(alloc, &plan, others, budget)?;
-    let Plan {
-        parts: planned,
-        wiring,
-        ..
-    } = plan;
-    let twin = twin_of(alloc, parts, beside, wiring)?;
-    Ok((twin, planned))
+    let parts = load(alloc, plan, flash, chips, budget)?;
+    let Ok(beside) = load_chips(alloc, plan, others, budget) else {
+        drop(parts);
+        return Err(OutOfMemory);
+    };
+    Ok((parts, beside))
 }
 
 /// Runs a pair for `n` cycles, and answers the line of its first difference.
@@ -85,15 +95,29 @@ fn found_line<L: Ledger>(
 {
     let Pair { one, other } = pair;
     let Work {
+        project,
         flash,
+        diagram,
         chips,
         plan,
-        ..
+        wave,
     } = one;
+    drop((project, diagram, wave));
     let others = other.chips.as_slice();
-    let (mut twin, planned) = load_twin(alloc, flash, plan, chips.as_slice(), others, budget)?;
-    let end = twin.run(n, steps);
-    Ok(line(alloc, chips.as_slice(), planned.as_slice(), n, end)?)
+    let Ok((parts, beside)) = load_sides(alloc, flash, &plan, chips.as_slice(), others, budget)
+    else {
+        drop((other, chips, plan));
+        return Err(OutOfMemory);
+    };
+    drop((other, plan.inputs));
+    let planned = plan.parts;
+    let Ok(end) = run_beside(alloc, parts, beside, plan.wiring, n, steps) else {
+        drop((chips, planned));
+        return Err(OutOfMemory);
+    };
+    let text = line(alloc, chips.as_slice(), planned.as_slice(), n, end);
+    drop((chips, planned));
+    Ok(text?)
 }
 
 /// Runs the projects of two folders that differ in what their chips are made of alone, for so many microseconds, 16 cycles each,

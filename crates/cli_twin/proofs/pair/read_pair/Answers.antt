@@ -1,5 +1,4 @@
 use Rattle.std.proofs.Common.{ℕ, List, Err, None}
-use Rattle.std.proofs.lemmas.Result.{err_from_is_err_and}
 use Rattle.sim_base.specs.Outside.{Outside}
 use Rattle.outcome_model.specs.Work.{Reading, Is, Then}
 use Rattle.outcome_model.proofs.ReadLemmas.{first_stops, got_both}
@@ -11,8 +10,8 @@ use Rattle.cli_twin.specs.Pairs.{pair_of}
 use Rattle.cli_twin.specs.Shared.{Pair, other_path, paired}
 use Rattle.cli_twin.proofs.pair.read_pair.Goals as goal
 
-pub returns-in_err-twin-clause-got : goal.returns-in_err-twin-clause-got
-returns-in_err-twin-clause-got g c =
+pub returns-in-Err-clause-got : goal.returns-in-Err-clause-got
+returns-in-Err-clause-got g c =
     let a : Outside = g.B.Bench.outside c.args.bench.now in
     let m : Outside = g.B.Bench.outside c.read_folder.new.bench in
     let b : Outside = g.B.Bench.outside c.read_folder-2.new.bench in
@@ -20,13 +19,12 @@ returns-in_err-twin-clause-got g c =
     let other : List ℕ = c.args.other.now in
     let one : Work = work_of c.in_ok-one.one in
     let pairs : Work → Work → Reading Pair = λ (x y : Work). Is (λ files. paired other (record { one = x; other = y }) (other_path x y)) in
-    let q = err_from_is_err_and c.from_residual-in_err-twin.result c.from_residual-in_err-twin.ensures.1 in
-    let e = c.in_err-twin.field-0.0 in
-    rw (q.1, q.2) (got_both (WorkIn folder None None) (λ (x : Work). Then (WorkIn other None None) (pairs x)) (steady_work folder None None) one pair_of outcome_of (Err e) a m b
-    c.in_ok-one.ensures.ports c.in_ok-one.ensures.got (first_stops (WorkIn other None None) (pairs one) (outcome_of e) m b c.in_err-twin.ensures.got))
+    let e = c.in-Err.end in
+    got_both (WorkIn folder None None) (λ (x : Work). Then (WorkIn other None None) (pairs x)) (steady_work folder None None) one pair_of outcome_of (Err e) a m b
+    c.in_ok-one.ensures.ports c.in_ok-one.ensures.got (first_stops (WorkIn other None None) (pairs one) (outcome_of e) m b c.in-Err.ensures.got)
 
-pub returns-clause-got : goal.returns-clause-got
-returns-clause-got g c =
+pub returns-in-Ok-clause-got : goal.returns-in-Ok-clause-got
+returns-in-Ok-clause-got g c =
     let a : Outside = g.B.Bench.outside c.args.bench.now in
     let m : Outside = g.B.Bench.outside c.read_folder.new.bench in
     let b : Outside = g.B.Bench.outside c.read_folder-2.new.bench in
@@ -36,5 +34,5 @@ returns-clause-got g c =
     let pairs : Work → Work → Reading Pair = λ (x y : Work). Is (λ files. paired other (record { one = x; other = y }) (other_path x y)) in
     got_both (WorkIn folder None None) (λ (x : Work). Then (WorkIn other None None) (pairs x)) (steady_work folder None None) one pair_of outcome_of c.make_pair.result a m b
     c.in_ok-one.ensures.ports c.in_ok-one.ensures.got
-    (got_both (WorkIn other None None) (pairs one) (steady_work other None None) (work_of c.in_ok-twin.twin) pair_of outcome_of c.make_pair.result m b b
-    c.in_ok-twin.ensures.ports c.in_ok-twin.ensures.got (c.make_pair.ensures.got b))
+    (got_both (WorkIn other None None) (pairs one) (steady_work other None None) (work_of c.in-Ok.twin) pair_of outcome_of c.make_pair.result m b b
+    c.in-Ok.ensures.ports c.in-Ok.ensures.got (c.make_pair.ensures.got b))
