@@ -1,5 +1,5 @@
 -- The writing of the report, behind the wave and the bytes.
-use Rattle.std.proofs.Common.{◌≡◌, ◌∙◌, ℕ, List, [], Option, Some, None, if◌then◌else◌, inr}
+use Rattle.std.proofs.Common.{◌≡◌, ◌∙◌, ℕ, List, [], Bool, Option, Some, None, if◌then◌else◌, inr, subst}
 use Rattle.std.specs.Prelude.{is_some}
 use Rattle.std.specs.Option.{option_map}
 use Rattle.sim_base.specs.declared.bench.Port.{Port}
@@ -54,3 +54,10 @@ module _ (out : Outputs) (t s r : List ℕ) (n : ℕ) (a : Outside) where
   pub report_ends : (end : WriteEnd) (m b : Outside) → Writes writes.Ok (texts_for out t s [] n) a m → Reports (is_some out.report) r end m b → Writes end (texts_for out t s r n) a b
   report_ends writes.Ok m b before reports = reported m b before reports
   report_ends writes.Failed m b before reports = report_broke m b before reports
+
+-- the report of parts that stand as others do
+pub report_stands : {T : Type 0} (out : Outputs) (t s : List ℕ) (n : ℕ) (a : Outside) (report : List T → List ℕ) (stood stand : List T) (wanted : Bool) (end : WriteEnd) (m b : Outside) →
+    stood ≡ stand → wanted ≡ is_some out.report → Writes writes.Ok (texts_for out t s [] n) a m → Reports wanted (report stood) end m b → Writes end (texts_for out t s (report stand) n) a b
+report_stands {T = T} out t s n a report stood stand wanted end m b same asked before reports =
+    report_ends out t s (report stand) n a end m b before
+    (subst (λ (w : Bool). Reports w (report stand) end m b) asked (subst (λ (x : List T). Reports wanted (report x) end m b) same reports))

@@ -8,11 +8,9 @@ ghost use Rattle.chip_module.specs.Sources.{HasFewPins, pins_of};
 ghost use Rattle.cli_board.specs.Contents.{contents_of};
 ghost use Rattle.cli_board.specs.Counted.{IsCounted};
 
-use crate::running::{Contents, make_head};
-use any_part::load;
+use crate::running::{Contents, load_board};
 use board_build::Plan;
 use board_outputs::count;
-use board_run::Board;
 use sim_base::{Bench, MOST_CYCLES, OutOfMemory, Steps};
 use std::alloc::Global;
 use std::mem::drop;
@@ -37,29 +35,8 @@ pub fn count_board<B: Bench, L: Ledger>(
     ensures ports { SamePorts (B.outside bench.old) (B.outside bench.new) }
     ensures reads { (B.outside bench.new).read_faults ≡ (B.outside bench.old).read_faults }
 {
-    let Contents {
-        flash,
-        chips,
-        budget,
-    } = contents;
-    // Each drop is one call, where one at the end of the scope is proved field by field on each way out.
-    let Ok(mut head) = make_head(alloc, &plan, chips) else {
-        drop(flash);
-        drop(plan);
-        return Err(OutOfMemory);
-    };
-    let Ok(parts) = load(alloc, &plan, flash, chips, budget) else {
-        drop(head);
-        drop(plan);
-        return Err(OutOfMemory);
-    };
-    drop(plan.parts);
-    let Ok(mut board) = Board::new(alloc, parts, plan.wiring, plan.inputs) else {
-        drop(head);
-        return Err(OutOfMemory);
-    };
-    let counts = count(&mut board, &mut head, n, bench, steps);
-    drop(board);
-    drop(head);
+    let mut loaded = load_board(alloc, contents, plan)?;
+    let counts = count(&mut loaded.board, &mut loaded.head, n, bench, steps);
+    drop(loaded);
     Ok(counts)
 }

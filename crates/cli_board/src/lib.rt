@@ -9,5 +9,5 @@ mod playing;
 mod running;
 
 pub use counting::count_board;
-pub use playing::{Listing, write_run};
+pub use playing::{Loaded, write_run};
 pub use running::{Contents, make_head, run_board};

@@ -10,16 +10,16 @@ ghost use Rattle.board_outputs.specs.Outputs.{outputs_of};
 ghost use Rattle.board_outputs.specs.Ran.{Ran};
 ghost use Rattle.board_outputs.specs.Variables.{board_variables};
 ghost use Rattle.cli_board.specs.Contents.{contents_of};
-ghost use Rattle.cli_board.specs.Run.{run_texts, run_wakes};
+ghost use Rattle.cli_board.specs.Run.{IsLoaded, run_texts, run_wakes};
 
-use crate::playing::{Listing, write_run};
-use any_part::load;
+use crate::playing::{Loaded, write_run};
+use any_part::{AnyPart, load};
 use board_build::Plan;
 use board_outputs::{Outputs, wave_head};
 use board_run::Board;
 use chip_module::{ChipSource, pins_of};
 use cli_work::WorkEnd;
-use sim_base::{Bench, Flash, MOST_CYCLES, OutOfMemory, Steps, WriteEnd};
+use sim_base::{Bench, Flash, MOST_CYCLES, OutOfMemory, Steps};
 use std::alloc::Global;
 use std::mem::drop;
 use std::sync::ledger::Ledger;
@@ -40,6 +40,46 @@ pub struct Contents<'a> {
     pub flash: Flash,
     pub chips: &'a [ChipSource],
     pub budget: u32,
+}
+
+/// Loads the board of a plan with these contents, and makes the head of its wave.
+pub(crate) fn load_board(
+    alloc: Global,
+    contents: Contents<'_>,
+    plan: Plan,
+) -> Result<Loaded<AnyPart>, OutOfMemory>
+    requires plan { IsPlan (pins_of contents.chips.now) plan }
+    requires few_pins { All HasFewPins contents.chips.now }
+    requires inputs { AreInputs (length plan.parts) plan.inputs }
+    ensures { IfOk result (IsLoaded (contents_of contents.entry) plan) }
+{
+    let Contents {
+        flash,
+        chips,
+        budget,
+    } = contents;
+    // Each drop is one call, where one at the end of the scope is proved field by field on each way out.
+    let Ok(head) = make_head(alloc, &plan, chips) else {
+        drop(flash);
+        drop(plan);
+        return Err(OutOfMemory);
+    };
+    let Ok(parts) = load(alloc, &plan, flash, chips, budget) else {
+        drop(head);
+        drop(plan);
+        return Err(OutOfMemory);
+    };
+    let planned = plan.parts;
+    let Ok(board) = Board::new(alloc, parts, plan.wiring, plan.inputs) else {
+        drop(head);
+        drop(planned);
+        return Err(OutOfMemory);
+    };
+    Ok(Loaded {
+        board,
+        parts: planned,
+        head,
+    })
 }
 
 /// Takes all memory that the run of a plan for `n` cycles needs, at most `MOST_CYCLES`, and runs it with
@@ -64,38 +104,8 @@ pub fn run_board<B: Bench, L: Ledger>(
     ensures steps { outcome_of result ≡ ends.Accepted →
         steps.new ≡ steps.old + run_wakes (contents_of contents.entry) plan n }
 {
-    let Contents {
-        flash,
-        chips,
-        budget,
-    } = contents;
-    // Each drop is one call, where one at the end of the scope is proved field by field on each way out.
-    let Ok(mut head) = make_head(alloc, &plan, chips) else {
-        drop(flash);
-        drop(plan);
-        return WorkEnd::OutOfMemory;
-    };
-    let Ok(parts) = load(alloc, &plan, flash, chips, budget) else {
-        drop(head);
-        drop(plan);
-        return WorkEnd::OutOfMemory;
-    };
-    let planned = plan.parts;
-    let Ok(mut board) = Board::new(alloc, parts, plan.wiring, plan.inputs) else {
-        drop(head);
-        drop(planned);
-        return WorkEnd::OutOfMemory;
-    };
-    let listing = Listing {
-        parts: planned.as_slice(),
-        chips: true,
-    };
-    let end = write_run(&mut board, &mut head, listing, n, outputs, bench, steps);
-    drop(board);
-    drop(head);
-    drop(planned);
-    match end {
-        WriteEnd::Ok => WorkEnd::Accepted,
-        WriteEnd::Failed => WorkEnd::WriteFailed,
+    match load_board(alloc, contents, plan) {
+        Ok(loaded) => write_run(loaded, n, true, outputs, bench, steps),
+        Err(OutOfMemory) => WorkEnd::OutOfMemory,
     }
 }

@@ -15,12 +15,13 @@ ghost use Rattle.cli_replay.specs.Plays.{IsReady, play_of};
 
 use board_outputs::Outputs;
 use board_run::Board;
-use cli_board::{Listing, make_head, write_run};
+use cli_board::{Loaded, make_head, write_run};
 use cli_project::{ScriptedProject, Work, read_work};
 use cli_work::{Stop, WorkEnd, stopped};
 use played_part::load_played;
-use sim_base::{Bench, Fault, MOST_CYCLES, Steps, WriteEnd};
+use sim_base::{Bench, Fault, MOST_CYCLES, Steps};
 use std::alloc::Global;
+use std::mem::drop;
 use std::sync::ledger::Ledger;
 use vcd_text::{DriveRows, WaveHead, read_wave};
 
@@ -41,14 +42,22 @@ fn read_rows(alloc: Global, name: &str, work: Work, n: u32) -> Result<Play, Work
     ensures repeated { (a : Outside) → Got play_of outcome_of result (RepeatIn name.now n (work_of work)) a a }
     ensures ready { IfOk result (IsReady n) }
 {
+    // Each drop is one call, where one at the end of the scope is proved field by field on each way out.
     let Ok(head) = make_head(alloc, &work.plan, work.chips.as_slice()) else {
+        drop(work);
         return Err(WorkEnd::OutOfMemory);
     };
     let pins = work.plan.wiring.net_of.len();
     match read_wave(alloc, &head, pins, n, work.wave.as_slice()) {
         Ok(rows) => Ok(Play { work, head, rows }),
-        Err(Fault::Refused(refusal)) => Err(stopped(alloc, name, Stop::Refused(refusal))),
-        Err(Fault::OutOfMemory) => Err(WorkEnd::OutOfMemory),
+        Err(Fault::Refused(refusal)) => {
+            drop((head, work));
+            Err(stopped(alloc, name, Stop::Refused(refusal)))
+        }
+        Err(Fault::OutOfMemory) => {
+            drop((head, work));
+            Err(WorkEnd::OutOfMemory)
+        }
     }
 }
 
@@ -90,32 +99,34 @@ fn play_board<B: Bench, L: Ledger>(
     ensures ran { Ran (outcome_of result) (replay_texts (outputs_of outputs.entry) n (play_of play)) (B.outside bench.old) (B.outside bench.new) }
     ensures steps { outcome_of result ≡ ends.Accepted → steps.new ≡ steps.old + play_wakes (play_of play) n }
 {
-    let Play {
-        work,
-        mut head,
-        rows,
-    } = play;
+    let Play { work, head, rows } = play;
     let Work {
+        project,
         flash,
+        diagram,
         chips,
         plan,
-        ..
+        wave,
     } = work;
+    // Each drop is one call, where one at the end of the scope is proved field by field on each way out.
+    drop((project, diagram, wave));
     let Ok(parts) = load_played(alloc, &plan, flash, chips.as_slice(), &rows) else {
+        drop((chips, rows));
+        drop((plan, head));
         return WorkEnd::OutOfMemory;
     };
+    drop((chips, rows));
     let planned = plan.parts;
-    let Ok(mut board) = Board::new(alloc, parts, plan.wiring, plan.inputs) else {
+    let Ok(board) = Board::new(alloc, parts, plan.wiring, plan.inputs) else {
+        drop((planned, head));
         return WorkEnd::OutOfMemory;
     };
-    let listing = Listing {
-        parts: planned.as_slice(),
-        chips: false,
+    let loaded = Loaded {
+        board,
+        parts: planned,
+        head,
     };
-    match write_run(&mut board, &mut head, listing, n, outputs, bench, steps) {
-        WriteEnd::Ok => WorkEnd::Accepted,
-        WriteEnd::Failed => WorkEnd::WriteFailed,
-    }
+    write_run(loaded, n, false, outputs, bench, steps)
 }
 
 /// Runs a project under its script for so many microseconds, 16 cycles each, with a player of what a wave says in place of each

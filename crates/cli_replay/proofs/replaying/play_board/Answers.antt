@@ -1,7 +1,7 @@
-use Rattle.std.proofs.Common.{◌∙◌, ap, map, false, refl, arith}
+use Rattle.std.proofs.Common.{◌∙◌, ℕ, ap, map, false, refl, subst, sym, arith}
 use Rattle.std.specs.List.{All}
 use Rattle.std.proofs.lemmas.List.Elements.{All-map}
-use Rattle.sim_base.specs.declared.bench.WriteEnd.TheVariants as writes
+use Rattle.board_model.specs.Fits.{AreInputs}
 use Rattle.board_run.specs.BoardView.{BoardView}
 use Rattle.board_laws.specs.Play.{or_player}
 use Rattle.board_build.specs.Pins.{IsShort}
@@ -11,6 +11,8 @@ use Rattle.any_part.specs.AnyPart.{any}
 use Rattle.board_report.specs.Report.{play_part_text}
 use Rattle.played_part.specs.Played.{PlayedPart, state_of}
 use Rattle.board_outputs.specs.Outputs.{outputs_of}
+use Rattle.board_outputs.specs.Start.{IsAtStart}
+use Rattle.cli_work.specs.Outcomes.{outcome_of}
 use Rattle.cli_board.proofs.PlayLemmas.{same_texts}
 use Rattle.board_outputs.proofs.VariableLemmas.{pins_few}
 use Rattle.cli_replay.proofs.ReplayLemmas.{same_wakes}
@@ -25,26 +27,32 @@ load_played-requires-clause-rows g c =
       order = c.requires.ready.order;
     }
 
-pub returns-in-Ok-write_run-clause-ran : goal.returns-in-Ok-write_run-clause-ran
-returns-in-Ok-write_run-clause-ran g c =
-    let is = c.in-Ok-new.ensures in
-    same_texts (or_player any) play_part_text false writes.Ok (outputs_of c.args.outputs) c.args.n (g.B.Bench.outside c.args.bench.now) (g.B.Bench.outside c.write_run.new.bench) _ _ _ _ _ _ _ _ _ _
-    c.requires.ready.head (ap (λ (x : BoardView PlayedPart). x.wiring) is) (ap (λ (x : BoardView PlayedPart). x.inputs) is)
-    (ap (λ (x : BoardView PlayedPart). map state_of x.parts) is ∙ rw c.as_slice.ensures at c.in-Ok.ensures.states) c.as_slice-2.ensures
-    (c.in-Ok-write_run.ensures.wrote _ (λ parts same. same))
+pub new-requires : goal.new-requires
+new-requires g c =
+    let sound = c.requires.ready.sound in
+    let loaded = c.in-Ok.ensures in
+    record {
+      few = omega (arith, loaded.all, sound.plan.few);
+      wiring = sound.plan.wiring;
+      fits = loaded.fits;
+      inputs = subst (λ (k : ℕ). AreInputs k c.args.play.work.plan.inputs) (sym loaded.all) sound.inputs;
+      fresh = loaded.fresh;
+    }
+
+pub write_run-requires-clause-start : goal.write_run-requires-clause-start
+write_run-requires-clause-start g c = subst IsAtStart (sym c.in-Ok-new.ensures) (record { cycle = refl; alive = refl; before = refl })
 
 pub returns-clause-ran : goal.returns-clause-ran
 returns-clause-ran g c =
     let is = c.in-Ok-new.ensures in
-    same_texts (or_player any) play_part_text false writes.Failed (outputs_of c.args.outputs) c.args.n (g.B.Bench.outside c.args.bench.now) (g.B.Bench.outside c.write_run.new.bench) _ _ _ _ _ _ _ _ _ _
+    same_texts (or_player any) play_part_text false (outcome_of c.write_run.result) (outputs_of c.args.outputs) c.args.n (g.B.Bench.outside c.args.bench.now) (g.B.Bench.outside c.write_run.new.bench) _ _ _ _ _ _ _ _ _ _
     c.requires.ready.head (ap (λ (x : BoardView PlayedPart). x.wiring) is) (ap (λ (x : BoardView PlayedPart). x.inputs) is)
-    (ap (λ (x : BoardView PlayedPart). map state_of x.parts) is ∙ rw c.as_slice.ensures at c.in-Ok.ensures.states) c.as_slice-2.ensures
-    (c.in-Failed.ensures.wrote _ (λ parts same. same))
+    (ap (λ (x : BoardView PlayedPart). map state_of x.parts) is ∙ rw c.as_slice.ensures at c.in-Ok.ensures.states) refl (c.write_run.ensures.ran _ (λ parts same. same))
 
-pub returns-in-Ok-write_run-clause-steps : goal.returns-in-Ok-write_run-clause-steps
-returns-in-Ok-write_run-clause-steps g c accepted =
+pub returns-clause-steps : goal.returns-clause-steps
+returns-clause-steps g c accepted =
     let is = c.in-Ok-new.ensures in
     same_wakes (or_player any) c.args.n c.args.steps.now c.write_run.new.steps _ _ _ _ _ _
     (ap (λ (x : BoardView PlayedPart). x.wiring) is) (ap (λ (x : BoardView PlayedPart). x.inputs) is)
     (ap (λ (x : BoardView PlayedPart). map state_of x.parts) is ∙ rw c.as_slice.ensures at c.in-Ok.ensures.states)
-    (c.in-Ok-write_run.ensures.steps refl)
+    (c.write_run.ensures.steps accepted)

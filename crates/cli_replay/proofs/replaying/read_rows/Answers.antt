@@ -45,7 +45,7 @@ returns-in-Ok-read_wave-clause-repeated c = λ a. (
   refl,
 )
 
-refused : (c : goal.After-drop-work-in-Err-Refused-13) →
+refused : (c : goal.After-stopped) →
     wave_rows (board_variables (pins_of c.args.work.chips) c.args.work.plan) (length c.args.work.plan.wiring.net_of) c.args.n c.args.work.wave.items ≡ Err c.in-Err-Refused.refusal
 refused c =
     let variables : List Variable = board_variables (pins_of c.args.work.chips) c.args.work.plan in
