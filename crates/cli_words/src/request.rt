@@ -1,14 +1,13 @@
 //! The request of the words.
-ghost use Rattle.std.specs.Prelude.{◌≡◌, ◌≤◌, ◌<◌, map, string_bytes, IfOk, IfSome};
-ghost use Rattle.std.specs.Option.{option_map, option_and_then};
-ghost use Rattle.words_model.specs.Words.{Given, texts_of};
+ghost use Rattle.std.specs.Prelude.{◌≡◌, ◌≤◌, ◌<◌, List, Some, length, map, string_bytes, IfOk, IfSome};
+ghost use Rattle.std.specs.Option.{option_map};
+ghost use Rattle.words_model.specs.Words.{Text, Given};
 ghost use Rattle.words_model.specs.Request.{request_of, asked_by, path_of, file_of, named_of, micros_of, budget_of};
-ghost use Rattle.words_model.specs.Request.{bare_syntax, bare_of, check_syntax, check_of, module_syntax, module_of};
-ghost use Rattle.words_model.specs.Request.{run_syntax, run_of, replay_syntax, replay_of, twin_syntax, twin_of};
-ghost use Rattle.words_model.specs.Request.{make_syntax, make_of, seed_of, decode_syntax, decode_of};
+ghost use Rattle.words_model.specs.Request.{bare_of, check_of, module_of, run_of, replay_of, twin_of, make_of, seed_of, decode_of};
 ghost use Rattle.words_model.specs.Request.{bus_of, uart_of, spi_of, i2c_of, bit_of, mode_of, is_absent, lacks_uart, lacks_spi, lacks_i2c};
 ghost use Rattle.cli_words.specs.Commands.{AreOf};
 ghost use Rattle.cli_words.specs.Asked.{asked_of, bus_by, named_by, IsNamedBus, IsRunTime};
+ghost use Rattle.cli_words.specs.Table.{asked_with, request_of_texts, syntax_by, syntax_of};
 
 use crate::commands::{read_texts, text};
 use crate::number::read_number;
@@ -57,6 +56,22 @@ pub enum Request<'a> {
     /// The frames on a bus, read from a wave.
     Decode(&'a str, NamedBus<'a>),
 }
+
+/// A command.
+#[derive(Clone, Copy)]
+enum Command {
+    Bare,
+    Check,
+    Module,
+    Run,
+    Replay,
+    Twin,
+    Make,
+    Decode,
+}
+
+/// The names of words or of options, in their order.
+type Names = &'static [&'static str];
 
 /// A file or a folder, whose name is not empty.
 fn path<'a>(matches: &ArgMatches<'a>, name: &str) -> Option<&'a str>
@@ -109,17 +124,6 @@ fn bare<'a>(matches: &ArgMatches<'a>) -> Option<Request<'a>>
     }
 }
 
-/// `bare HEX --us N`
-fn read_bare(alloc: Global, given: &[String]) -> Result<Option<Request<'_>>, AllocError>
-    ensures request { IfOk result (λ o. option_map asked_of o ≡ option_and_then bare_of (texts_of bare_syntax (map string_bytes given.entry.now))) }
-    ensures run_time { IfOk result (λ o. IfSome o IsRunTime) }
-{
-    match read_texts(alloc, &["hex"], &["us"], given)? {
-        Some(matches) => Ok(bare(&matches)),
-        None => Ok(None),
-    }
-}
-
 fn check<'a>(matches: &ArgMatches<'a>) -> Option<Request<'a>>
     ensures asked { (given : Given) → AreOf given matches.now → option_map asked_of result ≡ check_of given }
     ensures run_time { IfSome result IsRunTime }
@@ -130,17 +134,6 @@ fn check<'a>(matches: &ArgMatches<'a>) -> Option<Request<'a>>
     }
 }
 
-/// `check FOLDER`
-fn read_check(alloc: Global, given: &[String]) -> Result<Option<Request<'_>>, AllocError>
-    ensures request { IfOk result (λ o. option_map asked_of o ≡ option_and_then check_of (texts_of check_syntax (map string_bytes given.entry.now))) }
-    ensures run_time { IfOk result (λ o. IfSome o IsRunTime) }
-{
-    match read_texts(alloc, &["folder"], &[], given)? {
-        Some(matches) => Ok(check(&matches)),
-        None => Ok(None),
-    }
-}
-
 fn module<'a>(matches: &ArgMatches<'a>) -> Option<Request<'a>>
     ensures asked { (given : Given) → AreOf given matches.now → option_map asked_of result ≡ module_of given }
     ensures run_time { IfSome result IsRunTime }
@@ -148,17 +141,6 @@ fn module<'a>(matches: &ArgMatches<'a>) -> Option<Request<'a>>
     match path(matches, "file") {
         Some(file) => Some(Request::Module(file)),
         None => None,
-    }
-}
-
-/// `module FILE`
-fn read_module(alloc: Global, given: &[String]) -> Result<Option<Request<'_>>, AllocError>
-    ensures request { IfOk result (λ o. option_map asked_of o ≡ option_and_then module_of (texts_of module_syntax (map string_bytes given.entry.now))) }
-    ensures run_time { IfOk result (λ o. IfSome o IsRunTime) }
-{
-    match read_texts(alloc, &["file"], &[], given)? {
-        Some(matches) => Ok(module(&matches)),
-        None => Ok(None),
     }
 }
 
@@ -193,22 +175,6 @@ fn run<'a>(matches: &ArgMatches<'a>) -> Option<Request<'a>>
             Some(Request::Run(folder, micros, budget, named))
         }
         _ => None,
-    }
-}
-
-/// `run FOLDER --us N [--script FILE] [--vcd FILE] [--report FILE] [--budget N]`
-fn read_run(alloc: Global, given: &[String]) -> Result<Option<Request<'_>>, AllocError>
-    ensures request { IfOk result (λ o. option_map asked_of o ≡ option_and_then run_of (texts_of run_syntax (map string_bytes given.entry.now))) }
-    ensures run_time { IfOk result (λ o. IfSome o IsRunTime) }
-{
-    match read_texts(
-        alloc,
-        &["folder"],
-        &["us", "script", "vcd", "report", "budget"],
-        given,
-    )? {
-        Some(matches) => Ok(run(&matches)),
-        None => Ok(None),
     }
 }
 
@@ -263,44 +229,6 @@ fn make<'a>(matches: &ArgMatches<'a>) -> Option<Request<'a>>
     match (seed(matches), micros(matches)) {
         (Some(seed), Some(micros)) => Some(Request::Make(seed, micros)),
         _ => None,
-    }
-}
-
-/// `replay FOLDER WAVE --us N [--script FILE] [--vcd FILE] [--report FILE]`
-fn read_replay(alloc: Global, given: &[String]) -> Result<Option<Request<'_>>, AllocError>
-    ensures request { IfOk result (λ o. option_map asked_of o ≡ option_and_then replay_of (texts_of replay_syntax (map string_bytes given.entry.now))) }
-    ensures run_time { IfOk result (λ o. IfSome o IsRunTime) }
-{
-    match read_texts(
-        alloc,
-        &["folder", "wave"],
-        &["us", "script", "vcd", "report"],
-        given,
-    )? {
-        Some(matches) => Ok(replay(&matches)),
-        None => Ok(None),
-    }
-}
-
-/// `twin FOLDER OTHER --us N [--budget N]`
-fn read_twin(alloc: Global, given: &[String]) -> Result<Option<Request<'_>>, AllocError>
-    ensures request { IfOk result (λ o. option_map asked_of o ≡ option_and_then twin_of (texts_of twin_syntax (map string_bytes given.entry.now))) }
-    ensures run_time { IfOk result (λ o. IfSome o IsRunTime) }
-{
-    match read_texts(alloc, &["folder", "other"], &["us", "budget"], given)? {
-        Some(matches) => Ok(twin(&matches)),
-        None => Ok(None),
-    }
-}
-
-/// `make SEED --us N`
-fn read_make(alloc: Global, given: &[String]) -> Result<Option<Request<'_>>, AllocError>
-    ensures request { IfOk result (λ o. option_map asked_of o ≡ option_and_then make_of (texts_of make_syntax (map string_bytes given.entry.now))) }
-    ensures run_time { IfOk result (λ o. IfSome o IsRunTime) }
-{
-    match read_texts(alloc, &["seed"], &["us"], given)? {
-        Some(matches) => Ok(make(&matches)),
-        None => Ok(None),
     }
 }
 
@@ -417,41 +345,76 @@ fn decode<'a>(matches: &ArgMatches<'a>) -> Option<Request<'a>>
     }
 }
 
-/// `decode WAVE` with the words of a bus
-fn read_decode(alloc: Global, given: &[String]) -> Result<Option<Request<'_>>, AllocError>
-    ensures request { IfOk result (λ o. option_map asked_of o ≡ option_and_then decode_of (texts_of decode_syntax (map string_bytes given.entry.now))) }
-    ensures run_time { IfOk result (λ o. IfSome o IsRunTime) }
+fn command_of(word: &str) -> Option<Command>
+    ensures { (given : List Text) → asked_by word.now given ≡ asked_with result given }
 {
-    match read_texts(
-        alloc,
-        &["wave"],
-        &["uart", "bit", "spi", "data", "mode", "i2c", "sda"],
-        given,
-    )? {
-        Some(matches) => Ok(decode(&matches)),
-        None => Ok(None),
+    match word {
+        "bare" => Some(Command::Bare),
+        "check" => Some(Command::Check),
+        "module" => Some(Command::Module),
+        "run" => Some(Command::Run),
+        "replay" => Some(Command::Replay),
+        "twin" => Some(Command::Twin),
+        "make" => Some(Command::Make),
+        "decode" => Some(Command::Decode),
+        _ => None,
+    }
+}
+
+/// What a command has for its positional words, and its options:
+/// `bare HEX --us N`, `check FOLDER`, `module FILE`,
+/// `run FOLDER --us N [--script FILE] [--vcd FILE] [--report FILE] [--budget N]`,
+/// `replay FOLDER WAVE --us N [--script FILE] [--vcd FILE] [--report FILE]`,
+/// `twin FOLDER OTHER --us N [--budget N]`, `make SEED --us N`, and `decode WAVE` with the words of a bus.
+fn syntax_of(command: Command) -> (Names, Names)
+    ensures are { syntax_by result ≡ syntax_of command }
+    ensures few { length (result.0).now < 100 }
+{
+    match command {
+        Command::Bare => (&["hex"], &["us"]),
+        Command::Check => (&["folder"], &[]),
+        Command::Module => (&["file"], &[]),
+        Command::Run => (&["folder"], &["us", "script", "vcd", "report", "budget"]),
+        Command::Replay => (&["folder", "wave"], &["us", "script", "vcd", "report"]),
+        Command::Twin => (&["folder", "other"], &["us", "budget"]),
+        Command::Make => (&["seed"], &["us"]),
+        Command::Decode => (
+            &["wave"],
+            &["uart", "bit", "spi", "data", "mode", "i2c", "sda"],
+        ),
+    }
+}
+
+/// What the texts after a command ask for.
+fn request_in<'a>(command: Command, matches: &ArgMatches<'a>) -> Option<Request<'a>>
+    ensures asked { (given : Given) → AreOf given matches.now → option_map asked_of result ≡ request_of_texts command given }
+    ensures run_time { IfSome result IsRunTime }
+{
+    match command {
+        Command::Bare => bare(matches),
+        Command::Check => check(matches),
+        Command::Module => module(matches),
+        Command::Run => run(matches),
+        Command::Replay => replay(matches),
+        Command::Twin => twin(matches),
+        Command::Make => make(matches),
+        Command::Decode => decode(matches),
     }
 }
 
 /// The request of a command with these words after it.
 fn read_command<'a>(
     alloc: Global,
-    command: &str,
+    command: Command,
     given: &'a [String],
 ) -> Result<Option<Request<'a>>, AllocError>
-    ensures request { IfOk result (λ o. option_map asked_of o ≡ asked_by command.now (map string_bytes given.entry.now)) }
+    ensures request { IfOk result (λ o. option_map asked_of o ≡ asked_with (Some command) (map string_bytes given.entry.now)) }
     ensures run_time { IfOk result (λ o. IfSome o IsRunTime) }
 {
-    match command {
-        "bare" => read_bare(alloc, given),
-        "check" => read_check(alloc, given),
-        "module" => read_module(alloc, given),
-        "run" => read_run(alloc, given),
-        "replay" => read_replay(alloc, given),
-        "twin" => read_twin(alloc, given),
-        "make" => read_make(alloc, given),
-        "decode" => read_decode(alloc, given),
-        _ => Ok(None),
+    let (words, options) = syntax_of(command);
+    match read_texts(alloc, words, options, given)? {
+        Some(matches) => Ok(request_in(command, &matches)),
+        None => Ok(None),
     }
 }
 
@@ -461,8 +424,11 @@ pub fn read_words(alloc: Global, words: &[String]) -> Result<Option<Request<'_>>
     ensures request { IfOk result (λ o. option_map asked_of o ≡ request_of (map string_bytes words.now)) }
     ensures run_time { IfOk result (λ o. IfSome o IsRunTime) }
 {
-    match words.split_first() {
-        Some((command, given)) => read_command(alloc, command.as_str(), given),
+    let Some((word, given)) = words.split_first() else {
+        return Ok(None);
+    };
+    match command_of(word.as_str()) {
+        Some(command) => read_command(alloc, command, given),
         None => Ok(None),
     }
 }
