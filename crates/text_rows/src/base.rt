@@ -1,4 +1,5 @@
 //! Rows of the lowest types: which levels read as 1, refusals by their numbers, names and texts.
+use crate::answer::Answer;
 use crate::row::str_of;
 use sim_base::{Level, Name, OutOfMemory, Text, reads_one, refusal_name};
 use std::alloc::Global;
@@ -6,18 +7,18 @@ use std::alloc::Global;
 /// - `reads WIPED`: what an input reads on a wiper at a position; `reads High` and its like
 /// - `refusal NUMBER`: its name
 /// - `name TEXT`, `text BYTES`: that text
-pub fn base_answer(alloc: Global, bytes: &[u8]) -> Result<String, OutOfMemory> {
-    let made = match split(bytes) {
-        (b"reads", rest) => reads(str_of(rest)),
-        (b"refusal", rest) => refusal(str_of(rest)),
-        (b"name", rest) => return name(alloc, str_of(rest)),
-        (b"text", rest) => return text(alloc, rest),
-        _ => "none",
-    };
-    Ok(String::from_str(alloc, made)?)
+pub fn base_answer(alloc: Global, made: &mut Answer, bytes: &[u8]) {
+    let (word, rest) = split(bytes);
+    match str_of(word) {
+        "reads" => made.tell(reads(str_of(rest))),
+        "refusal" => made.tell(refusal(str_of(rest))),
+        "name" => tell_name(made, str_of(rest)),
+        "text" => tell_text(alloc, made, rest),
+        _ => made.tell("none"),
+    }
 }
 
-/// The first word, and what stands behind the blank after it.
+/// The first word, and what is after its blank.
 fn split(bytes: &[u8]) -> (&[u8], &[u8]) {
     for i in 0..bytes.len() {
         if bytes[i] == b' ' {
@@ -43,18 +44,17 @@ fn refusal(number: &str) -> &'static str {
     if name.is_empty() { "none" } else { name }
 }
 
-fn name(alloc: Global, text: &str) -> Result<String, OutOfMemory> {
-    let made = match Name::read(text) {
-        Some(name) => String::from_str(alloc, name.as_str())?,
-        None => String::from_str(alloc, "none")?,
-    };
-    Ok(made)
+fn tell_name(made: &mut Answer, text: &str) {
+    match Name::read(text) {
+        Some(name) => made.tell(name.as_str()),
+        None => made.tell("none"),
+    }
 }
 
-fn text(alloc: Global, bytes: &[u8]) -> Result<String, OutOfMemory> {
-    let made = match Text::read(alloc, bytes)? {
-        Some(text) => String::from_str(alloc, text.as_str())?,
-        None => String::from_str(alloc, "none")?,
-    };
-    Ok(made)
+fn tell_text(alloc: Global, made: &mut Answer, bytes: &[u8]) {
+    match Text::read(alloc, bytes) {
+        Ok(Some(text)) => made.tell(text.as_str()),
+        Ok(None) => made.tell("none"),
+        Err(OutOfMemory) => made.run_out(),
+    }
 }

@@ -1,34 +1,27 @@
 //! The answer of a reader that refuses its text.
-use sim_base::{Fault, OutOfMemory, Place, Refusal, refusal_name};
-use std::alloc::Global;
-use std::fmt;
-use std::fmt::{Display, Formatter, Write};
+use crate::answer::Answer;
+use sim_base::{Fault, Place, Refusal, refusal_name};
 
-#[derive(Clone, Copy)]
-struct Told(Refusal);
-
-impl Display for Told {
-    fn fmt<W: Write>(&self, f: &mut Formatter<W>) -> fmt::Result {
-        let number = self.0.number;
-        let name = refusal_name(number);
-        write!(f, "refused {number} {name}")?;
-        match self.0.place {
-            Place::Line(n) => write!(f, " line {n}"),
-            Place::Part(n) => write!(f, " part {n}"),
-            Place::Connection(n) => write!(f, " connection {n}"),
-            Place::Chip(n) => write!(f, " chip {n}"),
-            _ => Ok(()),
-        }
+/// Says what is refused, and where.
+pub fn refused(made: &mut Answer, fault: &Fault) {
+    match fault {
+        Fault::Refused(refusal) => tell_refusal(made, *refusal),
+        Fault::OutOfMemory => made.run_out(),
     }
 }
 
-/// Says what is refused, and where.
-pub fn refused(alloc: Global, fault: &Fault) -> Result<String, OutOfMemory> {
-    match fault {
-        Fault::Refused(refusal) => {
-            let told = Told(*refusal);
-            Ok(format!(in alloc; "{told}")?)
-        }
-        Fault::OutOfMemory => Err(OutOfMemory),
+fn tell_refusal(made: &mut Answer, refusal: Refusal) {
+    made.tell_number("refused ", u64::from(refusal.number));
+    made.tell_all(&[" ", refusal_name(refusal.number)]);
+    tell_place(made, refusal.place);
+}
+
+fn tell_place(made: &mut Answer, place: Place) {
+    match place {
+        Place::Line(n) => made.tell_number(" line ", u64::from(n)),
+        Place::Part(n) => made.tell_number(" part ", u64::from(n)),
+        Place::Connection(n) => made.tell_number(" connection ", u64::from(n)),
+        Place::Chip(n) => made.tell_number(" chip ", u64::from(n)),
+        _ => {}
     }
 }

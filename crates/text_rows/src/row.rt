@@ -5,18 +5,24 @@ use std::alloc::{AllocError, Global};
 /// then REST.
 pub fn text_of(alloc: Global, text: &str) -> Result<Vec<u8>, AllocError> {
     let mut bytes = Vec::new(alloc);
-    match text.strip_prefix('*') {
-        Some(repeated) => {
-            let (count, repeated) = repeated.split_once(' ').unwrap_or((repeated, ""));
-            let (first, rest) = repeated.split_once(" + ").unwrap_or((repeated, ""));
-            for _ in 0..count.parse::<u16>().unwrap_or(0) {
-                push_text(&mut bytes, first)?;
-            }
-            push_text(&mut bytes, rest)?;
-        }
-        None => push_text(&mut bytes, text)?,
-    }
+    push_all(&mut bytes, text)?;
     Ok(bytes)
+}
+
+fn push_all(bytes: &mut Vec<u8>, text: &str) -> Result<(), AllocError> {
+    match text.strip_prefix('*') {
+        Some(repeated) => push_repeated(bytes, repeated),
+        None => push_text(bytes, text),
+    }
+}
+
+fn push_repeated(bytes: &mut Vec<u8>, text: &str) -> Result<(), AllocError> {
+    let (count, repeated) = text.split_once(' ').unwrap_or((text, ""));
+    let (first, rest) = repeated.split_once(" + ").unwrap_or((repeated, ""));
+    for _ in 0..count.parse::<u16>().unwrap_or(0) {
+        push_text(bytes, first)?;
+    }
+    push_text(bytes, rest)
 }
 
 fn push_text(bytes: &mut Vec<u8>, text: &str) -> Result<(), AllocError> {
@@ -30,31 +36,26 @@ fn push_text(bytes: &mut Vec<u8>, text: &str) -> Result<(), AllocError> {
     Ok(())
 }
 
-/// What stands behind a backslash, and the text after it.
-fn push_escaped(bytes: &mut Vec<u8>, part: &str) -> Result<(), AllocError> {
-    if let Some(rest) = part.strip_prefix('n') {
-        bytes.push(b'\n')?;
-        bytes.extend_from_slice(rest.as_bytes())?;
-    } else if let Some(rest) = part.strip_prefix('r') {
-        bytes.push(b'\r')?;
-        bytes.extend_from_slice(rest.as_bytes())?;
-    } else if let Some(rest) = part.strip_prefix('t') {
-        bytes.push(b'\t')?;
-        bytes.extend_from_slice(rest.as_bytes())?;
-    } else if let Some(rest) = part.strip_prefix('x') {
-        let (digits, rest) = rest.split_at_checked(2).unwrap_or((rest, ""));
-        bytes.push(u8::from_str_radix(digits, 16).unwrap_or(0))?;
-        bytes.extend_from_slice(rest.as_bytes())?;
+/// The byte that a backslash before a text escapes, and the text after it.
+fn escaped(part: &str) -> Option<(u8, &str)> {
+    let (letter, rest) = part.split_at_checked(1)?;
+    match letter {
+        "n" => Some((b'\n', rest)),
+        "r" => Some((b'\r', rest)),
+        "t" => Some((b'\t', rest)),
+        "x" => {
+            let (digits, rest) = rest.split_at_checked(2).unwrap_or((rest, ""));
+            Some((u8::from_str_radix(digits, 16).unwrap_or(0), rest))
+        }
+        _ => None,
     }
-    Ok(())
 }
 
-/// Adds a text to those that stand, behind a separator.
-pub fn join(made: &mut String, separator: &str, text: &str) -> Result<(), AllocError> {
-    if !made.is_empty() {
-        made.push_str(separator)?;
+fn push_escaped(bytes: &mut Vec<u8>, part: &str) -> Result<(), AllocError> {
+    if let Some((byte, rest)) = escaped(part) {
+        bytes.push(byte)?;
+        bytes.extend_from_slice(rest.as_bytes())?;
     }
-    made.push_str(text)?;
     Ok(())
 }
 

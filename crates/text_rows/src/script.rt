@@ -1,28 +1,35 @@
 //! Rows of scripts: how many lines act, and the last of them.
+use crate::answer::Answer;
 use crate::refused::refused;
-use input_texts::Script;
+use input_texts::{Script, ScriptRow};
 use script_text::read_script;
-use sim_base::OutOfMemory;
-use std::alloc::{AllocError, Global};
+use std::alloc::Global;
 
-pub fn script_answer(alloc: Global, text: &[u8]) -> Result<String, OutOfMemory> {
+pub fn script_answer(alloc: Global, made: &mut Answer, text: &[u8]) {
     if text.len() > 1_048_576 {
-        return Err(OutOfMemory);
+        made.run_out();
+        return;
     }
     match read_script(alloc, text) {
-        Ok(script) => Ok(told(alloc, &script)?),
-        Err(fault) => refused(alloc, &fault),
+        Ok(script) => answer_for(made, &script),
+        Err(fault) => refused(made, &fault),
     }
 }
 
-fn told(alloc: Global, script: &Script) -> Result<String, AllocError> {
-    let count = script.len();
+fn answer_for(made: &mut Answer, script: &Script) {
     match script.as_slice() {
         [.., row] => {
-            let (line, cycle, part, value) = (row.line, row.cycle, row.part.as_str(), row.value);
-            let action = if row.press { "press" } else { "set" };
-            format!(in alloc; "{count}: line {line} cycle {cycle} {action} {part} {value}")
+            made.tell_number("", script.len() as u64);
+            tell_row(made, row);
         }
-        [] => String::from_str(alloc, "none"),
+        [] => made.tell("none"),
     }
+}
+
+fn tell_row(made: &mut Answer, row: &ScriptRow) {
+    let action = if row.press { " press " } else { " set " };
+    made.tell_number(": line ", u64::from(row.line));
+    made.tell_number(" cycle ", u64::from(row.cycle));
+    made.tell_all(&[action, row.part.as_str()]);
+    made.tell_number(" ", u64::from(row.value));
 }

@@ -1,13 +1,17 @@
 //! Rows of waves: variables between commas, and behind each `|` what a run hands out. The answer is the wave with `¶`
 //! for each line feed (of more than 2,000 bytes the last 28), the bytes of the serial port, and how many changes and
 //! bytes a writer counts that writes neither.
-ghost use Rattle.std.specs.Prelude.{◌≡◌, ◌≤◌, [], ◌∷◌, ◌++◌, if◌then◌else◌, length, slice_get, true, false, None, IfOk, OnOk};
-ghost use Rattle.sim_base.specs.Rows.{AreBut};
+ghost use Rattle.std.specs.Prelude.{◌≡◌, ◌≤◌, ◌<◌, ◌+◌, [], ◌∷◌, ◌++◌, if◌then◌else◌, length, slice_get, true, false, None, IfOk, OnOk};
+ghost use Rattle.sim_base.specs.Rows.{AreBut, IsBehind};
+ghost use Rattle.sim_base.specs.declared.bench.Port.{Port};
 ghost use Rattle.sim_base.specs.declared.bench.WriteEnd.{WriteEnd};
+ghost use Rattle.vcd_text.specs.Writers.{is_whole};
 
+use crate::answer::Answer;
 use crate::row::str_of;
 use sim_base::{Bench, Drive, Level, List, MemBench, OutOfMemory, Port, Watcher, WriteEnd};
 use std::alloc::{AllocError, Global};
+use std::mem::drop;
 use std::snapshot::Snapshot;
 use vcd_text::{Source, Variable, WaveHead, WaveWriter};
 
@@ -21,42 +25,80 @@ enum Event {
     End(u32),
 }
 
-pub fn wave_answer(alloc: Global, text: &[u8]) -> Result<String, OutOfMemory> {
+pub fn wave_answer(alloc: Global, made: &mut Answer, text: &[u8]) {
     let text = str_of(text);
     let (names, rest) = text.split_once('|').unwrap_or((text, ""));
+    match head_of(alloc, names) {
+        Ok(mut head) => answer_under(alloc, made, &mut head, rest),
+        Err(OutOfMemory) => made.run_out(),
+    }
+}
+
+/// The head of a wave of variables.
+pub fn head_of(alloc: Global, names: &str) -> Result<WaveHead, OutOfMemory> {
     let variables = variables_of(alloc, names)?;
     if variables.len() > 8930 {
         return Err(OutOfMemory);
     }
-    let mut head = WaveHead::of(alloc, variables)?;
-    answer_under(alloc, &mut head, rest)
+    WaveHead::of(alloc, variables)
 }
 
-fn answer_under(alloc: Global, head: &mut WaveHead, rest: &str) -> Result<String, OutOfMemory> {
+fn answer_under(alloc: Global, made: &mut Answer, head: &mut WaveHead, rest: &str) {
     let mut events = Vec::new(alloc);
-    for part in rest.split('|') {
-        events.push(event_of(alloc, part)?)?;
+    match read_events(alloc, &mut events, rest) {
+        Ok(()) => answer_to(alloc, made, head, events.as_slice()),
+        Err(OutOfMemory) => made.run_out(),
     }
+    drop(events);
+}
+
+fn read_events(alloc: Global, events: &mut Vec<Event>, rest: &str) -> Result<(), OutOfMemory> {
+    for part in rest.split('|') {
+        read_event(alloc, events, part)?;
+    }
+    Ok(())
+}
+
+fn read_event(alloc: Global, events: &mut Vec<Event>, part: &str) -> Result<(), OutOfMemory> {
+    let event = event_of(alloc, part)?;
+    events.push(event)?;
+    Ok(())
+}
+
+fn answer_to(alloc: Global, made: &mut Answer, head: &mut WaveHead, events: &[Event]) {
     let mut bench = MemBench::new(alloc);
-    answer_on(alloc, head, &mut bench, &events)
+    match make_room(&mut bench) {
+        Ok(()) => answer_on(alloc, made, head, &mut bench, events),
+        Err(OutOfMemory) => made.run_out(),
+    }
+    drop(bench);
+}
+
+fn make_room(bench: &mut MemBench) -> Result<(), OutOfMemory> {
+    bench.room(Port::Wave, 20_000)?;
+    bench.room(Port::Serial, 100)
 }
 
 fn answer_on(
     alloc: Global,
+    made: &mut Answer,
     head: &mut WaveHead,
     bench: &mut MemBench,
     events: &[Event],
-) -> Result<String, OutOfMemory> {
-    bench.room(Port::Wave, 20_000)?;
-    bench.room(Port::Serial, 100)?;
+) {
     write(alloc, head, bench, events);
     let counts = count(alloc, head, events);
-    Ok(told(alloc, bench, counts)?)
+    tell_wave(made, str_of(end_of(bench.written(Port::Wave))));
+    tell_rest(made, str_of(bench.written(Port::Serial)), counts);
 }
 
 fn event_of(alloc: Global, text: &str) -> Result<Event, AllocError> {
     let words: Vec<&str> = text.split_whitespace().collect(alloc)?;
-    match words.as_slice() {
+    event_by(alloc, words.as_slice())
+}
+
+fn event_by(alloc: Global, words: &[&str]) -> Result<Event, AllocError> {
+    match words {
         ["byte", value] => Ok(Event::Byte(value.parse::<u8>().unwrap_or(0))),
         ["end", cycle] => Ok(Event::End(number(cycle))),
         [cycle, rest @ ..] => row_of(alloc, number(cycle), rest),
@@ -67,16 +109,38 @@ fn event_of(alloc: Global, text: &str) -> Result<Event, AllocError> {
 fn row_of(alloc: Global, cycle: u32, words: &[&str]) -> Result<Event, AllocError> {
     let mut levels = Vec::new(alloc);
     let mut drives = Vec::new(alloc);
+    read_row(words, &mut levels, &mut drives)?;
+    Ok(Event::Row(cycle, levels, drives))
+}
+
+fn read_row(
+    words: &[&str],
+    levels: &mut Vec<Level>,
+    drives: &mut Vec<Drive>,
+) -> Result<(), AllocError> {
     let mut is_pin = false;
     for word in words {
         match *word {
             "net" => is_pin = false,
             "pin" => is_pin = true,
-            word if is_pin => drives.push(drive_of(word))?,
-            word => levels.push(level_of(word))?,
+            word => push_word(word, is_pin, levels, drives)?,
         }
     }
-    Ok(Event::Row(cycle, levels, drives))
+    Ok(())
+}
+
+fn push_word(
+    word: &str,
+    is_pin: bool,
+    levels: &mut Vec<Level>,
+    drives: &mut Vec<Drive>,
+) -> Result<(), AllocError> {
+    if is_pin {
+        drives.push(drive_of(word))?;
+    } else {
+        levels.push(level_of(word))?;
+    }
+    Ok(())
 }
 
 fn level_of(word: &str) -> Level {
@@ -109,20 +173,43 @@ fn place(word: &str) -> u16 {
 }
 
 /// `net NAME 0`, `strong NAME 0` or `weak NAME 0`: the level of a net, and what a pin drives.
-pub fn variables_of(alloc: Global, texts: &str) -> Result<List<Variable>, OutOfMemory> {
+fn variables_of(alloc: Global, texts: &str) -> Result<List<Variable>, OutOfMemory> {
     let mut variables = List::new(alloc);
-    for text in texts.split(',') {
-        let words: Vec<&str> = text.split_whitespace().collect(alloc)?;
-        match words.as_slice() {
-            [kind, name, at] => {
-                let name = String::from_str(alloc, name)?;
-                let shows = shown(kind, place(at));
-                variables.push(Variable { name, shows })?;
-            }
-            _ => {}
-        }
-    }
+    read_variables(alloc, &mut variables, texts)?;
     Ok(variables)
+}
+
+fn read_variables(
+    alloc: Global,
+    variables: &mut List<Variable>,
+    texts: &str,
+) -> Result<(), OutOfMemory> {
+    for text in texts.split(',') {
+        read_variable(alloc, variables, text)?;
+    }
+    Ok(())
+}
+
+fn read_variable(
+    alloc: Global,
+    variables: &mut List<Variable>,
+    text: &str,
+) -> Result<(), OutOfMemory> {
+    let words: Vec<&str> = text.split_whitespace().collect(alloc)?;
+    push_variable(alloc, variables, words.as_slice())
+}
+
+fn push_variable(
+    alloc: Global,
+    variables: &mut List<Variable>,
+    words: &[&str],
+) -> Result<(), OutOfMemory> {
+    if let [kind, name, at] = words {
+        let name = String::from_str(alloc, name)?;
+        let shows = shown(kind, place(at));
+        variables.push(Variable { name, shows })?;
+    }
+    Ok(())
 }
 
 fn shown(kind: &str, at: u16) -> Source {
@@ -161,6 +248,34 @@ fn changed_nets(alloc: Global, before: &[Level], after: &[Level]) -> Result<Vec<
     Ok(nets)
 }
 
+/// Hands out a row, if its cycle is at least that one; `before` are the levels of the row before it.
+fn hand_row<W: Watcher>(
+    alloc: Global,
+    out: &mut W,
+    least: u32,
+    before: &[Level],
+    cycle: u32,
+    levels: &[Level],
+    drives: &[Drive],
+) -> WriteEnd
+    requires whole { W.whole out.old ≡ true }
+    requires behind { IsBehind W.last W.seen out.old least before.now }
+    requires few { length before.now ≤ 65535 }
+    ensures cycle { result ≡ WriteEnd.Ok → cycle < 4294967295 }
+    ensures few { result ≡ WriteEnd.Ok → length levels.now ≤ 65535 }
+    ensures whole { result ≡ WriteEnd.Ok → W.whole out.new ≡ true }
+    ensures behind { result ≡ WriteEnd.Ok → IsBehind W.last W.seen out.new (cycle + 1) levels.now }
+    ensures place { W.place out.new ≡ W.place out.old }
+{
+    if cycle < least || cycle == u32::MAX || levels.len() > 65_535 {
+        return WriteEnd::Failed;
+    }
+    match changed_nets(alloc, before, levels) {
+        Ok(changed) => out.row(cycle, levels, drives, &changed),
+        Err(AllocError) => WriteEnd::Failed,
+    }
+}
+
 /// Hands out rows of rising cycles, and bytes.
 fn hand_out<W: Watcher>(alloc: Global, out: &mut W, events: &[Event]) -> WriteEnd
     requires whole { W.whole out.old ≡ true }
@@ -175,13 +290,7 @@ fn hand_out<W: Watcher>(alloc: Global, out: &mut W, events: &[Event]) -> WriteEn
             Event::Row(cycle, levels, drives) => {
                 let cycle = *cycle;
                 let levels = levels.as_slice();
-                if cycle < least || cycle == u32::MAX || levels.len() > 65_535 {
-                    return WriteEnd::Failed;
-                }
-                let Ok(changed) = changed_nets(alloc, before, levels) else {
-                    return WriteEnd::Failed;
-                };
-                match out.row(cycle, levels, drives.as_slice(), &changed) {
+                match hand_row(alloc, out, least, before, cycle, levels, drives.as_slice()) {
                     WriteEnd::Ok => {
                         least = cycle + 1;
                         before = levels;
@@ -204,41 +313,68 @@ fn write<B: Bench>(alloc: Global, head: &mut WaveHead, bench: &mut B, events: &[
     if bench.open_port(Port::Wave, "wave.vcd") == WriteEnd::Failed {
         return;
     }
+    write_events(alloc, head, bench, events);
+}
+
+fn write_events<B: Bench>(alloc: Global, head: &mut WaveHead, bench: &mut B, events: &[Event])
+    requires { (B.outside bench.old).opened Port.Wave ≡ true }
+{
     let start = Snapshot::of(&*bench);
     let mut writer = WaveWriter::new(head, bench, &start, true, true);
     if hand_out(alloc, &mut writer, events) == WriteEnd::Ok {
-        if let [.., Event::End(cycle)] = events {
-            writer.end(*cycle);
-        }
+        end(&mut writer, events);
+    }
+}
+
+fn end<B: Bench>(writer: &mut WaveWriter<B>, events: &[Event])
+    requires { is_whole B.outside writer.old ≡ true }
+{
+    if let [.., Event::End(cycle)] = events {
+        writer.end(*cycle);
     }
 }
 
 /// The changes and bytes of which none is wanted.
 fn count(alloc: Global, head: &mut WaveHead, events: &[Event]) -> (u64, u64) {
     let mut bench = MemBench::new(alloc);
-    let start = Snapshot::of(&bench);
-    let mut writer = WaveWriter::new(head, &mut bench, &start, false, false);
+    let counts = count_on(alloc, head, &mut bench, events);
+    drop(bench);
+    counts
+}
+
+fn count_on<B: Bench>(
+    alloc: Global,
+    head: &mut WaveHead,
+    bench: &mut B,
+    events: &[Event],
+) -> (u64, u64) {
+    let start = Snapshot::of(&*bench);
+    let mut writer = WaveWriter::new(head, bench, &start, false, false);
     match hand_out(alloc, &mut writer, events) {
         WriteEnd::Ok => writer.counts(),
         WriteEnd::Failed => (0, 0),
     }
 }
 
-fn told(alloc: Global, bench: &MemBench, counts: (u64, u64)) -> Result<String, AllocError> {
-    let wave = bench.written(Port::Wave);
-    let wave = if wave.len() > 2000 {
+/// The last bytes of a wave that is long, else all of it.
+fn end_of(wave: &[u8]) -> &[u8] {
+    if wave.len() > 2000 {
         &wave[wave.len() - 28..]
     } else {
         wave
-    };
-    let mut made = String::new(alloc);
-    for line in str_of(wave).lines() {
-        made.push_str(line)?;
-        made.push_str("¶")?;
     }
-    let serial = str_of(bench.written(Port::Serial));
+}
+
+fn tell_wave(made: &mut Answer, wave: &str) {
+    for line in wave.lines() {
+        made.tell_all(&[line, "¶"]);
+    }
+}
+
+fn tell_rest(made: &mut Answer, serial: &str, counts: (u64, u64)) {
     let (changes, bytes) = counts;
-    let rest = format!(in alloc; " serial '{serial}', {changes} changes, {bytes} bytes")?;
-    made.push_str(rest.as_str())?;
-    Ok(made)
+    made.tell_all(&[" serial '", serial]);
+    made.tell_number("', ", changes);
+    made.tell_number(" changes, ", bytes);
+    made.tell(" bytes");
 }
