@@ -40,11 +40,16 @@ fn main(rt: HostRuntime) -> io::Result<()> {
         ),
     ] {
         count = count.saturating_add(1);
-        match wakes_of(rt.alloc(), hex.as_bytes(), micros) {
-            Some(found) if found == wakes => {}
-            Some(found) => println!(rt; "{found} wakes in place of {wakes}: {hex}")?,
-            None => println!(rt; "not run: {hex}")?,
-        }
+        play(&rt, hex, micros, wakes)?;
     }
     println!(rt; "{count} firmwares")
+}
+
+/// Runs a firmware, and says where it is woken more or less often.
+fn play(rt: &HostRuntime, hex: &str, micros: u32, wakes: u32) -> io::Result<()> {
+    match wakes_of(rt.alloc(), hex.as_bytes(), micros) {
+        Some(found) if found == wakes => Ok(()),
+        Some(found) => println!(rt; "{found} wakes in place of {wakes}: {hex}"),
+        None => println!(rt; "not run: {hex}"),
+    }
 }
