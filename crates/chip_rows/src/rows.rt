@@ -7,6 +7,7 @@ use chip_host::Chip;
 use part_law::Part;
 use sim_base::{Drive, Fault, Level, Place, Refusal, refusal_name};
 use std::alloc::{AllocError, Global};
+use std::mem::drop;
 use std::str::Split;
 use std::{fs, io};
 
@@ -38,11 +39,16 @@ fn name_of(drive: Drive) -> &'static str {
     }
 }
 
-fn drives_of(alloc: Global, chip: &Chip) -> Result<String, AllocError> {
-    let mut drives = String::new(alloc);
+fn push_drives(drives: &mut String, chip: &Chip) -> Result<(), AllocError> {
     for pin in 0..chip.pins() {
         drives.push_str(name_of(chip.drive(pin)))?;
     }
+    Ok(())
+}
+
+fn drives_of(alloc: Global, chip: &Chip) -> Result<String, AllocError> {
+    let mut drives = String::new(alloc);
+    push_drives(&mut drives, chip)?;
     Ok(drives)
 }
 
@@ -66,24 +72,44 @@ fn step(chip: &mut Chip, levels: &[Level]) -> bool
     true
 }
 
-/// Prints what the chip drives in each of some cycles, once for those behind each other in which it drives the same.
+/// Prints what the chip drives, if that is not shown yet.
+fn show(rt: &HostRuntime, chip: &Chip, shown: &mut String) -> io::Result<()> {
+    let drives = drives_of(rt.alloc(), chip)?;
+    if drives.as_str() != shown.as_str() {
+        print!(rt; " {}:{drives}", chip.cycle())?;
+        *shown = drives;
+    }
+    Ok(())
+}
+
+/// Runs a chip on levels for some cycles, of which it shows each with other drives.
+fn run_on(
+    rt: &HostRuntime,
+    chip: &mut Chip,
+    levels: &[Level],
+    count: u32,
+    shown: &mut String,
+) -> io::Result<()>
+    requires { chip.old.wakes ≤ chip.old.cycle }
+    ensures { chip.new.wakes ≤ chip.new.cycle }
+{
+    for _ in 0..count {
+        show(rt, chip, shown)?;
+        if !step(chip, levels) {
+            return Ok(());
+        }
+    }
+    Ok(())
+}
+
+/// Runs a chip through a group.
 fn run(rt: &HostRuntime, chip: &mut Chip, text: &str, shown: &mut String) -> io::Result<()>
     requires { chip.old.wakes ≤ chip.old.cycle }
     ensures { chip.new.wakes ≤ chip.new.cycle }
 {
     let (levels, count) = group_of(text);
     let levels = levels_of(rt.alloc(), levels)?;
-    for _ in 0..count {
-        let drives = drives_of(rt.alloc(), chip)?;
-        if drives.as_str() != shown.as_str() {
-            print!(rt; " {}:{drives}", chip.cycle())?;
-            *shown = drives;
-        }
-        if !step(chip, levels.as_slice()) {
-            return Ok(());
-        }
-    }
-    Ok(())
+    run_on(rt, chip, levels.as_slice(), count, shown)
 }
 
 fn tell_refused(rt: &HostRuntime, fault: Fault) -> io::Result<()> {
@@ -131,27 +157,51 @@ fn made(alloc: Global, row: &Row, bytes: &[u8]) -> Result<Chip, Fault>
     chip_of(alloc, bytes, row.pins, row.attrs, row.budget)
 }
 
+fn run_groups(
+    rt: &HostRuntime,
+    chip: &mut Chip,
+    words: Split<char>,
+    shown: &mut String,
+) -> io::Result<()>
+    requires { chip.old.wakes ≤ chip.old.cycle }
+{
+    for text in words {
+        run(rt, chip, text, shown)?;
+    }
+    tell_end(rt, chip)
+}
+
 /// Runs a chip through the groups of its row.
 fn run_all(rt: &HostRuntime, chip: &mut Chip, words: Split<char>) -> io::Result<()>
     requires { chip.old.wakes ≤ chip.old.cycle }
 {
     let mut shown = String::new(rt.alloc());
-    for text in words {
-        run(rt, chip, text, &mut shown)?;
+    run_groups(rt, chip, words, &mut shown)
+}
+
+fn tell_chip(rt: &HostRuntime, row: &Row, bytes: &[u8], words: Split<char>) -> io::Result<()> {
+    if bytes.len() > 1_048_576 {
+        return println!(rt; " too long");
     }
-    tell_end(rt, chip)
+    match made(rt.alloc(), row, bytes) {
+        Ok(chip) => tell_run(rt, chip, words),
+        Err(fault) => tell_refused(rt, fault),
+    }
+}
+
+fn tell_run(rt: &HostRuntime, mut chip: Chip, words: Split<char>) -> io::Result<()>
+    requires { chip.wakes ≤ chip.cycle }
+{
+    let told = run_all(rt, &mut chip, words);
+    // One call, where a drop at the end of the scope is proved list by list.
+    drop(chip);
+    told
 }
 
 fn tell_row(rt: &HostRuntime, row: &Row, words: Split<char>) -> io::Result<()> {
     print!(rt; "{} {} {}", row.file, row.attrs, row.budget)?;
     let bytes = fs::read(rt, row.file)?;
-    if bytes.len() > 1_048_576 {
-        return println!(rt; " too long");
-    }
-    match made(rt.alloc(), row, bytes.as_slice()) {
-        Ok(mut chip) => run_all(rt, &mut chip, words),
-        Err(fault) => tell_refused(rt, fault),
-    }
+    tell_chip(rt, row, bytes.as_slice(), words)
 }
 
 /// The line of a row.
