@@ -6,6 +6,7 @@ use net_resolve::{Nets, has_valid_nets};
 use sim_base::{Drive, Level, List, OutOfMemory, Wiring};
 use std::alloc::Global;
 use std::io;
+use std::mem::drop;
 
 const PINS: u16 = 1024;
 
@@ -13,28 +14,50 @@ const NETS: u16 = 512;
 
 const RESOLUTIONS: u32 = 1_000_000;
 
-/// A wire from each pin to that 512 pins further on, 16 buttons and 64 resistors.
-fn wiring(alloc: Global) -> Result<Wiring, OutOfMemory> {
-    let mut net_of = List::new(alloc);
+fn push_nets(net_of: &mut List<u16>) -> Result<(), OutOfMemory> {
     for pin in 0..PINS {
         net_of.push(pin % NETS)?;
     }
-    let mut contacts = List::new(alloc);
+    Ok(())
+}
+
+fn push_contacts(contacts: &mut List<(u16, u16)>) -> Result<(), OutOfMemory> {
     for k in 0..16 {
         contacts.push((2 * k, 2 * k + 1))?;
     }
-    let mut resistors = List::new(alloc);
+    Ok(())
+}
+
+fn push_resistors(resistors: &mut List<(u16, u16)>) -> Result<(), OutOfMemory> {
     for k in 0..64 {
         resistors.push((64 + k, 300 + k))?;
     }
-    Ok(Wiring {
+    Ok(())
+}
+
+fn fill(wiring: &mut Wiring) -> Result<(), OutOfMemory> {
+    push_nets(&mut wiring.net_of)?;
+    push_contacts(&mut wiring.contacts)?;
+    push_resistors(&mut wiring.resistors)
+}
+
+/// A wire from each pin to that 512 pins further on, 16 buttons and 64 resistors.
+fn wiring(alloc: Global) -> Result<Wiring, OutOfMemory> {
+    let mut wiring = Wiring {
         nets: NETS,
-        net_of,
-        contacts,
-        resistors,
+        net_of: List::new(alloc),
+        contacts: List::new(alloc),
+        resistors: List::new(alloc),
         first_pin: List::new(alloc),
         chip: List::new(alloc),
-    })
+    };
+    match fill(&mut wiring) {
+        Ok(()) => Ok(wiring),
+        Err(OutOfMemory) => {
+            drop(wiring);
+            Err(OutOfMemory)
+        }
+    }
 }
 
 /// Resolves the nets again and again, each time with another drive of one pin, and counts how often
@@ -56,13 +79,21 @@ fn toggle(nets: &mut Nets, pins: usize) -> u32
     high
 }
 
-fn high_count(alloc: Global) -> Result<u32, OutOfMemory> {
-    let wiring = wiring(alloc)?;
-    if !has_valid_nets(&wiring) || wiring.nets == 0 || wiring.net_of.len() == 0 {
+fn high_count_on(alloc: Global, wiring: &Wiring) -> Result<u32, OutOfMemory> {
+    if !has_valid_nets(wiring) || wiring.nets == 0 || wiring.net_of.len() == 0 {
         return Ok(0);
     }
-    let mut nets = Nets::new(alloc, &wiring)?;
-    Ok(toggle(&mut nets, wiring.net_of.len()))
+    let mut nets = Nets::new(alloc, wiring)?;
+    let high = toggle(&mut nets, wiring.net_of.len());
+    drop(nets);
+    Ok(high)
+}
+
+fn high_count(alloc: Global) -> Result<u32, OutOfMemory> {
+    let wiring = wiring(alloc)?;
+    let high = high_count_on(alloc, &wiring);
+    drop(wiring);
+    high
 }
 
 /// Prints how often a net is High.

@@ -1,5 +1,5 @@
 //! Worked nets, and every combination of drives on three pins against the plain program of the definition.
-ghost use Rattle.std.specs.Prelude.{◌≡◌, length, IfOk};
+ghost use Rattle.std.specs.Prelude.{◌≡◌, length, IfOk, OnOk};
 ghost use Rattle.board_model.specs.Fits.{IsWiring};
 
 use net_resolve::{Nets, has_valid_nets};
@@ -7,6 +7,7 @@ use plain_nets::plain_levels;
 use sim_base::{Drive, Level, List, OutOfMemory, Wiring};
 use std::alloc::{AllocError, Global};
 use std::io;
+use std::mem::drop;
 
 const DRIVES: [Drive; 6] = [
     Drive::Z,
@@ -32,18 +33,43 @@ fn list_of<T: Copy>(alloc: Global, items: &[T]) -> Result<List<T>, AllocError>
     Ok(List::from_vec(Vec::from_slice(alloc, items)?))
 }
 
+fn put<T: Copy>(alloc: Global, list: &mut List<T>, items: &[T]) -> Result<(), AllocError>
+    ensures { OnOk result (list.new ≡ items.now) }
+{
+    *list = list_of(alloc, items)?;
+    Ok(())
+}
+
+fn fill(alloc: Global, wiring: &mut Wiring, circuit: &Circuit) -> Result<(), AllocError>
+    ensures pins { OnOk result (length wiring.new.net_of ≡ 3) }
+    ensures contacts { OnOk result (wiring.new.contacts ≡ circuit.now.contacts.now) }
+{
+    put(alloc, &mut wiring.net_of, &circuit.net_of)?;
+    put(alloc, &mut wiring.contacts, circuit.contacts)?;
+    put(alloc, &mut wiring.resistors, circuit.resistors)?;
+    put(alloc, &mut wiring.first_pin, &[0])?;
+    put(alloc, &mut wiring.chip, &[false])
+}
+
 fn wiring_of(alloc: Global, circuit: &Circuit) -> Result<Wiring, OutOfMemory>
     ensures pins { IfOk result (λ w. length w.net_of ≡ 3) }
     ensures contacts { IfOk result (λ w. w.contacts ≡ circuit.now.contacts.now) }
 {
-    Ok(Wiring {
+    let mut wiring = Wiring {
         nets: 3,
-        net_of: list_of(alloc, &circuit.net_of)?,
-        contacts: list_of(alloc, circuit.contacts)?,
-        resistors: list_of(alloc, circuit.resistors)?,
-        first_pin: list_of(alloc, &[0])?,
-        chip: list_of(alloc, &[false])?,
-    })
+        net_of: List::new(alloc),
+        contacts: List::new(alloc),
+        resistors: List::new(alloc),
+        first_pin: List::new(alloc),
+        chip: List::new(alloc),
+    };
+    match fill(alloc, &mut wiring, circuit) {
+        Ok(()) => Ok(wiring),
+        Err(AllocError) => {
+            drop(wiring);
+            Err(OutOfMemory)
+        }
+    }
 }
 
 fn set_contacts(nets: &mut Nets, closed: &[bool])
@@ -122,7 +148,9 @@ fn resolved(
     drives: [Drive; 3],
 ) -> Result<Option<List<Level>>, OutOfMemory> {
     let wiring = wiring_of(alloc, circuit)?;
-    resolved_on(alloc, &wiring, circuit.closed, drives)
+    let resolved = resolved_on(alloc, &wiring, circuit.closed, drives);
+    drop(wiring);
+    resolved
 }
 
 fn resolved_on(
@@ -154,7 +182,9 @@ fn resolves(
 {
     let mut nets = Nets::new(alloc, wiring)?;
     resolve_others(&mut nets, closed, drives);
-    gives(alloc, &mut nets, closed, drives, levels)
+    let given = gives(alloc, &mut nets, closed, drives, levels);
+    drop(nets);
+    given
 }
 
 /// Nets whose levels were worked by hand.
@@ -221,13 +251,33 @@ fn play_worked(rt: &HostRuntime) -> io::Result<u32> {
         ),
     ] {
         count = count.saturating_add(1);
-        match resolved(rt.alloc(), circuit, drives) {
-            Ok(Some(found)) if found.as_slice() == levels.as_slice() => {}
-            Ok(_) => println!(rt; "not as worked by hand: {drives:?}")?,
-            Err(OutOfMemory) => println!(rt; "out of memory")?,
-        }
+        play_one(rt, circuit, drives, levels.as_slice())?;
     }
     Ok(count)
+}
+
+/// Plays nets that were worked by hand.
+fn play_one(
+    rt: &HostRuntime,
+    circuit: &Circuit,
+    drives: [Drive; 3],
+    levels: &[Level],
+) -> io::Result<()> {
+    match resolved(rt.alloc(), circuit, drives) {
+        Ok(Some(found)) if found.as_slice() == levels => Ok(()),
+        Ok(_) => println!(rt; "not as worked by hand: {drives:?}"),
+        Err(OutOfMemory) => println!(rt; "out of memory"),
+    }
+}
+
+/// Plays nets against the plain program.
+fn compare(rt: &HostRuntime, circuit: &Circuit, drives: [Drive; 3]) -> io::Result<()> {
+    let [a, b, c] = drives;
+    match resolved(rt.alloc(), circuit, drives) {
+        Ok(Some(_)) => Ok(()),
+        Ok(None) => println!(rt; "not as the plain program has it: {a:?} {b:?} {c:?}"),
+        Err(OutOfMemory) => println!(rt; "out of memory"),
+    }
 }
 
 /// All drives of three pins.
@@ -237,11 +287,7 @@ fn play_all(rt: &HostRuntime, circuit: &Circuit) -> io::Result<u32> {
         for b in DRIVES {
             for c in DRIVES {
                 count = count.saturating_add(1);
-                match resolved(rt.alloc(), circuit, [a, b, c]) {
-                    Ok(Some(_)) => {}
-                    Ok(None) => println!(rt; "not as the plain program has it: {a:?} {b:?} {c:?}")?,
-                    Err(OutOfMemory) => println!(rt; "out of memory")?,
-                }
+                compare(rt, circuit, [a, b, c])?;
             }
         }
     }
