@@ -24,10 +24,19 @@ use subject::{Subject, subject_of};
 
 fn main(rt: HostRuntime) -> io::Result<()> {
     for word in env::args(&rt)?.skip(1) {
-        let script = fs::read_to_string(&rt, word.as_str())?;
-        for part in script.as_str().split("\n\n") {
-            play(&rt, part)?;
-        }
+        play_script(&rt, word.as_str())?;
+    }
+    Ok(())
+}
+
+fn play_script(rt: &HostRuntime, name: &str) -> io::Result<()> {
+    let script = fs::read_to_string(rt, name)?;
+    play_parts(rt, script.as_str())
+}
+
+fn play_parts(rt: &HostRuntime, script: &str) -> io::Result<()> {
+    for part in script.split("\n\n") {
+        play(rt, part)?;
     }
     Ok(())
 }
@@ -61,16 +70,26 @@ fn tell_of(rt: &HostRuntime, part: &str, mut subject: Subject) -> io::Result<()>
 /// Says what each line behind the first answers.
 fn tell(rt: &HostRuntime, part: &str, subject: &mut Subject) -> io::Result<()> {
     for line in part.lines().skip(1) {
-        let answer = answer_to(rt.alloc(), line, subject)?;
-        println!(rt; "{line}: {answer}")?;
+        tell_answer(rt, line, subject)?;
     }
     Ok(())
 }
 
+fn tell_answer(rt: &HostRuntime, line: &str, subject: &mut Subject) -> io::Result<()> {
+    let answer = answer_to(rt.alloc(), line, subject)?;
+    println!(rt; "{line}: {answer}")
+}
+
 fn answer_to(alloc: Global, line: &str, subject: &mut Subject) -> Result<Answer, AllocError> {
     let ask = read_ask(alloc, line)?;
-    Ok(match &ask {
+    let answer = answer_of(&ask, subject);
+    drop(ask);
+    Ok(answer)
+}
+
+fn answer_of(ask: &Ask, subject: &mut Subject) -> Answer {
+    match ask {
         Ask::Operation(op, operands) => operate(*op, operands),
         ask => subject.answer(ask),
-    })
+    }
 }
