@@ -23,12 +23,12 @@ use Rattle.board_laws.specs.Steady.{IsSteady}
 use Rattle.board_laws.proofs.StandsLaw.{stands_here, stands_shows, stands_holds, stands_valid}
 use Rattle.board_laws.proofs.SteadyLaw.{steady_states, steady_before, steady_rows, steady_cycles, steady_bytes, steady_pairs, quiet_dues}
 use Rattle.board_run.specs.Changes.{LastTells}
-use Rattle.board_run.specs.Seen.{Seen, IsOf, IsTold, AreChips, retold, shown_at}
+use Rattle.board_run.specs.Seen.{Seen, IsOf, IsTold, retold, shown_at}
 use Rattle.part_law.specs.declared.part.Went.{Went}
 use Rattle.board_run.specs.Lagging.{glided, Replaced, Shifted}
 use Rattle.board_run.specs.Legs.{Kept, Lags, Leg, WentBy, IsAlone}
 use Rattle.board_run.proofs.ShowLemmas.{shown_is}
-use Rattle.board_model.proofs.RoomLemmas.{SameRoom, fits_room, chips_room}
+use Rattle.board_model.proofs.RoomLemmas.{SameRoom, fits_room}
 use Rattle.board_run.proofs.LagLemmas.{lags_stand, stand_show, stand_are, lag_of, Ts}
 use Rattle.board_run.proofs.ReadLemmas.{retold_suits, retold_is, flat_each}
 use Rattle.board_run.proofs.ShowLemmas.{still_of}
@@ -154,8 +154,8 @@ module _ {S P : Type 0} (m : Machine S) (laws : Laws m) (w : Wiring) (state : P 
   shown_same : shown_at t kept.seen ≡ Some (shown_of m w Js)
   shown_same = shown_later t kept.seen after ∙ ap Some (shown_is m w Js kept.seen of_board)
 
-  pub alone_leg : (ds : List Drive) (cs : List Bool) (chips_stale : Bool) (steps more : ℕ) → more ≡ steps + dues m s0 t (u - t) → Leg m w state now wakes inputs t u parts new kept.seen (retold kept.seen ds cs chips_stale) steps more
-  alone_leg ds cs chips_stale steps more counted = record {
+  pub alone_leg : (ds : List Drive) (cs : List Bool) (steps more : ℕ) → more ≡ steps + dues m s0 t (u - t) → Leg m w state now wakes inputs t u parts new kept.seen (retold kept.seen ds cs) steps more
+  alone_leg ds cs steps more counted = record {
     order = order;
     long = new_long;
     states_are = stand_are m laws w state now wakes u new (states m w inputs Js t (u - t)) alone_stands;
@@ -295,9 +295,9 @@ module _ {S P : Type 0} (m : Machine S) (laws : Laws m) (w : Wiring) (state : P 
       )
 
   -- the invariant after it
-  pub alone_lags : (changed : Bool) (d : Option ℕ) (ds : List Drive) (cs : List Bool) (chips_stale : Bool) → IsTold m (map state new) (retold kept.seen ds cs chips_stale).circuit → (chips_stale ≡ false → AreChips m w (map state parts) (map state new)) → IsFirstDue m (state q0) (now q0) d → (changed ≡ false → m.drives (state q0) ≡ m.drives s0) → (changed ≡ false → m.contacts (state q0) ≡ m.contacts s0) →
-      Lags m w state now wakes u new (record { input = kept.input; stale = changed; dues = slice_set kept.dues who d; seen = retold kept.seen ds cs chips_stale; answers = kept.answers })
-  alone_lags changed d ds cs chips_stale told chips first drives contacts =
+  pub alone_lags : (changed : Bool) (d : Option ℕ) (ds : List Drive) (cs : List Bool) → IsTold m (map state new) (retold kept.seen ds cs).circuit → IsFirstDue m (state q0) (now q0) d → (changed ≡ false → m.drives (state q0) ≡ m.drives s0) → (changed ≡ false → m.contacts (state q0) ≡ m.contacts s0) →
+      Lags m w state now wakes u new (record { input = kept.input; stale = changed; dues = slice_set kept.dues who d; seen = retold kept.seen ds cs; answers = kept.answers })
+  alone_lags changed d ds cs told first drives contacts =
       let room : who < length kept.dues = omega (arith, inside, lags.dues_long) in
       let due = due_set m state now wakes parts kept.dues who q0 d inside room (λ k p e ep ee. (lags.may k p e ep ee).first) first in
       let was = stands_shows m laws t (now p0) (state p0) s0 (like.each who p0 s0 here there) in
@@ -320,10 +320,8 @@ module _ {S P : Type 0} (m : Machine S) (laws : Laws m) (w : Wiring) (state : P 
         answers_long = lags.answers_long ∙ sym new_long;
         silent = lags.silent;
         fits = fits_room m w (map state parts) (map state new) longer same_room lags.fits;
-        suits = retold_suits m w (map state new) kept.seen ds cs chips_stale (fits_room m w (map state parts) (map state new) longer same_room lags.fits) lags.suits told;
-        chips_long = lags.chips_long ∙ chips_room m w.chip (map state parts) (map state new) longer same_room;
-        chips_are = λ none. (lags.fresh fresh).chips_are ∙ sym (chips none);
-        fresh = λ none. retold_is m w (map state new) kept.seen ds cs chips_stale told (still_of m w state parts new kept.seen new_long (λ k p z ep ez. stays k p z ep ez (λ _. none)) (lags.fresh fresh));
+        suits = retold_suits m w (map state new) kept.seen ds cs (fits_room m w (map state parts) (map state new) longer same_room lags.fits) lags.suits told;
+        fresh = λ none. retold_is m w (map state new) kept.seen ds cs told (still_of m w state parts new kept.seen new_long (λ k p z ep ez. stays k p z ep ez (λ _. none)) (lags.fresh fresh));
         told = told;
         holds = λ k z ez later.
             let x = before k z ez in
@@ -352,16 +350,15 @@ module _ {S P : Type 0} (m : Machine S) (laws : Laws m) (w : Wiring) (state : P 
 
   -- where a part was found that goes on alone up to a limit, and it did
   pub alone_goes : (moves : P → ℕ → Bool) (t limit : ℕ) (parts : List P) (kept : Kept) (changed : Bool) (steps more who : ℕ) (p q : P) (d : Option ℕ) (by : Went) (seen : Seen) →
-      seen ≡ retold kept.seen seen.circuit.drives seen.circuit.closed seen.chips_stale → IsTold m (map state (slice_set parts who q)) seen.circuit →
-      (seen.chips_stale ≡ false → AreChips m w (map state parts) (map state (slice_set parts who q))) →
+      seen ≡ retold kept.seen seen.circuit.drives seen.circuit.closed → IsTold m (map state (slice_set parts who q)) seen.circuit →
       Lags m w state now wakes t parts kept → kept.stale ≡ false → 0 < t → AreBehind inputs kept.input t → limit ≤ MOST_CYCLES → IsAlone inputs kept.dues kept.input who t limit →
       slice_get parts who ≡ Some p → WentBy m state now wakes moves t limit p q d by steps more → Shifted m state p q changed →
       Goes t by.to parts (slice_set parts who q) kept (record { input = kept.input; stale = changed; dues = slice_set kept.dues who d; seen = seen; answers = kept.answers }) steps more (sent m (glided m state now wakes t p) t)
-  alone_goes moves t limit parts kept changed steps more who p q d by seen rest is_told chips lags fresh later behind end alone here went shifted =
+  alone_goes moves t limit parts kept changed steps more who p q d by seen rest is_told lags fresh later behind end alone here went shifted =
       let u = by.to in
       let ds = seen.circuit.drives in
       let cs = seen.circuit.closed in
-      let told : IsTold m (map state (slice_set parts who q)) (retold kept.seen ds cs seen.chips_stale).circuit = record { drives_are = is_told.drives_are; closed_are = is_told.closed_are } in
+      let told : IsTold m (map state (slice_set parts who q)) (retold kept.seen ds cs).circuit = record { drives_are = is_told.drives_are; closed_are = is_told.closed_are } in
       let further = went.further in
       let within = went.within in
       let order : t ≤ u = omega (arith, further) in
@@ -380,9 +377,9 @@ module _ {S P : Type 0} (m : Machine S) (laws : Laws m) (w : Wiring) (state : P 
       let contacts = λ (none : changed ≡ false). (shifted.same none).1 ∙ sym contacts_were in
       subst (λ (s : Seen). Goes t u parts (slice_set parts who q) kept (record { input = kept.input; stale = changed; dues = slice_set kept.dues who d; seen = s; answers = kept.answers }) steps more (sent m (glided m state now wakes t p) t)) (sym rest)
       (record {
-        lags = alone_lags m laws w state now wakes inputs t u parts kept lags fresh later order who p q here quiet silent went.same went.state_is went.now_is went.woken_is changed d ds cs seen.chips_stale told chips went.first drives contacts;
+        lags = alone_lags m laws w state now wakes inputs t u parts kept lags fresh later order who p q here quiet silent went.same went.state_is went.now_is went.woken_is changed d ds cs told went.first drives contacts;
         behind = behind_between inputs kept.input t u limit order within behind alone.behind;
-        leg = alone_leg m laws w state now wakes inputs t u parts kept lags fresh later order who p q here quiet silent went.same went.state_is went.now_is went.woken_is ds cs seen.chips_stale steps more went.steps_are;
+        leg = alone_leg m laws w state now wakes inputs t u parts kept lags fresh later order who p q here quiet silent went.same went.state_is went.now_is went.woken_is ds cs steps more went.steps_are;
         steady = steady m laws w state now wakes inputs t u parts kept lags fresh later order who p q here quiet silent went.same went.state_is went.now_is went.woken_is;
         tells = alone_tells m laws w state now wakes inputs t u parts kept lags fresh later order who p q here quiet silent went.same went.state_is went.now_is went.woken_is changed further drives contacts
             (λ one same still. shifted.other one (same ∙ drives_were) (still ∙ contacts_were));

@@ -18,10 +18,10 @@ use Rattle.board_laws.specs.Stands.{Stands}
 use Rattle.board_laws.proofs.AlikeLemmas.{alike_weaker, flat_map_alike}
 use Rattle.board_laws.proofs.BesideLaw.{same_levels, same_shown, same_drives, same_row, same_chips}
 use Rattle.board_model.proofs.Steps.{length-steps_from, get-steps_from}
-use Rattle.board_model.proofs.RoomLemmas.{SameRoom, fits_room, chips_room}
+use Rattle.board_model.proofs.RoomLemmas.{SameRoom, fits_room}
 use Rattle.board_laws.proofs.StandsLaw.{stands_shows, stands_holds}
 use Rattle.board_run.specs.Changes.{Tells, LastTells}
-use Rattle.board_run.specs.Seen.{Seen, Suits, IsOf, IsTold, AreDiffering, AreChips, retold, levels_on, shown, shown_at}
+use Rattle.board_run.specs.Seen.{Seen, Suits, IsOf, IsTold, AreDiffering, retold, levels_on, shown, shown_at}
 use Rattle.board_run.specs.Upcoming.{AreBehind}
 use Rattle.board_run.specs.Lagging.{glided, Awaits, Turns, AreDue}
 use Rattle.board_run.specs.Legs.{Kept, Lags, Leg}
@@ -179,10 +179,10 @@ module _ {S P : Type 0} (m : Machine S) (laws : Laws m) (w : Wiring) (state : P 
         )
 
     -- the invariant at the next cycle
-    pub event_lags : (j : ℕ) (dues after : List (Option ℕ)) (ds : List Drive) (cs : List Bool) (chips_stale : Bool) → length old ≤ 64 → Fits m w (map state old) → length dues ≡ length old → length after ≡ length old → AreDue m state now wakes new dues →
-        AreNone after → IsTold m (map state new) (retold seen ds cs chips_stale).circuit → (chips_stale ≡ false → AreChips m w (map state old) (map state new)) →
-        Lags m w state now wakes (t + 1) new (record { input = j; stale = changed; dues = dues; seen = retold seen ds cs chips_stale; answers = after })
-    event_lags j dues after ds cs chips_stale few fits dues_long answers_long due silent told chips =
+    pub event_lags : (j : ℕ) (dues after : List (Option ℕ)) (ds : List Drive) (cs : List Bool) → length old ≤ 64 → Fits m w (map state old) → length dues ≡ length old → length after ≡ length old → AreDue m state now wakes new dues →
+        AreNone after → IsTold m (map state new) (retold seen ds cs).circuit →
+        Lags m w state now wakes (t + 1) new (record { input = j; stale = changed; dues = dues; seen = retold seen ds cs; answers = after })
+    event_lags j dues after ds cs few fits dues_long answers_long due silent told =
         let longer : length (map state old) ≡ length (map state new) = simp length-map (sym long) in
         record {
           few = subst (λ n. n ≤ 64) (sym long) few;
@@ -194,19 +194,17 @@ module _ {S P : Type 0} (m : Machine S) (laws : Laws m) (w : Wiring) (state : P 
           answers_long = answers_long ∙ sym long;
           silent = silent;
           fits = fits_room m w (map state old) (map state new) longer same_room fits;
-          suits = retold_suits m w (map state new) seen ds cs chips_stale (fits_room m w (map state old) (map state new) longer same_room fits) suits told;
-          chips_long = ap length is.chips_are ∙ chips_room m w.chip (map state old) (map state new) longer same_room;
-          chips_are = λ none. is.chips_are ∙ sym (chips none);
-          fresh = λ none. retold_is m w (map state new) seen ds cs chips_stale told (still_of m w state old new seen long (λ k p q ep eq. (turned_from k p q ep eq).still none) is);
+          suits = retold_suits m w (map state new) seen ds cs (fits_room m w (map state old) (map state new) longer same_room fits) suits told;
+          fresh = λ none. retold_is m w (map state new) seen ds cs told (still_of m w state old new seen long (λ k p q ep eq. (turned_from k p q ep eq).still none) is);
           told = told;
           holds = λ k q eq later. (turned_from k (before k q eq).0 q (before k q eq).1 eq).held;
         }
 
     -- and the leg
-    pub event_leg : (was : Seen) (ds : List Drive) (cs : List Bool) (chips_stale : Bool) (steps more : ℕ) → more ≡ steps + sum_below (length old) (λ k. active_in m w inputs seen.circuit.levels t k (slice_get (Ts t old) k)) →
-        Leg m w state now wakes inputs t (t + 1) old new was (retold seen ds cs chips_stale) steps more
+    pub event_leg : (was : Seen) (ds : List Drive) (cs : List Bool) (steps more : ℕ) → more ≡ steps + sum_below (length old) (λ k. active_in m w inputs seen.circuit.levels t k (slice_get (Ts t old) k)) →
+        Leg m w state now wakes inputs t (t + 1) old new was (retold seen ds cs) steps more
     unfolding states shown_before
-    event_leg was ds cs chips_stale steps more counted =
+    event_leg was ds cs steps more counted =
         let e : t + 1 - t ≡ suc zero = omega arith in
         let f : t + 0 ≡ t = omega arith in
         let ts = Ts t old in
@@ -305,19 +303,19 @@ module _ {S P : Type 0} (m : Machine S) (laws : Laws m) (w : Wiring) (state : P 
       IsOf m w (map state old) seen → Suits w seen → length new ≡ length old → length answers ≡ length kept.answers → length dues ≡ length kept.dues →
       ((ts : List S) → Awaits m w state now (take (j - i) (drop i inputs)) inputs seen.circuit.levels set t old ts → Turns m w inputs state now wakes seen.circuit.levels t ts (length old) old new answers changed) →
       ((ts : List S) → Awaits m w state now (take (j - i) (drop i inputs)) inputs seen.circuit.levels set t old ts → more ≡ steps + sum_below (length old) (λ k. active_in m w inputs seen.circuit.levels t k (slice_get ts k))) →
-      AreDue m state now wakes new dues → IsTold m (map state new) after.circuit → after ≡ retold seen after.circuit.drives after.circuit.closed after.chips_stale → (after.chips_stale ≡ false → AreChips m w (map state old) (map state new)) →
+      AreDue m state now wakes new dues → IsTold m (map state new) after.circuit → after ≡ retold seen after.circuit.drives after.circuit.closed →
       Happens inputs t old new kept.seen after answers dues changed steps more
-  happens inputs t i j old new kept seen after set answers dues changed steps more lags differ on before behind is suits long answers_long dues_long turns_of counted due told rest chips =
+  happens inputs t i j old new kept seen after set answers dues changed steps more lags differ on before behind is suits long answers_long dues_long turns_of counted due told rest =
       let like = lags_stand t old kept lags in
       let awaits = lags_await inputs t i j old kept seen set lags differ on before behind in
       let turns = turns_of (Ts t old) awaits in
       let ds = after.circuit.drives in
       let cs = after.circuit.closed in
-      let here : Happens inputs t old new kept.seen (retold seen ds cs after.chips_stale) answers dues changed steps more = record {
-        leg = event_leg inputs t old new seen answers changed long is suits like turns kept.seen ds cs after.chips_stale steps more (counted (Ts t old) awaits);
+      let here : Happens inputs t old new kept.seen (retold seen ds cs) answers dues changed steps more = record {
+        leg = event_leg inputs t old new seen answers changed long is suits like turns kept.seen ds cs steps more (counted (Ts t old) awaits);
         lags = λ k none none_long silent.
-            event_lags inputs t old new seen answers changed long is suits like turns k dues none ds cs after.chips_stale lags.few lags.fits (dues_long ∙ lags.dues_long) (none_long ∙ answers_long ∙ lags.answers_long) due silent
-            (record { drives_are = told.drives_are; closed_are = told.closed_are }) chips;
+            event_lags inputs t old new seen answers changed long is suits like turns k dues none ds cs lags.few lags.fits (dues_long ∙ lags.dues_long) (none_long ∙ answers_long ∙ lags.answers_long) due silent
+            (record { drives_are = told.drives_are; closed_are = told.closed_are });
         tells = event_tells inputs t old new seen answers changed long is suits like turns;
         rows_are = event_rows inputs t old new seen answers changed long is suits like turns kept.seen;
         bytes_are = event_bytes inputs t old new seen answers changed long is suits like turns (answers_long ∙ lags.answers_long);

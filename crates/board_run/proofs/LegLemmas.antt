@@ -1,6 +1,6 @@
 -- Legs that follow on each other, and legs over quiet cycles.
 use Rattle.std.proofs.Common.{◌≡◌, ℕ, zero, suc, ◌+◌, ◌-◌, ◌<◌, ◌≤◌, List, [], ◌++◌, length, map, Bool, true, false, Option, None, Some, refl, ap, sym, ◌∙◌, arith, subst, get_or}
-use Rattle.std.specs.Prelude.{◌==◌, if◌then◌else◌, slice_get}
+use Rattle.std.specs.Prelude.{slice_get}
 use Rattle.std.proofs.lemmas.Option.{slice_get_within}
 use Rattle.std.proofs.lemmas.List.{length-map}
 use Rattle.sim_base.specs.declared.signal.Level.{Level}
@@ -9,7 +9,7 @@ use Rattle.sim_base.specs.declared.wiring.Input.{Input}
 use Rattle.part_law.specs.Machine.{Machine, Laws, glide, idle, IsQuiet}
 use Rattle.part_law.proofs.MachineLemmas.{glide_drives, glide_contacts}
 use Rattle.board_model.specs.Board.{level_at, own_nets, input_at, drives_of, contacts_of, states, bytes}
-use Rattle.board_model.specs.Rows.{Shown, chip_drives_of, shown_of, shown_before, rows}
+use Rattle.board_model.specs.Rows.{Shown, shown_of, shown_before, rows}
 use Rattle.board_model.specs.Fits.{Fits}
 use Rattle.board_model.specs.Fresh.{AreFresh}
 use Rattle.board_model.proofs.Lists.{some_same, get_within, get_map_some, some_map, same_lists, flat_map_same}
@@ -29,8 +29,8 @@ use Rattle.board_run.specs.Lagging.{glided, AreDue}
 use Rattle.board_run.specs.Legs.{Kept, Lags, Leg}
 use Rattle.sim_base.specs.declared.limits.TheConstants.{MOST_CYCLES}
 use Rattle.board_run.proofs.NextLemmas.{quiet_until}
-use Rattle.board_run.proofs.ShowLemmas.{still_of, still_same, chips_same, shown_is, later_shown}
-use Rattle.board_model.proofs.RoomLemmas.{SameRoom, fits_room, chips_room}
+use Rattle.board_run.proofs.ShowLemmas.{still_of, still_same, shown_is, later_shown}
+use Rattle.board_model.proofs.RoomLemmas.{SameRoom, fits_room}
 use Rattle.board_run.proofs.LagLemmas.{lags_stand, stand_show, lag_of, Ts}
 
 module _ {S : Type 0} (m : Machine S) where
@@ -238,8 +238,6 @@ module _ {S P : Type 0} (m : Machine S) (laws : Laws m) (w : Wiring) (state : P 
       silent = lags.silent;
       fits = lags.fits;
       suits = lags.suits;
-      chips_long = lags.chips_long;
-      chips_are = lags.chips_are;
       fresh = lags.fresh;
       told = lags.told;
       holds = λ k p ep later. lags.holds k p ep after;
@@ -410,8 +408,6 @@ module _ {S P : Type 0} (m : Machine S) (laws : Laws m) (w : Wiring) (state : P 
     silent = lags.silent;
     fits = fits_room m w (map state mid) (map state new) longer same_room lags.fits;
     suits = lags.suits;
-    chips_long = lags.chips_long ∙ chips_room m w.chip (map state mid) (map state new) longer same_room;
-    chips_are = λ none. lags.chips_are none ∙ sym (chips_same m state w.chip mid new long (λ k p q ep eq. (still k p q ep eq).0));
     fresh = λ none. still_of m w state mid new kept.seen long (λ k p q ep eq. still k p q ep eq) (lags.fresh none);
     told = record {
       drives_are = lags.told.drives_are ∙ sym (still_same m.drives state mid new long (λ k p q ep eq. (still k p q ep eq).0));
@@ -470,10 +466,9 @@ module _ {S P : Type 0} (m : Machine S) (laws : Laws m) (w : Wiring) (state : P 
   }
 
 -- a board at cycle 0 of which nothing was read
-pub lags_start : {S P : Type 0} (m : Machine S) (w : Wiring) (state : P → S) (now wakes : P → ℕ) (parts : List P) (kept : Kept) → kept.stale ≡ true → kept.seen.chips_stale ≡ true → length parts ≤ 64 → AreFresh m state now wakes parts →
-    length kept.dues ≡ length parts → AreDue m state now wakes parts kept.dues → length kept.answers ≡ length parts → AreNone kept.answers → IsTold m (map state parts) kept.seen.circuit → Fits m w (map state parts) → Suits w kept.seen →
-    length kept.seen.chip_drives ≡ length (chip_drives_of m w.chip (map state parts)) → Lags m w state now wakes 0 parts kept
-lags_start m w state now wakes parts kept stale chips_stale few new dues_long due answers_long silent told fits suits chips = record {
+pub lags_start : {S P : Type 0} (m : Machine S) (w : Wiring) (state : P → S) (now wakes : P → ℕ) (parts : List P) (kept : Kept) → kept.stale ≡ true → length parts ≤ 64 → AreFresh m state now wakes parts →
+    length kept.dues ≡ length parts → AreDue m state now wakes parts kept.dues → length kept.answers ≡ length parts → AreNone kept.answers → IsTold m (map state parts) kept.seen.circuit → Fits m w (map state parts) → Suits w kept.seen → Lags m w state now wakes 0 parts kept
+lags_start m w state now wakes parts kept stale few new dues_long due answers_long silent told fits suits = record {
   few = few;
   may = λ k p d ep ed.
       let at = new.at_start k p ep in
@@ -485,8 +480,6 @@ lags_start m w state now wakes parts kept stale chips_stale few new dues_long du
   silent = silent;
   fits = fits;
   suits = suits;
-  chips_long = chips;
-  chips_are = λ none. absurd (let e : true ≡ false = sym chips_stale ∙ none in cc);
   fresh = λ none. absurd (let e : true ≡ false = sym stale ∙ none in cc);
   told = told;
   holds = λ k p ep (later : 0 < 0). absurd (omega arith);

@@ -1,6 +1,6 @@
 -- What a board shows, and how it is read.
-use Rattle.std.proofs.Common.{◌≡◌, ℕ, zero, suc, ◌+◌, ◌-◌, ◌<◌, List, [], ◌∷◌, ◌++◌, length, map, Bool, true, false, not, Option, None, Some, refl, ap, sym, ◌∙◌, ◌⊎◌, inl, inr, arith, append_assoc}
-use Rattle.std.specs.Prelude.{◌==◌, ◌||◌, ◌&&◌, if◌then◌else◌, replicate, slice_get, slice_set}
+use Rattle.std.proofs.Common.{◌≡◌, ℕ, zero, suc, ◌+◌, ◌-◌, ◌<◌, List, [], ◌∷◌, ◌++◌, length, map, Bool, true, false, not, Option, None, Some, refl, ap, sym, ◌∙◌, arith, append_assoc}
+use Rattle.std.specs.Prelude.{◌==◌, ◌||◌, ◌&&◌, if◌then◌else◌, replicate, slice_get}
 use Rattle.std.specs.List.{flat_map}
 use Rattle.std.proofs.lemmas.List.{length-map, append-nil}
 use Rattle.std.proofs.lemmas.Bool.{and_parts}
@@ -15,8 +15,7 @@ use Rattle.board_model.specs.Board.{drives_of, contacts_of, levels_of, bytes_of,
 use Rattle.board_model.specs.Rows.{Shown, same_level, same_drive, same_list, same_shown, chip_drives_of, shown_of, is_new, row_if, shown_before, rows}
 use Rattle.board_model.proofs.Lists.{some_same, get_map_some, flat_map_same}
 use Rattle.board_model.proofs.SameLemmas.{level_same, drive_same, list_same, levels_mean}
-use Rattle.board_run.specs.Seen.{Seen, IsOf, AreStill, AreChips, shown, shown_at}
-use Rattle.board_run.specs.Lagging.{Shifted}
+use Rattle.board_run.specs.Seen.{Seen, IsOf, AreStill, shown, shown_at}
 use Rattle.board_run.specs.Upcoming.{AreBehind}
 use Rattle.board_run.proofs.HandLemmas.{appends_none}
 
@@ -28,8 +27,8 @@ shown_is m w ss seen is = let a = is.levels_are in let b = is.chips_are in cc
 pub fresh_same : {S : Type 0} (m : Machine S) (w : Wiring) (ss : List S) (seen : Seen) → IsOf m w ss seen → true ≡ same_shown (shown seen) (shown_of m w ss)
 fresh_same m w ss seen is = sym (
     ap (same_shown (shown seen)) (sym (shown_is m w ss seen is))
-    ∙ ap (λ (b : Bool). b && same_list same_drive seen.chip_drives seen.chip_drives) (list_same same_level level_same seen.circuit.levels)
-    ∙ list_same same_drive drive_same seen.chip_drives)
+    ∙ ap (λ (b : Bool). b && same_list same_drive seen.circuit.kept seen.circuit.kept) (list_same same_level level_same seen.circuit.levels)
+    ∙ list_same same_drive drive_same seen.circuit.kept)
 
 -- whether a cycle has a row
 pub new_is : (t : ℕ) (seen : Seen) (now : Shown) (same : Bool) → same ≡ same_shown (shown seen) now → ((t == 0) || not same) ≡ is_new (shown_at t seen) now
@@ -89,22 +88,6 @@ chips_same m state (c ∷ chips) (p ∷ old) (q ∷ new) long each =
     let a : m.drives (state q) ≡ m.drives (state p) = each 0 p q refl refl in
     ap (λ (d : List Drive). (if c then d else []) ++ chip_drives_of m chips (map state new)) a
     ∙ ap (λ (l : List Drive). (if c then m.drives (state p) else []) ++ l) (chips_same m state chips old new (omega arith) (λ k x y ex ey. each (suc k) x y ex ey))
-
--- where one part is another one, which drives the same or is no chip
-chips_set : {S P : Type 0} (m : Machine S) (state : P → S) (chips : List Bool) (old : List P) (i : ℕ) (q : P) →
-    ((p : P) → slice_get old i ≡ Some p → slice_get chips i ≡ Some true → m.drives (state q) ≡ m.drives (state p)) → chip_drives_of m chips (map state (slice_set old i q)) ≡ chip_drives_of m chips (map state old)
-chips_set m state [] old i q same = refl
-chips_set m state (c ∷ chips) [] i q same = refl
-chips_set m state (true ∷ chips) (p ∷ old) zero q same = ap (λ (d : List Drive). d ++ chip_drives_of m chips (map state old)) (same p refl refl)
-chips_set m state (false ∷ chips) (p ∷ old) zero q same = refl
-chips_set m state (c ∷ chips) (p ∷ old) (suc i) q same = ap (λ (l : List Drive). (if c then m.drives (state p) else []) ++ l) (chips_set m state chips old i q (λ x ex is. same x ex is))
-
-pub chips_told : {S P : Type 0} (m : Machine S) (w : Wiring) (state : P → S) (old : List P) (i : ℕ) (p q : P) (changed : Bool) → slice_get old i ≡ Some p → Shifted m state p q changed →
-    (changed ≡ false) ⊎ (slice_get w.chip i ≡ Some false) → AreChips m w (map state old) (map state (slice_set old i q))
-chips_told {P = P} m w state old i p q changed was shifted why = chips_set m state w.chip old i q (λ x ex chip. elim why [
-  | inl none ↦ (shifted.same none).0 ∙ ap (λ (y : P). m.drives (state y)) (some_same (sym was ∙ ex))
-  | inr other ↦ absurd (let wrong : Some false ≡ Some true = sym other ∙ chip in cc)
-])
 
 -- what was read of parts that stayed still is still so
 pub still_of : {S P : Type 0} (m : Machine S) (w : Wiring) (state : P → S) (old new : List P) (seen : Seen) → length new ≡ length old → AreStill m state old new → IsOf m w (map state old) seen → IsOf m w (map state new) seen

@@ -18,7 +18,7 @@ use Rattle.board_laws.specs.Steady.{IsSteady}
 use Rattle.board_run.specs.Changes.{LastTells}
 use Rattle.board_run.specs.CutOff.{IsCutOff}
 use Rattle.board_run.specs.Upcoming.{AreBehind, IsInOrder}
-use Rattle.board_run.specs.Seen.{Suits, IsTold, IsRead, AreChips, levels_on, retold, shown_at}
+use Rattle.board_run.specs.Seen.{Suits, IsTold, IsRead, levels_on, retold, shown_at}
 use Rattle.board_run.specs.Parts.{has_part, AreNone}
 use Rattle.board_run.specs.Lagging.{glided, AreLate, MayTurnAt, to_wake, turned, OthersStay, Replaced, Shifted, TookTurn, AreDue, AllTurn, AreCounted}
 use Rattle.board_run.specs.Legs.{Kept, Lags, Leg, IsAlone}
@@ -144,11 +144,10 @@ module _ {P : Type 0} (part : Ghosts P) where
   -- The nets were told of it.
   pub record ToldOf (old new : Engine P) (i : ℕ) (changed : Bool) : Type 0 where
     pub same : new ≡ record old { reading = new.reading }
-    pub rest : new.reading ≡ retold old.reading new.reading.circuit.drives new.reading.circuit.closed new.reading.chips_stale
+    pub rest : new.reading ≡ retold old.reading new.reading.circuit.drives new.reading.circuit.closed
     pub fits : Fits part.machine old.wiring (map part.state old.parts)
     pub told : IsTold part.machine (map part.state old.parts) new.reading.circuit
     pub shifted : (before : List P) (p q : P) → Replaced part.machine old.wiring part.state i before old.parts old.reading.circuit p q → Shifted part.machine part.state p q changed
-    pub chips : new.reading.chips_stale ≡ false → (old.reading.chips_stale ≡ false) × ((changed ≡ false) ⊎ (slice_get old.wiring.chip i ≡ Some false))
 
   -- Part i had its turn, and the nets were told of it.
   pub record TurnedPart (old new : Engine P) (i : ℕ) (differ : PartSet) (place : ℕ) (woken : Woken) (steps more : ℕ) : Type 0 where
@@ -161,10 +160,9 @@ module _ {P : Type 0} (part : Ghosts P) where
     pub due_was : slice_get old.dues i ≡ Some d
     pub same : new ≡ record old { parts = slice_set old.parts i q; dues = slice_set old.dues i e; answers = slice_set old.answers i byte; reading = new.reading }
     pub sent_is : woken.sent ≡ is_some byte
-    pub rest : new.reading ≡ retold old.reading new.reading.circuit.drives new.reading.circuit.closed new.reading.chips_stale
+    pub rest : new.reading ≡ retold old.reading new.reading.circuit.drives new.reading.circuit.closed
     pub fits : Fits part.machine old.wiring (map part.state (slice_set old.parts i q))
     pub told : IsTold part.machine (map part.state (slice_set old.parts i q)) new.reading.circuit
-    pub chips : new.reading.chips_stale ≡ false → (old.reading.chips_stale ≡ false) × AreChips part.machine old.wiring (map part.state old.parts) (map part.state (slice_set old.parts i q))
     pub took : TookTurn part.machine old.wiring part.state part.now part.wake_count old.reading.circuit.levels old.cycle i (input_at (given old place) old.cycle i) (has_part differ i) d p q byte woken.changed
     pub first : IsFirstDue part.machine (part.state q) (part.now q) e
     pub later : (u : ℕ) → e ≡ Some u → old.cycle < u
@@ -173,13 +171,12 @@ module _ {P : Type 0} (part : Ghosts P) where
   -- The parts had their turn in the cycle; the script's values before a place were of it.
   pub record TurnedOn (old new : Engine P) (differ : PartSet) (place : ℕ) (woken : Woken) (steps more : ℕ) : Type 0 where
     pub same : new ≡ record old { parts = new.parts; dues = new.dues; answers = new.answers; reading = new.reading }
-    pub rest : new.reading ≡ retold old.reading new.reading.circuit.drives new.reading.circuit.closed new.reading.chips_stale
+    pub rest : new.reading ≡ retold old.reading new.reading.circuit.drives new.reading.circuit.closed
     pub long : length new.parts ≡ length old.parts
     pub dues_long : length new.dues ≡ length old.dues
     pub answers_long : length new.answers ≡ length old.answers
     pub turns : AllTurn part.machine old.wiring part.state part.now part.wake_count (given old place) old.reading.circuit.levels differ old.cycle old.parts new.parts new.answers woken.changed
     pub told : IsTold part.machine (map part.state new.parts) new.reading.circuit
-    pub chips : new.reading.chips_stale ≡ false → AreChips part.machine old.wiring (map part.state old.parts) (map part.state new.parts)
     pub due : AreDue part.machine part.state part.now part.wake_count new.parts new.dues
     pub silent : woken.sent ≡ false → AreNone new.answers
     pub counted : AreCounted part.machine old.wiring part.state part.now part.wake_count (given old place) old.reading.circuit.levels differ old.cycle old.parts steps more

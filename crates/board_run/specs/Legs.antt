@@ -6,7 +6,7 @@ use Rattle.std.specs.Option.{option_to_list}
 use Rattle.part_law.specs.Machine.{Machine, glide, dues, sent, IsSame, IsFirstDue}
 use Rattle.part_law.specs.declared.part.Went.{Went}
 use Rattle.board_model.specs.Board.{input_at, states}
-use Rattle.board_model.specs.Rows.{chip_drives_of, shown_before}
+use Rattle.board_model.specs.Rows.{shown_before}
 use Rattle.board_model.specs.Fits.{Fits}
 use Rattle.board_laws.specs.Active.{active_cycles, active_pairs}
 use Rattle.board_run.specs.Upcoming.{AreBehind}
@@ -40,8 +40,6 @@ module _ {S P : Type 0} (m : Machine S) (w : Wiring) (state : P → S) (now wake
     pub silent : AreNone kept.answers
     pub fits : Fits m w (map state parts)
     pub suits : Suits w kept.seen
-    pub chips_long : length kept.seen.chip_drives ≡ length (chip_drives_of m w.chip (map state parts))
-    pub chips_are : kept.seen.chips_stale ≡ false → kept.seen.chip_drives ≡ chip_drives_of m w.chip (map state parts)
     pub fresh : kept.stale ≡ false → IsOf m w (map state parts) kept.seen
     pub told : IsTold m (map state parts) kept.seen.circuit
     pub holds : (k : ℕ) (p : P) → slice_get parts k ≡ Some p → 0 < t → m.held (state p) ≡ levels_on m w kept.seen.circuit.levels k (state p)

@@ -19,7 +19,7 @@ impl<P: Part> Engine<P> {
         ensures read { IsRead P.machine self.old.wiring (map P.state self.old.parts) self.old.reading self.new.reading result.0 result.1 }
     {
         if self.stale {
-            self.reading.read(&self.parts, &self.wiring)
+            self.reading.read()
         } else {
             (true, PartSet::none())
         }

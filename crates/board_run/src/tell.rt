@@ -169,9 +169,7 @@ impl<P: Part> Engine<P> {
             let span = parts[i].moved();
             let pins = set_pins(&parts[i], span, first, &mut reading.nets);
             let contacts = tell_contacts(parts, i, &mut reading.nets);
-            let changed = pins | contacts;
-            reading.chips_stale = reading.chips_stale | (changed & self.wiring.chip.as_slice()[i]);
-            changed
+            pins | contacts
         } else {
             false
         }

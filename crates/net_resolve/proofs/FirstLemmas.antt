@@ -10,36 +10,50 @@ use Rattle.board_model.specs.Board.{level_at}
 use Rattle.net_resolve.specs.Circuit.{Circuit}
 use Rattle.net_resolve.specs.Marked.{has}
 use Rattle.net_resolve.specs.Shown.{AreShown}
+use Rattle.net_resolve.specs.Watched.{IsWatch, flagged, differing}
+use Rattle.net_resolve.specs.declared.watch.Watch.{Watch}
+use Rattle.net_resolve.specs.declared.nets.Nets.TheInside.{Inside}
 use Rattle.net_resolve.specs.declared.shown.Shown.{Shown}
 use Rattle.net_resolve.specs.Wired.{Wired, wired}
 use Rattle.net_resolve.specs.Subcircuits.{SubcircuitView, IsCut, AreSubcircuits, AreRight, circuit_of}
 use Rattle.net_resolve.proofs.PinLemmas.{pins_z}
 use Rattle.net_resolve.proofs.RightLemmas.{right_none}
+use Rattle.net_resolve.proofs.WatchLemmas.{none_flagged, none_differs}
 
-abbrev circuit : ℕ → List ℕ → List (ℕ × ℕ) → List (ℕ × ℕ) → List Drive → List Bool → List Level → List ℕ → Circuit
-circuit n ns cs rs ds cl ls ch = record { nets = n; net_of = ns; contacts = cs; resistors = rs; drives = ds; closed = cl; levels = ls; changed = ch }
+abbrev circuit : ℕ → List ℕ → List (ℕ × ℕ) → List (ℕ × ℕ) → List Drive → List Bool → List Level → List ℕ → List Bool → List Drive → Circuit
+circuit n ns cs rs ds cl ls ch ws ks = record { nets = n; net_of = ns; contacts = cs; resistors = rs; drives = ds; closed = cl; levels = ls; changed = ch; watched = ws; kept = ks }
 
 -- there are as many levels as nets
 count_is : (n k : ℕ) (ls : List Level) → n ≡ length ls → ls ≡ replicate k levels.Z → n ≡ k
 count_is n k ls en el = en ∙ ap length el ∙ length-replicate k levels.Z
 
 -- what callers see
-pub first_circuit : (w : Wiring) (n : ℕ) (net_of : List ℕ) (contacts resistors : List (ℕ × ℕ)) (ds : List Drive) (cl : List Bool) (ls : List Level) (changed : List ℕ) →
-    n ≡ length ls → net_of ≡ w.net_of → contacts ≡ w.contacts → resistors ≡ w.resistors →
-    ds ≡ replicate (length w.net_of) drives.Z → cl ≡ replicate (length w.contacts) false → ls ≡ replicate w.nets levels.Z → changed ≡ [] →
-    circuit n net_of contacts resistors ds cl ls changed ≡ circuit w.nets w.net_of w.contacts w.resistors (replicate (length w.net_of) drives.Z) (replicate (length w.contacts) false) (replicate w.nets levels.Z) []
-first_circuit w n net_of contacts resistors ds cl ls changed en es ec er ed ef el eh =
+pub first_circuit : (w : Wiring) (n : ℕ) (net_of : List ℕ) (contacts resistors : List (ℕ × ℕ)) (ds : List Drive) (cl : List Bool) (ls : List Level) (changed : List ℕ)
+    (ws : List Bool) (ks : List Drive) → n ≡ length ls → net_of ≡ w.net_of → contacts ≡ w.contacts → resistors ≡ w.resistors →
+    ds ≡ replicate (length w.net_of) drives.Z → cl ≡ replicate (length w.contacts) false → ls ≡ replicate w.nets levels.Z → changed ≡ [] → ws ≡ replicate (length w.net_of) false →
+    circuit n net_of contacts resistors ds cl ls changed ws (flagged ws ks)
+    ≡ circuit w.nets w.net_of w.contacts w.resistors (replicate (length w.net_of) drives.Z) (replicate (length w.contacts) false) (replicate w.nets levels.Z) [] (replicate (length w.net_of) false) []
+first_circuit w n net_of contacts resistors ds cl ls changed ws ks en es ec er ed ef el eh ew =
     let ds2 = replicate (length w.net_of) drives.Z in
     let cl2 = replicate (length w.contacts) false in
     let ls2 = replicate w.nets levels.Z in
-    ap (λ (x : ℕ). circuit x net_of contacts resistors ds cl ls changed) (count_is n w.nets ls en el)
-    ∙ ap (λ (x : List ℕ). circuit w.nets x contacts resistors ds cl ls changed) es
-    ∙ ap (λ (x : List (ℕ × ℕ)). circuit w.nets w.net_of x resistors ds cl ls changed) ec
-    ∙ ap (λ (x : List (ℕ × ℕ)). circuit w.nets w.net_of w.contacts x ds cl ls changed) er
-    ∙ ap (λ (x : List Drive). circuit w.nets w.net_of w.contacts w.resistors x cl ls changed) ed
-    ∙ ap (λ (x : List Bool). circuit w.nets w.net_of w.contacts w.resistors ds2 x ls changed) ef
-    ∙ ap (λ (x : List Level). circuit w.nets w.net_of w.contacts w.resistors ds2 cl2 x changed) el
-    ∙ ap (λ (x : List ℕ). circuit w.nets w.net_of w.contacts w.resistors ds2 cl2 ls2 x) eh
+    ap (λ (x : ℕ). circuit x net_of contacts resistors ds cl ls changed ws (flagged ws ks)) (count_is n w.nets ls en el)
+    ∙ ap (λ (x : List ℕ). circuit w.nets x contacts resistors ds cl ls changed ws (flagged ws ks)) es
+    ∙ ap (λ (x : List (ℕ × ℕ)). circuit w.nets w.net_of x resistors ds cl ls changed ws (flagged ws ks)) ec
+    ∙ ap (λ (x : List (ℕ × ℕ)). circuit w.nets w.net_of w.contacts x ds cl ls changed ws (flagged ws ks)) er
+    ∙ ap (λ (x : List Drive). circuit w.nets w.net_of w.contacts w.resistors x cl ls changed ws (flagged ws ks)) ed
+    ∙ ap (λ (x : List Bool). circuit w.nets w.net_of w.contacts w.resistors ds2 x ls changed ws (flagged ws ks)) ef
+    ∙ ap (λ (x : List Level). circuit w.nets w.net_of w.contacts w.resistors ds2 cl2 x changed ws (flagged ws ks)) el
+    ∙ ap (λ (x : List ℕ). circuit w.nets w.net_of w.contacts w.resistors ds2 cl2 ls2 x ws (flagged ws ks)) eh
+    ∙ ap (λ (x : List Bool). circuit w.nets w.net_of w.contacts w.resistors ds2 cl2 ls2 [] x (flagged x ks)) ew
+    ∙ ap (circuit w.nets w.net_of w.contacts w.resistors ds2 cl2 ls2 [] (replicate (length w.net_of) false)) (none_flagged (length w.net_of) ks)
+
+first_watch : (n : ℕ) (ds : List Drive) (w : Watch) → ds ≡ replicate n drives.Z → w.watched.items ≡ replicate n false → w.kept.items ≡ replicate n drives.Z → w.differing ≡ 0 → IsWatch ds w
+first_watch n ds w ed ew ek none = record {
+  flags_long = ap length ew ∙ length-replicate n false ∙ sym (ap length ed ∙ length-replicate n drives.Z);
+  kept_long = ap length (ek ∙ sym ed);
+  counted = none ∙ sym (ap (λ (ks : List Drive). differing w.watched.items ks ds) (ek ∙ sym ed) ∙ none_differs w.watched.items ds);
+}
 
 -- what holds of them: all are marked
 module _ (w : Wiring) (n : ℕ) (net_of : List ℕ) (contacts resistors : List (ℕ × ℕ)) (shown : Shown)
@@ -63,7 +77,7 @@ module _ (w : Wiring) (n : ℕ) (net_of : List ℕ) (contacts resistors : List (
       shown.changed.room ≡ w.nets → shown.pin_levels.items ≡ replicate (length w.net_of) levels.Z →
       (net_count driven : ℕ) (ds : List Drive) → net_count ≡ length net_of → driven ≡ length ds → ds ≡ replicate (length w.net_of) drives.Z →
       (pair_count flags : ℕ) (cl : List Bool) → pair_count ≡ length contacts → flags ≡ length cl → cl ≡ replicate (length w.contacts) false →
-      record {
+      (watch : Watch) → watch.watched.items ≡ replicate (length w.net_of) false → watch.kept.items ≡ replicate (length w.net_of) drives.Z → watch.differing ≡ 0 → record {
         cut : IsCut (wired n net_of contacts resistors) labels;
         subcircuits : AreSubcircuits (wired n net_of contacts resistors) labels subs;
         right : AreRight (wired n net_of contacts resistors) labels marked cl ds shown.levels.items;
@@ -72,8 +86,9 @@ module _ (w : Wiring) (n : ℕ) (net_of : List ℕ) (contacts resistors : List (
         drives_long : driven ≡ net_count;
         closed_long : flags ≡ pair_count;
         shown : AreShown net_of shown;
+        watch : IsWatch ds watch;
       }
-  first_invariant subs subs_long are room marked room_is few all changed_is epl net_count driven ds ek ed eds pair_count flags cl ep ef ecl = record {
+  first_invariant subs subs_long are room marked room_is few all changed_is epl net_count driven ds ek ed eds pair_count flags cl ep ef ecl watch ew ek2 none = record {
     cut = first_cut;
     subcircuits = subst (λ (x : Wired). AreSubcircuits x labels subs) same are;
     right = right_none (wired n net_of contacts resistors) labels first_cut marked cl ds shown.levels.items (λ q l. all q (subst (λ (k : ℕ). q < k) count l));
@@ -86,4 +101,9 @@ module _ (w : Wiring) (n : ℕ) (net_of : List ℕ) (contacts resistors : List (
       within = λ k m e. omega (arith, first_cut.pins_within k m e, en);
       pins = epl ∙ ap (λ (k : ℕ). replicate k levels.Z) (ap length (sym es)) ∙ pins_z w.nets net_of ∙ ap (λ (x : List Level). map (level_at x) net_of) (sym els);
     };
+    watch = first_watch (length w.net_of) ds watch eds ew ek2 none;
   }
+
+-- what callers see of what Nets has inside, with these drives, flags and kept drives
+abbrev pub seen_of : Inside → List Drive → List Bool → List Drive → Circuit
+seen_of x ds ws ks = circuit x.shown.levels.len x.net_of.items x.contacts.items x.resistors.items ds x.closed.items x.shown.levels.items x.shown.changed.marked ws ks

@@ -14,3 +14,4 @@ pub mod RightLemmas
 pub mod ResolutionLemmas
 pub mod FirstLemmas
 pub mod WholeLemmas
+pub mod WatchLemmas

@@ -19,6 +19,9 @@ pub record Circuit : Type 0 where
   pub levels : List Level
   -- the nets whose levels that changed
   pub changed : List ℕ
+  -- which pins are watched, and what these drove when that was kept last
+  pub watched : List Bool
+  pub kept : List Drive
 
 -- The nets of a list are those whose levels differ.
 pub record AreChanged (old new : List Level) (changed : List ℕ) : Type 0 where

@@ -8,3 +8,4 @@ pub mod Sorted
 pub mod Resolutions
 pub mod Shown
 pub mod Rooms
+pub mod Watched

@@ -13,6 +13,7 @@ mod room;
 mod shown;
 mod subcircuit;
 mod sums;
+mod watch;
 mod whole;
 
 pub use nets::{Nets, has_valid_nets};

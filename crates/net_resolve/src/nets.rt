@@ -5,9 +5,11 @@ ghost use Rattle.std.specs.List.{IsDistinct};
 ghost use Rattle.board_model.specs.Fits.{IsWiring};
 ghost use Rattle.board_model.specs.Board.{level_at};
 ghost use Rattle.board_model.specs.Resolve.{resolve};
+ghost use Rattle.board_model.specs.Rows.{same_list, same_drive};
 ghost use Rattle.net_resolve.specs.Circuit.{Circuit, AreChanged};
 ghost use Rattle.net_resolve.specs.Marked.{has};
 ghost use Rattle.net_resolve.specs.Subcircuits.{IsCut, AreSubcircuits, circuit_of};
+ghost use Rattle.net_resolve.specs.Watched.{flagged};
 
 use crate::cut::{cut_all, sort};
 use crate::marks::{Marks, Numbers};
@@ -15,6 +17,7 @@ use crate::resolution::{is_same_drive, is_same_flag};
 use crate::room::{all_z, no_drives, no_flags};
 use crate::shown::Shown;
 use crate::subcircuit::Subcircuit;
+use crate::watch::Watch;
 use sim_base::{Drive, Level, OutOfMemory, Wiring};
 use std::alloc::Global;
 use std::marker::Model;
@@ -37,6 +40,7 @@ pub struct Nets {
     marks: Marks,
     /// The levels, and the nets whose levels the last resolution changed.
     shown: Shown,
+    watch: Watch,
 }
 
 impl Model for Nets {
@@ -45,6 +49,7 @@ impl Model for Nets {
     ghost use Rattle.net_resolve.specs.Wired.{wired};
     ghost use Rattle.net_resolve.specs.Subcircuits.{IsCut, AreSubcircuits, AreRight};
     ghost use Rattle.net_resolve.specs.Shown.{AreShown};
+    ghost use Rattle.net_resolve.specs.Watched.{IsWatch, flagged};
 
     ghost Value = { Circuit };
 
@@ -57,6 +62,8 @@ impl Model for Nets {
       closed = a.closed.items;
       levels = a.shown.levels.items;
       changed = a.shown.changed.marked;
+      watched = a.watch.watched.items;
+      kept = flagged a.watch.watched.items a.watch.kept.items;
     } };
 
     ghost invariant = { λ a. record {
@@ -69,6 +76,7 @@ impl Model for Nets {
       drives_long : vec_len a.drives ≡ vec_len a.net_of;
       closed_long : vec_len a.closed ≡ vec_len a.contacts;
       shown : AreShown a.net_of.items a.shown;
+      watch : IsWatch a.drives.items a.watch;
     } };
 }
 
@@ -87,7 +95,7 @@ fn cut_wiring(alloc: Global, wiring: &Wiring) -> Result<(Vec<u16>, Vec<Subcircui
 
 impl Nets {
     /// The nets of a wiring, with every drive and every level Z and all contacts open. All are to be
-    /// resolved.
+    /// resolved, and no pin is watched.
     pub fn new(alloc: Global, wiring: &Wiring) -> Result<Nets, OutOfMemory>
         requires { IsWiring wiring.now }
         ensures { IfOk result (λ n. n ≡ record {
@@ -99,6 +107,8 @@ impl Nets {
           closed = replicate (length wiring.now.contacts) false;
           levels = replicate wiring.now.nets Level.Z;
           changed = [];
+          watched = replicate (length wiring.now.net_of) false;
+          kept = [];
         }) }
     {
         let marks = Marks::all(alloc, wiring.nets)?;
@@ -111,6 +121,8 @@ impl Nets {
         let closed = no_flags(alloc, wiring.contacts.len())?;
         let levels = all_z(alloc, wiring.nets as usize)?;
         let pin_levels = all_z(alloc, wiring.net_of.len())?;
+        let watched = no_flags(alloc, wiring.net_of.len())?;
+        let kept = no_drives(alloc, wiring.net_of.len())?;
         Ok(Nets {
             net_of,
             contacts,
@@ -125,16 +137,31 @@ impl Nets {
                 pin_levels,
                 changed,
             },
+            watch: Watch {
+                watched,
+                kept,
+                differing: 0,
+            },
         })
     }
 
-    /// Sets what a pin drives, and marks its subcircuit if it drove something else. Levels follow with
+    /// From now on the pins with these flags are watched, and no others; what they drive is kept.
+    pub fn watch(&mut self, pins: Vec<bool>)
+        requires { length pins.items ≡ length self.old.net_of }
+        ensures { self.new ≡ record self.old { watched = pins.items; kept = flagged pins.items self.old.drives } }
+    {
+        self.watch.watched = pins;
+        self.watch.keep_all(&self.drives);
+    }
+
+    /// Sets what a pin drives. If it drove something else, marks its subcircuit. Levels follow with
     /// `resolve_marked`.
     pub fn set_drive(&mut self, pin: usize, drive: Drive)
         requires { pin < length self.old.net_of }
         ensures { self.new ≡ record self.old { drives = slice_set self.old.drives pin drive } }
     {
         if !is_same_drive(self.drives[pin], drive) {
+            self.watch.note(pin, drive, &self.drives);
             self.drives[pin] = drive;
             self.marks.mark(self.labels[self.net_of[pin] as usize]);
         }
@@ -172,6 +199,15 @@ impl Nets {
                 &mut self.shown,
             );
         }
+    }
+
+    /// Keeps what the watched pins drive, and tells whether that is what was kept of them before.
+    #[inline]
+    pub fn keep_watched(&mut self) -> bool
+        ensures kept { self.new ≡ record self.old { kept = flagged self.old.watched self.old.drives } }
+        ensures same { result ≡ same_list same_drive self.old.kept (flagged self.old.watched self.old.drives) }
+    {
+        self.watch.keep(&self.drives)
     }
 
     /// What each pin drives.

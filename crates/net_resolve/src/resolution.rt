@@ -1,5 +1,6 @@
 //! Resolutions that are kept: levels, with what was driven and closed when they were found.
 ghost use Rattle.std.specs.Prelude.{◌≡◌, ℕ, ◌<◌, length, map, Some, slice_get, vec_len, true};
+ghost use Rattle.board_model.specs.Rows.{same_drive};
 ghost use Rattle.net_resolve.specs.Resolutions.{last_of};
 
 use sim_base::{Drive, Level};
@@ -22,7 +23,7 @@ pub(crate) struct Kept {
 
 #[inline(always)]
 pub(crate) fn is_same_drive(a: Drive, b: Drive) -> bool
-    ensures { result ≡ true → a ≡ b }
+    ensures { result ≡ same_drive a b }
 {
     a == b
 }

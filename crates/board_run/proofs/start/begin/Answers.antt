@@ -13,7 +13,7 @@ returns g c =
     let seen = c.in_ok-reading.ensures in
     let none = c.in_ok-answers.ensures in
     let kept : Kept = record { input = 0; stale = true; dues = c.in_ok-dues.dues; seen = c.in_ok-reading.reading; answers = c.in_ok-answers.answers } in
-    lags_start p.machine c.args.wiring.now p.state p.now p.wake_count c.args.parts.now kept refl seen.stale c.requires.few c.requires.fresh dues.dues dues.due
+    lags_start p.machine c.args.wiring.now p.state p.now p.wake_count c.args.parts.now kept refl c.requires.few c.requires.fresh dues.dues dues.due
     (ap length none ∙ length-replicate (length c.args.parts.now) None)
     (λ k a e. get_all (length c.args.parts.now) k None a (ap (λ (xs : List (Option ℕ)). slice_get xs k) (sym none) ∙ e))
-    seen.told c.requires.fits seen.suits seen.chips
+    seen.told c.requires.fits seen.suits

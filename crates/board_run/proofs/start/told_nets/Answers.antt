@@ -3,6 +3,9 @@ use Rattle.std.proofs.lemmas.List.{length-replicate}
 use Rattle.net_resolve.specs.Circuit.{Circuit}
 use Rattle.board_run.proofs.start.told_nets.Goals as goal
 
+pub watch-requires : goal.watch-requires
+watch-requires g c = c.in_ok-chips.ensures.each ∙ sym (ap (λ (x : Circuit). length x.net_of) c.tell_all.ensures.rest ∙ ap (λ (x : Circuit). length x.net_of) c.in_ok-nets.ensures)
+
 pub tell_all-requires : goal.tell_all-requires
 tell_all-requires g c =
     let w = c.args.wiring.now in
@@ -22,15 +25,17 @@ tell_all-requires g c =
 
 pub returns : goal.returns
 returns g c =
-    let made = c.tell_all.ensures.rest in
+    let told = c.tell_all.ensures in
+    let watched = c.watch.ensures in
     let fresh = c.in_ok-nets.ensures in
     record {
-      told = record { drives_are = c.tell_all.ensures.drives; closed_are = c.tell_all.ensures.closed };
+      told = record { drives_are = ap (λ (x : Circuit). x.drives) watched ∙ told.drives; closed_are = ap (λ (x : Circuit). x.closed) watched ∙ told.closed };
       wired = record {
-        nets = ap (λ (x : Circuit). x.nets) made ∙ ap (λ (x : Circuit). x.nets) fresh;
-        net_of = ap (λ (x : Circuit). x.net_of) made ∙ ap (λ (x : Circuit). x.net_of) fresh;
-        contacts = ap (λ (x : Circuit). x.contacts) made ∙ ap (λ (x : Circuit). x.contacts) fresh;
-        resistors = ap (λ (x : Circuit). x.resistors) made ∙ ap (λ (x : Circuit). x.resistors) fresh;
-        levels_long = ap (λ (x : Circuit). length x.levels) made ∙ ap (λ (x : Circuit). length x.levels) fresh ∙ length-replicate c.args.wiring.now.nets _;
+        nets = ap (λ (x : Circuit). x.nets) watched ∙ ap (λ (x : Circuit). x.nets) told.rest ∙ ap (λ (x : Circuit). x.nets) fresh;
+        net_of = ap (λ (x : Circuit). x.net_of) watched ∙ ap (λ (x : Circuit). x.net_of) told.rest ∙ ap (λ (x : Circuit). x.net_of) fresh;
+        contacts = ap (λ (x : Circuit). x.contacts) watched ∙ ap (λ (x : Circuit). x.contacts) told.rest ∙ ap (λ (x : Circuit). x.contacts) fresh;
+        resistors = ap (λ (x : Circuit). x.resistors) watched ∙ ap (λ (x : Circuit). x.resistors) told.rest ∙ ap (λ (x : Circuit). x.resistors) fresh;
+        levels_long = ap (λ (x : Circuit). length x.levels) watched ∙ ap (λ (x : Circuit). length x.levels) told.rest ∙ ap (λ (x : Circuit). length x.levels) fresh ∙ length-replicate c.args.wiring.now.nets _;
+        watched = ap (λ (x : Circuit). x.watched) watched ∙ c.in_ok-chips.ensures.flags;
       };
     }

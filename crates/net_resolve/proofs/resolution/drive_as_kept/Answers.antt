@@ -1,6 +1,7 @@
-use Rattle.std.proofs.Common.{◌∙◌, ap, arith, get_or, Some}
+use Rattle.std.proofs.Common.{◌∙◌, sym, ap, arith, get_or, Some}
 use Rattle.sim_base.specs.declared.signal.Drive.TheVariants as drives
 use Rattle.board_model.proofs.Lists.{get_within}
+use Rattle.board_model.proofs.SameLemmas.{drive_means}
 use Rattle.net_resolve.proofs.PlaceLemmas.{gathered, from_more}
 use Rattle.net_resolve.proofs.resolution.drive_as_kept.Goals as goal
 
@@ -12,7 +13,7 @@ loop-j-preserved c =
     let k = get_or pins j 0 in
     let at = get_within pins j 0 c.loop-j-test.true in
     from_more c.args.drives.now kept pins j k (get_or kept j drives.Z) c.loop-j.invariant at (get_within kept j drives.Z (omega (arith, c.loop-j-test.true, c.requires.each)))
-    (get_within c.args.drives.now k drives.Z (c.requires.pins j k at) ∙ ap Some (c.is_same_drive.ensures c.if-not-is_same_drive.false))
+    (get_within c.args.drives.now k drives.Z (c.requires.pins j k at) ∙ ap Some (drive_means _ _ (sym c.is_same_drive.ensures ∙ c.if-not-is_same_drive.false)))
 
 pub returns : goal.returns
 returns c = λ _. gathered c.args.drives.now c.args.kept.now c.args.pins.now c.loop-j.j c.loop-j-test.false c.requires.each c.loop-j.invariant

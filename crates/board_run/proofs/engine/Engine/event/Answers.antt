@@ -72,7 +72,7 @@ cycle g c =
     let from = subst (λ (x : Engine g.row.P.Denot). x.input ≤ end.result) c.show-shown.ensures.rest end.ensures.from in
     happens p.machine g.met.P.Part.laws e.wiring p.state p.now p.wake_count e.inputs e.cycle e.input end.result e.parts new.parts (kept_of e) c.show-shown.new.self.reading new.reading c.show-shown.result.1
     new.answers new.dues c.turn-woken.result.changed c.args.steps.now c.turn-woken.new.steps c.requires.may.lags s.differs from c.requires.may.behind
-    (passed g c) s.of s.suits t.long t.answers_long t.dues_long (t.turns e.inputs) (t.counted e.inputs) t.due t.told t.rest t.chips
+    (passed g c) s.of s.suits t.long t.answers_long t.dues_long (t.turns e.inputs) (t.counted e.inputs) t.due t.told t.rest
 
 pub hand_sent-requires : goal.hand_sent-requires
 hand_sent-requires g c = record { whole = (c.show-shown.ensures.ok c.in-Ok.is).is_whole; silent = c.turn-woken.ensures.silent }

@@ -1,13 +1,78 @@
-use Rattle.std.proofs.Common.{◌≡◌, map, refl, true, false}
+use Rattle.std.proofs.Common.{◌≡◌, ◌∙◌, List, Bool, map, length, ap, sym, subst, refl, true, false, arith, eq-eqb}
+use Rattle.std.specs.Prelude.{◌&&◌, eqb}
+use Rattle.sim_base.specs.declared.signal.Drive.{Drive}
+use Rattle.sim_base.specs.declared.signal.Level.{Level}
+use Rattle.board_model.specs.Board.{levels_of}
+use Rattle.board_model.specs.Rows.{same_list, same_level, same_drive, chip_drives_of}
+use Rattle.net_resolve.specs.Circuit.{Circuit}
+use Rattle.net_resolve.specs.Watched.{flagged}
+use Rattle.net_resolve.proofs.ReachLemmas.{any_at}
+use Rattle.board_run.specs.Parts.{AreOn}
+use Rattle.board_run.specs.Seen.{Seen, pin_flags}
+use Rattle.board_run.proofs.GatherLemmas.{flagged_chips}
+use Rattle.board_run.proofs.PartLemmas.{differ_is}
 use Rattle.board_run.proofs.ShowLemmas.{fresh_same}
 use Rattle.board_run.proofs.ReadLemmas.{none_differ}
 use Rattle.board_run.proofs.engine.Engine.refresh.Goals as goal
 
 pub read-requires : goal.read-requires
-read-requires g c = let l = c.requires.lags in record { fits = l.fits; suits = l.suits; chips_long = l.chips_long; chips_are = l.chips_are; told = l.told }
+read-requires g c = let s = c.requires.lags.suits in record { on = s.on_long ∙ sym s.wired.nets; levels = s.wired.levels_long ∙ sym s.wired.nets }
 
 pub returns-then-self : goal.returns-then-self
-returns-then-self g c = record { rest = refl; read = c.read.ensures }
+returns-then-self g c =
+    let p = g.P.Part in
+    let m = p.machine in
+    let e = c.args.self.now in
+    let w = e.wiring in
+    let ss = map p.state e.parts in
+    let l = c.requires.lags in
+    let wired = l.suits.wired in
+    let old = e.reading.circuit in
+    let new = c.read.new.self.circuit in
+    let r = c.read.ensures in
+    let circuit = ap (λ (v : Seen). v.circuit) r.rest in
+    let a = wired.nets in
+    let b = wired.net_of in
+    let d = wired.contacts in
+    let f = wired.resistors in
+    let ds = l.told.drives_are in
+    let cs = l.told.closed_are in
+    let resolved = ap (λ (x : Circuit). x.levels) circuit in
+    let levels : new.levels ≡ levels_of m w ss = cc in
+    let kept : new.kept ≡ chip_drives_of m w.chip ss = ap (λ (x : Circuit). x.kept) circuit ∙ ap (λ (flags : List Bool). flagged flags old.drives) wired.watched
+    ∙ ap (flagged (pin_flags w.chip w.first_pin (length w.net_of))) ds ∙ flagged_chips m w ss l.fits in
+    let nets : new.nets ≡ w.nets = ap (λ (x : Circuit). x.nets) circuit ∙ a in
+    let later : length new.levels ≡ w.nets = r.long ∙ nets in
+    record {
+      rest = refl;
+      read = record {
+        suits = record {
+          wired = record {
+            nets = nets;
+            net_of = ap (λ (x : Circuit). x.net_of) circuit ∙ b;
+            contacts = ap (λ (x : Circuit). x.contacts) circuit ∙ d;
+            resistors = ap (λ (x : Circuit). x.resistors) circuit ∙ f;
+            levels_long = later;
+            watched = ap (λ (x : Circuit). x.watched) circuit ∙ wired.watched;
+          };
+          drives_long = ap (λ (x : Circuit). length x.drives) circuit ∙ l.suits.drives_long;
+          closed_long = ap (λ (x : Circuit). length x.closed) circuit ∙ l.suits.closed_long;
+          on_long = ap (λ (v : Seen). length v.on) r.rest ∙ l.suits.on_long;
+          on_are = subst (λ (v : Seen). AreOn w v.on) (sym r.rest) l.suits.on_are;
+        };
+        of = record {
+          drives_are = ap (λ (x : Circuit). x.drives) circuit ∙ ds;
+          closed_are = ap (λ (x : Circuit). x.closed) circuit ∙ cs;
+          levels_are = levels;
+          chips_are = kept;
+        };
+        changed = λ _. r.changed.others;
+        same_is = r.same_is ∙ ap (λ (l : List Level). same_list same_level old.levels l && same_list same_drive old.kept new.kept) levels
+            ∙ ap (λ (l : List Drive). same_list same_level old.levels (levels_of m w ss) && same_list same_drive old.kept l) kept;
+        differs = λ k s es. r.differs k ∙ differ_is m w ss l.fits old.levels new.levels new.changed e.reading.on wired.levels_long later l.suits.on_long l.suits.on_are r.changed
+            (λ j n en. let there = r.within n (any_at (eqb n) new.changed j n en (eq-eqb n n refl)) in omega (arith, there, nets)) (record { bits = 0 }) k s es;
+      };
+    }
 
 pub returns-else-self : goal.returns-else-self
 returns-else-self g c =

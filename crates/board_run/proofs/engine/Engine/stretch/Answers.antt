@@ -1,4 +1,4 @@
-use Rattle.std.proofs.Common.{◌≡◌, ◌+◌, ◌-◌, ◌<◌, ◌∙◌, ap, arith, sym, refl, subst, ℕ, ◌≤◌, List, [], ◌∷◌, Option, get_or, length-set, inr}
+use Rattle.std.proofs.Common.{◌≡◌, ◌-◌, ◌∙◌, ap, arith, sym, refl, subst, ℕ, ◌≤◌, List, [], ◌∷◌, Option, get_or, length-set}
 use Rattle.std.specs.Prelude.{slice_set}
 use Rattle.sim_base.specs.Rows.{Row, Handed, StopsWithin}
 use Rattle.part_law.specs.Machine.{sent}
@@ -9,7 +9,6 @@ use Rattle.board_run.specs.Lagging.{glided}
 use Rattle.board_run.specs.Engine.{kept_of, rows_to, Showed}
 use Rattle.board_run.specs.declared.engine.Engine.{Engine}
 use Rattle.board_run.proofs.AloneLemmas.{went_replaces, Goes, alone_goes}
-use Rattle.board_run.proofs.ShowLemmas.{chips_told}
 use Rattle.board_run.proofs.TurnLemmas.{turned_others}
 use Rattle.board_run.proofs.HandLemmas.{one_byte, stops_whole}
 use Rattle.board_run.proofs.EngineLemmas.{fails_here}
@@ -68,7 +67,6 @@ goes g c =
     (went_replaces p.machine g.met.P.Part.laws e.wiring p.state p.now p.wake_count e.cycle (w.result.to - e.cycle) c.args.who e.parts e.reading.circuit x w.new.part c.item_mut.ensures.value may.lags.fits may.lags.told w.ensures.state_is) in
     alone_goes p.machine g.met.P.Part.laws e.wiring p.state p.now p.wake_count e.inputs p.moves e.cycle c.args.limit e.parts (kept_of e) c.tell-self.result c.args.steps.now w.new.steps c.args.who x w.new.part w.new.due
     w.result c.tell-self.new.self.reading told.rest told.told
-    (λ none. chips_told p.machine e.wiring p.state e.parts c.args.who x w.new.part c.tell-self.result c.item_mut.ensures.value shifted (told.chips none).1)
     may.lags alone.fresh alone.after may.behind c.requires.end alone.alone c.item_mut.ensures.value w.ensures shifted
 
 pub returns : goal.returns

@@ -1,11 +1,10 @@
-use Rattle.std.proofs.Common.{arith, ◌≡◌, ◌<◌, ◌∙◌, List, length, map, take, refl, sym, ap, subst, Bool, true, false, Some, inl, inr, get_or}
-use Rattle.std.specs.Prelude.{◌||◌, ◌&&◌, slice_get}
-use Rattle.std.proofs.lemmas.Bool.{false_from_ne_true, and_cases, or_cases, or_parts}
+use Rattle.std.proofs.Common.{arith, ◌≡◌, ◌<◌, ◌∙◌, List, length, map, take, refl, sym, ap, subst, Bool, true, false, inl, inr}
+use Rattle.std.specs.Prelude.{◌||◌, slice_get}
+use Rattle.std.proofs.lemmas.Bool.{false_from_ne_true, or_cases, or_parts}
 use Rattle.sim_base.specs.declared.signal.Drive.{Drive}
 use Rattle.net_resolve.specs.Circuit.{Circuit}
 use Rattle.board_model.specs.Board.{contacts_of}
-use Rattle.std.proofs.lemmas.List.{length-map}
-use Rattle.board_model.proofs.Lists.{some_same, some_map, flat_map_room, get_within}
+use Rattle.board_model.proofs.Lists.{some_same, some_map, flat_map_room}
 use Rattle.board_run.specs.Seen.{Seen, HasAt, Put, retold}
 use Rattle.board_run.specs.Lagging.{Shifted}
 use Rattle.board_run.proofs.GatherLemmas.{item_at}
@@ -71,8 +70,6 @@ returns-then-moved g c =
     let circuit = ap (λ (v : Seen). v.circuit) c.reading.view_is in
     let pins = c.set_pins-pins in
     let ports = c.tell_contacts-contacts in
-    let chip = get_or c.as_slice.result.now i false in
-    let stale = inside.chips_stale || ((pins.result || ports.result) && chip) in
     let old = inside.nets in
     let mid = pins.new.nets in
     let new = ports.new.nets in
@@ -83,20 +80,9 @@ returns-then-moved g c =
     ∙ ap (λ (ds : List Drive). let z : Circuit = record old { drives = ds; closed = new.closed } in z) (sym drives_are) in
     let place = λ (l : List g.row.P.Denot). length (contacts_of m (take i (map p.state l))) in
     let at = told_place p g.met.P.Part.laws e i first old may.before may.p may.q x may.replaced c.requires.first circuit there in
-    let parts_long : length (map p.state e.parts) ≡ length e.parts = simp length-map refl in
-    let chip_is = ap (λ (l : List Bool). slice_get l i) (sym c.as_slice.ensures)
-    ∙ get_within c.as_slice.result.now i false (omega (arith, c.requires.within, at.1.fits.chips, parts_long, ap length c.as_slice.ensures)) in
     record {
       same = refl;
-      rest = ap (λ (n : Circuit). let v : Seen = record { circuit = n; chip_drives = inside.chip_drives.items; on = inside.on.items; chips_stale = stale } in v) rest ∙ ap (λ (v : Seen). retold v new.drives new.closed stale) c.reading.view_is;
-      chips = λ none.
-          let both = or_parts inside.chips_stale _ none in (
-            ap (λ (v : Seen). v.chips_stale) (sym c.reading.view_is) ∙ both.0,
-            elim (and_cases (pins.result || ports.result) chip both.1) [
-              | inl still ↦ inl still
-              | inr other ↦ inr (chip_is ∙ ap Some other)
-            ],
-          );
+      rest = ap (λ (n : Circuit). let v : Seen = record { circuit = n; on = inside.on.items } in v) rest ∙ ap (λ (v : Seen). retold v new.drives new.closed) c.reading.view_is;
       fits = at.1.fits;
       told = at.1.told new (subst (λ (ds : List Drive). Put first (length (m.drives (p.state x))) (m.drives (p.state x)) old.drives ds) (sym drives_are) pins.ensures.put)
           (subst (λ (cs : List Bool). Put (place e.parts) (length (m.contacts (p.state x))) (m.contacts (p.state x)) cs new.closed) closed_were
@@ -131,7 +117,6 @@ returns-else-moved g c =
     record {
       same = refl;
       rest = refl;
-      chips = λ none. (none, inl refl);
       fits = at.fits;
       told = at.told e.reading.circuit (put_there c.args.first (m.drives (p.state may.q)) e.reading.circuit.drives has.0) (put_there _ (m.contacts (p.state may.q)) e.reading.circuit.closed has.1);
       shifted = λ before y z was.

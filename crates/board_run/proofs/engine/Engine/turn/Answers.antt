@@ -4,7 +4,6 @@ use Rattle.std.proofs.lemmas.Bool.{ltb-true}
 use Rattle.sim_base.specs.declared.wiring.Input.{Input}
 use Rattle.board_laws.specs.Active.{sum_below, active_in}
 use Rattle.board_model.specs.Board.{input_at}
-use Rattle.board_model.specs.Rows.{chip_drives_of}
 use Rattle.board_model.specs.Fits.{Fits}
 use Rattle.board_model.proofs.Lists.{get_set_same}
 use Rattle.board_run.specs.declared.part_set.PartSet.{PartSet}
@@ -64,7 +63,6 @@ loop-i-init g c =
           (pass.0, omega (arith, pass.1));
       fits = may.fits;
       told = may.told;
-      chips = λ _. refl;
       silent = λ none. may.silent;
     }
 
@@ -80,7 +78,7 @@ turn_part-woken-requires g c =
     let begun = inv.begun in
     let was = λ (x : g.row.P.Denot) (ex : slice_get l.self.parts i ≡ Some x). sym (begun.rest i (omega arith)) ∙ ex in
     let here : i < length l.self.parts = omega (arith, begun.long, c.len-count.ensures, c.loop-i-test.true) in
-    let told : IsTold m (map p.state l.self.parts) (retold e.reading l.self.reading.circuit.drives l.self.reading.circuit.closed l.self.reading.chips_stale).circuit = record { drives_are = inv.told.drives_are; closed_are = inv.told.closed_are } in
+    let told : IsTold m (map p.state l.self.parts) (retold e.reading l.self.reading.circuit.drives l.self.reading.circuit.closed).circuit = record { drives_are = inv.told.drives_are; closed_are = inv.told.closed_are } in
     subst (λ (x : Engine g.row.P.Denot). MayTurnPart p x i c.if-silent.may_hear c.args.differ c.args.end) (sym inv.same) (record {
       end = may.end;
       here = here;
@@ -91,7 +89,7 @@ turn_part-woken-requires g c =
       answers_long = begun.answers_long ∙ sym begun.long;
       values = c.requires.values;
       fits = inv.fits;
-      suits = subst (λ (v : Seen). Suits e.wiring v) (sym inv.rest) (retold_suits m e.wiring (map p.state l.self.parts) e.reading l.self.reading.circuit.drives l.self.reading.circuit.closed l.self.reading.chips_stale inv.fits may.suits told);
+      suits = subst (λ (v : Seen). Suits e.wiring v) (sym inv.rest) (retold_suits m e.wiring (map p.state l.self.parts) e.reading l.self.reading.circuit.drives l.self.reading.circuit.closed inv.fits may.suits told);
       told = inv.told;
       differs = λ x ex is later same. may.differs i x (was x ex) is later (same ∙ ap (λ (v : Seen). levels_on m e.wiring v.circuit.levels i (p.state x)) inv.rest);
       hears = λ hears. elim c.if-silent.branch [
@@ -164,7 +162,7 @@ loop-i-preserved g c =
           ∙ ap (λ (xs : List g.row.P.Denot). let y : Engine g.row.P.Denot = record e { parts = xs; dues = slice_set l.self.dues i t.e; answers = slice_set l.self.answers i t.byte; reading = new.reading } in y) (sym parts_are)
           ∙ ap (λ (ds : List (Option ℕ)). let y : Engine g.row.P.Denot = record e { parts = new.parts; dues = ds; answers = slice_set l.self.answers i t.byte; reading = new.reading } in y) (sym dues_are)
           ∙ ap (λ (bs : List (Option ℕ)). let y : Engine g.row.P.Denot = record e { parts = new.parts; dues = new.dues; answers = bs; reading = new.reading } in y) (sym answers_are);
-      rest = t.rest ∙ ap (λ (v : Seen). retold v new.reading.circuit.drives new.reading.circuit.closed new.reading.chips_stale) inv.rest;
+      rest = t.rest ∙ ap (λ (v : Seen). retold v new.reading.circuit.drives new.reading.circuit.closed) inv.rest;
       order = next.within;
       here = next.here;
       within = inside;
@@ -183,9 +181,6 @@ loop-i-preserved g c =
           (on.0, omega (arith, so.1, on.1, t.steps_are));
       fits = subst (λ (xs : List g.row.P.Denot). Fits m e.wiring (map p.state xs)) (sym parts_are) t.fits;
       told = subst (λ (xs : List g.row.P.Denot). IsTold m (map p.state xs) new.reading.circuit) (sym parts_are) t.told;
-      chips = λ none.
-          let kept = t.chips none in
-          ap (λ (xs : List g.row.P.Denot). chip_drives_of m e.wiring.chip (map p.state xs)) parts_are ∙ kept.1 ∙ inv.chips kept.0;
       silent = λ none. subst AreNone (sym answers_are) (silent_more l.self.answers i t.byte l.sent room (ap (λ (b : Bool). l.sent || b) (sym t.sent_is) ∙ none) inv.silent);
     }
 
@@ -204,7 +199,6 @@ returns g c =
       answers_long = inv.begun.answers_long ∙ sym c.requires.may.answers_long;
       turns = λ inputs ts awaits. subst (λ (n : ℕ). Turns p.machine e.wiring inputs p.state p.now p.wake_count e.reading.circuit.levels e.cycle ts n e.parts l.self.parts l.self.answers l.changed) end (inv.turns inputs ts awaits).0;
       told = inv.told;
-      chips = inv.chips;
       due = inv.due;
       silent = inv.silent;
       counted = λ inputs ts awaits. subst (λ (n : ℕ). l.steps ≡ c.args.steps.now + sum_below n (λ k. active_in p.machine e.wiring inputs e.reading.circuit.levels e.cycle k (slice_get ts k))) end (inv.turns inputs ts awaits).1;

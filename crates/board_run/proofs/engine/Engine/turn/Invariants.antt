@@ -3,7 +3,7 @@ use Rattle.std.specs.Prelude.{slice_get}
 use Rattle.sim_base.specs.declared.wiring.Input.{Input}
 use Rattle.board_laws.specs.Active.{sum_below, active_in}
 use Rattle.board_model.specs.Fits.{Fits}
-use Rattle.board_run.specs.Seen.{IsTold, AreChips, retold}
+use Rattle.board_run.specs.Seen.{IsTold, retold}
 use Rattle.board_run.specs.Parts.{has_part, AreNone}
 use Rattle.board_run.specs.Lagging.{Awaits, Turns, AreDue, AreLate}
 use Rattle.board_run.specs.Engine.{given}
@@ -17,7 +17,7 @@ invariant-loop-i g l =
     let e = l.fn.self in
     record {
       same : l.self ≡ record l.fn.self { parts = l.self.parts; dues = l.self.dues; answers = l.self.answers; reading = l.self.reading };
-      rest : l.self.reading ≡ retold e.reading l.self.reading.circuit.drives l.self.reading.circuit.closed l.self.reading.chips_stale;
+      rest : l.self.reading ≡ retold e.reading l.self.reading.circuit.drives l.self.reading.circuit.closed;
       order : l.i ≤ l.least;
       here : l.i < l.least → has_part l.marked l.i ≡ true;
       within : l.least ≤ length e.parts;
@@ -30,7 +30,6 @@ invariant-loop-i g l =
           × (l.steps ≡ l.fn.steps + sum_below l.i (λ k. active_in p.machine e.wiring inputs e.reading.circuit.levels e.cycle k (slice_get ts k)));
       fits : Fits p.machine e.wiring (map p.state l.self.parts);
       told : IsTold p.machine (map p.state l.self.parts) l.self.reading.circuit;
-      chips : l.self.reading.chips_stale ≡ false → AreChips p.machine e.wiring (map p.state e.parts) (map p.state l.self.parts);
       silent : l.sent ≡ false → AreNone l.self.answers;
     }
 

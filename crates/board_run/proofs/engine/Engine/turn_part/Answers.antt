@@ -1,9 +1,8 @@
-use Rattle.std.proofs.Common.{◌≡◌, ◌∙◌, ◌⊎◌, arith, ℕ, List, length, map, ap, sym, subst, get_or, length-set, Some, false}
-use Rattle.std.specs.Prelude.{slice_get, slice_index}
+use Rattle.std.proofs.Common.{◌∙◌, arith, ℕ, List, length, map, ap, sym, subst, get_or, length-set}
+use Rattle.std.specs.Prelude.{slice_index}
 use Rattle.board_model.specs.Fits.{Fits}
 use Rattle.board_run.specs.Seen.{IsTold, retold}
 use Rattle.board_run.specs.declared.engine.Engine.{Engine}
-use Rattle.board_run.proofs.ShowLemmas.{chips_told}
 use Rattle.board_run.proofs.EngineLemmas.{turn_replaces, turn_tells}
 use Rattle.board_run.proofs.engine.Engine.turn_part.Goals as goal
 
@@ -42,15 +41,9 @@ returns g c =
       due_was = at.due_was;
       same = told.same ∙ ap (λ (x : Engine g.row.P.Denot). let y : Engine g.row.P.Denot = record x { reading = new.reading } in y) at.same;
       sent_is = at.sent_is;
-      rest = told.rest ∙ ap (λ (x : Engine g.row.P.Denot). retold x.reading new.reading.circuit.drives new.reading.circuit.closed new.reading.chips_stale) at.same;
+      rest = told.rest ∙ ap (λ (x : Engine g.row.P.Denot). retold x.reading new.reading.circuit.drives new.reading.circuit.closed) at.same;
       fits = subst (λ (x : Engine g.row.P.Denot). Fits m x.wiring (map p.state x.parts)) at.same told.fits;
       told = subst (λ (x : Engine g.row.P.Denot). IsTold m (map p.state x.parts) new.reading.circuit) at.same told.told;
-      chips = λ none.
-          let kept = told.chips none in (
-            ap (λ (x : Engine g.row.P.Denot). x.reading.chips_stale) (sym at.same) ∙ kept.0,
-            chips_told m e.wiring p.state e.parts i at.p at.q c.tell-changed.result at.was shifted
-                (subst (λ (x : Engine g.row.P.Denot). (c.tell-changed.result ≡ false) ⊎ (slice_get x.wiring.chip i ≡ Some false)) at.same kept.1),
-          );
       took = record {
         touched = w.result.changed;
         turn = at.turn.turn;

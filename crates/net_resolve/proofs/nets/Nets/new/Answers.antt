@@ -1,4 +1,4 @@
-use Rattle.std.proofs.Common.{◌∙◌, ℕ, ap, replicate, false}
+use Rattle.std.proofs.Common.{◌∙◌, ℕ, ap, refl, replicate, false}
 use Rattle.std.specs.Prelude.{vec_len}
 use Rattle.sim_base.specs.declared.signal.Drive.TheVariants as drives
 use Rattle.sim_base.specs.declared.signal.Level.TheVariants as levels
@@ -23,12 +23,15 @@ invariant_of-result c =
     (ap (λ (x : MarksView). x.room) c.in_ok-changed.ensures) (c.in_ok-pin_levels.ensures.items ∙ ap (λ (k : ℕ). replicate k levels.Z) c.len-3.ensures)
     (vec_len net_of) (vec_len ds) ds.items net_of.ok.0 ds.ok.0 (c.in_ok-drives.ensures.items ∙ ap (λ (k : ℕ). replicate k drives.Z) c.len.ensures)
     (vec_len contacts) (vec_len cs) cs.items contacts.ok.0 cs.ok.0 (c.in_ok-closed.ensures.items ∙ ap (λ (k : ℕ). replicate k false) c.len-2.ensures)
+    (record { watched = c.in_ok-watched.watched; kept = c.in_ok-kept.kept; differing = 0 }) (c.in_ok-watched.ensures.items ∙ ap (λ (k : ℕ). replicate k false) c.len-4.ensures)
+    (c.in_ok-kept.ensures.items ∙ ap (λ (k : ℕ). replicate k drives.Z) c.len-5.ensures) refl
 
 pub returns : goal.returns
 returns c =
     let ls = c.in_ok-levels.levels in
     first_circuit c.args.wiring.now (vec_len ls) c.in_ok-net_of.net_of.items c.in_ok-contacts.contacts.items c.in_ok-resistors.resistors.items
-    c.in_ok-drives.drives.items c.in_ok-closed.closed.items ls.items c.in_ok-changed.changed.marked
+    c.in_ok-drives.drives.items c.in_ok-closed.closed.items ls.items c.in_ok-changed.changed.marked c.in_ok-watched.watched.items c.in_ok-kept.kept.items
     ls.ok.0 (c.in_ok-net_of.ensures.items ∙ c.as_slice.ensures) (c.in_ok-contacts.ensures.items ∙ c.as_slice-2.ensures) (c.in_ok-resistors.ensures.items ∙ c.as_slice-3.ensures)
     (c.in_ok-drives.ensures.items ∙ ap (λ (k : ℕ). replicate k drives.Z) c.len.ensures) (c.in_ok-closed.ensures.items ∙ ap (λ (k : ℕ). replicate k false) c.len-2.ensures)
     c.in_ok-levels.ensures.items (ap (λ (x : MarksView). x.marked) c.in_ok-changed.ensures)
+    (c.in_ok-watched.ensures.items ∙ ap (λ (k : ℕ). replicate k false) c.len-4.ensures)

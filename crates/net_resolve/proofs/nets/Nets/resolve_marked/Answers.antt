@@ -7,6 +7,7 @@ use Rattle.board_model.specs.Resolve.{resolve}
 use Rattle.board_model.proofs.Lists.{get_within}
 use Rattle.net_resolve.specs.Circuit.{Circuit, AreChanged}
 use Rattle.net_resolve.specs.Marked.{MarksView, has}
+use Rattle.net_resolve.specs.Watched.{IsWatch, flagged}
 use Rattle.net_resolve.specs.Wired.{Wired, wired}
 use Rattle.net_resolve.specs.Shown.{AreShown}
 use Rattle.net_resolve.specs.Subcircuits.{SubcircuitView, IsCut, AreSubcircuits, AreRight, FitsIn}
@@ -29,6 +30,8 @@ seen_of x n levels changed = record {
   closed = x.closed.items;
   levels = levels;
   changed = changed;
+  watched = x.watch.watched.items;
+  kept = flagged x.watch.watched.items x.watch.kept.items;
 }
 
 pub loop-q-init : goal.loop-q-init
@@ -138,6 +141,7 @@ invariant_of-self c =
       drives_long = subst (λ (x : Inside). x.drives.len ≡ x.net_of.len) back v.drives_long;
       closed_long = subst (λ (x : Inside). x.closed.len ≡ x.contacts.len) back v.closed_long;
       shown = subst (λ (x : Inside). AreShown x.net_of.items now.shown) back inv.shown;
+      watch = subst (λ (x : Inside). IsWatch x.drives.items x.watch) back v.watch;
     }
 
 pub returns-clause-levels : goal.returns-clause-levels

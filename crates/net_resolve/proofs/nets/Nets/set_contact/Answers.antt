@@ -4,6 +4,7 @@ use Rattle.board_model.proofs.Lists.{get_within, some_same}
 use Rattle.net_resolve.specs.Circuit.{Circuit}
 use Rattle.net_resolve.specs.Marked.{MarksView, with_mark}
 use Rattle.net_resolve.specs.Subcircuits.{AreRight}
+use Rattle.net_resolve.specs.Watched.{flagged}
 use Rattle.net_resolve.specs.Wired.{wired}
 use Rattle.net_resolve.proofs.RightLemmas.{right_contact, set_same}
 use Rattle.net_resolve.proofs.nets.Nets.set_contact.Goals as goal
@@ -53,6 +54,7 @@ invariant_of-self c =
       drives_long = v.drives_long;
       closed_long = v.closed_long;
       shown = v.shown;
+      watch = v.watch;
     }
 
 pub returns-else-not-is_same_flag : goal.returns-else-not-is_same_flag
@@ -63,6 +65,6 @@ returns-else-not-is_same_flag c =
     let inside : k < length i.closed.items = omega (arith, c.requires, ap length (ap (λ (x : Circuit). x.contacts) c.self.view_is), c.self.invariant.closed_long, i.closed.ok.0, i.contacts.ok.0) in
     let at = get_within i.closed.items k c.index.result.now inside ∙ ap Some (sym c.index.ensures ∙ c.is_same_flag.ensures c.if-not-is_same_flag.false) in
     sym c.self.view_is
-    ∙ ap (λ (bs : List Bool). record { nets = i.shown.levels.len; net_of = i.net_of.items; contacts = i.contacts.items; resistors = i.resistors.items; drives = i.drives.items; closed = bs; levels = i.shown.levels.items; changed = i.shown.changed.marked })
+    ∙ ap (λ (bs : List Bool). record { nets = i.shown.levels.len; net_of = i.net_of.items; contacts = i.contacts.items; resistors = i.resistors.items; drives = i.drives.items; closed = bs; levels = i.shown.levels.items; changed = i.shown.changed.marked; watched = i.watch.watched.items; kept = flagged i.watch.watched.items i.watch.kept.items })
     (sym (set_same i.closed.items k b at))
     ∙ ap (λ (x : Circuit). record x { closed = slice_set x.closed k b }) c.self.view_is

@@ -2,12 +2,25 @@ use Rattle.std.proofs.Common.{◌≡◌, ◌<◌, ◌∙◌, List, length, arith
 use Rattle.std.specs.Prelude.{slice_set, slice_index}
 use Rattle.sim_base.specs.declared.signal.Drive.{Drive}
 use Rattle.board_model.proofs.Lists.{get_within, some_same}
+use Rattle.board_model.proofs.SameLemmas.{drive_means}
 use Rattle.net_resolve.specs.Circuit.{Circuit}
 use Rattle.net_resolve.specs.Marked.{MarksView, with_mark}
 use Rattle.net_resolve.specs.Subcircuits.{AreRight}
+use Rattle.net_resolve.specs.Watched.{IsWatch, flagged}
 use Rattle.net_resolve.specs.Wired.{wired}
+use Rattle.net_resolve.specs.declared.watch.Watch.{Watch}
+use Rattle.net_resolve.proofs.FirstLemmas.{seen_of}
 use Rattle.net_resolve.proofs.RightLemmas.{right_drive, set_same}
 use Rattle.net_resolve.proofs.nets.Nets.set_drive.Goals as goal
+
+pub note-requires : goal.note-requires
+note-requires c =
+    let i = c.self.inside in
+    let v = c.self.invariant in
+    record {
+      pin = omega (arith, c.requires, ap (λ (x : Circuit). length x.net_of) c.self.view_is, ap length c.deref.ensures.value, v.drives_long, i.drives.ok.0, i.net_of.ok.0);
+      is = subst (λ (ds : List Drive). IsWatch ds i.watch) (sym c.deref.ensures.value) v.watch;
+    }
 
 pub index-requires-then-not-is_same_drive-2 : goal.index-requires-then-not-is_same_drive-2
 index-requires-then-not-is_same_drive-2 c =
@@ -54,7 +67,16 @@ invariant_of-self c =
       drives_long = v.drives_long;
       closed_long = v.closed_long;
       shown = v.shown;
+      watch = subst (λ (ds : List Drive). IsWatch (slice_set ds pin d) c.note.new.self) c.deref.ensures.value c.note.ensures.is;
     }
+
+pub returns-then-not-is_same_drive : goal.returns-then-not-is_same_drive
+returns-then-not-is_same_drive c =
+    let i = c.self.inside in
+    let pin = c.args.pin in
+    let d = c.args.drive in
+    ap (λ (w : Watch). seen_of i (slice_set i.drives.items pin d) w.watched.items (flagged w.watched.items w.kept.items)) c.note.ensures.rest
+    ∙ ap (λ (x : Circuit). let y : Circuit = record x { drives = slice_set x.drives pin d } in y) c.self.view_is
 
 pub returns-else-not-is_same_drive : goal.returns-else-not-is_same_drive
 returns-else-not-is_same_drive c =
@@ -62,8 +84,7 @@ returns-else-not-is_same_drive c =
     let pin = c.args.pin in
     let d = c.args.drive in
     let inside : pin < length i.drives.items = omega (arith, c.requires, ap length (ap (λ (x : Circuit). x.net_of) c.self.view_is), c.self.invariant.drives_long, i.drives.ok.0, i.net_of.ok.0) in
-    let at = get_within i.drives.items pin c.index.result.now inside ∙ ap Some (sym c.index.ensures ∙ c.is_same_drive.ensures c.if-not-is_same_drive.false) in
+    let at = get_within i.drives.items pin c.index.result.now inside ∙ ap Some (sym c.index.ensures ∙ drive_means _ _ (sym c.is_same_drive.ensures ∙ c.if-not-is_same_drive.false)) in
     sym c.self.view_is
-    ∙ ap (λ (ds : List Drive). record { nets = i.shown.levels.len; net_of = i.net_of.items; contacts = i.contacts.items; resistors = i.resistors.items; drives = ds; closed = i.closed.items; levels = i.shown.levels.items; changed = i.shown.changed.marked })
-    (sym (set_same i.drives.items pin d at))
+    ∙ ap (λ (ds : List Drive). seen_of i ds i.watch.watched.items (flagged i.watch.watched.items i.watch.kept.items)) (sym (set_same i.drives.items pin d at))
     ∙ ap (λ (x : Circuit). record x { drives = slice_set x.drives pin d }) c.self.view_is
