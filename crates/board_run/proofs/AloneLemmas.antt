@@ -1,11 +1,10 @@
 -- One part goes on by itself while the others are quiet: that is a leg of the board's way.
-use Rattle.std.proofs.Common.{◌≡◌, ◌≢◌, ℕ, zero, suc, ◌+◌, ◌-◌, ◌<◌, ◌≤◌, List, [], length, map, Bool, true, false, Option, None, Some, refl, ap, sym, ◌∙◌, arith, subst, get_or, inl, inr, length-set}
+use Rattle.std.proofs.Common.{◌≡◌, ◌≢◌, ℕ, zero, suc, ◌+◌, ◌-◌, ◌<◌, ◌≤◌, List, [], length, map, Bool, true, false, Option, None, Some, refl, ap, sym, ◌∙◌}
+use Rattle.std.proofs.Common.{arith, inl, inr, length-set}
 use Rattle.std.specs.Prelude.{slice_get, slice_set, if◌then◌else◌}
 use Rattle.std.specs.List.{flat_map}
 use Rattle.std.proofs.lemmas.Option.{slice_get_within}
-use Rattle.std.proofs.lemmas.List.{length-map}
 use Rattle.std.proofs.lemmas.Bool.Decides.{eqb_tells}
-use Rattle.sim_base.specs.declared.signal.Level.{Level}
 use Rattle.sim_base.specs.declared.signal.Drive.{Drive}
 use Rattle.sim_base.specs.declared.wiring.Wiring.{Wiring}
 use Rattle.sim_base.specs.declared.wiring.Input.{Input}
@@ -15,27 +14,25 @@ use Rattle.part_law.proofs.MachineLemmas.{glide_valid, glide_drives, glide_conta
 use Rattle.board_model.specs.Board.{level_at, own_nets, input_at, states, bytes}
 use Rattle.board_model.specs.Fits.{Fits}
 use Rattle.net_resolve.specs.Circuit.{Circuit}
-use Rattle.board_model.specs.Rows.{Shown, shown_of, shown_before, rows}
-use Rattle.board_model.proofs.Lists.{some_same, get_within, get_map_some, some_map, get_set_same, get_set_other, flat_map_same}
+use Rattle.board_model.specs.Rows.{Shown, shown_of, rows}
+use Rattle.board_model.proofs.Lists.{some_same, get_map_some, some_map, flat_map_same}
 use Rattle.board_laws.specs.Alike.{Alike}
 use Rattle.board_laws.specs.Stands.{Stands}
 use Rattle.board_laws.specs.Steady.{IsSteady}
-use Rattle.board_laws.proofs.StandsLaw.{stands_here, stands_shows, stands_holds, stands_valid}
+use Rattle.board_laws.proofs.StandsLaw.{stands_here, stands_shows, stands_holds}
 use Rattle.board_laws.proofs.SteadyLaw.{steady_states, steady_before, steady_rows, steady_cycles, steady_bytes, steady_pairs, quiet_dues}
 use Rattle.board_run.specs.Changes.{LastTells}
-use Rattle.board_run.specs.Seen.{Seen, IsOf, IsTold, retold, shown_at}
+use Rattle.board_run.specs.Seen.{Seen, IsTold, retold, shown_at}
 use Rattle.part_law.specs.declared.part.Went.{Went}
 use Rattle.board_run.specs.Lagging.{glided, Replaced, Shifted}
 use Rattle.board_run.specs.Legs.{Kept, Lags, Leg, WentBy, IsAlone}
-use Rattle.board_run.proofs.ShowLemmas.{shown_is}
-use Rattle.board_model.proofs.RoomLemmas.{SameRoom, fits_room}
-use Rattle.board_run.proofs.LagLemmas.{lags_stand, stand_show, stand_are, lag_of, Ts}
+use Rattle.board_run.proofs.LagLemmas.{may_of, lags_stand, stand_are, lags_valid, lags_held, lags_shown, Ts}
 use Rattle.board_run.proofs.ReadLemmas.{retold_suits, retold_is, flat_each}
-use Rattle.board_run.proofs.ShowLemmas.{still_of}
+use Rattle.board_run.proofs.ShowLemmas.{still_of, later_shown}
 use Rattle.board_run.specs.Upcoming.{AreBehind}
 use Rattle.board_run.proofs.NextLemmas.{quiet_until}
-use Rattle.board_run.proofs.TurnLemmas.{due_set}
-use Rattle.board_run.proofs.LegLemmas.{quiet_rest, stands_later, shown_later}
+use Rattle.board_run.proofs.TurnLemmas.{some_there, at_set, same_room, due_set}
+use Rattle.board_run.proofs.LegLemmas.{quiet_rest, stands_later}
 
 one_more : (b : Bool) (x n : ℕ) → x ≤ n → x + (if b then 1 else 0) ≤ suc n
 one_more true x n h = omega arith
@@ -76,39 +73,28 @@ module _ {S P : Type 0} (m : Machine S) (laws : Laws m) (w : Wiring) (state : P 
   like : Alike (λ k p s. Stands m t (now p) (state p) s) parts Js
   like = lags_stand m laws w state now wakes t parts kept lags
 
-  of_board : IsOf m w Js kept.seen
-  of_board = lag_of m laws w state now wakes parts Js kept.seen (stand_show m laws w state now wakes t parts Js like) (lags.fresh fresh)
-
-  part_of : (k : ℕ) (s : S) → slice_get Js k ≡ Some s → (p : P) × (slice_get parts k ≡ Some p) × (glided m state now wakes t p ≡ s)
-  part_of k s es = get_map_some (glided m state now wakes t) parts k s es
-
   there : slice_get Js who ≡ Some s0
   there = some_map (glided m state now wakes t) parts who p0 here
 
   valid : (k : ℕ) (s : S) → slice_get Js k ≡ Some s → m.valid s t ≡ true
-  valid k s es = let p = part_of k s es in stands_valid m laws t (now p.0) (state p.0) s (like.each k p.0 s p.1 es)
+  valid = lags_valid m laws w state now wakes t parts kept lags fresh after
 
   calm : (k : ℕ) (s : S) → k ≢ who → slice_get Js k ≡ Some s → IsQuiet m s t (u - t)
   calm k s other es =
-      let p = part_of k s es in
+      let p = get_map_some (glided m state now wakes t) parts k s es in
       let st = like.each k p.0 s p.1 es in
       quiet_rest m (state p.0) s (now p.0) t u st.not_later order st.is (quiet k p.0 other p.1)
 
   pub steady : IsSteady m w inputs Js t (u - t)
   steady = record {
     same = λ k s es. elim (eqb_tells k who) [
-      | inl e ↦ subst (λ (x : S). IsSame m x t (u - t)) (some_same (sym there ∙ subst (λ (j : ℕ). slice_get Js j ≡ Some s) e.1 es)) same
+      | inl e ↦ let s_is : s ≡ s0 = cc (there, e.1, es) in rw s_is same
       | inr e ↦ record {
         same_drives = λ j l. glide_drives m laws s t j (valid k s es) (λ i (h : i < j). calm k s e.1 es i (omega arith));
         same_contacts = λ j l. glide_contacts m laws s t j (valid k s es) (λ i (h : i < j). calm k s e.1 es i (omega arith));
       }
     ];
-    held = λ k s es.
-        let p = part_of k s es in
-        let st = like.each k p.0 s p.1 es in
-        stands_holds m laws t (now p.0) (state p.0) s st ∙ lags.holds k p.0 p.1 after
-        ∙ ap (λ (n : ℕ). map (level_at kept.seen.circuit.levels) (own_nets w k n)) (ap length (stands_shows m laws t (now p.0) (state p.0) s st).drives)
-        ∙ ap (λ (ls : List Level). map (level_at ls) (own_nets w k (length (m.drives s)))) of_board.levels_are;
+    held = lags_held m laws w state now wakes t parts kept lags fresh after;
     silent = λ j k l. silent (t + j) k (omega arith) (omega arith);
   }
 
@@ -120,20 +106,12 @@ module _ {S P : Type 0} (m : Machine S) (laws : Laws m) (w : Wiring) (state : P 
 
   -- each part stands for where its state glides to
   stands_new : (k : ℕ) (z : P) (s : S) → slice_get new k ≡ Some z → slice_get Js k ≡ Some s → Stands m u (now z) (state z) (glide m s t (u - t))
-  stands_new k z s ez es = elim (eqb_tells k who) [
+  stands_new k z s ez es = elim (at_set parts who k q0 z inside ez) [
     | inl e ↦
-        let z_is : q0 ≡ z = some_same (sym (get_set_same parts who q0 inside) ∙ subst (λ (j : ℕ). slice_get new j ≡ Some z) e.1 ez) in
-        let s_is : s0 ≡ s = some_same (sym there ∙ subst (λ (j : ℕ). slice_get Js j ≡ Some s) e.1 es) in
+        let s_is : s ≡ s0 = cc (there, e.0, es) in
         let end : t + (u - t) ≡ u = omega (arith, order) in
-        let v : m.valid (glide m s0 t (u - t)) u ≡ true = subst (λ (c : ℕ). m.valid (glide m s0 t (u - t)) c ≡ true) end (glide_valid m laws s0 t (u - t) (valid who s0 there)) in
-        let at : Stands m u u (glide m s0 t (u - t)) (glide m s0 t (u - t)) = stands_here m laws u (glide m s0 t (u - t)) v in
-        subst (λ (x : S). Stands m u (now z) (state z) (glide m x t (u - t))) s_is
-        (subst (λ (y : P). Stands m u (now y) (state y) (glide m s0 t (u - t))) z_is
-        (subst (λ (a : ℕ). Stands m u a (state q0) (glide m s0 t (u - t))) (sym now_is)
-        (subst (λ (x : S). Stands m u u x (glide m s0 t (u - t))) (sym state_is) at)))
-    | inr e ↦
-        let ez2 : slice_get parts k ≡ Some z = sym (get_set_other parts who k q0 e.1) ∙ ez in
-        stands_later m (state z) s (now z) t u order (like.each k z s ez2 es) (quiet k z e.1 ez2)
+        rw (s_is, ← e.1, now_is, state_is) (stands_here m laws u (glide m s0 t (u - t)) (rw end at (glide_valid m laws s0 t (u - t) (valid who s0 there))))
+    | inr e ↦ stands_later m (state z) s (now z) t u order (like.each k z s e.1 es) (quiet k z e.0 e.1)
   ]
 
   new_long : length new ≡ length parts
@@ -145,37 +123,31 @@ module _ {S P : Type 0} (m : Machine S) (laws : Laws m) (w : Wiring) (state : P 
       record {
         long = new_long ∙ like.long ∙ glides.long;
         each = λ k z x ez ex.
-            let within : k < length Js = omega (arith, slice_get_within new k z ez, new_long, like.long) in
-            let s = get_or Js k s0 in
-            let es : slice_get Js k ≡ Some s = get_within Js k s0 within in
-            subst (λ (y : S). Stands m u (now z) (state z) y) (sym (glides.each k s x es ex)) (stands_new k z s ez es);
+            let s = some_there Js k (omega (arith, slice_get_within new k z ez, new_long, like.long)) in
+            rw (glides.each k s.0 x s.1 ex) (stands_new k z s.0 ez s.1);
       }
 
   shown_same : shown_at t kept.seen ≡ Some (shown_of m w Js)
-  shown_same = shown_later t kept.seen after ∙ ap Some (shown_is m w Js kept.seen of_board)
+  shown_same = lags_shown m laws w state now wakes t parts kept lags fresh after
 
   pub alone_leg : (ds : List Drive) (cs : List Bool) (steps more : ℕ) → more ≡ steps + dues m s0 t (u - t) → Leg m w state now wakes inputs t u parts new kept.seen (retold kept.seen ds cs) steps more
   alone_leg ds cs steps more counted = record {
     order = order;
     long = new_long;
     states_are = stand_are m laws w state now wakes u new (states m w inputs Js t (u - t)) alone_stands;
-    before_is = ap (λ (o : Option Shown). shown_before m w inputs o Js t (u - t)) shown_same ∙ steady_before m laws w inputs Js t (u - t) steady (u - t) (omega arith)
-        ∙ sym shown_same ∙ shown_later t kept.seen after ∙ sym (shown_later u kept.seen (omega (arith, after, order)));
+    before_is = rw shown_same (steady_before m laws w inputs Js t (u - t) steady (u - t) (omega arith)) ∙ sym shown_same ∙ later_shown t 0 kept.seen after
+        ∙ sym (later_shown u 0 kept.seen (omega (arith, after, order)));
     woken = λ k p z ep ez.
         let es : slice_get Js k ≡ Some (glided m state now wakes t p) = some_map (glided m state now wakes t) parts k p ep in
         let cycles = steady_cycles m laws w inputs Js t (u - t) steady (u - t) k (glided m state now wakes t p) (omega arith) es in
-        elim (eqb_tells k who) [
-          | inl e ↦
-              let z_is : q0 ≡ z = some_same (sym (get_set_same parts who q0 inside) ∙ subst (λ (j : ℕ). slice_get new j ≡ Some z) e.1 ez) in
-              let p_is : p0 ≡ p = some_same (sym here ∙ subst (λ (j : ℕ). slice_get parts j ≡ Some p) e.1 ep) in
-              ap wakes (sym z_is) ∙ woken_is ∙ ap (λ (x : P). wakes x + dues m (glided m state now wakes t x) t (u - t)) p_is ∙ ap (λ (n : ℕ). wakes p + n) (sym cycles)
+        elim (at_set parts who k q0 z inside ez) [
+          | inl e ↦ let p_is : p ≡ p0 = cc (here, e.0, ep) in rw cycles (rw (← e.1, p_is) woken_is)
           | inr e ↦
-              let ez2 : slice_get parts k ≡ Some z = sym (get_set_other parts who k q0 e.1) ∙ ez in
-              let one = ap wakes (some_same (sym ez2 ∙ ep)) in
-              let none = quiet_dues m laws (glided m state now wakes t p) t (u - t) (calm k (glided m state now wakes t p) e.1 es) in
+              let one = ap wakes (some_same (sym e.1 ∙ ep)) in
+              let none = quiet_dues m laws (glided m state now wakes t p) t (u - t) (calm k (glided m state now wakes t p) e.0 es) in
               omega (arith, one, none, cycles)
         ];
-    steps_are = counted ∙ ap (λ (n : ℕ). steps + n) (sym (steady_pairs m laws w inputs Js t (u - t) steady who s0 there valid calm (u - t) (omega arith)));
+    steps_are = rw (steady_pairs m laws w inputs Js t (u - t) steady who s0 there valid calm (u - t) (omega arith)) counted;
   }
 
   -- the states at the end and one cycle before it
@@ -203,14 +175,8 @@ module _ {S P : Type 0} (m : Machine S) (laws : Laws m) (w : Wiring) (state : P 
   end_still drives contacts k x y ex ey =
       let x_is : x ≡ glide m y t (u - t) = (gliding (u - t) (omega arith)).each k y x ey ex in
       elim (eqb_tells k who) [
-        | inl e ↦
-            let y_is : s0 ≡ y = some_same (sym there ∙ subst (λ (j : ℕ). slice_get Js j ≡ Some y) e.1 ey) in
-            let at : x ≡ state q0 = x_is ∙ ap (λ (s : S). glide m s t (u - t)) (sym y_is) ∙ sym state_is in
-            (ap m.drives at ∙ drives ∙ ap m.drives y_is, ap m.contacts at ∙ contacts ∙ ap m.contacts y_is)
-        | inr e ↦ (
-          ap m.drives x_is ∙ glide_drives m laws y t (u - t) (valid k y ey) (calm k y e.1 ey),
-          ap m.contacts x_is ∙ glide_contacts m laws y t (u - t) (valid k y ey) (calm k y e.1 ey),
-        )
+        | inl e ↦ let y_is : y ≡ s0 = cc (there, e.1, ey) in rw (x_is, y_is, ← state_is) (drives, contacts)
+        | inr e ↦ rw x_is (glide_drives m laws y t (u - t) (valid k y ey) (calm k y e.1 ey), glide_contacts m laws y t (u - t) (valid k y ey) (calm k y e.1 ey))
       ]
 
   -- what its last step changed is what its end did, since all shows the same before
@@ -224,13 +190,13 @@ module _ {S P : Type 0} (m : Machine S) (laws : Laws m) (w : Wiring) (state : P 
           flat_map_same m.contacts End Js (sym like.long) (λ k x y ex ey. (end_still (drives none) (contacts none) k x y ex ey).1) ∙ sym (late_contacts further),
         );
         other = λ one ds cs.
-            let within : who < length End = omega (arith, slice_get_within Js who s0 there, like.long) in
-            let z = get_or End who s0 in
-            let ez : slice_get End who ≡ Some z = get_within End who s0 within in
-            let z_is : state q0 ≡ z = state_is ∙ sym (like.each who s0 z there ez) in
+            let z = some_there End who (omega (arith, slice_get_within Js who s0 there, like.long)) in
+            let z_is : state q0 ≡ z.0 = state_is ∙ sym (like.each who s0 z.0 there z.1) in
             other one
-            (ap m.drives z_is ∙ flat_each m.drives End Js (sym like.long) (λ k x y ex ey. ap (λ s. length (m.drives s)) (like.each k y x ey ex) ∙ glide_pins m laws y t (u - t)) (ds ∙ late_drives further) who z s0 ez there)
-            (ap m.contacts z_is ∙ flat_each m.contacts End Js (sym like.long) (λ k x y ex ey. ap (λ s. length (m.contacts s)) (like.each k y x ey ex) ∙ glide_ports m laws y t (u - t)) (cs ∙ late_contacts further) who z s0 ez there);
+            (rw z_is (flat_each m.drives End Js (sym like.long) (λ k x y ex ey. rw (like.each k y x ey ex) (glide_pins m laws y t (u - t)))
+            (ds ∙ late_drives further) who z.0 s0 z.1 there))
+            (rw z_is (flat_each m.contacts End Js (sym like.long) (λ k x y ex ey. rw (like.each k y x ey ex) (glide_ports m laws y t (u - t)))
+            (cs ∙ late_contacts further) who z.0 s0 z.1 there));
       }
 
   pub alone_rows : (n : ℕ) → n ≤ u - t → rows m w inputs (shown_at t kept.seen) Js t n ≡ []
@@ -248,9 +214,7 @@ module _ {S P : Type 0} (m : Machine S) (laws : Laws m) (w : Wiring) (state : P 
     count : wakes z ≤ now z
 
   was_counted : (k : ℕ) (p : P) → slice_get parts k ≡ Some p → wakes p ≤ now p
-  was_counted k p ep =
-      let room : k < length kept.dues = omega (arith, slice_get_within parts k p ep, lags.dues_long) in
-      (lags.may k p (get_or kept.dues k None) ep (get_within kept.dues k None room)).count
+  was_counted k p ep = (may_of m laws w state now wakes t parts kept lags k p ep).2.count
 
   after_is : (k : ℕ) (p z : P) → slice_get parts k ≡ Some p → slice_get new k ≡ Some z → After k p z
   after_is k p z ep ez =
@@ -265,34 +229,18 @@ module _ {S P : Type 0} (m : Machine S) (laws : Laws m) (w : Wiring) (state : P 
         pins = ap length was.drives ∙ sym (glide_pins m laws s t (u - t)) ∙ sym (ap length shows.drives);
         ports = ap length was.contacts ∙ sym (glide_ports m laws s t (u - t)) ∙ sym (ap length shows.contacts);
         held = sym (stands_holds m laws u (now z) (state z) (glide m s t (u - t)) st) ∙ glide_holds m laws s t (u - t) ∙ stands_holds m laws t (now p) (state p) s old;
-        count = elim (eqb_tells k who) [
+        count = elim (at_set parts who k q0 z inside ez) [
           | inl e ↦
-              let z_is : q0 ≡ z = some_same (sym (get_set_same parts who q0 inside) ∙ subst (λ (j : ℕ). slice_get new j ≡ Some z) e.1 ez) in
               let most = dues_most m laws s0 t (u - t) in
               let c = was_counted who p0 here in
               let l = (like.each who p0 s0 here there).not_later in
-              let h : wakes q0 ≤ now q0 = omega (arith, most, c, l, woken_is, now_is, order) in
-              subst (λ (y : P). wakes y ≤ now y) z_is h
-          | inr e ↦ was_counted k z (sym (get_set_other parts who k q0 e.1) ∙ ez)
+              rw (← e.1) (omega (arith, most, c, l, woken_is, now_is, order))
+          | inr e ↦ was_counted k z e.1
         ];
       }
 
-  before : (k : ℕ) (z : P) → slice_get new k ≡ Some z → (p : P) × (slice_get parts k ≡ Some p)
-  before k z ez =
-      let within : k < length parts = omega (arith, slice_get_within new k z ez, new_long) in
-      (get_or parts k z, get_within parts k z within)
-
-  longer : length (map state parts) ≡ length (map state new)
-  longer = simp length-map (sym new_long)
-
-  same_room : (k : ℕ) (x y : S) → slice_get (map state parts) k ≡ Some x → slice_get (map state new) k ≡ Some y → SameRoom m k x y
-  same_room k x y ex ey =
-      let a = get_map_some state parts k x ex in
-      let b = get_map_some state new k y ey in
-      let h = after_is k a.0 b.0 a.1 b.1 in (
-        ap (λ (s : S). length (m.drives s)) (sym a.2) ∙ h.pins ∙ ap (λ (s : S). length (m.drives s)) b.2,
-        ap (λ (s : S). length (m.contacts s)) (sym a.2) ∙ h.ports ∙ ap (λ (s : S). length (m.contacts s)) b.2,
-      )
+  before : (k : ℕ) (z : P) → slice_get new k ≡ Some z → (p : P) × (slice_get parts k ≡ Some p) × After k p z
+  before k z ez = let p = some_there parts k (omega (arith, slice_get_within new k z ez, new_long)) in (p.0, p.1, after_is k p.0 z p.1 ez)
 
   -- the invariant after it
   pub alone_lags : (changed : Bool) (d : Option ℕ) (ds : List Drive) (cs : List Bool) → IsTold m (map state new) (retold kept.seen ds cs).circuit → IsFirstDue m (state q0) (now q0) d → (changed ≡ false → m.drives (state q0) ≡ m.drives s0) → (changed ≡ false → m.contacts (state q0) ≡ m.contacts s0) →
@@ -301,32 +249,29 @@ module _ {S P : Type 0} (m : Machine S) (laws : Laws m) (w : Wiring) (state : P 
       let room : who < length kept.dues = omega (arith, inside, lags.dues_long) in
       let due = due_set m state now wakes parts kept.dues who q0 d inside room (λ k p e ep ee. (lags.may k p e ep ee).first) first in
       let was = stands_shows m laws t (now p0) (state p0) s0 (like.each who p0 s0 here there) in
-      let stays : (k : ℕ) (p z : P) → slice_get parts k ≡ Some p → slice_get new k ≡ Some z → (k ≡ who → changed ≡ false) → (m.drives (state z) ≡ m.drives (state p)) × (m.contacts (state z) ≡ m.contacts (state p)) = λ k p z ep ez none. elim (eqb_tells k who) [
-        | inl e ↦
-            let z_is : q0 ≡ z = some_same (sym (get_set_same parts who q0 inside) ∙ subst (λ (j : ℕ). slice_get new j ≡ Some z) e.1 ez) in
-            let p_is : p0 ≡ p = some_same (sym here ∙ subst (λ (j : ℕ). slice_get parts j ≡ Some p) e.1 ep) in (
-              ap (λ (y : P). m.drives (state y)) (sym z_is) ∙ drives (none e.1) ∙ sym was.drives ∙ ap (λ (y : P). m.drives (state y)) p_is,
-              ap (λ (y : P). m.contacts (state y)) (sym z_is) ∙ contacts (none e.1) ∙ sym was.contacts ∙ ap (λ (y : P). m.contacts (state y)) p_is,
-            )
-        | inr e ↦
-            let z_is : z ≡ p = some_same (sym ez ∙ get_set_other parts who k q0 e.1 ∙ ep) in
-            (ap (λ (y : P). m.drives (state y)) z_is, ap (λ (y : P). m.contacts (state y)) z_is)
+      let stays : (k : ℕ) (p z : P) → slice_get parts k ≡ Some p → slice_get new k ≡ Some z → changed ≡ false →
+      (m.drives (state z) ≡ m.drives (state p)) × (m.contacts (state z) ≡ m.contacts (state p)) =
+      λ k p z ep ez none. elim (at_set parts who k q0 z inside ez) [
+        | inl e ↦ let p_is : p ≡ p0 = cc (here, e.0, ep) in rw (← e.1, p_is) (drives none ∙ sym was.drives, contacts none ∙ sym was.contacts)
+        | inr e ↦ let z_is : z ≡ p = cc in rw z_is (refl, refl)
       ] in
+      let room = same_room m w state parts new new_long (λ k p z ep ez. let h = after_is k p z ep ez in (h.pins, h.ports)) lags.fits in
       record {
-        few = subst (λ j. j ≤ 64) (sym new_long) lags.few;
-        may = λ k z e ez ee. let h = after_is k (before k z ez).0 z (before k z ez).1 ez in record { not_later = h.stands.not_later; count = h.count; quiet = h.stands.quiet; first = due k z e ez ee };
-        valid = λ k z ez. (after_is k (before k z ez).0 z (before k z ez).1 ez).stands.valid;
+        few = rw new_long lags.few;
+        may = λ k z e ez ee. let h = (before k z ez).2 in
+            record { not_later = h.stands.not_later; count = h.count; quiet = h.stands.quiet; first = due k z e ez ee };
+        valid = λ k z ez. (before k z ez).2.stands.valid;
         dues_long = length-set kept.dues who d ∙ lags.dues_long ∙ sym new_long;
         answers_long = lags.answers_long ∙ sym new_long;
         silent = lags.silent;
-        fits = fits_room m w (map state parts) (map state new) longer same_room lags.fits;
-        suits = retold_suits m w (map state new) kept.seen ds cs (fits_room m w (map state parts) (map state new) longer same_room lags.fits) lags.suits told;
-        fresh = λ none. retold_is m w (map state new) kept.seen ds cs told (still_of m w state parts new kept.seen new_long (λ k p z ep ez. stays k p z ep ez (λ _. none)) (lags.fresh fresh));
+        fits = room.0;
+        suits = retold_suits m w (map state new) kept.seen ds cs room.0 lags.suits told;
+        fresh = λ none. retold_is m w (map state new) kept.seen ds cs told
+            (still_of m w state parts new kept.seen new_long (λ k p z ep ez. stays k p z ep ez none) (lags.fresh fresh));
         told = told;
         holds = λ k z ez later.
             let x = before k z ez in
-            let h = after_is k x.0 z x.1 ez in
-            h.held ∙ lags.holds k x.0 x.1 after ∙ ap (λ (i : ℕ). map (level_at kept.seen.circuit.levels) (own_nets w k i)) h.pins;
+            x.2.held ∙ lags.holds k x.0 x.1 after ∙ ap (λ (i : ℕ). map (level_at kept.seen.circuit.levels) (own_nets w k i)) x.2.pins;
       }
 
 -- a script whose next value is not before the limit
@@ -363,20 +308,16 @@ module _ {S P : Type 0} (m : Machine S) (laws : Laws m) (w : Wiring) (state : P 
       let within = went.within in
       let order : t ≤ u = omega (arith, further) in
       let last : u ≤ MOST_CYCLES = omega (arith, within, end) in
-      let due = λ (k : ℕ) (x : P) (ex : slice_get parts k ≡ Some x).
-      let inside : k < length kept.dues = omega (arith, slice_get_within parts k x ex, lags.dues_long) in
-      get_within kept.dues k None inside in
       let quiet : (k : ℕ) (x : P) → k ≢ who → slice_get parts k ≡ Some x → IsQuiet m (state x) (now x) (u - now x) = λ k x other ex.
-      let ed = due k x ex in
-      quiet_until m state now wakes t u (get_or kept.dues k None) x order last (lags.may k x (get_or kept.dues k None) ex ed) (λ v e l. let far = alone.others k v other (ed ∙ ap Some e) in omega (arith, far, within)) in
+      let e = may_of m laws w state now wakes t parts kept lags k x ex in
+      quiet_until m state now wakes t u e.0 x order last e.2 (λ v is l. let far = alone.others k v other (e.1 ∙ ap Some is) in omega (arith, far, within)) in
       let silent : (v k : ℕ) → t ≤ v → v < u → input_at inputs v k ≡ None = λ v k from before. alone.silent v k from (omega (arith, before, within)) in
-      let lagged = (lags.may who p (get_or kept.dues who None) here (due who p here)).quiet in
+      let lagged = (may_of m laws w state now wakes t parts kept lags who p here).2.quiet in
       let drives_were = glide_drives m laws (state p) (now p) (t - now p) (lags.valid who p here) lagged in
       let contacts_were = glide_contacts m laws (state p) (now p) (t - now p) (lags.valid who p here) lagged in
       let drives = λ (none : changed ≡ false). (shifted.same none).0 ∙ sym drives_were in
       let contacts = λ (none : changed ≡ false). (shifted.same none).1 ∙ sym contacts_were in
-      subst (λ (s : Seen). Goes t u parts (slice_set parts who q) kept (record { input = kept.input; stale = changed; dues = slice_set kept.dues who d; seen = s; answers = kept.answers }) steps more (sent m (glided m state now wakes t p) t)) (sym rest)
-      (record {
+      rw rest (record {
         lags = alone_lags m laws w state now wakes inputs t u parts kept lags fresh later order who p q here quiet silent went.same went.state_is went.now_is went.woken_is changed d ds cs told went.first drives contacts;
         behind = behind_between inputs kept.input t u limit order within behind alone.behind;
         leg = alone_leg m laws w state now wakes inputs t u parts kept lags fresh later order who p q here quiet silent went.same went.state_is went.now_is went.woken_is ds cs steps more went.steps_are;

@@ -1,11 +1,11 @@
 -- The last cycle of a run that was cut off.
-use Rattle.std.proofs.Common.{◌≡◌, ℕ, suc, ◌+◌, ◌-◌, ◌≤◌, ◌∙◌, List, [], ◌++◌, Bool, true, Option, ap, sym, arith, subst}
-use Rattle.sim_base.specs.Rows.{Row, StopsWithin, AreFronts, Handed}
+use Rattle.std.proofs.Common.{◌≡◌, ℕ, suc, ◌+◌, ◌-◌, ◌≤◌, ◌∙◌, List, [], ◌++◌, Bool, true, Option, refl, ap, arith}
+use Rattle.sim_base.specs.Rows.{Row, StopsWithin, Handed}
 use Rattle.sim_base.specs.declared.wiring.Wiring.{Wiring}
 use Rattle.sim_base.specs.declared.wiring.Input.{Input}
 use Rattle.part_law.specs.Machine.{Machine, Laws}
-use Rattle.board_model.specs.Board.{states, bytes, bytes_of}
-use Rattle.board_model.specs.Rows.{Shown, shown_before, rows, row_if}
+use Rattle.board_model.specs.Board.{bytes}
+use Rattle.board_model.specs.Rows.{Shown, rows}
 use Rattle.board_run.specs.Seen.{Seen, shown_at}
 use Rattle.board_run.specs.Legs.{Leg}
 use Rattle.board_run.specs.CutOff.{row_in, bytes_in, IsCutOff}
@@ -32,12 +32,11 @@ module _ {S : Type 0} (m : Machine S) (w : Wiring) (inputs : List Input) (before
 
     pub rows_last : rows m w inputs before ss c (u - c) ≡ rows m w inputs before ss c (v - c) ++ row_in m w inputs before ss c v
     unfolding rows
-    rows_last = ap (rows m w inputs before ss c) count
-        ∙ ap (λ (t : ℕ). rows m w inputs before ss c (v - c) ++ row_if m w (shown_before m w inputs before ss c (v - c)) (states m w inputs ss c (v - c)) t) there
+    rows_last = rw (count, there) refl
 
     pub bytes_last : bytes m w inputs ss c (u - c) ≡ bytes m w inputs ss c (v - c) ++ bytes_in m w inputs before ss c v
     unfolding bytes
-    bytes_last = ap (bytes m w inputs ss c) count ∙ ap (λ (t : ℕ). bytes m w inputs ss c (v - c) ++ bytes_of m w inputs (states m w inputs ss c (v - c)) t) there
+    bytes_last = rw (count, there) refl
 
   module _ {W : Type 0} (whole : W → Bool) (faults : W → ℕ) (stands stopped : W → List Row → List ℕ → Type 0) (v u : ℕ) (from : c ≤ v) (follows : u ≡ v + 1) (out after : W) where
     -- where nothing is shown before the cycle in which a write failed
@@ -49,23 +48,17 @@ module _ {S : Type 0} (m : Machine S) (w : Wiring) (inputs : List Input) (before
         record {
           between = out;
           from = from;
-          handed = subst (λ (l : List Row). Handed whole faults stands out out l (bytes m w inputs ss c (v - c))) (sym no_row)
-              (subst (λ (l : List ℕ). Handed whole faults stands out out [] l) (sym no_byte) (handed_nothing whole faults stands out is));
-          stops = subst (λ (l : List Row). StopsWithin (stands out) (stopped after) l (bytes_in m w inputs before ss c v)) rows_are
-              (subst (λ (l : List ℕ). StopsWithin (stands out) (stopped after) (rows m w inputs before ss c (u - c)) l) bytes_are stops);
+          handed = rw (no_row, no_byte) (handed_nothing whole faults stands out is);
+          stops = rw (rows_are, bytes_are) at stops;
         }
 
     -- it has stopped within all that the run would have shown
     pub cut_within : (n : ℕ) → u ≤ n → IsCutOff m w inputs before ss c v whole faults stands stopped out after → StopsWithin (stands out) (stopped after) (rows m w inputs before ss c (n - c)) (bytes m w inputs ss c (n - c))
     cut_within n within cut =
         let e : (u - c) + (n - u) ≡ n - c = omega (arith, from, follows, within) in
-        let all_rows = rows m w inputs before ss c (n - c) in
-        let all_bytes = bytes m w inputs ss c (n - c) in
-        let front : AreFronts (rows m w inputs before ss c (u - c)) (bytes m w inputs ss c (u - c)) all_rows all_bytes =
-        subst (λ (k : ℕ). AreFronts (rows m w inputs before ss c (u - c)) (bytes m w inputs ss c (u - c)) (rows m w inputs before ss c k) (bytes m w inputs ss c k)) e (fronts m w inputs before ss c (u - c) (n - u)) in
+        let front = rw e at (fronts m w inputs before ss c (u - c) (n - u)) in
         stops_after stands stopped out cut.between after _ _ _ _ _ _ cut.handed.appended cut.stops
-        (subst (λ (l : List Row). AreFronts l (bytes m w inputs ss c (v - c) ++ bytes_in m w inputs before ss c v) all_rows all_bytes) (rows_last v u from follows)
-        (subst (λ (l : List ℕ). AreFronts (rows m w inputs before ss c (u - c)) l all_rows all_bytes) (bytes_last v u from follows) front))
+        (rw (rows_last v u from follows, bytes_last v u from follows) at front)
 
 -- where it was cut off after a leg, it was cut off
 module _ {S P W : Type 0} (m : Machine S) (laws : Laws m) (w : Wiring) (state : P → S) (now wakes : P → ℕ) (inputs : List Input) (whole : W → Bool) (faults : W → ℕ) (stands stopped : W → List Row → List ℕ → Type 0) where
@@ -75,11 +68,11 @@ module _ {S P W : Type 0} (m : Machine S) (laws : Laws m) (w : Wiring) (state : 
   cut_then t u v a b old mid before seen x y z leg handed cut =
       let order = leg.order in
       let later = cut.from in
-      let stops = λ (o : Option Shown) (ss : List S). StopsWithin (stands cut.between) (stopped z) (row_if m w o ss v) (bytes_of m w inputs ss v) in
+      let shown = shown_on m laws w state now wakes inputs t u v a b old mid before seen leg later in
+      let stood = states_on m laws w state now wakes inputs t u v a b old mid before seen leg later in
       record {
         between = cut.between;
         from = omega (arith, order, later);
         handed = handed_then whole faults stands x y cut.between _ _ _ _ _ _ handed cut.handed (rows_on m laws w state now wakes inputs t u v a b old mid before seen leg later) (bytes_on m laws w state now wakes inputs t u v a b old mid before seen leg later);
-        stops = subst (λ (o : Option Shown). stops o (states m w inputs (Ts m laws w state now wakes t old) t (v - t))) (sym (shown_on m laws w state now wakes inputs t u v a b old mid before seen leg later))
-            (subst (λ (ss : List S). stops (shown_before m w inputs (shown_at u seen) (Ts m laws w state now wakes u mid) u (v - u)) ss) (sym (states_on m laws w state now wakes inputs t u v a b old mid before seen leg later)) cut.stops);
+        stops = rw (shown, stood) cut.stops;
       }

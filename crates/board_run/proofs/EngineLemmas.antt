@@ -46,8 +46,7 @@ module _ {P : Type 0} (part : Ghosts P) (laws : Laws part.machine) where
   turn_replaces old new i place may_hear differ woken steps more may at =
       let room = turned_room part.machine laws part.state part.now part.wake_count old.cycle at.p at.q (to_wake at.d old.cycle (input_at (given old place) old.cycle i) (has_part differ i))
       (levels_on part.machine old.wiring old.reading.circuit.levels i (part.state at.p)) (input_at (given old place) old.cycle i) at.byte woken.changed at.turn.turn in
-      subst (λ (e : Engine P). Replaced part.machine e.wiring part.state i old.parts e.parts e.reading.circuit at.p at.q) (sym at.same)
-      (record { was = at.was; new_is = refl; pins = room.0; ports = room.1; fits = may.fits; told = may.told })
+      rw at.same (record { was = at.was; new_is = refl; pins = room.0; ports = room.1; fits = may.fits; told = may.told })
 
   -- and the nets may be told of it
   pub turn_tells : (old new : Engine P) (i place : ℕ) (may_hear : Bool) (differ : PartSet) (woken : Woken) (steps more : ℕ) → MayTurnPart part old i may_hear differ place → TurnedAt part old new i differ place woken steps more → MayTell part new i woken.changed
@@ -70,11 +69,7 @@ module _ {P : Type 0} (part : Ghosts P) (laws : Laws part.machine) where
       (q ≡ x) × Placed part.machine e.wiring part.state i first e.parts nets p x
   told_place e i first nets before p q x was at is here =
       let there = placed part.machine e.wiring part.state i first before e.parts e.reading.circuit p q was at in
-      let same : q ≡ x = some_same (sym there.there ∙ here) in (
-        same,
-        subst (λ (z : P). Placed part.machine e.wiring part.state i first e.parts nets p z) same
-            (subst (λ (n : Circuit). Placed part.machine e.wiring part.state i first e.parts n p q) (sym is) there),
-      )
+      let same : q ≡ x = some_same (sym there.there ∙ here) in (same, rw (← same, is) there)
 
   -- an engine of the same board
   same_board : (old mid : Engine P) → mid.wiring ≡ old.wiring → mid.inputs ≡ old.inputs → mid ≡ record mid { wiring = old.wiring; inputs = old.inputs }
@@ -92,9 +87,12 @@ module _ {P : Type 0} (part : Ghosts P) (laws : Laws part.machine) where
           may = after.may;
           same_wiring = after.same_wiring ∙ first.same_wiring;
           same_inputs = after.same_inputs ∙ first.same_inputs;
-          leg = leg_then part.machine laws old.wiring part.state part.now part.wake_count old.inputs old.cycle mid.cycle new.cycle steps more most old.parts mid.parts new.parts old.reading mid.reading new.reading first.leg second.leg;
-          tells = λ _. tells_then part.machine laws old.wiring part.state part.now part.wake_count old.inputs old.cycle mid.cycle new.cycle steps more most old.parts mid.parts new.parts old.reading mid.reading new.reading
-              first.leg second.leg new.stale further (second.tells further);
+          leg = leg_then part.machine laws old.wiring part.state part.now part.wake_count old.inputs old.cycle mid.cycle new.cycle steps more old.parts
+              mid.parts old.reading mid.reading first.leg
+              (omega (arith, further)) most new.parts new.reading second.leg;
+          tells = λ _. tells_then part.machine laws old.wiring part.state part.now part.wake_count old.inputs old.cycle mid.cycle new.cycle steps more
+              old.parts mid.parts old.reading mid.reading first.leg
+              (omega (arith, further)) new.stale further (second.tells further);
         }
 
     pub rows_then : rows_to part old new.cycle ≡ rows_to part old mid.cycle ++ rows_to part Here new.cycle
@@ -131,21 +129,22 @@ module _ {P : Type 0} (part : Ghosts P) (laws : Laws part.machine) where
         }
     | inr more ↦
         let same : e.cycle ≡ u = omega (arith, next.from, more) in
-        subst (λ (v : ℕ). Rests part e (record e { cycle = v }) steps steps) same
-        (record { on = on_none e steps may; steady = λ (less : e.cycle < e.cycle). absurd (omega arith); stays = λ _. refl })
+        rw (← same) (record { on = on_none e steps may; steady = λ (less : e.cycle < e.cycle). absurd (omega arith); stays = λ _. refl })
   ]
 
   -- its parts are brought to where it is
   pub on_settled : (old mid new : Engine P) (steps more : ℕ) → WentOn part old mid steps more → Settled part mid new → WentOn part old (record mid { parts = new.parts; dues = new.dues }) steps more
   on_settled old mid new steps more went s = record {
     may = record {
-      lags = settled_lags part.machine laws mid.wiring part.state part.now part.wake_count mid.inputs mid.cycle mid.parts new.parts (kept_of mid) new.dues went.may.lags s.long s.dues_long s.each s.due;
+      lags = settled_lags part.machine laws mid.wiring part.state part.now part.wake_count mid.inputs mid.cycle mid.parts new.parts s.long s.each
+          (kept_of mid) new.dues went.may.lags s.dues_long s.due;
       behind = went.may.behind;
       order = went.may.order;
     };
     same_wiring = went.same_wiring;
     same_inputs = went.same_inputs;
-    leg = settled_leg part.machine laws old.wiring part.state part.now part.wake_count old.inputs old.cycle mid.cycle old.parts mid.parts new.parts old.reading mid.reading steps more s.long s.each went.leg;
+    leg = settled_leg part.machine laws old.wiring part.state part.now part.wake_count old.inputs mid.cycle mid.parts new.parts s.long s.each old.cycle
+        old.parts old.reading mid.reading steps more went.leg;
     tells = went.tells;
   }
 
@@ -232,8 +231,7 @@ module _ {P : Type 0} (part : Ghosts P) (laws : Laws part.machine) where
           }
       | inr more_or ↦
           let same : mid.cycle ≡ u = omega (arith, next.from, more_or) in
-          subst (λ (v : ℕ). Showed part watcher writes.Ok old (record mid { cycle = v }) steps more out after) same
-          (record {
+          rw (← same) (record {
             on = record { may = record { lags = went.on.may.lags; behind = went.on.may.behind; order = went.on.may.order }; same_wiring = went.on.same_wiring; same_inputs = went.on.same_inputs; leg = went.on.leg; tells = went.on.tells };
             ok = went.ok;
             failed = λ (is : writes.Ok ≡ writes.Failed). absurd cc;
@@ -247,8 +245,7 @@ module _ {P : Type 0} (part : Ghosts P) (laws : Laws part.machine) where
     showed_passed e mid steps out n may watches next rest end =
         let here : IsNext (record e { cycle = e.cycle }) n mid.cycle =
         record { from = next.from; within = next.within; stays = next.stays; late = next.late; silent = next.silent; behind = next.behind; event = next.event } in
-        subst (λ (x : Engine P). Showed part watcher writes.Ok e x steps steps out out) (sym rest)
-        (showed_next e (record e { cycle = e.cycle }) steps steps out out n mid.cycle (showed_none e steps out may watches) here end)
+        rw rest (showed_next e (record e { cycle = e.cycle }) steps steps out out n mid.cycle (showed_none e steps out may watches) here end)
 
     pub showed_settled : (end : WriteEnd) (old mid new : Engine P) (steps more : ℕ) (out after : W) → Showed part watcher end old mid steps more out after → Settled part mid new → Showed part watcher end old new steps more out after
     showed_settled end old mid new steps more out after went s = subst (λ (e : Engine P). Showed part watcher end old e steps more out after) (sym s.same)

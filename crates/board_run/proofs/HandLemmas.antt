@@ -1,5 +1,6 @@
 -- A watcher is handed one part after another.
-use Rattle.std.proofs.Common.{◌≡◌, ℕ, zero, suc, ◌+◌, ◌<◌, List, [], ◌∷◌, ◌++◌, ◌∙◌, Option, None, Some, refl, ap, sym, subst, append_assoc, take, drop, length, add-one, Bool, true, append-nil, get_or, take-append-drop}
+use Rattle.std.proofs.Common.{◌≡◌, ℕ, ◌+◌, ◌<◌, List, [], ◌∷◌, ◌++◌, ◌∙◌, Option, None, Some, refl, ap, sym, subst, append_assoc, take, drop, length, Bool}
+use Rattle.std.proofs.Common.{true, append-nil, get_or, take-append-drop}
 use Rattle.std.specs.Prelude.{slice_get}
 use Rattle.std.specs.Option.{option_to_list}
 use Rattle.sim_base.specs.Rows.{Row, Appends, StopsWithin, AreFronts, Handed}
@@ -23,8 +24,7 @@ nothing_more xs = sym (append-nil xs)
 -- the bytes of one more answer
 pub options_more : (xs : List (Option ℕ)) (i : ℕ) (x : Option ℕ) → i < length xs → slice_get xs i ≡ Some x → options (take (i + 1) xs) ≡ options (take i xs) ++ options (x ∷ [])
 options_more xs i x h e =
-    ap options (take_more xs i x h) ∙ options-append (take i xs) (get_or xs i x ∷ [])
-    ∙ ap (λ (y : Option ℕ). options (take i xs) ++ options (y ∷ [])) (get_or_from_slice_get xs i x x e)
+    rw (take_more xs i x h, options-append (take i xs) (get_or xs i x ∷ []), get_or_from_slice_get xs i x x e) refl
 
 -- and the bytes of those that are left
 pub options_split : (xs : List (Option ℕ)) (i : ℕ) (x : Option ℕ) → slice_get xs i ≡ Some x → options (take i xs) ++ (options (x ∷ []) ++ options (drop (i + 1) xs)) ≡ options xs
@@ -71,9 +71,7 @@ module _ {W : Type 0} (whole : W → Bool) (faults : W → ℕ) (stands : W → 
   handed_then a b c r1 r2 r b1 b2 bs p q er eb = record {
     is_whole = q.is_whole;
     no_fault = q.no_fault ∙ p.no_fault;
-    appended =
-        subst (λ (l : List ℕ). Appends (stands a) (stands c) r l) (sym eb)
-        (subst (λ (l : List Row). Appends (stands a) (stands c) l (b1 ++ b2)) (sym er) (appends_then stands stands a b c r1 r2 b1 b2 p.appended q.appended));
+    appended = rw (er, eb) (appends_then stands stands a b c r1 r2 b1 b2 p.appended q.appended);
   }
 
   -- rows and then bytes

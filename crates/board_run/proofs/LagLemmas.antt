@@ -1,5 +1,6 @@
 -- A cycle in which the active parts are woken is a leg of the way.
-use Rattle.std.proofs.Common.{◌≡◌, ℕ, zero, suc, ◌+◌, ◌-◌, ◌<◌, ◌≤◌, List, length, map, take, drop, Bool, true, false, Option, None, Some, refl, ap, sym, ◌∙◌, arith, subst, get_or}
+use Rattle.std.proofs.Common.{◌≡◌, ℕ, zero, suc, ◌+◌, ◌-◌, ◌<◌, ◌≤◌, List, length, map, take, drop, Bool, true, false, Option, None, Some, refl, ap, sym, ◌∙◌}
+use Rattle.std.proofs.Common.{arith, subst}
 use Rattle.std.specs.Prelude.{◌≢◌, not, if◌then◌else◌, slice_get}
 use Rattle.std.proofs.lemmas.Option.{slice_get_within}
 use Rattle.std.proofs.lemmas.List.{length-map}
@@ -8,38 +9,40 @@ use Rattle.sim_base.specs.declared.signal.Drive.{Drive}
 use Rattle.sim_base.specs.declared.wiring.Wiring.{Wiring}
 use Rattle.sim_base.specs.declared.wiring.Input.{Input}
 use Rattle.part_law.specs.Machine.{Machine, Laws}
-use Rattle.board_model.specs.Board.{level_at, own_nets, levels_of, part_step, steps_from, board_step, states, bytes_of, bytes, options}
-use Rattle.board_model.specs.Rows.{Shown, same_list, same_level, shown_before, row_if, rows}
+use Rattle.board_model.specs.Board.{level_at, own_nets, levels_of, part_step, steps_from, board_step, states, bytes, options}
+use Rattle.board_model.specs.Rows.{Shown, same_list, same_level, shown_of, shown_before, row_if, rows}
 use Rattle.board_model.specs.Fits.{Fits}
-use Rattle.board_model.proofs.Lists.{some_same, get_within, get_map_some, some_map, same_lists, flat_map_same}
+use Rattle.board_model.proofs.Lists.{some_same, get_map_some, some_map, same_lists, flat_map_same}
 use Rattle.board_laws.specs.Alike.{Alike, SameShow}
-use Rattle.board_laws.specs.Active.{sum_below, active_in, active_cycles, active_pairs}
+use Rattle.board_laws.specs.Active.{sum_below, active_in}
 use Rattle.board_laws.specs.Stands.{Stands}
 use Rattle.board_laws.proofs.AlikeLemmas.{alike_weaker, flat_map_alike}
 use Rattle.board_laws.proofs.BesideLaw.{same_levels, same_shown, same_drives, same_row, same_chips}
 use Rattle.board_model.proofs.Steps.{length-steps_from, get-steps_from}
-use Rattle.board_model.proofs.RoomLemmas.{SameRoom, fits_room}
-use Rattle.board_laws.proofs.StandsLaw.{stands_shows, stands_holds}
+use Rattle.board_laws.proofs.StandsLaw.{stands_shows, stands_holds, stands_valid}
 use Rattle.board_run.specs.Changes.{Tells, LastTells}
 use Rattle.board_run.specs.Seen.{Seen, Suits, IsOf, IsTold, AreDiffering, retold, levels_on, shown, shown_at}
 use Rattle.board_run.specs.Upcoming.{AreBehind}
-use Rattle.board_run.specs.Lagging.{glided, Awaits, Turns, AreDue}
+use Rattle.board_run.specs.Lagging.{glided, MayTurn, Awaits, Turns, AreDue}
 use Rattle.board_run.specs.Legs.{Kept, Lags, Leg}
 use Rattle.board_run.proofs.ScriptLemmas.{values_now}
-use Rattle.board_run.proofs.ShowLemmas.{shown_is}
+use Rattle.board_run.proofs.ShowLemmas.{shown_is, later_shown, still_of, not_first}
 use Rattle.board_run.specs.declared.part_set.PartSet.{PartSet}
 use Rattle.board_run.specs.Parts.{has_part, AreNone}
-use Rattle.board_run.proofs.ShowLemmas.{still_of, not_first}
 use Rattle.board_run.proofs.ReadLemmas.{retold_suits, retold_is, flat_each}
-use Rattle.board_run.proofs.TurnLemmas.{turns_stand}
+use Rattle.board_run.proofs.TurnLemmas.{some_there, same_room, turns_stand}
 use Rattle.board_model.proofs.SameLemmas.{level_same, list_same}
-
-sum_first : (x : ℕ) → x ≡ 0 + x
-sum_first x = omega arith
 
 module _ {S P : Type 0} (m : Machine S) (laws : Laws m) (w : Wiring) (state : P → S) (now wakes : P → ℕ) where
   abbrev pub Ts : ℕ → List P → List S
   Ts t parts = map (glided m state now wakes t) parts
+
+  -- when a part is due, and that its turn may come
+  pub may_of : (t : ℕ) (parts : List P) (kept : Kept) → Lags m w state now wakes t parts kept → (k : ℕ) (p : P) → slice_get parts k ≡ Some p →
+      (d : Option ℕ) × (slice_get kept.dues k ≡ Some d) × MayTurn m state now wakes t d p
+  may_of t parts kept lags k p ep =
+      let d = some_there kept.dues k (omega (arith, slice_get_within parts k p ep, lags.dues_long)) in
+      (d.0, d.1, lags.may k p d.0 ep d.1)
 
   -- each part stands for its state of the board
   pub lags_stand : (t : ℕ) (parts : List P) (kept : Kept) → Lags m w state now wakes t parts kept → Alike (λ k p s. Stands m t (now p) (state p) s) parts (Ts t parts)
@@ -47,15 +50,9 @@ module _ {S P : Type 0} (m : Machine S) (laws : Laws m) (w : Wiring) (state : P 
     long = sym (simp length-map refl);
     each = λ k p s ep es.
         let r = get_map_some (glided m state now wakes t) parts k s es in
-        let p_is : r.0 ≡ p = some_same (sym r.1 ∙ ep) in
-        let inside : k < length kept.dues = omega (arith, slice_get_within parts k p ep, lags.dues_long) in
-        let may = lags.may k p (get_or kept.dues k None) ep (get_within kept.dues k None inside) in
-        record {
-          not_later = may.not_later;
-          valid = lags.valid k p ep;
-          quiet = may.quiet;
-          is = sym r.2 ∙ ap (glided m state now wakes t) p_is;
-        };
+        let may = (may_of t parts kept lags k p ep).2 in
+        let is : s ≡ glided m state now wakes t p = sym r.2 ∙ ap (glided m state now wakes t) (some_same (sym r.1 ∙ ep)) in
+        record { not_later = may.not_later; valid = lags.valid k p ep; quiet = may.quiet; is = is };
   }
 
   -- parts that stand for states show what those do
@@ -81,6 +78,27 @@ module _ {S P : Type 0} (m : Machine S) (laws : Laws m) (w : Wiring) (state : P 
     levels_are = is.levels_are ∙ same_levels m m w (map state parts) ts like;
     chips_are = is.chips_are ∙ same_chips m m w (map state parts) ts like;
   }
+
+  -- where nothing has changed since the nets were resolved, what was read is so of the board
+  module _ (t : ℕ) (parts : List P) (kept : Kept) (lags : Lags m w state now wakes t parts kept) (fresh : kept.stale ≡ false) (after : 0 < t) where
+    stood : (k : ℕ) (s : S) → slice_get (Ts t parts) k ≡ Some s → (p : P) × (slice_get parts k ≡ Some p) × Stands m t (now p) (state p) s
+    stood k s es = let p = get_map_some (glided m state now wakes t) parts k s es in (p.0, p.1, (lags_stand t parts kept lags).each k p.0 s p.1 es)
+
+    read_is : IsOf m w (Ts t parts) kept.seen
+    read_is = lag_of parts (Ts t parts) kept.seen (stand_show t parts (Ts t parts) (lags_stand t parts kept lags)) (lags.fresh fresh)
+
+    pub lags_valid : (k : ℕ) (s : S) → slice_get (Ts t parts) k ≡ Some s → m.valid s t ≡ true
+    lags_valid k s es = let p = stood k s es in stands_valid m laws t (now p.0) (state p.0) s p.2
+
+    pub lags_held : (k : ℕ) (s : S) → slice_get (Ts t parts) k ≡ Some s →
+        m.held s ≡ map (level_at (levels_of m w (Ts t parts))) (own_nets w k (length (m.drives s)))
+    lags_held k s es =
+        let p = stood k s es in
+        rw (← read_is.levels_are, ← (stands_shows m laws t (now p.0) (state p.0) s p.2).drives)
+        (stands_holds m laws t (now p.0) (state p.0) s p.2 ∙ lags.holds k p.0 p.1 after)
+
+    pub lags_shown : shown_at t kept.seen ≡ Some (shown_of m w (Ts t parts))
+    lags_shown = later_shown t 0 kept.seen after ∙ ap Some (shown_is m w (Ts t parts) kept.seen read_is)
 
   pub lag_row : (t : ℕ) (parts : List P) (ts : List S) (before : Option Shown) → Alike (λ k a b. SameShow m m a b) (map state parts) ts → row_if m w before (map state parts) t ≡ row_if m w before ts t
   lag_row t parts ts before like =
@@ -164,40 +182,28 @@ module _ {S P : Type 0} (m : Machine S) (laws : Laws m) (w : Wiring) (state : P 
           still = λ none. let still = turns.still none k s within es in (shows.drives ∙ still.drives ∙ sym was.drives, shows.contacts ∙ still.contacts ∙ sym was.contacts);
         }
 
-    before : (k : ℕ) (q : P) → slice_get new k ≡ Some q → (p : P) × (slice_get old k ≡ Some p)
-    before k q eq =
-        let within : k < length old = omega (arith, slice_get_within new k q eq, long) in
-        (get_or old k q, get_within old k q within)
-
-    same_room : (k : ℕ) (x y : S) → slice_get (map state old) k ≡ Some x → slice_get (map state new) k ≡ Some y → SameRoom m k x y
-    same_room k x y ex ey =
-        let a = get_map_some state old k x ex in
-        let b = get_map_some state new k y ey in
-        let f = turned_from k a.0 b.0 a.1 b.1 in (
-          ap (λ (s : S). length (m.drives s)) (sym a.2) ∙ f.pins ∙ ap (λ (s : S). length (m.drives s)) b.2,
-          ap (λ (s : S). length (m.contacts s)) (sym a.2) ∙ f.contacts ∙ ap (λ (s : S). length (m.contacts s)) b.2,
-        )
+    after_turn : (k : ℕ) (q : P) → slice_get new k ≡ Some q → (p : P) × Turned k p q
+    after_turn k q eq = let p = some_there old k (omega (arith, slice_get_within new k q eq, long)) in (p.0, turned_from k p.0 q p.1 eq)
 
     -- the invariant at the next cycle
     pub event_lags : (j : ℕ) (dues after : List (Option ℕ)) (ds : List Drive) (cs : List Bool) → length old ≤ 64 → Fits m w (map state old) → length dues ≡ length old → length after ≡ length old → AreDue m state now wakes new dues →
         AreNone after → IsTold m (map state new) (retold seen ds cs).circuit →
         Lags m w state now wakes (t + 1) new (record { input = j; stale = changed; dues = dues; seen = retold seen ds cs; answers = after })
     event_lags j dues after ds cs few fits dues_long answers_long due silent told =
-        let longer : length (map state old) ≡ length (map state new) = simp length-map (sym long) in
+        let room = same_room m w state old new long (λ k p q ep eq. let f = turned_from k p q ep eq in (f.pins, f.contacts)) fits in
         record {
-          few = subst (λ n. n ≤ 64) (sym long) few;
-          may = λ k q d eq ed.
-              let f = turned_from k (before k q eq).0 q (before k q eq).1 eq in
+          few = rw long few;
+          may = λ k q d eq ed. let f = (after_turn k q eq).1 in
               record { not_later = f.stands.not_later; count = f.count; quiet = f.stands.quiet; first = due k q d eq ed };
-          valid = λ k q eq. (turned_from k (before k q eq).0 q (before k q eq).1 eq).stands.valid;
+          valid = λ k q eq. (after_turn k q eq).1.stands.valid;
           dues_long = dues_long ∙ sym long;
           answers_long = answers_long ∙ sym long;
           silent = silent;
-          fits = fits_room m w (map state old) (map state new) longer same_room fits;
-          suits = retold_suits m w (map state new) seen ds cs (fits_room m w (map state old) (map state new) longer same_room fits) suits told;
+          fits = room.0;
+          suits = retold_suits m w (map state new) seen ds cs room.0 suits told;
           fresh = λ none. retold_is m w (map state new) seen ds cs told (still_of m w state old new seen long (λ k p q ep eq. (turned_from k p q ep eq).still none) is);
           told = told;
-          holds = λ k q eq later. (turned_from k (before k q eq).0 q (before k q eq).1 eq).held;
+          holds = λ k q eq later. (after_turn k q eq).1.held;
         }
 
     -- and the leg
@@ -216,18 +222,9 @@ module _ {S P : Type 0} (m : Machine S) (laws : Laws m) (w : Wiring) (state : P 
               ∙ ap (λ (b : Bool). if b then None else Some (shown seen)) (sym (not_first t));
           woken = λ k p q ep eq.
               let es : slice_get ts k ≡ Some (glided m state now wakes t p) = some_map (glided m state now wakes t) old k p ep in
-              (turned_from k p q ep eq).woken
-              ∙ ap (λ (ls : List Level). wakes p + active_in m w inputs ls t k (Some (glided m state now wakes t p))) of_board.levels_are
-              ∙ ap (λ (o : Option S). wakes p + active_in m w inputs (levels_of m w ts) t k o) (sym es)
-              ∙ ap (λ (u : ℕ). wakes p + active_in m w inputs (levels_of m w ts) u k (slice_get ts k)) (sym f)
-              ∙ ap (λ (n : ℕ). wakes p + n) (sum_first _)
-              ∙ ap (λ (n : ℕ). wakes p + active_cycles m w inputs ts t n k) (sym e);
-          steps_are = counted
-              ∙ ap (λ (n : ℕ). steps + sum_below n (λ k. active_in m w inputs seen.circuit.levels t k (slice_get ts k))) like.long
-              ∙ ap (λ (ls : List Level). steps + sum_below (length ts) (λ k. active_in m w inputs ls t k (slice_get ts k))) of_board.levels_are
-              ∙ ap (λ (u : ℕ). steps + sum_below (length ts) (λ k. active_in m w inputs (levels_of m w ts) u k (slice_get ts k))) (sym f)
-              ∙ ap (λ (n : ℕ). steps + n) (sum_first _)
-              ∙ ap (λ (n : ℕ). steps + active_pairs m w inputs ts t n) (sym e);
+              let turn = (turned_from k p q ep eq).woken in
+              rw (e, f, ← of_board.levels_are, es) (omega (arith, turn));
+          steps_are = rw (e, f, ← of_board.levels_are, ← like.long) (omega (arith, counted));
         }
 
     -- whether the cycle changed a drive or a contact
@@ -237,7 +234,8 @@ module _ {S P : Type 0} (m : Machine S) (laws : Laws m) (w : Wiring) (state : P 
       other = λ one ds cs.
           let z = turns.moved one in
           let eu = us_at z.0 z.1 z.3 in
-          z.4 (flat_each m.drives Us (Ts t old) us_long (λ k x y ex ey. pins k x y ex ey) ds z.0 _ z.1 eu z.3) (flat_each m.contacts Us (Ts t old) us_long (λ k x y ex ey. ports k x y ex ey) cs z.0 _ z.1 eu z.3);
+          z.4 (flat_each m.drives Us (Ts t old) us_long (λ k x y ex ey. rw (step_is k x y ex ey) (laws.keeps_pins y t _ _)) ds z.0 _ z.1 eu z.3)
+          (flat_each m.contacts Us (Ts t old) us_long (λ k x y ex ey. rw (step_is k x y ex ey) (laws.keeps_contacts y t _ _)) cs z.0 _ z.1 eu z.3);
     }
       where
         us_long : length Us ≡ length (Ts t old)
@@ -246,26 +244,18 @@ module _ {S P : Type 0} (m : Machine S) (laws : Laws m) (w : Wiring) (state : P 
         us_at : (k : ℕ) (s : S) → slice_get (Ts t old) k ≡ Some s → slice_get Us k ≡ Some (part_step m w inputs seen.circuit.levels t k s).0
         us_at k s es = some_map (λ (r : S × Option ℕ). r.0) (steps_from m w inputs seen.circuit.levels t 0 (Ts t old)) k (part_step m w inputs seen.circuit.levels t k s) (get-steps_from m w inputs seen.circuit.levels t k (Ts t old) s es)
 
-        step_is : (k : ℕ) (x y : S) → slice_get Us k ≡ Some x → slice_get (Ts t old) k ≡ Some y → (part_step m w inputs seen.circuit.levels t k y).0 ≡ x
-        step_is k x y ex ey = some_same (sym (us_at k y ey) ∙ ex)
+        step_is : (k : ℕ) (x y : S) → slice_get Us k ≡ Some x → slice_get (Ts t old) k ≡ Some y → x ≡ (part_step m w inputs seen.circuit.levels t k y).0
+        step_is k x y ex ey = some_same (sym ex ∙ us_at k y ey)
 
         still : changed ≡ false → (k : ℕ) (x y : S) → slice_get Us k ≡ Some x → slice_get (Ts t old) k ≡ Some y → SameShow m m x y
-        still none k x y ex ey = subst (λ (z : S). SameShow m m z y) (step_is k x y ex ey) (turns.still none k y (omega (arith, slice_get_within (Ts t old) k y ey, like.long)) ey)
-
-        pins : (k : ℕ) (x y : S) → slice_get Us k ≡ Some x → slice_get (Ts t old) k ≡ Some y → length (m.drives x) ≡ length (m.drives y)
-        pins k x y ex ey = subst (λ (z : S). length (m.drives z) ≡ length (m.drives y)) (step_is k x y ex ey) (laws.keeps_pins y t _ _)
-
-        ports : (k : ℕ) (x y : S) → slice_get Us k ≡ Some x → slice_get (Ts t old) k ≡ Some y → length (m.contacts x) ≡ length (m.contacts y)
-        ports k x y ex ey = subst (λ (z : S). length (m.contacts z) ≡ length (m.contacts y)) (step_is k x y ex ey) (laws.keeps_contacts y t _ _)
+        still none k x y ex ey = rw (step_is k x y ex ey) (turns.still none k y (omega (arith, slice_get_within (Ts t old) k y ey, like.long)) ey)
 
     pub event_tells : LastTells m w inputs changed (Ts t old) t (t + 1 - t)
     unfolding states
     event_tells =
         let e : t + 1 - t ≡ suc zero = omega arith in
         let f : t + 0 ≡ t = omega arith in
-        let here : Tells m changed (Ts t old) (board_step m w inputs (Ts t old) (t + 0)) = subst (λ (u : List S). Tells m changed (Ts t old) u) (us_are ∙ ap (board_step m w inputs (Ts t old)) (sym f)) tells_after in
-        let last : LastTells m w inputs changed (Ts t old) t (suc zero) = here in
-        subst (λ (n : ℕ). LastTells m w inputs changed (Ts t old) t n) (sym e) last
+        rw (e, f, ← us_are) tells_after
 
     -- the rows and bytes of the one cycle
     pub event_rows : (was : Seen) → row_if m w (shown_at t was) (map state old) t ≡ rows m w inputs (shown_at t was) (Ts t old) t (t + 1 - t)
@@ -281,9 +271,7 @@ module _ {S P : Type 0} (m : Machine S) (laws : Laws m) (w : Wiring) (state : P 
     event_bytes answers_long =
         let e : t + 1 - t ≡ suc zero = omega arith in
         let f : t + 0 ≡ t = omega arith in
-        ap options answers_are
-        ∙ ap (λ (ls : List Level). options (map (λ (r : S × Option ℕ). r.1) (steps_from m w inputs ls t 0 (Ts t old)))) of_board.levels_are
-        ∙ ap (bytes_of m w inputs (Ts t old)) (sym f) ∙ ap (bytes m w inputs (Ts t old) t) (sym e)
+        rw (e, f, answers_are, of_board.levels_are) refl
       where
         answers_are : answers ≡ map (λ r. r.1) (steps_from m w inputs seen.circuit.levels t 0 (Ts t old))
         answers_are =

@@ -1,9 +1,10 @@
 -- The next cycle in which something may happen.
 use Rattle.std.proofs.Common.{◌≡◌, ◌≢◌, ◌∙◌, ℕ, zero, suc, ◌+◌, ◌-◌, ◌<◌, ◌≤◌, List, [], ◌∷◌, length, Bool, true, false, Option, None, Some, refl, ap, sym, arith, subst, get_or, inl, inr, ◌⊎◌}
-use Rattle.std.specs.Prelude.{◌==◌, ◌&&◌, if◌then◌else◌, slice_get}
+use Rattle.std.specs.Prelude.{◌==◌, ◌&&◌, if◌then◌else◌, slice_get, slice_set}
 use Rattle.std.proofs.lemmas.Option.{slice_get_within, slice_get-get_or}
+use Rattle.std.proofs.lemmas.Bool.Decides.{eqb_tells}
 use Rattle.sim_base.specs.declared.wiring.Input.{Input}
-use Rattle.part_law.specs.Machine.{Machine, glide, IsQuiet, IsFirstDue}
+use Rattle.part_law.specs.Machine.{Machine, glide, IsQuiet}
 use Rattle.board_model.specs.Board.{input_from, input_at}
 use Rattle.event_queue.specs.First.{IsFirst}
 use Rattle.board_run.specs.Upcoming.{AreBehind, IsInOrder}
@@ -11,7 +12,7 @@ use Rattle.board_run.specs.Lagging.{MayTurn, AreLate}
 use Rattle.board_run.specs.Legs.{Kept, Lags}
 use Rattle.sim_base.specs.declared.wiring.Wiring.{Wiring}
 use Rattle.sim_base.specs.declared.limits.TheConstants.{MOST_CYCLES}
-use Rattle.board_model.proofs.Lists.{some_same}
+use Rattle.board_model.proofs.Lists.{some_same, get_set_same, get_set_other}
 use Rattle.board_run.proofs.ScriptLemmas.{others_leave}
 
 pub below_or : (u t : ℕ) → (u < t) ⊎ (t ≤ u)
@@ -60,6 +61,14 @@ behind_until inputs i t v d order behind later next = record {
       let b : (get_or inputs i d).cycle ≤ x.cycle = order i k (get_or inputs i d) x l (slice_get-get_or inputs i d inside) e in
       omega (arith, a, b);
 }
+
+-- what is at place k after something was set at place i
+pub at_set : {A : Type 0} (xs : List A) (i k : ℕ) (v x : A) → i < length xs → slice_get (slice_set xs i v) k ≡ Some x →
+    ((k ≡ i) × (v ≡ x)) ⊎ ((k ≢ i) × (slice_get xs k ≡ Some x))
+at_set xs i k v x within e = elim (eqb_tells k i) [
+  | inl same ↦ inl (same.1, some_same (sym (get_set_same xs i v within) ∙ subst (λ (j : ℕ). slice_get (slice_set xs i v) j ≡ Some x) same.1 e))
+  | inr other ↦ inr (other.1, sym (get_set_other xs i k v other.1) ∙ e)
+]
 
 pub some_there : {P : Type 0} (ps : List P) (k : ℕ) → k < length ps → (p : P) × (slice_get ps k ≡ Some p)
 some_there [] k h = absurd (omega arith)

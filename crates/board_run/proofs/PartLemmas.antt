@@ -1,5 +1,6 @@
 -- Sets of parts, and the parts that have a pin on nets whose levels changed.
-use Rattle.std.proofs.Common.{◌≡◌, ◌≢◌, ℕ, zero, suc, ◌+◌, ◌-◌, ◌*◌, ◌/◌, ◌%◌, ◌^◌, ◌<◌, ◌≤◌, max, List, [], ◌∷◌, length, map, take, drop, Bool, true, false, not, Option, None, Some, refl, ap, sym, ◌∙◌, arith, subst, inl, inr, ◌⊎◌, get_or}
+use Rattle.std.proofs.Common.{◌≡◌, ◌≢◌, ℕ, zero, suc, ◌+◌, ◌-◌, ◌*◌, ◌/◌, ◌%◌, ◌^◌, ◌<◌, ◌≤◌, max, List, [], ◌∷◌, length, map, take, drop, Bool, true, false}
+use Rattle.std.proofs.Common.{not, Option, None, Some, refl, ap, sym, ◌∙◌, arith, subst, inl, inr, get_or}
 use Rattle.std.specs.Prelude.{◌||◌, ◌&&◌, ◌==◌, eqb, slice_get, slice_index, slice_set, unwrap_or, bit_or, if◌then◌else◌}
 use Rattle.std.specs.List.{list_any, flat_map}
 use Rattle.std.specs.Int.{bit_at, w64}
@@ -32,11 +33,9 @@ use Rattle.board_run.proofs.ReadLemmas.{less_or, place_more}
 or_bits : (a b : ℕ) → a < 2 → b < 2 → (max a b == 1) ≡ ((a == 1) || (b == 1))
 or_bits zero zero ha hb = refl
 or_bits zero (suc zero) ha hb = refl
-or_bits zero (suc (suc b)) ha hb = absurd (omega arith)
 or_bits (suc zero) zero ha hb = refl
 or_bits (suc zero) (suc zero) ha hb = refl
-or_bits (suc zero) (suc (suc b)) ha hb = absurd (omega arith)
-or_bits (suc (suc a)) b ha hb = absurd (omega arith)
+or_bits a b ha hb = absurd (omega arith)
 
 -- the bits of two sets
 pub and_is : (a b k : ℕ) → (bit_at (bit_or a b) k == 1) ≡ ((bit_at a k == 1) || (bit_at b k == 1))
@@ -202,7 +201,4 @@ put_elsewhere a k i x other = elim (eqb_tells k i) [
 pub part_nets_from : (w : Wiring) (firsts pins : List ℕ) (i end : ℕ) → firsts ≡ w.first_pin → pins ≡ w.net_of → end ≡ unwrap_or (slice_get firsts (i + 1)) (length pins) →
     take (end - get_or firsts i 0) (drop (get_or firsts i 0) pins) ≡ part_nets w i
 part_nets_from w firsts pins i end is_firsts is_pins is_end =
-    let ends : end ≡ end_of w i = is_end ∙ ap (λ (l : List ℕ). unwrap_or (slice_get l (i + 1)) (length pins)) is_firsts ∙ ap (λ (l : List ℕ). unwrap_or (slice_get w.first_pin (i + 1)) (length l)) is_pins in
-    ap (λ (n : ℕ). take (n - get_or firsts i 0) (drop (get_or firsts i 0) pins)) ends
-    ∙ ap (λ (l : List ℕ). take (end_of w i - get_or l i 0) (drop (get_or l i 0) pins)) is_firsts
-    ∙ ap (λ (l : List ℕ). take (end_of w i - slice_index w.first_pin i) (drop (slice_index w.first_pin i) l)) is_pins
+    rw (is_end, is_firsts, is_pins) refl

@@ -1,5 +1,6 @@
 -- What is read of parts part by part, each at its place.
-use Rattle.std.proofs.Common.{◌≡◌, ◌≢◌, ◌⊎◌, inl, inr, ℕ, zero, suc, ◌+◌, ◌-◌, ◌<◌, ◌≤◌, List, [], ◌∷◌, ◌++◌, length, map, take, Bool, true, false, Some, refl, ap, sym, ◌∙◌, arith, subst, add-one, append_assoc, length-append, length-set}
+use Rattle.std.proofs.Common.{◌≡◌, ◌≢◌, ◌⊎◌, inl, inr, ℕ, zero, suc, ◌+◌, ◌-◌, ◌<◌, ◌≤◌, List, [], ◌∷◌, ◌++◌, length, map, take, Bool, true, false, Some}
+use Rattle.std.proofs.Common.{refl, ap, sym, ◌∙◌, arith, add-one, append_assoc, length-append, length-set}
 use Rattle.std.specs.Prelude.{◌==◌, min, not, slice_get, slice_set}
 use Rattle.std.specs.List.{flat_map}
 use Rattle.std.proofs.lemmas.List.{map-set, take-set}
@@ -147,11 +148,10 @@ module _ {S B : Type 0} (f : S → List B) where
   same_place : (xs ys : List S) → length xs ≡ length ys → ((k : ℕ) (x y : S) → slice_get xs k ≡ Some x → slice_get ys k ≡ Some y → length (f x) ≡ length (f y)) → (i : ℕ) → length (flat_map f (take i xs)) ≡ length (flat_map f (take i ys))
   same_place xs ys long each zero = refl
   same_place [] [] long each (suc i) = refl
-  same_place [] (y ∷ ys) long each (suc i) = absurd (omega arith)
-  same_place (x ∷ xs) [] long each (suc i) = absurd (omega arith)
   same_place (x ∷ xs) (y ∷ ys) long each (suc i) =
       let rest : length (flat_map f (take i xs)) ≡ length (flat_map f (take i ys)) = same_place xs ys (omega arith) (λ k a b ea eb. each (suc k) a b ea eb) i in
       omega (arith, length-append (f x) (flat_map f (take i xs)), length-append (f y) (flat_map f (take i ys)), each 0 x y refl refl, rest)
+  same_place xs ys long each (suc i) = absurd (omega arith)
 
   -- where all have the same in all, each has
   pub flat_each : (xs ys : List S) → length xs ≡ length ys → ((k : ℕ) (x y : S) → slice_get xs k ≡ Some x → slice_get ys k ≡ Some y → length (f x) ≡ length (f y)) → flat_map f xs ≡ flat_map f ys →
@@ -198,6 +198,15 @@ module _ {S P : Type 0} (m : Machine S) (state : P → S) (parts : List P) (i : 
   before_same : {B : Type 0} (f : S → List B) → length (flat_map f (take i (map state (slice_set parts i q)))) ≡ length (flat_map f (take i (map state parts)))
   before_same f = ap (λ l. length (flat_map f (take i l))) (map-set state parts i q) ∙ ap (λ l. length (flat_map f l)) (take-set (map state parts) i (state q))
 
+  -- what they had of it
+  drive_at : (first j : ℕ) → first ≡ length (drives_of m (take i (map state parts))) → j < length (m.drives (state p)) →
+      slice_get c.drives (first + j) ≡ slice_get (m.drives (state p)) j
+  drive_at first j place h = rw (told.drives_are, place) (flat_get m.drives (map state parts) i (state p) j at h)
+
+  contact_at : (j : ℕ) → j < length (m.contacts (state p)) →
+      slice_get c.closed (length (contacts_of m (take i (map state (slice_set parts i q)))) + j) ≡ slice_get (m.contacts (state p)) j
+  contact_at j h = rw (told.closed_are, before_same m.contacts) (flat_get m.contacts (map state parts) i (state p) j at h)
+
   pub told_more : (first : ℕ) → first ≡ length (drives_of m (take i (map state parts))) →
       Put first (length (m.drives (state q))) (m.drives (state q)) c.drives new.drives →
       Put (length (contacts_of m (take i (map state (slice_set parts i q))))) (length (m.contacts (state q))) (m.contacts (state q)) c.closed new.closed →
@@ -212,31 +221,23 @@ module _ {S P : Type 0} (m : Machine S) (state : P → S) (parts : List P) (i : 
   -- it has them already, where it is still
   pub still_told : (first : ℕ) → first ≡ length (drives_of m (take i (map state parts))) → m.drives (state q) ≡ m.drives (state p) → m.contacts (state q) ≡ m.contacts (state p) →
       HasAt first (m.drives (state q)) c.drives × HasAt (length (contacts_of m (take i (map state (slice_set parts i q))))) (m.contacts (state q)) c.closed
-  still_told first place ds cs = (
-    λ j h. ap (λ l. slice_get l (first + j)) told.drives_are ∙ ap (λ n. slice_get (drives_of m (map state parts)) (n + j)) place
-        ∙ flat_get m.drives (map state parts) i (state p) j at (subst (λ l. j < length l) ds h) ∙ ap (λ l. slice_get l j) (sym ds),
-    λ j h. ap (λ l. slice_get l (length (contacts_of m (take i (map state (slice_set parts i q)))) + j)) told.closed_are ∙ ap (λ n. slice_get (contacts_of m (map state parts)) (n + j)) (before_same m.contacts)
-        ∙ flat_get m.contacts (map state parts) i (state p) j at (subst (λ l. j < length l) cs h) ∙ ap (λ l. slice_get l j) (sym cs),
-  )
+  still_told first place ds cs = (λ j h. rw ds (drive_at first j place (rw ds at h)), λ j h. rw cs (contact_at j (rw cs at h)))
 
   -- and it is still, where it has them already
   pub told_still : (first : ℕ) → first ≡ length (drives_of m (take i (map state parts))) → HasAt first (m.drives (state q)) c.drives →
       HasAt (length (contacts_of m (take i (map state (slice_set parts i q))))) (m.contacts (state q)) c.closed → (m.drives (state q) ≡ m.drives (state p)) × (m.contacts (state q) ≡ m.contacts (state p))
   told_still first place ds cs = (
     same_lists (m.drives (state q)) (m.drives (state p)) pins (λ j a b ea eb.
-        some_same (sym ea ∙ sym (ds j (slice_get_within (m.drives (state q)) j a ea)) ∙ ap (λ l. slice_get l (first + j)) told.drives_are ∙ ap (λ n. slice_get (drives_of m (map state parts)) (n + j)) place
-        ∙ flat_get m.drives (map state parts) i (state p) j at (slice_get_within (m.drives (state p)) j b eb) ∙ eb)),
+        some_same (sym ea ∙ sym (ds j (slice_get_within (m.drives (state q)) j a ea)) ∙ drive_at first j place (slice_get_within (m.drives (state p)) j b eb)
+        ∙ eb)),
     same_lists (m.contacts (state q)) (m.contacts (state p)) ports (λ j a b ea eb.
-        some_same (sym ea ∙ sym (cs j (slice_get_within (m.contacts (state q)) j a ea)) ∙ ap (λ l. slice_get l (length (contacts_of m (take i (map state (slice_set parts i q)))) + j)) told.closed_are
-        ∙ ap (λ n. slice_get (contacts_of m (map state parts)) (n + j)) (before_same m.contacts) ∙ flat_get m.contacts (map state parts) i (state p) j at (slice_get_within (m.contacts (state p)) j b eb) ∙ eb)),
+        some_same (sym ea ∙ sym (cs j (slice_get_within (m.contacts (state q)) j a ea)) ∙ contact_at j (slice_get_within (m.contacts (state p)) j b eb) ∙ eb)),
   )
 
   -- and else those of the pins that did not move
   pub others_told : (first : ℕ) → first ≡ length (drives_of m (take i (map state parts))) → (moves : ℕ → Bool) → ((j : ℕ) → moves j ≡ false → slice_get (m.drives (state q)) j ≡ slice_get (m.drives (state p)) j) →
       (j : ℕ) → j < length (m.drives (state q)) → moves j ≡ false → slice_get c.drives (first + j) ≡ slice_get (m.drives (state q)) j
-  others_told first place moves same j h none =
-      ap (λ l. slice_get l (first + j)) told.drives_are ∙ ap (λ n. slice_get (drives_of m (map state parts)) (n + j)) place
-      ∙ flat_get m.drives (map state parts) i (state p) j at (omega (arith, pins, h)) ∙ sym (same j none)
+  others_told first place moves same j h none = drive_at first j place (omega (arith, pins, h)) ∙ sym (same j none)
 
 module _ {S : Type 0} (m : Machine S) where
   -- what suits a wiring does so after the nets were told

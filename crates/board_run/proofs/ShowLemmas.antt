@@ -2,22 +2,19 @@
 use Rattle.std.proofs.Common.{◌≡◌, ℕ, zero, suc, ◌+◌, ◌-◌, ◌<◌, List, [], ◌∷◌, ◌++◌, length, map, Bool, true, false, not, Option, None, Some, refl, ap, sym, ◌∙◌, arith, append_assoc}
 use Rattle.std.specs.Prelude.{◌==◌, ◌||◌, ◌&&◌, if◌then◌else◌, replicate, slice_get}
 use Rattle.std.specs.List.{flat_map}
-use Rattle.std.proofs.lemmas.List.{length-map, append-nil}
+use Rattle.std.proofs.lemmas.List.{length-map}
 use Rattle.std.proofs.lemmas.Bool.{and_parts}
-use Rattle.sim_base.specs.declared.signal.Level.{Level}
-use Rattle.sim_base.specs.declared.signal.Drive.{Drive}
 use Rattle.sim_base.specs.declared.wiring.Wiring.{Wiring}
 use Rattle.sim_base.specs.declared.wiring.Input.{Input}
 use Rattle.sim_base.specs.Rows.{Row, AreFronts, Handed}
 use Rattle.part_law.specs.Machine.{Machine}
-use Rattle.board_model.specs.Resolve.{resolve}
-use Rattle.board_model.specs.Board.{drives_of, contacts_of, levels_of, bytes_of, states, bytes}
+use Rattle.board_model.specs.Board.{levels_of, bytes_of, states, bytes}
 use Rattle.board_model.specs.Rows.{Shown, same_level, same_drive, same_list, same_shown, chip_drives_of, shown_of, is_new, row_if, shown_before, rows}
 use Rattle.board_model.proofs.Lists.{some_same, get_map_some, flat_map_same}
 use Rattle.board_model.proofs.SameLemmas.{level_same, drive_same, list_same, levels_mean}
 use Rattle.board_run.specs.Seen.{Seen, IsOf, AreStill, shown, shown_at}
 use Rattle.board_run.specs.Upcoming.{AreBehind}
-use Rattle.board_run.proofs.HandLemmas.{appends_none}
+use Rattle.board_run.proofs.HandLemmas.{appends_none, whole_front}
 
 -- what is read shows what the parts show
 pub shown_is : {S : Type 0} (m : Machine S) (w : Wiring) (ss : List S) (seen : Seen) → IsOf m w ss seen → shown seen ≡ shown_of m w ss
@@ -58,10 +55,7 @@ later_shown t u seen less = let e : (t == 0) ≡ false = grind (arith, less) in 
 pub row_is : {S : Type 0} (m : Machine S) (w : Wiring) (ss : List S) (t : ℕ) (old new : Seen) (there same : Bool) → there ≡ ((t == 0) || not same) → same ≡ same_shown (shown old) (shown_of m w ss) → IsOf m w ss new →
     ◌≡◌ {A = List Row} (if there then record { cycle = t; levels = new.circuit.levels; drives = new.circuit.drives } ∷ [] else []) (row_if m w (shown_at t old) ss t)
 row_is m w ss t old new there same e f is =
-    let rows_of : Bool → List Level → List Drive → List Row = λ b l d. if b then record { cycle = t; levels = l; drives = d } ∷ [] else [] in
-    ap (λ (b : Bool). rows_of b new.circuit.levels new.circuit.drives) (e ∙ new_is t old (shown_of m w ss) same f)
-    ∙ ap (λ (l : List Level). rows_of (is_new (shown_at t old) (shown_of m w ss)) l new.circuit.drives) is.levels_are
-    ∙ ap (λ (d : List Drive). rows_of (is_new (shown_at t old) (shown_of m w ss)) (levels_of m w ss) d) is.drives_are
+    rw (e, new_is t old (shown_of m w ss) same f, is.levels_are, is.drives_are) refl
 
 -- one of many that are the same
 pub get_all : {A : Type 0} (n k : ℕ) (x b : A) → slice_get (replicate n x) k ≡ Some b → b ≡ x
@@ -82,12 +76,9 @@ pub chips_same : {S P : Type 0} (m : Machine S) (state : P → S) (chips : List 
     ((k : ℕ) (p q : P) → slice_get old k ≡ Some p → slice_get new k ≡ Some q → m.drives (state q) ≡ m.drives (state p)) → chip_drives_of m chips (map state new) ≡ chip_drives_of m chips (map state old)
 chips_same m state [] old new long each = refl
 chips_same m state (c ∷ chips) [] [] long each = refl
-chips_same m state (c ∷ chips) [] (q ∷ new) long each = absurd (omega arith)
-chips_same m state (c ∷ chips) (p ∷ old) [] long each = absurd (omega arith)
 chips_same m state (c ∷ chips) (p ∷ old) (q ∷ new) long each =
-    let a : m.drives (state q) ≡ m.drives (state p) = each 0 p q refl refl in
-    ap (λ (d : List Drive). (if c then d else []) ++ chip_drives_of m chips (map state new)) a
-    ∙ ap (λ (l : List Drive). (if c then m.drives (state p) else []) ++ l) (chips_same m state chips old new (omega arith) (λ k x y ex ey. each (suc k) x y ex ey))
+    rw (each 0 p q refl refl, chips_same m state chips old new (omega arith) (λ k x y ex ey. each (suc k) x y ex ey)) refl
+chips_same m state (c ∷ chips) old new long each = absurd (omega arith)
 
 -- what was read of parts that stayed still is still so
 pub still_of : {S P : Type 0} (m : Machine S) (w : Wiring) (state : P → S) (old new : List P) (seen : Seen) → length new ≡ length old → AreStill m state old new → IsOf m w (map state old) seen → IsOf m w (map state new) seen
@@ -97,9 +88,7 @@ still_of m w state old new seen long still is =
     record {
       drives_are = is.drives_are ∙ sym d;
       closed_are = is.closed_are ∙ sym c;
-      levels_are = is.levels_are
-          ∙ ap (λ (x : List Drive). resolve w.nets w.net_of w.contacts w.resistors (contacts_of m (map state old)) x) (sym d)
-          ∙ ap (λ (x : List Bool). resolve w.nets w.net_of w.contacts w.resistors x (drives_of m (map state new))) (sym c);
+      levels_are = rw (d, c) is.levels_are;
       chips_are = is.chips_are ∙ sym (chips_same m state w.chip old new long (λ k p q ep eq. (still k p q ep eq).0));
     }
 
@@ -111,13 +100,8 @@ module _ {S : Type 0} (m : Machine S) (w : Wiring) (inputs : List Input) (before
   pub fronts : (k j : ℕ) → AreFronts (rows m w inputs before ss c k) (bytes m w inputs ss c k) (rows m w inputs before ss c (k + j)) (bytes m w inputs ss c (k + j))
   unfolding rows bytes
   fronts k zero =
-      let e : k ≡ k + 0 = omega arith in
-      record {
-        more_rows = [];
-        more_bytes = [];
-        whole_rows = append-nil (rows m w inputs before ss c k) ∙ ap (rows m w inputs before ss c) e;
-        whole_bytes = append-nil (bytes m w inputs ss c k) ∙ ap (bytes m w inputs ss c) e;
-      }
+      let e : k + 0 ≡ k = omega arith in
+      rw e (whole_front (rows m w inputs before ss c k) (bytes m w inputs ss c k))
   fronts k (suc j) =
       let e : suc (k + j) ≡ k + suc j = omega arith in
       let f = fronts k j in

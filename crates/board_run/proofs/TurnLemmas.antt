@@ -1,5 +1,6 @@
 -- A part's turn is the step of the state that it stands for.
-use Rattle.std.proofs.Common.{◌≡◌, ◌≢◌, ℕ, ◌+◌, ◌-◌, ◌<◌, ◌≤◌, List, length, map, Bool, true, false, Option, None, Some, refl, ap, sym, ◌∙◌, arith, subst, zero, suc, [], ◌∷◌, inl, inr, ◌⊎◌, get_or, add-one, length-set}
+use Rattle.std.proofs.Common.{◌≡◌, ◌≢◌, ℕ, ◌+◌, ◌-◌, ◌<◌, ◌≤◌, List, length, map, Bool, true, false, Option, None, Some, refl, ap, sym, ◌∙◌, arith, subst}
+use Rattle.std.proofs.Common.{zero, suc, inl, inr, ◌⊎◌, add-one, length-set}
 use Rattle.std.specs.Prelude.{◌||◌, not, if◌then◌else◌, take, slice_get, slice_index, slice_set}
 use Rattle.std.specs.Option.{is_some}
 use Rattle.std.proofs.lemmas.Bool.Decides.{eqb_tells}
@@ -10,7 +11,7 @@ use Rattle.sim_base.specs.declared.wiring.Input.{Input}
 use Rattle.part_law.specs.Machine.{Machine, Laws, IsQuiet, IsFirstDue, MayWake}
 use Rattle.part_law.proofs.MachineLemmas.{not_due_now, due_now, glide_holds, glide_pins, glide_ports, glide_drives, glide_contacts}
 use Rattle.board_model.specs.Board.{drives_of, contacts_of, level_at, own_nets, input_at, part_step, steps_from}
-use Rattle.board_model.specs.Rows.{same_list, same_level}
+use Rattle.board_model.specs.Rows.{same_list, same_level, chip_drives_of}
 use Rattle.board_laws.specs.Alike.{Alike, SameShow}
 use Rattle.board_laws.specs.Active.{is_active, active_in, sum_below}
 use Rattle.board_laws.specs.Stands.{Stands}
@@ -19,14 +20,14 @@ use Rattle.std.proofs.lemmas.Option.{slice_get_within}
 use Rattle.std.proofs.lemmas.List.{length-map}
 use Rattle.std.proofs.lemmas.Bool.{or_cases, or_parts}
 use Rattle.sim_base.specs.declared.limits.TheConstants.{MOST_CYCLES}
-use Rattle.board_model.proofs.Lists.{some_same, lt_or_eq, get_set_same, get_set_other, get_within, get_map_some}
+use Rattle.board_model.proofs.Lists.{some_same, lt_or_eq, get_set_same, get_set_other, get_map_some}
 use Rattle.board_model.proofs.Steps.{length-steps_from, get_step}
 use Rattle.board_run.proofs.StepLemmas.{get_answer}
-pub use Rattle.board_run.proofs.NextLemmas.{some_there}
+pub use Rattle.board_run.proofs.NextLemmas.{some_there, at_set}
 use Rattle.board_run.specs.declared.part_set.PartSet.{PartSet}
 use Rattle.board_run.specs.Parts.{has_part, AreNone}
 use Rattle.board_model.specs.Fits.{Fits}
-use Rattle.board_model.proofs.RoomLemmas.{SameRoom, fits_room}
+use Rattle.board_model.proofs.RoomLemmas.{SameRoom, fits_room, chips_room}
 use Rattle.board_run.specs.Seen.{IsTold, HasAt, Put, levels_on}
 use Rattle.board_run.proofs.ReadLemmas.{less_or, told_more, still_told, told_still, others_told}
 use Rattle.net_resolve.specs.Circuit.{Circuit}
@@ -79,12 +80,8 @@ module _ {S P : Type 0} (m : Machine S) (laws : Laws m) (w : Wiring) (inputs : L
     | inl first ↦
         let d : m.due s t ≡ true = subst (λ (u : ℕ). m.due s u ≡ true) (sym first) (laws.begins_due s) in
         let a : is_at due t ≡ true = due_is m (state p) s (now p) t due end stands may.first ∙ d in
-        ap (λ (b : Bool). b || (is_some input || differs)) a
-        ∙ sym (ap (λ (b : Bool). b || (is_some (input_at inputs t k) || not (same_list same_level (map (level_at ls) (own_nets w k (length (m.drives s)))) (m.held s)))) d)
-    | inr after ↦
-        ap (λ (b : Bool). b || (is_some input || differs)) (due_is m (state p) s (now p) t due end stands may.first)
-        ∙ ap (λ (i : Option ℕ). m.due s t || (is_some i || differs)) is_input
-        ∙ ap (λ (b : Bool). m.due s t || (is_some (input_at inputs t k) || b)) (is_differing after)
+        rw (a, d) refl
+    | inr after ↦ rw (due_is m (state p) s (now p) t due end stands may.first, is_input, is_differing after) refl
   ]
 
   pub had_turn : (p q : P) (s : S) (due input byte : Option ℕ) (own : List Level) (differs changed : Bool) → t < MOST_CYCLES → MayTurn m state now wakes t due p → Stands m t (now p) (state p) s →
@@ -94,9 +91,7 @@ module _ {S P : Type 0} (m : Machine S) (laws : Laws m) (w : Wiring) (inputs : L
       go (to_wake due t input differs) (wake_is p s due input differs end may stands is_differing is_input) turn
     where
       step_is : m.step (glided m state now wakes t p) t own input ≡ part_step m w inputs ls t k s
-      step_is =
-          ap (λ (x : S). m.step x t own input) (sym stands.is) ∙ ap (λ (l : List Level). m.step s t l input) is_own
-          ∙ ap (λ (i : Option ℕ). m.step s t (map (level_at ls) (own_nets w k (length (m.drives s)))) i) is_input
+      step_is = rw (← stands.is, is_own, is_input) refl
 
       go : (b : Bool) → b ≡ is_active m w inputs ls t k s → turned m state now wakes b t own input p q byte changed → HadTurn m w inputs state now wakes ls t k p q s byte changed
       go true e h =
@@ -145,31 +140,21 @@ module _ {S P : Type 0} (m : Machine S) (laws : Laws m) (w : Wiring) (inputs : L
       (more ≡ true → m.drives (part_step m w inputs ls t i s).0 ≡ m.drives s → m.contacts (part_step m w inputs ls t i s).0 ≢ m.contacts s) →
       Turns m w inputs state now wakes ls t ts (i + 1) old (slice_set new i q) (slice_set answers i byte) (changed || more)
   turns_more i old new answers changed touched more p q s byte turns ep es within room turn still moved = record {
-    done = λ k a b u l ea eb eu. elim (lt_or_eq k i l) [
-      | inl less ↦
-          let other : k ≢ i = omega arith in
-          turns.done k a b u less ea (sym (get_set_other new i k q other) ∙ eb) eu
-      | inr same ↦
-          let a_is : p ≡ a = some_same (sym ep ∙ subst (λ (j : ℕ). slice_get old j ≡ Some a) same ea) in
-          let b_is : q ≡ b = some_same (sym (get_set_same new i q within) ∙ subst (λ (j : ℕ). slice_get (slice_set new i q) j ≡ Some b) same eb) in
-          let u_is : s ≡ u = some_same (sym es ∙ subst (λ (j : ℕ). slice_get ts j ≡ Some u) same eu) in
-          subst (λ (j : ℕ). Stands m (t + 1) (now b) (state b) (part_step m w inputs ls t j u).0 × (wakes b ≡ wakes a + active_in m w inputs ls t j (Some u)) × (wakes b ≤ now b)) (sym same)
-          (subst (λ (x : S). Stands m (t + 1) (now b) (state b) (part_step m w inputs ls t i x).0 × (wakes b ≡ wakes a + active_in m w inputs ls t i (Some x)) × (wakes b ≤ now b)) u_is
-          (subst (λ (x : P). Stands m (t + 1) (now b) (state b) (part_step m w inputs ls t i s).0 × (wakes b ≡ wakes x + active_in m w inputs ls t i (Some s)) × (wakes b ≤ now b)) a_is
-          (subst (λ (x : P). Stands m (t + 1) (now x) (state x) (part_step m w inputs ls t i s).0 × (wakes x ≡ wakes p + active_in m w inputs ls t i (Some s)) × (wakes x ≤ now x)) b_is (turn.stands, turn.woken, turn.count))))
+    done = λ k a b u l ea eb eu. elim (at_set new i k q b within eb) [
+      | inl here ↦
+          let same = here.0 in
+          let a_is : p ≡ a = cc in
+          let u_is : s ≡ u = cc in
+          rw (same, ← u_is, ← a_is, ← here.1) (turn.stands, turn.woken, turn.count)
+      | inr other ↦ turns.done k a b u (omega (arith, l, other.0)) ea other.1 eu
     ];
     answered = λ k l. elim (lt_or_eq k i l) [
       | inl less ↦ get_set_other answers i k byte (omega arith) ∙ turns.answered k less
-      | inr same ↦
-          subst (λ (j : ℕ). slice_get (slice_set answers i byte) j ≡ slice_get (map (λ r. r.1) (steps_from m w inputs ls t 0 ts)) j) (sym same)
-          (get_set_same answers i byte room ∙ ap Some turn.byte_is ∙ sym (get_answer m w inputs ls t i ts s es))
+      | inr same ↦ rw same (get_set_same answers i byte room ∙ ap Some turn.byte_is ∙ sym (get_answer m w inputs ls t i ts s es))
     ];
     still = λ none k u l eu. let both = or_parts changed more none in elim (lt_or_eq k i l) [
       | inl less ↦ turns.still both.0 k u less eu
-      | inr same ↦
-          let u_is : s ≡ u = some_same (sym es ∙ subst (λ (j : ℕ). slice_get ts j ≡ Some u) same eu) in
-          subst (λ (j : ℕ). SameShow m m (part_step m w inputs ls t j u).0 u) (sym same)
-          (subst (λ (x : S). SameShow m m (part_step m w inputs ls t i x).0 x) u_is (still both.1))
+      | inr same ↦ let u_is : s ≡ u = cc in rw (same, ← u_is) (still both.1)
     ];
     moved = λ one. elim (or_cases changed more one) [
       | inl before ↦ let x = turns.moved before in (x.0, x.1, (let l = x.2 in omega (arith, l)), x.3, x.4)
@@ -186,24 +171,21 @@ module _ {S P : Type 0} (m : Machine S) (laws : Laws m) (w : Wiring) (inputs : L
     done = λ k p q s l ep eq es. elim (less_or k i) [
       | inl less ↦ turns.done k p q s less ep eq es
       | inr more ↦
-          let q_is : p ≡ q = some_same (sym ep ∙ sym (rest k more) ∙ eq) in
+          let q_is : q ≡ p = some_same (sym eq ∙ rest k more ∙ ep) in
           let h = pass k p s more l ep es in
-          subst (λ (x : P). Stands m (t + 1) (now x) (state x) (part_step m w inputs ls t k s).0 × (wakes x ≡ wakes p + active_in m w inputs ls t k (Some s)) × (wakes x ≤ now x)) q_is (h.stands, h.woken, h.count)
+          rw q_is (h.stands, h.woken, h.count)
     ];
     answered = λ k l. elim (less_or k i) [
       | inl less ↦ turns.answered k less
       | inr more ↦
-          let within : k < length answers = omega (arith, l, inside, room) in
           let p = some_there old k (omega (arith, l, inside)) in
           let s = some_there ts k (omega (arith, l, inside, like)) in
-          let a = some_there answers k within in
+          let a = some_there answers k (omega (arith, l, inside, room)) in
           a.1 ∙ ap Some (quiet k a.0 more a.1 ∙ (pass k p.0 s.0 more l p.1 s.1).byte_is) ∙ sym (get_answer m w inputs ls t k ts s.0 s.1)
     ];
     still = λ none k s l es. elim (less_or k i) [
       | inl less ↦ turns.still none k s less es
-      | inr more ↦
-          let p = some_there old k (omega (arith, l, inside)) in
-          (pass k p.0 s more l p.1 es).still refl
+      | inr more ↦ let p = some_there old k (omega (arith, l, inside)) in (pass k p.0 s more l p.1 es).still refl
     ];
     moved = λ one. let x = turns.moved one in (x.0, x.1, (let l = x.2 in omega (arith, l, least)), x.3, x.4);
   }
@@ -217,12 +199,9 @@ module _ {S P : Type 0} (m : Machine S) (laws : Laws m) (w : Wiring) (inputs : L
         let r = get_map_some (λ (r : S × Option ℕ). r.0) (steps_from m w inputs ls t 0 ts) k u eu in
         let f = get_step m w inputs ls t k ts r.0 r.1 in
         let within : k < length new = slice_get_within new k q eq in
-        let inside : k < length old = omega (arith, long) in
-        let p = get_or old k q in
-        let ep : slice_get old k ≡ Some p = get_within old k q inside in
-        let d = turns.done k p q f.0 (omega arith) ep eq f.1 in
-        let e : (part_step m w inputs ls t k f.0).0 ≡ u = ap (λ (r : S × Option ℕ). r.0) f.2 ∙ r.2 in
-        subst (λ (x : S). Stands m (t + 1) (now q) (state q) x) e d.0;
+        let p = some_there old k (omega (arith, long)) in
+        let e : u ≡ (part_step m w inputs ls t k f.0).0 = sym (ap (λ (r : S × Option ℕ). r.0) f.2 ∙ r.2) in
+        rw e (turns.done k p.0 q f.0 (omega arith) p.1 eq f.1).0;
   }
 
 -- what a step changed is what the part changed that stands for it
@@ -266,32 +245,30 @@ module _ {S P : Type 0} (m : Machine S) (laws : Laws m) (state : P → S) (now w
       ((j : ℕ) → moves j ≡ false → slice_get (m.drives (state q)) j ≡ slice_get (m.drives (glided m state now wakes t p)) j) → (j : ℕ) → moves j ≡ false → slice_get (m.drives (state q)) j ≡ slice_get (m.drives (state p)) j
   turned_others moves v quiet same j none = same j none ∙ ap (λ l. slice_get l j) (glide_drives m laws (state p) (now p) (t - now p) v quiet)
 
--- a part with as many pins and contacts in place of another
-pub fits_set : {S P : Type 0} (m : Machine S) (w : Wiring) (state : P → S) (parts : List P) (i : ℕ) (p q : P) → slice_get parts i ≡ Some p →
-    (length (m.drives (state q)) ≡ length (m.drives (state p))) × (length (m.contacts (state q)) ≡ length (m.contacts (state p))) → Fits m w (map state parts) → Fits m w (map state (slice_set parts i q))
-fits_set {S} {P} m w state parts i p q ep room fits = fits_room m w (map state parts) (map state (slice_set parts i q)) longer each fits
+-- parts with as many pins and contacts in place of others
+pub same_room : {S P : Type 0} (m : Machine S) (w : Wiring) (state : P → S) (old new : List P) → length new ≡ length old →
+    ((k : ℕ) (p q : P) → slice_get old k ≡ Some p → slice_get new k ≡ Some q → SameRoom m k (state p) (state q)) →
+    Fits m w (map state old) → Fits m w (map state new) × (length (chip_drives_of m w.chip (map state old)) ≡ length (chip_drives_of m w.chip (map state new)))
+same_room {S} m w state old new long each fits =
+    (fits_room m w (map state old) (map state new) longer room fits, chips_room m w.chip (map state old) (map state new) longer room)
   where
-    longer : length (map state parts) ≡ length (map state (slice_set parts i q))
-    longer = simp length-map (sym (length-set parts i q))
+    longer : length (map state old) ≡ length (map state new)
+    longer = simp length-map (sym long)
 
-    each : (k : ℕ) (x y : S) → slice_get (map state parts) k ≡ Some x → slice_get (map state (slice_set parts i q)) k ≡ Some y → SameRoom m k x y
-    each k x y ex ey =
-        let a = get_map_some state parts k x ex in
-        let b = get_map_some state (slice_set parts i q) k y ey in
-        elim (eqb_tells k i) [
-          | inl same ↦
-              let a_is : p ≡ a.0 = some_same (sym ep ∙ subst (λ (j : ℕ). slice_get parts j ≡ Some a.0) same.1 a.1) in
-              let b_is : q ≡ b.0 = some_same (sym (get_set_same parts i q (slice_get_within parts i p ep)) ∙ subst (λ (j : ℕ). slice_get (slice_set parts i q) j ≡ Some b.0) same.1 b.1) in
-              let x_is : state p ≡ x = ap state a_is ∙ a.2 in
-              let y_is : state q ≡ y = ap state b_is ∙ b.2 in (
-                ap (λ (s : S). length (m.drives s)) (sym x_is) ∙ sym room.0 ∙ ap (λ (s : S). length (m.drives s)) y_is,
-                ap (λ (s : S). length (m.contacts s)) (sym x_is) ∙ sym room.1 ∙ ap (λ (s : S). length (m.contacts s)) y_is,
-              )
-          | inr other ↦
-              let is : a.0 ≡ b.0 = some_same (sym a.1 ∙ sym (get_set_other parts i k q other.1) ∙ b.1) in
-              let x_is : x ≡ y = sym a.2 ∙ ap state is ∙ b.2 in
-              (ap (λ (s : S). length (m.drives s)) x_is, ap (λ (s : S). length (m.contacts s)) x_is)
-        ]
+    room : (k : ℕ) (x y : S) → slice_get (map state old) k ≡ Some x → slice_get (map state new) k ≡ Some y → SameRoom m k x y
+    room k x y ex ey =
+        let a = get_map_some state old k x ex in
+        let b = get_map_some state new k y ey in
+        rw (← a.2, ← b.2) (each k a.0 b.0 a.1 b.1)
+
+pub fits_set : {S P : Type 0} (m : Machine S) (w : Wiring) (state : P → S) (parts : List P) (i : ℕ) (p q : P) → slice_get parts i ≡ Some p →
+    SameRoom m i (state p) (state q) →
+    Fits m w (map state parts) → Fits m w (map state (slice_set parts i q))
+fits_set m w state parts i p q ep room fits =
+    (same_room m w state parts (slice_set parts i q) (length-set parts i q) (λ k x y ex ey. elim (at_set parts i k q y (slice_get_within parts i p ep) ey) [
+      | inl here ↦ let x_is : p ≡ x = cc in rw (← x_is, ← here.1) room
+      | inr other ↦ let x_is : x ≡ y = cc in rw x_is (refl, refl)
+    ]) fits).0
 
 -- What nets have of part i, which was p and is q, and whose pins begin at a place: they were told what the parts before it was replaced show.
 pub record Placed {S P : Type 0} (m : Machine S) (w : Wiring) (state : P → S) (i first : ℕ) (new : List P) (c : Circuit) (p q : P) : Type 0 where
@@ -314,7 +291,7 @@ placed m w state i first old new c p q was at =
     let long : length (map state old) ≡ length old = simp length-map refl in
     let long_after : length (map state (slice_set old i q)) ≡ length old = simp length-map (length-set old i q) in
     let place = at ∙ was.fits.places i (omega (arith, long, within)) in
-    let fits_after = fits_set m w state old i p q was.was (was.pins, was.ports) was.fits in
+    let fits_after = fits_set m w state old i p q was.was (sym was.pins, sym was.ports) was.fits in
     subst (λ (l : List _). Placed m w state i first l c p q) (sym was.new_is) (record {
       there = get_set_same old i q within;
       fits = fits_after;
@@ -328,12 +305,9 @@ placed m w state i first old new c p q was at =
 -- the due cycles of all parts, where one was renewed
 pub due_set : {S P : Type 0} (m : Machine S) (state : P → S) (now wakes : P → ℕ) (parts : List P) (dues : List (Option ℕ)) (i : ℕ) (q : P) (d : Option ℕ) →
     i < length parts → i < length dues → AreDue m state now wakes parts dues → IsFirstDue m (state q) (now q) d → AreDue m state now wakes (slice_set parts i q) (slice_set dues i d)
-due_set m state now wakes parts dues i q d hp hd are first k p e ep ee = elim (eqb_tells k i) [
-  | inl same ↦
-      let p_is : q ≡ p = some_same (sym (get_set_same parts i q hp) ∙ subst (λ (j : ℕ). slice_get (slice_set parts i q) j ≡ Some p) same.1 ep) in
-      let e_is : d ≡ e = some_same (sym (get_set_same dues i d hd) ∙ subst (λ (j : ℕ). slice_get (slice_set dues i d) j ≡ Some e) same.1 ee) in
-      subst (λ (x : _). IsFirstDue m (state x) (now x) e) p_is (subst (λ (x : Option ℕ). IsFirstDue m (state q) (now q) x) e_is first)
-  | inr other ↦ are k p e (sym (get_set_other parts i k q other.1) ∙ ep) (sym (get_set_other dues i k d other.1) ∙ ee)
+due_set m state now wakes parts dues i q d hp hd are first k p e ep ee = elim (at_set parts i k q p hp ep) [
+  | inl here ↦ let e_is : d ≡ e = some_same (sym (get_set_same dues i d hd) ∙ rw here.0 at ee) in rw (← here.1, ← e_is) first
+  | inr other ↦ are k p e other.1 (sym (get_set_other dues i k d other.0) ∙ ee)
 ]
 
 -- what a part that is awaited has
@@ -369,21 +343,17 @@ module _ {S P : Type 0} (m : Machine S) (laws : Laws m) (w : Wiring) (given inpu
 
 -- where one part's due cycle was renewed, and comes later
 pub late_set : (dues new : List (Option ℕ)) (i t : ℕ) (d : Option ℕ) → i < length dues → new ≡ slice_set dues i d → AreLate dues t → ((u : ℕ) → d ≡ Some u → t < u) → AreLate new t
-late_set dues new i t d within new_is late later k u ed = elim (eqb_tells k i) [
-  | inl same ↦
-      let l = later u (some_same (sym (get_set_same dues i d within) ∙ ap (slice_get (slice_set dues i d)) (sym same.1) ∙ ap (λ (q : List (Option ℕ)). slice_get q k) (sym new_is) ∙ ed)) in
-      omega (arith, l)
-  | inr other ↦ late k u (sym (ap (λ (q : List (Option ℕ)). slice_get q k) new_is ∙ get_set_other dues i k d other.1) ∙ ed)
+late_set dues new i t d within new_is late later k u ed = elim (at_set dues i k d (Some u) within (rw new_is at ed)) [
+  | inl here ↦ let l = later u here.1 in omega (arith, l)
+  | inr other ↦ late k u other.1
 ]
 
 -- no part is due that was not before, and that one is not either
 pub passed_set : (dues new : List (Option ℕ)) (i n t : ℕ) (d : Option ℕ) → i < length dues → new ≡ slice_set dues i d → ((k : ℕ) → k < n → slice_get dues k ≢ Some (Some t)) → ((u : ℕ) → d ≡ Some u → t < u) →
     (k : ℕ) → (k ≢ i → k < n) → slice_get new k ≢ Some (Some t)
-passed_set dues new i n t d within new_is passed later k less e = elim (eqb_tells k i) [
-  | inl same ↦
-      let h = later t (some_same (sym (get_set_same dues i d within) ∙ ap (slice_get (slice_set dues i d)) (sym same.1) ∙ ap (λ (q : List (Option ℕ)). slice_get q k) (sym new_is) ∙ e)) in
-      absurd (omega (arith, h))
-  | inr other ↦ passed k (less other.1) (sym (ap (λ (q : List (Option ℕ)). slice_get q k) new_is ∙ get_set_other dues i k d other.1) ∙ e)
+passed_set dues new i n t d within new_is passed later k less e = elim (at_set dues i k d (Some t) within (rw new_is at e)) [
+  | inl here ↦ let h = later t here.1 in absurd (omega (arith, h))
+  | inr other ↦ passed k (less other.0) other.1
 ]
 
 sum_none : (i n : ℕ) (f : ℕ → ℕ) → ((k : ℕ) → i ≤ k → k < i + n → f k ≡ 0) → sum_below (i + n) f ≡ sum_below i f
@@ -471,7 +441,6 @@ module _ {S P : Type 0} (m : Machine S) (laws : Laws m) (w : Wiring) (given inpu
       (λ other ds cs. let still = still_step m laws w inputs state now ls t i x y s.0 stood had.0.stands ds cs in took.shifted.other other still.0 still.1) in
       let count : sum_below (i + 1) (λ k. active_in m w inputs ls t k (slice_get ts k)) ≡ sum_below i (λ k. active_in m w inputs ls t k (slice_get ts k)) + (if to_wake d t (input_at given t i) (has_part differ i) then 1 else 0) = rw add-one (omega (arith, here)) in
       let pass = turns_pass (i + 1) j new later after (changed || moved) (begun_on old was i (i + 1) parts new dues later answers after y e byte begun (omega arith) new_is later_is after_is)
-      (subst (λ (q : List P). Turns m w inputs state now wakes ls t ts (i + 1) old q after (changed || moved)) (sym new_is)
-      (subst (λ (a : List (Option ℕ)). Turns m w inputs state now wakes ls t ts (i + 1) old (slice_set parts i y) a (changed || moved)) (sym after_is) one))
+      (rw (new_is, after_is) one)
       (omega (arith, order)) within unmarked passed in
       (pass.0, pass.1 ∙ count)

@@ -1,7 +1,8 @@
 -- Areas: nets without a strong value that contacts and resistors connect.
 use Rattle.std.proofs.Common.{◌≡◌, ◌≢◌, ℕ, ◌<◌, List, length, map, Bool, true, not, refl, ap, sym, ◌∙◌, arith, inl, inr, subst, Some, eq-eqb}
-use Rattle.std.proofs.lemmas.Bool.{eqb-true, or_cases, or_right, and_from, and_parts}
+use Rattle.std.proofs.lemmas.Bool.{eqb-true, or_cases, and_from, and_parts}
 use Rattle.std.proofs.lemmas.Bool.Decides.{nat_tests}
+use Rattle.std.proofs.Math.Bool.{or-true}
 use Rattle.std.specs.Prelude.{◌==◌, ◌&&◌, ◌||◌, slice_get, slice_index, nat_lt}
 use Rattle.std.specs.List.{zip}
 use Rattle.std.specs.Cmp.{both_ways}
@@ -109,9 +110,7 @@ module _ (net_of : List ℕ) (contacts resistors : List (ℕ × ℕ)) (closed : 
             let at = joined_within j m b.0 in (
               at.1,
               b.2,
-              further j m before.2
-                  (and_from (not (is_driven count net_of contacts resistors closed ds j)) (contact_joins contacts closed j m || joined_by resistors j m)
-                  (sym (loose_here j before.0) ∙ before.1) (or_right (contact_joins contacts closed j m) (joined_by resistors j m) b.0)),
+              further j m before.2 (rw (← loose_here j before.0, before.1, b.0) (or-true (contact_joins contacts closed j m))),
             )
       ]
 

@@ -29,16 +29,11 @@ adding_more keys k lists h within adding q l e =
           let m = get_or lists key [] in
           let at : slice_get lists q ≡ Some m = ap (slice_get lists) (sym t.1) ∙ get_within lists key [] within in
           let is : l ≡ m ++ k ∷ [] = sym (some_same (sym (get_set_same lists key (m ++ k ∷ []) within) ∙ ap (slice_get (slice_set lists key (m ++ k ∷ []))) t.1 ∙ e)) in
-          let turn : picked q k (key ∷ rest) ≡ k ∷ picked q (k + 1) rest = ap (λ (b : Bool). if b then k ∷ picked q (k + 1) rest else picked q (k + 1) rest) t.0 in
-          ap (λ (x : List ℕ). x ++ picked q (k + 1) rest) is
-          ∙ append_assoc m (k ∷ []) (picked q (k + 1) rest)
-          ∙ ap (λ (x : List ℕ). m ++ x) (sym (ap (picked q k) front ∙ turn))
-          ∙ adding q m at
+          rw (is, append_assoc m (k ∷ []) (picked q (k + 1) rest)) (rw (front, t.0) at (adding q m at))
       | inr f ↦
           let other : q ≢ key = λ (same : q ≡ key). f.1 (sym same) in
           let at : slice_get lists q ≡ Some l = sym (get_set_other lists key q (get_or lists key [] ++ k ∷ []) other) ∙ e in
-          let turn : picked q k (key ∷ rest) ≡ picked q (k + 1) rest = ap (λ (b : Bool). if b then k ∷ picked q (k + 1) rest else picked q (k + 1) rest) f.0 in
-          ap (λ (x : List ℕ). l ++ x) (sym (ap (picked q k) front ∙ turn)) ∙ adding q l at
+          rw (front, f.0) at (adding q l at)
     ]
 
 pub adding_done : (keys : List ℕ) (k : ℕ) (lists : List (List ℕ)) → length keys ≤ k → AreAdding keys k lists → (q : ℕ) (l : List ℕ) → slice_get lists q ≡ Some l → l ≡ picked q 0 keys
@@ -129,8 +124,7 @@ module _ (w : Wired) (labels : List ℕ) (cut : IsCut w labels) (q : ℕ) (nets 
   number_of n l e =
       let t = net_there labels q nets nets_are n (omega (arith, cut.long)) e in
       let inside : n < length numbers = omega (arith, long) in
-      let is : t.0 ≡ slice_index numbers n = some_same (sym (numbered t.0 n t.1) ∙ get_within numbers n 0 inside) in
-      subst (λ (z : ℕ). slice_get nets z ≡ Some n) is t.1
+      rw (some_same (sym (numbered t.0 n t.1) ∙ get_within numbers n 0 inside)) at t.1
 
   pub own_nets_are : (pins : List ℕ) → pins ≡ picked q 0 (map (slice_index labels) w.net_of) →
       map (slice_get nets) (map (λ k. slice_index numbers (slice_index w.net_of k)) pins) ≡ map (slice_get w.net_of) pins

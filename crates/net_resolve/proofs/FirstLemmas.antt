@@ -1,5 +1,5 @@
 -- Nets as they are made: nothing was resolved yet.
-use Rattle.std.proofs.Common.{◌≡◌, ℕ, ◌<◌, ◌≤◌, List, [], length, map, replicate, Bool, true, false, ap, sym, ◌∙◌, subst, arith}
+use Rattle.std.proofs.Common.{◌≡◌, ℕ, ◌<◌, ◌≤◌, List, [], length, map, replicate, Bool, true, false, refl, ap, sym, ◌∙◌, subst, arith}
 use Rattle.std.proofs.lemmas.List.{length-replicate}
 use Rattle.sim_base.specs.declared.signal.Drive.{Drive}
 use Rattle.sim_base.specs.declared.signal.Drive.TheVariants as drives
@@ -34,19 +34,8 @@ pub first_circuit : (w : Wiring) (n : ℕ) (net_of : List ℕ) (contacts resisto
     circuit n net_of contacts resistors ds cl ls changed ws (flagged ws ks)
     ≡ circuit w.nets w.net_of w.contacts w.resistors (replicate (length w.net_of) drives.Z) (replicate (length w.contacts) false) (replicate w.nets levels.Z) [] (replicate (length w.net_of) false) []
 first_circuit w n net_of contacts resistors ds cl ls changed ws ks en es ec er ed ef el eh ew =
-    let ds2 = replicate (length w.net_of) drives.Z in
-    let cl2 = replicate (length w.contacts) false in
-    let ls2 = replicate w.nets levels.Z in
-    ap (λ (x : ℕ). circuit x net_of contacts resistors ds cl ls changed ws (flagged ws ks)) (count_is n w.nets ls en el)
-    ∙ ap (λ (x : List ℕ). circuit w.nets x contacts resistors ds cl ls changed ws (flagged ws ks)) es
-    ∙ ap (λ (x : List (ℕ × ℕ)). circuit w.nets w.net_of x resistors ds cl ls changed ws (flagged ws ks)) ec
-    ∙ ap (λ (x : List (ℕ × ℕ)). circuit w.nets w.net_of w.contacts x ds cl ls changed ws (flagged ws ks)) er
-    ∙ ap (λ (x : List Drive). circuit w.nets w.net_of w.contacts w.resistors x cl ls changed ws (flagged ws ks)) ed
-    ∙ ap (λ (x : List Bool). circuit w.nets w.net_of w.contacts w.resistors ds2 x ls changed ws (flagged ws ks)) ef
-    ∙ ap (λ (x : List Level). circuit w.nets w.net_of w.contacts w.resistors ds2 cl2 x changed ws (flagged ws ks)) el
-    ∙ ap (λ (x : List ℕ). circuit w.nets w.net_of w.contacts w.resistors ds2 cl2 ls2 x ws (flagged ws ks)) eh
-    ∙ ap (λ (x : List Bool). circuit w.nets w.net_of w.contacts w.resistors ds2 cl2 ls2 [] x (flagged x ks)) ew
-    ∙ ap (circuit w.nets w.net_of w.contacts w.resistors ds2 cl2 ls2 [] (replicate (length w.net_of) false)) (none_flagged (length w.net_of) ks)
+    let none = none_flagged (length w.net_of) ks in
+    rw (count_is n w.nets ls en el, es, ec, er, ed, ef, el, eh, ew, none) refl
 
 first_watch : (n : ℕ) (ds : List Drive) (w : Watch) → ds ≡ replicate n drives.Z → w.watched.items ≡ replicate n false → w.kept.items ≡ replicate n drives.Z → w.differing ≡ 0 → IsWatch ds w
 first_watch n ds w ed ew ek none = record {
@@ -63,11 +52,7 @@ module _ (w : Wiring) (n : ℕ) (net_of : List ℕ) (contacts resistors : List (
   count = count_is n w.nets shown.levels.items en els
 
   same : circuit_of w ≡ wired n net_of contacts resistors
-  same =
-      ap (λ (x : ℕ). wired x w.net_of w.contacts w.resistors) (sym count)
-      ∙ ap (λ (x : List ℕ). wired n x w.contacts w.resistors) (sym es)
-      ∙ ap (λ (x : List (ℕ × ℕ)). wired n net_of x w.resistors) (sym ec)
-      ∙ ap (wired n net_of contacts) (sym er)
+  same = rw (count, es, ec, er) refl
 
   first_cut : IsCut (wired n net_of contacts resistors) labels
   first_cut = subst (λ (x : Wired). IsCut x labels) same cut

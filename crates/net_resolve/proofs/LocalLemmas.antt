@@ -1,19 +1,19 @@
 -- The levels of a subcircuit's nets are those that they have on the whole board.
-use Rattle.std.proofs.Common.{◌≡◌, ℕ, ◌<◌, List, [], ◌∷◌, ◌++◌, length, map, Bool, true, false, not, refl, ap, sym, ◌∙◌, arith, inl, inr, subst, Some, get_or}
+use Rattle.std.proofs.Common.{◌≡◌, ℕ, ◌<◌, List, [], ◌∷◌, ◌++◌, length, map, Bool, true, false, not, refl, ap, sym, ◌∙◌, inl, inr, subst, Some, get_or}
 use Rattle.std.proofs.lemmas.Option.{slice_get_within}
 use Rattle.std.proofs.lemmas.List.Folds.{list_any-append}
 use Rattle.std.specs.Prelude.{◌&&◌, ◌||◌, if◌then◌else◌, filter, slice_get}
 use Rattle.std.specs.List.{zip, list_any, flat_map}
 use Rattle.std.specs.Cmp.{both_ways}
-use Rattle.std.proofs.lemmas.Bool.{cases_Bool, or_cases, or_left, or_right, and_from, and_parts}
+use Rattle.std.proofs.lemmas.Bool.{cases_Bool, or_cases, and_parts}
+use Rattle.std.proofs.Math.Bool.{or-true}
 use Rattle.sim_base.specs.declared.signal.Drive.{Drive}
-use Rattle.sim_base.specs.declared.signal.Level.{Level}
 use Rattle.sim_base.specs.Signal.{value_of, strong_of, is_weak}
 use Rattle.board_model.specs.Walks.{Walk, here, further, below, leads}
 use Rattle.board_model.specs.Nets.{joined_by}
-use Rattle.board_model.specs.Resolve.{contact_joins, has_strong, is_driven, passes, reaches, strong_values, collected, level_of, level_of_values, level_of_drives, is_value}
+use Rattle.board_model.specs.Resolve.{contact_joins, has_strong, is_driven, passes, reaches, strong_values, collected, level_of, level_of_drives, is_value}
 use Rattle.board_model.proofs.WalkLemmas.{walk_sound, walk_complete}
-use Rattle.board_model.proofs.Lists.{some_same, get_within, get-below, length-below}
+use Rattle.board_model.proofs.Lists.{some_same, get_within}
 use Rattle.net_resolve.specs.Subcircuits.{Lacks, AreOnce}
 use Rattle.net_resolve.proofs.ValueLemmas.{any_value}
 use Rattle.net_resolve.proofs.ReachLemmas.{passes_ends}
@@ -89,19 +89,12 @@ strong_levels xs ys ws sa sb high low = elim (strong_first xs sa) [
   ]
   | inr a ↦ elim (strong_first ys sb) [
     | inl b ↦ absurd (cc (high, low, a.0, b.1))
-    | inr b ↦
-        a.1 ws
-        ∙ ap (λ (x : Bool). level_of_values x (any_value false (xs ++ ws))) (joined true high)
-        ∙ ap (level_of_values (any_value true (ys ++ ws))) (joined false low)
-        ∙ sym (b.1 ws)
+    | inr b ↦ rw (a.1 ws, joined true high, joined false low) (sym (b.1 ws))
   ]
 ]
   where
     joined : (v : Bool) → any_value v xs ≡ any_value v ys → any_value v (xs ++ ws) ≡ any_value v (ys ++ ws)
-    joined v e =
-        list_any-append (λ (d : Drive). is_value v (value_of d)) xs ws
-        ∙ ap (λ (x : Bool). x || any_value v ws) e
-        ∙ sym (list_any-append (λ (d : Drive). is_value v (value_of d)) ys ws)
+    joined v e = rw (list_any-append (λ (d : Drive). is_value v (value_of d)) xs ws, e) (sym (list_any-append (λ (d : Drive). is_value v (value_of d)) ys ws))
 
 -- One board within another: the nets of the inner one are some of the outer one, by their places.
 pub record IsInner (count : ℕ) (net_of : List ℕ) (contacts resistors : List (ℕ × ℕ)) (closed : List Bool) (ds : List Drive)
@@ -148,19 +141,15 @@ module _ (count : ℕ) (net_of : List ℕ) (contacts resistors : List (ℕ × �
       (zip net_of ds) (zip own_of own_ds) inner.pins
 
   driven_same : (i n : ℕ) → slice_get nets i ≡ Some n → driven_out n ≡ driven_in i
-  driven_same i n e = ap (λ (b : Bool). b || strong_out n false) (strong_same i n true e) ∙ ap (λ (b : Bool). strong_in i true || b) (strong_same i n false e)
+  driven_same i n e = rw (strong_same i n true e, strong_same i n false e) refl
 
   passes_to : (i n m : ℕ) → slice_get nets i ≡ Some n → passes_out n m ≡ true → (j : ℕ) × (slice_get nets j ≡ Some m) × (passes_in i j ≡ true)
   passes_to i n m e h =
       let both = and_parts (not (driven_out n)) (contact_joins contacts closed n m || joined_by resistors n m) h in
       let free : not (driven_in i) ≡ true = ap not (sym (driven_same i n e)) ∙ both.0 in
       elim (or_cases (contact_joins contacts closed n m) (joined_by resistors n m) both.1) [
-        | inl c ↦
-            let s = inner.contact_out i n m e c in
-            (s.0, s.1, and_from (not (driven_in i)) (contact_joins own_contacts own_closed i s.0 || joined_by own_resistors i s.0) free (or_left (contact_joins own_contacts own_closed i s.0) (joined_by own_resistors i s.0) s.2))
-        | inr r ↦
-            let s = inner.resistor_out i n m e r in
-            (s.0, s.1, and_from (not (driven_in i)) (contact_joins own_contacts own_closed i s.0 || joined_by own_resistors i s.0) free (or_right (contact_joins own_contacts own_closed i s.0) (joined_by own_resistors i s.0) s.2))
+        | inl c ↦ let s = inner.contact_out i n m e c in (s.0, s.1, rw (free, s.2) refl)
+        | inr r ↦ let s = inner.resistor_out i n m e r in (s.0, s.1, rw (free, s.2) (or-true (contact_joins own_contacts own_closed i s.0)))
       ]
 
   passes_back : (i j n m : ℕ) → slice_get nets i ≡ Some n → slice_get nets j ≡ Some m → passes_in i j ≡ true → passes_out n m ≡ true
@@ -168,8 +157,8 @@ module _ (count : ℕ) (net_of : List ℕ) (contacts resistors : List (ℕ × �
       let both = and_parts (not (driven_in i)) (contact_joins own_contacts own_closed i j || joined_by own_resistors i j) h in
       let free : not (driven_out n) ≡ true = ap not (driven_same i n e) ∙ both.0 in
       elim (or_cases (contact_joins own_contacts own_closed i j) (joined_by own_resistors i j) both.1) [
-        | inl c ↦ and_from (not (driven_out n)) (contact_joins contacts closed n m || joined_by resistors n m) free (or_left (contact_joins contacts closed n m) (joined_by resistors n m) (inner.contact_back i j n m e f c))
-        | inr r ↦ and_from (not (driven_out n)) (contact_joins contacts closed n m || joined_by resistors n m) free (or_right (contact_joins contacts closed n m) (joined_by resistors n m) (inner.resistor_back i j n m e f r))
+        | inl c ↦ rw (free, inner.contact_back i j n m e f c) refl
+        | inr r ↦ rw (free, inner.resistor_back i j n m e f r) (or-true (contact_joins contacts closed n m))
       ]
 
   passes_in_within : (i j : ℕ) → passes_in i j ≡ true → (i < length nets) × (j < length nets)
@@ -225,16 +214,10 @@ module _ (count : ℕ) (net_of : List ℕ) (contacts resistors : List (ℕ × �
 
   collected_same : (i n : ℕ) → slice_get nets i ≡ Some n → level_of_drives (collected count net_of contacts resistors closed ds n) ≡ level_of_drives (collected (length nets) own_of own_contacts own_resistors own_closed own_ds i)
   collected_same i n e =
-      ap (λ (l : List Drive). level_of_drives (values_out n ++ l)) (weak_same i n e)
-      ∙ strong_levels (values_out n) (values_in i) (weak_in i)
-      (strong_flat (reaches_out n) strong_out (below count))
-      (strong_flat (reaches_in i) strong_in (below (length nets)))
-      (values_same true i n e) (values_same false i n e)
+      rw (weak_same i n e) (strong_levels (values_out n) (values_in i) (weak_in i) (strong_flat (reaches_out n) strong_out (below count))
+      (strong_flat (reaches_in i) strong_in (below (length nets))) (values_same true i n e) (values_same false i n e))
 
   -- a net has one level on both boards
   pub inner_level : (i n : ℕ) → slice_get nets i ≡ Some n → level_of count net_of contacts resistors closed ds n ≡ level_of (length nets) own_of own_contacts own_resistors own_closed own_ds i
   inner_level i n e =
-      ap (λ (b : Bool). if b then level_of_values (strong_out n true) (strong_out n false) else level_of_drives (collected count net_of contacts resistors closed ds n)) (driven_same i n e)
-      ∙ ap (λ (b : Bool). if driven_in i then level_of_values b (strong_out n false) else level_of_drives (collected count net_of contacts resistors closed ds n)) (strong_same i n true e)
-      ∙ ap (λ (b : Bool). if driven_in i then level_of_values (strong_in i true) b else level_of_drives (collected count net_of contacts resistors closed ds n)) (strong_same i n false e)
-      ∙ ap (λ (l : Level). if driven_in i then level_of_values (strong_in i true) (strong_in i false) else l) (collected_same i n e)
+      rw (driven_same i n e, strong_same i n true e, strong_same i n false e, collected_same i n e) refl

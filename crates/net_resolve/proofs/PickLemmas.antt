@@ -1,7 +1,7 @@
 -- Lists of the places of a key.
-use Rattle.std.proofs.Common.{◌≡◌, ℕ, zero, suc, ◌+◌, List, [], ◌∷◌, Bool, true, refl, ap, ◌∙◌, arith, inl, inr, subst, Some, eq-eqb}
+use Rattle.std.proofs.Common.{◌≡◌, ℕ, zero, suc, ◌+◌, List, [], ◌∷◌, true, refl, ap, ◌∙◌, arith, inl, inr, Some, eq-eqb}
 use Rattle.std.proofs.lemmas.Bool.Decides.{eqb_tells}
-use Rattle.std.specs.Prelude.{◌==◌, if◌then◌else◌, slice_get}
+use Rattle.std.specs.Prelude.{◌==◌, slice_get}
 use Rattle.board_model.proofs.Lists.{some_same}
 use Rattle.net_resolve.specs.Subcircuits.{picked}
 
@@ -9,8 +9,8 @@ use Rattle.net_resolve.specs.Subcircuits.{picked}
 pub picked_key : (key k : ℕ) (xs : List ℕ) (j m : ℕ) → slice_get (picked key k xs) j ≡ Some m → (i : ℕ) × (m ≡ k + i) × (slice_get xs i ≡ Some key)
 picked_key key k [] j m e = absurd cc
 picked_key key k (x ∷ xs) j m e = elim (eqb_tells x key) [
-  | inl t ↦ first (λ i. picked_key key (k + 1) xs i m) j (subst (λ (b : Bool). slice_get (if b then k ∷ picked key (k + 1) xs else picked key (k + 1) xs) j ≡ Some m) t.0 e) t.1
-  | inr f ↦ later (λ i. picked_key key (k + 1) xs i m) j (subst (λ (b : Bool). slice_get (if b then k ∷ picked key (k + 1) xs else picked key (k + 1) xs) j ≡ Some m) f.0 e)
+  | inl t ↦ first (λ i. picked_key key (k + 1) xs i m) j (rw t.0 at e) t.1
+  | inr f ↦ later (λ i. picked_key key (k + 1) xs i m) j (rw f.0 at e)
 ]
   where
     later : ((j : ℕ) → slice_get (picked key (k + 1) xs) j ≡ Some m → (i : ℕ) × (m ≡ (k + 1) + i) × (slice_get xs i ≡ Some key)) →
@@ -42,10 +42,8 @@ picked_at key k (x ∷ xs) (suc i) e =
 pub picked_once : (key k : ℕ) (xs : List ℕ) (i j m : ℕ) → slice_get (picked key k xs) i ≡ Some m → slice_get (picked key k xs) j ≡ Some m → i ≡ j
 picked_once key k [] i j m a b = absurd cc
 picked_once key k (x ∷ xs) i j m a b = elim (eqb_tells x key) [
-  | inl t ↦ both (picked_once key (k + 1) xs) i j (subst (λ (c : Bool). slice_get (if c then k ∷ picked key (k + 1) xs else picked key (k + 1) xs) i ≡ Some m) t.0 a)
-      (subst (λ (c : Bool). slice_get (if c then k ∷ picked key (k + 1) xs else picked key (k + 1) xs) j ≡ Some m) t.0 b)
-  | inr f ↦ picked_once key (k + 1) xs i j m (subst (λ (c : Bool). slice_get (if c then k ∷ picked key (k + 1) xs else picked key (k + 1) xs) i ≡ Some m) f.0 a)
-      (subst (λ (c : Bool). slice_get (if c then k ∷ picked key (k + 1) xs else picked key (k + 1) xs) j ≡ Some m) f.0 b)
+  | inl t ↦ both (picked_once key (k + 1) xs) i j (rw t.0 at a) (rw t.0 at b)
+  | inr f ↦ picked_once key (k + 1) xs i j m (rw f.0 at a) (rw f.0 at b)
 ]
   where
     beyond : (j : ℕ) → k ≡ m → slice_get (picked key (k + 1) xs) j ≡ Some m → ⊥

@@ -1,6 +1,6 @@
 -- Groups are what closed contacts lead to, and areas what is reached over nets without a strong value.
 use Rattle.std.proofs.Common.{◌≡◌, ℕ, zero, suc, ◌<◌, List, [], ◌∷◌, length, map, Bool, true, false, not, refl, ap, sym, ◌∙◌, arith, inl, inr, Some, eq-eqb}
-use Rattle.std.proofs.lemmas.Bool.{eqb-true, or_cases, or_left, or_right, and_from, and_parts}
+use Rattle.std.proofs.lemmas.Bool.{eqb-true, or_cases, or_left, or_right, and_parts}
 use Rattle.std.specs.Prelude.{◌==◌, ◌&&◌, ◌||◌, slice_get, slice_index}
 use Rattle.std.specs.List.{zip, list_any}
 use Rattle.std.specs.Cmp.{both_ways}
@@ -91,10 +91,8 @@ module _ (contacts : List (ℕ × ℕ)) (closed : List Bool) (groups : List ℕ)
     pub strong_is : (n : ℕ) → n < length groups → sum_at strong (slice_index groups n)
         ≡ level_of_values (has_strong (length groups) net_of contacts resistors closed ds n true) (has_strong (length groups) net_of contacts resistors closed ds n false)
     strong_is n l =
-        sums (slice_index groups n) (group_within n l)
-        ∙ strong_added (λ m. slice_index groups m == slice_index groups n) (zip net_of ds) false false
-        ∙ ap (λ (b : Bool). level_of_values b (list_any (λ p. (slice_index groups p.0 == slice_index groups n) && is_value false (strong_of p.1)) (zip net_of ds))) (strong_has n true l)
-        ∙ ap (level_of_values (has_strong (length groups) net_of contacts resistors closed ds n true)) (strong_has n false l)
+        let sum = strong_added (λ m. slice_index groups m == slice_index groups n) (zip net_of ds) false false in
+        rw (sums (slice_index groups n) (group_within n l), sum, strong_has n true l, strong_has n false l) refl
 
     pub loose_is : (n : ℕ) → n < length groups → is_loose groups strong n ≡ not (is_driven (length groups) net_of contacts resistors closed ds n)
     loose_is n l = ap is_z (strong_is n l) ∙ is_z_values (has_strong (length groups) net_of contacts resistors closed ds n true) (has_strong (length groups) net_of contacts resistors closed ds n false)
@@ -107,7 +105,4 @@ module _ (contacts : List (ℕ × ℕ)) (closed : List Bool) (groups : List ℕ)
     contact_passes n _ l loose here = here
     contact_passes n _ l loose (further j m w s) =
         let free : is_loose groups strong j ≡ true = sym (loose_group n j (same_label n j w)) ∙ loose in
-        let at = contact_within j m s in
-        further j m (contact_passes n j l loose w)
-        (and_from (not (is_driven (length groups) net_of contacts resistors closed ds j)) (contact_joins contacts closed j m || joined_by resistors j m)
-        (sym (loose_is j at.0) ∙ free) (or_left (contact_joins contacts closed j m) (joined_by resistors j m) s))
+        further j m (contact_passes n j l loose w) (rw (← loose_is j (contact_within j m s).0, free, s) refl)

@@ -1,5 +1,5 @@
 -- Levels by the same drives and contacts are the same.
-use Rattle.std.proofs.Common.{◌≡◌, ◌∙◌, ap, List, Bool, true, false}
+use Rattle.std.proofs.Common.{◌≡◌, List, Bool, true, false}
 use Rattle.std.specs.Prelude.{if◌then◌else◌}
 use Rattle.sim_base.specs.declared.signal.Drive.{Drive}
 use Rattle.net_resolve.specs.Wired.{Wired, levels_of}
@@ -8,8 +8,7 @@ use Rattle.net_resolve.specs.declared.resolution.Resolution.{Resolution}
 use Rattle.net_resolve.specs.declared.resolution.Kept.{Kept}
 
 pub levels_same : (w : Wired) {cs es : List Bool} {ds fs : List Drive} → cs ≡ es → ds ≡ fs → levels_of w cs ds ≡ levels_of w es fs
-levels_same w {cs = cs} {es = es} {ds = ds} {fs = fs} closed drives =
-    ap (λ (l : List Bool). levels_of w l ds) closed ∙ ap (levels_of w es) drives
+levels_same w closed drives = cc
 
 either_is : (w : Wired) (flag : Bool) (a b : Resolution) → IsResolution w a → IsResolution w b → IsResolution w (if flag then a else b)
 either_is w true a b at bt = at

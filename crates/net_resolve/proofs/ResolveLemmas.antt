@@ -2,11 +2,10 @@
 use Rattle.std.proofs.Common.{◌≡◌, ℕ, zero, suc, ◌<◌, List, [], ◌∷◌, ◌++◌, length, map, Bool, true, false, not, refl, ap, sym, ◌∙◌, arith, ◌⊎◌, inl, inr, subst, Some}
 use Rattle.std.proofs.lemmas.Option.{slice_get_within}
 use Rattle.std.proofs.lemmas.List.Folds.{list_any-append}
-use Rattle.std.proofs.lemmas.List.{length-map}
 use Rattle.std.specs.Prelude.{◌==◌, ◌&&◌, ◌||◌, if◌then◌else◌, slice_get, slice_index}
 use Rattle.std.specs.List.{zip, list_any, flat_map}
 use Rattle.std.specs.Cmp.{both_ways}
-use Rattle.std.proofs.lemmas.Bool.{cases_Bool, not-false, or_cases, or_left, or_right, and_from, and_parts}
+use Rattle.std.proofs.lemmas.Bool.{cases_Bool, not-false, or_cases, or_left, or_right, and_parts}
 use Rattle.std.proofs.Math.Bool.{or-true, and-true, and-false}
 use Rattle.board_model.specs.Pairs.{ArePairs}
 use Rattle.sim_base.specs.declared.signal.Drive.{Drive}
@@ -16,9 +15,10 @@ use Rattle.sim_base.specs.declared.signal.Level.TheVariants as levels
 use Rattle.sim_base.specs.Signal.{value_of}
 use Rattle.board_model.specs.Walks.{Walk, here, further, below}
 use Rattle.board_model.specs.Nets.{joins, joined_by}
-use Rattle.board_model.specs.Resolve.{contact_joins, has_strong, is_driven, passes, reaches, strong_values, collected, level_of, level_of_values, level_of_all, level_of_drives, resolve, is_value}
+use Rattle.board_model.specs.Resolve.{contact_joins, has_strong, is_driven, passes, reaches, collected, level_of, level_of_values, level_of_all}
+use Rattle.board_model.specs.Resolve.{level_of_drives, resolve, is_value}
 use Rattle.board_model.proofs.WalkLemmas.{walk_sound, walk_complete}
-use Rattle.board_model.proofs.Lists.{some_same, get-below, length-below, get_map_some, same_lists}
+use Rattle.board_model.proofs.Lists.{some_same, get-below, length-below}
 use Rattle.union_find.specs.Forest.{AreLabels, Joins}
 use Rattle.net_resolve.specs.Sums.{is_loose, sum_at, added, weak_level, over_adds, resistors_add, together, own_level, level_here}
 use Rattle.union_find.proofs.PairLemmas.{joins_cases, joins_is, joins_swap}
@@ -94,19 +94,13 @@ abbrev pub AreStrong : List Drive → Type 0
 AreStrong [] = Unit {0}
 AreStrong (drives.High ∷ ds) = AreStrong ds
 AreStrong (drives.Low ∷ ds) = AreStrong ds
-AreStrong (drives.Z ∷ ds) = ⊥
-AreStrong (drives.PullLow ∷ ds) = ⊥
-AreStrong (drives.PullHigh ∷ ds) = ⊥
-AreStrong (drives.Wiper w ∷ ds) = ⊥
-
-strong_join : (a b : Bool) (ds : List Drive) → AreStrong ds → AreStrong (two_values a b ++ ds)
-strong_join true true ds s = s
-strong_join true false ds s = s
-strong_join false true ds s = s
-strong_join false false ds s = s
+AreStrong (d ∷ ds) = ⊥
 
 strong_maybe : (c a b : Bool) (ds : List Drive) → AreStrong ds → AreStrong ((if c then two_values a b else []) ++ ds)
-strong_maybe true a b ds s = strong_join a b ds s
+strong_maybe true true true ds s = s
+strong_maybe true true false ds s = s
+strong_maybe true false true ds s = s
+strong_maybe true false false ds s = s
 strong_maybe false a b ds s = s
 
 pub strong_flat : (c : ℕ → Bool) (f : ℕ → Bool → Bool) (ns : List ℕ) → AreStrong (flat_map (λ m. if c m then two_values (f m true) (f m false) else []) ns)
@@ -120,10 +114,7 @@ pub strong_first : (ds : List Drive) → AreStrong ds → ((ds ≡ []) × ((any_
 strong_first [] s = inl (refl, refl)
 strong_first (drives.High ∷ ds) s = inr (refl, λ ws. refl)
 strong_first (drives.Low ∷ ds) s = inr (or-true (any_value true ds), λ ws. refl)
-strong_first (drives.Z ∷ ds) s = absurd s
-strong_first (drives.PullLow ∷ ds) s = absurd s
-strong_first (drives.PullHigh ∷ ds) s = absurd s
-strong_first (drives.Wiper w ∷ ds) s = absurd s
+strong_first (d ∷ ds) s = absurd s
 
 or_four : (h a b c : Bool) → (((h || a) || b) || c) ≡ (h || ((a || b) || c))
 or_four true a b c = refl
@@ -179,13 +170,10 @@ module _ (net_of : List ℕ) (contacts resistors : List (ℕ × ℕ)) (closed : 
   resistors_are a [] h l inside = or_end h l
   resistors_are a (r ∷ rs) h l inside =
       let at = inside 0 r refl in
-      let h2 = (h || brings true a r.1 r.0) || brings true a r.0 r.1 in
-      let l2 = (l || brings false a r.1 r.0) || brings false a r.0 r.1 in
-      ap (λ (x : Level). resistors_add groups strong areas a (over_adds groups strong areas a r.0 r.1 x) rs) (over_is a r.1 r.0 h l at.1)
-      ∙ ap (λ (x : Level). resistors_add groups strong areas a x rs) (over_is a r.0 r.1 (h || brings true a r.1 r.0) (l || brings false a r.1 r.0) at.0)
-      ∙ resistors_are a rs h2 l2 (λ k q e. inside (suc k) q e)
-      ∙ ap (λ (x : Bool). level_of_values x (l2 || list_any (adds false a) rs)) (or_four h (brings true a r.1 r.0) (brings true a r.0 r.1) (list_any (adds true a) rs))
-      ∙ ap (level_of_values (h || list_any (adds true a) (r ∷ rs))) (or_four l (brings false a r.1 r.0) (brings false a r.0 r.1) (list_any (adds false a) rs))
+      let h1 = h || brings true a r.1 r.0 in
+      let l1 = l || brings false a r.1 r.0 in
+      let rest = resistors_are a rs (h1 || brings true a r.0 r.1) (l1 || brings false a r.0 r.1) (λ k q e. inside (suc k) q e) in
+      rw (over_is a r.1 r.0 h l at.1, over_is a r.0 r.1 h1 l1 at.0, rest, or_four h, or_four l) refl
 
   -- the strong values that are reached from n
   abbrev reached_values : ℕ → List Drive
@@ -201,8 +189,7 @@ module _ (net_of : List ℕ) (contacts resistors : List (ℕ × ℕ)) (closed : 
       let d = and_parts (not (is_loose groups strong from)) (is_loose groups strong to) b.0 in
       let at_to : reaches (length groups) net_of contacts resistors closed ds n to ≡ true = sym (area n to ln lt free d.1) ∙ b.1 in
       let way = walk_sound (length groups) step (length groups) n to at_to in
-      let pass : step to from ≡ true = and_from (not (is_driven (length groups) net_of contacts resistors closed ds to)) (contact_joins contacts closed to from || joined_by resistors to from)
-      (sym (loose to lt) ∙ d.1) (or_right (contact_joins contacts closed to from) (joined_by resistors to from) by) in
+      let pass : step to from ≡ true = rw (← loose to lt, d.1, by) (or-true (contact_joins contacts closed to from)) in
       let at_from : reaches (length groups) net_of contacts resistors closed ds n from ≡ true = walk_complete (length groups) step within n from ln (further to from way pass) in
       value_there v (reaches (length groups) net_of contacts resistors closed ds n) (has_strong (length groups) net_of contacts resistors closed ds) (length groups) from lf at_from a.1
 
@@ -237,9 +224,7 @@ module _ (net_of : List ℕ) (contacts resistors : List (ℕ × ℕ)) (closed : 
       let s = last_step n m ln free driven (walk_sound (length groups) step (length groups) n m at) in
       let at_i : reaches (length groups) net_of contacts resistors closed ds n s.0 ≡ true = walk_complete (length groups) step within n s.0 ln s.3 in
       let same : (slice_index areas s.0 == slice_index areas n) ≡ true = area n s.0 ln s.1 free s.2 ∙ at_i in
-      let it : brings v (slice_index areas n) m s.0 ≡ true =
-      and_from ((not (is_loose groups strong m) && is_loose groups strong s.0) && (slice_index areas s.0 == slice_index areas n)) (has_strong (length groups) net_of contacts resistors closed ds m v)
-      (and_from (not (is_loose groups strong m) && is_loose groups strong s.0) (slice_index areas s.0 == slice_index areas n) (and_from (not (is_loose groups strong m)) (is_loose groups strong s.0) (ap not driven) s.2) same) h in
+      let it : brings v (slice_index areas n) m s.0 ≡ true = simp (driven, s.2, same, h) refl in
       let r = any_some (λ pair. joins pair s.0 m) resistors s.4 in
       any_at (adds v (slice_index areas n)) resistors r.0 r.1 r.2 (elim (joins_cases r.1 s.0 m r.3) [
         | inl e ↦ or_left (brings v (slice_index areas n) r.1.1 r.1.0) (brings v (slice_index areas n) r.1.0 r.1.1)
@@ -275,27 +260,18 @@ module _ (net_of : List ℕ) (contacts resistors : List (ℕ × ℕ)) (closed : 
         (is_loose groups strong m && (slice_index areas m == slice_index areas n)) ≡ counts n m
     counts_are n m ln lm free = elim (cases_Bool (is_loose groups strong m)) [
       | inl e ↦
-          ap (λ (b : Bool). b && (slice_index areas m == slice_index areas n)) e ∙ area n m ln lm free e
-          ∙ sym (ap (λ (b : Bool). reaches (length groups) net_of contacts resistors closed ds n m && b) (sym (loose m lm) ∙ e) ∙ and-true (reaches (length groups) net_of contacts resistors closed ds n m))
-      | inr e ↦
-          ap (λ (b : Bool). b && (slice_index areas m == slice_index areas n)) e
-          ∙ sym (ap (λ (b : Bool). reaches (length groups) net_of contacts resistors closed ds n m && b) (sym (loose m lm) ∙ e) ∙ and-false (reaches (length groups) net_of contacts resistors closed ds n m))
+          rw (← loose m lm, e) (area n m ln lm free e ∙ sym (and-true (reaches (length groups) net_of contacts resistors closed ds n m)))
+      | inr e ↦ rw (← loose m lm, e) (sym (and-false (reaches (length groups) net_of contacts resistors closed ds n m)))
     ]
-
-    area_within : (n : ℕ) → n < length groups → slice_index areas n < length groups
-    area_within n l = omega (arith, labels.forest n)
 
     sum_is : (n : ℕ) → n < length groups → is_loose groups strong n ≡ true →
         sum_at sums (slice_index areas n) ≡ added weak_level (counts n) (level_of_values (any_value true (reached_values n)) (any_value false (reached_values n))) (zip net_of ds)
     sum_is n ln free =
         let a = slice_index areas n in
-        let la = area_within n ln in
-        summed a la
-        ∙ added_same weak_level (length groups) (λ m. is_loose groups strong m && (slice_index areas m == a)) (counts n) (λ m lm. counts_are n m ln lm free) net_of ds (resistors_add groups strong areas a levels.Z resistors) g.pins_within
-        ∙ ap (λ (l : Level). added weak_level (counts n) l (zip net_of ds))
-        (resistors_are a resistors false false g.resistors_within
-        ∙ ap (λ (b : Bool). level_of_values b (list_any (adds false a) resistors)) (adds_are n true ln free)
-        ∙ ap (level_of_values (any_value true (reached_values n))) (adds_are n false ln free))
+        let same = added_same weak_level (length groups) (λ m. is_loose groups strong m && (slice_index areas m == a)) (counts n)
+        (λ m lm. counts_are n m ln lm free) net_of ds (resistors_add groups strong areas a levels.Z resistors) g.pins_within in
+        let brought = resistors_are a resistors false false g.resistors_within in
+        rw (summed a (omega (arith, labels.forest n)), same, brought, adds_are n true ln free, adds_are n false ln free) refl
 
     loose_level : (n : ℕ) → n < length groups → is_loose groups strong n ≡ true → sum_at sums (slice_index areas n) ≡ level_of_drives (collected (length groups) net_of contacts resistors closed ds n)
     loose_level n ln free =
@@ -303,8 +279,8 @@ module _ (net_of : List ℕ) (contacts resistors : List (ℕ × ℕ)) (closed : 
         let ws = weak_of (counts n) (zip net_of ds) in
         sum_is n ln free ∙ elim (strong_first rs (strong_flat (reaches (length groups) net_of contacts resistors closed ds n) (has_strong (length groups) net_of contacts resistors closed ds) (below (length groups)))) [
           | inl none ↦
-              ap (λ (l : Level). added weak_level (counts n) l (zip net_of ds)) (both_none (any_value true rs) (any_value false rs) none.1)
-              ∙ weak_alone (counts n) (zip net_of ds) ∙ ap (λ (xs : List Drive). level_of_drives (xs ++ ws)) (sym none.0)
+              rw (both_none (any_value true rs) (any_value false rs) none.1)
+              (weak_alone (counts n) (zip net_of ds) ∙ ap (λ (xs : List Drive). level_of_drives (xs ++ ws)) (sym none.0))
           | inr some ↦
               weak_added (counts n) (zip net_of ds) (any_value true rs) (any_value false rs) some.0
               ∙ ap (λ (b : Bool). level_of_values b (any_value false rs || any_value false ws)) (sym (list_any-append (λ (e : Drive). is_value true (value_of e)) rs ws))
@@ -316,14 +292,10 @@ module _ (net_of : List ℕ) (contacts resistors : List (ℕ × ℕ)) (closed : 
     level_is n ln = elim (cases_Bool (is_driven (length groups) net_of contacts resistors closed ds n)) [
       | inl driven ↦
           let e : is_loose groups strong n ≡ false = loose n ln ∙ ap not driven in
-          ap (λ (b : Bool). if b then sum_at sums (slice_index areas n) else sum_at strong (slice_index groups n)) e
-          ∙ strong_here n ln
-          ∙ sym (ap (λ (b : Bool). if b then level_of_values (has_strong (length groups) net_of contacts resistors closed ds n true) (has_strong (length groups) net_of contacts resistors closed ds n false) else level_of_drives (collected (length groups) net_of contacts resistors closed ds n)) driven)
+          rw (e, driven) (strong_here n ln)
       | inr free ↦
           let e : is_loose groups strong n ≡ true = loose n ln ∙ ap not free in
-          ap (λ (b : Bool). if b then sum_at sums (slice_index areas n) else sum_at strong (slice_index groups n)) e
-          ∙ loose_level n ln e
-          ∙ sym (ap (λ (b : Bool). if b then level_of_values (has_strong (length groups) net_of contacts resistors closed ds n true) (has_strong (length groups) net_of contacts resistors closed ds n false) else level_of_drives (collected (length groups) net_of contacts resistors closed ds n)) free)
+          rw (e, free) (loose_level n ln e)
     ]
 
     -- all levels are those of the definition
@@ -337,9 +309,8 @@ module _ (net_of : List ℕ) (contacts resistors : List (ℕ × ℕ)) (closed : 
   driven_level : (n : ℕ) → n < length groups → own_level groups strong n ≡ level_of (length groups) net_of contacts resistors closed ds n
   driven_level n ln =
       let free : not (is_driven (length groups) net_of contacts resistors closed ds n) ≡ false = sym (loose_here net_of contacts resistors closed ds groups strong g n ln) ∙ driven n ln in
-      strong_is contacts closed groups g.groups_are net_of resistors ds strong g.pins_within g.strong_are n ln
-      ∙ sym (ap (λ (b : Bool). if b then level_of_values (has_strong (length groups) net_of contacts resistors closed ds n true) (has_strong (length groups) net_of contacts resistors closed ds n false) else level_of_drives (collected (length groups) net_of contacts resistors closed ds n))
-      (not-false (is_driven (length groups) net_of contacts resistors closed ds n) free))
+      rw (not-false (is_driven (length groups) net_of contacts resistors closed ds n) free)
+      (strong_is contacts closed groups g.groups_are net_of resistors ds strong g.pins_within g.strong_are n ln)
 
   pub driven_are : map (own_level groups strong) (below (length groups)) ≡ resolve (length groups) net_of contacts resistors closed ds
   unfolding resolve

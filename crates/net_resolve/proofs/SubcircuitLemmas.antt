@@ -2,12 +2,12 @@
 use Rattle.std.proofs.Common.{◌≡◌, ◌≢◌, ℕ, suc, ◌+◌, ◌<◌, List, [], ◌∷◌, length, map, Bool, true, refl, ap, sym, ◌∙◌, arith, inl, inr, subst, Option, Some, get_or}
 use Rattle.std.proofs.lemmas.Bool.Decides.{eqb_tells}
 use Rattle.std.proofs.lemmas.Option.{slice_get_within}
-use Rattle.std.specs.Prelude.{if◌then◌else◌, slice_get, slice_index}
+use Rattle.std.specs.Prelude.{slice_get, slice_index}
 use Rattle.std.specs.List.{zip}
 use Rattle.sim_base.specs.declared.signal.Drive.{Drive}
 use Rattle.board_model.specs.Walks.{below}
-use Rattle.board_model.specs.Nets.{joins, joined_by}
-use Rattle.board_model.specs.Resolve.{contact_joins, level_of, resolve}
+use Rattle.board_model.specs.Nets.{joins}
+use Rattle.board_model.specs.Resolve.{level_of, resolve}
 use Rattle.board_model.proofs.Lists.{some_same, some_map, get_map_some, get_within, get-below}
 use Rattle.net_resolve.specs.Wired.{Wired, levels_of}
 use Rattle.net_resolve.specs.Subcircuits.{Lacks, AreOnce, SubcircuitView, IsCut, IsSubcircuit, AreOwn, own_wired, picked, labels_of, level_now}
@@ -147,12 +147,8 @@ module _ (labels : List ℕ) (q : ℕ) (nets : List ℕ) (are : nets ≡ picked 
         let here_n : slice_get net_of k ≡ Some n = ap (slice_get net_of) (sym none_more) ∙ sym (at_n 0) in
         let here_d : slice_get ds k ≡ Some e = ap (slice_get ds) (sym none_more) ∙ sym (at_d 0) in
         elim (eqb_tells (slice_index labels n) q) [
-          | inl t ↦ took own mine rest here_n here_d
-              (subst (λ (b : Bool). map (slice_get nets) own ≡ map (slice_get net_of) (if b then k ∷ picked q (k + 1) (keys ns) else picked q (k + 1) (keys ns))) t.0 en)
-              (subst (λ (b : Bool). map (λ (x : Drive). Some x) mine ≡ map (slice_get ds) (if b then k ∷ picked q (k + 1) (keys ns) else picked q (k + 1) (keys ns))) t.0 ed)
-          | inr f ↦ passed n e (zip ns es) (zip own mine) (others_lack n f.1) (rest own mine
-              (subst (λ (b : Bool). map (slice_get nets) own ≡ map (slice_get net_of) (if b then k ∷ picked q (k + 1) (keys ns) else picked q (k + 1) (keys ns))) f.0 en)
-              (subst (λ (b : Bool). map (λ (x : Drive). Some x) mine ≡ map (slice_get ds) (if b then k ∷ picked q (k + 1) (keys ns) else picked q (k + 1) (keys ns))) f.0 ed))
+          | inl t ↦ took own mine rest here_n here_d (rw t.0 at en) (rw t.0 at ed)
+          | inr f ↦ passed n e (zip ns es) (zip own mine) (others_lack n f.1) (rest own mine (rw f.0 at en) (rw f.0 at ed))
         ]
       where
         took : (own : List ℕ) (mine : List Drive) →

@@ -77,14 +77,11 @@ driven_more groups strong n true false e before all k h = elim (eqb_tells k n) [
   | inl at ↦ subst (λ (m : ℕ). is_loose groups strong m ≡ false) (sym at.1) (sym e)
   | inr off ↦ let apart = off.1 in before refl k (omega (arith, h, apart))
 ]
-driven_more groups strong n true true e before all k h = absurd cc
-driven_more groups strong n false z e before all k h = absurd cc
+driven_more groups strong n driven z e before all k h = absurd cc
 
 -- one flag more that is put and not found
 pub none_more : (flags : List Bool) (i : ℕ) (found flag : Bool) → i < length flags → (found ≡ false → (k : ℕ) → k < i → slice_get flags k ≢ Some true) →
     (found || flag) ≡ false → (k : ℕ) → k < i + 1 → slice_get (slice_set flags i flag) k ≢ Some true
-none_more flags i true flag within before off k h e = absurd cc
-none_more flags i false true within before off k h e = absurd cc
 none_more flags i false false within before off k h e = elim (eqb_tells k i) [
   | inl at ↦
       let here : slice_get (slice_set flags i false) i ≡ Some false = get_set_same flags i false within in
@@ -92,35 +89,14 @@ none_more flags i false false within before off k h e = elim (eqb_tells k i) [
       absurd cc
   | inr apart ↦ let a = apart.1 in before refl k (omega (arith, h, a)) (sym (get_set_other flags i k false a) ∙ e)
 ]
+none_more flags i found flag within before off k h e = absurd cc
 
 pub both_same : {a b c d : Bool} → a ≡ b → c ≡ d → (a && c) ≡ (b && d)
 both_same e f = cc
 
--- a weak drive on a loose net adds to the net's area
-pub loose_adds : (groups : List ℕ) (strong : List Level) (areas : List ℕ) (n a : ℕ) (sum x : Level) → is_loose groups strong n ≡ true →
-    (if slice_index areas n == a then together sum x else sum) ≡ (if is_loose groups strong n && (slice_index areas n == a) then together sum x else sum)
-loose_adds groups strong areas n a sum x e = rw e refl
-
--- one on a net with a strong value does not
-pub driven_adds : (groups : List ℕ) (strong : List Level) (areas : List ℕ) (n a : ℕ) (sum x : Level) → is_loose groups strong n ≡ false →
-    sum ≡ (if is_loose groups strong n && (slice_index areas n == a) then together sum x else sum)
-driven_adds groups strong areas n a sum x e = rw e refl
-
--- the strong value at one end of a resistor adds to the area of its other end, or does not
-pub over_turns : (both here : Bool) (sum x : Level) → both ≡ true → (if here then together sum x else sum) ≡ (if both && here then together sum x else sum)
-over_turns true here sum x e = refl
-over_turns false here sum x e = absurd cc
-
-pub over_stays : (both here : Bool) (sum x : Level) → both ≡ false → sum ≡ (if both && here then together sum x else sum)
-over_stays true here sum x e = absurd cc
-over_stays false here sum x e = refl
-
 -- flags that do not differ
 pub same_flags : (xs ys : List Bool) → not (pointwise beq xs ys) ≡ false → xs ≡ ys
 same_flags [] [] h = refl
-same_flags [] (y ∷ ys) h = absurd cc
-same_flags (x ∷ xs) [] h = absurd cc
 same_flags (true ∷ xs) (true ∷ ys) h = ap (λ (l : List Bool). true ∷ l) (same_flags xs ys h)
 same_flags (false ∷ xs) (false ∷ ys) h = ap (λ (l : List Bool). false ∷ l) (same_flags xs ys h)
-same_flags (true ∷ xs) (false ∷ ys) h = absurd cc
-same_flags (false ∷ xs) (true ∷ ys) h = absurd cc
+same_flags xs ys h = absurd cc

@@ -1,9 +1,9 @@
 -- What the sums of levels are, by the values of the drives that were added.
-use Rattle.std.proofs.Common.{◌≡◌, ℕ, List, [], ◌∷◌, ◌++◌, map, Bool, true, false, not, refl, ap, sym, ◌∙◌, arith, append_assoc, append-nil}
-use Rattle.std.specs.Prelude.{◌&&◌, ◌||◌, if◌then◌else◌, filter}
+use Rattle.std.proofs.Common.{◌≡◌, ℕ, List, [], ◌∷◌, ◌++◌, map, Bool, true, false, not, refl, ap, sym, ◌∙◌, arith, append_assoc, append-nil, inl, inr}
+use Rattle.std.specs.Prelude.{◌&&◌, ◌||◌, filter}
 use Rattle.std.specs.List.{list_any}
 use Rattle.std.proofs.Math.Bool.{or_assoc, or-not_self, or-false}
-use Rattle.std.proofs.lemmas.Bool.{not_from_true}
+use Rattle.std.proofs.lemmas.Bool.{cases_Bool, not_from_true}
 use Rattle.sim_base.specs.declared.signal.Drive.{Drive}
 use Rattle.sim_base.specs.declared.signal.Drive.TheVariants as drives
 use Rattle.sim_base.specs.declared.signal.Level.{Level}
@@ -33,11 +33,7 @@ or_end a b = sym (ap (λ (x : Bool). level_of_values x (b || false)) (or-false a
 
 strong_values_of : (d : Drive) → strong_level d ≡ level_of_values (is_value true (strong_of d)) (is_value false (strong_of d))
 strong_values_of drives.Z = refl
-strong_values_of drives.Low = refl
-strong_values_of drives.High = refl
-strong_values_of drives.PullLow = refl
-strong_values_of drives.PullHigh = refl
-strong_values_of (drives.Wiper w) = refl
+strong_values_of d = refl
 
 pub is_z_values : (a b : Bool) → is_z (level_of_values a b) ≡ not (a || b)
 is_z_values true true = refl
@@ -51,20 +47,13 @@ pub strong_added : (counts : ℕ → Bool) (ps : List (ℕ × Drive)) (a b : Boo
     ≡ level_of_values (a || list_any (λ p. counts p.0 && is_value true (strong_of p.1)) ps) (b || list_any (λ p. counts p.0 && is_value false (strong_of p.1)) ps)
 unfolding added
 strong_added counts [] a b = or_end a b
-strong_added counts (p ∷ ps) a b = go (strong_added counts ps) (counts p.0) refl
-  where
-    go : ((x y : Bool) → added strong_level counts (level_of_values x y) ps
-        ≡ level_of_values (x || list_any (λ q. counts q.0 && is_value true (strong_of q.1)) ps) (y || list_any (λ q. counts q.0 && is_value false (strong_of q.1)) ps)) →
-        (c : Bool) → counts p.0 ≡ c → added strong_level counts (if counts p.0 then together (level_of_values a b) (strong_level p.1) else level_of_values a b) ps
-        ≡ level_of_values (a || ((counts p.0 && is_value true (strong_of p.1)) || list_any (λ q. counts q.0 && is_value true (strong_of q.1)) ps))
-        (b || ((counts p.0 && is_value false (strong_of p.1)) || list_any (λ q. counts q.0 && is_value false (strong_of q.1)) ps))
-    go ih true e = rw e (
-        ap (λ (l : Level). added strong_level counts (together (level_of_values a b) l) ps) (strong_values_of p.1)
-        ∙ ap (λ (l : Level). added strong_level counts l ps) (values_together a b (is_value true (strong_of p.1)) (is_value false (strong_of p.1)))
-        ∙ ih (a || is_value true (strong_of p.1)) (b || is_value false (strong_of p.1))
-        ∙ ap (λ (x : Bool). level_of_values x ((b || is_value false (strong_of p.1)) || list_any (λ q. counts q.0 && is_value false (strong_of q.1)) ps)) (or_assoc a (is_value true (strong_of p.1)) _)
-        ∙ ap (λ (y : Bool). level_of_values (a || (is_value true (strong_of p.1) || list_any (λ q. counts q.0 && is_value true (strong_of q.1)) ps)) y) (or_assoc b (is_value false (strong_of p.1)) _))
-    go ih false e = rw e (ih a b)
+strong_added counts (p ∷ ps) a b = elim (cases_Bool (counts p.0)) [
+  | inl e ↦
+      let hi = is_value true (strong_of p.1) in
+      let lo = is_value false (strong_of p.1) in
+      rw (e, strong_values_of p.1, values_together a b hi lo, strong_added counts ps (a || hi) (b || lo), or_assoc a hi, or_assoc b lo) refl
+  | inr e ↦ rw e (strong_added counts ps a b)
+]
 
 -- whether some drive of a list has the value
 abbrev pub any_value : Bool → List Drive → Bool
@@ -82,27 +71,20 @@ record IsWeak (d : Drive) : Type 0 where
   some : (is_value true (value_of d) || is_value false (value_of d)) ≡ true
 
 weak_is : (d : Drive) → is_weak d ≡ true → IsWeak d
-weak_is drives.Z h = absurd cc
-weak_is drives.Low h = absurd cc
-weak_is drives.High h = absurd cc
 weak_is drives.PullLow h = record { high = refl; low = refl; there = refl; some = refl }
 weak_is drives.PullHigh h = record { high = refl; low = refl; there = refl; some = refl }
 weak_is (drives.Wiper w) h = record { high = refl; low = refl; there = refl; some = or-not_self (is_upper w) }
+weak_is d h = absurd cc
 
 other_none : (d : Drive) → is_weak d ≡ false → weak_level d ≡ levels.Z
 other_none drives.Z h = refl
 other_none drives.Low h = refl
 other_none drives.High h = refl
-other_none drives.PullLow h = absurd cc
-other_none drives.PullHigh h = absurd cc
-other_none (drives.Wiper w) h = absurd cc
+other_none d h = absurd cc
 
 plus_z : (l : Level) → together l levels.Z ≡ l
-plus_z levels.Low = refl
-plus_z levels.High = refl
-plus_z levels.X = refl
 plus_z levels.Z = refl
-plus_z (levels.Wiped w) = refl
+plus_z l = refl
 
 both_there : (a b : Level) → is_z a ≡ false → is_z b ≡ false → together a b ≡ level_of_values (has_high a || has_high b) (has_low a || has_low b)
 both_there a b ea eb = rw ea (rw eb refl)
@@ -130,31 +112,20 @@ pub weak_added : (counts : ℕ → Bool) (ps : List (ℕ × Drive)) (a b : Bool)
     added weak_level counts (level_of_values a b) ps ≡ level_of_values (a || any_value true (weak_of counts ps)) (b || any_value false (weak_of counts ps))
 unfolding added
 weak_added counts [] a b h = or_end a b
-weak_added counts (p ∷ ps) a b h = go (weak_added counts ps) (counts p.0) refl (is_weak p.1) refl
-  where
-    go : ((x y : Bool) → (x || y) ≡ true → added weak_level counts (level_of_values x y) ps
-        ≡ level_of_values (x || any_value true (weak_of counts ps)) (y || any_value false (weak_of counts ps))) →
-        (c : Bool) → counts p.0 ≡ c → (w : Bool) → is_weak p.1 ≡ w →
-        added weak_level counts (if counts p.0 then together (level_of_values a b) (weak_level p.1) else level_of_values a b) ps
-        ≡ level_of_values (a || any_value true (weak_of counts (p ∷ ps))) (b || any_value false (weak_of counts (p ∷ ps)))
-    go ih false e w f = rw e (ih a b h)
-    go ih true e false f = rw e (rw f (
-        ap (λ (l : Level). added weak_level counts l ps) (ap (together (level_of_values a b)) (other_none p.1 f) ∙ plus_z (level_of_values a b))
-        ∙ ih a b h))
-    go ih true e true f = rw e (rw f (
+weak_added counts (p ∷ ps) a b h = elim (cases_Bool (counts p.0)) [
+  | inl e ↦ elim (cases_Bool (is_weak p.1)) [
+    | inl f ↦
+        let w = weak_is p.1 f in
         let hi = is_value true (value_of p.1) in
         let lo = is_value false (value_of p.1) in
         let there : is_z (level_of_values a b) ≡ false = is_z_values a b ∙ not_from_true (a || b) h in
         let sum : together (level_of_values a b) (weak_level p.1) ≡ level_of_values (a || hi) (b || lo) =
-        both_there (level_of_values a b) (weak_level p.1) there (weak_is p.1 f).there
-        ∙ ap (λ (x : Bool). level_of_values (x || has_high (weak_level p.1)) (has_low (level_of_values a b) || has_low (weak_level p.1))) (has_high_values a b)
-        ∙ ap (λ (x : Bool). level_of_values (a || x) (has_low (level_of_values a b) || has_low (weak_level p.1))) (weak_is p.1 f).high
-        ∙ ap (λ (x : Bool). level_of_values (a || hi) (x || has_low (weak_level p.1))) (has_low_values a b)
-        ∙ ap (λ (x : Bool). level_of_values (a || hi) (b || x)) (weak_is p.1 f).low in
-        ap (λ (l : Level). added weak_level counts l ps) sum
-        ∙ ih (a || hi) (b || lo) (or_some_left a b hi lo h)
-        ∙ ap (λ (x : Bool). level_of_values x ((b || lo) || any_value false (weak_of counts ps))) (or_assoc a hi (any_value true (weak_of counts ps)))
-        ∙ ap (λ (y : Bool). level_of_values (a || (hi || any_value true (weak_of counts ps))) y) (or_assoc b lo (any_value false (weak_of counts ps)))))
+        rw (both_there (level_of_values a b) (weak_level p.1) there w.there, has_high_values a b, w.high, has_low_values a b, w.low) refl in
+        rw (e, f, sum, weak_added counts ps (a || hi) (b || lo) (or_some_left a b hi lo h), or_assoc a hi, or_assoc b lo) refl
+    | inr f ↦ rw (e, f, other_none p.1 f, plus_z (level_of_values a b)) (weak_added counts ps a b h)
+  ]
+  | inr e ↦ rw e (weak_added counts ps a b h)
+]
 
 -- a level that some drives give
 record IsSum (es : List Drive) (sum : Level) : Type 0 where
@@ -169,37 +140,26 @@ any_value_end v (e ∷ es) d = ap (λ (x : Bool). is_value v (value_of e) || x) 
 
 -- two drives or more go by their values
 more_by_values : (e : Drive) (es : List Drive) (d : Drive) → level_of_drives (e ∷ es ++ d ∷ []) ≡ level_of_all (e ∷ es ++ d ∷ [])
-more_by_values drives.Z es d = refl
-more_by_values drives.Low es d = refl
-more_by_values drives.High es d = refl
-more_by_values drives.PullLow es d = refl
-more_by_values drives.PullHigh es d = refl
 more_by_values (drives.Wiper w) [] d = refl
 more_by_values (drives.Wiper w) (f ∷ es) d = refl
+more_by_values e es d = refl
 
 first_sum : (d : Drive) → is_weak d ≡ true → IsSum (d ∷ []) (weak_level d)
-first_sum drives.Z h = absurd cc
-first_sum drives.Low h = absurd cc
-first_sum drives.High h = absurd cc
 first_sum drives.PullLow h = record { there = refl; high = refl; low = refl; is = refl }
 first_sum drives.PullHigh h = record { there = refl; high = refl; low = refl; is = refl }
 first_sum (drives.Wiper w) h = record { there = refl; high = sym (or-false (is_upper w)); low = sym (or-false (not (is_upper w))); is = refl }
+first_sum d h = absurd cc
 
 more_sum : (e : Drive) (es : List Drive) (sum : Level) (d : Drive) → IsSum (e ∷ es) sum → is_weak d ≡ true → IsSum (e ∷ es ++ d ∷ []) (together sum (weak_level d))
 more_sum e es sum d s h =
     let hi = any_value true (e ∷ es ++ d ∷ []) in
     let lo = any_value false (e ∷ es ++ d ∷ []) in
-    let highs : (has_high sum || has_high (weak_level d)) ≡ hi =
-    ap (λ (x : Bool). x || has_high (weak_level d)) s.high ∙ ap (λ (x : Bool). any_value true (e ∷ es) || x) (weak_is d h).high ∙ sym (any_value_end true (e ∷ es) d) in
-    let lows : (has_low sum || has_low (weak_level d)) ≡ lo =
-    ap (λ (x : Bool). x || has_low (weak_level d)) s.low ∙ ap (λ (x : Bool). any_value false (e ∷ es) || x) (weak_is d h).low ∙ sym (any_value_end false (e ∷ es) d) in
-    let is : together sum (weak_level d) ≡ level_of_values hi lo =
-    both_there sum (weak_level d) s.there (weak_is d h).there
-    ∙ ap (λ (x : Bool). level_of_values x (has_low sum || has_low (weak_level d))) highs
-    ∙ ap (λ (y : Bool). level_of_values hi y) lows in
-    let some : (hi || lo) ≡ true =
-    ap (λ (x : Bool). x || lo) (any_value_end true (e ∷ es) d) ∙ ap (λ (y : Bool). (any_value true (e ∷ es) || is_value true (value_of d)) || y) (any_value_end false (e ∷ es) d)
-    ∙ or_some (any_value true (e ∷ es)) (any_value false (e ∷ es)) (is_value true (value_of d)) (is_value false (value_of d)) (weak_is d h).some in
+    let w = weak_is d h in
+    let highs : (has_high sum || has_high (weak_level d)) ≡ hi = rw (s.high, w.high) (sym (any_value_end true (e ∷ es) d)) in
+    let lows : (has_low sum || has_low (weak_level d)) ≡ lo = rw (s.low, w.low) (sym (any_value_end false (e ∷ es) d)) in
+    let is : together sum (weak_level d) ≡ level_of_values hi lo = rw (both_there sum (weak_level d) s.there w.there, highs, lows) refl in
+    let some : (hi || lo) ≡ true = rw (any_value_end true (e ∷ es) d, any_value_end false (e ∷ es) d)
+    (or_some (any_value true (e ∷ es)) (any_value false (e ∷ es)) (is_value true (value_of d)) (is_value false (value_of d)) w.some) in
     record {
       there = ap is_z is ∙ is_z_values hi lo ∙ not_from_true (hi || lo) some;
       high = ap has_high is ∙ has_high_values hi lo;
@@ -211,27 +171,23 @@ rest_added : (counts : ℕ → Bool) (ps : List (ℕ × Drive)) (e : Drive) (es 
     added weak_level counts sum ps ≡ level_of_drives (e ∷ es ++ weak_of counts ps)
 unfolding added
 rest_added counts [] e es sum s = s.is ∙ ap (λ (l : List Drive). level_of_drives (e ∷ l)) (sym (append-nil es))
-rest_added counts (p ∷ ps) e es sum s = go (rest_added counts ps) (counts p.0) refl (is_weak p.1) refl
-  where
-    go : ((f : Drive) (fs : List Drive) (l : Level) → IsSum (f ∷ fs) l → added weak_level counts l ps ≡ level_of_drives (f ∷ fs ++ weak_of counts ps)) →
-        (c : Bool) → counts p.0 ≡ c → (w : Bool) → is_weak p.1 ≡ w →
-        added weak_level counts (if counts p.0 then together sum (weak_level p.1) else sum) ps ≡ level_of_drives (e ∷ es ++ weak_of counts (p ∷ ps))
-    go ih false f w g = rw f (ih e es sum s)
-    go ih true f false g = rw f (rw g (
-        ap (λ (l : Level). added weak_level counts l ps) (ap (together sum) (other_none p.1 g) ∙ plus_z sum)
-        ∙ ih e es sum s))
-    go ih true f true g = rw f (rw g (
-        ih e (es ++ p.1 ∷ []) (together sum (weak_level p.1)) (more_sum e es sum p.1 s g)
-        ∙ ap (λ (l : List Drive). level_of_drives (e ∷ l)) (append_assoc es (p.1 ∷ []) (weak_of counts ps))))
+rest_added counts (p ∷ ps) e es sum s = elim (cases_Bool (counts p.0)) [
+  | inl f ↦ elim (cases_Bool (is_weak p.1)) [
+    | inl g ↦ rw (f, g) (rest_added counts ps e (es ++ p.1 ∷ []) (together sum (weak_level p.1)) (more_sum e es sum p.1 s g)
+        ∙ ap (λ (l : List Drive). level_of_drives (e ∷ l)) (append_assoc es (p.1 ∷ []) (weak_of counts ps)))
+    | inr g ↦ rw (f, g, other_none p.1 g, plus_z sum) (rest_added counts ps e es sum s)
+  ]
+  | inr f ↦ rw f (rest_added counts ps e es sum s)
+]
 
 -- weak drives alone
 pub weak_alone : (counts : ℕ → Bool) (ps : List (ℕ × Drive)) → added weak_level counts levels.Z ps ≡ level_of_drives (weak_of counts ps)
 unfolding added
 weak_alone counts [] = refl
-weak_alone counts (p ∷ ps) = go (weak_alone counts ps) (counts p.0) refl (is_weak p.1) refl
-  where
-    go : added weak_level counts levels.Z ps ≡ level_of_drives (weak_of counts ps) → (c : Bool) → counts p.0 ≡ c → (w : Bool) → is_weak p.1 ≡ w →
-        added weak_level counts (if counts p.0 then together levels.Z (weak_level p.1) else levels.Z) ps ≡ level_of_drives (weak_of counts (p ∷ ps))
-    go ih false f w g = rw f (ih)
-    go ih true f false g = rw f (rw g (ap (λ (l : Level). added weak_level counts l ps) (other_none p.1 g) ∙ ih))
-    go ih true f true g = rw f (rw g (rest_added counts ps p.1 [] (weak_level p.1) (first_sum p.1 g)))
+weak_alone counts (p ∷ ps) = elim (cases_Bool (counts p.0)) [
+  | inl f ↦ elim (cases_Bool (is_weak p.1)) [
+    | inl g ↦ rw (f, g) (rest_added counts ps p.1 [] (weak_level p.1) (first_sum p.1 g))
+    | inr g ↦ rw (f, g, other_none p.1 g) (weak_alone counts ps)
+  ]
+  | inr f ↦ rw f (weak_alone counts ps)
+]

@@ -201,8 +201,7 @@ module _ {P : Type 0} (part : Ghosts P) (laws : Laws part.machine) (start : Twin
       pairs : own_pairs part start u ≡ own_pairs part start t + active_pairs m w inputs (map part.state b.board.parts) t (u - t)
       pairs =
           let z : 0 + t ≡ t = omega arith in
-          ap (own_pairs part start) (sym there) ∙ pairs_split m w inputs xs 0 t (u - t) ∙ ap (λ (v : ℕ). own_pairs part start t + active_pairs m w inputs (A t) v (u - t)) z
-          ∙ ap (λ (l : List part.State). own_pairs part start t + active_pairs m w inputs l t (u - t)) (sym is.board.states_are)
+          cc (pairs_split m w inputs xs 0 t (u - t), there, is.board.states_are)
 
       board_on : BoardAt part start new
       board_on = record {
@@ -220,9 +219,7 @@ module _ {P : Type 0} (part : Ghosts P) (laws : Laws part.machine) (start : Twin
       pub same_there : u ≡ t → difference_of part b ≡ None → difference_of part (record b { board = new }) ≡ None
       same_there at none =
           let still : map part.state new.parts ≡ map part.state b.board.parts = board_is ∙ ap A at ∙ sym is.board.states_are in
-          ap (λ (v : Wiring). part_diff m v u 0 (map part.state new.parts) (with_chips v (map part.state new.parts) (map part.state b.chips.parts))) went.same_wiring
-          ∙ ap (λ (c : ℕ). part_diff m b.board.wiring c 0 (map part.state new.parts) (with_chips b.board.wiring (map part.state new.parts) (map part.state b.chips.parts))) at
-          ∙ ap (λ (l : List part.State). part_diff m b.board.wiring t 0 l (with_chips b.board.wiring l (map part.state b.chips.parts))) still ∙ none
+          rw (went.same_wiring, at, still) none
 
       -- by no cycle
       pub stays : u ≡ t → Abreast part start (record b { board = new }) steps most
@@ -240,9 +237,7 @@ module _ {P : Type 0} (part : Ghosts P) (laws : Laws part.machine) (start : Twin
       module _ (none : difference_of part b ≡ None) (less : t < u) (after : 0 < t) (still : IsSteady m b.board.wiring b.board.inputs (map part.state b.board.parts) t (u - t))
           (quiet : (j : ℕ) (q : P) → slice_get b.chips.parts j ≡ Some q → IsQuiet m (part.state q) (part.now q) (u - part.now q)) where
         steady : IsSteady m w inputs (A t) t (u - t)
-        steady =
-            subst (λ (l : List part.State). IsSteady m w inputs l t (u - t)) is.board.states_are (subst (λ (v : Wiring). IsSteady m v inputs (map part.state b.board.parts) t (u - t)) is.board.same_wiring
-            (subst (λ (l : List Input). IsSteady m b.board.wiring l (map part.state b.board.parts) t (u - t)) is.board.same_inputs still))
+        steady = rw (is.board.states_are, is.board.same_wiring, is.board.same_inputs) at still
 
         later : (k : ℕ) (q : P) → IsChipOf w b.chips.parts k q → Stands m u (part.now q) (part.state q) (glide m (at_cycle part t q) t (u - t))
         later k q of = stands_later m (part.state q) (at_cycle part t q) (part.now q) t u (omega (arith, less)) (is.chips.behind.each k q of).stands (quiet (chips_before w k) q of.1)
@@ -300,9 +295,7 @@ module _ {P : Type 0} (part : Ghosts P) (laws : Laws part.machine) (start : Twin
       unfolding first_beside
       steps_on next last v ls none end at same read turned kept room =
           let are : ls ≡ levels_of m w (A t) = read ∙ ap (λ (x : Wiring). levels_of m x (map part.state b.board.parts)) is.board.same_wiring ∙ ap (levels_of m w) is.board.states_are in
-          let turns : ChipsTurned part w (levels_of m w (A t)) t b.chips (length w.chip) next most last =
-          subst (λ (l : List Level). ChipsTurned part w l t b.chips (length w.chip) next most last) are
-          (subst (λ (x : Wiring). ChipsTurned part x ls t b.chips (length x.chip) next most last) (same ∙ is.board.same_wiring) turned) in
+          let turns = rw (are, same ∙ is.board.same_wiring) at turned in
           let s : t + 1 ≡ suc t = omega arith in
           let c = counted part laws start is.twins t b.chips next most last end turns is.chips.behind is.chips.stand in
           record {
@@ -329,7 +322,7 @@ module _ {P : Type 0} (part : Ghosts P) (laws : Laws part.machine) (start : Twin
     holds_on c d found zero = let e : c + 0 ≡ c = omega arith in ap (first_beside m w inputs xs ys 0) e ∙ found
     holds_on c d found (suc j) =
         let e : c + suc j ≡ suc (c + j) = omega arith in
-        ap (first_beside m w inputs xs ys 0) e ∙ ap (λ o. option_or o (part_diff m w (0 + (c + j)) 0 (A (c + j)) (B (c + j)))) (holds_on c d found j)
+        rw (e, holds_on c d found j) refl
 
     or_first : {X : Type 0} (o q : Option X) → option_or o q ≡ None → o ≡ None
     or_first None q h = refl

@@ -1,7 +1,6 @@
 -- Chips that were left behind beside a board: over steady cycles in which none is due they sleep, and in a cycle each is woken or sleeps.
 use Rattle.std.proofs.Common.{◌≡◌, ℕ, zero, suc, ◌+◌, ◌<◌, ◌≤◌, List, [], ◌∷◌, ◌∙◌, length, map, Bool, true, false, Option, None, Some, refl, ap, sym, arith, subst}
-use Rattle.std.specs.Prelude.{slice_get, unwrap_or, not, ◌||◌, if◌then◌else◌}
-use Rattle.std.specs.Option.{is_some, option_or}
+use Rattle.std.specs.Prelude.{slice_get, unwrap_or, not}
 use Rattle.std.proofs.lemmas.List.{length-map}
 use Rattle.std.proofs.lemmas.Option.{slice_get_within}
 use Rattle.sim_base.specs.declared.limits.TheConstants.{MOST_CYCLES}
@@ -15,8 +14,8 @@ use Rattle.board_model.specs.Board.{level_at, own_nets, levels_of, input_at, par
 use Rattle.board_model.specs.Rows.{same_list, same_level}
 use Rattle.board_model.proofs.Lists.{some_map, some_same}
 use Rattle.board_model.proofs.Steps.{get-steps_from, length-states, length-steps_from, pins_of_states, state_before}
-use Rattle.board_laws.specs.Active.{active_in, sum_below}
-use Rattle.board_laws.specs.FirstDiff.{part_diff, stepped_beside, first_beside, SamePins}
+use Rattle.board_laws.specs.Active.{sum_below}
+use Rattle.board_laws.specs.FirstDiff.{stepped_beside, first_beside, SamePins}
 use Rattle.board_laws.specs.Stands.{Stands}
 use Rattle.board_laws.specs.Steady.{IsSteady}
 use Rattle.board_laws.specs.Twin.{chips_before}
@@ -28,7 +27,7 @@ use Rattle.board_laws.proofs.TwinLaw.{none_where_same}
 use Rattle.board_run.specs.Lagging.{HadTurn}
 use Rattle.board_run.specs.Seen.{levels_on}
 use Rattle.board_run.proofs.TurnLemmas.{had_turn, some_there}
-use Rattle.twin_run.specs.Beside.{AreBehind, ChipsTurned, IsChipOf, active_beside, at_cycle, beside_at, beside_pairs, chip_wake, own_at, wake_in, wake_of}
+use Rattle.twin_run.specs.Beside.{AreBehind, ChipsTurned, IsChipOf, active_beside, at_cycle, beside_at, beside_pairs, chip_wake, own_at}
 use Rattle.twin_run.specs.Twins.{AreTwins, TwinView, other_states}
 use Rattle.twin_run.specs.declared.chips.Chips.{Chips}
 use Rattle.twin_run.proofs.TurnedLemmas.{before_below}
@@ -84,8 +83,7 @@ module _ {P : Type 0} (part : Ghosts P) (laws : Laws part.machine) (start : Twin
   beside_next t k s e =
       let z : 0 + t ≡ t = omega arith in
       let ls : List Level = levels_of m w (As t) in
-      some_map (λ (r : part.State × Option ℕ). r.0) (steps_from m w inputs ls (0 + t) 0 (Bs t)) k _ (get-steps_from m w inputs ls (0 + t) k (Bs t) s e)
-      ∙ ap (λ (v : ℕ). Some (part_step m w inputs ls v k s).0) z
+      rw z (some_map (λ (r : part.State × Option ℕ). r.0) (steps_from m w inputs ls t 0 (Bs t)) k _ (get-steps_from m w inputs ls t k (Bs t) s e))
 
   -- and keeps its pins
   kept : (k : ℕ) (y : part.State) → slice_get ys k ≡ Some y → (t : ℕ) → (s : part.State) × (slice_get (Bs t) k ≡ Some s) × (length (m.drives s) ≡ length (m.drives y))
@@ -124,8 +122,7 @@ module _ {P : Type 0} (part : Ghosts P) (laws : Laws part.machine) (start : Twin
         let u : c + suc t ≡ suc (c + t) = omega arith in
         let x : part.State = glide m s c t in
         let own : levels_on m w (levels_of m w (As (c + t))) k x ≡ m.held x =
-        ap (λ (ls : List Level). levels_on m w ls k x) (levels_stay t (omega (arith, l))) ∙ ap (λ (i : ℕ). map (level_at (levels_of m w (As c))) (own_nets w k i)) (glide_pins m laws s c t)
-        ∙ sym is.held ∙ sym (glide_holds m laws s c t) in
+        rw (levels_stay t (omega (arith, l)), glide_pins m laws s c t) (sym is.held ∙ sym (glide_holds m laws s c t)) in
         ap (λ (i : ℕ). slice_get (Bs i) k) u ∙ beside_next (c + t) k x (beside_glides k s is t (omega (arith, l)))
         ∙ ap (λ (ls : List Level). Some (m.step x (c + t) ls (input_at inputs (c + t) k)).0) own
         ∙ ap (λ (o : Option ℕ). Some (m.step x (c + t) (m.held x) o).0) (steady.silent t k (omega (arith, l)))
@@ -150,9 +147,7 @@ module _ {P : Type 0} (part : Ghosts P) (laws : Laws part.machine) (start : Twin
       none_in none zero l = let e : c + 0 ≡ c = omega arith in ap (first_beside m w inputs xs ys 0) e ∙ none
       none_in none (suc t) l =
           let e : c + suc t ≡ suc (c + t) = omega arith in
-          ap (first_beside m w inputs xs ys 0) e
-          ∙ ap (λ o. option_or o (part_diff m w (0 + (c + t)) 0 (As (c + t)) (Bs (c + t)))) (none_in none t (omega (arith, l)))
-          ∙ none_where_same m w (0 + (c + t)) (As (c + t)) (Bs (c + t)) (chips_same t (omega (arith, l)))
+          rw (e, none_in none t (omega (arith, l))) (none_where_same m w (0 + (c + t)) (As (c + t)) (Bs (c + t)) (chips_same t (omega (arith, l))))
 
   -- A cycle in which the chips had their turns.
   module _ (t : ℕ) (old new : Chips P) (steps more : ℕ) (end : t < MOST_CYCLES) (turned : ChipsTurned part w (levels_of m w (As t)) t old (length w.chip) new steps more)
@@ -223,13 +218,7 @@ module _ {P : Type 0} (part : Ghosts P) (laws : Laws part.machine) (start : Twin
         go false none = rw none refl
         go true is =
             let p = behind.has k is in
-            let s = at_cycle part t p.0 in
-            ap (λ (b : Bool). if b then wake_of part w ls t old k (slice_get old.parts (chips_before w k)) else 0) is
-            ∙ ap (wake_of part w ls t old k) p.1
-            ∙ ap (λ (n : ℕ). wake_in part t (map (level_at ls) (own_nets w k n)) s) (pins_there k p.0 (is, p.1))
-            ∙ ap (λ (o : Option ℕ). if m.due s t || (is_some o || not (same_list same_level (levels_on m w ls k s) (m.held s))) then 1 else 0) (sym (twins.unscripted t k is))
-            ∙ ap (active_in m w inputs ls t k) (sym (stand k p.0 (is, p.1)))
-            ∙ sym (ap (λ (b : Bool). if b then active_in m w inputs ls t k (slice_get (Bs t) k) else 0) is)
+            rw (is, p.1, stand k p.0 (is, p.1), pins_there k p.0 (is, p.1), twins.unscripted t k is) refl
 
     pub counted : more + beside_pairs part start t ≡ steps + beside_pairs part start (t + 1)
     counted =

@@ -32,13 +32,11 @@ pub wakes_where : {S : Type 0} (m : Machine S) (laws : Laws m) (a t : ℕ) (r s 
 wakes_where m laws a t r s due own differs end stands first is =
     let here : is_at due t ≡ m.due s t = due_is m r s a t due end stands first in
     elim (below_or 0 t) [
-      | inl later ↦
-          ap (λ (b : Bool). b || differs) here ∙ ap (λ (b : Bool). m.due s t || b) (is later)
-          ∙ ap (λ (l : List Level). m.due s t || not (same_list same_level own l)) (sym (stands_holds m laws t a r s stands))
+      | inl later ↦ rw (here, is later, stands_holds m laws t a r s stands) refl
       | inr start ↦
           let z : t ≡ 0 = omega (arith, start) in
           let yes : m.due s t ≡ true = ap (m.due s) z ∙ laws.begins_due s in
-          ap (λ (b : Bool). b || differs) (here ∙ yes) ∙ sym (ap (λ (b : Bool). b || not (same_list same_level own (m.held s))) yes)
+          rw (here, yes) refl
     ]
 
 -- levels of which one differs from those that are held are others

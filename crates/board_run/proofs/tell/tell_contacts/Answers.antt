@@ -1,7 +1,7 @@
-use Rattle.std.proofs.Common.{◌≡◌, ◌<◌, ◌∙◌, ℕ, arith, refl, subst, sym, length, map, take, true, false}
+use Rattle.std.proofs.Common.{◌≡◌, ◌<◌, ◌∙◌, arith, refl, subst, sym, length, map, take, true, false}
 use Rattle.board_model.proofs.Lists.{some_map, some_same, flat_map_room}
 use Rattle.board_model.specs.Board.{contacts_of}
-use Rattle.board_run.specs.Seen.{Put, HasAt}
+use Rattle.board_run.specs.Seen.{HasAt}
 use Rattle.board_run.proofs.GatherLemmas.{item_at}
 use Rattle.board_run.proofs.ReadLemmas.{put_there}
 use Rattle.board_run.proofs.tell.tell_contacts.Goals as goal
@@ -15,23 +15,13 @@ set_ports-requires-clause-room g c =
 
 pub returns-then-contacts-ne0 : goal.returns-then-contacts-ne0
 returns-then-contacts-ne0 g c =
-    let p = g.P.Part in
     let e = c.set_ports.ensures in
-    let old = c.args.nets.now.closed in
-    let new = c.set_ports.new.nets.closed in
-    let x = c.index-parts-i-then-contacts-ne0.result in
-    let here = item_at c.args.parts.now c.args.i x c.requires.within c.index-parts-i-then-contacts-ne0.is in
+    let here = item_at c.args.parts.now c.args.i c.index-parts-i-then-contacts-ne0.result c.requires.within c.index-parts-i-then-contacts-ne0.is in
     let at = c.first_contact-contact.ensures in
     record {
-      put = λ q eq.
-          subst (λ (y : g.row.P.Denot). Put (length (contacts_of p.machine (take c.args.i (map p.state c.args.parts.now)))) (length (p.machine.contacts (p.state y))) (p.machine.contacts (p.state y)) old new) (some_same (sym here ∙ eq))
-          (subst (λ (n : ℕ). Put n (length (p.machine.contacts (p.state x))) (p.machine.contacts (p.state x)) old new) at e.put);
-      same = λ q eq none.
-          subst (λ (y : g.row.P.Denot). HasAt (length (contacts_of p.machine (take c.args.i (map p.state c.args.parts.now)))) (p.machine.contacts (p.state y)) old) (some_same (sym here ∙ eq))
-          (subst (λ (n : ℕ). HasAt n (p.machine.contacts (p.state x)) old) at (e.same none));
-      other = λ q eq one has.
-          e.other one (subst (λ (n : ℕ). HasAt n (p.machine.contacts (p.state x)) old) (sym at)
-          (subst (λ (y : g.row.P.Denot). HasAt (length (contacts_of p.machine (take c.args.i (map p.state c.args.parts.now)))) (p.machine.contacts (p.state y)) old) (some_same (sym eq ∙ here)) has));
+      put = λ q eq. rw (← some_same (sym here ∙ eq), ← at) e.put;
+      same = λ q eq none. rw (← some_same (sym here ∙ eq), ← at) (e.same none);
+      other = λ q eq one has. e.other one (rw (some_same (sym eq ∙ here), ← at) at has);
       rest = e.rest;
     }
 

@@ -1,6 +1,5 @@
 use Rattle.std.proofs.Common.{◌≡◌, ◌-◌, ◌+◌, ◌∙◌, sym, ap, subst, arith, length, ℕ, None, Option, Bool, true}
 use Rattle.std.specs.Prelude.{if◌then◌else◌}
-use Rattle.part_law.specs.Machine.{MayWake}
 use Rattle.part_law.proofs.MachineLemmas.{glide_pins}
 use Rattle.board_run.specs.Lagging.{glided, turned}
 use Rattle.board_run.proofs.TurnLemmas.{may_wake}
@@ -21,8 +20,7 @@ wake-requires-clause-may g c =
     let may = may_wake p.machine g.met.P.Part.laws p.state p.now p.wake_count c.args.t x c.due.result None c.args.own.now c.args.differs
     (record { not_later = r.stands.not_later; count = r.count; quiet = r.stands.quiet; first = c.due.ensures })
     (λ yes later. other_levels c.args.own.now (p.machine.held (p.state x)) c.args.differs (r.differs later) yes) (sym c.is_to_wake.ensures ∙ c.if-is_to_wake.true) in
-    subst (λ (s : p.State). MayWake p.machine s (p.now c.settle.new.self) c.args.own.now None) (sym c.settle.ensures.state)
-    (subst (λ (t : ℕ). MayWake p.machine (glided p.machine p.state p.now p.wake_count c.args.t x) t c.args.own.now None) (sym c.settle.ensures.now) may)
+    rw (c.settle.ensures.state, c.settle.ensures.now) may
 
 pub returns-then-is_to_wake-clause-took : goal.returns-then-is_to_wake-clause-took
 returns-then-is_to_wake-clause-took g c =

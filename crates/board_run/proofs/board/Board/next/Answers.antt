@@ -1,9 +1,7 @@
-use Rattle.std.proofs.Common.{◌≡◌, ◌<◌, ◌≤◌, ◌-◌, ◌∙◌, ap, sym, map, ℕ, false, subst}
+use Rattle.std.proofs.Common.{◌≡◌, ◌<◌, ◌≤◌, ◌∙◌, ap, sym, ℕ, false, subst}
 use Rattle.std.specs.Prelude.{◌==◌}
 use Rattle.std.proofs.lemmas.Bool.{or_left, or_right}
-use Rattle.board_laws.specs.Stretch.{IsStretch}
 use Rattle.board_run.specs.BoardView.{BoardView}
-use Rattle.board_run.specs.Changes.{HasEvent}
 use Rattle.board_run.specs.Engine.{kept_of}
 use Rattle.board_run.proofs.StretchLemmas.{stretch_until, unchanged, neither, event_at}
 use Rattle.board_run.proofs.board.Board.next.Goals as goal
@@ -27,12 +25,11 @@ returns g c =
       event = λ none later before.
           let fresh : i.stale ≡ false = stale ∙ none in
           let after : 0 < i.cycle = subst (λ (t : ℕ). 0 < t) (sym cycle) later in
-          subst (λ (v : BoardView g.row.P.Denot). HasEvent p.machine v.inputs (map p.state v.parts) v.cycle r) c.self.view_is
-          (event_at p.machine g.met.P.Part.laws i.wiring p.state p.now p.wake_count i.inputs i.cycle r i.parts (kept_of i) c.self.invariant.may.lags c.self.invariant.at (next.event (neither i.stale i.cycle fresh after) before));
+          rw (← c.self.view_is) (event_at p.machine g.met.P.Part.laws i.wiring p.state p.now p.wake_count i.inputs i.cycle r i.parts
+          (kept_of i) c.self.invariant.may.lags c.self.invariant.at (next.event (neither i.stale i.cycle fresh after) before));
       quiet = λ less.
           let later : i.cycle < r = subst (λ (t : ℕ). t < r) (sym cycle) less in
           let still = unchanged i.stale i.cycle r next.stays later in
-          subst (λ (v : BoardView g.row.P.Denot). IsStretch p.machine v.wiring v.inputs (map p.state v.parts) v.cycle (r - v.cycle)) c.self.view_is
-          (stretch_until p.machine g.met.P.Part.laws i.wiring p.state p.now p.wake_count i.inputs i.cycle r i.parts (kept_of i)
+          rw (← c.self.view_is) (stretch_until p.machine g.met.P.Part.laws i.wiring p.state p.now p.wake_count i.inputs i.cycle r i.parts (kept_of i)
           c.self.invariant.may.lags c.self.invariant.at still.0 still.1 next.from next.within next.late next.silent);
     }

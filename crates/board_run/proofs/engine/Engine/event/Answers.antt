@@ -86,7 +86,6 @@ returns-in-Ok g c =
     let s = c.show-shown.ensures in
     let seen = c.show-shown.new.self.reading in
     let end = c.end_of_cycle-end in
-    let new = c.turn-woken.new.self in
     let t = turned g (goal.at.returns-in-Ok g c).After-turn-woken in
     let hand = c.hand_sent in
     let h = cycle g (goal.at.returns-in-Ok g c).After-turn-woken in

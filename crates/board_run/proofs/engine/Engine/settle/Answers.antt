@@ -1,13 +1,14 @@
-use Rattle.std.proofs.Common.{◌-◌, ◌<◌, ◌≤◌, ◌∙◌, ◌≡◌, ap, sym, refl, subst, arith, ℕ, List, length, Some, inl, inr, Option, length-set}
+use Rattle.std.proofs.Common.{◌-◌, ◌<◌, ◌≤◌, ◌∙◌, ◌≡◌, ap, sym, refl, subst, arith, ℕ, List, length, inl, inr, Option, length-set}
 use Rattle.std.specs.Prelude.{slice_get, slice_set}
 use Rattle.std.proofs.lemmas.Option.{slice_get_within}
 use Rattle.sim_base.specs.declared.limits.TheConstants.{MOST_CYCLES}
-use Rattle.part_law.specs.Machine.{IsQuiet, IsFirstDue}
-use Rattle.board_model.proofs.Lists.{done_none, done_more, done_all, some_same, lt_or_eq, get_set_same, get_set_other}
+use Rattle.part_law.specs.Machine.{IsQuiet}
+use Rattle.board_model.proofs.Lists.{done_none, done_more, done_all, some_same, get_set_same, get_set_other}
 use Rattle.board_run.specs.Lagging.{glided}
 use Rattle.board_run.specs.Legs.{AreAt}
 use Rattle.board_run.specs.Engine.{kept_of}
 use Rattle.board_run.specs.declared.engine.Engine.{Engine}
+use Rattle.board_run.proofs.TurnLemmas.{at_set}
 use Rattle.board_run.proofs.LegLemmas.{may_settle, now_settled}
 use Rattle.board_run.proofs.engine.Engine.settle.Goals as goal
 
@@ -51,12 +52,11 @@ loop-i-preserved g c =
       long = ap length set ∙ length-set l.self.dues i s.result ∙ inv.long;
       due = λ k y d less ey ed.
           let at = ap (λ (ds : List (Option ℕ)). slice_get ds k) (sym set) ∙ ed in
-          elim (lt_or_eq k i less) [
-            | inl before ↦ inv.due k y d before (sym (get_set_other l.self.parts i k z (omega arith)) ∙ ey) (sym (get_set_other l.self.dues i k s.result (omega arith)) ∙ at)
-            | inr same ↦
-                let y_is : z ≡ y = some_same (sym (get_set_same l.self.parts i z here) ∙ subst (λ (j : ℕ). slice_get (slice_set l.self.parts i z) j ≡ Some y) same ey) in
-                let d_is : s.result ≡ d = some_same (sym (get_set_same l.self.dues i s.result inside) ∙ subst (λ (j : ℕ). slice_get (slice_set l.self.dues i s.result) j ≡ Some d) same at) in
-                subst (λ (y : g.row.P.Denot). IsFirstDue p.machine (p.state y) (p.now y) d) y_is (subst (λ (d : Option ℕ). IsFirstDue p.machine (p.state z) (p.now z) d) d_is s.ensures.due)
+          elim (at_set l.self.parts i k z y here ey) [
+            | inl same ↦
+                let d_is : s.result ≡ d = some_same (sym (get_set_same l.self.dues i s.result inside) ∙ rw same.0 at at) in
+                rw (← same.1, ← d_is) s.ensures.due
+            | inr other ↦ inv.due k y d (omega (arith, less, other.0)) other.1 (sym (get_set_other l.self.dues i k s.result other.0) ∙ at)
           ];
     }
 

@@ -1,12 +1,11 @@
-use Rattle.std.proofs.Common.{arith, ◌≡◌, ◌<◌, ◌∙◌, List, length, map, take, refl, sym, ap, subst, Bool, true, false, inl, inr}
-use Rattle.std.specs.Prelude.{◌||◌, slice_get}
+use Rattle.std.proofs.Common.{arith, ◌≡◌, ◌<◌, ◌∙◌, List, length, map, take, refl, sym, ap, subst, true, false, inl, inr}
+use Rattle.std.specs.Prelude.{slice_get}
 use Rattle.std.proofs.lemmas.Bool.{false_from_ne_true, or_cases, or_parts}
 use Rattle.sim_base.specs.declared.signal.Drive.{Drive}
 use Rattle.net_resolve.specs.Circuit.{Circuit}
 use Rattle.board_model.specs.Board.{contacts_of}
 use Rattle.board_model.proofs.Lists.{some_same, some_map, flat_map_room}
-use Rattle.board_run.specs.Seen.{Seen, HasAt, Put, retold}
-use Rattle.board_run.specs.Lagging.{Shifted}
+use Rattle.board_run.specs.Seen.{Seen, HasAt, retold}
 use Rattle.board_run.proofs.GatherLemmas.{item_at}
 use Rattle.board_run.proofs.ReadLemmas.{put_there}
 use Rattle.board_run.proofs.TurnLemmas.{placed}
@@ -57,7 +56,6 @@ tell_contacts-contacts-requires g c =
 pub returns-then-moved : goal.returns-then-moved
 returns-then-moved g c =
     let p = g.P.Part in
-    let m = p.machine in
     let e = c.args.self.now in
     let i = c.args.i in
     let first = c.args.first in
@@ -78,28 +76,22 @@ returns-then-moved g c =
     let rest : new ≡ record old { drives = new.drives; closed = new.closed } =
     ports.ensures.rest ∙ ap (λ (n : Circuit). let z : Circuit = record n { closed = new.closed } in z) pins.ensures.rest
     ∙ ap (λ (ds : List Drive). let z : Circuit = record old { drives = ds; closed = new.closed } in z) (sym drives_are) in
-    let place = λ (l : List g.row.P.Denot). length (contacts_of m (take i (map p.state l))) in
     let at = told_place p g.met.P.Part.laws e i first old may.before may.p may.q x may.replaced c.requires.first circuit there in
     record {
       same = refl;
       rest = ap (λ (n : Circuit). let v : Seen = record { circuit = n; on = inside.on.items } in v) rest ∙ ap (λ (v : Seen). retold v new.drives new.closed) c.reading.view_is;
       fits = at.1.fits;
-      told = at.1.told new (subst (λ (ds : List Drive). Put first (length (m.drives (p.state x))) (m.drives (p.state x)) old.drives ds) (sym drives_are) pins.ensures.put)
-          (subst (λ (cs : List Bool). Put (place e.parts) (length (m.contacts (p.state x))) (m.contacts (p.state x)) cs new.closed) closed_were
-          (subst (λ (l : List g.row.P.Denot). Put (place l) (length (m.contacts (p.state x))) (m.contacts (p.state x)) mid.closed new.closed) parts_are (ports.ensures.put x here)));
+      told = at.1.told new (rw drives_are pins.ensures.put) (rw (parts_are, closed_were) at (ports.ensures.put x here));
       shifted = λ before y z was.
           let of = told_place p g.met.P.Part.laws e i first old before y z x was c.requires.first circuit there in
-          subst (λ (u : g.row.P.Denot). Shifted m p.state y u (pins.result || ports.result)) (sym of.0) (record {
-            same = λ none.
-                let both = or_parts pins.result ports.result none in
-                of.1.keeps (pins.ensures.same both.0) (subst (λ (cs : List Bool). HasAt (place e.parts) (m.contacts (p.state x)) cs) closed_were
-                (subst (λ (l : List g.row.P.Denot). HasAt (place l) (m.contacts (p.state x)) mid.closed) parts_are (ports.ensures.same x here both.1)));
+          rw of.0 (record {
+            same = λ none. let both = or_parts pins.result ports.result none in
+                of.1.keeps (pins.ensures.same both.0) (rw (parts_are, closed_were) at (ports.ensures.same x here both.1));
             other = λ one ds cs.
                 let has = of.1.has ds cs in
                 elim (or_cases pins.result ports.result one) [
                   | inl some ↦ pins.ensures.other some has.0
-                  | inr some ↦ ports.ensures.other x here some
-                      (subst (λ (l : List g.row.P.Denot). HasAt (place l) (m.contacts (p.state x)) mid.closed) (sym parts_are) (subst (λ (cs : List Bool). HasAt (place e.parts) (m.contacts (p.state x)) cs) (sym closed_were) has.1))
+                  | inr some ↦ ports.ensures.other x here some (rw (parts_are, closed_were) has.1)
                 ];
           });
     }

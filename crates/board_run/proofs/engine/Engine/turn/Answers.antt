@@ -4,12 +4,11 @@ use Rattle.std.proofs.lemmas.Bool.{ltb-true}
 use Rattle.sim_base.specs.declared.wiring.Input.{Input}
 use Rattle.board_laws.specs.Active.{sum_below, active_in}
 use Rattle.board_model.specs.Board.{input_at}
-use Rattle.board_model.specs.Fits.{Fits}
 use Rattle.board_model.proofs.Lists.{get_set_same}
 use Rattle.board_run.specs.declared.part_set.PartSet.{PartSet}
 use Rattle.board_run.specs.declared.engine.Engine.{Engine}
 use Rattle.board_run.specs.Seen.{Seen, Suits, IsTold, levels_on, retold}
-use Rattle.board_run.specs.Lagging.{TookTurn, Turns, AreDue, AreLate}
+use Rattle.board_run.specs.Lagging.{TookTurn, Turns, AreLate}
 use Rattle.board_run.specs.Parts.{has_part, AreNone}
 use Rattle.board_run.specs.Engine.{given, MayTurnPart, TurnedPart}
 use Rattle.board_run.proofs.ReadLemmas.{retold_suits}
@@ -167,9 +166,7 @@ loop-i-preserved g c =
       here = next.here;
       within = inside;
       begun = begun_on e.parts e.dues i j l.self.parts new.parts l.self.dues new.dues l.self.answers new.answers t.q t.e t.byte inv.begun order parts_are dues_are answers_are;
-      due = subst (λ (q : List (Option ℕ)). AreDue m p.state p.now p.wake_count new.parts q) (sym dues_are)
-          (subst (λ (q : List g.row.P.Denot). AreDue m p.state p.now p.wake_count q (slice_set l.self.dues i t.e)) (sym parts_are)
-          (due_set m p.state p.now p.wake_count l.self.parts l.self.dues i t.q t.e within here inv.due t.first));
+      due = simp (dues_are, parts_are) (due_set m p.state p.now p.wake_count l.self.parts l.self.dues i t.q t.e within here inv.due t.first);
       late = late_set l.self.dues new.dues i e.cycle t.e here dues_are inv.late t.later;
       passed = passed;
       turns = λ inputs ts awaits.
@@ -179,8 +176,8 @@ loop-i-preserved g c =
           (marks g (goal.at.loop-i-preserved g c).After-with_given-marked e.cycle) awaits i j l.self.parts new.parts l.self.dues new.dues l.self.answers new.answers l.changed moved t.p t.q t.d t.e t.byte inv.begun so.0 t.was t.due_was parts_are dues_are answers_are took
           order (omega (arith, next.within, inside)) next.passed (λ k h. passed k (omega (arith, h, next.within))) in
           (on.0, omega (arith, so.1, on.1, t.steps_are));
-      fits = subst (λ (xs : List g.row.P.Denot). Fits m e.wiring (map p.state xs)) (sym parts_are) t.fits;
-      told = subst (λ (xs : List g.row.P.Denot). IsTold m (map p.state xs) new.reading.circuit) (sym parts_are) t.told;
+      fits = rw parts_are t.fits;
+      told = rw parts_are t.told;
       silent = λ none. subst AreNone (sym answers_are) (silent_more l.self.answers i t.byte l.sent room (ap (λ (b : Bool). l.sent || b) (sym t.sent_is) ∙ none) inv.silent);
     }
 

@@ -1,14 +1,11 @@
-use Rattle.std.proofs.Common.{arith, ◌≡◌, ◌-◌, ◌≤◌, ◌∙◌, ℕ, List, length, map, take, drop, refl, sym, ap, subst, Bool, true, Option, Some, None, rules, length-take-le}
+use Rattle.std.proofs.Common.{arith, ◌≡◌, ◌-◌, ◌≤◌, ◌∙◌, ℕ, List, length, map, take, drop, refl, sym, ap, subst, Option, Some, None, rules, length-take-le}
 use Rattle.std.specs.Prelude.{slice_set}
 use Rattle.event_queue.proofs.TreeLemmas.{set_same}
-use Rattle.sim_base.specs.declared.signal.Level.{Level}
 use Rattle.sim_base.specs.declared.wiring.Input.{Input}
 use Rattle.board_model.specs.Board.{input_at}
 use Rattle.board_model.proofs.Lists.{some_map}
 use Rattle.board_run.specs.Seen.{Seen, levels_on}
-use Rattle.board_run.specs.Parts.{has_part}
 use Rattle.board_run.specs.Lagging.{MayTurn}
-use Rattle.board_run.specs.Engine.{given, TurnedTo}
 use Rattle.board_run.specs.declared.engine.Engine.{Engine}
 use Rattle.board_run.proofs.StepLemmas.{fits_pins}
 use Rattle.board_run.proofs.GatherLemmas.{own_levels, length_rest}
@@ -52,7 +49,6 @@ room g c =
 
 pub hear_levels-requires : goal.hear_levels-requires
 hear_levels-requires g c =
-    let p = g.P.Part in
     let may = c.requires.may in
     let x = c.item_mut-part.result.now in
     let is = c.item_mut-part.ensures.value in
@@ -67,7 +63,6 @@ hear_levels-requires g c =
 pub returns-in-Some : goal.returns-in-Some
 returns-in-Some g c =
     let p = g.P.Part in
-    let m = p.machine in
     let e = c.args.self.now in
     let i = c.args.i in
     let x = c.item_mut-part.result.now in
@@ -77,8 +72,6 @@ returns-in-Some g c =
     let hears = c.requires.may.hears asked.0 in
     let due = c.due-due.ensures ∙ ap Some asked.1 in
     let own_is = own g (goal.at.returns-in-Some g c).After-item_mut-part in
-    let old = c.args.steps.now in
-    let more = c.hear_levels.new.steps in
     record {
       p = x;
       q = y;
@@ -87,12 +80,9 @@ returns-in-Some g c =
       byte = None;
       was = c.item_mut-part.ensures.value;
       due_was = due;
-      same = ap (λ (ds : List (Option ℕ)). let z : Engine g.row.P.Denot = record e { parts = slice_set e.parts i y; dues = ds } in z) (sym (set_same e.dues i None due))
-          ∙ ap (λ (bytes : List (Option ℕ)). let z : Engine g.row.P.Denot = record e { parts = slice_set e.parts i y; dues = slice_set e.dues i None; answers = bytes } in z) (sym (set_same e.answers i None hears.2));
+      same = rw (set_same e.dues i None due, set_same e.answers i None hears.2) refl;
       sent_is = refl;
-      turn = subst (λ (v : Option ℕ). TurnedTo p e.cycle (levels_on m e.wiring e.reading.circuit.levels i (p.state x)) v (has_part c.args.differ i) x y None None None touched old more) (sym hears.1)
-          (subst (λ (b : Bool). TurnedTo p e.cycle (levels_on m e.wiring e.reading.circuit.levels i (p.state x)) None b x y None None None touched old more) (sym hears.0)
-          (subst (λ (l : List Level). TurnedTo p e.cycle l None true x y None None None touched old more) own_is (c.hear_levels.ensures.turned touched c.in-Some.is)));
+      turn = rw (hears.1, hears.0, ← own_is) (c.hear_levels.ensures.turned touched c.in-Some.is);
     }
 
 pub slice_bounds-take_turn_on-end : goal.slice_bounds-take_turn_on-end
@@ -109,7 +99,6 @@ take_turn_on-byte-requires g c =
     let m = p.machine in
     let may = c.requires.may in
     let x = c.item_mut-part.result.now in
-    let y = c.hear_levels.new.part in
     let is = c.item_mut-part.ensures.value in
     let stays = (c.in_default.ensures.stays refl).0 in
     let after = (goal.at.take_turn_on-byte-requires g c).After-item_mut-part in
@@ -130,18 +119,15 @@ returns g c =
     let e = c.args.self.now in
     let i = c.args.i in
     let x = c.item_mut-part.result.now in
-    let y = c.hear_levels.new.part in
     let turn = c.take_turn_on-byte in
     let z = turn.new.part in
     let byte = turn.result.0 in
-    let touched = turn.result.1 in
     let d = c.due-due.result in
     let stays = c.in_default.ensures.stays refl in
     let own_is = own g (goal.at.returns g c).After-item_mut-part in
     let levels = take (length c.pin_levels.result.now - c.args.first) (drop c.args.first c.pin_levels.result.now) in
     let count : c.pins-pins.result ≡ length (m.drives (p.state x)) = c.pins-pins.ensures ∙ ap (λ (u : g.row.P.Denot). length (m.drives (p.state u))) stays.0 in
     let input = c.find_input-input.ensures ∙ ap (λ (is : List Input). input_at (take (c.args.end - e.input) (drop e.input is)) e.cycle i) c.as_slice.ensures in
-    let here = levels_on m e.wiring e.reading.circuit.levels i (p.state x) in
     record {
       p = x;
       q = z;
@@ -152,9 +138,5 @@ returns g c =
       due_was = c.due-due.ensures;
       same = ap (λ (ds : List (Option ℕ)). let a : Engine g.row.P.Denot = record e { parts = slice_set e.parts i z; dues = ds; answers = slice_set e.answers i byte } in a) c.set.ensures;
       sent_is = search rules;
-      turn = subst (λ (n : ℕ). TurnedTo p e.cycle here (input_at (given e c.args.end) e.cycle i) (has_part c.args.differ i) x z d turn.new.due byte touched n turn.new.steps) stays.1
-          (subst (λ (u : g.row.P.Denot). TurnedTo p e.cycle here (input_at (given e c.args.end) e.cycle i) (has_part c.args.differ i) u z d turn.new.due byte touched c.hear_levels.new.steps turn.new.steps) stays.0
-          (subst (λ (b : Bool). TurnedTo p e.cycle here (input_at (given e c.args.end) e.cycle i) b y z d turn.new.due byte touched c.hear_levels.new.steps turn.new.steps) c.has-differs.ensures
-          (subst (λ (v : Option ℕ). TurnedTo p e.cycle here v c.has-differs.result y z d turn.new.due byte touched c.hear_levels.new.steps turn.new.steps) input
-          (subst (λ (l : List Level). TurnedTo p e.cycle l c.find_input-input.result c.has-differs.result y z d turn.new.due byte touched c.hear_levels.new.steps turn.new.steps) (ap (λ (n : ℕ). take n levels) count ∙ own_is) turn.ensures))));
+      turn = rw (count, own_is, input, c.has-differs.ensures, stays.0, stays.1) at turn.ensures;
     }
