@@ -13,7 +13,7 @@ use Rattle.part_law.specs.Machine.{Machine, Laws, glide, dues, sent, IsQuiet, Is
 use Rattle.part_law.proofs.MachineLemmas.{glide_valid, glide_drives, glide_contacts, glide_pins, glide_ports, glide_holds}
 use Rattle.board_model.specs.Board.{level_at, own_nets, input_at, states, bytes}
 use Rattle.board_model.specs.Fits.{Fits}
-use Rattle.net_resolve.specs.Circuit.{Circuit}
+use Rattle.net_resolve.specs.NetsView.{NetsView}
 use Rattle.board_model.specs.Rows.{Shown, shown_of, rows}
 use Rattle.board_model.proofs.Lists.{some_same, get_map_some, some_map, flat_map_same}
 use Rattle.board_laws.specs.Alike.{Alike}
@@ -22,7 +22,7 @@ use Rattle.board_laws.specs.Steady.{IsSteady}
 use Rattle.board_laws.proofs.StandsLaw.{stands_here, stands_shows, stands_holds}
 use Rattle.board_laws.proofs.SteadyLaw.{steady_states, steady_before, steady_rows, steady_cycles, steady_bytes, steady_pairs, quiet_dues}
 use Rattle.board_run.specs.Changes.{LastTells}
-use Rattle.board_run.specs.Seen.{Seen, IsTold, retold, shown_at}
+use Rattle.board_run.specs.ReadingView.{ReadingView, IsTold, retold, shown_at}
 use Rattle.part_law.specs.declared.part.Went.{Went}
 use Rattle.board_run.specs.Lagging.{glided, Replaced, Shifted}
 use Rattle.board_run.specs.Legs.{Kept, Lags, Leg, WentBy, IsAlone}
@@ -45,7 +45,7 @@ module _ {S : Type 0} (m : Machine S) (laws : Laws m) where
   dues_most s a (suc n) = one_more (m.due (glide m s a n) (a + n)) (dues m s a n) n (dues_most s a n)
 
 -- a part that went on, with as many pins and contacts, in place of what it was
-pub went_replaces : {S P : Type 0} (m : Machine S) (laws : Laws m) (w : Wiring) (state : P → S) (now wakes : P → ℕ) (t n who : ℕ) (parts : List P) (c : Circuit) (p q : P) → slice_get parts who ≡ Some p →
+pub went_replaces : {S P : Type 0} (m : Machine S) (laws : Laws m) (w : Wiring) (state : P → S) (now wakes : P → ℕ) (t n who : ℕ) (parts : List P) (c : NetsView) (p q : P) → slice_get parts who ≡ Some p →
     Fits m w (map state parts) → IsTold m (map state parts) c → state q ≡ glide m (glided m state now wakes t p) t n → Replaced m w state who parts (slice_set parts who q) c p q
 went_replaces m laws w state now wakes t n who parts c p q here fits told is = record {
   was = here;
@@ -294,7 +294,7 @@ module _ {S P : Type 0} (m : Machine S) (laws : Laws m) (w : Wiring) (state : P 
     pub bytes_are : (n : ℕ) → n ≤ u - t → bytes m w inputs (Ts m laws w state now wakes t parts) t n ≡ bs n
 
   -- where a part was found that goes on alone up to a limit, and it did
-  pub alone_goes : (moves : P → ℕ → Bool) (t limit : ℕ) (parts : List P) (kept : Kept) (changed : Bool) (steps more who : ℕ) (p q : P) (d : Option ℕ) (by : Went) (seen : Seen) →
+  pub alone_goes : (moves : P → ℕ → Bool) (t limit : ℕ) (parts : List P) (kept : Kept) (changed : Bool) (steps more who : ℕ) (p q : P) (d : Option ℕ) (by : Went) (seen : ReadingView) →
       seen ≡ retold kept.seen seen.circuit.drives seen.circuit.closed → IsTold m (map state (slice_set parts who q)) seen.circuit →
       Lags m w state now wakes t parts kept → kept.stale ≡ false → 0 < t → AreBehind inputs kept.input t → limit ≤ MOST_CYCLES → IsAlone inputs kept.dues kept.input who t limit →
       slice_get parts who ≡ Some p → WentBy m state now wakes moves t limit p q d by steps more → Shifted m state p q changed →

@@ -6,7 +6,7 @@ use Rattle.sim_base.specs.declared.wiring.Input.{Input}
 use Rattle.part_law.specs.Machine.{Machine, Laws}
 use Rattle.board_model.specs.Board.{bytes}
 use Rattle.board_model.specs.Rows.{Shown, rows}
-use Rattle.board_run.specs.Seen.{Seen, shown_at}
+use Rattle.board_run.specs.ReadingView.{ReadingView, shown_at}
 use Rattle.board_run.specs.Legs.{Leg}
 use Rattle.board_run.specs.CutOff.{row_in, bytes_in, IsCutOff}
 use Rattle.board_run.proofs.HandLemmas.{handed_nothing, handed_then, stops_after}
@@ -62,7 +62,7 @@ module _ {S : Type 0} (m : Machine S) (w : Wiring) (inputs : List Input) (before
 
 -- where it was cut off after a leg, it was cut off
 module _ {S P W : Type 0} (m : Machine S) (laws : Laws m) (w : Wiring) (state : P → S) (now wakes : P → ℕ) (inputs : List Input) (whole : W → Bool) (faults : W → ℕ) (stands stopped : W → List Row → List ℕ → Type 0) where
-  pub cut_then : (t u v a b : ℕ) (old mid : List P) (before seen : Seen) (x y z : W) → Leg m w state now wakes inputs t u old mid before seen a b →
+  pub cut_then : (t u v a b : ℕ) (old mid : List P) (before seen : ReadingView) (x y z : W) → Leg m w state now wakes inputs t u old mid before seen a b →
       Handed whole faults stands x y (rows m w inputs (shown_at t before) (Ts m laws w state now wakes t old) t (u - t)) (bytes m w inputs (Ts m laws w state now wakes t old) t (u - t)) →
       IsCutOff m w inputs (shown_at u seen) (Ts m laws w state now wakes u mid) u v whole faults stands stopped y z → IsCutOff m w inputs (shown_at t before) (Ts m laws w state now wakes t old) t v whole faults stands stopped x z
   cut_then t u v a b old mid before seen x y z leg handed cut =

@@ -13,12 +13,12 @@ use Rattle.board_run.specs.Changes.{LastTells}
 use Rattle.std.specs.Prelude.{slice_get, slice_index, Some}
 use Rattle.board_model.specs.Board.{input_at}
 use Rattle.board_model.proofs.Lists.{some_same}
-use Rattle.net_resolve.specs.Circuit.{Circuit}
+use Rattle.net_resolve.specs.NetsView.{NetsView}
 use Rattle.board_run.specs.declared.part_set.PartSet.{PartSet}
 use Rattle.board_run.specs.declared.turn.Woken.{Woken}
 use Rattle.board_run.specs.Parts.{has_part}
 use Rattle.board_run.specs.Lagging.{to_wake, Replaced}
-use Rattle.board_run.specs.Seen.{Suits, levels_on, shown_at}
+use Rattle.board_run.specs.ReadingView.{Suits, levels_on, shown_at}
 use Rattle.board_run.specs.Engine.{kept_of, given, states_of, rows_to, bytes_to, IsNext, Watches, MayRun, MayTurnPart, TurnedAt, MayTell, WentOn, Rests, Settled, FailedIn, Showed}
 use Rattle.board_run.proofs.TurnLemmas.{turned_room, turned_still, turned_others, Placed, placed}
 use Rattle.board_run.specs.declared.engine.Engine.{Engine}
@@ -65,7 +65,7 @@ module _ {P : Type 0} (part : Ghosts P) (laws : Laws part.machine) where
       }
 
   -- what nets have of a part that was replaced
-  pub told_place : (e : Engine P) (i first : ℕ) (nets : Circuit) (before : List P) (p q x : P) → Replaced part.machine e.wiring part.state i before e.parts e.reading.circuit p q → first ≡ slice_index e.wiring.first_pin i → nets ≡ e.reading.circuit → slice_get e.parts i ≡ Some x →
+  pub told_place : (e : Engine P) (i first : ℕ) (nets : NetsView) (before : List P) (p q x : P) → Replaced part.machine e.wiring part.state i before e.parts e.reading.circuit p q → first ≡ slice_index e.wiring.first_pin i → nets ≡ e.reading.circuit → slice_get e.parts i ≡ Some x →
       (q ≡ x) × Placed part.machine e.wiring part.state i first e.parts nets p x
   told_place e i first nets before p q x was at is here =
       let there = placed part.machine e.wiring part.state i first before e.parts e.reading.circuit p q was at in

@@ -21,7 +21,7 @@ use Rattle.board_laws.proofs.BesideLaw.{same_levels, same_shown, same_drives, sa
 use Rattle.board_model.proofs.Steps.{length-steps_from, get-steps_from}
 use Rattle.board_laws.proofs.StandsLaw.{stands_shows, stands_holds, stands_valid}
 use Rattle.board_run.specs.Changes.{Tells, LastTells}
-use Rattle.board_run.specs.Seen.{Seen, Suits, IsOf, IsTold, AreDiffering, retold, levels_on, shown, shown_at}
+use Rattle.board_run.specs.ReadingView.{ReadingView, Suits, IsOf, IsTold, AreDiffering, retold, levels_on, shown, shown_at}
 use Rattle.board_run.specs.Upcoming.{AreBehind}
 use Rattle.board_run.specs.Lagging.{glided, MayTurn, Awaits, Turns, AreDue}
 use Rattle.board_run.specs.Legs.{Kept, Lags, Leg}
@@ -71,7 +71,7 @@ module _ {S P : Type 0} (m : Machine S) (laws : Laws m) (w : Wiring) (state : P 
       sym r.2 ∙ sym (like.each k r.0 y r.1 ey).is)
 
   -- what was read of lagging parts is so of the board
-  pub lag_of : (parts : List P) (ts : List S) (seen : Seen) → Alike (λ k a b. SameShow m m a b) (map state parts) ts → IsOf m w (map state parts) seen → IsOf m w ts seen
+  pub lag_of : (parts : List P) (ts : List S) (seen : ReadingView) → Alike (λ k a b. SameShow m m a b) (map state parts) ts → IsOf m w (map state parts) seen → IsOf m w ts seen
   lag_of parts ts seen like is = record {
     drives_are = is.drives_are ∙ same_drives m m w (map state parts) ts like;
     closed_are = is.closed_are ∙ flat_map_alike m.contacts m.contacts (map state parts) ts (alike_weaker (λ k a b. SameShow m m a b) (λ k a b. m.contacts a ≡ m.contacts b) (map state parts) ts like (λ k a b ea eb s. s.contacts));
@@ -107,7 +107,7 @@ module _ {S P : Type 0} (m : Machine S) (laws : Laws m) (w : Wiring) (state : P 
       cc
 
   -- the parts are awaited at the board's states
-  pub lags_await : (inputs : List Input) (t i j : ℕ) (parts : List P) (kept : Kept) (seen : Seen) (set : PartSet) → Lags m w state now wakes t parts kept →
+  pub lags_await : (inputs : List Input) (t i j : ℕ) (parts : List P) (kept : Kept) (seen : ReadingView) (set : PartSet) → Lags m w state now wakes t parts kept →
       AreDiffering m w kept.seen.circuit.levels seen.circuit.levels (map state parts) set → i ≤ j → AreBehind inputs i t → AreBehind inputs j (t + 1) →
       Awaits m w state now (take (j - i) (drop i inputs)) inputs seen.circuit.levels set t parts (Ts t parts)
   lags_await inputs t i j parts kept seen set lags differ on before after =
@@ -126,7 +126,7 @@ module _ {S P : Type 0} (m : Machine S) (laws : Laws m) (w : Wiring) (state : P 
       }
 
   -- a part that is among those that differ does not hold the levels of its pins
-  pub lags_differ : (t : ℕ) (parts : List P) (kept : Kept) (seen : Seen) (set : PartSet) → Lags m w state now wakes t parts kept → AreDiffering m w kept.seen.circuit.levels seen.circuit.levels (map state parts) set →
+  pub lags_differ : (t : ℕ) (parts : List P) (kept : Kept) (seen : ReadingView) (set : PartSet) → Lags m w state now wakes t parts kept → AreDiffering m w kept.seen.circuit.levels seen.circuit.levels (map state parts) set →
       (k : ℕ) (p : P) → slice_get parts k ≡ Some p → has_part set k ≡ true → 0 < t → m.held (state p) ≢ levels_on m w seen.circuit.levels k (state p)
   lags_differ t parts kept seen set lags differ k p ep is later same =
       let d = differ k (state p) (some_map state parts k p ep) in
@@ -134,7 +134,7 @@ module _ {S P : Type 0} (m : Machine S) (laws : Laws m) (w : Wiring) (state : P 
       let e : true ≡ false = sym is ∙ d ∙ ap (λ (l : List Level). not (same_list same_level (levels_on m w seen.circuit.levels k (state p)) l)) alike ∙ ap not (list_same same_level level_same (levels_on m w seen.circuit.levels k (state p))) in
       cc
 
-  module _ (inputs : List Input) (t : ℕ) (old new : List P) (seen : Seen) (answers : List (Option ℕ)) (changed : Bool) (long : length new ≡ length old)
+  module _ (inputs : List Input) (t : ℕ) (old new : List P) (seen : ReadingView) (answers : List (Option ℕ)) (changed : Bool) (long : length new ≡ length old)
       (is : IsOf m w (map state old) seen) (suits : Suits w seen) (like : Alike (λ k p s. Stands m t (now p) (state p) s) old (Ts t old))
       (turns : Turns m w inputs state now wakes seen.circuit.levels t (Ts t old) (length old) old new answers changed) where
     abbrev Us : List S
@@ -207,7 +207,7 @@ module _ {S P : Type 0} (m : Machine S) (laws : Laws m) (w : Wiring) (state : P 
         }
 
     -- and the leg
-    pub event_leg : (was : Seen) (ds : List Drive) (cs : List Bool) (steps more : ℕ) → more ≡ steps + sum_below (length old) (λ k. active_in m w inputs seen.circuit.levels t k (slice_get (Ts t old) k)) →
+    pub event_leg : (was : ReadingView) (ds : List Drive) (cs : List Bool) (steps more : ℕ) → more ≡ steps + sum_below (length old) (λ k. active_in m w inputs seen.circuit.levels t k (slice_get (Ts t old) k)) →
         Leg m w state now wakes inputs t (t + 1) old new was (retold seen ds cs) steps more
     unfolding states shown_before
     event_leg was ds cs steps more counted =
@@ -258,7 +258,7 @@ module _ {S P : Type 0} (m : Machine S) (laws : Laws m) (w : Wiring) (state : P 
         rw (e, f, ← us_are) tells_after
 
     -- the rows and bytes of the one cycle
-    pub event_rows : (was : Seen) → row_if m w (shown_at t was) (map state old) t ≡ rows m w inputs (shown_at t was) (Ts t old) t (t + 1 - t)
+    pub event_rows : (was : ReadingView) → row_if m w (shown_at t was) (map state old) t ≡ rows m w inputs (shown_at t was) (Ts t old) t (t + 1 - t)
     unfolding states shown_before rows
     event_rows was =
         let e : t + 1 - t ≡ suc zero = omega arith in
@@ -279,14 +279,14 @@ module _ {S P : Type 0} (m : Machine S) (laws : Laws m) (w : Wiring) (state : P 
             same_lists answers _ (answers_long ∙ sym there) (λ k x y ex ey. some_same (sym ex ∙ turns.answered k (omega (arith, slice_get_within answers k x ex, answers_long)) ∙ ey))
 
   -- what a cycle does in which the active parts have their turn
-  pub record Happens (inputs : List Input) (t : ℕ) (old new : List P) (before after : Seen) (answers dues : List (Option ℕ)) (changed : Bool) (steps more : ℕ) : Type 0 where
+  pub record Happens (inputs : List Input) (t : ℕ) (old new : List P) (before after : ReadingView) (answers dues : List (Option ℕ)) (changed : Bool) (steps more : ℕ) : Type 0 where
     pub leg : Leg m w state now wakes inputs t (t + 1) old new before after steps more
     pub lags : (j : ℕ) (none : List (Option ℕ)) → length none ≡ length answers → AreNone none → Lags m w state now wakes (t + 1) new (record { input = j; stale = changed; dues = dues; seen = after; answers = none })
     pub tells : LastTells m w inputs changed (Ts t old) t (t + 1 - t)
     pub rows_are : row_if m w (shown_at t before) (map state old) t ≡ rows m w inputs (shown_at t before) (Ts t old) t (t + 1 - t)
     pub bytes_are : options answers ≡ bytes m w inputs (Ts t old) t (t + 1 - t)
 
-  pub happens : (inputs : List Input) (t i j : ℕ) (old new : List P) (kept : Kept) (seen after : Seen) (set : PartSet) (answers dues : List (Option ℕ)) (changed : Bool) (steps more : ℕ) →
+  pub happens : (inputs : List Input) (t i j : ℕ) (old new : List P) (kept : Kept) (seen after : ReadingView) (set : PartSet) (answers dues : List (Option ℕ)) (changed : Bool) (steps more : ℕ) →
       Lags m w state now wakes t old kept → AreDiffering m w kept.seen.circuit.levels seen.circuit.levels (map state old) set → i ≤ j → AreBehind inputs i t → AreBehind inputs j (t + 1) →
       IsOf m w (map state old) seen → Suits w seen → length new ≡ length old → length answers ≡ length kept.answers → length dues ≡ length kept.dues →
       ((ts : List S) → Awaits m w state now (take (j - i) (drop i inputs)) inputs seen.circuit.levels set t old ts → Turns m w inputs state now wakes seen.circuit.levels t ts (length old) old new answers changed) →
@@ -308,4 +308,4 @@ module _ {S P : Type 0} (m : Machine S) (laws : Laws m) (w : Wiring) (state : P 
         rows_are = event_rows inputs t old new seen answers changed long is suits like turns kept.seen;
         bytes_are = event_bytes inputs t old new seen answers changed long is suits like turns (answers_long ∙ lags.answers_long);
       } in
-      subst (λ (v : Seen). Happens inputs t old new kept.seen v answers dues changed steps more) (sym rest) here
+      subst (λ (v : ReadingView). Happens inputs t old new kept.seen v answers dues changed steps more) (sym rest) here

@@ -24,7 +24,7 @@ use Rattle.board_laws.proofs.SteadyLaw.{steady_states, steady_before, steady_cyc
 use Rattle.board_laws.proofs.Splits.{states_split, bytes_split, shown_split, rows_split, pairs_split, cycles_split}
 use Rattle.board_run.specs.Parts.{AreNone}
 use Rattle.board_run.specs.Changes.{LastTells}
-use Rattle.board_run.specs.Seen.{Seen, Suits, IsTold, shown_at}
+use Rattle.board_run.specs.ReadingView.{ReadingView, Suits, IsTold, shown_at}
 use Rattle.board_run.specs.Lagging.{glided, AreDue}
 use Rattle.board_run.specs.Legs.{Kept, Lags, Leg}
 use Rattle.sim_base.specs.declared.limits.TheConstants.{MOST_CYCLES}
@@ -63,7 +63,7 @@ module _ {S : Type 0} (m : Machine S) where
       }
 
 module _ {S P : Type 0} (m : Machine S) (laws : Laws m) (w : Wiring) (state : P → S) (now wakes : P → ℕ) (inputs : List Input) where
-  pub leg_none : (t steps : ℕ) (parts : List P) (seen : Seen) → Leg m w state now wakes inputs t t parts parts seen seen steps steps
+  pub leg_none : (t steps : ℕ) (parts : List P) (seen : ReadingView) → Leg m w state now wakes inputs t t parts parts seen seen steps steps
   unfolding states shown_before
   leg_none t steps parts seen =
       let e : t - t ≡ 0 = omega arith in
@@ -77,7 +77,7 @@ module _ {S P : Type 0} (m : Machine S) (laws : Laws m) (w : Wiring) (state : P 
       }
 
   -- a leg up to u, and what the board does from there up to v
-  module _ (t u v a b : ℕ) (old mid : List P) (before seen : Seen) (first : Leg m w state now wakes inputs t u old mid before seen a b) (later : u ≤ v) where
+  module _ (t u v a b : ℕ) (old mid : List P) (before seen : ReadingView) (first : Leg m w state now wakes inputs t u old mid before seen a b) (later : u ≤ v) where
     abbrev Ss : List S
     Ss = Ts m laws w state now wakes t old
 
@@ -118,7 +118,7 @@ module _ {S P : Type 0} (m : Machine S) (laws : Laws m) (w : Wiring) (state : P 
         let before : v - t - 1 ≡ (u - t) + (v - u - 1) = (let x = first.order in omega (arith, x, further)) in
         rw (before, states_from (v - u - 1), states_on) tells
 
-    pub leg_then : (d : ℕ) (new : List P) (after : Seen) → Leg m w state now wakes inputs u v mid new seen after b d →
+    pub leg_then : (d : ℕ) (new : List P) (after : ReadingView) → Leg m w state now wakes inputs u v mid new seen after b d →
         Leg m w state now wakes inputs t v old new before after a d
     leg_then d new after second = record {
       order = (let x = first.order in omega (arith, x, later));
@@ -291,7 +291,7 @@ module _ {S P : Type 0} (m : Machine S) (laws : Laws m) (w : Wiring) (state : P 
     now_settled k q eq = let x = before k q eq in (settled k x.0 q x.1 eq).1
 
     -- it did what the leg did
-    pub settled_leg : (t : ℕ) (old : List P) (was seen : Seen) (steps more : ℕ) → Leg m w state now wakes inputs t n old mid was seen steps more →
+    pub settled_leg : (t : ℕ) (old : List P) (was seen : ReadingView) (steps more : ℕ) → Leg m w state now wakes inputs t n old mid was seen steps more →
         Leg m w state now wakes inputs t n old new was seen steps more
     settled_leg t old was seen steps more leg = record {
       order = leg.order;

@@ -22,11 +22,11 @@ use Rattle.board_model.specs.Rows.{same_list, same_level}
 use Rattle.board_model.specs.Fits.{Fits}
 use Rattle.board_model.proofs.Lists.{some_same, get_within, get_set_same, get_set_other, some_map, take_whole}
 use Rattle.board_model.proofs.SameLemmas.{level_same, list_same, levels_mean}
-use Rattle.net_resolve.specs.Circuit.{AreChanged}
+use Rattle.net_resolve.specs.NetsView.{AreChanged}
 use Rattle.net_resolve.specs.Marked.{has}
 use Rattle.board_run.specs.declared.part_set.PartSet.{PartSet}
 use Rattle.board_run.specs.Parts.{has_part, end_of, part_nets, AreOn}
-use Rattle.board_run.specs.Seen.{levels_on}
+use Rattle.board_run.specs.ReadingView.{levels_on}
 use Rattle.net_resolve.proofs.ReachLemmas.{any_at, any_some}
 use Rattle.board_run.proofs.ReadLemmas.{less_or, place_more}
 

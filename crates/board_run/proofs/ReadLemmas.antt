@@ -16,9 +16,9 @@ use Rattle.board_model.specs.Rows.{same_list, same_level}
 use Rattle.board_model.specs.Fits.{Fits}
 use Rattle.board_model.proofs.Lists.{some_same, lt_or_eq, get_set_same, get_set_other, take_whole, some_map, same_lists}
 use Rattle.board_model.proofs.SameLemmas.{level_same, list_same, levels_mean}
-use Rattle.net_resolve.specs.Circuit.{Circuit, AreChanged}
+use Rattle.net_resolve.specs.NetsView.{NetsView, AreChanged}
 use Rattle.net_resolve.specs.Marked.{has}
-use Rattle.board_run.specs.Seen.{Seen, Suits, IsOf, retold, HasAt, Put, Gathered, IsTold, AreDiffering, levels_on}
+use Rattle.board_run.specs.ReadingView.{ReadingView, Suits, IsOf, retold, HasAt, Put, Gathered, IsTold, AreDiffering, levels_on}
 use Rattle.board_run.specs.declared.part_set.PartSet.{PartSet}
 use Rattle.board_run.specs.Parts.{has_part}
 
@@ -190,7 +190,7 @@ module _ {S B : Type 0} (f : S → List B) where
       put_between (flat_map f (take i ss)) (f s) (f new) after old xs at long place (is ∙ was) put ∙ sym now
 
 -- The nets are told what one part has.
-module _ {S P : Type 0} (m : Machine S) (state : P → S) (parts : List P) (i : ℕ) (p q : P) (c new : Circuit) (here : slice_get parts i ≡ Some p) (told : IsTold m (map state parts) c)
+module _ {S P : Type 0} (m : Machine S) (state : P → S) (parts : List P) (i : ℕ) (p q : P) (c new : NetsView) (here : slice_get parts i ≡ Some p) (told : IsTold m (map state parts) c)
     (pins : length (m.drives (state q)) ≡ length (m.drives (state p))) (ports : length (m.contacts (state q)) ≡ length (m.contacts (state p))) where
   at : slice_get (map state parts) i ≡ Some (state p)
   at = some_map state parts i p here
@@ -241,7 +241,7 @@ module _ {S P : Type 0} (m : Machine S) (state : P → S) (parts : List P) (i : 
 
 module _ {S : Type 0} (m : Machine S) where
   -- what suits a wiring does so after the nets were told
-  pub retold_suits : (w : Wiring) (ss : List S) (seen : Seen) (ds : List Drive) (cs : List Bool) → Fits m w ss → Suits w seen → IsTold m ss (retold seen ds cs).circuit → Suits w (retold seen ds cs)
+  pub retold_suits : (w : Wiring) (ss : List S) (seen : ReadingView) (ds : List Drive) (cs : List Bool) → Fits m w ss → Suits w seen → IsTold m ss (retold seen ds cs).circuit → Suits w (retold seen ds cs)
   retold_suits w ss seen ds cs fits suits told = record {
     wired = let c = suits.wired in record { nets = c.nets; net_of = c.net_of; contacts = c.contacts; resistors = c.resistors; levels_long = c.levels_long; watched = c.watched };
     drives_long = ap length told.drives_are ∙ sym fits.pins;
@@ -251,7 +251,7 @@ module _ {S : Type 0} (m : Machine S) where
   }
 
   -- what is of parts is so after the nets were told what those drive and connect
-  pub retold_is : (w : Wiring) (ss : List S) (seen : Seen) (ds : List Drive) (cs : List Bool) → IsTold m ss (retold seen ds cs).circuit → IsOf m w ss seen → IsOf m w ss (retold seen ds cs)
+  pub retold_is : (w : Wiring) (ss : List S) (seen : ReadingView) (ds : List Drive) (cs : List Bool) → IsTold m ss (retold seen ds cs).circuit → IsOf m w ss seen → IsOf m w ss (retold seen ds cs)
   retold_is w ss seen ds cs told is = record { drives_are = told.drives_are; closed_are = told.closed_are; levels_are = is.levels_are; chips_are = is.chips_are }
 
   -- where no level changed no part has another one

@@ -12,23 +12,23 @@ use Rattle.board_model.specs.Board.{levels_of, bytes_of, states, bytes}
 use Rattle.board_model.specs.Rows.{Shown, same_level, same_drive, same_list, same_shown, chip_drives_of, shown_of, is_new, row_if, shown_before, rows}
 use Rattle.board_model.proofs.Lists.{some_same, get_map_some, flat_map_same}
 use Rattle.board_model.proofs.SameLemmas.{level_same, drive_same, list_same, levels_mean}
-use Rattle.board_run.specs.Seen.{Seen, IsOf, AreStill, shown, shown_at}
+use Rattle.board_run.specs.ReadingView.{ReadingView, IsOf, AreStill, shown, shown_at}
 use Rattle.board_run.specs.Upcoming.{AreBehind}
 use Rattle.board_run.proofs.HandLemmas.{appends_none, whole_front}
 
 -- what is read shows what the parts show
-pub shown_is : {S : Type 0} (m : Machine S) (w : Wiring) (ss : List S) (seen : Seen) → IsOf m w ss seen → shown seen ≡ shown_of m w ss
+pub shown_is : {S : Type 0} (m : Machine S) (w : Wiring) (ss : List S) (seen : ReadingView) → IsOf m w ss seen → shown seen ≡ shown_of m w ss
 shown_is m w ss seen is = let a = is.levels_are in let b = is.chips_are in cc
 
 -- what is as it was read shows the same
-pub fresh_same : {S : Type 0} (m : Machine S) (w : Wiring) (ss : List S) (seen : Seen) → IsOf m w ss seen → true ≡ same_shown (shown seen) (shown_of m w ss)
+pub fresh_same : {S : Type 0} (m : Machine S) (w : Wiring) (ss : List S) (seen : ReadingView) → IsOf m w ss seen → true ≡ same_shown (shown seen) (shown_of m w ss)
 fresh_same m w ss seen is = sym (
     ap (same_shown (shown seen)) (sym (shown_is m w ss seen is))
     ∙ ap (λ (b : Bool). b && same_list same_drive seen.circuit.kept seen.circuit.kept) (list_same same_level level_same seen.circuit.levels)
     ∙ list_same same_drive drive_same seen.circuit.kept)
 
 -- whether a cycle has a row
-pub new_is : (t : ℕ) (seen : Seen) (now : Shown) (same : Bool) → same ≡ same_shown (shown seen) now → ((t == 0) || not same) ≡ is_new (shown_at t seen) now
+pub new_is : (t : ℕ) (seen : ReadingView) (now : Shown) (same : Bool) → same ≡ same_shown (shown seen) now → ((t == 0) || not same) ≡ is_new (shown_at t seen) now
 new_is t seen now same e = go (t == 0) refl
   where
     go : (b : Bool) → (t == 0) ≡ b → ((t == 0) || not same) ≡ is_new (shown_at t seen) now
@@ -36,11 +36,11 @@ new_is t seen now same e = go (t == 0) refl
     go false f = rw f (ap not e)
 
 -- where the same is shown, levels are as before
-pub same_still : {S : Type 0} (m : Machine S) (w : Wiring) (ss : List S) (old new : Seen) (same : Bool) → same ≡ same_shown (shown old) (shown_of m w ss) → same ≡ true → IsOf m w ss new → old.circuit.levels ≡ new.circuit.levels
+pub same_still : {S : Type 0} (m : Machine S) (w : Wiring) (ss : List S) (old new : ReadingView) (same : Bool) → same ≡ same_shown (shown old) (shown_of m w ss) → same ≡ true → IsOf m w ss new → old.circuit.levels ≡ new.circuit.levels
 same_still m w ss old new same e f is =
     levels_mean old.circuit.levels (levels_of m w ss) (and_parts _ _ (sym e ∙ f)).0 ∙ sym is.levels_are
 
-pub levels_shown : (t : ℕ) (seen : Seen) (s : Shown) → shown_at t seen ≡ Some s → s.levels ≡ seen.circuit.levels
+pub levels_shown : (t : ℕ) (seen : ReadingView) (s : Shown) → shown_at t seen ≡ Some s → s.levels ≡ seen.circuit.levels
 levels_shown t seen s e = go (t == 0) e
   where
     go : (b : Bool) → (if b then None else Some (shown seen)) ≡ Some s → s.levels ≡ seen.circuit.levels
@@ -48,11 +48,11 @@ levels_shown t seen s e = go (t == 0) e
     go false f = ap (λ (x : Shown). x.levels) (sym (some_same f))
 
 -- after cycle 0 what was read was shown
-pub later_shown : (t u : ℕ) (seen : Seen) → u < t → shown_at t seen ≡ Some (shown seen)
+pub later_shown : (t u : ℕ) (seen : ReadingView) → u < t → shown_at t seen ≡ Some (shown seen)
 later_shown t u seen less = let e : (t == 0) ≡ false = grind (arith, less) in rw e refl
 
 -- the row that is handed out
-pub row_is : {S : Type 0} (m : Machine S) (w : Wiring) (ss : List S) (t : ℕ) (old new : Seen) (there same : Bool) → there ≡ ((t == 0) || not same) → same ≡ same_shown (shown old) (shown_of m w ss) → IsOf m w ss new →
+pub row_is : {S : Type 0} (m : Machine S) (w : Wiring) (ss : List S) (t : ℕ) (old new : ReadingView) (there same : Bool) → there ≡ ((t == 0) || not same) → same ≡ same_shown (shown old) (shown_of m w ss) → IsOf m w ss new →
     ◌≡◌ {A = List Row} (if there then record { cycle = t; levels = new.circuit.levels; drives = new.circuit.drives } ∷ [] else []) (row_if m w (shown_at t old) ss t)
 row_is m w ss t old new there same e f is =
     rw (e, new_is t old (shown_of m w ss) same f, is.levels_are, is.drives_are) refl
@@ -81,7 +81,7 @@ chips_same m state (c ∷ chips) (p ∷ old) (q ∷ new) long each =
 chips_same m state (c ∷ chips) old new long each = absurd (omega arith)
 
 -- what was read of parts that stayed still is still so
-pub still_of : {S P : Type 0} (m : Machine S) (w : Wiring) (state : P → S) (old new : List P) (seen : Seen) → length new ≡ length old → AreStill m state old new → IsOf m w (map state old) seen → IsOf m w (map state new) seen
+pub still_of : {S P : Type 0} (m : Machine S) (w : Wiring) (state : P → S) (old new : List P) (seen : ReadingView) → length new ≡ length old → AreStill m state old new → IsOf m w (map state old) seen → IsOf m w (map state new) seen
 still_of m w state old new seen long still is =
     let d = still_same m.drives state old new long (λ k p q ep eq. (still k p q ep eq).0) in
     let c = still_same m.contacts state old new long (λ k p q ep eq. (still k p q ep eq).1) in

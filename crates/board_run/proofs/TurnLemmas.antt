@@ -28,9 +28,9 @@ use Rattle.board_run.specs.declared.part_set.PartSet.{PartSet}
 use Rattle.board_run.specs.Parts.{has_part, AreNone}
 use Rattle.board_model.specs.Fits.{Fits}
 use Rattle.board_model.proofs.RoomLemmas.{SameRoom, fits_room, chips_room}
-use Rattle.board_run.specs.Seen.{IsTold, HasAt, Put, levels_on}
+use Rattle.board_run.specs.ReadingView.{IsTold, HasAt, Put, levels_on}
 use Rattle.board_run.proofs.ReadLemmas.{less_or, told_more, still_told, told_still, others_told}
-use Rattle.net_resolve.specs.Circuit.{Circuit}
+use Rattle.net_resolve.specs.NetsView.{NetsView}
 use Rattle.board_run.specs.Lagging.{is_at, to_wake, glided, AreLate, MayTurn, MayTurnAt, turned, Awaits, HadTurn, Turns, AreDue, Replaced, TookTurn}
 
 zero_or_more : (t : ℕ) → (t ≡ 0) ⊎ (0 < t)
@@ -271,7 +271,7 @@ fits_set m w state parts i p q ep room fits =
     ]) fits).0
 
 -- What nets have of part i, which was p and is q, and whose pins begin at a place: they were told what the parts before it was replaced show.
-pub record Placed {S P : Type 0} (m : Machine S) (w : Wiring) (state : P → S) (i first : ℕ) (new : List P) (c : Circuit) (p q : P) : Type 0 where
+pub record Placed {S P : Type 0} (m : Machine S) (w : Wiring) (state : P → S) (i first : ℕ) (new : List P) (c : NetsView) (p q : P) : Type 0 where
   pub there : slice_get new i ≡ Some q
   pub fits : Fits m w (map state new)
   pub place : first ≡ length (drives_of m (take i (map state new)))
@@ -281,10 +281,10 @@ pub record Placed {S P : Type 0} (m : Machine S) (w : Wiring) (state : P → S) 
       (m.drives (state q) ≡ m.drives (state p)) × (m.contacts (state q) ≡ m.contacts (state p))
   pub others : (moves : ℕ → Bool) → ((j : ℕ) → moves j ≡ false → slice_get (m.drives (state q)) j ≡ slice_get (m.drives (state p)) j) →
       (j : ℕ) → j < length (m.drives (state q)) → moves j ≡ false → slice_get c.drives (first + j) ≡ slice_get (m.drives (state q)) j
-  pub told : (after : Circuit) → Put first (length (m.drives (state q))) (m.drives (state q)) c.drives after.drives →
+  pub told : (after : NetsView) → Put first (length (m.drives (state q))) (m.drives (state q)) c.drives after.drives →
       Put (length (contacts_of m (take i (map state new)))) (length (m.contacts (state q))) (m.contacts (state q)) c.closed after.closed → IsTold m (map state new) after
 
-pub placed : {S P : Type 0} (m : Machine S) (w : Wiring) (state : P → S) (i first : ℕ) (old new : List P) (c : Circuit) (p q : P) → Replaced m w state i old new c p q → first ≡ slice_index w.first_pin i →
+pub placed : {S P : Type 0} (m : Machine S) (w : Wiring) (state : P → S) (i first : ℕ) (old new : List P) (c : NetsView) (p q : P) → Replaced m w state i old new c p q → first ≡ slice_index w.first_pin i →
     Placed m w state i first new c p q
 placed m w state i first old new c p q was at =
     let within = slice_get_within old i p was.was in

@@ -11,7 +11,7 @@ use Rattle.board_laws.specs.Active.{active_cycles, active_pairs}
 use Rattle.board_laws.specs.Orders.{IsOrder, SameInOrders}
 use Rattle.board_laws.proofs.OrdersLaw.{in_orders}
 use Rattle.board_run.specs.BoardView.{BoardView}
-use Rattle.board_run.specs.Seen.{Seen, shown_at}
+use Rattle.board_run.specs.ReadingView.{ReadingView, shown_at}
 use Rattle.board_run.specs.Legs.{Leg, AreAt}
 use Rattle.board_run.proofs.LegLemmas.{at_here}
 use Rattle.board_run.specs.declared.board.RunEnd.TheVariants as ends
@@ -28,7 +28,7 @@ pub record Went {S P : Type 0} (m : Machine S) (state : P → S) (wakes : P → 
   pub steps_are : more ≡ steps + active_pairs m v.wiring v.inputs (map state v.parts) v.cycle (u - v.cycle)
 
 -- where its parts stood at cycle t and stand at cycle u
-pub went_to : {S P : Type 0} (m : Machine S) (laws : Laws m) (w : Wiring) (state : P → S) (now wakes : P → ℕ) (inputs : List Input) (t u : ℕ) (given_up changed : Bool) (old new : List P) (before seen : Seen) (steps more : ℕ) →
+pub went_to : {S P : Type 0} (m : Machine S) (laws : Laws m) (w : Wiring) (state : P → S) (now wakes : P → ℕ) (inputs : List Input) (t u : ℕ) (given_up changed : Bool) (old new : List P) (before seen : ReadingView) (steps more : ℕ) →
     AreAt now t old → AreAt now u new → Leg m w state now wakes inputs t u old new before seen steps more →
     Went m state wakes (record { parts = old; wiring = w; inputs = inputs; cycle = t; given_up = given_up; before = shown_at t before; changed = changed }) u new (shown_at u seen) steps more
 went_to {S} {P} m laws w state now wakes inputs t u given_up changed old new before seen steps more first last leg =

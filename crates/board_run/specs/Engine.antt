@@ -18,7 +18,7 @@ use Rattle.board_laws.specs.Steady.{IsSteady}
 use Rattle.board_run.specs.Changes.{LastTells}
 use Rattle.board_run.specs.CutOff.{IsCutOff}
 use Rattle.board_run.specs.Upcoming.{AreBehind, IsInOrder}
-use Rattle.board_run.specs.Seen.{Suits, IsTold, IsRead, levels_on, retold, shown_at}
+use Rattle.board_run.specs.ReadingView.{Suits, IsTold, IsRead, levels_on, retold, shown_at}
 use Rattle.board_run.specs.Parts.{has_part, AreNone}
 use Rattle.board_run.specs.Lagging.{glided, AreLate, MayTurnAt, to_wake, turned, OthersStay, Replaced, Shifted, TookTurn, AreDue, AllTurn, AreCounted}
 use Rattle.board_run.specs.Legs.{Kept, Lags, Leg, IsAlone}

@@ -8,13 +8,13 @@ use Rattle.part_law.specs.Machine.{Machine, glide, IsQuiet, IsFirstDue}
 use Rattle.board_model.specs.Board.{input_at, part_step, steps_from}
 use Rattle.board_model.specs.Rows.{same_list, same_level}
 use Rattle.board_model.specs.Fits.{Fits}
-use Rattle.net_resolve.specs.Circuit.{Circuit}
+use Rattle.net_resolve.specs.NetsView.{NetsView}
 use Rattle.board_laws.specs.Alike.{Alike, SameShow}
 use Rattle.board_laws.specs.Active.{active_in, sum_below}
 use Rattle.board_laws.specs.Stands.{Stands}
 use Rattle.board_run.specs.declared.part_set.PartSet.{PartSet}
 use Rattle.board_run.specs.Parts.{has_part}
-use Rattle.board_run.specs.Seen.{IsTold, levels_on}
+use Rattle.board_run.specs.ReadingView.{IsTold, levels_on}
 
 abbrev pub is_at : Option ℕ → ℕ → Bool
 is_at None t = false
@@ -101,7 +101,7 @@ module _ {S P : Type 0} (m : Machine S) (w : Wiring) (state : P → S) (now wake
       → more ≡ steps + sum_below (length old) (λ k. active_in m w inputs ls t k (slice_get ts k))
 
 -- Part i of some parts was p and is q, which has as many pins and contacts; the nets were told what those before show.
-pub record Replaced {S P : Type 0} (m : Machine S) (w : Wiring) (state : P → S) (i : ℕ) (old new : List P) (c : Circuit) (p q : P) : Type 0 where
+pub record Replaced {S P : Type 0} (m : Machine S) (w : Wiring) (state : P → S) (i : ℕ) (old new : List P) (c : NetsView) (p q : P) : Type 0 where
   pub was : slice_get old i ≡ Some p
   pub new_is : new ≡ slice_set old i q
   pub pins : length (m.drives (state q)) ≡ length (m.drives (state p))

@@ -10,7 +10,7 @@ use Rattle.board_model.specs.Rows.{shown_before}
 use Rattle.board_model.specs.Fits.{Fits}
 use Rattle.board_laws.specs.Active.{active_cycles, active_pairs}
 use Rattle.board_run.specs.Upcoming.{AreBehind}
-use Rattle.board_run.specs.Seen.{Seen, Suits, IsOf, IsTold, levels_on, shown_at}
+use Rattle.board_run.specs.ReadingView.{ReadingView, Suits, IsOf, IsTold, levels_on, shown_at}
 use Rattle.board_run.specs.Parts.{AreNone}
 use Rattle.board_run.specs.Lagging.{glided, MayTurnAt}
 
@@ -22,7 +22,7 @@ pub record Kept : Type 0 where
   pub stale : Bool
   -- the first due cycle of each part
   pub dues : List (Option ℕ)
-  pub seen : Seen
+  pub seen : ReadingView
   pub answers : List (Option ℕ)
 
 -- each part stands at the cycle
@@ -45,7 +45,7 @@ module _ {S P : Type 0} (m : Machine S) (w : Wiring) (state : P → S) (now wake
     pub holds : (k : ℕ) (p : P) → slice_get parts k ≡ Some p → 0 < t → m.held (state p) ≡ levels_on m w kept.seen.circuit.levels k (state p)
 
   -- From cycle t to cycle u the parts went on as the board does, and were woken where they are active.
-  pub record Leg (inputs : List Input) (t u : ℕ) (old new : List P) (seen after : Seen) (steps more : ℕ) : Type 0 where
+  pub record Leg (inputs : List Input) (t u : ℕ) (old new : List P) (seen after : ReadingView) (steps more : ℕ) : Type 0 where
     pub order : t ≤ u
     pub long : length new ≡ length old
     pub states_are : map (glided m state now wakes u) new ≡ states m w inputs (map (glided m state now wakes t) old) t (u - t)

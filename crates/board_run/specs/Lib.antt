@@ -2,7 +2,7 @@ pub mod Parts
 pub mod BoardView
 pub mod Changes
 pub mod CutOff
-pub mod Seen
+pub mod ReadingView
 pub mod Upcoming
 pub mod Lagging
 pub mod Legs

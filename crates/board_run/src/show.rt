@@ -1,6 +1,6 @@
 //! What a board shows in a cycle.
 ghost use Rattle.std.specs.Prelude.{◌≡◌, map};
-ghost use Rattle.board_run.specs.Seen.{IsRead};
+ghost use Rattle.board_run.specs.ReadingView.{IsRead};
 ghost use Rattle.board_run.specs.Engine.{MayRun, Watches, ShowedCycle};
 
 use crate::engine::Engine;

@@ -2,7 +2,7 @@
 ghost use Rattle.std.specs.Prelude.{◌≡◌, ◌≢◌, ℕ, ◌+◌, ◌^◌, ◌<◌, ◌≤◌, length, map, take, true, false, Some, slice_get, slice_index};
 ghost use Rattle.part_law.specs.Spans.{IsIn};
 ghost use Rattle.board_model.specs.Board.{drives_of, contacts_of};
-ghost use Rattle.board_run.specs.Seen.{HasAt, Put};
+ghost use Rattle.board_run.specs.ReadingView.{HasAt, Put};
 ghost use Rattle.board_run.specs.Engine.{MayTell, ToldOf};
 
 use crate::engine::Engine;

@@ -7,7 +7,7 @@ use Rattle.std.proofs.lemmas.Option.{slice_get_within, get_or_from_slice_get}
 use Rattle.std.specs.Prelude.{◌==◌, if◌then◌else◌, slice_get, slice_index, slice_set}
 use Rattle.board_model.specs.Pairs.{ArePairs}
 use Rattle.board_model.proofs.Lists.{some_same, some_map, get_map_some, get_within, get_set_same, get_set_other, lent_whole, take_whole}
-use Rattle.net_resolve.specs.Wired.{Wired}
+use Rattle.net_resolve.specs.WholeView.{WholeView}
 use Rattle.net_resolve.specs.Subcircuits.{SubcircuitView, IsCut, IsSubcircuit, AreSubcircuits, AreOwn, own_pair, picked, labels_of}
 use Rattle.net_resolve.specs.Sorted.{ArePicked}
 use Rattle.net_resolve.proofs.PickLemmas.{picked_key}
@@ -69,7 +69,7 @@ labels_below labels long below keys same k key e =
     omega (arith, long, below k, get_or_from_slice_get labels k key 0 there, slice_get_within labels k key there)
 
 -- the labels of nets are numbers of nets
-pub net_labels_below : (w : Wired) (labels : List ℕ) → IsCut w labels → (keys : List ℕ) → keys ≡ map (slice_index labels) w.net_of →
+pub net_labels_below : (w : WholeView) (labels : List ℕ) → IsCut w labels → (keys : List ℕ) → keys ≡ map (slice_index labels) w.net_of →
     (k key : ℕ) → slice_get keys k ≡ Some key → key < w.nets
 net_labels_below w labels cut keys ek = mapped_below (slice_index labels) w.net_of keys w.nets ek (λ j n at. omega (arith, cut.below n, cut.pins_within j n at))
 
@@ -117,7 +117,7 @@ places_within f xs q places are j k e =
     let x = get_map_some f xs k q (picked_within q (map f xs) j k (subst (λ (l : List ℕ). slice_get l j ≡ Some k) are e)) in
     slice_get_within xs k x.0 x.1
 
-module _ (w : Wired) (labels : List ℕ) (cut : IsCut w labels) (q : ℕ) (nets : List ℕ) (nets_are : nets ≡ picked q 0 labels)
+module _ (w : WholeView) (labels : List ℕ) (cut : IsCut w labels) (q : ℕ) (nets : List ℕ) (nets_are : nets ≡ picked q 0 labels)
     (numbers : List ℕ) (long : length numbers ≡ w.nets) (numbered : (i n : ℕ) → slice_get nets i ≡ Some n → slice_get numbers n ≡ Some i) where
   -- the net of the number of a net
   number_of : (n : ℕ) → n < w.nets → slice_index labels n ≡ q → slice_get nets (slice_index numbers n) ≡ Some n
@@ -184,7 +184,7 @@ snoc_cases (x ∷ xs) y z (suc k) e = elim (snoc_cases xs y z k e) [
   | inr r ↦ inr (ap suc r.0, r.1)
 ]
 
-pub subcircuits_more : (w : Wired) (labels : List ℕ) (subs : List SubcircuitView) (q : ℕ) (s : SubcircuitView) → length subs ≡ q → AreSubcircuits w labels subs → IsSubcircuit w labels q s → AreSubcircuits w labels (subs ++ s ∷ [])
+pub subcircuits_more : (w : WholeView) (labels : List ℕ) (subs : List SubcircuitView) (q : ℕ) (s : SubcircuitView) → length subs ≡ q → AreSubcircuits w labels subs → IsSubcircuit w labels q s → AreSubcircuits w labels (subs ++ s ∷ [])
 subcircuits_more w labels subs q s long before is p t e = elim (snoc_cases subs s t p e) [
   | inl l ↦ before p t l
   | inr r ↦
@@ -193,7 +193,7 @@ subcircuits_more w labels subs q s long before is p t e = elim (snoc_cases subs 
 ]
 
 -- one more subcircuit was put behind the others
-pub subcircuits_next : (w : Wired) (labels : List ℕ) (subs all : List SubcircuitView) (q : ℕ) (s : SubcircuitView) → all ≡ subs ++ s ∷ [] → length subs ≡ q → AreSubcircuits w labels subs → IsSubcircuit w labels q s →
+pub subcircuits_next : (w : WholeView) (labels : List ℕ) (subs all : List SubcircuitView) (q : ℕ) (s : SubcircuitView) → all ≡ subs ++ s ∷ [] → length subs ≡ q → AreSubcircuits w labels subs → IsSubcircuit w labels q s →
     record { long : length all ≡ q + 1; subcircuits : AreSubcircuits w labels all }
 subcircuits_next w labels subs all q s e long before is = record {
   long = omega (arith, ap length e, length-append subs (s ∷ []), long);

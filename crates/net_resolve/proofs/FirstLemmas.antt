@@ -7,20 +7,20 @@ use Rattle.sim_base.specs.declared.signal.Level.{Level}
 use Rattle.sim_base.specs.declared.signal.Level.TheVariants as levels
 use Rattle.sim_base.specs.declared.wiring.Wiring.{Wiring}
 use Rattle.board_model.specs.Board.{level_at}
-use Rattle.net_resolve.specs.Circuit.{Circuit}
+use Rattle.net_resolve.specs.NetsView.{NetsView}
 use Rattle.net_resolve.specs.Marked.{has}
 use Rattle.net_resolve.specs.Shown.{AreShown}
 use Rattle.net_resolve.specs.Watched.{IsWatch, flagged, differing}
 use Rattle.net_resolve.specs.declared.watch.Watch.{Watch}
 use Rattle.net_resolve.specs.declared.nets.Nets.TheInside.{Inside}
 use Rattle.net_resolve.specs.declared.shown.Shown.{Shown}
-use Rattle.net_resolve.specs.Wired.{Wired, wired}
+use Rattle.net_resolve.specs.WholeView.{WholeView, wired}
 use Rattle.net_resolve.specs.Subcircuits.{SubcircuitView, IsCut, AreSubcircuits, AreRight, circuit_of}
 use Rattle.net_resolve.proofs.PinLemmas.{pins_z}
 use Rattle.net_resolve.proofs.RightLemmas.{right_none}
 use Rattle.net_resolve.proofs.WatchLemmas.{none_flagged, none_differs}
 
-abbrev circuit : ℕ → List ℕ → List (ℕ × ℕ) → List (ℕ × ℕ) → List Drive → List Bool → List Level → List ℕ → List Bool → List Drive → Circuit
+abbrev circuit : ℕ → List ℕ → List (ℕ × ℕ) → List (ℕ × ℕ) → List Drive → List Bool → List Level → List ℕ → List Bool → List Drive → NetsView
 circuit n ns cs rs ds cl ls ch ws ks = record { nets = n; net_of = ns; contacts = cs; resistors = rs; drives = ds; closed = cl; levels = ls; changed = ch; watched = ws; kept = ks }
 
 -- there are as many levels as nets
@@ -55,7 +55,7 @@ module _ (w : Wiring) (n : ℕ) (net_of : List ℕ) (contacts resistors : List (
   same = rw (count, es, ec, er) refl
 
   first_cut : IsCut (wired n net_of contacts resistors) labels
-  first_cut = subst (λ (x : Wired). IsCut x labels) same cut
+  first_cut = subst (λ (x : WholeView). IsCut x labels) same cut
 
   pub first_invariant : (subs : List SubcircuitView) → length subs ≡ w.nets → AreSubcircuits (circuit_of w) labels subs →
       (room : ℕ) (marked : List ℕ) → room ≡ w.nets → room ≤ 65535 → ((q : ℕ) → q < w.nets → has marked q ≡ true) →
@@ -75,7 +75,7 @@ module _ (w : Wiring) (n : ℕ) (net_of : List ℕ) (contacts resistors : List (
       }
   first_invariant subs subs_long are room marked room_is few all changed_is epl net_count driven ds ek ed eds pair_count flags cl ep ef ecl watch ew ek2 none = record {
     cut = first_cut;
-    subcircuits = subst (λ (x : Wired). AreSubcircuits x labels subs) same are;
+    subcircuits = subst (λ (x : WholeView). AreSubcircuits x labels subs) same are;
     right = right_none (wired n net_of contacts resistors) labels first_cut marked cl ds shown.levels.items (λ q l. all q (subst (λ (k : ℕ). q < k) count l));
     subcircuits_long = subs_long ∙ sym count;
     marks_room = room_is ∙ sym count;
@@ -90,5 +90,5 @@ module _ (w : Wiring) (n : ℕ) (net_of : List ℕ) (contacts resistors : List (
   }
 
 -- what callers see of what Nets has inside, with these drives, flags and kept drives
-abbrev pub seen_of : Inside → List Drive → List Bool → List Drive → Circuit
+abbrev pub seen_of : Inside → List Drive → List Bool → List Drive → NetsView
 seen_of x ds ws ks = circuit x.shown.levels.len x.net_of.items x.contacts.items x.resistors.items ds x.closed.items x.shown.levels.items x.shown.changed.marked ws ks

@@ -7,7 +7,7 @@ use Rattle.sim_base.specs.declared.signal.Level.{Level}
 use Rattle.sim_base.specs.declared.signal.Level.TheVariants as levels
 use Rattle.board_model.specs.Board.{level_at}
 use Rattle.board_model.proofs.Lists.{some_same, some_map, get_map_some, same_lists}
-use Rattle.net_resolve.specs.Wired.{Wired}
+use Rattle.net_resolve.specs.WholeView.{WholeView}
 use Rattle.net_resolve.specs.Subcircuits.{Lacks, SubcircuitView, IsSubcircuit, HasAllPins}
 use Rattle.net_resolve.proofs.PickLemmas.{picked_at}
 use Rattle.net_resolve.proofs.SubcircuitLemmas.{net_label}
@@ -41,7 +41,7 @@ here_or_lacks (x ∷ ns) n = elim (eqb_tells x n) [
     both other none (suc j) e = none j e
 
 -- a subcircuit has all pins on its nets
-pub all_pins : (w : Wired) (labels : List ℕ) (q : ℕ) (s : SubcircuitView) → IsSubcircuit w labels q s → HasAllPins w.net_of s
+pub all_pins : (w : WholeView) (labels : List ℕ) (q : ℕ) (s : SubcircuitView) → IsSubcircuit w labels q s → HasAllPins w.net_of s
 all_pins w labels q s is k n e lacks j there =
     let labelled : slice_get (map (slice_index labels) w.net_of) k ≡ Some q = some_map (slice_index labels) w.net_of k n e ∙ ap Some (net_label labels q s.nets is.nets_are j n there) in
     let at = picked_at q 0 (map (slice_index labels) w.net_of) k labelled in

@@ -10,8 +10,8 @@ use Rattle.sim_base.specs.declared.signal.Level.{Level}
 use Rattle.board_model.specs.Walks.{below}
 use Rattle.board_model.specs.Resolve.{level_of, resolve}
 use Rattle.board_model.proofs.Lists.{some_same, some_map, get_within, get_set_other, get-below, length-below, same_lists}
-use Rattle.net_resolve.specs.Wired.{Wired, levels_of}
-use Rattle.net_resolve.specs.Circuit.{AreChanged}
+use Rattle.net_resolve.specs.WholeView.{WholeView, levels_of}
+use Rattle.net_resolve.specs.NetsView.{AreChanged}
 use Rattle.net_resolve.specs.Marked.{MarksView, has, with_mark}
 use Rattle.net_resolve.specs.Shown.{Moves}
 use Rattle.net_resolve.specs.Subcircuits.{Lacks, SubcircuitView, IsCut, IsSubcircuit, AreSubcircuits, AreRight, FitsIn, AreApart, own_wired, labels_of, level_now}
@@ -56,7 +56,7 @@ fresh_step subs q s rest before after old new apart at once others moves fresh p
     let on : has rest q ≡ true = ap (has rest) same ∙ left in
     absurd cc))
 
-pub subs_apart : (w : Wired) (labels : List ℕ) (subs : List SubcircuitView) → AreSubcircuits w labels subs → AreApart subs
+pub subs_apart : (w : WholeView) (labels : List ℕ) (subs : List SubcircuitView) → AreSubcircuits w labels subs → AreApart subs
 subs_apart w labels subs are p q j k n s t at there e f =
     sym (net_label labels p s.nets (are p s at).nets_are j n e) ∙ net_label labels q t.nets (are q t there).nets_are k n f
 
@@ -65,7 +65,7 @@ item_there [] i h = absurd (omega arith)
 item_there (x ∷ xs) zero h = (x, refl)
 item_there (x ∷ xs) (suc i) h = item_there xs i (omega arith)
 
-module _ (w : Wired) (labels : List ℕ) (cut : IsCut w labels) where
+module _ (w : WholeView) (labels : List ℕ) (cut : IsCut w labels) where
   -- the items at the places of pins and of contacts
   module _ (q : ℕ) (s : SubcircuitView) (is : IsSubcircuit w labels q s) where
     abbrev own_drives : List Drive → List Drive
@@ -204,7 +204,7 @@ module _ (w : Wired) (labels : List ℕ) (cut : IsCut w labels) where
       some_same (sym ex ∙ is ∙ sym at ∙ ey))
 
 -- where everything is marked nothing is said
-pub right_none : (w : Wired) (labels : List ℕ) → IsCut w labels → (marked : List ℕ) (cs : List Bool) (ds : List Drive) (levels : List Level) → ((q : ℕ) → q < w.nets → has marked q ≡ true) → AreRight w labels marked cs ds levels
+pub right_none : (w : WholeView) (labels : List ℕ) → IsCut w labels → (marked : List ℕ) (cs : List Bool) (ds : List Drive) (levels : List Level) → ((q : ℕ) → q < w.nets → has marked q ≡ true) → AreRight w labels marked cs ds levels
 right_none w labels cut marked cs ds levels all n l f =
     let on = all (slice_index labels n) (omega (arith, cut.below n)) in
     absurd cc

@@ -9,7 +9,7 @@ use Rattle.board_model.specs.Walks.{below}
 use Rattle.board_model.specs.Nets.{joins}
 use Rattle.board_model.specs.Resolve.{level_of, resolve}
 use Rattle.board_model.proofs.Lists.{some_same, some_map, get_map_some, get_within, get-below}
-use Rattle.net_resolve.specs.Wired.{Wired, levels_of}
+use Rattle.net_resolve.specs.WholeView.{WholeView, levels_of}
 use Rattle.net_resolve.specs.Subcircuits.{Lacks, AreOnce, SubcircuitView, IsCut, IsSubcircuit, AreOwn, own_wired, picked, labels_of, level_now}
 use Rattle.union_find.proofs.PairLemmas.{joins_cases, joins_is, joins_swap, contact_of, contact_is, contact_bounds, joined_bounds}
 use Rattle.net_resolve.proofs.ReachLemmas.{any_at, any_some}
@@ -166,7 +166,7 @@ module _ (labels : List ℕ) (q : ℕ) (nets : List ℕ) (are : nets ≡ picked 
             subst (λ (z : Drive). Sub nets ((n, e) ∷ zip ns es) ((o, z) ∷ zip own mine)) same (taken o n e (zip ns es) (zip own mine) (head_a ∙ hn) (rest own mine tail_a tail_b))
 
 -- a subcircuit with what its pins drive and which of its contacts are closed
-module _ (w : Wired) (labels : List ℕ) (cut : IsCut w labels) (q : ℕ) (s : SubcircuitView) (is : IsSubcircuit w labels q s)
+module _ (w : WholeView) (labels : List ℕ) (cut : IsCut w labels) (q : ℕ) (s : SubcircuitView) (is : IsSubcircuit w labels q s)
     (cs : List Bool) (ds : List Drive) (own_cs : List Bool) (own_ds : List Drive) (long : length ds ≡ length w.net_of)
     (closed : map Some own_cs ≡ map (slice_get cs) s.contacts) (driven : map Some own_ds ≡ map (slice_get ds) s.pins) where
   abbrev bonds : List ℕ

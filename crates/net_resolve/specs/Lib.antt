@@ -1,8 +1,8 @@
 pub mod Groups
 pub mod Sums
 pub mod Marked
-pub mod Circuit
-pub mod Wired
+pub mod NetsView
+pub mod WholeView
 pub mod Subcircuits
 pub mod Sorted
 pub mod Resolutions

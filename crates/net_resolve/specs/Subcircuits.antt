@@ -5,7 +5,7 @@ use Rattle.sim_base.specs.declared.signal.Drive.{Drive}
 use Rattle.sim_base.specs.declared.signal.Level.{Level}
 use Rattle.board_model.specs.Resolve.{level_of}
 use Rattle.sim_base.specs.declared.wiring.Wiring.{Wiring}
-use Rattle.net_resolve.specs.Wired.{Wired, wired}
+use Rattle.net_resolve.specs.WholeView.{WholeView, wired}
 use Rattle.net_resolve.specs.Marked.{has}
 use Rattle.board_model.specs.Pairs.{ArePairs}
 
@@ -34,14 +34,14 @@ pub record SubcircuitView : Type 0 where
   pub own_resistors : List (ℕ × ℕ)
 
 -- a subcircuit as a board of its own
-abbrev pub own_wired : SubcircuitView → Wired
+abbrev pub own_wired : SubcircuitView → WholeView
 own_wired s = wired (length s.nets) s.own_nets s.own_contacts s.own_resistors
 
-abbrev pub circuit_of : Wiring → Wired
+abbrev pub circuit_of : Wiring → WholeView
 circuit_of w = wired w.nets w.net_of w.contacts w.resistors
 
 -- Each net has the number of its subcircuit, and what is joined has the same one.
-pub record IsCut (w : Wired) (labels : List ℕ) : Type 0 where
+pub record IsCut (w : WholeView) (labels : List ℕ) : Type 0 where
   pub long : length labels ≡ w.nets
   pub below : (n : ℕ) → slice_index labels n ≤ n
   pub pins_within : (k n : ℕ) → slice_get w.net_of k ≡ Some n → n < w.nets
@@ -64,7 +64,7 @@ abbrev pub labels_of : List ℕ → List (ℕ × ℕ) → List ℕ
 labels_of labels pairs = map (λ c. slice_index labels c.0) pairs
 
 -- the subcircuit with number q
-pub record IsSubcircuit (w : Wired) (labels : List ℕ) (q : ℕ) (s : SubcircuitView) : Type 0 where
+pub record IsSubcircuit (w : WholeView) (labels : List ℕ) (q : ℕ) (s : SubcircuitView) : Type 0 where
   pub nets_are : s.nets ≡ picked q 0 labels
   pub pins_are : s.pins ≡ picked q 0 (map (slice_index labels) w.net_of)
   pub contacts_are : s.contacts ≡ picked q 0 (labels_of labels w.contacts)
@@ -77,14 +77,14 @@ abbrev pub HasAllPins : List ℕ → SubcircuitView → Type 0
 HasAllPins net_of s = (k n : ℕ) → slice_get net_of k ≡ Some n → Lacks s.pins k → Lacks s.nets n
 
 -- the level of a net by these contacts and drives
-abbrev pub level_now : Wired → List Bool → List Drive → ℕ → Level
+abbrev pub level_now : WholeView → List Bool → List Drive → ℕ → Level
 level_now w closed ds n = level_of w.nets w.net_of w.contacts w.resistors closed ds n
 
 -- The levels are right on each net whose subcircuit is not marked.
-abbrev pub AreRight : Wired → List ℕ → List ℕ → List Bool → List Drive → List Level → Type 0
+abbrev pub AreRight : WholeView → List ℕ → List ℕ → List Bool → List Drive → List Level → Type 0
 AreRight w labels marked closed ds levels = (n : ℕ) → n < w.nets → has marked (slice_index labels n) ≡ false → slice_get levels n ≡ Some (level_now w closed ds n)
 
-abbrev pub AreSubcircuits : Wired → List ℕ → List SubcircuitView → Type 0
+abbrev pub AreSubcircuits : WholeView → List ℕ → List SubcircuitView → Type 0
 AreSubcircuits w labels subs = (q : ℕ) (s : SubcircuitView) → slice_get subs q ≡ Some s → IsSubcircuit w labels q s
 
 -- no net is in two subcircuits

@@ -6,7 +6,7 @@ ghost use Rattle.board_model.specs.Fits.{IsWiring};
 ghost use Rattle.board_model.specs.Board.{level_at};
 ghost use Rattle.board_model.specs.Resolve.{resolve};
 ghost use Rattle.board_model.specs.Rows.{same_list, same_drive};
-ghost use Rattle.net_resolve.specs.Circuit.{Circuit, AreChanged};
+ghost use Rattle.net_resolve.specs.NetsView.{NetsView, AreChanged};
 ghost use Rattle.net_resolve.specs.Marked.{has};
 ghost use Rattle.net_resolve.specs.Subcircuits.{IsCut, AreSubcircuits, circuit_of};
 ghost use Rattle.net_resolve.specs.Watched.{flagged};
@@ -45,13 +45,13 @@ pub struct Nets {
 
 impl Model for Nets {
     ghost use Rattle.std.specs.Prelude.{◌≡◌, length, vec_len};
-    ghost use Rattle.net_resolve.specs.Circuit.{Circuit};
-    ghost use Rattle.net_resolve.specs.Wired.{wired};
+    ghost use Rattle.net_resolve.specs.NetsView.{NetsView};
+    ghost use Rattle.net_resolve.specs.WholeView.{wired};
     ghost use Rattle.net_resolve.specs.Subcircuits.{IsCut, AreSubcircuits, AreRight};
     ghost use Rattle.net_resolve.specs.Shown.{AreShown};
     ghost use Rattle.net_resolve.specs.Watched.{IsWatch, flagged};
 
-    ghost Value = { Circuit };
+    ghost Value = { NetsView };
 
     ghost view = { λ a. record {
       nets = vec_len a.shown.levels;

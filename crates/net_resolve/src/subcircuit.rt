@@ -1,7 +1,7 @@
 //! Nets that no contact and no resistor connects with others: their levels are found alone.
 ghost use Rattle.std.specs.Prelude.{◌≡◌, ℕ, ◌<◌, List, length, map, Some, slice_get, IfOk, Bool, false};
 ghost use Rattle.sim_base.specs.declared.signal.Drive.{Drive};
-ghost use Rattle.net_resolve.specs.Wired.{levels_of};
+ghost use Rattle.net_resolve.specs.WholeView.{levels_of};
 ghost use Rattle.net_resolve.specs.Marked.{has};
 ghost use Rattle.net_resolve.specs.Subcircuits.{SubcircuitView, Lacks, FitsIn, own_wired};
 ghost use Rattle.net_resolve.specs.Resolutions.{IsResolution, AreResolutions, ArePlaces, IsBy, last_of};

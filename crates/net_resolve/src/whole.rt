@@ -1,6 +1,6 @@
 //! Nets that are resolved as a whole.
 ghost use Rattle.std.specs.Prelude.{◌≡◌, ℕ, ◌<◌, ◌≤◌, List, length, Some, slice_get, IfOk, vec_len};
-ghost use Rattle.net_resolve.specs.Wired.{Wired, wired, levels_of};
+ghost use Rattle.net_resolve.specs.WholeView.{WholeView, wired, levels_of};
 ghost use Rattle.net_resolve.specs.Groups.{AreGroups};
 ghost use Rattle.board_model.specs.Pairs.{ArePairs};
 
@@ -26,11 +26,11 @@ pub(crate) struct Whole {
 impl Model for Whole {
     ghost use Rattle.std.specs.Prelude.{◌≡◌, ℕ, ◌<◌, ◌≤◌, length, Some, slice_get, vec_len};
     ghost use Rattle.board_model.specs.Pairs.{ArePairs};
-    ghost use Rattle.net_resolve.specs.Wired.{Wired};
+    ghost use Rattle.net_resolve.specs.WholeView.{WholeView};
     ghost use Rattle.net_resolve.specs.Groups.{AreGroups};
     ghost use Rattle.net_resolve.specs.Rooms.{FitsRoom};
 
-    ghost Value = { Wired };
+    ghost Value = { WholeView };
 
     ghost view = { λ a. record {
       nets = vec_len a.groups;

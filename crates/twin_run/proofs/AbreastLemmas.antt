@@ -29,7 +29,7 @@ use Rattle.board_laws.proofs.SteadyLaw.{steady_states}
 use Rattle.board_laws.proofs.TwinLaw.{beside_active}
 use Rattle.board_laws.proofs.WithChips.{rest_with_chips, get-with_chips}
 use Rattle.board_run.specs.BoardView.{BoardView}
-use Rattle.board_run.specs.Seen.{levels_on}
+use Rattle.board_run.specs.ReadingView.{levels_on}
 use Rattle.board_run.proofs.LegLemmas.{quiet_rest, stands_later}
 use Rattle.board_run.proofs.StepLemmas.{fits_pins}
 use Rattle.twin_run.specs.Beside.{Abreast, AreBehind, AreComparable, BoardAt, BoardWent, ChipsAt, ChipsTurned, HasRoom, IsChipOf, active_beside, at_cycle, beside_at, beside_pairs, difference_of, own_at, own_pairs, view_of}

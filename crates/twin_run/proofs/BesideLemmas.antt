@@ -25,7 +25,7 @@ use Rattle.board_laws.proofs.StandsLaw.{stands_holds, stands_shows}
 use Rattle.board_laws.proofs.SteadyLaw.{steady_levels, steady_states}
 use Rattle.board_laws.proofs.TwinLaw.{none_where_same}
 use Rattle.board_run.specs.Lagging.{HadTurn}
-use Rattle.board_run.specs.Seen.{levels_on}
+use Rattle.board_run.specs.ReadingView.{levels_on}
 use Rattle.board_run.proofs.TurnLemmas.{had_turn, some_there}
 use Rattle.twin_run.specs.Beside.{AreBehind, ChipsTurned, IsChipOf, active_beside, at_cycle, beside_at, beside_pairs, chip_wake, own_at}
 use Rattle.twin_run.specs.Twins.{AreTwins, TwinView, other_states}

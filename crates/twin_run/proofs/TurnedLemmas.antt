@@ -19,7 +19,7 @@ use Rattle.board_laws.specs.Worlds.{is_chip}
 use Rattle.board_laws.proofs.StandsLaw.{stands_holds}
 use Rattle.board_laws.proofs.StretchLaw.{levels_are}
 use Rattle.board_run.specs.Lagging.{is_at, to_wake}
-use Rattle.board_run.specs.Seen.{levels_on}
+use Rattle.board_run.specs.ReadingView.{levels_on}
 use Rattle.board_run.proofs.NextLemmas.{below_or}
 use Rattle.board_run.proofs.TurnLemmas.{due_is}
 use Rattle.twin_run.specs.Beside.{AreBehind, ChipsTurned, IsBehind, MayTurnChip, TookAs, TookTurn, TurnedChip, at_cycle, chip_wake, wake_in, wake_of}

@@ -17,7 +17,7 @@ use Rattle.board_laws.specs.Twin.{chips_before, with_chips}
 use Rattle.board_laws.specs.Worlds.{is_chip}
 use Rattle.board_run.specs.BoardView.{BoardView}
 use Rattle.board_run.specs.Lagging.{glided, to_wake, turned}
-use Rattle.board_run.specs.Seen.{levels_on}
+use Rattle.board_run.specs.ReadingView.{levels_on}
 use Rattle.twin_run.specs.declared.beside.Beside.{Beside}
 use Rattle.twin_run.specs.declared.chips.Chips.{Chips}
 use Rattle.twin_run.specs.Twins.{AreTwins, TwinView, other_states}

@@ -4,7 +4,7 @@ use Rattle.std.proofs.lemmas.List.{length-map, length-replicate, drop_all}
 use Rattle.std.proofs.lemmas.Option.{slice_get-get_or}
 use Rattle.board_model.specs.Board.{drives_of}
 use Rattle.board_model.proofs.Lists.{some_map, get_within, take_whole}
-use Rattle.board_run.specs.Seen.{pin_flags}
+use Rattle.board_run.specs.ReadingView.{pin_flags}
 use Rattle.board_run.proofs.GatherLemmas.{item_at, flags_more}
 use Rattle.board_run.proofs.PartLemmas.{end_is}
 use Rattle.board_run.proofs.ReadLemmas.{place_more}

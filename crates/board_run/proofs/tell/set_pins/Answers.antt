@@ -2,7 +2,7 @@ use Rattle.std.proofs.Common.{◌≡◌, ◌≢◌, ◌<◌, ◌≤◌, ◌+◌,
 use Rattle.std.specs.Prelude.{slice_get, slice_set}
 use Rattle.event_queue.proofs.TreeLemmas.{set_same}
 use Rattle.sim_base.specs.declared.signal.Drive.{Drive}
-use Rattle.net_resolve.specs.Circuit.{Circuit}
+use Rattle.net_resolve.specs.NetsView.{NetsView}
 use Rattle.board_model.proofs.Lists.{lt_or_eq, get_set_same, get_set_other}
 use Rattle.board_run.proofs.ReadLemmas.{span_put, span_there}
 use Rattle.board_run.proofs.tell.set_pins.Goals.{then-drives_other, else-drives_other}
@@ -22,7 +22,7 @@ loop-pin-preserved g c =
       | then-drives_other w ↦ w.nets-is ∙ w.set_drive.ensures
       | else-drives_other w ↦ w.nets-is ∙ ap (λ (l : List Drive). record c.loop-pin.nets { drives = l }) (sym (set_same ds (c.args.at + pin) d (c.drives_other.ensures.same w.if-drives_other.false)))
     ] in
-    let new = ap (λ (x : Circuit). x.drives) told in
+    let new = ap (λ (x : NetsView). x.drives) told in
     let was : slice_get ds (c.args.at + pin) ≡ slice_get c.args.nets.now.drives (c.args.at + pin) = i.rest (c.args.at + pin) (inr (omega arith)) in
     let to : c.min-to.result ≤ c.pins.result = grind (arith, c.min-to.ensures) in
     record {
@@ -50,7 +50,7 @@ loop-pin-preserved g c =
         | else-drives_other w ↦ i.other (sym w.changed-is ∙ one) has
         | then-drives_other w ↦ c.drives_other.ensures.other w.if-drives_other.true (was ∙ has pin (omega (arith, c.loop-pin-test.true, c.pins.ensures, c.min-to.ensures, to)) ∙ c.drive-drive.ensures)
       ];
-      others = told ∙ ap (λ (x : Circuit). record x { drives = slice_set ds (c.args.at + pin) d }) i.others ∙ ap (λ (xs : List Drive). record c.args.nets.now { drives = xs }) (sym new);
+      others = told ∙ ap (λ (x : NetsView). record x { drives = slice_set ds (c.args.at + pin) d }) i.others ∙ ap (λ (xs : List Drive). record c.args.nets.now { drives = xs }) (sym new);
     }
 
 pub returns-clause-put : goal.returns-clause-put

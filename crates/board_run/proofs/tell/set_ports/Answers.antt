@@ -1,8 +1,8 @@
 use Rattle.std.proofs.Common.{◌≡◌, ◌<◌, ◌+◌, ◌∙◌, ap, sym, subst, arith, length, List, Bool, ℕ, inl, inr}
 use Rattle.std.specs.Prelude.{slice_get, slice_set}
 use Rattle.std.proofs.lemmas.Bool.{or_cases, or_parts}
-use Rattle.net_resolve.specs.Circuit.{Circuit}
-use Rattle.board_run.specs.Seen.{Put}
+use Rattle.net_resolve.specs.NetsView.{NetsView}
+use Rattle.board_run.specs.ReadingView.{Put}
 use Rattle.board_model.proofs.Lists.{lt_or_eq}
 use Rattle.board_run.proofs.ReadLemmas.{put_more}
 use Rattle.board_run.proofs.tell.set_ports.Goals as goal
@@ -16,7 +16,7 @@ loop-i-preserved g c =
     let cs = p.machine.contacts (p.state c.args.part.now) in
     let i = c.loop-i.invariant in
     let room : c.args.at + c.loop-i.i < length c.loop-i.nets.closed = omega (arith, i.put.long, c.requires.room, c.requires.long, c.contacts-contacts.ensures) in
-    let new = ap (λ (x : Circuit). x.closed) c.set_contact.ensures in
+    let new = ap (λ (x : NetsView). x.closed) c.set_contact.ensures in
     let was : slice_get c.loop-i.nets.closed (c.args.at + c.loop-i.i) ≡ slice_get c.args.nets.now.closed (c.args.at + c.loop-i.i) = i.put.after (c.args.at + c.loop-i.i) (omega arith) in
     let there = c.contact-closed.ensures (omega (arith, c.contacts-contacts.ensures, c.loop-i-test.true)) in
     record {
@@ -32,5 +32,5 @@ loop-i-preserved g c =
         | inl before ↦ i.other before has
         | inr here ↦ c.joins_other-changed.ensures.other here (was ∙ has c.loop-i.i (omega (arith, c.loop-i-test.true, c.contacts-contacts.ensures)) ∙ there)
       ];
-      rest = c.set_contact.ensures ∙ ap (λ (x : Circuit). record x { closed = slice_set c.loop-i.nets.closed (c.args.at + c.loop-i.i) c.contact-closed.result }) i.rest ∙ ap (λ (xs : List Bool). record c.args.nets.now { closed = xs }) (sym new);
+      rest = c.set_contact.ensures ∙ ap (λ (x : NetsView). record x { closed = slice_set c.loop-i.nets.closed (c.args.at + c.loop-i.i) c.contact-closed.result }) i.rest ∙ ap (λ (xs : List Bool). record c.args.nets.now { closed = xs }) (sym new);
     }

@@ -1,6 +1,6 @@
 use Rattle.std.proofs.Common.{◌≡◌, ◌+◌, ◌<◌, ℕ, true, false}
 use Rattle.std.specs.Prelude.{slice_get}
-use Rattle.board_run.specs.Seen.{HasAt, Put}
+use Rattle.board_run.specs.ReadingView.{HasAt, Put}
 use Rattle.board_run.proofs.tell.set_ports.Given as goal
 
 abbrev pub invariant-loop-i : goal.invariant-loop-i

@@ -1,6 +1,6 @@
 use Rattle.std.proofs.Common.{◌≡◌, ◌≤◌, ◌∙◌, ap, sym, arith, length, map, refl}
 use Rattle.std.proofs.lemmas.List.{length-map}
-use Rattle.net_resolve.specs.Circuit.{Circuit}
+use Rattle.net_resolve.specs.NetsView.{NetsView}
 use Rattle.board_model.proofs.Lists.{some_map, some_same, flat_map_room}
 use Rattle.board_run.proofs.GatherLemmas.{item_at}
 use Rattle.board_run.proofs.ReadLemmas.{gathered_more, gathered_end}
@@ -13,7 +13,7 @@ tell_part-requires-clause-pins g c =
     let inv = c.loop-i.invariant in
     let es = some_map p.state c.args.parts.now i _ (item_at c.args.parts.now i c.index-parts-i-in-loop-i-2.result c.loop-i-test.true c.index-parts-i-in-loop-i-2.is) in
     let room = flat_map_room p.machine.drives (map p.state c.args.parts.now) i _ es in
-    omega (arith, room, inv.pins.place, c.requires.pins, ap (λ (x : Circuit). length x.net_of) inv.rest)
+    omega (arith, room, inv.pins.place, c.requires.pins, ap (λ (x : NetsView). length x.net_of) inv.rest)
 
 pub tell_part-requires-clause-contacts : goal.tell_part-requires-clause-contacts
 tell_part-requires-clause-contacts g c =
@@ -22,22 +22,22 @@ tell_part-requires-clause-contacts g c =
     let inv = c.loop-i.invariant in
     let es = some_map p.state c.args.parts.now i _ (item_at c.args.parts.now i c.index-parts-i-in-loop-i-2.result c.loop-i-test.true c.index-parts-i-in-loop-i-2.is) in
     let room = flat_map_room p.machine.contacts (map p.state c.args.parts.now) i _ es in
-    omega (arith, room, inv.ports.place, c.requires.contacts, ap (λ (x : Circuit). length x.contacts) inv.rest)
+    omega (arith, room, inv.ports.place, c.requires.contacts, ap (λ (x : NetsView). length x.contacts) inv.rest)
 
 pub tell_part-requires-clause-few : goal.tell_part-requires-clause-few
 tell_part-requires-clause-few g c =
     let rest = c.loop-i.invariant.rest in
-    (omega (arith, c.requires.few.0, ap (λ (x : Circuit). length x.net_of) rest), omega (arith, c.requires.few.1, ap (λ (x : Circuit). length x.contacts) rest))
+    (omega (arith, c.requires.few.0, ap (λ (x : NetsView). length x.net_of) rest), omega (arith, c.requires.few.1, ap (λ (x : NetsView). length x.contacts) rest))
 
 pub tell_part-requires-clause-drives_long : goal.tell_part-requires-clause-drives_long
 tell_part-requires-clause-drives_long g c =
     let inv = c.loop-i.invariant in
-    omega (arith, inv.pins.long, c.requires.drives_long, ap (λ (x : Circuit). length x.net_of) inv.rest)
+    omega (arith, inv.pins.long, c.requires.drives_long, ap (λ (x : NetsView). length x.net_of) inv.rest)
 
 pub tell_part-requires-clause-closed_long : goal.tell_part-requires-clause-closed_long
 tell_part-requires-clause-closed_long g c =
     let inv = c.loop-i.invariant in
-    omega (arith, inv.ports.long, c.requires.closed_long, ap (λ (x : Circuit). length x.contacts) inv.rest)
+    omega (arith, inv.ports.long, c.requires.closed_long, ap (λ (x : NetsView). length x.contacts) inv.rest)
 
 pub overflow_add-pin : goal.overflow_add-pin
 overflow_add-pin g c =
@@ -73,7 +73,7 @@ loop-i-preserved g c =
           (c.pins-pins.ensures ∙ ap (λ (x : g.row.P.Denot). length (p.machine.drives (p.state x))) (some_same (sym one ∙ it))) inv.pins c.tell_part.ensures.drives;
       ports = gathered_more p.machine.contacts ss i c.loop-i.contact c.contacts-contacts.result c.args.nets.now.closed c.loop-i.nets.closed new.closed _ es
           (c.contacts-contacts.ensures ∙ ap (λ (x : g.row.P.Denot). length (p.machine.contacts (p.state x))) (some_same (sym two ∙ it))) inv.ports c.tell_part.ensures.closed;
-      rest = c.tell_part.ensures.rest ∙ ap (λ (x : Circuit). record x { drives = new.drives; closed = new.closed }) inv.rest;
+      rest = c.tell_part.ensures.rest ∙ ap (λ (x : NetsView). record x { drives = new.drives; closed = new.closed }) inv.rest;
     }
 
 pub returns-clause-drives : goal.returns-clause-drives

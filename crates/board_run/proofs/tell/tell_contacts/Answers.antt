@@ -1,7 +1,7 @@
 use Rattle.std.proofs.Common.{◌≡◌, ◌<◌, ◌∙◌, arith, refl, subst, sym, length, map, take, true, false}
 use Rattle.board_model.proofs.Lists.{some_map, some_same, flat_map_room}
 use Rattle.board_model.specs.Board.{contacts_of}
-use Rattle.board_run.specs.Seen.{HasAt}
+use Rattle.board_run.specs.ReadingView.{HasAt}
 use Rattle.board_run.proofs.GatherLemmas.{item_at}
 use Rattle.board_run.proofs.ReadLemmas.{put_there}
 use Rattle.board_run.proofs.tell.tell_contacts.Goals as goal

@@ -4,7 +4,7 @@ use Rattle.std.proofs.lemmas.Option.{slice_get_within}
 use Rattle.std.proofs.lemmas.Result.{IfOk-weaker}
 use Rattle.std.specs.Prelude.{slice_get, slice_index}
 use Rattle.net_resolve.specs.Subcircuits.{SubcircuitView, IsSubcircuit, AreOwn, own_pair, circuit_of}
-use Rattle.net_resolve.specs.Wired.{Wired}
+use Rattle.net_resolve.specs.WholeView.{WholeView}
 use Rattle.net_resolve.proofs.SubcircuitLemmas.{nets_once, net_labelled}
 use Rattle.net_resolve.proofs.CutLemmas.{mapped_below, pairs_below, picked_length, places_within, own_nets_are, own_net_below, own_pairs_are, own_pair_below}
 use Rattle.net_resolve.proofs.WholeLemmas.{pairs_moved}
@@ -80,9 +80,9 @@ pub new-requires-2 : goal.new-requires-2
 new-requires-2 c =
     let made = c.in_ok-whole.ensures in
     record {
-      nets = sym (ap (λ (w : Wired). w.nets) made);
-      pins = sym (ap (λ (w : Wired). length w.net_of) made ∙ ap length c.in_ok-net_of.ensures ∙ length-map c.list_at-pins.result.now _);
-      contacts = sym (ap (λ (w : Wired). length w.contacts) made ∙ ap length c.in_ok-own_contacts.ensures ∙ length-map c.list_at-contacts.result.now _);
+      nets = sym (ap (λ (w : WholeView). w.nets) made);
+      pins = sym (ap (λ (w : WholeView). length w.net_of) made ∙ ap length c.in_ok-net_of.ensures ∙ length-map c.list_at-pins.result.now _);
+      contacts = sym (ap (λ (w : WholeView). length w.contacts) made ∙ ap length c.in_ok-own_contacts.ensures ∙ length-map c.list_at-contacts.result.now _);
     }
 
 pub returns : goal.returns
@@ -104,11 +104,11 @@ returns c =
     let whole = c.in_ok-whole.whole in
     let made = c.in_ok-whole.ensures in
     let own_net_of : whole.net_of ≡ map (λ (k : ℕ). slice_index numbers (slice_index w.net_of k)) pins =
-    ap (λ (x : Wired). x.net_of) made ∙ c.in_ok-net_of.ensures ∙ ap (λ (ns : List ℕ). map (λ (k : ℕ). slice_index numbers (slice_index ns k)) pins) c.as_slice.ensures in
+    ap (λ (x : WholeView). x.net_of) made ∙ c.in_ok-net_of.ensures ∙ ap (λ (ns : List ℕ). map (λ (k : ℕ). slice_index numbers (slice_index ns k)) pins) c.as_slice.ensures in
     let own_contacts : whole.contacts ≡ map (own_pair numbers w.contacts) contacts =
-    ap (λ (x : Wired). x.contacts) made ∙ c.in_ok-own_contacts.ensures ∙ ap (λ (ps : List (ℕ × ℕ)). map (own_pair numbers ps) contacts) c.as_slice-2.ensures in
+    ap (λ (x : WholeView). x.contacts) made ∙ c.in_ok-own_contacts.ensures ∙ ap (λ (ps : List (ℕ × ℕ)). map (own_pair numbers ps) contacts) c.as_slice-2.ensures in
     let own_resistors : whole.resistors ≡ map (own_pair numbers w.resistors) resistors =
-    ap (λ (x : Wired). x.resistors) made ∙ c.in_ok-own_resistors.ensures ∙ ap (λ (ps : List (ℕ × ℕ)). map (own_pair numbers ps) resistors) c.as_slice-3.ensures in
+    ap (λ (x : WholeView). x.resistors) made ∙ c.in_ok-own_resistors.ensures ∙ ap (λ (ps : List (ℕ × ℕ)). map (own_pair numbers ps) resistors) c.as_slice-3.ensures in
     let view : SubcircuitView = record { nets = nets; pins = pins; contacts = contacts; own_nets = whole.net_of; own_contacts = whole.contacts; own_resistors = whole.resistors } in
     let mine_resistors : AreOwn nets w.resistors resistors whole.resistors = subst (λ (l : List (ℕ × ℕ)). AreOwn nets w.resistors resistors l) (sym own_resistors)
     (own_pairs_are w labels s.cut q nets nets_are numbers long c.number.ensures w.resistors s.cut.resistors_within s.cut.resistors_joined resistors resistors_are) in

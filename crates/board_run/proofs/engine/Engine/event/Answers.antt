@@ -2,7 +2,7 @@ use Rattle.std.proofs.Common.{◌≡◌, ◌+◌, ◌≤◌, ◌∙◌, ap, sym,
 use Rattle.sim_base.specs.declared.bench.WriteEnd.TheVariants as writes
 use Rattle.sim_base.specs.declared.wiring.Input.{Input}
 use Rattle.board_run.specs.Upcoming.{AreBehind, IsInOrder}
-use Rattle.board_run.specs.Seen.{Seen}
+use Rattle.board_run.specs.ReadingView.{ReadingView}
 use Rattle.board_run.specs.Engine.{kept_of, MayTurnOn, TurnedOn, Showed}
 use Rattle.board_run.specs.declared.engine.Engine.{Engine}
 use Rattle.board_run.proofs.HandLemmas.{handed_both, stopped_first, stopped_second}
@@ -109,7 +109,7 @@ returns-in-Ok g c =
               handed_both o.whole o.faults o.stands out c.show-shown.new.out hand.new.out _ _ _ _ ok (hand.ensures.ok is) h.rows_are h.bytes_are,
               λ z ez.
                   let was = s.later c.in-Ok.is z (sym (hand.ensures.last is) ∙ ez) in
-                  (was.0, subst (λ (v : Seen). o.seen hand.new.out v.circuit.levels) (sym t.rest) (hand.ensures.seen is seen.circuit.levels was.1)),
+                  (was.0, subst (λ (v : ReadingView). o.seen hand.new.out v.circuit.levels) (sym t.rest) (hand.ensures.seen is seen.circuit.levels was.1)),
             );
             failed = λ is.
                 let f = hand.ensures.failed is in (

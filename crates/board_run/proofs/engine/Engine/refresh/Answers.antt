@@ -4,11 +4,11 @@ use Rattle.sim_base.specs.declared.signal.Drive.{Drive}
 use Rattle.sim_base.specs.declared.signal.Level.{Level}
 use Rattle.board_model.specs.Board.{levels_of}
 use Rattle.board_model.specs.Rows.{same_list, same_level, same_drive, chip_drives_of}
-use Rattle.net_resolve.specs.Circuit.{Circuit}
+use Rattle.net_resolve.specs.NetsView.{NetsView}
 use Rattle.net_resolve.specs.Watched.{flagged}
 use Rattle.net_resolve.proofs.ReachLemmas.{any_at}
 use Rattle.board_run.specs.Parts.{AreOn}
-use Rattle.board_run.specs.Seen.{Seen, pin_flags}
+use Rattle.board_run.specs.ReadingView.{ReadingView, pin_flags}
 use Rattle.board_run.proofs.GatherLemmas.{flagged_chips}
 use Rattle.board_run.proofs.PartLemmas.{differ_is}
 use Rattle.board_run.proofs.ShowLemmas.{fresh_same}
@@ -30,18 +30,18 @@ returns-then-self g c =
     let old = e.reading.circuit in
     let new = c.read.new.self.circuit in
     let r = c.read.ensures in
-    let circuit = ap (λ (v : Seen). v.circuit) r.rest in
+    let circuit = ap (λ (v : ReadingView). v.circuit) r.rest in
     let a = wired.nets in
     let b = wired.net_of in
     let d = wired.contacts in
     let f = wired.resistors in
     let ds = l.told.drives_are in
     let cs = l.told.closed_are in
-    let resolved = ap (λ (x : Circuit). x.levels) circuit in
+    let resolved = ap (λ (x : NetsView). x.levels) circuit in
     let levels : new.levels ≡ levels_of m w ss = cc in
-    let kept : new.kept ≡ chip_drives_of m w.chip ss = ap (λ (x : Circuit). x.kept) circuit ∙ ap (λ (flags : List Bool). flagged flags old.drives) wired.watched
+    let kept : new.kept ≡ chip_drives_of m w.chip ss = ap (λ (x : NetsView). x.kept) circuit ∙ ap (λ (flags : List Bool). flagged flags old.drives) wired.watched
     ∙ ap (flagged (pin_flags w.chip w.first_pin (length w.net_of))) ds ∙ flagged_chips m w ss l.fits in
-    let nets : new.nets ≡ w.nets = ap (λ (x : Circuit). x.nets) circuit ∙ a in
+    let nets : new.nets ≡ w.nets = ap (λ (x : NetsView). x.nets) circuit ∙ a in
     let later : length new.levels ≡ w.nets = r.long ∙ nets in
     record {
       rest = refl;
@@ -49,20 +49,20 @@ returns-then-self g c =
         suits = record {
           wired = record {
             nets = nets;
-            net_of = ap (λ (x : Circuit). x.net_of) circuit ∙ b;
-            contacts = ap (λ (x : Circuit). x.contacts) circuit ∙ d;
-            resistors = ap (λ (x : Circuit). x.resistors) circuit ∙ f;
+            net_of = ap (λ (x : NetsView). x.net_of) circuit ∙ b;
+            contacts = ap (λ (x : NetsView). x.contacts) circuit ∙ d;
+            resistors = ap (λ (x : NetsView). x.resistors) circuit ∙ f;
             levels_long = later;
-            watched = ap (λ (x : Circuit). x.watched) circuit ∙ wired.watched;
+            watched = ap (λ (x : NetsView). x.watched) circuit ∙ wired.watched;
           };
-          drives_long = ap (λ (x : Circuit). length x.drives) circuit ∙ l.suits.drives_long;
-          closed_long = ap (λ (x : Circuit). length x.closed) circuit ∙ l.suits.closed_long;
-          on_long = ap (λ (v : Seen). length v.on) r.rest ∙ l.suits.on_long;
-          on_are = subst (λ (v : Seen). AreOn w v.on) (sym r.rest) l.suits.on_are;
+          drives_long = ap (λ (x : NetsView). length x.drives) circuit ∙ l.suits.drives_long;
+          closed_long = ap (λ (x : NetsView). length x.closed) circuit ∙ l.suits.closed_long;
+          on_long = ap (λ (v : ReadingView). length v.on) r.rest ∙ l.suits.on_long;
+          on_are = subst (λ (v : ReadingView). AreOn w v.on) (sym r.rest) l.suits.on_are;
         };
         of = record {
-          drives_are = ap (λ (x : Circuit). x.drives) circuit ∙ ds;
-          closed_are = ap (λ (x : Circuit). x.closed) circuit ∙ cs;
+          drives_are = ap (λ (x : NetsView). x.drives) circuit ∙ ds;
+          closed_are = ap (λ (x : NetsView). x.closed) circuit ∙ cs;
           levels_are = levels;
           chips_are = kept;
         };

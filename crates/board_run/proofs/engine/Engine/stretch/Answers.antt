@@ -4,7 +4,7 @@ use Rattle.sim_base.specs.Rows.{Row, Handed, StopsWithin}
 use Rattle.part_law.specs.Machine.{sent}
 use Rattle.part_law.proofs.MachineLemmas.{glide_drives, glide_contacts}
 use Rattle.board_model.specs.Board.{options}
-use Rattle.board_run.specs.Seen.{Seen}
+use Rattle.board_run.specs.ReadingView.{ReadingView}
 use Rattle.board_run.specs.Lagging.{glided}
 use Rattle.board_run.specs.Engine.{kept_of, rows_to, Showed}
 use Rattle.board_run.specs.declared.engine.Engine.{Engine}
@@ -100,7 +100,7 @@ returns g c =
               let was = c.requires.watches.later z (sym (hand.ensures.last is) ∙ ez) in
               let before = was.0 in
               let far = w.ensures.further in
-              (omega (arith, far, before), subst (λ (v : Seen). o.seen hand.new.out v.circuit.levels) (sym c.tell-self.ensures.rest) (hand.ensures.seen is e.reading.circuit.levels was.1)),
+              (omega (arith, far, before), subst (λ (v : ReadingView). o.seen hand.new.out v.circuit.levels) (sym c.tell-self.ensures.rest) (hand.ensures.seen is e.reading.circuit.levels was.1)),
         );
         failed = λ is.
             let f = hand.ensures.failed is in (

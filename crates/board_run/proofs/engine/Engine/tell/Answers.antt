@@ -2,10 +2,10 @@ use Rattle.std.proofs.Common.{arith, ◌≡◌, ◌<◌, ◌∙◌, List, length
 use Rattle.std.specs.Prelude.{slice_get}
 use Rattle.std.proofs.lemmas.Bool.{false_from_ne_true, or_cases, or_parts}
 use Rattle.sim_base.specs.declared.signal.Drive.{Drive}
-use Rattle.net_resolve.specs.Circuit.{Circuit}
+use Rattle.net_resolve.specs.NetsView.{NetsView}
 use Rattle.board_model.specs.Board.{contacts_of}
 use Rattle.board_model.proofs.Lists.{some_same, some_map, flat_map_room}
-use Rattle.board_run.specs.Seen.{Seen, HasAt, retold}
+use Rattle.board_run.specs.ReadingView.{ReadingView, HasAt, retold}
 use Rattle.board_run.proofs.GatherLemmas.{item_at}
 use Rattle.board_run.proofs.ReadLemmas.{put_there}
 use Rattle.board_run.proofs.TurnLemmas.{placed}
@@ -25,13 +25,13 @@ set_pins-pins-requires g c =
     let put = item_at parts i x within c.index-parts-i-then-moved.is in
     let asked = item_at parts i c.index-parts-i.result within c.index-parts-i.is in
     let there = ap (λ (l : List g.row.P.Denot). slice_get l i) (sym c.as_slice-parts.ensures) ∙ put in
-    let circuit = ap (λ (v : Seen). v.circuit) c.reading.view_is in
+    let circuit = ap (λ (v : ReadingView). v.circuit) c.reading.view_is in
     let at = told_place p g.met.P.Part.laws e i c.args.first c.reading.inside.nets may.before may.p may.q x may.replaced c.requires.first circuit there in
-    let net_of = ap (λ (n : Circuit). n.net_of) circuit ∙ may.suits.wired.net_of in
+    let net_of = ap (λ (n : NetsView). n.net_of) circuit ∙ may.suits.wired.net_of in
     record {
       room = (let room = flat_map_room m.drives (map p.state e.parts) i _ (some_map p.state e.parts i x there) in omega (arith, room, at.1.place, at.1.fits.pins, ap length net_of));
       few = omega (arith, c.as_slice-net_of.type_inv.0, c.as_slice-net_of.type_inv.1, ap length c.as_slice-net_of.ensures, ap length net_of);
-      long = ap (λ (n : Circuit). length n.drives) circuit ∙ may.suits.drives_long ∙ sym (ap length net_of);
+      long = ap (λ (n : NetsView). length n.drives) circuit ∙ may.suits.drives_long ∙ sym (ap length net_of);
       others = λ j h few out.
           at.1.others (p.moves x) (subst (λ (z : g.row.P.Denot). (j : _) → p.moves z j ≡ false → slice_get (m.drives (p.state z)) j ≡ slice_get (m.drives (p.state may.p)) j) at.0 (may.others c.if-moved.true)) j h
           (false_from_ne_true (p.moves x j) (λ is. out (c.moved-span.ensures j few (subst (λ (z : g.row.P.Denot). p.moves z j ≡ true) (some_same (sym put ∙ asked)) is))));
@@ -44,13 +44,13 @@ tell_contacts-contacts-requires g c =
     let i = c.args.i in
     let may = c.requires.may in
     let at = placed p.machine e.wiring p.state i c.args.first may.before e.parts e.reading.circuit may.p may.q may.replaced c.requires.first in
-    let circuit = ap (λ (v : Seen). v.circuit) c.reading.view_is in
-    let contacts = ap (λ (n : Circuit). n.contacts) c.set_pins-pins.ensures.rest ∙ ap (λ (n : Circuit). n.contacts) circuit ∙ may.suits.wired.contacts in
+    let circuit = ap (λ (v : ReadingView). v.circuit) c.reading.view_is in
+    let contacts = ap (λ (n : NetsView). n.contacts) c.set_pins-pins.ensures.rest ∙ ap (λ (n : NetsView). n.contacts) circuit ∙ may.suits.wired.contacts in
     record {
       within = omega (arith, c.requires.within, ap length c.as_slice-parts.ensures);
       contacts = ap length contacts ∙ at.fits.contacts ∙ ap (λ (l : List g.row.P.Denot). length (contacts_of p.machine (map p.state l))) (sym c.as_slice-parts.ensures);
       few = omega (arith, c.as_slice-contacts.type_inv.0, c.as_slice-contacts.type_inv.1, ap length c.as_slice-contacts.ensures, ap length contacts);
-      long = ap (λ (n : Circuit). length n.closed) c.set_pins-pins.ensures.rest ∙ ap (λ (n : Circuit). length n.closed) circuit ∙ may.suits.closed_long ∙ sym (ap length contacts);
+      long = ap (λ (n : NetsView). length n.closed) c.set_pins-pins.ensures.rest ∙ ap (λ (n : NetsView). length n.closed) circuit ∙ may.suits.closed_long ∙ sym (ap length contacts);
     }
 
 pub returns-then-moved : goal.returns-then-moved
@@ -65,21 +65,21 @@ returns-then-moved g c =
     let here = item_at c.as_slice-parts.result.now i x (omega (arith, c.requires.within, ap length parts_are)) c.index-parts-i-then-moved.is in
     let there = ap (λ (l : List g.row.P.Denot). slice_get l i) (sym parts_are) ∙ here in
     let inside = c.reading.inside in
-    let circuit = ap (λ (v : Seen). v.circuit) c.reading.view_is in
+    let circuit = ap (λ (v : ReadingView). v.circuit) c.reading.view_is in
     let pins = c.set_pins-pins in
     let ports = c.tell_contacts-contacts in
     let old = inside.nets in
     let mid = pins.new.nets in
     let new = ports.new.nets in
-    let drives_are : new.drives ≡ mid.drives = ap (λ (n : Circuit). n.drives) ports.ensures.rest in
-    let closed_were : mid.closed ≡ old.closed = ap (λ (n : Circuit). n.closed) pins.ensures.rest in
+    let drives_are : new.drives ≡ mid.drives = ap (λ (n : NetsView). n.drives) ports.ensures.rest in
+    let closed_were : mid.closed ≡ old.closed = ap (λ (n : NetsView). n.closed) pins.ensures.rest in
     let rest : new ≡ record old { drives = new.drives; closed = new.closed } =
-    ports.ensures.rest ∙ ap (λ (n : Circuit). let z : Circuit = record n { closed = new.closed } in z) pins.ensures.rest
-    ∙ ap (λ (ds : List Drive). let z : Circuit = record old { drives = ds; closed = new.closed } in z) (sym drives_are) in
+    ports.ensures.rest ∙ ap (λ (n : NetsView). let z : NetsView = record n { closed = new.closed } in z) pins.ensures.rest
+    ∙ ap (λ (ds : List Drive). let z : NetsView = record old { drives = ds; closed = new.closed } in z) (sym drives_are) in
     let at = told_place p g.met.P.Part.laws e i first old may.before may.p may.q x may.replaced c.requires.first circuit there in
     record {
       same = refl;
-      rest = ap (λ (n : Circuit). let v : Seen = record { circuit = n; on = inside.on.items } in v) rest ∙ ap (λ (v : Seen). retold v new.drives new.closed) c.reading.view_is;
+      rest = ap (λ (n : NetsView). let v : ReadingView = record { circuit = n; on = inside.on.items } in v) rest ∙ ap (λ (v : ReadingView). retold v new.drives new.closed) c.reading.view_is;
       fits = at.1.fits;
       told = at.1.told new (rw drives_are pins.ensures.put) (rw (parts_are, closed_were) at (ports.ensures.put x here));
       shifted = λ before y z was.

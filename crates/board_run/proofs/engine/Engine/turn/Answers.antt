@@ -7,7 +7,7 @@ use Rattle.board_model.specs.Board.{input_at}
 use Rattle.board_model.proofs.Lists.{get_set_same}
 use Rattle.board_run.specs.declared.part_set.PartSet.{PartSet}
 use Rattle.board_run.specs.declared.engine.Engine.{Engine}
-use Rattle.board_run.specs.Seen.{Seen, Suits, IsTold, levels_on, retold}
+use Rattle.board_run.specs.ReadingView.{ReadingView, Suits, IsTold, levels_on, retold}
 use Rattle.board_run.specs.Lagging.{TookTurn, Turns, AreLate}
 use Rattle.board_run.specs.Parts.{has_part, AreNone}
 use Rattle.board_run.specs.Engine.{given, MayTurnPart, TurnedPart}
@@ -88,9 +88,9 @@ turn_part-woken-requires g c =
       answers_long = begun.answers_long ∙ sym begun.long;
       values = c.requires.values;
       fits = inv.fits;
-      suits = subst (λ (v : Seen). Suits e.wiring v) (sym inv.rest) (retold_suits m e.wiring (map p.state l.self.parts) e.reading l.self.reading.circuit.drives l.self.reading.circuit.closed inv.fits may.suits told);
+      suits = subst (λ (v : ReadingView). Suits e.wiring v) (sym inv.rest) (retold_suits m e.wiring (map p.state l.self.parts) e.reading l.self.reading.circuit.drives l.self.reading.circuit.closed inv.fits may.suits told);
       told = inv.told;
-      differs = λ x ex is later same. may.differs i x (was x ex) is later (same ∙ ap (λ (v : Seen). levels_on m e.wiring v.circuit.levels i (p.state x)) inv.rest);
+      differs = λ x ex is later same. may.differs i x (was x ex) is later (same ∙ ap (λ (v : ReadingView). levels_on m e.wiring v.circuit.levels i (p.state x)) inv.rest);
       hears = λ hears. elim c.if-silent.branch [
         | then-silent w ↦
             let empty = nothing_there (take (c.args.end - e.input) (drop e.input c.as_slice.result.now)) (sym c.is_empty-silent.ensures ∙ w.if-silent.true) in
@@ -161,7 +161,7 @@ loop-i-preserved g c =
           ∙ ap (λ (xs : List g.row.P.Denot). let y : Engine g.row.P.Denot = record e { parts = xs; dues = slice_set l.self.dues i t.e; answers = slice_set l.self.answers i t.byte; reading = new.reading } in y) (sym parts_are)
           ∙ ap (λ (ds : List (Option ℕ)). let y : Engine g.row.P.Denot = record e { parts = new.parts; dues = ds; answers = slice_set l.self.answers i t.byte; reading = new.reading } in y) (sym dues_are)
           ∙ ap (λ (bs : List (Option ℕ)). let y : Engine g.row.P.Denot = record e { parts = new.parts; dues = new.dues; answers = bs; reading = new.reading } in y) (sym answers_are);
-      rest = t.rest ∙ ap (λ (v : Seen). retold v new.reading.circuit.drives new.reading.circuit.closed) inv.rest;
+      rest = t.rest ∙ ap (λ (v : ReadingView). retold v new.reading.circuit.drives new.reading.circuit.closed) inv.rest;
       order = next.within;
       here = next.here;
       within = inside;
@@ -171,7 +171,7 @@ loop-i-preserved g c =
       passed = passed;
       turns = λ inputs ts awaits.
           let so = inv.turns inputs ts awaits in
-          let took = subst (λ (v : Seen). TookTurn m e.wiring p.state p.now p.wake_count v.circuit.levels e.cycle i (input_at (given e c.args.end) e.cycle i) (has_part c.args.differ i) t.d t.p t.q t.byte moved) inv.rest t.took in
+          let took = subst (λ (v : ReadingView). TookTurn m e.wiring p.state p.now p.wake_count v.circuit.levels e.cycle i (input_at (given e c.args.end) e.cycle i) (has_part c.args.differ i) t.d t.p t.q t.byte moved) inv.rest t.took in
           let on = turns_on m g.met.P.Part.laws e.wiring (given e c.args.end) inputs p.state p.now p.wake_count ls c.with_given-marked.result c.args.differ e.cycle e.parts e.dues ts may.end may.few may.dues_long may.may
           (marks g (goal.at.loop-i-preserved g c).After-with_given-marked e.cycle) awaits i j l.self.parts new.parts l.self.dues new.dues l.self.answers new.answers l.changed moved t.p t.q t.d t.e t.byte inv.begun so.0 t.was t.due_was parts_are dues_are answers_are took
           order (omega (arith, next.within, inside)) next.passed (λ k h. passed k (omega (arith, h, next.within))) in

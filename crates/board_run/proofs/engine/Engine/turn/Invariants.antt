@@ -3,7 +3,7 @@ use Rattle.std.specs.Prelude.{slice_get}
 use Rattle.sim_base.specs.declared.wiring.Input.{Input}
 use Rattle.board_laws.specs.Active.{sum_below, active_in}
 use Rattle.board_model.specs.Fits.{Fits}
-use Rattle.board_run.specs.Seen.{IsTold, retold}
+use Rattle.board_run.specs.ReadingView.{IsTold, retold}
 use Rattle.board_run.specs.Parts.{has_part, AreNone}
 use Rattle.board_run.specs.Lagging.{Awaits, Turns, AreDue, AreLate}
 use Rattle.board_run.specs.Engine.{given}

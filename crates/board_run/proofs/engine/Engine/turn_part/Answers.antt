@@ -1,7 +1,7 @@
 use Rattle.std.proofs.Common.{◌∙◌, arith, ℕ, List, length, map, ap, sym, subst, get_or, length-set}
 use Rattle.std.specs.Prelude.{slice_index}
 use Rattle.board_model.specs.Fits.{Fits}
-use Rattle.board_run.specs.Seen.{IsTold, retold}
+use Rattle.board_run.specs.ReadingView.{IsTold, retold}
 use Rattle.board_run.specs.declared.engine.Engine.{Engine}
 use Rattle.board_run.proofs.EngineLemmas.{turn_replaces, turn_tells}
 use Rattle.board_run.proofs.engine.Engine.turn_part.Goals as goal

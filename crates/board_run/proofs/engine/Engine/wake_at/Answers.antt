@@ -4,7 +4,7 @@ use Rattle.event_queue.proofs.TreeLemmas.{set_same}
 use Rattle.sim_base.specs.declared.wiring.Input.{Input}
 use Rattle.board_model.specs.Board.{input_at}
 use Rattle.board_model.proofs.Lists.{some_map}
-use Rattle.board_run.specs.Seen.{Seen, levels_on}
+use Rattle.board_run.specs.ReadingView.{ReadingView, levels_on}
 use Rattle.board_run.specs.Lagging.{MayTurn}
 use Rattle.board_run.specs.declared.engine.Engine.{Engine}
 use Rattle.board_run.proofs.StepLemmas.{fits_pins}
@@ -21,7 +21,7 @@ slice_bounds-levels-count g c =
     let may = c.requires.may in
     let x = some_there e.parts c.args.i may.here in
     let room = fits_pins p.machine e.wiring (map p.state e.parts) may.fits c.args.i (p.state x.0) (some_map p.state e.parts c.args.i x.0 x.1) in
-    omega (arith, room, c.requires.first, c.pin_levels.ensures.pins, ap (λ (v : Seen). length v.circuit.net_of) c.reading.view_is, ap length may.suits.wired.net_of)
+    omega (arith, room, c.requires.first, c.pin_levels.ensures.pins, ap (λ (v : ReadingView). length v.circuit.net_of) c.reading.view_is, ap length may.suits.wired.net_of)
 
 pub slice_bounds-levels-start : goal.slice_bounds-levels-start
 slice_bounds-levels-start g c = slice_bounds-levels-count g c
@@ -32,8 +32,8 @@ own : (g : Over) (c : After-item_mut-part g) → take (length (g.P.Part.machine.
 own g c =
     let p = g.P.Part in
     let e = c.args.self.now in
-    let levels = ap (λ (v : Seen). v.circuit.levels) c.reading.view_is in
-    let net_of = ap (λ (v : Seen). v.circuit.net_of) c.reading.view_is ∙ c.requires.may.suits.wired.net_of in
+    let levels = ap (λ (v : ReadingView). v.circuit.levels) c.reading.view_is in
+    let net_of = ap (λ (v : ReadingView). v.circuit.net_of) c.reading.view_is ∙ c.requires.may.suits.wired.net_of in
     own_levels p.machine e.wiring e.reading.circuit.levels c.args.i c.args.first (p.state c.item_mut-part.result.now) c.reading.inside.nets c.pin_levels.result.now c.pin_levels.ensures.levels levels net_of c.requires.first
 
 -- and there are as many
@@ -45,7 +45,7 @@ room g c =
     let x = c.item_mut-part.result.now in
     let pins = fits_pins p.machine e.wiring (map p.state e.parts) may.fits c.args.i (p.state x) (some_map p.state e.parts c.args.i x c.item_mut-part.ensures.value) in
     let rest = length_rest c.pin_levels.result.now c.args.first in
-    omega (arith, pins, rest, c.requires.first, c.pin_levels.ensures.pins, ap (λ (v : Seen). length v.circuit.net_of) c.reading.view_is, ap length may.suits.wired.net_of)
+    omega (arith, pins, rest, c.requires.first, c.pin_levels.ensures.pins, ap (λ (v : ReadingView). length v.circuit.net_of) c.reading.view_is, ap length may.suits.wired.net_of)
 
 pub hear_levels-requires : goal.hear_levels-requires
 hear_levels-requires g c =

@@ -1,7 +1,7 @@
 use Rattle.std.proofs.Common.{◌∙◌, List, Bool, ap, sym, subst}
 use Rattle.sim_base.specs.declared.signal.Drive.{Drive}
 use Rattle.board_model.specs.Rows.{same_list, same_drive}
-use Rattle.net_resolve.specs.Circuit.{Circuit}
+use Rattle.net_resolve.specs.NetsView.{NetsView}
 use Rattle.net_resolve.specs.Watched.{IsWatch, flagged}
 use Rattle.net_resolve.proofs.FirstLemmas.{seen_of}
 use Rattle.net_resolve.proofs.nets.Nets.keep_watched.Goals as goal
@@ -30,11 +30,11 @@ returns-clause-kept c =
     let ws = i.watch.watched.items in
     ap (λ (fs : List Bool). seen_of i i.drives.items fs (flagged fs c.keep.new.self.kept.items)) c.keep.ensures.watched
     ∙ ap (seen_of i i.drives.items ws) (c.keep.ensures.kept ∙ ap (flagged ws) c.deref.ensures.value)
-    ∙ ap (λ (x : Circuit). let y : Circuit = record x { kept = flagged x.watched x.drives } in y) c.self.view_is
+    ∙ ap (λ (x : NetsView). let y : NetsView = record x { kept = flagged x.watched x.drives } in y) c.self.view_is
 
 pub returns-clause-same : goal.returns-clause-same
 returns-clause-same c =
     let i = c.self.inside in
     c.keep.ensures.same
     ∙ ap (λ (ds : List Drive). same_list same_drive (flagged i.watch.watched.items i.watch.kept.items) (flagged i.watch.watched.items ds)) c.deref.ensures.value
-    ∙ ap (λ (x : Circuit). same_list same_drive x.kept (flagged x.watched x.drives)) c.self.view_is
+    ∙ ap (λ (x : NetsView). same_list same_drive x.kept (flagged x.watched x.drives)) c.self.view_is

@@ -1,7 +1,7 @@
 use Rattle.std.proofs.Common.{◌∙◌, map, ap}
 use Rattle.board_model.specs.Board.{level_at}
-use Rattle.net_resolve.specs.Circuit.{Circuit}
+use Rattle.net_resolve.specs.NetsView.{NetsView}
 use Rattle.net_resolve.proofs.nets.Nets.pin_levels.Goals as goal
 
 pub returns-clause-levels : goal.returns-clause-levels
-returns-clause-levels c = c.deref.ensures.value ∙ c.self.invariant.shown.pins ∙ ap (λ (x : Circuit). map (level_at x.levels) x.net_of) c.self.view_is
+returns-clause-levels c = c.deref.ensures.value ∙ c.self.invariant.shown.pins ∙ ap (λ (x : NetsView). map (level_at x.levels) x.net_of) c.self.view_is

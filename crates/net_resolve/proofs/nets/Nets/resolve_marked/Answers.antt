@@ -5,10 +5,10 @@ use Rattle.sim_base.specs.declared.signal.Drive.{Drive}
 use Rattle.sim_base.specs.declared.signal.Level.{Level}
 use Rattle.board_model.specs.Resolve.{resolve}
 use Rattle.board_model.proofs.Lists.{get_within}
-use Rattle.net_resolve.specs.Circuit.{Circuit, AreChanged}
+use Rattle.net_resolve.specs.NetsView.{NetsView, AreChanged}
 use Rattle.net_resolve.specs.Marked.{MarksView, has}
 use Rattle.net_resolve.specs.Watched.{IsWatch, flagged}
-use Rattle.net_resolve.specs.Wired.{Wired, wired}
+use Rattle.net_resolve.specs.WholeView.{WholeView, wired}
 use Rattle.net_resolve.specs.Shown.{AreShown}
 use Rattle.net_resolve.specs.Subcircuits.{SubcircuitView, IsCut, AreSubcircuits, AreRight, FitsIn}
 use Rattle.net_resolve.specs.declared.nets.Nets.TheInside.{Inside}
@@ -17,10 +17,10 @@ use Rattle.net_resolve.proofs.RightLemmas.{set_same, right_step, changed_step, f
 use Rattle.net_resolve.proofs.nets.Nets.resolve_marked.Goals as goal
 
 -- the nets of what Nets has inside, of which there are so many
-abbrev wired_of : Inside → ℕ → Wired
+abbrev wired_of : Inside → ℕ → WholeView
 wired_of x n = wired n x.net_of.items x.contacts.items x.resistors.items
 
-abbrev seen_of : Inside → ℕ → List Level → List ℕ → Circuit
+abbrev seen_of : Inside → ℕ → List Level → List ℕ → NetsView
 seen_of x n levels changed = record {
   nets = n;
   net_of = x.net_of.items;
@@ -159,9 +159,9 @@ returns-clause-levels c =
     ap (λ (x : Inside). seen_of x now.shown.levels.len levels changed) inv.same
     ∙ ap (λ (k : ℕ). seen_of i k levels changed) inv.nets
     ∙ ap (λ (ls : List Level). seen_of i n ls changed) are
-    ∙ ap (λ (x : Circuit). let y : Circuit = record x { levels = resolve x.nets x.net_of x.contacts x.resistors x.closed x.drives; changed = changed } in y) c.self.view_is
+    ∙ ap (λ (x : NetsView). let y : NetsView = record x { levels = resolve x.nets x.net_of x.contacts x.resistors x.closed x.drives; changed = changed } in y) c.self.view_is
 
 pub returns-clause-changed : goal.returns-clause-changed
 returns-clause-changed c =
     let now = c.loop-q.self-inside in
-    subst (λ (ls : List Level). AreChanged ls now.shown.levels.items now.shown.changed.marked) (ap (λ (x : Circuit). x.levels) c.self.view_is) c.loop-q.invariant.begun.changed
+    subst (λ (ls : List Level). AreChanged ls now.shown.levels.items now.shown.changed.marked) (ap (λ (x : NetsView). x.levels) c.self.view_is) c.loop-q.invariant.begun.changed

@@ -1,6 +1,6 @@
 use Rattle.std.proofs.Common.{◌≡◌, length}
 use Rattle.std.specs.Prelude.{vec_len}
-use Rattle.net_resolve.specs.Wired.{wired}
+use Rattle.net_resolve.specs.WholeView.{wired}
 use Rattle.net_resolve.specs.Shown.{AreShown}
 use Rattle.net_resolve.specs.Subcircuits.{AreRight}
 use Rattle.net_resolve.proofs.RightLemmas.{Begun, AreFresh}

@@ -3,11 +3,11 @@ use Rattle.std.specs.Prelude.{slice_set, slice_index}
 use Rattle.sim_base.specs.declared.signal.Drive.{Drive}
 use Rattle.board_model.proofs.Lists.{get_within, some_same}
 use Rattle.board_model.proofs.SameLemmas.{drive_means}
-use Rattle.net_resolve.specs.Circuit.{Circuit}
+use Rattle.net_resolve.specs.NetsView.{NetsView}
 use Rattle.net_resolve.specs.Marked.{MarksView, with_mark}
 use Rattle.net_resolve.specs.Subcircuits.{AreRight}
 use Rattle.net_resolve.specs.Watched.{IsWatch, flagged}
-use Rattle.net_resolve.specs.Wired.{wired}
+use Rattle.net_resolve.specs.WholeView.{wired}
 use Rattle.net_resolve.specs.declared.watch.Watch.{Watch}
 use Rattle.net_resolve.proofs.FirstLemmas.{seen_of}
 use Rattle.net_resolve.proofs.RightLemmas.{right_drive, set_same}
@@ -18,7 +18,7 @@ note-requires c =
     let i = c.self.inside in
     let v = c.self.invariant in
     record {
-      pin = omega (arith, c.requires, ap (λ (x : Circuit). length x.net_of) c.self.view_is, ap length c.deref.ensures.value, v.drives_long, i.drives.ok.0, i.net_of.ok.0);
+      pin = omega (arith, c.requires, ap (λ (x : NetsView). length x.net_of) c.self.view_is, ap length c.deref.ensures.value, v.drives_long, i.drives.ok.0, i.net_of.ok.0);
       is = subst (λ (ds : List Drive). IsWatch ds i.watch) (sym c.deref.ensures.value) v.watch;
     }
 
@@ -27,7 +27,7 @@ index-requires-then-not-is_same_drive-2 c =
     let i = c.self.inside in
     let v = c.self.invariant in
     let pin = c.args.pin in
-    let inside : pin < length i.net_of.items = omega (arith, c.requires, ap length (ap (λ (x : Circuit). x.net_of) c.self.view_is)) in
+    let inside : pin < length i.net_of.items = omega (arith, c.requires, ap length (ap (λ (x : NetsView). x.net_of) c.self.view_is)) in
     let at = get_within i.net_of.items pin c.index-then-not-is_same_drive.result.now inside ∙ ap Some (sym c.index-then-not-is_same_drive.ensures) in
     omega (arith, v.cut.pins_within pin c.index-then-not-is_same_drive.result.now at, v.cut.long, i.labels.ok.0)
 
@@ -37,7 +37,7 @@ mark-requires c =
     let v = c.self.invariant in
     let pin = c.args.pin in
     let net = c.index-then-not-is_same_drive.result.now in
-    let inside : pin < length i.net_of.items = omega (arith, c.requires, ap length (ap (λ (x : Circuit). x.net_of) c.self.view_is)) in
+    let inside : pin < length i.net_of.items = omega (arith, c.requires, ap length (ap (λ (x : NetsView). x.net_of) c.self.view_is)) in
     let low = v.cut.pins_within pin net (get_within i.net_of.items pin net inside ∙ ap Some (sym c.index-then-not-is_same_drive.ensures)) in
     let within : net < length i.labels.items = omega (arith, low, v.cut.long) in
     let label : slice_index i.labels.items net ≡ c.index-then-not-is_same_drive-2.result.now = some_same (sym (get_within i.labels.items net 0 within) ∙ get_within i.labels.items net c.index-then-not-is_same_drive-2.result.now within ∙ ap Some (sym c.index-then-not-is_same_drive-2.ensures)) in
@@ -51,7 +51,7 @@ invariant_of-self c =
     let d = c.args.drive in
     let net = c.index-then-not-is_same_drive.result.now in
     let w = wired i.shown.levels.len i.net_of.items i.contacts.items i.resistors.items in
-    let inside : pin < length i.net_of.items = omega (arith, c.requires, ap length (ap (λ (x : Circuit). x.net_of) c.self.view_is)) in
+    let inside : pin < length i.net_of.items = omega (arith, c.requires, ap length (ap (λ (x : NetsView). x.net_of) c.self.view_is)) in
     let at = get_within i.net_of.items pin net inside ∙ ap Some (sym c.index-then-not-is_same_drive.ensures) in
     let within : net < length i.labels.items = omega (arith, v.cut.pins_within pin net at, v.cut.long) in
     let label : c.index-then-not-is_same_drive-2.result.now ≡ slice_index i.labels.items net = some_same (sym (get_within i.labels.items net c.index-then-not-is_same_drive-2.result.now within ∙ ap Some (sym c.index-then-not-is_same_drive-2.ensures)) ∙ get_within i.labels.items net 0 within) in
@@ -76,15 +76,15 @@ returns-then-not-is_same_drive c =
     let pin = c.args.pin in
     let d = c.args.drive in
     ap (λ (w : Watch). seen_of i (slice_set i.drives.items pin d) w.watched.items (flagged w.watched.items w.kept.items)) c.note.ensures.rest
-    ∙ ap (λ (x : Circuit). let y : Circuit = record x { drives = slice_set x.drives pin d } in y) c.self.view_is
+    ∙ ap (λ (x : NetsView). let y : NetsView = record x { drives = slice_set x.drives pin d } in y) c.self.view_is
 
 pub returns-else-not-is_same_drive : goal.returns-else-not-is_same_drive
 returns-else-not-is_same_drive c =
     let i = c.self.inside in
     let pin = c.args.pin in
     let d = c.args.drive in
-    let inside : pin < length i.drives.items = omega (arith, c.requires, ap length (ap (λ (x : Circuit). x.net_of) c.self.view_is), c.self.invariant.drives_long, i.drives.ok.0, i.net_of.ok.0) in
+    let inside : pin < length i.drives.items = omega (arith, c.requires, ap length (ap (λ (x : NetsView). x.net_of) c.self.view_is), c.self.invariant.drives_long, i.drives.ok.0, i.net_of.ok.0) in
     let at = get_within i.drives.items pin c.index.result.now inside ∙ ap Some (sym c.index.ensures ∙ drive_means _ _ (sym c.is_same_drive.ensures ∙ c.if-not-is_same_drive.false)) in
     sym c.self.view_is
     ∙ ap (λ (ds : List Drive). seen_of i ds i.watch.watched.items (flagged i.watch.watched.items i.watch.kept.items)) (sym (set_same i.drives.items pin d at))
-    ∙ ap (λ (x : Circuit). record x { drives = slice_set x.drives pin d }) c.self.view_is
+    ∙ ap (λ (x : NetsView). record x { drives = slice_set x.drives pin d }) c.self.view_is

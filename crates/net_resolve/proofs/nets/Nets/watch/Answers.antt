@@ -1,6 +1,6 @@
 use Rattle.std.proofs.Common.{◌∙◌, List, Bool, ap, sym, subst, length, arith}
 use Rattle.sim_base.specs.declared.signal.Drive.{Drive}
-use Rattle.net_resolve.specs.Circuit.{Circuit}
+use Rattle.net_resolve.specs.NetsView.{NetsView}
 use Rattle.net_resolve.specs.Watched.{IsWatch, flagged}
 use Rattle.net_resolve.proofs.FirstLemmas.{seen_of}
 use Rattle.net_resolve.proofs.nets.Nets.watch.Goals as goal
@@ -10,7 +10,7 @@ keep_all-requires c =
     let v = c.self.invariant in
     let ds = ap length c.deref.ensures.value in
     record {
-      flags = omega (arith, c.requires, ap (λ (x : Circuit). length x.net_of) c.self.view_is, ds, v.drives_long, c.self.inside.drives.ok.0, c.self.inside.net_of.ok.0);
+      flags = omega (arith, c.requires, ap (λ (x : NetsView). length x.net_of) c.self.view_is, ds, v.drives_long, c.self.inside.drives.ok.0, c.self.inside.net_of.ok.0);
       long = v.watch.kept_long ∙ sym ds;
     }
 
@@ -35,4 +35,4 @@ returns c =
     let pins = c.args.pins.items in
     ap (λ (fs : List Bool). seen_of i i.drives.items fs (flagged fs c.keep_all.new.self.kept.items)) c.keep_all.ensures.watched
     ∙ ap (λ (ks : List Drive). seen_of i i.drives.items pins (flagged pins ks)) (c.keep_all.ensures.kept ∙ c.deref.ensures.value)
-    ∙ ap (λ (x : Circuit). let y : Circuit = record x { watched = pins; kept = flagged pins x.drives } in y) c.self.view_is
+    ∙ ap (λ (x : NetsView). let y : NetsView = record x { watched = pins; kept = flagged pins x.drives } in y) c.self.view_is

@@ -1,7 +1,7 @@
 use Rattle.std.proofs.Common.{◌≡◌, ◌∙◌, ℕ, sym, ap, subst, arith, length, map, List, Some, refl}
 use Rattle.std.specs.Prelude.{slice_get}
 use Rattle.sim_base.specs.declared.signal.Level.{Level}
-use Rattle.net_resolve.specs.Wired.{Wired, wired, levels_of}
+use Rattle.net_resolve.specs.WholeView.{WholeView, wired, levels_of}
 use Rattle.net_resolve.specs.Resolutions.{AreResolutions, last_of}
 use Rattle.net_resolve.specs.declared.resolution.Resolution.{Resolution}
 use Rattle.std.proofs.lemmas.List.{length-map}
@@ -41,10 +41,10 @@ invariant_of-self c =
     let v = c.self.invariant in
     let same = c.resolve_other.ensures.same in
     record {
-      nets_long = v.nets_long ∙ sym (ap (λ (x : Wired). x.nets) same);
-      pins_long = v.pins_long ∙ sym (ap (λ (x : Wired). length x.net_of) same);
-      contacts_long = v.contacts_long ∙ sym (ap (λ (x : Wired). length x.contacts) same);
-      kept = subst (λ (x : Wired). AreResolutions x c.resolve_other.new.kept) (sym same) c.resolve_other.ensures.kept;
+      nets_long = v.nets_long ∙ sym (ap (λ (x : WholeView). x.nets) same);
+      pins_long = v.pins_long ∙ sym (ap (λ (x : WholeView). length x.net_of) same);
+      contacts_long = v.contacts_long ∙ sym (ap (λ (x : WholeView). length x.contacts) same);
+      kept = subst (λ (x : WholeView). AreResolutions x c.resolve_other.new.kept) (sym same) c.resolve_other.ensures.kept;
     }
 
 pub returns-clause-others : goal.returns-clause-others

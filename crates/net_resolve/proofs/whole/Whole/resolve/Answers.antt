@@ -2,7 +2,7 @@ use Rattle.std.proofs.Common.{◌≡◌, ◌∙◌, ℕ, List, length, arith, sy
 use Rattle.std.specs.Prelude.{slice_get}
 use Rattle.board_model.proofs.Lists.{lent_whole}
 use Rattle.union_find.specs.Forest.{AreLabels}
-use Rattle.net_resolve.specs.Wired.{Wired, levels_of}
+use Rattle.net_resolve.specs.WholeView.{WholeView, levels_of}
 use Rattle.net_resolve.proofs.WholeLemmas.{pairs_moved, groups_moved, resolve_moved}
 use Rattle.net_resolve.proofs.whole.Whole.resolve.Goals as goal
 
@@ -14,7 +14,7 @@ regroup-requires c =
     let groups = c.deref_mut-2.ensures.value in
     record {
       contacts = pairs_moved (sym contacts) (i.groups.ok.0 ∙ ap length (sym groups)) v.contacts_within;
-      closed = c.requires.closed ∙ ap (λ (x : Wired). length x.contacts) (sym c.self.view_is) ∙ ap length (sym contacts);
+      closed = c.requires.closed ∙ ap (λ (x : WholeView). length x.contacts) (sym c.self.view_is) ∙ ap length (sym contacts);
       kept = ap length c.deref_mut.ensures.value ∙ sym i.closed.ok.0 ∙ v.closed_long ∙ i.contacts.ok.0 ∙ ap length (sym contacts);
       few = omega (arith, v.few, i.groups.ok.0, ap length groups);
       grouped = groups_moved (sym contacts) (sym c.deref_mut.ensures.value) (sym groups) v.grouped;
@@ -29,7 +29,7 @@ resolve-requires c =
     let groups = c.deref-4.ensures.value ∙ lent_whole i.groups.len i.groups.items r.new.groups i.groups.ok.0 long in
     let count : i.groups.len ≡ length c.deref-4.result.now = i.groups.ok.0 ∙ sym (ap length groups ∙ long) in
     record {
-      pins = c.requires.drives ∙ ap (λ (x : Wired). length x.net_of) (sym c.self.view_is) ∙ ap length (sym c.deref-2.ensures.value);
+      pins = c.requires.drives ∙ ap (λ (x : WholeView). length x.net_of) (sym c.self.view_is) ∙ ap length (sym c.deref-2.ensures.value);
       nets = λ k n e. omega (arith, count, v.pins_within k n (subst (λ (l : List ℕ). slice_get l k ≡ Some n) c.deref-2.ensures.value e));
       resistors = pairs_moved (sym c.deref-3.ensures.value) count v.resistors_within;
       labels = subst (λ (l : List ℕ). AreLabels l) (sym groups) r.ensures.grouped.classes.labels;
@@ -39,7 +39,7 @@ resolve-requires c =
         areas = v.room.areas ∙ count;
         sums = v.room.sums ∙ count;
       };
-      levels = c.requires.levels ∙ ap (λ (x : Wired). x.nets) (sym c.self.view_is) ∙ count;
+      levels = c.requires.levels ∙ ap (λ (x : WholeView). x.nets) (sym c.self.view_is) ∙ count;
     }
 
 pub invariant_of-self : goal.invariant_of-self
@@ -80,4 +80,4 @@ returns-clause-levels c =
     let count : length c.deref-4.result.now ≡ i.groups.len = ap length groups ∙ long ∙ sym i.groups.ok.0 in
     c.resolve.ensures.levels c.deref.result.now closed (groups_moved refl refl (sym groups) r.ensures.grouped)
     ∙ resolve_moved closed drives count c.deref-2.ensures.value c.deref.ensures.value c.deref-3.ensures.value
-    ∙ ap (λ (x : Wired). levels_of x closed drives) c.self.view_is
+    ∙ ap (λ (x : WholeView). levels_of x closed drives) c.self.view_is

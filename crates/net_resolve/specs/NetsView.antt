@@ -4,7 +4,7 @@ use Rattle.sim_base.specs.declared.signal.Drive.{Drive}
 use Rattle.sim_base.specs.declared.signal.Level.{Level}
 use Rattle.net_resolve.specs.Marked.{has}
 
-pub record Circuit : Type 0 where
+pub record NetsView : Type 0 where
   -- how many nets there are
   pub nets : ℕ
   -- the net of each pin
