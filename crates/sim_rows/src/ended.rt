@@ -8,6 +8,7 @@ use sim_cli::simulate;
 use std::alloc::{AllocError, Global};
 use std::io;
 use std::marker::Brand;
+use std::mem::drop;
 use std::sync::ledger::{Blank, Ledger};
 
 /// How many bytes Serial can hold, and how many the report.
@@ -122,13 +123,13 @@ fn there<'a>(file: &'a StagedFile, row: &Row, number: u32) -> &'a [u8] {
     }
 }
 
-fn make_bench(
-    alloc: Global,
+/// Adds the files of a row and the room of each port, and which call fails.
+fn fill_bench(
+    bench: &mut MemBench,
     stage: &Stage,
     row: &Row,
     number: u32,
-) -> Result<MemBench, OutOfMemory> {
-    let mut bench = MemBench::new(alloc);
+) -> Result<(), OutOfMemory> {
     for file in stage.files() {
         bench.add_file(file.name.as_str(), there(file, row, number))?;
     }
@@ -139,16 +140,20 @@ fn make_bench(
     if row.cut.is_empty() {
         bench.fail_call(number)?;
     }
-    Ok(bench)
+    Ok(())
 }
 
 /// Runs the row once.
 pub fn run_once(alloc: Global, stage: &Stage, row: &Row, number: u32) -> Result<Ended, AllocError> {
-    match make_bench(alloc, stage, row, number) {
-        Ok(mut bench) => {
+    let mut bench = MemBench::new(alloc);
+    match fill_bench(&mut bench, stage, row, number) {
+        Ok(()) => {
             let status = call::<Brand>(alloc, &row.words, &mut bench, Blank::new(1));
             Ok(Ended { status, bench })
         }
-        Err(_) => Err(AllocError),
+        Err(OutOfMemory) => {
+            drop(bench);
+            Err(AllocError)
+        }
     }
 }

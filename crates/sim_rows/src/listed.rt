@@ -6,39 +6,109 @@ use page_call::{NO_LIST, TOO_LONG, call};
 use sim_base::Port;
 use std::alloc::{AllocError, Global};
 
-fn add_block(list: &mut Vec<u8>, bytes: &[u8]) -> Result<(), AllocError> {
-    list.extend_from_slice(&(bytes.len() as u64).to_le_bytes())?;
-    list.extend_from_slice(bytes)?;
-    Ok(())
+/// Bytes that are put together piece by piece. If memory runs out for one of them, the whole is none.
+#[derive(Drop)]
+struct Bytes {
+    bytes: Vec<u8>,
+    has_run_out: bool,
 }
 
-fn list_of(alloc: Global, row: &Row, files: &[StagedFile]) -> Result<Vec<u8>, AllocError> {
-    let mut list = Vec::new(alloc);
-    for word in &row.words {
-        list.push(b'w')?;
-        add_block(&mut list, word.as_bytes())?;
+impl Bytes {
+    fn new(alloc: Global) -> Bytes {
+        Bytes {
+            bytes: Vec::new(alloc),
+            has_run_out: false,
+        }
     }
+
+    fn add(&mut self, bytes: &[u8]) {
+        if self.bytes.extend_from_slice(bytes).is_err() {
+            self.has_run_out = true;
+        }
+    }
+
+    fn add_block(&mut self, bytes: &[u8]) {
+        self.add(&(bytes.len() as u64).to_le_bytes());
+        self.add(bytes);
+    }
+
+    fn whole(&self) -> Result<&[u8], AllocError> {
+        if self.has_run_out {
+            Err(AllocError)
+        } else {
+            Ok(self.bytes.as_slice())
+        }
+    }
+}
+
+fn add_words(list: &mut Bytes, words: &[String]) {
+    for word in words {
+        list.add(b"w");
+        list.add_block(word.as_bytes());
+    }
+}
+
+fn add_files(list: &mut Bytes, files: &[StagedFile]) {
     for file in files {
-        list.push(b'f')?;
-        add_block(&mut list, file.name.as_bytes())?;
-        add_block(&mut list, file.bytes.as_slice())?;
+        list.add(b"f");
+        list.add_block(file.name.as_bytes());
+        list.add_block(file.bytes.as_slice());
     }
-    Ok(list)
 }
 
-fn blocks_of(alloc: Global, ended: &Ended) -> Result<Vec<u8>, AllocError> {
-    let mut blocks = Vec::new(alloc);
-    add_block(&mut blocks, ended.written(Port::Serial))?;
+fn add_ports(blocks: &mut Bytes, ended: &Ended) {
+    blocks.add_block(ended.written(Port::Serial));
     for port in [Port::Wave, Port::Report] {
-        add_block(&mut blocks, ended.name(port))?;
-        add_block(&mut blocks, ended.written(port))?;
+        blocks.add_block(ended.name(port));
+        blocks.add_block(ended.written(port));
     }
-    add_block(&mut blocks, ended.written(Port::Complaint))?;
-    Ok(blocks)
+    blocks.add_block(ended.written(Port::Complaint));
 }
 
 fn answer(alloc: Global, list: &[u8], wave: u32, out: &mut [u8]) -> u32 {
     call(alloc, list, SERIAL_ROOM, wave, REPORT_ROOM, out)
+}
+
+/// Whether calls with a list end with this status and these blocks, with 102 where the answer lacks room for a byte, and with
+/// 100 where the list lacks one.
+fn is_answered(
+    alloc: Global,
+    list: &[u8],
+    wave: u32,
+    status: u8,
+    blocks: &[u8],
+    out: &mut [u8],
+) -> bool {
+    if answer(alloc, list, wave, out) != u32::from(status) || &*out != blocks {
+        return false;
+    }
+    let less = blocks.len().saturating_sub(1).min(out.len());
+    let (short, _) = out.split_at_mut(less);
+    if answer(alloc, list, wave, short) != TOO_LONG {
+        return false;
+    }
+    let cut = &list[..list.len().saturating_sub(1)];
+    answer(alloc, cut, wave, short) == NO_LIST
+}
+
+/// The same with room for the answer.
+fn is_given(
+    alloc: Global,
+    list: &[u8],
+    wave: u32,
+    status: u8,
+    blocks: &[u8],
+) -> Result<bool, AllocError> {
+    let mut out = vec![in alloc; 0u8; blocks.len()]?;
+    let same = is_answered(alloc, list, wave, status, blocks, out.as_mut_slice());
+    Ok(same)
+}
+
+/// Whether calls with a list end as the run did.
+fn ends_same(alloc: Global, list: &[u8], wave: u32, ended: &Ended) -> Result<bool, AllocError> {
+    let mut blocks = Bytes::new(alloc);
+    add_ports(&mut blocks, ended);
+    is_given(alloc, list, wave, ended.status(), blocks.whole()?)
 }
 
 /// Whether the call ends as the run did: with the same status and ports; with 102 where its answer
@@ -49,25 +119,8 @@ pub fn is_same(
     files: &[StagedFile],
     ended: &Ended,
 ) -> Result<bool, AllocError> {
-    let list = list_of(alloc, row, files)?;
-    let blocks = blocks_of(alloc, ended)?;
-    let mut out = vec![in alloc; 0u8; blocks.len()]?;
-    if answer(alloc, &list, row.room, out.as_mut_slice()) != u32::from(ended.status())
-        || out.as_slice() != blocks.as_slice()
-    {
-        return Ok(false);
-    }
-    let less = blocks.len().saturating_sub(1);
-    let (short, _) = out.as_mut_slice().split_at_mut(less);
-    if answer(alloc, &list, row.room, short) != TOO_LONG {
-        return Ok(false);
-    }
-    Ok(
-        answer(
-            alloc,
-            &list[..list.len().saturating_sub(1)],
-            row.room,
-            short,
-        ) == NO_LIST,
-    )
+    let mut list = Bytes::new(alloc);
+    add_words(&mut list, row.words.as_slice());
+    add_files(&mut list, files);
+    ends_same(alloc, list.whole()?, row.room, ended)
 }

@@ -11,6 +11,7 @@ use ended::{Ended, run_once};
 use listed::is_same;
 use row::{Row, read_row};
 use stage::Stage;
+use std::mem::drop;
 use std::{env, fs, io};
 
 fn main(rt: HostRuntime) -> io::Result<()> {
@@ -25,17 +26,33 @@ fn main(rt: HostRuntime) -> io::Result<()> {
 fn play(rt: &HostRuntime, name: &str) -> io::Result<u32> {
     let text = fs::read_to_string(rt, name)?;
     let mut stage = Stage::new(rt.alloc());
+    let count = play_parts(rt, name, text.as_str(), &mut stage);
+    drop(stage);
+    drop(text);
+    count
+}
+
+fn play_parts(rt: &HostRuntime, name: &str, text: &str, stage: &mut Stage) -> io::Result<u32> {
     let mut count: u32 = 0;
-    for part in text.as_str().split("\n\n") {
+    for part in text.split("\n\n") {
         for line in part.lines() {
             stage.read_line(rt, line)?;
         }
-        let row = read_row(rt, part)?;
-        if row.is_run() {
-            count = count.saturating_add(play_row(rt, name, part, &stage, &row)?);
-        }
+        count = count.saturating_add(play_part(rt, name, part, stage)?);
     }
     Ok(count)
+}
+
+/// Plays the row that lines are, if they ask for a run.
+fn play_part(rt: &HostRuntime, name: &str, part: &str, stage: &Stage) -> io::Result<u32> {
+    let row = read_row(rt, part)?;
+    let count = if row.is_run() {
+        play_row(rt, name, part, stage, &row)
+    } else {
+        Ok(0)
+    };
+    drop(row);
+    count
 }
 
 /// Plays a row for each of its numbers.
@@ -44,15 +61,30 @@ fn play_row(rt: &HostRuntime, name: &str, part: &str, stage: &Stage, row: &Row) 
     for number in row.first..=row.last {
         count = count.saturating_add(1);
         let ended = run_once(rt.alloc(), stage, row, number)?;
-        match difference(rt, stage, row, number, &ended)? {
-            None => {}
-            Some(port) => {
-                println!(rt; "{name}: another {port} than this row has, at {number}:\n{part}")?;
-                ended.show(rt)?;
-            }
-        }
+        let told = compare(rt, name, part, stage, row, number, &ended);
+        drop(ended);
+        told?;
     }
     Ok(count)
+}
+
+/// Says what first differs from the row, if anything does.
+fn compare(
+    rt: &HostRuntime,
+    name: &str,
+    part: &str,
+    stage: &Stage,
+    row: &Row,
+    number: u32,
+    ended: &Ended,
+) -> io::Result<()> {
+    match difference(rt, stage, row, number, ended)? {
+        None => Ok(()),
+        Some(port) => {
+            println!(rt; "{name}: another {port} than this row has, at {number}:\n{part}")?;
+            ended.show(rt)
+        }
+    }
 }
 
 /// What first differs from the row, in the run or in the call that web pages make.
@@ -64,7 +96,11 @@ fn difference(
     ended: &Ended,
 ) -> io::Result<Option<&'static str>> {
     let differs = match row.refusal(rt.alloc(), number)? {
-        Some(line) => ended.difference_from_refusal(line.as_str()),
+        Some(line) => {
+            let differs = ended.difference_from_refusal(line.as_str());
+            drop(line);
+            differs
+        }
         None => ended.difference(row),
     };
     if differs.is_some() || !row.is_listed() {

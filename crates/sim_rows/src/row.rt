@@ -1,5 +1,6 @@
 //! What a row asks for, and how it is to end.
 use std::alloc::{AllocError, Global};
+use std::mem::drop;
 use std::{fs, io};
 
 /// How a file is refused of which only so many bytes are there, from `first` to `last`.
@@ -80,21 +81,43 @@ impl Row {
         self.last = number(last);
     }
 
-    fn add_refused(
-        &mut self,
-        alloc: Global,
-        first: &str,
-        last: &str,
-        words: &[&str],
-    ) -> Result<(), AllocError> {
-        let mut text = String::new(alloc);
-        for word in words {
-            text.push(' ')?;
-            text.push_str(word)?;
+    fn read_span(&mut self, words: &[&str]) -> bool {
+        match words {
+            [n] => self.span(n, n),
+            [n, m] => self.span(n, m),
+            _ => return false,
         }
+        true
+    }
+
+    fn read_cut(&mut self, words: &[&str]) -> Result<bool, AllocError> {
+        let [name, n, m] = words else {
+            return Ok(false);
+        };
+        self.cut.push_str(name)?;
+        self.span(n, m);
+        Ok(true)
+    }
+
+    fn read_number(&mut self, key: &str, words: &[&str]) -> bool {
+        let [n] = words else {
+            return false;
+        };
+        match key {
+            "room" => self.room = number(n),
+            _ => self.status = n.parse::<u8>().unwrap_or(255),
+        }
+        true
+    }
+
+    fn read_refused(&mut self, alloc: Global, words: &[&str]) -> Result<bool, AllocError> {
+        let [first, last, rest @ ..] = words else {
+            return Ok(false);
+        };
+        let text = text_of(alloc, rest)?;
         let (first, last) = (number(first), number(last));
         self.refused.push(Refused { first, last, text })?;
-        Ok(())
+        Ok(true)
     }
 
     fn add_words(&mut self, alloc: Global, words: &[&str]) -> Result<(), AllocError> {
@@ -114,19 +137,17 @@ impl Row {
     /// - `ends N`: the status
     /// - `listed`: the call that web pages make is to end the same
     fn read_ask(&mut self, alloc: Global, line: &str, words: &[&str]) -> Result<bool, AllocError> {
-        match words {
-            ["run", rest @ ..] => self.add_words(alloc, rest)?,
-            ["word", ..] => self.add_words(alloc, &[behind(line, "word ")])?,
-            ["fails", n] => self.span(n, n),
-            ["fails", n, m] => self.span(n, m),
-            ["cut", name, n, m] => {
-                self.cut.push_str(name)?;
-                self.span(n, m);
-            }
-            ["refused", n, m, text @ ..] => self.add_refused(alloc, n, m, text)?,
-            ["room", n] => self.room = number(n),
-            ["ends", n] => self.status = n.parse::<u8>().unwrap_or(255),
-            ["listed"] => self.is_listed = true,
+        let [key, rest @ ..] = words else {
+            return Ok(false);
+        };
+        match *key {
+            "run" => self.add_words(alloc, rest)?,
+            "word" => self.add_words(alloc, &[behind(line, "word ")])?,
+            "fails" => return Ok(self.read_span(rest)),
+            "cut" => return self.read_cut(rest),
+            "refused" => return self.read_refused(alloc, rest),
+            "room" | "ends" => return Ok(self.read_number(key, rest)),
+            "listed" if rest.is_empty() => self.is_listed = true,
             _ => return Ok(false),
         }
         Ok(true)
@@ -139,47 +160,115 @@ impl Row {
     /// - `serial DATA`: these bytes
     /// - `opens NAME`: the name under which the wave was opened
     fn read_end(&mut self, rt: &HostRuntime, line: &str, words: &[&str]) -> io::Result<bool> {
+        let [key, rest @ ..] = words else {
+            return Ok(false);
+        };
+        match *key {
+            "complains" => add_line(&mut self.complaint, behind(line, "complains "))?,
+            "reports" => add_line(&mut self.report, behind(line, "reports "))?,
+            "report" => return Ok(self.read_report(rest)),
+            "wave" => return self.read_wave(rt, rest),
+            _ => return self.read_one(rt, key, rest),
+        }
+        Ok(true)
+    }
+
+    fn read_report(&mut self, words: &[&str]) -> bool {
+        let ["begins"] = words else {
+            return false;
+        };
+        self.is_report_begun = true;
+        true
+    }
+
+    fn read_wave(&mut self, rt: &HostRuntime, words: &[&str]) -> io::Result<bool> {
         match words {
-            ["complains", ..] => add_line(&mut self.complaint, behind(line, "complains "))?,
-            ["reports", ..] => add_line(&mut self.report, behind(line, "reports "))?,
-            ["report", "begins"] => self.is_report_begun = true,
-            ["wave", data] => self.wave = fs::read(rt, *data)?,
-            ["wave", data, count] => {
+            [data] => self.wave = fs::read(rt, *data)?,
+            [data, count] => {
                 self.wave = fs::read(rt, *data)?;
                 self.wave.truncate(number(count) as usize);
             }
-            ["begins", data] => {
-                self.wave = fs::read(rt, *data)?;
-                self.is_wave_begun = true;
-            }
-            ["serial", data] => self.serial = fs::read(rt, *data)?,
-            ["opens", name] => self.opened.push_str(name)?,
             _ => return Ok(false),
         }
         Ok(true)
     }
 
-    fn read_line(&mut self, rt: &HostRuntime, line: &str) -> io::Result<()> {
-        let words: Vec<&str> = line.split_whitespace().collect(rt.alloc())?;
-        if self.read_ask(rt.alloc(), line, &words)? || self.read_end(rt, line, &words)? {
+    fn read_one(&mut self, rt: &HostRuntime, key: &str, words: &[&str]) -> io::Result<bool> {
+        let [word] = words else {
+            return Ok(false);
+        };
+        match key {
+            "begins" => {
+                self.wave = fs::read(rt, *word)?;
+                self.is_wave_begun = true;
+            }
+            "serial" => self.serial = fs::read(rt, *word)?,
+            "opens" => self.opened.push_str(word)?,
+            _ => return Ok(false),
+        }
+        Ok(true)
+    }
+
+    fn read_words(&mut self, rt: &HostRuntime, line: &str, words: &[&str]) -> io::Result<()> {
+        if self.read_ask(rt.alloc(), line, words)?
+            || self.read_end(rt, line, words)?
+            || is_passed(words)
+        {
             return Ok(());
         }
-        match words.as_slice() {
-            [] | ["no", "files"] | ["file" | "fill", _, _] | ["empty", _] => Ok(()),
-            ["text", _, ..] | ["lines", _, _, ..] => Ok(()),
-            [first, ..] if first.starts_with('#') => Ok(()),
-            _ => println!(rt; "not understood: {line}"),
+        println!(rt; "not understood: {line}")
+    }
+
+    fn read_line(&mut self, rt: &HostRuntime, line: &str) -> io::Result<()> {
+        let words: Vec<&str> = line.split_whitespace().collect(rt.alloc())?;
+        let read = self.read_words(rt, line, words.as_slice());
+        drop(words);
+        read
+    }
+
+    fn read_lines(&mut self, rt: &HostRuntime, part: &str) -> io::Result<()> {
+        for line in part.lines() {
+            self.read_line(rt, line)?;
         }
+        Ok(())
+    }
+}
+
+/// Words with a space before each.
+fn text_of(alloc: Global, words: &[&str]) -> Result<String, AllocError> {
+    let mut text = String::new(alloc);
+    for word in words {
+        text.push(' ')?;
+        text.push_str(word)?;
+    }
+    Ok(text)
+}
+
+/// Whether words are for the files that the program finds, or a comment.
+fn is_passed(words: &[&str]) -> bool {
+    let [key, rest @ ..] = words else {
+        return true;
+    };
+    match *key {
+        "no" => matches!(rest, ["files"]),
+        "empty" => rest.len() == 1,
+        "file" | "fill" => rest.len() == 2,
+        "text" => !rest.is_empty(),
+        "lines" => rest.len() >= 2,
+        _ => key.starts_with('#'),
     }
 }
 
 /// The row that lines are.
 pub fn read_row(rt: &HostRuntime, part: &str) -> io::Result<Row> {
     let mut row = Row::new(rt.alloc());
-    for line in part.lines() {
-        row.read_line(rt, line)?;
+    match row.read_lines(rt, part) {
+        Ok(()) => Ok(row),
+        Err(error) => {
+            drop(row);
+            Err(error)
+        }
     }
-    Ok(row)
 }
 
 pub fn number(word: &str) -> u32 {

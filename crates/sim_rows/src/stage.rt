@@ -1,6 +1,7 @@
 //! The files that the program finds.
 use crate::row::{add_line, behind, number};
 use std::alloc::{AllocError, Global};
+use std::mem::drop;
 use std::{fs, io};
 
 #[derive(Drop)]
@@ -14,6 +15,15 @@ pub struct StagedFile {
 pub struct Stage {
     alloc: Global,
     files: Vec<StagedFile>,
+}
+
+/// A line, so many times.
+fn repeated(alloc: Global, count: u32, text: &str) -> Result<Vec<u8>, AllocError> {
+    let mut bytes = Vec::new(alloc);
+    for _ in 0..count {
+        add_line(&mut bytes, text)?;
+    }
+    Ok(bytes)
 }
 
 impl Stage {
@@ -35,10 +45,7 @@ impl Stage {
     }
 
     fn add_lines(&mut self, name: &str, count: u32, text: &str) -> Result<(), AllocError> {
-        let mut bytes = Vec::new(self.alloc);
-        for _ in 0..count {
-            add_line(&mut bytes, text.trim())?;
-        }
+        let bytes = repeated(self.alloc, count, text.trim())?;
         self.add(name, bytes)
     }
 
@@ -60,16 +67,48 @@ impl Stage {
     /// - `no files`: there is none
     pub fn read_line(&mut self, rt: &HostRuntime, line: &str) -> io::Result<()> {
         let words: Vec<&str> = line.split_whitespace().collect(self.alloc)?;
-        match words.as_slice() {
-            ["file", name, data] => self.add(name, fs::read(rt, *data)?)?,
-            ["text", name, ..] => self.add_lines(name, 1, behind(behind(line, "text "), name))?,
-            ["lines", name, count, ..] => {
-                let text = behind(behind(line, "lines "), name).trim();
-                self.add_lines(name, number(count), behind(text, count))?;
+        let read = self.read_words(rt, line, words.as_slice());
+        drop(words);
+        read
+    }
+
+    fn read_words(&mut self, rt: &HostRuntime, line: &str, words: &[&str]) -> io::Result<()> {
+        let [key, rest @ ..] = words else {
+            return Ok(());
+        };
+        match *key {
+            "file" => {
+                if let [name, data] = rest {
+                    let bytes = fs::read(rt, *data)?;
+                    self.add(name, bytes)?;
+                }
             }
-            ["fill", name, count] => self.fill(name, number(count))?,
-            ["empty", name] => self.add(name, Vec::new(self.alloc))?,
-            ["no", "files"] => self.files.clear(),
+            "text" => {
+                if let [name, ..] = rest {
+                    self.add_lines(name, 1, behind(behind(line, "text "), name))?;
+                }
+            }
+            "lines" => {
+                if let [name, count, ..] = rest {
+                    let text = behind(behind(line, "lines "), name).trim();
+                    self.add_lines(name, number(count), behind(text, count))?;
+                }
+            }
+            "fill" => {
+                if let [name, count] = rest {
+                    self.fill(name, number(count))?;
+                }
+            }
+            "empty" => {
+                if let [name] = rest {
+                    self.add(name, Vec::new(self.alloc))?;
+                }
+            }
+            "no" => {
+                if let ["files"] = rest {
+                    self.files.clear();
+                }
+            }
             _ => {}
         }
         Ok(())
