@@ -24,6 +24,16 @@ struct Player {
 }
 
 impl Player {
+    /// Does the steps of a row; false where one is none.
+    fn does_all(&mut self, alloc: Global, steps: &str) -> Result<bool, OutOfMemory> {
+        for text in steps.split_whitespace() {
+            if self.step(alloc, text)?.is_none() {
+                return Ok(false);
+            }
+        }
+        Ok(true)
+    }
+
     /// - `1301`, `1301,940E`: an instruction, with the word behind it
     /// - `enter=21`: the entry into an interrupt, by its vector
     /// - `[0053]=01`, `flash[0003]=5A`: a byte that changes
@@ -67,13 +77,18 @@ impl Player {
         put_word(&mut self.flash, self.core.pc(), w0);
         put_word(&mut self.flash, self.core.pc().wrapping_add(1), w1);
         self.count = self.count.wrapping_add(1);
-        self.cycles = if self.is_decoded {
-            let program = decode_all(alloc, &self.flash)?;
-            self.core
-                .exec_decoded(program.as_slice(), &self.flash, &mut self.ram)
-        } else {
-            self.core.exec(&self.flash, &mut self.ram)
-        };
+        if self.is_decoded {
+            return self.exec_decoded(alloc);
+        }
+        self.cycles = self.core.exec(&self.flash, &mut self.ram);
+        Ok(())
+    }
+
+    fn exec_decoded(&mut self, alloc: Global) -> Result<(), OutOfMemory> {
+        let program = decode_all(alloc, &self.flash)?;
+        self.cycles = self
+            .core
+            .exec_decoded(program.as_slice(), &self.flash, &mut self.ram);
         Ok(())
     }
 }
@@ -103,44 +118,67 @@ fn played(
     is_decoded: bool,
 ) -> Result<Option<&'static str>, OutOfMemory> {
     let (row, _) = line.split_once('#').unwrap_or((line, ""));
-    match row.split_once('|') {
-        Some((before, rest)) => match (state_of(before), rest.split_once('|')) {
-            (Some(state), Some((steps, after))) => { play(alloc, is_decoded, state, steps, after) }
-            _ => Ok(Some("other words")),
-        },
+    let (before, rest) = row.split_once('|').unwrap_or((row, ""));
+    let Some((steps, after)) = rest.split_once('|') else {
+        return Ok(Some("other words"));
+    };
+    match state_of(before) {
+        Some(mut state) => play(alloc, is_decoded, &mut state, steps, after),
         None => Ok(Some("other words")),
     }
 }
 
+/// Plays the steps from a state, which it then makes the one that is to be seen.
 fn play(
     alloc: Global,
     is_decoded: bool,
-    mut state: State,
+    state: &mut State,
     steps: &str,
     after: &str,
 ) -> Result<Option<&'static str>, OutOfMemory> {
     let mut probe = Probe::new(alloc)?;
-    let core = probe.core_in(&state);
+    play_beside(alloc, &mut probe, is_decoded, state, steps, after)
+}
+
+fn play_beside(
+    alloc: Global,
+    probe: &mut Probe,
+    is_decoded: bool,
+    state: &mut State,
+    steps: &str,
+    after: &str,
+) -> Result<Option<&'static str>, OutOfMemory> {
+    let flash = Flash::blank(alloc)?;
+    let core = probe.core_in(state);
     let mut ram = Ram::new();
     let bytes = state.ram.bytes;
     ram.bytes = bytes;
     let mut player = Player {
         core,
-        flash: Flash::blank(alloc)?,
+        flash,
         ram,
         cycles: 0,
         count: 0,
         is_decoded,
     };
-    for text in steps.split_whitespace() {
-        if player.step(alloc, text)?.is_none() {
-            return Ok(Some("other words"));
-        }
+    play_on(alloc, probe, &mut player, state, steps, after)
+}
+
+fn play_on(
+    alloc: Global,
+    probe: &mut Probe,
+    player: &mut Player,
+    state: &mut State,
+    steps: &str,
+    after: &str,
+) -> Result<Option<&'static str>, OutOfMemory> {
+    if !player.does_all(alloc, steps)? {
+        return Ok(Some("other words"));
     }
     state.pc = state.pc.wrapping_add(player.count);
     if state.set_all(after).is_none() {
         return Ok(Some("other words"));
     }
-    let seen = probe.state_of(player.core, player.ram, player.cycles);
+    let seen = probe.state_of(&mut player.core, &player.ram, player.cycles);
     Ok(state.difference(&seen))
 }

@@ -35,16 +35,26 @@ fn main(rt: HostRuntime) -> io::Result<()> {
 /// Plays the lines of a file that are rows; `#` begins a comment.
 fn play(rt: &HostRuntime, name: &str) -> io::Result<()> {
     let text = fs::read_to_string(rt, name)?;
+    let count = play_rows(rt, name, text.as_str())?;
+    println!(rt; "{name}: {count} rows")
+}
+
+fn play_rows(rt: &HostRuntime, name: &str, text: &str) -> io::Result<u32> {
     let mut count: u32 = 0;
-    for line in text.as_str().lines() {
+    for line in text.lines() {
         if !line.is_empty() && !line.starts_with('#') {
             count = count.saturating_add(1);
-            if let Some(what) = difference(rt.alloc(), name, line) {
-                println!(rt; "{name}: {what} in this row: {line}")?;
-            }
+            play_row(rt, name, line)?;
         }
     }
-    println!(rt; "{name}: {count} rows")
+    Ok(count)
+}
+
+fn play_row(rt: &HostRuntime, name: &str, line: &str) -> io::Result<()> {
+    match difference(rt.alloc(), name, line) {
+        Some(what) => println!(rt; "{name}: {what} in this row: {line}"),
+        None => Ok(()),
+    }
 }
 
 /// What comes out otherwise than a row has it, or its first word that does.

@@ -68,24 +68,25 @@ impl Probe {
     }
 
     /// The state of a core beside a data space.
-    pub fn state_of(&mut self, mut core: Core, ram: Ram, cycles: u8) -> State {
+    pub fn state_of(&mut self, core: &mut Core, ram: &Ram, cycles: u8) -> State {
         let mut state = State::new();
         state.pc = core.pc();
         state.sreg = core.sreg();
         state.mode = core.mode();
         state.waits = core.sreg() >= 0x80 && !core.may_enter();
         state.cycles = cycles;
-        state.ram = ram;
+        state.ram.bytes = ram.bytes;
+        state.ram.bit = ram.bit;
         // STS 0x0100 + d, Rd
         for d in 0..32_u8 {
-            self.does(&mut core, 0x9200 | (d as u16) << 4, 0x0100 + d as u16);
+            self.does(core, 0x9200 | (d as u16) << 4, 0x0100 + d as u16);
             state.set_reg(d, self.ram.bytes[0x0100 + d as usize]);
         }
         // IN R16, SPL; STS 0x0120, R16; IN R16, SPH; STS 0x0121, R16
-        self.does(&mut core, 0xB70D, 0);
-        self.does(&mut core, 0x9300, 0x0120);
-        self.does(&mut core, 0xB70E, 0);
-        self.does(&mut core, 0x9300, 0x0121);
+        self.does(core, 0xB70D, 0);
+        self.does(core, 0x9300, 0x0120);
+        self.does(core, 0xB70E, 0);
+        self.does(core, 0x9300, 0x0121);
         state.sp = self.ram.bytes[0x0120] as u16 + 256 * self.ram.bytes[0x0121] as u16;
         state
     }
