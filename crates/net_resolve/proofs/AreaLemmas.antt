@@ -1,25 +1,12 @@
 -- Areas: nets without a strong value that contacts and resistors connect.
-use Rattle.std.proofs.Common.{◌≡◌, ◌≢◌, ℕ, ◌<◌, List, length, map, Bool, true, not, refl, ap, sym, ◌∙◌, arith, inl, inr, subst, Some, eq-eqb}
-use Rattle.std.proofs.lemmas.Bool.{eqb-true, or_cases, and_from, and_parts}
-use Rattle.std.proofs.lemmas.Bool.Decides.{nat_tests}
-use Rattle.std.proofs.Math.Bool.{or-true}
-use Rattle.std.specs.Prelude.{◌==◌, ◌&&◌, ◌||◌, slice_get, slice_index, nat_lt}
-use Rattle.std.specs.List.{zip}
-use Rattle.std.specs.Cmp.{both_ways}
-use Rattle.board_model.specs.Pairs.{ArePairs}
-use Rattle.sim_base.specs.declared.signal.Drive.{Drive}
-use Rattle.sim_base.specs.declared.signal.Level.{Level}
+use Rattle.net_resolve.proofs.Common.{◌≡◌, ◌≢◌, ℕ, ◌<◌, List, length, map, Bool, true, not, refl, ap, sym, ◌∙◌, arith, inl, inr, subst, Some, eq-eqb, eqb-true}
+use Rattle.net_resolve.proofs.Common.{or_cases, and_from, and_parts, nat_tests, or-true, ◌==◌, ◌&&◌, ◌||◌, slice_get, slice_index, nat_lt, zip, both_ways}
+use Rattle.net_resolve.proofs.Common.{ArePairs, Drive, Level, Walk, here, further, joins, joined_by, contact_joins, is_driven, passes, reaches, walk_join}
+use Rattle.net_resolve.proofs.Common.{walk_back, walk_sound, walk_complete, some_same, some_map, AreLabels, IsForest, root_of, same_or, Joins, AreGroups}
+use Rattle.net_resolve.proofs.Common.{is_loose, sum_at, added, strong_level, joins_cases, contact_of, contact_is, contact_bounds, joined_bounds, same_or_swap}
+use Rattle.net_resolve.proofs.Common.{walks_start, all_joined}
 use Rattle.sim_base.specs.declared.signal.Level.TheVariants as levels
-use Rattle.board_model.specs.Walks.{Walk, here, further}
-use Rattle.board_model.specs.Nets.{joins, joined_by}
-use Rattle.board_model.specs.Resolve.{contact_joins, is_driven, passes, reaches}
-use Rattle.board_model.proofs.WalkLemmas.{walk_join, walk_back, walk_sound, walk_complete}
-use Rattle.board_model.proofs.Lists.{some_same, some_map}
-use Rattle.union_find.specs.Forest.{AreLabels, IsForest, root_of, same_or, Joins}
-use Rattle.net_resolve.specs.Groups.{AreGroups}
-use Rattle.net_resolve.specs.Sums.{is_loose, sum_at, added, strong_level}
 use Rattle.union_find.proofs.ForestLemmas.{label_root}
-use Rattle.union_find.proofs.PairLemmas.{joins_cases, contact_of, contact_is, contact_bounds, joined_bounds, same_or_swap, walks_start, all_joined}
 use Rattle.net_resolve.proofs.ReachLemmas.{any_at, any_some, one_label, loose_is, loose_group, contact_passes, passes_ends}
 
 -- What holds once the strong drives are summed by group.
@@ -94,17 +81,15 @@ module _ (net_of : List ℕ) (contacts resistors : List (ℕ × ℕ)) (closed : 
   bridge_walk n _ l loose here = (l, loose, here)
   bridge_walk n _ l loose (further j m w s) =
       let count = length groups in
-      let step = passes count net_of contacts resistors closed ds in
       let before = bridge_walk n j l loose w in
       elim (or_cases (nat_lt j count && nat_lt m count && (root_of groups j == root_of groups m)) (contact_joins resistors (bridges_of groups strong resistors) j m) s) [
         | inl a ↦
             let b = and_parts (nat_lt j count && nat_lt m count) (root_of groups j == root_of groups m) a in
-            let d = and_parts (nat_lt j count) (nat_lt m count) b.0 in
-            let mn : m < count = lt_of m count d.1 in
+            let mn : m < count = lt_of m count (and_parts (nat_lt j count) (nat_lt m count) b.0).1 in
             let e : slice_index groups j ≡ slice_index groups m = sym (label_here j before.0) ∙ eqb-true (root_of groups j) (root_of groups m) b.1 ∙ label_here m mn in
             let free : is_loose groups strong m ≡ true = sym (loose_with j m e) ∙ before.1 in
             let way = contact_passes contacts closed groups g.groups_are net_of resistors ds strong g.pins_within g.strong_are j m before.0 before.1 (g.groups_are.classes.walks j m before.0 mn e) in
-            (mn, free, walk_join step n j m before.2 way)
+            (mn, free, walk_join (passes count net_of contacts resistors closed ds) n j m before.2 way)
         | inr r ↦
             let b = bridge_of groups strong resistors j m r in
             let at = joined_within j m b.0 in (
@@ -128,8 +113,7 @@ module _ (net_of : List ℕ) (contacts resistors : List (ℕ × ℕ)) (closed : 
         let before = area_same n i l ln li w in
         elim (or_cases (contact_joins contacts closed i m) (joined_by resistors i m) both.1) [
           | inl c ↦
-              let e : slice_index groups i ≡ slice_index groups m = one_label contacts closed groups g.groups_are i m c in
-              before ∙ j.keeps i m at.0 at.1 (label_here i at.0 ∙ e ∙ sym (label_here m at.1))
+              before ∙ j.keeps i m at.0 at.1 (label_here i at.0 ∙ one_label contacts closed groups g.groups_are i m c ∙ sym (label_here m at.1))
           | inr r ↦ before ∙ j.joined i m (is_over_bridge groups strong resistors i m r li lm)
         ]
 

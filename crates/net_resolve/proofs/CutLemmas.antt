@@ -1,15 +1,10 @@
 -- Nets that are cut into subcircuits.
-use Rattle.std.proofs.Common.{◌≡◌, ◌≢◌, ℕ, zero, suc, ◌+◌, ◌<◌, ◌≤◌, List, [], ◌∷◌, ◌++◌, length, map, take, drop, Bool, true, false, refl, ap, sym, ◌∙◌, arith, ◌⊎◌, inl, inr, subst, Some, get_or, add-one, append_assoc, append-nil, drop-cons, length-append}
-use Rattle.std.proofs.lemmas.Bool.Decides.{eqb_tells}
-use Rattle.std.proofs.lemmas.List.{length-map, map_more, drop_all}
-use mathlib.Core.List.{map-map}
-use Rattle.std.proofs.lemmas.Option.{slice_get_within, get_or_from_slice_get}
-use Rattle.std.specs.Prelude.{◌==◌, if◌then◌else◌, slice_get, slice_index, slice_set}
-use Rattle.board_model.specs.Pairs.{ArePairs}
-use Rattle.board_model.proofs.Lists.{some_same, some_map, get_map_some, get_within, get_set_same, get_set_other, lent_whole, take_whole}
-use Rattle.net_resolve.specs.WholeView.{WholeView}
-use Rattle.net_resolve.specs.Subcircuits.{SubcircuitView, IsCut, IsSubcircuit, AreSubcircuits, AreOwn, own_pair, picked, labels_of}
-use Rattle.net_resolve.specs.Sorted.{ArePicked}
+use Rattle.net_resolve.proofs.Common.{◌≡◌, ◌≢◌, ℕ, zero, suc, ◌+◌, ◌<◌, ◌≤◌, List, [], ◌∷◌, ◌++◌, length, map, take, drop, Bool, true, false, refl, ap, sym}
+use Rattle.net_resolve.proofs.Common.{◌∙◌, arith, ◌⊎◌, inl, inr, subst, Some, get_or, add-one, append_assoc, append-nil, drop-cons, length-append, eqb_tells}
+use Rattle.net_resolve.proofs.Common.{length-map, map_more, drop_all, map-map, slice_get_within, get_or_from_slice_get, ◌==◌, if◌then◌else◌, slice_get}
+use Rattle.net_resolve.proofs.Common.{slice_index, slice_set, ArePairs, some_same, some_map, get_map_some, get_within, get_set_same, get_set_other, lent_whole}
+use Rattle.net_resolve.proofs.Common.{take_whole, WholeView, SubcircuitView, IsCut, IsSubcircuit, AreSubcircuits, AreOwn, own_pair, picked, labels_of}
+use Rattle.net_resolve.proofs.Common.{ArePicked}
 use Rattle.net_resolve.proofs.PickLemmas.{picked_key}
 use Rattle.net_resolve.proofs.ReachLemmas.{map_here}
 use Rattle.net_resolve.proofs.SubcircuitLemmas.{net_there}
@@ -22,14 +17,13 @@ pub adding_more : (keys : List ℕ) (k : ℕ) (lists : List (List ℕ)) → k < 
     AreAdding keys (k + 1) (slice_set lists (get_or keys k 0) (get_or lists (get_or keys k 0) [] ++ k ∷ []))
 adding_more keys k lists h within adding q l e =
     let key = get_or keys k 0 in
-    let rest = drop (k + 1) keys in
-    let front : drop k keys ≡ key ∷ rest = rw add-one (drop-cons keys k 0 h) in
+    let front : drop k keys ≡ key ∷ drop (k + 1) keys = rw add-one (drop-cons keys k 0 h) in
     elim (eqb_tells key q) [
       | inl t ↦
           let m = get_or lists key [] in
           let at : slice_get lists q ≡ Some m = ap (slice_get lists) (sym t.1) ∙ get_within lists key [] within in
           let is : l ≡ m ++ k ∷ [] = sym (some_same (sym (get_set_same lists key (m ++ k ∷ []) within) ∙ ap (slice_get (slice_set lists key (m ++ k ∷ []))) t.1 ∙ e)) in
-          rw (is, append_assoc m (k ∷ []) (picked q (k + 1) rest)) (rw (front, t.0) at (adding q m at))
+          rw (is, append_assoc m (k ∷ []) (picked q (k + 1) (drop (k + 1) keys))) (rw (front, t.0) at (adding q m at))
       | inr f ↦
           let other : q ≢ key = λ (same : q ≡ key). f.1 (sym same) in
           let at : slice_get lists q ≡ Some l = sym (get_set_other lists key q (get_or lists key [] ++ k ∷ []) other) ∙ e in

@@ -1,21 +1,11 @@
 -- Nets as they are made: nothing was resolved yet.
-use Rattle.std.proofs.Common.{◌≡◌, ℕ, ◌<◌, ◌≤◌, List, [], length, map, replicate, Bool, true, false, refl, ap, sym, ◌∙◌, subst, arith}
-use Rattle.std.proofs.lemmas.List.{length-replicate}
-use Rattle.sim_base.specs.declared.signal.Drive.{Drive}
+use Rattle.net_resolve.proofs.Common.{◌≡◌, ℕ, ◌<◌, ◌≤◌, List, [], length, map, replicate, Bool, true, false, refl, ap, sym, ◌∙◌, subst, arith}
+use Rattle.net_resolve.proofs.Common.{length-replicate, Drive, Level, level_at, NetsView, has, AreShown, IsWatch, flagged, differing, Watch, Inside, WholeView}
+use Rattle.net_resolve.proofs.Common.{wired, SubcircuitView, IsCut, AreSubcircuits, AreRight, circuit_of}
 use Rattle.sim_base.specs.declared.signal.Drive.TheVariants as drives
-use Rattle.sim_base.specs.declared.signal.Level.{Level}
 use Rattle.sim_base.specs.declared.signal.Level.TheVariants as levels
 use Rattle.sim_base.specs.declared.wiring.Wiring.{Wiring}
-use Rattle.board_model.specs.Board.{level_at}
-use Rattle.net_resolve.specs.NetsView.{NetsView}
-use Rattle.net_resolve.specs.Marked.{has}
-use Rattle.net_resolve.specs.Shown.{AreShown}
-use Rattle.net_resolve.specs.Watched.{IsWatch, flagged, differing}
-use Rattle.net_resolve.specs.declared.watch.Watch.{Watch}
-use Rattle.net_resolve.specs.declared.nets.Nets.TheInside.{Inside}
 use Rattle.net_resolve.specs.declared.shown.Shown.{Shown}
-use Rattle.net_resolve.specs.WholeView.{WholeView, wired}
-use Rattle.net_resolve.specs.Subcircuits.{SubcircuitView, IsCut, AreSubcircuits, AreRight, circuit_of}
 use Rattle.net_resolve.proofs.PinLemmas.{pins_z}
 use Rattle.net_resolve.proofs.RightLemmas.{right_none}
 use Rattle.net_resolve.proofs.WatchLemmas.{none_flagged, none_differs}
@@ -34,8 +24,7 @@ pub first_circuit : (w : Wiring) (n : ℕ) (net_of : List ℕ) (contacts resisto
     circuit n net_of contacts resistors ds cl ls changed ws (flagged ws ks)
     ≡ circuit w.nets w.net_of w.contacts w.resistors (replicate (length w.net_of) drives.Z) (replicate (length w.contacts) false) (replicate w.nets levels.Z) [] (replicate (length w.net_of) false) []
 first_circuit w n net_of contacts resistors ds cl ls changed ws ks en es ec er ed ef el eh ew =
-    let none = none_flagged (length w.net_of) ks in
-    rw (count_is n w.nets ls en el, es, ec, er, ed, ef, el, eh, ew, none) refl
+    rw (count_is n w.nets ls en el, es, ec, er, ed, ef, el, eh, ew, none_flagged (length w.net_of) ks) refl
 
 first_watch : (n : ℕ) (ds : List Drive) (w : Watch) → ds ≡ replicate n drives.Z → w.watched.items ≡ replicate n false → w.kept.items ≡ replicate n drives.Z → w.differing ≡ 0 → IsWatch ds w
 first_watch n ds w ed ew ek none = record {

@@ -1,3 +1,4 @@
+pub mod Common
 pub mod SumLemmas
 pub mod ValueLemmas
 pub mod ReachLemmas

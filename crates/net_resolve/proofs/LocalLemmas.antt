@@ -1,20 +1,9 @@
 -- The levels of a subcircuit's nets are those that they have on the whole board.
-use Rattle.std.proofs.Common.{◌≡◌, ℕ, ◌<◌, List, [], ◌∷◌, ◌++◌, length, map, Bool, true, false, not, refl, ap, sym, ◌∙◌, inl, inr, subst, Some, get_or}
-use Rattle.std.proofs.lemmas.Option.{slice_get_within}
-use Rattle.std.proofs.lemmas.List.Folds.{list_any-append}
-use Rattle.std.specs.Prelude.{◌&&◌, ◌||◌, if◌then◌else◌, filter, slice_get}
-use Rattle.std.specs.List.{zip, list_any, flat_map}
-use Rattle.std.specs.Cmp.{both_ways}
-use Rattle.std.proofs.lemmas.Bool.{cases_Bool, or_cases, and_parts}
-use Rattle.std.proofs.Math.Bool.{or-true}
-use Rattle.sim_base.specs.declared.signal.Drive.{Drive}
-use Rattle.sim_base.specs.Signal.{value_of, strong_of, is_weak}
-use Rattle.board_model.specs.Walks.{Walk, here, further, below, leads}
-use Rattle.board_model.specs.Nets.{joined_by}
-use Rattle.board_model.specs.Resolve.{contact_joins, has_strong, is_driven, passes, reaches, strong_values, collected, level_of, level_of_drives, is_value}
-use Rattle.board_model.proofs.WalkLemmas.{walk_sound, walk_complete}
-use Rattle.board_model.proofs.Lists.{some_same, get_within}
-use Rattle.net_resolve.specs.Subcircuits.{Lacks, AreOnce}
+use Rattle.net_resolve.proofs.Common.{◌≡◌, ℕ, ◌<◌, List, [], ◌∷◌, ◌++◌, length, map, Bool, true, false, not, refl, ap, sym, ◌∙◌, inl, inr, subst, Some, get_or}
+use Rattle.net_resolve.proofs.Common.{slice_get_within, list_any-append, ◌&&◌, ◌||◌, if◌then◌else◌, filter, slice_get, zip, list_any, flat_map, both_ways}
+use Rattle.net_resolve.proofs.Common.{cases_Bool, or_cases, and_parts, or-true, Drive, value_of, strong_of, is_weak, Walk, here, further, below, leads}
+use Rattle.net_resolve.proofs.Common.{joined_by, contact_joins, has_strong, is_driven, passes, reaches, strong_values, collected, level_of, level_of_drives}
+use Rattle.net_resolve.proofs.Common.{is_value, walk_sound, walk_complete, some_same, get_within, Lacks, AreOnce}
 use Rattle.net_resolve.proofs.ValueLemmas.{any_value}
 use Rattle.net_resolve.proofs.ReachLemmas.{passes_ends}
 use Rattle.net_resolve.proofs.ResolveLemmas.{AreStrong, strong_flat, strong_first, value_found, value_there}
@@ -48,8 +37,7 @@ module _ (nets : List ℕ) (once : AreOnce nets) (step own : ℕ → ℕ → Boo
   leads_same i j n m en em l = both_ways (leads count step n m) (leads (length nets) own i j)
       (λ h.
       let a = walk_out i n m en (walk_sound count step count n m h) in
-      let same : a.0 ≡ j = once a.0 j m a.1 em in
-      walk_complete (length nets) own own_within i j (slice_get_within nets i n en) (subst (λ (z : ℕ). Walk own i z) same a.2))
+      walk_complete (length nets) own own_within i j (slice_get_within nets i n en) (subst (λ (z : ℕ). Walk own i z) (once a.0 j m a.1 em) a.2))
       (λ h. walk_complete count step within n m l (walk_in i j n m en em (walk_sound (length nets) own (length nets) i j h)))
 
   pub leads_within : (i n m : ℕ) → slice_get nets i ≡ Some n → Lacks nets m → leads count step n m ≡ false

@@ -1,28 +1,21 @@
 -- Numbers that are marked, each once.
 use Rattle.std.proofs.Common.{◌≡◌, ◌≢◌, ℕ, ◌+◌, ◌<◌, ◌≤◌, List, [], ◌∷◌, ◌++◌, length, Bool, true, false, ◌||◌, refl, ap, sym, ◌∙◌, arith, inl, inr, Some, eqb, eq-eqb, length-append, length-set, subst}
-use Rattle.std.proofs.lemmas.Bool.{cases_Bool, or_parts}
-use Rattle.std.proofs.lemmas.Bool.Decides.{eqb_tells}
-use Rattle.std.proofs.lemmas.List.Folds.{list_any-append}
+use Rattle.net_resolve.proofs.Common.{cases_Bool, or_parts, or-true, or-false, eqb_tells, list_any-append, Level, get_set_same, get_set_other, MarksView, has}
+use Rattle.net_resolve.proofs.Common.{with_mark, Taken, Moves}
 use Rattle.std.proofs.lemmas.Map.Steps.{length-le_from_distinct_below}
 use Rattle.std.specs.List.{IsDistinct, AllByRecursion}
 use Rattle.std.specs.Prelude.{slice_get, slice_set, option_to_list, Option, None, MatchOption, IfSome}
-use Rattle.sim_base.specs.declared.signal.Level.{Level}
-use Rattle.board_model.proofs.Lists.{get_set_same, get_set_other}
-use Rattle.net_resolve.specs.Marked.{MarksView, has, with_mark, Taken}
-use Rattle.net_resolve.specs.Shown.{Moves}
 
 has_more : (ns : List ℕ) (n m : ℕ) → has (ns ++ n ∷ []) m ≡ (has ns m || (eqb m n || false))
 has_more ns n m = list_any-append (eqb m) ns (n ∷ [])
 
 pub has_last : (ns : List ℕ) (n : ℕ) → has (ns ++ n ∷ []) n ≡ true
-has_last ns n =
-    let same : eqb n n ≡ true = eq-eqb n n refl in
-    has_more ns n n ∙ elim (cases_Bool (has ns n)) [ inl t ↦ rw t refl | inr f ↦ rw (f, same) refl ]
+has_last ns n = rw (has_more ns n n, eq-eqb n n refl) (or-true (has ns n))
 
 pub has_other : (ns : List ℕ) (n m : ℕ) → m ≢ n → has (ns ++ n ∷ []) m ≡ has ns m
 has_other ns n m ne = has_more ns n m ∙ elim (eqb_tells m n) [
   | inl e ↦ absurd (ne e.1)
-  | inr f ↦ rw f.0 (elim (cases_Bool (has ns m)) [ inl t ↦ rw t refl | inr u ↦ rw u refl ])
+  | inr f ↦ rw f.0 (or-false (has ns m))
 ]
 
 -- what holds once n is marked
@@ -49,8 +42,7 @@ distinct_push (x ∷ ns) n h once = (all ns once.0, distinct_push ns n (or_parts
     apart : eqb x n ≡ false
     apart = elim (eqb_tells x n) [
       | inl e ↦
-          let same : eqb n x ≡ true = eq-eqb n x (sym e.1) in
-          let on : (eqb n x || has ns n) ≡ true = rw same refl in
+          let on : (eqb n x || has ns n) ≡ true = rw (eq-eqb n x (sym e.1)) refl in
           absurd cc
       | inr f ↦ f.0
     ]

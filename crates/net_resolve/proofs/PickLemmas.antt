@@ -1,9 +1,6 @@
 -- Lists of the places of a key.
-use Rattle.std.proofs.Common.{◌≡◌, ℕ, zero, suc, ◌+◌, List, [], ◌∷◌, true, refl, ap, ◌∙◌, arith, inl, inr, Some, eq-eqb}
-use Rattle.std.proofs.lemmas.Bool.Decides.{eqb_tells}
-use Rattle.std.specs.Prelude.{◌==◌, slice_get}
-use Rattle.board_model.proofs.Lists.{some_same}
-use Rattle.net_resolve.specs.Subcircuits.{picked}
+use Rattle.net_resolve.proofs.Common.{◌≡◌, ℕ, zero, suc, ◌+◌, List, [], ◌∷◌, refl, ap, ◌∙◌, arith, inl, inr, Some, eq-eqb, eqb_tells, slice_get}
+use Rattle.net_resolve.proofs.Common.{some_same, picked}
 
 -- at each picked place stands the key
 pub picked_key : (key k : ℕ) (xs : List ℕ) (j m : ℕ) → slice_get (picked key k xs) j ≡ Some m → (i : ℕ) × (m ≡ k + i) × (slice_get xs i ≡ Some key)
@@ -26,9 +23,8 @@ picked_key key k (x ∷ xs) j m e = elim (eqb_tells x key) [
 pub picked_at : (key k : ℕ) (xs : List ℕ) (i : ℕ) → slice_get xs i ≡ Some key → (j : ℕ) × (slice_get (picked key k xs) j ≡ Some (k + i))
 picked_at key k [] i e = absurd cc
 picked_at key k (x ∷ xs) zero e =
-    let same : (x == key) ≡ true = eq-eqb x key (some_same e) in
     let here : k ≡ k + 0 = omega arith in
-    (0, rw same (ap Some here))
+    (0, rw (eq-eqb x key (some_same e)) (ap Some here))
 picked_at key k (x ∷ xs) (suc i) e =
     let s = picked_at key (k + 1) xs i e in
     let there : (k + 1) + i ≡ k + suc i = omega arith in

@@ -1,14 +1,8 @@
 -- The levels of pins follow those of their nets.
-use Rattle.std.proofs.Common.{◌≡◌, ◌≢◌, ℕ, zero, suc, ◌+◌, List, [], ◌∷◌, length, map, replicate, refl, ap, sym, ◌∙◌, arith, inl, inr, Some, ◌⊎◌}
-use Rattle.std.proofs.lemmas.Bool.Decides.{eqb_tells}
-use Rattle.std.proofs.lemmas.List.{length-map}
-use Rattle.std.specs.Prelude.{slice_get, slice_index, unwrap_or}
-use Rattle.sim_base.specs.declared.signal.Level.{Level}
+use Rattle.net_resolve.proofs.Common.{◌≡◌, ◌≢◌, ℕ, zero, suc, ◌+◌, List, [], ◌∷◌, length, map, replicate, refl, ap, sym, ◌∙◌, arith, inl, inr, Some, ◌⊎◌}
+use Rattle.net_resolve.proofs.Common.{eqb_tells, length-map, slice_get, slice_index, unwrap_or, Level, level_at, some_same, some_map, get_map_some, same_lists}
+use Rattle.net_resolve.proofs.Common.{WholeView, Lacks, SubcircuitView, IsSubcircuit, HasAllPins}
 use Rattle.sim_base.specs.declared.signal.Level.TheVariants as levels
-use Rattle.board_model.specs.Board.{level_at}
-use Rattle.board_model.proofs.Lists.{some_same, some_map, get_map_some, same_lists}
-use Rattle.net_resolve.specs.WholeView.{WholeView}
-use Rattle.net_resolve.specs.Subcircuits.{Lacks, SubcircuitView, IsSubcircuit, HasAllPins}
 use Rattle.net_resolve.proofs.PickLemmas.{picked_at}
 use Rattle.net_resolve.proofs.SubcircuitLemmas.{net_label}
 

@@ -1,11 +1,7 @@
 -- Lists whose items are taken from places of another, or put there.
-use Rattle.std.proofs.Common.{◌≡◌, ◌≢◌, ℕ, ◌+◌, ◌<◌, ◌≤◌, List, [], ◌∷◌, length, map, refl, ap, sym, ◌∙◌, subst, arith, inl, inr, Option, Some}
-use Rattle.std.proofs.lemmas.Bool.Decides.{eqb_tells}
-use Rattle.std.proofs.lemmas.List.{length-map}
-use Rattle.std.proofs.lemmas.Option.{slice_get_within}
-use Rattle.std.specs.Prelude.{slice_get, slice_set}
-use Rattle.net_resolve.specs.Subcircuits.{AreOnce}
-use Rattle.board_model.proofs.Lists.{Filled, some_same, get_map_some, get_set_same, get_set_other, lt_or_eq, same_lists}
+use Rattle.net_resolve.proofs.Common.{◌≡◌, ◌≢◌, ℕ, ◌+◌, ◌<◌, ◌≤◌, List, [], ◌∷◌, length, map, refl, ap, sym, ◌∙◌, subst, arith, inl, inr, Option, Some}
+use Rattle.net_resolve.proofs.Common.{eqb_tells, length-map, slice_get_within, slice_get, slice_set, AreOnce, Filled, some_same, get_map_some, get_set_same}
+use Rattle.net_resolve.proofs.Common.{get_set_other, lt_or_eq, same_lists}
 
 -- the item is that of the place
 abbrev pub IsFrom : {A : Type 0} → List A → ℕ → ℕ → A → Type 0
@@ -64,12 +60,11 @@ renewed_more all places j old new m x renewed at within is = record {
 -- items are known by being there
 pub same_somes : {A : Type 0} (xs ys : List A) → ◌≡◌ {A = List (Option A)} (map Some xs) (map Some ys) → xs ≡ ys
 same_somes [] [] e = refl
-same_somes [] (y ∷ ys) e = absurd cc
-same_somes (x ∷ xs) [] e = absurd cc
-same_somes {A = A} (x ∷ xs) (y ∷ ys) e =
+same_somes (x ∷ xs) (y ∷ ys) e =
     let a : x ≡ y = cc in
     let b : xs ≡ ys = same_somes xs ys cc in
     cc
+same_somes xs ys e = absurd cc
 
 -- one more item is that of its place
 pub from_more : {A : Type 0} (from into : List A) (places : List ℕ) (j m : ℕ) (x : A) → Filled (IsFrom from) j places into →

@@ -1,21 +1,10 @@
 -- Groups are what closed contacts lead to, and areas what is reached over nets without a strong value.
-use Rattle.std.proofs.Common.{◌≡◌, ℕ, zero, suc, ◌<◌, List, [], ◌∷◌, length, map, Bool, true, false, not, refl, ap, sym, ◌∙◌, arith, inl, inr, Some, eq-eqb}
-use Rattle.std.proofs.lemmas.Bool.{eqb-true, or_cases, or_left, or_right, and_parts}
-use Rattle.std.specs.Prelude.{◌==◌, ◌&&◌, ◌||◌, slice_get, slice_index}
-use Rattle.std.specs.List.{zip, list_any}
-use Rattle.std.specs.Cmp.{both_ways}
-use Rattle.sim_base.specs.declared.signal.Drive.{Drive}
-use Rattle.sim_base.specs.declared.signal.Level.{Level}
+use Rattle.net_resolve.proofs.Common.{◌≡◌, ℕ, zero, suc, ◌<◌, List, [], ◌∷◌, length, map, Bool, true, false, not, refl, ap, sym, ◌∙◌, arith, inl, inr, Some}
+use Rattle.net_resolve.proofs.Common.{eq-eqb, eqb-true, or_cases, or_left, or_right, and_parts, ◌==◌, ◌&&◌, ◌||◌, slice_get, slice_index, zip, list_any}
+use Rattle.net_resolve.proofs.Common.{both_ways, Drive, Level, strong_of, Walk, here, further, leads, joined_by, contact_joins, has_strong, is_driven, passes}
+use Rattle.net_resolve.proofs.Common.{is_value, level_of_values, walk_sound, walk_complete, some_same, AreGroups, is_loose, is_z, sum_at, added, strong_level}
+use Rattle.net_resolve.proofs.Common.{contact_bounds}
 use Rattle.sim_base.specs.declared.signal.Level.TheVariants as levels
-use Rattle.sim_base.specs.Signal.{strong_of}
-use Rattle.board_model.specs.Walks.{Walk, here, further, leads}
-use Rattle.board_model.specs.Nets.{joined_by}
-use Rattle.board_model.specs.Resolve.{contact_joins, has_strong, is_driven, passes, is_value, level_of_values}
-use Rattle.board_model.proofs.WalkLemmas.{walk_sound, walk_complete}
-use Rattle.board_model.proofs.Lists.{some_same}
-use Rattle.net_resolve.specs.Groups.{AreGroups}
-use Rattle.net_resolve.specs.Sums.{is_loose, is_z, sum_at, added, strong_level}
-use Rattle.union_find.proofs.PairLemmas.{contact_bounds}
 use Rattle.net_resolve.proofs.ValueLemmas.{is_z_values, strong_added}
 
 -- an item that passes the test

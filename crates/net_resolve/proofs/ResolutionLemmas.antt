@@ -1,10 +1,6 @@
 -- Levels by the same drives and contacts are the same.
-use Rattle.std.proofs.Common.{◌≡◌, List, Bool, true, false}
-use Rattle.std.specs.Prelude.{if◌then◌else◌}
-use Rattle.sim_base.specs.declared.signal.Drive.{Drive}
-use Rattle.net_resolve.specs.WholeView.{WholeView, levels_of}
-use Rattle.net_resolve.specs.Resolutions.{IsResolution, AreResolutions, last_of}
-use Rattle.net_resolve.specs.declared.resolution.Resolution.{Resolution}
+use Rattle.net_resolve.proofs.Common.{◌≡◌, List, Bool, true, false, if◌then◌else◌, Drive, WholeView, levels_of, IsResolution, AreResolutions, last_of}
+use Rattle.net_resolve.proofs.Common.{Resolution}
 use Rattle.net_resolve.specs.declared.resolution.Kept.{Kept}
 
 pub levels_same : (w : WholeView) {cs es : List Bool} {ds fs : List Drive} → cs ≡ es → ds ≡ fs → levels_of w cs ds ≡ levels_of w es fs

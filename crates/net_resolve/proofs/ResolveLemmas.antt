@@ -1,27 +1,14 @@
 -- The sums by group and by area give the levels of the definition.
-use Rattle.std.proofs.Common.{◌≡◌, ℕ, zero, suc, ◌<◌, List, [], ◌∷◌, ◌++◌, length, map, Bool, true, false, not, refl, ap, sym, ◌∙◌, arith, ◌⊎◌, inl, inr, subst, Some}
-use Rattle.std.proofs.lemmas.Option.{slice_get_within}
-use Rattle.std.proofs.lemmas.List.Folds.{list_any-append}
-use Rattle.std.specs.Prelude.{◌==◌, ◌&&◌, ◌||◌, if◌then◌else◌, slice_get, slice_index}
-use Rattle.std.specs.List.{zip, list_any, flat_map}
-use Rattle.std.specs.Cmp.{both_ways}
-use Rattle.std.proofs.lemmas.Bool.{cases_Bool, not-false, or_cases, or_left, or_right, and_parts}
-use Rattle.std.proofs.Math.Bool.{or-true, and-true, and-false}
-use Rattle.board_model.specs.Pairs.{ArePairs}
-use Rattle.sim_base.specs.declared.signal.Drive.{Drive}
+use Rattle.net_resolve.proofs.Common.{◌≡◌, ℕ, zero, suc, ◌<◌, List, [], ◌∷◌, ◌++◌, length, map, Bool, true, false, not, refl, ap, sym, ◌∙◌, arith, ◌⊎◌, inl}
+use Rattle.net_resolve.proofs.Common.{inr, subst, Some, slice_get_within, list_any-append, ◌==◌, ◌&&◌, ◌||◌, if◌then◌else◌, slice_get, slice_index, zip}
+use Rattle.net_resolve.proofs.Common.{list_any, flat_map, both_ways, cases_Bool, not-false, or_cases, or_left, or_right, and_parts, or-true, and-true}
+use Rattle.net_resolve.proofs.Common.{and-false, ArePairs, Drive, Level, value_of, Walk, here, further, below, joins, joined_by, contact_joins, has_strong}
+use Rattle.net_resolve.proofs.Common.{is_driven, passes, reaches, collected, level_of, level_of_values, level_of_all, walk_sound, walk_complete, some_same}
+use Rattle.net_resolve.proofs.Common.{get-below, length-below, AreLabels, Joins, joins_cases, joins_is, joins_swap}
 use Rattle.sim_base.specs.declared.signal.Drive.TheVariants as drives
-use Rattle.sim_base.specs.declared.signal.Level.{Level}
 use Rattle.sim_base.specs.declared.signal.Level.TheVariants as levels
-use Rattle.sim_base.specs.Signal.{value_of}
-use Rattle.board_model.specs.Walks.{Walk, here, further, below}
-use Rattle.board_model.specs.Nets.{joins, joined_by}
-use Rattle.board_model.specs.Resolve.{contact_joins, has_strong, is_driven, passes, reaches, collected, level_of, level_of_values, level_of_all}
 use Rattle.board_model.specs.Resolve.{level_of_drives, resolve, is_value}
-use Rattle.board_model.proofs.WalkLemmas.{walk_sound, walk_complete}
-use Rattle.board_model.proofs.Lists.{some_same, get-below, length-below}
-use Rattle.union_find.specs.Forest.{AreLabels, Joins}
 use Rattle.net_resolve.specs.Sums.{is_loose, sum_at, added, weak_level, over_adds, resistors_add, together, own_level, level_here}
-use Rattle.union_find.proofs.PairLemmas.{joins_cases, joins_is, joins_swap}
 use Rattle.net_resolve.proofs.ReachLemmas.{any_at, any_some, map_here, one_label, strong_is}
 use Rattle.net_resolve.proofs.AreaLemmas.{Grouped, bridges_of, loose_here, passes_within, area_is}
 use Rattle.net_resolve.proofs.ValueLemmas.{values_together, or_end, any_value, weak_of, weak_added, weak_alone}
@@ -222,8 +209,7 @@ module _ (net_of : List ℕ) (contacts resistors : List (ℕ × ℕ)) (closed : 
       let step = passes (length groups) net_of contacts resistors closed ds in
       let driven : is_loose groups strong m ≡ false = loose m lm ∙ ap not (driven_by m v h) in
       let s = last_step n m ln free driven (walk_sound (length groups) step (length groups) n m at) in
-      let at_i : reaches (length groups) net_of contacts resistors closed ds n s.0 ≡ true = walk_complete (length groups) step within n s.0 ln s.3 in
-      let same : (slice_index areas s.0 == slice_index areas n) ≡ true = area n s.0 ln s.1 free s.2 ∙ at_i in
+      let same : (slice_index areas s.0 == slice_index areas n) ≡ true = area n s.0 ln s.1 free s.2 ∙ walk_complete (length groups) step within n s.0 ln s.3 in
       let it : brings v (slice_index areas n) m s.0 ≡ true = simp (driven, s.2, same, h) refl in
       let r = any_some (λ pair. joins pair s.0 m) resistors s.4 in
       any_at (adds v (slice_index areas n)) resistors r.0 r.1 r.2 (elim (joins_cases r.1 s.0 m r.3) [

@@ -1,24 +1,14 @@
 -- Levels that stay right while drives and contacts change, and subcircuits are resolved.
-use Rattle.std.proofs.Common.{◌≡◌, ℕ, zero, suc, ◌<◌, List, [], ◌∷◌, length, map, Bool, true, false, refl, ap, sym, ◌∙◌, arith, inl, inr, subst, Some, get_or, length-set, ◌⊎◌}
-use Rattle.std.proofs.lemmas.Bool.Decides.{eqb_tells}
-use Rattle.std.proofs.lemmas.List.{length-map}
-use Rattle.std.proofs.lemmas.Option.{slice_get_within}
-use Rattle.std.specs.Prelude.{slice_get, slice_index, slice_set}
-use Rattle.sim_base.specs.declared.signal.Drive.{Drive}
+use Rattle.net_resolve.proofs.Common.{◌≡◌, ℕ, zero, suc, ◌<◌, List, [], ◌∷◌, length, map, Bool, true, false, refl, ap, sym, ◌∙◌, arith, inl, inr, subst, Some}
+use Rattle.net_resolve.proofs.Common.{get_or, length-set, ◌⊎◌, eqb_tells, length-map, slice_get_within, slice_get, slice_index, slice_set, Drive, Level, below}
+use Rattle.net_resolve.proofs.Common.{some_same, some_map, get_within, get_set_other, get-below, length-below, same_lists, WholeView, levels_of, AreChanged}
+use Rattle.net_resolve.proofs.Common.{MarksView, has, with_mark, Moves, Lacks, SubcircuitView, IsCut, IsSubcircuit, AreSubcircuits, AreRight, FitsIn, AreApart}
+use Rattle.net_resolve.proofs.Common.{own_wired, labels_of, level_now, map-map}
 use Rattle.sim_base.specs.declared.signal.Drive.TheVariants as drives
-use Rattle.sim_base.specs.declared.signal.Level.{Level}
-use Rattle.board_model.specs.Walks.{below}
 use Rattle.board_model.specs.Resolve.{level_of, resolve}
-use Rattle.board_model.proofs.Lists.{some_same, some_map, get_within, get_set_other, get-below, length-below, same_lists}
-use Rattle.net_resolve.specs.WholeView.{WholeView, levels_of}
-use Rattle.net_resolve.specs.NetsView.{AreChanged}
-use Rattle.net_resolve.specs.Marked.{MarksView, has, with_mark}
-use Rattle.net_resolve.specs.Shown.{Moves}
-use Rattle.net_resolve.specs.Subcircuits.{Lacks, SubcircuitView, IsCut, IsSubcircuit, AreSubcircuits, AreRight, FitsIn, AreApart, own_wired, labels_of, level_now}
 use Rattle.net_resolve.proofs.SubcircuitLemmas.{nets_once, net_label, net_labelled, net_there, others_lack, own_level}
 use Rattle.net_resolve.proofs.PinLemmas.{all_pins}
 use Rattle.net_resolve.proofs.MarkLemmas.{has_first, has_rest, still_fresh, with_has, with_less}
-use mathlib.Core.List.{map-map}
 use Rattle.net_resolve.proofs.ReachLemmas.{map_here}
 use Rattle.net_resolve.proofs.CutLemmas.{picked_within, places_within}
 
@@ -199,9 +189,8 @@ module _ (w : WholeView) (labels : List ℕ) (cut : IsCut w labels) where
   right_all cs ds levels long right =
       same_lists levels (map (level_of w.nets w.net_of w.contacts w.resistors cs ds) (below w.nets)) (simp length-map (omega (arith, long, length-below w.nets))) (λ k x y ex ey.
       let l : k < w.nets = omega (arith, long, slice_get_within levels k x ex) in
-      let is = right k l refl in
       let at = some_map (level_of w.nets w.net_of w.contacts w.resistors cs ds) (below w.nets) k k (get-below w.nets k l) in
-      some_same (sym ex ∙ is ∙ sym at ∙ ey))
+      some_same (sym ex ∙ right k l refl ∙ sym at ∙ ey))
 
 -- where everything is marked nothing is said
 pub right_none : (w : WholeView) (labels : List ℕ) → IsCut w labels → (marked : List ℕ) (cs : List Bool) (ds : List Drive) (levels : List Level) → ((q : ℕ) → q < w.nets → has marked q ≡ true) → AreRight w labels marked cs ds levels

@@ -1,17 +1,10 @@
 -- A subcircuit is a board within the board.
-use Rattle.std.proofs.Common.{◌≡◌, ◌≢◌, ℕ, suc, ◌+◌, ◌<◌, List, [], ◌∷◌, length, map, Bool, true, refl, ap, sym, ◌∙◌, arith, inl, inr, subst, Option, Some, get_or}
-use Rattle.std.proofs.lemmas.Bool.Decides.{eqb_tells}
-use Rattle.std.proofs.lemmas.Option.{slice_get_within}
-use Rattle.std.specs.Prelude.{slice_get, slice_index}
-use Rattle.std.specs.List.{zip}
-use Rattle.sim_base.specs.declared.signal.Drive.{Drive}
-use Rattle.board_model.specs.Walks.{below}
-use Rattle.board_model.specs.Nets.{joins}
+use Rattle.net_resolve.proofs.Common.{◌≡◌, ◌≢◌, ℕ, suc, ◌+◌, ◌<◌, List, [], ◌∷◌, length, map, Bool, true, refl, ap, sym, ◌∙◌, arith, inl, inr, subst, Option}
+use Rattle.net_resolve.proofs.Common.{Some, get_or, eqb_tells, slice_get_within, slice_get, slice_index, zip, Drive, below, joins, some_same, some_map}
+use Rattle.net_resolve.proofs.Common.{get_map_some, get_within, get-below, WholeView, levels_of, Lacks, AreOnce, SubcircuitView, IsCut, IsSubcircuit, AreOwn}
+use Rattle.net_resolve.proofs.Common.{own_wired, picked, labels_of, level_now, joins_cases, joins_is, joins_swap, contact_of, contact_is, contact_bounds}
+use Rattle.net_resolve.proofs.Common.{joined_bounds}
 use Rattle.board_model.specs.Resolve.{level_of, resolve}
-use Rattle.board_model.proofs.Lists.{some_same, some_map, get_map_some, get_within, get-below}
-use Rattle.net_resolve.specs.WholeView.{WholeView, levels_of}
-use Rattle.net_resolve.specs.Subcircuits.{Lacks, AreOnce, SubcircuitView, IsCut, IsSubcircuit, AreOwn, own_wired, picked, labels_of, level_now}
-use Rattle.union_find.proofs.PairLemmas.{joins_cases, joins_is, joins_swap, contact_of, contact_is, contact_bounds, joined_bounds}
 use Rattle.net_resolve.proofs.ReachLemmas.{any_at, any_some}
 use Rattle.net_resolve.proofs.PickLemmas.{picked_key, picked_at, picked_once}
 use Rattle.net_resolve.proofs.LocalLemmas.{Sub, none, passed, taken, IsInner, inner_level}

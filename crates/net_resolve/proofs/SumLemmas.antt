@@ -1,17 +1,10 @@
 -- Sums of levels, place by place.
-use Rattle.std.proofs.Common.{◌≡◌, ◌≢◌, ℕ, ◌+◌, ◌<◌, ◌≤◌, List, [], ◌∷◌, length, drop, Bool, true, false, not, refl, ap, sym, ◌∙◌, arith, add-one, get_or, get_or-set_other, get_or-set_same, drop-cons, inl, inr, subst, Some}
+use Rattle.net_resolve.proofs.Common.{◌≡◌, ◌≢◌, ℕ, ◌+◌, ◌<◌, ◌≤◌, List, [], ◌∷◌, length, drop, Bool, true, false, not, refl, ap, sym, ◌∙◌, arith, add-one}
+use Rattle.net_resolve.proofs.Common.{get_or, get_or-set_other, get_or-set_same, drop-cons, inl, inr, subst, Some, beq, eqb_tells, drop_all, ◌==◌, ◌&&◌, ◌||◌}
+use Rattle.net_resolve.proofs.Common.{if◌then◌else◌, slice_get, slice_set, slice_index, zip, ArePairs, Drive, Level, get_set_same, get_set_other, get_within}
 use Rattle.std.specs.Cmp.Lexicographic.{pointwise}
-use Rattle.std.proofs.Math.Bool.{beq}
-use Rattle.std.proofs.lemmas.Bool.Decides.{eqb_tells}
-use Rattle.std.proofs.lemmas.List.{drop_all}
-use Rattle.std.specs.Prelude.{◌==◌, ◌&&◌, ◌||◌, if◌then◌else◌, slice_get, slice_set, slice_index}
-use Rattle.std.specs.List.{zip}
-use Rattle.board_model.specs.Pairs.{ArePairs}
-use Rattle.sim_base.specs.declared.signal.Drive.{Drive}
 use Rattle.sim_base.specs.declared.signal.Drive.TheVariants as drives
-use Rattle.sim_base.specs.declared.signal.Level.{Level}
 use Rattle.sim_base.specs.declared.signal.Level.TheVariants as levels
-use Rattle.board_model.proofs.Lists.{get_set_same, get_set_other, get_within}
 use Rattle.net_resolve.specs.Sums.{together, sum_at, added, is_loose, over_adds, resistors_add, level_here, is_z}
 
 -- a sum after something was added to one

@@ -1,15 +1,9 @@
 -- What the sums of levels are, by the values of the drives that were added.
-use Rattle.std.proofs.Common.{◌≡◌, ℕ, List, [], ◌∷◌, ◌++◌, map, Bool, true, false, not, refl, ap, sym, ◌∙◌, arith, append_assoc, append-nil, inl, inr}
-use Rattle.std.specs.Prelude.{◌&&◌, ◌||◌, filter}
-use Rattle.std.specs.List.{list_any}
-use Rattle.std.proofs.Math.Bool.{or_assoc, or-not_self, or-false}
-use Rattle.std.proofs.lemmas.Bool.{cases_Bool, not_from_true}
-use Rattle.sim_base.specs.declared.signal.Drive.{Drive}
+use Rattle.net_resolve.proofs.Common.{◌≡◌, ℕ, List, [], ◌∷◌, ◌++◌, map, Bool, true, false, not, refl, ap, sym, ◌∙◌, arith, append_assoc, append-nil, inl, inr}
+use Rattle.net_resolve.proofs.Common.{◌&&◌, ◌||◌, filter, list_any, or_assoc, or-not_self, or-false, cases_Bool, not_from_true, Drive, Level, value_of}
+use Rattle.net_resolve.proofs.Common.{strong_of, is_weak, is_upper, is_value, level_of_values, level_of_all, level_of_drives}
 use Rattle.sim_base.specs.declared.signal.Drive.TheVariants as drives
-use Rattle.sim_base.specs.declared.signal.Level.{Level}
 use Rattle.sim_base.specs.declared.signal.Level.TheVariants as levels
-use Rattle.sim_base.specs.Signal.{value_of, strong_of, is_weak, is_upper}
-use Rattle.board_model.specs.Resolve.{is_value, level_of_values, level_of_all, level_of_drives}
 use Rattle.net_resolve.specs.Sums.{has_high, has_low, is_z, together, strong_level, weak_level, added}
 
 pub values_together : (a b c d : Bool) → together (level_of_values a b) (level_of_values c d) ≡ level_of_values (a || c) (b || d)

@@ -1,11 +1,7 @@
 -- What watched pins drive, and how many of them drive something else.
-use Rattle.std.proofs.Common.{◌≡◌, ℕ, zero, suc, ◌+◌, ◌<◌, ◌≤◌, List, [], ◌∷◌, ◌∙◌, length, replicate, Bool, true, false, Some, refl, ap, arith}
-use Rattle.std.specs.Prelude.{◌&&◌, ◌==◌, slice_get, slice_set, if◌then◌else◌}
-use Rattle.sim_base.specs.declared.signal.Drive.{Drive}
-use Rattle.board_model.specs.Rows.{same_list, same_drive}
-use Rattle.board_model.proofs.Lists.{some_same}
-use Rattle.board_model.proofs.SameLemmas.{drive_same}
-use Rattle.net_resolve.specs.Watched.{flagged, unlike, differing}
+use Rattle.net_resolve.proofs.Common.{◌≡◌, ℕ, zero, suc, ◌+◌, ◌<◌, ◌≤◌, List, [], ◌∷◌, ◌∙◌, length, replicate, Bool, true, false, Some, refl, ap, arith, ◌&&◌}
+use Rattle.net_resolve.proofs.Common.{◌==◌, slice_get, slice_set, if◌then◌else◌, Drive, same_list, same_drive, some_same, drive_same, flagged, unlike}
+use Rattle.net_resolve.proofs.Common.{differing}
 
 -- no place has a flag
 pub none_flagged : {A : Type 0} (n : ℕ) (xs : List A) → flagged (replicate n false) xs ≡ []
@@ -67,9 +63,7 @@ differing_at (true ∷ flags) (a ∷ xs) (b ∷ ys) zero e lx ly =
     (differing flags xs ys, omega (arith, differing_most flags xs ys), λ x is y. ap (λ (z : Drive). differing flags xs ys + unlike z y) (some_same is))
 differing_at (true ∷ flags) (a ∷ xs) (b ∷ ys) (suc k) e lx ly =
     let rest = differing_at flags xs ys k e (omega (arith, lx)) (omega (arith, ly)) in
-    let less = rest.1 in
-    (rest.0 + unlike a b, omega (arith, less, unlike_most a b), λ x is y. let same = rest.2 x is y in omega (arith, same))
+    (rest.0 + unlike a b, omega (arith, rest.1, unlike_most a b), λ x is y. let same = rest.2 x is y in omega (arith, same))
 differing_at (false ∷ flags) (a ∷ xs) (b ∷ ys) (suc k) e lx ly =
     let rest = differing_at flags xs ys k e (omega (arith, lx)) (omega (arith, ly)) in
-    let less = rest.1 in
-    (rest.0, omega (arith, less), rest.2)
+    (rest.0, omega (arith, rest.1), rest.2)

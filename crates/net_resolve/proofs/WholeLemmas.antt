@@ -1,9 +1,5 @@
 -- What holds of nets holds of what is the same.
-use Rattle.std.proofs.Common.{◌≡◌, ℕ, List, Bool}
-use Rattle.board_model.specs.Pairs.{ArePairs}
-use Rattle.sim_base.specs.declared.signal.Drive.{Drive}
-use Rattle.board_model.specs.Resolve.{resolve}
-use Rattle.net_resolve.specs.Groups.{AreGroups}
+use Rattle.net_resolve.proofs.Common.{◌≡◌, ℕ, List, Bool, ArePairs, Drive, resolve, AreGroups}
 
 pub pairs_moved : {ps qs : List (ℕ × ℕ)} {m n : ℕ} → ps ≡ qs → m ≡ n →
     ArePairs m ps → ArePairs n qs

@@ -1,5 +1,4 @@
-use Rattle.std.proofs.Common.{arith, ap, length}
-use Rattle.net_resolve.specs.Subcircuits.{circuit_of}
+use Rattle.net_resolve.proofs.Common.{arith, ap, length, circuit_of}
 use Rattle.net_resolve.proofs.CutLemmas.{subcircuits_next}
 use Rattle.net_resolve.proofs.cut.cut_all.Goals as goal
 

@@ -1,6 +1,4 @@
-use Rattle.std.proofs.Common.{◌≡◌, length}
-use Rattle.std.specs.Prelude.{vec_len}
-use Rattle.net_resolve.specs.Subcircuits.{AreSubcircuits, circuit_of}
+use Rattle.net_resolve.proofs.Common.{◌≡◌, length, vec_len, AreSubcircuits, circuit_of}
 use Rattle.net_resolve.proofs.cut.cut_all.Given as goal
 
 abbrev pub invariant-loop-q : goal.invariant-loop-q

@@ -1,10 +1,6 @@
-use Rattle.std.proofs.Common.{◌≡◌, ◌∙◌, ℕ, List, length, map, arith, sym, ap, subst, Some}
-use Rattle.std.proofs.lemmas.List.{length-map}
-use Rattle.std.proofs.lemmas.Option.{slice_get_within}
+use Rattle.net_resolve.proofs.Common.{◌≡◌, ◌∙◌, ℕ, List, length, map, arith, sym, ap, subst, Some, length-map, slice_get_within, slice_get, slice_index}
+use Rattle.net_resolve.proofs.Common.{SubcircuitView, IsSubcircuit, AreOwn, own_pair, circuit_of, WholeView}
 use Rattle.std.proofs.lemmas.Result.{IfOk-weaker}
-use Rattle.std.specs.Prelude.{slice_get, slice_index}
-use Rattle.net_resolve.specs.Subcircuits.{SubcircuitView, IsSubcircuit, AreOwn, own_pair, circuit_of}
-use Rattle.net_resolve.specs.WholeView.{WholeView}
 use Rattle.net_resolve.proofs.SubcircuitLemmas.{nets_once, net_labelled}
 use Rattle.net_resolve.proofs.CutLemmas.{mapped_below, pairs_below, picked_length, places_within, own_nets_are, own_net_below, own_pairs_are, own_pair_below}
 use Rattle.net_resolve.proofs.WholeLemmas.{pairs_moved}
@@ -12,15 +8,13 @@ use Rattle.net_resolve.proofs.cut.cut_out.Goals as goal
 
 pub number-requires : goal.number-requires
 number-requires c =
-    let s = c.requires.sorted in
     let labels = c.args.sorted.now.labels in
-    let nets = c.list_at-nets.result.now in
-    let are = s.nets.each c.args.q nets c.list_at-nets.ensures in
+    let are = c.requires.sorted.nets.each c.args.q c.list_at-nets.result.now c.list_at-nets.ensures in
     record {
-      few = omega (arith, ap length are, picked_length c.args.q 0 labels, s.cut.long, c.requires.few);
-      within = λ i n e. let l = slice_get_within labels n c.args.q (net_labelled labels c.args.q nets are i n e) in
-          omega (arith, l, s.cut.long, c.requires.numbers);
-      once = nets_once labels c.args.q nets are;
+      few = omega (arith, ap length are, picked_length c.args.q 0 labels, c.requires.sorted.cut.long, c.requires.few);
+      within = λ i n e. let l = slice_get_within labels n c.args.q (net_labelled labels c.args.q c.list_at-nets.result.now are i n e) in
+          omega (arith, l, c.requires.sorted.cut.long, c.requires.numbers);
+      once = nets_once labels c.args.q c.list_at-nets.result.now are;
     }
 
 pub own_nets-requires : goal.own_nets-requires

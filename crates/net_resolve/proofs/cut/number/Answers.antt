@@ -1,7 +1,4 @@
-use Rattle.std.proofs.Common.{◌<◌, ◌∙◌, arith, length, get_or}
-use Rattle.std.proofs.lemmas.Option.{slice_get_within}
-use Rattle.board_model.specs.Walks.{below}
-use Rattle.board_model.proofs.Lists.{get_within, get-below}
+use Rattle.net_resolve.proofs.Common.{◌<◌, ◌∙◌, arith, length, get_or, slice_get_within, below, get_within, get-below}
 use Rattle.net_resolve.proofs.PlaceLemmas.{put_more}
 use Rattle.net_resolve.proofs.cut.number.Goals as goal
 

@@ -1,5 +1,4 @@
-use Rattle.std.proofs.Common.{length}
-use Rattle.board_model.specs.Walks.{below}
+use Rattle.net_resolve.proofs.Common.{length, below}
 use Rattle.net_resolve.proofs.PlaceLemmas.{Put}
 use Rattle.net_resolve.proofs.cut.number.Given as goal
 

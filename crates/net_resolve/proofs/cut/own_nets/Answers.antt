@@ -1,6 +1,4 @@
-use Rattle.std.proofs.Common.{ℕ, get_or}
-use Rattle.std.specs.Prelude.{slice_index}
-use Rattle.board_model.proofs.Lists.{get_within}
+use Rattle.net_resolve.proofs.Common.{ℕ, get_or, slice_index, get_within}
 use Rattle.net_resolve.proofs.CutLemmas.{map_next, map_all}
 use Rattle.net_resolve.proofs.cut.own_nets.Goals as goal
 
@@ -20,5 +18,4 @@ bounds-net_of-pins c = c.requires.pins c.loop-j.j _ (get_within c.args.pins.now 
 pub bounds-numbers-net_of : goal.bounds-numbers-net_of
 bounds-numbers-net_of c =
     let k = get_or c.args.pins.now c.loop-j.j 0 in
-    let there = c.requires.pins c.loop-j.j k (get_within c.args.pins.now c.loop-j.j 0 c.loop-j-test.true) in
-    c.requires.nets k _ (get_within c.args.net_of.now k 0 there)
+    c.requires.nets k _ (get_within c.args.net_of.now k 0 (c.requires.pins c.loop-j.j k (get_within c.args.pins.now c.loop-j.j 0 c.loop-j-test.true)))

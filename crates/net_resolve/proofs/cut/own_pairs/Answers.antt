@@ -1,6 +1,4 @@
-use Rattle.std.proofs.Common.{get_or}
-use Rattle.board_model.proofs.Lists.{get_within}
-use Rattle.net_resolve.specs.Subcircuits.{own_pair}
+use Rattle.net_resolve.proofs.Common.{get_or, get_within, own_pair}
 use Rattle.net_resolve.proofs.CutLemmas.{map_next, map_all}
 use Rattle.net_resolve.proofs.cut.own_pairs.Goals as goal
 

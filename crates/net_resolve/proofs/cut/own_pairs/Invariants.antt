@@ -1,5 +1,4 @@
-use Rattle.std.proofs.Common.{◌≡◌, map, take}
-use Rattle.net_resolve.specs.Subcircuits.{own_pair}
+use Rattle.net_resolve.proofs.Common.{◌≡◌, map, take, own_pair}
 use Rattle.net_resolve.proofs.cut.own_pairs.Given as goal
 
 abbrev pub invariant-loop-j : goal.invariant-loop-j

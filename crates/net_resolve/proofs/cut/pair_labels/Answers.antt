@@ -1,6 +1,4 @@
-use Rattle.std.proofs.Common.{ℕ}
-use Rattle.std.specs.Prelude.{slice_index}
-use Rattle.board_model.proofs.Lists.{get_within}
+use Rattle.net_resolve.proofs.Common.{ℕ, slice_index, get_within}
 use Rattle.net_resolve.proofs.CutLemmas.{map_next, map_all}
 use Rattle.net_resolve.proofs.cut.pair_labels.Goals as goal
 

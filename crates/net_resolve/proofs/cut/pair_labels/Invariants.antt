@@ -1,5 +1,4 @@
-use Rattle.std.proofs.Common.{◌≡◌, take}
-use Rattle.net_resolve.specs.Subcircuits.{labels_of}
+use Rattle.net_resolve.proofs.Common.{◌≡◌, take, labels_of}
 use Rattle.net_resolve.proofs.cut.pair_labels.Given as goal
 
 abbrev pub invariant-loop-k : goal.invariant-loop-k

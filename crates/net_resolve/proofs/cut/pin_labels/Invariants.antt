@@ -1,5 +1,4 @@
-use Rattle.std.proofs.Common.{◌≡◌, map, take}
-use Rattle.std.specs.Prelude.{slice_index}
+use Rattle.net_resolve.proofs.Common.{◌≡◌, map, take, slice_index}
 use Rattle.net_resolve.proofs.cut.pin_labels.Given as goal
 
 abbrev pub invariant-loop-k : goal.invariant-loop-k

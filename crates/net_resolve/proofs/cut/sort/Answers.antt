@@ -1,10 +1,6 @@
-use Rattle.std.proofs.Common.{◌≡◌, ◌∙◌, ℕ, List, length, arith, sym, ap, subst, Some}
-use Rattle.std.specs.Prelude.{slice_get}
-use Rattle.board_model.specs.Nets.{joined_by}
-use Rattle.board_model.proofs.Lists.{lent_whole}
+use Rattle.net_resolve.proofs.Common.{◌≡◌, ◌∙◌, ℕ, List, length, arith, sym, ap, subst, Some, slice_get, joined_by, lent_whole, joined_is, joins_is, IsCut}
+use Rattle.net_resolve.proofs.Common.{circuit_of}
 use Rattle.union_find.proofs.ClassLemmas.{joins_keep, joins_same}
-use Rattle.union_find.proofs.PairLemmas.{joined_is, joins_is}
-use Rattle.net_resolve.specs.Subcircuits.{IsCut, circuit_of}
 use Rattle.net_resolve.proofs.WholeLemmas.{pairs_moved}
 use Rattle.net_resolve.proofs.cut.sort.Goals as goal
 

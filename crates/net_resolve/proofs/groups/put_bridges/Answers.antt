@@ -1,9 +1,5 @@
-use Rattle.std.proofs.Common.{◌≤◌, ◌∙◌, sym, ap, arith, length, map, Some, true}
-use Rattle.std.specs.Prelude.{◌&&◌}
-use Rattle.std.proofs.lemmas.List.{length-map}
-use Rattle.std.proofs.lemmas.Option.{slice_get-get_or, slice_get_within}
-use Rattle.board_model.proofs.Lists.{get_within, take_set_more, take_whole, some_map, all_taken}
-use Rattle.net_resolve.specs.Sums.{is_loose}
+use Rattle.net_resolve.proofs.Common.{◌≤◌, ◌∙◌, sym, ap, arith, length, map, Some, true, ◌&&◌, length-map, slice_get-get_or, slice_get_within, get_within}
+use Rattle.net_resolve.proofs.Common.{take_set_more, take_whole, some_map, all_taken, is_loose}
 use Rattle.net_resolve.proofs.SumLemmas.{both_same, none_more}
 use Rattle.net_resolve.proofs.groups.put_bridges.Goals as goal
 

@@ -1,6 +1,4 @@
-use Rattle.std.proofs.Common.{◌≡◌, ◌≢◌, ℕ, ◌<◌, take, map, Some, true, false}
-use Rattle.std.specs.Prelude.{◌&&◌, slice_get}
-use Rattle.net_resolve.specs.Sums.{is_loose}
+use Rattle.net_resolve.proofs.Common.{◌≡◌, ◌≢◌, ℕ, ◌<◌, take, map, Some, true, false, ◌&&◌, slice_get, is_loose}
 use Rattle.net_resolve.proofs.groups.put_bridges.Given as goal
 
 abbrev pub invariant-loop-i : goal.invariant-loop-i

@@ -1,6 +1,5 @@
-use Rattle.std.proofs.Common.{◌≡◌, ℕ, ◌<◌}
+use Rattle.net_resolve.proofs.Common.{◌≡◌, ℕ, ◌<◌, sum_at}
 use Rattle.sim_base.specs.declared.signal.Level.TheVariants as levels
-use Rattle.net_resolve.specs.Sums.{sum_at}
 use Rattle.net_resolve.proofs.levels.clear.Given as goal
 
 abbrev pub invariant-loop-i : goal.invariant-loop-i

@@ -1,9 +1,4 @@
-use Rattle.std.proofs.Common.{sym, subst, length, map, ℕ, List, Bool}
-use Rattle.std.specs.Prelude.{◌&&◌}
-use Rattle.board_model.specs.Resolve.{contact_joins}
-use Rattle.union_find.specs.Forest.{Joins}
-use Rattle.net_resolve.specs.Sums.{is_loose}
-use Rattle.board_model.specs.Pairs.{ArePairs}
+use Rattle.net_resolve.proofs.Common.{sym, subst, length, map, ℕ, List, Bool, ◌&&◌, contact_joins, Joins, is_loose, ArePairs}
 use Rattle.net_resolve.proofs.AreaLemmas.{joins_unchosen}
 use Rattle.net_resolve.proofs.levels.find_areas.Goals as goal
 

@@ -1,8 +1,4 @@
-use Rattle.std.proofs.Common.{ℕ, ◌∙◌, ap}
-use Rattle.std.specs.Prelude.{◌==◌, ◌&&◌, slice_index}
-use Rattle.std.specs.List.{zip}
-use Rattle.sim_base.specs.declared.signal.Level.{Level}
-use Rattle.net_resolve.specs.Sums.{added, weak_level, is_loose, resistors_add}
+use Rattle.net_resolve.proofs.Common.{ℕ, ◌∙◌, ap, ◌==◌, ◌&&◌, slice_index, zip, Level, added, weak_level, is_loose, resistors_add}
 use Rattle.net_resolve.proofs.levels.sum_areas.Goals as goal
 
 pub returns : goal.returns

@@ -1,5 +1,4 @@
-use Rattle.std.proofs.Common.{◌≡◌, ℕ, ◌<◌, Some}
-use Rattle.std.specs.Prelude.{slice_get}
+use Rattle.net_resolve.proofs.Common.{◌≡◌, ℕ, ◌<◌, Some, slice_get}
 use Rattle.net_resolve.proofs.nets.are_nets.Given as goal
 
 abbrev pub invariant-loop-net : goal.invariant-loop-net

@@ -1,5 +1,4 @@
-use Rattle.std.proofs.Common.{◌≡◌, ◌∙◌, ℕ, List, sym, subst}
-use Rattle.net_resolve.specs.Subcircuits.{IsCut, AreSubcircuits, circuit_of}
+use Rattle.net_resolve.proofs.Common.{◌≡◌, ◌∙◌, ℕ, List, sym, subst, IsCut, AreSubcircuits, circuit_of}
 use Rattle.net_resolve.proofs.nets.cut_wiring.Goals as goal
 
 pub returns : goal.returns

@@ -1,5 +1,4 @@
-use Rattle.std.proofs.Common.{◌∙◌, ap, arith, get_or, Some, false}
-use Rattle.board_model.proofs.Lists.{get_within}
+use Rattle.net_resolve.proofs.Common.{◌∙◌, ap, arith, get_or, Some, false, get_within}
 use Rattle.net_resolve.proofs.PlaceLemmas.{gathered, from_more}
 use Rattle.net_resolve.proofs.resolution.are_closed_as_kept.Goals as goal
 

@@ -1,7 +1,5 @@
-use Rattle.std.proofs.Common.{◌∙◌, sym, ap, arith, get_or, Some}
+use Rattle.net_resolve.proofs.Common.{◌∙◌, sym, ap, arith, get_or, Some, get_within, drive_means}
 use Rattle.sim_base.specs.declared.signal.Drive.TheVariants as drives
-use Rattle.board_model.proofs.Lists.{get_within}
-use Rattle.board_model.proofs.SameLemmas.{drive_means}
 use Rattle.net_resolve.proofs.PlaceLemmas.{gathered, from_more}
 use Rattle.net_resolve.proofs.resolution.drive_as_kept.Goals as goal
 

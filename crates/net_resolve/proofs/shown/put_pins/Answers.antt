@@ -1,17 +1,12 @@
-use Rattle.std.proofs.Common.{◌<◌, ◌∙◌, ◌+◌, arith, sym, ap, subst, map, length, length-set, get_or, List}
-use Rattle.std.proofs.lemmas.Option.{slice_get_within}
-use Rattle.sim_base.specs.declared.signal.Level.{Level}
-use Rattle.board_model.specs.Board.{level_at}
-use Rattle.board_model.proofs.Lists.{get_within, some_map}
+use Rattle.net_resolve.proofs.Common.{◌∙◌, ◌+◌, arith, sym, ap, subst, map, length, length-set, get_or, List, slice_get_within, Level, level_at}
+use Rattle.net_resolve.proofs.Common.{get_within, some_map}
 use Rattle.net_resolve.proofs.PlaceLemmas.{Renewed, renewed_more}
 use Rattle.net_resolve.proofs.shown.put_pins.Goals as goal
 
 pub put_pin-requires : goal.put_pin-requires
 put_pin-requires c =
-    let pins = c.args.pins.now in
-    let j = c.loop-j.j in
     record {
-      pin = c.requires.pins j (get_or pins j 0) (get_within pins j 0 c.loop-j-test.true);
+      pin = c.requires.pins c.loop-j.j (get_or c.args.pins.now c.loop-j.j 0) (get_within c.args.pins.now c.loop-j.j 0 c.loop-j-test.true);
       nets = c.requires.nets;
       each = c.loop-j.invariant.long;
     }

@@ -1,5 +1,4 @@
-use Rattle.std.proofs.Common.{◌≡◌, length, map}
-use Rattle.board_model.specs.Board.{level_at}
+use Rattle.net_resolve.proofs.Common.{◌≡◌, length, map, level_at}
 use Rattle.net_resolve.proofs.PlaceLemmas.{Renewed}
 use Rattle.net_resolve.proofs.shown.put_pins.Given as goal
 

@@ -1,5 +1,4 @@
-use Rattle.std.proofs.Common.{◌∙◌, ap, arith, length}
-use Rattle.board_model.proofs.Lists.{lent_whole}
+use Rattle.net_resolve.proofs.Common.{◌∙◌, ap, arith, length, lent_whole}
 use Rattle.net_resolve.proofs.ResolutionLemmas.{levels_same}
 use Rattle.net_resolve.proofs.subcircuit.first_resolution.Goals as goal
 

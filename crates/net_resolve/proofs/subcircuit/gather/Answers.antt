@@ -1,6 +1,4 @@
-use Rattle.std.proofs.Common.{arith, ◌∙◌, ap, sym, get_or, Some}
-use Rattle.std.proofs.lemmas.Option.{slice_get-get_or}
-use Rattle.board_model.proofs.Lists.{get_within, filled_more}
+use Rattle.net_resolve.proofs.Common.{arith, ◌∙◌, ap, sym, get_or, Some, slice_get-get_or, get_within, filled_more}
 use Rattle.net_resolve.proofs.PlaceLemmas.{IsFrom, gathered}
 use Rattle.net_resolve.proofs.subcircuit.gather.Goals as goal
 

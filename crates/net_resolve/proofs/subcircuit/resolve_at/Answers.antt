@@ -1,6 +1,4 @@
-use Rattle.std.proofs.Common.{◌∙◌, ap, sym, length, map, Some, List, Bool}
-use Rattle.board_model.proofs.Lists.{lent_whole}
-use Rattle.sim_base.specs.declared.signal.Drive.{Drive}
+use Rattle.net_resolve.proofs.Common.{◌∙◌, ap, sym, length, map, Some, List, Bool, lent_whole, Drive}
 use Rattle.net_resolve.proofs.ResolutionLemmas.{levels_same}
 use Rattle.net_resolve.proofs.subcircuit.resolve_at.Goals as goal
 

@@ -1,17 +1,13 @@
-use Rattle.std.proofs.Common.{◌∙◌, refl, ap, sym, not, get_or}
-use Rattle.std.specs.Prelude.{slice_index}
-use Rattle.net_resolve.specs.Sums.{sum_at}
+use Rattle.net_resolve.proofs.Common.{◌∙◌, refl, ap, sym, not, get_or, slice_index, sum_at}
 use Rattle.net_resolve.proofs.SumLemmas.{sum_set, both_same}
 use Rattle.net_resolve.proofs.sums.add_over.Goals as goal
 
 pub returns-then-from_driven-to_loose : goal.returns-then-from_driven-to_loose
 returns-then-from_driven-to_loose c = λ a.
-    let k = get_or c.args.areas.now c.args.to 0 in
     let x = sum_at c.args.strong.now (slice_index c.args.groups.now c.args.from) in
     let test = sym (both_same (ap not c.is_net_loose-from_driven.ensures) c.is_net_loose-to_loose.ensures) ∙ c.if-from_driven-to_loose.true in
-    rw test (sum_set c.args.sums.now k a c.sum.result x c.requires.area c.sum.ensures)
+    rw test (sum_set c.args.sums.now (get_or c.args.areas.now c.args.to 0) a c.sum.result x c.requires.area c.sum.ensures)
 
 pub returns-else-from_driven-to_loose : goal.returns-else-from_driven-to_loose
 returns-else-from_driven-to_loose c = λ a.
-    let test = sym (both_same (ap not c.is_net_loose-from_driven.ensures) c.is_net_loose-to_loose.ensures) ∙ c.if-from_driven-to_loose.false in
-    rw test refl
+    rw (sym (both_same (ap not c.is_net_loose-from_driven.ensures) c.is_net_loose-to_loose.ensures) ∙ c.if-from_driven-to_loose.false) refl

@@ -1,18 +1,15 @@
-use Rattle.std.proofs.Common.{◌+◌, drop, ◌∙◌, sym, ap, get_or, arith}
-use Rattle.sim_base.specs.declared.signal.Level.{Level}
-use Rattle.net_resolve.specs.Sums.{sum_at, over_adds, resistors_add}
+use Rattle.net_resolve.proofs.Common.{◌+◌, drop, ◌∙◌, sym, ap, get_or, arith, Level, sum_at, over_adds, resistors_add}
 use Rattle.net_resolve.proofs.SumLemmas.{ends_within, resistors_next, resistors_end}
 use Rattle.net_resolve.proofs.sums.add_resistors.Goals as goal
 
 pub loop-i-preserved : goal.loop-i-preserved
 loop-i-preserved c = λ a.
-    let groups = c.args.groups.now in
     let strong = c.args.strong.now in
     let areas = c.args.areas.now in
     let r = get_or c.args.resistors.now c.loop-i.i (0, 0) in
-    let here = c.add_over-in-loop-i.ensures a ∙ ap (over_adds groups strong areas a r.0 r.1) (c.add_over.ensures a) in
-    ap (λ (x : Level). resistors_add groups strong areas a x (drop (c.loop-i.i + 1) c.args.resistors.now)) here
-    ∙ sym (resistors_next groups strong areas a (sum_at c.loop-i.sums a) c.args.resistors.now c.loop-i.i c.loop-i-test.true) ∙ c.loop-i.invariant a
+    let here = c.add_over-in-loop-i.ensures a ∙ ap (over_adds c.args.groups.now strong areas a r.0 r.1) (c.add_over.ensures a) in
+    ap (λ (x : Level). resistors_add c.args.groups.now strong areas a x (drop (c.loop-i.i + 1) c.args.resistors.now)) here
+    ∙ sym (resistors_next c.args.groups.now strong areas a (sum_at c.loop-i.sums a) c.args.resistors.now c.loop-i.i c.loop-i-test.true) ∙ c.loop-i.invariant a
 
 pub returns : goal.returns
 returns c = λ a.

@@ -1,5 +1,4 @@
-use Rattle.std.proofs.Common.{◌≡◌, ℕ, drop}
-use Rattle.net_resolve.specs.Sums.{sum_at, resistors_add}
+use Rattle.net_resolve.proofs.Common.{◌≡◌, ℕ, drop, sum_at, resistors_add}
 use Rattle.net_resolve.proofs.sums.add_resistors.Given as goal
 
 -- what the resistors from i on add to the sums so far is what all add

@@ -1,9 +1,5 @@
-use Rattle.std.proofs.Common.{◌+◌, ℕ, drop, ◌∙◌, sym, ap, arith, get_or}
-use Rattle.std.specs.Prelude.{◌==◌, slice_index}
-use Rattle.std.specs.List.{zip}
-use Rattle.sim_base.specs.declared.signal.Level.{Level}
+use Rattle.net_resolve.proofs.Common.{◌+◌, ℕ, drop, ◌∙◌, sym, ap, arith, get_or, ◌==◌, slice_index, zip, Level, sum_at, added, strong_level, together}
 use Rattle.sim_base.specs.declared.signal.Drive.TheVariants as drives
-use Rattle.net_resolve.specs.Sums.{sum_at, added, strong_level, together}
 use Rattle.net_resolve.proofs.SumLemmas.{sum_set, added_next, added_end}
 use Rattle.net_resolve.proofs.sums.add_strong.Goals as goal
 

@@ -1,7 +1,4 @@
-use Rattle.std.proofs.Common.{◌≡◌, ℕ, drop}
-use Rattle.std.specs.Prelude.{◌==◌, slice_index}
-use Rattle.std.specs.List.{zip}
-use Rattle.net_resolve.specs.Sums.{sum_at, added, strong_level}
+use Rattle.net_resolve.proofs.Common.{◌≡◌, ℕ, drop, ◌==◌, slice_index, zip, sum_at, added, strong_level}
 use Rattle.net_resolve.proofs.sums.add_strong.Given as goal
 
 -- what the pins from i on add to the sums so far is what all pins add

@@ -1,6 +1,4 @@
-use Rattle.std.proofs.Common.{◌∙◌, refl, sym, ap, get_or}
-use Rattle.sim_base.specs.declared.signal.Level.{Level}
-use Rattle.net_resolve.specs.Sums.{sum_at, weak_level, together}
+use Rattle.net_resolve.proofs.Common.{◌∙◌, refl, sym, ap, get_or, Level, sum_at, weak_level, together}
 use Rattle.net_resolve.proofs.SumLemmas.{sum_set, added_one}
 use Rattle.net_resolve.proofs.sums.add_weak_of.Goals as goal
 

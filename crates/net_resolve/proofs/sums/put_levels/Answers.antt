@@ -1,8 +1,5 @@
-use Rattle.std.proofs.Common.{◌≡◌, ◌<◌, ◌≤◌, ◌∙◌, sym, ap, arith, length, map, Some, true, false}
-use Rattle.std.proofs.lemmas.List.{length-map}
-use Rattle.board_model.specs.Walks.{below}
-use Rattle.board_model.proofs.Lists.{take_set_more, some_map, get-below, length-below, all_taken, take_whole}
-use Rattle.net_resolve.specs.Sums.{level_here}
+use Rattle.net_resolve.proofs.Common.{◌≡◌, ◌<◌, ◌≤◌, ◌∙◌, sym, ap, arith, length, map, Some, true, false, length-map, below, take_set_more, some_map}
+use Rattle.net_resolve.proofs.Common.{get-below, length-below, all_taken, take_whole, level_here}
 use Rattle.net_resolve.proofs.SumLemmas.{level_chosen}
 use Rattle.net_resolve.proofs.sums.put_levels.Goals as goal
 use Rattle.net_resolve.proofs.sums.put_levels.Goals.{then-is_level_z, else-is_level_z}

@@ -1,6 +1,4 @@
-use Rattle.std.proofs.Common.{◌≡◌, take, map, length}
-use Rattle.board_model.specs.Walks.{below}
-use Rattle.net_resolve.specs.Sums.{level_here}
+use Rattle.net_resolve.proofs.Common.{◌≡◌, take, map, length, below, level_here}
 use Rattle.net_resolve.proofs.sums.put_levels.Given as goal
 
 abbrev pub invariant-loop-n : goal.invariant-loop-n

@@ -1,17 +1,13 @@
-use Rattle.std.proofs.Common.{◌<◌, ◌≤◌, ◌∙◌, arith, length, map}
-use Rattle.std.proofs.lemmas.List.{length-map}
-use Rattle.board_model.specs.Walks.{below}
-use Rattle.board_model.proofs.Lists.{take_set_more, some_map, get-below, length-below, all_taken, take_whole}
-use Rattle.net_resolve.specs.Sums.{own_level}
+use Rattle.net_resolve.proofs.Common.{◌<◌, ◌≤◌, ◌∙◌, arith, length, map, length-map, below, take_set_more, some_map, get-below, length-below, all_taken}
+use Rattle.net_resolve.proofs.Common.{take_whole, own_level}
 use Rattle.net_resolve.proofs.SumLemmas.{driven_more}
 use Rattle.net_resolve.proofs.sums.put_strong.Goals as goal
 
 pub loop-n-preserved : goal.loop-n-preserved
 loop-n-preserved c =
     let groups = c.args.groups.now in
-    let here = own_level groups c.args.strong.now in
     let at : c.loop-n.n < length groups = omega (arith, c.requires.levels) in
-    let value = some_map here (below (length groups)) c.loop-n.n c.loop-n.n (get-below (length groups) c.loop-n.n at) in
+    let value = some_map (own_level groups c.args.strong.now) (below (length groups)) c.loop-n.n c.loop-n.n (get-below (length groups) c.loop-n.n at) in
     record {
       levels = take_set_more c.loop-n.levels _ c.loop-n.n _ (omega (arith, c.loop-n.auto.levels)) value c.loop-n.invariant.levels;
       driven = driven_more groups c.args.strong.now c.loop-n.n c.loop-n.driven c.is_level_z-is_loose.result c.is_level_z-is_loose.ensures c.loop-n.invariant.driven;

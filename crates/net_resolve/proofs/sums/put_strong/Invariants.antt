@@ -1,6 +1,4 @@
-use Rattle.std.proofs.Common.{◌≡◌, ℕ, ◌<◌, take, map, length, true, false}
-use Rattle.board_model.specs.Walks.{below}
-use Rattle.net_resolve.specs.Sums.{is_loose, own_level}
+use Rattle.net_resolve.proofs.Common.{◌≡◌, ℕ, ◌<◌, take, map, length, true, false, below, is_loose, own_level}
 use Rattle.net_resolve.proofs.sums.put_strong.Given as goal
 
 abbrev pub invariant-loop-n : goal.invariant-loop-n

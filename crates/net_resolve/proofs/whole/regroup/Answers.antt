@@ -1,5 +1,4 @@
-use Rattle.std.proofs.Common.{sym, subst, List, Bool}
-use Rattle.net_resolve.specs.Groups.{AreGroups}
+use Rattle.net_resolve.proofs.Common.{sym, subst, List, Bool, AreGroups}
 use Rattle.net_resolve.proofs.SumLemmas.{same_flags}
 use Rattle.net_resolve.proofs.whole.regroup.Goals as goal
 

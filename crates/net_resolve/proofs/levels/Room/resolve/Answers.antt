@@ -1,5 +1,4 @@
-use Rattle.std.proofs.Common.{◌<◌, ◌∙◌, arith, length}
-use Rattle.board_model.proofs.Lists.{get_within}
+use Rattle.net_resolve.proofs.Common.{◌<◌, ◌∙◌, arith, length, get_within}
 use Rattle.net_resolve.proofs.AreaLemmas.{Grouped}
 use Rattle.net_resolve.proofs.ResolveLemmas.{levels_are, driven_are}
 use Rattle.net_resolve.proofs.levels.Room.resolve.Goals as goal

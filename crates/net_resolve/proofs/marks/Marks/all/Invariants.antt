@@ -1,5 +1,4 @@
-use Rattle.std.proofs.Common.{◌≡◌, ℕ, ◌<◌, true}
-use Rattle.net_resolve.specs.Marked.{has}
+use Rattle.net_resolve.proofs.Common.{◌≡◌, ℕ, ◌<◌, true, has}
 use Rattle.net_resolve.proofs.marks.Marks.all.Given as goal
 
 abbrev pub invariant-loop-n : goal.invariant-loop-n

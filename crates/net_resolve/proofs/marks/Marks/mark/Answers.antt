@@ -1,7 +1,6 @@
-use Rattle.std.proofs.Common.{◌≡◌, ◌<◌, ◌∙◌, ℕ, List, ap, sym, arith, subst, length, false, true, Some}
+use Rattle.net_resolve.proofs.Common.{◌≡◌, ◌<◌, ◌∙◌, ℕ, List, ap, sym, arith, subst, length, false, true, Some, get_within, some_same, MarksView, has}
+use Rattle.net_resolve.proofs.Common.{with_mark}
 use Rattle.std.specs.Prelude.{slice_get, slice_set, if◌then◌else◌, ◌++◌, ◌∷◌, []}
-use Rattle.board_model.proofs.Lists.{get_within, some_same}
-use Rattle.net_resolve.specs.Marked.{MarksView, has, with_mark}
 use Rattle.net_resolve.proofs.MarkLemmas.{flagged_more}
 use Rattle.net_resolve.proofs.marks.Marks.mark.Goals as goal
 

@@ -1,7 +1,4 @@
-use Rattle.std.proofs.Common.{◌∙◌, ap, sym, arith, false, Some}
-use Rattle.std.specs.Prelude.{slice_get}
-use Rattle.net_resolve.specs.Marked.{MarksView, has}
-use Rattle.union_find.proofs.PairLemmas.{get_replicate}
+use Rattle.net_resolve.proofs.Common.{◌∙◌, ap, sym, arith, false, Some, slice_get, MarksView, has, get_replicate}
 use Rattle.net_resolve.proofs.marks.Marks.new.Goals as goal
 
 pub invariant_of-result : goal.invariant_of-result

@@ -1,18 +1,16 @@
-use Rattle.std.proofs.Common.{[], ◌≡◌, arith, subst}
+use Rattle.net_resolve.proofs.Common.{[], ◌≡◌, arith, subst, MarksView, Taken}
 use Rattle.std.specs.Prelude.{MatchOption, IfSome, ◌<◌}
-use Rattle.net_resolve.specs.Marked.{MarksView, Taken}
 use Rattle.net_resolve.proofs.MarkLemmas.{popped, popped_had, popped_once, popped_low}
 use Rattle.net_resolve.proofs.marks.Numbers.take.Goals as goal
 
 pub invariant_of-self : goal.invariant_of-self
 invariant_of-self c =
-    let i = c.self.inside.list in
     let v = c.self.invariant in
     let p = c.pop in
     let new = p.new.self in
     record {
-      low = λ m h. v.low m (popped_had i.items new.items p.result p.ensures.items m h);
-      once = popped_once i.items new.items p.result i.len new.len p.ensures.items p.ensures.cases new.ok.0 v.once;
+      low = λ m h. v.low m (popped_had c.self.inside.list.items new.items p.result p.ensures.items m h);
+      once = popped_once c.self.inside.list.items new.items p.result c.self.inside.list.len new.len p.ensures.items p.ensures.cases new.ok.0 v.once;
       capacity = omega (arith, v.capacity, p.ensures.capacity);
     }
 
@@ -26,6 +24,5 @@ returns-clause-taken c =
 
 pub returns-clause-low : goal.returns-clause-low
 returns-clause-low c =
-    let i = c.self.inside in
     subst (λ (m : MarksView). IfSome c.pop.result (λ n. n < m.room)) c.self.view_is
-    (popped_low i.list.items c.pop.new.self.items c.pop.result i.room c.pop.ensures.items c.self.invariant.low)
+    (popped_low c.self.inside.list.items c.pop.new.self.items c.pop.result c.self.inside.room c.pop.ensures.items c.self.invariant.low)

@@ -1,8 +1,6 @@
-use Rattle.std.proofs.Common.{◌∙◌, ℕ, ap, refl, replicate, false}
-use Rattle.std.specs.Prelude.{vec_len}
+use Rattle.net_resolve.proofs.Common.{◌∙◌, ℕ, ap, refl, replicate, false, vec_len, MarksView}
 use Rattle.sim_base.specs.declared.signal.Drive.TheVariants as drives
 use Rattle.sim_base.specs.declared.signal.Level.TheVariants as levels
-use Rattle.net_resolve.specs.Marked.{MarksView}
 use Rattle.net_resolve.proofs.FirstLemmas.{first_circuit, first_invariant}
 use Rattle.net_resolve.proofs.nets.Nets.new.Goals as goal
 

@@ -1,6 +1,4 @@
-use Rattle.std.proofs.Common.{◌∙◌, map, ap}
-use Rattle.board_model.specs.Board.{level_at}
-use Rattle.net_resolve.specs.NetsView.{NetsView}
+use Rattle.net_resolve.proofs.Common.{◌∙◌, map, ap, level_at, NetsView}
 use Rattle.net_resolve.proofs.nets.Nets.pin_levels.Goals as goal
 
 pub returns-clause-levels : goal.returns-clause-levels

@@ -1,17 +1,7 @@
-use Rattle.std.proofs.Common.{◌≡◌, ◌<◌, ◌∙◌, ℕ, List, [], length, map, Bool, true, arith, sym, ap, refl, subst, Some}
-use Rattle.std.specs.Prelude.{slice_get, slice_set}
+use Rattle.net_resolve.proofs.Common.{◌≡◌, ◌<◌, ◌∙◌, ℕ, List, [], length, map, Bool, true, arith, sym, ap, refl, subst, Some, slice_get, slice_set, Drive}
+use Rattle.net_resolve.proofs.Common.{Level, resolve, get_within, NetsView, AreChanged, MarksView, has, IsWatch, flagged, WholeView, wired, AreShown}
+use Rattle.net_resolve.proofs.Common.{SubcircuitView, IsCut, AreSubcircuits, AreRight, FitsIn, Inside}
 use Rattle.std.specs.Vec.{with_item}
-use Rattle.sim_base.specs.declared.signal.Drive.{Drive}
-use Rattle.sim_base.specs.declared.signal.Level.{Level}
-use Rattle.board_model.specs.Resolve.{resolve}
-use Rattle.board_model.proofs.Lists.{get_within}
-use Rattle.net_resolve.specs.NetsView.{NetsView, AreChanged}
-use Rattle.net_resolve.specs.Marked.{MarksView, has}
-use Rattle.net_resolve.specs.Watched.{IsWatch, flagged}
-use Rattle.net_resolve.specs.WholeView.{WholeView, wired}
-use Rattle.net_resolve.specs.Shown.{AreShown}
-use Rattle.net_resolve.specs.Subcircuits.{SubcircuitView, IsCut, AreSubcircuits, AreRight, FitsIn}
-use Rattle.net_resolve.specs.declared.nets.Nets.TheInside.{Inside}
 use Rattle.net_resolve.proofs.MarkLemmas.{has_first}
 use Rattle.net_resolve.proofs.RightLemmas.{set_same, right_step, changed_step, fresh_step, subs_apart, right_all, fits_in}
 use Rattle.net_resolve.proofs.nets.Nets.resolve_marked.Goals as goal
@@ -147,7 +137,6 @@ invariant_of-self c =
 pub returns-clause-levels : goal.returns-clause-levels
 returns-clause-levels c =
     let i = c.self.inside in
-    let v = c.self.invariant in
     let now = c.loop-q.self-inside in
     let inv = c.loop-q.invariant in
     let n = i.shown.levels.len in
@@ -155,7 +144,7 @@ returns-clause-levels c =
     let changed = now.shown.changed.marked in
     let w = wired_of i n in
     let found = subst (λ (ms : List ℕ). AreRight w i.labels.items ms i.closed.items i.drives.items levels) c.in_default.ensures.taken.0 inv.right in
-    let are = right_all w i.labels.items v.cut i.closed.items i.drives.items levels (sym now.shown.levels.ok.0 ∙ inv.nets) found in
+    let are = right_all w i.labels.items c.self.invariant.cut i.closed.items i.drives.items levels (sym now.shown.levels.ok.0 ∙ inv.nets) found in
     ap (λ (x : Inside). seen_of x now.shown.levels.len levels changed) inv.same
     ∙ ap (λ (k : ℕ). seen_of i k levels changed) inv.nets
     ∙ ap (λ (ls : List Level). seen_of i n ls changed) are

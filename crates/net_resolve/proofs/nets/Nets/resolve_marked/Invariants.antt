@@ -1,8 +1,4 @@
-use Rattle.std.proofs.Common.{◌≡◌, length}
-use Rattle.std.specs.Prelude.{vec_len}
-use Rattle.net_resolve.specs.WholeView.{wired}
-use Rattle.net_resolve.specs.Shown.{AreShown}
-use Rattle.net_resolve.specs.Subcircuits.{AreRight}
+use Rattle.net_resolve.proofs.Common.{◌≡◌, length, vec_len, wired, AreShown, AreRight}
 use Rattle.net_resolve.proofs.RightLemmas.{Begun, AreFresh}
 use Rattle.net_resolve.proofs.nets.Nets.resolve_marked.Given as goal
 

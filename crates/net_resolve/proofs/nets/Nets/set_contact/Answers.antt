@@ -1,11 +1,5 @@
-use Rattle.std.proofs.Common.{◌≡◌, ◌<◌, ◌∙◌, List, Bool, length, arith, sym, ap, subst, Some, ℕ}
-use Rattle.std.specs.Prelude.{slice_set, slice_index}
-use Rattle.board_model.proofs.Lists.{get_within, some_same}
-use Rattle.net_resolve.specs.NetsView.{NetsView}
-use Rattle.net_resolve.specs.Marked.{MarksView, with_mark}
-use Rattle.net_resolve.specs.Subcircuits.{AreRight}
-use Rattle.net_resolve.specs.Watched.{flagged}
-use Rattle.net_resolve.specs.WholeView.{wired}
+use Rattle.net_resolve.proofs.Common.{◌≡◌, ◌<◌, ◌∙◌, List, Bool, length, arith, sym, ap, subst, Some, ℕ, slice_set, slice_index, get_within, some_same}
+use Rattle.net_resolve.proofs.Common.{NetsView, MarksView, with_mark, AreRight, flagged, wired}
 use Rattle.net_resolve.proofs.RightLemmas.{right_contact, set_same}
 use Rattle.net_resolve.proofs.nets.Nets.set_contact.Goals as goal
 

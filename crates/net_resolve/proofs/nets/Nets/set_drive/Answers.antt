@@ -1,14 +1,5 @@
-use Rattle.std.proofs.Common.{◌≡◌, ◌<◌, ◌∙◌, List, length, arith, sym, ap, subst, Some, ℕ}
-use Rattle.std.specs.Prelude.{slice_set, slice_index}
-use Rattle.sim_base.specs.declared.signal.Drive.{Drive}
-use Rattle.board_model.proofs.Lists.{get_within, some_same}
-use Rattle.board_model.proofs.SameLemmas.{drive_means}
-use Rattle.net_resolve.specs.NetsView.{NetsView}
-use Rattle.net_resolve.specs.Marked.{MarksView, with_mark}
-use Rattle.net_resolve.specs.Subcircuits.{AreRight}
-use Rattle.net_resolve.specs.Watched.{IsWatch, flagged}
-use Rattle.net_resolve.specs.WholeView.{wired}
-use Rattle.net_resolve.specs.declared.watch.Watch.{Watch}
+use Rattle.net_resolve.proofs.Common.{◌≡◌, ◌<◌, ◌∙◌, List, length, arith, sym, ap, subst, Some, ℕ, slice_set, slice_index, Drive, get_within, some_same}
+use Rattle.net_resolve.proofs.Common.{drive_means, NetsView, MarksView, with_mark, AreRight, IsWatch, flagged, wired, Watch}
 use Rattle.net_resolve.proofs.FirstLemmas.{seen_of}
 use Rattle.net_resolve.proofs.RightLemmas.{right_drive, set_same}
 use Rattle.net_resolve.proofs.nets.Nets.set_drive.Goals as goal
@@ -25,11 +16,9 @@ note-requires c =
 pub index-requires-then-not-is_same_drive-2 : goal.index-requires-then-not-is_same_drive-2
 index-requires-then-not-is_same_drive-2 c =
     let i = c.self.inside in
-    let v = c.self.invariant in
-    let pin = c.args.pin in
-    let inside : pin < length i.net_of.items = omega (arith, c.requires, ap length (ap (λ (x : NetsView). x.net_of) c.self.view_is)) in
-    let at = get_within i.net_of.items pin c.index-then-not-is_same_drive.result.now inside ∙ ap Some (sym c.index-then-not-is_same_drive.ensures) in
-    omega (arith, v.cut.pins_within pin c.index-then-not-is_same_drive.result.now at, v.cut.long, i.labels.ok.0)
+    let inside : c.args.pin < length i.net_of.items = omega (arith, c.requires, ap length (ap (λ (x : NetsView). x.net_of) c.self.view_is)) in
+    let at = get_within i.net_of.items c.args.pin c.index-then-not-is_same_drive.result.now inside ∙ ap Some (sym c.index-then-not-is_same_drive.ensures) in
+    omega (arith, c.self.invariant.cut.pins_within c.args.pin c.index-then-not-is_same_drive.result.now at, c.self.invariant.cut.long, i.labels.ok.0)
 
 pub mark-requires : goal.mark-requires
 mark-requires c =
@@ -73,10 +62,8 @@ invariant_of-self c =
 pub returns-then-not-is_same_drive : goal.returns-then-not-is_same_drive
 returns-then-not-is_same_drive c =
     let i = c.self.inside in
-    let pin = c.args.pin in
-    let d = c.args.drive in
-    ap (λ (w : Watch). seen_of i (slice_set i.drives.items pin d) w.watched.items (flagged w.watched.items w.kept.items)) c.note.ensures.rest
-    ∙ ap (λ (x : NetsView). let y : NetsView = record x { drives = slice_set x.drives pin d } in y) c.self.view_is
+    ap (λ (w : Watch). seen_of i (slice_set i.drives.items c.args.pin c.args.drive) w.watched.items (flagged w.watched.items w.kept.items)) c.note.ensures.rest
+    ∙ ap (λ (x : NetsView). let y : NetsView = record x { drives = slice_set x.drives c.args.pin c.args.drive } in y) c.self.view_is
 
 pub returns-else-not-is_same_drive : goal.returns-else-not-is_same_drive
 returns-else-not-is_same_drive c =

@@ -1,7 +1,4 @@
-use Rattle.std.proofs.Common.{◌∙◌, List, Bool, ap, sym, subst, length, arith}
-use Rattle.sim_base.specs.declared.signal.Drive.{Drive}
-use Rattle.net_resolve.specs.NetsView.{NetsView}
-use Rattle.net_resolve.specs.Watched.{IsWatch, flagged}
+use Rattle.net_resolve.proofs.Common.{◌∙◌, List, Bool, ap, sym, subst, length, arith, Drive, NetsView, IsWatch, flagged}
 use Rattle.net_resolve.proofs.FirstLemmas.{seen_of}
 use Rattle.net_resolve.proofs.nets.Nets.watch.Goals as goal
 

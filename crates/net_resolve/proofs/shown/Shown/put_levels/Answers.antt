@@ -1,19 +1,15 @@
-use Rattle.std.proofs.Common.{◌≡◌, ◌<◌, ◌+◌, ◌∙◌, arith, ap, sym, subst, length, get_or, List}
-use Rattle.std.proofs.lemmas.Option.{slice_get_within}
-use Rattle.std.specs.Prelude.{slice_get}
-use Rattle.sim_base.specs.declared.signal.Level.{Level}
+use Rattle.net_resolve.proofs.Common.{◌≡◌, ◌<◌, ◌+◌, ◌∙◌, arith, ap, sym, subst, length, get_or, List, slice_get_within, slice_get, Level, get_within}
+use Rattle.net_resolve.proofs.Common.{get_set_other}
 use Rattle.sim_base.specs.declared.signal.Level.TheVariants as levels
-use Rattle.board_model.proofs.Lists.{get_within, get_set_other}
 use Rattle.net_resolve.proofs.PlaceLemmas.{Put, put_more}
 use Rattle.net_resolve.proofs.MarkLemmas.{moves_then, still_fresh}
 use Rattle.net_resolve.proofs.shown.Shown.put_levels.Goals as goal
 
 pub put_level-requires : goal.put_level-requires
 put_level-requires c =
-    let nets = c.args.nets.now in
     let l = c.loop-j in
-    let n = get_or nets l.j 0 in
-    let at = get_within nets l.j 0 c.loop-j-test.true in
+    let n = get_or c.args.nets.now l.j 0 in
+    let at = get_within c.args.nets.now l.j 0 c.loop-j-test.true in
     let moves = l.invariant.moves in
     record {
       net = omega (arith, c.requires.nets.within l.j n at, moves.long);

@@ -1,5 +1,4 @@
-use Rattle.std.proofs.Common.{◌≡◌}
-use Rattle.net_resolve.specs.Shown.{Moves}
+use Rattle.net_resolve.proofs.Common.{◌≡◌, Moves}
 use Rattle.net_resolve.proofs.PlaceLemmas.{Put}
 use Rattle.net_resolve.proofs.shown.Shown.put_levels.Given as goal
 

@@ -1,6 +1,4 @@
-use Rattle.std.proofs.Common.{◌∙◌, ap, sym, subst, length}
-use Rattle.net_resolve.specs.WholeView.{WholeView}
-use Rattle.net_resolve.specs.Resolutions.{IsResolution}
+use Rattle.net_resolve.proofs.Common.{◌∙◌, ap, sym, subst, length, WholeView, IsResolution}
 use Rattle.net_resolve.proofs.subcircuit.Subcircuit.new.Goals as goal
 
 pub invariant_of-result : goal.invariant_of-result

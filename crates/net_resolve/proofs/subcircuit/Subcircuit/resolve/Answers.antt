@@ -1,13 +1,5 @@
-use Rattle.std.proofs.Common.{◌≡◌, ◌∙◌, ℕ, sym, ap, subst, arith, length, map, List, Some, refl}
-use Rattle.std.specs.Prelude.{slice_get}
-use Rattle.sim_base.specs.declared.signal.Level.{Level}
-use Rattle.net_resolve.specs.WholeView.{WholeView, wired, levels_of}
-use Rattle.net_resolve.specs.Resolutions.{AreResolutions, last_of}
-use Rattle.net_resolve.specs.declared.resolution.Resolution.{Resolution}
-use Rattle.std.proofs.lemmas.List.{length-map}
-use Rattle.net_resolve.specs.Subcircuits.{Lacks, AreNumbers, SubcircuitView}
-use Rattle.board_model.specs.Board.{level_at}
-use Rattle.board_model.proofs.Lists.{lent_whole}
+use Rattle.net_resolve.proofs.Common.{◌≡◌, ◌∙◌, ℕ, sym, ap, subst, arith, length, map, List, Some, refl, slice_get, Level, WholeView, wired, levels_of}
+use Rattle.net_resolve.proofs.Common.{AreResolutions, last_of, Resolution, length-map, Lacks, AreNumbers, SubcircuitView, level_at, lent_whole}
 use Rattle.net_resolve.proofs.ResolutionLemmas.{last_is, levels_same}
 use Rattle.net_resolve.proofs.PlaceLemmas.{same_somes}
 use Rattle.net_resolve.proofs.PinLemmas.{pins_follow}
@@ -38,12 +30,11 @@ put_levels-requires c =
 
 pub invariant_of-self : goal.invariant_of-self
 invariant_of-self c =
-    let v = c.self.invariant in
     let same = c.resolve_other.ensures.same in
     record {
-      nets_long = v.nets_long ∙ sym (ap (λ (x : WholeView). x.nets) same);
-      pins_long = v.pins_long ∙ sym (ap (λ (x : WholeView). length x.net_of) same);
-      contacts_long = v.contacts_long ∙ sym (ap (λ (x : WholeView). length x.contacts) same);
+      nets_long = c.self.invariant.nets_long ∙ sym (ap (λ (x : WholeView). x.nets) same);
+      pins_long = c.self.invariant.pins_long ∙ sym (ap (λ (x : WholeView). length x.net_of) same);
+      contacts_long = c.self.invariant.contacts_long ∙ sym (ap (λ (x : WholeView). length x.contacts) same);
       kept = subst (λ (x : WholeView). AreResolutions x c.resolve_other.new.kept) (sym same) c.resolve_other.ensures.kept;
     }
 

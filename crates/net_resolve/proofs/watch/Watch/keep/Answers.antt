@@ -1,7 +1,4 @@
-use Rattle.std.proofs.Common.{◌≡◌, ◌∙◌, ℕ, sym, ap, arith, true, false}
-use Rattle.std.specs.Prelude.{◌==◌}
-use Rattle.board_model.proofs.SameLemmas.{drives_mean}
-use Rattle.net_resolve.specs.Watched.{flagged}
+use Rattle.net_resolve.proofs.Common.{◌≡◌, ◌∙◌, ℕ, sym, ap, arith, true, false, ◌==◌, drives_mean, flagged}
 use Rattle.net_resolve.proofs.WatchLemmas.{same_where}
 use Rattle.net_resolve.proofs.watch.Watch.keep.Goals as goal
 

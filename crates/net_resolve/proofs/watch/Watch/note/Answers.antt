@@ -1,10 +1,6 @@
-use Rattle.std.proofs.Common.{◌≡◌, ◌+◌, ◌<◌, ◌∙◌, ℕ, List, Bool, length, Some, ap, sym, arith, true, get_or, length-set}
-use Rattle.std.specs.Prelude.{slice_get, slice_set}
-use Rattle.sim_base.specs.declared.signal.Drive.{Drive}
+use Rattle.net_resolve.proofs.Common.{◌≡◌, ◌+◌, ◌<◌, ◌∙◌, ℕ, List, Bool, length, Some, ap, sym, arith, true, get_or, length-set, slice_get, slice_set, Drive}
+use Rattle.net_resolve.proofs.Common.{get_within, IsWatch, unlike, differing, Watch}
 use Rattle.sim_base.specs.declared.signal.Drive.TheVariants as drives
-use Rattle.board_model.proofs.Lists.{get_within}
-use Rattle.net_resolve.specs.Watched.{IsWatch, unlike, differing}
-use Rattle.net_resolve.specs.declared.watch.Watch.{Watch}
 use Rattle.net_resolve.proofs.RightLemmas.{set_same}
 use Rattle.net_resolve.proofs.WatchLemmas.{differing_at, differing_other, unlike_most}
 use Rattle.net_resolve.proofs.watch.Watch.note.Goals as goal
@@ -23,8 +19,7 @@ others w ds pin flag kept is inside flagged on there =
 pub overflow_sub-self : goal.overflow_sub-self
 overflow_sub-self c =
     let all = others c.args.self.now c.args.drives.now c.args.pin c.index.result.now c.index-kept.result.now c.requires.is c.requires.pin c.index.ensures c.if-index.true c.index-kept.ensures in
-    let was = all.2 in
-    omega (arith, was, c.unlike.ensures)
+    omega (arith, all.2, c.unlike.ensures)
 
 pub overflow_add-self : goal.overflow_add-self
 overflow_add-self c =
@@ -38,23 +33,20 @@ returns-then-index-clause-is c =
     let is = c.requires.is in
     let ds = c.args.drives.now in
     let all = others c.args.self.now ds c.args.pin c.index.result.now c.index-kept.result.now is c.requires.pin c.index.ensures c.if-index.true c.index-kept.ensures in
-    let was = all.2 in
-    let now = all.3 c.args.drive in
     record {
       flags_long = is.flags_long ∙ sym (length-set ds c.args.pin c.args.drive);
       kept_long = is.kept_long ∙ sym (length-set ds c.args.pin c.args.drive);
-      counted = omega (arith, was, now, c.unlike.ensures, c.unlike-then-index.ensures);
+      counted = omega (arith, all.2, all.3 c.args.drive, c.unlike.ensures, c.unlike-then-index.ensures);
     }
 
 pub returns-else-index-clause-is : goal.returns-else-index-clause-is
 returns-else-index-clause-is c =
     let is = c.requires.is in
     let w = c.args.self.now in
-    let ds = c.args.drives.now in
     let within : c.args.pin < length w.watched.items = omega (arith, c.requires.pin, is.flags_long) in
     let off = get_within w.watched.items c.args.pin c.index.result.now within ∙ ap Some (sym c.index.ensures ∙ c.if-index.false) in
     record {
-      flags_long = is.flags_long ∙ sym (length-set ds c.args.pin c.args.drive);
-      kept_long = is.kept_long ∙ sym (length-set ds c.args.pin c.args.drive);
-      counted = is.counted ∙ sym (differing_other w.watched.items w.kept.items ds c.args.pin c.args.drive off);
+      flags_long = is.flags_long ∙ sym (length-set c.args.drives.now c.args.pin c.args.drive);
+      kept_long = is.kept_long ∙ sym (length-set c.args.drives.now c.args.pin c.args.drive);
+      counted = is.counted ∙ sym (differing_other w.watched.items w.kept.items c.args.drives.now c.args.pin c.args.drive off);
     }

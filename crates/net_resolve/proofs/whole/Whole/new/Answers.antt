@@ -1,13 +1,11 @@
-use Rattle.std.proofs.Common.{◌∙◌, length, arith, ap, sym, refl}
-use Rattle.board_model.proofs.Lists.{lent_whole}
+use Rattle.net_resolve.proofs.Common.{◌∙◌, length, arith, ap, sym, refl, lent_whole}
 use Rattle.net_resolve.proofs.WholeLemmas.{pairs_moved, groups_moved}
 use Rattle.net_resolve.proofs.whole.Whole.new.Goals as goal
 
 pub group_nets-requires : goal.group_nets-requires
 group_nets-requires c =
-    let groups = c.in_ok-groups.groups in
     let closed = c.in_ok-closed in
-    let long = sym (ap length c.deref_mut.ensures.value ∙ sym groups.ok.0 ∙ c.in_ok-groups.ensures) in
+    let long = sym (ap length c.deref_mut.ensures.value ∙ sym c.in_ok-groups.groups.ok.0 ∙ c.in_ok-groups.ensures) in
     record {
       contacts = pairs_moved (sym c.deref.ensures.value) long c.requires.contacts;
       closed = omega (arith, ap length c.deref-2.ensures.value, closed.closed.ok.0, closed.ensures.len, c.len.ensures, c.args.contacts.ok.0, ap length c.deref.ensures.value);
