@@ -1,35 +1,15 @@
 -- One part goes on by itself while the others are quiet: that is a leg of the board's way.
-use Rattle.std.proofs.Common.{◌≡◌, ◌≢◌, ℕ, zero, suc, ◌+◌, ◌-◌, ◌<◌, ◌≤◌, List, [], length, map, Bool, true, false, Option, None, Some, refl, ap, sym, ◌∙◌}
-use Rattle.std.proofs.Common.{arith, inl, inr, length-set}
-use Rattle.std.specs.Prelude.{slice_get, slice_set, if◌then◌else◌}
-use Rattle.std.specs.List.{flat_map}
-use Rattle.std.proofs.lemmas.Option.{slice_get_within}
-use Rattle.std.proofs.lemmas.Bool.Decides.{eqb_tells}
-use Rattle.sim_base.specs.declared.signal.Drive.{Drive}
-use Rattle.sim_base.specs.declared.wiring.Wiring.{Wiring}
-use Rattle.sim_base.specs.declared.wiring.Input.{Input}
-use Rattle.sim_base.specs.declared.limits.TheConstants.{MOST_CYCLES}
-use Rattle.part_law.specs.Machine.{Machine, Laws, glide, dues, sent, IsQuiet, IsSame, IsFirstDue}
-use Rattle.part_law.proofs.MachineLemmas.{glide_valid, glide_drives, glide_contacts, glide_pins, glide_ports, glide_holds}
-use Rattle.board_model.specs.Board.{level_at, own_nets, input_at, states, bytes}
-use Rattle.board_model.specs.Fits.{Fits}
-use Rattle.net_resolve.specs.NetsView.{NetsView}
-use Rattle.board_model.specs.Rows.{Shown, shown_of, rows}
-use Rattle.board_model.proofs.Lists.{some_same, get_map_some, some_map, flat_map_same}
-use Rattle.board_laws.specs.Alike.{Alike}
-use Rattle.board_laws.specs.Stands.{Stands}
-use Rattle.board_laws.specs.Steady.{IsSteady}
-use Rattle.board_laws.proofs.StandsLaw.{stands_here, stands_shows, stands_holds}
-use Rattle.board_laws.proofs.SteadyLaw.{steady_states, steady_before, steady_rows, steady_cycles, steady_bytes, steady_pairs, quiet_dues}
-use Rattle.board_run.specs.Changes.{LastTells}
-use Rattle.board_run.specs.ReadingView.{ReadingView, IsTold, retold, shown_at}
+use Rattle.board_run.proofs.Common.{◌≡◌, ◌≢◌, ℕ, zero, suc, ◌+◌, ◌-◌, ◌<◌, ◌≤◌, List, [], length, map, Bool, true, false, Option, None, Some, refl, ap, sym}
+use Rattle.board_run.proofs.Common.{◌∙◌, arith, inl, inr, length-set, slice_get, slice_set, if◌then◌else◌, flat_map, slice_get_within, eqb_tells, Drive}
+use Rattle.board_run.proofs.Common.{Wiring, Input, MOST_CYCLES, Machine, Laws, glide, dues, sent, IsQuiet, IsSame, IsFirstDue, glide_valid, glide_drives}
+use Rattle.board_run.proofs.Common.{glide_contacts, glide_pins, glide_ports, glide_holds, level_at, own_nets, input_at, states, bytes, Fits, NetsView, Shown}
+use Rattle.board_run.proofs.Common.{shown_of, rows, some_same, get_map_some, some_map, flat_map_same, Alike, Stands, IsSteady, stands_here, stands_shows}
+use Rattle.board_run.proofs.Common.{stands_holds, steady_states, steady_before, steady_rows, steady_cycles, steady_bytes, steady_pairs, quiet_dues, LastTells}
+use Rattle.board_run.proofs.Common.{ReadingView, IsTold, retold, shown_at, glided, Replaced, Shifted, Kept, Lags, Leg, WentBy, IsAlone, AreBehind}
 use Rattle.part_law.specs.declared.part.Went.{Went}
-use Rattle.board_run.specs.Lagging.{glided, Replaced, Shifted}
-use Rattle.board_run.specs.Legs.{Kept, Lags, Leg, WentBy, IsAlone}
 use Rattle.board_run.proofs.LagLemmas.{may_of, lags_stand, stand_are, lags_valid, lags_held, lags_shown, Ts}
 use Rattle.board_run.proofs.ReadLemmas.{retold_suits, retold_is, flat_each}
 use Rattle.board_run.proofs.ShowLemmas.{still_of, later_shown}
-use Rattle.board_run.specs.Upcoming.{AreBehind}
 use Rattle.board_run.proofs.NextLemmas.{quiet_until}
 use Rattle.board_run.proofs.TurnLemmas.{some_there, at_set, same_room, due_set}
 use Rattle.board_run.proofs.LegLemmas.{quiet_rest, stands_later}
@@ -143,9 +123,8 @@ module _ {S P : Type 0} (m : Machine S) (laws : Laws m) (w : Wiring) (state : P 
         elim (at_set parts who k q0 z inside ez) [
           | inl e ↦ let p_is : p ≡ p0 = cc (here, e.0, ep) in rw cycles (rw (← e.1, p_is) woken_is)
           | inr e ↦
-              let one = ap wakes (some_same (sym e.1 ∙ ep)) in
               let none = quiet_dues m laws (glided m state now wakes t p) t (u - t) (calm k (glided m state now wakes t p) e.0 es) in
-              omega (arith, one, none, cycles)
+              omega (arith, ap wakes (some_same (sym e.1 ∙ ep)), none, cycles)
         ];
     steps_are = rw (steady_pairs m laws w inputs Js t (u - t) steady who s0 there valid calm (u - t) (omega arith)) counted;
   }
@@ -231,10 +210,8 @@ module _ {S P : Type 0} (m : Machine S) (laws : Laws m) (w : Wiring) (state : P 
         held = sym (stands_holds m laws u (now z) (state z) (glide m s t (u - t)) st) ∙ glide_holds m laws s t (u - t) ∙ stands_holds m laws t (now p) (state p) s old;
         count = elim (at_set parts who k q0 z inside ez) [
           | inl e ↦
-              let most = dues_most m laws s0 t (u - t) in
-              let c = was_counted who p0 here in
               let l = (like.each who p0 s0 here there).not_later in
-              rw (← e.1) (omega (arith, most, c, l, woken_is, now_is, order))
+              rw (← e.1) (omega (arith, dues_most m laws s0 t (u - t), was_counted who p0 here, l, woken_is, now_is, order))
           | inr e ↦ was_counted k z e.1
         ];
       }

@@ -1,13 +1,8 @@
 -- The last cycle of a run that was cut off.
-use Rattle.std.proofs.Common.{◌≡◌, ℕ, suc, ◌+◌, ◌-◌, ◌≤◌, ◌∙◌, List, [], ◌++◌, Bool, true, Option, refl, ap, arith}
-use Rattle.sim_base.specs.Rows.{Row, StopsWithin, Handed}
-use Rattle.sim_base.specs.declared.wiring.Wiring.{Wiring}
-use Rattle.sim_base.specs.declared.wiring.Input.{Input}
-use Rattle.part_law.specs.Machine.{Machine, Laws}
+use Rattle.board_run.proofs.Common.{◌≡◌, ℕ, suc, ◌+◌, ◌-◌, ◌≤◌, ◌∙◌, List, [], ◌++◌, Bool, true, Option, refl, ap, arith, Row, StopsWithin, Handed, Wiring}
+use Rattle.board_run.proofs.Common.{Input, Machine, Laws, ReadingView, shown_at, Leg}
 use Rattle.board_model.specs.Board.{bytes}
 use Rattle.board_model.specs.Rows.{Shown, rows}
-use Rattle.board_run.specs.ReadingView.{ReadingView, shown_at}
-use Rattle.board_run.specs.Legs.{Leg}
 use Rattle.board_run.specs.CutOff.{row_in, bytes_in, IsCutOff}
 use Rattle.board_run.proofs.HandLemmas.{handed_nothing, handed_then, stops_after}
 use Rattle.board_run.proofs.ShowLemmas.{fronts}
@@ -44,21 +39,19 @@ module _ {S : Type 0} (m : Machine S) (w : Wiring) (inputs : List Input) (before
         StopsWithin (stands out) (stopped after) (rows m w inputs before ss c (u - c)) (bytes m w inputs ss c (u - c)) → IsCutOff m w inputs before ss c v whole faults stands stopped out after
     cut_here is no_row no_byte stops =
         let rows_are = rows_last v u from follows ∙ ap (λ (l : List Row). l ++ row_in m w inputs before ss c v) no_row in
-        let bytes_are = bytes_last v u from follows ∙ ap (λ (l : List ℕ). l ++ bytes_in m w inputs before ss c v) no_byte in
         record {
           between = out;
           from = from;
           handed = rw (no_row, no_byte) (handed_nothing whole faults stands out is);
-          stops = rw (rows_are, bytes_are) at stops;
+          stops = rw (rows_are, bytes_last v u from follows ∙ ap (λ (l : List ℕ). l ++ bytes_in m w inputs before ss c v) no_byte) at stops;
         }
 
     -- it has stopped within all that the run would have shown
     pub cut_within : (n : ℕ) → u ≤ n → IsCutOff m w inputs before ss c v whole faults stands stopped out after → StopsWithin (stands out) (stopped after) (rows m w inputs before ss c (n - c)) (bytes m w inputs ss c (n - c))
     cut_within n within cut =
         let e : (u - c) + (n - u) ≡ n - c = omega (arith, from, follows, within) in
-        let front = rw e at (fronts m w inputs before ss c (u - c) (n - u)) in
         stops_after stands stopped out cut.between after _ _ _ _ _ _ cut.handed.appended cut.stops
-        (rw (rows_last v u from follows, bytes_last v u from follows) at front)
+        (rw (rows_last v u from follows, bytes_last v u from follows) at (rw e at (fronts m w inputs before ss c (u - c) (n - u))))
 
 -- where it was cut off after a leg, it was cut off
 module _ {S P W : Type 0} (m : Machine S) (laws : Laws m) (w : Wiring) (state : P → S) (now wakes : P → ℕ) (inputs : List Input) (whole : W → Bool) (faults : W → ℕ) (stands stopped : W → List Row → List ℕ → Type 0) where
@@ -66,13 +59,11 @@ module _ {S P W : Type 0} (m : Machine S) (laws : Laws m) (w : Wiring) (state : 
       Handed whole faults stands x y (rows m w inputs (shown_at t before) (Ts m laws w state now wakes t old) t (u - t)) (bytes m w inputs (Ts m laws w state now wakes t old) t (u - t)) →
       IsCutOff m w inputs (shown_at u seen) (Ts m laws w state now wakes u mid) u v whole faults stands stopped y z → IsCutOff m w inputs (shown_at t before) (Ts m laws w state now wakes t old) t v whole faults stands stopped x z
   cut_then t u v a b old mid before seen x y z leg handed cut =
-      let order = leg.order in
       let later = cut.from in
-      let shown = shown_on m laws w state now wakes inputs t u v a b old mid before seen leg later in
       let stood = states_on m laws w state now wakes inputs t u v a b old mid before seen leg later in
       record {
         between = cut.between;
-        from = omega (arith, order, later);
+        from = omega (arith, leg.order, later);
         handed = handed_then whole faults stands x y cut.between _ _ _ _ _ _ handed cut.handed (rows_on m laws w state now wakes inputs t u v a b old mid before seen leg later) (bytes_on m laws w state now wakes inputs t u v a b old mid before seen leg later);
-        stops = rw (shown, stood) cut.stops;
+        stops = rw (shown_on m laws w state now wakes inputs t u v a b old mid before seen leg later, stood) cut.stops;
       }

@@ -1,27 +1,14 @@
 -- What an engine did on its way: ways follow on each other, and nothing is shown while it passes over cycles.
-use Rattle.std.proofs.Common.{◌≡◌, ◌++◌, ℕ, ◌+◌, ◌-◌, ◌<◌, ◌≤◌, ◌∙◌, List, [], Bool, true, false, refl, ap, sym, arith, subst, inl, inr}
-use Rattle.sim_base.specs.Rows.{Row, StopsWithin}
+use Rattle.board_run.proofs.Common.{◌≡◌, ◌++◌, ℕ, ◌+◌, ◌-◌, ◌<◌, ◌≤◌, ◌∙◌, List, [], Bool, true, false, refl, ap, sym, arith, subst, inl, inr, Row}
+use Rattle.board_run.proofs.Common.{StopsWithin, MOST_CYCLES, Wiring, Input, Laws, LastTells, slice_get, slice_index, Some, input_at, some_same, NetsView}
+use Rattle.board_run.proofs.Common.{PartSet, has_part, to_wake, Replaced, Suits, levels_on, shown_at, kept_of, given, states_of, rows_to, bytes_to, IsNext}
+use Rattle.board_run.proofs.Common.{Watches, MayRun, MayTurnPart, TurnedAt, MayTell, WentOn, Rests, Settled, FailedIn, Showed, Engine}
 use Rattle.sim_base.specs.declared.bench.WriteEnd.{WriteEnd}
 use Rattle.sim_base.specs.declared.bench.WriteEnd.TheVariants as writes
-use Rattle.sim_base.specs.declared.limits.TheConstants.{MOST_CYCLES}
 use Rattle.sim_base.specs.declared.watcher.Watcher.{Ghosts as Watching}
-use Rattle.sim_base.specs.declared.wiring.Wiring.{Wiring}
-use Rattle.sim_base.specs.declared.wiring.Input.{Input}
-use Rattle.part_law.specs.Machine.{Laws}
 use Rattle.part_law.specs.declared.part.Part.{Ghosts}
-use Rattle.board_run.specs.Changes.{LastTells}
-use Rattle.std.specs.Prelude.{slice_get, slice_index, Some}
-use Rattle.board_model.specs.Board.{input_at}
-use Rattle.board_model.proofs.Lists.{some_same}
-use Rattle.net_resolve.specs.NetsView.{NetsView}
-use Rattle.board_run.specs.declared.part_set.PartSet.{PartSet}
 use Rattle.board_run.specs.declared.turn.Woken.{Woken}
-use Rattle.board_run.specs.Parts.{has_part}
-use Rattle.board_run.specs.Lagging.{to_wake, Replaced}
-use Rattle.board_run.specs.ReadingView.{Suits, levels_on, shown_at}
-use Rattle.board_run.specs.Engine.{kept_of, given, states_of, rows_to, bytes_to, IsNext, Watches, MayRun, MayTurnPart, TurnedAt, MayTell, WentOn, Rests, Settled, FailedIn, Showed}
 use Rattle.board_run.proofs.TurnLemmas.{turned_room, turned_still, turned_others, Placed, placed}
-use Rattle.board_run.specs.declared.engine.Engine.{Engine}
 use Rattle.board_run.proofs.HandLemmas.{handed_nothing, handed_then}
 use Rattle.board_run.proofs.ShowLemmas.{none_handed}
 use Rattle.board_run.proofs.NextLemmas.{below_or}

@@ -1,12 +1,7 @@
 -- A watcher is handed one part after another.
-use Rattle.std.proofs.Common.{◌≡◌, ℕ, ◌+◌, ◌<◌, List, [], ◌∷◌, ◌++◌, ◌∙◌, Option, None, Some, refl, ap, sym, subst, append_assoc, take, drop, length, Bool}
-use Rattle.std.proofs.Common.{true, append-nil, get_or, take-append-drop}
-use Rattle.std.specs.Prelude.{slice_get}
-use Rattle.std.specs.Option.{option_to_list}
-use Rattle.sim_base.specs.Rows.{Row, Appends, StopsWithin, AreFronts, Handed}
-use Rattle.std.proofs.lemmas.List.{take_more}
-use Rattle.std.proofs.lemmas.Option.{get_or_from_slice_get}
-use Rattle.board_model.specs.Board.{options}
+use Rattle.board_run.proofs.Common.{◌≡◌, ℕ, ◌+◌, ◌<◌, List, [], ◌∷◌, ◌++◌, ◌∙◌, Option, None, Some, refl, ap, sym, subst, append_assoc, take, drop, length}
+use Rattle.board_run.proofs.Common.{Bool, true, append-nil, get_or, take-append-drop, slice_get, option_to_list, Row, Appends, StopsWithin, AreFronts, Handed}
+use Rattle.board_run.proofs.Common.{take_more, get_or_from_slice_get, options}
 use Rattle.board_run.proofs.PartLemmas.{drop_item}
 
 -- something is not nothing
@@ -101,8 +96,4 @@ one_byte (Some x) = refl
 
 -- a watcher that was handed nothing
 pub handed_nothing : {W : Type 0} (whole : W → Bool) (faults : W → ℕ) (stands : W → List Row → List ℕ → Type 0) (w : W) → whole w ≡ true → Handed whole faults stands w w [] []
-handed_nothing whole faults stands w is = record {
-  is_whole = is;
-  no_fault = refl;
-  appended = appends_none stands w;
-}
+handed_nothing whole faults stands w is = record { is_whole = is; no_fault = refl; appended = appends_none stands w }

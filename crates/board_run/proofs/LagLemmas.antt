@@ -1,37 +1,18 @@
 -- A cycle in which the active parts are woken is a leg of the way.
-use Rattle.std.proofs.Common.{◌≡◌, ℕ, zero, suc, ◌+◌, ◌-◌, ◌<◌, ◌≤◌, List, length, map, take, drop, Bool, true, false, Option, None, Some, refl, ap, sym, ◌∙◌}
-use Rattle.std.proofs.Common.{arith, subst}
-use Rattle.std.specs.Prelude.{◌≢◌, not, if◌then◌else◌, slice_get}
-use Rattle.std.proofs.lemmas.Option.{slice_get_within}
-use Rattle.std.proofs.lemmas.List.{length-map}
-use Rattle.sim_base.specs.declared.signal.Level.{Level}
-use Rattle.sim_base.specs.declared.signal.Drive.{Drive}
-use Rattle.sim_base.specs.declared.wiring.Wiring.{Wiring}
-use Rattle.sim_base.specs.declared.wiring.Input.{Input}
-use Rattle.part_law.specs.Machine.{Machine, Laws}
+use Rattle.board_run.proofs.Common.{◌≡◌, ℕ, zero, suc, ◌+◌, ◌-◌, ◌<◌, ◌≤◌, List, length, map, take, drop, Bool, true, false, Option, None, Some, refl, ap, sym}
+use Rattle.board_run.proofs.Common.{◌∙◌, arith, subst, ◌≢◌, not, if◌then◌else◌, slice_get, slice_get_within, length-map, Level, Drive, Wiring, Input, Machine}
+use Rattle.board_run.proofs.Common.{Laws, Fits, some_same, get_map_some, some_map, same_lists, flat_map_same, Alike, SameShow, sum_below, active_in, Stands}
+use Rattle.board_run.proofs.Common.{length-steps_from, get-steps_from, stands_shows, stands_holds, stands_valid, Tells, LastTells, ReadingView, Suits, IsOf}
+use Rattle.board_run.proofs.Common.{IsTold, AreDiffering, retold, levels_on, shown, shown_at, AreBehind, glided, MayTurn, Awaits, Turns, AreDue, Kept, Lags}
+use Rattle.board_run.proofs.Common.{Leg, PartSet, has_part, AreNone, level_same, list_same}
 use Rattle.board_model.specs.Board.{level_at, own_nets, levels_of, part_step, steps_from, board_step, states, bytes, options}
 use Rattle.board_model.specs.Rows.{Shown, same_list, same_level, shown_of, shown_before, row_if, rows}
-use Rattle.board_model.specs.Fits.{Fits}
-use Rattle.board_model.proofs.Lists.{some_same, get_map_some, some_map, same_lists, flat_map_same}
-use Rattle.board_laws.specs.Alike.{Alike, SameShow}
-use Rattle.board_laws.specs.Active.{sum_below, active_in}
-use Rattle.board_laws.specs.Stands.{Stands}
 use Rattle.board_laws.proofs.AlikeLemmas.{alike_weaker, flat_map_alike}
 use Rattle.board_laws.proofs.BesideLaw.{same_levels, same_shown, same_drives, same_row, same_chips}
-use Rattle.board_model.proofs.Steps.{length-steps_from, get-steps_from}
-use Rattle.board_laws.proofs.StandsLaw.{stands_shows, stands_holds, stands_valid}
-use Rattle.board_run.specs.Changes.{Tells, LastTells}
-use Rattle.board_run.specs.ReadingView.{ReadingView, Suits, IsOf, IsTold, AreDiffering, retold, levels_on, shown, shown_at}
-use Rattle.board_run.specs.Upcoming.{AreBehind}
-use Rattle.board_run.specs.Lagging.{glided, MayTurn, Awaits, Turns, AreDue}
-use Rattle.board_run.specs.Legs.{Kept, Lags, Leg}
 use Rattle.board_run.proofs.ScriptLemmas.{values_now}
 use Rattle.board_run.proofs.ShowLemmas.{shown_is, later_shown, still_of, not_first}
-use Rattle.board_run.specs.declared.part_set.PartSet.{PartSet}
-use Rattle.board_run.specs.Parts.{has_part, AreNone}
 use Rattle.board_run.proofs.ReadLemmas.{retold_suits, retold_is, flat_each}
 use Rattle.board_run.proofs.TurnLemmas.{some_there, same_room, turns_stand}
-use Rattle.board_model.proofs.SameLemmas.{level_same, list_same}
 
 module _ {S P : Type 0} (m : Machine S) (laws : Laws m) (w : Wiring) (state : P → S) (now wakes : P → ℕ) where
   abbrev pub Ts : ℕ → List P → List S
@@ -221,9 +202,7 @@ module _ {S P : Type 0} (m : Machine S) (laws : Laws m) (w : Wiring) (state : P 
           before_is = ap (shown_before m w inputs (shown_at t was) ts t) e ∙ ap Some (sym (shown_is m w ts seen of_board))
               ∙ ap (λ (b : Bool). if b then None else Some (shown seen)) (sym (not_first t));
           woken = λ k p q ep eq.
-              let es : slice_get ts k ≡ Some (glided m state now wakes t p) = some_map (glided m state now wakes t) old k p ep in
-              let turn = (turned_from k p q ep eq).woken in
-              rw (e, f, ← of_board.levels_are, es) (omega (arith, turn));
+              rw (e, f, ← of_board.levels_are, some_map (glided m state now wakes t) old k p ep) (omega (arith, (turned_from k p q ep eq).woken));
           steps_are = rw (e, f, ← of_board.levels_are, ← like.long) (omega (arith, counted));
         }
 

@@ -1,33 +1,15 @@
 -- Legs that follow on each other, and legs over quiet cycles.
-use Rattle.std.proofs.Common.{◌≡◌, ℕ, zero, suc, ◌+◌, ◌-◌, ◌<◌, ◌≤◌, List, [], ◌++◌, length, map, Bool, true, false, Option, None, Some, refl, ap, sym, ◌∙◌}
-use Rattle.std.proofs.Common.{arith, subst}
-use Rattle.std.specs.Prelude.{slice_get}
-use Rattle.std.proofs.lemmas.Option.{slice_get_within}
-use Rattle.std.proofs.lemmas.List.{length-map}
-use Rattle.sim_base.specs.declared.wiring.Wiring.{Wiring}
-use Rattle.sim_base.specs.declared.wiring.Input.{Input}
-use Rattle.part_law.specs.Machine.{Machine, Laws, glide, idle, IsQuiet}
-use Rattle.part_law.proofs.MachineLemmas.{glide_drives, glide_contacts}
+use Rattle.board_run.proofs.Common.{◌≡◌, ℕ, zero, suc, ◌+◌, ◌-◌, ◌<◌, ◌≤◌, List, [], ◌++◌, length, map, Bool, true, false, Option, None, Some, refl, ap, sym}
+use Rattle.board_run.proofs.Common.{◌∙◌, arith, subst, slice_get, slice_get_within, length-map, Wiring, Input, Machine, Laws, glide, idle, IsQuiet}
+use Rattle.board_run.proofs.Common.{glide_drives, glide_contacts, Fits, some_same, get_map_some, some_map, same_lists, flat_map_same, Alike, active_cycles}
+use Rattle.board_run.proofs.Common.{active_pairs, Stands, IsStretch, IsSteady, stands_shows, stands_holds, stands_valid, steady_states, steady_before}
+use Rattle.board_run.proofs.Common.{steady_cycles, quiet_dues, AreNone, LastTells, ReadingView, Suits, IsTold, shown_at, glided, AreDue, Kept, Lags, Leg}
+use Rattle.board_run.proofs.Common.{MOST_CYCLES}
 use Rattle.board_model.specs.Board.{input_at, drives_of, contacts_of, states, bytes}
 use Rattle.board_model.specs.Rows.{chip_drives_of, shown_of, shown_before, rows}
-use Rattle.board_model.specs.Fits.{Fits}
 use Rattle.board_model.specs.Fresh.{AreFresh}
-use Rattle.board_model.proofs.Lists.{some_same, get_map_some, some_map, same_lists, flat_map_same}
-use Rattle.board_laws.specs.Alike.{Alike}
-use Rattle.board_laws.specs.Active.{active_cycles, active_pairs}
-use Rattle.board_laws.specs.Stands.{Stands}
-use Rattle.board_laws.specs.Stretch.{IsStretch}
-use Rattle.board_laws.specs.Steady.{IsSteady}
-use Rattle.board_laws.proofs.StandsLaw.{stands_shows, stands_holds, stands_valid}
 use Rattle.board_laws.proofs.StretchLaw.{stretch_states, stretch_rows, stretch_bytes, stretch_pairs}
-use Rattle.board_laws.proofs.SteadyLaw.{steady_states, steady_before, steady_cycles, quiet_dues}
 use Rattle.board_laws.proofs.Splits.{states_split, bytes_split, shown_split, rows_split, pairs_split, cycles_split}
-use Rattle.board_run.specs.Parts.{AreNone}
-use Rattle.board_run.specs.Changes.{LastTells}
-use Rattle.board_run.specs.ReadingView.{ReadingView, Suits, IsTold, shown_at}
-use Rattle.board_run.specs.Lagging.{glided, AreDue}
-use Rattle.board_run.specs.Legs.{Kept, Lags, Leg}
-use Rattle.sim_base.specs.declared.limits.TheConstants.{MOST_CYCLES}
 use Rattle.board_run.proofs.NextLemmas.{quiet_until}
 use Rattle.board_run.proofs.ShowLemmas.{still_of, still_same, later_shown}
 use Rattle.board_run.proofs.TurnLemmas.{some_there, same_room}
@@ -47,20 +29,13 @@ module _ {S : Type 0} (m : Machine S) where
   quiet_rest r s a t u h g is quiet k l =
       let e : a + (t - a) ≡ t = omega arith in
       let f : a + (t - a + k) ≡ t + k = omega arith in
-      let none = quiet (t - a + k) (omega arith) in
-      cc (glide_split r a (t - a) k, none)
+      cc (glide_split r a (t - a) k, quiet (t - a + k) (omega arith))
 
   pub stands_later : (r s : S) (a t u : ℕ) → t ≤ u → Stands m t a r s → IsQuiet m r a (u - a) → Stands m u a r (glide m s t (u - t))
   stands_later r s a t u g h quiet =
-      let l = h.not_later in
-      let e : a + (t - a) ≡ t = omega (arith, l) in
-      let f : t - a + (u - t) ≡ u - a = omega (arith, l) in
-      record {
-        not_later = omega (arith, l);
-        valid = h.valid;
-        quiet = quiet;
-        is = cc (glide_split r a (t - a) (u - t));
-      }
+      let e : a + (t - a) ≡ t = omega (arith, h.not_later) in
+      let f : t - a + (u - t) ≡ u - a = omega (arith, h.not_later) in
+      record { not_later = omega (arith, h.not_later); valid = h.valid; quiet = quiet; is = cc (glide_split r a (t - a) (u - t)) }
 
 module _ {S P : Type 0} (m : Machine S) (laws : Laws m) (w : Wiring) (state : P → S) (now wakes : P → ℕ) (inputs : List Input) where
   pub leg_none : (t steps : ℕ) (parts : List P) (seen : ReadingView) → Leg m w state now wakes inputs t t parts parts seen seen steps steps
@@ -127,9 +102,7 @@ module _ {S P : Type 0} (m : Machine S) (laws : Laws m) (w : Wiring) (state : P 
       before_is = shown_on ∙ second.before_is;
       woken = λ k p q ep eq.
           let x = some_there mid k (omega (arith, slice_get_within old k p ep, first.long)) in
-          let one = first.woken k p x.0 ep x.1 in
-          let two = second.woken k x.0 q x.1 eq in
-          omega (arith, one, two, cycles_on k);
+          omega (arith, first.woken k p x.0 ep x.1, second.woken k x.0 q x.1 eq, cycles_on k);
       steps_are = (let one = first.steps_are in let two = second.steps_are in omega (arith, one, two, pairs_on));
     }
 
@@ -186,8 +159,7 @@ module _ {S P : Type 0} (m : Machine S) (laws : Laws m) (w : Wiring) (state : P 
           let es : slice_get Js k ≡ Some (glided m state now wakes t p) = some_map (glided m state now wakes t) parts k p ep in
           let none = steady_cycles m laws w inputs Js t (u - t) steady (u - t) k (glided m state now wakes t p) (omega arith) es
           ∙ quiet_dues m laws (glided m state now wakes t p) t (u - t) (stretch.quiet k (glided m state now wakes t p) es) in
-          let one = ap wakes (some_same (sym eq ∙ ep)) in
-          omega (arith, none, one);
+          omega (arith, none, ap wakes (some_same (sym eq ∙ ep)));
       steps_are = let none = stretch_pairs m laws w inputs Js t (u - t) stretch (u - t) (omega arith) in omega (arith, none);
     }
 
@@ -314,13 +286,10 @@ module _ {S P : Type 0} (m : Machine S) (laws : Laws m) (w : Wiring) (state : P 
           let x = before k q eq in
           let h = settled k x.0 q x.1 eq in
           let was = (may_of m laws w state now wakes n mid kept lags k x.0 x.1).2 in
-          let a = h.1 in
-          let c = was.count in
-          let late = was.not_later in
           record {
-            not_later = omega (arith, a);
-            count = (let b = h.2 in omega (arith, a, b, c, late));
-            quiet = λ i (l : i < n - now q). absurd (omega (arith, a));
+            not_later = omega (arith, h.1);
+            count = (let b = h.2 in omega (arith, h.1, b, was.count, was.not_later));
+            quiet = λ i (l : i < n - now q). absurd (omega (arith, h.1));
             first = due k q d eq ed;
           };
       valid = λ k q eq.
@@ -339,8 +308,7 @@ module _ {S P : Type 0} (m : Machine S) (laws : Laws m) (w : Wiring) (state : P 
       };
       holds = λ k q eq later.
           let x = before k q eq in
-          let h = settled k x.0 q x.1 eq in
-          rw ((still k x.0 q x.1 eq).0, h.0)
+          rw ((still k x.0 q x.1 eq).0, (settled k x.0 q x.1 eq).0)
           (stands_holds m laws n (now x.0) (state x.0) (glided m state now wakes n x.0) (stands k x.0 x.1) ∙ lags.holds k x.0 x.1 later);
     }
       where

@@ -1,3 +1,4 @@
+pub mod Common
 pub mod GatherLemmas
 pub mod StepLemmas
 mod StretchLemmas

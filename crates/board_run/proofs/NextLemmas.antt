@@ -1,18 +1,9 @@
 -- The next cycle in which something may happen.
-use Rattle.std.proofs.Common.{◌≡◌, ◌≢◌, ◌∙◌, ℕ, zero, suc, ◌+◌, ◌-◌, ◌<◌, ◌≤◌, List, [], ◌∷◌, length, Bool, true, false, Option, None, Some, refl, ap, sym, arith, subst, get_or, inl, inr, ◌⊎◌}
-use Rattle.std.specs.Prelude.{◌==◌, ◌&&◌, if◌then◌else◌, slice_get, slice_set}
-use Rattle.std.proofs.lemmas.Option.{slice_get_within, slice_get-get_or}
-use Rattle.std.proofs.lemmas.Bool.Decides.{eqb_tells}
-use Rattle.sim_base.specs.declared.wiring.Input.{Input}
-use Rattle.part_law.specs.Machine.{Machine, glide, IsQuiet}
-use Rattle.board_model.specs.Board.{input_from, input_at}
+use Rattle.board_run.proofs.Common.{◌≡◌, ◌≢◌, ◌∙◌, ℕ, zero, suc, ◌+◌, ◌-◌, ◌<◌, ◌≤◌, List, [], ◌∷◌, length, Bool, true, false, Option, None, Some, refl, ap}
+use Rattle.board_run.proofs.Common.{sym, arith, subst, get_or, inl, inr, ◌⊎◌, ◌==◌, ◌&&◌, if◌then◌else◌, slice_get, slice_set, slice_get_within}
+use Rattle.board_run.proofs.Common.{slice_get-get_or, eqb_tells, Input, Machine, glide, IsQuiet, input_from, input_at, AreBehind, IsInOrder, MayTurn, AreLate}
+use Rattle.board_run.proofs.Common.{Kept, Lags, Wiring, MOST_CYCLES, some_same, get_set_same, get_set_other}
 use Rattle.event_queue.specs.First.{IsFirst}
-use Rattle.board_run.specs.Upcoming.{AreBehind, IsInOrder}
-use Rattle.board_run.specs.Lagging.{MayTurn, AreLate}
-use Rattle.board_run.specs.Legs.{Kept, Lags}
-use Rattle.sim_base.specs.declared.wiring.Wiring.{Wiring}
-use Rattle.sim_base.specs.declared.limits.TheConstants.{MOST_CYCLES}
-use Rattle.board_model.proofs.Lists.{some_same, get_set_same, get_set_other}
 use Rattle.board_run.proofs.ScriptLemmas.{others_leave}
 
 pub below_or : (u t : ℕ) → (u < t) ⊎ (t ≤ u)
@@ -22,9 +13,8 @@ below_or u t = grind arith
 pub due_late : {S P : Type 0} (m : Machine S) (state : P → S) (now wakes : P → ℕ) (t u : ℕ) (p : P) → MayTurn m state now wakes t (Some u) p → t ≤ u
 due_late m state now wakes t u p may = elim (below_or u t) [
   | inl less ↦
-      let a = may.first.0 in
-      let e : now p + (u - now p) ≡ u = omega (arith, a) in
-      let at : u - now p < t - now p = omega (arith, a, less) in
+      let e : now p + (u - now p) ≡ u = omega (arith, may.first.0) in
+      let at : u - now p < t - now p = omega (arith, may.first.0, less) in
       let no : m.due (glide m (state p) (now p) (u - now p)) u ≡ false =
       subst (λ (x : ℕ). m.due (glide m (state p) (now p) (u - now p)) x ≡ false) e (may.quiet (u - now p) at) in
       absurd (let yes : m.due (glide m (state p) (now p) (u - now p)) u ≡ true = may.first.3 in cc)
@@ -36,9 +26,8 @@ pub quiet_until : {S P : Type 0} (m : Machine S) (state : P → S) (now wakes : 
     ((u : ℕ) → d ≡ Some u → t ≤ u → v ≤ u) → IsQuiet m (state p) (now p) (v - now p)
 quiet_until m state now wakes t v None p order end may late = λ k (h : k < v - now p). let before = may.not_later in may.first k (omega (arith, before))
 quiet_until m state now wakes t v (Some u) p order end may late =
-    let before = may.not_later in
     let l : v ≤ u = late u refl (due_late m state now wakes t u p may) in
-    λ k (h : k < v - now p). may.first.2 k (omega (arith, before))
+    λ k (h : k < v - now p). may.first.2 k (omega (arith, may.not_later))
 
 -- the script says nothing before its next value
 pub silent_until : (inputs : List Input) (i t v : ℕ) (d : Input) → IsInOrder inputs → AreBehind inputs i t → (i < length inputs → v ≤ (get_or inputs i d).cycle) → (x k : ℕ) → t ≤ x → x < v → input_at inputs x k ≡ None
@@ -46,9 +35,7 @@ silent_until inputs i t v d order behind next x k from before = others_leave inp
   | inl less ↦ let l : y.cycle < t = behind.earlier n y less e in (λ same. absurd (omega (arith, l, same)))
   | inr more ↦
       let inside : i < length inputs = omega (arith, slice_get_within inputs n y e) in
-      let a : v ≤ (get_or inputs i d).cycle = next inside in
-      let b : (get_or inputs i d).cycle ≤ y.cycle = order i n (get_or inputs i d) y more (slice_get-get_or inputs i d inside) e in
-      (λ same. absurd (omega (arith, a, b, same)))
+      (λ same. absurd (omega (arith, next inside, order i n (get_or inputs i d) y more (slice_get-get_or inputs i d inside) e, same)))
 ])
 
 pub behind_until : (inputs : List Input) (i t v : ℕ) (d : Input) → IsInOrder inputs → AreBehind inputs i t → t ≤ v → (i < length inputs → v ≤ (get_or inputs i d).cycle) → AreBehind inputs i v
@@ -57,9 +44,7 @@ behind_until inputs i t v d order behind later next = record {
   earlier = λ k x l e. let a : x.cycle < t = behind.earlier k x l e in omega (arith, a, later);
   later = λ k x l e.
       let inside : i < length inputs = omega (arith, slice_get_within inputs k x e) in
-      let a : v ≤ (get_or inputs i d).cycle = next inside in
-      let b : (get_or inputs i d).cycle ≤ x.cycle = order i k (get_or inputs i d) x l (slice_get-get_or inputs i d inside) e in
-      omega (arith, a, b);
+      omega (arith, next inside, order i k (get_or inputs i d) x l (slice_get-get_or inputs i d inside) e);
 }
 
 -- what is at place k after something was set at place i
@@ -89,9 +74,7 @@ lags_late m w state now wakes t parts kept lags = dues_late m state now wakes t 
 pub first_least : (dues : List (Option ℕ)) (first : Option (ℕ × ℕ)) (x : ℕ) → IsFirst dues first → ((u i : ℕ) → first ≡ Some (u, i) → x ≤ u) → AreLate dues x
 first_least dues None x is least k u e = absurd (let none : Some u ≡ None = is k (Some u) e in cc)
 first_least dues (Some (v, i)) x is least k u e =
-    let a = least v i refl in
-    let b = (is.1 k u e).0 in
-    omega (arith, a, b)
+    omega (arith, least v i refl, (is.1 k u e).0)
 
 -- the due cycle that was found is one of them
 pub first_one : (dues : List (Option ℕ)) (first : Option (ℕ × ℕ)) (x n : ℕ) → IsFirst dues first → (x ≡ n) ⊎ ((i : ℕ) × (first ≡ Some (x, i))) → x < n → (k : ℕ) × (slice_get dues k ≡ Some (Some x))
@@ -112,8 +95,7 @@ same_place z = grind arith
 found : (x : Input) (before : Option ℕ) (xs : List Input) (n : ℕ) → slice_get xs n ≡ Some x → input_from before xs x.cycle x.part ≢ None
 found x before [] n e none = absurd cc
 found x before (y ∷ xs) zero e none =
-    let here : y ≡ x = some_same e in
-    let yes : (y.cycle == x.cycle && y.part == x.part) ≡ true = ap (λ (z : Input). z.cycle == x.cycle && z.part == x.part) here ∙ same_place x in
+    let yes : (y.cycle == x.cycle && y.part == x.part) ≡ true = ap (λ (z : Input). z.cycle == x.cycle && z.part == x.part) (some_same e) ∙ same_place x in
     kept xs (Some y.value) x.cycle x.part (λ n. cc) (sym (ap (λ (b : Bool). input_from (if b then Some y.value else before) xs x.cycle x.part) yes) ∙ none)
 found x before (y ∷ xs) (suc n) e none = found x (if y.cycle == x.cycle && y.part == x.part then Some y.value else before) xs n e none
 

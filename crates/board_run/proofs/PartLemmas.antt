@@ -1,33 +1,15 @@
 -- Sets of parts, and the parts that have a pin on nets whose levels changed.
-use Rattle.std.proofs.Common.{◌≡◌, ◌≢◌, ℕ, zero, suc, ◌+◌, ◌-◌, ◌*◌, ◌/◌, ◌%◌, ◌^◌, ◌<◌, ◌≤◌, max, List, [], ◌∷◌, length, map, take, drop, Bool, true, false}
-use Rattle.std.proofs.Common.{not, Option, None, Some, refl, ap, sym, ◌∙◌, arith, subst, inl, inr, get_or}
-use Rattle.std.specs.Prelude.{◌||◌, ◌&&◌, ◌==◌, eqb, slice_get, slice_index, slice_set, unwrap_or, bit_or, if◌then◌else◌}
-use Rattle.std.specs.List.{list_any, flat_map}
-use Rattle.std.specs.Int.{bit_at, w64}
-use Rattle.std.proofs.lemmas.Bool.Decides.{eqb_tells}
-use Rattle.std.proofs.lemmas.List.Folds.{list_any_more}
-use Rattle.std.proofs.lemmas.Nat.Bits.{bit_at_or, bit_at-zero, bit_at-lt, bit_at_set_same, bit_at_set_other}
+use Rattle.board_run.proofs.Common.{◌≡◌, ◌≢◌, ℕ, zero, suc, ◌+◌, ◌-◌, ◌*◌, ◌/◌, ◌%◌, ◌^◌, ◌<◌, ◌≤◌, max, List, [], ◌∷◌, length, map, take, drop, Bool, true}
+use Rattle.board_run.proofs.Common.{false, not, Option, None, Some, refl, ap, sym, ◌∙◌, arith, subst, inl, inr, get_or, ◌||◌, ◌&&◌, ◌==◌, eqb, slice_get}
+use Rattle.board_run.proofs.Common.{slice_index, slice_set, unwrap_or, bit_or, if◌then◌else◌, list_any, flat_map, bit_at, w64, eqb_tells, list_any_more}
+use Rattle.board_run.proofs.Common.{bit_at_or, bit_at-zero, bit_at-lt, bit_at_set_same, bit_at_set_other, drop_more, slice_get_within, slice_get_past}
+use Rattle.board_run.proofs.Common.{get_or_from_slice_get, Level, Wiring, Machine, Input, level_at, own_nets, input_from, same_list, same_level, Fits}
+use Rattle.board_run.proofs.Common.{some_same, get_within, get_set_same, get_set_other, some_map, take_whole, level_same, list_same, levels_mean, AreChanged}
+use Rattle.board_run.proofs.Common.{has, PartSet, has_part, end_of, part_nets, AreOn, levels_on, any_at, any_some}
 use Rattle.std.proofs.lemmas.Nat.{shr-shr}
-use Rattle.std.proofs.lemmas.List.{drop_more}
-use Rattle.std.proofs.lemmas.Option.{slice_get_within, slice_get_past, get_or_from_slice_get}
 use Rattle.std.proofs.lemmas.Bool.{or_parts, and_right, eqb-true, eq-eqb}
 use Rattle.std.proofs.Math.Bool.{or-true, or-false}
-use Rattle.sim_base.specs.declared.signal.Level.{Level}
 use Rattle.sim_base.specs.declared.signal.Level.TheVariants as levels
-use Rattle.sim_base.specs.declared.wiring.Wiring.{Wiring}
-use Rattle.part_law.specs.Machine.{Machine}
-use Rattle.sim_base.specs.declared.wiring.Input.{Input}
-use Rattle.board_model.specs.Board.{level_at, own_nets, input_from}
-use Rattle.board_model.specs.Rows.{same_list, same_level}
-use Rattle.board_model.specs.Fits.{Fits}
-use Rattle.board_model.proofs.Lists.{some_same, get_within, get_set_same, get_set_other, some_map, take_whole}
-use Rattle.board_model.proofs.SameLemmas.{level_same, list_same, levels_mean}
-use Rattle.net_resolve.specs.NetsView.{AreChanged}
-use Rattle.net_resolve.specs.Marked.{has}
-use Rattle.board_run.specs.declared.part_set.PartSet.{PartSet}
-use Rattle.board_run.specs.Parts.{has_part, end_of, part_nets, AreOn}
-use Rattle.board_run.specs.ReadingView.{levels_on}
-use Rattle.net_resolve.proofs.ReachLemmas.{any_at, any_some}
 use Rattle.board_run.proofs.ReadLemmas.{less_or, place_more}
 
 or_bits : (a b : ℕ) → a < 2 → b < 2 → (max a b == 1) ≡ ((a == 1) || (b == 1))
@@ -103,8 +85,7 @@ module _ {S : Type 0} (m : Machine S) (w : Wiring) (ss : List S) (fits : Fits m 
   -- a part's pins end where the next part's begin
   pub end_is : (k : ℕ) (s : S) → slice_get ss k ≡ Some s → end_of w k ≡ slice_index w.first_pin k + length (m.drives s)
   end_is k s es =
-      let inside = slice_get_within ss k s es in
-      let place = fits.places k inside in
+      let place = fits.places k (slice_get_within ss k s es) in
       let more = place_more m.drives ss k s es in
       elim (less_or (k + 1) (length ss)) [
         | inl less ↦
@@ -152,8 +133,7 @@ module _ {S : Type 0} (m : Machine S) (w : Wiring) (ss : List S) (fits : Fits m 
             by false gone = ap (λ (o : Option Level). unwrap_or o levels.Z) (is.others x gone)
             by true there_is =
                 let r = any_some (eqb x) changed there_is in
-                let same : x ≡ r.1 = eqb-true x r.1 r.3 in
-                let there : list_any (eqb r.1) ns ≡ true = any_at (eqb r.1) ns i x ex (eq-eqb r.1 x (sym same)) in
+                let there : list_any (eqb r.1) ns ≡ true = any_at (eqb r.1) ns i x ex (eq-eqb r.1 x (sym (eqb-true x r.1 r.3))) in
                 absurd (let wrong : true ≡ false = sym there ∙ sym (here r.0 r.1 r.2) ∙ any_false f changed e r.0 r.1 r.2 in cc)
 
         go : (b c : Bool) → list_any f changed ≡ b → same_list same_level (levels_on m w after k s) (levels_on m w before k s) ≡ c → b ≡ not c
@@ -168,10 +148,9 @@ module _ {S : Type 0} (m : Machine S) (w : Wiring) (ss : List S) (fits : Fits m 
             let r = any_some f changed eb in
             let n = r.1 in
             let q = any_some (eqb n) ns (sym (here r.0 n r.2) ∙ r.3) in
-            let n_is : n ≡ q.1 = eqb-true n q.1 q.3 in
             let whole = levels_mean (map (level_at after) ns) (map (level_at before) ns) ec in
             let at : level_at after q.1 ≡ level_at before q.1 = some_same (sym (some_map (level_at after) ns q.0 q.1 q.2) ∙ ap (λ (l : List Level). slice_get l q.0) whole ∙ some_map (level_at before) ns q.0 q.1 q.2) in
-            let at_n : level_at after n ≡ level_at before n = subst (λ (x : ℕ). level_at after x ≡ level_at before x) (sym n_is) at in
+            let at_n : level_at after n ≡ level_at before n = subst (λ (x : ℕ). level_at after x ≡ level_at before x) (sym (eqb-true n q.1 q.3)) at in
             let within = valid r.0 n r.2 in
             let kept : slice_get after n ≡ slice_get before n = level_of after n (omega (arith, later, within)) ∙ ap Some at_n ∙ sym (level_of before n (omega (arith, long, within))) in
             absurd (is.differ n (any_at (eqb n) changed r.0 n r.2 (eq-eqb n n refl)) kept)

@@ -1,26 +1,12 @@
 -- What is read of parts part by part, each at its place.
-use Rattle.std.proofs.Common.{◌≡◌, ◌≢◌, ◌⊎◌, inl, inr, ℕ, zero, suc, ◌+◌, ◌-◌, ◌<◌, ◌≤◌, List, [], ◌∷◌, ◌++◌, length, map, take, Bool, true, false, Some}
-use Rattle.std.proofs.Common.{refl, ap, sym, ◌∙◌, arith, add-one, append_assoc, length-append, length-set}
-use Rattle.std.specs.Prelude.{◌==◌, min, not, slice_get, slice_set}
-use Rattle.std.specs.List.{flat_map}
-use Rattle.std.proofs.lemmas.List.{map-set, take-set}
-use Rattle.std.proofs.lemmas.Option.{slice_get_within}
-use Rattle.sim_base.specs.declared.signal.Level.{Level}
-use Rattle.sim_base.specs.declared.signal.Drive.{Drive}
-use Rattle.sim_base.specs.declared.wiring.Wiring.{Wiring}
-use Rattle.part_law.specs.Machine.{Machine}
+use Rattle.board_run.proofs.Common.{◌≡◌, ◌≢◌, ◌⊎◌, inl, inr, ℕ, zero, suc, ◌+◌, ◌-◌, ◌<◌, ◌≤◌, List, [], ◌∷◌, ◌++◌, length, map, take, Bool, true, false, Some}
+use Rattle.board_run.proofs.Common.{refl, ap, sym, ◌∙◌, arith, add-one, append_assoc, length-append, length-set, ◌==◌, min, not, slice_get, slice_set}
+use Rattle.board_run.proofs.Common.{flat_map, map-set, take-set, slice_get_within, Level, Drive, Wiring, Machine, drives_of, contacts_of, same_list}
+use Rattle.board_run.proofs.Common.{same_level, Fits, some_same, lt_or_eq, get_set_same, get_set_other, take_whole, some_map, same_lists, level_same}
+use Rattle.board_run.proofs.Common.{list_same, levels_mean, NetsView, AreChanged, has, ReadingView, Suits, IsOf, retold, HasAt, Put, Gathered, IsTold}
+use Rattle.board_run.proofs.Common.{AreDiffering, levels_on, PartSet, has_part}
 use Rattle.part_law.specs.declared.span.Span.{Span}
 use Rattle.part_law.specs.Spans.{IsIn}
-use Rattle.board_model.specs.Board.{drives_of, contacts_of}
-use Rattle.board_model.specs.Rows.{same_list, same_level}
-use Rattle.board_model.specs.Fits.{Fits}
-use Rattle.board_model.proofs.Lists.{some_same, lt_or_eq, get_set_same, get_set_other, take_whole, some_map, same_lists}
-use Rattle.board_model.proofs.SameLemmas.{level_same, list_same, levels_mean}
-use Rattle.net_resolve.specs.NetsView.{NetsView, AreChanged}
-use Rattle.net_resolve.specs.Marked.{has}
-use Rattle.board_run.specs.ReadingView.{ReadingView, Suits, IsOf, retold, HasAt, Put, Gathered, IsTold, AreDiffering, levels_on}
-use Rattle.board_run.specs.declared.part_set.PartSet.{PartSet}
-use Rattle.board_run.specs.Parts.{has_part}
 
 -- one more item
 pub put_more : {A : Type 0} (at n : ℕ) (items old mid : List A) (x : A) → Put at n items old mid → slice_get items n ≡ Some x → at + n < length mid → Put at (n + 1) items old (slice_set mid (at + n) x)
@@ -134,8 +120,7 @@ module _ {S B : Type 0} (f : S → List B) where
           let a : length (f x) ≡ length (f s) = ap (λ (z : S). length (f z)) (some_same e) in
           omega (arith, length-append (f x) (flat_map f []), a)
       more (x ∷ ss) (suc i) e =
-          let r = more ss i e in
-          omega (arith, length-append (f x) (flat_map f (take (suc i) ss)), length-append (f x) (flat_map f (take i ss)), r)
+          omega (arith, length-append (f x) (flat_map f (take (suc i) ss)), length-append (f x) (flat_map f (take i ss)), more ss i e)
 
   -- an item of part i among those of all
   pub flat_get : (ss : List S) (i : ℕ) (s : S) (j : ℕ) → slice_get ss i ≡ Some s → j < length (f s) → slice_get (flat_map f ss) (length (flat_map f (take i ss)) + j) ≡ slice_get (f s) j
@@ -179,8 +164,7 @@ module _ {S B : Type 0} (f : S → List B) where
   gathered_end ss i at old new end g long =
       let whole : length (flat_map f (take i ss)) ≡ length (flat_map f ss) = ap (λ (xs : List S). length (flat_map f xs)) (take_whole i ss end) in
       same_lists new (flat_map f ss) (g.long ∙ long) (λ k x y ex ey.
-      let l = slice_get_within (flat_map f ss) k y ey in
-      some_same (sym ex ∙ g.done k (omega (arith, l, whole, g.place)) ∙ ey))
+      some_same (sym ex ∙ g.done k (omega (arith, slice_get_within (flat_map f ss) k y ey, whole, g.place)) ∙ ey))
 
   -- what was put in place of them is what all parts have
   pub put_is : (ss : List S) (i at : ℕ) (s new : S) (old xs : List B) → slice_get ss i ≡ Some s → length (f new) ≡ length (f s) → at ≡ length (flat_map f (take i ss)) → old ≡ flat_map f ss →

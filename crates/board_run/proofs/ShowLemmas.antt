@@ -1,19 +1,10 @@
 -- What a board shows, and how it is read.
-use Rattle.std.proofs.Common.{◌≡◌, ℕ, zero, suc, ◌+◌, ◌-◌, ◌<◌, List, [], ◌∷◌, ◌++◌, length, map, Bool, true, false, not, Option, None, Some, refl, ap, sym, ◌∙◌, arith, append_assoc}
-use Rattle.std.specs.Prelude.{◌==◌, ◌||◌, ◌&&◌, if◌then◌else◌, replicate, slice_get}
-use Rattle.std.specs.List.{flat_map}
-use Rattle.std.proofs.lemmas.List.{length-map}
-use Rattle.std.proofs.lemmas.Bool.{and_parts}
-use Rattle.sim_base.specs.declared.wiring.Wiring.{Wiring}
-use Rattle.sim_base.specs.declared.wiring.Input.{Input}
-use Rattle.sim_base.specs.Rows.{Row, AreFronts, Handed}
-use Rattle.part_law.specs.Machine.{Machine}
+use Rattle.board_run.proofs.Common.{◌≡◌, ℕ, zero, suc, ◌+◌, ◌-◌, ◌<◌, List, [], ◌∷◌, ◌++◌, length, map, Bool, true, false, not, Option, None, Some, refl, ap}
+use Rattle.board_run.proofs.Common.{sym, ◌∙◌, arith, append_assoc, ◌==◌, ◌||◌, ◌&&◌, if◌then◌else◌, replicate, slice_get, flat_map, length-map, and_parts}
+use Rattle.board_run.proofs.Common.{Wiring, Input, Row, AreFronts, Handed, Machine, some_same, get_map_some, flat_map_same, level_same, drive_same, list_same}
+use Rattle.board_run.proofs.Common.{levels_mean, ReadingView, IsOf, AreStill, shown, shown_at, AreBehind}
 use Rattle.board_model.specs.Board.{levels_of, bytes_of, states, bytes}
 use Rattle.board_model.specs.Rows.{Shown, same_level, same_drive, same_list, same_shown, chip_drives_of, shown_of, is_new, row_if, shown_before, rows}
-use Rattle.board_model.proofs.Lists.{some_same, get_map_some, flat_map_same}
-use Rattle.board_model.proofs.SameLemmas.{level_same, drive_same, list_same, levels_mean}
-use Rattle.board_run.specs.ReadingView.{ReadingView, IsOf, AreStill, shown, shown_at}
-use Rattle.board_run.specs.Upcoming.{AreBehind}
 use Rattle.board_run.proofs.HandLemmas.{appends_none, whole_front}
 
 -- what is read shows what the parts show

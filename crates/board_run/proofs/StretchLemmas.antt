@@ -1,18 +1,7 @@
 -- A stretch of the board up to the next cycle in which something may happen.
-use Rattle.std.proofs.Common.{◌≡◌, ◌≢◌, ◌⊎◌, ◌∙◌, ℕ, zero, suc, ◌-◌, ◌<◌, ◌≤◌, refl, ap, arith, subst, inl, inr}
-use Rattle.std.proofs.Common.{List, length, map, get_or, Bool, true, false, Option, None, Some}
-use Rattle.std.specs.Prelude.{◌==◌, ◌||◌, slice_get}
-use Rattle.std.proofs.lemmas.Option.{slice_get_within}
-use Rattle.sim_base.specs.declared.limits.TheConstants.{MOST_CYCLES}
-use Rattle.sim_base.specs.declared.wiring.Wiring.{Wiring}
-use Rattle.sim_base.specs.declared.wiring.Input.{Input}
-use Rattle.part_law.specs.Machine.{Machine, Laws, glide}
-use Rattle.board_model.specs.Board.{input_at}
-use Rattle.board_model.proofs.Lists.{get_within, some_map}
-use Rattle.board_laws.specs.Stretch.{IsStretch}
-use Rattle.board_run.specs.Changes.{HasEvent}
-use Rattle.board_run.specs.Lagging.{AreLate}
-use Rattle.board_run.specs.Legs.{Kept, Lags, AreAt}
+use Rattle.board_run.proofs.Common.{◌≡◌, ◌≢◌, ◌⊎◌, ◌∙◌, ℕ, zero, suc, ◌-◌, ◌<◌, ◌≤◌, refl, ap, arith, subst, inl, inr, List, length, map, get_or, Bool, true}
+use Rattle.board_run.proofs.Common.{false, Option, None, Some, ◌==◌, ◌||◌, slice_get, slice_get_within, MOST_CYCLES, Wiring, Input, Machine, Laws, glide}
+use Rattle.board_run.proofs.Common.{input_at, get_within, some_map, IsStretch, HasEvent, AreLate, Kept, Lags, AreAt}
 use Rattle.board_run.proofs.NextLemmas.{quiet_until, some_there}
 use Rattle.board_run.proofs.LegLemmas.{at_here, stretch}
 

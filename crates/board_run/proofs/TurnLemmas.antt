@@ -1,37 +1,17 @@
 -- A part's turn is the step of the state that it stands for.
-use Rattle.std.proofs.Common.{◌≡◌, ◌≢◌, ℕ, ◌+◌, ◌-◌, ◌<◌, ◌≤◌, List, length, map, Bool, true, false, Option, None, Some, refl, ap, sym, ◌∙◌, arith, subst}
-use Rattle.std.proofs.Common.{zero, suc, inl, inr, ◌⊎◌, add-one, length-set}
-use Rattle.std.specs.Prelude.{◌||◌, not, if◌then◌else◌, take, slice_get, slice_index, slice_set}
-use Rattle.std.specs.Option.{is_some}
-use Rattle.std.proofs.lemmas.Bool.Decides.{eqb_tells}
-use Rattle.sim_base.specs.declared.signal.Level.{Level}
-use Rattle.sim_base.specs.declared.signal.Drive.{Drive}
-use Rattle.sim_base.specs.declared.wiring.Wiring.{Wiring}
-use Rattle.sim_base.specs.declared.wiring.Input.{Input}
-use Rattle.part_law.specs.Machine.{Machine, Laws, IsQuiet, IsFirstDue, MayWake}
-use Rattle.part_law.proofs.MachineLemmas.{not_due_now, due_now, glide_holds, glide_pins, glide_ports, glide_drives, glide_contacts}
-use Rattle.board_model.specs.Board.{drives_of, contacts_of, level_at, own_nets, input_at, part_step, steps_from}
-use Rattle.board_model.specs.Rows.{same_list, same_level, chip_drives_of}
-use Rattle.board_laws.specs.Alike.{Alike, SameShow}
-use Rattle.board_laws.specs.Active.{is_active, active_in, sum_below}
-use Rattle.board_laws.specs.Stands.{Stands}
-use Rattle.board_laws.proofs.StandsLaw.{stands_here, stands_shows, stands_valid, stands_sleeps, stands_silent}
-use Rattle.std.proofs.lemmas.Option.{slice_get_within}
-use Rattle.std.proofs.lemmas.List.{length-map}
-use Rattle.std.proofs.lemmas.Bool.{or_cases, or_parts}
-use Rattle.sim_base.specs.declared.limits.TheConstants.{MOST_CYCLES}
-use Rattle.board_model.proofs.Lists.{some_same, lt_or_eq, get_set_same, get_set_other, get_map_some}
-use Rattle.board_model.proofs.Steps.{length-steps_from, get_step}
+use Rattle.board_run.proofs.Common.{◌≡◌, ◌≢◌, ℕ, ◌+◌, ◌-◌, ◌<◌, ◌≤◌, List, length, map, Bool, true, false, Option, None, Some, refl, ap, sym, ◌∙◌, arith}
+use Rattle.board_run.proofs.Common.{subst, zero, suc, inl, inr, ◌⊎◌, add-one, length-set, ◌||◌, not, if◌then◌else◌, take, slice_get, slice_index, slice_set}
+use Rattle.board_run.proofs.Common.{is_some, eqb_tells, Level, Drive, Wiring, Input, Machine, Laws, IsQuiet, IsFirstDue, MayWake, not_due_now, due_now}
+use Rattle.board_run.proofs.Common.{glide_holds, glide_pins, glide_ports, glide_drives, glide_contacts, drives_of, contacts_of, level_at, own_nets, input_at}
+use Rattle.board_run.proofs.Common.{part_step, steps_from, same_list, same_level, chip_drives_of, Alike, SameShow, is_active, active_in, sum_below, Stands}
+use Rattle.board_run.proofs.Common.{stands_here, stands_shows, stands_valid, stands_sleeps, stands_silent, slice_get_within, length-map, or_cases, or_parts}
+use Rattle.board_run.proofs.Common.{MOST_CYCLES, some_same, lt_or_eq, get_set_same, get_set_other, get_map_some, length-steps_from, get_step, PartSet}
+use Rattle.board_run.proofs.Common.{has_part, AreNone, Fits, IsTold, HasAt, Put, levels_on, NetsView, is_at, to_wake, glided, AreLate, MayTurn, MayTurnAt}
+use Rattle.board_run.proofs.Common.{turned, Awaits, HadTurn, Turns, AreDue, Replaced, TookTurn}
 use Rattle.board_run.proofs.StepLemmas.{get_answer}
 pub use Rattle.board_run.proofs.NextLemmas.{some_there, at_set}
-use Rattle.board_run.specs.declared.part_set.PartSet.{PartSet}
-use Rattle.board_run.specs.Parts.{has_part, AreNone}
-use Rattle.board_model.specs.Fits.{Fits}
 use Rattle.board_model.proofs.RoomLemmas.{SameRoom, fits_room, chips_room}
-use Rattle.board_run.specs.ReadingView.{IsTold, HasAt, Put, levels_on}
 use Rattle.board_run.proofs.ReadLemmas.{less_or, told_more, still_told, told_still, others_told}
-use Rattle.net_resolve.specs.NetsView.{NetsView}
-use Rattle.board_run.specs.Lagging.{is_at, to_wake, glided, AreLate, MayTurn, MayTurnAt, turned, Awaits, HadTurn, Turns, AreDue, Replaced, TookTurn}
 
 zero_or_more : (t : ℕ) → (t ≡ 0) ⊎ (0 < t)
 zero_or_more t = grind arith
@@ -40,22 +20,16 @@ zero_or_more t = grind arith
 pub due_is : {S : Type 0} (m : Machine S) (r s : S) (a t : ℕ) (d : Option ℕ) → t < MOST_CYCLES → Stands m t a r s → IsFirstDue m r a d → is_at d t ≡ m.due s t
 due_is m r s a t d end h first = go d first
   where
-    later : a ≤ t
-    later = h.not_later
-
     go : (d : Option ℕ) → IsFirstDue m r a d → is_at d t ≡ m.due s t
-    go None f = sym (ap (λ x. m.due x t) h.is ∙ not_due_now m r a t None later end h.quiet f (λ e. cc))
+    go None f = sym (ap (λ x. m.due x t) h.is ∙ not_due_now m r a t None h.not_later end h.quiet f (λ e. cc))
     go (Some u) f = elim (eqb_tells u t) [
       | inl same ↦ same.0 ∙ sym (ap (λ x. m.due x t) h.is ∙ due_now m r a t (subst (λ (v : ℕ). IsFirstDue m r a (Some v)) same.1 f))
-      | inr other ↦ other.0 ∙ sym (ap (λ x. m.due x t) h.is ∙ not_due_now m r a t (Some u) later end h.quiet f (λ e. other.1 (cc)))
+      | inr other ↦ other.0 ∙ sym (ap (λ x. m.due x t) h.is ∙ not_due_now m r a t (Some u) h.not_later end h.quiet f (λ e. other.1 (cc)))
     ]
 
 not_at : (d : Option ℕ) (t : ℕ) → d ≢ Some t → is_at d t ≡ false
 not_at None t h = refl
-not_at (Some u) t h = elim (eqb_tells u t) [
-  | inl same ↦ absurd (h (ap Some same.1))
-  | inr other ↦ other.0
-]
+not_at (Some u) t h = elim (eqb_tells u t) [ inl same ↦ absurd (h (ap Some same.1)) | inr other ↦ other.0 ]
 
 -- a part that is to be woken may be woken
 pub may_wake : {S P : Type 0} (m : Machine S) (laws : Laws m) (state : P → S) (now wakes : P → ℕ) (t : ℕ) (p : P) (due input : Option ℕ) (own : List Level) (differs : Bool) →
@@ -98,12 +72,10 @@ module _ {S P : Type 0} (m : Machine S) (laws : Laws m) (w : Wiring) (inputs : L
           let next = (part_step m w inputs ls t k s).0 in
           let state_is : state q ≡ next = h.state_is ∙ ap (λ (r : S × Option ℕ). r.0) step_is in
           let here : Stands m (t + 1) (t + 1) next next = stands_here m laws (t + 1) next (laws.keeps_valid s t _ _ (stands_valid m laws t (now p) (state p) s stands)) in
-          let c = may.count in
-          let l = may.not_later in
           record {
             stands = subst (λ (a : ℕ). Stands m (t + 1) a (state q) next) (sym h.now_is) (subst (λ (x : S). Stands m (t + 1) (t + 1) x next) (sym state_is) here);
             woken = h.woken ∙ ap (λ (b : Bool). wakes p + (if b then 1 else 0)) e;
-            count = omega (arith, h.woken, h.now_is, c, l);
+            count = omega (arith, h.woken, h.now_is, may.count, may.not_later);
             byte_is = h.byte_is ∙ ap (λ (r : S × Option ℕ). r.1) step_is;
             still = λ none. record {
               drives = ap m.drives (sym state_is) ∙ h.drives none ∙ ap m.drives (sym stands.is);
@@ -142,10 +114,9 @@ module _ {S P : Type 0} (m : Machine S) (laws : Laws m) (w : Wiring) (inputs : L
   turns_more i old new answers changed touched more p q s byte turns ep es within room turn still moved = record {
     done = λ k a b u l ea eb eu. elim (at_set new i k q b within eb) [
       | inl here ↦
-          let same = here.0 in
           let a_is : p ≡ a = cc in
           let u_is : s ≡ u = cc in
-          rw (same, ← u_is, ← a_is, ← here.1) (turn.stands, turn.woken, turn.count)
+          rw (here.0, ← u_is, ← a_is, ← here.1) (turn.stands, turn.woken, turn.count)
       | inr other ↦ turns.done k a b u (omega (arith, l, other.0)) ea other.1 eu
     ];
     answered = λ k l. elim (lt_or_eq k i l) [
@@ -360,9 +331,7 @@ sum_none : (i n : ℕ) (f : ℕ → ℕ) → ((k : ℕ) → i ≤ k → k < i + 
 sum_none i zero f none = let e : i + zero ≡ i = omega arith in ap (λ (j : ℕ). sum_below j f) e
 sum_none i (suc n) f none =
     let e : i + suc n ≡ suc (i + n) = omega arith in
-    let z = none (i + n) (omega arith) (omega arith) in
-    let r = sum_none i n f (λ k l h. none k l (omega (arith, h))) in
-    ap (λ (j : ℕ). sum_below j f) e ∙ omega (arith, z, r)
+    ap (λ (j : ℕ). sum_below j f) e ∙ omega (arith, none (i + n) (omega arith) (omega arith), sum_none i n f (λ k l h. none k l (omega (arith, h))))
 
 -- parts that are passed over count nothing
 pub sum_skip : (i j : ℕ) (f : ℕ → ℕ) → i ≤ j → ((k : ℕ) → i ≤ k → k < j → f k ≡ 0) → sum_below j f ≡ sum_below i f

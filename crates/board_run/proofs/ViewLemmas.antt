@@ -1,18 +1,9 @@
 -- What a board did that went on from the cycle at which it stood, as its users see it.
-use Rattle.std.proofs.Common.{◌≡◌, ◌<◌, ℕ, ◌+◌, ◌-◌, List, length, map, Bool, Option, Some, refl, ap, sym, ◌∙◌, subst}
-use Rattle.std.specs.Prelude.{slice_get}
-use Rattle.std.proofs.lemmas.List.{length-map}
-use Rattle.sim_base.specs.declared.wiring.Wiring.{Wiring}
-use Rattle.sim_base.specs.declared.wiring.Input.{Input}
-use Rattle.part_law.specs.Machine.{Machine, Laws}
-use Rattle.board_model.specs.Board.{states}
-use Rattle.board_model.specs.Rows.{Shown, shown_before}
-use Rattle.board_laws.specs.Active.{active_cycles, active_pairs}
+use Rattle.board_run.proofs.Common.{◌≡◌, ◌<◌, ℕ, ◌+◌, ◌-◌, List, length, map, Bool, Option, Some, refl, ap, sym, ◌∙◌, subst, slice_get, length-map, Wiring}
+use Rattle.board_run.proofs.Common.{Input, Machine, Laws, states, Shown, shown_before, active_cycles, active_pairs, BoardView, ReadingView, shown_at, Leg}
+use Rattle.board_run.proofs.Common.{AreAt}
 use Rattle.board_laws.specs.Orders.{IsOrder, SameInOrders}
 use Rattle.board_laws.proofs.OrdersLaw.{in_orders}
-use Rattle.board_run.specs.BoardView.{BoardView}
-use Rattle.board_run.specs.ReadingView.{ReadingView, shown_at}
-use Rattle.board_run.specs.Legs.{Leg, AreAt}
 use Rattle.board_run.proofs.LegLemmas.{at_here}
 use Rattle.board_run.specs.declared.board.RunEnd.TheVariants as ends
 

@@ -1,9 +1,4 @@
-use Rattle.std.proofs.Common.{◌∙◌, sym, ap, get_or, ℕ, Bool}
-use Rattle.std.specs.Prelude.{◌||◌}
-use Rattle.std.specs.List.{list_any}
-use Rattle.std.proofs.lemmas.List.{take_all}
-use Rattle.std.proofs.lemmas.List.Folds.{list_any_more}
-use Rattle.board_run.specs.Parts.{has_part}
+use Rattle.board_run.proofs.Common.{◌∙◌, sym, ap, get_or, ℕ, Bool, ◌||◌, list_any, take_all, list_any_more, has_part}
 use Rattle.board_run.proofs.gather.parts_on.Goals as goal
 
 pub loop-i-preserved : goal.loop-i-preserved

@@ -1,6 +1,4 @@
-use Rattle.std.proofs.Common.{◌≡◌, ℕ, take, get_or}
-use Rattle.std.specs.List.{list_any}
-use Rattle.board_run.specs.Parts.{has_part}
+use Rattle.board_run.proofs.Common.{◌≡◌, ℕ, take, get_or, list_any, has_part}
 use Rattle.board_run.proofs.gather.parts_on.Given as goal
 
 abbrev pub invariant-loop-i : goal.invariant-loop-i

@@ -1,7 +1,5 @@
-use Rattle.std.proofs.Common.{◌∙◌, sym, ap, arith, inl, inr, None, length-set}
-use Rattle.std.specs.Prelude.{slice_get, slice_set}
-use Rattle.std.proofs.lemmas.Option.{slice_get_within}
-use Rattle.board_model.proofs.Lists.{some_same, lt_or_eq, get_set_same, get_set_other}
+use Rattle.board_run.proofs.Common.{◌∙◌, sym, ap, arith, inl, inr, None, length-set, slice_get, slice_set, slice_get_within, some_same, lt_or_eq, get_set_same}
+use Rattle.board_run.proofs.Common.{get_set_other}
 use Rattle.board_run.proofs.hand.forget.Goals as goal
 
 pub loop-i-preserved : goal.loop-i-preserved

@@ -1,5 +1,4 @@
-use Rattle.std.proofs.Common.{◌≡◌, ◌<◌, ℕ, Option, Some, None, length}
-use Rattle.std.specs.Prelude.{slice_get}
+use Rattle.board_run.proofs.Common.{◌≡◌, ◌<◌, ℕ, Option, Some, None, length, slice_get}
 use Rattle.board_run.proofs.hand.forget.Given as goal
 
 abbrev pub invariant-loop-i : goal.invariant-loop-i

@@ -1,5 +1,4 @@
-use Rattle.std.proofs.Common.{sym, refl, subst, List, [], ℕ}
-use Rattle.sim_base.specs.Rows.{Handed}
+use Rattle.board_run.proofs.Common.{sym, refl, subst, List, [], ℕ, Handed}
 use Rattle.board_run.proofs.WakeLemmas.{none_sent}
 use Rattle.board_run.proofs.HandLemmas.{handed_nothing}
 use Rattle.board_run.proofs.hand.hand_sent.Goals as goal

@@ -1,6 +1,4 @@
-use Rattle.std.proofs.Common.{arith, ◌<◌, get_or, length}
-use Rattle.sim_base.specs.declared.wiring.Input.{Input}
-use Rattle.board_model.proofs.Lists.{get_within}
+use Rattle.board_run.proofs.Common.{arith, ◌<◌, get_or, length, Input, get_within}
 use Rattle.board_run.proofs.NextLemmas.{silent_until, behind_until, addresses}
 use Rattle.board_run.proofs.jump.first_input.Goals as goal
 use Rattle.board_run.proofs.jump.first_input.Goals.{else-input-inputs-via-then-input-inputs+else-inputs-input, else-input-inputs-via-else-input-inputs}

@@ -1,5 +1,4 @@
-use Rattle.std.specs.Int.{w64}
-use Rattle.std.proofs.lemmas.Nat.Bits.{bit_at-trailing_zeros}
+use Rattle.board_run.proofs.Common.{w64, bit_at-trailing_zeros}
 use Rattle.board_run.proofs.part_set.lowest.Goals as goal
 
 pub returns-clause-within : goal.returns-clause-within

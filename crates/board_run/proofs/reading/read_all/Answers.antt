@@ -1,22 +1,13 @@
-use Rattle.std.proofs.Common.{◌≡◌, ◌∙◌, refl, sym, ap, subst, arith, length, List, ℕ, Bool, eq-eqb, get_or}
-use Rattle.std.specs.Prelude.{◌&&◌, ◌==◌, eqb}
-use Rattle.std.specs.List.{list_any}
-use Rattle.sim_base.specs.declared.signal.Level.{Level}
+use Rattle.board_run.proofs.Common.{◌≡◌, ◌∙◌, refl, sym, ap, subst, arith, length, List, ℕ, Bool, eq-eqb, get_or, ◌&&◌, ◌==◌, eqb, list_any, Level, same_list}
+use Rattle.board_run.proofs.Common.{same_level, same_drive, NetsView, AreChanged, has, any_at, has_part, ReadingView}
 use Rattle.board_model.specs.Resolve.{resolve}
-use Rattle.board_model.specs.Rows.{same_list, same_level, same_drive}
-use Rattle.net_resolve.specs.NetsView.{NetsView, AreChanged}
-use Rattle.net_resolve.specs.Marked.{has}
-use Rattle.net_resolve.proofs.ReachLemmas.{any_at}
-use Rattle.board_run.specs.Parts.{has_part}
-use Rattle.board_run.specs.ReadingView.{ReadingView}
 use Rattle.board_run.proofs.ReadLemmas.{none_changed}
 use Rattle.board_run.proofs.reading.read_all.Goals as goal
 
 pub parts_on-differ-requires : goal.parts_on-differ-requires
 parts_on-differ-requires c = λ j n en.
     let nets = ap (λ (x : NetsView). x.nets) c.resolve_marked.ensures.levels ∙ ap (λ (x : NetsView). x.nets) c.keep_watched-same_drives.ensures.kept in
-    let there = c.changed-2.ensures.nets n (any_at (eqb n) c.changed-2.result.now j n en (eq-eqb n n refl)) in
-    omega (arith, there, nets, c.requires.on)
+    omega (arith, c.changed-2.ensures.nets n (any_at (eqb n) c.changed-2.result.now j n en (eq-eqb n n refl)), nets, c.requires.on)
 
 pub returns : goal.returns
 returns c =

@@ -1,10 +1,6 @@
-use Rattle.std.proofs.Common.{◌≡◌, ◌+◌, ◌<◌, ◌≤◌, ◌∙◌, ◌++◌, List, Bool, length, map, drop, replicate, ap, sym, refl, arith, false, get_or, length-append, append-nil}
-use Rattle.std.specs.Prelude.{slice_get, slice_index}
-use Rattle.std.proofs.lemmas.List.{length-map, length-replicate, drop_all}
-use Rattle.std.proofs.lemmas.Option.{slice_get-get_or}
-use Rattle.board_model.specs.Board.{drives_of}
-use Rattle.board_model.proofs.Lists.{some_map, get_within, take_whole}
-use Rattle.board_run.specs.ReadingView.{pin_flags}
+use Rattle.board_run.proofs.Common.{◌≡◌, ◌+◌, ◌<◌, ◌≤◌, ◌∙◌, ◌++◌, List, Bool, length, map, drop, replicate, ap, sym, refl, arith, false, get_or}
+use Rattle.board_run.proofs.Common.{length-append, append-nil, slice_get, slice_index, length-map, length-replicate, drop_all, slice_get-get_or, drives_of}
+use Rattle.board_run.proofs.Common.{some_map, get_within, take_whole, pin_flags}
 use Rattle.board_run.proofs.GatherLemmas.{item_at, flags_more}
 use Rattle.board_run.proofs.PartLemmas.{end_is}
 use Rattle.board_run.proofs.ReadLemmas.{place_more}
@@ -54,8 +50,7 @@ returns-clause-flags g c =
 
 pub returns-clause-each : goal.returns-clause-each
 returns-clause-each g c =
-    let p = g.P.Part in
-    let ss = map p.state c.args.parts.now in
+    let ss = map g.P.Part.state c.args.parts.now in
     let many : length ss ≡ length c.args.parts.now = simp length-map refl in
     let past : length ss ≤ c.loop-i.i = omega (arith, c.loop-i-test.false, many) in
-    c.loop-i.invariant.long ∙ ap (λ l. length (drives_of p.machine l)) (take_whole c.loop-i.i ss past) ∙ sym c.requires.pins
+    c.loop-i.invariant.long ∙ ap (λ l. length (drives_of g.P.Part.machine l)) (take_whole c.loop-i.i ss past) ∙ sym c.requires.pins

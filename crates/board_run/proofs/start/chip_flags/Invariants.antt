@@ -1,6 +1,4 @@
-use Rattle.std.proofs.Common.{◌≡◌, ◌++◌, take, drop, map, length}
-use Rattle.board_model.specs.Board.{drives_of}
-use Rattle.board_run.specs.ReadingView.{pin_flags}
+use Rattle.board_run.proofs.Common.{◌≡◌, ◌++◌, take, drop, map, length, drives_of, pin_flags}
 use Rattle.board_run.proofs.start.chip_flags.Given as goal
 
 abbrev pub invariant-loop-i : goal.invariant-loop-i

@@ -1,8 +1,5 @@
-use Rattle.std.proofs.Common.{◌≡◌, ◌<◌, ◌∙◌, ap, sym, subst, arith, ℕ, List, length, Some, inl, inr, Option, length-set}
-use Rattle.std.specs.Prelude.{slice_get, slice_set}
-use Rattle.std.proofs.lemmas.Option.{slice_get_within}
-use Rattle.part_law.specs.Machine.{IsFirstDue}
-use Rattle.board_model.proofs.Lists.{some_same, lt_or_eq, get_set_same, get_set_other, get_within}
+use Rattle.board_run.proofs.Common.{◌≡◌, ◌<◌, ◌∙◌, ap, sym, subst, arith, ℕ, List, length, Some, inl, inr, Option, length-set, slice_get, slice_set}
+use Rattle.board_run.proofs.Common.{slice_get_within, IsFirstDue, some_same, lt_or_eq, get_set_same, get_set_other, get_within}
 use Rattle.board_run.proofs.start.first_dues.Goals as goal
 
 pub loop-i-preserved : goal.loop-i-preserved

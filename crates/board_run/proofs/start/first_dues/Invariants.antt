@@ -1,6 +1,4 @@
-use Rattle.std.proofs.Common.{◌≡◌, ◌<◌, ℕ, Some, length, Option}
-use Rattle.std.specs.Prelude.{slice_get}
-use Rattle.part_law.specs.Machine.{IsFirstDue}
+use Rattle.board_run.proofs.Common.{◌≡◌, ◌<◌, ℕ, Some, length, Option, slice_get, IsFirstDue}
 use Rattle.board_run.proofs.start.first_dues.Given as goal
 
 -- the parts before i were asked

@@ -1,9 +1,5 @@
-use Rattle.std.proofs.Common.{◌<◌, ◌∙◌, arith, ap, refl, get_or, length, ℕ, List, length-set}
-use Rattle.std.specs.Prelude.{◌||◌, ◌&&◌, ◌==◌, eqb}
-use Rattle.std.specs.List.{list_any}
-use Rattle.std.proofs.lemmas.List.{take_all}
-use Rattle.board_model.proofs.Lists.{get_within}
-use Rattle.board_run.specs.Parts.{has_part}
+use Rattle.board_run.proofs.Common.{◌<◌, ◌∙◌, arith, ap, refl, get_or, length, ℕ, List, length-set, ◌||◌, ◌&&◌, ◌==◌, eqb, list_any, take_all, get_within}
+use Rattle.board_run.proofs.Common.{has_part}
 use Rattle.board_run.proofs.PartLemmas.{put_more}
 use Rattle.board_run.proofs.start.put_part.Goals as goal
 
@@ -12,8 +8,7 @@ loop-j-preserved c =
     let inv = c.loop-j.invariant in
     let j = c.loop-j.j in
     let n0 = get_or c.args.nets.now j 0 in
-    let there = c.requires.nets j n0 (get_within c.args.nets.now j 0 c.loop-j-test.true) in
-    let within : n0 < length c.loop-j.on = omega (arith, there, inv.long) in
+    let within : n0 < length c.loop-j.on = omega (arith, c.requires.nets j n0 (get_within c.args.nets.now j 0 c.loop-j-test.true), inv.long) in
     let was = get_or c.loop-j.on n0 (record { bits = 0 }) in
     record {
       long = length-set c.loop-j.on n0 c.with.result ∙ inv.long;

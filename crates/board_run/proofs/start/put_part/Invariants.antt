@@ -1,8 +1,4 @@
-use Rattle.std.proofs.Common.{◌≡◌, ◌||◌, ◌&&◌, ℕ, length, take, eqb, Some}
-use Rattle.std.specs.Prelude.{◌==◌, slice_get}
-use Rattle.std.specs.List.{list_any}
-use Rattle.board_run.specs.declared.part_set.PartSet.{PartSet}
-use Rattle.board_run.specs.Parts.{has_part}
+use Rattle.board_run.proofs.Common.{◌≡◌, ◌||◌, ◌&&◌, ℕ, length, take, eqb, Some, ◌==◌, slice_get, list_any, PartSet, has_part}
 use Rattle.board_run.proofs.start.put_part.Given as goal
 
 abbrev pub invariant-loop-j : goal.invariant-loop-j

@@ -1,10 +1,5 @@
-use Rattle.std.proofs.Common.{◌≡◌, ◌∙◌, arith, sym, ap, subst, inl, inr, ℕ, Some}
-use Rattle.std.specs.Prelude.{eqb, slice_get}
-use Rattle.std.specs.List.{list_any}
-use Rattle.std.proofs.lemmas.Option.{slice_get_within}
-use Rattle.board_model.proofs.Lists.{lt_or_eq}
-use Rattle.board_run.specs.declared.part_set.PartSet.{PartSet}
-use Rattle.board_run.specs.Parts.{has_part, part_nets}
+use Rattle.board_run.proofs.Common.{◌≡◌, ◌∙◌, arith, sym, ap, subst, inl, inr, ℕ, Some, eqb, slice_get, list_any, slice_get_within, lt_or_eq, PartSet}
+use Rattle.board_run.proofs.Common.{has_part, part_nets}
 use Rattle.board_run.proofs.TurnLemmas.{some_there}
 use Rattle.board_run.proofs.PartLemmas.{put_here, put_elsewhere, part_nets_from}
 use Rattle.board_run.proofs.start.put_parts.Goals as goal

@@ -1,8 +1,4 @@
-use Rattle.std.proofs.Common.{◌≡◌, ◌<◌, ◌≤◌, ℕ, length, eqb, Some, false}
-use Rattle.std.specs.Prelude.{slice_get}
-use Rattle.std.specs.List.{list_any}
-use Rattle.board_run.specs.declared.part_set.PartSet.{PartSet}
-use Rattle.board_run.specs.Parts.{has_part, part_nets}
+use Rattle.board_run.proofs.Common.{◌≡◌, ◌<◌, ◌≤◌, ℕ, length, eqb, Some, false, slice_get, list_any, PartSet, has_part, part_nets}
 use Rattle.board_run.proofs.start.put_parts.Given as goal
 
 -- the parts before i are in their places

@@ -1,6 +1,4 @@
-use Rattle.std.proofs.Common.{◌∙◌, sym, ap, arith, length}
-use Rattle.std.proofs.lemmas.List.{length-replicate}
-use Rattle.net_resolve.specs.NetsView.{NetsView}
+use Rattle.board_run.proofs.Common.{◌∙◌, sym, ap, arith, length, length-replicate, NetsView}
 use Rattle.board_run.proofs.start.told_nets.Goals as goal
 
 pub watch-requires : goal.watch-requires
@@ -8,7 +6,6 @@ watch-requires g c = c.in_ok-chips.ensures.each ∙ sym (ap (λ (x : NetsView). 
 
 pub tell_all-requires : goal.tell_all-requires
 tell_all-requires g c =
-    let w = c.args.wiring.now in
     let fresh = c.in_ok-nets.ensures in
     let pins = ap (λ (x : NetsView). length x.net_of) fresh in
     let contacts = ap (λ (x : NetsView). length x.contacts) fresh in
@@ -19,8 +16,8 @@ tell_all-requires g c =
         omega (arith, c.as_slice-net_of.type_inv.0, c.as_slice-net_of.type_inv.1, ap length c.as_slice-net_of.ensures, pins),
         omega (arith, c.as_slice-contacts.type_inv.0, c.as_slice-contacts.type_inv.1, ap length c.as_slice-contacts.ensures, contacts),
       );
-      drives_long = ap (λ (x : NetsView). length x.drives) fresh ∙ length-replicate (length w.net_of) _ ∙ sym pins;
-      closed_long = ap (λ (x : NetsView). length x.closed) fresh ∙ length-replicate (length w.contacts) _ ∙ sym contacts;
+      drives_long = ap (λ (x : NetsView). length x.drives) fresh ∙ length-replicate (length c.args.wiring.now.net_of) _ ∙ sym pins;
+      closed_long = ap (λ (x : NetsView). length x.closed) fresh ∙ length-replicate (length c.args.wiring.now.contacts) _ ∙ sym contacts;
     }
 
 pub returns : goal.returns

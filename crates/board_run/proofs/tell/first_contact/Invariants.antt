@@ -1,5 +1,4 @@
-use Rattle.std.proofs.Common.{◌≡◌, length, map, take}
-use Rattle.board_model.specs.Board.{contacts_of}
+use Rattle.board_run.proofs.Common.{◌≡◌, length, map, take, contacts_of}
 use Rattle.board_run.proofs.tell.first_contact.Given as goal
 
 abbrev pub invariant-loop-k : goal.invariant-loop-k

@@ -1,9 +1,5 @@
-use Rattle.std.proofs.Common.{◌≡◌, ◌≢◌, ◌<◌, ◌≤◌, ◌+◌, ◌∙◌, inl, inr, ℕ, ap, sym, arith, length, List, length-set, true, false}
-use Rattle.std.specs.Prelude.{slice_get, slice_set}
-use Rattle.event_queue.proofs.TreeLemmas.{set_same}
-use Rattle.sim_base.specs.declared.signal.Drive.{Drive}
-use Rattle.net_resolve.specs.NetsView.{NetsView}
-use Rattle.board_model.proofs.Lists.{lt_or_eq, get_set_same, get_set_other}
+use Rattle.board_run.proofs.Common.{◌≡◌, ◌≢◌, ◌<◌, ◌≤◌, ◌+◌, ◌∙◌, inl, inr, ℕ, ap, sym, arith, length, List, length-set, true, false, slice_get, slice_set}
+use Rattle.board_run.proofs.Common.{set_same, Drive, NetsView, lt_or_eq, get_set_same, get_set_other}
 use Rattle.board_run.proofs.ReadLemmas.{span_put, span_there}
 use Rattle.board_run.proofs.tell.set_pins.Goals.{then-drives_other, else-drives_other}
 use Rattle.board_run.proofs.tell.set_pins.Goals as goal
@@ -57,8 +53,7 @@ pub returns-clause-put : goal.returns-clause-put
 returns-clause-put g c =
     let i = c.loop-pin.invariant in
     let order : c.min-from.result ≤ c.min-to.result = grind (arith, c.min-from.ensures) in
-    let last = c.loop-pin.auto.pin-end order in
-    let end : c.loop-pin.pin ≡ c.min-to.result = omega (arith, last, c.loop-pin-test.false) in
+    let end : c.loop-pin.pin ≡ c.min-to.result = omega (arith, c.loop-pin.auto.pin-end order, c.loop-pin-test.false) in
     span_put (g.P.Part.machine.drives (g.P.Part.state c.args.part.now)) c.args.nets.now.drives c.loop-pin.nets.drives c.args.span c.args.at c.pins.result c.min-from.result c.min-to.result
     c.pins.ensures (let few = c.pins.type_inv in omega (arith, few)) c.min-to.ensures c.min-from.ensures i.long (λ j from h. i.told j from (omega (arith, end, h)))
     (λ x h. elim h [ inl l ↦ i.rest x (inl l) | inr r ↦ i.rest x (inr (omega (arith, r, end))) ]) c.requires.others
@@ -67,7 +62,6 @@ pub returns-clause-same : goal.returns-clause-same
 returns-clause-same g c = λ none.
     let i = c.loop-pin.invariant in
     let order : c.min-from.result ≤ c.min-to.result = grind (arith, c.min-from.ensures) in
-    let last = c.loop-pin.auto.pin-end order in
-    let end : c.loop-pin.pin ≡ c.min-to.result = omega (arith, last, c.loop-pin-test.false) in
+    let end : c.loop-pin.pin ≡ c.min-to.result = omega (arith, c.loop-pin.auto.pin-end order, c.loop-pin-test.false) in
     span_there (g.P.Part.machine.drives (g.P.Part.state c.args.part.now)) c.args.nets.now.drives c.args.span c.args.at c.pins.result c.min-from.result c.min-to.result
     c.pins.ensures (let few = c.pins.type_inv in omega (arith, few)) c.min-to.ensures c.min-from.ensures (λ j from h. i.same none j from (omega (arith, end, h))) c.requires.others

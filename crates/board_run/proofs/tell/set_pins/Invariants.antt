@@ -1,6 +1,4 @@
-use Rattle.std.proofs.Common.{◌≡◌, ◌+◌, ◌<◌, ◌≤◌, ◌⊎◌, ℕ, length, true, false}
-use Rattle.std.specs.Prelude.{slice_get}
-use Rattle.board_run.specs.ReadingView.{HasAt}
+use Rattle.board_run.proofs.Common.{◌≡◌, ◌+◌, ◌<◌, ◌≤◌, ◌⊎◌, ℕ, length, true, false, slice_get, HasAt}
 use Rattle.board_run.proofs.tell.set_pins.Given as goal
 
 -- the pins of the span before this one were told

@@ -1,9 +1,5 @@
-use Rattle.std.proofs.Common.{◌≡◌, ◌<◌, ◌+◌, ◌∙◌, ap, sym, subst, arith, length, List, Bool, ℕ, inl, inr}
-use Rattle.std.specs.Prelude.{slice_get, slice_set}
-use Rattle.std.proofs.lemmas.Bool.{or_cases, or_parts}
-use Rattle.net_resolve.specs.NetsView.{NetsView}
-use Rattle.board_run.specs.ReadingView.{Put}
-use Rattle.board_model.proofs.Lists.{lt_or_eq}
+use Rattle.board_run.proofs.Common.{◌≡◌, ◌<◌, ◌+◌, ◌∙◌, ap, sym, subst, arith, length, List, Bool, ℕ, inl, inr, slice_get, slice_set, or_cases, or_parts}
+use Rattle.board_run.proofs.Common.{NetsView, Put, lt_or_eq}
 use Rattle.board_run.proofs.ReadLemmas.{put_more}
 use Rattle.board_run.proofs.tell.set_ports.Goals as goal
 

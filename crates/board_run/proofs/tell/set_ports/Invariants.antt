@@ -1,6 +1,4 @@
-use Rattle.std.proofs.Common.{◌≡◌, ◌+◌, ◌<◌, ℕ, true, false}
-use Rattle.std.specs.Prelude.{slice_get}
-use Rattle.board_run.specs.ReadingView.{HasAt, Put}
+use Rattle.board_run.proofs.Common.{◌≡◌, ◌+◌, ◌<◌, ℕ, true, false, slice_get, HasAt, Put}
 use Rattle.board_run.proofs.tell.set_ports.Given as goal
 
 abbrev pub invariant-loop-i : goal.invariant-loop-i

@@ -1,7 +1,4 @@
-use Rattle.std.proofs.Common.{◌≡◌, ◌≤◌, ◌∙◌, ap, sym, arith, length, map, refl}
-use Rattle.std.proofs.lemmas.List.{length-map}
-use Rattle.net_resolve.specs.NetsView.{NetsView}
-use Rattle.board_model.proofs.Lists.{some_map, some_same, flat_map_room}
+use Rattle.board_run.proofs.Common.{◌≡◌, ◌≤◌, ◌∙◌, ap, sym, arith, length, map, refl, length-map, NetsView, some_map, some_same, flat_map_room}
 use Rattle.board_run.proofs.GatherLemmas.{item_at}
 use Rattle.board_run.proofs.ReadLemmas.{gathered_more, gathered_end}
 use Rattle.board_run.proofs.tell.tell_all.Goals as goal
@@ -31,31 +28,26 @@ tell_part-requires-clause-few g c =
 
 pub tell_part-requires-clause-drives_long : goal.tell_part-requires-clause-drives_long
 tell_part-requires-clause-drives_long g c =
-    let inv = c.loop-i.invariant in
-    omega (arith, inv.pins.long, c.requires.drives_long, ap (λ (x : NetsView). length x.net_of) inv.rest)
+    omega (arith, c.loop-i.invariant.pins.long, c.requires.drives_long, ap (λ (x : NetsView). length x.net_of) c.loop-i.invariant.rest)
 
 pub tell_part-requires-clause-closed_long : goal.tell_part-requires-clause-closed_long
 tell_part-requires-clause-closed_long g c =
-    let inv = c.loop-i.invariant in
-    omega (arith, inv.ports.long, c.requires.closed_long, ap (λ (x : NetsView). length x.contacts) inv.rest)
+    omega (arith, c.loop-i.invariant.ports.long, c.requires.closed_long, ap (λ (x : NetsView). length x.contacts) c.loop-i.invariant.rest)
 
 pub overflow_add-pin : goal.overflow_add-pin
 overflow_add-pin g c =
-    let p = g.P.Part in
     let i = c.loop-i.i in
-    let inv = c.loop-i.invariant in
-    let es = some_map p.state c.args.parts.now i _ (item_at c.args.parts.now i c.index-parts-i.result c.loop-i-test.true c.index-parts-i.is) in
-    let room = flat_map_room p.machine.drives (map p.state c.args.parts.now) i _ es in
-    omega (arith, room, inv.pins.place, c.requires.pins, c.requires.few.0, c.pins-pins.ensures)
+    let es = some_map g.P.Part.state c.args.parts.now i _ (item_at c.args.parts.now i c.index-parts-i.result c.loop-i-test.true c.index-parts-i.is) in
+    let room = flat_map_room g.P.Part.machine.drives (map g.P.Part.state c.args.parts.now) i _ es in
+    omega (arith, room, c.loop-i.invariant.pins.place, c.requires.pins, c.requires.few.0, c.pins-pins.ensures)
 
 pub overflow_add-contact : goal.overflow_add-contact
 overflow_add-contact g c =
     let p = g.P.Part in
     let i = c.loop-i.i in
-    let inv = c.loop-i.invariant in
     let es = some_map p.state c.args.parts.now i _ (item_at c.args.parts.now i c.index-parts-i-in-loop-i.result c.loop-i-test.true c.index-parts-i-in-loop-i.is) in
     let room = flat_map_room p.machine.contacts (map p.state c.args.parts.now) i _ es in
-    omega (arith, room, inv.ports.place, c.requires.contacts, c.requires.few.1, c.contacts-contacts.ensures)
+    omega (arith, room, c.loop-i.invariant.ports.place, c.requires.contacts, c.requires.few.1, c.contacts-contacts.ensures)
 
 pub loop-i-preserved : goal.loop-i-preserved
 loop-i-preserved g c =

@@ -1,5 +1,4 @@
-use Rattle.std.proofs.Common.{◌≡◌, map}
-use Rattle.board_run.specs.ReadingView.{Gathered}
+use Rattle.board_run.proofs.Common.{◌≡◌, map, Gathered}
 use Rattle.board_run.proofs.tell.tell_all.Given as goal
 
 -- the parts before i were read

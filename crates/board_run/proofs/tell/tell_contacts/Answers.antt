@@ -1,7 +1,5 @@
-use Rattle.std.proofs.Common.{◌≡◌, ◌<◌, ◌∙◌, arith, refl, subst, sym, length, map, take, true, false}
-use Rattle.board_model.proofs.Lists.{some_map, some_same, flat_map_room}
-use Rattle.board_model.specs.Board.{contacts_of}
-use Rattle.board_run.specs.ReadingView.{HasAt}
+use Rattle.board_run.proofs.Common.{◌≡◌, ◌<◌, ◌∙◌, arith, refl, subst, sym, length, map, take, true, false, some_map, some_same, flat_map_room, contacts_of}
+use Rattle.board_run.proofs.Common.{HasAt}
 use Rattle.board_run.proofs.GatherLemmas.{item_at}
 use Rattle.board_run.proofs.ReadLemmas.{put_there}
 use Rattle.board_run.proofs.tell.tell_contacts.Goals as goal
@@ -10,8 +8,7 @@ pub set_ports-requires-clause-room : goal.set_ports-requires-clause-room
 set_ports-requires-clause-room g c =
     let p = g.P.Part in
     let es = some_map p.state c.args.parts.now c.args.i _ (item_at c.args.parts.now c.args.i c.index-parts-i-then-contacts-ne0.result c.requires.within c.index-parts-i-then-contacts-ne0.is) in
-    let room = flat_map_room p.machine.contacts (map p.state c.args.parts.now) c.args.i _ es in
-    omega (arith, room, c.first_contact-contact.ensures, c.requires.contacts)
+    omega (arith, flat_map_room p.machine.contacts (map p.state c.args.parts.now) c.args.i _ es, c.first_contact-contact.ensures, c.requires.contacts)
 
 pub returns-then-contacts-ne0 : goal.returns-then-contacts-ne0
 returns-then-contacts-ne0 g c =

@@ -1,7 +1,4 @@
-use Rattle.std.proofs.Common.{take, length, refl}
-use Rattle.std.specs.Prelude.{None, true}
-use Rattle.std.proofs.lemmas.Bool.{or_right}
-use Rattle.board_run.specs.Lagging.{is_at}
+use Rattle.board_run.proofs.Common.{take, length, refl, None, true, or_right, is_at}
 use Rattle.board_run.proofs.TurnLemmas.{may_wake}
 use Rattle.board_run.proofs.turn.hear_levels.Goals as goal
 

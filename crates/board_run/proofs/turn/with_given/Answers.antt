@@ -1,11 +1,5 @@
-use Rattle.std.proofs.Common.{drop, [], ◌≡◌, ◌≢◌, ◌∙◌, arith, sym, ap, get_or, length, List, None, false, true, eq-eqb}
-use Rattle.std.proofs.lemmas.List.{drop_all}
-use Rattle.std.proofs.lemmas.Option.{slice_get-get_or}
-use Rattle.std.proofs.lemmas.Bool.{or_parts}
-use Rattle.sim_base.specs.declared.wiring.Input.{Input}
-use Rattle.board_model.specs.Board.{input_from}
-use Rattle.board_run.specs.declared.part_set.PartSet.{PartSet}
-use Rattle.board_run.specs.Parts.{has_part}
+use Rattle.board_run.proofs.Common.{drop, [], ◌≡◌, ◌≢◌, ◌∙◌, arith, sym, ap, get_or, length, List, None, false, true, eq-eqb, drop_all, slice_get-get_or}
+use Rattle.board_run.proofs.Common.{or_parts, Input, input_from, PartSet, has_part}
 use Rattle.board_run.proofs.PartLemmas.{given_next}
 use Rattle.board_run.proofs.turn.with_given.Goals as goal
 use Rattle.board_run.proofs.turn.with_given.Goals.{then-input-lt64, else-input-lt64}

@@ -1,6 +1,4 @@
-use Rattle.std.proofs.Common.{◌≡◌, ◌<◌, ℕ, [], drop, false, None}
-use Rattle.board_model.specs.Board.{input_from, input_at}
-use Rattle.board_run.specs.Parts.{has_part}
+use Rattle.board_run.proofs.Common.{◌≡◌, ◌<◌, ℕ, [], drop, false, None, input_from, input_at, has_part}
 use Rattle.board_run.proofs.turn.with_given.Given as goal
 
 -- for a part that is not among them, what the values from here on leave of none is the value of the cycle

@@ -1,8 +1,4 @@
-use Rattle.std.proofs.Common.{◌≡◌, ◌<◌, ◌≤◌, ◌∙◌, ap, sym, ℕ, false, subst}
-use Rattle.std.specs.Prelude.{◌==◌}
-use Rattle.std.proofs.lemmas.Bool.{or_left, or_right}
-use Rattle.board_run.specs.BoardView.{BoardView}
-use Rattle.board_run.specs.Engine.{kept_of}
+use Rattle.board_run.proofs.Common.{◌≡◌, ◌<◌, ◌≤◌, ◌∙◌, ap, sym, ℕ, false, subst, ◌==◌, or_left, or_right, BoardView, kept_of}
 use Rattle.board_run.proofs.StretchLemmas.{stretch_until, unchanged, neither, event_at}
 use Rattle.board_run.proofs.board.Board.next.Goals as goal
 

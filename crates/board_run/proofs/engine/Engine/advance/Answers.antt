@@ -1,6 +1,4 @@
-use Rattle.std.proofs.Common.{◌<◌, subst, sym, arith}
-use Rattle.board_run.specs.Engine.{MayRun, MayStretch, Watches, Showed}
-use Rattle.board_run.specs.declared.engine.Engine.{Engine}
+use Rattle.board_run.proofs.Common.{◌<◌, subst, sym, arith, MayRun, MayStretch, Watches, Showed, Engine}
 use Rattle.board_run.proofs.engine.Engine.advance.Goals as goal
 
 pub stretch-requires : goal.stretch-requires
@@ -16,12 +14,11 @@ stretch-requires g c =
 
 pub returns-in-Some : goal.returns-in-Some
 returns-in-Some g c =
-    let found = c.find_alone.ensures.alone (c.in-Some.who, c.in-Some.limit) c.in-Some.is in
     let new = c.stretch.new in
     let e = c.stretch.ensures in
     record {
       further = subst (λ (e : Engine g.row.P.Denot). e.cycle < new.self.cycle) c.find_alone.ensures.same e.further;
-      within = omega (arith, e.within, found.within);
+      within = omega (arith, e.within, (c.find_alone.ensures.alone (c.in-Some.who, c.in-Some.limit) c.in-Some.is).within);
       showed = subst (λ (e : Engine g.row.P.Denot). Showed g.P.Part g.W.Watcher c.stretch.result e new.self c.args.steps.now new.steps c.args.out.now new.out) c.find_alone.ensures.same e.showed;
     }
 

@@ -1,10 +1,6 @@
-use Rattle.std.proofs.Common.{◌≡◌, ◌+◌, ◌≤◌, ◌∙◌, ap, sym, refl, arith, subst, List, length}
+use Rattle.board_run.proofs.Common.{◌≡◌, ◌+◌, ◌≤◌, ◌∙◌, ap, sym, refl, arith, subst, List, length, Input, AreBehind, IsInOrder, ReadingView, kept_of}
+use Rattle.board_run.proofs.Common.{MayTurnOn, TurnedOn, Showed, Engine}
 use Rattle.sim_base.specs.declared.bench.WriteEnd.TheVariants as writes
-use Rattle.sim_base.specs.declared.wiring.Input.{Input}
-use Rattle.board_run.specs.Upcoming.{AreBehind, IsInOrder}
-use Rattle.board_run.specs.ReadingView.{ReadingView}
-use Rattle.board_run.specs.Engine.{kept_of, MayTurnOn, TurnedOn, Showed}
-use Rattle.board_run.specs.declared.engine.Engine.{Engine}
 use Rattle.board_run.proofs.HandLemmas.{handed_both, stopped_first, stopped_second}
 use Rattle.board_run.proofs.EngineLemmas.{fails_first}
 use Rattle.board_run.proofs.LagLemmas.{Happens, happens, lags_differ}
@@ -29,7 +25,6 @@ turn-woken-requires g c =
     let s = c.show-shown.ensures in
     let seen = c.show-shown.new.self.reading in
     let differ = c.show-shown.result.1 in
-    let end = c.end_of_cycle-end.ensures in
     record {
       may = subst (λ (x : Engine g.row.P.Denot). MayTurnOn p x differ) (sym s.rest) (record {
         end = c.requires.end;
@@ -44,7 +39,7 @@ turn-woken-requires g c =
         told = record { drives_are = s.read.of.drives_are; closed_are = s.read.of.closed_are };
         differs = lags_differ p.machine g.met.P.Part.laws e.wiring p.state p.now p.wake_count e.cycle e.parts (kept_of e) seen differ l s.read.differs;
       });
-      values = (end.from, (let most = end.behind.within in omega (arith, most, ap length c.as_slice.ensures)));
+      values = (c.end_of_cycle-end.ensures.from, (let most = c.end_of_cycle-end.ensures.behind.within in omega (arith, most, ap length c.as_slice.ensures)));
     }
 
 -- the turn of the parts

@@ -1,8 +1,4 @@
-use Rattle.std.proofs.Common.{rules, List, subst, ap, ℕ, Option}
-use Rattle.sim_base.specs.declared.wiring.Input.{Input}
-use Rattle.board_run.specs.Legs.{IsAlone}
-use Rattle.board_run.specs.Engine.{kept_of}
-use Rattle.board_run.specs.declared.engine.Engine.{Engine}
+use Rattle.board_run.proofs.Common.{rules, List, subst, ap, ℕ, Option, Input, IsAlone, kept_of, Engine}
 use Rattle.board_run.proofs.NextLemmas.{lags_late}
 use Rattle.board_run.proofs.engine.Engine.find_alone.Goals as goal
 

@@ -1,9 +1,5 @@
-use Rattle.std.proofs.Common.{◌≡◌, ◌<◌, ◌≤◌, ℕ, List, None, Some, subst, sym, arith, inl, inr, true, false, ◌∙◌, refl}
-use Rattle.std.specs.Prelude.{◌≢◌, slice_get}
-use Rattle.sim_base.specs.declared.wiring.Input.{Input}
-use Rattle.board_model.specs.Board.{input_at}
-use Rattle.board_run.specs.Engine.{kept_of}
-use Rattle.board_run.specs.Upcoming.{AreBehind}
+use Rattle.board_run.proofs.Common.{◌≡◌, ◌<◌, ◌≤◌, ℕ, List, None, Some, subst, sym, arith, inl, inr, true, false, ◌∙◌, refl, ◌≢◌, slice_get, Input, input_at}
+use Rattle.board_run.proofs.Common.{kept_of, AreBehind}
 use Rattle.board_run.proofs.NextLemmas.{below_or, lags_late}
 use Rattle.board_run.proofs.engine.Engine.next_cycle.Goals as goal
 

@@ -1,14 +1,5 @@
-use Rattle.std.proofs.Common.{◌≡◌, ◌∙◌, List, Bool, map, length, ap, sym, subst, refl, true, false, arith, eq-eqb}
-use Rattle.std.specs.Prelude.{◌&&◌, eqb}
-use Rattle.sim_base.specs.declared.signal.Drive.{Drive}
-use Rattle.sim_base.specs.declared.signal.Level.{Level}
-use Rattle.board_model.specs.Board.{levels_of}
-use Rattle.board_model.specs.Rows.{same_list, same_level, same_drive, chip_drives_of}
-use Rattle.net_resolve.specs.NetsView.{NetsView}
-use Rattle.net_resolve.specs.Watched.{flagged}
-use Rattle.net_resolve.proofs.ReachLemmas.{any_at}
-use Rattle.board_run.specs.Parts.{AreOn}
-use Rattle.board_run.specs.ReadingView.{ReadingView, pin_flags}
+use Rattle.board_run.proofs.Common.{◌≡◌, ◌∙◌, List, Bool, map, length, ap, sym, subst, refl, true, false, arith, eq-eqb, ◌&&◌, eqb, Drive, Level, levels_of}
+use Rattle.board_run.proofs.Common.{same_list, same_level, same_drive, chip_drives_of, NetsView, flagged, any_at, AreOn, ReadingView, pin_flags}
 use Rattle.board_run.proofs.GatherLemmas.{flagged_chips}
 use Rattle.board_run.proofs.PartLemmas.{differ_is}
 use Rattle.board_run.proofs.ShowLemmas.{fresh_same}
@@ -31,17 +22,12 @@ returns-then-self g c =
     let new = c.read.new.self.circuit in
     let r = c.read.ensures in
     let circuit = ap (λ (v : ReadingView). v.circuit) r.rest in
-    let a = wired.nets in
-    let b = wired.net_of in
-    let d = wired.contacts in
-    let f = wired.resistors in
     let ds = l.told.drives_are in
-    let cs = l.told.closed_are in
     let resolved = ap (λ (x : NetsView). x.levels) circuit in
     let levels : new.levels ≡ levels_of m w ss = cc in
     let kept : new.kept ≡ chip_drives_of m w.chip ss = ap (λ (x : NetsView). x.kept) circuit ∙ ap (λ (flags : List Bool). flagged flags old.drives) wired.watched
     ∙ ap (flagged (pin_flags w.chip w.first_pin (length w.net_of))) ds ∙ flagged_chips m w ss l.fits in
-    let nets : new.nets ≡ w.nets = ap (λ (x : NetsView). x.nets) circuit ∙ a in
+    let nets : new.nets ≡ w.nets = ap (λ (x : NetsView). x.nets) circuit ∙ wired.nets in
     let later : length new.levels ≡ w.nets = r.long ∙ nets in
     record {
       rest = refl;
@@ -49,9 +35,9 @@ returns-then-self g c =
         suits = record {
           wired = record {
             nets = nets;
-            net_of = ap (λ (x : NetsView). x.net_of) circuit ∙ b;
-            contacts = ap (λ (x : NetsView). x.contacts) circuit ∙ d;
-            resistors = ap (λ (x : NetsView). x.resistors) circuit ∙ f;
+            net_of = ap (λ (x : NetsView). x.net_of) circuit ∙ wired.net_of;
+            contacts = ap (λ (x : NetsView). x.contacts) circuit ∙ wired.contacts;
+            resistors = ap (λ (x : NetsView). x.resistors) circuit ∙ wired.resistors;
             levels_long = later;
             watched = ap (λ (x : NetsView). x.watched) circuit ∙ wired.watched;
           };
@@ -62,7 +48,7 @@ returns-then-self g c =
         };
         of = record {
           drives_are = ap (λ (x : NetsView). x.drives) circuit ∙ ds;
-          closed_are = ap (λ (x : NetsView). x.closed) circuit ∙ cs;
+          closed_are = ap (λ (x : NetsView). x.closed) circuit ∙ l.told.closed_are;
           levels_are = levels;
           chips_are = kept;
         };
@@ -78,12 +64,11 @@ pub returns-else-self : goal.returns-else-self
 returns-else-self g c =
     let p = g.P.Part in
     let e = c.args.self.now in
-    let l = c.requires.lags in
-    let is = l.fresh c.if-self.false in
+    let is = c.requires.lags.fresh c.if-self.false in
     record {
       rest = refl;
       read = record {
-        suits = l.suits;
+        suits = c.requires.lags.suits;
         of = is;
         changed = λ (new : true ≡ false). absurd cc;
         same_is = fresh_same p.machine e.wiring (map p.state e.parts) e.reading is;

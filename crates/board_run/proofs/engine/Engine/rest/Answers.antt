@@ -1,6 +1,4 @@
-use Rattle.std.proofs.Common.{◌≡◌, None, Some, subst, sym, ap, refl, arith, ◌∙◌}
-use Rattle.board_run.specs.Engine.{MayRun, MayStretch, Rests}
-use Rattle.board_run.specs.declared.engine.Engine.{Engine}
+use Rattle.board_run.proofs.Common.{◌≡◌, None, Some, subst, sym, ap, refl, arith, ◌∙◌, MayRun, MayStretch, Rests, Engine}
 use Rattle.board_run.proofs.EngineLemmas.{rests_next}
 use Rattle.board_run.proofs.engine.Engine.rest.Goals as goal
 
@@ -18,12 +16,10 @@ stretch-requires g c =
 pub returns-in-Some : goal.returns-in-Some
 returns-in-Some g c =
     let p = g.P.Part in
-    let found = c.find_alone.ensures.alone (c.in-Some.who, c.in-Some.limit) c.in-Some.is in
-    let new = c.stretch.new in
     let e = c.stretch.ensures in
     record {
-      within = omega (arith, e.within, found.within);
-      rests = subst (λ (x : Engine g.row.P.Denot). Rests p x new.self c.args.steps.now new.steps) c.find_alone.ensures.same
+      within = omega (arith, e.within, (c.find_alone.ensures.alone (c.in-Some.who, c.in-Some.limit) c.in-Some.is).within);
+      rests = subst (λ (x : Engine g.row.P.Denot). Rests p x c.stretch.new.self c.args.steps.now c.stretch.new.steps) c.find_alone.ensures.same
           (record { on = e.showed.on; steady = λ _. e.steady; stays = λ is. (let far = e.further in absurd (omega (arith, far, is))) });
     }
 
@@ -39,11 +35,10 @@ pub returns-in-None : goal.returns-in-None
 returns-in-None g c =
     let p = g.P.Part in
     let e = c.find_alone.new.self in
-    let next = c.skip.ensures.next in
     let may = subst (λ (e : Engine g.row.P.Denot). MayRun g.P.Part e) (sym c.find_alone.ensures.same) c.requires.may in
     record {
-      within = next.within;
+      within = c.skip.ensures.next.within;
       rests = subst (λ (x : Engine g.row.P.Denot). Rests p x c.skip.new.self c.args.steps.now c.args.steps.now) c.find_alone.ensures.same
           (subst (λ (x : Engine g.row.P.Denot). Rests p e x c.args.steps.now c.args.steps.now) (sym c.skip.ensures.rest)
-          (rests_next p g.met.P.Part.laws e c.args.n c.skip.new.self.cycle c.args.steps.now may next c.requires.end));
+          (rests_next p g.met.P.Part.laws e c.args.n c.skip.new.self.cycle c.args.steps.now may c.skip.ensures.next c.requires.end));
     }

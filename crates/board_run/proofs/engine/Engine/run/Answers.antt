@@ -40,9 +40,8 @@ returns-in-Failed g c =
 
 pub returns : goal.returns
 returns g c =
-    let l = c.loop-self in
     record {
-      within = l.invariant.within;
-      cycle = λ _. (let most = l.invariant.within in omega (arith, most, c.loop-self-test.false));
-      showed = l.invariant.showed;
+      within = c.loop-self.invariant.within;
+      cycle = λ _. (let most = c.loop-self.invariant.within in omega (arith, most, c.loop-self-test.false));
+      showed = c.loop-self.invariant.showed;
     }

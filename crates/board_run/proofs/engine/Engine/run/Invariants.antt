@@ -1,6 +1,5 @@
-use Rattle.std.proofs.Common.{◌-◌, ◌≤◌}
+use Rattle.board_run.proofs.Common.{◌-◌, ◌≤◌, Showed}
 use Rattle.sim_base.specs.declared.bench.WriteEnd.TheVariants as writes
-use Rattle.board_run.specs.Engine.{Showed}
 use Rattle.board_run.proofs.engine.Engine.run.Given as goal
 
 abbrev pub invariant-loop-self : goal.invariant-loop-self

@@ -1,13 +1,6 @@
-use Rattle.std.proofs.Common.{◌-◌, ◌<◌, ◌≤◌, ◌∙◌, ◌≡◌, ap, sym, refl, subst, arith, ℕ, List, length, inl, inr, Option, length-set}
-use Rattle.std.specs.Prelude.{slice_get, slice_set}
-use Rattle.std.proofs.lemmas.Option.{slice_get_within}
-use Rattle.sim_base.specs.declared.limits.TheConstants.{MOST_CYCLES}
-use Rattle.part_law.specs.Machine.{IsQuiet}
-use Rattle.board_model.proofs.Lists.{done_none, done_more, done_all, some_same, get_set_same, get_set_other}
-use Rattle.board_run.specs.Lagging.{glided}
-use Rattle.board_run.specs.Legs.{AreAt}
-use Rattle.board_run.specs.Engine.{kept_of}
-use Rattle.board_run.specs.declared.engine.Engine.{Engine}
+use Rattle.board_run.proofs.Common.{◌-◌, ◌<◌, ◌≤◌, ◌∙◌, ◌≡◌, ap, sym, refl, subst, arith, ℕ, List, length, inl, inr, Option, length-set, slice_get, slice_set}
+use Rattle.board_run.proofs.Common.{slice_get_within, MOST_CYCLES, IsQuiet, done_none, done_more, done_all, some_same, get_set_same, get_set_other, glided}
+use Rattle.board_run.proofs.Common.{AreAt, kept_of, Engine}
 use Rattle.board_run.proofs.TurnLemmas.{at_set}
 use Rattle.board_run.proofs.LegLemmas.{may_settle, now_settled}
 use Rattle.board_run.proofs.engine.Engine.settle.Goals as goal
@@ -33,7 +26,6 @@ settle_one-due-requires g c =
 pub loop-i-preserved : goal.loop-i-preserved
 loop-i-preserved g c =
     let p = g.P.Part in
-    let e = c.args.self.now in
     let l = c.loop-i in
     let i = l.i in
     let inv = l.invariant in
@@ -47,7 +39,7 @@ loop-i-preserved g c =
     let set = c.set.ensures in
     record {
       same = ap (λ (x : Engine g.row.P.Denot). let y : Engine g.row.P.Denot = record x { parts = slice_set l.self.parts i z; dues = c.set.new.self } in y) inv.same;
-      parts = done_more _ i e.parts l.self.parts x z inv.parts (omega (arith, here, inv.parts.long)) old
+      parts = done_more _ i c.args.self.now.parts l.self.parts x z inv.parts (omega (arith, here, inv.parts.long)) old
           (subst (λ (t : ℕ). (p.state z ≡ glided p.machine p.state p.now p.wake_count t x) × (p.now z ≡ t) × (p.wake_count z ≡ p.wake_count x)) cycle (s.ensures.state, s.ensures.now, s.ensures.wake_count));
       long = ap length set ∙ length-set l.self.dues i s.result ∙ inv.long;
       due = λ k y d less ey ed.

@@ -1,8 +1,4 @@
-use Rattle.std.proofs.Common.{◌≡◌, ◌<◌, ℕ, Some, length, Option}
-use Rattle.std.specs.Prelude.{slice_get}
-use Rattle.part_law.specs.Machine.{IsFirstDue}
-use Rattle.board_model.proofs.Lists.{Done}
-use Rattle.board_run.specs.Lagging.{glided}
+use Rattle.board_run.proofs.Common.{◌≡◌, ◌<◌, ℕ, Some, length, Option, slice_get, IsFirstDue, Done, glided}
 use Rattle.board_run.proofs.engine.Engine.settle.Given as goal
 
 -- the parts before i are at the cycle

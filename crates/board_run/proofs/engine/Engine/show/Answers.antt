@@ -1,10 +1,5 @@
-use Rattle.std.proofs.Common.{◌+◌, ◌∙◌, [], ◌∷◌, map, ap, sym, refl, subst, List}
-use Rattle.std.specs.Prelude.{◌==◌, ◌||◌, not, if◌then◌else◌}
-use Rattle.std.proofs.lemmas.Bool.{or_parts, not-false}
-use Rattle.sim_base.specs.Rows.{Row, Handed, Appends, IsBehind}
-use Rattle.sim_base.specs.declared.signal.Level.{Level}
-use Rattle.sim_base.specs.declared.signal.Drive.{Drive}
-use Rattle.board_run.specs.ReadingView.{ReadingView}
+use Rattle.board_run.proofs.Common.{◌+◌, ◌∙◌, [], ◌∷◌, map, ap, sym, refl, subst, List, ◌==◌, ◌||◌, not, if◌then◌else◌, or_parts, not-false, Row, Handed}
+use Rattle.board_run.proofs.Common.{Appends, IsBehind, Level, Drive, ReadingView}
 use Rattle.board_run.proofs.ShowLemmas.{row_is, same_still}
 use Rattle.board_run.proofs.engine.Engine.show.Goals as goal
 

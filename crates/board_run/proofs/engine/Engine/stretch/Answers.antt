@@ -1,13 +1,5 @@
-use Rattle.std.proofs.Common.{◌≡◌, ◌-◌, ◌∙◌, ap, arith, sym, refl, subst, ℕ, ◌≤◌, List, [], ◌∷◌, Option, get_or, length-set}
-use Rattle.std.specs.Prelude.{slice_set}
-use Rattle.sim_base.specs.Rows.{Row, Handed, StopsWithin}
-use Rattle.part_law.specs.Machine.{sent}
-use Rattle.part_law.proofs.MachineLemmas.{glide_drives, glide_contacts}
-use Rattle.board_model.specs.Board.{options}
-use Rattle.board_run.specs.ReadingView.{ReadingView}
-use Rattle.board_run.specs.Lagging.{glided}
-use Rattle.board_run.specs.Engine.{kept_of, rows_to, Showed}
-use Rattle.board_run.specs.declared.engine.Engine.{Engine}
+use Rattle.board_run.proofs.Common.{◌≡◌, ◌-◌, ◌∙◌, ap, arith, sym, refl, subst, ℕ, ◌≤◌, List, [], ◌∷◌, Option, get_or, length-set, slice_set, Row, Handed}
+use Rattle.board_run.proofs.Common.{StopsWithin, sent, glide_drives, glide_contacts, options, ReadingView, glided, kept_of, rows_to, Showed, Engine}
 use Rattle.board_run.proofs.AloneLemmas.{went_replaces, Goes, alone_goes}
 use Rattle.board_run.proofs.TurnLemmas.{turned_others}
 use Rattle.board_run.proofs.HandLemmas.{one_byte, stops_whole}

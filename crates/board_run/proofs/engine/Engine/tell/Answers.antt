@@ -1,11 +1,5 @@
-use Rattle.std.proofs.Common.{arith, ◌≡◌, ◌<◌, ◌∙◌, List, length, map, take, refl, sym, ap, subst, true, false, inl, inr}
-use Rattle.std.specs.Prelude.{slice_get}
-use Rattle.std.proofs.lemmas.Bool.{false_from_ne_true, or_cases, or_parts}
-use Rattle.sim_base.specs.declared.signal.Drive.{Drive}
-use Rattle.net_resolve.specs.NetsView.{NetsView}
-use Rattle.board_model.specs.Board.{contacts_of}
-use Rattle.board_model.proofs.Lists.{some_same, some_map, flat_map_room}
-use Rattle.board_run.specs.ReadingView.{ReadingView, HasAt, retold}
+use Rattle.board_run.proofs.Common.{arith, ◌≡◌, ◌<◌, ◌∙◌, List, length, map, take, refl, sym, ap, subst, true, false, inl, inr, slice_get, false_from_ne_true}
+use Rattle.board_run.proofs.Common.{or_cases, or_parts, Drive, NetsView, contacts_of, some_same, some_map, flat_map_room, ReadingView, HasAt, retold}
 use Rattle.board_run.proofs.GatherLemmas.{item_at}
 use Rattle.board_run.proofs.ReadLemmas.{put_there}
 use Rattle.board_run.proofs.TurnLemmas.{placed}
@@ -41,9 +35,8 @@ pub tell_contacts-contacts-requires : goal.tell_contacts-contacts-requires
 tell_contacts-contacts-requires g c =
     let p = g.P.Part in
     let e = c.args.self.now in
-    let i = c.args.i in
     let may = c.requires.may in
-    let at = placed p.machine e.wiring p.state i c.args.first may.before e.parts e.reading.circuit may.p may.q may.replaced c.requires.first in
+    let at = placed p.machine e.wiring p.state c.args.i c.args.first may.before e.parts e.reading.circuit may.p may.q may.replaced c.requires.first in
     let circuit = ap (λ (v : ReadingView). v.circuit) c.reading.view_is in
     let contacts = ap (λ (n : NetsView). n.contacts) c.set_pins-pins.ensures.rest ∙ ap (λ (n : NetsView). n.contacts) circuit ∙ may.suits.wired.contacts in
     record {

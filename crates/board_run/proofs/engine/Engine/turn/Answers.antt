@@ -1,16 +1,7 @@
-use Rattle.std.proofs.Common.{arith, ◌≡◌, ◌<◌, ◌≤◌, ◌+◌, ◌-◌, ◌∙◌, ℕ, List, length, map, take, drop, sym, ap, subst, Bool, Option, None, Some, true, false, refl, length-set}
-use Rattle.std.specs.Prelude.{◌||◌, slice_get, slice_set}
-use Rattle.std.proofs.lemmas.Bool.{ltb-true}
-use Rattle.sim_base.specs.declared.wiring.Input.{Input}
-use Rattle.board_laws.specs.Active.{sum_below, active_in}
-use Rattle.board_model.specs.Board.{input_at}
-use Rattle.board_model.proofs.Lists.{get_set_same}
-use Rattle.board_run.specs.declared.part_set.PartSet.{PartSet}
-use Rattle.board_run.specs.declared.engine.Engine.{Engine}
-use Rattle.board_run.specs.ReadingView.{ReadingView, Suits, IsTold, levels_on, retold}
-use Rattle.board_run.specs.Lagging.{TookTurn, Turns, AreLate}
-use Rattle.board_run.specs.Parts.{has_part, AreNone}
-use Rattle.board_run.specs.Engine.{given, MayTurnPart, TurnedPart}
+use Rattle.board_run.proofs.Common.{arith, ◌≡◌, ◌<◌, ◌≤◌, ◌+◌, ◌-◌, ◌∙◌, ℕ, List, length, map, take, drop, sym, ap, subst, Bool, Option, None, Some, true}
+use Rattle.board_run.proofs.Common.{false, refl, length-set, ◌||◌, slice_get, slice_set, ltb-true, Input, sum_below, active_in, input_at, get_set_same}
+use Rattle.board_run.proofs.Common.{PartSet, Engine, ReadingView, Suits, IsTold, levels_on, retold, TookTurn, Turns, AreLate, has_part, AreNone, given}
+use Rattle.board_run.proofs.Common.{MayTurnPart, TurnedPart}
 use Rattle.board_run.proofs.ReadLemmas.{retold_suits}
 use Rattle.board_run.proofs.WakeLemmas.{silent_more, nothing_there}
 use Rattle.board_run.proofs.NextLemmas.{dues_late}

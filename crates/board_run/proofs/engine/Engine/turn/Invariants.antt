@@ -1,12 +1,5 @@
-use Rattle.std.proofs.Common.{◌≡◌, ◌≢◌, ◌+◌, ◌-◌, ◌<◌, ◌≤◌, ℕ, List, length, map, Some, true, false}
-use Rattle.std.specs.Prelude.{slice_get}
-use Rattle.sim_base.specs.declared.wiring.Input.{Input}
-use Rattle.board_laws.specs.Active.{sum_below, active_in}
-use Rattle.board_model.specs.Fits.{Fits}
-use Rattle.board_run.specs.ReadingView.{IsTold, retold}
-use Rattle.board_run.specs.Parts.{has_part, AreNone}
-use Rattle.board_run.specs.Lagging.{Awaits, Turns, AreDue, AreLate}
-use Rattle.board_run.specs.Engine.{given}
+use Rattle.board_run.proofs.Common.{◌≡◌, ◌≢◌, ◌+◌, ◌-◌, ◌<◌, ◌≤◌, ℕ, List, length, map, Some, true, false, slice_get, Input, sum_below, active_in, Fits}
+use Rattle.board_run.proofs.Common.{IsTold, retold, has_part, AreNone, Awaits, Turns, AreDue, AreLate, given}
 use Rattle.board_run.proofs.TurnLemmas.{Begun}
 use Rattle.board_run.proofs.engine.Engine.turn.Given as goal
 

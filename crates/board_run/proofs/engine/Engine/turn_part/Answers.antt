@@ -1,8 +1,4 @@
-use Rattle.std.proofs.Common.{◌∙◌, arith, ℕ, List, length, map, ap, sym, subst, get_or, length-set}
-use Rattle.std.specs.Prelude.{slice_index}
-use Rattle.board_model.specs.Fits.{Fits}
-use Rattle.board_run.specs.ReadingView.{IsTold, retold}
-use Rattle.board_run.specs.declared.engine.Engine.{Engine}
+use Rattle.board_run.proofs.Common.{◌∙◌, arith, ℕ, List, length, map, ap, sym, subst, get_or, length-set, slice_index, Fits, IsTold, retold, Engine}
 use Rattle.board_run.proofs.EngineLemmas.{turn_replaces, turn_tells}
 use Rattle.board_run.proofs.engine.Engine.turn_part.Goals as goal
 
@@ -44,11 +40,7 @@ returns g c =
       rest = told.rest ∙ ap (λ (x : Engine g.row.P.Denot). retold x.reading new.reading.circuit.drives new.reading.circuit.closed) at.same;
       fits = subst (λ (x : Engine g.row.P.Denot). Fits m x.wiring (map p.state x.parts)) at.same told.fits;
       told = subst (λ (x : Engine g.row.P.Denot). IsTold m (map p.state x.parts) new.reading.circuit) at.same told.told;
-      took = record {
-        touched = w.result.changed;
-        turn = at.turn.turn;
-        shifted = shifted;
-      };
+      took = record { touched = w.result.changed; turn = at.turn.turn; shifted = shifted };
       first = at.turn.first;
       later = at.turn.later;
       steps_are = at.turn.steps_are;

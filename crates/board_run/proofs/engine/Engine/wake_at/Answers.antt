@@ -1,12 +1,5 @@
 use Rattle.std.proofs.Common.{arith, ◌≡◌, ◌-◌, ◌≤◌, ◌∙◌, ℕ, List, length, map, take, drop, refl, sym, ap, subst, Option, Some, None, rules, length-take-le}
-use Rattle.std.specs.Prelude.{slice_set}
-use Rattle.event_queue.proofs.TreeLemmas.{set_same}
-use Rattle.sim_base.specs.declared.wiring.Input.{Input}
-use Rattle.board_model.specs.Board.{input_at}
-use Rattle.board_model.proofs.Lists.{some_map}
-use Rattle.board_run.specs.ReadingView.{ReadingView, levels_on}
-use Rattle.board_run.specs.Lagging.{MayTurn}
-use Rattle.board_run.specs.declared.engine.Engine.{Engine}
+use Rattle.board_run.proofs.Common.{slice_set, set_same, Input, input_at, some_map, ReadingView, levels_on, MayTurn, Engine}
 use Rattle.board_run.proofs.StepLemmas.{fits_pins}
 use Rattle.board_run.proofs.GatherLemmas.{own_levels, length_rest}
 use Rattle.board_run.proofs.TurnLemmas.{some_there}
@@ -50,39 +43,32 @@ room g c =
 pub hear_levels-requires : goal.hear_levels-requires
 hear_levels-requires g c =
     let may = c.requires.may in
-    let x = c.item_mut-part.result.now in
-    let is = c.item_mut-part.ensures.value in
     let after = (goal.at.hear_levels-requires g c).After-item_mut-part in
     record {
       end = may.end;
-      may = may.may x c.due-due.result is c.due-due.ensures;
+      may = may.may c.item_mut-part.result.now c.due-due.result c.item_mut-part.ensures.value c.due-due.ensures;
       pins = room g after;
-      differs = λ hears later same. may.differs x is (may.hears hears).0 later (same ∙ own g after);
+      differs = λ hears later same. may.differs c.item_mut-part.result.now c.item_mut-part.ensures.value (may.hears hears).0 later (same ∙ own g after);
     }
 
 pub returns-in-Some : goal.returns-in-Some
 returns-in-Some g c =
     let p = g.P.Part in
-    let e = c.args.self.now in
-    let i = c.args.i in
-    let x = c.item_mut-part.result.now in
-    let y = c.hear_levels.new.part in
-    let touched = c.in-Some.touched in
-    let asked = c.hear_levels.ensures.asked touched c.in-Some.is in
+    let asked = c.hear_levels.ensures.asked c.in-Some.touched c.in-Some.is in
     let hears = c.requires.may.hears asked.0 in
     let due = c.due-due.ensures ∙ ap Some asked.1 in
     let own_is = own g (goal.at.returns-in-Some g c).After-item_mut-part in
     record {
-      p = x;
-      q = y;
+      p = c.item_mut-part.result.now;
+      q = c.hear_levels.new.part;
       d = None;
       e = None;
       byte = None;
       was = c.item_mut-part.ensures.value;
       due_was = due;
-      same = rw (set_same e.dues i None due, set_same e.answers i None hears.2) refl;
+      same = rw (set_same c.args.self.now.dues c.args.i None due, set_same c.args.self.now.answers c.args.i None hears.2) refl;
       sent_is = refl;
-      turn = rw (hears.1, hears.0, ← own_is) (c.hear_levels.ensures.turned touched c.in-Some.is);
+      turn = rw (hears.1, hears.0, ← own_is) (c.hear_levels.ensures.turned c.in-Some.touched c.in-Some.is);
     }
 
 pub slice_bounds-take_turn_on-end : goal.slice_bounds-take_turn_on-end
@@ -122,7 +108,6 @@ returns g c =
     let turn = c.take_turn_on-byte in
     let z = turn.new.part in
     let byte = turn.result.0 in
-    let d = c.due-due.result in
     let stays = c.in_default.ensures.stays refl in
     let own_is = own g (goal.at.returns g c).After-item_mut-part in
     let levels = take (length c.pin_levels.result.now - c.args.first) (drop c.args.first c.pin_levels.result.now) in
@@ -131,7 +116,7 @@ returns g c =
     record {
       p = x;
       q = z;
-      d = d;
+      d = c.due-due.result;
       e = turn.new.due;
       byte = byte;
       was = c.item_mut-part.ensures.value;

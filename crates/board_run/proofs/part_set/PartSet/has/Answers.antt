@@ -1,6 +1,4 @@
-use Rattle.std.proofs.Common.{ap}
-use Rattle.std.specs.Prelude.{◌==◌}
-use Rattle.std.proofs.lemmas.Nat.Bits.{shr_and_one}
+use Rattle.board_run.proofs.Common.{ap, ◌==◌, shr_and_one}
 use Rattle.board_run.proofs.part_set.PartSet.has.Goals as goal
 
 pub returns : goal.returns

@@ -1,6 +1,4 @@
-use Rattle.std.proofs.Common.{◌≡◌, ◌+◌, ℕ, arith, ap, ◌∙◌}
-use Rattle.std.specs.Prelude.{◌==◌}
-use Rattle.std.specs.Int.{bit_at}
+use Rattle.board_run.proofs.Common.{◌≡◌, ◌+◌, ℕ, arith, ap, ◌∙◌, ◌==◌, bit_at}
 use Rattle.board_run.proofs.PartLemmas.{none_from, none_before, one_at}
 use Rattle.board_run.proofs.part_set.PartSet.next.Goals as goal
 
