@@ -1,6 +1,6 @@
 -- Sections are proper.
 use Rattle.std.proofs.Common.{◌≡◌, ℕ, ◌-◌, ◌<◌, List, ◌++◌, length, take, false, sym, ap, subst, ◌∙◌, arith, ◌⊎◌, ⊎_elim, append_assoc, length-append}
-use Rattle.std.specs.Prelude.{◌==◌, Result, Ok, Err, IsOkAnd, MatchResult}
+use Rattle.std.specs.Prelude.{◌==◌}
 use Rattle.sim_base.specs.declared.fault.Fault.{Fault}
 use Rattle.sim_base.specs.Refusals.{WasmCut, WasmLeb}
 use Rattle.wasm_text.specs.declared.reader.Reader.{Reader}
@@ -9,7 +9,7 @@ use Rattle.wasm_text.specs.Leb.{u32}
 use Rattle.wasm_text.specs.Lists.{vec, vec_to, sized}
 use Rattle.wasm_text.specs.Names.{name}
 use Rattle.wasm_text.specs.Proper.{IsOnce, Proper}
-use Rattle.wasm_text.specs.Reads.{Reads, Decodes}
+use Rattle.wasm_text.specs.Reads.{Reads, Fails}
 use Rattle.wasm_text.proofs.Steps.{stops, then_reads, given}
 use Rattle.wasm_text.proofs.Exact.{give_proper, byte_proper, then_proper, unsigned_proper, vec_proper, vec_to_proper, choose_proper, sized_proper}
 use Rattle.wasm_text.proofs.Cuts.{take_front, rest_is, recut, whole_is, same_length}
@@ -17,6 +17,7 @@ use Rattle.wasm_text.proofs.Once.{then_once}
 use Rattle.wasm_code.specs.TypeText.{func_type, limits, table_type}
 use Rattle.wasm_code.proofs.LimitsLemmas.{limits_proper}
 use Rattle.wasm_code.proofs.TypeLemmas.{func_type_proper, table_type_proper}
+use Rattle.wasm_decode.specs.declared.module.Body.{Body}
 use Rattle.wasm_decode.specs.declared.module.Module.{Module}
 use Rattle.wasm_decode.specs.declared.progress.Progress.{Progress}
 use Rattle.wasm_decode.specs.declared.progress.Section.{Section}
@@ -105,15 +106,13 @@ section_some s a x t = omega (arith, ap length t.3, length-append t.0 t.1, ap le
 pub section_shrinks : (s : Progress) (old new : Reader) (x : Section) → Reads (section s) old new x → length new.rest.now < length old.rest.now
 section_shrinks s old new x h = omega (arith, ap length h.2.parts, length-append h.0 new.rest.now, section_some s h.0 x h.1)
 
--- the section of what was read, or where that broke
-made : {X : Type 0} (p : Form X) (make : X → Section) (old new : Reader) (r : Result X Fault) (s : Result Section Fault) → Decodes p r old new → MatchResult r (λ x. IsOkAnd s (λ y. y ≡ make x)) (λ e. s ≡ Err e) → Decodes (p >>= (λ x. give (make x))) s old new
-made p make old new (Ok x) (Ok y) h e =
-    subst (λ (z : Section). Reads (p >>= (λ x. give (make x))) old new z) (sym e) (then_reads p (λ x. give (make x)) old new new x (make x) h (given (make x) new))
-made p make old new (Ok x) (Err f) h e = absurd e
-made p make old new (Err f) s h e =
-    subst (λ (z : Result Section Fault). Decodes (p >>= (λ x. give (make x))) z old new) (sym e) (stops p (λ x. give (make x)) old f h)
+-- the content of the section of bodies
+pub bodies_read : (m : Module) (id : ℕ) (old new : Reader) (xs : List Body) → id ≡ 10 → Reads (bodies m.types m.functions) old new xs → Reads (content m id) old new (sections.Bodies xs)
+bodies_read m id old new xs q h =
+    subst (λ (z : ℕ). Reads (content m z) old new (sections.Bodies xs)) (sym q)
+    (then_reads (bodies m.types m.functions) (λ x. give (sections.Bodies x)) old new new xs (sections.Bodies xs) h (given (sections.Bodies xs) new))
 
--- the content of the section that an id says
-pub content_made : {X : Type 0} (p : Form X) (make : X → Section) (m : Module) (id k : ℕ) (old new : Reader) (r : Result X Fault) (s : Result Section Fault) → id ≡ k → content m k ≡ (p >>= (λ x. give (make x))) → Decodes p r old new → MatchResult r (λ x. IsOkAnd s (λ y. y ≡ make x)) (λ e. s ≡ Err e) → Decodes (content m id) s old new
-content_made p make m id k old new r s q f h e =
-    subst (λ (z : ℕ). Decodes (content m z) s old new) (sym q) (subst (λ (z : Form Section). Decodes z s old new) (sym f) (made p make old new r s h e))
+-- where it breaks
+pub bodies_fail : (m : Module) (id : ℕ) (old : Reader) (e : Fault) → id ≡ 10 → Fails (bodies m.types m.functions) old e → Fails (content m id) old e
+bodies_fail m id old e q h =
+    subst (λ (z : ℕ). Fails (content m z) old e) (sym q) (stops (bodies m.types m.functions) (λ x. give (sections.Bodies x)) old e h)

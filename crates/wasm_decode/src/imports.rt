@@ -89,22 +89,22 @@ fn import_desc(reader: &mut Reader, kind: Extern) -> Result<ImportDesc, Fault>
     ensures { Decodes (desc_form kind) result reader.old reader.new }
 {
     match kind {
-        Extern::Function => {
-            let n = index(reader)?;
-            Ok(ImportDesc::Function(n))
-        }
-        Extern::Table => {
-            let l = table_limits(reader)?;
-            Ok(ImportDesc::Table(l))
-        }
-        Extern::Memory => {
-            let l = read_limits(reader)?;
-            Ok(ImportDesc::Memory(l))
-        }
-        Extern::Global => {
-            let g = read_global_type(reader)?;
-            Ok(ImportDesc::Global(g))
-        }
+        Extern::Function => match index(reader) {
+            Ok(n) => Ok(ImportDesc::Function(n)),
+            Err(fault) => Err(fault),
+        },
+        Extern::Table => match table_limits(reader) {
+            Ok(l) => Ok(ImportDesc::Table(l)),
+            Err(fault) => Err(fault),
+        },
+        Extern::Memory => match read_limits(reader) {
+            Ok(l) => Ok(ImportDesc::Memory(l)),
+            Err(fault) => Err(fault),
+        },
+        Extern::Global => match read_global_type(reader) {
+            Ok(g) => Ok(ImportDesc::Global(g)),
+            Err(fault) => Err(fault),
+        },
     }
 }
 

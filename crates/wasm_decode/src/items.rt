@@ -4,6 +4,7 @@ use crate::module::{DataSegment, ElementSegment, Export, GlobalDef};
 use sim_base::Fault;
 use sim_base::refusals::WASM_TYPE;
 use std::alloc::Global;
+use std::mem::drop;
 use wasm_code::read_global_type;
 use wasm_text::{Decode, Reader, byte_list, index, judged, list, read_name, tag};
 
@@ -13,9 +14,13 @@ impl Decode for GlobalDef {
     ghost form = { global };
 
     fn decode(alloc: Global, reader: &mut Reader) -> Result<GlobalDef, Fault> {
-        let kind = read_global_type(reader)?;
-        let init = read_expr(alloc, reader)?;
-        Ok(GlobalDef { kind, init })
+        match read_global_type(reader) {
+            Ok(kind) => match read_expr(alloc, reader) {
+                Ok(init) => Ok(GlobalDef { kind, init }),
+                Err(fault) => Err(fault),
+            },
+            Err(fault) => Err(fault),
+        }
     }
 }
 
@@ -40,8 +45,13 @@ impl Decode for ElementSegment {
     fn decode(alloc: Global, reader: &mut Reader) -> Result<ElementSegment, Fault> {
         tag(reader, 0x00, WASM_TYPE)?;
         let offset = read_expr(alloc, reader)?;
-        let functions = list(alloc, reader)?;
-        Ok(ElementSegment { offset, functions })
+        match list(alloc, reader) {
+            Ok(functions) => Ok(ElementSegment { offset, functions }),
+            Err(fault) => {
+                drop(offset);
+                Err(fault)
+            }
+        }
     }
 }
 
@@ -53,7 +63,12 @@ impl Decode for DataSegment {
     fn decode(alloc: Global, reader: &mut Reader) -> Result<DataSegment, Fault> {
         tag(reader, 0x00, WASM_TYPE)?;
         let offset = read_expr(alloc, reader)?;
-        let bytes = byte_list(alloc, reader)?;
-        Ok(DataSegment { offset, bytes })
+        match byte_list(alloc, reader) {
+            Ok(bytes) => Ok(DataSegment { offset, bytes }),
+            Err(fault) => {
+                drop(offset);
+                Err(fault)
+            }
+        }
     }
 }

@@ -94,21 +94,57 @@ fn sized(alloc: Global, reader: &mut Reader, known: &Module, id: u8) -> Result<S
 fn content(alloc: Global, reader: &mut Reader, known: &Module, id: u8) -> Result<Section, Fault>
     ensures { Decodes (content_form known.now id) result reader.old reader.new }
 {
+    // By match: what is passed to `map` is proved as a function for each section.
     match id {
-        1 => list_to(alloc, reader, ITEMS).map(Section::Types),
-        2 => imports(alloc, reader).map(Section::Imports),
-        3 => list_to(alloc, reader, room_for_functions(known)).map(Section::Functions),
-        4 => tables(alloc, reader).map(Section::Tables),
-        5 => list(alloc, reader).map(Section::Memories),
-        6 => list_to(alloc, reader, ITEMS).map(Section::Globals),
-        7 => list_to(alloc, reader, ITEMS).map(Section::Exports),
-        8 => index(reader).map(Section::Start),
-        9 => list_to(alloc, reader, SEGMENTS).map(Section::Elements),
-        10 => {
-            let types = known.types.as_slice();
-            bodies(alloc, reader, types, known.functions.as_slice()).map(Section::Bodies)
-        }
-        _ => list_to(alloc, reader, SEGMENTS).map(Section::Segments),
+        1 => match list_to(alloc, reader, ITEMS) {
+            Ok(types) => Ok(Section::Types(types)),
+            Err(fault) => Err(fault),
+        },
+        2 => match imports(alloc, reader) {
+            Ok(imports) => Ok(Section::Imports(imports)),
+            Err(fault) => Err(fault),
+        },
+        3 => match list_to(alloc, reader, room_for_functions(known)) {
+            Ok(functions) => Ok(Section::Functions(functions)),
+            Err(fault) => Err(fault),
+        },
+        4 => match tables(alloc, reader) {
+            Ok(tables) => Ok(Section::Tables(tables)),
+            Err(fault) => Err(fault),
+        },
+        5 => match list(alloc, reader) {
+            Ok(memories) => Ok(Section::Memories(memories)),
+            Err(fault) => Err(fault),
+        },
+        6 => match list_to(alloc, reader, ITEMS) {
+            Ok(globals) => Ok(Section::Globals(globals)),
+            Err(fault) => Err(fault),
+        },
+        7 => match list_to(alloc, reader, ITEMS) {
+            Ok(exports) => Ok(Section::Exports(exports)),
+            Err(fault) => Err(fault),
+        },
+        8 => match index(reader) {
+            Ok(function) => Ok(Section::Start(function)),
+            Err(fault) => Err(fault),
+        },
+        9 => match list_to(alloc, reader, SEGMENTS) {
+            Ok(elements) => Ok(Section::Elements(elements)),
+            Err(fault) => Err(fault),
+        },
+        10 => match bodies(
+            alloc,
+            reader,
+            known.types.as_slice(),
+            known.functions.as_slice(),
+        ) {
+            Ok(bodies) => Ok(Section::Bodies(bodies)),
+            Err(fault) => Err(fault),
+        },
+        _ => match list_to(alloc, reader, SEGMENTS) {
+            Ok(segments) => Ok(Section::Segments(segments)),
+            Err(fault) => Err(fault),
+        },
     }
 }
 

@@ -8,10 +8,8 @@ returns-in_err-offset c =
     let p = err_from_is_err_and c.from_residual-in_err-offset.result c.from_residual-in_err-offset.ensures.1 in
     rw (p.1, p.2) (element_stops_2 _ _ _ _ c.in_ok-tag.ensures c.in_err-offset.ensures)
 
-pub returns-in_err-functions : goal.returns-in_err-functions
-returns-in_err-functions c =
-    let p = err_from_is_err_and c.from_residual-in_err-functions.result c.from_residual-in_err-functions.ensures.1 in
-    rw (p.1, p.2) (element_stops_3 _ _ _ _ _ _ c.in_ok-tag.ensures c.in_ok-offset.ensures c.in_err-functions.ensures)
+pub returns-in-Err : goal.returns-in-Err
+returns-in-Err c = element_stops_3 _ _ _ _ _ _ c.in_ok-tag.ensures c.in_ok-offset.ensures c.in-Err.ensures
 
-pub returns : goal.returns
-returns c = element_done _ _ _ _ _ _ _ _ refl c.in_ok-tag.ensures c.in_ok-offset.ensures c.in_ok-functions.ensures
+pub returns-in-Ok : goal.returns-in-Ok
+returns-in-Ok c = element_done _ _ _ _ _ _ _ _ refl c.in_ok-tag.ensures c.in_ok-offset.ensures c.in-Ok.ensures
