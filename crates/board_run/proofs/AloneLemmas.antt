@@ -37,7 +37,7 @@ went_replaces m laws w state now wakes t n who parts c p q here fits told is = r
 }
 
 module _ {S P : Type 0} (m : Machine S) (laws : Laws m) (w : Wiring) (state : P → S) (now wakes : P → ℕ) (inputs : List Input)
-    (t u : ℕ) (parts : List P) (kept : Kept) (lags : Lags m w state now wakes t parts kept) (fresh : kept.stale ≡ false) (after : 0 < t) (order : t ≤ u)
+    (t u : ℕ) (parts : List P) (kept : Kept) (lags : Lags m w state now wakes t parts kept) (fresh : kept.changed ≡ false) (after : 0 < t) (order : t ≤ u)
     (who : ℕ) (p0 q0 : P) (here : slice_get parts who ≡ Some p0)
     (quiet : (k : ℕ) (p : P) → k ≢ who → slice_get parts k ≡ Some p → IsQuiet m (state p) (now p) (u - now p))
     (silent : (v k : ℕ) → t ≤ v → v < u → input_at inputs v k ≡ None)
@@ -221,7 +221,7 @@ module _ {S P : Type 0} (m : Machine S) (laws : Laws m) (w : Wiring) (state : P 
 
   -- the invariant after it
   pub alone_lags : (changed : Bool) (d : Option ℕ) (ds : List Drive) (cs : List Bool) → IsTold m (map state new) (retold kept.seen ds cs).circuit → IsFirstDue m (state q0) (now q0) d → (changed ≡ false → m.drives (state q0) ≡ m.drives s0) → (changed ≡ false → m.contacts (state q0) ≡ m.contacts s0) →
-      Lags m w state now wakes u new (record { input = kept.input; stale = changed; dues = slice_set kept.dues who d; seen = retold kept.seen ds cs; answers = kept.answers })
+      Lags m w state now wakes u new (record { input = kept.input; changed = changed; dues = slice_set kept.dues who d; seen = retold kept.seen ds cs; answers = kept.answers })
   alone_lags changed d ds cs told first drives contacts =
       let room : who < length kept.dues = omega (arith, inside, lags.dues_long) in
       let due = due_set m state now wakes parts kept.dues who q0 d inside room (λ k p e ep ee. (lags.may k p e ep ee).first) first in
@@ -266,16 +266,16 @@ module _ {S P : Type 0} (m : Machine S) (laws : Laws m) (w : Wiring) (state : P 
     pub behind : AreBehind inputs after.input u
     pub leg : Leg m w state now wakes inputs t u parts new kept.seen after.seen steps more
     pub steady : IsSteady m w inputs (Ts m laws w state now wakes t parts) t (u - t)
-    pub tells : LastTells m w inputs after.stale (Ts m laws w state now wakes t parts) t (u - t)
+    pub tells : LastTells m w inputs after.changed (Ts m laws w state now wakes t parts) t (u - t)
     pub row_none : (n : ℕ) → n ≤ u - t → rows m w inputs (shown_at t kept.seen) (Ts m laws w state now wakes t parts) t n ≡ []
     pub bytes_are : (n : ℕ) → n ≤ u - t → bytes m w inputs (Ts m laws w state now wakes t parts) t n ≡ bs n
 
   -- where a part was found that goes on alone up to a limit, and it did
   pub alone_goes : (moves : P → ℕ → Bool) (t limit : ℕ) (parts : List P) (kept : Kept) (changed : Bool) (steps more who : ℕ) (p q : P) (d : Option ℕ) (by : Went) (seen : ReadingView) →
       seen ≡ retold kept.seen seen.circuit.drives seen.circuit.closed → IsTold m (map state (slice_set parts who q)) seen.circuit →
-      Lags m w state now wakes t parts kept → kept.stale ≡ false → 0 < t → AreBehind inputs kept.input t → limit ≤ MOST_CYCLES → IsAlone inputs kept.dues kept.input who t limit →
+      Lags m w state now wakes t parts kept → kept.changed ≡ false → 0 < t → AreBehind inputs kept.input t → limit ≤ MOST_CYCLES → IsAlone inputs kept.dues kept.input who t limit →
       slice_get parts who ≡ Some p → WentBy m state now wakes moves t limit p q d by steps more → Shifted m state p q changed →
-      Goes t by.to parts (slice_set parts who q) kept (record { input = kept.input; stale = changed; dues = slice_set kept.dues who d; seen = seen; answers = kept.answers }) steps more (sent m (glided m state now wakes t p) t)
+      Goes t by.to parts (slice_set parts who q) kept (record { input = kept.input; changed = changed; dues = slice_set kept.dues who d; seen = seen; answers = kept.answers }) steps more (sent m (glided m state now wakes t p) t)
   alone_goes moves t limit parts kept changed steps more who p q d by seen rest is_told lags fresh later behind end alone here went shifted =
       let u = by.to in
       let ds = seen.circuit.drives in

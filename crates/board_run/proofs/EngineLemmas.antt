@@ -79,7 +79,7 @@ module _ {P : Type 0} (part : Ghosts P) (laws : Laws part.machine) where
               (omega (arith, further)) most new.parts new.reading second.leg;
           tells = λ _. tells_then part.machine laws old.wiring part.state part.now part.wake_count old.inputs old.cycle mid.cycle new.cycle steps more
               old.parts mid.parts old.reading mid.reading first.leg
-              (omega (arith, further)) new.stale further (second.tells further);
+              (omega (arith, further)) new.changed further (second.tells further);
         }
 
     pub rows_then : rows_to part old new.cycle ≡ rows_to part old mid.cycle ++ rows_to part Here new.cycle
@@ -90,10 +90,10 @@ module _ {P : Type 0} (part : Ghosts P) (laws : Laws part.machine) where
 
   -- nothing is shown up to the next cycle in which something may happen
   pub jumps : (e : Engine P) (n u steps : ℕ) → MayRun part e → IsNext e n u → n ≤ MOST_CYCLES → e.cycle < u →
-      (e.stale ≡ false) × Jumps part.machine laws e.wiring part.state part.now part.wake_count e.inputs e.cycle u e.parts (kept_of e) steps
+      (e.changed ≡ false) × Jumps part.machine laws e.wiring part.state part.now part.wake_count e.inputs e.cycle u e.parts (kept_of e) steps
   jumps e n u steps may next end less =
-      let still = unchanged e.stale e.cycle u next.stays less in
-      let none : e.stale ≡ true → u ≡ e.cycle = λ is. absurd (let x : true ≡ false = sym is ∙ still.0 in cc) in (
+      let still = unchanged e.changed e.cycle u next.stays less in
+      let none : e.changed ≡ true → u ≡ e.cycle = λ is. absurd (let x : true ≡ false = sym is ∙ still.0 in cc) in (
         still.0,
         jumps_to part.machine laws e.wiring part.state part.now part.wake_count e.inputs e.cycle u e.parts (kept_of e) steps may.lags still.1 next.from (omega (arith, next.within, end)) none
             (λ k x is. next.late k x is) next.silent,

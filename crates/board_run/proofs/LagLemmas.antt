@@ -61,7 +61,7 @@ module _ {S P : Type 0} (m : Machine S) (laws : Laws m) (w : Wiring) (state : P 
   }
 
   -- where nothing has changed since the nets were resolved, what was read is so of the board
-  module _ (t : ℕ) (parts : List P) (kept : Kept) (lags : Lags m w state now wakes t parts kept) (fresh : kept.stale ≡ false) (after : 0 < t) where
+  module _ (t : ℕ) (parts : List P) (kept : Kept) (lags : Lags m w state now wakes t parts kept) (fresh : kept.changed ≡ false) (after : 0 < t) where
     stood : (k : ℕ) (s : S) → slice_get (Ts t parts) k ≡ Some s → (p : P) × (slice_get parts k ≡ Some p) × Stands m t (now p) (state p) s
     stood k s es = let p = get_map_some (glided m state now wakes t) parts k s es in (p.0, p.1, (lags_stand t parts kept lags).each k p.0 s p.1 es)
 
@@ -169,7 +169,7 @@ module _ {S P : Type 0} (m : Machine S) (laws : Laws m) (w : Wiring) (state : P 
     -- the invariant at the next cycle
     pub event_lags : (j : ℕ) (dues after : List (Option ℕ)) (ds : List Drive) (cs : List Bool) → length old ≤ 64 → Fits m w (map state old) → length dues ≡ length old → length after ≡ length old → AreDue m state now wakes new dues →
         AreNone after → IsTold m (map state new) (retold seen ds cs).circuit →
-        Lags m w state now wakes (t + 1) new (record { input = j; stale = changed; dues = dues; seen = retold seen ds cs; answers = after })
+        Lags m w state now wakes (t + 1) new (record { input = j; changed = changed; dues = dues; seen = retold seen ds cs; answers = after })
     event_lags j dues after ds cs few fits dues_long answers_long due silent told =
         let room = same_room m w state old new long (λ k p q ep eq. let f = turned_from k p q ep eq in (f.pins, f.contacts)) fits in
         record {
@@ -260,7 +260,7 @@ module _ {S P : Type 0} (m : Machine S) (laws : Laws m) (w : Wiring) (state : P 
   -- what a cycle does in which the active parts have their turn
   pub record Happens (inputs : List Input) (t : ℕ) (old new : List P) (before after : ReadingView) (answers dues : List (Option ℕ)) (changed : Bool) (steps more : ℕ) : Type 0 where
     pub leg : Leg m w state now wakes inputs t (t + 1) old new before after steps more
-    pub lags : (j : ℕ) (none : List (Option ℕ)) → length none ≡ length answers → AreNone none → Lags m w state now wakes (t + 1) new (record { input = j; stale = changed; dues = dues; seen = after; answers = none })
+    pub lags : (j : ℕ) (none : List (Option ℕ)) → length none ≡ length answers → AreNone none → Lags m w state now wakes (t + 1) new (record { input = j; changed = changed; dues = dues; seen = after; answers = none })
     pub tells : LastTells m w inputs changed (Ts t old) t (t + 1 - t)
     pub rows_are : row_if m w (shown_at t before) (map state old) t ≡ rows m w inputs (shown_at t before) (Ts t old) t (t + 1 - t)
     pub bytes_are : options answers ≡ bytes m w inputs (Ts t old) t (t + 1 - t)

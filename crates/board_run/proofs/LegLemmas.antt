@@ -107,7 +107,7 @@ module _ {S P : Type 0} (m : Machine S) (laws : Laws m) (w : Wiring) (state : P 
     }
 
   -- quiet cycles
-  module _ (t u : ℕ) (parts : List P) (kept : Kept) (lags : Lags m w state now wakes t parts kept) (fresh : kept.stale ≡ false) (after : 0 < t) (order : t ≤ u)
+  module _ (t u : ℕ) (parts : List P) (kept : Kept) (lags : Lags m w state now wakes t parts kept) (fresh : kept.changed ≡ false) (after : 0 < t) (order : t ≤ u)
       (quiet : (k : ℕ) (p : P) → slice_get parts k ≡ Some p → IsQuiet m (state p) (now p) (u - now p))
       (silent : (v k : ℕ) → t ≤ v → v < u → input_at inputs v k ≡ None) where
     abbrev Js : List S
@@ -206,21 +206,21 @@ module _ {S P : Type 0} (m : Machine S) (laws : Laws m) (w : Wiring) (state : P 
     pub leg : Leg m w state now wakes inputs t u parts parts kept.seen kept.seen steps steps
     pub row_none : rows m w inputs (shown_at t kept.seen) (Ts m laws w state now wakes t parts) t (u - t) ≡ []
     pub byte_none : bytes m w inputs (Ts m laws w state now wakes t parts) t (u - t) ≡ []
-    pub rests : kept.stale ≡ false → IsSteady m w inputs (Ts m laws w state now wakes t parts) t (u - t)
-    pub tells : kept.stale ≡ false → LastTells m w inputs false (Ts m laws w state now wakes t parts) t (u - t)
+    pub rests : kept.changed ≡ false → IsSteady m w inputs (Ts m laws w state now wakes t parts) t (u - t)
+    pub tells : kept.changed ≡ false → LastTells m w inputs false (Ts m laws w state now wakes t parts) t (u - t)
     pub lags : Lags m w state now wakes u parts kept
 
-  pub jumps_to : (t u : ℕ) (parts : List P) (kept : Kept) (steps : ℕ) → Lags m w state now wakes t parts kept → 0 < t → t ≤ u → u ≤ MOST_CYCLES → (kept.stale ≡ true → u ≡ t) →
+  pub jumps_to : (t u : ℕ) (parts : List P) (kept : Kept) (steps : ℕ) → Lags m w state now wakes t parts kept → 0 < t → t ≤ u → u ≤ MOST_CYCLES → (kept.changed ≡ true → u ≡ t) →
       ((k x : ℕ) → slice_get kept.dues k ≡ Some (Some x) → u ≤ x) → ((v k : ℕ) → t ≤ v → v < u → input_at inputs v k ≡ None) → Jumps t u parts kept steps
   unfolding rows bytes
-  jumps_to t u parts kept steps lags after order end stays due silent = go kept.stale refl
+  jumps_to t u parts kept steps lags after order end stays due silent = go kept.changed refl
     where
       quiet : (k : ℕ) (p : P) → slice_get parts k ≡ Some p → IsQuiet m (state p) (now p) (u - now p)
       quiet k p ep =
           let d = may_of m laws w state now wakes t parts kept lags k p ep in
           quiet_until m state now wakes t u d.0 p order end d.2 (λ x e l. due k x (d.1 ∙ ap Some e))
 
-      go : (b : Bool) → kept.stale ≡ b → Jumps t u parts kept steps
+      go : (b : Bool) → kept.changed ≡ b → Jumps t u parts kept steps
       go true e =
           let none : t - t ≡ 0 = omega arith in
           let here : Jumps t t parts kept steps = record {
@@ -325,9 +325,9 @@ module _ {S P : Type 0} (m : Machine S) (laws : Laws m) (w : Wiring) (state : P 
         room = same_room m w state mid new long (λ k p q ep eq. let h = still k p q ep eq in (sym (ap length h.0), sym (ap length h.1))) lags.fits
 
 -- a board at cycle 0 of which nothing was read
-pub lags_start : {S P : Type 0} (m : Machine S) (w : Wiring) (state : P → S) (now wakes : P → ℕ) (parts : List P) (kept : Kept) → kept.stale ≡ true → length parts ≤ 64 → AreFresh m state now wakes parts →
+pub lags_start : {S P : Type 0} (m : Machine S) (w : Wiring) (state : P → S) (now wakes : P → ℕ) (parts : List P) (kept : Kept) → kept.changed ≡ true → length parts ≤ 64 → AreFresh m state now wakes parts →
     length kept.dues ≡ length parts → AreDue m state now wakes parts kept.dues → length kept.answers ≡ length parts → AreNone kept.answers → IsTold m (map state parts) kept.seen.circuit → Fits m w (map state parts) → Suits w kept.seen → Lags m w state now wakes 0 parts kept
-lags_start m w state now wakes parts kept stale few new dues_long due answers_long silent told fits suits = record {
+lags_start m w state now wakes parts kept changed few new dues_long due answers_long silent told fits suits = record {
   few = few;
   may = λ k p d ep ed.
       let at = new.at_start k p ep in

@@ -6,19 +6,19 @@ use Rattle.board_run.proofs.NextLemmas.{quiet_until, some_there}
 use Rattle.board_run.proofs.LegLemmas.{at_here, stretch}
 
 -- where something may happen later than now, no drive has changed, and cycle 0 is over
-pub unchanged : (stale : Bool) (t r : ℕ) → ((stale || (t == 0)) ≡ true → r ≡ t) → t < r → (stale ≡ false) × (0 < t)
+pub unchanged : (changed : Bool) (t r : ℕ) → ((changed || (t == 0)) ≡ true → r ≡ t) → t < r → (changed ≡ false) × (0 < t)
 unchanged true t r now less = let e : r ≡ t = now refl in absurd (omega (arith, e, less))
 unchanged false zero r now less = let e : r ≡ 0 = now refl in absurd (omega (arith, e, less))
 unchanged false (suc t) r now less = (refl, omega arith)
 
-pub neither : (stale : Bool) (t : ℕ) → stale ≡ false → 0 < t → (stale || (t == 0)) ≡ false
+pub neither : (changed : Bool) (t : ℕ) → changed ≡ false → 0 < t → (changed || (t == 0)) ≡ false
 neither true t none later = absurd cc
 neither false zero none later = absurd (omega arith)
 neither false (suc t) none later = grind arith
 
 module _ {S P : Type 0} (m : Machine S) (laws : Laws m) (w : Wiring) (state : P → S) (now wakes : P → ℕ) (inputs : List Input) where
   -- parts that stand at cycle t have a stretch up to u where none of them is due before u and the script says nothing
-  pub stretch_until : (t u : ℕ) (parts : List P) (kept : Kept) → Lags m w state now wakes t parts kept → AreAt now t parts → kept.stale ≡ false →
+  pub stretch_until : (t u : ℕ) (parts : List P) (kept : Kept) → Lags m w state now wakes t parts kept → AreAt now t parts → kept.changed ≡ false →
       0 < t → t ≤ u → u ≤ MOST_CYCLES → AreLate kept.dues u → ((v k : ℕ) → t ≤ v → v < u → input_at inputs v k ≡ None) → IsStretch m w inputs (map state parts) t (u - t)
   stretch_until t u parts kept lags at fresh after order end late silent =
       subst (λ (ss : List S). IsStretch m w inputs ss t (u - t)) (at_here m laws w state now wakes inputs t parts at)

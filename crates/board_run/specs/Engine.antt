@@ -28,7 +28,7 @@ use Rattle.board_run.specs.declared.turn.Woken.{Woken}
 
 -- what it keeps beside the parts
 abbrev pub kept_of : {P : Type 0} → Engine P → Kept
-kept_of e = record { input = e.input; stale = e.stale; dues = e.dues; seen = e.reading; answers = e.answers }
+kept_of e = record { input = e.input; changed = e.changed; dues = e.dues; seen = e.reading; answers = e.answers }
 
 -- the script's values of its cycle, which end before a place
 abbrev pub given : {P : Type 0} → Engine P → ℕ → List Input
@@ -38,15 +38,15 @@ given e place = take (place - e.input) (drop e.input e.inputs)
 pub record IsNext {P : Type 0} (e : Engine P) (n u : ℕ) : Type 0 where
   pub from : e.cycle ≤ u
   pub within : u ≤ n
-  pub stays : (e.stale || (e.cycle == 0)) ≡ true → u ≡ e.cycle
+  pub stays : (e.changed || (e.cycle == 0)) ≡ true → u ≡ e.cycle
   pub late : AreLate e.dues u
   pub silent : (v k : ℕ) → e.cycle ≤ v → v < u → input_at e.inputs v k ≡ None
   pub behind : AreBehind e.inputs e.input u
-  pub event : (e.stale || (e.cycle == 0)) ≡ false → u < n → ((k : ℕ) × (slice_get e.dues k ≡ Some (Some u))) ⊎ ((k : ℕ) × (input_at e.inputs u k ≢ None))
+  pub event : (e.changed || (e.cycle == 0)) ≡ false → u < n → ((k : ℕ) × (slice_get e.dues k ≡ Some (Some u))) ⊎ ((k : ℕ) × (input_at e.inputs u k ≢ None))
 
 -- part `who` may go on by itself up to a limit, not after n
 pub record MayStretch {P : Type 0} (e : Engine P) (who limit n : ℕ) : Type 0 where
-  pub fresh : e.stale ≡ false
+  pub fresh : e.changed ≡ false
   pub after : 0 < e.cycle
   pub within : limit ≤ n
   pub alone : IsAlone e.inputs e.dues e.input who e.cycle limit
@@ -187,13 +187,13 @@ module _ {P : Type 0} (part : Ghosts P) where
     pub same_wiring : new.wiring ≡ old.wiring
     pub same_inputs : new.inputs ≡ old.inputs
     pub leg : Leg part.machine old.wiring part.state part.now part.wake_count old.inputs old.cycle new.cycle old.parts new.parts old.reading new.reading steps more
-    pub tells : old.cycle < new.cycle → LastTells part.machine old.wiring old.inputs new.stale (states_of old) old.cycle (new.cycle - old.cycle)
+    pub tells : old.cycle < new.cycle → LastTells part.machine old.wiring old.inputs new.changed (states_of old) old.cycle (new.cycle - old.cycle)
 
   -- and nothing new was shown
   pub record Rests (old new : Engine P) (steps more : ℕ) : Type 0 where
     pub on : WentOn old new steps more
     pub steady : old.cycle < new.cycle → IsSteady part.machine old.wiring old.inputs (states_of old) old.cycle (new.cycle - old.cycle)
-    pub stays : new.cycle ≡ old.cycle → new.stale ≡ old.stale
+    pub stays : new.cycle ≡ old.cycle → new.changed ≡ old.changed
 
   -- its parts were brought to its cycle
   pub record Settled (old new : Engine P) : Type 0 where

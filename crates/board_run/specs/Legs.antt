@@ -19,7 +19,7 @@ pub record Kept : Type 0 where
   -- where the script goes on
   pub input : ℕ
   -- whether a drive or a contact changed since the nets were resolved
-  pub stale : Bool
+  pub changed : Bool
   -- the first due cycle of each part
   pub dues : List (Option ℕ)
   pub seen : ReadingView
@@ -40,7 +40,7 @@ module _ {S P : Type 0} (m : Machine S) (w : Wiring) (state : P → S) (now wake
     pub silent : AreNone kept.answers
     pub fits : Fits m w (map state parts)
     pub suits : Suits w kept.seen
-    pub fresh : kept.stale ≡ false → IsOf m w (map state parts) kept.seen
+    pub fresh : kept.changed ≡ false → IsOf m w (map state parts) kept.seen
     pub told : IsTold m (map state parts) kept.seen.circuit
     pub holds : (k : ℕ) (p : P) → slice_get parts k ≡ Some p → 0 < t → m.held (state p) ≡ levels_on m w kept.seen.circuit.levels k (state p)
 

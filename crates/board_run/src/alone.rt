@@ -55,7 +55,7 @@ impl<P: Part> Engine<P> {
         let went = go_alone(self.parts.item_mut(i), &mut due, self.cycle, limit, steps);
         self.dues.set(who, due);
         let first = self.wiring.first_pin.as_slice()[i] as usize;
-        self.stale = self.tell(went.changed, i, first);
+        self.changed = self.tell(went.changed, i, first);
         self.cycle = went.to;
         hand_byte(went.byte, out)
     }

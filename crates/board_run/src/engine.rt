@@ -21,7 +21,7 @@ pub(crate) struct Engine<P> {
     /// At which script value it continues.
     pub(crate) input: usize,
     /// Whether a drive or a contact changed since the nets were resolved.
-    pub(crate) stale: bool,
+    pub(crate) changed: bool,
     /// When each part is due.
     pub(crate) dues: DueTree,
     pub(crate) reading: Reading,
@@ -113,7 +113,7 @@ impl<P: Part> Engine<P> {
         let woken = self.turn(differ, end, steps);
         self.cycle = after;
         self.input = end;
-        self.stale = woken.changed;
+        self.changed = woken.changed;
         match shown {
             WriteEnd::Ok => hand_sent(woken.sent, &mut self.answers, out),
             WriteEnd::Failed => {

@@ -109,7 +109,7 @@ impl<P: Part> Engine<P> {
         requires may { MayRun P.Part self.now }
         ensures { IsNext self.now n result }
     {
-        if self.stale | (self.cycle == 0) {
+        if self.changed | (self.cycle == 0) {
             return self.cycle;
         }
         let due = first_due(&self.dues, self.cycle, n);
@@ -135,7 +135,7 @@ impl<P: Part> Engine<P> {
         ensures same { self.new ≡ self.old }
         ensures alone { ForSome result (λ x. MayStretch self.old x.0 x.1 n) }
     {
-        if self.stale || self.cycle == 0 {
+        if self.changed || self.cycle == 0 {
             return None;
         }
         first_alone(

@@ -18,7 +18,7 @@ impl<P: Part> Engine<P> {
         ensures rest { self.new ≡ record self.old { reading = self.new.reading } }
         ensures read { IsRead P.machine self.old.wiring (map P.state self.old.parts) self.old.reading self.new.reading result.0 result.1 }
     {
-        if self.stale {
+        if self.changed {
             self.reading.read()
         } else {
             (true, PartSet::none())

@@ -87,7 +87,7 @@ returns-in-Ok g c =
     let ok = s.ok c.in-Ok.is in
     record {
       cycle = refl;
-      showed = subst (λ (x : Engine g.row.P.Denot). Showed p o hand.result e (record x { cycle = e.cycle + 1; input = end.result; stale = c.turn-woken.result.changed; answers = hand.new.answers }) c.args.steps.now c.turn-woken.new.steps out hand.new.out) (sym t.same)
+      showed = subst (λ (x : Engine g.row.P.Denot). Showed p o hand.result e (record x { cycle = e.cycle + 1; input = end.result; changed = c.turn-woken.result.changed; answers = hand.new.answers }) c.args.steps.now c.turn-woken.new.steps out hand.new.out) (sym t.same)
           (record {
             on = record {
               may = record {
@@ -130,7 +130,7 @@ returns-in-Failed g c =
     let f = s.failed c.in-Failed.is in
     record {
       cycle = refl;
-      showed = subst (λ (x : Engine g.row.P.Denot). Showed p o writes.Failed e (record x { cycle = e.cycle + 1; input = end.result; stale = c.turn-woken.result.changed; answers = none.new.answers }) c.args.steps.now c.turn-woken.new.steps out c.show-shown.new.out) (sym t.same)
+      showed = subst (λ (x : Engine g.row.P.Denot). Showed p o writes.Failed e (record x { cycle = e.cycle + 1; input = end.result; changed = c.turn-woken.result.changed; answers = none.new.answers }) c.args.steps.now c.turn-woken.new.steps out c.show-shown.new.out) (sym t.same)
           (record {
             on = record {
               may = record {

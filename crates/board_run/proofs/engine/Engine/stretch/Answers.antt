@@ -45,7 +45,7 @@ tell-self-requires g c =
 -- what the stretch did
 goes : (g : Over) (c : After-tell-self g) → Goes g.P.Part.machine g.met.P.Part.laws c.args.self.now.wiring g.P.Part.state g.P.Part.now g.P.Part.wake_count c.args.self.now.inputs c.args.self.now.cycle c.go_alone-went.result.to
     c.args.self.now.parts (slice_set c.args.self.now.parts c.args.who c.go_alone-went.new.part) (kept_of c.args.self.now)
-    (record { input = c.args.self.now.input; stale = c.tell-self.result; dues = slice_set c.args.self.now.dues c.args.who c.go_alone-went.new.due; seen = c.tell-self.new.self.reading; answers = c.args.self.now.answers })
+    (record { input = c.args.self.now.input; changed = c.tell-self.result; dues = slice_set c.args.self.now.dues c.args.who c.go_alone-went.new.due; seen = c.tell-self.new.self.reading; answers = c.args.self.now.answers })
     c.args.steps.now c.go_alone-went.new.steps (sent g.P.Part.machine (glided g.P.Part.machine g.P.Part.state g.P.Part.now g.P.Part.wake_count c.args.self.now.cycle c.item_mut.result.now) c.args.self.now.cycle)
 goes g c =
     let p = g.P.Part in
@@ -78,7 +78,7 @@ returns g c =
       further = w.ensures.further;
       within = w.ensures.within;
       steady = went.steady;
-      showed = subst (λ (x : Engine g.row.P.Denot). Showed p o hand.result e (record x { stale = c.tell-self.result; cycle = w.result.to }) c.args.steps.now w.new.steps c.args.out.now hand.new.out) (sym same) (record {
+      showed = subst (λ (x : Engine g.row.P.Denot). Showed p o hand.result e (record x { changed = c.tell-self.result; cycle = w.result.to }) c.args.steps.now w.new.steps c.args.out.now hand.new.out) (sym same) (record {
         on = record {
           may = record { lags = went.lags; behind = went.behind; order = c.requires.may.order };
           same_wiring = refl;
