@@ -1,4 +1,4 @@
-use Rattle.board_run.proofs.Common.{◌∙◌, None, Option, ℕ, slice_set, get_set_other}
+use Rattle.board_run.proofs.Common.{◌∙◌, None, slice_set, get_set_other}
 use Rattle.board_run.proofs.NextLemmas.{first_least}
 use Rattle.board_run.proofs.jump.first_due_but.Goals as goal
 
