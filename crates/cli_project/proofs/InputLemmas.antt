@@ -1,19 +1,17 @@
 -- The values of a script come in the order of their cycles.
-use Rattle.std.proofs.Common.{◌≡◌, ◌∙◌, ◌≤◌, ◌<◌, ◌||◌, ℕ, zero, suc, List, [], ◌∷◌, map, Bool, true, false, Option, Some, None, Result, Ok, Err, IfOk, slice_get, nat_lt, nat_le, if◌then◌else◌, refl, ap, sym, subst, arith}
-use Rattle.std.specs.Option.{option_map}
+use Rattle.cli_project.proofs.Common.{◌≡◌, ◌∙◌, ◌≤◌, ◌<◌, ◌||◌, ℕ, zero, suc, List, [], ◌∷◌, map, Bool, true, false, Option, Some, None, Result, Ok, Err, IfOk}
+use Rattle.cli_project.proofs.Common.{slice_get, nat_lt, nat_le, if◌then◌else◌, refl, ap, sym, subst, arith, option_map, Refusal, ScriptRow, IsRising}
+use Rattle.cli_project.proofs.Common.{cycles_of}
 use Rattle.std.proofs.lemmas.Bool.{ltb-false, or_parts}
 use Rattle.std.proofs.lemmas.Option.{slice_get-map}
-use Rattle.sim_base.specs.declared.fault.Refusal.{Refusal}
 use Rattle.sim_base.specs.declared.wiring.Input.{Input}
 use Rattle.sim_base.specs.Refusals.{ScriptOrder, ScriptLimit}
 use Rattle.sim_base.specs.declared.limits.TheConstants.{MOST_CYCLES}
 use Rattle.text_model.specs.Lines.{lines}
-use Rattle.input_texts.specs.declared.script.ScriptRow.{ScriptRow}
 use Rattle.script_text.specs.declared.action.Action.{Action}
 use Rattle.script_text.specs.Script.{Verdict, Passed, Acts, Faulty, words, is_passed, action_of, judged, verdict, after, row_of, with_rows, rows_from, script_of}
 use Rattle.board_model.specs.Fits.{AreInputs}
 use Rattle.cli_work.specs.Documents.{IsRead}
-use Rattle.cli_project.specs.Works.{IsRising, cycles_of}
 
 -- an action's time is not below the one before
 not_below : (last count : ℕ) (action x : Action) (p q : Bool) → (nat_lt x.cycle last || nat_lt MOST_CYCLES x.cycle) ≡ p →

@@ -1,2 +1,3 @@
+pub mod Common
 mod InputLemmas
 pub mod ProjectLemmas

@@ -1,27 +1,18 @@
 -- Reading a project file by file.
-use Rattle.std.proofs.Common.{◌≡◌, ◌∙◌, ◌⊎◌, ◌++◌, [], ◌∷◌, ◌<◌, ◌-◌, ◌+◌, ℕ, List, length, length-append, take, drop, slice_index_or, arith, ap, sym, subst, refl, Option, Some, None, Result, Ok, Err, inl, inr, IfSome, IfOk}
+use Rattle.cli_project.proofs.Common.{◌≡◌, ◌∙◌, ◌⊎◌, ◌++◌, [], ◌∷◌, ◌<◌, ◌-◌, ◌+◌, ℕ, List, length, length-append, take, drop, slice_index_or, arith, ap, sym}
+use Rattle.cli_project.proofs.Common.{subst, refl, Option, Some, None, Result, Ok, Err, inl, inr, IfSome, IfOk, Refusal, Outside, SamePorts, Files, hex_image}
+use Rattle.cli_project.proofs.Common.{project_text, ChipFile, pins_and_display, Binary, Judges, ChipSource, Stop, Texts, accepted, Reading, Is, ReadStops, Got}
+use Rattle.cli_project.proofs.Common.{IsSteady, IsOneReading, if_always, first_stops, got_both, steady_file, steady_within, steady_both, steady_rule, one_file}
+use Rattle.cli_project.proofs.Common.{one_within, one_function, one_both, steady_judged, one_judged, answered, answer_stops, only_texts, one_answer}
 use Rattle.std.proofs.lemmas.List.{take_all}
-use Rattle.sim_base.specs.declared.fault.Refusal.{Refusal}
-use Rattle.sim_base.specs.Outside.{Outside, SamePorts, Files}
-use Rattle.text_model.specs.Hex.{hex_image}
-use Rattle.document_model.specs.Project.{project_text}
-use Rattle.document_model.specs.declared.project.ChipFile.{ChipFile}
 use Rattle.document_model.specs.declared.diagram.Diagram.{Diagram}
 use Rattle.document_model.specs.Diagram.{diagram_text}
-use Rattle.chip_json.specs.Display.{pins_and_display}
-use Rattle.chip_module.specs.Binary.{Binary, Judges}
-use Rattle.chip_module.specs.declared.source.ChipSource.{ChipSource}
 use Rattle.chip_module.proofs.BinaryLemmas.{one_binary, not_both, one_refusal}
 use Rattle.script_text.specs.Script.{script_of}
-use Rattle.outcome_model.specs.Stop.{Stop, Texts, accepted}
 use Rattle.outcome_model.specs.Outcome.{Outcome, Stopped, OutOfMemory}
-use Rattle.outcome_model.specs.Work.{Reading, Is, ReadStops, Got, IsSteady, IsOneReading}
-use Rattle.outcome_model.proofs.ReadLemmas.{if_always, first_stops, got_both, steady_file, steady_within, steady_both, steady_rule, one_file, one_within, one_function, one_both}
-use Rattle.outcome_model.proofs.JudgeLemmas.{steady_judged, one_judged}
 use Rattle.project_model.specs.Work.{Work, in_folder, with_bytes, drawn, ChipIn, ChipsAfter, PinsIn, ScriptIn, WaveIn, WorkIn}
 use Rattle.outcome_model.specs.Happens.{Ends}
 use Rattle.outcome_model.specs.Promises.{IsOne}
-use Rattle.outcome_model.proofs.EndLemmas.{answered, answer_stops, only_texts, one_answer}
 use Rattle.cli_project.specs.Answer.{CheckAnswer}
 
 pub steady_script : (script : Option (List ℕ)) → IsSteady (ScriptIn script)
@@ -82,8 +73,7 @@ module _ (folder : List ℕ) (read : List ChipSource) where
       (r : Result (List ChipSource) E) → IfOk r (λ cs. length cs ≡ length after + length (take (length chips - 1) (drop 1 chips))) → IfOk r (λ cs. length cs ≡ length read + length chips)
   more_counted d chip chips more first source after added (Ok cs) e =
       let n = ap (λ (l : List ChipFile). length l) (chips_split d chip chips more first) in
-      let m = ap (λ (l : List ChipSource). length l) added ∙ length-append read (source ∷ []) in
-      omega (arith, n, m, e)
+      omega (arith, n, ap (λ (l : List ChipSource). length l) added ∙ length-append read (source ∷ []), e)
   more_counted d chip chips more first source after added (Err x) e = tt
 
   pub no_chips : (chips : List ChipFile) → length chips < 1 → (told : Option Files) → IfSome told (λ files. ChipsAfter folder read chips files (Ok read))

@@ -1,22 +1,14 @@
 -- The answer to `twin`.
-use Rattle.std.proofs.Common.{◌≡◌, ◌∙◌, ◌+◌, ◌-◌, ◌*◌, ◌≤◌, ◌∷◌, ℕ, List, [], length, Option, None, Some, Result, Ok, Err, IfSome, refl, ap, sym, subst, arith}
-use Rattle.std.specs.List.{concat}
-use Rattle.std.proofs.lemmas.List.{append-nil}
+use Rattle.cli_twin.proofs.Common.{◌≡◌, ◌∙◌, ◌+◌, ◌-◌, ◌*◌, ◌≤◌, ◌∷◌, ℕ, List, [], length, Option, None, Some, Result, Ok, Err, IfSome, refl, ap, sym, subst}
+use Rattle.cli_twin.proofs.Common.{arith, concat, append-nil, Outside, SamePorts, SameOthers, Files, Stop, Texts, printed, report_alone, Is, ReadStops, RanOn}
+use Rattle.cli_twin.proofs.Common.{SaidNothing, IsOneReading, Then, if_some, one_both, one_function, WorkIn, one_work, Pair, PairIn, other_path, paired, Found}
+use Rattle.cli_twin.proofs.Common.{line}
 use Rattle.sim_base.specs.declared.bench.Port.TheVariants as ports
-use Rattle.sim_base.specs.Outside.{Outside, SamePorts, SameOthers, Files}
-use Rattle.outcome_model.specs.Stop.{Stop, Texts, printed, report_alone}
 use Rattle.outcome_model.specs.Outcome.{Outcome, Stopped, status_of}
-use Rattle.outcome_model.specs.Work.{Is, ReadStops, RanOn, SaidNothing, IsOneReading, Then}
 use Rattle.outcome_model.specs.Happens.{Counts, Ends}
 use Rattle.outcome_model.specs.Promises.{AreSame, IsOne}
-use Rattle.outcome_model.proofs.ReadLemmas.{if_some, one_both, one_function}
 use Rattle.outcome_model.proofs.EndLemmas.{alone_ran, stopped_by}
-use Rattle.project_model.specs.Work.{WorkIn}
-use Rattle.cli_project.proofs.ProjectLemmas.{one_work}
-use Rattle.cli_twin.specs.Shared.{Pair, PairIn, other_path, paired}
 use Rattle.cli_twin.specs.Answer.{IsLineOf, TwinAnswer, line_texts, pair_line}
-use Rattle.cli_twin.specs.Found.{Found}
-use Rattle.cli_twin.specs.Line.{line}
 use Rattle.cli_twin.proofs.PlanLemmas.{both_given, no_inputs, one_plan, was_read}
 use Rattle.cli_twin.proofs.SharedLemmas.{flash_means, shared}
 use Rattle.cli_twin.proofs.TwinLemmas.{line_said, line_told, seen}

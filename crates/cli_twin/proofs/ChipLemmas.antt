@@ -1,35 +1,17 @@
 -- The chips of a plan that are loaded beside the board of another project.
-use Rattle.std.proofs.Common.{◌≡◌, ◌∙◌, ◌<◌, ◌≤◌, ◌+◌, ◌++◌, ◌∷◌, ℕ, List, [], length, map, take, get_or, Bool, true, false, Option, None, Some, refl, ap, sym, subst, arith}
-use Rattle.std.specs.Prelude.{slice_get, unwrap_or}
-use Rattle.std.specs.List.{All}
-use Rattle.std.specs.Option.{option_map, option_to_list}
-use Rattle.std.proofs.lemmas.List.{append-nil, length-map, map-append, take_more}
+use Rattle.cli_twin.proofs.Common.{◌≡◌, ◌∙◌, ◌<◌, ◌≤◌, ◌+◌, ◌++◌, ◌∷◌, ℕ, List, [], length, map, take, get_or, Bool, true, false, Option, None, Some, refl, ap}
+use Rattle.cli_twin.proofs.Common.{sym, subst, arith, slice_get, unwrap_or, All, option_map, option_to_list, append-nil, length-map, map-append, take_more}
+use Rattle.cli_twin.proofs.Common.{slice_get_within, slice_get-map, Fits, Alike, SamePins, chips_before, with_chips, is_chip, SameRest, PlanKind, PlanPart}
+use Rattle.cli_twin.proofs.Common.{Plan, IsPlan, kinds_in, from_all, ChipSource, pins_of, AnyPart, AnyState, any, state_of, cycle_of, wakes_of, Contents}
+use Rattle.cli_twin.proofs.Common.{start_in, start_of, starts, DifferInChips, IsSamePart, AreTwins, HaveNoContacts, chip_start, chip_starts, IsLoaded}
+use Rattle.cli_twin.proofs.Common.{twin_view}
 use Rattle.std.proofs.lemmas.Grind.{flat_map-append}
-use Rattle.std.proofs.lemmas.Option.{slice_get_within, slice_get-map}
 use Rattle.board_model.specs.Board.{states}
-use Rattle.board_model.specs.Fits.{Fits}
 use Rattle.board_model.specs.Fresh.{AreFresh}
-use Rattle.board_laws.specs.Alike.{Alike}
-use Rattle.board_laws.specs.FirstDiff.{SamePins}
-use Rattle.board_laws.specs.Twin.{chips_before, with_chips}
-use Rattle.board_laws.specs.Worlds.{is_chip, SameRest}
-use Rattle.board_build.specs.declared.plan.PlanKind.{PlanKind}
 use Rattle.board_build.specs.declared.plan.PlanKind.TheVariants as plans
-use Rattle.board_build.specs.declared.plan.PlanPart.{PlanPart}
-use Rattle.board_build.specs.declared.plan.Plan.{Plan}
 use Rattle.board_build.specs.Parts as parts_model
-use Rattle.board_build.specs.IsPlan.{IsPlan, kinds_in}
-use Rattle.board_build.proofs.PlanLemmas.{from_all}
-use Rattle.chip_module.specs.declared.source.ChipSource.{ChipSource}
-use Rattle.chip_module.specs.Sources.{pins_of}
-use Rattle.any_part.specs.AnyPart.{AnyPart, AnyState, any, state_of, cycle_of, wakes_of}
-use Rattle.any_part.specs.Start.{Contents, start_in, start_of, starts}
 use Rattle.any_part.proofs.StartLemmas.{all_ready, begins_valid, start_at, starts_fit, starts_many}
-use Rattle.isolation.specs.Worlds.{DifferInChips, IsSamePart}
 use Rattle.isolation.proofs.Isolation.{isolated}
-use Rattle.twin_run.specs.Twins.{AreTwins, HaveNoContacts}
-use Rattle.cli_twin.specs.Chips.{chip_start, chip_starts}
-use Rattle.cli_twin.specs.Found.{IsLoaded, twin_view}
 use Rattle.cli_twin.proofs.ContactLemmas.{free_of_contacts}
 use Rattle.cli_twin.proofs.WithLemmas.{chip_inside, chips_there, fits_pins, item_there, own_at, with_same}
 

@@ -1,11 +1,6 @@
 -- No chip of two boards has contacts.
-use Rattle.board_build.specs.declared.plan.Plan.{Plan}
-use Rattle.board_build.specs.IsPlan.{IsPlan}
-use Rattle.chip_module.specs.Sources.{pins_of}
-use Rattle.any_part.specs.AnyPart.{any}
-use Rattle.any_part.specs.Start.{Contents, starts}
+use Rattle.cli_twin.proofs.Common.{Plan, IsPlan, pins_of, any, Contents, starts, HaveNoContacts}
 use Rattle.isolation.proofs.ChipLemmas.{quiet_chips, chips_begin}
-use Rattle.twin_run.specs.Twins.{HaveNoContacts}
 
 pub free_of_contacts : (one two : Contents) (plan : Plan) → IsPlan (pins_of one.chips) plan → IsPlan (pins_of two.chips) plan →
     HaveNoContacts any plan.wiring (starts one plan.parts) (starts two plan.parts)

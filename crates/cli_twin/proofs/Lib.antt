@@ -1,3 +1,4 @@
+pub mod Common
 mod SharedLemmas
 mod WithLemmas
 mod ChipLemmas

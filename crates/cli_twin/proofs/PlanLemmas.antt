@@ -1,41 +1,28 @@
 -- What was read of a folder without a script, and that twins have one plan.
-use Rattle.std.proofs.Common.{◌≡◌, ◌∙◌, ◌+◌, ℕ, suc, List, [], ◌∷◌, length, map, replicate, set, Bool, true, false, Option, None, Some, Result, Ok, Err, refl, ap, sym, subst}
-use Rattle.std.specs.Prelude.{if◌then◌else◌, nat_lt, drop}
+use Rattle.cli_twin.proofs.Common.{◌≡◌, ◌∙◌, ◌+◌, ℕ, suc, List, [], ◌∷◌, length, map, replicate, set, Bool, true, false, Option, None, Some, Result, Ok, Err}
+use Rattle.cli_twin.proofs.Common.{refl, ap, sym, subst, if◌then◌else◌, nat_lt, drop, position_from, option_map, bytes_eq, length-map, length-replicate}
+use Rattle.cli_twin.proofs.Common.{length-set, Input, Files, ChipFile, Stop, file_within, read_from, refused_in, Reading, Is, IsFile, Then, ChipSource}
+use Rattle.cli_twin.proofs.Common.{pins_of, PlanKind, Plan, is_plan, Work, WorkIn, BehindProject, BehindFirmware, BehindDiagram, BehindChips, BehindScript}
+use Rattle.cli_twin.proofs.Common.{ChipsAfter, PlanIn, ScriptIn, WaveIn, by_rule, diagram_name, drawn, in_folder, with_bytes, names_of}
 use Rattle.std.specs.FinMap.{get}
-use Rattle.std.specs.List.{position_from}
-use Rattle.std.specs.Option.{option_map}
-use Rattle.std.specs.Str.{bytes_eq}
-use Rattle.std.proofs.lemmas.List.{length-map, length-replicate, length-set}
 use Rattle.sim_base.specs.declared.fault.Refusal.{Refusal}
 use Rattle.sim_base.specs.declared.fault.Place.TheVariants as places
-use Rattle.sim_base.specs.declared.wiring.Input.{Input}
 use Rattle.sim_base.specs.Refusals.{TypeUnknown}
-use Rattle.sim_base.specs.Outside.{Files}
 use Rattle.text_model.specs.Hex.{Verdict, Passed, Data, Base, End, Faulty, after, hex_image, image_of, put, verdict}
 use Rattle.text_model.specs.Lines.{lines}
 use Rattle.part_catalog.specs.declared.kind.Kind.{Kind}
 use Rattle.part_catalog.specs.Kinds.{named_kind}
 use Rattle.document_model.specs.declared.project.Project.{Project}
-use Rattle.document_model.specs.declared.project.ChipFile.{ChipFile}
 use Rattle.document_model.specs.declared.diagram.Diagram.{Diagram}
 use Rattle.document_model.specs.declared.diagram.PartText.{PartText}
 use Rattle.document_model.specs.Diagram.{diagram_text}
 use Rattle.document_model.specs.Project.{project_text}
 use Rattle.document_model.specs.Reading.{◌>>=◌, each_from, refusal}
 use Rattle.document_model.proofs.LimitLemmas.{few_parts}
-use Rattle.outcome_model.specs.Stop.{Stop, file_within, read_from, refused_in}
-use Rattle.outcome_model.specs.Work.{Reading, Is, IsFile, Then}
-use Rattle.chip_module.specs.declared.source.ChipSource.{ChipSource}
-use Rattle.chip_module.specs.Sources.{pins_of}
 use Rattle.input_texts.specs.declared.script.ScriptRow.{ScriptRow}
-use Rattle.board_build.specs.declared.plan.PlanKind.{PlanKind}
 use Rattle.board_build.specs.declared.plan.PlanKind.TheVariants as plans
-use Rattle.board_build.specs.declared.plan.Plan.{Plan}
 use Rattle.board_build.specs.Parts.{chosen, is_chip_type, kind_of_part, ids_from}
 use Rattle.board_build.specs.Plan.{plan_in, plan_of}
-use Rattle.board_build.proofs.PlanLemmas.{is_plan}
-use Rattle.project_model.specs.Work.{Work, WorkIn, BehindProject, BehindFirmware, BehindDiagram, BehindChips, BehindScript, ChipsAfter, PlanIn, ScriptIn, WaveIn, by_rule, diagram_name, drawn, in_folder, with_bytes}
-use Rattle.cli_twin.specs.Shared.{names_of}
 
 -- where two readings give something, each does
 pub both_given : {X Y : Type 0} (first : Reading X) (next : X → Reading Y) (files : Files) (y : Y) → Then first next files (Ok y) → (x : X) × first files (Ok x) × next x files (Ok y)
@@ -133,9 +120,8 @@ place_same name n (a ∷ one) [] e = absurd cc
 place_same name n (a ∷ one) (b ∷ two) e =
     let first : a.name ≡ b.name = cc in
     let rest : names_of one ≡ names_of two = cc in
-    let further = place_same name (n + 1) one two rest in
     ap (λ (x : List ℕ). if bytes_eq name x then Some n else position_from (λ (chip : ChipFile). bytes_eq name chip.name) (n + 1) one) first
-    ∙ ap (λ (o : Option ℕ). if bytes_eq name b.name then Some n else o) further
+    ∙ ap (λ (o : Option ℕ). if bytes_eq name b.name then Some n else o) (place_same name (n + 1) one two rest)
 
 module _ (one two : List ChipFile) (same : names_of one ≡ names_of two) where
   -- so parts are of the same kinds
@@ -161,11 +147,10 @@ plan_same a b same board pins script =
 pub one_plan : (a b : Work) → names_of a.project.chips ≡ names_of b.project.chips → a.diagram ≡ b.diagram → pins_of a.chips ≡ pins_of b.chips → WasRead a → WasRead b → a.plan ≡ b.plan
 one_plan a b names diagram pins was also =
     let boards : Ok was.board ≡ Ok also.board = sym was.text ∙ ap diagram_text diagram ∙ also.text in
-    let board : was.board ≡ also.board = read_same boards in
     let plans : Ok a.plan ≡ Ok b.plan =
     sym was.plan
     ∙ plan_same a.project b.project names was.board (pins_of a.chips) []
-    ∙ ap (λ (d : Diagram). plan_of b.project d (pins_of a.chips) []) board
+    ∙ ap (λ (d : Diagram). plan_of b.project d (pins_of a.chips) []) (read_same boards)
     ∙ ap (λ (p : List (List (Option (List ℕ)))). plan_of b.project also.board p []) pins
     ∙ also.plan in
     read_same plans
@@ -177,8 +162,7 @@ one_plan a b names diagram pins was also =
 pub no_inputs : (work : Work) → length work.chips ≡ length work.project.chips → WasRead work → work.plan.inputs ≡ []
 no_inputs work each was =
     let many : length (pins_of work.chips) ≡ length work.project.chips = length-map work.chips (λ (c : ChipSource). c.pins) ∙ each in
-    let cycles = (is_plan was.board (pins_of work.chips) [] work.project (few_parts work.diagram was.board was.text) many work.plan was.plan).1 in
-    empty work.plan.inputs cycles
+    empty work.plan.inputs ((is_plan was.board (pins_of work.chips) [] work.project (few_parts work.diagram was.board was.text) many work.plan was.plan).1)
   where
     empty : (inputs : List Input) → map (λ (input : Input). input.cycle) inputs ≡ [] → inputs ≡ []
     empty [] e = refl

@@ -1,18 +1,11 @@
 -- What it means that no file of a twin differs.
-use Rattle.std.proofs.Common.{◌≡◌, ◌∙◌, ◌<◌, ◌≤◌, ◌+◌, ◌&&◌, ℕ, zero, suc, List, [], ◌∷◌, length, drop, get_or, Bool, true, false, Option, None, Some, refl, ap, sym, arith, inl, inr, ◌⊎◌}
-use Rattle.std.specs.Prelude.{◌==◌, if◌then◌else◌, slice_index, codes}
-use Rattle.std.specs.Str.{bytes_eq}
+use Rattle.cli_twin.proofs.Common.{◌≡◌, ◌∙◌, ◌<◌, ◌≤◌, ◌+◌, ◌&&◌, ℕ, zero, suc, List, [], ◌∷◌, length, drop, get_or, Bool, true, false, Option, None, Some}
+use Rattle.cli_twin.proofs.Common.{refl, ap, sym, arith, inl, inr, ◌⊎◌, ◌==◌, if◌then◌else◌, slice_index, codes, bytes_eq, drop_all, drop_more, length-map}
+use Rattle.cli_twin.proofs.Common.{same_lists, same_Some, slice_get-get_or, ChipFile, same_list, ChipSource, pins_of, Work}
 use Rattle.std.proofs.lemmas.Bool.{and_parts, cases_Bool, eqb-true}
 use Rattle.std.proofs.lemmas.Bool.Decides.{nat_tests}
-use Rattle.std.proofs.lemmas.List.{drop_all, drop_more, length-map, same_lists}
-use Rattle.std.proofs.lemmas.Option.{same_Some, slice_get-get_or}
 use Rattle.std.proofs.lemmas.Slice.Eq.{bytes_eq-Decides}
 use Rattle.std.proofs.Math.Bool.{and-false}
-use Rattle.document_model.specs.declared.project.ChipFile.{ChipFile}
-use Rattle.board_model.specs.Rows.{same_list}
-use Rattle.chip_module.specs.declared.source.ChipSource.{ChipSource}
-use Rattle.chip_module.specs.Sources.{pins_of}
-use Rattle.project_model.specs.Work.{Work}
 use Rattle.cli_twin.specs.Shared.{names_of, other_path, other_pins, same_below, same_pin}
 
 bytes_mean : (a b : List ℕ) → bytes_eq a b ≡ true → a ≡ b

@@ -1,24 +1,15 @@
 -- What the run of a twin says of the runs of two projects.
-use Rattle.std.proofs.Common.{◌≡◌, ◌∙◌, ◌+◌, ◌-◌, ◌≤◌, ℕ, zero, suc, List, [], false, map, Option, None, Some, true, refl, ap, sym, subst, arith, zero-add}
-use Rattle.std.specs.Option.{option_or}
-use Rattle.sim_base.specs.declared.wiring.Input.{Input}
-use Rattle.sim_base.specs.declared.wiring.Wiring.{Wiring}
+use Rattle.cli_twin.proofs.Common.{◌≡◌, ◌∙◌, ◌+◌, ◌-◌, ◌≤◌, ℕ, zero, suc, List, [], false, map, Option, None, Some, true, refl, ap, sym, subst, arith}
+use Rattle.cli_twin.proofs.Common.{zero-add, option_or, Input, Wiring, SameRest, Plan, pins_of, AnyPart, AnyState, any, state_of, Contents, starts, run_states}
+use Rattle.cli_twin.proofs.Common.{Pair, Found, IsLoaded, beside, diff_of, twin_view}
 use Rattle.board_laws.specs.Active.{active_pairs}
 use Rattle.board_laws.specs.FirstDiff.{Difference, first_diff, part_diff}
-use Rattle.board_laws.specs.Worlds.{SameRest}
 use Rattle.board_run.specs.BoardView.{BoardView}
-use Rattle.board_build.specs.declared.plan.Plan.{Plan}
-use Rattle.chip_module.specs.Sources.{pins_of}
-use Rattle.any_part.specs.AnyPart.{AnyPart, AnyState, any, state_of}
-use Rattle.any_part.specs.Start.{Contents, starts}
-use Rattle.isolation.specs.Worlds.{run_states}
 use Rattle.twin_run.specs.declared.twin.TwinEnd.{TwinEnd}
 use Rattle.twin_run.specs.declared.twin.TwinEnd.TheVariants as ends
 use Rattle.twin_run.specs.Twins.{IsTwin, TwinView, chip_pairs, cycle_of, end_of, other_states}
-use Rattle.cli_twin.specs.Shared.{Pair}
 use Rattle.cli_twin.specs.Line.{end_at, line, run_diff}
 use Rattle.cli_twin.specs.Answer.{IsLineOf, contents, difference, line_texts, pair_wakes}
-use Rattle.cli_twin.specs.Found.{Found, IsLoaded, beside, diff_of, twin_view}
 
 -- the first difference on one board is that of its two runs
 first_run : (one two : Contents) (plan : Plan) (n : ℕ) → first_diff any plan.wiring plan.inputs (starts one plan.parts) (starts two plan.parts) 0 n ≡ run_diff one plan two plan n
@@ -80,12 +71,11 @@ module _ (budget n : ℕ) (pair : Pair) (inputs : pair.one.plan.inputs ≡ []) (
 
     costs : after - before ≤ pair_wakes budget n pair
     costs =
-        let most = on_board.wakes in
         let own = ap (λ (t : ℕ). active_pairs any plan.wiring plan.inputs xs 0 t) until in
         let others =
         ap (λ (t : ℕ). chip_pairs any plan.wiring plan.inputs (starts two plan.parts) t) until
         ∙ ap (λ (p : Plan). chip_pairs any p.wiring p.inputs (starts two p.parts) (end_at n (difference budget n pair))) plans in
-        bound before after _ _ _ _ most own others
+        bound before after _ _ _ _ on_board.wakes own others
 
     same_rest : (c : ℕ) → c ≤ end_at n (difference budget n pair) → SameRest plan.wiring (run_states one plan c) (run_states two twin c)
     same_rest c less =

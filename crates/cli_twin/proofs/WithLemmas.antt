@@ -1,17 +1,9 @@
 -- A board with other chips, where these are found among those of the parts that are chips.
-use Rattle.std.proofs.Common.{◌≡◌, ◌∙◌, ◌<◌, ◌≤◌, ◌+◌, ◌++◌, ℕ, zero, suc, List, [], ◌∷◌, length, map, Bool, true, false, Option, None, Some, refl, ap, sym, arith, inl, inr}
-use Rattle.std.specs.Prelude.{slice_get, unwrap_or, if◌then◌else◌}
-use Rattle.std.specs.List.{flat_map}
-use Rattle.std.specs.Option.{option_map, option_to_list}
+use Rattle.cli_twin.proofs.Common.{◌≡◌, ◌∙◌, ◌<◌, ◌≤◌, ◌+◌, ◌++◌, ℕ, zero, suc, List, [], ◌∷◌, length, map, Bool, true, false, Option, None, Some, refl, ap}
+use Rattle.cli_twin.proofs.Common.{sym, arith, inl, inr, slice_get, unwrap_or, if◌then◌else◌, flat_map, option_map, option_to_list, same_Some, slice_get_cases}
+use Rattle.cli_twin.proofs.Common.{slice_get_within, slice_get-map, Wiring, Fits, Alike, SamePins, chips_before, with_chips, is_chip, SameRest}
 use Rattle.std.proofs.lemmas.List.Concat.{flat_map-cons}
-use Rattle.std.proofs.lemmas.Option.{same_Some, slice_get_cases, slice_get_within, slice_get-map}
-use Rattle.sim_base.specs.declared.wiring.Wiring.{Wiring}
 use Rattle.part_law.specs.Machine.{Machine}
-use Rattle.board_model.specs.Fits.{Fits}
-use Rattle.board_laws.specs.Alike.{Alike}
-use Rattle.board_laws.specs.FirstDiff.{SamePins}
-use Rattle.board_laws.specs.Twin.{chips_before, with_chips}
-use Rattle.board_laws.specs.Worlds.{is_chip, SameRest}
 use Rattle.board_laws.proofs.AlikeLemmas.{alike_tail}
 use Rattle.board_laws.proofs.WithChips.{get-with_chips, rest_with_chips}
 use Rattle.board_run.proofs.PartLemmas.{end_is}
@@ -82,8 +74,7 @@ module _ (w : Wiring) where
             let whole : owns (y ∷ ys) ≡ s.0 ∷ owns ys = owned y ys (Some s.0) (is_own y true_is ∙ s.1) in
             ap (λ (l : List S). slice_get l n) whole ∙ one_less n (next_before i true (here ∙ true_is)) place
         go false other =
-            let next = next_before i false (here ∙ other) in
-            ap (λ (l : List S). slice_get l n) (owned y ys None (none y other)) ∙ behind n (omega (arith, place, next))
+            ap (λ (l : List S). slice_get l n) (owned y ys None (none y other)) ∙ behind n (omega (arith, place, next_before i false (here ∙ other)))
 
     own_from : (i k n : ℕ) (xs : List X) (x : X) → AreWired i xs → HaveStates xs → slice_get xs k ≡ Some x → chip x ≡ true → chips_before w i + n ≡ chips_before w (i + k) →
         slice_get (owns xs) n ≡ all x

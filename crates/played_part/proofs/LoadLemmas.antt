@@ -1,38 +1,24 @@
 -- The parts of a plan, with players in place of the chips, as they are loaded one after the other.
-use Rattle.std.proofs.Common.{◌≡◌, ◌<◌, ◌≤◌, ◌+◌, ℕ, zero, suc, List, [], ◌∷◌, length, take, drop, get_or, Bool, true, false, Option, Some, inl, inr, refl, ap, sym, ◌∙◌, subst, arith, zero-add}
-use Rattle.std.specs.Prelude.{if◌then◌else◌, slice_get, slice_index, unwrap_or}
-use Rattle.std.specs.List.{sum_by}
+use Rattle.played_part.proofs.Common.{◌≡◌, ◌<◌, ◌≤◌, ◌+◌, ℕ, zero, suc, List, [], ◌∷◌, length, take, drop, get_or, Bool, true, false, Option, Some, inl, inr}
+use Rattle.played_part.proofs.Common.{refl, ap, sym, ◌∙◌, subst, arith, zero-add, if◌then◌else◌, slice_get, slice_index, unwrap_or, sum_by, length-map}
+use Rattle.played_part.proofs.Common.{length-drop, length-take-le, get_or-map, slice_get_read, slice_get-map, slice_get_cases, slice_get_within}
+use Rattle.played_part.proofs.Common.{get_or_from_slice_get, no_pins, Fits, some_same, DriveRows, new_player, or_player, played, PlanKind, PlanPart, is_chip}
+use Rattle.played_part.proofs.Common.{count_of, ChipSource, pins_of, AnyState, any, AnyPart, Contents, start_in, start_of, starts, AreReady, all_ready}
+use Rattle.played_part.proofs.Common.{begins_valid, first_begun, start_at, starts_fit, starts_many, PlayedState, PlayedPart, Begins, rows_from, rows_of_part}
+use Rattle.played_part.proofs.Common.{play_start}
 use Rattle.std.specs.Option.{option_map}
-use Rattle.std.proofs.lemmas.List.{length-map, length-drop, length-take-le, get_or-map}
 use Rattle.std.proofs.lemmas.List.Sums.{sum_by_more_le}
 use Rattle.std.proofs.lemmas.Bool.{ltb-true}
-use Rattle.std.proofs.lemmas.Option.{slice_get_read, slice_get-map, slice_get_cases, slice_get_within, get_or_from_slice_get}
-use Rattle.part_law.specs.Spans.{no_pins}
-use Rattle.board_model.specs.Fits.{Fits}
-use Rattle.board_model.proofs.Lists.{some_same}
-use Rattle.board_laws.specs.Player.{DriveRows, new_player}
-use Rattle.board_laws.specs.Play.{or_player, played}
 use Rattle.board_laws.specs.Worlds as worlds
 use Rattle.part_catalog.specs.declared.kind.Kind.{Kind}
-use Rattle.board_build.specs.declared.plan.PlanKind.{PlanKind}
 use Rattle.board_build.specs.declared.plan.PlanKind.TheVariants as plans
-use Rattle.board_build.specs.declared.plan.PlanPart.{PlanPart}
 use Rattle.board_build.specs.declared.plan.Plan.{Plan}
-use Rattle.board_build.specs.Parts.{is_chip}
-use Rattle.board_build.specs.Pins.{count_of}
 use Rattle.board_build.specs.IsPlan.{IsPlan, can_run, contact_count, kinds_in}
 use Rattle.board_build.proofs.PinLemmas.{starts_at, starts_length}
-use Rattle.chip_module.specs.declared.source.ChipSource.{ChipSource}
-use Rattle.chip_module.specs.Sources.{pins_of}
-use Rattle.any_part.specs.AnyPart.{AnyState, any, AnyPart}
 use Rattle.any_part.specs.AnyPart as any_parts
 use Rattle.any_part.specs.Start as starting
-use Rattle.any_part.specs.Start.{Contents, start_in, start_of, starts}
-use Rattle.any_part.proofs.StartLemmas.{AreReady, all_ready, begins_valid, first_begun, start_at, starts_fit, starts_many}
-use Rattle.played_part.specs.Played.{PlayedState, PlayedPart}
 use Rattle.played_part.proofs.PlayLemmas.{AreAsMany, many_played, played_at, played_fits}
 use Rattle.either_part.specs.declared.either.Either.TheVariants as eithers
-use Rattle.played_part.specs.Start.{Begins, rows_from, rows_of_part, play_start}
 
 no_contacts : (kind : PlanKind) → is_chip (Some kind) ≡ true → contact_count (Some kind) ≡ 0
 no_contacts (plans.Stock kind) is = absurd cc
@@ -91,14 +77,11 @@ module _ (has : Contents) (plan : Plan) (is : IsPlan (pins_of has.chips) plan) w
       let of : PlanPart → Option PlanKind = λ (p : PlanPart). Some p.kind in
       let kinds : List (Option PlanKind) = kinds_in plan.parts in
       let inside = slice_get_within plan.parts i part at in
-      let many : length kinds ≡ length plan.parts = length-map plan.parts of in
-      let within : i < length kinds = omega (arith, many, inside) in
+      let within : i < length kinds = omega (arith, length-map plan.parts of, inside) in
       let first : slice_index plan.wiring.first_pin i ≡ 0 + sum_by (count_of (pins_of has.chips)) (take i kinds) =
       ap (λ (l : List ℕ). slice_index l i) is.first_pins ∙ starts_at (pins_of has.chips) 0 kinds i within in
       let kind : get_or kinds i (Some part.kind) ≡ Some part.kind = get_or-map of plan.parts i part (Some part.kind) inside ∙ ap of (get_or_from_slice_get plan.parts i part part at) in
-      let more = sum_by_more_le (count_of (pins_of has.chips)) kinds i (Some part.kind) within in
-      let own = ap (count_of (pins_of has.chips)) kind in
-      omega (arith, first, more, own, is.pins)
+      omega (arith, first, sum_by_more_le (count_of (pins_of has.chips)) kinds i (Some part.kind) within, ap (count_of (pins_of has.chips)) kind, is.pins)
 
   pub firsts_many : length plan.wiring.first_pin ≡ length plan.parts
   firsts_many =
@@ -174,10 +157,9 @@ module _ (has : Contents) (plan : Plan) (is : IsPlan (pins_of has.chips) plan) w
         let part = part_there k inside in
         let chip : is_chip (Some part.0.kind) ≡ true = sym (chip_at k part.0 part.1) ∙ ap (worlds.is_chip plan.wiring) (sym n) ∙ here in
         let has_pins = start_pins has plan.parts (all_ready has plan is) k part.0 s part.1 e in
-        let fits = part_fits k part.0 part.1 in
         let first : ℕ = slice_index plan.wiring.first_pin k in
         let count : ℕ = count_of (pins_of has.chips) (Some part.0.kind) in
-        let taken : length (take count (drop first rows)) ≡ count = taken_many count first rows (omega (arith, fits, long)) in
+        let taken : length (take count (drop first rows)) ≡ count = taken_many count first rows (omega (arith, part_fits k part.0 part.1, long)) in
         let own : length (rows_of_part (pins_of has.chips) plan rows k) ≡ count =
         ap (λ (o : Option PlanPart). length (rows_from (pins_of has.chips) rows first (option_map (λ (p : PlanPart). p.kind) o))) part.1 ∙ taken in
         record {

@@ -1,15 +1,11 @@
 -- Players in place of some parts of a board: where each stands, and that they fit the board's wiring.
-use Rattle.std.proofs.Common.{◌≡◌, ◌⊎◌, ◌+◌, ◌<◌, ℕ, zero, suc, List, [], ◌∷◌, ◌++◌, length, take, drop, Bool, true, false, Some, inl, inr, refl, ap, sym, ◌∙◌, subst, arith}
-use Rattle.std.specs.Prelude.{if◌then◌else◌, slice_get}
-use Rattle.std.proofs.lemmas.List.{get_or-drop, length-append, length-drop, length-map, take_all, take_more}
-use Rattle.std.proofs.lemmas.Option.{slice_get-get_or, slice_get_within, get_or_from_slice_get}
+use Rattle.played_part.proofs.Common.{◌≡◌, ◌⊎◌, ◌+◌, ◌<◌, ℕ, zero, suc, List, [], ◌∷◌, ◌++◌, length, take, drop, Bool, true, false, Some, inl, inr, refl, ap}
+use Rattle.played_part.proofs.Common.{sym, ◌∙◌, subst, arith, if◌then◌else◌, slice_get, get_or-drop, length-append, length-drop, length-map, take_all}
+use Rattle.played_part.proofs.Common.{take_more, slice_get-get_or, slice_get_within, get_or_from_slice_get, Fits, some_same, DriveRows, PlayerState}
+use Rattle.played_part.proofs.Common.{new_player, or_player, played_from, played}
 use Rattle.part_law.specs.Machine.{Machine}
 use Rattle.sim_base.specs.declared.wiring.Wiring.{Wiring}
 use Rattle.board_model.specs.Board.{drives_of, contacts_of}
-use Rattle.board_model.specs.Fits.{Fits}
-use Rattle.board_model.proofs.Lists.{some_same}
-use Rattle.board_laws.specs.Player.{DriveRows, PlayerState, new_player}
-use Rattle.board_laws.specs.Play.{or_player, played_from, played}
 
 -- an item behind the first ones
 pub get_behind : {X : Type 0} (first : ℕ) (xs : List X) (i : ℕ) (x : X) → slice_get xs (first + i) ≡ Some x → slice_get (drop first xs) i ≡ Some x
@@ -33,9 +29,8 @@ module _ {S : Type 0} (these : ℕ → Bool) (rows : ℕ → List DriveRows) whe
   played_at i zero [] s e = absurd cc
   played_at i (suc k) [] s e = absurd cc
   played_at i zero (x ∷ ss) s e =
-      let same : x ≡ s = some_same e in
       let n : i ≡ i + 0 = omega arith in
-      ap (λ (y : S). Some (plays i y)) same ∙ ap (λ (j : ℕ). Some (plays j s)) n
+      ap (λ (y : S). Some (plays i y)) (some_same e) ∙ ap (λ (j : ℕ). Some (plays j s)) n
   played_at i (suc k) (x ∷ ss) s e =
       let n : i + 1 + k ≡ i + suc k = omega arith in
       played_at (i + 1) k ss s e ∙ ap (λ (j : ℕ). Some (plays j s)) n

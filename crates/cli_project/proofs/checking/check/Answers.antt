@@ -1,10 +1,6 @@
-use Rattle.std.proofs.Common.{ℕ, List, Ok, IfSome, codes, refl}
+use Rattle.cli_project.proofs.Common.{ℕ, List, Ok, IfSome, codes, refl, accepted, printed, alone_ran, outcome_of, work_of}
 use Rattle.sim_base.specs.declared.bench.Port.TheVariants as ports
-use Rattle.outcome_model.specs.Stop.{accepted, printed}
-use Rattle.outcome_model.proofs.EndLemmas.{alone_ran}
 use Rattle.cli_project.specs.Answer.{CheckAnswer}
-use Rattle.cli_work.specs.Outcomes.{outcome_of}
-use Rattle.cli_project.specs.Works.{work_of}
 use Rattle.cli_project.proofs.ProjectLemmas.{check_answer, check_stops}
 use Rattle.cli_project.proofs.checking.check.Goals as goal
 

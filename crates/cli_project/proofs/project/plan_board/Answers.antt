@@ -1,7 +1,5 @@
-use Rattle.std.proofs.Common.{length}
-use Rattle.std.proofs.lemmas.List.Elements.{All-map}
+use Rattle.cli_project.proofs.Common.{length, All-map, ChipSource}
 use Rattle.board_build.specs.Pins.{IsShort}
-use Rattle.chip_module.specs.declared.source.ChipSource.{ChipSource}
 use Rattle.cli_project.proofs.InputLemmas.{are_inputs}
 use Rattle.cli_project.proofs.project.plan_board.Goals as goal
 

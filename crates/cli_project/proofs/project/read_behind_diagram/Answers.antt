@@ -1,8 +1,4 @@
-use Rattle.std.proofs.Common.{ℕ, List, []}
-use Rattle.outcome_model.proofs.ReadLemmas.{first_stops, got_both}
-use Rattle.project_model.specs.Work.{ChipsAfter, BehindChips}
-use Rattle.cli_work.specs.Outcomes.{outcome_of}
-use Rattle.cli_project.specs.Works.{script_path, wave_path, work_of}
+use Rattle.cli_project.proofs.Common.{ℕ, List, [], first_stops, got_both, ChipsAfter, BehindChips, outcome_of, script_path, wave_path, work_of}
 use Rattle.cli_project.proofs.ProjectLemmas.{steady_chips}
 use Rattle.cli_project.proofs.project.read_behind_diagram.Goals as goal
 

@@ -1,10 +1,5 @@
-use Rattle.std.proofs.Common.{ℕ, List}
-use Rattle.document_model.proofs.LimitLemmas.{few_parts}
-use Rattle.outcome_model.specs.Work.{IsFile}
-use Rattle.outcome_model.proofs.ReadLemmas.{first_stops, got_both, steady_file}
-use Rattle.project_model.specs.Work.{diagram_name, drawn, BehindDiagram}
-use Rattle.cli_work.specs.Outcomes.{outcome_of}
-use Rattle.cli_project.specs.Works.{script_path, wave_path, work_of}
+use Rattle.cli_project.proofs.Common.{ℕ, List, few_parts, IsFile, first_stops, got_both, steady_file, diagram_name, drawn, BehindDiagram, outcome_of}
+use Rattle.cli_project.proofs.Common.{script_path, wave_path, work_of}
 use Rattle.cli_project.proofs.ProjectLemmas.{drawn_is}
 use Rattle.cli_project.proofs.project.read_behind_firmware.Goals as goal
 
@@ -13,9 +8,8 @@ read_behind_diagram-requires-clause-parts g c = let read = c.in-Ok.ensures.read 
 
 pub returns-in-Err-clause-got : goal.returns-in-Err-clause-got
 returns-in-Err-clause-got g c =
-    let folder : List ℕ = c.args.paths.scripted.folder.now in
-    let next = BehindDiagram folder (script_path c.args.paths.scripted) (wave_path c.args.paths) c.args.project c.args.flash in
-    first_stops (IsFile (diagram_name folder) drawn) next (outcome_of c.in-Err.end) _ _ c.in-Err.ensures.got
+    let next = BehindDiagram c.args.paths.scripted.folder.now (script_path c.args.paths.scripted) (wave_path c.args.paths) c.args.project c.args.flash in
+    first_stops (IsFile (diagram_name c.args.paths.scripted.folder.now) drawn) next (outcome_of c.in-Err.end) _ _ c.in-Err.ensures.got
 
 pub returns-in-Ok-clause-got : goal.returns-in-Ok-clause-got
 returns-in-Ok-clause-got g c =

@@ -1,10 +1,5 @@
-use Rattle.std.proofs.Common.{ℕ, List}
-use Rattle.text_model.specs.Hex.{hex_image}
-use Rattle.project_model.specs.Work.{in_folder, BehindFirmware}
-use Rattle.outcome_model.specs.Work.{IsFile}
-use Rattle.outcome_model.proofs.ReadLemmas.{first_stops, got_both, steady_file}
-use Rattle.cli_work.specs.Outcomes.{outcome_of}
-use Rattle.cli_project.specs.Works.{script_path, wave_path, work_of}
+use Rattle.cli_project.proofs.Common.{ℕ, List, hex_image, in_folder, BehindFirmware, IsFile, first_stops, got_both, steady_file, outcome_of, script_path}
+use Rattle.cli_project.proofs.Common.{wave_path, work_of}
 use Rattle.cli_project.proofs.project.read_behind_project.Goals as goal
 
 pub returns-in-Err-clause-got : goal.returns-in-Err-clause-got

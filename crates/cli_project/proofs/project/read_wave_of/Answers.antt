@@ -1,7 +1,4 @@
-use Rattle.std.proofs.Common.{Ok}
-use Rattle.outcome_model.specs.Work.{IsFileWithin}
-use Rattle.outcome_model.proofs.ReadLemmas.{named_stop}
-use Rattle.cli_work.specs.Outcomes.{outcome_of, stop_of}
+use Rattle.cli_project.proofs.Common.{Ok, IsFileWithin, named_stop, outcome_of, stop_of}
 use Rattle.cli_project.proofs.project.read_wave_of.Goals as goal
 
 pub returns-in-Err-clause-got : goal.returns-in-Err-clause-got

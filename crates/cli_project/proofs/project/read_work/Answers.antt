@@ -1,13 +1,5 @@
-use Rattle.std.proofs.Common.{ℕ, List, Option, Bor, codes, arith}
-use Rattle.std.specs.Option.{option_map}
-use Rattle.std.proofs.lemmas.Result.{err_from_is_err_and}
-use Rattle.document_model.specs.Project.{project_text}
-use Rattle.document_model.proofs.LimitLemmas.{few_chips}
-use Rattle.project_model.specs.Work.{in_folder, BehindProject}
-use Rattle.outcome_model.specs.Work.{IsFile}
-use Rattle.outcome_model.proofs.ReadLemmas.{first_stops, got_both, steady_file}
-use Rattle.cli_work.specs.Outcomes.{outcome_of}
-use Rattle.cli_project.specs.Works.{script_path, work_of}
+use Rattle.cli_project.proofs.Common.{ℕ, List, Option, Bor, codes, arith, option_map, err_from_is_err_and, project_text, few_chips, in_folder, BehindProject}
+use Rattle.cli_project.proofs.Common.{IsFile, first_stops, got_both, steady_file, outcome_of, script_path, work_of}
 use Rattle.cli_project.proofs.project.read_work.Goals as goal
 
 pub read_behind_project-requires : goal.read_behind_project-requires

@@ -1,9 +1,5 @@
-use Rattle.std.proofs.Common.{◌≡◌, ◌∙◌, ◌<◌, List, ap, get_or, length, map, subst, sym}
-use Rattle.std.specs.List.{All}
+use Rattle.cli_twin.proofs.Common.{◌≡◌, ◌∙◌, ◌<◌, List, ap, get_or, length, map, subst, sym, All, PlanPart, AnyPart, state_of, Started, chip_start}
 use Rattle.std.proofs.lemmas.List.Elements.{All-push}
-use Rattle.board_build.specs.declared.plan.PlanPart.{PlanPart}
-use Rattle.any_part.specs.AnyPart.{AnyPart, state_of}
-use Rattle.cli_twin.specs.Chips.{Started, chip_start}
 use Rattle.cli_twin.proofs.ChipLemmas.{IsNew, are_fresh, chip_more, chip_none}
 use Rattle.cli_twin.proofs.chips.load_chips.Goals as goal
 use Rattle.cli_twin.proofs.chips.load_chips.Goals.{in-Some+in_ok-push, in_default}

@@ -1,7 +1,4 @@
-use Rattle.std.proofs.Common.{◌≡◌, map, take}
-use Rattle.std.specs.List.{All}
-use Rattle.any_part.specs.AnyPart.{AnyPart, state_of, cycle_of, wakes_of}
-use Rattle.cli_twin.specs.Chips.{chip_starts}
+use Rattle.cli_twin.proofs.Common.{◌≡◌, map, take, All, AnyPart, state_of, cycle_of, wakes_of, chip_starts}
 use Rattle.cli_twin.proofs.chips.load_chips.Given as goal
 
 abbrev pub invariant-loop-part : goal.invariant-loop-part

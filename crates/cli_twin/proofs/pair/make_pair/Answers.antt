@@ -1,5 +1,4 @@
-use Rattle.std.proofs.Common.{sym}
-use Rattle.cli_project.specs.Works.{work_of}
+use Rattle.cli_twin.proofs.Common.{sym, work_of}
 use Rattle.cli_twin.proofs.SharedLemmas.{shared}
 use Rattle.cli_twin.proofs.pair.make_pair.Goals as goal
 

@@ -1,13 +1,5 @@
-use Rattle.std.proofs.Common.{ℕ, List, Err, None}
-use Rattle.sim_base.specs.Outside.{Outside}
-use Rattle.outcome_model.specs.Work.{Reading, Is, Then}
-use Rattle.outcome_model.proofs.ReadLemmas.{first_stops, got_both}
-use Rattle.project_model.specs.Work.{Work, WorkIn}
-use Rattle.cli_work.specs.Outcomes.{outcome_of}
-use Rattle.cli_project.specs.Works.{work_of}
-use Rattle.cli_project.proofs.ProjectLemmas.{steady_work}
-use Rattle.cli_twin.specs.Pairs.{pair_of}
-use Rattle.cli_twin.specs.Shared.{Pair, other_path, paired}
+use Rattle.cli_twin.proofs.Common.{ℕ, List, Err, None, Outside, Reading, Is, Then, first_stops, got_both, Work, WorkIn, outcome_of, work_of, steady_work}
+use Rattle.cli_twin.proofs.Common.{pair_of, Pair, other_path, paired}
 use Rattle.cli_twin.proofs.pair.read_pair.Goals as goal
 
 pub returns-in-Err-clause-got : goal.returns-in-Err-clause-got

@@ -1,12 +1,4 @@
-use Rattle.std.proofs.Common.{◌∙◌, ℕ, List, ap, subst}
-use Rattle.chip_module.specs.declared.source.ChipSource.{ChipSource}
-use Rattle.chip_module.specs.Sources.{pins_of}
-use Rattle.board_build.specs.declared.plan.PlanPart.{PlanPart}
-use Rattle.any_part.specs.Start.{Contents}
-use Rattle.cli_twin.specs.Shared.{Pair}
-use Rattle.cli_twin.specs.Found.{IsLoaded, diff_of}
-use Rattle.cli_twin.specs.Line.{line}
-use Rattle.cli_twin.specs.Pairs.{pair_of}
+use Rattle.cli_twin.proofs.Common.{◌∙◌, ℕ, List, ap, subst, ChipSource, pins_of, PlanPart, Contents, Pair, IsLoaded, diff_of, line, pair_of}
 use Rattle.cli_twin.proofs.TwinLemmas.{was_found}
 use Rattle.cli_twin.proofs.running.found_line.Goals as goal
 

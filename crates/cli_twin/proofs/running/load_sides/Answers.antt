@@ -1,7 +1,4 @@
-use Rattle.std.proofs.Common.{ℕ, List, Option, refl, subst, arith}
-use Rattle.board_build.specs.IsPlan.{IsPlan}
-use Rattle.chip_module.specs.declared.source.ChipSource.{ChipSource}
-use Rattle.any_part.specs.Start.{Contents}
+use Rattle.cli_twin.proofs.Common.{ℕ, List, Option, refl, subst, arith, IsPlan, ChipSource, Contents}
 use Rattle.cli_twin.proofs.ChipLemmas.{is_loaded}
 use Rattle.cli_twin.proofs.running.load_sides.Goals as goal
 

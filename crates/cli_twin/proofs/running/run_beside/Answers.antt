@@ -1,5 +1,4 @@
-use Rattle.std.proofs.Common.{◌≡◌, List, map, subst, sym}
-use Rattle.twin_run.specs.Twins.{AreTwins, HaveNoContacts, IsTwin, TwinView, other_states}
+use Rattle.cli_twin.proofs.Common.{◌≡◌, List, map, subst, sym, AreTwins, HaveNoContacts, IsTwin, TwinView, other_states}
 use Rattle.cli_twin.proofs.TwinLemmas.{is_view}
 use Rattle.cli_twin.proofs.running.run_beside.Goals as goal
 

@@ -1,10 +1,5 @@
-use Rattle.std.proofs.Common.{◌∙◌, ℕ, List, subst, string_bytes}
+use Rattle.cli_twin.proofs.Common.{◌∙◌, ℕ, List, subst, string_bytes, Outside, printed, RanOn, outcome_of, pair_of}
 use Rattle.sim_base.specs.declared.bench.Port.TheVariants as ports
-use Rattle.sim_base.specs.Outside.{Outside}
-use Rattle.outcome_model.specs.Stop.{printed}
-use Rattle.outcome_model.specs.Work.{RanOn}
-use Rattle.cli_work.specs.Outcomes.{outcome_of}
-use Rattle.cli_twin.specs.Pairs.{pair_of}
 use Rattle.cli_twin.proofs.AnswerLemmas.{one_part, twin_counts, twin_ends, twin_stops}
 use Rattle.cli_twin.proofs.running.twin.Goals as goal
 
@@ -15,10 +10,9 @@ returns-in-Ok-found_line-clause-ends g c =
     let b : Outside = g.B.Bench.outside c.write_text.new.bench in
     let o = outcome_of c.write_text.result in
     let said = one_part c.as_bytes.result.now ∙ c.as_bytes.ensures.value in
-    let ran = subst (λ (t : List ℕ). RanOn ports.Report o (printed t) m b) said c.write_text.ensures.ran in
     twin_ends c.args.folder.now c.args.other.now c.args.micros c.args.budget (pair_of c.in-Ok.pair) c.in-Ok.ensures.ready.sound_one.each c.in-Ok.ensures.ready.sound_other.each
     (string_bytes c.in-Ok-found_line.line) c.args.steps.now c.found_line.new.steps c.in-Ok-found_line.ensures.found o a m b c.in-Ok.ensures.got.0 c.in-Ok.ensures.got.1 c.in-Ok.ensures.ports
-    ran c.write_text.ensures.others
+    (subst (λ (t : List ℕ). RanOn ports.Report o (printed t) m b) said c.write_text.ensures.ran) c.write_text.ensures.others
 
 pub returns-in-Ok-found_line-clause-counts : goal.returns-in-Ok-found_line-clause-counts
 returns-in-Ok-found_line-clause-counts g c =

@@ -1,5 +1,4 @@
-use Rattle.std.proofs.Common.{◌∙◌, [], Some, ℕ, List, ap, sym}
-use Rattle.document_model.specs.declared.project.ChipFile.{ChipFile}
+use Rattle.cli_twin.proofs.Common.{◌∙◌, [], Some, ℕ, List, ap, sym, ChipFile}
 use Rattle.cli_twin.proofs.SharedLemmas.{pins_none, pins_other, pins_same}
 use Rattle.cli_twin.proofs.sharing.other_pins.Goals as goal
 

@@ -1,5 +1,4 @@
-use Rattle.std.proofs.Common.{◌≡◌, drop}
-use Rattle.cli_twin.specs.Shared.{other_pins}
+use Rattle.cli_twin.proofs.Common.{◌≡◌, drop, other_pins}
 use Rattle.cli_twin.proofs.sharing.other_pins.Given as goal
 
 abbrev pub invariant-loop-i : goal.invariant-loop-i

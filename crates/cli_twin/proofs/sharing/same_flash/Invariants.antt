@@ -1,5 +1,4 @@
-use Rattle.std.proofs.Common.{◌≡◌, true}
-use Rattle.cli_twin.specs.Shared.{same_below}
+use Rattle.cli_twin.proofs.Common.{◌≡◌, true, same_below}
 use Rattle.cli_twin.proofs.sharing.same_flash.Given as goal
 
 abbrev pub invariant-loop-i : goal.invariant-loop-i

@@ -1,7 +1,4 @@
-use Rattle.std.proofs.Common.{◌≡◌, drop}
-use Rattle.std.specs.Str.{bytes_eq}
-use Rattle.board_model.specs.Rows.{same_list}
-use Rattle.cli_twin.specs.Shared.{names_of}
+use Rattle.cli_twin.proofs.Common.{◌≡◌, drop, bytes_eq, same_list, names_of}
 use Rattle.cli_twin.proofs.sharing.same_names.Given as goal
 
 abbrev pub invariant-loop-i : goal.invariant-loop-i

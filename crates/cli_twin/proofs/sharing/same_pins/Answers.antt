@@ -1,5 +1,4 @@
-use Rattle.std.proofs.Common.{sym}
-use Rattle.cli_twin.specs.Shared.{same_pin}
+use Rattle.cli_twin.proofs.Common.{sym, same_pin}
 use Rattle.cli_twin.proofs.SharedLemmas.{lengths_differ}
 use Rattle.cli_twin.proofs.sharing.same_pins.Goals as goal
 

@@ -1,13 +1,6 @@
-use Rattle.std.proofs.Common.{◌≡◌, map, take, true}
-use Rattle.std.specs.List.{All}
-use Rattle.board_laws.specs.Play.{or_player, played}
+use Rattle.played_part.proofs.Common.{◌≡◌, map, take, true, All, or_player, played, pins_of, any, starts, uno_left, PlayedPart, state_of, cycle_of, wakes_of}
+use Rattle.played_part.proofs.Common.{rows_of_part}
 use Rattle.board_laws.specs.Worlds.{is_chip}
-use Rattle.chip_module.specs.Sources.{pins_of}
-use Rattle.any_part.specs.AnyPart.{any}
-use Rattle.any_part.specs.Start.{starts}
-use Rattle.any_part.proofs.LoadLemmas.{uno_left}
-use Rattle.played_part.specs.Played.{PlayedPart, state_of, cycle_of, wakes_of}
-use Rattle.played_part.specs.Start.{rows_of_part}
 use Rattle.played_part.proofs.loading.load_played.Given as goal
 
 abbrev pub invariant-loop-i : goal.invariant-loop-i

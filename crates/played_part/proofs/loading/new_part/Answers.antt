@@ -1,34 +1,23 @@
-use Rattle.std.proofs.Common.{◌≡◌, ◌∙◌, ℕ, List, length, take, drop, Some, ap, sym, arith}
-use Rattle.part_law.specs.Spans.{no_pins}
-use Rattle.board_build.specs.declared.plan.PlanKind.{PlanKind}
-use Rattle.board_build.specs.declared.plan.PlanPart.{PlanPart}
-use Rattle.board_build.specs.Parts.{is_uno}
-use Rattle.board_build.specs.Pins.{count_of}
-use Rattle.chip_module.specs.declared.source.ChipSource.{ChipSource}
-use Rattle.chip_module.specs.Sources.{pins_of}
+use Rattle.played_part.proofs.Common.{◌≡◌, ◌∙◌, ℕ, List, length, take, drop, Some, ap, sym, arith, no_pins, PlanKind, PlanPart, is_uno, count_of, ChipSource}
+use Rattle.played_part.proofs.Common.{pins_of, Contents, if_ok, PlayedPart}
 use Rattle.board_laws.specs.Player.{new_player as fresh_player}
-use Rattle.any_part.specs.Start.{Contents}
-use Rattle.any_part.proofs.LoadLemmas.{if_ok}
-use Rattle.played_part.specs.Played.{PlayedPart}
 use Rattle.either_part.specs.declared.either.Either.TheVariants as eithers
 use Rattle.played_part.proofs.LoadLemmas.{chip_count, player_begins, source_there, stock_begins}
 use Rattle.played_part.proofs.loading.new_part.Goals as goal
 
 pub returns-in-Stock-clause-begins : goal.returns-in-Stock-clause-begins
 returns-in-Stock-clause-begins c = λ flash there.
-    let part : PlanPart = c.args.part.now in
     let has : Contents = record { flash = flash; chips = c.args.chips.now; budget = 0 } in
-    stock_begins has c.args.rows.now c.args.first part c.in-Stock.kind c.stock_part.result c.in-Stock.is
-    (c.stock_part.ensures.begins has part.attrs (λ here. there (ap (λ (k : PlanKind). is_uno (Some k)) c.in-Stock.is ∙ here)))
+    stock_begins has c.args.rows.now c.args.first c.args.part.now c.in-Stock.kind c.stock_part.result c.in-Stock.is
+    (c.stock_part.ensures.begins has c.args.part.now.attrs (λ here. there (ap (λ (k : PlanKind). is_uno (Some k)) c.in-Stock.is ∙ here)))
 
 pub new_player-requires-clause-fits : goal.new_player-requires-clause-fits
 new_player-requires-clause-fits c =
     let chips : List ChipSource = c.args.chips.now in
-    let chip = c.in-Chip.chip in
     let source : ChipSource = c.index-chips-chip.result in
-    let there = source_there chips c.args.part.now.kind chip source c.in-Chip.is c.requires.ready c.index-chips-chip.is in
+    let there = source_there chips c.args.part.now.kind c.in-Chip.chip source c.in-Chip.is c.requires.ready c.index-chips-chip.is in
     let count : count_of (pins_of chips) (Some c.args.part.now.kind) ≡ length source.pins =
-    ap (λ (k : PlanKind). count_of (pins_of chips) (Some k)) c.in-Chip.is ∙ chip_count chips chip source there in
+    ap (λ (k : PlanKind). count_of (pins_of chips) (Some k)) c.in-Chip.is ∙ chip_count chips c.in-Chip.chip source there in
     let many : c.len-pins.result ≡ length source.pins = c.len-pins.ensures ∙ sym (ap (λ (s : ChipSource). length s.pins) c.index-chips-chip.is) in
     omega (arith, many, count, c.requires.fits)
 

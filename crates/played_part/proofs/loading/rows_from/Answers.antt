@@ -1,6 +1,4 @@
-use Rattle.std.proofs.Common.{◌≡◌, ◌∙◌, ◌++◌, ◌∷◌, [], ◌+◌, ap, sym, List, Some, drop}
-use Rattle.std.specs.Prelude.{slice_get}
-use Rattle.board_laws.specs.Player.{DriveRows}
+use Rattle.played_part.proofs.Common.{◌≡◌, ◌∙◌, ◌++◌, ◌∷◌, [], ◌+◌, ap, sym, List, Some, drop, slice_get, DriveRows}
 use Rattle.played_part.proofs.PlayLemmas.{get_behind, one_more}
 use Rattle.played_part.proofs.loading.rows_from.Goals as goal
 
