@@ -31,9 +31,9 @@ pub use Rattle.board_model.specs.Rows.{same_list, same_drive}
 pub use Rattle.board_model.proofs.SameLemmas.{drive_same, drive_means, drives_mean}
 pub use Rattle.net_resolve.specs.Groups.{AreGroups}
 pub use Rattle.net_resolve.specs.Sums.{is_loose, sum_at, added, strong_level, is_z, weak_level, resistors_add, over_adds, together, level_here, own_level}
-pub use Rattle.net_resolve.specs.WholeView.{WholeView, wired, levels_of}
-pub use Rattle.net_resolve.specs.Subcircuits.{SubcircuitView, IsCut, IsSubcircuit, AreSubcircuits, AreOwn, own_pair, picked, labels_of, AreRight, circuit_of}
-pub use Rattle.net_resolve.specs.Subcircuits.{Lacks, AreOnce, HasAllPins, FitsIn, AreApart, own_wired, level_now, AreNumbers}
+pub use Rattle.net_resolve.specs.WholeView.{WholeView, whole_with, levels_of}
+pub use Rattle.net_resolve.specs.Subcircuits.{SubcircuitView, IsCut, IsSubcircuit, AreSubcircuits, AreOwn, own_pair, picked, labels_of, AreRight, whole_of}
+pub use Rattle.net_resolve.specs.Subcircuits.{Lacks, AreOnce, HasAllPins, FitsIn, AreApart, own_whole, level_now, AreNumbers}
 pub use Rattle.net_resolve.specs.Sorted.{ArePicked}
 pub use Rattle.net_resolve.specs.NetsView.{NetsView, AreChanged}
 pub use Rattle.net_resolve.specs.Marked.{has, MarksView, with_mark, Taken}

@@ -3,7 +3,7 @@ use Rattle.net_resolve.proofs.Common.{◌≡◌, ℕ, zero, suc, ◌<◌, List, 
 use Rattle.net_resolve.proofs.Common.{get_or, length-set, ◌⊎◌, eqb_tells, length-map, slice_get_within, slice_get, slice_index, slice_set, Drive, Level, below}
 use Rattle.net_resolve.proofs.Common.{some_same, some_map, get_within, get_set_other, get-below, length-below, same_lists, WholeView, levels_of, AreChanged}
 use Rattle.net_resolve.proofs.Common.{MarksView, has, with_mark, Moves, Lacks, SubcircuitView, IsCut, IsSubcircuit, AreSubcircuits, AreRight, FitsIn, AreApart}
-use Rattle.net_resolve.proofs.Common.{own_wired, labels_of, level_now, map-map}
+use Rattle.net_resolve.proofs.Common.{own_whole, labels_of, level_now, map-map}
 use Rattle.sim_base.specs.declared.signal.Drive.TheVariants as drives
 use Rattle.board_model.specs.Resolve.{level_of, resolve}
 use Rattle.net_resolve.proofs.SubcircuitLemmas.{nets_once, net_label, net_labelled, net_there, others_lack, own_level}
@@ -105,7 +105,7 @@ module _ (w : WholeView) (labels : List ℕ) (cut : IsCut w labels) where
     -- its nets are right once it is resolved, and the others as they were
     pub right_step : (rest : List ℕ) (cs : List Bool) (ds : List Drive) (old new : List Level) → length cs ≡ length w.contacts → length ds ≡ length w.net_of →
         ((own_cs : List Bool) (own_ds : List Drive) → map Some own_cs ≡ map (slice_get cs) s.contacts → map Some own_ds ≡ map (slice_get ds) s.pins →
-        (j n : ℕ) → slice_get s.nets j ≡ Some n → slice_get new n ≡ slice_get (levels_of (own_wired s) own_cs own_ds) j) →
+        (j n : ℕ) → slice_get s.nets j ≡ Some n → slice_get new n ≡ slice_get (levels_of (own_whole s) own_cs own_ds) j) →
         ((n : ℕ) → Lacks s.nets n → slice_get new n ≡ slice_get old n) → AreRight w labels (q ∷ rest) cs ds old → AreRight w labels rest cs ds new
     right_step rest cs ds old new lc ld put others right n l e = elim (eqb_tells (slice_index labels n) q) [
       | inl t ↦

@@ -2,7 +2,7 @@
 use Rattle.net_resolve.proofs.Common.{◌≡◌, ◌≢◌, ℕ, suc, ◌+◌, ◌<◌, List, [], ◌∷◌, length, map, Bool, true, refl, ap, sym, ◌∙◌, arith, inl, inr, subst, Option}
 use Rattle.net_resolve.proofs.Common.{Some, get_or, eqb_tells, slice_get_within, slice_get, slice_index, zip, Drive, below, joins, some_same, some_map}
 use Rattle.net_resolve.proofs.Common.{get_map_some, get_within, get-below, WholeView, levels_of, Lacks, AreOnce, SubcircuitView, IsCut, IsSubcircuit, AreOwn}
-use Rattle.net_resolve.proofs.Common.{own_wired, picked, labels_of, level_now, joins_cases, joins_is, joins_swap, contact_of, contact_is, contact_bounds}
+use Rattle.net_resolve.proofs.Common.{own_whole, picked, labels_of, level_now, joins_cases, joins_is, joins_swap, contact_of, contact_is, contact_bounds}
 use Rattle.net_resolve.proofs.Common.{joined_bounds}
 use Rattle.board_model.specs.Resolve.{level_of, resolve}
 use Rattle.net_resolve.proofs.ReachLemmas.{any_at, any_some}
@@ -202,7 +202,7 @@ module _ (w : WholeView) (labels : List ℕ) (cut : IsCut w labels) (q : ℕ) (s
 
   -- what the subcircuit alone gives its nets
   pub own_level : (i n : ℕ) → slice_get s.nets i ≡ Some n →
-      slice_get (levels_of (own_wired s) own_cs own_ds) i ≡ Some (level_now w cs ds n)
+      slice_get (levels_of (own_whole s) own_cs own_ds) i ≡ Some (level_now w cs ds n)
   unfolding resolve
   own_level i n e =
       some_map (level_of (length s.nets) s.own_nets s.own_contacts s.own_resistors own_cs own_ds) (below (length s.nets)) i i (get-below (length s.nets) i (slice_get_within s.nets i n e))

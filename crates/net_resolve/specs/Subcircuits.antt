@@ -5,7 +5,7 @@ use Rattle.sim_base.specs.declared.signal.Drive.{Drive}
 use Rattle.sim_base.specs.declared.signal.Level.{Level}
 use Rattle.board_model.specs.Resolve.{level_of}
 use Rattle.sim_base.specs.declared.wiring.Wiring.{Wiring}
-use Rattle.net_resolve.specs.WholeView.{WholeView, wired}
+use Rattle.net_resolve.specs.WholeView.{WholeView, whole_with}
 use Rattle.net_resolve.specs.Marked.{has}
 use Rattle.board_model.specs.Pairs.{ArePairs}
 
@@ -34,11 +34,11 @@ pub record SubcircuitView : Type 0 where
   pub own_resistors : List (ℕ × ℕ)
 
 -- a subcircuit as a board of its own
-abbrev pub own_wired : SubcircuitView → WholeView
-own_wired s = wired (length s.nets) s.own_nets s.own_contacts s.own_resistors
+abbrev pub own_whole : SubcircuitView → WholeView
+own_whole s = whole_with (length s.nets) s.own_nets s.own_contacts s.own_resistors
 
-abbrev pub circuit_of : Wiring → WholeView
-circuit_of w = wired w.nets w.net_of w.contacts w.resistors
+abbrev pub whole_of : Wiring → WholeView
+whole_of w = whole_with w.nets w.net_of w.contacts w.resistors
 
 -- Each net has the number of its subcircuit, and what is joined has the same one.
 pub record IsCut (w : WholeView) (labels : List ℕ) : Type 0 where

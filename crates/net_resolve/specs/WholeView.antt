@@ -10,8 +10,8 @@ pub record WholeView : Type 0 where
   pub contacts : List (ℕ × ℕ)
   pub resistors : List (ℕ × ℕ)
 
-abbrev pub wired : ℕ → List ℕ → List (ℕ × ℕ) → List (ℕ × ℕ) → WholeView
-wired nets net_of contacts resistors = record { nets = nets; net_of = net_of; contacts = contacts; resistors = resistors }
+abbrev pub whole_with : ℕ → List ℕ → List (ℕ × ℕ) → List (ℕ × ℕ) → WholeView
+whole_with nets net_of contacts resistors = record { nets = nets; net_of = net_of; contacts = contacts; resistors = resistors }
 
 -- the levels by these contacts and drives
 abbrev pub levels_of : WholeView → List Bool → List Drive → List Level

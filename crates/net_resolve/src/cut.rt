@@ -2,7 +2,7 @@
 ghost use Rattle.std.specs.Prelude.{◌≡◌, ℕ, ◌<◌, ◌≤◌, ◌++◌, [], ◌∷◌, List, length, map, Some, slice_get, slice_index};
 ghost use Rattle.std.specs.Prelude.{slice_index_or, slice_set, IfOk, OnOk, vec_len};
 ghost use Rattle.board_model.specs.Fits.{IsWiring};
-ghost use Rattle.net_resolve.specs.Subcircuits.{IsCut, IsSubcircuit, AreSubcircuits, AreOnce, own_pair, picked, labels_of, circuit_of};
+ghost use Rattle.net_resolve.specs.Subcircuits.{IsCut, IsSubcircuit, AreSubcircuits, AreOnce, own_pair, picked, labels_of, whole_of};
 ghost use Rattle.net_resolve.specs.Sorted.{ArePicked, IsSorted};
 ghost use Rattle.board_model.specs.Pairs.{ArePairs};
 
@@ -92,8 +92,8 @@ fn pair_labels(alloc: Global, labels: &[u16], pairs: &[(u16, u16)]) -> Result<Ve
 
 /// Sorts what a wiring has by labels of its nets.
 fn sort_by(alloc: Global, wiring: &Wiring, labels: List<u16>) -> Result<Sorted, OutOfMemory>
-    requires { IsCut (circuit_of wiring.now) labels }
-    ensures { IfOk result (λ s. IsSorted (circuit_of wiring.now) s) }
+    requires { IsCut (whole_of wiring.now) labels }
+    ensures { IfOk result (λ s. IsSorted (whole_of wiring.now) s) }
 {
     let count = wiring.nets as usize;
     let keys = labels.as_slice();
@@ -116,7 +116,7 @@ fn sort_by(alloc: Global, wiring: &Wiring, labels: List<u16>) -> Result<Sorted, 
 /// Cuts the nets of a wiring where no contact and no resistor joins them.
 pub(crate) fn sort(alloc: Global, wiring: &Wiring) -> Result<Sorted, OutOfMemory>
     requires { IsWiring wiring.now }
-    ensures { IfOk result (λ s. IsSorted (circuit_of wiring.now) s) }
+    ensures { IfOk result (λ s. IsSorted (whole_of wiring.now) s) }
 {
     let mut labels = zeros(alloc, wiring.nets as usize)?;
     let places = labels.as_mut_slice();
@@ -190,11 +190,11 @@ fn cut_out(
     numbers: &mut [u16],
 ) -> Result<Subcircuit, OutOfMemory>
     requires wiring { IsWiring wiring.now }
-    requires sorted { IsSorted (circuit_of wiring.now) sorted.now }
+    requires sorted { IsSorted (whole_of wiring.now) sorted.now }
     requires few { wiring.now.nets ≤ 65536 }
     requires q { q < wiring.now.nets }
     requires numbers { length numbers.old ≡ wiring.now.nets }
-    ensures { IfOk result (λ s. IsSubcircuit (circuit_of wiring.now) sorted.now.labels q s) }
+    ensures { IfOk result (λ s. IsSubcircuit (whole_of wiring.now) sorted.now.labels q s) }
 {
     let nets = list_at(&sorted.nets, q);
     let pins = list_at(&sorted.pins, q);
@@ -215,9 +215,9 @@ pub(crate) fn cut_all(
     sorted: &Sorted,
 ) -> Result<Vec<Subcircuit>, OutOfMemory>
     requires wiring { IsWiring wiring.now }
-    requires sorted { IsSorted (circuit_of wiring.now) sorted.now }
+    requires sorted { IsSorted (whole_of wiring.now) sorted.now }
     ensures long { IfOk result (λ v. length v.items ≡ wiring.now.nets) }
-    ensures subcircuits { IfOk result (λ v. AreSubcircuits (circuit_of wiring.now) sorted.now.labels v.items) }
+    ensures subcircuits { IfOk result (λ v. AreSubcircuits (whole_of wiring.now) sorted.now.labels v.items) }
 {
     let mut numbers = zeros(alloc, wiring.nets as usize)?;
     let mut subcircuits = Vec::new(alloc);

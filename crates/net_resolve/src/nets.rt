@@ -8,7 +8,7 @@ ghost use Rattle.board_model.specs.Resolve.{resolve};
 ghost use Rattle.board_model.specs.Rows.{same_list, same_drive};
 ghost use Rattle.net_resolve.specs.NetsView.{NetsView, AreChanged};
 ghost use Rattle.net_resolve.specs.Marked.{has};
-ghost use Rattle.net_resolve.specs.Subcircuits.{IsCut, AreSubcircuits, circuit_of};
+ghost use Rattle.net_resolve.specs.Subcircuits.{IsCut, AreSubcircuits, whole_of};
 ghost use Rattle.net_resolve.specs.Watched.{flagged};
 
 use crate::cut::{cut_all, sort};
@@ -46,7 +46,7 @@ pub struct Nets {
 impl Model for Nets {
     ghost use Rattle.std.specs.Prelude.{◌≡◌, length, vec_len};
     ghost use Rattle.net_resolve.specs.NetsView.{NetsView};
-    ghost use Rattle.net_resolve.specs.WholeView.{wired};
+    ghost use Rattle.net_resolve.specs.WholeView.{whole_with};
     ghost use Rattle.net_resolve.specs.Subcircuits.{IsCut, AreSubcircuits, AreRight};
     ghost use Rattle.net_resolve.specs.Shown.{AreShown};
     ghost use Rattle.net_resolve.specs.Watched.{IsWatch, flagged};
@@ -67,9 +67,9 @@ impl Model for Nets {
     } };
 
     ghost invariant = { λ a. record {
-      cut : IsCut (wired (vec_len a.shown.levels) a.net_of.items a.contacts.items a.resistors.items) a.labels.items;
-      subcircuits : AreSubcircuits (wired (vec_len a.shown.levels) a.net_of.items a.contacts.items a.resistors.items) a.labels.items a.subcircuits.items;
-      right : AreRight (wired (vec_len a.shown.levels) a.net_of.items a.contacts.items a.resistors.items)
+      cut : IsCut (whole_with (vec_len a.shown.levels) a.net_of.items a.contacts.items a.resistors.items) a.labels.items;
+      subcircuits : AreSubcircuits (whole_with (vec_len a.shown.levels) a.net_of.items a.contacts.items a.resistors.items) a.labels.items a.subcircuits.items;
+      right : AreRight (whole_with (vec_len a.shown.levels) a.net_of.items a.contacts.items a.resistors.items)
           a.labels.items a.marks.marked a.closed.items a.drives.items a.shown.levels.items;
       subcircuits_long : length a.subcircuits.items ≡ vec_len a.shown.levels;
       marks_room : a.marks.room ≡ vec_len a.shown.levels;
@@ -83,9 +83,9 @@ impl Model for Nets {
 /// The number of each net's subcircuit, and the subcircuits.
 fn cut_wiring(alloc: Global, wiring: &Wiring) -> Result<(Vec<u16>, Vec<Subcircuit>), OutOfMemory>
     requires { IsWiring wiring.now }
-    ensures cut { IfOk result (λ v. IsCut (circuit_of wiring.now) v.0.items) }
+    ensures cut { IfOk result (λ v. IsCut (whole_of wiring.now) v.0.items) }
     ensures long { IfOk result (λ v. length v.1.items ≡ wiring.now.nets) }
-    ensures subcircuits { IfOk result (λ v. AreSubcircuits (circuit_of wiring.now) v.0.items v.1.items) }
+    ensures subcircuits { IfOk result (λ v. AreSubcircuits (whole_of wiring.now) v.0.items v.1.items) }
 {
     let sorted = sort(alloc, wiring)?;
     let labels = Vec::from_slice(alloc, sorted.labels.as_slice())?;

@@ -3,7 +3,7 @@ ghost use Rattle.std.specs.Prelude.{◌≡◌, ℕ, ◌<◌, List, length, map, 
 ghost use Rattle.sim_base.specs.declared.signal.Drive.{Drive};
 ghost use Rattle.net_resolve.specs.WholeView.{levels_of};
 ghost use Rattle.net_resolve.specs.Marked.{has};
-ghost use Rattle.net_resolve.specs.Subcircuits.{SubcircuitView, Lacks, FitsIn, own_wired};
+ghost use Rattle.net_resolve.specs.Subcircuits.{SubcircuitView, Lacks, FitsIn, own_whole};
 ghost use Rattle.net_resolve.specs.Resolutions.{IsResolution, AreResolutions, ArePlaces, IsBy, last_of};
 ghost use Rattle.net_resolve.specs.Shown.{AreShown, Moves};
 
@@ -209,7 +209,7 @@ impl Subcircuit {
             map Some own_closed ≡ map (slice_get closed.now) self.old.contacts →
             map Some own_drives ≡ map (slice_get drives.now) self.old.pins →
             (j n : ℕ) → slice_get self.old.nets j ≡ Some n →
-            slice_get shown.new.levels.items n ≡ slice_get (levels_of (own_wired self.old) own_closed own_drives) j }
+            slice_get shown.new.levels.items n ≡ slice_get (levels_of (own_whole self.old) own_closed own_drives) j }
         ensures others { (n : ℕ) → Lacks self.old.nets n → slice_get shown.new.levels.items n ≡ slice_get shown.old.levels.items n }
         ensures shown { AreShown net_of.now shown.new }
         ensures moves { Moves shown.old.levels.items shown.new.levels.items shown.old.changed shown.new.changed }

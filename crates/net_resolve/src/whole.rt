@@ -1,6 +1,6 @@
 //! Nets that are resolved as a whole.
 ghost use Rattle.std.specs.Prelude.{◌≡◌, ℕ, ◌<◌, ◌≤◌, List, length, Some, slice_get, IfOk, vec_len};
-ghost use Rattle.net_resolve.specs.WholeView.{WholeView, wired, levels_of};
+ghost use Rattle.net_resolve.specs.WholeView.{WholeView, whole_with, levels_of};
 ghost use Rattle.net_resolve.specs.Groups.{AreGroups};
 ghost use Rattle.board_model.specs.Pairs.{ArePairs};
 
@@ -79,7 +79,7 @@ impl Whole {
         requires pins { (k n : ℕ) → slice_get net_of.items k ≡ Some n → n < count }
         requires contacts { ArePairs count contacts.items }
         requires resistors { ArePairs count resistors.items }
-        ensures { IfOk result (λ n. n ≡ wired count net_of.items contacts.items resistors.items) }
+        ensures { IfOk result (λ n. n ≡ whole_with count net_of.items contacts.items resistors.items) }
     {
         let closed = no_flags(alloc, contacts.len())?;
         let mut groups = zeros(alloc, count)?;

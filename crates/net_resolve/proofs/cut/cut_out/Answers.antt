@@ -1,5 +1,5 @@
 use Rattle.net_resolve.proofs.Common.{◌≡◌, ◌∙◌, ℕ, List, length, map, arith, sym, ap, subst, Some, length-map, slice_get_within, slice_get, slice_index}
-use Rattle.net_resolve.proofs.Common.{SubcircuitView, IsSubcircuit, AreOwn, own_pair, circuit_of, WholeView}
+use Rattle.net_resolve.proofs.Common.{SubcircuitView, IsSubcircuit, AreOwn, own_pair, whole_of, WholeView}
 use Rattle.std.proofs.lemmas.Result.{IfOk-weaker}
 use Rattle.net_resolve.proofs.SubcircuitLemmas.{nets_once, net_labelled}
 use Rattle.net_resolve.proofs.CutLemmas.{mapped_below, pairs_below, picked_length, places_within, own_nets_are, own_net_below, own_pairs_are, own_pair_below}
@@ -46,7 +46,7 @@ own_pairs-requires-2 c =
 
 pub new-requires : goal.new-requires
 new-requires c =
-    let w = circuit_of c.args.wiring.now in
+    let w = whole_of c.args.wiring.now in
     let labels = c.args.sorted.now.labels in
     let s = c.requires.sorted in
     let q = c.args.q in
@@ -81,7 +81,7 @@ new-requires-2 c =
 
 pub returns : goal.returns
 returns c =
-    let w = circuit_of c.args.wiring.now in
+    let w = whole_of c.args.wiring.now in
     let labels = c.args.sorted.now.labels in
     let s = c.requires.sorted in
     let q = c.args.q in

@@ -1,5 +1,5 @@
 use Rattle.net_resolve.proofs.Common.{◌≡◌, ◌∙◌, ℕ, List, length, arith, sym, ap, subst, Some, slice_get, joined_by, lent_whole, joined_is, joins_is, IsCut}
-use Rattle.net_resolve.proofs.Common.{circuit_of}
+use Rattle.net_resolve.proofs.Common.{whole_of}
 use Rattle.union_find.proofs.ClassLemmas.{joins_keep, joins_same}
 use Rattle.net_resolve.proofs.WholeLemmas.{pairs_moved}
 use Rattle.net_resolve.proofs.cut.sort.Goals as goal
@@ -19,7 +19,7 @@ join_pairs-requires-clause-pairs c =
 
 pub sort_by-requires : goal.sort_by-requires
 sort_by-requires c =
-    let w = circuit_of c.args.wiring.now in
+    let w = whole_of c.args.wiring.now in
     let first = c.label_pairs in
     let last = c.join_pairs in
     let long : length first.new.labels ≡ w.nets = omega (arith, first.auto.labels, c.as_mut_slice-places.ensures.len, c.in_ok-labels.ensures) in

@@ -1,4 +1,4 @@
-use Rattle.net_resolve.proofs.Common.{◌≡◌, ◌∙◌, ap, arith, sym, subst, ℕ, List, map, length, Some, slice_get, slice_index, ArePicked, labels_of, circuit_of}
+use Rattle.net_resolve.proofs.Common.{◌≡◌, ◌∙◌, ap, arith, sym, subst, ℕ, List, map, length, Some, slice_get, slice_index, ArePicked, labels_of, whole_of}
 use Rattle.net_resolve.proofs.CutLemmas.{labels_below, net_labels_below, pair_labels_below}
 use Rattle.net_resolve.proofs.WholeLemmas.{pairs_moved}
 use Rattle.net_resolve.proofs.cut.sort_by.Goals as goal
@@ -12,7 +12,7 @@ pin_labels-requires c = λ k n e.
 
 pub sort_places-requires-2 : goal.sort_places-requires-2
 sort_places-requires-2 c =
-    net_labels_below (circuit_of c.args.wiring.now) c.args.labels c.requires c.deref.result.now
+    net_labels_below (whole_of c.args.wiring.now) c.args.labels c.requires c.deref.result.now
     (c.deref.ensures.value ∙ c.in_ok-pin_keys.ensures ∙ ap (λ (ns : List ℕ). map (slice_index c.as_slice-keys.result.now) ns) c.as_slice.ensures
     ∙ ap (λ (ls : List ℕ). map (slice_index ls) c.args.wiring.now.net_of) c.as_slice-keys.ensures)
 

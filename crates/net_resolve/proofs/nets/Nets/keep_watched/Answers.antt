@@ -1,5 +1,5 @@
 use Rattle.net_resolve.proofs.Common.{◌∙◌, List, Bool, ap, sym, subst, Drive, same_list, same_drive, NetsView, IsWatch, flagged}
-use Rattle.net_resolve.proofs.FirstLemmas.{seen_of}
+use Rattle.net_resolve.proofs.FirstLemmas.{view_of}
 use Rattle.net_resolve.proofs.nets.Nets.keep_watched.Goals as goal
 
 pub keep-requires : goal.keep-requires
@@ -23,8 +23,8 @@ invariant_of-self c =
 pub returns-clause-kept : goal.returns-clause-kept
 returns-clause-kept c =
     let i = c.self.inside in
-    ap (λ (fs : List Bool). seen_of i i.drives.items fs (flagged fs c.keep.new.self.kept.items)) c.keep.ensures.watched
-    ∙ ap (seen_of i i.drives.items i.watch.watched.items) (c.keep.ensures.kept ∙ ap (flagged i.watch.watched.items) c.deref.ensures.value)
+    ap (λ (fs : List Bool). view_of i i.drives.items fs (flagged fs c.keep.new.self.kept.items)) c.keep.ensures.watched
+    ∙ ap (view_of i i.drives.items i.watch.watched.items) (c.keep.ensures.kept ∙ ap (flagged i.watch.watched.items) c.deref.ensures.value)
     ∙ ap (λ (x : NetsView). let y : NetsView = record x { kept = flagged x.watched x.drives } in y) c.self.view_is
 
 pub returns-clause-same : goal.returns-clause-same

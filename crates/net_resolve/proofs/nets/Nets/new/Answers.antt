@@ -1,7 +1,7 @@
 use Rattle.net_resolve.proofs.Common.{◌∙◌, ℕ, ap, refl, replicate, false, vec_len, MarksView}
 use Rattle.sim_base.specs.declared.signal.Drive.TheVariants as drives
 use Rattle.sim_base.specs.declared.signal.Level.TheVariants as levels
-use Rattle.net_resolve.proofs.FirstLemmas.{first_circuit, first_invariant}
+use Rattle.net_resolve.proofs.FirstLemmas.{first_nets, first_invariant}
 use Rattle.net_resolve.proofs.nets.Nets.new.Goals as goal
 
 pub invariant_of-result : goal.invariant_of-result
@@ -27,7 +27,7 @@ invariant_of-result c =
 pub returns : goal.returns
 returns c =
     let ls = c.in_ok-levels.levels in
-    first_circuit c.args.wiring.now (vec_len ls) c.in_ok-net_of.net_of.items c.in_ok-contacts.contacts.items c.in_ok-resistors.resistors.items
+    first_nets c.args.wiring.now (vec_len ls) c.in_ok-net_of.net_of.items c.in_ok-contacts.contacts.items c.in_ok-resistors.resistors.items
     c.in_ok-drives.drives.items c.in_ok-closed.closed.items ls.items c.in_ok-changed.changed.marked c.in_ok-watched.watched.items c.in_ok-kept.kept.items
     ls.ok.0 (c.in_ok-net_of.ensures.items ∙ c.as_slice.ensures) (c.in_ok-contacts.ensures.items ∙ c.as_slice-2.ensures) (c.in_ok-resistors.ensures.items ∙ c.as_slice-3.ensures)
     (c.in_ok-drives.ensures.items ∙ ap (λ (k : ℕ). replicate k drives.Z) c.len.ensures) (c.in_ok-closed.ensures.items ∙ ap (λ (k : ℕ). replicate k false) c.len-2.ensures)

@@ -1,5 +1,5 @@
 use Rattle.net_resolve.proofs.Common.{◌≡◌, ◌<◌, ◌∙◌, ℕ, List, [], length, map, Bool, true, arith, sym, ap, refl, subst, Some, slice_get, slice_set, Drive}
-use Rattle.net_resolve.proofs.Common.{Level, resolve, get_within, NetsView, AreChanged, MarksView, has, IsWatch, flagged, WholeView, wired, AreShown}
+use Rattle.net_resolve.proofs.Common.{Level, resolve, get_within, NetsView, AreChanged, MarksView, has, IsWatch, flagged, WholeView, whole_with, AreShown}
 use Rattle.net_resolve.proofs.Common.{SubcircuitView, IsCut, AreSubcircuits, AreRight, FitsIn, Inside}
 use Rattle.std.specs.Vec.{with_item}
 use Rattle.net_resolve.proofs.MarkLemmas.{has_first}
@@ -7,11 +7,11 @@ use Rattle.net_resolve.proofs.RightLemmas.{set_same, right_step, changed_step, f
 use Rattle.net_resolve.proofs.nets.Nets.resolve_marked.Goals as goal
 
 -- the nets of what Nets has inside, of which there are so many
-abbrev wired_of : Inside → ℕ → WholeView
-wired_of x n = wired n x.net_of.items x.contacts.items x.resistors.items
+abbrev whole_in : Inside → ℕ → WholeView
+whole_in x n = whole_with n x.net_of.items x.contacts.items x.resistors.items
 
-abbrev seen_of : Inside → ℕ → List Level → List ℕ → NetsView
-seen_of x n levels changed = record {
+abbrev view_of : Inside → ℕ → List Level → List ℕ → NetsView
+view_of x n levels changed = record {
   nets = n;
   net_of = x.net_of.items;
   contacts = x.contacts.items;
@@ -67,7 +67,7 @@ resolve-requires c =
     let levels = sym now.shown.levels.ok.0 ∙ inv.nets in
     record {
       fits = subst (λ (ns : List ℕ). FitsIn ns (length c.deref.result.now) (length c.deref-in-Some.result.now) (length now.shown.levels.items) s) (sym net_of)
-          (fits_in (wired_of i i.shown.levels.len) i.labels.items v.cut q s (v.subcircuits q s first) (length c.deref.result.now) (length c.deref-in-Some.result.now) (length now.shown.levels.items) drives closed levels);
+          (fits_in (whole_in i i.shown.levels.len) i.labels.items v.cut q s (v.subcircuits q s first) (length c.deref.result.now) (length c.deref-in-Some.result.now) (length now.shown.levels.items) drives closed levels);
       fresh = λ j n e. inv.fresh q j n s (sym (c.in-Some.ensures.taken.rest q) ∙ has_first c.take.new.self.marked q q refl) first e;
       shown = subst (λ (ns : List ℕ). AreShown ns now.shown) (sym net_of) inv.shown;
     }
@@ -76,7 +76,7 @@ pub loop-q-preserved : goal.loop-q-preserved
 loop-q-preserved c =
     let i = c.self.inside in
     let v = c.self.invariant in
-    let w = wired_of i i.shown.levels.len in
+    let w = whole_in i i.shown.levels.len in
     let labels = i.labels.items in
     let now = c.loop-q.self-inside in
     let inv = c.loop-q.invariant in
@@ -119,13 +119,13 @@ invariant_of-self c =
     let n = now.shown.levels.len in
     let none = c.in_default.ensures.taken in
     record {
-      cut = subst (λ (x : Inside). IsCut (wired_of x n) x.labels.items) back (subst (λ (k : ℕ). IsCut (wired_of i k) i.labels.items) more v.cut);
-      subcircuits = subst (λ (x : Inside). AreSubcircuits (wired_of x n) x.labels.items now.subcircuits.items) back
-          (subst (λ (k : ℕ). AreSubcircuits (wired_of i k) i.labels.items now.subcircuits.items) more
-          (subst (λ (ss : List SubcircuitView). AreSubcircuits (wired_of i i.shown.levels.len) i.labels.items ss) (sym inv.subcircuits) v.subcircuits));
-      right = subst (λ (x : Inside). AreRight (wired_of x n) x.labels.items c.take.new.self.marked x.closed.items x.drives.items now.shown.levels.items) back
-          (subst (λ (k : ℕ). AreRight (wired_of i k) i.labels.items c.take.new.self.marked i.closed.items i.drives.items now.shown.levels.items) more
-          (subst (λ (ms : List ℕ). AreRight (wired_of i i.shown.levels.len) i.labels.items ms i.closed.items i.drives.items now.shown.levels.items) (none.0 ∙ sym none.1) inv.right));
+      cut = subst (λ (x : Inside). IsCut (whole_in x n) x.labels.items) back (subst (λ (k : ℕ). IsCut (whole_in i k) i.labels.items) more v.cut);
+      subcircuits = subst (λ (x : Inside). AreSubcircuits (whole_in x n) x.labels.items now.subcircuits.items) back
+          (subst (λ (k : ℕ). AreSubcircuits (whole_in i k) i.labels.items now.subcircuits.items) more
+          (subst (λ (ss : List SubcircuitView). AreSubcircuits (whole_in i i.shown.levels.len) i.labels.items ss) (sym inv.subcircuits) v.subcircuits));
+      right = subst (λ (x : Inside). AreRight (whole_in x n) x.labels.items c.take.new.self.marked x.closed.items x.drives.items now.shown.levels.items) back
+          (subst (λ (k : ℕ). AreRight (whole_in i k) i.labels.items c.take.new.self.marked i.closed.items i.drives.items now.shown.levels.items) more
+          (subst (λ (ms : List ℕ). AreRight (whole_in i i.shown.levels.len) i.labels.items ms i.closed.items i.drives.items now.shown.levels.items) (none.0 ∙ sym none.1) inv.right));
       subcircuits_long = ap length inv.subcircuits ∙ v.subcircuits_long ∙ more;
       marks_room = c.in_default.ensures.room ∙ inv.marks_room ∙ v.marks_room ∙ more;
       drives_long = subst (λ (x : Inside). x.drives.len ≡ x.net_of.len) back v.drives_long;
@@ -142,12 +142,12 @@ returns-clause-levels c =
     let n = i.shown.levels.len in
     let levels = now.shown.levels.items in
     let changed = now.shown.changed.marked in
-    let w = wired_of i n in
+    let w = whole_in i n in
     let found = subst (λ (ms : List ℕ). AreRight w i.labels.items ms i.closed.items i.drives.items levels) c.in_default.ensures.taken.0 inv.right in
     let are = right_all w i.labels.items c.self.invariant.cut i.closed.items i.drives.items levels (sym now.shown.levels.ok.0 ∙ inv.nets) found in
-    ap (λ (x : Inside). seen_of x now.shown.levels.len levels changed) inv.same
-    ∙ ap (λ (k : ℕ). seen_of i k levels changed) inv.nets
-    ∙ ap (λ (ls : List Level). seen_of i n ls changed) are
+    ap (λ (x : Inside). view_of x now.shown.levels.len levels changed) inv.same
+    ∙ ap (λ (k : ℕ). view_of i k levels changed) inv.nets
+    ∙ ap (λ (ls : List Level). view_of i n ls changed) are
     ∙ ap (λ (x : NetsView). let y : NetsView = record x { levels = resolve x.nets x.net_of x.contacts x.resistors x.closed x.drives; changed = changed } in y) c.self.view_is
 
 pub returns-clause-changed : goal.returns-clause-changed

@@ -1,4 +1,4 @@
-use Rattle.net_resolve.proofs.Common.{◌≡◌, length, vec_len, wired, AreShown, AreRight}
+use Rattle.net_resolve.proofs.Common.{◌≡◌, length, vec_len, whole_with, AreShown, AreRight}
 use Rattle.net_resolve.proofs.RightLemmas.{Begun, AreFresh}
 use Rattle.net_resolve.proofs.nets.Nets.resolve_marked.Given as goal
 
@@ -6,7 +6,7 @@ abbrev pub invariant-loop-q : goal.invariant-loop-q
 invariant-loop-q l =
     let now = l.self-inside in
     let first = l.initial.self-inside in
-    let w = wired (vec_len first.shown.levels) first.net_of.items first.contacts.items first.resistors.items in
+    let w = whole_with (vec_len first.shown.levels) first.net_of.items first.contacts.items first.resistors.items in
     record {
       same : now ≡ record first { subcircuits = now.subcircuits; marks = now.marks; shown = now.shown };
       subcircuits : now.subcircuits.items ≡ first.subcircuits.items;

@@ -1,5 +1,5 @@
 use Rattle.net_resolve.proofs.Common.{◌≡◌, ◌<◌, ◌∙◌, List, Bool, length, arith, sym, ap, subst, Some, ℕ, slice_set, slice_index, get_within, some_same}
-use Rattle.net_resolve.proofs.Common.{NetsView, MarksView, with_mark, AreRight, flagged, wired}
+use Rattle.net_resolve.proofs.Common.{NetsView, MarksView, with_mark, AreRight, flagged, whole_with}
 use Rattle.net_resolve.proofs.RightLemmas.{right_contact, set_same}
 use Rattle.net_resolve.proofs.nets.Nets.set_contact.Goals as goal
 
@@ -31,7 +31,7 @@ invariant_of-self c =
     let k = c.args.contact in
     let b = c.args.closed in
     let pair = c.index-then-not-is_same_flag.result.now in
-    let w = wired i.shown.levels.len i.net_of.items i.contacts.items i.resistors.items in
+    let w = whole_with i.shown.levels.len i.net_of.items i.contacts.items i.resistors.items in
     let inside : k < length i.contacts.items = omega (arith, c.requires, ap length (ap (λ (x : NetsView). x.contacts) c.self.view_is)) in
     let at = get_within i.contacts.items k pair inside ∙ ap Some (sym c.index-then-not-is_same_flag.ensures) in
     let within : pair.0 < length i.labels.items = omega (arith, (v.cut.contacts_within k pair at).0, v.cut.long) in

@@ -1,6 +1,6 @@
 use Rattle.net_resolve.proofs.Common.{◌≡◌, ◌<◌, ◌∙◌, List, length, arith, sym, ap, subst, Some, ℕ, slice_set, slice_index, Drive, get_within, some_same}
-use Rattle.net_resolve.proofs.Common.{drive_means, NetsView, MarksView, with_mark, AreRight, IsWatch, flagged, wired, Watch}
-use Rattle.net_resolve.proofs.FirstLemmas.{seen_of}
+use Rattle.net_resolve.proofs.Common.{drive_means, NetsView, MarksView, with_mark, AreRight, IsWatch, flagged, whole_with, Watch}
+use Rattle.net_resolve.proofs.FirstLemmas.{view_of}
 use Rattle.net_resolve.proofs.RightLemmas.{right_drive, set_same}
 use Rattle.net_resolve.proofs.nets.Nets.set_drive.Goals as goal
 
@@ -39,7 +39,7 @@ invariant_of-self c =
     let pin = c.args.pin in
     let d = c.args.drive in
     let net = c.index-then-not-is_same_drive.result.now in
-    let w = wired i.shown.levels.len i.net_of.items i.contacts.items i.resistors.items in
+    let w = whole_with i.shown.levels.len i.net_of.items i.contacts.items i.resistors.items in
     let inside : pin < length i.net_of.items = omega (arith, c.requires, ap length (ap (λ (x : NetsView). x.net_of) c.self.view_is)) in
     let at = get_within i.net_of.items pin net inside ∙ ap Some (sym c.index-then-not-is_same_drive.ensures) in
     let within : net < length i.labels.items = omega (arith, v.cut.pins_within pin net at, v.cut.long) in
@@ -62,7 +62,7 @@ invariant_of-self c =
 pub returns-then-not-is_same_drive : goal.returns-then-not-is_same_drive
 returns-then-not-is_same_drive c =
     let i = c.self.inside in
-    ap (λ (w : Watch). seen_of i (slice_set i.drives.items c.args.pin c.args.drive) w.watched.items (flagged w.watched.items w.kept.items)) c.note.ensures.rest
+    ap (λ (w : Watch). view_of i (slice_set i.drives.items c.args.pin c.args.drive) w.watched.items (flagged w.watched.items w.kept.items)) c.note.ensures.rest
     ∙ ap (λ (x : NetsView). let y : NetsView = record x { drives = slice_set x.drives c.args.pin c.args.drive } in y) c.self.view_is
 
 pub returns-else-not-is_same_drive : goal.returns-else-not-is_same_drive
@@ -73,5 +73,5 @@ returns-else-not-is_same_drive c =
     let inside : pin < length i.drives.items = omega (arith, c.requires, ap length (ap (λ (x : NetsView). x.net_of) c.self.view_is), c.self.invariant.drives_long, i.drives.ok.0, i.net_of.ok.0) in
     let at = get_within i.drives.items pin c.index.result.now inside ∙ ap Some (sym c.index.ensures ∙ drive_means _ _ (sym c.is_same_drive.ensures ∙ c.if-not-is_same_drive.false)) in
     sym c.self.view_is
-    ∙ ap (λ (ds : List Drive). seen_of i ds i.watch.watched.items (flagged i.watch.watched.items i.watch.kept.items)) (sym (set_same i.drives.items pin d at))
+    ∙ ap (λ (ds : List Drive). view_of i ds i.watch.watched.items (flagged i.watch.watched.items i.watch.kept.items)) (sym (set_same i.drives.items pin d at))
     ∙ ap (λ (x : NetsView). record x { drives = slice_set x.drives pin d }) c.self.view_is

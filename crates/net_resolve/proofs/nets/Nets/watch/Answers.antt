@@ -1,5 +1,5 @@
 use Rattle.net_resolve.proofs.Common.{◌∙◌, List, Bool, ap, sym, subst, length, arith, Drive, NetsView, IsWatch, flagged}
-use Rattle.net_resolve.proofs.FirstLemmas.{seen_of}
+use Rattle.net_resolve.proofs.FirstLemmas.{view_of}
 use Rattle.net_resolve.proofs.nets.Nets.watch.Goals as goal
 
 pub keep_all-requires : goal.keep_all-requires
@@ -30,6 +30,6 @@ pub returns : goal.returns
 returns c =
     let i = c.self.inside in
     let pins = c.args.pins.items in
-    ap (λ (fs : List Bool). seen_of i i.drives.items fs (flagged fs c.keep_all.new.self.kept.items)) c.keep_all.ensures.watched
-    ∙ ap (λ (ks : List Drive). seen_of i i.drives.items pins (flagged pins ks)) (c.keep_all.ensures.kept ∙ c.deref.ensures.value)
+    ap (λ (fs : List Bool). view_of i i.drives.items fs (flagged fs c.keep_all.new.self.kept.items)) c.keep_all.ensures.watched
+    ∙ ap (λ (ks : List Drive). view_of i i.drives.items pins (flagged pins ks)) (c.keep_all.ensures.kept ∙ c.deref.ensures.value)
     ∙ ap (λ (x : NetsView). let y : NetsView = record x { watched = pins; kept = flagged pins x.drives } in y) c.self.view_is

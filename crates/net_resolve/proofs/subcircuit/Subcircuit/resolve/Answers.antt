@@ -1,4 +1,4 @@
-use Rattle.net_resolve.proofs.Common.{◌≡◌, ◌∙◌, ℕ, sym, ap, subst, arith, length, map, List, Some, refl, slice_get, Level, WholeView, wired, levels_of}
+use Rattle.net_resolve.proofs.Common.{◌≡◌, ◌∙◌, ℕ, sym, ap, subst, arith, length, map, List, Some, refl, slice_get, Level, WholeView, whole_with, levels_of}
 use Rattle.net_resolve.proofs.Common.{AreResolutions, last_of, Resolution, length-map, Lacks, AreNumbers, SubcircuitView, level_at, lent_whole}
 use Rattle.net_resolve.proofs.ResolutionLemmas.{last_is, levels_same}
 use Rattle.net_resolve.proofs.PlaceLemmas.{same_somes}
@@ -58,8 +58,8 @@ returns-clause-put c = λ cs ds ec ed j n e.
     let levels = c.deref-3.ensures.value ∙ ap (λ (a : Resolution). a.levels.items) c.last.ensures ∙ (last_is w c.resolve_other.new.kept c.resolve_other.ensures.kept).levels_are ∙ levels_same w same_cs same_ds in
     let count : w.nets ≡ length c.args.self.now.nets = omega (arith, c.self.invariant.nets_long, c.deref-4.ensures.len, ap length nets) in
     put ∙ ap (λ (l : List Level). slice_get l j) levels
-    ∙ ap (λ (x : ℕ). slice_get (levels_of (wired x w.net_of w.contacts w.resistors) cs ds) j) count
-    ∙ ap (λ (v : SubcircuitView). slice_get (levels_of (wired (length c.args.self.now.nets) v.own_nets v.own_contacts v.own_resistors) cs ds) j) v
+    ∙ ap (λ (x : ℕ). slice_get (levels_of (whole_with x w.net_of w.contacts w.resistors) cs ds) j) count
+    ∙ ap (λ (v : SubcircuitView). slice_get (levels_of (whole_with (length c.args.self.now.nets) v.own_nets v.own_contacts v.own_resistors) cs ds) j) v
 
 pub put_pins-requires : goal.put_pins-requires
 put_pins-requires c =
