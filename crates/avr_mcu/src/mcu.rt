@@ -136,7 +136,7 @@ impl Part for Mcu {
 
     ghost now = { λ m. m.cycle };
 
-    ghost wake_count = { λ m. m.wakes };
+    ghost wakes = { λ m. m.wakes };
 
     ghost changes = { λ m. nat_lt m.moved.from m.moved.to };
 

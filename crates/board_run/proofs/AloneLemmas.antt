@@ -107,16 +107,16 @@ module _ {S P : Type 0} (m : Machine S) (laws : Laws m) (w : Wiring) (state : P 
             rw (glides.each k s.0 x s.1 ex) (stands_new k z s.0 ez s.1);
       }
 
-  shown_same : shown_at t kept.seen ≡ Some (shown_of m w Js)
+  shown_same : shown_at t kept.reading ≡ Some (shown_of m w Js)
   shown_same = lags_shown m laws w state now wakes t parts kept lags fresh after
 
-  pub alone_leg : (ds : List Drive) (cs : List Bool) (steps more : ℕ) → more ≡ steps + dues m s0 t (u - t) → Leg m w state now wakes inputs t u parts new kept.seen (retold kept.seen ds cs) steps more
+  pub alone_leg : (ds : List Drive) (cs : List Bool) (steps more : ℕ) → more ≡ steps + dues m s0 t (u - t) → Leg m w state now wakes inputs t u parts new kept.reading (retold kept.reading ds cs) steps more
   alone_leg ds cs steps more counted = record {
     order = order;
     long = new_long;
     states_are = stand_are m laws w state now wakes u new (states m w inputs Js t (u - t)) alone_stands;
-    before_is = rw shown_same (steady_before m laws w inputs Js t (u - t) steady (u - t) (omega arith)) ∙ sym shown_same ∙ later_shown t 0 kept.seen after
-        ∙ sym (later_shown u 0 kept.seen (omega (arith, after, order)));
+    before_is = rw shown_same (steady_before m laws w inputs Js t (u - t) steady (u - t) (omega arith)) ∙ sym shown_same ∙ later_shown t 0 kept.reading after
+        ∙ sym (later_shown u 0 kept.reading (omega (arith, after, order)));
     woken = λ k p z ep ez.
         let es : slice_get Js k ≡ Some (glided m state now wakes t p) = some_map (glided m state now wakes t) parts k p ep in
         let cycles = steady_cycles m laws w inputs Js t (u - t) steady (u - t) k (glided m state now wakes t p) (omega arith) es in
@@ -178,7 +178,7 @@ module _ {S P : Type 0} (m : Machine S) (laws : Laws m) (w : Wiring) (state : P 
             (cs ∙ late_contacts further) who z.0 s0 z.1 there));
       }
 
-  pub alone_rows : (n : ℕ) → n ≤ u - t → rows m w inputs (shown_at t kept.seen) Js t n ≡ []
+  pub alone_rows : (n : ℕ) → n ≤ u - t → rows m w inputs (shown_at t kept.reading) Js t n ≡ []
   alone_rows n within = ap (λ (o : Option Shown). rows m w inputs o Js t n) shown_same ∙ steady_rows m laws w inputs Js t (u - t) steady n within
 
   pub alone_bytes : (n : ℕ) → n ≤ u - t → bytes m w inputs Js t n ≡ sent m s0 t n
@@ -220,8 +220,8 @@ module _ {S P : Type 0} (m : Machine S) (laws : Laws m) (w : Wiring) (state : P 
   before k z ez = let p = some_there parts k (omega (arith, slice_get_within new k z ez, new_long)) in (p.0, p.1, after_is k p.0 z p.1 ez)
 
   -- the invariant after it
-  pub alone_lags : (changed : Bool) (d : Option ℕ) (ds : List Drive) (cs : List Bool) → IsTold m (map state new) (retold kept.seen ds cs).circuit → IsFirstDue m (state q0) (now q0) d → (changed ≡ false → m.drives (state q0) ≡ m.drives s0) → (changed ≡ false → m.contacts (state q0) ≡ m.contacts s0) →
-      Lags m w state now wakes u new (record { input = kept.input; changed = changed; dues = slice_set kept.dues who d; seen = retold kept.seen ds cs; answers = kept.answers })
+  pub alone_lags : (changed : Bool) (d : Option ℕ) (ds : List Drive) (cs : List Bool) → IsTold m (map state new) (retold kept.reading ds cs).nets → IsFirstDue m (state q0) (now q0) d → (changed ≡ false → m.drives (state q0) ≡ m.drives s0) → (changed ≡ false → m.contacts (state q0) ≡ m.contacts s0) →
+      Lags m w state now wakes u new (record { input = kept.input; changed = changed; dues = slice_set kept.dues who d; reading = retold kept.reading ds cs; answers = kept.answers })
   alone_lags changed d ds cs told first drives contacts =
       let room : who < length kept.dues = omega (arith, inside, lags.dues_long) in
       let due = due_set m state now wakes parts kept.dues who q0 d inside room (λ k p e ep ee. (lags.may k p e ep ee).first) first in
@@ -242,13 +242,13 @@ module _ {S P : Type 0} (m : Machine S) (laws : Laws m) (w : Wiring) (state : P 
         answers_long = lags.answers_long ∙ sym new_long;
         silent = lags.silent;
         fits = room.0;
-        suits = retold_suits m w (map state new) kept.seen ds cs room.0 lags.suits told;
-        fresh = λ none. retold_is m w (map state new) kept.seen ds cs told
-            (still_of m w state parts new kept.seen new_long (λ k p z ep ez. stays k p z ep ez none) (lags.fresh fresh));
+        suits = retold_suits m w (map state new) kept.reading ds cs room.0 lags.suits told;
+        fresh = λ none. retold_is m w (map state new) kept.reading ds cs told
+            (still_of m w state parts new kept.reading new_long (λ k p z ep ez. stays k p z ep ez none) (lags.fresh fresh));
         told = told;
         holds = λ k z ez later.
             let x = before k z ez in
-            x.2.held ∙ lags.holds k x.0 x.1 after ∙ ap (λ (i : ℕ). map (level_at kept.seen.circuit.levels) (own_nets w k i)) x.2.pins;
+            x.2.held ∙ lags.holds k x.0 x.1 after ∙ ap (λ (i : ℕ). map (level_at kept.reading.nets.levels) (own_nets w k i)) x.2.pins;
       }
 
 -- a script whose next value is not before the limit
@@ -264,23 +264,23 @@ module _ {S P : Type 0} (m : Machine S) (laws : Laws m) (w : Wiring) (state : P 
   pub record Goes (t u : ℕ) (parts new : List P) (kept after : Kept) (steps more : ℕ) (bs : ℕ → List ℕ) : Type 0 where
     pub lags : Lags m w state now wakes u new after
     pub behind : AreBehind inputs after.input u
-    pub leg : Leg m w state now wakes inputs t u parts new kept.seen after.seen steps more
+    pub leg : Leg m w state now wakes inputs t u parts new kept.reading after.reading steps more
     pub steady : IsSteady m w inputs (Ts m laws w state now wakes t parts) t (u - t)
     pub tells : LastTells m w inputs after.changed (Ts m laws w state now wakes t parts) t (u - t)
-    pub row_none : (n : ℕ) → n ≤ u - t → rows m w inputs (shown_at t kept.seen) (Ts m laws w state now wakes t parts) t n ≡ []
+    pub row_none : (n : ℕ) → n ≤ u - t → rows m w inputs (shown_at t kept.reading) (Ts m laws w state now wakes t parts) t n ≡ []
     pub bytes_are : (n : ℕ) → n ≤ u - t → bytes m w inputs (Ts m laws w state now wakes t parts) t n ≡ bs n
 
   -- where a part was found that goes on alone up to a limit, and it did
-  pub alone_goes : (moves : P → ℕ → Bool) (t limit : ℕ) (parts : List P) (kept : Kept) (changed : Bool) (steps more who : ℕ) (p q : P) (d : Option ℕ) (by : Went) (seen : ReadingView) →
-      seen ≡ retold kept.seen seen.circuit.drives seen.circuit.closed → IsTold m (map state (slice_set parts who q)) seen.circuit →
+  pub alone_goes : (moves : P → ℕ → Bool) (t limit : ℕ) (parts : List P) (kept : Kept) (changed : Bool) (steps more who : ℕ) (p q : P) (d : Option ℕ) (by : Went) (reading : ReadingView) →
+      reading ≡ retold kept.reading reading.nets.drives reading.nets.closed → IsTold m (map state (slice_set parts who q)) reading.nets →
       Lags m w state now wakes t parts kept → kept.changed ≡ false → 0 < t → AreBehind inputs kept.input t → limit ≤ MOST_CYCLES → IsAlone inputs kept.dues kept.input who t limit →
       slice_get parts who ≡ Some p → WentBy m state now wakes moves t limit p q d by steps more → Shifted m state p q changed →
-      Goes t by.to parts (slice_set parts who q) kept (record { input = kept.input; changed = changed; dues = slice_set kept.dues who d; seen = seen; answers = kept.answers }) steps more (sent m (glided m state now wakes t p) t)
-  alone_goes moves t limit parts kept changed steps more who p q d by seen rest is_told lags fresh later behind end alone here went shifted =
+      Goes t by.to parts (slice_set parts who q) kept (record { input = kept.input; changed = changed; dues = slice_set kept.dues who d; reading = reading; answers = kept.answers }) steps more (sent m (glided m state now wakes t p) t)
+  alone_goes moves t limit parts kept changed steps more who p q d by reading rest is_told lags fresh later behind end alone here went shifted =
       let u = by.to in
-      let ds = seen.circuit.drives in
-      let cs = seen.circuit.closed in
-      let told : IsTold m (map state (slice_set parts who q)) (retold kept.seen ds cs).circuit = record { drives_are = is_told.drives_are; closed_are = is_told.closed_are } in
+      let ds = reading.nets.drives in
+      let cs = reading.nets.closed in
+      let told : IsTold m (map state (slice_set parts who q)) (retold kept.reading ds cs).nets = record { drives_are = is_told.drives_are; closed_are = is_told.closed_are } in
       let further = went.further in
       let within = went.within in
       let order : t ≤ u = omega (arith, further) in

@@ -55,15 +55,15 @@ module _ {S : Type 0} (m : Machine S) (w : Wiring) (inputs : List Input) (before
 
 -- where it was cut off after a leg, it was cut off
 module _ {S P W : Type 0} (m : Machine S) (laws : Laws m) (w : Wiring) (state : P → S) (now wakes : P → ℕ) (inputs : List Input) (whole : W → Bool) (faults : W → ℕ) (stands stopped : W → List Row → List ℕ → Type 0) where
-  pub cut_then : (t u v a b : ℕ) (old mid : List P) (before seen : ReadingView) (x y z : W) → Leg m w state now wakes inputs t u old mid before seen a b →
+  pub cut_then : (t u v a b : ℕ) (old mid : List P) (before reading : ReadingView) (x y z : W) → Leg m w state now wakes inputs t u old mid before reading a b →
       Handed whole faults stands x y (rows m w inputs (shown_at t before) (Ts m laws w state now wakes t old) t (u - t)) (bytes m w inputs (Ts m laws w state now wakes t old) t (u - t)) →
-      IsCutOff m w inputs (shown_at u seen) (Ts m laws w state now wakes u mid) u v whole faults stands stopped y z → IsCutOff m w inputs (shown_at t before) (Ts m laws w state now wakes t old) t v whole faults stands stopped x z
-  cut_then t u v a b old mid before seen x y z leg handed cut =
+      IsCutOff m w inputs (shown_at u reading) (Ts m laws w state now wakes u mid) u v whole faults stands stopped y z → IsCutOff m w inputs (shown_at t before) (Ts m laws w state now wakes t old) t v whole faults stands stopped x z
+  cut_then t u v a b old mid before reading x y z leg handed cut =
       let later = cut.from in
-      let stood = states_on m laws w state now wakes inputs t u v a b old mid before seen leg later in
+      let stood = states_on m laws w state now wakes inputs t u v a b old mid before reading leg later in
       record {
         between = cut.between;
         from = omega (arith, leg.order, later);
-        handed = handed_then whole faults stands x y cut.between _ _ _ _ _ _ handed cut.handed (rows_on m laws w state now wakes inputs t u v a b old mid before seen leg later) (bytes_on m laws w state now wakes inputs t u v a b old mid before seen leg later);
-        stops = rw (shown_on m laws w state now wakes inputs t u v a b old mid before seen leg later, stood) cut.stops;
+        handed = handed_then whole faults stands x y cut.between _ _ _ _ _ _ handed cut.handed (rows_on m laws w state now wakes inputs t u v a b old mid before reading leg later) (bytes_on m laws w state now wakes inputs t u v a b old mid before reading leg later);
+        stops = rw (shown_on m laws w state now wakes inputs t u v a b old mid before reading leg later, stood) cut.stops;
       }

@@ -23,16 +23,16 @@ module _ {P : Type 0} (part : Ghosts P) (laws : Laws part.machine) where
     may = record { lags = may.lags; behind = may.behind; order = may.order };
     same_wiring = refl;
     same_inputs = refl;
-    leg = leg_none part.machine laws e.wiring part.state part.now part.wake_count e.inputs e.cycle steps e.parts e.reading;
+    leg = leg_none part.machine laws e.wiring part.state part.now part.wakes e.inputs e.cycle steps e.parts e.reading;
     tells = λ (less : e.cycle < e.cycle). absurd (omega arith);
   }
 
   -- part i after its turn in place of what it was
   pub turn_replaces : (old new : Engine P) (i place : ℕ) (may_hear : Bool) (differ : PartSet) (woken : Woken) (steps more : ℕ) → MayTurnPart part old i may_hear differ place → (at : TurnedAt part old new i differ place woken steps more) →
-      Replaced part.machine new.wiring part.state i old.parts new.parts new.reading.circuit at.p at.q
+      Replaced part.machine new.wiring part.state i old.parts new.parts new.reading.nets at.p at.q
   turn_replaces old new i place may_hear differ woken steps more may at =
-      let room = turned_room part.machine laws part.state part.now part.wake_count old.cycle at.p at.q (to_wake at.d old.cycle (input_at (given old place) old.cycle i) (has_part differ i))
-      (levels_on part.machine old.wiring old.reading.circuit.levels i (part.state at.p)) (input_at (given old place) old.cycle i) at.byte woken.changed at.turn.turn in
+      let room = turned_room part.machine laws part.state part.now part.wakes old.cycle at.p at.q (to_wake at.d old.cycle (input_at (given old place) old.cycle i) (has_part differ i))
+      (levels_on part.machine old.wiring old.reading.nets.levels i (part.state at.p)) (input_at (given old place) old.cycle i) at.byte woken.changed at.turn.turn in
       rw at.same (record { was = at.was; new_is = refl; pins = room.0; ports = room.1; fits = may.fits; told = may.told })
 
   -- and the nets may be told of it
@@ -46,16 +46,16 @@ module _ {P : Type 0} (part : Ghosts P) (laws : Laws part.machine) where
         q = at.q;
         replaced = turn_replaces old new i place may_hear differ woken steps more may at;
         suits = subst (λ (e : Engine P). Suits e.wiring e.reading) (sym at.same) may.suits;
-        still = turned_still part.machine laws part.state part.now part.wake_count old.cycle at.p at.q (to_wake at.d old.cycle (input_at (given old place) old.cycle i) (has_part differ i))
-            (levels_on part.machine old.wiring old.reading.circuit.levels i (part.state at.p)) (input_at (given old place) old.cycle i) at.byte woken.changed valid quiet at.turn.turn;
-        others = λ some. turned_others part.machine laws part.state part.now part.wake_count old.cycle at.p at.q (part.moves at.q) valid quiet (at.turn.others some);
+        still = turned_still part.machine laws part.state part.now part.wakes old.cycle at.p at.q (to_wake at.d old.cycle (input_at (given old place) old.cycle i) (has_part differ i))
+            (levels_on part.machine old.wiring old.reading.nets.levels i (part.state at.p)) (input_at (given old place) old.cycle i) at.byte woken.changed valid quiet at.turn.turn;
+        others = λ some. turned_others part.machine laws part.state part.now part.wakes old.cycle at.p at.q (part.moves at.q) valid quiet (at.turn.others some);
       }
 
   -- what nets have of a part that was replaced
-  pub told_place : (e : Engine P) (i first : ℕ) (nets : NetsView) (before : List P) (p q x : P) → Replaced part.machine e.wiring part.state i before e.parts e.reading.circuit p q → first ≡ slice_index e.wiring.first_pin i → nets ≡ e.reading.circuit → slice_get e.parts i ≡ Some x →
+  pub told_place : (e : Engine P) (i first : ℕ) (nets : NetsView) (before : List P) (p q x : P) → Replaced part.machine e.wiring part.state i before e.parts e.reading.nets p q → first ≡ slice_index e.wiring.first_pin i → nets ≡ e.reading.nets → slice_get e.parts i ≡ Some x →
       (q ≡ x) × Placed part.machine e.wiring part.state i first e.parts nets p x
   told_place e i first nets before p q x was at is here =
-      let there = placed part.machine e.wiring part.state i first before e.parts e.reading.circuit p q was at in
+      let there = placed part.machine e.wiring part.state i first before e.parts e.reading.nets p q was at in
       let same : q ≡ x = some_same (sym there.there ∙ here) in (same, rw (← same, is) there)
 
   -- an engine of the same board
@@ -74,28 +74,28 @@ module _ {P : Type 0} (part : Ghosts P) (laws : Laws part.machine) where
           may = after.may;
           same_wiring = after.same_wiring ∙ first.same_wiring;
           same_inputs = after.same_inputs ∙ first.same_inputs;
-          leg = leg_then part.machine laws old.wiring part.state part.now part.wake_count old.inputs old.cycle mid.cycle new.cycle steps more old.parts
+          leg = leg_then part.machine laws old.wiring part.state part.now part.wakes old.inputs old.cycle mid.cycle new.cycle steps more old.parts
               mid.parts old.reading mid.reading first.leg
               (omega (arith, further)) most new.parts new.reading second.leg;
-          tells = λ _. tells_then part.machine laws old.wiring part.state part.now part.wake_count old.inputs old.cycle mid.cycle new.cycle steps more
+          tells = λ _. tells_then part.machine laws old.wiring part.state part.now part.wakes old.inputs old.cycle mid.cycle new.cycle steps more
               old.parts mid.parts old.reading mid.reading first.leg
               (omega (arith, further)) new.changed further (second.tells further);
         }
 
     pub rows_then : rows_to part old new.cycle ≡ rows_to part old mid.cycle ++ rows_to part Here new.cycle
-    rows_then = rows_on part.machine laws old.wiring part.state part.now part.wake_count old.inputs old.cycle mid.cycle new.cycle steps more old.parts mid.parts old.reading mid.reading first.leg (omega (arith, further))
+    rows_then = rows_on part.machine laws old.wiring part.state part.now part.wakes old.inputs old.cycle mid.cycle new.cycle steps more old.parts mid.parts old.reading mid.reading first.leg (omega (arith, further))
 
     pub bytes_then : bytes_to part old new.cycle ≡ bytes_to part old mid.cycle ++ bytes_to part Here new.cycle
-    bytes_then = bytes_on part.machine laws old.wiring part.state part.now part.wake_count old.inputs old.cycle mid.cycle new.cycle steps more old.parts mid.parts old.reading mid.reading first.leg (omega (arith, further))
+    bytes_then = bytes_on part.machine laws old.wiring part.state part.now part.wakes old.inputs old.cycle mid.cycle new.cycle steps more old.parts mid.parts old.reading mid.reading first.leg (omega (arith, further))
 
   -- nothing is shown up to the next cycle in which something may happen
   pub jumps : (e : Engine P) (n u steps : ℕ) → MayRun part e → IsNext e n u → n ≤ MOST_CYCLES → e.cycle < u →
-      (e.changed ≡ false) × Jumps part.machine laws e.wiring part.state part.now part.wake_count e.inputs e.cycle u e.parts (kept_of e) steps
+      (e.changed ≡ false) × Jumps part.machine laws e.wiring part.state part.now part.wakes e.inputs e.cycle u e.parts (kept_of e) steps
   jumps e n u steps may next end less =
       let still = unchanged e.changed e.cycle u next.stays less in
       let none : e.changed ≡ true → u ≡ e.cycle = λ is. absurd (let x : true ≡ false = sym is ∙ still.0 in cc) in (
         still.0,
-        jumps_to part.machine laws e.wiring part.state part.now part.wake_count e.inputs e.cycle u e.parts (kept_of e) steps may.lags still.1 next.from (omega (arith, next.within, end)) none
+        jumps_to part.machine laws e.wiring part.state part.now part.wakes e.inputs e.cycle u e.parts (kept_of e) steps may.lags still.1 next.from (omega (arith, next.within, end)) none
             (λ k x is. next.late k x is) next.silent,
       )
 
@@ -123,14 +123,14 @@ module _ {P : Type 0} (part : Ghosts P) (laws : Laws part.machine) where
   pub on_settled : (old mid new : Engine P) (steps more : ℕ) → WentOn part old mid steps more → Settled part mid new → WentOn part old (record mid { parts = new.parts; dues = new.dues }) steps more
   on_settled old mid new steps more went s = record {
     may = record {
-      lags = settled_lags part.machine laws mid.wiring part.state part.now part.wake_count mid.inputs mid.cycle mid.parts new.parts s.long s.each
+      lags = settled_lags part.machine laws mid.wiring part.state part.now part.wakes mid.inputs mid.cycle mid.parts new.parts s.long s.each
           (kept_of mid) new.dues went.may.lags s.dues_long s.due;
       behind = went.may.behind;
       order = went.may.order;
     };
     same_wiring = went.same_wiring;
     same_inputs = went.same_inputs;
-    leg = settled_leg part.machine laws old.wiring part.state part.now part.wake_count old.inputs mid.cycle mid.parts new.parts s.long s.each old.cycle
+    leg = settled_leg part.machine laws old.wiring part.state part.now part.wakes old.inputs mid.cycle mid.parts new.parts s.long s.each old.cycle
         old.parts old.reading mid.reading steps more went.leg;
     tells = went.tells;
   }
@@ -169,7 +169,7 @@ module _ {P : Type 0} (part : Ghosts P) (laws : Laws part.machine) where
                 record {
                   v = f.v;
                   follows = f.follows;
-                  cut_off = cut_then part.machine laws old.wiring part.state part.now part.wake_count old.inputs watcher.whole watcher.faults watcher.stands watcher.stopped old.cycle mid.cycle f.v steps more old.parts mid.parts old.reading mid.reading
+                  cut_off = cut_then part.machine laws old.wiring part.state part.now part.wakes old.inputs watcher.whole watcher.faults watcher.stands watcher.stopped old.cycle mid.cycle f.v steps more old.parts mid.parts old.reading mid.reading
                       out between after first.on.leg handed f.cut_off;
                 },
               );

@@ -9,7 +9,7 @@ use Rattle.board_model.specs.Board.{level_at, own_nets, levels_of, part_step, st
 use Rattle.board_model.specs.Rows.{Shown, same_list, same_level, shown_of, shown_before, row_if, rows}
 use Rattle.board_laws.proofs.AlikeLemmas.{alike_weaker, flat_map_alike}
 use Rattle.board_laws.proofs.BesideLaw.{same_levels, same_shown, same_drives, same_row, same_chips}
-use Rattle.board_run.proofs.ScriptLemmas.{values_now}
+use Rattle.board_run.proofs.ScriptLemmas.{given_now}
 use Rattle.board_run.proofs.ShowLemmas.{shown_is, later_shown, still_of, not_first}
 use Rattle.board_run.proofs.ReadLemmas.{retold_suits, retold_is, flat_each}
 use Rattle.board_run.proofs.TurnLemmas.{some_there, same_room, turns_stand}
@@ -52,8 +52,8 @@ module _ {S P : Type 0} (m : Machine S) (laws : Laws m) (w : Wiring) (state : P 
       sym r.2 ∙ sym (like.each k r.0 y r.1 ey).is)
 
   -- what was read of lagging parts is so of the board
-  pub lag_of : (parts : List P) (ts : List S) (seen : ReadingView) → Alike (λ k a b. SameShow m m a b) (map state parts) ts → IsOf m w (map state parts) seen → IsOf m w ts seen
-  lag_of parts ts seen like is = record {
+  pub lag_of : (parts : List P) (ts : List S) (reading : ReadingView) → Alike (λ k a b. SameShow m m a b) (map state parts) ts → IsOf m w (map state parts) reading → IsOf m w ts reading
+  lag_of parts ts reading like is = record {
     drives_are = is.drives_are ∙ same_drives m m w (map state parts) ts like;
     closed_are = is.closed_are ∙ flat_map_alike m.contacts m.contacts (map state parts) ts (alike_weaker (λ k a b. SameShow m m a b) (λ k a b. m.contacts a ≡ m.contacts b) (map state parts) ts like (λ k a b ea eb s. s.contacts));
     levels_are = is.levels_are ∙ same_levels m m w (map state parts) ts like;
@@ -65,8 +65,8 @@ module _ {S P : Type 0} (m : Machine S) (laws : Laws m) (w : Wiring) (state : P 
     stood : (k : ℕ) (s : S) → slice_get (Ts t parts) k ≡ Some s → (p : P) × (slice_get parts k ≡ Some p) × Stands m t (now p) (state p) s
     stood k s es = let p = get_map_some (glided m state now wakes t) parts k s es in (p.0, p.1, (lags_stand t parts kept lags).each k p.0 s p.1 es)
 
-    read_is : IsOf m w (Ts t parts) kept.seen
-    read_is = lag_of parts (Ts t parts) kept.seen (stand_show t parts (Ts t parts) (lags_stand t parts kept lags)) (lags.fresh fresh)
+    read_is : IsOf m w (Ts t parts) kept.reading
+    read_is = lag_of parts (Ts t parts) kept.reading (stand_show t parts (Ts t parts) (lags_stand t parts kept lags)) (lags.fresh fresh)
 
     pub lags_valid : (k : ℕ) (s : S) → slice_get (Ts t parts) k ≡ Some s → m.valid s t ≡ true
     lags_valid k s es = let p = stood k s es in stands_valid m laws t (now p.0) (state p.0) s p.2
@@ -78,8 +78,8 @@ module _ {S P : Type 0} (m : Machine S) (laws : Laws m) (w : Wiring) (state : P 
         rw (← read_is.levels_are, ← (stands_shows m laws t (now p.0) (state p.0) s p.2).drives)
         (stands_holds m laws t (now p.0) (state p.0) s p.2 ∙ lags.holds k p.0 p.1 after)
 
-    pub lags_shown : shown_at t kept.seen ≡ Some (shown_of m w (Ts t parts))
-    lags_shown = later_shown t 0 kept.seen after ∙ ap Some (shown_is m w (Ts t parts) kept.seen read_is)
+    pub lags_shown : shown_at t kept.reading ≡ Some (shown_of m w (Ts t parts))
+    lags_shown = later_shown t 0 kept.reading after ∙ ap Some (shown_is m w (Ts t parts) kept.reading read_is)
 
   pub lag_row : (t : ℕ) (parts : List P) (ts : List S) (before : Option Shown) → Alike (λ k a b. SameShow m m a b) (map state parts) ts → row_if m w before (map state parts) t ≡ row_if m w before ts t
   lag_row t parts ts before like =
@@ -88,10 +88,10 @@ module _ {S P : Type 0} (m : Machine S) (laws : Laws m) (w : Wiring) (state : P 
       cc
 
   -- the parts are awaited at the board's states
-  pub lags_await : (inputs : List Input) (t i j : ℕ) (parts : List P) (kept : Kept) (seen : ReadingView) (set : PartSet) → Lags m w state now wakes t parts kept →
-      AreDiffering m w kept.seen.circuit.levels seen.circuit.levels (map state parts) set → i ≤ j → AreBehind inputs i t → AreBehind inputs j (t + 1) →
-      Awaits m w state now (take (j - i) (drop i inputs)) inputs seen.circuit.levels set t parts (Ts t parts)
-  lags_await inputs t i j parts kept seen set lags differ on before after =
+  pub lags_await : (inputs : List Input) (t i j : ℕ) (parts : List P) (kept : Kept) (reading : ReadingView) (set : PartSet) → Lags m w state now wakes t parts kept →
+      AreDiffering m w kept.reading.nets.levels reading.nets.levels (map state parts) set → i ≤ j → AreBehind inputs i t → AreBehind inputs j (t + 1) →
+      Awaits m w state now (take (j - i) (drop i inputs)) inputs reading.nets.levels set t parts (Ts t parts)
+  lags_await inputs t i j parts kept reading set lags differ on before after =
       let like = lags_stand t parts kept lags in
       record {
         stands = like;
@@ -100,47 +100,47 @@ module _ {S P : Type 0} (m : Machine S) (laws : Laws m) (w : Wiring) (state : P 
             let stands = like.each k r.0 s r.1 es in
             let pins = ap length (stands_shows m laws t (now r.0) (state r.0) s stands).drives in
             let d = differ k (state r.0) (some_map state parts k r.0 r.1) in
-            let held : m.held s ≡ levels_on m w kept.seen.circuit.levels k (state r.0) = stands_holds m laws t (now r.0) (state r.0) s stands ∙ lags.holds k r.0 r.1 later in
-            d ∙ ap (λ (n : ℕ). not (same_list same_level (map (level_at seen.circuit.levels) (own_nets w k n)) (levels_on m w kept.seen.circuit.levels k (state r.0)))) pins
-            ∙ ap (λ (l : List Level). not (same_list same_level (levels_on m w seen.circuit.levels k s) l)) (sym held);
-        values = λ k. values_now inputs i j t k on before after;
+            let held : m.held s ≡ levels_on m w kept.reading.nets.levels k (state r.0) = stands_holds m laws t (now r.0) (state r.0) s stands ∙ lags.holds k r.0 r.1 later in
+            d ∙ ap (λ (n : ℕ). not (same_list same_level (map (level_at reading.nets.levels) (own_nets w k n)) (levels_on m w kept.reading.nets.levels k (state r.0)))) pins
+            ∙ ap (λ (l : List Level). not (same_list same_level (levels_on m w reading.nets.levels k s) l)) (sym held);
+        given_are = λ k. given_now inputs i j t k on before after;
       }
 
   -- a part that is among those that differ does not hold the levels of its pins
-  pub lags_differ : (t : ℕ) (parts : List P) (kept : Kept) (seen : ReadingView) (set : PartSet) → Lags m w state now wakes t parts kept → AreDiffering m w kept.seen.circuit.levels seen.circuit.levels (map state parts) set →
-      (k : ℕ) (p : P) → slice_get parts k ≡ Some p → has_part set k ≡ true → 0 < t → m.held (state p) ≢ levels_on m w seen.circuit.levels k (state p)
-  lags_differ t parts kept seen set lags differ k p ep is later same =
+  pub lags_differ : (t : ℕ) (parts : List P) (kept : Kept) (reading : ReadingView) (set : PartSet) → Lags m w state now wakes t parts kept → AreDiffering m w kept.reading.nets.levels reading.nets.levels (map state parts) set →
+      (k : ℕ) (p : P) → slice_get parts k ≡ Some p → has_part set k ≡ true → 0 < t → m.held (state p) ≢ levels_on m w reading.nets.levels k (state p)
+  lags_differ t parts kept reading set lags differ k p ep is later same =
       let d = differ k (state p) (some_map state parts k p ep) in
-      let alike : levels_on m w kept.seen.circuit.levels k (state p) ≡ levels_on m w seen.circuit.levels k (state p) = sym (lags.holds k p ep later) ∙ same in
-      let e : true ≡ false = sym is ∙ d ∙ ap (λ (l : List Level). not (same_list same_level (levels_on m w seen.circuit.levels k (state p)) l)) alike ∙ ap not (list_same same_level level_same (levels_on m w seen.circuit.levels k (state p))) in
+      let alike : levels_on m w kept.reading.nets.levels k (state p) ≡ levels_on m w reading.nets.levels k (state p) = sym (lags.holds k p ep later) ∙ same in
+      let e : true ≡ false = sym is ∙ d ∙ ap (λ (l : List Level). not (same_list same_level (levels_on m w reading.nets.levels k (state p)) l)) alike ∙ ap not (list_same same_level level_same (levels_on m w reading.nets.levels k (state p))) in
       cc
 
-  module _ (inputs : List Input) (t : ℕ) (old new : List P) (seen : ReadingView) (answers : List (Option ℕ)) (changed : Bool) (long : length new ≡ length old)
-      (is : IsOf m w (map state old) seen) (suits : Suits w seen) (like : Alike (λ k p s. Stands m t (now p) (state p) s) old (Ts t old))
-      (turns : Turns m w inputs state now wakes seen.circuit.levels t (Ts t old) (length old) old new answers changed) where
+  module _ (inputs : List Input) (t : ℕ) (old new : List P) (reading : ReadingView) (answers : List (Option ℕ)) (changed : Bool) (long : length new ≡ length old)
+      (is : IsOf m w (map state old) reading) (suits : Suits w reading) (like : Alike (λ k p s. Stands m t (now p) (state p) s) old (Ts t old))
+      (turns : Turns m w inputs state now wakes reading.nets.levels t (Ts t old) (length old) old new answers changed) where
     abbrev Us : List S
-    Us = map (λ r. r.0) (steps_from m w inputs seen.circuit.levels t 0 (Ts t old))
+    Us = map (λ r. r.0) (steps_from m w inputs reading.nets.levels t 0 (Ts t old))
 
-    of_board : IsOf m w (Ts t old) seen
-    of_board = lag_of old (Ts t old) seen (stand_show t old (Ts t old) like) is
+    of_board : IsOf m w (Ts t old) reading
+    of_board = lag_of old (Ts t old) reading (stand_show t old (Ts t old) like) is
 
     us_are : Us ≡ board_step m w inputs (Ts t old) t
     us_are = ap (λ (ls : List Level). map (λ (r : S × Option ℕ). r.0) (steps_from m w inputs ls t 0 (Ts t old))) of_board.levels_are
 
     stands_after : Alike (λ k q u. Stands m (t + 1) (now q) (state q) u) new Us
-    stands_after = turns_stand m laws w inputs state now wakes seen.circuit.levels t (Ts t old) old new answers changed (length old) (omega arith) long like.long turns
+    stands_after = turns_stand m laws w inputs state now wakes reading.nets.levels t (Ts t old) old new answers changed (length old) (omega arith) long like.long turns
 
     next_states : Ts (t + 1) new ≡ board_step m w inputs (Ts t old) t
     next_states = stand_are (t + 1) new Us stands_after ∙ us_are
 
     -- a part after its turn, with what it was
     record Turned (k : ℕ) (p q : P) : Type 0 where
-      stands : Stands m (t + 1) (now q) (state q) (part_step m w inputs seen.circuit.levels t k (glided m state now wakes t p)).0
-      woken : wakes q ≡ wakes p + active_in m w inputs seen.circuit.levels t k (Some (glided m state now wakes t p))
+      stands : Stands m (t + 1) (now q) (state q) (part_step m w inputs reading.nets.levels t k (glided m state now wakes t p)).0
+      woken : wakes q ≡ wakes p + active_in m w inputs reading.nets.levels t k (Some (glided m state now wakes t p))
       count : wakes q ≤ now q
       pins : length (m.drives (state p)) ≡ length (m.drives (state q))
       contacts : length (m.contacts (state p)) ≡ length (m.contacts (state q))
-      held : m.held (state q) ≡ map (level_at seen.circuit.levels) (own_nets w k (length (m.drives (state q))))
+      held : m.held (state q) ≡ map (level_at reading.nets.levels) (own_nets w k (length (m.drives (state q))))
       still : changed ≡ false → (m.drives (state q) ≡ m.drives (state p)) × (m.contacts (state q) ≡ m.contacts (state p))
 
     turned_from : (k : ℕ) (p q : P) → slice_get old k ≡ Some p → slice_get new k ≡ Some q → Turned k p q
@@ -149,7 +149,7 @@ module _ {S P : Type 0} (m : Machine S) (laws : Laws m) (w : Wiring) (state : P 
         let within : k < length old = slice_get_within old k p ep in
         let es : slice_get (Ts t old) k ≡ Some s = some_map (glided m state now wakes t) old k p ep in
         let d = turns.done k p q s within ep eq es in
-        let next = (part_step m w inputs seen.circuit.levels t k s).0 in
+        let next = (part_step m w inputs reading.nets.levels t k s).0 in
         let was = stands_shows m laws t (now p) (state p) s (like.each k p s ep es) in
         let shows = stands_shows m laws (t + 1) (now q) (state q) next d.0 in
         let pins : length (m.drives (state q)) ≡ length (m.drives s) = ap length shows.drives ∙ laws.keeps_pins s t _ _ in
@@ -159,7 +159,7 @@ module _ {S P : Type 0} (m : Machine S) (laws : Laws m) (w : Wiring) (state : P 
           count = d.2;
           pins = ap length was.drives ∙ sym pins;
           contacts = ap length was.contacts ∙ sym (laws.keeps_contacts s t _ _) ∙ sym (ap length shows.contacts);
-          held = sym (stands_holds m laws (t + 1) (now q) (state q) next d.0) ∙ laws.holds_levels s t _ _ ∙ ap (λ (n : ℕ). map (level_at seen.circuit.levels) (own_nets w k n)) (sym pins);
+          held = sym (stands_holds m laws (t + 1) (now q) (state q) next d.0) ∙ laws.holds_levels s t _ _ ∙ ap (λ (n : ℕ). map (level_at reading.nets.levels) (own_nets w k n)) (sym pins);
           still = λ none. let still = turns.still none k s within es in (shows.drives ∙ still.drives ∙ sym was.drives, shows.contacts ∙ still.contacts ∙ sym was.contacts);
         }
 
@@ -168,8 +168,8 @@ module _ {S P : Type 0} (m : Machine S) (laws : Laws m) (w : Wiring) (state : P 
 
     -- the invariant at the next cycle
     pub event_lags : (j : ℕ) (dues after : List (Option ℕ)) (ds : List Drive) (cs : List Bool) → length old ≤ 64 → Fits m w (map state old) → length dues ≡ length old → length after ≡ length old → AreDue m state now wakes new dues →
-        AreNone after → IsTold m (map state new) (retold seen ds cs).circuit →
-        Lags m w state now wakes (t + 1) new (record { input = j; changed = changed; dues = dues; seen = retold seen ds cs; answers = after })
+        AreNone after → IsTold m (map state new) (retold reading ds cs).nets →
+        Lags m w state now wakes (t + 1) new (record { input = j; changed = changed; dues = dues; reading = retold reading ds cs; answers = after })
     event_lags j dues after ds cs few fits dues_long answers_long due silent told =
         let room = same_room m w state old new long (λ k p q ep eq. let f = turned_from k p q ep eq in (f.pins, f.contacts)) fits in
         record {
@@ -181,15 +181,15 @@ module _ {S P : Type 0} (m : Machine S) (laws : Laws m) (w : Wiring) (state : P 
           answers_long = answers_long ∙ sym long;
           silent = silent;
           fits = room.0;
-          suits = retold_suits m w (map state new) seen ds cs room.0 suits told;
-          fresh = λ none. retold_is m w (map state new) seen ds cs told (still_of m w state old new seen long (λ k p q ep eq. (turned_from k p q ep eq).still none) is);
+          suits = retold_suits m w (map state new) reading ds cs room.0 suits told;
+          fresh = λ none. retold_is m w (map state new) reading ds cs told (still_of m w state old new reading long (λ k p q ep eq. (turned_from k p q ep eq).still none) is);
           told = told;
           holds = λ k q eq later. (after_turn k q eq).1.held;
         }
 
     -- and the leg
-    pub event_leg : (was : ReadingView) (ds : List Drive) (cs : List Bool) (steps more : ℕ) → more ≡ steps + sum_below (length old) (λ k. active_in m w inputs seen.circuit.levels t k (slice_get (Ts t old) k)) →
-        Leg m w state now wakes inputs t (t + 1) old new was (retold seen ds cs) steps more
+    pub event_leg : (was : ReadingView) (ds : List Drive) (cs : List Bool) (steps more : ℕ) → more ≡ steps + sum_below (length old) (λ k. active_in m w inputs reading.nets.levels t k (slice_get (Ts t old) k)) →
+        Leg m w state now wakes inputs t (t + 1) old new was (retold reading ds cs) steps more
     unfolding states shown_before
     event_leg was ds cs steps more counted =
         let e : t + 1 - t ≡ suc zero = omega arith in
@@ -199,8 +199,8 @@ module _ {S P : Type 0} (m : Machine S) (laws : Laws m) (w : Wiring) (state : P 
           order = omega arith;
           long = long;
           states_are = next_states ∙ ap (board_step m w inputs ts) (sym f) ∙ sym (ap (states m w inputs ts t) e);
-          before_is = ap (shown_before m w inputs (shown_at t was) ts t) e ∙ ap Some (sym (shown_is m w ts seen of_board))
-              ∙ ap (λ (b : Bool). if b then None else Some (shown seen)) (sym (not_first t));
+          before_is = ap (shown_before m w inputs (shown_at t was) ts t) e ∙ ap Some (sym (shown_is m w ts reading of_board))
+              ∙ ap (λ (b : Bool). if b then None else Some (shown reading)) (sym (not_first t));
           woken = λ k p q ep eq.
               rw (e, f, ← of_board.levels_are, some_map (glided m state now wakes t) old k p ep) (omega (arith, (turned_from k p q ep eq).woken));
           steps_are = rw (e, f, ← of_board.levels_are, ← like.long) (omega (arith, counted));
@@ -211,7 +211,7 @@ module _ {S P : Type 0} (m : Machine S) (laws : Laws m) (w : Wiring) (state : P 
     tells_after = record {
       same = λ none. (flat_map_same m.drives Us (Ts t old) us_long (λ k x y ex ey. (still none k x y ex ey).drives), flat_map_same m.contacts Us (Ts t old) us_long (λ k x y ex ey. (still none k x y ex ey).contacts));
       other = λ one ds cs.
-          let z = turns.moved one in
+          let z = turns.other one in
           let eu = us_at z.0 z.1 z.3 in
           z.4 (flat_each m.drives Us (Ts t old) us_long (λ k x y ex ey. rw (step_is k x y ex ey) (laws.keeps_pins y t _ _)) ds z.0 _ z.1 eu z.3)
           (flat_each m.contacts Us (Ts t old) us_long (λ k x y ex ey. rw (step_is k x y ex ey) (laws.keeps_contacts y t _ _)) cs z.0 _ z.1 eu z.3);
@@ -220,10 +220,10 @@ module _ {S P : Type 0} (m : Machine S) (laws : Laws m) (w : Wiring) (state : P 
         us_long : length Us ≡ length (Ts t old)
         us_long = simp (length-map, length-steps_from)
 
-        us_at : (k : ℕ) (s : S) → slice_get (Ts t old) k ≡ Some s → slice_get Us k ≡ Some (part_step m w inputs seen.circuit.levels t k s).0
-        us_at k s es = some_map (λ (r : S × Option ℕ). r.0) (steps_from m w inputs seen.circuit.levels t 0 (Ts t old)) k (part_step m w inputs seen.circuit.levels t k s) (get-steps_from m w inputs seen.circuit.levels t k (Ts t old) s es)
+        us_at : (k : ℕ) (s : S) → slice_get (Ts t old) k ≡ Some s → slice_get Us k ≡ Some (part_step m w inputs reading.nets.levels t k s).0
+        us_at k s es = some_map (λ (r : S × Option ℕ). r.0) (steps_from m w inputs reading.nets.levels t 0 (Ts t old)) k (part_step m w inputs reading.nets.levels t k s) (get-steps_from m w inputs reading.nets.levels t k (Ts t old) s es)
 
-        step_is : (k : ℕ) (x y : S) → slice_get Us k ≡ Some x → slice_get (Ts t old) k ≡ Some y → x ≡ (part_step m w inputs seen.circuit.levels t k y).0
+        step_is : (k : ℕ) (x y : S) → slice_get Us k ≡ Some x → slice_get (Ts t old) k ≡ Some y → x ≡ (part_step m w inputs reading.nets.levels t k y).0
         step_is k x y ex ey = some_same (sym ex ∙ us_at k y ey)
 
         still : changed ≡ false → (k : ℕ) (x y : S) → slice_get Us k ≡ Some x → slice_get (Ts t old) k ≡ Some y → SameShow m m x y
@@ -252,39 +252,39 @@ module _ {S P : Type 0} (m : Machine S) (laws : Laws m) (w : Wiring) (state : P 
         let f : t + 0 ≡ t = omega arith in
         rw (e, f, answers_are, of_board.levels_are) refl
       where
-        answers_are : answers ≡ map (λ r. r.1) (steps_from m w inputs seen.circuit.levels t 0 (Ts t old))
+        answers_are : answers ≡ map (λ r. r.1) (steps_from m w inputs reading.nets.levels t 0 (Ts t old))
         answers_are =
-            let there : length (map (λ (r : S × Option ℕ). r.1) (steps_from m w inputs seen.circuit.levels t 0 (Ts t old))) ≡ length old = simp (length-map, length-steps_from) in
+            let there : length (map (λ (r : S × Option ℕ). r.1) (steps_from m w inputs reading.nets.levels t 0 (Ts t old))) ≡ length old = simp (length-map, length-steps_from) in
             same_lists answers _ (answers_long ∙ sym there) (λ k x y ex ey. some_same (sym ex ∙ turns.answered k (omega (arith, slice_get_within answers k x ex, answers_long)) ∙ ey))
 
   -- what a cycle does in which the active parts have their turn
   pub record Happens (inputs : List Input) (t : ℕ) (old new : List P) (before after : ReadingView) (answers dues : List (Option ℕ)) (changed : Bool) (steps more : ℕ) : Type 0 where
     pub leg : Leg m w state now wakes inputs t (t + 1) old new before after steps more
-    pub lags : (j : ℕ) (none : List (Option ℕ)) → length none ≡ length answers → AreNone none → Lags m w state now wakes (t + 1) new (record { input = j; changed = changed; dues = dues; seen = after; answers = none })
+    pub lags : (j : ℕ) (none : List (Option ℕ)) → length none ≡ length answers → AreNone none → Lags m w state now wakes (t + 1) new (record { input = j; changed = changed; dues = dues; reading = after; answers = none })
     pub tells : LastTells m w inputs changed (Ts t old) t (t + 1 - t)
     pub rows_are : row_if m w (shown_at t before) (map state old) t ≡ rows m w inputs (shown_at t before) (Ts t old) t (t + 1 - t)
     pub bytes_are : options answers ≡ bytes m w inputs (Ts t old) t (t + 1 - t)
 
-  pub happens : (inputs : List Input) (t i j : ℕ) (old new : List P) (kept : Kept) (seen after : ReadingView) (set : PartSet) (answers dues : List (Option ℕ)) (changed : Bool) (steps more : ℕ) →
-      Lags m w state now wakes t old kept → AreDiffering m w kept.seen.circuit.levels seen.circuit.levels (map state old) set → i ≤ j → AreBehind inputs i t → AreBehind inputs j (t + 1) →
-      IsOf m w (map state old) seen → Suits w seen → length new ≡ length old → length answers ≡ length kept.answers → length dues ≡ length kept.dues →
-      ((ts : List S) → Awaits m w state now (take (j - i) (drop i inputs)) inputs seen.circuit.levels set t old ts → Turns m w inputs state now wakes seen.circuit.levels t ts (length old) old new answers changed) →
-      ((ts : List S) → Awaits m w state now (take (j - i) (drop i inputs)) inputs seen.circuit.levels set t old ts → more ≡ steps + sum_below (length old) (λ k. active_in m w inputs seen.circuit.levels t k (slice_get ts k))) →
-      AreDue m state now wakes new dues → IsTold m (map state new) after.circuit → after ≡ retold seen after.circuit.drives after.circuit.closed →
-      Happens inputs t old new kept.seen after answers dues changed steps more
-  happens inputs t i j old new kept seen after set answers dues changed steps more lags differ on before behind is suits long answers_long dues_long turns_of counted due told rest =
+  pub happens : (inputs : List Input) (t i j : ℕ) (old new : List P) (kept : Kept) (reading after : ReadingView) (set : PartSet) (answers dues : List (Option ℕ)) (changed : Bool) (steps more : ℕ) →
+      Lags m w state now wakes t old kept → AreDiffering m w kept.reading.nets.levels reading.nets.levels (map state old) set → i ≤ j → AreBehind inputs i t → AreBehind inputs j (t + 1) →
+      IsOf m w (map state old) reading → Suits w reading → length new ≡ length old → length answers ≡ length kept.answers → length dues ≡ length kept.dues →
+      ((ts : List S) → Awaits m w state now (take (j - i) (drop i inputs)) inputs reading.nets.levels set t old ts → Turns m w inputs state now wakes reading.nets.levels t ts (length old) old new answers changed) →
+      ((ts : List S) → Awaits m w state now (take (j - i) (drop i inputs)) inputs reading.nets.levels set t old ts → more ≡ steps + sum_below (length old) (λ k. active_in m w inputs reading.nets.levels t k (slice_get ts k))) →
+      AreDue m state now wakes new dues → IsTold m (map state new) after.nets → after ≡ retold reading after.nets.drives after.nets.closed →
+      Happens inputs t old new kept.reading after answers dues changed steps more
+  happens inputs t i j old new kept reading after set answers dues changed steps more lags differ on before behind is suits long answers_long dues_long turns_of counted due told rest =
       let like = lags_stand t old kept lags in
-      let awaits = lags_await inputs t i j old kept seen set lags differ on before behind in
+      let awaits = lags_await inputs t i j old kept reading set lags differ on before behind in
       let turns = turns_of (Ts t old) awaits in
-      let ds = after.circuit.drives in
-      let cs = after.circuit.closed in
-      let here : Happens inputs t old new kept.seen (retold seen ds cs) answers dues changed steps more = record {
-        leg = event_leg inputs t old new seen answers changed long is suits like turns kept.seen ds cs steps more (counted (Ts t old) awaits);
+      let ds = after.nets.drives in
+      let cs = after.nets.closed in
+      let here : Happens inputs t old new kept.reading (retold reading ds cs) answers dues changed steps more = record {
+        leg = event_leg inputs t old new reading answers changed long is suits like turns kept.reading ds cs steps more (counted (Ts t old) awaits);
         lags = λ k none none_long silent.
-            event_lags inputs t old new seen answers changed long is suits like turns k dues none ds cs lags.few lags.fits (dues_long ∙ lags.dues_long) (none_long ∙ answers_long ∙ lags.answers_long) due silent
+            event_lags inputs t old new reading answers changed long is suits like turns k dues none ds cs lags.few lags.fits (dues_long ∙ lags.dues_long) (none_long ∙ answers_long ∙ lags.answers_long) due silent
             (record { drives_are = told.drives_are; closed_are = told.closed_are });
-        tells = event_tells inputs t old new seen answers changed long is suits like turns;
-        rows_are = event_rows inputs t old new seen answers changed long is suits like turns kept.seen;
-        bytes_are = event_bytes inputs t old new seen answers changed long is suits like turns (answers_long ∙ lags.answers_long);
+        tells = event_tells inputs t old new reading answers changed long is suits like turns;
+        rows_are = event_rows inputs t old new reading answers changed long is suits like turns kept.reading;
+        bytes_are = event_bytes inputs t old new reading answers changed long is suits like turns (answers_long ∙ lags.answers_long);
       } in
-      subst (λ (v : ReadingView). Happens inputs t old new kept.seen v answers dues changed steps more) (sym rest) here
+      subst (λ (v : ReadingView). Happens inputs t old new kept.reading v answers dues changed steps more) (sym rest) here

@@ -38,9 +38,9 @@ module _ {S : Type 0} (m : Machine S) where
       record { not_later = omega (arith, h.not_later); valid = h.valid; quiet = quiet; is = cc (glide_split r a (t - a) (u - t)) }
 
 module _ {S P : Type 0} (m : Machine S) (laws : Laws m) (w : Wiring) (state : P → S) (now wakes : P → ℕ) (inputs : List Input) where
-  pub leg_none : (t steps : ℕ) (parts : List P) (seen : ReadingView) → Leg m w state now wakes inputs t t parts parts seen seen steps steps
+  pub leg_none : (t steps : ℕ) (parts : List P) (reading : ReadingView) → Leg m w state now wakes inputs t t parts parts reading reading steps steps
   unfolding states shown_before
-  leg_none t steps parts seen =
+  leg_none t steps parts reading =
       let e : t - t ≡ 0 = omega arith in
       record {
         order = omega arith;
@@ -52,7 +52,7 @@ module _ {S P : Type 0} (m : Machine S) (laws : Laws m) (w : Wiring) (state : P 
       }
 
   -- a leg up to u, and what the board does from there up to v
-  module _ (t u v a b : ℕ) (old mid : List P) (before seen : ReadingView) (first : Leg m w state now wakes inputs t u old mid before seen a b) (later : u ≤ v) where
+  module _ (t u v a b : ℕ) (old mid : List P) (before reading : ReadingView) (first : Leg m w state now wakes inputs t u old mid before reading a b) (later : u ≤ v) where
     abbrev Ss : List S
     Ss = Ts m laws w state now wakes t old
 
@@ -71,11 +71,11 @@ module _ {S P : Type 0} (m : Machine S) (laws : Laws m) (w : Wiring) (state : P 
     pub states_on : states m w inputs Ss t (v - t) ≡ states m w inputs Ms u (v - u)
     states_on = rw count (states_from (v - u))
 
-    pub shown_on : shown_before m w inputs (shown_at t before) Ss t (v - t) ≡ shown_before m w inputs (shown_at u seen) Ms u (v - u)
+    pub shown_on : shown_before m w inputs (shown_at t before) Ss t (v - t) ≡ shown_before m w inputs (shown_at u reading) Ms u (v - u)
     shown_on = cc (shown_split m w inputs (shown_at t before) Ss t (u - t) (v - u), first.before_is, first.states_are, count, there)
 
     pub rows_on : rows m w inputs (shown_at t before) Ss t (v - t) ≡ rows m w inputs (shown_at t before) Ss t (u - t) ++ rows m w inputs
-        (shown_at u seen) Ms u (v - u)
+        (shown_at u reading) Ms u (v - u)
     rows_on = cc (rows_split m w inputs (shown_at t before) Ss t (u - t) (v - u), first.before_is, first.states_are, count, there)
 
     pub bytes_on : bytes m w inputs Ss t (v - t) ≡ bytes m w inputs Ss t (u - t) ++ bytes m w inputs Ms u (v - u)
@@ -93,7 +93,7 @@ module _ {S P : Type 0} (m : Machine S) (laws : Laws m) (w : Wiring) (state : P 
         let before : v - t - 1 ≡ (u - t) + (v - u - 1) = (let x = first.order in omega (arith, x, further)) in
         rw (before, states_from (v - u - 1), states_on) tells
 
-    pub leg_then : (d : ℕ) (new : List P) (after : ReadingView) → Leg m w state now wakes inputs u v mid new seen after b d →
+    pub leg_then : (d : ℕ) (new : List P) (after : ReadingView) → Leg m w state now wakes inputs u v mid new reading after b d →
         Leg m w state now wakes inputs t v old new before after a d
     leg_then d new after second = record {
       order = (let x = first.order in omega (arith, x, later));
@@ -137,10 +137,10 @@ module _ {S P : Type 0} (m : Machine S) (laws : Laws m) (w : Wiring) (state : P 
       silent = stretch.silent;
     }
 
-    shown_same : shown_at t kept.seen ≡ Some (shown_of m w Js)
+    shown_same : shown_at t kept.reading ≡ Some (shown_of m w Js)
     shown_same = lags_shown m laws w state now wakes t parts kept lags fresh after
 
-    pub jump_leg : (steps : ℕ) → Leg m w state now wakes inputs t u parts parts kept.seen kept.seen steps steps
+    pub jump_leg : (steps : ℕ) → Leg m w state now wakes inputs t u parts parts kept.reading kept.reading steps steps
     jump_leg steps = record {
       order = order;
       long = refl;
@@ -153,8 +153,8 @@ module _ {S P : Type 0} (m : Machine S) (laws : Laws m) (w : Wiring) (state : P 
                 rw (glides.each k (glided m state now wakes t p) y es ey)
                 (stands_later m (state p) (glided m state now wakes t p) (now p) t u order (like.each k p _ ep es) (quiet k p ep));
           });
-      before_is = rw shown_same (steady_before m laws w inputs Js t (u - t) steady (u - t) (omega arith)) ∙ sym shown_same ∙ later_shown t 0 kept.seen after
-          ∙ sym (later_shown u 0 kept.seen (omega (arith, after, order)));
+      before_is = rw shown_same (steady_before m laws w inputs Js t (u - t) steady (u - t) (omega arith)) ∙ sym shown_same ∙ later_shown t 0 kept.reading after
+          ∙ sym (later_shown u 0 kept.reading (omega (arith, after, order)));
       woken = λ k p q ep eq.
           let es : slice_get Js k ≡ Some (glided m state now wakes t p) = some_map (glided m state now wakes t) parts k p ep in
           let none = steady_cycles m laws w inputs Js t (u - t) steady (u - t) k (glided m state now wakes t p) (omega arith) es
@@ -163,7 +163,7 @@ module _ {S P : Type 0} (m : Machine S) (laws : Laws m) (w : Wiring) (state : P 
       steps_are = let none = stretch_pairs m laws w inputs Js t (u - t) stretch (u - t) (omega arith) in omega (arith, none);
     }
 
-    pub jump_rows : rows m w inputs (shown_at t kept.seen) Js t (u - t) ≡ []
+    pub jump_rows : rows m w inputs (shown_at t kept.reading) Js t (u - t) ≡ []
     jump_rows = rw shown_same (stretch_rows m laws w inputs Js t (u - t) stretch (u - t) (omega arith))
 
     pub jump_bytes : bytes m w inputs Js t (u - t) ≡ []
@@ -203,8 +203,8 @@ module _ {S P : Type 0} (m : Machine S) (laws : Laws m) (w : Wiring) (state : P 
 
   -- what a jump does
   pub record Jumps (t u : ℕ) (parts : List P) (kept : Kept) (steps : ℕ) : Type 0 where
-    pub leg : Leg m w state now wakes inputs t u parts parts kept.seen kept.seen steps steps
-    pub row_none : rows m w inputs (shown_at t kept.seen) (Ts m laws w state now wakes t parts) t (u - t) ≡ []
+    pub leg : Leg m w state now wakes inputs t u parts parts kept.reading kept.reading steps steps
+    pub row_none : rows m w inputs (shown_at t kept.reading) (Ts m laws w state now wakes t parts) t (u - t) ≡ []
     pub byte_none : bytes m w inputs (Ts m laws w state now wakes t parts) t (u - t) ≡ []
     pub rests : kept.changed ≡ false → IsSteady m w inputs (Ts m laws w state now wakes t parts) t (u - t)
     pub tells : kept.changed ≡ false → LastTells m w inputs false (Ts m laws w state now wakes t parts) t (u - t)
@@ -224,7 +224,7 @@ module _ {S P : Type 0} (m : Machine S) (laws : Laws m) (w : Wiring) (state : P 
       go true e =
           let none : t - t ≡ 0 = omega arith in
           let here : Jumps t t parts kept steps = record {
-            leg = leg_none t steps parts kept.seen;
+            leg = leg_none t steps parts kept.reading;
             row_none = rw none refl;
             byte_none = rw none refl;
             rests = λ f. absurd cc;
@@ -263,9 +263,9 @@ module _ {S P : Type 0} (m : Machine S) (laws : Laws m) (w : Wiring) (state : P 
     now_settled k q eq = let x = before k q eq in (settled k x.0 q x.1 eq).1
 
     -- it did what the leg did
-    pub settled_leg : (t : ℕ) (old : List P) (was seen : ReadingView) (steps more : ℕ) → Leg m w state now wakes inputs t n old mid was seen steps more →
-        Leg m w state now wakes inputs t n old new was seen steps more
-    settled_leg t old was seen steps more leg = record {
+    pub settled_leg : (t : ℕ) (old : List P) (was reading : ReadingView) (steps more : ℕ) → Leg m w state now wakes inputs t n old mid was reading steps more →
+        Leg m w state now wakes inputs t n old new was reading steps more
+    settled_leg t old was reading steps more leg = record {
       order = leg.order;
       long = long ∙ leg.long;
       states_are = at_here n new now_settled ∙ same_lists (map state new) (Ts m laws w state now wakes n mid) (simp length-map long) (λ k x y ex ey.
@@ -301,7 +301,7 @@ module _ {S P : Type 0} (m : Machine S) (laws : Laws m) (w : Wiring) (state : P 
       silent = lags.silent;
       fits = room.0;
       suits = lags.suits;
-      fresh = λ none. still_of m w state mid new kept.seen long still (lags.fresh none);
+      fresh = λ none. still_of m w state mid new kept.reading long still (lags.fresh none);
       told = record {
         drives_are = lags.told.drives_are ∙ sym (still_same m.drives state mid new long (λ k p q ep eq. (still k p q ep eq).0));
         closed_are = lags.told.closed_are ∙ sym (still_same m.contacts state mid new long (λ k p q ep eq. (still k p q ep eq).1));
@@ -326,7 +326,7 @@ module _ {S P : Type 0} (m : Machine S) (laws : Laws m) (w : Wiring) (state : P 
 
 -- a board at cycle 0 of which nothing was read
 pub lags_start : {S P : Type 0} (m : Machine S) (w : Wiring) (state : P → S) (now wakes : P → ℕ) (parts : List P) (kept : Kept) → kept.changed ≡ true → length parts ≤ 64 → AreFresh m state now wakes parts →
-    length kept.dues ≡ length parts → AreDue m state now wakes parts kept.dues → length kept.answers ≡ length parts → AreNone kept.answers → IsTold m (map state parts) kept.seen.circuit → Fits m w (map state parts) → Suits w kept.seen → Lags m w state now wakes 0 parts kept
+    length kept.dues ≡ length parts → AreDue m state now wakes parts kept.dues → length kept.answers ≡ length parts → AreNone kept.answers → IsTold m (map state parts) kept.reading.nets → Fits m w (map state parts) → Suits w kept.reading → Lags m w state now wakes 0 parts kept
 lags_start m w state now wakes parts kept changed few new dues_long due answers_long silent told fits suits = record {
   few = few;
   may = λ k p d ep ed.

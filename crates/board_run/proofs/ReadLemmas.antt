@@ -225,8 +225,8 @@ module _ {S P : Type 0} (m : Machine S) (state : P → S) (parts : List P) (i : 
 
 module _ {S : Type 0} (m : Machine S) where
   -- what suits a wiring does so after the nets were told
-  pub retold_suits : (w : Wiring) (ss : List S) (seen : ReadingView) (ds : List Drive) (cs : List Bool) → Fits m w ss → Suits w seen → IsTold m ss (retold seen ds cs).circuit → Suits w (retold seen ds cs)
-  retold_suits w ss seen ds cs fits suits told = record {
+  pub retold_suits : (w : Wiring) (ss : List S) (reading : ReadingView) (ds : List Drive) (cs : List Bool) → Fits m w ss → Suits w reading → IsTold m ss (retold reading ds cs).nets → Suits w (retold reading ds cs)
+  retold_suits w ss reading ds cs fits suits told = record {
     wired = let c = suits.wired in record { nets = c.nets; net_of = c.net_of; contacts = c.contacts; resistors = c.resistors; levels_long = c.levels_long; watched = c.watched };
     drives_long = ap length told.drives_are ∙ sym fits.pins;
     closed_long = ap length told.closed_are ∙ sym fits.contacts;
@@ -235,8 +235,8 @@ module _ {S : Type 0} (m : Machine S) where
   }
 
   -- what is of parts is so after the nets were told what those drive and connect
-  pub retold_is : (w : Wiring) (ss : List S) (seen : ReadingView) (ds : List Drive) (cs : List Bool) → IsTold m ss (retold seen ds cs).circuit → IsOf m w ss seen → IsOf m w ss (retold seen ds cs)
-  retold_is w ss seen ds cs told is = record { drives_are = told.drives_are; closed_are = told.closed_are; levels_are = is.levels_are; chips_are = is.chips_are }
+  pub retold_is : (w : Wiring) (ss : List S) (reading : ReadingView) (ds : List Drive) (cs : List Bool) → IsTold m ss (retold reading ds cs).nets → IsOf m w ss reading → IsOf m w ss (retold reading ds cs)
+  retold_is w ss reading ds cs told is = record { drives_are = told.drives_are; closed_are = told.closed_are; levels_are = is.levels_are; chips_are = is.chips_are }
 
   -- where no level changed no part has another one
   pub none_differ : (w : Wiring) (ss : List S) (ls : List Level) (set : PartSet) → ((k : ℕ) → has_part set k ≡ false) → AreDiffering m w ls ls ss set

@@ -8,43 +8,43 @@ use Rattle.board_model.specs.Rows.{Shown, same_level, same_drive, same_list, sam
 use Rattle.board_run.proofs.HandLemmas.{appends_none, whole_front}
 
 -- what is read shows what the parts show
-pub shown_is : {S : Type 0} (m : Machine S) (w : Wiring) (ss : List S) (seen : ReadingView) → IsOf m w ss seen → shown seen ≡ shown_of m w ss
-shown_is m w ss seen is = let a = is.levels_are in let b = is.chips_are in cc
+pub shown_is : {S : Type 0} (m : Machine S) (w : Wiring) (ss : List S) (reading : ReadingView) → IsOf m w ss reading → shown reading ≡ shown_of m w ss
+shown_is m w ss reading is = let a = is.levels_are in let b = is.chips_are in cc
 
 -- what is as it was read shows the same
-pub fresh_same : {S : Type 0} (m : Machine S) (w : Wiring) (ss : List S) (seen : ReadingView) → IsOf m w ss seen → true ≡ same_shown (shown seen) (shown_of m w ss)
-fresh_same m w ss seen is = sym (
-    ap (same_shown (shown seen)) (sym (shown_is m w ss seen is))
-    ∙ ap (λ (b : Bool). b && same_list same_drive seen.circuit.kept seen.circuit.kept) (list_same same_level level_same seen.circuit.levels)
-    ∙ list_same same_drive drive_same seen.circuit.kept)
+pub fresh_same : {S : Type 0} (m : Machine S) (w : Wiring) (ss : List S) (reading : ReadingView) → IsOf m w ss reading → true ≡ same_shown (shown reading) (shown_of m w ss)
+fresh_same m w ss reading is = sym (
+    ap (same_shown (shown reading)) (sym (shown_is m w ss reading is))
+    ∙ ap (λ (b : Bool). b && same_list same_drive reading.nets.kept reading.nets.kept) (list_same same_level level_same reading.nets.levels)
+    ∙ list_same same_drive drive_same reading.nets.kept)
 
 -- whether a cycle has a row
-pub new_is : (t : ℕ) (seen : ReadingView) (now : Shown) (same : Bool) → same ≡ same_shown (shown seen) now → ((t == 0) || not same) ≡ is_new (shown_at t seen) now
-new_is t seen now same e = go (t == 0) refl
+pub new_is : (t : ℕ) (reading : ReadingView) (now : Shown) (same : Bool) → same ≡ same_shown (shown reading) now → ((t == 0) || not same) ≡ is_new (shown_at t reading) now
+new_is t reading now same e = go (t == 0) refl
   where
-    go : (b : Bool) → (t == 0) ≡ b → ((t == 0) || not same) ≡ is_new (shown_at t seen) now
+    go : (b : Bool) → (t == 0) ≡ b → ((t == 0) || not same) ≡ is_new (shown_at t reading) now
     go true f = rw f refl
     go false f = rw f (ap not e)
 
 -- where the same is shown, levels are as before
-pub same_still : {S : Type 0} (m : Machine S) (w : Wiring) (ss : List S) (old new : ReadingView) (same : Bool) → same ≡ same_shown (shown old) (shown_of m w ss) → same ≡ true → IsOf m w ss new → old.circuit.levels ≡ new.circuit.levels
+pub same_still : {S : Type 0} (m : Machine S) (w : Wiring) (ss : List S) (old new : ReadingView) (same : Bool) → same ≡ same_shown (shown old) (shown_of m w ss) → same ≡ true → IsOf m w ss new → old.nets.levels ≡ new.nets.levels
 same_still m w ss old new same e f is =
-    levels_mean old.circuit.levels (levels_of m w ss) (and_parts _ _ (sym e ∙ f)).0 ∙ sym is.levels_are
+    levels_mean old.nets.levels (levels_of m w ss) (and_parts _ _ (sym e ∙ f)).0 ∙ sym is.levels_are
 
-pub levels_shown : (t : ℕ) (seen : ReadingView) (s : Shown) → shown_at t seen ≡ Some s → s.levels ≡ seen.circuit.levels
-levels_shown t seen s e = go (t == 0) e
+pub levels_shown : (t : ℕ) (reading : ReadingView) (s : Shown) → shown_at t reading ≡ Some s → s.levels ≡ reading.nets.levels
+levels_shown t reading s e = go (t == 0) e
   where
-    go : (b : Bool) → (if b then None else Some (shown seen)) ≡ Some s → s.levels ≡ seen.circuit.levels
+    go : (b : Bool) → (if b then None else Some (shown reading)) ≡ Some s → s.levels ≡ reading.nets.levels
     go true f = absurd cc
     go false f = ap (λ (x : Shown). x.levels) (sym (some_same f))
 
 -- after cycle 0 what was read was shown
-pub later_shown : (t u : ℕ) (seen : ReadingView) → u < t → shown_at t seen ≡ Some (shown seen)
-later_shown t u seen less = let e : (t == 0) ≡ false = grind (arith, less) in rw e refl
+pub later_shown : (t u : ℕ) (reading : ReadingView) → u < t → shown_at t reading ≡ Some (shown reading)
+later_shown t u reading less = let e : (t == 0) ≡ false = grind (arith, less) in rw e refl
 
 -- the row that is handed out
 pub row_is : {S : Type 0} (m : Machine S) (w : Wiring) (ss : List S) (t : ℕ) (old new : ReadingView) (there same : Bool) → there ≡ ((t == 0) || not same) → same ≡ same_shown (shown old) (shown_of m w ss) → IsOf m w ss new →
-    ◌≡◌ {A = List Row} (if there then record { cycle = t; levels = new.circuit.levels; drives = new.circuit.drives } ∷ [] else []) (row_if m w (shown_at t old) ss t)
+    ◌≡◌ {A = List Row} (if there then record { cycle = t; levels = new.nets.levels; drives = new.nets.drives } ∷ [] else []) (row_if m w (shown_at t old) ss t)
 row_is m w ss t old new there same e f is =
     rw (e, new_is t old (shown_of m w ss) same f, is.levels_are, is.drives_are) refl
 
@@ -72,8 +72,8 @@ chips_same m state (c ∷ chips) (p ∷ old) (q ∷ new) long each =
 chips_same m state (c ∷ chips) old new long each = absurd (omega arith)
 
 -- what was read of parts that stayed still is still so
-pub still_of : {S P : Type 0} (m : Machine S) (w : Wiring) (state : P → S) (old new : List P) (seen : ReadingView) → length new ≡ length old → AreStill m state old new → IsOf m w (map state old) seen → IsOf m w (map state new) seen
-still_of m w state old new seen long still is =
+pub still_of : {S P : Type 0} (m : Machine S) (w : Wiring) (state : P → S) (old new : List P) (reading : ReadingView) → length new ≡ length old → AreStill m state old new → IsOf m w (map state old) reading → IsOf m w (map state new) reading
+still_of m w state old new reading long still is =
     let d = still_same m.drives state old new long (λ k p q ep eq. (still k p q ep eq).0) in
     let c = still_same m.contacts state old new long (λ k p q ep eq. (still k p q ep eq).1) in
     record {

@@ -102,7 +102,7 @@ module _ {S P : Type 0} (m : Machine S) (laws : Laws m) (w : Wiring) (inputs : L
     done = λ k p q s h. absurd (omega arith);
     answered = λ k h. absurd (omega arith);
     still = λ none k s h. absurd (omega arith);
-    moved = λ (one : false ≡ true). absurd cc;
+    other = λ (one : false ≡ true). absurd cc;
   }
 
   -- one more turn
@@ -111,7 +111,7 @@ module _ {S P : Type 0} (m : Machine S) (laws : Laws m) (w : Wiring) (inputs : L
       HadTurn m w inputs state now wakes ls t i p q s byte touched → (more ≡ false → SameShow m m (part_step m w inputs ls t i s).0 s) →
       (more ≡ true → m.drives (part_step m w inputs ls t i s).0 ≡ m.drives s → m.contacts (part_step m w inputs ls t i s).0 ≢ m.contacts s) →
       Turns m w inputs state now wakes ls t ts (i + 1) old (slice_set new i q) (slice_set answers i byte) (changed || more)
-  turns_more i old new answers changed touched more p q s byte turns ep es within room turn still moved = record {
+  turns_more i old new answers changed touched more p q s byte turns ep es within room turn still other = record {
     done = λ k a b u l ea eb eu. elim (at_set new i k q b within eb) [
       | inl here ↦
           let a_is : p ≡ a = cc in
@@ -127,9 +127,9 @@ module _ {S P : Type 0} (m : Machine S) (laws : Laws m) (w : Wiring) (inputs : L
       | inl less ↦ turns.still both.0 k u less eu
       | inr same ↦ let u_is : s ≡ u = cc in rw (same, ← u_is) (still both.1)
     ];
-    moved = λ one. elim (or_cases changed more one) [
-      | inl before ↦ let x = turns.moved before in (x.0, x.1, (let l = x.2 in omega (arith, l)), x.3, x.4)
-      | inr here ↦ (i, s, omega arith, es, moved here)
+    other = λ one. elim (or_cases changed more one) [
+      | inl before ↦ let x = turns.other before in (x.0, x.1, (let l = x.2 in omega (arith, l)), x.3, x.4)
+      | inr here ↦ (i, s, omega arith, es, other here)
     ];
   }
 
@@ -158,7 +158,7 @@ module _ {S P : Type 0} (m : Machine S) (laws : Laws m) (w : Wiring) (inputs : L
       | inl less ↦ turns.still none k s less es
       | inr more ↦ let p = some_there old k (omega (arith, l, inside)) in (pass k p.0 s more l p.1 es).still refl
     ];
-    moved = λ one. let x = turns.moved one in (x.0, x.1, (let l = x.2 in omega (arith, l, least)), x.3, x.4);
+    other = λ one. let x = turns.other one in (x.0, x.1, (let l = x.2 in omega (arith, l, least)), x.3, x.4);
   }
 
   -- after all turns the parts stand for the states after the cycle
@@ -293,7 +293,7 @@ module _ {S P : Type 0} (m : Machine S) (laws : Laws m) (w : Wiring) (given inpu
       let stands = awaits.stands.each k p s ep es in
       let own_is = ap (λ (l : List Drive). map (level_at ls) (own_nets w k (length l))) (stands_shows m laws t (now p) (state p) s stands).drives in
       let differs_is = awaits.differs k s es in
-      let input_is = awaits.values k in (
+      let input_is = awaits.given_are k in (
         had_turn m laws w inputs state now wakes ls t k p q s due (input_at given t k) byte _ (has_part differ k) changed end may stands own_is differs_is input_is turn,
         ap (λ (b : Bool). if b then 1 else 0) (sym (wake_is m laws w inputs state now wakes ls t k p s due (input_at given t k) (has_part differ k) end may stands differs_is input_is)),
       )
@@ -305,7 +305,7 @@ module _ {S P : Type 0} (m : Machine S) (laws : Laws m) (w : Wiring) (given inpu
       let stands = awaits.stands.each k p s ep es in
       let own = map (level_at ls) (own_nets w k (length (m.drives s))) in
       let differs_is = λ (l : 0 < t). sym none ∙ awaits.differs k s es l in
-      let input_is = sym silent ∙ awaits.values k in
+      let input_is = sym silent ∙ awaits.given_are k in
       let asleep : to_wake due t None false ≡ false = ap (λ (b : Bool). b || (false || false)) (not_at due t other) in
       let turn : turned m state now wakes (to_wake due t None false) t own None p p None false = subst (λ (b : Bool). turned m state now wakes b t own None p p None false) (sym asleep) (refl, refl) in (
         had_turn m laws w inputs state now wakes ls t k p p s due None None own false false end may stands refl differs_is input_is turn,
@@ -393,23 +393,23 @@ module _ {S P : Type 0} (m : Machine S) (laws : Laws m) (w : Wiring) (given inpu
       )
 
   -- part i has its turn before
-  pub turns_on : (i j : ℕ) (parts new : List P) (dues later answers after : List (Option ℕ)) (changed moved : Bool) (x y : P) (d e byte : Option ℕ) → Begun old was i parts dues answers →
+  pub turns_on : (i j : ℕ) (parts new : List P) (dues later answers after : List (Option ℕ)) (changed more : Bool) (x y : P) (d e byte : Option ℕ) → Begun old was i parts dues answers →
       Turns m w inputs state now wakes ls t ts i old parts answers changed → slice_get parts i ≡ Some x → slice_get dues i ≡ Some d → new ≡ slice_set parts i y → later ≡ slice_set dues i e → after ≡ slice_set answers i byte →
-      TookTurn m w state now wakes ls t i (input_at given t i) (has_part differ i) d x y byte moved → i < j → j ≤ length old → ((k : ℕ) → i + 1 ≤ k → k < j → has_part marked k ≡ false) → ((k : ℕ) → k < j → slice_get later k ≢ Some (Some t)) →
-      Turns m w inputs state now wakes ls t ts j old new after (changed || moved)
+      TookTurn m w state now wakes ls t i (input_at given t i) (has_part differ i) d x y byte more → i < j → j ≤ length old → ((k : ℕ) → i + 1 ≤ k → k < j → has_part marked k ≡ false) → ((k : ℕ) → k < j → slice_get later k ≢ Some (Some t)) →
+      Turns m w inputs state now wakes ls t ts j old new after (changed || more)
       × (sum_below j (λ k. active_in m w inputs ls t k (slice_get ts k)) ≡ sum_below i (λ k. active_in m w inputs ls t k (slice_get ts k)) + (if to_wake d t (input_at given t i) (has_part differ i) then 1 else 0))
-  turns_on i j parts new dues later answers after changed moved x y d e byte begun turns ex ed new_is later_is after_is took order within unmarked passed =
+  turns_on i j parts new dues later answers after changed more x y d e byte begun turns ex ed new_is later_is after_is took order within unmarked passed =
       let inside : i < length parts = slice_get_within parts i x ex in
       let ep = sym (begun.rest i (omega arith)) ∙ ex in
       let s = some_there ts i (omega (arith, begun.long, awaits.stands.long, inside)) in
       let had = awaited_turn m laws w given inputs state now wakes ls differ t old ts end awaits i x y s.0 d byte took.touched ep s.1 (may i x d ep (sym (begun.due_rest i (omega arith)) ∙ ed)) took.turn in
       let stood = awaits.stands.each i x s.0 ep s.1 in
       let here : active_in m w inputs ls t i (slice_get ts i) ≡ (if to_wake d t (input_at given t i) (has_part differ i) then 1 else 0) = ap (active_in m w inputs ls t i) s.1 ∙ had.1 in
-      let one = turns_more m laws w inputs state now wakes ls t ts i old parts answers changed took.touched moved x y s.0 byte turns ep s.1 inside (omega (arith, begun.answers_long, begun.long, inside)) had.0
+      let one = turns_more m laws w inputs state now wakes ls t ts i old parts answers changed took.touched more x y s.0 byte turns ep s.1 inside (omega (arith, begun.answers_long, begun.long, inside)) had.0
       (λ none. step_still m laws w inputs state now ls t i x y s.0 stood had.0.stands (took.shifted.same none))
       (λ other ds cs. let still = still_step m laws w inputs state now ls t i x y s.0 stood had.0.stands ds cs in took.shifted.other other still.0 still.1) in
       let count : sum_below (i + 1) (λ k. active_in m w inputs ls t k (slice_get ts k)) ≡ sum_below i (λ k. active_in m w inputs ls t k (slice_get ts k)) + (if to_wake d t (input_at given t i) (has_part differ i) then 1 else 0) = rw add-one (omega (arith, here)) in
-      let pass = turns_pass (i + 1) j new later after (changed || moved) (begun_on old was i (i + 1) parts new dues later answers after y e byte begun (omega arith) new_is later_is after_is)
+      let pass = turns_pass (i + 1) j new later after (changed || more) (begun_on old was i (i + 1) parts new dues later answers after y e byte begun (omega arith) new_is later_is after_is)
       (rw (new_is, after_is) one)
       (omega (arith, order)) within unmarked passed in
       (pass.0, pass.1 ∙ count)

@@ -19,10 +19,10 @@ pub record Went {S P : Type 0} (m : Machine S) (state : P → S) (wakes : P → 
   pub steps_are : more ≡ steps + active_pairs m v.wiring v.inputs (map state v.parts) v.cycle (u - v.cycle)
 
 -- where its parts stood at cycle t and stand at cycle u
-pub went_to : {S P : Type 0} (m : Machine S) (laws : Laws m) (w : Wiring) (state : P → S) (now wakes : P → ℕ) (inputs : List Input) (t u : ℕ) (given_up changed : Bool) (old new : List P) (before seen : ReadingView) (steps more : ℕ) →
-    AreAt now t old → AreAt now u new → Leg m w state now wakes inputs t u old new before seen steps more →
-    Went m state wakes (record { parts = old; wiring = w; inputs = inputs; cycle = t; given_up = given_up; before = shown_at t before; changed = changed }) u new (shown_at u seen) steps more
-went_to {S} {P} m laws w state now wakes inputs t u given_up changed old new before seen steps more first last leg =
+pub went_to : {S P : Type 0} (m : Machine S) (laws : Laws m) (w : Wiring) (state : P → S) (now wakes : P → ℕ) (inputs : List Input) (t u : ℕ) (given_up changed : Bool) (old new : List P) (before reading : ReadingView) (steps more : ℕ) →
+    AreAt now t old → AreAt now u new → Leg m w state now wakes inputs t u old new before reading steps more →
+    Went m state wakes (record { parts = old; wiring = w; inputs = inputs; cycle = t; given_up = given_up; before = shown_at t before; changed = changed }) u new (shown_at u reading) steps more
+went_to {S} {P} m laws w state now wakes inputs t u given_up changed old new before reading steps more first last leg =
     let here = at_here m laws w state now wakes inputs t old first in
     record {
       states_are = sym (at_here m laws w state now wakes inputs u new last) ∙ leg.states_are ∙ ap (λ (l : List S). states m w inputs l t (u - t)) here;

@@ -28,7 +28,7 @@ use Rattle.board_run.specs.declared.turn.Woken.{Woken}
 
 -- what it keeps beside the parts
 abbrev pub kept_of : {P : Type 0} → Engine P → Kept
-kept_of e = record { input = e.input; changed = e.changed; dues = e.dues; seen = e.reading; answers = e.answers }
+kept_of e = record { input = e.input; changed = e.changed; dues = e.dues; reading = e.reading; answers = e.answers }
 
 -- the script's values of its cycle, which end before a place
 abbrev pub given : {P : Type 0} → Engine P → ℕ → List Input
@@ -54,12 +54,12 @@ pub record MayStretch {P : Type 0} (e : Engine P) (who limit n : ℕ) : Type 0 w
 -- the watcher is whole, and the levels of its last row, if there was one, are those that were read
 pub record Watches {P W : Type 0} (watcher : Watching W) (e : Engine P) (out : W) : Type 0 where
   pub whole : watcher.whole out ≡ true
-  pub later : IsBehind watcher.last watcher.seen out e.cycle e.reading.circuit.levels
+  pub later : IsBehind watcher.last watcher.seen out e.cycle e.reading.nets.levels
 
 module _ {P : Type 0} (part : Ghosts P) where
   -- the states at the engine's cycle of the board whose parts lag behind
   abbrev pub states_of : Engine P → List part.State
-  states_of e = map (glided part.machine part.state part.now part.wake_count e.cycle) e.parts
+  states_of e = map (glided part.machine part.state part.now part.wakes e.cycle) e.parts
 
   -- the rows and bytes of the cycles from there to u
   abbrev pub rows_to : Engine P → ℕ → List Row
@@ -70,7 +70,7 @@ module _ {P : Type 0} (part : Ghosts P) where
 
   -- The invariant of the engine.
   pub record MayRun (e : Engine P) : Type 0 where
-    pub lags : Lags part.machine e.wiring part.state part.now part.wake_count e.cycle e.parts (kept_of e)
+    pub lags : Lags part.machine e.wiring part.state part.now part.wakes e.cycle e.parts (kept_of e)
     pub behind : AreBehind e.inputs e.input e.cycle
     pub order : IsInOrder e.inputs
 
@@ -78,16 +78,16 @@ module _ {P : Type 0} (part : Ghosts P) where
   pub record MayTurnOn (e : Engine P) (differ : PartSet) : Type 0 where
     pub end : e.cycle < MOST_CYCLES
     pub few : length e.parts ≤ 64
-    pub may : (k : ℕ) → MayTurnAt part.machine part.state part.now part.wake_count e.cycle e.parts e.dues k
+    pub may : (k : ℕ) → MayTurnAt part.machine part.state part.now part.wakes e.cycle e.parts e.dues k
     pub valid : (k : ℕ) (p : P) → slice_get e.parts k ≡ Some p → part.machine.valid (part.state p) (part.now p) ≡ true
     pub dues_long : length e.dues ≡ length e.parts
     pub answers_long : length e.answers ≡ length e.parts
     pub silent : AreNone e.answers
     pub fits : Fits part.machine e.wiring (map part.state e.parts)
     pub suits : Suits e.wiring e.reading
-    pub told : IsTold part.machine (map part.state e.parts) e.reading.circuit
+    pub told : IsTold part.machine (map part.state e.parts) e.reading.nets
     pub differs : (k : ℕ) (p : P) → slice_get e.parts k ≡ Some p → has_part differ k ≡ true → 0 < e.cycle
-        → part.machine.held (part.state p) ≢ levels_on part.machine e.wiring e.reading.circuit.levels k (part.state p)
+        → part.machine.held (part.state p) ≢ levels_on part.machine e.wiring e.reading.nets.levels k (part.state p)
 
   -- the levels of a part's pins, which are the first of these
   abbrev pub own_of : P → List Level → List Level
@@ -98,24 +98,24 @@ module _ {P : Type 0} (part : Ghosts P) where
     pub end : e.cycle < MOST_CYCLES
     pub here : i < length e.parts
     pub few : length e.parts ≤ 64
-    pub may : MayTurnAt part.machine part.state part.now part.wake_count e.cycle e.parts e.dues i
+    pub may : MayTurnAt part.machine part.state part.now part.wakes e.cycle e.parts e.dues i
     pub valid : (p : P) → slice_get e.parts i ≡ Some p → part.machine.valid (part.state p) (part.now p) ≡ true
     pub dues_long : length e.dues ≡ length e.parts
     pub answers_long : length e.answers ≡ length e.parts
-    pub values : (e.input ≤ place) × (place ≤ length e.inputs)
+    pub given_within : (e.input ≤ place) × (place ≤ length e.inputs)
     pub fits : Fits part.machine e.wiring (map part.state e.parts)
     pub suits : Suits e.wiring e.reading
-    pub told : IsTold part.machine (map part.state e.parts) e.reading.circuit
+    pub told : IsTold part.machine (map part.state e.parts) e.reading.nets
     pub differs : (p : P) → slice_get e.parts i ≡ Some p → has_part differ i ≡ true → 0 < e.cycle
-        → part.machine.held (part.state p) ≢ levels_on part.machine e.wiring e.reading.circuit.levels i (part.state p)
+        → part.machine.held (part.state p) ≢ levels_on part.machine e.wiring e.reading.nets.levels i (part.state p)
     pub hears : may_hear ≡ true → (has_part differ i ≡ true) × (input_at (given e place) e.cycle i ≡ None) × (slice_get e.answers i ≡ Some None)
 
   -- A part that was p and due at d had its turn in cycle t, on these levels of its pins; it is q and due at e.
   pub record TurnedTo (t : ℕ) (own : List Level) (input : Option ℕ) (differs : Bool) (p q : P) (d e byte : Option ℕ) (touched : Bool) (steps more : ℕ) : Type 0 where
-    pub turn : turned part.machine part.state part.now part.wake_count (to_wake d t input differs) t own input p q byte touched
+    pub turn : turned part.machine part.state part.now part.wakes (to_wake d t input differs) t own input p q byte touched
     pub first : IsFirstDue part.machine (part.state q) (part.now q) e
     pub later : (u : ℕ) → e ≡ Some u → t < u
-    pub others : touched ≡ true → OthersStay part.machine part.state part.now part.wake_count part.moves t p q
+    pub others : touched ≡ true → OthersStay part.machine part.state part.now part.wakes part.moves t p q
     pub steps_are : more ≡ steps + (if to_wake d t input differs then 1 else 0)
 
   -- Part i had its turn, of which the nets were not told yet.
@@ -129,25 +129,25 @@ module _ {P : Type 0} (part : Ghosts P) where
     pub due_was : slice_get old.dues i ≡ Some d
     pub same : new ≡ record old { parts = slice_set old.parts i q; dues = slice_set old.dues i e; answers = slice_set old.answers i byte }
     pub sent_is : woken.sent ≡ is_some byte
-    pub turn : TurnedTo old.cycle (levels_on part.machine old.wiring old.reading.circuit.levels i (part.state p)) (input_at (given old place) old.cycle i) (has_part differ i) p q d e byte woken.changed steps more
+    pub turn : TurnedTo old.cycle (levels_on part.machine old.wiring old.reading.nets.levels i (part.state p)) (input_at (given old place) old.cycle i) (has_part differ i) p q d e byte woken.changed steps more
 
   -- A part of an engine is to be told to its nets: they were told what the parts before it show, and where it did not move it shows the same.
-  pub record MayTell (e : Engine P) (i : ℕ) (moved : Bool) : Type 0 where
+  pub record MayTell (e : Engine P) (i : ℕ) (touched : Bool) : Type 0 where
     pub before : List P
     pub p : P
     pub q : P
-    pub replaced : Replaced part.machine e.wiring part.state i before e.parts e.reading.circuit p q
+    pub replaced : Replaced part.machine e.wiring part.state i before e.parts e.reading.nets p q
     pub suits : Suits e.wiring e.reading
-    pub still : moved ≡ false → (part.machine.drives (part.state q) ≡ part.machine.drives (part.state p)) × (part.machine.contacts (part.state q) ≡ part.machine.contacts (part.state p))
-    pub others : moved ≡ true → (j : ℕ) → part.moves q j ≡ false → slice_get (part.machine.drives (part.state q)) j ≡ slice_get (part.machine.drives (part.state p)) j
+    pub still : touched ≡ false → (part.machine.drives (part.state q) ≡ part.machine.drives (part.state p)) × (part.machine.contacts (part.state q) ≡ part.machine.contacts (part.state p))
+    pub others : touched ≡ true → (j : ℕ) → part.moves q j ≡ false → slice_get (part.machine.drives (part.state q)) j ≡ slice_get (part.machine.drives (part.state p)) j
 
   -- The nets were told of it.
   pub record ToldOf (old new : Engine P) (i : ℕ) (changed : Bool) : Type 0 where
     pub same : new ≡ record old { reading = new.reading }
-    pub rest : new.reading ≡ retold old.reading new.reading.circuit.drives new.reading.circuit.closed
+    pub rest : new.reading ≡ retold old.reading new.reading.nets.drives new.reading.nets.closed
     pub fits : Fits part.machine old.wiring (map part.state old.parts)
-    pub told : IsTold part.machine (map part.state old.parts) new.reading.circuit
-    pub shifted : (before : List P) (p q : P) → Replaced part.machine old.wiring part.state i before old.parts old.reading.circuit p q → Shifted part.machine part.state p q changed
+    pub told : IsTold part.machine (map part.state old.parts) new.reading.nets
+    pub shifted : (before : List P) (p q : P) → Replaced part.machine old.wiring part.state i before old.parts old.reading.nets p q → Shifted part.machine part.state p q changed
 
   -- Part i had its turn, and the nets were told of it.
   pub record TurnedPart (old new : Engine P) (i : ℕ) (differ : PartSet) (place : ℕ) (woken : Woken) (steps more : ℕ) : Type 0 where
@@ -160,10 +160,10 @@ module _ {P : Type 0} (part : Ghosts P) where
     pub due_was : slice_get old.dues i ≡ Some d
     pub same : new ≡ record old { parts = slice_set old.parts i q; dues = slice_set old.dues i e; answers = slice_set old.answers i byte; reading = new.reading }
     pub sent_is : woken.sent ≡ is_some byte
-    pub rest : new.reading ≡ retold old.reading new.reading.circuit.drives new.reading.circuit.closed
+    pub rest : new.reading ≡ retold old.reading new.reading.nets.drives new.reading.nets.closed
     pub fits : Fits part.machine old.wiring (map part.state (slice_set old.parts i q))
-    pub told : IsTold part.machine (map part.state (slice_set old.parts i q)) new.reading.circuit
-    pub took : TookTurn part.machine old.wiring part.state part.now part.wake_count old.reading.circuit.levels old.cycle i (input_at (given old place) old.cycle i) (has_part differ i) d p q byte woken.changed
+    pub told : IsTold part.machine (map part.state (slice_set old.parts i q)) new.reading.nets
+    pub took : TookTurn part.machine old.wiring part.state part.now part.wakes old.reading.nets.levels old.cycle i (input_at (given old place) old.cycle i) (has_part differ i) d p q byte woken.changed
     pub first : IsFirstDue part.machine (part.state q) (part.now q) e
     pub later : (u : ℕ) → e ≡ Some u → old.cycle < u
     pub steps_are : more ≡ steps + (if to_wake d old.cycle (input_at (given old place) old.cycle i) (has_part differ i) then 1 else 0)
@@ -171,22 +171,22 @@ module _ {P : Type 0} (part : Ghosts P) where
   -- The parts had their turn in the cycle; the script's values before a place were of it.
   pub record TurnedOn (old new : Engine P) (differ : PartSet) (place : ℕ) (woken : Woken) (steps more : ℕ) : Type 0 where
     pub same : new ≡ record old { parts = new.parts; dues = new.dues; answers = new.answers; reading = new.reading }
-    pub rest : new.reading ≡ retold old.reading new.reading.circuit.drives new.reading.circuit.closed
+    pub rest : new.reading ≡ retold old.reading new.reading.nets.drives new.reading.nets.closed
     pub long : length new.parts ≡ length old.parts
     pub dues_long : length new.dues ≡ length old.dues
     pub answers_long : length new.answers ≡ length old.answers
-    pub turns : AllTurn part.machine old.wiring part.state part.now part.wake_count (given old place) old.reading.circuit.levels differ old.cycle old.parts new.parts new.answers woken.changed
-    pub told : IsTold part.machine (map part.state new.parts) new.reading.circuit
-    pub due : AreDue part.machine part.state part.now part.wake_count new.parts new.dues
+    pub turns : AllTurn part.machine old.wiring part.state part.now part.wakes (given old place) old.reading.nets.levels differ old.cycle old.parts new.parts new.answers woken.changed
+    pub told : IsTold part.machine (map part.state new.parts) new.reading.nets
+    pub due : AreDue part.machine part.state part.now part.wakes new.parts new.dues
     pub silent : woken.sent ≡ false → AreNone new.answers
-    pub counted : AreCounted part.machine old.wiring part.state part.now part.wake_count (given old place) old.reading.circuit.levels differ old.cycle old.parts steps more
+    pub counted : AreCounted part.machine old.wiring part.state part.now part.wakes (given old place) old.reading.nets.levels differ old.cycle old.parts steps more
 
   -- It went on as the board does.
   pub record WentOn (old new : Engine P) (steps more : ℕ) : Type 0 where
     pub may : MayRun new
     pub same_wiring : new.wiring ≡ old.wiring
     pub same_inputs : new.inputs ≡ old.inputs
-    pub leg : Leg part.machine old.wiring part.state part.now part.wake_count old.inputs old.cycle new.cycle old.parts new.parts old.reading new.reading steps more
+    pub leg : Leg part.machine old.wiring part.state part.now part.wakes old.inputs old.cycle new.cycle old.parts new.parts old.reading new.reading steps more
     pub tells : old.cycle < new.cycle → LastTells part.machine old.wiring old.inputs new.changed (states_of old) old.cycle (new.cycle - old.cycle)
 
   -- and nothing new was shown
@@ -201,8 +201,8 @@ module _ {P : Type 0} (part : Ghosts P) where
     pub long : length new.parts ≡ length old.parts
     pub dues_long : length new.dues ≡ length old.dues
     pub each : (k : ℕ) (p q : P) → slice_get old.parts k ≡ Some p → slice_get new.parts k ≡ Some q
-        → (part.state q ≡ glided part.machine part.state part.now part.wake_count old.cycle p) × (part.now q ≡ old.cycle) × (part.wake_count q ≡ part.wake_count p)
-    pub due : AreDue part.machine part.state part.now part.wake_count new.parts new.dues
+        → (part.state q ≡ glided part.machine part.state part.now part.wakes old.cycle p) × (part.now q ≡ old.cycle) × (part.wakes q ≡ part.wakes p)
+    pub due : AreDue part.machine part.state part.now part.wakes new.parts new.dues
 
 -- A write failed in the cycle before u.
 pub record FailedIn {P W : Type 0} (part : Ghosts P) (watcher : Watching W) (old : Engine P) (u : ℕ) (out after : W) : Type 0 where
@@ -214,7 +214,7 @@ pub record FailedIn {P W : Type 0} (part : Ghosts P) (watcher : Watching W) (old
 pub record Showed {P W : Type 0} (part : Ghosts P) (watcher : Watching W) (end : WriteEnd) (old new : Engine P) (steps more : ℕ) (out after : W) : Type 0 where
   pub on : WentOn part old new steps more
   pub ok : end ≡ writes.Ok → Handed watcher.whole watcher.faults watcher.stands out after (rows_to part old new.cycle) (bytes_to part old new.cycle)
-      × IsBehind watcher.last watcher.seen after new.cycle new.reading.circuit.levels
+      × IsBehind watcher.last watcher.seen after new.cycle new.reading.nets.levels
   pub failed : end ≡ writes.Failed → Rose (watcher.faults out) (watcher.faults after) × FailedIn part watcher old new.cycle out after
   pub place : watcher.place after ≡ watcher.place out
 
@@ -224,7 +224,7 @@ pub record ShowedCycle {P W : Type 0} (part : Ghosts P) (watcher : Watching W) (
   pub rest : new ≡ record old { reading = new.reading }
   pub read : IsRead part.machine old.wiring (map part.state old.parts) old.reading new.reading same differ
   pub ok : end ≡ writes.Ok → Handed watcher.whole watcher.faults watcher.stands out after (row_if part.machine old.wiring (shown_at old.cycle old.reading) (map part.state old.parts) old.cycle) []
-  pub later : end ≡ writes.Ok → IsBehind watcher.last watcher.seen after (old.cycle + 1) new.reading.circuit.levels
+  pub later : end ≡ writes.Ok → IsBehind watcher.last watcher.seen after (old.cycle + 1) new.reading.nets.levels
   pub failed : end ≡ writes.Failed → Rose (watcher.faults out) (watcher.faults after)
       × Appends (watcher.stands out) (watcher.stopped after) (row_if part.machine old.wiring (shown_at old.cycle old.reading) (map part.state old.parts) old.cycle) []
   pub place : watcher.place after ≡ watcher.place out

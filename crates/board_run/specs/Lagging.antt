@@ -70,7 +70,7 @@ module _ {S P : Type 0} (m : Machine S) (state : P → S) (now wakes : P → ℕ
 pub record Awaits {S P : Type 0} (m : Machine S) (w : Wiring) (state : P → S) (now : P → ℕ) (given inputs : List Input) (ls : List Level) (differ : PartSet) (t : ℕ) (parts : List P) (ts : List S) : Type 0 where
   pub stands : Alike (λ k p s. Stands m t (now p) (state p) s) parts ts
   pub differs : (k : ℕ) (s : S) → slice_get ts k ≡ Some s → 0 < t → has_part differ k ≡ not (same_list same_level (levels_on m w ls k s) (m.held s))
-  pub values : (k : ℕ) → input_at given t k ≡ input_at inputs t k
+  pub given_are : (k : ℕ) → input_at given t k ≡ input_at inputs t k
 
 -- part k, which stands for s, had its turn
 pub record HadTurn {S P : Type 0} (m : Machine S) (w : Wiring) (inputs : List Input) (state : P → S) (now wakes : P → ℕ) (ls : List Level) (t k : ℕ) (p q : P) (s : S) (byte : Option ℕ) (changed : Bool) : Type 0 where
@@ -86,7 +86,7 @@ pub record Turns {S P : Type 0} (m : Machine S) (w : Wiring) (inputs : List Inpu
       Stands m (t + 1) (now q) (state q) (part_step m w inputs ls t k s).0 × (wakes q ≡ wakes p + active_in m w inputs ls t k (Some s)) × (wakes q ≤ now q)
   pub answered : (k : ℕ) → k < i → slice_get answers k ≡ slice_get (map (λ r. r.1) (steps_from m w inputs ls t 0 ts)) k
   pub still : changed ≡ false → (k : ℕ) (s : S) → k < i → slice_get ts k ≡ Some s → SameShow m m (part_step m w inputs ls t k s).0 s
-  pub moved : changed ≡ true → (k : ℕ) × (s : S) × (k < i) × (slice_get ts k ≡ Some s) × (m.drives (part_step m w inputs ls t k s).0 ≡ m.drives s → m.contacts (part_step m w inputs ls t k s).0 ≢ m.contacts s)
+  pub other : changed ≡ true → (k : ℕ) × (s : S) × (k < i) × (slice_get ts k ≡ Some s) × (m.drives (part_step m w inputs ls t k s).0 ≡ m.drives s → m.contacts (part_step m w inputs ls t k s).0 ≢ m.contacts s)
 
 -- whatever board the parts lag behind
 module _ {S P : Type 0} (m : Machine S) (w : Wiring) (state : P → S) (now wakes : P → ℕ) where

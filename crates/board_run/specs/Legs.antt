@@ -22,7 +22,7 @@ pub record Kept : Type 0 where
   pub changed : Bool
   -- the first due cycle of each part
   pub dues : List (Option ℕ)
-  pub seen : ReadingView
+  pub reading : ReadingView
   pub answers : List (Option ℕ)
 
 -- each part stands at the cycle
@@ -39,17 +39,17 @@ module _ {S P : Type 0} (m : Machine S) (w : Wiring) (state : P → S) (now wake
     pub answers_long : length kept.answers ≡ length parts
     pub silent : AreNone kept.answers
     pub fits : Fits m w (map state parts)
-    pub suits : Suits w kept.seen
-    pub fresh : kept.changed ≡ false → IsOf m w (map state parts) kept.seen
-    pub told : IsTold m (map state parts) kept.seen.circuit
-    pub holds : (k : ℕ) (p : P) → slice_get parts k ≡ Some p → 0 < t → m.held (state p) ≡ levels_on m w kept.seen.circuit.levels k (state p)
+    pub suits : Suits w kept.reading
+    pub fresh : kept.changed ≡ false → IsOf m w (map state parts) kept.reading
+    pub told : IsTold m (map state parts) kept.reading.nets
+    pub holds : (k : ℕ) (p : P) → slice_get parts k ≡ Some p → 0 < t → m.held (state p) ≡ levels_on m w kept.reading.nets.levels k (state p)
 
   -- From cycle t to cycle u the parts went on as the board does, and were woken where they are active.
-  pub record Leg (inputs : List Input) (t u : ℕ) (old new : List P) (seen after : ReadingView) (steps more : ℕ) : Type 0 where
+  pub record Leg (inputs : List Input) (t u : ℕ) (old new : List P) (reading after : ReadingView) (steps more : ℕ) : Type 0 where
     pub order : t ≤ u
     pub long : length new ≡ length old
     pub states_are : map (glided m state now wakes u) new ≡ states m w inputs (map (glided m state now wakes t) old) t (u - t)
-    pub before_is : shown_before m w inputs (shown_at t seen) (map (glided m state now wakes t) old) t (u - t) ≡ shown_at u after
+    pub before_is : shown_before m w inputs (shown_at t reading) (map (glided m state now wakes t) old) t (u - t) ≡ shown_at u after
     pub woken : (k : ℕ) (p q : P) → slice_get old k ≡ Some p → slice_get new k ≡ Some q → wakes q ≡ wakes p + active_cycles m w inputs (map (glided m state now wakes t) old) t (u - t) k
     pub steps_are : more ≡ steps + active_pairs m w inputs (map (glided m state now wakes t) old) t (u - t)
 

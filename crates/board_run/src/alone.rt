@@ -22,9 +22,9 @@ fn go_alone<P: Part, L: Ledger>(
 ) -> Went
     requires order { t < limit }
     requires end { limit ≤ MOST_CYCLES }
-    requires may { MayTurn P.machine P.state P.now P.wake_count t due.old part.old }
+    requires may { MayTurn P.machine P.state P.now P.wakes t due.old part.old }
     requires valid { P.machine.valid (P.state part.old) (P.now part.old) ≡ true }
-    ensures { WentBy P.machine P.state P.now P.wake_count P.moves t limit part.old part.new due.new result steps.old steps.new }
+    ensures { WentBy P.machine P.state P.now P.wakes P.moves t limit part.old part.new due.new result steps.old steps.new }
 {
     part.settle(t);
     let went = part.go_on(limit, steps);

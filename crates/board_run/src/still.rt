@@ -17,9 +17,9 @@ fn settle_one<P: Part>(part: &mut P, n: u32) -> Option<u32>
     requires end { n ≤ MOST_CYCLES }
     requires later { P.now part.old ≤ n }
     requires quiet { IsQuiet P.machine (P.state part.old) (P.now part.old) (n - P.now part.old) }
-    ensures state { P.state part.new ≡ glided P.machine P.state P.now P.wake_count n part.old }
+    ensures state { P.state part.new ≡ glided P.machine P.state P.now P.wakes n part.old }
     ensures now { P.now part.new ≡ n }
-    ensures wake_count { P.wake_count part.new ≡ P.wake_count part.old }
+    ensures wakes { P.wakes part.new ≡ P.wakes part.old }
     ensures due { IsFirstDue P.machine (P.state part.new) (P.now part.new) result }
 {
     part.settle(n);

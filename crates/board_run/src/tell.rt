@@ -155,13 +155,13 @@ impl<P: Part> Engine<P> {
     /// Tells the nets what part `i`, whose pins begin at a place, drives and connects, where its last wake may have changed
     /// it, and answers whether it did.
     #[inline(always)]
-    pub(crate) fn tell(&mut self, moved: bool, i: usize, first: usize) -> bool
+    pub(crate) fn tell(&mut self, touched: bool, i: usize, first: usize) -> bool
         requires within { i < length self.old.parts }
         requires first { first ≡ slice_index self.old.wiring.first_pin i }
-        requires may { MayTell P.Part self.old i moved }
+        requires may { MayTell P.Part self.old i touched }
         ensures { ToldOf P.Part self.old self.new i result }
     {
-        if moved {
+        if touched {
             let _net_of = self.wiring.net_of.as_slice(); // lists that are lent have lengths that numbers hold
             let _contacts = self.wiring.contacts.as_slice();
             let parts = self.parts.as_slice();

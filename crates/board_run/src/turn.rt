@@ -52,12 +52,12 @@ fn wake_late<P: Part, L: Ledger>(
     steps: &mut Steps<L>,
 ) -> (Option<u8>, bool)
     requires end { t < MOST_CYCLES }
-    requires may { MayTurn P.machine P.state P.now P.wake_count t due.old part.old }
+    requires may { MayTurn P.machine P.state P.now P.wakes t due.old part.old }
     requires pins { length own.now ≡ length (P.machine.drives (P.state part.old)) }
-    requires active { MayWake P.machine (glided P.machine P.state P.now P.wake_count t part.old) t own.now input }
-    ensures wakes { Wakes P.machine P.state P.now P.wake_count t own.now input part.old part.new result.0 result.1 }
+    requires active { MayWake P.machine (glided P.machine P.state P.now P.wakes t part.old) t own.now input }
+    ensures wakes { Wakes P.machine P.state P.now P.wakes t own.now input part.old part.new result.0 result.1 }
     ensures first { IsFirstDue P.machine (P.state part.new) (P.now part.new) due.new }
-    ensures others { OthersStay P.machine P.state P.now P.wake_count P.moves t part.old part.new }
+    ensures others { OthersStay P.machine P.state P.now P.wakes P.moves t part.old part.new }
     ensures steps { steps.new ≡ steps.old + 1 }
 {
     part.settle(t);
@@ -79,7 +79,7 @@ fn take_turn_on<P: Part, L: Ledger>(
     steps: &mut Steps<L>,
 ) -> (Option<u8>, bool)
     requires end { t < MOST_CYCLES }
-    requires may { MayTurn P.machine P.state P.now P.wake_count t due.old part.old }
+    requires may { MayTurn P.machine P.state P.now P.wakes t due.old part.old }
     requires pins { length own.now ≡ length (P.machine.drives (P.state part.old)) }
     requires differs { differs ≡ true → 0 < t → P.machine.held (P.state part.old) ≢ own.now }
     ensures { TurnedTo P.Part t own.now input differs part.old part.new due.old due.new result.0 result.1 steps.old steps.new }
@@ -103,7 +103,7 @@ fn hear_levels<P: Part, L: Ledger>(
     steps: &mut Steps<L>,
 ) -> Option<bool>
     requires end { t < MOST_CYCLES }
-    requires may { MayTurn P.machine P.state P.now P.wake_count t due part.old }
+    requires may { MayTurn P.machine P.state P.now P.wakes t due part.old }
     requires pins { length (P.machine.drives (P.state part.old)) ≤ length levels.now }
     requires differs { may_hear ≡ true → 0 < t → P.machine.held (P.state part.old) ≢ own_of P.Part part.old levels.now }
     ensures stays { result ≡ None → (part.new ≡ part.old) × (steps.new ≡ steps.old) }
@@ -182,7 +182,7 @@ impl<P: Part> Engine<P> {
         steps: &mut Steps<L>,
     ) -> Woken
         requires may { MayTurnOn P.Part self.old differ }
-        requires values { (self.old.input ≤ end) × (end ≤ length self.old.inputs) }
+        requires given_within { (self.old.input ≤ end) × (end ≤ length self.old.inputs) }
         ensures { TurnedOn P.Part self.old self.new differ end result steps.old steps.new }
     {
         let given = &self.inputs.as_slice()[self.input..end];

@@ -124,7 +124,7 @@ impl Part for Chip {
 
     ghost now = { λ p. p.cycle };
 
-    ghost wake_count = { λ p. p.wakes };
+    ghost wakes = { λ p. p.wakes };
 
     ghost changes = { λ p. nat_lt p.moved.from p.moved.to };
 

@@ -39,8 +39,8 @@ fn run_beside<P: Part + Drop, L: Ledger>(
     steps: &mut Steps<L>,
 ) -> Result<TwinEnd, OutOfMemory>
     requires wiring { IsWiring wiring }
-    requires fresh { AreFresh P.machine P.state P.now P.wake_count parts }
-    requires twins { AreTwins P.machine P.state P.now P.wake_count (twin_view parts chips wiring) }
+    requires fresh { AreFresh P.machine P.state P.now P.wakes parts }
+    requires twins { AreTwins P.machine P.state P.now P.wakes (twin_view parts chips wiring) }
     requires contacts { HaveNoContacts P.machine wiring (map P.state parts) (other_states P.state (twin_view parts chips wiring)) }
     requires end { n ≤ MOST_CYCLES }
     ensures { IfOk result (λ end. IsTwin P.machine wiring [] (map P.state parts) (other_states P.state (twin_view parts chips wiring))

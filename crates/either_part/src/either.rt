@@ -33,7 +33,7 @@ impl<A: Part, B: Part> Part for Either<A, B> {
 
     ghost now = { on_either A.now B.now };
 
-    ghost wake_count = { on_either A.wake_count B.wake_count };
+    ghost wakes = { on_either A.wakes B.wakes };
 
     ghost changes = { on_either A.changes B.changes };
 

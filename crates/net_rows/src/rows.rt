@@ -20,7 +20,7 @@ const DRIVES: [Drive; 6] = [
 
 /// A pin each on nets that contacts and resistors join.
 #[derive(Drop)]
-struct NetsView<'a> {
+struct Circuit<'a> {
     net_of: [u16; 3],
     contacts: &'a [(u16, u16)],
     resistors: &'a [(u16, u16)],
@@ -40,7 +40,7 @@ fn put<T: Copy>(alloc: Global, list: &mut List<T>, items: &[T]) -> Result<(), Al
     Ok(())
 }
 
-fn fill(alloc: Global, wiring: &mut Wiring, circuit: &NetsView) -> Result<(), AllocError>
+fn fill(alloc: Global, wiring: &mut Wiring, circuit: &Circuit) -> Result<(), AllocError>
     ensures pins { OnOk result (length wiring.new.net_of ≡ 3) }
     ensures contacts { OnOk result (wiring.new.contacts ≡ circuit.now.contacts.now) }
 {
@@ -51,7 +51,7 @@ fn fill(alloc: Global, wiring: &mut Wiring, circuit: &NetsView) -> Result<(), Al
     put(alloc, &mut wiring.chip, &[false])
 }
 
-fn wiring_of(alloc: Global, circuit: &NetsView) -> Result<Wiring, OutOfMemory>
+fn wiring_of(alloc: Global, circuit: &Circuit) -> Result<Wiring, OutOfMemory>
     ensures pins { IfOk result (λ w. length w.net_of ≡ 3) }
     ensures contacts { IfOk result (λ w. w.contacts ≡ circuit.now.contacts.now) }
 {
@@ -144,7 +144,7 @@ fn gives(
 /// of the plain program, or the nets that are told to have changed are not those whose levels differ.
 fn resolved(
     alloc: Global,
-    circuit: &NetsView,
+    circuit: &Circuit,
     drives: [Drive; 3],
 ) -> Result<Option<List<Level>>, OutOfMemory> {
     let wiring = wiring_of(alloc, circuit)?;
@@ -189,19 +189,19 @@ fn resolves(
 
 /// Nets whose levels were worked by hand.
 fn play_worked(rt: &HostRuntime) -> io::Result<u32> {
-    let one_net = NetsView {
+    let one_net = Circuit {
         net_of: [0, 0, 0],
         contacts: &[],
         resistors: &[],
         closed: &[],
     };
-    let to_each_supply = NetsView {
+    let to_each_supply = Circuit {
         net_of: [0, 1, 2],
         contacts: &[],
         resistors: &[(0, 1), (0, 2)],
         closed: &[],
     };
-    let in_series = NetsView {
+    let in_series = Circuit {
         net_of: [0, 1, 2],
         contacts: &[],
         resistors: &[(0, 1), (1, 2)],
@@ -259,7 +259,7 @@ fn play_worked(rt: &HostRuntime) -> io::Result<u32> {
 /// Plays nets that were worked by hand.
 fn play_one(
     rt: &HostRuntime,
-    circuit: &NetsView,
+    circuit: &Circuit,
     drives: [Drive; 3],
     levels: &[Level],
 ) -> io::Result<()> {
@@ -271,7 +271,7 @@ fn play_one(
 }
 
 /// Plays nets against the plain program.
-fn compare(rt: &HostRuntime, circuit: &NetsView, drives: [Drive; 3]) -> io::Result<()> {
+fn compare(rt: &HostRuntime, circuit: &Circuit, drives: [Drive; 3]) -> io::Result<()> {
     let [a, b, c] = drives;
     match resolved(rt.alloc(), circuit, drives) {
         Ok(Some(_)) => Ok(()),
@@ -281,7 +281,7 @@ fn compare(rt: &HostRuntime, circuit: &NetsView, drives: [Drive; 3]) -> io::Resu
 }
 
 /// All drives of three pins.
-fn play_all(rt: &HostRuntime, circuit: &NetsView) -> io::Result<u32> {
+fn play_all(rt: &HostRuntime, circuit: &Circuit) -> io::Result<u32> {
     let mut count: u32 = 0;
     for a in DRIVES {
         for b in DRIVES {
@@ -305,7 +305,7 @@ pub(crate) fn play(rt: &HostRuntime) -> io::Result<()> {
         ([0, 1, 2], &[(0, 1)], &[(1, 2)], &[false]),
         ([0, 1, 2], &[(2, 1), (1, 2)], &[(0, 1)], &[false, true]),
     ] {
-        let circuit = NetsView {
+        let circuit = Circuit {
             net_of,
             contacts,
             resistors,

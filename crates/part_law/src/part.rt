@@ -32,7 +32,7 @@ pub trait Part {
     ghost now: { Self → ℕ };
 
     /// How often it was woken.
-    ghost wake_count: { Self → ℕ };
+    ghost wakes: { Self → ℕ };
 
     /// Whether its last wake may have changed a drive or a contact.
     ghost changes: { Self → Bool };
@@ -63,7 +63,7 @@ pub trait Part {
 
     /// How often the part was woken.
     fn woken(&self) -> u32
-        ensures { result ≡ wake_count self.now };
+        ensures { result ≡ wakes self.now };
 
     /// Whether the last wake may have changed a drive or a contact; where it did not, an engine need
     /// not read them again. A part may always answer that it may have.
@@ -85,19 +85,19 @@ pub trait Part {
         requires quiet { IsQuiet machine (state self.old) (now self.old) (to - now self.old) }
         ensures state { state self.new ≡ glide machine (state self.old) (now self.old) (to - now self.old) }
         ensures now { now self.new ≡ to }
-        ensures wake_count { wake_count self.new ≡ wake_count self.old };
+        ensures wakes { wakes self.new ≡ wakes self.old };
 
     /// Does one step on these levels of its pins, and answers the byte that it emits. A part is woken
     /// only where it is due, or a script value comes, or a level differs from the one that it holds.
     fn wake(&mut self, levels: &[Level], input: Option<u16>) -> Option<u8>
         requires pins { length levels.now ≡ length (machine.drives (state self.old)) }
         requires end { now self.old < MOST_CYCLES }
-        requires count { wake_count self.old ≤ now self.old }
+        requires count { wakes self.old ≤ now self.old }
         requires may { MayWake machine (state self.old) (now self.old) levels.now input }
         ensures state { state self.new ≡ (machine.step (state self.old) (now self.old) levels.now input).0 }
         ensures byte { result ≡ (machine.step (state self.old) (now self.old) levels.now input).1 }
         ensures now { now self.new ≡ now self.old + 1 }
-        ensures wake_count { wake_count self.new ≡ wake_count self.old + 1 }
+        ensures wakes { wakes self.new ≡ wakes self.old + 1 }
         ensures drives { changes self.new ≡ false → machine.drives (state self.new) ≡ machine.drives (state self.old) }
         ensures others { (pin : ℕ) → moves self.new pin ≡ false → slice_get (machine.drives (state self.new)) pin ≡ slice_get (machine.drives (state self.old)) pin }
         ensures contacts { changes self.new ≡ false → machine.contacts (state self.new) ≡ machine.contacts (state self.old) };
@@ -106,12 +106,12 @@ pub trait Part {
     /// that no level changed since the last wake.
     fn wake_held(&mut self, input: Option<u16>) -> Option<u8>
         requires end { now self.old < MOST_CYCLES }
-        requires count { wake_count self.old ≤ now self.old }
+        requires count { wakes self.old ≤ now self.old }
         requires may { MayWake machine (state self.old) (now self.old) (machine.held (state self.old)) input }
         ensures state { state self.new ≡ (machine.step (state self.old) (now self.old) (machine.held (state self.old)) input).0 }
         ensures byte { result ≡ (machine.step (state self.old) (now self.old) (machine.held (state self.old)) input).1 }
         ensures now { now self.new ≡ now self.old + 1 }
-        ensures wake_count { wake_count self.new ≡ wake_count self.old + 1 }
+        ensures wakes { wakes self.new ≡ wakes self.old + 1 }
         ensures drives { changes self.new ≡ false → machine.drives (state self.new) ≡ machine.drives (state self.old) }
         ensures others { (pin : ℕ) → moves self.new pin ≡ false → slice_get (machine.drives (state self.new)) pin ≡ slice_get (machine.drives (state self.old)) pin }
         ensures contacts { changes self.new ≡ false → machine.contacts (state self.new) ≡ machine.contacts (state self.old) };
@@ -124,13 +124,13 @@ pub trait Part {
         requires end { t < MOST_CYCLES }
         requires quiet { IsQuiet machine (state self.old) (now self.old) (t - now self.old) }
         requires pins { length (machine.drives (state self.old)) ≤ length levels.now }
-        requires count { wake_count self.old ≤ now self.old }
+        requires count { wakes self.old ≤ now self.old }
         requires may { MayWake machine (glide machine (state self.old) (now self.old) (t - now self.old)) t (take (length (machine.drives (state self.old))) levels.now) None }
         ensures stays { result ≡ None → self.new ≡ self.old }
         ensures hears { (changed : Bool) → result ≡ Some changed
             → Hears machine (state self.old) (now self.old) t (take (length (machine.drives (state self.old))) levels.now) (state self.new) changed }
         ensures now { (changed : Bool) → result ≡ Some changed → now self.new ≡ t + 1 }
-        ensures wake_count { (changed : Bool) → result ≡ Some changed → wake_count self.new ≡ wake_count self.old + 1 }
+        ensures wakes { (changed : Bool) → result ≡ Some changed → wakes self.new ≡ wakes self.old + 1 }
         ensures others { (changed : Bool) → result ≡ Some changed → (pin : ℕ) → moves self.new pin ≡ false
             → slice_get (machine.drives (state self.new)) pin ≡ slice_get (machine.drives (glide machine (state self.old) (now self.old) (t - now self.old))) pin }
     {
@@ -144,14 +144,14 @@ pub trait Part {
     fn go_on<L: Ledger>(&mut self, limit: u32, steps: &mut Steps<L>) -> Went
         requires later { now self.old ≤ limit }
         requires end { limit ≤ MOST_CYCLES }
-        requires count { wake_count self.old ≤ now self.old }
+        requires count { wakes self.old ≤ now self.old }
         requires valid { machine.valid (state self.old) (now self.old) ≡ true }
         ensures to { now self.new ≡ result.to }
         ensures forward { now self.old ≤ result.to }
         ensures within { result.to ≤ limit }
         ensures progress { now self.old < limit → now self.old < result.to }
         ensures state { state self.new ≡ glide machine (state self.old) (now self.old) (result.to - now self.old) }
-        ensures wake_count { wake_count self.new ≡ wake_count self.old + dues machine (state self.old) (now self.old) (result.to - now self.old) }
+        ensures wakes { wakes self.new ≡ wakes self.old + dues machine (state self.old) (now self.old) (result.to - now self.old) }
         ensures steps { steps.new ≡ steps.old + dues machine (state self.old) (now self.old) (result.to - now self.old) }
         ensures same { IsSame machine (state self.old) (now self.old) (result.to - now self.old) }
         ensures drives { result.changed ≡ false → machine.drives (state self.new) ≡ machine.drives (state self.old) }

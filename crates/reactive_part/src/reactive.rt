@@ -95,7 +95,7 @@ impl<B: Behaviour> Part for Reactive<B> {
 
     ghost now = { λ p. p.cycle };
 
-    ghost wake_count = { λ p. p.wakes };
+    ghost wakes = { λ p. p.wakes };
 
     ghost changes = { λ p. p.changed };
 

@@ -113,7 +113,7 @@ impl Part for Player {
 
     ghost now = { λ p. p.player.cycle };
 
-    ghost wake_count = { λ p. p.wakes };
+    ghost wakes = { λ p. p.wakes };
 
     ghost changes = { λ p. nat_lt p.moved.from p.moved.to };
 

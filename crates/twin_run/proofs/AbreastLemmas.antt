@@ -73,7 +73,7 @@ module _ {P : Type 0} (part : Ghosts P) (laws : Laws part.machine) (start : Twin
   B t = beside_at part start t
 
   -- a twin at its start
-  pub abreast_start : (chips : Chips P) (steps : ℕ) → AreTwins m part.state part.now part.wake_count start → start.board.cycle ≡ 0 → chips.parts ≡ start.chips →
+  pub abreast_start : (chips : Chips P) (steps : ℕ) → AreTwins m part.state part.now part.wakes start → start.board.cycle ≡ 0 → chips.parts ≡ start.chips →
       length chips.levels ≡ w.nets → length chips.own ≡ length w.net_of → Abreast part start (record { board = start.board; chips = chips }) steps steps
   unfolding states stepped_beside first_beside
   abreast_start chips steps twins zero_cycle are nets room =
@@ -149,7 +149,7 @@ module _ {P : Type 0} (part : Ghosts P) (laws : Laws part.machine) (start : Twin
       own = is.chips.behind.own_long ∙ sym (ap (λ (v : Wiring). length v.net_of) is.board.same_wiring);
     }
 
-    pub all_woken : wakes_in part.wake_count (view_of b) + steps ≡ wakes_in part.wake_count start + more
+    pub all_woken : wakes_in part.wakes (view_of b) + steps ≡ wakes_in part.wakes start + more
     all_woken = let o = is.board.woken in let x = is.woken in let c = is.counted in omega (arith, o, x, c)
 
     -- what `difference` compares is what the boards show

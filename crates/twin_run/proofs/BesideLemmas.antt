@@ -37,7 +37,7 @@ chip_inside [] k is = absurd cc
 chip_inside (b ∷ l) zero is = omega arith
 chip_inside (b ∷ l) (suc k) is = omega (arith, chip_inside l k is)
 
-module _ {P : Type 0} (part : Ghosts P) (laws : Laws part.machine) (start : TwinView P) (twins : AreTwins part.machine part.state part.now part.wake_count start) where
+module _ {P : Type 0} (part : Ghosts P) (laws : Laws part.machine) (start : TwinView P) (twins : AreTwins part.machine part.state part.now part.wakes start) where
   abbrev m : Machine part.State
   m = part.machine
 
@@ -161,7 +161,7 @@ module _ {P : Type 0} (part : Ghosts P) (laws : Laws part.machine) (start : Twin
     pins_there : (k : ℕ) (p : P) → IsChipOf w old.parts k p → length (m.drives (part.state p)) ≡ length (m.drives (at_cycle part t p))
     pins_there k p of = ap length (stands_shows m laws t (part.now p) (part.state p) (at_cycle part t p) (behind.each k p of).stands).drives
 
-    had : (k : ℕ) (q : P) → IsChipOf w new.parts k q → (p : P) × IsChipOf w old.parts k p × (byte : Option ℕ) × HadTurn m w inputs part.state part.now part.wake_count ls t k p q (at_cycle part t p) byte true
+    had : (k : ℕ) (q : P) → IsChipOf w new.parts k q → (p : P) × IsChipOf w old.parts k p × (byte : Option ℕ) × HadTurn m w inputs part.state part.now part.wakes ls t k p q (at_cycle part t p) byte true
     had k q of =
         let x = behind.has k of.0 in
         let p = x.0 in
@@ -172,7 +172,7 @@ module _ {P : Type 0} (part : Ghosts P) (laws : Laws part.machine) (start : Twin
           p,
           (of.0, x.1),
           took.byte,
-          had_turn m laws w inputs part.state part.now part.wake_count ls t k p q s took.due None took.byte (levels_on m w ls k (part.state p)) took.differs true end
+          had_turn m laws w inputs part.state part.now part.wakes ls t k p q s took.due None took.byte (levels_on m w ls k (part.state p)) took.differs true end
               (record { not_later = b.stands.not_later; count = b.count; quiet = b.stands.quiet; first = took.first }) b.stands own
               (λ later. took.differs_is later ∙ ap (λ (l : List Level). not (same_list same_level l (m.held (part.state p)))) own
               ∙ ap (λ (l : List Level). not (same_list same_level (levels_on m w ls k s) l)) (sym (stands_holds m laws t (part.now p) (part.state p) s b.stands)))

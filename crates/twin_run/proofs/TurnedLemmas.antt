@@ -175,9 +175,9 @@ module _ {P : Type 0} (part : Ghosts P) (w : Wiring) (ls : List Level) (t : ℕ)
           done = subst (λ (x : ℕ). Done (TookAs part w ls t old) x old.parts next.parts) after (subst (λ (l : List P). Done (TookAs part w ls t old) (chips_before w i + 1) old.parts l) parts done);
           steps_are = omega (arith, s, counted, wake, sum);
           woken =
-              let set_is = sum_by-set part.wake_count new.parts j q p within in
-              let now_are = ap (sum_by part.wake_count) it.parts in
-              let was_is = ap part.wake_count (get_or_from_slice_get new.parts j p p it.here) in
+              let set_is = sum_by-set part.wakes new.parts j q p within in
+              let now_are = ap (sum_by part.wakes) it.parts in
+              let was_is = ap part.wakes (get_or_from_slice_get new.parts j p p it.here) in
               let woken = it.woken in
               let so = so_far.woken in
               omega (arith, set_is, now_are, was_is, woken, so);

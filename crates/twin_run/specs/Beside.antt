@@ -37,7 +37,7 @@ IsChipOf w chips k q = (is_chip w k ≡ true) × (slice_get chips (chips_before 
 module _ {P : Type 0} (part : Ghosts P) where
   -- where a chip is at cycle t, if nothing comes
   abbrev pub at_cycle : ℕ → P → part.State
-  at_cycle t p = glided part.machine part.state part.now part.wake_count t p
+  at_cycle t p = glided part.machine part.state part.now part.wakes t p
 
   -- 1 where a chip in this state is active in cycle t on these levels of its pins, else 0
   abbrev pub wake_in : ℕ → List Level → part.State → ℕ
@@ -50,12 +50,12 @@ module _ {P : Type 0} (part : Ghosts P) where
     pub due : Option ℕ
     pub first : IsFirstDue part.machine (part.state p) (part.now p) due
     pub byte : Option ℕ
-    pub turn : turned part.machine part.state part.now part.wake_count (to_wake due t None differs) t own None p q byte true
+    pub turn : turned part.machine part.state part.now part.wakes (to_wake due t None differs) t own None p q byte true
 
   -- a chip that may be left behind up to cycle t, and holds these levels
   pub record IsBehind (t : ℕ) (held : List Level) (p : P) : Type 0 where
     pub stands : Stands part.machine t (part.now p) (part.state p) (at_cycle t p)
-    pub count : part.wake_count p ≤ part.now p
+    pub count : part.wakes p ≤ part.now p
     pub holds : 0 < t → part.machine.held (part.state p) ≡ held
 
   -- chip j may have its turn in cycle t, with these nets at its pins
@@ -76,7 +76,7 @@ module _ {P : Type 0} (part : Ghosts P) where
     pub own_long : length new.own ≡ length old.own
     pub took : TookTurn t own p q
     pub counted : more ≡ steps + wake_in t own (at_cycle t p)
-    pub woken : part.wake_count q + steps ≡ part.wake_count p + more
+    pub woken : part.wakes q + steps ≡ part.wakes p + more
 
   module _ (w : Wiring) where
     -- They can be compared with the chips of these parts.
@@ -93,7 +93,7 @@ module _ {P : Type 0} (part : Ghosts P) where
       pub same_wiring : new.wiring ≡ old.wiring
       pub same_inputs : new.inputs ≡ old.inputs
       pub states_are : map part.state new.parts ≡ states part.machine w inputs (map part.state old.parts) old.cycle (new.cycle - old.cycle)
-      pub woken : sum_by part.wake_count new.parts ≡ sum_by part.wake_count old.parts + active_pairs part.machine w inputs (map part.state old.parts) old.cycle (new.cycle - old.cycle)
+      pub woken : sum_by part.wakes new.parts ≡ sum_by part.wakes old.parts + active_pairs part.machine w inputs (map part.state old.parts) old.cycle (new.cycle - old.cycle)
       pub steps_are : more ≡ steps + active_pairs part.machine w inputs (map part.state old.parts) old.cycle (new.cycle - old.cycle)
 
     -- Each part that is a chip has one, which may be left behind up to cycle t and holds the levels that were kept.
@@ -121,7 +121,7 @@ module _ {P : Type 0} (part : Ghosts P) where
       pub record ChipsTurned (i : ℕ) (new : Chips P) (steps more : ℕ) : Type 0 where
         pub done : Done TookAs (chips_before w i) old.parts new.parts
         pub steps_are : more ≡ steps + sum_below i chip_wake
-        pub woken : sum_by part.wake_count new.parts + steps ≡ sum_by part.wake_count old.parts + more
+        pub woken : sum_by part.wakes new.parts + steps ≡ sum_by part.wakes old.parts + more
 
   -- the pairs of a cycle below n and a chip of the second board that is active in it, beside the first board
   module _ (start : TwinView P) where
@@ -149,7 +149,7 @@ module _ {P : Type 0} (part : Ghosts P) where
       pub same_wiring : b.wiring ≡ start.board.wiring
       pub same_inputs : b.inputs ≡ start.board.inputs
       pub states_are : map part.state b.parts ≡ own_at b.cycle
-      pub woken : sum_by part.wake_count b.parts ≡ sum_by part.wake_count start.board.parts + own_pairs b.cycle
+      pub woken : sum_by part.wakes b.parts ≡ sum_by part.wakes start.board.parts + own_pairs b.cycle
 
     -- The second one's chips beside it at cycle t, where nothing differed before.
     pub record ChipsAt (t : ℕ) (c : Chips P) : Type 0 where
@@ -162,11 +162,11 @@ module _ {P : Type 0} (part : Ghosts P) where
 
     -- A twin on its way from its start, with so many wakes of the chips.
     pub record Abreast (b : Beside P) (steps more : ℕ) : Type 0 where
-      pub twins : AreTwins part.machine part.state part.now part.wake_count start
+      pub twins : AreTwins part.machine part.state part.now part.wakes start
       pub board : BoardAt b.board
       pub chips : ChipsAt b.board.cycle b.chips
       pub wakes : ℕ
-      pub woken : sum_by part.wake_count b.chips.parts ≡ sum_by part.wake_count start.chips + wakes
+      pub woken : sum_by part.wakes b.chips.parts ≡ sum_by part.wakes start.chips + wakes
       pub most : wakes ≤ beside_pairs b.board.cycle
       pub counted : more ≡ steps + own_pairs b.board.cycle + wakes
 

@@ -84,14 +84,14 @@ impl<P: Part> Beside<P> {
 
     /// Runs a board at cycle 0 with chips beside it up to the first cycle in which one drives otherwise, or to cycle n.
     pub(crate) fn run<L: Ledger>(&mut self, n: u32, steps: &mut Steps<L>) -> TwinEnd
-        requires twins { AreTwins P.machine P.state P.now P.wake_count (view_of self.old) }
+        requires twins { AreTwins P.machine P.state P.now P.wakes (view_of self.old) }
         requires room { HasRoom self.old }
         requires end { n ≤ MOST_CYCLES }
         ensures room { HasRoom self.new }
         ensures twin { HaveNoContacts P.machine self.old.board.wiring (map P.state self.old.board.parts) (other_states P.state (view_of self.old))
             → IsTwin P.machine self.old.board.wiring self.old.board.inputs (map P.state self.old.board.parts)
             (other_states P.state (view_of self.old)) n result steps.old steps.new }
-        ensures woken { wakes_in P.wake_count (view_of self.new) + steps.old ≡ wakes_in P.wake_count (view_of self.old) + steps.new }
+        ensures woken { wakes_in P.wakes (view_of self.new) + steps.old ≡ wakes_in P.wakes (view_of self.old) + steps.new }
     {
         while self.board.cycle() < n {
             if let Some(end) = self.difference() {

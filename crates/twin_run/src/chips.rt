@@ -71,13 +71,13 @@ fn take_turn<P: Part, L: Ledger>(
     steps: &mut Steps<L>,
 )
     requires end { t < MOST_CYCLES }
-    requires stands { Stands P.machine t (P.now chip.old) (P.state chip.old) (glided P.machine P.state P.now P.wake_count t chip.old) }
-    requires count { P.wake_count chip.old ≤ P.now chip.old }
+    requires stands { Stands P.machine t (P.now chip.old) (P.state chip.old) (glided P.machine P.state P.now P.wakes t chip.old) }
+    requires count { P.wakes chip.old ≤ P.now chip.old }
     requires pins { length own.now ≡ length (P.machine.drives (P.state chip.old)) }
     requires differs { 0 < t → differs ≡ not (same_list same_level own.now (P.machine.held (P.state chip.old))) }
     ensures took { TookTurn P.Part t own.now chip.old chip.new }
-    ensures woken { P.wake_count chip.new + steps.old ≡ P.wake_count chip.old + steps.new }
-    ensures steps { steps.new ≡ steps.old + wake_in P.Part t own.now (glided P.machine P.state P.now P.wake_count t chip.old) }
+    ensures woken { P.wakes chip.new + steps.old ≡ P.wakes chip.old + steps.new }
+    ensures steps { steps.new ≡ steps.old + wake_in P.Part t own.now (glided P.machine P.state P.now P.wakes t chip.old) }
 {
     if is_to_wake(chip.due(), t, differs) {
         chip.settle(t);

@@ -66,12 +66,12 @@ impl<P: Part> Twin<P> {
     /// Runs the two boards as one from cycle 0 to cycle n, and stops before the first cycle in which a chip drives otherwise. What
     /// is no chip is moved once; each set of chips is woken where it is active and nowhere else.
     pub fn run<L: Ledger>(&mut self, n: u32, steps: &mut Steps<L>) -> TwinEnd
-        requires twins { AreTwins P.machine P.state P.now P.wake_count self.old }
+        requires twins { AreTwins P.machine P.state P.now P.wakes self.old }
         requires end { n ≤ MOST_CYCLES }
         ensures twin { HaveNoContacts P.machine self.old.board.wiring (map P.state self.old.board.parts) (other_states P.state self.old)
             → IsTwin P.machine self.old.board.wiring self.old.board.inputs (map P.state self.old.board.parts) (other_states P.state self.old)
             n result steps.old steps.new }
-        ensures woken { wakes_in P.wake_count self.new + steps.old ≡ wakes_in P.wake_count self.old + steps.new }
+        ensures woken { wakes_in P.wakes self.new + steps.old ≡ wakes_in P.wakes self.old + steps.new }
     {
         self.beside.run(n, steps)
     }

@@ -21,7 +21,7 @@ returns c =
     let long : length old.levels ≡ length new.levels = c.requires.levels ∙ sym nets ∙ sym c.levels-levels.ensures.nets ∙ ap length c.levels-levels.ensures.levels in
     let none = none_changed old.levels new.levels new.changed c.is_empty-same_levels.result long are (c.is_empty-same_levels.ensures ∙ ap (λ (ns : List ℕ). length ns == 0) c.changed.ensures.changed) in
     record {
-      rest = ap (λ (x : NetsView). let y : ReadingView = record { circuit = x; on = c.args.on.now } in y) all;
+      rest = ap (λ (x : NetsView). let y : ReadingView = record { nets = x; on = c.args.on.now } in y) all;
       changed = are;
       within = λ n h. c.changed-2.ensures.nets n (ap (λ (ns : List ℕ). has ns n) c.changed-2.ensures.changed ∙ h);
       long = sym (ap length c.levels-levels.ensures.levels) ∙ c.levels-levels.ensures.nets;

@@ -6,5 +6,5 @@ pub hear-heard-requires-clause-may : goal.hear-heard-requires-clause-may
 hear-heard-requires-clause-may g c =
     let p = g.P.Part in
     let x = c.args.part.now in
-    may_wake p.machine g.met.P.Part.laws p.state p.now p.wake_count c.args.t x c.args.due None (take (length (p.machine.drives (p.state x))) c.args.levels.now) true
+    may_wake p.machine g.met.P.Part.laws p.state p.now p.wakes c.args.t x c.args.due None (take (length (p.machine.drives (p.state x))) c.args.levels.now) true
     c.requires.may (λ is. c.requires.differs c.if-not-may_hear.false) (or_right (is_at c.args.due c.args.t) _ refl)

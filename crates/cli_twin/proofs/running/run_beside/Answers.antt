@@ -5,7 +5,7 @@ use Rattle.cli_twin.proofs.running.run_beside.Goals as goal
 pub run-end-requires-clause-twins : goal.run-end-requires-clause-twins
 run-end-requires-clause-twins g c =
     let made = is_view c.args.parts c.args.chips c.args.wiring c.new.result c.in-Ok.board c.in_ok-twin.twin c.new.ensures c.in-Ok.ensures c.in_ok-twin.ensures in
-    subst (λ (t : TwinView _). AreTwins g.P.Part.machine g.P.Part.state g.P.Part.now g.P.Part.wake_count t) (sym made) c.requires.twins
+    subst (λ (t : TwinView _). AreTwins g.P.Part.machine g.P.Part.state g.P.Part.now g.P.Part.wakes t) (sym made) c.requires.twins
 
 pub returns : goal.returns
 returns g c =

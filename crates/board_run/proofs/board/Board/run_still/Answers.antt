@@ -31,8 +31,8 @@ returns g c =
     let i = c.self.inside.engine in
     let new = c.settle.new.self in
     let s = rests g (goal.at.returns g c).After-settle in
-    let here = at_here m laws i.wiring p.state p.now p.wake_count i.inputs i.cycle i.parts c.self.invariant.at in
-    let went = went_to m laws i.wiring p.state p.now p.wake_count i.inputs i.cycle new.cycle c.self.inside.given_up i.changed i.parts new.parts i.reading
+    let here = at_here m laws i.wiring p.state p.now p.wakes i.inputs i.cycle i.parts c.self.invariant.at in
+    let went = went_to m laws i.wiring p.state p.now p.wakes i.inputs i.cycle new.cycle c.self.inside.given_up i.changed i.parts new.parts i.reading
     new.reading c.args.steps.now c.rest.new.steps
     c.self.invariant.at c.settle.ensures.at s.on.leg in
     rw (← c.self.view_is) (record {

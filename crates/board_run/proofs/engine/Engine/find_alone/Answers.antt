@@ -6,7 +6,7 @@ pub first_alone-requires-clause-late : goal.first_alone-requires-clause-late
 first_alone-requires-clause-late g c =
     let p = g.P.Part in
     let e = c.args.self.now in
-    lags_late p.machine e.wiring p.state p.now p.wake_count e.cycle e.parts (kept_of e) c.requires.may.lags
+    lags_late p.machine e.wiring p.state p.now p.wakes e.cycle e.parts (kept_of e) c.requires.may.lags
 
 pub returns : goal.returns
 returns g c =

@@ -7,7 +7,7 @@ pub first_due-due-requires-clause-late : goal.first_due-due-requires-clause-late
 first_due-due-requires-clause-late g c =
     let p = g.P.Part in
     let e = c.args.self.now in
-    lags_late p.machine e.wiring p.state p.now p.wake_count e.cycle e.parts (kept_of e) c.requires.may.lags
+    lags_late p.machine e.wiring p.state p.now p.wakes e.cycle e.parts (kept_of e) c.requires.may.lags
 
 pub returns-then-self : goal.returns-then-self
 returns-then-self g c =
@@ -17,7 +17,7 @@ returns-then-self g c =
       from = omega arith;
       within = c.requires.within;
       stays = λ _. refl;
-      late = lags_late p.machine e.wiring p.state p.now p.wake_count e.cycle e.parts (kept_of e) c.requires.may.lags;
+      late = lags_late p.machine e.wiring p.state p.now p.wakes e.cycle e.parts (kept_of e) c.requires.may.lags;
       silent = λ v k from before. absurd (omega (arith, from, before));
       behind = c.requires.may.behind;
       event = λ none. absurd (let x : true ≡ false = sym c.if-self.true ∙ none in cc);

@@ -18,16 +18,16 @@ returns-then-self g c =
     let ss = map p.state e.parts in
     let l = c.requires.lags in
     let wired = l.suits.wired in
-    let old = e.reading.circuit in
-    let new = c.read.new.self.circuit in
+    let old = e.reading.nets in
+    let new = c.read.new.self.nets in
     let r = c.read.ensures in
-    let circuit = ap (λ (v : ReadingView). v.circuit) r.rest in
+    let nets_are = ap (λ (v : ReadingView). v.nets) r.rest in
     let ds = l.told.drives_are in
-    let resolved = ap (λ (x : NetsView). x.levels) circuit in
+    let resolved = ap (λ (x : NetsView). x.levels) nets_are in
     let levels : new.levels ≡ levels_of m w ss = cc in
-    let kept : new.kept ≡ chip_drives_of m w.chip ss = ap (λ (x : NetsView). x.kept) circuit ∙ ap (λ (flags : List Bool). flagged flags old.drives) wired.watched
+    let kept : new.kept ≡ chip_drives_of m w.chip ss = ap (λ (x : NetsView). x.kept) nets_are ∙ ap (λ (flags : List Bool). flagged flags old.drives) wired.watched
     ∙ ap (flagged (pin_flags w.chip w.first_pin (length w.net_of))) ds ∙ flagged_chips m w ss l.fits in
-    let nets : new.nets ≡ w.nets = ap (λ (x : NetsView). x.nets) circuit ∙ wired.nets in
+    let nets : new.nets ≡ w.nets = ap (λ (x : NetsView). x.nets) nets_are ∙ wired.nets in
     let later : length new.levels ≡ w.nets = r.long ∙ nets in
     record {
       rest = refl;
@@ -35,20 +35,20 @@ returns-then-self g c =
         suits = record {
           wired = record {
             nets = nets;
-            net_of = ap (λ (x : NetsView). x.net_of) circuit ∙ wired.net_of;
-            contacts = ap (λ (x : NetsView). x.contacts) circuit ∙ wired.contacts;
-            resistors = ap (λ (x : NetsView). x.resistors) circuit ∙ wired.resistors;
+            net_of = ap (λ (x : NetsView). x.net_of) nets_are ∙ wired.net_of;
+            contacts = ap (λ (x : NetsView). x.contacts) nets_are ∙ wired.contacts;
+            resistors = ap (λ (x : NetsView). x.resistors) nets_are ∙ wired.resistors;
             levels_long = later;
-            watched = ap (λ (x : NetsView). x.watched) circuit ∙ wired.watched;
+            watched = ap (λ (x : NetsView). x.watched) nets_are ∙ wired.watched;
           };
-          drives_long = ap (λ (x : NetsView). length x.drives) circuit ∙ l.suits.drives_long;
-          closed_long = ap (λ (x : NetsView). length x.closed) circuit ∙ l.suits.closed_long;
+          drives_long = ap (λ (x : NetsView). length x.drives) nets_are ∙ l.suits.drives_long;
+          closed_long = ap (λ (x : NetsView). length x.closed) nets_are ∙ l.suits.closed_long;
           on_long = ap (λ (v : ReadingView). length v.on) r.rest ∙ l.suits.on_long;
           on_are = subst (λ (v : ReadingView). AreOn w v.on) (sym r.rest) l.suits.on_are;
         };
         of = record {
-          drives_are = ap (λ (x : NetsView). x.drives) circuit ∙ ds;
-          closed_are = ap (λ (x : NetsView). x.closed) circuit ∙ l.told.closed_are;
+          drives_are = ap (λ (x : NetsView). x.drives) nets_are ∙ ds;
+          closed_are = ap (λ (x : NetsView). x.closed) nets_are ∙ l.told.closed_are;
           levels_are = levels;
           chips_are = kept;
         };
@@ -72,6 +72,6 @@ returns-else-self g c =
         of = is;
         changed = λ (new : true ≡ false). absurd cc;
         same_is = fresh_same p.machine e.wiring (map p.state e.parts) e.reading is;
-        differs = none_differ p.machine e.wiring (map p.state e.parts) e.reading.circuit.levels c.none.result c.none.ensures.none;
+        differs = none_differ p.machine e.wiring (map p.state e.parts) e.reading.nets.levels c.none.result c.none.ensures.none;
       };
     }

@@ -16,7 +16,7 @@ settle_one-due-requires g c =
     let l = c.loop-i in
     let cycle = ap (λ (x : Engine g.row.P.Denot). x.cycle) l.invariant.same in
     let old = sym (l.invariant.parts.rest l.i (omega arith)) ∙ c.item_mut.ensures.value in
-    let may = may_settle p.machine g.met.P.Part.laws e.wiring p.state p.now p.wake_count e.inputs e.cycle e.parts (kept_of e) c.requires.may.lags l.i c.item_mut.result.now old in
+    let may = may_settle p.machine g.met.P.Part.laws e.wiring p.state p.now p.wakes e.inputs e.cycle e.parts (kept_of e) c.requires.may.lags l.i c.item_mut.result.now old in
     record {
       end = subst (λ (t : ℕ). t ≤ MOST_CYCLES) (sym cycle) c.requires.end;
       later = subst (λ (t : ℕ). p.now c.item_mut.result.now ≤ t) (sym cycle) may.0;
@@ -40,7 +40,7 @@ loop-i-preserved g c =
     record {
       same = ap (λ (x : Engine g.row.P.Denot). let y : Engine g.row.P.Denot = record x { parts = slice_set l.self.parts i z; dues = c.set.new.self } in y) inv.same;
       parts = done_more _ i c.args.self.now.parts l.self.parts x z inv.parts (omega (arith, here, inv.parts.long)) old
-          (subst (λ (t : ℕ). (p.state z ≡ glided p.machine p.state p.now p.wake_count t x) × (p.now z ≡ t) × (p.wake_count z ≡ p.wake_count x)) cycle (s.ensures.state, s.ensures.now, s.ensures.wake_count));
+          (subst (λ (t : ℕ). (p.state z ≡ glided p.machine p.state p.now p.wakes t x) × (p.now z ≡ t) × (p.wakes z ≡ p.wakes x)) cycle (s.ensures.state, s.ensures.now, s.ensures.wakes));
       long = ap length set ∙ length-set l.self.dues i s.result ∙ inv.long;
       due = λ k y d less ey ed.
           let at = ap (λ (ds : List (Option ℕ)). slice_get ds k) (sym set) ∙ ed in
@@ -69,5 +69,5 @@ returns g c =
         each = each;
         due = λ k y d ey ed. (let inside = slice_get_within l.self.parts k y ey in inv.due k y d (omega (arith, inside, all, inv.parts.long)) ey ed);
       };
-      at = subst (λ (t : ℕ). AreAt p.now t l.self.parts) (sym cycle) (now_settled p.machine g.met.P.Part.laws e.wiring p.state p.now p.wake_count e.inputs e.cycle e.parts l.self.parts inv.parts.long each);
+      at = subst (λ (t : ℕ). AreAt p.now t l.self.parts) (sym cycle) (now_settled p.machine g.met.P.Part.laws e.wiring p.state p.now p.wakes e.inputs e.cycle e.parts l.self.parts inv.parts.long each);
     }

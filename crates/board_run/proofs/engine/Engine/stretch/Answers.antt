@@ -32,21 +32,21 @@ tell-self-requires g c =
         before = e.parts;
         p = x;
         q = w.new.part;
-        replaced = went_replaces m g.met.P.Part.laws e.wiring p.state p.now p.wake_count e.cycle (w.result.to - e.cycle) c.args.who e.parts e.reading.circuit x w.new.part is l.fits l.told w.ensures.state_is;
+        replaced = went_replaces m g.met.P.Part.laws e.wiring p.state p.now p.wakes e.cycle (w.result.to - e.cycle) c.args.who e.parts e.reading.nets x w.new.part is l.fits l.told w.ensures.state_is;
         suits = l.suits;
         still = λ none. (
           w.ensures.drives none ∙ glide_drives m g.met.P.Part.laws (p.state x) (p.now x) (e.cycle - p.now x) valid quiet,
           w.ensures.contacts none ∙ glide_contacts m g.met.P.Part.laws (p.state x) (p.now x) (e.cycle - p.now x) valid quiet,
         );
-        others = λ _. turned_others m g.met.P.Part.laws p.state p.now p.wake_count e.cycle x w.new.part (p.moves w.new.part) valid quiet w.ensures.others;
+        others = λ _. turned_others m g.met.P.Part.laws p.state p.now p.wakes e.cycle x w.new.part (p.moves w.new.part) valid quiet w.ensures.others;
       };
     }
 
 -- what the stretch did
-goes : (g : Over) (c : After-tell-self g) → Goes g.P.Part.machine g.met.P.Part.laws c.args.self.now.wiring g.P.Part.state g.P.Part.now g.P.Part.wake_count c.args.self.now.inputs c.args.self.now.cycle c.go_alone-went.result.to
+goes : (g : Over) (c : After-tell-self g) → Goes g.P.Part.machine g.met.P.Part.laws c.args.self.now.wiring g.P.Part.state g.P.Part.now g.P.Part.wakes c.args.self.now.inputs c.args.self.now.cycle c.go_alone-went.result.to
     c.args.self.now.parts (slice_set c.args.self.now.parts c.args.who c.go_alone-went.new.part) (kept_of c.args.self.now)
-    (record { input = c.args.self.now.input; changed = c.tell-self.result; dues = slice_set c.args.self.now.dues c.args.who c.go_alone-went.new.due; seen = c.tell-self.new.self.reading; answers = c.args.self.now.answers })
-    c.args.steps.now c.go_alone-went.new.steps (sent g.P.Part.machine (glided g.P.Part.machine g.P.Part.state g.P.Part.now g.P.Part.wake_count c.args.self.now.cycle c.item_mut.result.now) c.args.self.now.cycle)
+    (record { input = c.args.self.now.input; changed = c.tell-self.result; dues = slice_set c.args.self.now.dues c.args.who c.go_alone-went.new.due; reading = c.tell-self.new.self.reading; answers = c.args.self.now.answers })
+    c.args.steps.now c.go_alone-went.new.steps (sent g.P.Part.machine (glided g.P.Part.machine g.P.Part.state g.P.Part.now g.P.Part.wakes c.args.self.now.cycle c.item_mut.result.now) c.args.self.now.cycle)
 goes g c =
     let p = g.P.Part in
     let w = c.go_alone-went in
@@ -56,8 +56,8 @@ goes g c =
     let may = c.requires.may in
     let alone = c.requires.alone in
     let shifted = told.shifted e.parts x w.new.part
-    (went_replaces p.machine g.met.P.Part.laws e.wiring p.state p.now p.wake_count e.cycle (w.result.to - e.cycle) c.args.who e.parts e.reading.circuit x w.new.part c.item_mut.ensures.value may.lags.fits may.lags.told w.ensures.state_is) in
-    alone_goes p.machine g.met.P.Part.laws e.wiring p.state p.now p.wake_count e.inputs p.moves e.cycle c.args.limit e.parts (kept_of e) c.tell-self.result c.args.steps.now w.new.steps c.args.who x w.new.part w.new.due
+    (went_replaces p.machine g.met.P.Part.laws e.wiring p.state p.now p.wakes e.cycle (w.result.to - e.cycle) c.args.who e.parts e.reading.nets x w.new.part c.item_mut.ensures.value may.lags.fits may.lags.told w.ensures.state_is) in
+    alone_goes p.machine g.met.P.Part.laws e.wiring p.state p.now p.wakes e.inputs p.moves e.cycle c.args.limit e.parts (kept_of e) c.tell-self.result c.args.steps.now w.new.steps c.args.who x w.new.part w.new.due
     w.result c.tell-self.new.self.reading told.rest told.told
     may.lags alone.fresh alone.after may.behind c.requires.end alone.alone c.item_mut.ensures.value w.ensures shifted
 
@@ -92,14 +92,14 @@ returns g c =
               let was = c.requires.watches.later z (sym (hand.ensures.last is) ∙ ez) in
               let before = was.0 in
               let far = w.ensures.further in
-              (omega (arith, far, before), subst (λ (v : ReadingView). o.seen hand.new.out v.circuit.levels) (sym c.tell-self.ensures.rest) (hand.ensures.seen is e.reading.circuit.levels was.1)),
+              (omega (arith, far, before), subst (λ (v : ReadingView). o.seen hand.new.out v.nets.levels) (sym c.tell-self.ensures.rest) (hand.ensures.seen is e.reading.nets.levels was.1)),
         );
         failed = λ is.
             let f = hand.ensures.failed is in (
               f.0,
               fails_here p g.met.P.Part.laws o e (w.result.to - 1) w.result.to c.args.out.now hand.new.out c.requires.watches.whole (omega (arith, w.ensures.further)) (omega (arith, w.ensures.further))
                   (went.row_none (w.result.to - 1 - e.cycle) before)
-                  (went.bytes_are (w.result.to - 1 - e.cycle) before ∙ ap (λ (n : ℕ). sent p.machine (glided p.machine p.state p.now p.wake_count e.cycle c.item_mut.result.now) e.cycle n) last ∙ w.ensures.silent)
+                  (went.bytes_are (w.result.to - 1 - e.cycle) before ∙ ap (λ (n : ℕ). sent p.machine (glided p.machine p.state p.now p.wakes e.cycle c.item_mut.result.now) e.cycle n) last ∙ w.ensures.silent)
                   (subst (λ (bs : List ℕ). StopsWithin (o.stands c.args.out.now) (o.stopped hand.new.out) (rows_to p e w.result.to) bs) bytes (subst (λ (rs : List Row). StopsWithin (o.stands c.args.out.now) (o.stopped hand.new.out) rs (options (w.result.byte ∷ []))) (sym row_none) (stops_whole (o.stands c.args.out.now) (o.stopped hand.new.out) [] _ f.1))),
             );
         place = hand.ensures.place;

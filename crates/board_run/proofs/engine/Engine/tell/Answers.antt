@@ -15,19 +15,19 @@ set_pins-pins-requires g c =
     let may = c.requires.may in
     let parts = c.as_slice-parts.result.now in
     let within : i < length parts = omega (arith, c.requires.within, ap length c.as_slice-parts.ensures) in
-    let x = c.index-parts-i-then-moved.result in
-    let put = item_at parts i x within c.index-parts-i-then-moved.is in
+    let x = c.index-parts-i-then-touched.result in
+    let put = item_at parts i x within c.index-parts-i-then-touched.is in
     let asked = item_at parts i c.index-parts-i.result within c.index-parts-i.is in
     let there = ap (λ (l : List g.row.P.Denot). slice_get l i) (sym c.as_slice-parts.ensures) ∙ put in
-    let circuit = ap (λ (v : ReadingView). v.circuit) c.reading.view_is in
-    let at = told_place p g.met.P.Part.laws e i c.args.first c.reading.inside.nets may.before may.p may.q x may.replaced c.requires.first circuit there in
-    let net_of = ap (λ (n : NetsView). n.net_of) circuit ∙ may.suits.wired.net_of in
+    let nets_are = ap (λ (v : ReadingView). v.nets) c.reading.view_is in
+    let at = told_place p g.met.P.Part.laws e i c.args.first c.reading.inside.nets may.before may.p may.q x may.replaced c.requires.first nets_are there in
+    let net_of = ap (λ (n : NetsView). n.net_of) nets_are ∙ may.suits.wired.net_of in
     record {
       room = (let room = flat_map_room m.drives (map p.state e.parts) i _ (some_map p.state e.parts i x there) in omega (arith, room, at.1.place, at.1.fits.pins, ap length net_of));
       few = omega (arith, c.as_slice-net_of.type_inv.0, c.as_slice-net_of.type_inv.1, ap length c.as_slice-net_of.ensures, ap length net_of);
-      long = ap (λ (n : NetsView). length n.drives) circuit ∙ may.suits.drives_long ∙ sym (ap length net_of);
+      long = ap (λ (n : NetsView). length n.drives) nets_are ∙ may.suits.drives_long ∙ sym (ap length net_of);
       others = λ j h few out.
-          at.1.others (p.moves x) (subst (λ (z : g.row.P.Denot). (j : _) → p.moves z j ≡ false → slice_get (m.drives (p.state z)) j ≡ slice_get (m.drives (p.state may.p)) j) at.0 (may.others c.if-moved.true)) j h
+          at.1.others (p.moves x) (subst (λ (z : g.row.P.Denot). (j : _) → p.moves z j ≡ false → slice_get (m.drives (p.state z)) j ≡ slice_get (m.drives (p.state may.p)) j) at.0 (may.others c.if-touched.true)) j h
           (false_from_ne_true (p.moves x j) (λ is. out (c.moved-span.ensures j few (subst (λ (z : g.row.P.Denot). p.moves z j ≡ true) (some_same (sym put ∙ asked)) is))));
     }
 
@@ -36,29 +36,29 @@ tell_contacts-contacts-requires g c =
     let p = g.P.Part in
     let e = c.args.self.now in
     let may = c.requires.may in
-    let at = placed p.machine e.wiring p.state c.args.i c.args.first may.before e.parts e.reading.circuit may.p may.q may.replaced c.requires.first in
-    let circuit = ap (λ (v : ReadingView). v.circuit) c.reading.view_is in
-    let contacts = ap (λ (n : NetsView). n.contacts) c.set_pins-pins.ensures.rest ∙ ap (λ (n : NetsView). n.contacts) circuit ∙ may.suits.wired.contacts in
+    let at = placed p.machine e.wiring p.state c.args.i c.args.first may.before e.parts e.reading.nets may.p may.q may.replaced c.requires.first in
+    let nets_are = ap (λ (v : ReadingView). v.nets) c.reading.view_is in
+    let contacts = ap (λ (n : NetsView). n.contacts) c.set_pins-pins.ensures.rest ∙ ap (λ (n : NetsView). n.contacts) nets_are ∙ may.suits.wired.contacts in
     record {
       within = omega (arith, c.requires.within, ap length c.as_slice-parts.ensures);
       contacts = ap length contacts ∙ at.fits.contacts ∙ ap (λ (l : List g.row.P.Denot). length (contacts_of p.machine (map p.state l))) (sym c.as_slice-parts.ensures);
       few = omega (arith, c.as_slice-contacts.type_inv.0, c.as_slice-contacts.type_inv.1, ap length c.as_slice-contacts.ensures, ap length contacts);
-      long = ap (λ (n : NetsView). length n.closed) c.set_pins-pins.ensures.rest ∙ ap (λ (n : NetsView). length n.closed) circuit ∙ may.suits.closed_long ∙ sym (ap length contacts);
+      long = ap (λ (n : NetsView). length n.closed) c.set_pins-pins.ensures.rest ∙ ap (λ (n : NetsView). length n.closed) nets_are ∙ may.suits.closed_long ∙ sym (ap length contacts);
     }
 
-pub returns-then-moved : goal.returns-then-moved
-returns-then-moved g c =
+pub returns-then-touched : goal.returns-then-touched
+returns-then-touched g c =
     let p = g.P.Part in
     let e = c.args.self.now in
     let i = c.args.i in
     let first = c.args.first in
     let may = c.requires.may in
     let parts_are = c.as_slice-parts.ensures in
-    let x = c.index-parts-i-then-moved.result in
-    let here = item_at c.as_slice-parts.result.now i x (omega (arith, c.requires.within, ap length parts_are)) c.index-parts-i-then-moved.is in
+    let x = c.index-parts-i-then-touched.result in
+    let here = item_at c.as_slice-parts.result.now i x (omega (arith, c.requires.within, ap length parts_are)) c.index-parts-i-then-touched.is in
     let there = ap (λ (l : List g.row.P.Denot). slice_get l i) (sym parts_are) ∙ here in
     let inside = c.reading.inside in
-    let circuit = ap (λ (v : ReadingView). v.circuit) c.reading.view_is in
+    let nets_are = ap (λ (v : ReadingView). v.nets) c.reading.view_is in
     let pins = c.set_pins-pins in
     let ports = c.tell_contacts-contacts in
     let old = inside.nets in
@@ -69,14 +69,14 @@ returns-then-moved g c =
     let rest : new ≡ record old { drives = new.drives; closed = new.closed } =
     ports.ensures.rest ∙ ap (λ (n : NetsView). let z : NetsView = record n { closed = new.closed } in z) pins.ensures.rest
     ∙ ap (λ (ds : List Drive). let z : NetsView = record old { drives = ds; closed = new.closed } in z) (sym drives_are) in
-    let at = told_place p g.met.P.Part.laws e i first old may.before may.p may.q x may.replaced c.requires.first circuit there in
+    let at = told_place p g.met.P.Part.laws e i first old may.before may.p may.q x may.replaced c.requires.first nets_are there in
     record {
       same = refl;
-      rest = ap (λ (n : NetsView). let v : ReadingView = record { circuit = n; on = inside.on.items } in v) rest ∙ ap (λ (v : ReadingView). retold v new.drives new.closed) c.reading.view_is;
+      rest = ap (λ (n : NetsView). let v : ReadingView = record { nets = n; on = inside.on.items } in v) rest ∙ ap (λ (v : ReadingView). retold v new.drives new.closed) c.reading.view_is;
       fits = at.1.fits;
       told = at.1.told new (rw drives_are pins.ensures.put) (rw (parts_are, closed_were) at (ports.ensures.put x here));
       shifted = λ before y z was.
-          let of = told_place p g.met.P.Part.laws e i first old before y z x was c.requires.first circuit there in
+          let of = told_place p g.met.P.Part.laws e i first old before y z x was c.requires.first nets_are there in
           rw of.0 (record {
             same = λ none. let both = or_parts pins.result ports.result none in
                 of.1.keeps (pins.ensures.same both.0) (rw (parts_are, closed_were) at (ports.ensures.same x here both.1));
@@ -89,27 +89,27 @@ returns-then-moved g c =
           });
     }
 
-pub returns-else-moved : goal.returns-else-moved
-returns-else-moved g c =
+pub returns-else-touched : goal.returns-else-touched
+returns-else-touched g c =
     let p = g.P.Part in
     let m = p.machine in
     let e = c.args.self.now in
     let i = c.args.i in
     let may = c.requires.may in
-    let at = placed m e.wiring p.state i c.args.first may.before e.parts e.reading.circuit may.p may.q may.replaced c.requires.first in
-    let still = may.still c.if-moved.false in
+    let at = placed m e.wiring p.state i c.args.first may.before e.parts e.reading.nets may.p may.q may.replaced c.requires.first in
+    let still = may.still c.if-touched.false in
     let has = at.has still.0 still.1 in
     record {
       same = refl;
       rest = refl;
       fits = at.fits;
-      told = at.told e.reading.circuit (put_there c.args.first (m.drives (p.state may.q)) e.reading.circuit.drives has.0) (put_there _ (m.contacts (p.state may.q)) e.reading.circuit.closed has.1);
+      told = at.told e.reading.nets (put_there c.args.first (m.drives (p.state may.q)) e.reading.nets.drives has.0) (put_there _ (m.contacts (p.state may.q)) e.reading.nets.closed has.1);
       shifted = λ before y z was.
-          let of = placed m e.wiring p.state i c.args.first before e.parts e.reading.circuit y z was c.requires.first in
+          let of = placed m e.wiring p.state i c.args.first before e.parts e.reading.nets y z was c.requires.first in
           let same = some_same (sym at.there ∙ of.there) in
           record {
-            same = λ _. of.keeps (subst (λ (u : g.row.P.Denot). HasAt c.args.first (m.drives (p.state u)) e.reading.circuit.drives) same has.0)
-                (subst (λ (u : g.row.P.Denot). HasAt (length (contacts_of m (take i (map p.state e.parts)))) (m.contacts (p.state u)) e.reading.circuit.closed) same has.1);
+            same = λ _. of.keeps (subst (λ (u : g.row.P.Denot). HasAt c.args.first (m.drives (p.state u)) e.reading.nets.drives) same has.0)
+                (subst (λ (u : g.row.P.Denot). HasAt (length (contacts_of m (take i (map p.state e.parts)))) (m.contacts (p.state u)) e.reading.nets.closed) same has.1);
             other = λ (one : false ≡ true). absurd cc;
           };
     }

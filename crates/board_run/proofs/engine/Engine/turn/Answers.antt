@@ -21,7 +21,7 @@ first_at-least-requires g c =
     let p = g.P.Part in
     let e = c.args.self.now in
     let may = c.requires.may in
-    record { end = c.len-count.ensures ∙ sym may.dues_long; late = dues_late p.machine p.state p.now p.wake_count e.cycle e.parts e.dues may.dues_long may.may }
+    record { end = c.len-count.ensures ∙ sym may.dues_long; late = dues_late p.machine p.state p.now p.wakes e.cycle e.parts e.dues may.dues_long may.may }
 
 pub loop-i-init : goal.loop-i-init
 loop-i-init g c =
@@ -43,12 +43,12 @@ loop-i-init g c =
       within = within;
       begun = begun j;
       due = λ k x d ex ed. (may.may k x d ex ed).first;
-      late = dues_late m p.state p.now p.wake_count e.cycle e.parts e.dues may.dues_long may.may;
+      late = dues_late m p.state p.now p.wakes e.cycle e.parts e.dues may.dues_long may.may;
       passed = first.passed;
       turns = λ inputs ts awaits.
-          let pass = turns_pass m laws e.wiring (given e c.args.end) inputs p.state p.now p.wake_count e.reading.circuit.levels c.with_given-marked.result c.args.differ e.cycle e.parts e.dues ts may.end may.few may.dues_long may.may
+          let pass = turns_pass m laws e.wiring (given e c.args.end) inputs p.state p.now p.wakes e.reading.nets.levels c.with_given-marked.result c.args.differ e.cycle e.parts e.dues ts may.end may.few may.dues_long may.may
           (marks g (goal.at.loop-i-init g c).After-with_given-marked e.cycle) awaits
-          0 j e.parts e.dues e.answers false (begun 0) (turns_none m laws e.wiring inputs p.state p.now p.wake_count e.reading.circuit.levels e.cycle ts e.parts e.answers)
+          0 j e.parts e.dues e.answers false (begun 0) (turns_none m laws e.wiring inputs p.state p.now p.wakes e.reading.nets.levels e.cycle ts e.parts e.answers)
           (omega arith) (omega (arith, next.within, within)) next.passed (λ k l. first.passed k (omega (arith, l, next.within))) in
           (pass.0, omega (arith, pass.1));
       fits = may.fits;
@@ -68,7 +68,7 @@ turn_part-woken-requires g c =
     let begun = inv.begun in
     let was = λ (x : g.row.P.Denot) (ex : slice_get l.self.parts i ≡ Some x). sym (begun.rest i (omega arith)) ∙ ex in
     let here : i < length l.self.parts = omega (arith, begun.long, c.len-count.ensures, c.loop-i-test.true) in
-    let told : IsTold m (map p.state l.self.parts) (retold e.reading l.self.reading.circuit.drives l.self.reading.circuit.closed).circuit = record { drives_are = inv.told.drives_are; closed_are = inv.told.closed_are } in
+    let told : IsTold m (map p.state l.self.parts) (retold e.reading l.self.reading.nets.drives l.self.reading.nets.closed).nets = record { drives_are = inv.told.drives_are; closed_are = inv.told.closed_are } in
     subst (λ (x : Engine g.row.P.Denot). MayTurnPart p x i c.if-silent.may_hear c.args.differ c.args.end) (sym inv.same) (record {
       end = may.end;
       here = here;
@@ -77,11 +77,11 @@ turn_part-woken-requires g c =
       valid = λ x ex. may.valid i x (was x ex);
       dues_long = begun.dues_long ∙ may.dues_long ∙ sym begun.long;
       answers_long = begun.answers_long ∙ sym begun.long;
-      values = c.requires.values;
+      given_within = c.requires.given_within;
       fits = inv.fits;
-      suits = subst (λ (v : ReadingView). Suits e.wiring v) (sym inv.rest) (retold_suits m e.wiring (map p.state l.self.parts) e.reading l.self.reading.circuit.drives l.self.reading.circuit.closed inv.fits may.suits told);
+      suits = subst (λ (v : ReadingView). Suits e.wiring v) (sym inv.rest) (retold_suits m e.wiring (map p.state l.self.parts) e.reading l.self.reading.nets.drives l.self.reading.nets.closed inv.fits may.suits told);
       told = inv.told;
-      differs = λ x ex is later same. may.differs i x (was x ex) is later (same ∙ ap (λ (v : ReadingView). levels_on m e.wiring v.circuit.levels i (p.state x)) inv.rest);
+      differs = λ x ex is later same. may.differs i x (was x ex) is later (same ∙ ap (λ (v : ReadingView). levels_on m e.wiring v.nets.levels i (p.state x)) inv.rest);
       hears = λ hears. elim c.if-silent.branch [
         | then-silent w ↦
             let empty = nothing_there (take (c.args.end - e.input) (drop e.input c.as_slice.result.now)) (sym c.is_empty-silent.ensures ∙ w.if-silent.true) in
@@ -126,13 +126,13 @@ loop-i-preserved g c =
     let m = p.machine in
     let e = c.args.self.now in
     let may = c.requires.may in
-    let ls = e.reading.circuit.levels in
+    let ls = e.reading.nets.levels in
     let l = c.loop-i in
     let i = l.i in
     let inv = l.invariant in
     let new = c.turn_part-woken.new.self in
     let t = turned g (goal.at.loop-i-preserved g c).After-turn_part-woken in
-    let moved = c.turn_part-woken.result.changed in
+    let more = c.turn_part-woken.result.changed in
     let parts_are = ap (λ (x : Engine g.row.P.Denot). x.parts) t.same in
     let dues_are = ap (λ (x : Engine g.row.P.Denot). x.dues) t.same in
     let answers_are = ap (λ (x : Engine g.row.P.Denot). x.answers) t.same in
@@ -152,19 +152,19 @@ loop-i-preserved g c =
           ∙ ap (λ (xs : List g.row.P.Denot). let y : Engine g.row.P.Denot = record e { parts = xs; dues = slice_set l.self.dues i t.e; answers = slice_set l.self.answers i t.byte; reading = new.reading } in y) (sym parts_are)
           ∙ ap (λ (ds : List (Option ℕ)). let y : Engine g.row.P.Denot = record e { parts = new.parts; dues = ds; answers = slice_set l.self.answers i t.byte; reading = new.reading } in y) (sym dues_are)
           ∙ ap (λ (bs : List (Option ℕ)). let y : Engine g.row.P.Denot = record e { parts = new.parts; dues = new.dues; answers = bs; reading = new.reading } in y) (sym answers_are);
-      rest = t.rest ∙ ap (λ (v : ReadingView). retold v new.reading.circuit.drives new.reading.circuit.closed) inv.rest;
+      rest = t.rest ∙ ap (λ (v : ReadingView). retold v new.reading.nets.drives new.reading.nets.closed) inv.rest;
       order = next.within;
       here = next.here;
       within = inside;
       begun = begun_on e.parts e.dues i j l.self.parts new.parts l.self.dues new.dues l.self.answers new.answers t.q t.e t.byte inv.begun order parts_are dues_are answers_are;
-      due = simp (dues_are, parts_are) (due_set m p.state p.now p.wake_count l.self.parts l.self.dues i t.q t.e within here inv.due t.first);
+      due = simp (dues_are, parts_are) (due_set m p.state p.now p.wakes l.self.parts l.self.dues i t.q t.e within here inv.due t.first);
       late = late_set l.self.dues new.dues i e.cycle t.e here dues_are inv.late t.later;
       passed = passed;
       turns = λ inputs ts awaits.
           let so = inv.turns inputs ts awaits in
-          let took = subst (λ (v : ReadingView). TookTurn m e.wiring p.state p.now p.wake_count v.circuit.levels e.cycle i (input_at (given e c.args.end) e.cycle i) (has_part c.args.differ i) t.d t.p t.q t.byte moved) inv.rest t.took in
-          let on = turns_on m g.met.P.Part.laws e.wiring (given e c.args.end) inputs p.state p.now p.wake_count ls c.with_given-marked.result c.args.differ e.cycle e.parts e.dues ts may.end may.few may.dues_long may.may
-          (marks g (goal.at.loop-i-preserved g c).After-with_given-marked e.cycle) awaits i j l.self.parts new.parts l.self.dues new.dues l.self.answers new.answers l.changed moved t.p t.q t.d t.e t.byte inv.begun so.0 t.was t.due_was parts_are dues_are answers_are took
+          let took = subst (λ (v : ReadingView). TookTurn m e.wiring p.state p.now p.wakes v.nets.levels e.cycle i (input_at (given e c.args.end) e.cycle i) (has_part c.args.differ i) t.d t.p t.q t.byte more) inv.rest t.took in
+          let on = turns_on m g.met.P.Part.laws e.wiring (given e c.args.end) inputs p.state p.now p.wakes ls c.with_given-marked.result c.args.differ e.cycle e.parts e.dues ts may.end may.few may.dues_long may.may
+          (marks g (goal.at.loop-i-preserved g c).After-with_given-marked e.cycle) awaits i j l.self.parts new.parts l.self.dues new.dues l.self.answers new.answers l.changed more t.p t.q t.d t.e t.byte inv.begun so.0 t.was t.due_was parts_are dues_are answers_are took
           order (omega (arith, next.within, inside)) next.passed (λ k h. passed k (omega (arith, h, next.within))) in
           (on.0, omega (arith, so.1, on.1, t.steps_are));
       fits = rw parts_are t.fits;
@@ -185,9 +185,9 @@ returns g c =
       long = inv.begun.long;
       dues_long = inv.begun.dues_long;
       answers_long = inv.begun.answers_long ∙ sym c.requires.may.answers_long;
-      turns = λ inputs ts awaits. subst (λ (n : ℕ). Turns p.machine e.wiring inputs p.state p.now p.wake_count e.reading.circuit.levels e.cycle ts n e.parts l.self.parts l.self.answers l.changed) end (inv.turns inputs ts awaits).0;
+      turns = λ inputs ts awaits. subst (λ (n : ℕ). Turns p.machine e.wiring inputs p.state p.now p.wakes e.reading.nets.levels e.cycle ts n e.parts l.self.parts l.self.answers l.changed) end (inv.turns inputs ts awaits).0;
       told = inv.told;
       due = inv.due;
       silent = inv.silent;
-      counted = λ inputs ts awaits. subst (λ (n : ℕ). l.steps ≡ c.args.steps.now + sum_below n (λ k. active_in p.machine e.wiring inputs e.reading.circuit.levels e.cycle k (slice_get ts k))) end (inv.turns inputs ts awaits).1;
+      counted = λ inputs ts awaits. subst (λ (n : ℕ). l.steps ≡ c.args.steps.now + sum_below n (λ k. active_in p.machine e.wiring inputs e.reading.nets.levels e.cycle k (slice_get ts k))) end (inv.turns inputs ts awaits).1;
     }

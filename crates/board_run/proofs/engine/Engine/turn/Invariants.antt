@@ -10,19 +10,19 @@ invariant-loop-i g l =
     let e = l.fn.self in
     record {
       same : l.self ≡ record l.fn.self { parts = l.self.parts; dues = l.self.dues; answers = l.self.answers; reading = l.self.reading };
-      rest : l.self.reading ≡ retold e.reading l.self.reading.circuit.drives l.self.reading.circuit.closed;
+      rest : l.self.reading ≡ retold e.reading l.self.reading.nets.drives l.self.reading.nets.closed;
       order : l.i ≤ l.least;
       here : l.i < l.least → has_part l.marked l.i ≡ true;
       within : l.least ≤ length e.parts;
       begun : Begun e.parts e.dues l.i l.self.parts l.self.dues l.self.answers;
-      due : AreDue p.machine p.state p.now p.wake_count l.self.parts l.self.dues;
+      due : AreDue p.machine p.state p.now p.wakes l.self.parts l.self.dues;
       late : AreLate l.self.dues e.cycle;
       passed : (k : ℕ) → k < l.least → slice_get l.self.dues k ≢ Some (Some e.cycle);
-      turns : (inputs : List Input) (ts : List p.State) → Awaits p.machine e.wiring p.state p.now (given e l.end) inputs e.reading.circuit.levels l.differ e.cycle e.parts ts →
-          Turns p.machine e.wiring inputs p.state p.now p.wake_count e.reading.circuit.levels e.cycle ts l.i e.parts l.self.parts l.self.answers l.changed
-          × (l.steps ≡ l.fn.steps + sum_below l.i (λ k. active_in p.machine e.wiring inputs e.reading.circuit.levels e.cycle k (slice_get ts k)));
+      turns : (inputs : List Input) (ts : List p.State) → Awaits p.machine e.wiring p.state p.now (given e l.end) inputs e.reading.nets.levels l.differ e.cycle e.parts ts →
+          Turns p.machine e.wiring inputs p.state p.now p.wakes e.reading.nets.levels e.cycle ts l.i e.parts l.self.parts l.self.answers l.changed
+          × (l.steps ≡ l.fn.steps + sum_below l.i (λ k. active_in p.machine e.wiring inputs e.reading.nets.levels e.cycle k (slice_get ts k)));
       fits : Fits p.machine e.wiring (map p.state l.self.parts);
-      told : IsTold p.machine (map p.state l.self.parts) l.self.reading.circuit;
+      told : IsTold p.machine (map p.state l.self.parts) l.self.reading.nets;
       silent : l.sent ≡ false → AreNone l.self.answers;
     }
 

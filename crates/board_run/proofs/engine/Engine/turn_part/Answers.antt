@@ -37,9 +37,9 @@ returns g c =
       due_was = at.due_was;
       same = told.same ∙ ap (λ (x : Engine g.row.P.Denot). let y : Engine g.row.P.Denot = record x { reading = new.reading } in y) at.same;
       sent_is = at.sent_is;
-      rest = told.rest ∙ ap (λ (x : Engine g.row.P.Denot). retold x.reading new.reading.circuit.drives new.reading.circuit.closed) at.same;
+      rest = told.rest ∙ ap (λ (x : Engine g.row.P.Denot). retold x.reading new.reading.nets.drives new.reading.nets.closed) at.same;
       fits = subst (λ (x : Engine g.row.P.Denot). Fits m x.wiring (map p.state x.parts)) at.same told.fits;
-      told = subst (λ (x : Engine g.row.P.Denot). IsTold m (map p.state x.parts) new.reading.circuit) at.same told.told;
+      told = subst (λ (x : Engine g.row.P.Denot). IsTold m (map p.state x.parts) new.reading.nets) at.same told.told;
       took = record { touched = w.result.changed; turn = at.turn.turn; shifted = shifted };
       first = at.turn.first;
       later = at.turn.later;

@@ -14,20 +14,20 @@ slice_bounds-levels-count g c =
     let may = c.requires.may in
     let x = some_there e.parts c.args.i may.here in
     let room = fits_pins p.machine e.wiring (map p.state e.parts) may.fits c.args.i (p.state x.0) (some_map p.state e.parts c.args.i x.0 x.1) in
-    omega (arith, room, c.requires.first, c.pin_levels.ensures.pins, ap (λ (v : ReadingView). length v.circuit.net_of) c.reading.view_is, ap length may.suits.wired.net_of)
+    omega (arith, room, c.requires.first, c.pin_levels.ensures.pins, ap (λ (v : ReadingView). length v.nets.net_of) c.reading.view_is, ap length may.suits.wired.net_of)
 
 pub slice_bounds-levels-start : goal.slice_bounds-levels-start
 slice_bounds-levels-start g c = slice_bounds-levels-count g c
 
 -- the levels of its pins are the first of those from its first pin on
 own : (g : Over) (c : After-item_mut-part g) → take (length (g.P.Part.machine.drives (g.P.Part.state c.item_mut-part.result.now))) (take (length c.pin_levels.result.now - c.args.first) (drop c.args.first c.pin_levels.result.now))
-    ≡ levels_on g.P.Part.machine c.args.self.now.wiring c.args.self.now.reading.circuit.levels c.args.i (g.P.Part.state c.item_mut-part.result.now)
+    ≡ levels_on g.P.Part.machine c.args.self.now.wiring c.args.self.now.reading.nets.levels c.args.i (g.P.Part.state c.item_mut-part.result.now)
 own g c =
     let p = g.P.Part in
     let e = c.args.self.now in
-    let levels = ap (λ (v : ReadingView). v.circuit.levels) c.reading.view_is in
-    let net_of = ap (λ (v : ReadingView). v.circuit.net_of) c.reading.view_is ∙ c.requires.may.suits.wired.net_of in
-    own_levels p.machine e.wiring e.reading.circuit.levels c.args.i c.args.first (p.state c.item_mut-part.result.now) c.reading.inside.nets c.pin_levels.result.now c.pin_levels.ensures.levels levels net_of c.requires.first
+    let levels = ap (λ (v : ReadingView). v.nets.levels) c.reading.view_is in
+    let net_of = ap (λ (v : ReadingView). v.nets.net_of) c.reading.view_is ∙ c.requires.may.suits.wired.net_of in
+    own_levels p.machine e.wiring e.reading.nets.levels c.args.i c.args.first (p.state c.item_mut-part.result.now) c.reading.inside.nets c.pin_levels.result.now c.pin_levels.ensures.levels levels net_of c.requires.first
 
 -- and there are as many
 room : (g : Over) (c : After-item_mut-part g) → length (g.P.Part.machine.drives (g.P.Part.state c.item_mut-part.result.now)) ≤ length (take (length c.pin_levels.result.now - c.args.first) (drop c.args.first c.pin_levels.result.now))
@@ -38,7 +38,7 @@ room g c =
     let x = c.item_mut-part.result.now in
     let pins = fits_pins p.machine e.wiring (map p.state e.parts) may.fits c.args.i (p.state x) (some_map p.state e.parts c.args.i x c.item_mut-part.ensures.value) in
     let rest = length_rest c.pin_levels.result.now c.args.first in
-    omega (arith, pins, rest, c.requires.first, c.pin_levels.ensures.pins, ap (λ (v : ReadingView). length v.circuit.net_of) c.reading.view_is, ap length may.suits.wired.net_of)
+    omega (arith, pins, rest, c.requires.first, c.pin_levels.ensures.pins, ap (λ (v : ReadingView). length v.nets.net_of) c.reading.view_is, ap length may.suits.wired.net_of)
 
 pub hear_levels-requires : goal.hear_levels-requires
 hear_levels-requires g c =
@@ -92,7 +92,7 @@ take_turn_on-byte-requires g c =
     let count : c.pins-pins.result ≡ length (m.drives (p.state x)) = c.pins-pins.ensures ∙ ap (λ (z : g.row.P.Denot). length (m.drives (p.state z))) stays in
     record {
       end = may.end;
-      may = subst (MayTurn m p.state p.now p.wake_count c.args.self.now.cycle c.due-due.result) (sym stays) (may.may x c.due-due.result is c.due-due.ensures);
+      may = subst (MayTurn m p.state p.now p.wakes c.args.self.now.cycle c.due-due.result) (sym stays) (may.may x c.due-due.result is c.due-due.ensures);
       pins = length-take-le c.pins-pins.result levels (omega (arith, count, room g after)) ∙ c.pins-pins.ensures;
       differs = λ differs later same. may.differs x is (sym c.has-differs.ensures ∙ differs) later
           (ap (λ (z : g.row.P.Denot). m.held (p.state z)) (sym stays) ∙ same ∙ ap (λ (n : ℕ). take n levels) count ∙ own g after);

@@ -16,7 +16,7 @@ returns-then-changed-is_some g c =
     let p = g.Self.Part in
     let i = c.loop-u.invariant in
     let d = due_at p.machine (p.state c.loop-u.self) (p.now c.loop-u.self) c.in-Some.u c.args.limit c.due.result c.due.ensures (c.in-Some.ensures.some c.in-Some.u refl) in
-    let w = jumped p.machine g.met.Self.Part.laws (p.state c.args.self.now) (p.now c.args.self.now) (p.now c.loop-u.self) c.in-Some.u (p.wake_count c.loop-u.self - p.wake_count c.args.self.now)
+    let w = jumped p.machine g.met.Self.Part.laws (p.state c.args.self.now) (p.now c.args.self.now) (p.now c.loop-u.self) c.in-Some.u (p.wakes c.loop-u.self - p.wakes c.args.self.now)
     (p.state c.loop-u.self) (p.state c.settle.new.self) (p.now c.settle.new.self) (p.state c.wake_held-byte.new.self) c.wake_held-byte.result
     i.begun d.0 c.requires.valid i.gone d.2 d.3 c.settle.ensures.state c.settle.ensures.now c.wake_held-byte.ensures.state c.wake_held-byte.ensures.byte in
     let woken = c.wake_held-byte.ensures in
@@ -26,7 +26,7 @@ returns-then-changed-is_some g c =
       within = omega (arith, d.1);
       progress = λ h. omega (arith, i.begun, d.0);
       state = w.1.state;
-      wake_count = omega (arith, w.1.dues_are, i.woken, woken.wake_count, c.settle.ensures.wake_count);
+      wakes = omega (arith, w.1.dues_are, i.woken, woken.wakes, c.settle.ensures.wakes);
       steps = omega (arith, w.1.dues_are, i.woken, i.steps, c.tick.ensures);
       same = w.1.same;
       drives = λ e. woken.drives (sym c.changed-changed.ensures ∙ e) ∙ w.0.drives;
@@ -41,24 +41,24 @@ loop-u-preserved g c =
     let p = g.Self.Part in
     let i = c.loop-u.invariant in
     let d = due_at g.Self.Part.machine (g.Self.Part.state c.loop-u.self) (g.Self.Part.now c.loop-u.self) c.in-Some.u c.args.limit c.due.result c.due.ensures (c.in-Some.ensures.some c.in-Some.u refl) in
-    let w = jumped p.machine g.met.Self.Part.laws (p.state c.args.self.now) (p.now c.args.self.now) (p.now c.loop-u.self) c.in-Some.u (p.wake_count c.loop-u.self - p.wake_count c.args.self.now)
+    let w = jumped p.machine g.met.Self.Part.laws (p.state c.args.self.now) (p.now c.args.self.now) (p.now c.loop-u.self) c.in-Some.u (p.wakes c.loop-u.self - p.wakes c.args.self.now)
     (p.state c.loop-u.self) (p.state c.settle.new.self) (p.now c.settle.new.self) (p.state c.wake_held-byte.new.self) c.wake_held-byte.result
     i.begun d.0 c.requires.valid i.gone d.2 d.3 c.settle.ensures.state c.settle.ensures.now c.wake_held-byte.ensures.state c.wake_held-byte.ensures.byte in
     let n = or_parts c.changed-changed.result c.is_some.result c.if-changed-is_some.false in
     let still = sym c.changed-changed.ensures ∙ n.0 in
     let t = p.now c.args.self.now in
     let e : c.in-Some.u + 1 - t ≡ p.now c.wake_held-byte.new.self - t = omega (arith, c.wake_held-byte.ensures.now, c.settle.ensures.now) in
-    let f : p.wake_count c.loop-u.self - p.wake_count c.args.self.now + 1 ≡ p.wake_count c.wake_held-byte.new.self - p.wake_count c.args.self.now = omega (arith, i.woken, c.wake_held-byte.ensures.wake_count, c.settle.ensures.wake_count) in
-    let on : Gone p.machine (p.state c.args.self.now) t (c.in-Some.u + 1 - t) (p.wake_count c.loop-u.self - p.wake_count c.args.self.now + 1) (p.state c.wake_held-byte.new.self) =
-    jumped_on p.machine (p.state c.args.self.now) t (c.in-Some.u + 1 - t) (p.wake_count c.loop-u.self - p.wake_count c.args.self.now) (p.state c.settle.new.self) (p.state c.wake_held-byte.new.self) c.wake_held-byte.result (c.in-Some.u - t)
+    let f : p.wakes c.loop-u.self - p.wakes c.args.self.now + 1 ≡ p.wakes c.wake_held-byte.new.self - p.wakes c.args.self.now = omega (arith, i.woken, c.wake_held-byte.ensures.wakes, c.settle.ensures.wakes) in
+    let on : Gone p.machine (p.state c.args.self.now) t (c.in-Some.u + 1 - t) (p.wakes c.loop-u.self - p.wakes c.args.self.now + 1) (p.state c.wake_held-byte.new.self) =
+    jumped_on p.machine (p.state c.args.self.now) t (c.in-Some.u + 1 - t) (p.wakes c.loop-u.self - p.wakes c.args.self.now) (p.state c.settle.new.self) (p.state c.wake_held-byte.new.self) c.wake_held-byte.result (c.in-Some.u - t)
     w.0 w.1 (none_there c.wake_held-byte.result (sym c.is_some.ensures ∙ n.1)) (c.wake_held-byte.ensures.drives still) (c.wake_held-byte.ensures.contacts still) in
     record {
       begun = omega (arith, i.begun, d.0, c.wake_held-byte.ensures.now, c.settle.ensures.now);
       within = omega (arith, d.1, c.wake_held-byte.ensures.now, c.settle.ensures.now);
-      count = omega (arith, i.count, d.0, c.wake_held-byte.ensures.now, c.settle.ensures.now, c.wake_held-byte.ensures.wake_count, c.settle.ensures.wake_count);
+      count = omega (arith, i.count, d.0, c.wake_held-byte.ensures.now, c.settle.ensures.now, c.wake_held-byte.ensures.wakes, c.settle.ensures.wakes);
       gone = rw (← e) rw (← f) on;
-      woken = omega (arith, i.woken, c.wake_held-byte.ensures.wake_count, c.settle.ensures.wake_count);
-      steps = omega (arith, i.steps, i.woken, c.tick.ensures, c.wake_held-byte.ensures.wake_count, c.settle.ensures.wake_count);
+      woken = omega (arith, i.woken, c.wake_held-byte.ensures.wakes, c.settle.ensures.wakes);
+      steps = omega (arith, i.steps, i.woken, c.tick.ensures, c.wake_held-byte.ensures.wakes, c.settle.ensures.wakes);
     }
 
 pub returns : goal.returns
@@ -66,7 +66,7 @@ returns g c =
     let p = g.Self.Part in
     let i = c.loop-u.invariant in
     let quiet = quiet_to p.machine (p.state c.loop-u.self) (p.now c.loop-u.self) c.args.limit c.due.result c.requires.end c.due.ensures (λ u. c.in_default.ensures.none u refl) in
-    let w = gone_to p.machine g.met.Self.Part.laws (p.state c.args.self.now) (p.now c.args.self.now) (p.now c.loop-u.self) c.args.limit (p.wake_count c.loop-u.self - p.wake_count c.args.self.now)
+    let w = gone_to p.machine g.met.Self.Part.laws (p.state c.args.self.now) (p.now c.args.self.now) (p.now c.loop-u.self) c.args.limit (p.wakes c.loop-u.self - p.wakes c.args.self.now)
     (p.state c.loop-u.self) i.begun i.within c.requires.valid i.gone quiet in
     let settled = c.settle-2.ensures in
     record {
@@ -75,7 +75,7 @@ returns g c =
       within = omega arith;
       progress = λ h. h;
       state = settled.state ∙ w.state;
-      wake_count = omega (arith, w.dues_are, i.woken, settled.wake_count);
+      wakes = omega (arith, w.dues_are, i.woken, settled.wakes);
       steps = omega (arith, w.dues_are, i.steps);
       same = w.same;
       drives = λ e. ap p.machine.drives settled.state ∙ w.drives;

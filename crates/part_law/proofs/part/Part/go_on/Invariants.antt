@@ -11,10 +11,10 @@ invariant-loop-u g l =
     record {
       begun : t ≤ p.now l.self;
       within : p.now l.self ≤ l.limit;
-      count : p.wake_count l.self ≤ p.now l.self;
-      gone : Gone p.machine s t (p.now l.self - t) (p.wake_count l.self - p.wake_count l.fn.self) (p.state l.self);
-      woken : p.wake_count l.fn.self ≤ p.wake_count l.self;
-      steps : l.steps ≡ l.fn.steps + (p.wake_count l.self - p.wake_count l.fn.self);
+      count : p.wakes l.self ≤ p.now l.self;
+      gone : Gone p.machine s t (p.now l.self - t) (p.wakes l.self - p.wakes l.fn.self) (p.state l.self);
+      woken : p.wakes l.fn.self ≤ p.wakes l.self;
+      steps : l.steps ≡ l.fn.steps + (p.wakes l.self - p.wakes l.fn.self);
     }
 
 abbrev pub decreases-loop-u : goal.decreases-loop-u

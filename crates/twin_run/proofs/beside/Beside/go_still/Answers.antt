@@ -23,7 +23,7 @@ returns-then-t-next g c =
       same_inputs = e.inputs;
       states_are = e.states;
       steps_are = e.steps;
-      woken = board_woken p.machine b.wiring b.inputs p.state p.wake_count b.parts new.parts b.cycle (new.cycle - b.cycle) e.states e.woken;
+      woken = board_woken p.machine b.wiring b.inputs p.state p.wakes b.parts new.parts b.cycle (new.cycle - b.cycle) e.states e.woken;
     } in
     let near : new.cycle ≤ c.least_due-next.result = e.within in
     let after : 0 < b.cycle = subst (λ (t : ℕ). 0 < t) c.cycle-t.ensures c.if-t-gt0.true in

@@ -47,8 +47,8 @@ returns g c =
       same_inputs = e.inputs;
       states_are = states_are;
       steps_are = steps_are;
-      woken = board_woken m b.wiring b.inputs p.state p.wake_count b.parts new.parts b.cycle (t + 1 - b.cycle) (e.states refl) (e.woken refl)
-          ∙ ap (λ (n : ℕ). sum_by p.wake_count b.parts + active_pairs m b.wiring b.inputs ss b.cycle (n - b.cycle)) (sym next);
+      woken = board_woken m b.wiring b.inputs p.state p.wakes b.parts new.parts b.cycle (t + 1 - b.cycle) (e.states refl) (e.woken refl)
+          ∙ ap (λ (n : ℕ). sum_by p.wakes b.parts + active_pairs m b.wiring b.inputs ss b.cycle (n - b.cycle)) (sym next);
     } in
     let shown = e.before refl ∙ shown_once m b.wiring ss b.inputs t b.cycle b.before (sym at) in
     let read = c.levels.ensures (shown_of m b.wiring ss) shown in
