@@ -1,9 +1,10 @@
 -- What a board did that went on from the cycle at which it stood, as its users see it.
-use Rattle.board_run.proofs.Common.{◌≡◌, ◌<◌, ℕ, ◌+◌, ◌-◌, List, length, map, Bool, Option, Some, refl, ap, sym, ◌∙◌, subst, slice_get, length-map, Wiring}
-use Rattle.board_run.proofs.Common.{Input, Machine, Laws, states, Shown, shown_before, active_cycles, active_pairs, BoardView, ReadingView, shown_at, Leg}
-use Rattle.board_run.proofs.Common.{AreAt}
+use Rattle.board_run.proofs.Common.{◌≡◌, ℕ, List, length, map, Bool, false, Option, ◌<◌, sym, subst, length-map, refl, Wiring, Input, Machine, Laws, Shown, shown_at, AreAt}
+use Rattle.board_run.proofs.Common.{BoardView, Engine, WentOn}
+use Rattle.part_law.specs.declared.part.Part.{Ghosts}
 use Rattle.board_laws.specs.Orders.{IsOrder, SameInOrders}
 use Rattle.board_laws.proofs.OrdersLaw.{in_orders}
+use Rattle.board_run.specs.BoardWent.{BoardWent}
 use Rattle.board_run.proofs.LegLemmas.{at_here}
 use Rattle.board_run.specs.declared.board.RunEnd.TheVariants as ends
 
@@ -11,24 +12,26 @@ use Rattle.board_run.specs.declared.board.RunEnd.TheVariants as ends
 pub not_cut_off : {B : Type 0} → ends.Done ≡ ends.WriteFault → B
 not_cut_off e = absurd cc
 
--- it came to cycle u
-pub record Went {S P : Type 0} (m : Machine S) (state : P → S) (wakes : P → ℕ) (v : BoardView P) (u : ℕ) (new : List P) (after : Option Shown) (steps more : ℕ) : Type 0 where
-  pub states_are : map state new ≡ states m v.wiring v.inputs (map state v.parts) v.cycle (u - v.cycle)
-  pub before_is : after ≡ shown_before m v.wiring v.inputs v.before (map state v.parts) v.cycle (u - v.cycle)
-  pub woken : (k : ℕ) (p q : P) → slice_get v.parts k ≡ Some p → slice_get new k ≡ Some q → wakes q ≡ wakes p + active_cycles m v.wiring v.inputs (map state v.parts) v.cycle (u - v.cycle) k
-  pub steps_are : more ≡ steps + active_pairs m v.wiring v.inputs (map state v.parts) v.cycle (u - v.cycle)
+-- what they see of an engine
+abbrev seen_of : {P : Type 0} → Engine P → Bool → BoardView P
+seen_of e given_up = record { parts = e.parts; wiring = e.wiring; inputs = e.inputs; cycle = e.cycle; given_up = given_up; before = shown_at e.cycle e.reading; changed = e.changed }
 
--- where its parts stood at cycle t and stand at cycle u
-pub went_to : {S P : Type 0} (m : Machine S) (laws : Laws m) (w : Wiring) (state : P → S) (now wakes : P → ℕ) (inputs : List Input) (t u : ℕ) (given_up changed : Bool) (old new : List P) (before reading : ReadingView) (steps more : ℕ) →
-    AreAt now t old → AreAt now u new → Leg m w state now wakes inputs t u old new before reading steps more →
-    Went m state wakes (record { parts = old; wiring = w; inputs = inputs; cycle = t; given_up = given_up; before = shown_at t before; changed = changed }) u new (shown_at u reading) steps more
-went_to {S} {P} m laws w state now wakes inputs t u given_up changed old new before reading steps more first last leg =
-    let here = at_here m laws w state now wakes inputs t old first in
+-- where its parts stood at its cycle and stand at its new one
+pub board_went : {P : Type 0} (part : Ghosts P) (laws : Laws part.machine) (old new : Engine P) (given_up : Bool) (steps more : ℕ) → given_up ≡ false →
+    AreAt part.now old.cycle old.parts → AreAt part.now new.cycle new.parts → WentOn part old new steps more → BoardWent part (seen_of old given_up) (seen_of new given_up) steps more
+board_went part laws old new given_up steps more alive first last went =
+    let here = at_here part.machine laws old.wiring part.state part.now part.wakes old.inputs old.cycle old.parts first in
+    let there = at_here part.machine laws old.wiring part.state part.now part.wakes old.inputs new.cycle new.parts last in
     record {
-      states_are = sym (at_here m laws w state now wakes inputs u new last) ∙ leg.states_are ∙ ap (λ (l : List S). states m w inputs l t (u - t)) here;
-      before_is = sym leg.before_is ∙ ap (λ (l : List S). shown_before m w inputs (shown_at t before) l t (u - t)) here;
-      woken = subst (λ (l : List S). (k : ℕ) (p q : P) → slice_get old k ≡ Some p → slice_get new k ≡ Some q → wakes q ≡ wakes p + active_cycles m w inputs l t (u - t) k) here leg.woken;
-      steps_are = leg.steps_are ∙ ap (λ (l : List S). steps + active_pairs m w inputs l t (u - t)) here;
+      from = went.leg.order;
+      alive = alive;
+      same_wiring = went.same_wiring;
+      same_inputs = went.same_inputs;
+      states_are = rw (here, there) at went.leg.states_are;
+      before_is = rw here at (sym went.leg.before_is);
+      tells = λ less. rw here at (went.tells less);
+      steps_are = rw here at went.leg.steps_are;
+      woken = rw here at went.leg.woken;
     }
 
 -- in whatever orders its parts are moved

@@ -1,6 +1,7 @@
 pub mod Parts
 pub mod BoardView
 pub mod Changes
+pub mod BoardWent
 pub mod CutOff
 pub mod ReadingView
 pub mod Upcoming

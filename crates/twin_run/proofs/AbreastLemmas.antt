@@ -29,15 +29,17 @@ use Rattle.board_laws.proofs.SteadyLaw.{steady_states}
 use Rattle.board_laws.proofs.TwinLaw.{beside_active}
 use Rattle.board_laws.proofs.WithChips.{rest_with_chips, get-with_chips}
 use Rattle.board_run.specs.BoardView.{BoardView}
+use Rattle.board_run.specs.BoardWent.{BoardWent}
 use Rattle.board_run.specs.ReadingView.{levels_on}
 use Rattle.board_run.proofs.LegLemmas.{quiet_rest, stands_later}
 use Rattle.board_run.proofs.StepLemmas.{fits_pins}
-use Rattle.twin_run.specs.Beside.{Abreast, AreBehind, AreComparable, BoardAt, BoardWent, ChipsAt, ChipsTurned, HasRoom, IsChipOf, active_beside, at_cycle, beside_at, beside_pairs, difference_of, own_at, own_pairs, view_of}
+use Rattle.twin_run.specs.Beside.{Abreast, AreBehind, AreComparable, BoardAt, ChipsAt, ChipsTurned, HasRoom, IsChipOf, active_beside, at_cycle, beside_at, beside_pairs, difference_of, own_at, own_pairs, view_of}
 use Rattle.twin_run.specs.Twins.{AreTwins, HaveNoContacts, IsTwin, TwinView, differs, end_of, chip_pairs, other_states, wakes_in}
 use Rattle.twin_run.specs.declared.beside.Beside.{Beside}
 use Rattle.twin_run.specs.declared.chips.Chips.{Chips}
 use Rattle.twin_run.specs.declared.twin.TwinEnd.TheVariants as ends
 use Rattle.twin_run.proofs.DifferenceLemmas.{by_drives}
+use Rattle.twin_run.proofs.WakesLemmas.{board_woken}
 use Rattle.twin_run.proofs.BesideLemmas.{Sleeps, a_at, behind_next, beside_glides, chip_inside, counted, none_in, pairs_rise, pins_beside, sized_a, sized_b, stand_next}
 
 module _ {S : Type 0} (m : Machine S) (w : Wiring) (ss : List S) where
@@ -179,16 +181,12 @@ module _ {P : Type 0} (part : Ghosts P) (laws : Laws part.machine) (start : Twin
     may_step v same = subst (λ (x : Wiring). AreBehind part x t b.chips × (length x.first_pin ≡ length x.chip)) (sym (same ∙ is.board.same_wiring)) (is.chips.behind, is.twins.fits.parts ∙ sym is.twins.fits.chips)
 
     -- after the board went on
-    module _ (new : BoardView P) (most : ℕ) (did : BoardWent part b.board.wiring b.board.inputs b.board new more most) where
+    module _ (new : BoardView P) (most : ℕ) (went : BoardWent part b.board new more most) where
       abbrev u : ℕ
       u = new.cycle
 
-      went : BoardWent part w inputs b.board new more most
-      went = subst (λ (v : Wiring). BoardWent part v inputs b.board new more most) is.board.same_wiring
-          (subst (λ (l : List Input). BoardWent part b.board.wiring l b.board new more most) is.board.same_inputs did)
-
       there : t + (u - t) ≡ u
-      there = let o = went.order in omega (arith, o)
+      there = let o = went.from in omega (arith, o)
 
       split : A u ≡ states m w inputs (A t) t (u - t)
       split =
@@ -196,24 +194,24 @@ module _ {P : Type 0} (part : Ghosts P) (laws : Laws part.machine) (start : Twin
           ap A (sym there) ∙ states_split m w inputs xs 0 t (u - t) ∙ ap (λ (v : ℕ). states m w inputs (A t) v (u - t)) z
 
       board_is : map part.state new.parts ≡ A u
-      board_is = went.states_are ∙ ap (λ (l : List part.State). states m w inputs l t (u - t)) is.board.states_are ∙ sym split
+      board_is = rw (is.board.same_wiring, is.board.same_inputs, is.board.states_are) at went.states_are ∙ sym split
 
-      pairs : own_pairs part start u ≡ own_pairs part start t + active_pairs m w inputs (map part.state b.board.parts) t (u - t)
-      pairs =
+      counts : most ≡ steps + own_pairs part start u + is.wakes
+      counts =
           let z : 0 + t ≡ t = omega arith in
-          cc (pairs_split m w inputs xs 0 t (u - t), there, is.board.states_are)
+          let pairs : own_pairs part start u ≡ own_pairs part start t + active_pairs m w inputs (A t) t (u - t) = cc (pairs_split m w inputs xs 0 t (u - t), there, z) in
+          let s = rw (is.board.same_wiring, is.board.same_inputs, is.board.states_are) at went.steps_are in
+          let o = is.counted in
+          omega (arith, pairs, s, o)
 
       board_on : BoardAt part start new
       board_on = record {
-        alive = did.alive;
-        same_wiring = did.same_wiring ∙ is.board.same_wiring;
-        same_inputs = did.same_inputs ∙ is.board.same_inputs;
+        alive = went.alive;
+        same_wiring = went.same_wiring ∙ is.board.same_wiring;
+        same_inputs = went.same_inputs ∙ is.board.same_inputs;
         states_are = board_is;
-        woken = let a = went.woken in let o = is.board.woken in let p = pairs in omega (arith, a, o, p);
+        woken = let a = board_woken part b.board new more most went in let o = is.board.woken in let k = is.counted in let n = counts in omega (arith, a, o, k, n);
       }
-
-      counts : most ≡ steps + own_pairs part start u + is.wakes
-      counts = let a = went.steps_are in let o = is.counted in let p = pairs in omega (arith, a, o, p)
 
       -- where it is in the same cycle, its chips drive as they did
       pub same_there : u ≡ t → difference_of part b ≡ None → difference_of part (record b { board = new }) ≡ None

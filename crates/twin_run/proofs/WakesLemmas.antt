@@ -1,18 +1,17 @@
 -- How often parts were woken, beside the count of steps.
-use Rattle.std.proofs.Common.{◌≡◌, ℕ, zero, suc, ◌+◌, ◌≤◌, List, ◌∙◌, length, map, take, Some, refl, ap, sym, arith}
+use Rattle.std.proofs.Common.{◌≡◌, ℕ, zero, suc, ◌+◌, ◌-◌, ◌≤◌, List, ◌∙◌, length, map, take, Some, refl, ap, sym, arith}
 use Rattle.std.specs.Prelude.{slice_get}
 use Rattle.std.specs.List.{sum_by}
 use Rattle.std.proofs.lemmas.List.{length-map}
 use Rattle.std.proofs.lemmas.List.Sums.{sum_by_more}
 use Rattle.std.proofs.lemmas.Option.{get_or_from_slice_get}
-use Rattle.sim_base.specs.declared.wiring.Wiring.{Wiring}
-use Rattle.sim_base.specs.declared.wiring.Input.{Input}
-use Rattle.part_law.specs.Machine.{Machine}
-use Rattle.board_model.specs.Board.{states}
+use Rattle.part_law.specs.declared.part.Part.{Ghosts}
 use Rattle.board_model.proofs.Lists.{take_whole}
 use Rattle.board_model.proofs.Steps.{length-states}
-use Rattle.board_laws.specs.Active.{active_cycles, active_pairs, sum_below}
+use Rattle.board_laws.specs.Active.{active_cycles, sum_below}
 use Rattle.board_laws.proofs.ActiveLaw.{pairs_by_parts}
+use Rattle.board_run.specs.BoardView.{BoardView}
+use Rattle.board_run.specs.BoardWent.{BoardWent}
 use Rattle.board_run.proofs.TurnLemmas.{some_there}
 
 -- the first i of them, each of which rose by so much
@@ -33,18 +32,19 @@ sum_each f rise old new long each (suc i) l =
     let rest = sum_each f rise old new long each i (omega (arith, l)) in
     omega (arith, a, b, at_a, at_b, next_a, next_b, e, rest)
 
--- the parts of a board
-pub board_woken : {S P : Type 0} (m : Machine S) (w : Wiring) (inputs : List Input) (state : P → S) (wakes : P → ℕ) (old new : List P) (c n : ℕ) → map state new ≡ states m w inputs (map state old) c n →
-    ((k : ℕ) (p q : P) → slice_get old k ≡ Some p → slice_get new k ≡ Some q → wakes q ≡ wakes p + active_cycles m w inputs (map state old) c n k) →
-    sum_by wakes new ≡ sum_by wakes old + active_pairs m w inputs (map state old) c n
-board_woken m w inputs state wakes old new c n moved each =
-    let a : length (map state old) ≡ length old = simp length-map refl in
-    let b : length (map state new) ≡ length new = simp length-map refl in
-    let long : length new ≡ length old = sym b ∙ ap length moved ∙ length-states m w inputs (map state old) c n ∙ a in
-    let rise = active_cycles m w inputs (map state old) c n in
-    let all = sum_each wakes rise old new long each (length old) (omega arith) in
-    let whole_old = ap (sum_by wakes) (take_whole (length old) old (omega arith)) in
-    let whole_new = ap (sum_by wakes) (take_whole (length old) new (omega (arith, long))) in
-    let pairs = pairs_by_parts m w inputs (map state old) c n in
+-- the parts of a board that went on, as often as it took steps
+pub board_woken : {P : Type 0} (part : Ghosts P) (old new : BoardView P) (steps more : ℕ) → BoardWent part old new steps more → sum_by part.wakes new.parts + steps ≡ sum_by part.wakes old.parts + more
+board_woken part old new steps more went =
+    let ss = map part.state old.parts in
+    let n = new.cycle - old.cycle in
+    let a : length (map part.state old.parts) ≡ length old.parts = simp length-map refl in
+    let b : length (map part.state new.parts) ≡ length new.parts = simp length-map refl in
+    let long : length new.parts ≡ length old.parts = sym b ∙ ap length went.states_are ∙ length-states part.machine old.wiring old.inputs ss old.cycle n ∙ a in
+    let rise = active_cycles part.machine old.wiring old.inputs ss old.cycle n in
+    let all = sum_each part.wakes rise old.parts new.parts long went.woken (length old.parts) (omega arith) in
+    let whole_old = ap (sum_by part.wakes) (take_whole (length old.parts) old.parts (omega arith)) in
+    let whole_new = ap (sum_by part.wakes) (take_whole (length old.parts) new.parts (omega (arith, long))) in
+    let pairs = pairs_by_parts part.machine old.wiring old.inputs ss old.cycle n in
     let sized = ap (λ (k : ℕ). sum_below k rise) a in
-    omega (arith, all, whole_old, whole_new, pairs, sized)
+    let s = went.steps_are in
+    omega (arith, all, whole_old, whole_new, pairs, sized, s)

@@ -1,10 +1,9 @@
 -- A twin on its way: a board, and beside it the chips of a second one, each left behind where it was woken last. No public clause
 -- cites this.
-use Rattle.std.specs.Prelude.{◌≡◌, ℕ, ◌+◌, ◌-◌, ◌<◌, ◌≤◌, List, length, map, Bool, not, ◌||◌, true, false, Option, None, Some, slice_get, slice_index, slice_set, if◌then◌else◌}
+use Rattle.std.specs.Prelude.{◌≡◌, ℕ, ◌+◌, ◌<◌, ◌≤◌, List, length, map, Bool, not, ◌||◌, true, false, Option, None, Some, slice_get, slice_index, slice_set, if◌then◌else◌}
 use Rattle.std.specs.List.{sum_by}
 use Rattle.sim_base.specs.declared.signal.Level.{Level}
 use Rattle.sim_base.specs.declared.wiring.Wiring.{Wiring}
-use Rattle.sim_base.specs.declared.wiring.Input.{Input}
 use Rattle.part_law.specs.Machine.{IsFirstDue}
 use Rattle.part_law.specs.declared.part.Part.{Ghosts}
 use Rattle.board_model.specs.Board.{level_at, levels_of, states}
@@ -85,16 +84,6 @@ module _ {P : Type 0} (part : Ghosts P) where
       pub sized : length w.chip ≡ length parts
       pub has : (k : ℕ) → is_chip w k ≡ true → (q : P) × (slice_get chips (chips_before w k) ≡ Some q)
       pub pins : (k : ℕ) (p q : P) → slice_get parts k ≡ Some p → IsChipOf w chips k q → length (part.machine.drives (part.state q)) ≡ length (part.machine.drives (part.state p))
-
-    -- The board went on.
-    pub record BoardWent (inputs : List Input) (old new : BoardView P) (steps more : ℕ) : Type 0 where
-      pub order : old.cycle ≤ new.cycle
-      pub alive : new.given_up ≡ false
-      pub same_wiring : new.wiring ≡ old.wiring
-      pub same_inputs : new.inputs ≡ old.inputs
-      pub states_are : map part.state new.parts ≡ states part.machine w inputs (map part.state old.parts) old.cycle (new.cycle - old.cycle)
-      pub woken : sum_by part.wakes new.parts ≡ sum_by part.wakes old.parts + active_pairs part.machine w inputs (map part.state old.parts) old.cycle (new.cycle - old.cycle)
-      pub steps_are : more ≡ steps + active_pairs part.machine w inputs (map part.state old.parts) old.cycle (new.cycle - old.cycle)
 
     -- Each part that is a chip has one, which may be left behind up to cycle t and holds the levels that were kept.
     pub record AreBehind (t : ℕ) (c : Chips P) : Type 0 where

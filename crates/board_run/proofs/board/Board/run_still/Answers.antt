@@ -4,7 +4,7 @@ use Rattle.board_run.specs.Engine.{Rests}
 use Rattle.board_run.proofs.LegLemmas.{at_here}
 use Rattle.board_run.proofs.EngineLemmas.{rests_settled}
 use Rattle.board_run.specs.declared.engine.Engine.{Engine}
-use Rattle.board_run.proofs.ViewLemmas.{went_to}
+use Rattle.board_run.proofs.ViewLemmas.{board_went}
 use Rattle.board_run.proofs.board.Board.run_still.Given.{Over}
 use Rattle.board_run.proofs.board.Board.run_still.Goals.{After-settle}
 use Rattle.board_run.proofs.board.Board.run_still.Goals as goal
@@ -26,26 +26,17 @@ invariant_of-self g c = record { may = (rests g (goal.at.invariant_of-self g c).
 pub returns : goal.returns
 returns g c =
     let p = g.P.Part in
-    let m = p.machine in
     let laws = g.met.P.Part.laws in
     let i = c.self.inside.engine in
     let new = c.settle.new.self in
     let s = rests g (goal.at.returns g c).After-settle in
-    let here = at_here m laws i.wiring p.state p.now p.wakes i.inputs i.cycle i.parts c.self.invariant.at in
-    let went = went_to m laws i.wiring p.state p.now p.wakes i.inputs i.cycle new.cycle c.self.inside.given_up i.changed i.parts new.parts i.reading
-    new.reading c.args.steps.now c.rest.new.steps
-    c.self.invariant.at c.settle.ensures.at s.on.leg in
-    rw (← c.self.view_is) (record {
-      from = s.on.leg.order;
+    let here = at_here p.machine laws i.wiring p.state p.now p.wakes i.inputs i.cycle i.parts c.self.invariant.at in
+    let alive = ap (λ (v : BoardView g.row.P.Denot). v.given_up) c.self.view_is ∙ c.requires.alive in
+    record {
       within = (let same = ap (λ (e : Engine g.row.P.Denot). e.cycle) c.settle.ensures.settled.same in omega (arith, same, c.rest.ensures.within));
-      alive = ap (λ (v : BoardView g.row.P.Denot). v.given_up) c.self.view_is ∙ c.requires.alive;
-      steady = λ less. rw here at (s.steady less);
-      states = went.states_are;
-      before = went.before_is;
-      changed = λ less. rw here at (s.on.tells less);
-      stays = s.stays;
-      wiring = s.on.same_wiring;
-      inputs = s.on.same_inputs;
-      steps = went.steps_are;
-      woken = went.woken;
-    })
+      still = rw (← c.self.view_is) (record {
+        went = board_went p laws i new c.self.inside.given_up c.args.steps.now c.rest.new.steps alive c.self.invariant.at c.settle.ensures.at s.on;
+        steady = λ less. rw here at (s.steady less);
+        stays = s.stays;
+      });
+    }

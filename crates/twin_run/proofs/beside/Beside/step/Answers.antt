@@ -1,12 +1,9 @@
-use Rattle.std.proofs.Common.{◌≡◌, ◌+◌, ◌-◌, ◌∙◌, ℕ, ap, sym, refl, subst, map, length, arith}
-use Rattle.std.specs.List.{sum_by}
+use Rattle.std.proofs.Common.{◌≡◌, ◌+◌, ◌∙◌, ℕ, ap, sym, refl, subst, map, length, arith}
 use Rattle.sim_base.specs.declared.wiring.Wiring.{Wiring}
-use Rattle.board_model.specs.Board.{states}
 use Rattle.board_model.specs.Rows.{shown_of}
-use Rattle.board_laws.specs.Active.{active_pairs}
-use Rattle.twin_run.specs.Beside.{AreBehind, BoardWent, ChipsTurned}
+use Rattle.board_run.specs.BoardWent.{BoardWent}
+use Rattle.twin_run.specs.Beside.{AreBehind, ChipsTurned}
 use Rattle.twin_run.proofs.AbreastLemmas.{length_levels, may_step, shown_once, steps_on}
-use Rattle.twin_run.proofs.WakesLemmas.{board_woken}
 use Rattle.twin_run.proofs.beside.Beside.step.Goals as goal
 
 pub turn-requires : goal.turn-requires
@@ -38,17 +35,16 @@ returns g c =
     let at : t ≡ b.cycle = c.cycle-t.ensures in
     let next : new.cycle ≡ t + 1 = e.cycle refl in
     let ss = map p.state b.parts in
-    let states_are = e.states refl ∙ ap (λ (n : ℕ). states m b.wiring b.inputs ss b.cycle (n - b.cycle)) (sym next) in
-    let steps_are = e.steps refl ∙ ap (λ (n : ℕ). c.args.steps.now + active_pairs m b.wiring b.inputs ss b.cycle (n - b.cycle)) (sym next) in
-    let did : BoardWent p b.wiring b.inputs b new c.args.steps.now c.run.new.steps = record {
-      order = omega (arith, at, next);
+    let went : BoardWent p b new c.args.steps.now c.run.new.steps = record {
+      from = omega (arith, at, next);
       alive = e.alive refl;
       same_wiring = e.wiring;
       same_inputs = e.inputs;
-      states_are = states_are;
-      steps_are = steps_are;
-      woken = board_woken m b.wiring b.inputs p.state p.wakes b.parts new.parts b.cycle (t + 1 - b.cycle) (e.states refl) (e.woken refl)
-          ∙ ap (λ (n : ℕ). sum_by p.wakes b.parts + active_pairs m b.wiring b.inputs ss b.cycle (n - b.cycle)) (sym next);
+      states_are = rw next (e.states refl);
+      before_is = rw next (e.before refl);
+      tells = λ _. rw next (e.changed refl);
+      steps_are = rw next (e.steps refl);
+      woken = rw next (e.woken refl);
     } in
     let shown = e.before refl ∙ shown_once m b.wiring ss b.inputs t b.cycle b.before (sym at) in
     let read = c.levels.ensures (shown_of m b.wiring ss) shown in
@@ -56,6 +52,6 @@ returns g c =
     record {
       cycle = next ∙ ap (λ (v : ℕ). v + 1) at;
       went = λ start steps is.
-          steps_on p g.met.P.Part.laws start c.args.self.now steps c.args.steps.now is new c.run.new.steps did c.turn.new.self c.turn.new.steps c.wiring.result.now c.levels.result.now
+          steps_on p g.met.P.Part.laws start c.args.self.now steps c.args.steps.now is new c.run.new.steps went c.turn.new.self c.turn.new.steps c.wiring.result.now c.levels.result.now
           c.requires.same c.requires.end (next ∙ ap (λ (v : ℕ). v + 1) at) (c.wiring.ensures ∙ e.wiring) read turned c.turn.ensures.levels c.turn.ensures.own;
     }
