@@ -108,6 +108,14 @@ def line_of(file, number):
     return f"\"{lines[number - 1].rstrip()}\"" if 0 < number <= len(lines) and lines[number - 1].strip() else None
 
 
+def can_play(folder):
+    """Whether a folder has a diagram or a sketch, of which `play` makes a project."""
+    try:
+        return any(name == "diagram.json" or name.lower().endswith((".ino", ".pde")) for name in os.listdir(folder))
+    except OSError:
+        return False
+
+
 def no_project(command, folder):
     """Sentences about a word that should be a project's folder and is not."""
     play = f"./mudflatjar play {shown(folder)}" + (" --page PAGE.html" if command == "look" else "")
@@ -117,7 +125,8 @@ def no_project(command, folder):
         remedy = f"{play} runs it on an Uno alone" if folder.lower().endswith(PLAYED) else "docs/PROJECTS.md says what is in one"
         yield f"{shown(folder)} is a file, and {command} takes a project's folder: {remedy}"
     elif not os.path.lexists(f"{folder}/wokwi.toml"):
-        yield f"{shown(folder)} has no wokwi.toml, which names a project's firmware (docs/PROJECTS.md): {play} builds its sketch and runs it all the same"
+        remedy = f": {play} builds its sketch and runs it all the same" if can_play(folder) else ""
+        yield f"{shown(folder)} has no wokwi.toml, which names a project's firmware (docs/PROJECTS.md){remedy}"
 
 
 def unread(given):

@@ -176,7 +176,7 @@ class Sentences(unittest.TestCase):
 
     def test_a_word_of_another_kind_is_told(self):
         with tempfile.TemporaryDirectory() as folder:
-            for name in ("a/diagram.json", "a/a.ino", "p/wokwi.toml"):
+            for name in ("a/diagram.json", "a/a.ino", "p/wokwi.toml", "s/s.ino"):
                 pathlib.Path(folder, name).parent.mkdir(exist_ok=True)
                 pathlib.Path(folder, name).touch()
             for given, said in (
@@ -185,6 +185,7 @@ class Sentences(unittest.TestCase):
                 (["check", f"{folder}/a/diagram.json"], ["is a file, and check takes a project's folder: docs/PROJECTS.md"]),
                 (["run", f"{folder}/a", "--us", "5"], [f"{folder}/a has no wokwi.toml, which names a project's firmware (docs/PROJECTS.md): ./mudflatjar play {folder}/a"]),
                 (["twin", f"{folder}/p", f"{folder}/a", "--us", "5"], [f"{folder}/a has no wokwi.toml"]),
+                (["check", f"{folder}/s"], [f"{folder}/s has no wokwi.toml, which names a project's firmware (docs/PROJECTS.md): ./mudflatjar play {folder}/s"]),
                 (["bare", f"{folder}/p", "--us", "5"], ["is a folder, and bare takes a HEX file: ./mudflatjar run "]),
                 (["run", f"{folder}/p", "--us", "5"], []),
                 (["bare", f"{folder}/a/none.hex", "--us", "5"], []),
@@ -194,6 +195,8 @@ class Sentences(unittest.TestCase):
                 self.assertEqual(len(found), len(said), given)
                 for text, part in zip(found, said):
                     self.assertIn(part, text)
+            os.mkdir(f"{folder}/e")
+            self.assertEqual(list(tell.unread(["check", f"{folder}/e"])), [f"{folder}/e has no wokwi.toml, which names a project's firmware (docs/PROJECTS.md)"])
             told = list(tell.unwritten(["run", "x", "--us", "5", "--vcd", f"{folder}/none/w.vcd", f"--report={folder}"]))
             self.assertEqual(told, [f"--vcd {folder}/none/w.vcd: there is no folder {folder}/none", f"--report {folder}: it is a folder"])
             self.assertEqual(list(tell.unwritten(["run", "x", "--us", "5", "--vcd", f"{folder}/w.vcd", "--report", "-"])), [])
