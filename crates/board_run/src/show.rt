@@ -10,8 +10,8 @@ use part_law::Part;
 use sim_base::{Watcher, WriteEnd};
 
 impl<P: Part> Engine<P> {
-    /// Reads what the parts show, where a drive or a contact changed, and tells whether rows show what they showed before,
-    /// and which parts have a pin whose level is another one than before.
+    /// Resolves the nets, if a drive or a contact changed, and answers whether rows show what they showed before, and which
+    /// parts have a pin whose level is another one than before.
     #[inline(always)]
     fn refresh(&mut self) -> (bool, PartSet)
         requires { MayRun P.Part self.old }

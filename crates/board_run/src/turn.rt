@@ -150,8 +150,8 @@ fn first_at(dues: &DueTree, t: u32, end: usize) -> usize
     }
 }
 
-/// The least part that is due in cycle t, or the end, behind the turn of part `i`: where that stood before it, it is as
-/// before.
+/// The least part that is due in cycle t, or the end, after the turn of part `i`. If it comes after part `i`, it is as before
+/// that turn.
 #[inline]
 fn first_again(dues: &DueTree, t: u32, i: usize, before: usize, end: usize) -> usize
     requires before { before ≤ end }
