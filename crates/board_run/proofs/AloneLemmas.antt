@@ -271,15 +271,15 @@ module _ {S P : Type 0} (m : Machine S) (laws : Laws m) (w : Wiring) (state : P 
     pub bytes_are : (n : ℕ) → n ≤ u - t → bytes m w inputs (Ts m laws w state now wakes t parts) t n ≡ bs n
 
   -- where a part was found that goes on alone up to a limit, and it did
-  pub alone_goes : (moves : P → ℕ → Bool) (t limit : ℕ) (parts : List P) (kept : Kept) (changed : Bool) (steps more who : ℕ) (p q : P) (d : Option ℕ) (by : Went) (reading : ReadingView) →
-      reading ≡ retold kept.reading reading.nets.drives reading.nets.closed → IsTold m (map state (slice_set parts who q)) reading.nets →
+  pub alone_goes : (moves : P → ℕ → Bool) (t limit : ℕ) (parts : List P) (kept : Kept) (changed : Bool) (steps more who : ℕ) (p q : P) (d : Option ℕ) (by : Went) (nets : NetsView) →
+      IsTold m (map state (slice_set parts who q)) nets →
       Lags m w state now wakes t parts kept → kept.changed ≡ false → 0 < t → AreBehind inputs kept.input t → limit ≤ MOST_CYCLES → IsAlone inputs kept.dues kept.input who t limit →
       slice_get parts who ≡ Some p → WentBy m state now wakes moves t limit p q d by steps more → Shifted m state p q changed →
-      Goes t by.to parts (slice_set parts who q) kept (record { input = kept.input; changed = changed; dues = slice_set kept.dues who d; reading = reading; answers = kept.answers }) steps more (sent m (glided m state now wakes t p) t)
-  alone_goes moves t limit parts kept changed steps more who p q d by reading rest is_told lags fresh later behind end alone here went shifted =
+      Goes t by.to parts (slice_set parts who q) kept (record { input = kept.input; changed = changed; dues = slice_set kept.dues who d; reading = retold kept.reading nets.drives nets.closed; answers = kept.answers }) steps more (sent m (glided m state now wakes t p) t)
+  alone_goes moves t limit parts kept changed steps more who p q d by nets is_told lags fresh later behind end alone here went shifted =
       let u = by.to in
-      let ds = reading.nets.drives in
-      let cs = reading.nets.closed in
+      let ds = nets.drives in
+      let cs = nets.closed in
       let told : IsTold m (map state (slice_set parts who q)) (retold kept.reading ds cs).nets = record { drives_are = is_told.drives_are; closed_are = is_told.closed_are } in
       let further = went.further in
       let within = went.within in
@@ -294,7 +294,7 @@ module _ {S P : Type 0} (m : Machine S) (laws : Laws m) (w : Wiring) (state : P 
       let contacts_were = glide_contacts m laws (state p) (now p) (t - now p) (lags.valid who p here) lagged in
       let drives = λ (none : changed ≡ false). (shifted.same none).0 ∙ sym drives_were in
       let contacts = λ (none : changed ≡ false). (shifted.same none).1 ∙ sym contacts_were in
-      rw rest (record {
+      record {
         lags = alone_lags m laws w state now wakes inputs t u parts kept lags fresh later order who p q here quiet silent went.same went.state_is went.now_is went.woken_is changed d ds cs told went.first drives contacts;
         behind = behind_between inputs kept.input t u limit order within behind alone.behind;
         leg = alone_leg m laws w state now wakes inputs t u parts kept lags fresh later order who p q here quiet silent went.same went.state_is went.now_is went.woken_is ds cs steps more went.steps_are;
@@ -303,4 +303,4 @@ module _ {S P : Type 0} (m : Machine S) (laws : Laws m) (w : Wiring) (state : P 
             (λ one same still. shifted.other one (same ∙ drives_were) (still ∙ contacts_were));
         row_none = alone_rows m laws w state now wakes inputs t u parts kept lags fresh later order who p q here quiet silent went.same went.state_is went.now_is went.woken_is;
         bytes_are = alone_bytes m laws w state now wakes inputs t u parts kept lags fresh later order who p q here quiet silent went.same went.state_is went.now_is went.woken_is;
-      })
+      }

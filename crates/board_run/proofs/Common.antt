@@ -43,7 +43,7 @@ pub use Rattle.net_resolve.specs.Marked.{has}
 pub use Rattle.net_resolve.proofs.ReachLemmas.{any_at, any_some}
 pub use Rattle.event_queue.proofs.TreeLemmas.{set_same}
 pub use Rattle.board_run.specs.Changes.{LastTells, Tells, HasEvent}
-pub use Rattle.board_run.specs.ReadingView.{ReadingView, IsTold, retold, shown_at, Suits, levels_on, pin_flags, IsOf, AreDiffering, shown, HasAt, Put}
+pub use Rattle.board_run.specs.ReadingView.{ReadingView, IsTold, retold, reread, shown_at, Suits, levels_on, pin_flags, IsOf, AreDiffering, shown, HasAt, Put}
 pub use Rattle.board_run.specs.ReadingView.{Gathered, AreStill}
 pub use Rattle.board_run.specs.Lagging.{glided, Replaced, Shifted, to_wake, MayTurn, Awaits, Turns, AreDue, AreLate, is_at, MayTurnAt, turned, HadTurn}
 pub use Rattle.board_run.specs.Lagging.{TookTurn}
@@ -51,7 +51,7 @@ pub use Rattle.board_run.specs.Legs.{Kept, Lags, Leg, WentBy, IsAlone, AreAt}
 pub use Rattle.board_run.specs.Upcoming.{AreBehind, IsInOrder}
 pub use Rattle.board_run.specs.declared.part_set.PartSet.{PartSet}
 pub use Rattle.board_run.specs.Parts.{has_part, end_of, AreNone, part_nets, AreOn}
-pub use Rattle.board_run.specs.Engine.{kept_of, given, states_of, rows_to, bytes_to, IsNext, Watches, MayRun, MayTurnPart, TurnedAt, MayTell, WentOn, Rests}
+pub use Rattle.board_run.specs.Engine.{wiring_of, kept_of, given, states_of, rows_to, bytes_to, IsNext, Watches, MayRun, MayTurnPart, TurnedAt, MayTell, WentOn, Rests}
 pub use Rattle.board_run.specs.Engine.{Settled, FailedIn, Showed, MayStretch, MayTurnOn, TurnedOn, TurnedPart}
 pub use Rattle.board_run.specs.declared.engine.Engine.{Engine}
 pub use Rattle.board_run.specs.BoardView.{BoardView}

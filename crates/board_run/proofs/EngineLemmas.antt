@@ -1,7 +1,7 @@
 -- What an engine did on its way: ways follow on each other, and nothing is shown while it passes over cycles.
 use Rattle.board_run.proofs.Common.{◌≡◌, ◌++◌, ℕ, ◌+◌, ◌-◌, ◌<◌, ◌≤◌, ◌∙◌, List, [], Bool, true, false, refl, ap, sym, arith, subst, inl, inr, Row}
 use Rattle.board_run.proofs.Common.{StopsWithin, MOST_CYCLES, Wiring, Input, Laws, LastTells, slice_get, slice_index, Some, input_at, some_same, NetsView}
-use Rattle.board_run.proofs.Common.{PartSet, has_part, to_wake, Replaced, Suits, levels_on, shown_at, kept_of, given, states_of, rows_to, bytes_to, IsNext}
+use Rattle.board_run.proofs.Common.{PartSet, has_part, to_wake, Replaced, Suits, levels_on, shown_at, wiring_of, kept_of, given, states_of, rows_to, bytes_to, IsNext}
 use Rattle.board_run.proofs.Common.{Watches, MayRun, MayTurnPart, TurnedAt, MayTell, WentOn, Rests, Settled, FailedIn, Showed, Engine}
 use Rattle.sim_base.specs.declared.bench.WriteEnd.{WriteEnd}
 use Rattle.sim_base.specs.declared.bench.WriteEnd.TheVariants as writes
@@ -23,16 +23,16 @@ module _ {P : Type 0} (part : Ghosts P) (laws : Laws part.machine) where
     may = record { lags = may.lags; behind = may.behind; order = may.order };
     same_wiring = refl;
     same_inputs = refl;
-    leg = leg_none part.machine laws e.wiring part.state part.now part.wakes e.inputs e.cycle steps e.parts e.reading;
+    leg = leg_none part.machine laws (wiring_of e) part.state part.now part.wakes e.inputs e.cycle steps e.parts e.reading;
     tells = λ (less : e.cycle < e.cycle). absurd (omega arith);
   }
 
   -- part i after its turn in place of what it was
   pub turn_replaces : (old new : Engine P) (i place : ℕ) (may_hear : Bool) (differ : PartSet) (woken : Woken) (steps more : ℕ) → MayTurnPart part old i may_hear differ place → (at : TurnedAt part old new i differ place woken steps more) →
-      Replaced part.machine new.wiring part.state i old.parts new.parts new.reading.nets at.p at.q
+      Replaced part.machine (wiring_of new) part.state i old.parts new.parts new.reading.nets at.p at.q
   turn_replaces old new i place may_hear differ woken steps more may at =
       let room = turned_room part.machine laws part.state part.now part.wakes old.cycle at.p at.q (to_wake at.d old.cycle (input_at (given old place) old.cycle i) (has_part differ i))
-      (levels_on part.machine old.wiring old.reading.nets.levels i (part.state at.p)) (input_at (given old place) old.cycle i) at.byte woken.changed at.turn.turn in
+      (levels_on part.machine (wiring_of old) old.reading.nets.levels i (part.state at.p)) (input_at (given old place) old.cycle i) at.byte woken.changed at.turn.turn in
       rw at.same (record { was = at.was; new_is = refl; pins = room.0; ports = room.1; fits = may.fits; told = may.told })
 
   -- and the nets may be told of it
@@ -45,27 +45,32 @@ module _ {P : Type 0} (part : Ghosts P) (laws : Laws part.machine) where
         p = at.p;
         q = at.q;
         replaced = turn_replaces old new i place may_hear differ woken steps more may at;
-        suits = subst (λ (e : Engine P). Suits e.wiring e.reading) (sym at.same) may.suits;
+        suits = subst (λ (e : Engine P). Suits (wiring_of e) e.reading) (sym at.same) may.suits;
         still = turned_still part.machine laws part.state part.now part.wakes old.cycle at.p at.q (to_wake at.d old.cycle (input_at (given old place) old.cycle i) (has_part differ i))
-            (levels_on part.machine old.wiring old.reading.nets.levels i (part.state at.p)) (input_at (given old place) old.cycle i) at.byte woken.changed valid quiet at.turn.turn;
+            (levels_on part.machine (wiring_of old) old.reading.nets.levels i (part.state at.p)) (input_at (given old place) old.cycle i) at.byte woken.changed valid quiet at.turn.turn;
         others = λ some. turned_others part.machine laws part.state part.now part.wakes old.cycle at.p at.q (part.moves at.q) valid quiet (at.turn.others some);
       }
 
   -- what nets have of a part that was replaced
-  pub told_place : (e : Engine P) (i first : ℕ) (nets : NetsView) (before : List P) (p q x : P) → Replaced part.machine e.wiring part.state i before e.parts e.reading.nets p q → first ≡ slice_index e.wiring.first_pin i → nets ≡ e.reading.nets → slice_get e.parts i ≡ Some x →
-      (q ≡ x) × Placed part.machine e.wiring part.state i first e.parts nets p x
+  pub told_place : (e : Engine P) (i first : ℕ) (nets : NetsView) (before : List P) (p q x : P) → Replaced part.machine (wiring_of e) part.state i before e.parts e.reading.nets p q → first ≡ slice_index (wiring_of e).first_pin i → nets ≡ e.reading.nets → slice_get e.parts i ≡ Some x →
+      (q ≡ x) × Placed part.machine (wiring_of e) part.state i first e.parts nets p x
   told_place e i first nets before p q x was at is here =
-      let there = placed part.machine e.wiring part.state i first before e.parts e.reading.nets p q was at in
+      let there = placed part.machine (wiring_of e) part.state i first before e.parts e.reading.nets p q was at in
       let same : q ≡ x = some_same (sym there.there ∙ here) in (same, rw (← same, is) there)
 
-  -- an engine of the same board
-  same_board : (old mid : Engine P) → mid.wiring ≡ old.wiring → mid.inputs ≡ old.inputs → mid ≡ record mid { wiring = old.wiring; inputs = old.inputs }
-  same_board old mid wiring inputs =
-      ap (λ (w : Wiring). let e : Engine P = record mid { wiring = w } in e) wiring ∙ ap (λ (is : List Input). let e : Engine P = record mid { wiring = old.wiring; inputs = is } in e) inputs
+  -- an engine with this wiring and these inputs
+  abbrev on_board : Engine P → Wiring → List Input → Engine P
+  on_board e w is = record e { reading = record (e.reading) { nets = record (e.reading.nets) { wiring = w } }; inputs = is }
+
+  same_board : (old mid : Engine P) → wiring_of mid ≡ wiring_of old → mid.inputs ≡ old.inputs → mid ≡ on_board mid (wiring_of old) old.inputs
+  same_board old mid wiring inputs = ap (λ (w : Wiring). on_board mid w mid.inputs) wiring ∙ ap (on_board mid (wiring_of old)) inputs
 
   module _ (old mid new : Engine P) (steps more most : ℕ) (first : WentOn part old mid steps more) (further : mid.cycle < new.cycle) where
     abbrev Here : Engine P
-    Here = record mid { wiring = old.wiring; inputs = old.inputs }
+    Here = on_board mid (wiring_of old) old.inputs
+
+    begun : WentOn part old Here steps more
+    begun = subst (λ (e : Engine P). WentOn part old e steps more) (same_board old mid first.same_wiring first.same_inputs) first
 
     pub on_then : WentOn part mid new more most → WentOn part old new steps most
     on_then after =
@@ -74,28 +79,28 @@ module _ {P : Type 0} (part : Ghosts P) (laws : Laws part.machine) where
           may = after.may;
           same_wiring = after.same_wiring ∙ first.same_wiring;
           same_inputs = after.same_inputs ∙ first.same_inputs;
-          leg = leg_then part.machine laws old.wiring part.state part.now part.wakes old.inputs old.cycle mid.cycle new.cycle steps more old.parts
-              mid.parts old.reading mid.reading first.leg
+          leg = leg_then part.machine laws (wiring_of old) part.state part.now part.wakes old.inputs old.cycle mid.cycle new.cycle steps more old.parts
+              mid.parts old.reading Here.reading begun.leg
               (omega (arith, further)) most new.parts new.reading second.leg;
-          tells = λ _. tells_then part.machine laws old.wiring part.state part.now part.wakes old.inputs old.cycle mid.cycle new.cycle steps more
-              old.parts mid.parts old.reading mid.reading first.leg
+          tells = λ _. tells_then part.machine laws (wiring_of old) part.state part.now part.wakes old.inputs old.cycle mid.cycle new.cycle steps more
+              old.parts mid.parts old.reading Here.reading begun.leg
               (omega (arith, further)) new.changed further (second.tells further);
         }
 
     pub rows_then : rows_to part old new.cycle ≡ rows_to part old mid.cycle ++ rows_to part Here new.cycle
-    rows_then = rows_on part.machine laws old.wiring part.state part.now part.wakes old.inputs old.cycle mid.cycle new.cycle steps more old.parts mid.parts old.reading mid.reading first.leg (omega (arith, further))
+    rows_then = rows_on part.machine laws (wiring_of old) part.state part.now part.wakes old.inputs old.cycle mid.cycle new.cycle steps more old.parts mid.parts old.reading Here.reading begun.leg (omega (arith, further))
 
     pub bytes_then : bytes_to part old new.cycle ≡ bytes_to part old mid.cycle ++ bytes_to part Here new.cycle
-    bytes_then = bytes_on part.machine laws old.wiring part.state part.now part.wakes old.inputs old.cycle mid.cycle new.cycle steps more old.parts mid.parts old.reading mid.reading first.leg (omega (arith, further))
+    bytes_then = bytes_on part.machine laws (wiring_of old) part.state part.now part.wakes old.inputs old.cycle mid.cycle new.cycle steps more old.parts mid.parts old.reading Here.reading begun.leg (omega (arith, further))
 
   -- nothing is shown up to the next cycle in which something may happen
   pub jumps : (e : Engine P) (n u steps : ℕ) → MayRun part e → IsNext e n u → n ≤ MOST_CYCLES → e.cycle < u →
-      (e.changed ≡ false) × Jumps part.machine laws e.wiring part.state part.now part.wakes e.inputs e.cycle u e.parts (kept_of e) steps
+      (e.changed ≡ false) × Jumps part.machine laws (wiring_of e) part.state part.now part.wakes e.inputs e.cycle u e.parts (kept_of e) steps
   jumps e n u steps may next end less =
       let still = unchanged e.changed e.cycle u next.stays less in
       let none : e.changed ≡ true → u ≡ e.cycle = λ is. absurd (let x : true ≡ false = sym is ∙ still.0 in cc) in (
         still.0,
-        jumps_to part.machine laws e.wiring part.state part.now part.wakes e.inputs e.cycle u e.parts (kept_of e) steps may.lags still.1 next.from (omega (arith, next.within, end)) none
+        jumps_to part.machine laws (wiring_of e) part.state part.now part.wakes e.inputs e.cycle u e.parts (kept_of e) steps may.lags still.1 next.from (omega (arith, next.within, end)) none
             (λ k x is. next.late k x is) next.silent,
       )
 
@@ -109,7 +114,7 @@ module _ {P : Type 0} (part : Ghosts P) (laws : Laws part.machine) where
             same_wiring = refl;
             same_inputs = refl;
             leg = j.1.leg;
-            tells = λ _. subst (λ (b : Bool). LastTells part.machine e.wiring e.inputs b (states_of part e) e.cycle (u - e.cycle)) (sym j.0) (j.1.tells j.0);
+            tells = λ _. subst (λ (b : Bool). LastTells part.machine (wiring_of e) e.inputs b (states_of part e) e.cycle (u - e.cycle)) (sym j.0) (j.1.tells j.0);
           };
           steady = λ _. j.1.rests j.0;
           stays = λ _. refl;
@@ -123,14 +128,14 @@ module _ {P : Type 0} (part : Ghosts P) (laws : Laws part.machine) where
   pub on_settled : (old mid new : Engine P) (steps more : ℕ) → WentOn part old mid steps more → Settled part mid new → WentOn part old (record mid { parts = new.parts; dues = new.dues }) steps more
   on_settled old mid new steps more went s = record {
     may = record {
-      lags = settled_lags part.machine laws mid.wiring part.state part.now part.wakes mid.inputs mid.cycle mid.parts new.parts s.long s.each
+      lags = settled_lags part.machine laws (wiring_of mid) part.state part.now part.wakes mid.inputs mid.cycle mid.parts new.parts s.long s.each
           (kept_of mid) new.dues went.may.lags s.dues_long s.due;
       behind = went.may.behind;
       order = went.may.order;
     };
     same_wiring = went.same_wiring;
     same_inputs = went.same_inputs;
-    leg = settled_leg part.machine laws old.wiring part.state part.now part.wakes old.inputs mid.cycle mid.parts new.parts s.long s.each old.cycle
+    leg = settled_leg part.machine laws (wiring_of old) part.state part.now part.wakes old.inputs mid.cycle mid.parts new.parts s.long s.each old.cycle
         old.parts old.reading mid.reading steps more went.leg;
     tells = went.tells;
   }
@@ -143,7 +148,7 @@ module _ {P : Type 0} (part : Ghosts P) (laws : Laws part.machine) where
     pub showed_none : (e : Engine P) (steps : ℕ) (out : W) → MayRun part e → Watches watcher e out → Showed part watcher writes.Ok e (record e { cycle = e.cycle }) steps steps out out
     showed_none e steps out may watches = record {
       on = on_none e steps may;
-      ok = λ _. (none_handed part.machine e.wiring e.inputs (shown_at e.cycle e.reading) (states_of part e) e.cycle watcher.whole watcher.faults watcher.stands out watches.whole, watches.later);
+      ok = λ _. (none_handed part.machine (wiring_of e) e.inputs (shown_at e.cycle e.reading) (states_of part e) e.cycle watcher.whole watcher.faults watcher.stands out watches.whole, watches.later);
       failed = λ (is : writes.Ok ≡ writes.Failed). absurd cc;
       place = refl;
     }
@@ -169,8 +174,8 @@ module _ {P : Type 0} (part : Ghosts P) (laws : Laws part.machine) where
                 record {
                   v = f.v;
                   follows = f.follows;
-                  cut_off = cut_then part.machine laws old.wiring part.state part.now part.wakes old.inputs watcher.whole watcher.faults watcher.stands watcher.stopped old.cycle mid.cycle f.v steps more old.parts mid.parts old.reading mid.reading
-                      out between after first.on.leg handed f.cut_off;
+                  cut_off = cut_then part.machine laws (wiring_of old) part.state part.now part.wakes old.inputs watcher.whole watcher.faults watcher.stands watcher.stopped old.cycle mid.cycle f.v steps more old.parts mid.parts old.reading (Here old mid new steps more most first.on further).reading
+                      out between after (begun old mid new steps more most first.on further).leg handed f.cut_off;
                 },
               );
           place = more_went.place ∙ first.place;
@@ -182,19 +187,19 @@ module _ {P : Type 0} (part : Ghosts P) (laws : Laws part.machine) where
     fails_here e v u out after whole from follows no_row no_byte stops = record {
       v = v;
       follows = follows;
-      cut_off = cut_here part.machine e.wiring e.inputs (shown_at e.cycle e.reading) (states_of part e) e.cycle watcher.whole watcher.faults watcher.stands watcher.stopped v u from follows out after whole no_row no_byte stops;
+      cut_off = cut_here part.machine (wiring_of e) e.inputs (shown_at e.cycle e.reading) (states_of part e) e.cycle watcher.whole watcher.faults watcher.stands watcher.stopped v u from follows out after whole no_row no_byte stops;
     }
 
     -- in its first cycle
     pub fails_first : (e : Engine P) (out after : W) → watcher.whole out ≡ true → StopsWithin (watcher.stands out) (watcher.stopped after) (rows_to part e (e.cycle + 1)) (bytes_to part e (e.cycle + 1)) →
         FailedIn part watcher e (e.cycle + 1) out after
     fails_first e out after whole stops = fails_here e e.cycle (e.cycle + 1) out after whole (omega arith) refl
-        (no_rows part.machine e.wiring e.inputs (shown_at e.cycle e.reading) (states_of part e) e.cycle) (no_bytes part.machine e.wiring e.inputs (shown_at e.cycle e.reading) (states_of part e) e.cycle) stops
+        (no_rows part.machine (wiring_of e) e.inputs (shown_at e.cycle e.reading) (states_of part e) e.cycle) (no_bytes part.machine (wiring_of e) e.inputs (shown_at e.cycle e.reading) (states_of part e) e.cycle) stops
 
     -- it has stopped within all that the board shows
     pub fails_within : (e : Engine P) (u n : ℕ) (out after : W) → u ≤ n → FailedIn part watcher e u out after → StopsWithin (watcher.stands out) (watcher.stopped after) (rows_to part e n) (bytes_to part e n)
     fails_within e u n out after within f =
-        cut_within part.machine e.wiring e.inputs (shown_at e.cycle e.reading) (states_of part e) e.cycle watcher.whole watcher.faults watcher.stands watcher.stopped f.v u f.cut_off.from f.follows out after n within f.cut_off
+        cut_within part.machine (wiring_of e) e.inputs (shown_at e.cycle e.reading) (states_of part e) e.cycle watcher.whole watcher.faults watcher.stands watcher.stopped f.v u f.cut_off.from f.follows out after n within f.cut_off
 
     -- and nothing happens up to the next cycle in which something may
     pub showed_next : (old mid : Engine P) (steps more : ℕ) (out after : W) (n u : ℕ) → Showed part watcher writes.Ok old mid steps more out after → IsNext mid n u → n ≤ MOST_CYCLES →

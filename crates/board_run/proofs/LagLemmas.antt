@@ -3,7 +3,7 @@ use Rattle.board_run.proofs.Common.{◌≡◌, ℕ, zero, suc, ◌+◌, ◌-◌,
 use Rattle.board_run.proofs.Common.{◌∙◌, arith, subst, ◌≢◌, not, if◌then◌else◌, slice_get, slice_get_within, length-map, Level, Drive, Wiring, Input, Machine}
 use Rattle.board_run.proofs.Common.{Laws, Fits, some_same, get_map_some, some_map, same_lists, flat_map_same, Alike, SameShow, sum_below, active_in, Stands}
 use Rattle.board_run.proofs.Common.{length-steps_from, get-steps_from, stands_shows, stands_holds, stands_valid, Tells, LastTells, ReadingView, Suits, IsOf}
-use Rattle.board_run.proofs.Common.{IsTold, AreDiffering, retold, levels_on, shown, shown_at, AreBehind, glided, MayTurn, Awaits, Turns, AreDue, Kept, Lags}
+use Rattle.board_run.proofs.Common.{NetsView, IsTold, AreDiffering, retold, levels_on, shown, shown_at, AreBehind, glided, MayTurn, Awaits, Turns, AreDue, Kept, Lags}
 use Rattle.board_run.proofs.Common.{Leg, PartSet, has_part, AreNone, level_same, list_same}
 use Rattle.board_model.specs.Board.{level_at, own_nets, levels_of, part_step, steps_from, board_step, states, bytes, options}
 use Rattle.board_model.specs.Rows.{Shown, same_list, same_level, shown_of, shown_before, row_if, rows}
@@ -265,20 +265,20 @@ module _ {S P : Type 0} (m : Machine S) (laws : Laws m) (w : Wiring) (state : P 
     pub rows_are : row_if m w (shown_at t before) (map state old) t ≡ rows m w inputs (shown_at t before) (Ts t old) t (t + 1 - t)
     pub bytes_are : options answers ≡ bytes m w inputs (Ts t old) t (t + 1 - t)
 
-  pub happens : (inputs : List Input) (t i j : ℕ) (old new : List P) (kept : Kept) (reading after : ReadingView) (set : PartSet) (answers dues : List (Option ℕ)) (changed : Bool) (steps more : ℕ) →
+  pub happens : (inputs : List Input) (t i j : ℕ) (old new : List P) (kept : Kept) (reading : ReadingView) (after : NetsView) (set : PartSet) (answers dues : List (Option ℕ)) (changed : Bool) (steps more : ℕ) →
       Lags m w state now wakes t old kept → AreDiffering m w kept.reading.nets.levels reading.nets.levels (map state old) set → i ≤ j → AreBehind inputs i t → AreBehind inputs j (t + 1) →
       IsOf m w (map state old) reading → Suits w reading → length new ≡ length old → length answers ≡ length kept.answers → length dues ≡ length kept.dues →
       ((ts : List S) → Awaits m w state now (take (j - i) (drop i inputs)) inputs reading.nets.levels set t old ts → Turns m w inputs state now wakes reading.nets.levels t ts (length old) old new answers changed) →
       ((ts : List S) → Awaits m w state now (take (j - i) (drop i inputs)) inputs reading.nets.levels set t old ts → more ≡ steps + sum_below (length old) (λ k. active_in m w inputs reading.nets.levels t k (slice_get ts k))) →
-      AreDue m state now wakes new dues → IsTold m (map state new) after.nets → after ≡ retold reading after.nets.drives after.nets.closed →
-      Happens inputs t old new kept.reading after answers dues changed steps more
-  happens inputs t i j old new kept reading after set answers dues changed steps more lags differ on before behind is suits long answers_long dues_long turns_of counted due told rest =
+      AreDue m state now wakes new dues → IsTold m (map state new) after →
+      Happens inputs t old new kept.reading (retold reading after.drives after.closed) answers dues changed steps more
+  happens inputs t i j old new kept reading after set answers dues changed steps more lags differ on before behind is suits long answers_long dues_long turns_of counted due told =
       let like = lags_stand t old kept lags in
       let awaits = lags_await inputs t i j old kept reading set lags differ on before behind in
       let turns = turns_of (Ts t old) awaits in
-      let ds = after.nets.drives in
-      let cs = after.nets.closed in
-      let here : Happens inputs t old new kept.reading (retold reading ds cs) answers dues changed steps more = record {
+      let ds = after.drives in
+      let cs = after.closed in
+      record {
         leg = event_leg inputs t old new reading answers changed long is suits like turns kept.reading ds cs steps more (counted (Ts t old) awaits);
         lags = λ k none none_long silent.
             event_lags inputs t old new reading answers changed long is suits like turns k dues none ds cs lags.few lags.fits (dues_long ∙ lags.dues_long) (none_long ∙ answers_long ∙ lags.answers_long) due silent
@@ -286,5 +286,4 @@ module _ {S P : Type 0} (m : Machine S) (laws : Laws m) (w : Wiring) (state : P 
         tells = event_tells inputs t old new reading answers changed long is suits like turns;
         rows_are = event_rows inputs t old new reading answers changed long is suits like turns kept.reading;
         bytes_are = event_bytes inputs t old new reading answers changed long is suits like turns (answers_long ∙ lags.answers_long);
-      } in
-      subst (λ (v : ReadingView). Happens inputs t old new kept.reading v answers dues changed steps more) (sym rest) here
+      }

@@ -227,7 +227,7 @@ module _ {S : Type 0} (m : Machine S) where
   -- what suits a wiring does so after the nets were told
   pub retold_suits : (w : Wiring) (ss : List S) (reading : ReadingView) (ds : List Drive) (cs : List Bool) → Fits m w ss → Suits w reading → IsTold m ss (retold reading ds cs).nets → Suits w (retold reading ds cs)
   retold_suits w ss reading ds cs fits suits told = record {
-    wired = let c = suits.wired in record { nets = c.nets; net_of = c.net_of; contacts = c.contacts; resistors = c.resistors; levels_long = c.levels_long; watched = c.watched };
+    wired = let c = suits.wired in record { wiring = c.wiring; levels_long = c.levels_long; watched = c.watched };
     drives_long = ap length told.drives_are ∙ sym fits.pins;
     closed_long = ap length told.closed_are ∙ sym fits.contacts;
     on_long = suits.on_long;

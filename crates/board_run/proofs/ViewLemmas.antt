@@ -5,6 +5,7 @@ use Rattle.part_law.specs.declared.part.Part.{Ghosts}
 use Rattle.board_laws.specs.Orders.{IsOrder, SameInOrders}
 use Rattle.board_laws.proofs.OrdersLaw.{in_orders}
 use Rattle.board_run.specs.BoardWent.{BoardWent}
+use Rattle.board_run.specs.Engine.{wiring_of}
 use Rattle.board_run.proofs.LegLemmas.{at_here}
 use Rattle.board_run.specs.declared.board.RunEnd.TheVariants as ends
 
@@ -14,14 +15,14 @@ not_cut_off e = absurd cc
 
 -- what they see of an engine
 abbrev seen_of : {P : Type 0} → Engine P → Bool → BoardView P
-seen_of e given_up = record { parts = e.parts; wiring = e.wiring; inputs = e.inputs; cycle = e.cycle; given_up = given_up; before = shown_at e.cycle e.reading; changed = e.changed }
+seen_of e given_up = record { parts = e.parts; wiring = wiring_of e; inputs = e.inputs; cycle = e.cycle; given_up = given_up; before = shown_at e.cycle e.reading; changed = e.changed }
 
 -- where its parts stood at its cycle and stand at its new one
 pub board_went : {P : Type 0} (part : Ghosts P) (laws : Laws part.machine) (old new : Engine P) (given_up : Bool) (steps more : ℕ) → given_up ≡ false →
     AreAt part.now old.cycle old.parts → AreAt part.now new.cycle new.parts → WentOn part old new steps more → BoardWent part (seen_of old given_up) (seen_of new given_up) steps more
 board_went part laws old new given_up steps more alive first last went =
-    let here = at_here part.machine laws old.wiring part.state part.now part.wakes old.inputs old.cycle old.parts first in
-    let there = at_here part.machine laws old.wiring part.state part.now part.wakes old.inputs new.cycle new.parts last in
+    let here = at_here part.machine laws (wiring_of old) part.state part.now part.wakes old.inputs old.cycle old.parts first in
+    let there = at_here part.machine laws (wiring_of old) part.state part.now part.wakes old.inputs new.cycle new.parts last in
     record {
       from = went.leg.order;
       alive = alive;

@@ -2,6 +2,7 @@
 use Rattle.std.specs.Prelude.{[], ◌≡◌, ◌≢◌, ◌⊎◌, ℕ, ◌+◌, ◌-◌, ◌<◌, ◌≤◌, ◌||◌, ◌==◌, List, length, map, take, drop, Bool, true, false, if◌then◌else◌, Option, None, Some, slice_get, slice_set}
 use Rattle.std.specs.Option.{is_some}
 use Rattle.sim_base.specs.declared.signal.Level.{Level}
+use Rattle.sim_base.specs.declared.wiring.Wiring.{Wiring}
 use Rattle.sim_base.specs.declared.wiring.Input.{Input}
 use Rattle.sim_base.specs.Causes.{Rose}
 use Rattle.sim_base.specs.Rows.{Row, Handed, Appends, IsBehind}
@@ -18,13 +19,17 @@ use Rattle.board_laws.specs.Steady.{IsSteady}
 use Rattle.board_run.specs.Changes.{LastTells}
 use Rattle.board_run.specs.CutOff.{IsCutOff}
 use Rattle.board_run.specs.Upcoming.{AreBehind, IsInOrder}
-use Rattle.board_run.specs.ReadingView.{Suits, IsTold, IsRead, levels_on, retold, shown_at}
+use Rattle.board_run.specs.ReadingView.{Suits, IsTold, IsRead, levels_on, retold, reread, shown_at}
 use Rattle.board_run.specs.Parts.{has_part, AreNone}
 use Rattle.board_run.specs.Lagging.{glided, AreLate, MayTurnAt, to_wake, turned, OthersStay, Replaced, Shifted, TookTurn, AreDue, AllTurn, AreCounted}
 use Rattle.board_run.specs.Legs.{Kept, Lags, Leg, IsAlone}
 use Rattle.board_run.specs.declared.engine.Engine.{Engine}
 use Rattle.board_run.specs.declared.part_set.PartSet.{PartSet}
 use Rattle.board_run.specs.declared.turn.Woken.{Woken}
+
+-- what joins its parts
+abbrev pub wiring_of : {P : Type 0} → Engine P → Wiring
+wiring_of e = e.reading.nets.wiring
 
 -- what it keeps beside the parts
 abbrev pub kept_of : {P : Type 0} → Engine P → Kept
@@ -63,14 +68,14 @@ module _ {P : Type 0} (part : Ghosts P) where
 
   -- the rows and bytes of the cycles from there to u
   abbrev pub rows_to : Engine P → ℕ → List Row
-  rows_to e u = rows part.machine e.wiring e.inputs (shown_at e.cycle e.reading) (states_of e) e.cycle (u - e.cycle)
+  rows_to e u = rows part.machine (wiring_of e) e.inputs (shown_at e.cycle e.reading) (states_of e) e.cycle (u - e.cycle)
 
   abbrev pub bytes_to : Engine P → ℕ → List ℕ
-  bytes_to e u = bytes part.machine e.wiring e.inputs (states_of e) e.cycle (u - e.cycle)
+  bytes_to e u = bytes part.machine (wiring_of e) e.inputs (states_of e) e.cycle (u - e.cycle)
 
   -- The invariant of the engine.
   pub record MayRun (e : Engine P) : Type 0 where
-    pub lags : Lags part.machine e.wiring part.state part.now part.wakes e.cycle e.parts (kept_of e)
+    pub lags : Lags part.machine (wiring_of e) part.state part.now part.wakes e.cycle e.parts (kept_of e)
     pub behind : AreBehind e.inputs e.input e.cycle
     pub order : IsInOrder e.inputs
 
@@ -83,11 +88,11 @@ module _ {P : Type 0} (part : Ghosts P) where
     pub dues_long : length e.dues ≡ length e.parts
     pub answers_long : length e.answers ≡ length e.parts
     pub silent : AreNone e.answers
-    pub fits : Fits part.machine e.wiring (map part.state e.parts)
-    pub suits : Suits e.wiring e.reading
+    pub fits : Fits part.machine (wiring_of e) (map part.state e.parts)
+    pub suits : Suits (wiring_of e) e.reading
     pub told : IsTold part.machine (map part.state e.parts) e.reading.nets
     pub differs : (k : ℕ) (p : P) → slice_get e.parts k ≡ Some p → has_part differ k ≡ true → 0 < e.cycle
-        → part.machine.held (part.state p) ≢ levels_on part.machine e.wiring e.reading.nets.levels k (part.state p)
+        → part.machine.held (part.state p) ≢ levels_on part.machine (wiring_of e) e.reading.nets.levels k (part.state p)
 
   -- the levels of a part's pins, which are the first of these
   abbrev pub own_of : P → List Level → List Level
@@ -103,11 +108,11 @@ module _ {P : Type 0} (part : Ghosts P) where
     pub dues_long : length e.dues ≡ length e.parts
     pub answers_long : length e.answers ≡ length e.parts
     pub given_within : (e.input ≤ place) × (place ≤ length e.inputs)
-    pub fits : Fits part.machine e.wiring (map part.state e.parts)
-    pub suits : Suits e.wiring e.reading
+    pub fits : Fits part.machine (wiring_of e) (map part.state e.parts)
+    pub suits : Suits (wiring_of e) e.reading
     pub told : IsTold part.machine (map part.state e.parts) e.reading.nets
     pub differs : (p : P) → slice_get e.parts i ≡ Some p → has_part differ i ≡ true → 0 < e.cycle
-        → part.machine.held (part.state p) ≢ levels_on part.machine e.wiring e.reading.nets.levels i (part.state p)
+        → part.machine.held (part.state p) ≢ levels_on part.machine (wiring_of e) e.reading.nets.levels i (part.state p)
     pub hears : may_hear ≡ true → (has_part differ i ≡ true) × (input_at (given e place) e.cycle i ≡ None) × (slice_get e.answers i ≡ Some None)
 
   -- A part that was p and due at d had its turn in cycle t, on these levels of its pins; it is q and due at e.
@@ -129,25 +134,24 @@ module _ {P : Type 0} (part : Ghosts P) where
     pub due_was : slice_get old.dues i ≡ Some d
     pub same : new ≡ record old { parts = slice_set old.parts i q; dues = slice_set old.dues i e; answers = slice_set old.answers i byte }
     pub sent_is : woken.sent ≡ is_some byte
-    pub turn : TurnedTo old.cycle (levels_on part.machine old.wiring old.reading.nets.levels i (part.state p)) (input_at (given old place) old.cycle i) (has_part differ i) p q d e byte woken.changed steps more
+    pub turn : TurnedTo old.cycle (levels_on part.machine (wiring_of old) old.reading.nets.levels i (part.state p)) (input_at (given old place) old.cycle i) (has_part differ i) p q d e byte woken.changed steps more
 
   -- A part of an engine is to be told to its nets: they were told what the parts before it show, and where it did not move it shows the same.
   pub record MayTell (e : Engine P) (i : ℕ) (touched : Bool) : Type 0 where
     pub before : List P
     pub p : P
     pub q : P
-    pub replaced : Replaced part.machine e.wiring part.state i before e.parts e.reading.nets p q
-    pub suits : Suits e.wiring e.reading
+    pub replaced : Replaced part.machine (wiring_of e) part.state i before e.parts e.reading.nets p q
+    pub suits : Suits (wiring_of e) e.reading
     pub still : touched ≡ false → (part.machine.drives (part.state q) ≡ part.machine.drives (part.state p)) × (part.machine.contacts (part.state q) ≡ part.machine.contacts (part.state p))
     pub others : touched ≡ true → (j : ℕ) → part.moves q j ≡ false → slice_get (part.machine.drives (part.state q)) j ≡ slice_get (part.machine.drives (part.state p)) j
 
   -- The nets were told of it.
   pub record ToldOf (old new : Engine P) (i : ℕ) (changed : Bool) : Type 0 where
-    pub same : new ≡ record old { reading = new.reading }
-    pub rest : new.reading ≡ retold old.reading new.reading.nets.drives new.reading.nets.closed
-    pub fits : Fits part.machine old.wiring (map part.state old.parts)
+    pub same : new ≡ record old { reading = retold old.reading new.reading.nets.drives new.reading.nets.closed }
+    pub fits : Fits part.machine (wiring_of old) (map part.state old.parts)
     pub told : IsTold part.machine (map part.state old.parts) new.reading.nets
-    pub shifted : (before : List P) (p q : P) → Replaced part.machine old.wiring part.state i before old.parts old.reading.nets p q → Shifted part.machine part.state p q changed
+    pub shifted : (before : List P) (p q : P) → Replaced part.machine (wiring_of old) part.state i before old.parts old.reading.nets p q → Shifted part.machine part.state p q changed
 
   -- Part i had its turn, and the nets were told of it.
   pub record TurnedPart (old new : Engine P) (i : ℕ) (differ : PartSet) (place : ℕ) (woken : Woken) (steps more : ℕ) : Type 0 where
@@ -158,41 +162,39 @@ module _ {P : Type 0} (part : Ghosts P) where
     pub byte : Option ℕ
     pub was : slice_get old.parts i ≡ Some p
     pub due_was : slice_get old.dues i ≡ Some d
-    pub same : new ≡ record old { parts = slice_set old.parts i q; dues = slice_set old.dues i e; answers = slice_set old.answers i byte; reading = new.reading }
+    pub same : new ≡ record old { parts = slice_set old.parts i q; dues = slice_set old.dues i e; answers = slice_set old.answers i byte; reading = retold old.reading new.reading.nets.drives new.reading.nets.closed }
     pub sent_is : woken.sent ≡ is_some byte
-    pub rest : new.reading ≡ retold old.reading new.reading.nets.drives new.reading.nets.closed
-    pub fits : Fits part.machine old.wiring (map part.state (slice_set old.parts i q))
+    pub fits : Fits part.machine (wiring_of old) (map part.state (slice_set old.parts i q))
     pub told : IsTold part.machine (map part.state (slice_set old.parts i q)) new.reading.nets
-    pub took : TookTurn part.machine old.wiring part.state part.now part.wakes old.reading.nets.levels old.cycle i (input_at (given old place) old.cycle i) (has_part differ i) d p q byte woken.changed
+    pub took : TookTurn part.machine (wiring_of old) part.state part.now part.wakes old.reading.nets.levels old.cycle i (input_at (given old place) old.cycle i) (has_part differ i) d p q byte woken.changed
     pub first : IsFirstDue part.machine (part.state q) (part.now q) e
     pub later : (u : ℕ) → e ≡ Some u → old.cycle < u
     pub steps_are : more ≡ steps + (if to_wake d old.cycle (input_at (given old place) old.cycle i) (has_part differ i) then 1 else 0)
 
   -- The parts had their turn in the cycle; the script's values before a place were of it.
   pub record TurnedOn (old new : Engine P) (differ : PartSet) (place : ℕ) (woken : Woken) (steps more : ℕ) : Type 0 where
-    pub same : new ≡ record old { parts = new.parts; dues = new.dues; answers = new.answers; reading = new.reading }
-    pub rest : new.reading ≡ retold old.reading new.reading.nets.drives new.reading.nets.closed
+    pub same : new ≡ record old { parts = new.parts; dues = new.dues; answers = new.answers; reading = retold old.reading new.reading.nets.drives new.reading.nets.closed }
     pub long : length new.parts ≡ length old.parts
     pub dues_long : length new.dues ≡ length old.dues
     pub answers_long : length new.answers ≡ length old.answers
-    pub turns : AllTurn part.machine old.wiring part.state part.now part.wakes (given old place) old.reading.nets.levels differ old.cycle old.parts new.parts new.answers woken.changed
+    pub turns : AllTurn part.machine (wiring_of old) part.state part.now part.wakes (given old place) old.reading.nets.levels differ old.cycle old.parts new.parts new.answers woken.changed
     pub told : IsTold part.machine (map part.state new.parts) new.reading.nets
     pub due : AreDue part.machine part.state part.now part.wakes new.parts new.dues
     pub silent : woken.sent ≡ false → AreNone new.answers
-    pub counted : AreCounted part.machine old.wiring part.state part.now part.wakes (given old place) old.reading.nets.levels differ old.cycle old.parts steps more
+    pub counted : AreCounted part.machine (wiring_of old) part.state part.now part.wakes (given old place) old.reading.nets.levels differ old.cycle old.parts steps more
 
   -- It went on as the board does.
   pub record WentOn (old new : Engine P) (steps more : ℕ) : Type 0 where
     pub may : MayRun new
-    pub same_wiring : new.wiring ≡ old.wiring
+    pub same_wiring : wiring_of new ≡ wiring_of old
     pub same_inputs : new.inputs ≡ old.inputs
-    pub leg : Leg part.machine old.wiring part.state part.now part.wakes old.inputs old.cycle new.cycle old.parts new.parts old.reading new.reading steps more
-    pub tells : old.cycle < new.cycle → LastTells part.machine old.wiring old.inputs new.changed (states_of old) old.cycle (new.cycle - old.cycle)
+    pub leg : Leg part.machine (wiring_of old) part.state part.now part.wakes old.inputs old.cycle new.cycle old.parts new.parts old.reading new.reading steps more
+    pub tells : old.cycle < new.cycle → LastTells part.machine (wiring_of old) old.inputs new.changed (states_of old) old.cycle (new.cycle - old.cycle)
 
   -- and nothing new was shown
   pub record Rests (old new : Engine P) (steps more : ℕ) : Type 0 where
     pub on : WentOn old new steps more
-    pub steady : old.cycle < new.cycle → IsSteady part.machine old.wiring old.inputs (states_of old) old.cycle (new.cycle - old.cycle)
+    pub steady : old.cycle < new.cycle → IsSteady part.machine (wiring_of old) old.inputs (states_of old) old.cycle (new.cycle - old.cycle)
     pub stays : new.cycle ≡ old.cycle → new.changed ≡ old.changed
 
   -- its parts were brought to its cycle
@@ -208,7 +210,7 @@ module _ {P : Type 0} (part : Ghosts P) where
 pub record FailedIn {P W : Type 0} (part : Ghosts P) (watcher : Watching W) (old : Engine P) (u : ℕ) (out after : W) : Type 0 where
   pub v : ℕ
   pub follows : u ≡ v + 1
-  pub cut_off : IsCutOff part.machine old.wiring old.inputs (shown_at old.cycle old.reading) (states_of part old) old.cycle v watcher.whole watcher.faults watcher.stands watcher.stopped out after
+  pub cut_off : IsCutOff part.machine (wiring_of old) old.inputs (shown_at old.cycle old.reading) (states_of part old) old.cycle v watcher.whole watcher.faults watcher.stands watcher.stopped out after
 
 -- It went on, and what the board shows meanwhile was handed out; or it ended with the cycle in which a write failed.
 pub record Showed {P W : Type 0} (part : Ghosts P) (watcher : Watching W) (end : WriteEnd) (old new : Engine P) (steps more : ℕ) (out after : W) : Type 0 where
@@ -221,10 +223,10 @@ pub record Showed {P W : Type 0} (part : Ghosts P) (watcher : Watching W) (end :
 -- The row of its cycle was handed out, if it has one, or writing failed within it; some parts have a pin whose level is another one than before.
 pub record ShowedCycle {P W : Type 0} (part : Ghosts P) (watcher : Watching W) (end : WriteEnd) (old new : Engine P) (differ : PartSet) (out after : W) : Type 0 where
   pub same : Bool
-  pub rest : new ≡ record old { reading = new.reading }
-  pub read : IsRead part.machine old.wiring (map part.state old.parts) old.reading new.reading same differ
-  pub ok : end ≡ writes.Ok → Handed watcher.whole watcher.faults watcher.stands out after (row_if part.machine old.wiring (shown_at old.cycle old.reading) (map part.state old.parts) old.cycle) []
+  pub rest : new ≡ record old { reading = reread old.reading new.reading }
+  pub read : IsRead part.machine (wiring_of old) (map part.state old.parts) old.reading (reread old.reading new.reading) same differ
+  pub ok : end ≡ writes.Ok → Handed watcher.whole watcher.faults watcher.stands out after (row_if part.machine (wiring_of old) (shown_at old.cycle old.reading) (map part.state old.parts) old.cycle) []
   pub later : end ≡ writes.Ok → IsBehind watcher.last watcher.seen after (old.cycle + 1) new.reading.nets.levels
   pub failed : end ≡ writes.Failed → Rose (watcher.faults out) (watcher.faults after)
-      × Appends (watcher.stands out) (watcher.stopped after) (row_if part.machine old.wiring (shown_at old.cycle old.reading) (map part.state old.parts) old.cycle) []
+      × Appends (watcher.stands out) (watcher.stopped after) (row_if part.machine (wiring_of old) (shown_at old.cycle old.reading) (map part.state old.parts) old.cycle) []
   pub place : watcher.place after ≡ watcher.place out

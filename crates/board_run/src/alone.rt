@@ -3,7 +3,7 @@ ghost use Rattle.std.specs.Prelude.{◌≡◌, ◌-◌, ◌<◌, ◌≤◌, true
 ghost use Rattle.board_laws.specs.Steady.{IsSteady};
 ghost use Rattle.board_run.specs.Lagging.{MayTurn};
 ghost use Rattle.board_run.specs.Legs.{WentBy};
-ghost use Rattle.board_run.specs.Engine.{MayRun, MayStretch, Watches, Showed, states_of};
+ghost use Rattle.board_run.specs.Engine.{wiring_of, MayRun, MayStretch, Watches, Showed, states_of};
 
 use crate::engine::Engine;
 use crate::hand::hand_byte;
@@ -47,14 +47,14 @@ impl<P: Part> Engine<P> {
         requires watches { Watches W.Watcher self.old out.old }
         ensures further { self.old.cycle < self.new.cycle }
         ensures within { self.new.cycle ≤ limit }
-        ensures steady { IsSteady P.machine self.old.wiring self.old.inputs (states_of P.Part self.old) self.old.cycle (self.new.cycle - self.old.cycle) }
+        ensures steady { IsSteady P.machine (wiring_of self.old) self.old.inputs (states_of P.Part self.old) self.old.cycle (self.new.cycle - self.old.cycle) }
         ensures showed { Showed P.Part W.Watcher result self.old self.new steps.old steps.new out.old out.new }
     {
         let i = who as usize;
         let mut due = self.dues.due(who);
         let went = go_alone(self.parts.item_mut(i), &mut due, self.cycle, limit, steps);
         self.dues.set(who, due);
-        let first = self.wiring.first_pin.as_slice()[i] as usize;
+        let first = self.reading.wiring().first_pin.as_slice()[i] as usize;
         self.changed = self.tell(went.changed, i, first);
         self.cycle = went.to;
         hand_byte(went.byte, out)

@@ -7,14 +7,13 @@ use crate::reading::Reading;
 use crate::script::end_of_cycle;
 use event_queue::DueTree;
 use part_law::Part;
-use sim_base::{Input, List, MOST_CYCLES, Steps, Watcher, Wiring, WriteEnd};
+use sim_base::{Input, List, MOST_CYCLES, Steps, Watcher, WriteEnd};
 use std::sync::ledger::Ledger;
 
 /// The parts of a board, each of which stands where it was woken last, and what moves them.
 #[derive(Drop)]
 pub(crate) struct Engine<P> {
     pub(crate) parts: List<P>,
-    pub(crate) wiring: Wiring,
     pub(crate) inputs: List<Input>,
     /// The cycle whose step comes next.
     pub(crate) cycle: u32,

@@ -1,7 +1,7 @@
 //! What a board shows in a cycle.
 ghost use Rattle.std.specs.Prelude.{◌≡◌, map};
-ghost use Rattle.board_run.specs.ReadingView.{IsRead};
-ghost use Rattle.board_run.specs.Engine.{MayRun, Watches, ShowedCycle};
+ghost use Rattle.board_run.specs.ReadingView.{IsRead, reread};
+ghost use Rattle.board_run.specs.Engine.{wiring_of, MayRun, Watches, ShowedCycle};
 
 use crate::engine::Engine;
 use crate::hand::hand_row;
@@ -15,8 +15,8 @@ impl<P: Part> Engine<P> {
     #[inline(always)]
     fn refresh(&mut self) -> (bool, PartSet)
         requires { MayRun P.Part self.old }
-        ensures rest { self.new ≡ record self.old { reading = self.new.reading } }
-        ensures read { IsRead P.machine self.old.wiring (map P.state self.old.parts) self.old.reading self.new.reading result.0 result.1 }
+        ensures rest { self.new ≡ record self.old { reading = reread self.old.reading self.new.reading } }
+        ensures read { IsRead P.machine (wiring_of self.old) (map P.state self.old.parts) self.old.reading (reread self.old.reading self.new.reading) result.0 result.1 }
     {
         if self.changed {
             self.reading.read()

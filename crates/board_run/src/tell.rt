@@ -3,7 +3,7 @@ ghost use Rattle.std.specs.Prelude.{◌≡◌, ◌≢◌, ℕ, ◌+◌, ◌^◌,
 ghost use Rattle.part_law.specs.Spans.{IsIn};
 ghost use Rattle.board_model.specs.Board.{drives_of, contacts_of};
 ghost use Rattle.board_run.specs.ReadingView.{HasAt, Put};
-ghost use Rattle.board_run.specs.Engine.{MayTell, ToldOf};
+ghost use Rattle.board_run.specs.Engine.{wiring_of, MayTell, ToldOf};
 
 use crate::engine::Engine;
 use crate::gather::is_same_drive;
@@ -14,7 +14,7 @@ use sim_base::Drive;
 /// Whether a pin drives something else than the nets were told.
 #[inline]
 fn drives_other(nets: &Nets, pin: usize, drive: Drive) -> bool
-    requires within { pin < length nets.now.net_of }
+    requires within { pin < length nets.now.wiring.net_of }
     ensures same { result ≡ false → slice_get nets.now.drives pin ≡ Some drive }
     ensures other { result ≡ true → slice_get nets.now.drives pin ≢ Some drive }
 {
@@ -24,7 +24,7 @@ fn drives_other(nets: &Nets, pin: usize, drive: Drive) -> bool
 /// Whether a contact is closed where the nets were told that it is open, or the other way.
 #[inline]
 fn joins_other(nets: &Nets, contact: usize, closed: bool) -> bool
-    requires within { contact < length nets.now.contacts }
+    requires within { contact < length nets.now.wiring.contacts }
     ensures same { result ≡ false → slice_get nets.now.closed contact ≡ Some closed }
     ensures other { result ≡ true → slice_get nets.now.closed contact ≢ Some closed }
 {
@@ -34,9 +34,9 @@ fn joins_other(nets: &Nets, contact: usize, closed: bool) -> bool
 /// Sets what the pins of a span drive, and tells whether one drives something else; the part's pins begin at a place.
 #[inline(always)]
 fn set_pins<P: Part>(part: &P, span: Span, at: usize, nets: &mut Nets) -> bool
-    requires room { at + length (P.machine.drives (P.state part.now)) ≤ length nets.old.net_of }
-    requires few { length nets.old.net_of < 2 ^ 63 }
-    requires long { length nets.old.drives ≡ length nets.old.net_of }
+    requires room { at + length (P.machine.drives (P.state part.now)) ≤ length nets.old.wiring.net_of }
+    requires few { length nets.old.wiring.net_of < 2 ^ 63 }
+    requires long { length nets.old.drives ≡ length nets.old.wiring.net_of }
     requires others { (j : ℕ) → j < length (P.machine.drives (P.state part.now)) → j < 255 → ¬ IsIn span j
         → slice_get nets.old.drives (at + j) ≡ slice_get (P.machine.drives (P.state part.now)) j }
     ensures put { Put at (length (P.machine.drives (P.state part.now))) (P.machine.drives (P.state part.now)) nets.old.drives nets.new.drives }
@@ -59,9 +59,9 @@ fn set_pins<P: Part>(part: &P, span: Span, at: usize, nets: &mut Nets) -> bool
 
 /// Sets which of a part's contacts are closed, from a place on, and tells whether one changed.
 fn set_ports<P: Part>(part: &P, at: usize, nets: &mut Nets) -> bool
-    requires room { at + length (P.machine.contacts (P.state part.now)) ≤ length nets.old.contacts }
-    requires few { length nets.old.contacts < 2 ^ 63 }
-    requires long { length nets.old.closed ≡ length nets.old.contacts }
+    requires room { at + length (P.machine.contacts (P.state part.now)) ≤ length nets.old.wiring.contacts }
+    requires few { length nets.old.wiring.contacts < 2 ^ 63 }
+    requires long { length nets.old.closed ≡ length nets.old.wiring.contacts }
     ensures put { Put at (length (P.machine.contacts (P.state part.now))) (P.machine.contacts (P.state part.now)) nets.old.closed nets.new.closed }
     ensures same { result ≡ false → HasAt at (P.machine.contacts (P.state part.now)) nets.old.closed }
     ensures other { result ≡ true → HasAt at (P.machine.contacts (P.state part.now)) nets.old.closed → ⊥ }
@@ -80,11 +80,11 @@ fn set_ports<P: Part>(part: &P, at: usize, nets: &mut Nets) -> bool
 /// Sets all that a part drives and connects.
 #[inline]
 fn tell_part<P: Part>(part: &P, pin: usize, contact: usize, nets: &mut Nets)
-    requires pins { pin + length (P.machine.drives (P.state part.now)) ≤ length nets.old.net_of }
-    requires contacts { contact + length (P.machine.contacts (P.state part.now)) ≤ length nets.old.contacts }
-    requires few { (length nets.old.net_of < 2 ^ 63) × (length nets.old.contacts < 2 ^ 63) }
-    requires drives_long { length nets.old.drives ≡ length nets.old.net_of }
-    requires closed_long { length nets.old.closed ≡ length nets.old.contacts }
+    requires pins { pin + length (P.machine.drives (P.state part.now)) ≤ length nets.old.wiring.net_of }
+    requires contacts { contact + length (P.machine.contacts (P.state part.now)) ≤ length nets.old.wiring.contacts }
+    requires few { (length nets.old.wiring.net_of < 2 ^ 63) × (length nets.old.wiring.contacts < 2 ^ 63) }
+    requires drives_long { length nets.old.drives ≡ length nets.old.wiring.net_of }
+    requires closed_long { length nets.old.closed ≡ length nets.old.wiring.contacts }
     ensures drives { Put pin (length (P.machine.drives (P.state part.now))) (P.machine.drives (P.state part.now)) nets.old.drives nets.new.drives }
     ensures closed { Put contact (length (P.machine.contacts (P.state part.now))) (P.machine.contacts (P.state part.now)) nets.old.closed nets.new.closed }
     ensures rest { nets.new ≡ record nets.old { drives = nets.new.drives; closed = nets.new.closed } }
@@ -95,11 +95,11 @@ fn tell_part<P: Part>(part: &P, pin: usize, contact: usize, nets: &mut Nets)
 
 /// Tells what all parts drive and connect.
 pub(crate) fn tell_all<P: Part>(parts: &[P], nets: &mut Nets)
-    requires pins { length nets.old.net_of ≡ length (drives_of P.machine (map P.state parts.now)) }
-    requires contacts { length nets.old.contacts ≡ length (contacts_of P.machine (map P.state parts.now)) }
-    requires few { (length nets.old.net_of < 2 ^ 63) × (length nets.old.contacts < 2 ^ 63) }
-    requires drives_long { length nets.old.drives ≡ length nets.old.net_of }
-    requires closed_long { length nets.old.closed ≡ length nets.old.contacts }
+    requires pins { length nets.old.wiring.net_of ≡ length (drives_of P.machine (map P.state parts.now)) }
+    requires contacts { length nets.old.wiring.contacts ≡ length (contacts_of P.machine (map P.state parts.now)) }
+    requires few { (length nets.old.wiring.net_of < 2 ^ 63) × (length nets.old.wiring.contacts < 2 ^ 63) }
+    requires drives_long { length nets.old.drives ≡ length nets.old.wiring.net_of }
+    requires closed_long { length nets.old.closed ≡ length nets.old.wiring.contacts }
     ensures drives { nets.new.drives ≡ drives_of P.machine (map P.state parts.now) }
     ensures closed { nets.new.closed ≡ contacts_of P.machine (map P.state parts.now) }
     ensures rest { nets.new ≡ record nets.old { drives = nets.new.drives; closed = nets.new.closed } }
@@ -132,9 +132,9 @@ fn first_contact<P: Part>(parts: &[P], i: usize) -> usize
 #[inline]
 fn tell_contacts<P: Part>(parts: &[P], i: usize, nets: &mut Nets) -> bool
     requires within { i < length parts.now }
-    requires contacts { length nets.old.contacts ≡ length (contacts_of P.machine (map P.state parts.now)) }
-    requires few { length nets.old.contacts < 2 ^ 63 }
-    requires long { length nets.old.closed ≡ length nets.old.contacts }
+    requires contacts { length nets.old.wiring.contacts ≡ length (contacts_of P.machine (map P.state parts.now)) }
+    requires few { length nets.old.wiring.contacts < 2 ^ 63 }
+    requires long { length nets.old.closed ≡ length nets.old.wiring.contacts }
     ensures put { (p : _) → slice_get parts.now i ≡ Some p → Put (length (contacts_of P.machine (take i (map P.state parts.now))))
         (length (P.machine.contacts (P.state p))) (P.machine.contacts (P.state p)) nets.old.closed nets.new.closed }
     ensures same { (p : _) → slice_get parts.now i ≡ Some p → result ≡ false
@@ -157,13 +157,13 @@ impl<P: Part> Engine<P> {
     #[inline(always)]
     pub(crate) fn tell(&mut self, touched: bool, i: usize, first: usize) -> bool
         requires within { i < length self.old.parts }
-        requires first { first ≡ slice_index self.old.wiring.first_pin i }
+        requires first { first ≡ slice_index (wiring_of self.old).first_pin i }
         requires may { MayTell P.Part self.old i touched }
         ensures { ToldOf P.Part self.old self.new i result }
     {
         if touched {
-            let _net_of = self.wiring.net_of.as_slice(); // lists that are lent have lengths that numbers hold
-            let _contacts = self.wiring.contacts.as_slice();
+            let _net_of = self.reading.wiring().net_of.as_slice(); // lists that are lent have lengths that numbers hold
+            let _contacts = self.reading.wiring().contacts.as_slice();
             let parts = self.parts.as_slice();
             let reading = &mut self.reading;
             let span = parts[i].moved();

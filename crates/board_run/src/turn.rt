@@ -5,7 +5,7 @@ ghost use Rattle.part_law.specs.Machine.{IsFirstDue, MayWake};
 ghost use Rattle.board_model.specs.Board.{level_at, input_at};
 ghost use Rattle.board_run.specs.Lagging.{is_at, to_wake, glided, AreLate, MayTurn, Wakes, turned, OthersStay};
 ghost use Rattle.board_run.specs.Parts.{has_part};
-ghost use Rattle.board_run.specs.Engine.{own_of, MayTurnOn, TurnedOn, MayTurnPart, TurnedTo, TurnedAt, TurnedPart};
+ghost use Rattle.board_run.specs.Engine.{wiring_of, own_of, MayTurnOn, TurnedOn, MayTurnPart, TurnedTo, TurnedAt, TurnedPart};
 
 use crate::engine::Engine;
 use crate::gather::find_input;
@@ -217,7 +217,7 @@ impl<P: Part> Engine<P> {
         requires { MayTurnPart P.Part self.old i may_hear differ end }
         ensures { TurnedPart P.Part self.old self.new i differ end result steps.old steps.new }
     {
-        let first = self.wiring.first_pin.as_slice()[i];
+        let first = self.reading.wiring().first_pin.as_slice()[i];
         let woken = self.wake_at(i, first, may_hear, differ, end, steps);
         let changed = self.tell(woken.changed, i, first as usize);
         Woken {
@@ -239,7 +239,7 @@ impl<P: Part> Engine<P> {
         steps: &mut Steps<L>,
     ) -> Woken
         requires may { MayTurnPart P.Part self.old i may_hear differ end }
-        requires first { first ≡ slice_index self.old.wiring.first_pin i }
+        requires first { first ≡ slice_index (wiring_of self.old).first_pin i }
         ensures { TurnedAt P.Part self.old self.new i differ end result steps.old steps.new }
     {
         let reading = &self.reading;

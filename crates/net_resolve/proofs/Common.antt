@@ -35,7 +35,7 @@ pub use Rattle.net_resolve.specs.WholeView.{WholeView, whole_with, levels_of}
 pub use Rattle.net_resolve.specs.Subcircuits.{SubcircuitView, IsCut, IsSubcircuit, AreSubcircuits, AreOwn, own_pair, picked, labels_of, AreRight, whole_of}
 pub use Rattle.net_resolve.specs.Subcircuits.{Lacks, AreOnce, HasAllPins, FitsIn, AreApart, own_whole, level_now, AreNumbers}
 pub use Rattle.net_resolve.specs.Sorted.{ArePicked}
-pub use Rattle.net_resolve.specs.NetsView.{NetsView, AreChanged}
+pub use Rattle.net_resolve.specs.NetsView.{NetsView, AreChanged, levels_by}
 pub use Rattle.net_resolve.specs.Marked.{has, MarksView, with_mark, Taken}
 pub use Rattle.net_resolve.specs.Shown.{AreShown, Moves}
 pub use Rattle.net_resolve.specs.Watched.{IsWatch, flagged, differing, unlike}

@@ -2,16 +2,13 @@
 use Rattle.std.specs.Prelude.{◌≡◌, ◌≢◌, ℕ, List, Bool, true, false, slice_get}
 use Rattle.sim_base.specs.declared.signal.Drive.{Drive}
 use Rattle.sim_base.specs.declared.signal.Level.{Level}
+use Rattle.sim_base.specs.declared.wiring.Wiring.{Wiring}
+use Rattle.board_model.specs.Resolve.{resolve}
 use Rattle.net_resolve.specs.Marked.{has}
 
 pub record NetsView : Type 0 where
-  -- how many nets there are
-  pub nets : ℕ
-  -- the net of each pin
-  pub net_of : List ℕ
-  -- the nets that each contact and each resistor joins
-  pub contacts : List (ℕ × ℕ)
-  pub resistors : List (ℕ × ℕ)
+  -- what joins them
+  pub wiring : Wiring
   -- what each pin drives, and which contacts are closed
   pub drives : List Drive
   pub closed : List Bool
@@ -22,6 +19,10 @@ pub record NetsView : Type 0 where
   -- which pins are watched, and what these drove when that was kept last
   pub watched : List Bool
   pub kept : List Drive
+
+-- the levels of a wiring's nets by these contacts and drives
+abbrev pub levels_by : Wiring → List Bool → List Drive → List Level
+levels_by w closed drives = resolve w.nets w.net_of w.contacts w.resistors closed drives
 
 -- The nets of a list are those whose levels differ.
 pub record AreChanged (old new : List Level) (changed : List ℕ) : Type 0 where

@@ -4,9 +4,8 @@ ghost use Rattle.std.specs.Prelude.{slice_get, slice_set};
 ghost use Rattle.std.specs.List.{IsDistinct};
 ghost use Rattle.board_model.specs.Fits.{IsWiring};
 ghost use Rattle.board_model.specs.Board.{level_at};
-ghost use Rattle.board_model.specs.Resolve.{resolve};
 ghost use Rattle.board_model.specs.Rows.{same_list, same_drive};
-ghost use Rattle.net_resolve.specs.NetsView.{NetsView, AreChanged};
+ghost use Rattle.net_resolve.specs.NetsView.{NetsView, AreChanged, levels_by};
 ghost use Rattle.net_resolve.specs.Marked.{has};
 ghost use Rattle.net_resolve.specs.Subcircuits.{IsCut, AreSubcircuits, whole_of};
 ghost use Rattle.net_resolve.specs.Watched.{flagged};
@@ -27,9 +26,7 @@ use std::marker::Model;
 /// pin or a contact changed.
 #[derive(Drop)]
 pub struct Nets {
-    net_of: Vec<u16>,
-    contacts: Vec<(u16, u16)>,
-    resistors: Vec<(u16, u16)>,
+    wiring: Wiring,
     /// The number of each net's subcircuit.
     labels: Vec<u16>,
     subcircuits: Vec<Subcircuit>,
@@ -46,18 +43,14 @@ pub struct Nets {
 impl Model for Nets {
     ghost use Rattle.std.specs.Prelude.{◌≡◌, length, vec_len};
     ghost use Rattle.net_resolve.specs.NetsView.{NetsView};
-    ghost use Rattle.net_resolve.specs.WholeView.{whole_with};
-    ghost use Rattle.net_resolve.specs.Subcircuits.{IsCut, AreSubcircuits, AreRight};
+    ghost use Rattle.net_resolve.specs.Subcircuits.{IsCut, AreSubcircuits, AreRight, whole_of};
     ghost use Rattle.net_resolve.specs.Shown.{AreShown};
     ghost use Rattle.net_resolve.specs.Watched.{IsWatch, flagged};
 
     ghost Value = { NetsView };
 
     ghost view = { λ a. record {
-      nets = vec_len a.shown.levels;
-      net_of = a.net_of.items;
-      contacts = a.contacts.items;
-      resistors = a.resistors.items;
+      wiring = a.wiring;
       drives = a.drives.items;
       closed = a.closed.items;
       levels = a.shown.levels.items;
@@ -67,15 +60,15 @@ impl Model for Nets {
     } };
 
     ghost invariant = { λ a. record {
-      cut : IsCut (whole_with (vec_len a.shown.levels) a.net_of.items a.contacts.items a.resistors.items) a.labels.items;
-      subcircuits : AreSubcircuits (whole_with (vec_len a.shown.levels) a.net_of.items a.contacts.items a.resistors.items) a.labels.items a.subcircuits.items;
-      right : AreRight (whole_with (vec_len a.shown.levels) a.net_of.items a.contacts.items a.resistors.items)
-          a.labels.items a.marks.marked a.closed.items a.drives.items a.shown.levels.items;
-      subcircuits_long : length a.subcircuits.items ≡ vec_len a.shown.levels;
-      marks_room : a.marks.room ≡ vec_len a.shown.levels;
-      drives_long : vec_len a.drives ≡ vec_len a.net_of;
-      closed_long : vec_len a.closed ≡ vec_len a.contacts;
-      shown : AreShown a.net_of.items a.shown;
+      cut : IsCut (whole_of a.wiring) a.labels.items;
+      subcircuits : AreSubcircuits (whole_of a.wiring) a.labels.items a.subcircuits.items;
+      right : AreRight (whole_of a.wiring) a.labels.items a.marks.marked a.closed.items a.drives.items a.shown.levels.items;
+      subcircuits_long : length a.subcircuits.items ≡ a.wiring.nets;
+      marks_room : a.marks.room ≡ a.wiring.nets;
+      levels_long : vec_len a.shown.levels ≡ a.wiring.nets;
+      drives_long : vec_len a.drives ≡ length a.wiring.net_of;
+      closed_long : vec_len a.closed ≡ length a.wiring.contacts;
+      shown : AreShown a.wiring.net_of a.shown;
       watch : IsWatch a.drives.items a.watch;
     } };
 }
@@ -96,27 +89,21 @@ fn cut_wiring(alloc: Global, wiring: &Wiring) -> Result<(Vec<u16>, Vec<Subcircui
 impl Nets {
     /// The nets of a wiring, with every drive and every level Z and all contacts open. All are to be
     /// resolved, and no pin is watched.
-    pub fn new(alloc: Global, wiring: &Wiring) -> Result<Nets, OutOfMemory>
-        requires { IsWiring wiring.now }
+    pub fn new(alloc: Global, wiring: Wiring) -> Result<Nets, OutOfMemory>
+        requires { IsWiring wiring }
         ensures { IfOk result (λ n. n ≡ record {
-          nets = wiring.now.nets;
-          net_of = wiring.now.net_of;
-          contacts = wiring.now.contacts;
-          resistors = wiring.now.resistors;
-          drives = replicate (length wiring.now.net_of) Drive.Z;
-          closed = replicate (length wiring.now.contacts) false;
-          levels = replicate wiring.now.nets Level.Z;
+          wiring = wiring;
+          drives = replicate (length wiring.net_of) Drive.Z;
+          closed = replicate (length wiring.contacts) false;
+          levels = replicate wiring.nets Level.Z;
           changed = [];
-          watched = replicate (length wiring.now.net_of) false;
+          watched = replicate (length wiring.net_of) false;
           kept = [];
         }) }
     {
         let marks = Marks::all(alloc, wiring.nets)?;
         let changed = Numbers::new(alloc, wiring.nets)?;
-        let (labels, subcircuits) = cut_wiring(alloc, wiring)?;
-        let net_of = Vec::from_slice(alloc, wiring.net_of.as_slice())?;
-        let contacts = Vec::from_slice(alloc, wiring.contacts.as_slice())?;
-        let resistors = Vec::from_slice(alloc, wiring.resistors.as_slice())?;
+        let (labels, subcircuits) = cut_wiring(alloc, &wiring)?;
         let drives = no_drives(alloc, wiring.net_of.len())?;
         let closed = no_flags(alloc, wiring.contacts.len())?;
         let levels = all_z(alloc, wiring.nets as usize)?;
@@ -124,9 +111,7 @@ impl Nets {
         let watched = no_flags(alloc, wiring.net_of.len())?;
         let kept = no_drives(alloc, wiring.net_of.len())?;
         Ok(Nets {
-            net_of,
-            contacts,
-            resistors,
+            wiring,
             labels,
             subcircuits,
             drives,
@@ -147,7 +132,7 @@ impl Nets {
 
     /// From now on the pins with these flags are watched, and no others; what they drive is kept.
     pub fn watch(&mut self, pins: Vec<bool>)
-        requires { length pins.items ≡ length self.old.net_of }
+        requires { length pins.items ≡ length self.old.wiring.net_of }
         ensures { self.new ≡ record self.old { watched = pins.items; kept = flagged pins.items self.old.drives } }
     {
         self.watch.watched = pins;
@@ -157,25 +142,26 @@ impl Nets {
     /// Sets what a pin drives. If it drove something else, marks its subcircuit. Levels follow with
     /// `resolve_marked`.
     pub fn set_drive(&mut self, pin: usize, drive: Drive)
-        requires { pin < length self.old.net_of }
+        requires { pin < length self.old.wiring.net_of }
         ensures { self.new ≡ record self.old { drives = slice_set self.old.drives pin drive } }
     {
         if !is_same_drive(self.drives[pin], drive) {
             self.watch.note(pin, drive, &self.drives);
             self.drives[pin] = drive;
-            self.marks.mark(self.labels[self.net_of[pin] as usize]);
+            self.marks
+                .mark(self.labels[self.wiring.net_of.as_slice()[pin] as usize]);
         }
     }
 
     /// Sets whether a contact is closed, and marks its subcircuit if that changed. Levels follow with
     /// `resolve_marked`.
     pub fn set_contact(&mut self, contact: usize, closed: bool)
-        requires { contact < length self.old.contacts }
+        requires { contact < length self.old.wiring.contacts }
         ensures { self.new ≡ record self.old { closed = slice_set self.old.closed contact closed } }
     {
         if !is_same_flag(self.closed[contact], closed) {
             self.closed[contact] = closed;
-            let (first, _) = self.contacts[contact];
+            let (first, _) = self.wiring.contacts.as_slice()[contact];
             self.marks.mark(self.labels[first as usize]);
         }
     }
@@ -185,7 +171,7 @@ impl Nets {
     #[inline(always)]
     pub fn resolve_marked(&mut self)
         ensures levels { self.new ≡ record self.old {
-          levels = resolve self.old.nets self.old.net_of self.old.contacts self.old.resistors self.old.closed self.old.drives;
+          levels = levels_by self.old.wiring self.old.closed self.old.drives;
           changed = self.new.changed;
         } }
         ensures changed { AreChanged self.old.levels self.new.levels self.new.changed }
@@ -195,7 +181,7 @@ impl Nets {
             self.subcircuits[q as usize].resolve(
                 &self.drives,
                 &self.closed,
-                &self.net_of,
+                self.wiring.net_of.as_slice(),
                 &mut self.shown,
             );
         }
@@ -210,10 +196,17 @@ impl Nets {
         self.watch.keep(&self.drives)
     }
 
+    /// What joins the nets.
+    pub fn wiring(&self) -> &Wiring
+        ensures { result.now ≡ self.now.wiring }
+    {
+        &self.wiring
+    }
+
     /// What each pin drives.
     pub fn drives(&self) -> &[Drive]
         ensures drives { result.now ≡ self.now.drives }
-        ensures pins { length result.now ≡ length self.now.net_of }
+        ensures pins { length result.now ≡ length self.now.wiring.net_of }
     {
         &self.drives
     }
@@ -221,14 +214,14 @@ impl Nets {
     /// Which contacts are closed.
     pub fn closed(&self) -> &[bool]
         ensures closed { result.now ≡ self.now.closed }
-        ensures contacts { length result.now ≡ length self.now.contacts }
+        ensures contacts { length result.now ≡ length self.now.wiring.contacts }
     {
         &self.closed
     }
 
     /// The level of a net.
     pub fn level(&self, net: u16) -> Level
-        requires { net < self.now.nets }
+        requires { net < self.now.wiring.nets }
         ensures { slice_get self.now.levels net ≡ Some result }
     {
         self.shown.levels[net as usize]
@@ -237,15 +230,15 @@ impl Nets {
     /// The levels of all nets.
     pub fn levels(&self) -> &[Level]
         ensures levels { result.now ≡ self.now.levels }
-        ensures nets { length result.now ≡ self.now.nets }
+        ensures nets { length result.now ≡ self.now.wiring.nets }
     {
         &self.shown.levels
     }
 
     /// The level of each pin's net.
     pub fn pin_levels(&self) -> &[Level]
-        ensures levels { result.now ≡ map (level_at self.now.levels) self.now.net_of }
-        ensures pins { length result.now ≡ length self.now.net_of }
+        ensures levels { result.now ≡ map (level_at self.now.levels) self.now.wiring.net_of }
+        ensures pins { length result.now ≡ length self.now.wiring.net_of }
     {
         &self.shown.pin_levels
     }
@@ -254,7 +247,7 @@ impl Nets {
     pub fn changed(&self) -> &[u16]
         ensures changed { result.now ≡ self.now.changed }
         ensures once { IsDistinct eqb result.now }
-        ensures nets { (n : ℕ) → has result.now n ≡ true → n < self.now.nets }
+        ensures nets { (n : ℕ) → has result.now n ≡ true → n < self.now.wiring.nets }
     {
         self.shown.changed.items()
     }

@@ -63,9 +63,9 @@ fn wiring(alloc: Global) -> Result<Wiring, OutOfMemory> {
 /// Resolves the nets again and again, each time with another drive of one pin, and counts how often
 /// net 0 is High.
 fn toggle(nets: &mut Nets, pins: usize) -> u32
-    requires some { 0 < nets.old.nets }
+    requires some { 0 < nets.old.wiring.nets }
     requires any { 0 < pins }
-    requires pins { pins ≡ length nets.old.net_of }
+    requires pins { pins ≡ length nets.old.wiring.net_of }
 {
     let mut high: u32 = 0;
     for i in 0..RESOLUTIONS {
@@ -79,21 +79,20 @@ fn toggle(nets: &mut Nets, pins: usize) -> u32
     high
 }
 
-fn high_count_on(alloc: Global, wiring: &Wiring) -> Result<u32, OutOfMemory> {
-    if !has_valid_nets(wiring) || wiring.nets == 0 || wiring.net_of.len() == 0 {
+fn high_count_on(alloc: Global, wiring: Wiring) -> Result<u32, OutOfMemory> {
+    if !has_valid_nets(&wiring) || wiring.nets == 0 || wiring.net_of.len() == 0 {
         return Ok(0);
     }
+    let pins = wiring.net_of.len();
     let mut nets = Nets::new(alloc, wiring)?;
-    let high = toggle(&mut nets, wiring.net_of.len());
+    let high = toggle(&mut nets, pins);
     drop(nets);
     Ok(high)
 }
 
 fn high_count(alloc: Global) -> Result<u32, OutOfMemory> {
     let wiring = wiring(alloc)?;
-    let high = high_count_on(alloc, &wiring);
-    drop(wiring);
-    high
+    high_count_on(alloc, wiring)
 }
 
 /// Prints how often a net is High.

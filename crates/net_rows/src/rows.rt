@@ -73,9 +73,8 @@ fn wiring_of(alloc: Global, circuit: &Circuit) -> Result<Wiring, OutOfMemory>
 }
 
 fn set_contacts(nets: &mut Nets, closed: &[bool])
-    requires { length closed.now ≡ length nets.old.contacts }
-    ensures pins { nets.new.net_of ≡ nets.old.net_of }
-    ensures contacts { nets.new.contacts ≡ nets.old.contacts }
+    requires { length closed.now ≡ length nets.old.wiring.contacts }
+    ensures { nets.new.wiring ≡ nets.old.wiring }
 {
     for contact in 0..closed.len() {
         nets.set_contact(contact, closed[contact]);
@@ -93,9 +92,8 @@ fn tells_changes(before: &[Level], now: &[Level], changed: &[u16]) -> bool {
 }
 
 fn set_drives(nets: &mut Nets, drives: [Drive; 3])
-    requires { length nets.old.net_of ≡ 3 }
-    ensures pins { nets.new.net_of ≡ nets.old.net_of }
-    ensures contacts { nets.new.contacts ≡ nets.old.contacts }
+    requires { length nets.old.wiring.net_of ≡ 3 }
+    ensures { nets.new.wiring ≡ nets.old.wiring }
 {
     nets.set_drive(0, drives[0]);
     nets.set_drive(1, drives[1]);
@@ -104,10 +102,9 @@ fn set_drives(nets: &mut Nets, drives: [Drive; 3])
 
 /// Resolves other levels than those of the drives.
 fn resolve_others(nets: &mut Nets, closed: &[bool], drives: [Drive; 3])
-    requires pins { length nets.old.net_of ≡ 3 }
-    requires contacts { length closed.now ≡ length nets.old.contacts }
-    ensures pins { nets.new.net_of ≡ nets.old.net_of }
-    ensures contacts { nets.new.contacts ≡ nets.old.contacts }
+    requires pins { length nets.old.wiring.net_of ≡ 3 }
+    requires contacts { length closed.now ≡ length nets.old.wiring.contacts }
+    ensures { nets.new.wiring ≡ nets.old.wiring }
 {
     set_contacts(nets, closed);
     set_drives(nets, [drives[1], drives[0], drives[2]]);
@@ -127,7 +124,7 @@ fn gives(
     drives: [Drive; 3],
     levels: &[Level],
 ) -> Result<bool, OutOfMemory>
-    requires { length nets.old.net_of ≡ 3 }
+    requires { length nets.old.wiring.net_of ≡ 3 }
 {
     let before = list_of(alloc, nets.levels())?;
     set_drives(nets, drives);
@@ -148,37 +145,35 @@ fn resolved(
     drives: [Drive; 3],
 ) -> Result<Option<List<Level>>, OutOfMemory> {
     let wiring = wiring_of(alloc, circuit)?;
-    let resolved = resolved_on(alloc, &wiring, circuit.closed, drives);
-    drop(wiring);
-    resolved
+    resolved_on(alloc, wiring, circuit.closed, drives)
 }
 
 fn resolved_on(
     alloc: Global,
-    wiring: &Wiring,
+    wiring: Wiring,
     closed: &[bool],
     drives: [Drive; 3],
 ) -> Result<Option<List<Level>>, OutOfMemory>
-    requires { length wiring.now.net_of ≡ 3 }
+    requires { length wiring.net_of ≡ 3 }
 {
-    if !has_valid_nets(wiring) || closed.len() != wiring.contacts.len() {
+    if !has_valid_nets(&wiring) || closed.len() != wiring.contacts.len() {
         return Ok(None);
     }
-    let plain = plain_levels(alloc, wiring, &drives, closed)?;
+    let plain = plain_levels(alloc, &wiring, &drives, closed)?;
     let same = resolves(alloc, wiring, closed, drives, plain.as_slice())?;
     Ok(if same { Some(plain) } else { None })
 }
 
 fn resolves(
     alloc: Global,
-    wiring: &Wiring,
+    wiring: Wiring,
     closed: &[bool],
     drives: [Drive; 3],
     levels: &[Level],
 ) -> Result<bool, OutOfMemory>
-    requires valid { IsWiring wiring.now }
-    requires pins { length wiring.now.net_of ≡ 3 }
-    requires contacts { length closed.now ≡ length wiring.now.contacts }
+    requires valid { IsWiring wiring }
+    requires pins { length wiring.net_of ≡ 3 }
+    requires contacts { length closed.now ≡ length wiring.contacts }
 {
     let mut nets = Nets::new(alloc, wiring)?;
     resolve_others(&mut nets, closed, drives);

@@ -1,12 +1,12 @@
 use Rattle.board_run.proofs.Common.{◌≡◌, ◌∙◌, refl, sym, ap, subst, arith, length, List, ℕ, Bool, eq-eqb, get_or, ◌&&◌, ◌==◌, eqb, list_any, Level, same_list}
 use Rattle.board_run.proofs.Common.{same_level, same_drive, NetsView, AreChanged, has, any_at, has_part, ReadingView}
-use Rattle.board_model.specs.Resolve.{resolve}
+use Rattle.net_resolve.specs.NetsView.{levels_by}
 use Rattle.board_run.proofs.ReadLemmas.{none_changed}
 use Rattle.board_run.proofs.reading.read_all.Goals as goal
 
 pub parts_on-differ-requires : goal.parts_on-differ-requires
 parts_on-differ-requires c = λ j n en.
-    let nets = ap (λ (x : NetsView). x.nets) c.resolve_marked.ensures.levels ∙ ap (λ (x : NetsView). x.nets) c.keep_watched-same_drives.ensures.kept in
+    let nets = ap (λ (x : NetsView). x.wiring.nets) c.resolve_marked.ensures.levels ∙ ap (λ (x : NetsView). x.wiring.nets) c.keep_watched-same_drives.ensures.kept in
     omega (arith, c.changed-2.ensures.nets n (any_at (eqb n) c.changed-2.result.now j n en (eq-eqb n n refl)), nets, c.requires.on)
 
 pub returns : goal.returns
@@ -15,9 +15,9 @@ returns c =
     let new = c.resolve_marked.new.self in
     let first = c.keep_watched-same_drives in
     let all = c.resolve_marked.ensures.levels
-    ∙ ap (λ (x : NetsView). let y : NetsView = record x { levels = resolve x.nets x.net_of x.contacts x.resistors x.closed x.drives; changed = new.changed } in y) first.ensures.kept in
+    ∙ ap (λ (x : NetsView). let y : NetsView = record x { levels = levels_by x.wiring x.closed x.drives; changed = new.changed } in y) first.ensures.kept in
     let are : AreChanged old.levels new.levels new.changed = subst (λ (ls : List Level). AreChanged ls new.levels new.changed) (ap (λ (x : NetsView). x.levels) first.ensures.kept) c.resolve_marked.ensures.changed in
-    let nets : new.nets ≡ old.nets = ap (λ (x : NetsView). x.nets) all in
+    let nets : new.wiring.nets ≡ old.wiring.nets = ap (λ (x : NetsView). x.wiring.nets) all in
     let long : length old.levels ≡ length new.levels = c.requires.levels ∙ sym nets ∙ sym c.levels-levels.ensures.nets ∙ ap length c.levels-levels.ensures.levels in
     let none = none_changed old.levels new.levels new.changed c.is_empty-same_levels.result long are (c.is_empty-same_levels.ensures ∙ ap (λ (ns : List ℕ). length ns == 0) c.changed.ensures.changed) in
     record {

@@ -8,7 +8,7 @@ returns g c =
     let p = g.P.Part in
     let dues = c.in_ok-dues.ensures in
     let kept : Kept = record { input = 0; changed = true; dues = c.in_ok-dues.dues; reading = c.in_ok-reading.reading; answers = c.in_ok-answers.answers } in
-    lags_start p.machine c.args.wiring.now p.state p.now p.wakes c.args.parts.now kept refl c.requires.few c.requires.fresh dues.dues dues.due
+    lags_start p.machine c.args.wiring p.state p.now p.wakes c.args.parts.now kept refl c.requires.few c.requires.fresh dues.dues dues.due
     (ap length c.in_ok-answers.ensures ∙ length-replicate (length c.args.parts.now) None)
     (λ k a e. get_all (length c.args.parts.now) k None a (ap (λ (xs : List (Option ℕ)). slice_get xs k) (sym c.in_ok-answers.ensures) ∙ e))
     c.in_ok-reading.ensures.told c.requires.fits c.in_ok-reading.ensures.suits

@@ -10,7 +10,7 @@ tell_part-requires-clause-pins g c =
     let inv = c.loop-i.invariant in
     let es = some_map p.state c.args.parts.now i _ (item_at c.args.parts.now i c.index-parts-i-in-loop-i-2.result c.loop-i-test.true c.index-parts-i-in-loop-i-2.is) in
     let room = flat_map_room p.machine.drives (map p.state c.args.parts.now) i _ es in
-    omega (arith, room, inv.pins.place, c.requires.pins, ap (λ (x : NetsView). length x.net_of) inv.rest)
+    omega (arith, room, inv.pins.place, c.requires.pins, ap (λ (x : NetsView). length x.wiring.net_of) inv.rest)
 
 pub tell_part-requires-clause-contacts : goal.tell_part-requires-clause-contacts
 tell_part-requires-clause-contacts g c =
@@ -19,20 +19,20 @@ tell_part-requires-clause-contacts g c =
     let inv = c.loop-i.invariant in
     let es = some_map p.state c.args.parts.now i _ (item_at c.args.parts.now i c.index-parts-i-in-loop-i-2.result c.loop-i-test.true c.index-parts-i-in-loop-i-2.is) in
     let room = flat_map_room p.machine.contacts (map p.state c.args.parts.now) i _ es in
-    omega (arith, room, inv.ports.place, c.requires.contacts, ap (λ (x : NetsView). length x.contacts) inv.rest)
+    omega (arith, room, inv.ports.place, c.requires.contacts, ap (λ (x : NetsView). length x.wiring.contacts) inv.rest)
 
 pub tell_part-requires-clause-few : goal.tell_part-requires-clause-few
 tell_part-requires-clause-few g c =
     let rest = c.loop-i.invariant.rest in
-    (omega (arith, c.requires.few.0, ap (λ (x : NetsView). length x.net_of) rest), omega (arith, c.requires.few.1, ap (λ (x : NetsView). length x.contacts) rest))
+    (omega (arith, c.requires.few.0, ap (λ (x : NetsView). length x.wiring.net_of) rest), omega (arith, c.requires.few.1, ap (λ (x : NetsView). length x.wiring.contacts) rest))
 
 pub tell_part-requires-clause-drives_long : goal.tell_part-requires-clause-drives_long
 tell_part-requires-clause-drives_long g c =
-    omega (arith, c.loop-i.invariant.pins.long, c.requires.drives_long, ap (λ (x : NetsView). length x.net_of) c.loop-i.invariant.rest)
+    omega (arith, c.loop-i.invariant.pins.long, c.requires.drives_long, ap (λ (x : NetsView). length x.wiring.net_of) c.loop-i.invariant.rest)
 
 pub tell_part-requires-clause-closed_long : goal.tell_part-requires-clause-closed_long
 tell_part-requires-clause-closed_long g c =
-    omega (arith, c.loop-i.invariant.ports.long, c.requires.closed_long, ap (λ (x : NetsView). length x.contacts) c.loop-i.invariant.rest)
+    omega (arith, c.loop-i.invariant.ports.long, c.requires.closed_long, ap (λ (x : NetsView). length x.wiring.contacts) c.loop-i.invariant.rest)
 
 pub overflow_add-pin : goal.overflow_add-pin
 overflow_add-pin g c =

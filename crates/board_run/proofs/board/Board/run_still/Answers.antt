@@ -1,6 +1,6 @@
 use Rattle.std.proofs.Common.{◌<◌, ◌∙◌, ap, sym, arith, ℕ, subst}
 use Rattle.board_run.specs.BoardView.{BoardView}
-use Rattle.board_run.specs.Engine.{Rests}
+use Rattle.board_run.specs.Engine.{wiring_of, Rests}
 use Rattle.board_run.proofs.LegLemmas.{at_here}
 use Rattle.board_run.proofs.EngineLemmas.{rests_settled}
 use Rattle.board_run.specs.declared.engine.Engine.{Engine}
@@ -30,7 +30,7 @@ returns g c =
     let i = c.self.inside.engine in
     let new = c.settle.new.self in
     let s = rests g (goal.at.returns g c).After-settle in
-    let here = at_here p.machine laws i.wiring p.state p.now p.wakes i.inputs i.cycle i.parts c.self.invariant.at in
+    let here = at_here p.machine laws (wiring_of i) p.state p.now p.wakes i.inputs i.cycle i.parts c.self.invariant.at in
     let alive = ap (λ (v : BoardView g.row.P.Denot). v.given_up) c.self.view_is ∙ c.requires.alive in
     record {
       within = (let same = ap (λ (e : Engine g.row.P.Denot). e.cycle) c.settle.ensures.settled.same in omega (arith, same, c.rest.ensures.within));

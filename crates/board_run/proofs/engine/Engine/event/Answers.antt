@@ -1,5 +1,5 @@
-use Rattle.board_run.proofs.Common.{◌≡◌, ◌+◌, ◌≤◌, ◌∙◌, ap, sym, refl, arith, subst, List, length, Input, AreBehind, IsInOrder, ReadingView, kept_of}
-use Rattle.board_run.proofs.Common.{MayTurnOn, TurnedOn, Showed, Engine}
+use Rattle.board_run.proofs.Common.{◌≡◌, ◌+◌, ◌≤◌, ◌∙◌, ap, sym, refl, arith, subst, List, length, Input, AreBehind, IsInOrder, retold, reread, kept_of}
+use Rattle.board_run.proofs.Common.{MayTurnOn, TurnedOn, Showed, Engine, wiring_of}
 use Rattle.sim_base.specs.declared.bench.WriteEnd.TheVariants as writes
 use Rattle.board_run.proofs.HandLemmas.{handed_both, stopped_first, stopped_second}
 use Rattle.board_run.proofs.EngineLemmas.{fails_first}
@@ -23,7 +23,7 @@ turn-woken-requires g c =
     let e = c.args.self.now in
     let l = c.requires.may.lags in
     let s = c.show-shown.ensures in
-    let reading = c.show-shown.new.self.reading in
+    let reading = reread e.reading c.show-shown.new.self.reading in
     let differ = c.show-shown.result.1 in
     record {
       may = subst (λ (x : Engine g.row.P.Denot). MayTurnOn p x differ) (sym s.rest) (record {
@@ -37,13 +37,13 @@ turn-woken-requires g c =
         fits = l.fits;
         suits = s.read.suits;
         told = record { drives_are = s.read.of.drives_are; closed_are = s.read.of.closed_are };
-        differs = lags_differ p.machine g.met.P.Part.laws e.wiring p.state p.now p.wakes e.cycle e.parts (kept_of e) reading differ l s.read.differs;
+        differs = lags_differ p.machine g.met.P.Part.laws (wiring_of e) p.state p.now p.wakes e.cycle e.parts (kept_of e) reading differ l s.read.differs;
       });
       given_within = (c.end_of_cycle-end.ensures.from, (let most = c.end_of_cycle-end.ensures.behind.within in omega (arith, most, ap length c.as_slice.ensures)));
     }
 
 -- the turn of the parts
-turned : (g : Over) (c : After-turn-woken g) → TurnedOn g.P.Part (let e : Engine g.row.P.Denot = record c.args.self.now { reading = c.show-shown.new.self.reading } in e) c.turn-woken.new.self c.show-shown.result.1
+turned : (g : Over) (c : After-turn-woken g) → TurnedOn g.P.Part (let e : Engine g.row.P.Denot = record c.args.self.now { reading = reread c.args.self.now.reading c.show-shown.new.self.reading } in e) c.turn-woken.new.self c.show-shown.result.1
     c.end_of_cycle-end.result c.turn-woken.result c.args.steps.now c.turn-woken.new.steps
 turned g c =
     let w = c.turn-woken in
@@ -55,8 +55,9 @@ passed g c = subst (λ (x : Engine g.row.P.Denot). AreBehind x.inputs c.end_of_c
     (subst (λ (is : List Input). AreBehind is c.end_of_cycle-end.result (c.show-shown.new.self.cycle + 1)) c.as_slice.ensures c.end_of_cycle-end.ensures.behind)
 
 -- the cycle up to its bytes
-cycle : (g : Over) (c : After-turn-woken g) → Happens g.P.Part.machine g.met.P.Part.laws c.args.self.now.wiring g.P.Part.state g.P.Part.now g.P.Part.wakes c.args.self.now.inputs c.args.self.now.cycle
-    c.args.self.now.parts c.turn-woken.new.self.parts c.args.self.now.reading c.turn-woken.new.self.reading c.turn-woken.new.self.answers c.turn-woken.new.self.dues c.turn-woken.result.changed c.args.steps.now c.turn-woken.new.steps
+cycle : (g : Over) (c : After-turn-woken g) → Happens g.P.Part.machine g.met.P.Part.laws (wiring_of c.args.self.now) g.P.Part.state g.P.Part.now g.P.Part.wakes c.args.self.now.inputs c.args.self.now.cycle
+    c.args.self.now.parts c.turn-woken.new.self.parts c.args.self.now.reading
+    (retold (reread c.args.self.now.reading c.show-shown.new.self.reading) c.turn-woken.new.self.reading.nets.drives c.turn-woken.new.self.reading.nets.closed) c.turn-woken.new.self.answers c.turn-woken.new.self.dues c.turn-woken.result.changed c.args.steps.now c.turn-woken.new.steps
 cycle g c =
     let p = g.P.Part in
     let e = c.args.self.now in
@@ -65,9 +66,9 @@ cycle g c =
     let new = c.turn-woken.new.self in
     let t = turned g c in
     let from = subst (λ (x : Engine g.row.P.Denot). x.input ≤ end.result) c.show-shown.ensures.rest end.ensures.from in
-    happens p.machine g.met.P.Part.laws e.wiring p.state p.now p.wakes e.inputs e.cycle e.input end.result e.parts new.parts (kept_of e) c.show-shown.new.self.reading new.reading c.show-shown.result.1
+    happens p.machine g.met.P.Part.laws (wiring_of e) p.state p.now p.wakes e.inputs e.cycle e.input end.result e.parts new.parts (kept_of e) (reread e.reading c.show-shown.new.self.reading) new.reading.nets c.show-shown.result.1
     new.answers new.dues c.turn-woken.result.changed c.args.steps.now c.turn-woken.new.steps c.requires.may.lags s.differs from c.requires.may.behind
-    (passed g c) s.of s.suits t.long t.answers_long t.dues_long (t.turns e.inputs) (t.counted e.inputs) t.due t.told t.rest
+    (passed g c) s.of s.suits t.long t.answers_long t.dues_long (t.turns e.inputs) (t.counted e.inputs) t.due t.told
 
 pub hand_sent-requires : goal.hand_sent-requires
 hand_sent-requires g c = record { whole = (c.show-shown.ensures.ok c.in-Ok.is).is_whole; silent = c.turn-woken.ensures.silent }
@@ -104,7 +105,7 @@ returns-in-Ok g c =
               handed_both o.whole o.faults o.stands out c.show-shown.new.out hand.new.out _ _ _ _ ok (hand.ensures.ok is) h.rows_are h.bytes_are,
               λ z ez.
                   let was = s.later c.in-Ok.is z (sym (hand.ensures.last is) ∙ ez) in
-                  (was.0, subst (λ (v : ReadingView). o.seen hand.new.out v.nets.levels) (sym t.rest) (hand.ensures.seen is reading.nets.levels was.1)),
+                  (was.0, hand.ensures.seen is reading.nets.levels was.1),
             );
             failed = λ is.
                 let f = hand.ensures.failed is in (

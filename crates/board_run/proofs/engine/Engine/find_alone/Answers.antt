@@ -1,4 +1,4 @@
-use Rattle.board_run.proofs.Common.{rules, List, subst, ap, ℕ, Option, Input, IsAlone, kept_of, Engine}
+use Rattle.board_run.proofs.Common.{rules, List, subst, ap, ℕ, Option, Input, IsAlone, kept_of, Engine, wiring_of}
 use Rattle.board_run.proofs.NextLemmas.{lags_late}
 use Rattle.board_run.proofs.engine.Engine.find_alone.Goals as goal
 
@@ -6,7 +6,7 @@ pub first_alone-requires-clause-late : goal.first_alone-requires-clause-late
 first_alone-requires-clause-late g c =
     let p = g.P.Part in
     let e = c.args.self.now in
-    lags_late p.machine e.wiring p.state p.now p.wakes e.cycle e.parts (kept_of e) c.requires.may.lags
+    lags_late p.machine (wiring_of e) p.state p.now p.wakes e.cycle e.parts (kept_of e) c.requires.may.lags
 
 pub returns : goal.returns
 returns g c =

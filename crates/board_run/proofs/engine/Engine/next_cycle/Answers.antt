@@ -1,5 +1,5 @@
 use Rattle.board_run.proofs.Common.{◌≡◌, ◌<◌, ◌≤◌, ℕ, List, None, Some, subst, sym, arith, inl, inr, true, false, ◌∙◌, refl, ◌≢◌, slice_get, Input, input_at}
-use Rattle.board_run.proofs.Common.{kept_of, AreBehind}
+use Rattle.board_run.proofs.Common.{kept_of, AreBehind, wiring_of}
 use Rattle.board_run.proofs.NextLemmas.{below_or, lags_late}
 use Rattle.board_run.proofs.engine.Engine.next_cycle.Goals as goal
 
@@ -7,7 +7,7 @@ pub first_due-due-requires-clause-late : goal.first_due-due-requires-clause-late
 first_due-due-requires-clause-late g c =
     let p = g.P.Part in
     let e = c.args.self.now in
-    lags_late p.machine e.wiring p.state p.now p.wakes e.cycle e.parts (kept_of e) c.requires.may.lags
+    lags_late p.machine (wiring_of e) p.state p.now p.wakes e.cycle e.parts (kept_of e) c.requires.may.lags
 
 pub returns-then-self : goal.returns-then-self
 returns-then-self g c =
@@ -17,7 +17,7 @@ returns-then-self g c =
       from = omega arith;
       within = c.requires.within;
       stays = λ _. refl;
-      late = lags_late p.machine e.wiring p.state p.now p.wakes e.cycle e.parts (kept_of e) c.requires.may.lags;
+      late = lags_late p.machine (wiring_of e) p.state p.now p.wakes e.cycle e.parts (kept_of e) c.requires.may.lags;
       silent = λ v k from before. absurd (omega (arith, from, before));
       behind = c.requires.may.behind;
       event = λ none. absurd (let x : true ≡ false = sym c.if-self.true ∙ none in cc);

@@ -1,6 +1,6 @@
 use Rattle.board_run.proofs.Common.{◌-◌, ◌<◌, ◌≤◌, ◌∙◌, ◌≡◌, ap, sym, refl, subst, arith, ℕ, List, length, inl, inr, Option, length-set, slice_get, slice_set}
 use Rattle.board_run.proofs.Common.{slice_get_within, MOST_CYCLES, IsQuiet, done_none, done_more, done_all, some_same, get_set_same, get_set_other, glided}
-use Rattle.board_run.proofs.Common.{AreAt, kept_of, Engine}
+use Rattle.board_run.proofs.Common.{AreAt, kept_of, Engine, wiring_of}
 use Rattle.board_run.proofs.TurnLemmas.{at_set}
 use Rattle.board_run.proofs.LegLemmas.{may_settle, now_settled}
 use Rattle.board_run.proofs.engine.Engine.settle.Goals as goal
@@ -16,7 +16,7 @@ settle_one-due-requires g c =
     let l = c.loop-i in
     let cycle = ap (λ (x : Engine g.row.P.Denot). x.cycle) l.invariant.same in
     let old = sym (l.invariant.parts.rest l.i (omega arith)) ∙ c.item_mut.ensures.value in
-    let may = may_settle p.machine g.met.P.Part.laws e.wiring p.state p.now p.wakes e.inputs e.cycle e.parts (kept_of e) c.requires.may.lags l.i c.item_mut.result.now old in
+    let may = may_settle p.machine g.met.P.Part.laws (wiring_of e) p.state p.now p.wakes e.inputs e.cycle e.parts (kept_of e) c.requires.may.lags l.i c.item_mut.result.now old in
     record {
       end = subst (λ (t : ℕ). t ≤ MOST_CYCLES) (sym cycle) c.requires.end;
       later = subst (λ (t : ℕ). p.now c.item_mut.result.now ≤ t) (sym cycle) may.0;
@@ -69,5 +69,5 @@ returns g c =
         each = each;
         due = λ k y d ey ed. (let inside = slice_get_within l.self.parts k y ey in inv.due k y d (omega (arith, inside, all, inv.parts.long)) ey ed);
       };
-      at = subst (λ (t : ℕ). AreAt p.now t l.self.parts) (sym cycle) (now_settled p.machine g.met.P.Part.laws e.wiring p.state p.now p.wakes e.inputs e.cycle e.parts l.self.parts inv.parts.long each);
+      at = subst (λ (t : ℕ). AreAt p.now t l.self.parts) (sym cycle) (now_settled p.machine g.met.P.Part.laws (wiring_of e) p.state p.now p.wakes e.inputs e.cycle e.parts l.self.parts inv.parts.long each);
     }

@@ -1,5 +1,5 @@
 use Rattle.board_run.proofs.Common.{◌≡◌, ◌-◌, ◌∙◌, ap, arith, sym, refl, subst, ℕ, ◌≤◌, List, [], ◌∷◌, Option, get_or, length-set, slice_set, Row, Handed}
-use Rattle.board_run.proofs.Common.{StopsWithin, sent, glide_drives, glide_contacts, options, ReadingView, glided, kept_of, rows_to, Showed, Engine}
+use Rattle.board_run.proofs.Common.{StopsWithin, sent, glide_drives, glide_contacts, options, retold, glided, kept_of, rows_to, Showed, Engine, wiring_of, Wiring}
 use Rattle.board_run.proofs.AloneLemmas.{went_replaces, Goes, alone_goes}
 use Rattle.board_run.proofs.TurnLemmas.{turned_others}
 use Rattle.board_run.proofs.HandLemmas.{one_byte, stops_whole}
@@ -27,12 +27,12 @@ tell-self-requires g c =
     let quiet = (l.may c.args.who x c.due-due.result is c.due-due.ensures).quiet in
     record {
       within = omega (arith, length-set e.parts c.args.who w.new.part, c.requires.alone.alone.here, l.dues_long);
-      first = ap (λ (l : List ℕ). get_or l c.args.who 0) c.as_slice.ensures;
+      first = ap (λ (l : List ℕ). get_or l c.args.who 0) (c.as_slice.ensures ∙ ap (λ (w : Wiring). w.first_pin) c.wiring.ensures);
       may = record {
         before = e.parts;
         p = x;
         q = w.new.part;
-        replaced = went_replaces m g.met.P.Part.laws e.wiring p.state p.now p.wakes e.cycle (w.result.to - e.cycle) c.args.who e.parts e.reading.nets x w.new.part is l.fits l.told w.ensures.state_is;
+        replaced = went_replaces m g.met.P.Part.laws (wiring_of e) p.state p.now p.wakes e.cycle (w.result.to - e.cycle) c.args.who e.parts e.reading.nets x w.new.part is l.fits l.told w.ensures.state_is;
         suits = l.suits;
         still = λ none. (
           w.ensures.drives none ∙ glide_drives m g.met.P.Part.laws (p.state x) (p.now x) (e.cycle - p.now x) valid quiet,
@@ -43,9 +43,9 @@ tell-self-requires g c =
     }
 
 -- what the stretch did
-goes : (g : Over) (c : After-tell-self g) → Goes g.P.Part.machine g.met.P.Part.laws c.args.self.now.wiring g.P.Part.state g.P.Part.now g.P.Part.wakes c.args.self.now.inputs c.args.self.now.cycle c.go_alone-went.result.to
+goes : (g : Over) (c : After-tell-self g) → Goes g.P.Part.machine g.met.P.Part.laws (wiring_of c.args.self.now) g.P.Part.state g.P.Part.now g.P.Part.wakes c.args.self.now.inputs c.args.self.now.cycle c.go_alone-went.result.to
     c.args.self.now.parts (slice_set c.args.self.now.parts c.args.who c.go_alone-went.new.part) (kept_of c.args.self.now)
-    (record { input = c.args.self.now.input; changed = c.tell-self.result; dues = slice_set c.args.self.now.dues c.args.who c.go_alone-went.new.due; reading = c.tell-self.new.self.reading; answers = c.args.self.now.answers })
+    (record { input = c.args.self.now.input; changed = c.tell-self.result; dues = slice_set c.args.self.now.dues c.args.who c.go_alone-went.new.due; reading = retold c.args.self.now.reading c.tell-self.new.self.reading.nets.drives c.tell-self.new.self.reading.nets.closed; answers = c.args.self.now.answers })
     c.args.steps.now c.go_alone-went.new.steps (sent g.P.Part.machine (glided g.P.Part.machine g.P.Part.state g.P.Part.now g.P.Part.wakes c.args.self.now.cycle c.item_mut.result.now) c.args.self.now.cycle)
 goes g c =
     let p = g.P.Part in
@@ -56,9 +56,9 @@ goes g c =
     let may = c.requires.may in
     let alone = c.requires.alone in
     let shifted = told.shifted e.parts x w.new.part
-    (went_replaces p.machine g.met.P.Part.laws e.wiring p.state p.now p.wakes e.cycle (w.result.to - e.cycle) c.args.who e.parts e.reading.nets x w.new.part c.item_mut.ensures.value may.lags.fits may.lags.told w.ensures.state_is) in
-    alone_goes p.machine g.met.P.Part.laws e.wiring p.state p.now p.wakes e.inputs p.moves e.cycle c.args.limit e.parts (kept_of e) c.tell-self.result c.args.steps.now w.new.steps c.args.who x w.new.part w.new.due
-    w.result c.tell-self.new.self.reading told.rest told.told
+    (went_replaces p.machine g.met.P.Part.laws (wiring_of e) p.state p.now p.wakes e.cycle (w.result.to - e.cycle) c.args.who e.parts e.reading.nets x w.new.part c.item_mut.ensures.value may.lags.fits may.lags.told w.ensures.state_is) in
+    alone_goes p.machine g.met.P.Part.laws (wiring_of e) p.state p.now p.wakes e.inputs p.moves e.cycle c.args.limit e.parts (kept_of e) c.tell-self.result c.args.steps.now w.new.steps c.args.who x w.new.part w.new.due
+    w.result c.tell-self.new.self.reading.nets told.told
     may.lags alone.fresh alone.after may.behind c.requires.end alone.alone c.item_mut.ensures.value w.ensures shifted
 
 pub returns : goal.returns
@@ -69,7 +69,7 @@ returns g c =
     let w = c.go_alone-went in
     let hand = c.hand_byte in
     let went = goes g (goal.at.returns g c).After-tell-self in
-    let same = c.tell-self.ensures.same ∙ ap (λ (ds : List (Option ℕ)). let y : Engine g.row.P.Denot = record e { parts = slice_set e.parts c.args.who w.new.part; dues = ds; reading = c.tell-self.new.self.reading } in y) c.set.ensures in
+    let same = c.tell-self.ensures.same ∙ ap (λ (ds : List (Option ℕ)). let y : Engine g.row.P.Denot = record e { parts = slice_set e.parts c.args.who w.new.part; dues = ds; reading = retold e.reading c.tell-self.new.self.reading.nets.drives c.tell-self.new.self.reading.nets.closed } in y) c.set.ensures in
     let row_none = went.row_none (w.result.to - e.cycle) (omega arith) in
     let bytes = one_byte w.result.byte ∙ sym w.ensures.sent_is ∙ sym (went.bytes_are (w.result.to - e.cycle) (omega arith)) in
     let last : w.result.to - 1 - e.cycle ≡ w.result.to - e.cycle - 1 = omega arith in
@@ -92,7 +92,7 @@ returns g c =
               let was = c.requires.watches.later z (sym (hand.ensures.last is) ∙ ez) in
               let before = was.0 in
               let far = w.ensures.further in
-              (omega (arith, far, before), subst (λ (v : ReadingView). o.seen hand.new.out v.nets.levels) (sym c.tell-self.ensures.rest) (hand.ensures.seen is e.reading.nets.levels was.1)),
+              (omega (arith, far, before), hand.ensures.seen is e.reading.nets.levels was.1),
         );
         failed = λ is.
             let f = hand.ensures.failed is in (

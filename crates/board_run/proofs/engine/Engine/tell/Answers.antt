@@ -1,5 +1,5 @@
 use Rattle.board_run.proofs.Common.{arith, ◌≡◌, ◌<◌, ◌∙◌, List, length, map, take, refl, sym, ap, subst, true, false, inl, inr, slice_get, false_from_ne_true}
-use Rattle.board_run.proofs.Common.{or_cases, or_parts, Drive, NetsView, contacts_of, some_same, some_map, flat_map_room, ReadingView, HasAt, retold}
+use Rattle.board_run.proofs.Common.{or_cases, or_parts, Drive, NetsView, contacts_of, some_same, some_map, flat_map_room, ReadingView, HasAt, retold, Engine, Wiring, wiring_of}
 use Rattle.board_run.proofs.GatherLemmas.{item_at}
 use Rattle.board_run.proofs.ReadLemmas.{put_there}
 use Rattle.board_run.proofs.TurnLemmas.{placed}
@@ -21,10 +21,10 @@ set_pins-pins-requires g c =
     let there = ap (λ (l : List g.row.P.Denot). slice_get l i) (sym c.as_slice-parts.ensures) ∙ put in
     let nets_are = ap (λ (v : ReadingView). v.nets) c.reading.view_is in
     let at = told_place p g.met.P.Part.laws e i c.args.first c.reading.inside.nets may.before may.p may.q x may.replaced c.requires.first nets_are there in
-    let net_of = ap (λ (n : NetsView). n.net_of) nets_are ∙ may.suits.wired.net_of in
+    let net_of = ap (λ (n : NetsView). n.wiring.net_of) nets_are in
     record {
       room = (let room = flat_map_room m.drives (map p.state e.parts) i _ (some_map p.state e.parts i x there) in omega (arith, room, at.1.place, at.1.fits.pins, ap length net_of));
-      few = omega (arith, c.as_slice-net_of.type_inv.0, c.as_slice-net_of.type_inv.1, ap length c.as_slice-net_of.ensures, ap length net_of);
+      few = omega (arith, c.as_slice-net_of.type_inv.0, c.as_slice-net_of.type_inv.1, ap length (c.as_slice-net_of.ensures ∙ ap (λ (w : Wiring). w.net_of) c.wiring.ensures), ap length net_of);
       long = ap (λ (n : NetsView). length n.drives) nets_are ∙ may.suits.drives_long ∙ sym (ap length net_of);
       others = λ j h few out.
           at.1.others (p.moves x) (subst (λ (z : g.row.P.Denot). (j : _) → p.moves z j ≡ false → slice_get (m.drives (p.state z)) j ≡ slice_get (m.drives (p.state may.p)) j) at.0 (may.others c.if-touched.true)) j h
@@ -36,13 +36,13 @@ tell_contacts-contacts-requires g c =
     let p = g.P.Part in
     let e = c.args.self.now in
     let may = c.requires.may in
-    let at = placed p.machine e.wiring p.state c.args.i c.args.first may.before e.parts e.reading.nets may.p may.q may.replaced c.requires.first in
+    let at = placed p.machine (wiring_of e) p.state c.args.i c.args.first may.before e.parts e.reading.nets may.p may.q may.replaced c.requires.first in
     let nets_are = ap (λ (v : ReadingView). v.nets) c.reading.view_is in
-    let contacts = ap (λ (n : NetsView). n.contacts) c.set_pins-pins.ensures.rest ∙ ap (λ (n : NetsView). n.contacts) nets_are ∙ may.suits.wired.contacts in
+    let contacts = ap (λ (n : NetsView). n.wiring.contacts) c.set_pins-pins.ensures.rest ∙ ap (λ (n : NetsView). n.wiring.contacts) nets_are in
     record {
       within = omega (arith, c.requires.within, ap length c.as_slice-parts.ensures);
       contacts = ap length contacts ∙ at.fits.contacts ∙ ap (λ (l : List g.row.P.Denot). length (contacts_of p.machine (map p.state l))) (sym c.as_slice-parts.ensures);
-      few = omega (arith, c.as_slice-contacts.type_inv.0, c.as_slice-contacts.type_inv.1, ap length c.as_slice-contacts.ensures, ap length contacts);
+      few = omega (arith, c.as_slice-contacts.type_inv.0, c.as_slice-contacts.type_inv.1, ap length (c.as_slice-contacts.ensures ∙ ap (λ (w : Wiring). w.contacts) c.wiring-then-touched.ensures), ap length contacts);
       long = ap (λ (n : NetsView). length n.closed) c.set_pins-pins.ensures.rest ∙ ap (λ (n : NetsView). length n.closed) nets_are ∙ may.suits.closed_long ∙ sym (ap length contacts);
     }
 
@@ -71,8 +71,8 @@ returns-then-touched g c =
     ∙ ap (λ (ds : List Drive). let z : NetsView = record old { drives = ds; closed = new.closed } in z) (sym drives_are) in
     let at = told_place p g.met.P.Part.laws e i first old may.before may.p may.q x may.replaced c.requires.first nets_are there in
     record {
-      same = refl;
-      rest = ap (λ (n : NetsView). let v : ReadingView = record { nets = n; on = inside.on.items } in v) rest ∙ ap (λ (v : ReadingView). retold v new.drives new.closed) c.reading.view_is;
+      same = ap (λ (n : NetsView). let x : Engine g.row.P.Denot = record e { reading = record { nets = n; on = inside.on.items } } in x) rest
+          ∙ ap (λ (v : ReadingView). let x : Engine g.row.P.Denot = record e { reading = retold v new.drives new.closed } in x) c.reading.view_is;
       fits = at.1.fits;
       told = at.1.told new (rw drives_are pins.ensures.put) (rw (parts_are, closed_were) at (ports.ensures.put x here));
       shifted = λ before y z was.
@@ -96,16 +96,15 @@ returns-else-touched g c =
     let e = c.args.self.now in
     let i = c.args.i in
     let may = c.requires.may in
-    let at = placed m e.wiring p.state i c.args.first may.before e.parts e.reading.nets may.p may.q may.replaced c.requires.first in
+    let at = placed m (wiring_of e) p.state i c.args.first may.before e.parts e.reading.nets may.p may.q may.replaced c.requires.first in
     let still = may.still c.if-touched.false in
     let has = at.has still.0 still.1 in
     record {
       same = refl;
-      rest = refl;
       fits = at.fits;
       told = at.told e.reading.nets (put_there c.args.first (m.drives (p.state may.q)) e.reading.nets.drives has.0) (put_there _ (m.contacts (p.state may.q)) e.reading.nets.closed has.1);
       shifted = λ before y z was.
-          let of = placed m e.wiring p.state i c.args.first before e.parts e.reading.nets y z was c.requires.first in
+          let of = placed m (wiring_of e) p.state i c.args.first before e.parts e.reading.nets y z was c.requires.first in
           let same = some_same (sym at.there ∙ of.there) in
           record {
             same = λ _. of.keeps (subst (λ (u : g.row.P.Denot). HasAt c.args.first (m.drives (p.state u)) e.reading.nets.drives) same has.0)

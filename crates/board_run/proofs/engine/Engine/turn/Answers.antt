@@ -1,7 +1,7 @@
 use Rattle.board_run.proofs.Common.{arith, ◌≡◌, ◌<◌, ◌≤◌, ◌+◌, ◌-◌, ◌∙◌, ℕ, List, length, map, take, drop, sym, ap, subst, Bool, Option, None, Some, true}
 use Rattle.board_run.proofs.Common.{false, refl, length-set, ◌||◌, slice_get, slice_set, ltb-true, Input, sum_below, active_in, input_at, get_set_same}
-use Rattle.board_run.proofs.Common.{PartSet, Engine, ReadingView, Suits, IsTold, levels_on, retold, TookTurn, Turns, AreLate, has_part, AreNone, given}
-use Rattle.board_run.proofs.Common.{MayTurnPart, TurnedPart}
+use Rattle.board_run.proofs.Common.{PartSet, Engine, IsTold, retold, Turns, AreLate, has_part, AreNone, given}
+use Rattle.board_run.proofs.Common.{MayTurnPart, TurnedPart, wiring_of}
 use Rattle.board_run.proofs.ReadLemmas.{retold_suits}
 use Rattle.board_run.proofs.WakeLemmas.{silent_more, nothing_there}
 use Rattle.board_run.proofs.NextLemmas.{dues_late}
@@ -37,7 +37,6 @@ loop-i-init g c =
     let within : c.first_at-least.result ≤ length e.parts = omega (arith, first.within, c.len-count.ensures) in
     record {
       same = refl;
-      rest = refl;
       order = next.within;
       here = next.here;
       within = within;
@@ -46,9 +45,9 @@ loop-i-init g c =
       late = dues_late m p.state p.now p.wakes e.cycle e.parts e.dues may.dues_long may.may;
       passed = first.passed;
       turns = λ inputs ts awaits.
-          let pass = turns_pass m laws e.wiring (given e c.args.end) inputs p.state p.now p.wakes e.reading.nets.levels c.with_given-marked.result c.args.differ e.cycle e.parts e.dues ts may.end may.few may.dues_long may.may
+          let pass = turns_pass m laws (wiring_of e) (given e c.args.end) inputs p.state p.now p.wakes e.reading.nets.levels c.with_given-marked.result c.args.differ e.cycle e.parts e.dues ts may.end may.few may.dues_long may.may
           (marks g (goal.at.loop-i-init g c).After-with_given-marked e.cycle) awaits
-          0 j e.parts e.dues e.answers false (begun 0) (turns_none m laws e.wiring inputs p.state p.now p.wakes e.reading.nets.levels e.cycle ts e.parts e.answers)
+          0 j e.parts e.dues e.answers false (begun 0) (turns_none m laws (wiring_of e) inputs p.state p.now p.wakes e.reading.nets.levels e.cycle ts e.parts e.answers)
           (omega arith) (omega (arith, next.within, within)) next.passed (λ k l. first.passed k (omega (arith, l, next.within))) in
           (pass.0, omega (arith, pass.1));
       fits = may.fits;
@@ -79,9 +78,9 @@ turn_part-woken-requires g c =
       answers_long = begun.answers_long ∙ sym begun.long;
       given_within = c.requires.given_within;
       fits = inv.fits;
-      suits = subst (λ (v : ReadingView). Suits e.wiring v) (sym inv.rest) (retold_suits m e.wiring (map p.state l.self.parts) e.reading l.self.reading.nets.drives l.self.reading.nets.closed inv.fits may.suits told);
-      told = inv.told;
-      differs = λ x ex is later same. may.differs i x (was x ex) is later (same ∙ ap (λ (v : ReadingView). levels_on m e.wiring v.nets.levels i (p.state x)) inv.rest);
+      suits = retold_suits m (wiring_of e) (map p.state l.self.parts) e.reading l.self.reading.nets.drives l.self.reading.nets.closed inv.fits may.suits told;
+      told = told;
+      differs = λ x ex. may.differs i x (was x ex);
       hears = λ hears. elim c.if-silent.branch [
         | then-silent w ↦
             let empty = nothing_there (take (c.args.end - e.input) (drop e.input c.as_slice.result.now)) (sym c.is_empty-silent.ensures ∙ w.if-silent.true) in
@@ -96,7 +95,7 @@ turn_part-woken-requires g c =
 
 -- the turn of the part
 turned : (g : Over) (c : After-turn_part-woken g) → TurnedPart g.P.Part
-    (let e : Engine g.row.P.Denot = record c.args.self.now { parts = c.loop-i.self.parts; dues = c.loop-i.self.dues; answers = c.loop-i.self.answers; reading = c.loop-i.self.reading } in e)
+    (let e : Engine g.row.P.Denot = record c.args.self.now { parts = c.loop-i.self.parts; dues = c.loop-i.self.dues; answers = c.loop-i.self.answers; reading = retold c.args.self.now.reading c.loop-i.self.reading.nets.drives c.loop-i.self.reading.nets.closed } in e)
     c.turn_part-woken.new.self c.loop-i.i c.args.differ c.args.end c.turn_part-woken.result c.loop-i.steps c.turn_part-woken.new.steps
 turned g c =
     let w = c.turn_part-woken in
@@ -133,6 +132,7 @@ loop-i-preserved g c =
     let new = c.turn_part-woken.new.self in
     let t = turned g (goal.at.loop-i-preserved g c).After-turn_part-woken in
     let more = c.turn_part-woken.result.changed in
+    let reading = retold e.reading new.reading.nets.drives new.reading.nets.closed in
     let parts_are = ap (λ (x : Engine g.row.P.Denot). x.parts) t.same in
     let dues_are = ap (λ (x : Engine g.row.P.Denot). x.dues) t.same in
     let answers_are = ap (λ (x : Engine g.row.P.Denot). x.answers) t.same in
@@ -149,10 +149,9 @@ loop-i-preserved g c =
     let passed = λ (k : ℕ) (h : k < c.first_again-least.result) (same : slice_get new.dues k ≡ Some (Some e.cycle)). least.passed k h (same ∙ ap (λ (u : ℕ). Some (Some u)) (sym cycle)) in
     record {
       same = t.same
-          ∙ ap (λ (xs : List g.row.P.Denot). let y : Engine g.row.P.Denot = record e { parts = xs; dues = slice_set l.self.dues i t.e; answers = slice_set l.self.answers i t.byte; reading = new.reading } in y) (sym parts_are)
-          ∙ ap (λ (ds : List (Option ℕ)). let y : Engine g.row.P.Denot = record e { parts = new.parts; dues = ds; answers = slice_set l.self.answers i t.byte; reading = new.reading } in y) (sym dues_are)
-          ∙ ap (λ (bs : List (Option ℕ)). let y : Engine g.row.P.Denot = record e { parts = new.parts; dues = new.dues; answers = bs; reading = new.reading } in y) (sym answers_are);
-      rest = t.rest ∙ ap (λ (v : ReadingView). retold v new.reading.nets.drives new.reading.nets.closed) inv.rest;
+          ∙ ap (λ (xs : List g.row.P.Denot). let y : Engine g.row.P.Denot = record e { parts = xs; dues = slice_set l.self.dues i t.e; answers = slice_set l.self.answers i t.byte; reading = reading } in y) (sym parts_are)
+          ∙ ap (λ (ds : List (Option ℕ)). let y : Engine g.row.P.Denot = record e { parts = new.parts; dues = ds; answers = slice_set l.self.answers i t.byte; reading = reading } in y) (sym dues_are)
+          ∙ ap (λ (bs : List (Option ℕ)). let y : Engine g.row.P.Denot = record e { parts = new.parts; dues = new.dues; answers = bs; reading = reading } in y) (sym answers_are);
       order = next.within;
       here = next.here;
       within = inside;
@@ -162,9 +161,8 @@ loop-i-preserved g c =
       passed = passed;
       turns = λ inputs ts awaits.
           let so = inv.turns inputs ts awaits in
-          let took = subst (λ (v : ReadingView). TookTurn m e.wiring p.state p.now p.wakes v.nets.levels e.cycle i (input_at (given e c.args.end) e.cycle i) (has_part c.args.differ i) t.d t.p t.q t.byte more) inv.rest t.took in
-          let on = turns_on m g.met.P.Part.laws e.wiring (given e c.args.end) inputs p.state p.now p.wakes ls c.with_given-marked.result c.args.differ e.cycle e.parts e.dues ts may.end may.few may.dues_long may.may
-          (marks g (goal.at.loop-i-preserved g c).After-with_given-marked e.cycle) awaits i j l.self.parts new.parts l.self.dues new.dues l.self.answers new.answers l.changed more t.p t.q t.d t.e t.byte inv.begun so.0 t.was t.due_was parts_are dues_are answers_are took
+          let on = turns_on m g.met.P.Part.laws (wiring_of e) (given e c.args.end) inputs p.state p.now p.wakes ls c.with_given-marked.result c.args.differ e.cycle e.parts e.dues ts may.end may.few may.dues_long may.may
+          (marks g (goal.at.loop-i-preserved g c).After-with_given-marked e.cycle) awaits i j l.self.parts new.parts l.self.dues new.dues l.self.answers new.answers l.changed more t.p t.q t.d t.e t.byte inv.begun so.0 t.was t.due_was parts_are dues_are answers_are t.took
           order (omega (arith, next.within, inside)) next.passed (λ k h. passed k (omega (arith, h, next.within))) in
           (on.0, omega (arith, so.1, on.1, t.steps_are));
       fits = rw parts_are t.fits;
@@ -181,13 +179,12 @@ returns g c =
     let end : l.i ≡ length e.parts = omega (arith, inv.order, inv.within, c.len-count.ensures, c.loop-i-test.false) in
     record {
       same = inv.same;
-      rest = inv.rest;
       long = inv.begun.long;
       dues_long = inv.begun.dues_long;
       answers_long = inv.begun.answers_long ∙ sym c.requires.may.answers_long;
-      turns = λ inputs ts awaits. subst (λ (n : ℕ). Turns p.machine e.wiring inputs p.state p.now p.wakes e.reading.nets.levels e.cycle ts n e.parts l.self.parts l.self.answers l.changed) end (inv.turns inputs ts awaits).0;
+      turns = λ inputs ts awaits. subst (λ (n : ℕ). Turns p.machine (wiring_of e) inputs p.state p.now p.wakes e.reading.nets.levels e.cycle ts n e.parts l.self.parts l.self.answers l.changed) end (inv.turns inputs ts awaits).0;
       told = inv.told;
       due = inv.due;
       silent = inv.silent;
-      counted = λ inputs ts awaits. subst (λ (n : ℕ). l.steps ≡ c.args.steps.now + sum_below n (λ k. active_in p.machine e.wiring inputs e.reading.nets.levels e.cycle k (slice_get ts k))) end (inv.turns inputs ts awaits).1;
+      counted = λ inputs ts awaits. subst (λ (n : ℕ). l.steps ≡ c.args.steps.now + sum_below n (λ k. active_in p.machine (wiring_of e) inputs e.reading.nets.levels e.cycle k (slice_get ts k))) end (inv.turns inputs ts awaits).1;
     }

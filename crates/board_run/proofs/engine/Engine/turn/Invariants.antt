@@ -1,5 +1,5 @@
 use Rattle.board_run.proofs.Common.{◌≡◌, ◌≢◌, ◌+◌, ◌-◌, ◌<◌, ◌≤◌, ℕ, List, length, map, Some, true, false, slice_get, Input, sum_below, active_in, Fits}
-use Rattle.board_run.proofs.Common.{IsTold, retold, has_part, AreNone, Awaits, Turns, AreDue, AreLate, given}
+use Rattle.board_run.proofs.Common.{IsTold, retold, has_part, AreNone, Awaits, Turns, AreDue, AreLate, given, wiring_of}
 use Rattle.board_run.proofs.TurnLemmas.{Begun}
 use Rattle.board_run.proofs.engine.Engine.turn.Given as goal
 
@@ -9,8 +9,7 @@ invariant-loop-i g l =
     let p = g.P.Part in
     let e = l.fn.self in
     record {
-      same : l.self ≡ record l.fn.self { parts = l.self.parts; dues = l.self.dues; answers = l.self.answers; reading = l.self.reading };
-      rest : l.self.reading ≡ retold e.reading l.self.reading.nets.drives l.self.reading.nets.closed;
+      same : l.self ≡ record l.fn.self { parts = l.self.parts; dues = l.self.dues; answers = l.self.answers; reading = retold e.reading l.self.reading.nets.drives l.self.reading.nets.closed };
       order : l.i ≤ l.least;
       here : l.i < l.least → has_part l.marked l.i ≡ true;
       within : l.least ≤ length e.parts;
@@ -18,10 +17,10 @@ invariant-loop-i g l =
       due : AreDue p.machine p.state p.now p.wakes l.self.parts l.self.dues;
       late : AreLate l.self.dues e.cycle;
       passed : (k : ℕ) → k < l.least → slice_get l.self.dues k ≢ Some (Some e.cycle);
-      turns : (inputs : List Input) (ts : List p.State) → Awaits p.machine e.wiring p.state p.now (given e l.end) inputs e.reading.nets.levels l.differ e.cycle e.parts ts →
-          Turns p.machine e.wiring inputs p.state p.now p.wakes e.reading.nets.levels e.cycle ts l.i e.parts l.self.parts l.self.answers l.changed
-          × (l.steps ≡ l.fn.steps + sum_below l.i (λ k. active_in p.machine e.wiring inputs e.reading.nets.levels e.cycle k (slice_get ts k)));
-      fits : Fits p.machine e.wiring (map p.state l.self.parts);
+      turns : (inputs : List Input) (ts : List p.State) → Awaits p.machine (wiring_of e) p.state p.now (given e l.end) inputs e.reading.nets.levels l.differ e.cycle e.parts ts →
+          Turns p.machine (wiring_of e) inputs p.state p.now p.wakes e.reading.nets.levels e.cycle ts l.i e.parts l.self.parts l.self.answers l.changed
+          × (l.steps ≡ l.fn.steps + sum_below l.i (λ k. active_in p.machine (wiring_of e) inputs e.reading.nets.levels e.cycle k (slice_get ts k)));
+      fits : Fits p.machine (wiring_of e) (map p.state l.self.parts);
       told : IsTold p.machine (map p.state l.self.parts) l.self.reading.nets;
       silent : l.sent ≡ false → AreNone l.self.answers;
     }

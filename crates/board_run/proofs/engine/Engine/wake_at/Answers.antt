@@ -1,5 +1,5 @@
 use Rattle.std.proofs.Common.{arith, ◌≡◌, ◌-◌, ◌≤◌, ◌∙◌, ℕ, List, length, map, take, drop, refl, sym, ap, subst, Option, Some, None, rules, length-take-le}
-use Rattle.board_run.proofs.Common.{slice_set, set_same, Input, input_at, some_map, ReadingView, levels_on, MayTurn, Engine}
+use Rattle.board_run.proofs.Common.{slice_set, set_same, Input, input_at, some_map, ReadingView, levels_on, MayTurn, Engine, wiring_of}
 use Rattle.board_run.proofs.StepLemmas.{fits_pins}
 use Rattle.board_run.proofs.GatherLemmas.{own_levels, length_rest}
 use Rattle.board_run.proofs.TurnLemmas.{some_there}
@@ -13,21 +13,21 @@ slice_bounds-levels-count g c =
     let e = c.args.self.now in
     let may = c.requires.may in
     let x = some_there e.parts c.args.i may.here in
-    let room = fits_pins p.machine e.wiring (map p.state e.parts) may.fits c.args.i (p.state x.0) (some_map p.state e.parts c.args.i x.0 x.1) in
-    omega (arith, room, c.requires.first, c.pin_levels.ensures.pins, ap (λ (v : ReadingView). length v.nets.net_of) c.reading.view_is, ap length may.suits.wired.net_of)
+    let room = fits_pins p.machine (wiring_of e) (map p.state e.parts) may.fits c.args.i (p.state x.0) (some_map p.state e.parts c.args.i x.0 x.1) in
+    omega (arith, room, c.requires.first, c.pin_levels.ensures.pins, ap (λ (v : ReadingView). length v.nets.wiring.net_of) c.reading.view_is)
 
 pub slice_bounds-levels-start : goal.slice_bounds-levels-start
 slice_bounds-levels-start g c = slice_bounds-levels-count g c
 
 -- the levels of its pins are the first of those from its first pin on
 own : (g : Over) (c : After-item_mut-part g) → take (length (g.P.Part.machine.drives (g.P.Part.state c.item_mut-part.result.now))) (take (length c.pin_levels.result.now - c.args.first) (drop c.args.first c.pin_levels.result.now))
-    ≡ levels_on g.P.Part.machine c.args.self.now.wiring c.args.self.now.reading.nets.levels c.args.i (g.P.Part.state c.item_mut-part.result.now)
+    ≡ levels_on g.P.Part.machine (wiring_of c.args.self.now) c.args.self.now.reading.nets.levels c.args.i (g.P.Part.state c.item_mut-part.result.now)
 own g c =
     let p = g.P.Part in
     let e = c.args.self.now in
     let levels = ap (λ (v : ReadingView). v.nets.levels) c.reading.view_is in
-    let net_of = ap (λ (v : ReadingView). v.nets.net_of) c.reading.view_is ∙ c.requires.may.suits.wired.net_of in
-    own_levels p.machine e.wiring e.reading.nets.levels c.args.i c.args.first (p.state c.item_mut-part.result.now) c.reading.inside.nets c.pin_levels.result.now c.pin_levels.ensures.levels levels net_of c.requires.first
+    let net_of = ap (λ (v : ReadingView). v.nets.wiring.net_of) c.reading.view_is in
+    own_levels p.machine (wiring_of e) e.reading.nets.levels c.args.i c.args.first (p.state c.item_mut-part.result.now) c.reading.inside.nets c.pin_levels.result.now c.pin_levels.ensures.levels levels net_of c.requires.first
 
 -- and there are as many
 room : (g : Over) (c : After-item_mut-part g) → length (g.P.Part.machine.drives (g.P.Part.state c.item_mut-part.result.now)) ≤ length (take (length c.pin_levels.result.now - c.args.first) (drop c.args.first c.pin_levels.result.now))
@@ -36,9 +36,9 @@ room g c =
     let e = c.args.self.now in
     let may = c.requires.may in
     let x = c.item_mut-part.result.now in
-    let pins = fits_pins p.machine e.wiring (map p.state e.parts) may.fits c.args.i (p.state x) (some_map p.state e.parts c.args.i x c.item_mut-part.ensures.value) in
+    let pins = fits_pins p.machine (wiring_of e) (map p.state e.parts) may.fits c.args.i (p.state x) (some_map p.state e.parts c.args.i x c.item_mut-part.ensures.value) in
     let rest = length_rest c.pin_levels.result.now c.args.first in
-    omega (arith, pins, rest, c.requires.first, c.pin_levels.ensures.pins, ap (λ (v : ReadingView). length v.nets.net_of) c.reading.view_is, ap length may.suits.wired.net_of)
+    omega (arith, pins, rest, c.requires.first, c.pin_levels.ensures.pins, ap (λ (v : ReadingView). length v.nets.wiring.net_of) c.reading.view_is)
 
 pub hear_levels-requires : goal.hear_levels-requires
 hear_levels-requires g c =

@@ -14,6 +14,7 @@ invariant_of-self c =
       right = v.right;
       subcircuits_long = v.subcircuits_long;
       marks_room = v.marks_room;
+      levels_long = v.levels_long;
       drives_long = v.drives_long;
       closed_long = v.closed_long;
       shown = v.shown;

@@ -6,30 +6,24 @@ use Rattle.net_resolve.proofs.nets.Nets.new.Goals as goal
 
 pub invariant_of-result : goal.invariant_of-result
 invariant_of-result c =
-    let net_of = c.in_ok-net_of.net_of in
-    let contacts = c.in_ok-contacts.contacts in
     let ds = c.in_ok-drives.drives in
     let cs = c.in_ok-closed.closed in
     let ls = c.in_ok-levels.levels in
     let m = c.in_ok-marks in
-    first_invariant c.args.wiring.now (vec_len ls) net_of.items contacts.items c.in_ok-resistors.resistors.items
-    (record { levels = ls; pin_levels = c.in_ok-pin_levels.pin_levels; changed = c.in_ok-changed.changed })
-    ls.ok.0 (c.in_ok-net_of.ensures.items ∙ c.as_slice.ensures) (c.in_ok-contacts.ensures.items ∙ c.as_slice-2.ensures) (c.in_ok-resistors.ensures.items ∙ c.as_slice-3.ensures)
-    c.in_ok-levels.ensures.items c.in_ok-labels.labels.items c.in_ok-labels.ensures.cut
+    first_invariant c.args.wiring (vec_len ls) (record { levels = ls; pin_levels = c.in_ok-pin_levels.pin_levels; changed = c.in_ok-changed.changed })
+    ls.ok.0 c.in_ok-levels.ensures.items c.in_ok-labels.labels.items c.in_ok-labels.ensures.cut
     c.in_ok-labels.subcircuits.items c.in_ok-labels.ensures.long c.in_ok-labels.ensures.subcircuits
     m.marks.room m.marks.marked m.ensures.room m.ensures.few m.ensures.all
     (ap (λ (x : MarksView). x.room) c.in_ok-changed.ensures) (c.in_ok-pin_levels.ensures.items ∙ ap (λ (k : ℕ). replicate k levels.Z) c.len-3.ensures)
-    (vec_len net_of) (vec_len ds) ds.items net_of.ok.0 ds.ok.0 (c.in_ok-drives.ensures.items ∙ ap (λ (k : ℕ). replicate k drives.Z) c.len.ensures)
-    (vec_len contacts) (vec_len cs) cs.items contacts.ok.0 cs.ok.0 (c.in_ok-closed.ensures.items ∙ ap (λ (k : ℕ). replicate k false) c.len-2.ensures)
+    (vec_len ds) ds.items ds.ok.0 (c.in_ok-drives.ensures.items ∙ ap (λ (k : ℕ). replicate k drives.Z) c.len.ensures)
+    (vec_len cs) cs.items cs.ok.0 (c.in_ok-closed.ensures.items ∙ ap (λ (k : ℕ). replicate k false) c.len-2.ensures)
     (record { watched = c.in_ok-watched.watched; kept = c.in_ok-kept.kept; differing = 0 }) (c.in_ok-watched.ensures.items ∙ ap (λ (k : ℕ). replicate k false) c.len-4.ensures)
     (c.in_ok-kept.ensures.items ∙ ap (λ (k : ℕ). replicate k drives.Z) c.len-5.ensures) refl
 
 pub returns : goal.returns
 returns c =
-    let ls = c.in_ok-levels.levels in
-    first_nets c.args.wiring.now (vec_len ls) c.in_ok-net_of.net_of.items c.in_ok-contacts.contacts.items c.in_ok-resistors.resistors.items
-    c.in_ok-drives.drives.items c.in_ok-closed.closed.items ls.items c.in_ok-changed.changed.marked c.in_ok-watched.watched.items c.in_ok-kept.kept.items
-    ls.ok.0 (c.in_ok-net_of.ensures.items ∙ c.as_slice.ensures) (c.in_ok-contacts.ensures.items ∙ c.as_slice-2.ensures) (c.in_ok-resistors.ensures.items ∙ c.as_slice-3.ensures)
+    first_nets c.args.wiring c.in_ok-drives.drives.items c.in_ok-closed.closed.items c.in_ok-levels.levels.items c.in_ok-changed.changed.marked
+    c.in_ok-watched.watched.items c.in_ok-kept.kept.items
     (c.in_ok-drives.ensures.items ∙ ap (λ (k : ℕ). replicate k drives.Z) c.len.ensures) (c.in_ok-closed.ensures.items ∙ ap (λ (k : ℕ). replicate k false) c.len-2.ensures)
     c.in_ok-levels.ensures.items (ap (λ (x : MarksView). x.marked) c.in_ok-changed.ensures)
     (c.in_ok-watched.ensures.items ∙ ap (λ (k : ℕ). replicate k false) c.len-4.ensures)

@@ -1,4 +1,4 @@
-use Rattle.net_resolve.proofs.Common.{◌≡◌, length, vec_len, whole_with, AreShown, AreRight}
+use Rattle.net_resolve.proofs.Common.{◌≡◌, length, vec_len, whole_of, AreShown, AreRight}
 use Rattle.net_resolve.proofs.RightLemmas.{Begun, AreFresh}
 use Rattle.net_resolve.proofs.nets.Nets.resolve_marked.Given as goal
 
@@ -6,16 +6,15 @@ abbrev pub invariant-loop-q : goal.invariant-loop-q
 invariant-loop-q l =
     let now = l.self-inside in
     let first = l.initial.self-inside in
-    let w = whole_with (vec_len first.shown.levels) first.net_of.items first.contacts.items first.resistors.items in
     record {
       same : now ≡ record first { subcircuits = now.subcircuits; marks = now.marks; shown = now.shown };
       subcircuits : now.subcircuits.items ≡ first.subcircuits.items;
-      nets : vec_len now.shown.levels ≡ vec_len first.shown.levels;
-      marks_room : now.marks.room ≡ first.marks.room;
-      right : AreRight w first.labels.items now.marks.marked first.closed.items first.drives.items now.shown.levels.items;
+      levels_long : vec_len now.shown.levels ≡ first.wiring.nets;
+      marks_room : now.marks.room ≡ first.wiring.nets;
+      right : AreRight (whole_of first.wiring) first.labels.items now.marks.marked first.closed.items first.drives.items now.shown.levels.items;
       begun : Begun first.labels.items now.marks.marked first.shown.levels.items now.shown.levels.items now.shown.changed.marked;
       fresh : AreFresh first.subcircuits.items now.marks.marked now.shown.changed.marked;
-      shown : AreShown first.net_of.items now.shown;
+      shown : AreShown first.wiring.net_of now.shown;
     }
 
 abbrev pub decreases-loop-q : goal.decreases-loop-q

@@ -7,7 +7,7 @@ keep_all-requires c =
     let v = c.self.invariant in
     let ds = ap length c.deref.ensures.value in
     record {
-      flags = omega (arith, c.requires, ap (λ (x : NetsView). length x.net_of) c.self.view_is, ds, v.drives_long, c.self.inside.drives.ok.0, c.self.inside.net_of.ok.0);
+      flags = omega (arith, c.requires, ap (λ (x : NetsView). length x.wiring.net_of) c.self.view_is, ds, v.drives_long, c.self.inside.drives.ok.0);
       long = v.watch.kept_long ∙ sym ds;
     }
 
@@ -20,6 +20,7 @@ invariant_of-self c =
       right = v.right;
       subcircuits_long = v.subcircuits_long;
       marks_room = v.marks_room;
+      levels_long = v.levels_long;
       drives_long = v.drives_long;
       closed_long = v.closed_long;
       shown = v.shown;
