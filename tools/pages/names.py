@@ -1,6 +1,7 @@
 #!/usr/bin/env python3
 """Looks whether what docs/PROVED.md and docs/UNO.md name is where they say it is: crates, clauses, calls, definitions, laws,
-rows and files. Says each name that is not there, and then ends with 1.
+rows and files; and whether what docs/ARCHITECTURE.md names is there at all. Says each name that is not there, and then ends
+with 1.
 
 How the pages name things:
   `crate`: Name (a, b), Other   modules of crates/crate/specs, and definitions in the first of them
@@ -11,6 +12,8 @@ How the pages name things:
   0x44 to 0x46 | `A`, `B`       registers at these addresses: the value of the constant or the arm of `Register` of that name
   `law`, (Law, OtherLaw)        in a row: a definition, lemma, module, call or clause of a crate that the row names, or of
                                 one that this uses; in a sentence outside tables: of any crate, or a file
+In docs/ARCHITECTURE.md `name`, `impl Name` and `Name<..>` are of any crate, also a field, or a file, whose path may begin in
+a crate.
 """
 import pathlib
 import re
@@ -22,6 +25,7 @@ ITEM = re.compile(r"\b(?:fn|struct|enum|trait|type|const|mod) ([A-Za-z_]\w*)")
 CLAUSE = re.compile(r"\bensures\*? ([A-Za-z_]\w*) \{")
 CONSTANT = re.compile(r"(?:\bconst |^ +)([A-Z]\w*)(?:: u8|: u16|) = (0x[0-9A-F]+|\d+)[;,]", re.M)
 ARM = re.compile(r"^ +(0x[0-9A-F]+) => (?:Some\()?Register::(\w+)", re.M)
+FIELD = re.compile(r"^ +(?:pub(?:\([^)]*\))? |ghost )?(\w+):", re.M)
 VARIANT = re.compile(r"^ +([A-Z]\w*)(?:\(.*\)|)(?: = .*)?,$", re.M)
 QUOTED = re.compile(r"`([^`]+)`")
 GROUPED = re.compile(r"\(([A-Z][a-z]+\w*(?:, [A-Z][a-z]+\w*)*)\)")
@@ -250,15 +254,28 @@ class Page:
                 self.text(cell, [self.crates[it] for it in near], f"{' '.join(sorted(crates))} and what they use")
 
 
+class Tour(Page):
+    """A page that tells how the crates do something: what it names is of any crate, or a file."""
+
+    def read(self):
+        fields = {it for path in (self.top / "crates").glob("*/src/*.rt") for it in FIELD.findall(path.read_text())}
+        for self.line, line in enumerate((self.top / "docs" / self.name).read_text().splitlines(), 1):
+            for name in QUOTED.findall(line):
+                bare = re.split("[<(]| = ", name.removeprefix("impl "))[0]
+                is_file = "/" in bare and (any(self.top.glob(bare)) or any(self.top.glob(f"crates/*/{bare}")))
+                is_known = bare in WORDS | self.crates.keys() | fields | {"Bool", "match"} or self.anywhere.has(bare)
+                self.must(is_file or is_known, name, "any crate, and no file")
+        return self.bad
+
+
 def main():
     bad, found = [], 0
-    for name in ("PROVED.md", "UNO.md"):
-        page = Page(TOP, name)
+    for page in (Page(TOP, "PROVED.md"), Page(TOP, "UNO.md"), Tour(TOP, "ARCHITECTURE.md")):
         bad += page.read()
         found += page.found
     for line in bad:
         print(line, file=sys.stderr)
-    print(f"{found} names in docs/PROVED.md and docs/UNO.md, {len(bad)} that are not there")
+    print(f"{found} names in docs/PROVED.md, docs/UNO.md and docs/ARCHITECTURE.md, {len(bad)} that are not there")
     return bool(bad) or not found
 
 

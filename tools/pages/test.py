@@ -120,6 +120,20 @@ class Names(Repository):
             self.write("docs/PROVED.md", PROVED.replace(old, new))
             self.assertIn(said, self.bad(), old)
 
+    def test_a_tour_of_the_crates(self):
+        tour = "`Half::of` of `low` (`impl Half`, `Half<X>`, `specs/Half.antt`), whose `calm` is a field; `IsHalf`, `lib.rt` and `half_law`.\n"
+        self.write("crates/low/src/part.rt", "pub(crate) struct Part {\n    pub(crate) calm: u8,\n}\n")
+        for old, new, found in [
+            ("", "", []),
+            ("`calm`", "`wild`", ["wild"]),
+            ("`Half::of`", "`Half::off`", ["Half::off"]),
+            ("`impl Half`", "`impl Third`", ["impl Third"]),
+            ("`specs/Half.antt`", "`specs/Third.antt`", ["specs/Third.antt"]),
+        ]:
+            self.write("docs/TOUR.md", tour.replace(old, new))
+            said = [f"docs/TOUR.md:1: there is no {name} in any crate, and no file" for name in found]
+            self.assertEqual(names.Tour(self.top, "TOUR.md").read(), said)
+
     def test_rows_and_laws(self):
         for old, new, said in [
             ("| `half`; ", "| `half_laws`; ", "docs/UNO.md:5: there is no half_laws in specs/ and proofs/ of low"),
