@@ -1,4 +1,4 @@
--- What is read of a part of one of two kinds (profile).
+-- What is read of a part or a behaviour of one of two kinds (profile).
 use Rattle.std.specs.Prelude.{◌⊎◌}
 use Rattle.std.proofs.Common.{inl, inr}
 use Rattle.either_part.specs.declared.either.Either.{Either}

@@ -1,10 +1,11 @@
-//! A part of one of two kinds; nested, of one of many.
+//! A part or a behaviour of one of two kinds; nested, of one of many.
 
 use part_law::{Part, Span, Went};
+use reactive_part::Behaviour;
 use sim_base::{Drive, Level, Steps};
 use std::sync::ledger::Ledger;
 
-/// A part of one of two kinds, which steps as the machine of its kind does.
+/// A part of one of two kinds, which steps as the machine of its kind does, or a behaviour, which reacts as its kind does.
 #[derive(Drop)]
 pub enum Either<A, B> {
     Left(A),
@@ -12,10 +13,10 @@ pub enum Either<A, B> {
 }
 
 macro_rules! on_either {
-    ($either:expr, $part:ident => $call:expr) => {
+    ($either:expr, $one:ident => $call:expr) => {
         match $either {
-            Either::Left($part) => $call,
-            Either::Right($part) => $call,
+            Either::Left($one) => $call,
+            Either::Right($one) => $call,
         }
     };
 }
@@ -105,4 +106,43 @@ impl<A: Part, B: Part> Part for Either<A, B> {
     }
 
     ghost laws = { either_laws A.machine B.machine A.laws B.laws };
+}
+
+impl<A: Behaviour, B: Behaviour> Behaviour for Either<A, B> {
+    ghost use Rattle.std.specs.Prelude.{◌⊎◌};
+    ghost use Rattle.reactive_part.specs.Either.{either, either_laws};
+    ghost use Rattle.either_part.specs.EitherPart.{either_state};
+
+    ghost Own = { A.Own ⊎ B.Own };
+
+    ghost reaction = { either A.reaction B.reaction };
+
+    ghost own = { either_state A.own B.own };
+
+    #[inline(always)]
+    fn pins(&self) -> u8 {
+        on_either!(self, behaviour => behaviour.pins())
+    }
+
+    #[inline(always)]
+    fn contacts(&self) -> u8 {
+        on_either!(self, behaviour => behaviour.contacts())
+    }
+
+    #[inline(always)]
+    fn drive(&self, pin: u8) -> Drive {
+        on_either!(self, behaviour => behaviour.drive(pin))
+    }
+
+    #[inline(always)]
+    fn contact(&self, i: u8) -> bool {
+        on_either!(self, behaviour => behaviour.contact(i))
+    }
+
+    #[inline(always)]
+    fn react(&mut self, before: &[Level], now: &[Level], input: Option<u16>) -> bool {
+        on_either!(self, behaviour => behaviour.react(before, now, input))
+    }
+
+    ghost laws = { either_laws A.reaction B.reaction A.laws B.laws };
 }
