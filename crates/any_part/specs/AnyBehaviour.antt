@@ -10,8 +10,12 @@ use Rattle.parts_logic.specs.Shift595.{ShiftState, shift595, shift595_laws}
 use Rattle.parts_display.specs.Seven.{SevenState, seven, seven_laws}
 use Rattle.parts_display.specs.Lcd.{LcdState, lcd, lcd_laws}
 use Rattle.part_oled.specs.Oled.{OledState, oled, oled_laws}
-use Rattle.any_part.specs.declared.behaviour.AnyBehaviour.{AnyBehaviour}
-use Rattle.any_part.specs.declared.behaviour.AnyBehaviour.TheVariants as behaviours
+use Rattle.either_part.specs.EitherPart.{either_state}
+use Rattle.either_part.specs.declared.either.Either.{Either}
+
+-- what is known of a behaviour is its state
+abbrev pub AnyBehaviour : Type 0
+AnyBehaviour = Either LedState (Either PassiveState (Either GateState (Either ShiftState (Either SevenState (Either LcdState OledState)))))
 
 abbrev pub AnyOwn : Type 0
 AnyOwn = LedState ⊎ (PassiveState ⊎ (GateState ⊎ (ShiftState ⊎ (SevenState ⊎ (LcdState ⊎ OledState)))))
@@ -51,10 +55,4 @@ abbrev pub an_oled : OledState → AnyOwn
 an_oled s = inr (inr (inr (inr (inr (inr s)))))
 
 abbrev pub own_of : AnyBehaviour → AnyOwn
-own_of (behaviours.Led b) = a_led b
-own_of (behaviours.Passive b) = a_passive b
-own_of (behaviours.Gate b) = a_gate b
-own_of (behaviours.Shift595 b) = a_shift595 b
-own_of (behaviours.Seven b) = a_seven b
-own_of (behaviours.Lcd b) = an_lcd b
-own_of (behaviours.Oled b) = an_oled b
+own_of = either_state (λ s. s) (either_state (λ s. s) (either_state (λ s. s) (either_state (λ s. s) (either_state (λ s. s) (either_state (λ s. s) (λ s. s))))))

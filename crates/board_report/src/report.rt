@@ -14,7 +14,7 @@ use avr_mcu::Mcu;
 use board_build::{PlanKind, PlanPart};
 use chip_host::{Chip, Death};
 use chip_report::write_output;
-use either_part::Either;
+use either_part::Either::{self, Left, Right};
 use part_catalog::greatest_value;
 use part_oled::Oled;
 use parts_basic::Led;
@@ -164,11 +164,11 @@ fn write_own<B: Bench>(
     ensures others { SameOthers Port.Report (B.outside bench.old) (B.outside bench.new) }
 {
     match own {
-        AnyBehaviour::Led(led) => {
+        Left(led) => {
             let row = ReportRow::Led(part.id.copy(), Led::lit(held), led.count());
             write_line(end, &row, bench)
         }
-        AnyBehaviour::Passive(passive) => {
+        Right(Left(passive)) => {
             if is_input(part.kind) {
                 let row = ReportRow::Input(part.id.copy(), passive.value());
                 write_line(end, &row, bench)
@@ -176,8 +176,8 @@ fn write_own<B: Bench>(
                 end
             }
         }
-        AnyBehaviour::Gate(_) => end,
-        AnyBehaviour::Shift595(shift) => {
+        Right(Right(Left(_gate))) => end,
+        Right(Right(Right(Left(shift)))) => {
             let (stages, storage) = shift.registers();
             write_line(
                 end,
@@ -185,12 +185,12 @@ fn write_own<B: Bench>(
                 bench,
             )
         }
-        AnyBehaviour::Seven(seven) => {
+        Right(Right(Right(Right(Left(seven))))) => {
             let row = ReportRow::Seg(part.id.copy(), seven.segments());
             write_line(end, &row, bench)
         }
-        AnyBehaviour::Lcd(lcd) => write_lcd(end, &part.id, lcd, bench),
-        AnyBehaviour::Oled(oled) => write_oled(end, &part.id, oled, bench),
+        Right(Right(Right(Right(Right(Left(lcd)))))) => write_lcd(end, &part.id, lcd, bench),
+        Right(Right(Right(Right(Right(Right(oled)))))) => write_oled(end, &part.id, oled, bench),
     }
 }
 
@@ -298,8 +298,8 @@ impl<P: Shown, Q: Shown> Shown for Either<P, Q> {
 
     fn write_lines<B: Bench>(&self, end: WriteEnd, part: &PlanPart, bench: &mut B) -> WriteEnd {
         match self {
-            Either::Left(left) => left.write_lines(end, part, bench),
-            Either::Right(right) => right.write_lines(end, part, bench),
+            Left(left) => left.write_lines(end, part, bench),
+            Right(right) => right.write_lines(end, part, bench),
         }
     }
 }
