@@ -139,7 +139,7 @@ made_ends seed us work o a b is ran others =
     let wakes : ℕ = run_wakes (contents work) work.plan (16 * us) in
     let out : Output = printed (made_line seed (16 * us) work) in
     ends_counted answer wakes o a b
-    (alone_ran (uncounted answer wakes) a a b refl (same_here a) ports.Report refl o out (make_answer seed us a.files work is) ran others)
+    (alone_ran (uncounted answer wakes) a a b refl (same_here a) o out (make_answer seed us a.files work is) ran others)
 
 pub made_silent : (a b : Outside) → SameOthers ports.Report a b → SaidNothing a b
 made_silent a b others = (others.written ports.Complaint (λ e. cc), others.faults ports.Complaint (λ e. cc))

@@ -1,14 +1,13 @@
 -- From the steps of a call to what it does.
-use Rattle.std.proofs.Common.{◌≡◌, ◌≢◌, ℕ, List, [], true, refl, ap, sym, ◌∙◌, Option, Some, None, Result, Ok, Err, inl, inr, IfSome}
+use Rattle.std.proofs.Common.{◌≡◌, ◌≢◌, ℕ, List, [], refl, ap, sym, ◌∙◌, Option, Some, None, Result, Ok, Err, inl, inr, IfSome}
 use Rattle.std.specs.Option.{option_map}
 use Rattle.std.specs.FinMap.{remove}
 use Rattle.sim_base.specs.declared.bench.Port.{Port}
 use Rattle.sim_base.specs.declared.bench.Port.TheVariants as ports
-use Rattle.sim_base.specs.Causes.{Rose}
-use Rattle.sim_base.specs.Outside.{Outside, SameOthers, SamePorts, Files, IsKept, IsNamed, is_openable}
+use Rattle.sim_base.specs.Outside.{Outside, SameOthers, SamePorts, Files, IsKept, IsNamed}
 use Rattle.outcome_model.specs.Stop.{Stop, Missing, Output, Texts, report_alone}
 use Rattle.outcome_model.specs.Work.{Reading, Is, ReadStops, RanOn, IsOneReading}
-use Rattle.outcome_model.specs.Outcome.{Outcome, Accepted, NoRequest, Stopped, ReadFailed, WriteFailed, OutOfMemory, IsUntouched, IsOn, BeginsOn, Hold, Begin, OutputRose, status_of}
+use Rattle.outcome_model.specs.Outcome.{Outcome, Accepted, NoRequest, Stopped, ReadFailed, WriteFailed, OutOfMemory, IsUntouched, IsOn, BeginsOn, Begin, status_of}
 use Rattle.outcome_model.specs.Promises.{IsOne, CountsWakes}
 use Rattle.outcome_model.specs.Happens.{Answer, AnswerOf, Ends, Counts, EndsUnasked, Happens}
 use Rattle.outcome_model.proofs.WriteLemmas.{grows_same, front_all}
@@ -61,35 +60,10 @@ counts_asked answers r Accepted a before after counts = λ e files told. let x =
 counts_asked answers r (Stopped (Missing n)) a before after counts = λ e. absurd (cc)
 counts_asked answers r _ a before after counts = λ e. absurd (cc)
 
--- a text on one port alone
-abbrev pub alone : Port → Output → Texts
-alone ports.Wave out = record { serial = []; wave = Some out; report = None; wakes = 0 }
-alone ports.Report out = report_alone out
-alone ports.Serial out = record { serial = out.text; wave = None; report = None; wakes = 0 }
-alone ports.Complaint out = record { serial = []; wave = None; report = None; wakes = 0 }
-
--- what holds of a port that can be opened, and of all others
-at_ports : (P : Port → Type 0) (p : Port) → is_openable p ≡ true → P p → ((q : Port) → q ≢ p → P q) → (q : Port) → P q
-at_ports P ports.Wave out x f ports.Wave = x
-at_ports P ports.Wave out x f q = f q (λ e. cc)
-at_ports P ports.Report out x f ports.Report = x
-at_ports P ports.Report out x f q = f q (λ e. cc)
-at_ports P _ out x f q = absurd (cc)
-
-holds_alone : (p : Port) (out : Output) (a b : Outside) → is_openable p ≡ true → IsOn (Some out) p a b → ((q : Port) → q ≢ p → IsKept q a b) → Hold (alone p out) a b
-holds_alone ports.Wave out a b can on others = record { serial = grows_same _ _ (others ports.Serial (λ e. cc)).0; wave = on; report = others ports.Report (λ e. cc) }
-holds_alone ports.Report out a b can on others = record { serial = grows_same _ _ (others ports.Serial (λ e. cc)).0; wave = others ports.Wave (λ e. cc); report = on }
-holds_alone _ out a b can on others = absurd (cc)
-
-begins_alone : (p : Port) (out : Output) (a b : Outside) → is_openable p ≡ true → BeginsOn (Some out) p a b → ((q : Port) → q ≢ p → IsKept q a b) → Begin (alone p out) a b
-begins_alone ports.Wave out a b can on others = record { serial = ([], front_all [], grows_same _ _ (others ports.Serial (λ e. cc)).0); wave = on; report = others ports.Report (λ e. cc) }
-begins_alone ports.Report out a b can on others = record { serial = ([], front_all [], grows_same _ _ (others ports.Serial (λ e. cc)).0); wave = others ports.Wave (λ e. cc); report = on }
-begins_alone _ out a b can on others = absurd (cc)
-
-output_rose : (p : Port) (a b : Outside) → is_openable p ≡ true → Rose (a.faults p) (b.faults p) → OutputRose a b
-output_rose ports.Wave a b out up = inl up
-output_rose ports.Report a b out up = inr (inr up)
-output_rose _ a b out up = absurd (cc)
+-- what holds of Report, and of all other ports
+at_ports : (P : Port → Type 0) → P ports.Report → ((q : Port) → q ≢ ports.Report → P q) → (q : Port) → P q
+at_ports P x f ports.Report = x
+at_ports P x f q = f q (λ e. cc)
 
 -- what a port has become since the files were read, it has become since before
 module _ (a m b : Outside) (same : SamePorts a m) where
@@ -112,30 +86,39 @@ module _ (a m b : Outside) (same : SamePorts a m) where
   begins_after p (Some out) (inr is) = inr (is.0, is.1, is.2 ∙ ap (option_map (λ (l : List ℕ). is.0)) (same.written p), named_after p out.name is.3)
 
 module _ (answer : Answer) (a m b : Outside) (reads : m.read_faults ≡ a.read_faults) (same : SamePorts a m) where
-  kept : (p q : Port) → SameOthers p m b → q ≢ p → IsKept q a b
-  kept p q others ne = kept_after a m b same q (others.written q ne, others.name q ne)
+  kept : SameOthers ports.Report m b → (q : Port) → q ≢ ports.Report → IsKept q a b
+  kept others q ne = kept_after a m b same q (others.written q ne, others.name q ne)
 
-  -- a text on one port alone was written after the files were read
-  pub alone_ran : (p : Port) → is_openable p ≡ true → (o : Outcome) (out : Output) → IfSome a.files (λ (files : Files). answer files (Ok (alone p out))) →
-      RanOn p o out m b → SameOthers p m b → Ends answer o a b
-  alone_ran p can Accepted out is ran others = (
-    (others.reads ∙ reads, at_ports (λ q. b.faults q ≡ a.faults q) p can (ran.1 ∙ same.faults p) (λ q ne. others.faults q ne ∙ same.faults q)),
-    if_some a.files _ _ (λ (files : Files) (e : answer files (Ok (alone p out))). (
-      alone p out,
+  -- a text on Report alone was written after the files were read
+  pub alone_ran : (o : Outcome) (out : Output) → IfSome a.files (λ (files : Files). answer files (Ok (report_alone out))) →
+      RanOn ports.Report o out m b → SameOthers ports.Report m b → Ends answer o a b
+  alone_ran Accepted out is ran others = (
+    (others.reads ∙ reads, at_ports (λ q. b.faults q ≡ a.faults q) (ran.1 ∙ same.faults ports.Report) (λ q ne. others.faults q ne ∙ same.faults q)),
+    if_some a.files _ _ (λ (files : Files) (e : answer files (Ok (report_alone out))). (
+      report_alone out,
       e,
-      holds_alone p out a b can (on_after a m b same p (Some out) ran.0) (λ q ne. kept p q others ne),
+      record {
+        serial = grows_same _ _ (kept others ports.Serial (λ e. cc)).0;
+        wave = kept others ports.Wave (λ e. cc);
+        report = on_after a m b same ports.Report (Some out) ran.0;
+      },
     )) is,
   )
-  alone_ran p can WriteFailed out is ran others = (
-    output_rose p a b can (rw (← same.faults p) ran.0),
-    if_some a.files _ _ (λ (files : Files) (e : answer files (Ok (alone p out))). (
-      alone p out,
+  alone_ran WriteFailed out is ran others = (
+    inr (inr (rw (← same.faults ports.Report) ran.0)),
+    if_some a.files _ _ (λ (files : Files) (e : answer files (Ok (report_alone out))). (
+      report_alone out,
       e,
-      begins_alone p out a b can (begins_after a m b same p (Some out) ran.1) (λ q ne. kept p q others ne),
+      record {
+        serial = ([], front_all [], grows_same _ _ (kept others ports.Serial (λ e. cc)).0);
+        wave = kept others ports.Wave (λ e. cc);
+        report = begins_after a m b same ports.Report (Some out) ran.1;
+      },
     )) is,
   )
-  alone_ran p can OutOfMemory out is ran others = λ q ne. at_ports (λ q. IsUntouched q a b) p can (untouched_after a m b same p ran.0) (λ q other. (kept p q others other, others.opened q other ∙ same.opened q)) q
-  alone_ran p can _ out is ran others = absurd ran
+  alone_ran OutOfMemory out is ran others =
+      λ q ne. at_ports (λ q. IsUntouched q a b) (untouched_after a m b same ports.Report ran.0) (λ q other. (kept others q other, others.opened q other ∙ same.opened q)) q
+  alone_ran _ out is ran others = absurd ran
 
 module _ (a m b : Outside) (others : SameOthers ports.Complaint m b) where
   kept_on : (p : Port) → p ≢ ports.Complaint → IsKept p a m → IsKept p a b

@@ -12,10 +12,7 @@ use Rattle.outcome_model.proofs.ReadLemmas.{if_some, if_always}
 -- what holds of told files, once these are known
 at_told : (told : Option Files) (P : Files → Type 0) → IfSome told P → (files : Files) → told ≡ Some files → P files
 at_told None P h files e = absurd (cc)
-at_told (Some f) P h files e = rw (← some_inj e) h
-  where
-    some_inj : Some f ≡ Some files → f ≡ files
-    some_inj e = cc
+at_told (Some f) P h files e = let same : f ≡ files = cc in subst P same h
 
 no_output : (a b : Outside) → NoneRose a b → OutputRose a b → ⊥
 no_output a b none (inl x) = none.1 ports.Wave x

@@ -50,10 +50,7 @@ module _ {X Y : Type 0} (first : Reading X) (next : X → Reading Y) where
 
   module _ (steady : IsSteady first) (x : X) where
     missing_behind : (files : Files) (n : List ℕ) → first files (Ok x) → next x (remove files n) (Err (Missing n)) → Then first next (remove files n) (Err (Missing n))
-    missing_behind files n f e = elim (steady files n x f) [
-      | inl there ↦ (Ok x, there, e)
-      | inr missing ↦ (Err (Missing n), missing, refl)
-    ]
+    missing_behind files n f e = elim (steady files n x f) [ inl there ↦ (Ok x, there, e) | inr missing ↦ (Err (Missing n), missing, refl) ]
 
     both : (told : Option Files) (P : Files → Type 0) (Q : Files → Type 0) → ((files : Files) → first files (Ok x) → P files → Q files) → IfSome told (λ files. first files (Ok x)) → IfSome told P → IfSome told Q
     both None P Q f is s = tt
@@ -86,10 +83,7 @@ steady_file = steady_within 1048576
 pub steady_both : {X Y : Type 0} (first : Reading X) (next : X → Reading Y) → IsSteady first → ((x : X) → IsSteady (next x)) → IsSteady (Then first next)
 steady_both first next one two files n y (Err s, f, g) = let bad : Err s ≡ Ok y = g in absurd (cc)
 steady_both {Y = Y} first next one two files n y (Ok x, f, g) = elim (one files n x f) [
-  | inl there ↦ elim (two x files n y g) [
-    | inl here ↦ inl (Ok x, there, here)
-    | inr missing ↦ inr (Ok x, there, missing)
-  ]
+  | inl there ↦ elim (two x files n y g) [ inl here ↦ inl (Ok x, there, here) | inr missing ↦ inr (Ok x, there, missing) ]
   | inr missing ↦ inr (Err (Missing n), missing, refl)
 ]
 

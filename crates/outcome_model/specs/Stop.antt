@@ -1,5 +1,5 @@
 -- What ends the work before its texts: a file that is missing or refused (profile).
-use Rattle.std.specs.Prelude.{◌≡◌, Bool, true, false, ℕ, nat_lt, if◌then◌else◌, List, [], length, Option, Some, None, Result, Ok, Err, codes}
+use Rattle.std.specs.Prelude.{◌≡◌, ℕ, nat_lt, if◌then◌else◌, List, [], length, Option, Some, None, Result, Ok, Err, codes}
 use Rattle.std.specs.FinMap.{get}
 use Rattle.sim_base.specs.declared.fault.Refusal.{Refusal}
 use Rattle.sim_base.specs.declared.fault.Place.TheVariants as places
@@ -56,20 +56,8 @@ read_from name limit reading (Some bytes) =
 abbrev pub file_within : {X : Type 0} → ℕ → Files → List ℕ → (List ℕ → Result X Refusal) → Result X Stop
 file_within limit files name reading = read_from name limit reading (get files name)
 
--- the same of a reading that is a relation between bytes and what they give
+-- what some bytes of a file give by a relation between bytes and what they give; a refusal names the file
 abbrev pub JudgedAs : {X : Type 0} → List ℕ → (Result X Refusal → Type 0) → Result X Stop → Type 0
 JudgedAs name judges (Ok x) = judges (Ok x)
 JudgedAs name judges (Err (Missing other)) = ⊥
 JudgedAs name judges (Err (Refused other r)) = (other ≡ name) × judges (Err r)
-
-abbrev pub JudgedWithin : {X : Type 0} → Bool → List ℕ → (Result X Refusal → Type 0) → Result X Stop → Type 0
-JudgedWithin true name judges result = Err (Refused name (record { number = FileTooLong; place = places.Whole })) ≡ result
-JudgedWithin false name judges result = JudgedAs name judges result
-
-abbrev pub JudgedFrom : {X : Type 0} → List ℕ → (List ℕ → Result X Refusal → Type 0) → Option (List ℕ) → Result X Stop → Type 0
-JudgedFrom name judges None result = Err (Missing name) ≡ result
-JudgedFrom name judges (Some bytes) result = JudgedWithin (nat_lt 1048576 (length bytes)) name (judges bytes) result
-
--- a file of at most 1,048,576 bytes, judged
-abbrev pub Judged : {X : Type 0} → Files → List ℕ → (List ℕ → Result X Refusal → Type 0) → Result X Stop → Type 0
-Judged files name judges = JudgedFrom name judges (get files name)

@@ -8,7 +8,7 @@ use Rattle.sim_base.specs.declared.bench.WriteEnd.{WriteEnd}
 use Rattle.sim_base.specs.declared.bench.WriteEnd.TheVariants as writes
 use Rattle.sim_base.specs.Causes.{Rose}
 use Rattle.sim_base.specs.Outside.{Outside, Files, Grows, IsFront}
-use Rattle.outcome_model.specs.Stop.{Stop, Missing, Output, file_within, Judged}
+use Rattle.outcome_model.specs.Stop.{Stop, Missing, Output, file_within, JudgedAs}
 use Rattle.outcome_model.specs.Outcome.{Outcome, Accepted, Stopped, ReadFailed, WriteFailed, OutOfMemory, IsUntouched, IsOn, BeginsOn}
 
 -- a text was written on a port, or a first part of it where a write failed
@@ -36,10 +36,6 @@ IsFileWithin limit name reading files result = file_within limit files name read
 abbrev pub IsFile : {X : Type 0} → List ℕ → (List ℕ → Result X Refusal) → Reading X
 IsFile = IsFileWithin 1048576
 
--- one file of at most 1,048,576 bytes that is judged by a relation
-abbrev pub JudgedFile : {X : Type 0} → List ℕ → (List ℕ → Result X Refusal → Type 0) → Reading X
-JudgedFile name judges files = Judged files name judges
-
 -- what comes behind a reading
 abbrev pub Behind : {X Y : Type 0} → Result X Stop → (X → Reading Y) → Reading Y
 Behind (Ok x) next files result = next x files result
@@ -48,6 +44,10 @@ Behind (Err stop) next files result = Err stop ≡ result
 -- one reading and, where nothing ends the work, the next: each file is read and checked before the next one
 abbrev pub Then : {X Y : Type 0} → Reading X → (X → Reading Y) → Reading Y
 Then {X = X} first next files result = (x : Result X Stop) × first files x × Behind x next files result
+
+-- one file of at most 1,048,576 bytes that is judged by a relation
+abbrev pub JudgedFile : {X : Type 0} → List ℕ → (List ℕ → Result X Refusal → Type 0) → Reading X
+JudgedFile name judges = Then (IsFile name (λ bytes. Ok bytes)) (λ bytes files. JudgedAs name (judges bytes))
 
 -- the cause of an outcome that ends the reading of a file
 abbrev pub ReadStops : {X : Type 0} → Outcome → Reading X → Outside → Outside → Type 0

@@ -1,5 +1,4 @@
-use Rattle.std.proofs.Common.{ℕ, List, Ok, IfSome, codes, refl}
-use Rattle.sim_base.specs.declared.bench.Port.TheVariants as ports
+use Rattle.std.proofs.Common.{ℕ, List, Ok, IfSome, codes}
 use Rattle.outcome_model.specs.Stop.{accepted, printed}
 use Rattle.outcome_model.proofs.EndLemmas.{alone_ran}
 use Rattle.cli_work.specs.Outcomes.{outcome_of}
@@ -13,7 +12,7 @@ returns-in-Ok-clause-ends g c =
     let name : List ℕ = c.args.name.now in
     let is : IfSome a.files (λ files. ModuleAnswer name files (Ok accepted)) =
     module_answer name a.files c.in-Ok.field-0 c.in-Ok.ensures.got.0 in
-    alone_ran (ModuleAnswer name) a (g.B.Bench.outside c.read_module.new.bench) (g.B.Bench.outside c.write_text.new.bench) c.in-Ok.ensures.got.1 c.in-Ok.ensures.ports ports.Report refl (outcome_of c.write_text.result) (printed (codes "accepted\n")) is c.write_text.ensures.ran c.write_text.ensures.others
+    alone_ran (ModuleAnswer name) a (g.B.Bench.outside c.read_module.new.bench) (g.B.Bench.outside c.write_text.new.bench) c.in-Ok.ensures.got.1 c.in-Ok.ensures.ports (outcome_of c.write_text.result) (printed (codes "accepted\n")) is c.write_text.ensures.ran c.write_text.ensures.others
 
 pub returns-clause-ends : goal.returns-clause-ends
 returns-clause-ends g c = module_stops c.args.name.now (outcome_of c.in-Err.outcome) _ _ c.in-Err.ensures.got c.in-Err.ensures.ports
