@@ -1,10 +1,10 @@
 -- The answer to `twin`.
-use Rattle.cli_twin.proofs.Common.{◌≡◌, ◌∙◌, ◌+◌, ◌-◌, ◌*◌, ◌≤◌, ◌∷◌, ℕ, List, [], length, Option, None, Some, Result, Ok, Err, IfSome, refl, ap, sym, subst}
-use Rattle.cli_twin.proofs.Common.{arith, concat, append-nil, Outside, SamePorts, SameOthers, Files, Stop, Texts, printed, report_alone, Is, ReadStops, RanOn}
-use Rattle.cli_twin.proofs.Common.{SaidNothing, IsOneReading, Then, if_some, one_both, one_function, WorkIn, one_work, Pair, PairIn, other_path, paired, Found}
+use Rattle.cli_twin.proofs.Common.{◌≡◌, ◌∙◌, ◌+◌, ◌-◌, ◌*◌, ◌≤◌, ℕ, List, length, Option, None, Some, Result, Ok, Err, IfSome, refl, ap, sym, subst}
+use Rattle.cli_twin.proofs.Common.{arith, Outside, SamePorts, SameOthers, Files, Stop, Texts, printed, report_alone, Is, ReadStops, RanOn}
+use Rattle.cli_twin.proofs.Common.{IsOneReading, Then, if_some, one_both, one_function, WorkIn, one_work, Pair, PairIn, other_path, paired, Found}
 use Rattle.cli_twin.proofs.Common.{line}
 use Rattle.sim_base.specs.declared.bench.Port.TheVariants as ports
-use Rattle.outcome_model.specs.Outcome.{Outcome, Stopped, status_of}
+use Rattle.outcome_model.specs.Outcome.{Outcome}
 use Rattle.outcome_model.specs.Happens.{Counts, Ends}
 use Rattle.outcome_model.specs.Promises.{AreSame, IsOne}
 use Rattle.outcome_model.proofs.EndLemmas.{alone_ran, stopped_by}
@@ -111,7 +111,7 @@ module _ (folder other : List ℕ) (us budget : ℕ) where
     pub twin_ends : (o : Outcome) (a m b : Outside) → IfSome a.files (λ files. PairIn folder other files (Ok pair)) → m.read_faults ≡ a.read_faults → SamePorts a m →
         RanOn ports.Report o (printed text) m b → SameOthers ports.Report m b → Ends (TwinAnswer folder other us budget) o a b
     twin_ends o a m b given reads same ran others =
-        alone_ran (TwinAnswer folder other us budget) a m b reads same ports.Report refl o (printed text)
+        alone_ran (TwinAnswer folder other us budget) a m b reads same o (printed text)
         (if_some a.files _ _ (λ (files : Files) (g : PairIn folder other files (Ok pair)).
         subst (λ (t : List ℕ). TwinAnswer folder other us budget files (Ok (report_alone (printed t)))) (sym (text_told pair one two text before after found files g))
         (answer_said pair one two text before after found files g)) given) ran others
@@ -120,7 +120,3 @@ module _ (folder other : List ℕ) (us budget : ℕ) where
     twin_counts o a given = λ e.
         if_some a.files _ _ (λ (files : Files) (g : PairIn folder other files (Ok pair)).
         (line_texts budget (16 * us) pair (after - before), answer_told pair one two text before after found files g, risen before after found.twin.rose)) given
-
--- one part is the whole text
-pub one_part : (xs : List ℕ) → concat (xs ∷ []) ≡ xs
-one_part xs = append-nil xs

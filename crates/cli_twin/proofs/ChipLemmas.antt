@@ -1,7 +1,7 @@
 -- The chips of a plan that are loaded beside the board of another project.
 use Rattle.cli_twin.proofs.Common.{◌≡◌, ◌∙◌, ◌<◌, ◌≤◌, ◌+◌, ◌++◌, ◌∷◌, ℕ, List, [], length, map, take, get_or, Bool, true, false, Option, None, Some, refl, ap}
 use Rattle.cli_twin.proofs.Common.{sym, subst, arith, slice_get, unwrap_or, All, option_map, option_to_list, append-nil, length-map, map-append, take_more}
-use Rattle.cli_twin.proofs.Common.{slice_get_within, slice_get-map, Fits, Alike, SamePins, chips_before, with_chips, is_chip, SameRest, PlanKind, PlanPart}
+use Rattle.cli_twin.proofs.Common.{slice_get_within, slice_get-map, same_Some, Fits, Alike, SamePins, chips_before, with_chips, is_chip, SameRest, PlanKind, PlanPart}
 use Rattle.cli_twin.proofs.Common.{Plan, IsPlan, kinds_in, from_all, ChipSource, pins_of, AnyPart, AnyState, any, state_of, cycle_of, wakes_of, Contents}
 use Rattle.cli_twin.proofs.Common.{start_in, start_of, starts, DifferInChips, IsSamePart, AreTwins, HaveNoContacts, chip_start, chip_starts, IsLoaded}
 use Rattle.cli_twin.proofs.Common.{twin_view}
@@ -61,12 +61,9 @@ module _ (one two : Contents) (plan : Plan) (is : IsPlan (pins_of one.chips) pla
   unfolding states
   rest_starts =
       let same : Alike (λ k a b. IsSamePart a b) plan.parts plan.parts =
-      record { long = refl; each = λ k a b ea eb. (let e : a ≡ b = some_same (sym ea ∙ eb) in record { id = ap (λ (p : PlanPart). p.id) e; kind = ap (λ (p : PlanPart). p.kind) e; rest = λ stock. e }) } in
+      record { long = refl; each = λ k a b ea eb. (let e : a ≡ b = same_Some a b (sym ea ∙ eb) in record { id = ap (λ (p : PlanPart). p.id) e; kind = ap (λ (p : PlanPart). p.kind) e; rest = λ stock. e }) } in
       let differ : DifferInChips one two plan plan = record { flash = flash; pins = pins; parts = same; wiring = refl; inputs = refl } in
       ((isolated one plan is 0).worlds two plan 0 (omega arith) differ (λ t h. absurd (omega (arith, h)))).rest 0 (omega arith)
-    where
-      some_same : {a b : PlanPart} → Some a ≡ Some b → a ≡ b
-      some_same e = cc
 
   -- the one board with the other's chips is the other
   pub beside_is : with_chips plan.wiring (starts one plan.parts) (chip_starts two.budget two.chips plan.parts) ≡ starts two plan.parts

@@ -85,6 +85,9 @@ rule_given : (folder : List ℕ) (r : Result Plan Refusal) (plan : Plan) → by_
 rule_given folder (Ok made) plan e = let same : made ≡ plan = cc in ap Ok same
 rule_given folder (Err r) plan e = absurd cc
 
+ok_same : {E X : Type 0} {x y : X} → ◌≡◌ {A = Result X E} (Ok x) (Ok y) → x ≡ y
+ok_same e = cc
+
 pub was_read : (folder : List ℕ) (files : Files) (work : Work) → WorkIn folder None None files (Ok work) → WasRead work
 was_read folder files work given =
     let project = both_given (IsFile _ project_text) (BehindProject folder None None) files work given in
@@ -107,9 +110,6 @@ was_read folder files work given =
           (subst (λ (rows : List ScriptRow). by_rule folder None (plan_of project.0 board.0.0 (pins_of chips.0) rows) ≡ Ok plan.0) (sym none) plan.1);
       flash = flash_long image.0 flash.0 image.1;
     })
-  where
-    ok_same : {X : Type 0} {x y : X} → ◌≡◌ {A = Result X Stop} (Ok x) (Ok y) → x ≡ y
-    ok_same e = cc
 
 -- chips of the same names have the same places
 place_same : (name : List ℕ) (n : ℕ) (one two : List ChipFile) → names_of one ≡ names_of two →
@@ -150,13 +150,10 @@ one_plan a b names diagram pins was also =
     let plans : Ok a.plan ≡ Ok b.plan =
     sym was.plan
     ∙ plan_same a.project b.project names was.board (pins_of a.chips) []
-    ∙ ap (λ (d : Diagram). plan_of b.project d (pins_of a.chips) []) (read_same boards)
+    ∙ ap (λ (d : Diagram). plan_of b.project d (pins_of a.chips) []) (ok_same boards)
     ∙ ap (λ (p : List (List (Option (List ℕ)))). plan_of b.project also.board p []) pins
     ∙ also.plan in
-    read_same plans
-  where
-    read_same : {X : Type 0} {x y : X} → ◌≡◌ {A = Result X Refusal} (Ok x) (Ok y) → x ≡ y
-    read_same e = cc
+    ok_same plans
 
 -- without a script a plan has no inputs
 pub no_inputs : (work : Work) → length work.chips ≡ length work.project.chips → WasRead work → work.plan.inputs ≡ []

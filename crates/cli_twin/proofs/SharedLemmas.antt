@@ -2,43 +2,36 @@
 use Rattle.cli_twin.proofs.Common.{◌≡◌, ◌∙◌, ◌<◌, ◌≤◌, ◌+◌, ◌&&◌, ℕ, zero, suc, List, [], ◌∷◌, length, drop, get_or, Bool, true, false, Option, None, Some}
 use Rattle.cli_twin.proofs.Common.{refl, ap, sym, arith, inl, inr, ◌⊎◌, ◌==◌, if◌then◌else◌, slice_index, codes, bytes_eq, drop_all, drop_more, length-map}
 use Rattle.cli_twin.proofs.Common.{same_lists, same_Some, slice_get-get_or, ChipFile, same_list, ChipSource, pins_of, Work}
-use Rattle.std.proofs.lemmas.Bool.{and_parts, cases_Bool, eqb-true}
+use Rattle.std.proofs.lemmas.Bool.{and_parts, cases_Bool}
 use Rattle.std.proofs.lemmas.Bool.Decides.{nat_tests}
 use Rattle.std.proofs.lemmas.Slice.Eq.{bytes_eq-Decides}
-use Rattle.std.proofs.Math.Bool.{and-false}
 use Rattle.cli_twin.specs.Shared.{names_of, other_path, other_pins, same_below, same_pin}
 
 bytes_mean : (a b : List ℕ) → bytes_eq a b ≡ true → a ≡ b
 bytes_mean a b e = (bytes_eq-Decides a b).0 e
 
-pin_means : (a b : Option (List ℕ)) → same_pin a b ≡ true → a ≡ b
+pub pin_means : (a b : Option (List ℕ)) → same_pin a b ≡ true → a ≡ b
 pin_means None None e = refl
 pin_means (Some a) (Some b) e = ap Some (bytes_mean a b e)
-pin_means None (Some b) e = absurd cc
-pin_means (Some a) None e = absurd cc
+pin_means a b e = absurd cc
 
 module _ {A : Type 0} (same : A → A → Bool) where
   -- two lists whose items are the same are one list
   list_means : ((x y : A) → same x y ≡ true → x ≡ y) → (xs ys : List A) → same_list same xs ys ≡ true → xs ≡ ys
   list_means means [] [] e = refl
-  list_means means [] (y ∷ ys) e = absurd cc
-  list_means means (x ∷ xs) [] e = absurd cc
   list_means means (x ∷ xs) (y ∷ ys) e =
       let both = and_parts (same x y) (same_list same xs ys) e in
       let a : x ≡ y = means x y both.0 in
       let b : xs ≡ ys = list_means means xs ys both.1 in
       cc
+  list_means means xs ys e = absurd cc
 
   -- lists of other lengths are others
-  pub lengths_differ : (xs ys : List A) → (length xs ≡ length ys → ⊥) → same_list same xs ys ≡ false
-  lengths_differ [] [] other = absurd (other refl)
-  lengths_differ [] (y ∷ ys) other = refl
-  lengths_differ (x ∷ xs) [] other = refl
-  lengths_differ (x ∷ xs) (y ∷ ys) other = go (same x y) (lengths_differ xs ys (λ e. other (ap suc e)))
-    where
-      go : (b : Bool) → same_list same xs ys ≡ false → (b && same_list same xs ys) ≡ false
-      go true rest = rest
-      go false rest = refl
+  pub lengths_differ : ((x y : A) → same x y ≡ true → x ≡ y) → (xs ys : List A) → (length xs ≡ length ys → ⊥) → same_list same xs ys ≡ false
+  lengths_differ means xs ys other = elim (cases_Bool (same_list same xs ys)) [
+    | inl is ↦ absurd (other (ap (λ (l : List A). length l) (list_means means xs ys is)))
+    | inr off ↦ off
+  ]
 
 pub below_none : (a b : List ℕ) → same_below 0 a b ≡ true
 unfolding same_below
@@ -58,21 +51,9 @@ below_at (suc n) k a b e less =
     last_or : (k n : ℕ) → k < suc n → (k ≡ n) ⊎ (k < n)
     last_or k n less = grind (arith, less)
 
-other_number : (x y : ℕ) → (x ≡ y → ⊥) → (x == y) ≡ false
-other_number x y other = elim (cases_Bool (x == y)) [ inl is ↦ absurd (other (eqb-true x y is)) | inr is ↦ is ]
-
 -- another byte makes two images others
 pub below_other : (n k : ℕ) (a b : List ℕ) → k < n → (slice_index a k ≡ slice_index b k → ⊥) → same_below n a b ≡ false
-unfolding same_below
-below_other zero k a b less other = absurd (omega (arith, less))
-below_other (suc n) k a b less other = elim (last_or k n less) [
-  | inl here ↦ let at : (slice_index a n == slice_index b n) ≡ false = other_number (slice_index a n) (slice_index b n) (λ e. other (rw here e)) in
-      ap (λ (x : Bool). same_below n a b && x) at ∙ and-false (same_below n a b)
-  | inr before ↦ ap (λ (x : Bool). x && (slice_index a n == slice_index b n)) (below_other n k a b before other)
-]
-  where
-    last_or : (k n : ℕ) → k < suc n → (k ≡ n) ⊎ (k < n)
-    last_or k n less = grind (arith, less)
+below_other n k a b less other = elim (cases_Bool (same_below n a b)) [ inl is ↦ absurd (other (below_at n k a b is less)) | inr off ↦ off ]
 
 -- the same byte at one more address
 pub below_more : (n : ℕ) (a b : List ℕ) → same_below n a b ≡ true → slice_index a n ≡ slice_index b n → same_below (n + 1) a b ≡ true
@@ -99,21 +80,14 @@ module _ (files : List ChipFile) (one two : List ChipSource) (i : ℕ) (d : Chip
   unfolding other_pins
   pins_from = rw (drop_more files i d inside, drop_more one i e (omega (arith, inside, same_one)), drop_more two i f (omega (arith, inside, same_two))) refl
 
-  pub pins_same : same_list same_pin (get_or one i e).pins (get_or two i f).pins ≡ true →
-      other_pins (drop (i + 1) files) (drop (i + 1) one) (drop (i + 1) two) ≡ other_pins (drop i files) (drop i one) (drop i two)
-  pins_same is =
-      sym (pins_from ∙ ap (λ (b : Bool). if b then other_pins (drop (i + 1) files) (drop (i + 1) one) (drop (i + 1) two) else Some (get_or files i d).json) is)
-
-  pub pins_other : same_list same_pin (get_or one i e).pins (get_or two i f).pins ≡ false → Some (get_or files i d).json ≡ other_pins (drop i files) (drop i one) (drop i two)
-  pins_other is =
+  pub pins_told : (c : Bool) → same_list same_pin (get_or one i e).pins (get_or two i f).pins ≡ c →
+      (if c then other_pins (drop (i + 1) files) (drop (i + 1) one) (drop (i + 1) two) else Some (get_or files i d).json) ≡ other_pins (drop i files) (drop i one) (drop i two)
+  pins_told c is =
       sym (pins_from ∙ ap (λ (b : Bool). if b then other_pins (drop (i + 1) files) (drop (i + 1) one) (drop (i + 1) two) else Some (get_or files i d).json) is)
 
 pub pins_none : (files : List ChipFile) (one two : List ChipSource) (i : ℕ) → length files ≤ i → other_pins (drop i files) (drop i one) (drop i two) ≡ None
 unfolding other_pins
-pins_none files one two i past = rw (dropped files i past) refl
-  where
-    dropped : (files : List ChipFile) (i : ℕ) → length files ≤ i → drop i files ≡ []
-    dropped files i past = drop_all i files past
+pins_none files one two i past = rw (drop_all i files past) refl
 
 -- no pin file differs where all pins are the same
 pins_mean : (files : List ChipFile) (one two : List ChipSource) → length one ≡ length files → length two ≡ length files → other_pins files one two ≡ None → pins_of one ≡ pins_of two
@@ -133,6 +107,13 @@ pins_mean (file ∷ files) (a ∷ one) (b ∷ two) la lb e = go (same_list same_
         cc
     go false is none further = absurd cc
 
+-- chips of the same names are as many
+pub names_many : (x y : List ChipFile) → same_list bytes_eq (names_of x) (names_of y) ≡ true → length x ≡ length y
+names_many x y e =
+    let name : ChipFile → List ℕ = λ chip. chip.name in
+    let same : names_of x ≡ names_of y = list_means bytes_eq bytes_mean _ _ e in
+    sym (length-map x name) ∙ ap (λ (l : List (List ℕ)). length l) same ∙ length-map y name
+
 -- what is the same where no file differs
 pub record AreShared (a b : Work) : Type 0 where
   pub names : names_of a.project.chips ≡ names_of b.project.chips
@@ -148,22 +129,9 @@ shared a b la lb none =
         (if x then if y then if z then other_pins b.project.chips a.chips b.chips else Some (codes "diagram.json") else Some b.project.firmware else Some (codes "wokwi.toml")) ≡ None → AreShared a b
     go true true true ex ey ez e =
         let names : names_of a.project.chips ≡ names_of b.project.chips = list_means bytes_eq bytes_mean _ _ ex in
-        let name : ChipFile → List ℕ = λ chip. chip.name in
-        let many : length a.project.chips ≡ length b.project.chips =
-        sym (length-map a.project.chips name) ∙ ap (λ (l : List (List ℕ)). length l) names ∙ length-map b.project.chips name in
-        record { names = names; flash = ey; diagram = bytes_mean a.diagram b.diagram ez; pins = pins_mean b.project.chips a.chips b.chips (la ∙ many) lb e }
-    go true true false ex ey ez e = absurd cc
-    go true false z ex ey ez e = absurd cc
-    go false y z ex ey ez e = absurd cc
-
--- chips of the same names are as many
-pub names_many : (x y : List ChipFile) → same_list bytes_eq (names_of x) (names_of y) ≡ true → length x ≡ length y
-names_many x y e =
-    let name : ChipFile → List ℕ = λ chip. chip.name in
-    let same : names_of x ≡ names_of y = list_means bytes_eq bytes_mean _ _ e in
-    sym (length-map x name) ∙ ap (λ (l : List (List ℕ)). length l) same ∙ length-map y name
+        let pins = pins_mean b.project.chips a.chips b.chips (la ∙ names_many a.project.chips b.project.chips ex) lb e in
+        record { names = names; flash = ey; diagram = bytes_mean a.diagram b.diagram ez; pins = pins }
+    go x y z ex ey ez e = absurd cc
 
 pub names_differ : (x y : List ChipFile) → (length x ≡ length y → ⊥) → same_list bytes_eq (names_of x) (names_of y) ≡ false
-names_differ x y other =
-    let name : ChipFile → List ℕ = λ chip. chip.name in
-    lengths_differ bytes_eq (names_of x) (names_of y) (λ e. other (sym (length-map x name) ∙ e ∙ length-map y name))
+names_differ x y other = elim (cases_Bool (same_list bytes_eq (names_of x) (names_of y))) [ inl is ↦ absurd (other (names_many x y is)) | inr off ↦ off ]

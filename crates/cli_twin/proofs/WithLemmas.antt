@@ -1,31 +1,16 @@
 -- A board with other chips, where these are found among those of the parts that are chips.
 use Rattle.cli_twin.proofs.Common.{◌≡◌, ◌∙◌, ◌<◌, ◌≤◌, ◌+◌, ◌++◌, ℕ, zero, suc, List, [], ◌∷◌, length, map, Bool, true, false, Option, None, Some, refl, ap}
-use Rattle.cli_twin.proofs.Common.{sym, arith, inl, inr, slice_get, unwrap_or, if◌then◌else◌, flat_map, option_map, option_to_list, same_Some, slice_get_cases}
-use Rattle.cli_twin.proofs.Common.{slice_get_within, slice_get-map, Wiring, Fits, Alike, SamePins, chips_before, with_chips, is_chip, SameRest}
+use Rattle.cli_twin.proofs.Common.{sym, arith, inl, inr, slice_get, unwrap_or, if◌then◌else◌, flat_map, option_to_list, same_Some, slice_get_cases}
+use Rattle.cli_twin.proofs.Common.{slice_get_within, Wiring, Fits, SamePins, chips_before, with_chips, is_chip, SameRest}
 use Rattle.std.proofs.lemmas.List.Concat.{flat_map-cons}
 use Rattle.part_law.specs.Machine.{Machine}
-use Rattle.board_laws.proofs.AlikeLemmas.{alike_tail}
+use Rattle.board_model.proofs.Lists.{get_map_some, same_lists}
 use Rattle.board_laws.proofs.WithChips.{get-with_chips, rest_with_chips}
 use Rattle.board_run.proofs.PartLemmas.{end_is}
-
--- lists with the same items are one list
-items_same : {A : Type 0} (xs ys : List A) → Alike (λ k a b. a ≡ b) xs ys → xs ≡ ys
-items_same [] [] like = refl
-items_same [] (y ∷ ys) like = let l = like.long in absurd (omega (arith, l))
-items_same (x ∷ xs) [] like = let l = like.long in absurd (omega (arith, l))
-items_same (x ∷ xs) (y ∷ ys) like =
-    let a : x ≡ y = like.each 0 x y refl refl in
-    let b : xs ≡ ys = items_same xs ys (alike_tail (λ k a b. a ≡ b) x y xs ys like) in
-    cc
 
 -- an item that there is
 pub item_there : {A : Type 0} (xs : List A) (k : ℕ) → k < length xs → (x : A) × (slice_get xs k ≡ Some x)
 item_there xs k less = elim (slice_get_cases xs k).1 [ inl x ↦ (x.0, x.2) | inr past ↦ absurd (omega (arith, past.0, less)) ]
-
--- what is the image of an item has one
-from_mapped : {A B : Type 0} (f : A → B) (o : Option A) (b : B) → option_map f o ≡ Some b → (a : A) × (o ≡ Some a)
-from_mapped f None b e = absurd cc
-from_mapped f (Some a) b e = (a, refl)
 
 module _ (w : Wiring) where
   -- the wiring says so of each chip
@@ -104,7 +89,7 @@ module _ (w : Wiring) where
 
   -- where all else is the same, the board with another's chips is the other
   pub with_same : {S : Type 0} (xs ys chips : List S) → SameRest w xs ys → ((k : ℕ) → is_chip w k ≡ true → slice_get chips (chips_before w k) ≡ slice_get ys k) → with_chips w xs chips ≡ ys
-  with_same {S = S} xs ys chips rest are = items_same (with_chips w xs chips) ys (record { long = sym with_rest.long ∙ rest.long; each = each })
+  with_same {S = S} xs ys chips rest are = same_lists (with_chips w xs chips) ys (sym with_rest.long ∙ rest.long) each
     where
       with_rest : SameRest w xs (with_chips w xs chips)
       with_rest = rest_with_chips w xs chips
@@ -137,4 +122,5 @@ module _ (w : Wiring) where
       (k : ℕ) → is_chip w k ≡ true → (q : P) × (slice_get parts (chips_before w k) ≡ Some q)
   chips_there state parts ys long are k is =
       let s = item_there ys k (omega (arith, chip_inside k is, long)) in
-      from_mapped state (slice_get parts (chips_before w k)) s.0 (sym (slice_get-map state parts (chips_before w k)) ∙ are k is ∙ s.1)
+      let p = get_map_some state parts (chips_before w k) s.0 (are k is ∙ s.1) in
+      (p.0, p.1)

@@ -29,9 +29,7 @@ module _ (budget n : ℕ) (pair : Pair) where
 
   -- the texts of so many wakes: the line on Report
   abbrev pub line_texts : ℕ → Texts
-  line_texts wakes =
-      let out = report_alone (printed pair_line) in
-      record { serial = out.serial; wave = out.wave; report = out.report; wakes = wakes }
+  line_texts wakes = record (report_alone (printed pair_line)) { wakes = wakes }
 
   -- the pairs of a cycle before the difference and a part of the first board, or a chip of the second, that is active in it
   abbrev pub pair_wakes : ℕ
