@@ -1,21 +1,14 @@
 -- A part of a board, or a player in a chip's place, as one machine (profile).
 use Rattle.std.specs.Prelude.{◌⊎◌, ℕ}
-use Rattle.part_law.specs.Machine.{Laws}
-use Rattle.part_law.specs.Either.{either_laws}
 use Rattle.either_part.specs.EitherPart.{either_state, on_either}
 use Rattle.either_part.specs.declared.either.Either.{Either}
-use Rattle.board_laws.specs.Player.{PlayerState, player}
-use Rattle.board_laws.specs.PlayerLaws.{player_laws}
-use Rattle.board_laws.specs.Play.{or_player}
-use Rattle.any_part.specs.AnyPart.{AnyState, AnyPart, any, any_laws}
+use Rattle.board_laws.specs.Player.{PlayerState}
+use Rattle.any_part.specs.AnyPart.{AnyState, AnyPart}
 use Rattle.any_part.specs.AnyPart as parts
 use Rattle.trace_run.specs.PlayerAt.{PlayerAt}
 
 abbrev pub PlayedState : Type 0
 PlayedState = AnyState ⊎ PlayerState
-
-pub played_laws : Laws (or_player any)
-played_laws = either_laws any player any_laws player_laws
 
 -- a part with what is known of it besides its state
 abbrev pub PlayedPart : Type 0
