@@ -276,6 +276,8 @@ def check_words():
                     raise AssertionError(words)
                 except SystemExit as ended:
                     assert ended.code == 2, words
+        with open(os.path.join(box, "box.ino"), "w", encoding="ascii"):
+            pass
         with quiet():
             with contextlib.redirect_stderr(io.StringIO()) as said:
                 assert main([box, "--us", "10", "-o", out]) == 4
