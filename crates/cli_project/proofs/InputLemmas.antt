@@ -6,7 +6,7 @@ use Rattle.std.proofs.lemmas.Bool.{ltb-false, or_parts}
 use Rattle.std.proofs.lemmas.Option.{slice_get-map}
 use Rattle.sim_base.specs.declared.wiring.Input.{Input}
 use Rattle.sim_base.specs.Refusals.{ScriptOrder, ScriptLimit}
-use Rattle.sim_base.specs.declared.limits.TheConstants.{MOST_CYCLES}
+use Rattle.sim_base.specs.declared.limits.TheConstants.{LONGEST_RUN}
 use Rattle.text_model.specs.Lines.{lines}
 use Rattle.script_text.specs.declared.action.Action.{Action}
 use Rattle.script_text.specs.Script.{Verdict, Passed, Acts, Faulty, words, is_passed, action_of, judged, verdict, after, row_of, with_rows, rows_from, script_of}
@@ -14,18 +14,18 @@ use Rattle.board_model.specs.Fits.{AreInputs}
 use Rattle.cli_work.specs.Documents.{IsRead}
 
 -- an action's time is not below the one before
-not_below : (last count : ℕ) (action x : Action) (p q : Bool) → (nat_lt x.cycle last || nat_lt MOST_CYCLES x.cycle) ≡ p →
+not_below : (last count : ℕ) (action x : Action) (p q : Bool) → (nat_lt x.cycle last || nat_lt LONGEST_RUN x.cycle) ≡ p →
     (if p then Faulty ScriptOrder else if q then Faulty ScriptLimit else Acts x) ≡ Acts action → last ≤ action.cycle
 not_below last count action x true q h e = absurd (cc)
 not_below last count action x false true h e = absurd (cc)
 not_below last count action x false false h e =
     let same : x ≡ action = cc in
-    subst (λ (y : Action). last ≤ y.cycle) same (ltb-false x.cycle last (or_parts (nat_lt x.cycle last) (nat_lt MOST_CYCLES x.cycle) h).0)
+    subst (λ (y : Action). last ≤ y.cycle) same (ltb-false x.cycle last (or_parts (nat_lt x.cycle last) (nat_lt LONGEST_RUN x.cycle) h).0)
 
 acts_after : (last count : ℕ) (action : Action) (passed : Bool) (o : Option Action) → (if passed then Passed else judged last count o) ≡ Acts action → last ≤ action.cycle
 acts_after last count action true o e = absurd (cc)
 acts_after last count action false None e = absurd (cc)
-acts_after last count action false (Some x) e = not_below last count action x (nat_lt x.cycle last || nat_lt MOST_CYCLES x.cycle) (nat_le 4096 count) refl e
+acts_after last count action false (Some x) e = not_below last count action x (nat_lt x.cycle last || nat_lt LONGEST_RUN x.cycle) (nat_le 4096 count) refl e
 
 with_one : (row : ScriptRow) (r : Result (List ScriptRow) Refusal) (rows : List ScriptRow) → with_rows (row ∷ []) r ≡ Ok rows → (more : List ScriptRow) × (r ≡ Ok more) × (row ∷ more ≡ rows)
 with_one row (Ok more) rows e = (more, refl, cc)

@@ -2,7 +2,7 @@
 use Rattle.std.proofs.Common.{◌≡◌, ◌∙◌, ◌≤◌, ◌<◌, ◌*◌, ℕ, List, length, Option, None, Some, Result, Ok, Err, IfSome, ap, sym, refl, ◌⊎◌, inl, inr, arith}
 use Rattle.sim_base.specs.Outside.{Outside, SamePorts, Files}
 use Rattle.sim_base.specs.declared.fault.Refusal.{Refusal}
-use Rattle.sim_base.specs.declared.limits.TheConstants.{MOST_CYCLES}
+use Rattle.sim_base.specs.declared.limits.TheConstants.{LONGEST_RUN}
 use Rattle.outcome_model.specs.Stop.{Refused}
 use Rattle.outcome_model.specs.Outcome.{Outcome, Stopped, OutOfMemory}
 use Rattle.outcome_model.specs.Work.{Reading, ReadStops, Then}
@@ -48,7 +48,7 @@ texts_same out wave wave_b bytes bytes_b rest rest_b wakes a b c =
 one_read : (x y : List DriveRows) → ◌≡◌ {A = Result (List DriveRows) Refusal} (Ok x) (Ok y) → x ≡ y
 one_read x y e = cc
 
-module _ (n : ℕ) (some : 0 < n) (most : n ≤ MOST_CYCLES) (p : declared.Play) (ready : IsReady n p) where
+module _ (n : ℕ) (some : 0 < n) (most : n ≤ LONGEST_RUN) (p : declared.Play) (ready : IsReady n p) where
   abbrev plan : Plan
   plan = p.work.plan
 
@@ -95,7 +95,7 @@ module _ (n : ℕ) (some : 0 < n) (most : n ≤ MOST_CYCLES) (p : declared.Play)
       (wave_same budget is) (bytes_same budget is) (rest_same budget is)
 
 -- What the wave of a work says, where the work is ready for a run of n cycles.
-module _ (name : List ℕ) (n : ℕ) (some : 0 < n) (most : n ≤ MOST_CYCLES) where
+module _ (name : List ℕ) (n : ℕ) (some : 0 < n) (most : n ≤ LONGEST_RUN) where
   pub repeats_got : (p : declared.Play) → IsReady n p → (a : Outside) → IfSome a.files (λ files. RowsIn name n (work_of p.work) files (Ok (play_of p))) →
       IfSome a.files (λ files. RepeatIn name n (work_of p.work) files (Ok (play_of p)))
   repeats_got p ready a read = if_some a.files _ _ (λ (files : Files) (e : RowsIn name n (work_of p.work) files (Ok (play_of p))). (e, repeats n some most p ready)) read

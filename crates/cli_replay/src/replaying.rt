@@ -19,7 +19,7 @@ use cli_board::{Loaded, make_head, write_run};
 use cli_project::{ScriptedProject, Work, read_work};
 use cli_work::{Stop, WorkEnd, stopped};
 use played_part::load_played;
-use sim_base::{Bench, Fault, MOST_CYCLES, Steps};
+use sim_base::{Bench, Fault, LONGEST_RUN, MOST_CYCLES, Steps};
 use std::alloc::Global;
 use std::mem::drop;
 use std::sync::ledger::Ledger;
@@ -33,11 +33,11 @@ struct Play {
     rows: DriveRows,
 }
 
-/// What the wave of a work says in `n` cycles, at most `MOST_CYCLES`.
+/// What the wave of a work says in `n` cycles, at most `LONGEST_RUN`.
 fn read_rows(alloc: Global, name: &str, work: Work, n: u32) -> Result<Play, WorkEnd>
     requires sound { IsSound (work_of work) }
     requires some { 0 < n }
-    requires end { n ≤ MOST_CYCLES }
+    requires end { n ≤ LONGEST_RUN }
     ensures got { (a : Outside) → Got play_of outcome_of result (RowsIn name.now n (work_of work)) a a }
     ensures repeated { (a : Outside) → Got play_of outcome_of result (RepeatIn name.now n (work_of work)) a a }
     ensures ready { IfOk result (IsReady n) }
@@ -70,7 +70,7 @@ fn read_play<B: Bench>(
     bench: &mut B,
 ) -> Result<Play, WorkEnd>
     requires some { 0 < n }
-    requires end { n ≤ MOST_CYCLES }
+    requires end { n ≤ LONGEST_RUN }
     ensures got { Got play_of outcome_of result (PlayIn scripted.entry.folder.now wave.now (script_path scripted.entry) n)
         (B.outside bench.old) (B.outside bench.new) }
     ensures repeated { Got play_of outcome_of result

@@ -5,7 +5,7 @@ use Rattle.std.specs.Str.{bytes_eq}
 use Rattle.sim_base.specs.declared.fault.Refusal.{Refusal}
 use Rattle.sim_base.specs.declared.fault.Place.TheVariants as places
 use Rattle.sim_base.specs.Refusals.{ScriptLine, ScriptOrder, ScriptLimit}
-use Rattle.sim_base.specs.declared.limits.TheConstants.{MOST_CYCLES}
+use Rattle.sim_base.specs.declared.limits.TheConstants.{LONGEST_RUN}
 use Rattle.text_model.specs.Lines.{lines, before_first_line}
 use Rattle.numerals.specs.Numerals.{numeral}
 use Rattle.document_model.specs.Diagram.{is_id}
@@ -71,7 +71,7 @@ is_passed (b ∷ bs) = b == 35
 abbrev pub judged : ℕ → ℕ → Option Action → Verdict
 judged last count None = Faulty ScriptLine
 judged last count (Some action) =
-    if nat_lt action.cycle last || nat_lt MOST_CYCLES action.cycle then Faulty ScriptOrder
+    if nat_lt action.cycle last || nat_lt LONGEST_RUN action.cycle then Faulty ScriptOrder
     else if nat_le 4096 count then Faulty ScriptLimit
     else Acts action
 

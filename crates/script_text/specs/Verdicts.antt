@@ -1,6 +1,6 @@
 -- What a line that was read is for.
 use Rattle.std.specs.Prelude.{ℕ, List, [], Option, None, Some, ◌≡◌, ◌≤◌, ◌<◌}
-use Rattle.sim_base.specs.declared.limits.TheConstants.{MOST_CYCLES}
+use Rattle.sim_base.specs.declared.limits.TheConstants.{LONGEST_RUN}
 use Rattle.script_text.specs.declared.action.Line.{Line}
 use Rattle.script_text.specs.declared.action.Line.TheVariants as line
 use Rattle.script_text.specs.Script.{Verdict, Passed, Acts, Faulty, words}
@@ -13,7 +13,7 @@ seen (line.Faulty number) = Faulty number
 -- the time of an action is one of a run, and its value is small
 abbrev pub IsFitting : Line → Type 0
 IsFitting line.Passed = Unit {0}
-IsFitting (line.Acts action) = (action.cycle ≤ MOST_CYCLES) × (action.value < 1048576)
+IsFitting (line.Acts action) = (action.cycle ≤ LONGEST_RUN) × (action.value < 1048576)
 IsFitting (line.Faulty number) = Unit {0}
 
 -- the words of what follows a word, where anything does

@@ -8,7 +8,7 @@ use crate::words::next_word;
 use diagram_json::read_id;
 use numerals::read_numeral;
 use sim_base::refusals::{SCRIPT_LIMIT, SCRIPT_LINE, SCRIPT_ORDER};
-use sim_base::{MOST_CYCLES, Name};
+use sim_base::{LONGEST_RUN, Name};
 
 /// What a line does: the part gets the value in the cycle.
 #[derive(Drop)]
@@ -122,7 +122,7 @@ pub fn read_line(line: &[u8], last: u32, count: usize) -> Line
     }
     match read_action(line) {
         None => Line::Faulty(SCRIPT_LINE),
-        Some(action) if action.cycle < u64::from(last) || action.cycle > u64::from(MOST_CYCLES) => {
+        Some(action) if action.cycle < u64::from(last) || action.cycle > u64::from(LONGEST_RUN) => {
             Line::Faulty(SCRIPT_ORDER)
         }
         Some(_) if count >= 4096 => Line::Faulty(SCRIPT_LIMIT),

@@ -22,7 +22,7 @@ pub use bench::{Bench, Port, ReadEnd, WriteEnd};
 pub use display::Display;
 pub use fault::{Fault, OutOfMemory, Place, Refusal};
 pub use flash::Flash;
-pub use limits::MOST_CYCLES;
+pub use limits::{LONGEST_RUN, MOST_CYCLES};
 pub use list::List;
 pub use mem_bench::MemBench;
 pub use name::Name;

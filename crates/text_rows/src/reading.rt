@@ -8,7 +8,7 @@ use crate::answer::Answer;
 use crate::refused::refused;
 use crate::row::str_of;
 use crate::wave::head_of;
-use sim_base::{Drive, MOST_CYCLES, OutOfMemory};
+use sim_base::{Drive, LONGEST_RUN, OutOfMemory};
 use std::alloc::{AllocError, Global};
 use vcd_text::{WaveHead, read_wave};
 
@@ -22,7 +22,7 @@ pub fn reading_answer(alloc: Global, made: &mut Answer, row: &[u8]) {
         .parse::<u32>()
         .unwrap_or(0);
     let text = fields.next().unwrap_or("").trim_start();
-    if n > MOST_CYCLES {
+    if n > LONGEST_RUN {
         made.run_out();
         return;
     }
@@ -34,7 +34,7 @@ pub fn reading_answer(alloc: Global, made: &mut Answer, row: &[u8]) {
 
 /// What a text says of the pins, after the head if it asks for it.
 fn read_after(alloc: Global, made: &mut Answer, head: &WaveHead, n: u32, text: &str)
-    requires { n ≤ MOST_CYCLES }
+    requires { n ≤ LONGEST_RUN }
 {
     match whole_text(alloc, head, text) {
         Ok(bytes) => read_bytes(alloc, made, head, n, bytes.as_slice()),
@@ -43,7 +43,7 @@ fn read_after(alloc: Global, made: &mut Answer, head: &WaveHead, n: u32, text: &
 }
 
 fn read_bytes(alloc: Global, made: &mut Answer, head: &WaveHead, n: u32, bytes: &[u8])
-    requires { n ≤ MOST_CYCLES }
+    requires { n ≤ LONGEST_RUN }
 {
     if bytes.len() > 1_048_576 {
         made.run_out();

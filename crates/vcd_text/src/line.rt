@@ -1,6 +1,6 @@
 //! One line of a wave that is read, of these variables.
 ghost use Rattle.std.specs.Prelude.{◌≡◌, ◌≤◌, ◌<◌, Some, length};
-ghost use Rattle.sim_base.specs.declared.limits.TheConstants.{MOST_CYCLES};
+ghost use Rattle.sim_base.specs.declared.limits.TheConstants.{LONGEST_RUN};
 ghost use Rattle.vcd_text.specs.Lines.{IsFitting};
 ghost use Rattle.vcd_text.specs.Reading.{is_over, kinds, shows_net, verdict};
 ghost use Rattle.vcd_text.specs.Variables.{source_of, variables_of};
@@ -36,7 +36,7 @@ pub(crate) fn read_line(
     cycle: u32,
     line: &[u8],
 ) -> Line
-    requires { n ≤ MOST_CYCLES }
+    requires { n ≤ LONGEST_RUN }
     ensures said { result ≡ verdict (variables_of variables.now) n stage cycle line.now }
     ensures fits { IsFitting (variables_of variables.now) n cycle result }
 {

@@ -1,6 +1,6 @@
 //! A wave that is read back.
 ghost use Rattle.std.specs.Prelude.{◌≡◌, ◌<◌, ◌≤◌, length, IfOk};
-ghost use Rattle.sim_base.specs.declared.limits.TheConstants.{MOST_CYCLES};
+ghost use Rattle.sim_base.specs.declared.limits.TheConstants.{LONGEST_RUN};
 ghost use Rattle.sim_base.specs.Reads.{Reads};
 ghost use Rattle.vcd_text.specs.Tracks.{wave_rows};
 
@@ -23,7 +23,7 @@ pub fn read_wave(
     bytes: &[u8],
 ) -> Result<DriveRows, Fault>
     requires short { length bytes.now < 4294967295 }
-    requires end { n ≤ MOST_CYCLES }
+    requires end { n ≤ LONGEST_RUN }
     ensures reads { Reads (λ rows. rows) result (wave_rows head.now.variables pins n bytes.now) }
     ensures pins { IfOk result (λ rows. length rows ≡ pins) }
 {

@@ -5,7 +5,7 @@ ghost use Rattle.wave_decode.specs.Levels.{below, is_opened, last_cycle, level_o
 ghost use Rattle.wave_decode.specs.Fitting.{IsFitting};
 
 use sim_base::refusals::WAVE_NAME;
-use sim_base::{Level, MOST_CYCLES};
+use sim_base::{LONGEST_RUN, Level};
 use wave_lines::{Line, Stage};
 
 fn value_of_variable(variables: usize, i: usize, value: u8) -> Line
@@ -23,7 +23,7 @@ pub(crate) fn read_line(variables: usize, stage: Stage, cycle: u32, line: &[u8])
     ensures said { result ≡ verdict (below variables) last_cycle stage cycle line.now }
     ensures fits { IsFitting variables cycle result }
 {
-    match wave_lines::read_line(MOST_CYCLES, stage, cycle, line) {
+    match wave_lines::read_line(LONGEST_RUN, stage, cycle, line) {
         Line::Goes(next) => Line::Goes(next),
         Line::Time(next) => Line::Time(next),
         Line::Value(i, value) => value_of_variable(variables, i, value),

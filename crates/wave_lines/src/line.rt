@@ -4,7 +4,7 @@ ghost use Rattle.std.specs.List.{list_all};
 ghost use Rattle.std.specs.Char.{digit_value, is_ascii_digit};
 ghost use Rattle.std.specs.Str.{bytes_eq};
 ghost use Rattle.numerals.specs.Numerals.{value_of};
-ghost use Rattle.sim_base.specs.declared.limits.TheConstants.{MOST_CYCLES};
+ghost use Rattle.sim_base.specs.declared.limits.TheConstants.{LONGEST_RUN};
 ghost use Rattle.sim_base.specs.Refusals.{WaveLine};
 ghost use Rattle.wave_lines.specs.Reading.{after_value, is_decimal, is_printable, is_value, judged, line_said, number_of, time_said, value_said};
 ghost use Rattle.wave_lines.specs.Timely.{latest, IsTimely};
@@ -87,7 +87,7 @@ fn decimal(digits: &[u8]) -> Option<u64>
 }
 
 fn judge(n: u32, cycle: u32, time: u64) -> Line
-    requires { n ≤ MOST_CYCLES }
+    requires { n ≤ LONGEST_RUN }
     ensures { result ≡ judged n cycle time }
 {
     if time % 625 == 0 && 625 * u64::from(cycle) < time && time <= 625 * u64::from(n) {
@@ -98,7 +98,7 @@ fn judge(n: u32, cycle: u32, time: u64) -> Line
 }
 
 fn read_time(n: u32, cycle: u32, line: &[u8]) -> Line
-    requires { n ≤ MOST_CYCLES }
+    requires { n ≤ LONGEST_RUN }
     ensures { result ≡ time_said n cycle line.now }
 {
     match line {
@@ -162,7 +162,7 @@ fn exactly(line: &[u8], text: &[u8], next: Stage) -> Line
 /// What a line says in a stage, behind the time of a cycle, in a wave of `n` cycles, whichever
 /// variables there are.
 pub fn read_line(n: u32, stage: Stage, cycle: u32, line: &[u8]) -> Line
-    requires { n ≤ MOST_CYCLES }
+    requires { n ≤ LONGEST_RUN }
     ensures said { result ≡ line_said n stage cycle line.now }
     ensures fits { IsTimely n cycle result }
 {
