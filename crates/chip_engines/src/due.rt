@@ -4,7 +4,7 @@ ghost use Rattle.chip_engines.specs.FirstDue.{due_from, earlier};
 
 use sim_base::MOST_CYCLES;
 
-/// An event, if it lies in a cycle from this one on, and below the end of the longest run.
+/// An event, if it lies in a cycle from this one on, and below the end of a board's time.
 pub fn due_from(from: u32, due: Option<u64>) -> Option<u32>
     ensures { result ≡ due_from from due }
 {

@@ -191,7 +191,7 @@ fn due(engine: &Engine, turn: &Turn) -> Option<u32> {
     first_engine(&places, turn.next())
 }
 
-/// What it asks for; after nothing the next cycle comes. None where a request is open, or at the end of the longest run.
+/// What it asks for; after nothing the next cycle comes. None where a request is open, or at the end of a board's time.
 fn asked(engine: &mut Engine, turn: &mut Turn) -> Option<Option<EngineRequest>>
     requires sound { IsEngine engine.old }
     ensures sound { IsEngine engine.new }

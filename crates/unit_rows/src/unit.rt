@@ -11,7 +11,7 @@
 //! - `asks=18`, `asks=none`: the vector that it requests; `enters=18`: that one is entered
 //! - `drive1=Z`, `drive1.out=L`, `drive1.set=H`: what the pin drives: H, L, PullHigh or Z, and so with its DDR bit set, or
 //!   with its bits of DDR and PORT set
-//! - `rests`: no event is to come, and none once the longest run is over
+//! - `rests`: no event is to come, and none at the end of a board's time
 //! - `wdr`: what WDR does; `resets`, `lasts`: whether the step of its cycle ends in a reset; `restart`: the reset
 //! - `rouses`, `dozes`: whether something of its own ends power-down
 ghost use Rattle.std.specs.Prelude.{◌≡◌, ℕ, Some, true};
@@ -117,7 +117,7 @@ fn goes_over<U: Unit>(unit: &mut U, turn: &mut Turn, value: &str) -> bool
     }
 }
 
-/// Goes to the end of the longest run, before and behind which no event is to come.
+/// Goes to the end of a board's time, before and behind which no event is to come.
 fn rests<U: Unit>(unit: &mut U, turn: &mut Turn) -> bool
     requires here { (U.shows unit.old).cycle ≡ turn.old.cycle }
     ensures here { (U.shows unit.new).cycle ≡ turn.new.cycle }
