@@ -1,5 +1,5 @@
 //! A list that contracts see as a list.
-ghost use Rattle.std.specs.Prelude.{◌≡◌, ℕ, [], ◌∷◌, ◌++◌, length, OnOk, OnErr, slice_get, slice_set, take, drop, Some, ◌<◌, option_copied, option_map};
+ghost use Rattle.std.specs.Prelude.{◌≡◌, ℕ, [], ◌∷◌, ◌++◌, length, OnOk, OnErr, slice_get, slice_set, take, drop, Some, ◌<◌, ◌≤◌, insert, option_copied, option_map};
 ghost use Rattle.std.specs.Borrow.{Array, Lends, sem};
 ghost use Rattle.sim_base.specs.contracts.list.List.{the_row};
 
@@ -83,6 +83,16 @@ impl<T: Drop> List<T> {
         ensures err { OnErr result (self.new ≡ self.old) }
     {
         self.items.push(item)?;
+        Ok(())
+    }
+
+    /// Puts an item at a place, before the one that stands there; if memory runs out, the list is as before.
+    pub fn insert(&mut self, i: usize, item: T) -> Result<(), OutOfMemory>
+        requires { i ≤ length self.old }
+        ensures ok { OnOk result (self.new ≡ insert self.old i item) }
+        ensures err { OnErr result (self.new ≡ self.old) }
+    {
+        self.items.insert(i, item)?;
         Ok(())
     }
 }
