@@ -19,3 +19,4 @@ pub mod WithChips
 pub mod InForceLaw
 pub mod StandsLaw
 pub mod SteadyLaw
+pub mod ScriptLaw
