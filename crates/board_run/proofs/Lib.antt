@@ -16,3 +16,4 @@ pub mod NextLemmas
 pub mod AloneLemmas
 pub mod EngineLemmas
 pub mod ViewLemmas
+pub mod GiveLemmas
