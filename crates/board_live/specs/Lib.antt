@@ -1,0 +1,3 @@
+pub mod LiveView
+pub mod Follows
+pub mod Played

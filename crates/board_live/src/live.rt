@@ -1,0 +1,115 @@
+//! A live board.
+ghost use Rattle.std.specs.Prelude.{◌≡◌, ℕ, ◌+◌, ◌<◌, ◌≤◌, List, length, map, true, false, None, OnOk, OnErr};
+ghost use Rattle.sim_base.specs.Causes.{Rose};
+ghost use Rattle.board_model.specs.Fits.{AreInputs};
+ghost use Rattle.board_laws.specs.Scripts.{with_input, SameRun};
+ghost use Rattle.board_live.specs.LiveView.{LiveView, states_by, wakes_by};
+ghost use Rattle.board_live.specs.Follows.{Follows, StoppedBefore};
+
+use board_run::{Board, RunEnd};
+use part_law::Part;
+use sim_base::{Input, List, MOST_CYCLES, OutOfMemory, Steps, Watcher};
+use std::marker::Model;
+use std::snapshot::Snapshot;
+use std::sync::ledger::Ledger;
+
+/// A board that runs from cycle 0 as far as it is told, and takes values for its parts on the way.
+#[derive(Drop)]
+pub struct LiveBoard<P: Part> {
+    board: Board<P>,
+    /// The parts at cycle 0, which clauses alone read.
+    start: Snapshot<List<P>>,
+}
+
+impl<P: Part> Model for LiveBoard<P> {
+    ghost use Rattle.board_live.specs.LiveView.{LiveView};
+    ghost use Rattle.board_live.specs.Played.{IsPlayed};
+
+    ghost Value = { LiveView P };
+
+    ghost view = { λ a. record {
+      start = a.start.value;
+      wiring = a.board.wiring;
+      inputs = a.board.inputs;
+      cycle = a.board.cycle;
+      over = a.board.given_up;
+    } };
+
+    ghost invariant = { λ a. IsPlayed P.Part a.start.value a.board };
+}
+
+impl<P: Part> LiveBoard<P> {
+    /// A live board over a board at cycle 0. The values of its script count as given.
+    pub fn open(board: Board<P>) -> LiveBoard<P>
+        requires cycle { board.cycle ≡ 0 }
+        requires alive { board.given_up ≡ false }
+        requires before { board.before ≡ None }
+        requires inputs { AreInputs (length board.parts) board.inputs }
+        ensures { result ≡ record { start = board.parts; wiring = board.wiring; inputs = board.inputs; cycle = 0; over = false } }
+    {
+        let start = Snapshot::of(board.parts());
+        LiveBoard { board, start }
+    }
+
+    /// The cycle whose step comes next.
+    pub fn cycle(&self) -> u32
+        requires { self.now.over ≡ false }
+        ensures { result ≡ self.now.cycle }
+    {
+        self.board.cycle()
+    }
+
+    /// The parts as they stand.
+    pub fn parts(&self) -> &List<P>
+        requires { self.now.over ≡ false }
+        ensures { map P.state result.now ≡ states_by P.Part self.now self.now.cycle }
+    {
+        self.board.parts()
+    }
+
+    /// All values that were given, in the order of their cycles: the script of a run that hands out the same.
+    pub fn inputs(&self) -> &List<Input>
+        ensures values { result.now ≡ self.now.inputs }
+        ensures script { AreInputs (length self.now.start) self.now.inputs }
+    {
+        self.board.inputs()
+    }
+
+    /// Gives a part a value in the live board's cycle or a later one. Where a part has several in one cycle, the last counts.
+    /// If memory runs out, the live board is as before.
+    pub fn give(&mut self, input: Input) -> Result<(), OutOfMemory>
+        requires later { self.old.cycle ≤ input.cycle }
+        requires part { input.part < length self.old.start }
+        ensures ok { OnOk result (self.new ≡ record self.old { inputs = with_input self.old.inputs input }) }
+        ensures err { OnErr result (self.new ≡ self.old) }
+        ensures past { (n : ℕ) → n ≤ self.old.cycle
+            → SameRun P.machine self.old.wiring self.old.inputs self.new.inputs None (map P.state self.old.start) 0 n }
+    {
+        self.board.give(input)
+    }
+
+    /// Goes on to cycle n, at most `MOST_CYCLES`, and hands out what the cycles before n show. If a write fails, the live board is over.
+    pub fn run_to<W: Watcher, L: Ledger>(
+        &mut self,
+        n: u32,
+        out: &mut W,
+        steps: &mut Steps<L>,
+    ) -> RunEnd
+        requires alive { self.old.over ≡ false }
+        requires order { self.old.cycle ≤ n }
+        requires end { n ≤ MOST_CYCLES }
+        requires follows { Follows P.Part W.Watcher self.old out.old }
+        ensures live { result ≡ RunEnd.Done → self.new ≡ record self.old { cycle = n } }
+        ensures follows { result ≡ RunEnd.Done → Follows P.Part W.Watcher self.new out.new }
+        ensures steps { result ≡ RunEnd.Done → steps.new + wakes_by P.Part self.old self.old.cycle ≡ steps.old + wakes_by P.Part self.old n }
+        ensures over { result ≡ RunEnd.WriteFault → self.new.over ≡ true }
+        ensures fault { result ≡ RunEnd.WriteFault → Rose (W.faults out.old) (W.faults out.new) }
+        ensures stopped { result ≡ RunEnd.WriteFault → StoppedBefore P.Part W.Watcher self.old n out.new }
+        ensures place { W.place out.new ≡ W.place out.old }
+    {
+        if n <= self.board.cycle() {
+            return RunEnd::Done;
+        }
+        self.board.run(n, out, steps)
+    }
+}
