@@ -10,11 +10,13 @@ use Rattle.vcd_text.specs.Chains.{HasSeen}
 use Rattle.vcd_text.specs.Heads.{HeadState, gathered}
 use Rattle.vcd_text.specs.Ports.{texts, Leaves, BreaksOff}
 use Rattle.vcd_text.specs.declared.writer.WaveWriter.{WaveWriter}
+use Rattle.vcd_text.specs.declared.writer.WaveMark.{WaveMark}
 
--- What no call of a writer changes: the reference that it holds, the environment as it was lent, and
--- what it is to write.
+-- What no call of a writer changes: the references that it holds, to the environment and to its head, the environment as it
+-- was lent, and what it is to write.
 pub record Tied : Type 0 where
   pub reference : ℕ
+  pub keeps : ℕ
   pub start : Outside
   pub variables : List Variable
   pub wave : Bool
@@ -41,6 +43,7 @@ texts_of tied = texts tied.wave tied.serial
 abbrev pub place_of : {B : Type 0} → (B → Outside) → WaveWriter B → Tied
 place_of outside w = record {
   reference = w.bench.ghost_name;
+  keeps = w.head.ghost_name;
   start = outside w.start.now.value;
   variables = w.head.now.variables;
   wave = w.wave;
@@ -51,20 +54,46 @@ place_of outside w = record {
 abbrev pub outside_of : {B : Type 0} → (B → Outside) → WaveWriter B → Outside
 outside_of outside w = outside w.bench.now
 
+-- what a writer is but for the references that it holds
+pub record WriterState : Type 0 where
+  pub head : HeadState
+  pub wave : Bool
+  pub serial : Bool
+  pub whole : Bool
+  pub last : ℕ
+  pub changes : ℕ
+  pub sent : ℕ
+
+abbrev pub state_of : {B : Type 0} → WaveWriter B → WriterState
+state_of w = record { head = w.head.now; wave = w.wave; serial = w.serial; whole = w.whole; last = w.last; changes = w.changes; sent = w.sent }
+
+-- a whole writer by its head and its mark
+abbrev pub marked : HeadState → WaveMark → WriterState
+marked head mark = record { head = head; wave = mark.wave; serial = mark.serial; whole = true; last = mark.last; changes = mark.changes; sent = mark.sent }
+
+abbrev pub last_by : WriterState → Option ℕ
+last_by s = if s.head.started then Some s.last else None
+
 abbrev pub last_of : {B : Type 0} → WaveWriter B → Option ℕ
-last_of w = if w.head.now.started then Some w.last else None
+last_of w = last_by (state_of w)
 
 -- rows are written, or counted where neither they nor bytes are
 abbrev pub looks_at_rows : Bool → Bool → Bool
 looks_at_rows wave serial = wave || not serial
 
 -- the values that it has of nets are those of these levels, if it looks at any
+abbrev pub seen_by : WriterState → List Level → Type 0
+seen_by s levels = looks_at_rows s.wave s.serial ≡ true → HasSeen s.head.variables s.head.values levels
+
 abbrev pub has_seen : {B : Type 0} → WaveWriter B → List Level → Type 0
-has_seen w levels = looks_at_rows w.wave w.serial ≡ true → HasSeen w.head.now.variables w.head.now.values levels
+has_seen w levels = seen_by (state_of w) levels
 
 -- no call has failed, the wave has not ended, a wanted Wave is open, and there is room for a row
+abbrev pub whole_by : WriterState → Outside → Bool
+whole_by s now = s.whole && ((not s.wave || now.opened ports.Wave) && nat_le (length s.head.text) gathered)
+
 abbrev pub is_whole : {B : Type 0} → (B → Outside) → WaveWriter B → Bool
-is_whole outside w = w.whole && ((not w.wave || (outside w.bench.now).opened ports.Wave) && nat_le (length w.head.now.text) gathered)
+is_whole outside w = whole_by (state_of w) (outside w.bench.now)
 
 abbrev pub faults_of : {B : Type 0} → (B → Outside) → WaveWriter B → ℕ
 faults_of outside w = (outside w.bench.now).faults ports.Wave + (outside w.bench.now).faults ports.Serial
@@ -72,14 +101,17 @@ faults_of outside w = (outside w.bench.now).faults ports.Wave + (outside w.bench
 -- Since the environment was lent, a wanted Wave has got a text that is, with what is kept, the text of the
 -- rows, but for the wave's last line; a wanted Serial has got the bytes, and nothing else has changed;
 -- where neither is wanted, both are counted.
-pub record Stands {B : Type 0} (outside : B → Outside) (w : WaveWriter B) (rows : List Row) (bytes : List ℕ) : Type 0 where
+pub record StandsBy (s : WriterState) (start now : Outside) (rows : List Row) (bytes : List ℕ) : Type 0 where
   pub gone : List ℕ
-  pub kept : gone ++ w.head.now.text ≡ begun_text w.head.now.variables rows
-  pub leaves : Leaves (texts w.wave w.serial gone bytes) (outside w.start.now.value) (outside w.bench.now)
-  pub none : looks_at_rows w.wave w.serial ≡ false → w.head.now.text ≡ []
-  pub follows : looks_at_rows w.wave w.serial ≡ true → IsAfter w.head.now rows
-  pub changed : w.wave ≡ false → w.serial ≡ false → w.changes ≡ capped (wave_count w.head.now.variables rows)
-  pub sent : w.serial ≡ false → w.sent ≡ capped (length bytes)
+  pub kept : gone ++ s.head.text ≡ begun_text s.head.variables rows
+  pub leaves : Leaves (texts s.wave s.serial gone bytes) start now
+  pub none : looks_at_rows s.wave s.serial ≡ false → s.head.text ≡ []
+  pub follows : looks_at_rows s.wave s.serial ≡ true → IsAfter s.head rows
+  pub changed : s.wave ≡ false → s.serial ≡ false → s.changes ≡ capped (wave_count s.head.variables rows)
+  pub sent : s.serial ≡ false → s.sent ≡ capped (length bytes)
+
+abbrev pub Stands : {B : Type 0} → (B → Outside) → WaveWriter B → List Row → List ℕ → Type 0
+Stands outside w rows bytes = StandsBy (state_of w) (outside w.start.now.value) (outside w.bench.now) rows bytes
 
 -- Since the environment was lent, first parts of these were written, and a write failed.
 abbrev pub HasStopped : {B : Type 0} → (B → Outside) → WaveWriter B → List Row → List ℕ → Type 0

@@ -24,4 +24,4 @@ pub use head::WaveHead;
 pub use read::read_wave;
 pub use tracks::DriveRows;
 pub use variable::{Source, Variable};
-pub use writer::WaveWriter;
+pub use writer::{WaveMark, WaveWriter};

@@ -4,12 +4,12 @@ ghost use Rattle.sim_base.specs.declared.bench.Port.{Port};
 ghost use Rattle.sim_base.specs.declared.bench.WriteEnd.{WriteEnd};
 ghost use Rattle.sim_base.specs.Causes.{Rose};
 ghost use Rattle.sim_base.specs.Outside.{Outside};
-ghost use Rattle.sim_base.specs.Rows.{Row};
+ghost use Rattle.sim_base.specs.Rows.{Row, Handed, Appends};
 ghost use Rattle.text_model.specs.Wave.{wave_text, wave_count};
 ghost use Rattle.vcd_text.specs.Heads.{gathered};
 ghost use Rattle.vcd_text.specs.Ports.{texts, Writes};
 ghost use Rattle.vcd_text.specs.Writers.{Tied, texts_of, place_of, outside_of, last_of, has_seen, looks_at_rows, is_whole};
-ghost use Rattle.vcd_text.specs.Writers.{faults_of, Stands, HasStopped, capped};
+ghost use Rattle.vcd_text.specs.Writers.{faults_of, Stands, HasStopped, capped, state_of, marked, whole_by};
 
 use crate::head::WaveHead;
 use sim_base::{Bench, Drive, Level, Port, Watcher, WriteEnd};
@@ -27,6 +27,16 @@ pub struct WaveWriter<'a, B: Bench> {
     wave: bool,
     serial: bool,
     whole: bool,
+    last: u32,
+    changes: u64,
+    sent: u64,
+}
+
+/// What a writer that is laid aside keeps beside its head.
+#[derive(Clone, Copy)]
+pub struct WaveMark {
+    wave: bool,
+    serial: bool,
     last: u32,
     changes: u64,
     sent: u64,
@@ -151,6 +161,7 @@ impl<'a, B: Bench> WaveWriter<'a, B> {
         requires opened { wave ≡ true → (B.outside bench.old).opened Port.Wave ≡ true }
         ensures place { place_of B.outside result ≡ record {
           reference = bench.entry.ghost_name;
+          keeps = head.entry.ghost_name;
           start = B.outside bench.old;
           variables = head.old.variables;
           wave = wave;
@@ -172,6 +183,68 @@ impl<'a, B: Bench> WaveWriter<'a, B> {
             changes: 0,
             sent: 0,
         }
+    }
+
+    /// What it keeps beside its head when it is laid aside.
+    pub fn mark(&self) -> WaveMark
+        requires { is_whole B.outside self.now ≡ true }
+        ensures { marked (state_of self.now).head result ≡ state_of self.now }
+    {
+        WaveMark {
+            wave: self.wave,
+            serial: self.serial,
+            last: self.last,
+            changes: self.changes,
+            sent: self.sent,
+        }
+    }
+
+    /// A writer that was laid aside, with its head and its mark, over the bench. `start` is the bench as it was lent at first.
+    pub fn again(
+        head: &'a mut WaveHead,
+        bench: &'a mut B,
+        start: &'a Snapshot<B>,
+        mark: WaveMark,
+    ) -> WaveWriter<'a, B>
+        requires { whole_by (marked head.old mark) (B.outside bench.old) ≡ true }
+        ensures state { state_of result ≡ marked head.old mark }
+        ensures outside { outside_of B.outside result ≡ B.outside bench.old }
+        ensures place { place_of B.outside result ≡ record {
+          reference = bench.entry.ghost_name;
+          keeps = head.entry.ghost_name;
+          start = B.outside start.now.value;
+          variables = head.old.variables;
+          wave = (marked head.old mark).wave;
+          serial = (marked head.old mark).serial;
+        } }
+    {
+        WaveWriter {
+            head,
+            bench,
+            start,
+            wave: mark.wave,
+            serial: mark.serial,
+            whole: true,
+            last: mark.last,
+            changes: mark.changes,
+            sent: mark.sent,
+        }
+    }
+
+    /// Writes what is kept of a wanted Wave, so that it has the text of all rows so far.
+    pub fn flush(&mut self) -> WriteEnd
+        requires { is_whole B.outside self.old ≡ true }
+        ensures ok { result ≡ WriteEnd.Ok → Handed (is_whole B.outside) (faults_of B.outside) (Stands B.outside) self.old self.new [] [] }
+        ensures failed { result ≡ WriteEnd.Failed → Rose (faults_of B.outside self.old) (faults_of B.outside self.new)
+            × Appends (Stands B.outside self.old) (HasStopped B.outside self.new) [] [] }
+        ensures none_kept { (state_of self.new).head ≡ record ((state_of self.old).head) { text = [] } }
+        ensures last { last_of self.new ≡ last_of self.old }
+        ensures place { place_of B.outside self.new ≡ place_of B.outside self.old }
+    {
+        let end = write_wave(self.wave, self.head.text(), self.bench);
+        self.head.clear();
+        self.whole = is_ok(end);
+        end
     }
 
     /// Ends a wanted Wave with the time of cycle `n`, the cycle at which the run ends.
