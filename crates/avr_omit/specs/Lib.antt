@@ -1,0 +1,3 @@
+pub mod Omissions
+pub mod Kept
+pub mod Names
