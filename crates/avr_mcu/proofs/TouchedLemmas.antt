@@ -16,7 +16,7 @@ use Rattle.unit_law.specs.Bits.{with_bit}
 use Rattle.unit_law.specs.Reach.{Touch, Touches, touched_if}
 use Rattle.unit_law.specs.UnitMachine.{UnitMachine, Laws}
 use Rattle.unit_law.specs.declared.pins.TheConstants.{PORT_PINS}
-use Rattle.avr_mcu.specs.Units.{Units, UnitsAt, unit_bus, plain, with_plain, with_register, data_at}
+use Rattle.avr_mcu.specs.Units.{Units, UnitsAt, unit_bus, plain, with_plain, with_asked, with_register, data_at}
 use Rattle.avr_mcu.specs.Touched.{Touched, bare, bared, touched_bus, Leads}
 
 module _ {D : Type 0} (m : UnitMachine D) (r : Touch D) where
@@ -194,7 +194,7 @@ module _ {D : Type 0} (m : UnitMachine D) (laws : Laws m) (r : Touch D) (h : Tou
   write_leads s a x = record { cycle = refl; held = refl; steady = λ p l out. by (nat_lt a 0x0100) (m.has a) (nat_lt a 0x0900) p l out }
     where
       by : (b c d : Bool) (p : ℕ) → p < PORT_PINS → ¬ IsIn (touched_if (b && c) (r.writes s.units.devices a x) s.touched) p → (¬ IsIn s.touched p)
-          × (m.pad (if b then (if c then record (s.units) { devices = m.write s.units.devices s.cycle a x } else with_plain m s.units a x) else if d then record (s.units) { sram = slice_set s.units.sram (a - 0x0100) x } else s.units).devices p ≡ m.pad s.units.devices p)
+          × (m.pad (if b then with_asked (if c then record (s.units) { devices = m.write s.units.devices s.cycle a x } else with_plain m s.units a x) s.cycle a x else if d then record (s.units) { sram = slice_set s.units.sram (a - 0x0100) x } else s.units).devices p ≡ m.pad s.units.devices p)
       by true true d p l out = let w = h.writes s.units.devices s.cycle a x s.touched in (w.0 p out, w.1 p l out)
       by true false d p l out = (out, ap (λ (u : D). m.pad u p) (plain_devices m s.units a x))
       by false c true p l out = (out, refl)
@@ -209,7 +209,7 @@ module _ {D : Type 0} (m : UnitMachine D) (laws : Laws m) (r : Touch D) (h : Tou
     where
       by : (b c d : Bool) (y z p : ℕ) → p < PORT_PINS → ¬ IsIn (touched_if (b && c) (r.bits s.units.devices a k x) s.touched) p → (¬ IsIn s.touched p)
           × (m.pad (if b then (if c then record (s.units) { devices = m.write_bit s.units.devices s.cycle a k x } else with_plain m s.units a y)
-          else if b then with_register m s.units s.cycle a z
+          else if b then with_asked (with_register m s.units s.cycle a z) s.cycle a z
           else if d then record (s.units) { sram = slice_set s.units.sram (a - 0x0100) z } else s.units).devices p ≡ m.pad s.units.devices p)
       by true true d y z p l out = let w = h.bits s.units.devices s.cycle a k x s.touched in (w.0 p out, w.1 p l out)
       by true false d y z p l out = (out, ap (λ (u : D). m.pad u p) (plain_devices m s.units a y))

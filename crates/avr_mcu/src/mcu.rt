@@ -21,6 +21,7 @@ use crate::turned::{hear, tick};
 use crate::units::Units;
 use avr_core::{Core, Mode, decode_all};
 use avr_isa::Instr;
+use avr_omit::Omissions;
 use part_law::{Part, Span, Went};
 use sim_base::{Drive, Flash, Level, MOST_CYCLES, OutOfMemory, Steps};
 use std::alloc::Global;
@@ -97,6 +98,13 @@ impl Mcu {
         ensures { result ≡ slice_index_or self.now.mcu.units.ignored addr false }
     {
         self.units.ignored(addr)
+    }
+
+    /// For each thing that is left out, the first write that asked for it.
+    pub fn asked(&self) -> &Omissions
+        ensures { result.now ≡ self.now.mcu.units.asked }
+    {
+        self.units.asked()
     }
 
     // What the core does in the cycle; the units step after it.

@@ -7,7 +7,7 @@ ghost use Rattle.unit_law.specs.Pad.{driven};
 ghost use Rattle.unit_law.specs.UnitMachine.{steps, IsQuiet, FirstDue};
 ghost use Rattle.avr_adc.specs.declared.registers.TheConstants.{ADCSRA, ADSC};
 ghost use Rattle.avr_mcu.specs.Devices.{devices, devices_touch};
-ghost use Rattle.avr_mcu.specs.Units.{reset, pins, request, units_step, units_restarted, above, above_in, with_above, plain, plain_of, with_plain, register, after_read, with_register, with_register_bit};
+ghost use Rattle.avr_mcu.specs.Units.{reset, pins, request, units_step, units_restarted, above, above_in, with_above, with_asked, plain, plain_of, with_plain, register, after_read, with_register, with_register_bit};
 ghost use Rattle.avr_mcu.specs.Touched.{Touched, bare, touched_bus};
 ghost use Rattle.avr_mcu.specs.Ready.{Ready, Calm};
 ghost use Rattle.avr_mcu.specs.Ask.{after, levels_after, IsFit, left, Tells};
@@ -22,6 +22,7 @@ use crate::devices::Devices;
 use crate::pins::UNO_PINS;
 use avr_adc::{ADCSRA, ADSC};
 use avr_core::DataBus;
+use avr_omit::{Asked, Omissions};
 use part_law::Span;
 use sim_base::{Drive, Level, MOST_CYCLES, OutOfMemory};
 use std::alloc::{AllocError, Global};
@@ -58,6 +59,7 @@ pub(crate) struct Units {
     next: Next,
     touched: Span,
     calm: u32,
+    asked: Omissions,
 }
 
 impl Model for Units {
@@ -71,7 +73,7 @@ impl Model for Units {
 
     ghost Value = { Touched State };
 
-    ghost view = { λ u. record { units = record { devices = ⟦<Devices as Group>⟧.state u.devices u.cycle; sram = u.sram.items; gpior0 = u.gpior0; gpior1 = u.gpior1; gpior2 = u.gpior2; smcr = u.smcr; ignored = u.ignored.items }; held = u.held; cycle = u.cycle; touched = u.touched } };
+    ghost view = { λ u. record { units = record { devices = ⟦<Devices as Group>⟧.state u.devices u.cycle; sram = u.sram.items; gpior0 = u.gpior0; gpior1 = u.gpior1; gpior2 = u.gpior2; smcr = u.smcr; ignored = u.ignored.items; asked = u.asked }; held = u.held; cycle = u.cycle; touched = u.touched } };
 
     ghost invariant = { λ u. record {
       sram : vec_len u.sram ≡ 2048;
@@ -90,6 +92,7 @@ impl Units {
     {
         let sram = zeros(alloc, 2048)?;
         let ignored = none_of(alloc, 256)?;
+        let asked = Omissions::new();
         let (devices, next) = begin();
         Ok(Units {
             devices,
@@ -104,6 +107,7 @@ impl Units {
             next,
             touched: Span::none(),
             calm: 0,
+            asked,
         })
     }
 
@@ -120,6 +124,13 @@ impl Units {
         ensures { result ≡ slice_index_or self.now.units.ignored addr false }
     {
         self.ignored[addr as usize]
+    }
+
+    /// For each thing that is left out, the first write that asked for it.
+    pub(crate) fn asked(&self) -> &Omissions
+        ensures { result.now ≡ self.now.units.asked }
+    {
+        &self.asked
     }
 
     /// The first cycle in which a unit has an event, or `MOST_CYCLES`.
@@ -342,6 +353,7 @@ impl DataBus for Units {
     fn write(&mut self, addr: u16, value: u8) {
         if addr < SRAM {
             self.set_register(addr as u8, value);
+            self.note(addr as u8, value);
         } else {
             self.set_above(addr, value);
         }
@@ -431,6 +443,18 @@ impl Units {
                 self.set_plain(reg, value);
             }
         }
+    }
+
+    // Notes a write, where it asks for something that is left out.
+    #[inline]
+    fn note(&mut self, reg: u8, value: u8)
+        ensures { self.new ≡ record self.old { units = with_asked self.old.units self.old.cycle reg value } }
+    {
+        self.asked.note(Asked {
+            cycle: self.cycle,
+            address: reg,
+            value,
+        });
     }
 
     fn set_plain(&mut self, reg: u8, value: u8)
