@@ -3,6 +3,7 @@ use Rattle.std.specs.Prelude.{ℕ, Option, None, Some, ◌+◌, ◌/◌, ◌%◌
 use Rattle.std.specs.List.{flat_map}
 use Rattle.std.specs.Option.{option_to_list}
 use Rattle.std.specs.Fmt.{decimal}
+use Rattle.avr_omit.specs.Names.{name_of}
 use Rattle.sim_report.specs.declared.row.ReportRow.{ReportRow}
 use Rattle.sim_report.specs.declared.row.ReportRow.TheVariants as rows
 use Rattle.sim_report.specs.declared.row.UnoMode.{UnoMode}
@@ -39,6 +40,7 @@ abbrev pub subject : ReportRow → List ℕ
 subject (rows.Cycles count) = codes "cycles"
 subject (rows.Uno id pc mode) = codes "uno"
 subject (rows.Ignored id register) = codes "uno"
+subject (rows.Omits id omission asked) = codes "uno"
 subject (rows.Led id lit count) = codes "led"
 subject (rows.Input id value) = codes "input"
 subject (rows.Seg id segments) = codes "seg"
@@ -54,6 +56,7 @@ abbrev pub id_of : ReportRow → Option (List ℕ)
 id_of (rows.Cycles count) = None
 id_of (rows.Uno id pc mode) = Some id
 id_of (rows.Ignored id register) = Some id
+id_of (rows.Omits id omission asked) = Some id
 id_of (rows.Led id lit count) = Some id
 id_of (rows.Input id value) = Some id
 id_of (rows.Seg id segments) = Some id
@@ -69,6 +72,8 @@ abbrev pub words_of : ReportRow → List (List ℕ)
 words_of (rows.Cycles count) = decimal count ∷ []
 words_of (rows.Uno id pc mode) = codes "pc" ∷ after_0x (hex_word pc) ∷ mode_words mode
 words_of (rows.Ignored id register) = codes "ignored" ∷ after_0x (hex_byte register) ∷ []
+words_of (rows.Omits id omission asked) =
+    codes "omits" ∷ name_of omission ∷ codes "at" ∷ decimal asked.cycle ∷ after_0x (hex_byte asked.address) ∷ after_0x (hex_byte asked.value) ∷ []
 words_of (rows.Led id lit count) = lit_word lit ∷ codes "lit" ∷ decimal count ∷ []
 words_of (rows.Input id value) = decimal value ∷ []
 words_of (rows.Seg id segments) = hex_byte segments ∷ []

@@ -3,8 +3,10 @@
 #![tactic(auto)]
 
 mod line;
+mod omissions;
 mod report;
 mod row;
 
+pub use omissions::write_omissions;
 pub use report::write_report;
 pub use row::{ReportRow, UnoMode};

@@ -3,10 +3,12 @@ ghost use Rattle.std.specs.Prelude.{◌≡◌, ◌+◌, ◌*◌, ◌<◌, ◌≤
 ghost use Rattle.std.specs.List.{flat_map};
 ghost use Rattle.std.specs.Option.{option_map};
 ghost use Rattle.std.specs.Fmt.{decimal};
+ghost use Rattle.avr_omit.specs.Names.{name_of};
 ghost use Rattle.sim_report.specs.Lines.{hex_digit, hex_byte, hex_word, after_0x, lit_word, spaced, mode_words, subject, id_of, words_of};
 
 use crate::row::{ReportRow, UnoMode};
 use arrayvec::ArrayVec;
+use avr_omit::{Asked, Omission};
 use sim_base::Name;
 
 /// The end of a line that is built. None is longer than 320 bytes.
@@ -106,6 +108,29 @@ fn ignored(register: u8) -> Line
     word(&mut line, b"ignored");
     add(&mut line, b" 0x");
     add(&mut line, &byte_digits(register));
+    line
+}
+
+fn register(line: &mut Line, b: u8)
+    requires { length line.old.items ≤ 150 }
+    ensures text { line.new.items ≡ line.old.items ++ 32 ∷ after_0x (hex_byte b) }
+    ensures short { length line.new.items ≡ length line.old.items + 5 }
+{
+    add(line, b" 0x");
+    add(line, &byte_digits(b));
+}
+
+fn omits(omission: Omission, asked: Asked) -> Line
+    ensures text { result.items ≡ spaced (codes "omits" ∷ name_of omission ∷ codes "at" ∷ decimal asked.cycle ∷ after_0x (hex_byte asked.address) ∷ after_0x (hex_byte asked.value) ∷ []) }
+    ensures short { length result.items ≤ 100 }
+{
+    let mut line = Line::new();
+    word(&mut line, b"omits");
+    word(&mut line, omission.name().as_bytes());
+    word(&mut line, b"at");
+    number(&mut line, asked.cycle);
+    register(&mut line, asked.address);
+    register(&mut line, asked.value);
     line
 }
 
@@ -227,7 +252,7 @@ pub(crate) fn subject(row: &ReportRow) -> &'static [u8]
 {
     match row {
         ReportRow::Cycles(_) => b"cycles",
-        ReportRow::Uno(_, _, _) | ReportRow::Ignored(_, _) => b"uno",
+        ReportRow::Uno(_, _, _) | ReportRow::Ignored(_, _) | ReportRow::Omits(_, _, _) => b"uno",
         ReportRow::Led(_, _, _) => b"led",
         ReportRow::Input(_, _) => b"input",
         ReportRow::Seg(_, _) => b"seg",
@@ -246,6 +271,7 @@ pub(crate) fn id(row: &ReportRow) -> Option<&Name>
         ReportRow::Cycles(_) => None,
         ReportRow::Uno(id, _, _)
         | ReportRow::Ignored(id, _)
+        | ReportRow::Omits(id, _, _)
         | ReportRow::Led(id, _, _)
         | ReportRow::Input(id, _)
         | ReportRow::Seg(id, _)
@@ -266,6 +292,7 @@ pub(crate) fn rest(row: &ReportRow) -> Line
         ReportRow::Cycles(n) => count(*n),
         ReportRow::Uno(_, pc, mode) => uno(*pc, *mode),
         ReportRow::Ignored(_, register) => ignored(*register),
+        ReportRow::Omits(_, omission, asked) => omits(*omission, *asked),
         ReportRow::Led(_, lit, count) => led(*lit, *count),
         ReportRow::Input(_, value) => count(u32::from(*value)),
         ReportRow::Seg(_, segments) => seg(*segments),

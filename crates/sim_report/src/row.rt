@@ -1,5 +1,6 @@
 //! What a line of a report says.
 
+use avr_omit::{Asked, Omission};
 use sim_base::Name;
 
 /// How the processor of an Uno stands; a halted one with the word that halted it.
@@ -19,6 +20,9 @@ pub enum ReportRow {
     Uno(Name, u16, UnoMode),
     /// `uno ID ignored 0xHH`: the data address of a register that was written and is left out.
     Ignored(Name, u8),
+    /// `uno ID omits NAME at N 0xHH 0xHH`: something that is left out, and the first write that asked for it: its cycle, the
+    /// data address and the value. No report of a run has it.
+    Omits(Name, Omission, Asked),
     /// `led ID on lit N` or `led ID off lit N`: whether it is lit, and in how many cycles it became so.
     Led(Name, bool, u32),
     /// `input ID V`: the value of a button, a switch or a potentiometer.
