@@ -11,10 +11,10 @@ here=$(cd "$(dirname "$0")" && pwd)
 folder=$(mktemp -d)
 trap 'rm -rf "$folder"' EXIT
 
-# The program that calls functions of modules: crates/call_rows, built where it is missing.
-program=$here/../crates/call_rows/out/call_rows
+# The program that calls functions of modules: crates/rows_calls, built where it is missing.
+program=$here/../crates/rows_calls/out/rows_calls
 if [ ! -x "$program" ]; then
-    (cd "$here/../crates/call_rows" && rt run >"$folder/build.log" 2>&1 </dev/null) || true
+    (cd "$here/../crates/rows_calls" && rt run >"$folder/build.log" 2>&1 </dev/null) || true
     [ -x "$program" ] || { cat "$folder/build.log" >&2; exit 1; }
 fi
 

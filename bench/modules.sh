@@ -7,10 +7,10 @@ here=$(cd "$(dirname "$0")" && pwd)
 folder=$(mktemp -d)
 trap 'rm -rf "$folder"' EXIT
 
-# The program that says whether a file is an accepted module: crates/module_rows, built where it is missing.
-program=$here/../crates/module_rows/out/module_rows
+# The program that says whether a file is an accepted module: crates/rows_modules, built where it is missing.
+program=$here/../crates/rows_modules/out/rows_modules
 if [ ! -x "$program" ]; then
-    (cd "$here/../crates/module_rows" && rt run >"$folder/build.log" 2>&1 </dev/null) || true
+    (cd "$here/../crates/rows_modules" && rt run >"$folder/build.log" 2>&1 </dev/null) || true
     [ -x "$program" ] || { cat "$folder/build.log" >&2; exit 1; }
 fi
 

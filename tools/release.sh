@@ -60,7 +60,7 @@ rm -rf dist && mkdir dist || exit 1
 cp "$program" dist/mudflatjar && chmod 755 dist/mudflatjar || exit 1
 if [ -f tools/web/assemble.py ] && [ -f target/web/mudflatjar.wasm ]; then
     grep -q '^# proved, ' target/web/SUMS || stop "the module in target/web is not proved: tools/web/build.sh makes one that is"
-    [ "$(word_of '# sources' target/web/SUMS)" = "$(tools/script/sources.sh sum page)" ] || stop "the module in target/web is of other sources: tools/web/build.sh makes it anew"
+    [ "$(word_of '# sources' target/web/SUMS)" = "$(tools/script/sources.sh sum web_page)" ] || stop "the module in target/web is of other sources: tools/web/build.sh makes it anew"
     (cd target/web && sha256sum -c --quiet SUMS) || stop "the module in target/web is not the one that was built"
     python3 -B tools/web/assemble.py -o dist/mudflatjar.html || stop "the page could not be made"
     python3 -B tools/web/assemble.py --node -o dist/mudflatjar.mjs || stop "the program for Node could not be made"

@@ -1,5 +1,5 @@
 #!/usr/bin/env python3
-"""Makes the modules of crates/call_rows/data, with its script and stdout, from calls.rows and operations.table.
+"""Makes the modules of crates/rows_calls/data, with its script and stdout, from calls.rows and operations.table.
 
     tools/calls/make.py           writes the modules, the script and the expected lines
     tools/calls/make.py --check   writes nothing and says what differs from the files that stand
@@ -16,7 +16,7 @@ import sys
 import tempfile
 
 HERE = os.path.dirname(os.path.abspath(__file__))
-CRATE = os.path.join(HERE, "..", "..", "crates", "call_rows")
+CRATE = os.path.join(HERE, "..", "..", "crates", "rows_calls")
 FEATURES = ["--disable-" + feature for feature in ("multi-value", "reference-types")]
 TRAPS = {
     1: "unreachable", 2: "out of bounds memory access", 3: "integer divide by zero", 4: "integer overflow",

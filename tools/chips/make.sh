@@ -1,11 +1,11 @@
 #!/bin/sh
-# Makes the modules of crates/chip_rows: those of the texts here with wat2wasm, and those of the examples. Then the modules of
+# Makes the modules of crates/rows_chips: those of the texts here with wat2wasm, and those of the examples. Then the modules of
 # crates/sim_rows: those of the sources here in C, the twins of the examples, those that have a text beside them, and what both
 # have; the inverter and the counter of the examples without optimisation; and the inverter by clang for the first version of the
 # standard, with a memory that is imported and with the names and producers that the linker leaves.
 here=$(cd "$(dirname "$0")" && pwd)
 top=$here/../..
-data=$top/crates/chip_rows/data
+data=$top/crates/rows_chips/data
 runs=$top/crates/sim_rows/data
 assemble() {
     wat2wasm --disable-multi-value --disable-reference-types "$1" -o "$2/$(basename "$1" .wat).wasm" || exit 1

@@ -13,7 +13,7 @@ import re
 import sys
 
 TOP = pathlib.Path(__file__).resolve().parents[2]
-CRATES = "board_run net_resolve twin_run any_part played_part cli_twin outcome_model cli_project".split()
+CRATES = "board_run net_resolve board_twin any_part part_played cli_twin sim_outcome_model cli_project".split()
 PARAMETERS, CLAUSES = 7, 8
 HEAD = re.compile(r"^[ \t]*(?:pub(?:\([^)]*\))? )?(?:const )?fn (\w+)", re.M)
 

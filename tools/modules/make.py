@@ -1,5 +1,5 @@
 #!/usr/bin/env python3
-"""Makes the modules of crates/module_rows/data, with its args and stdout, from the rows beside this file.
+"""Makes the modules of crates/rows_modules/data, with its args and stdout, from the rows beside this file.
 
     tools/modules/make.py           writes the modules, the words and the expected lines
     tools/modules/make.py --check   writes nothing and says what differs from the files that stand
@@ -28,7 +28,7 @@ import sys
 import tempfile
 
 HERE = os.path.dirname(os.path.abspath(__file__))
-CRATE = os.path.join(HERE, "..", "..", "crates", "module_rows")
+CRATE = os.path.join(HERE, "..", "..", "crates", "rows_modules")
 
 NAMES = {
     60: "WasmMagic", 61: "WasmCut", 62: "WasmLeb", 63: "WasmSection", 64: "WasmType", 65: "WasmOpcode",

@@ -152,10 +152,10 @@ class Page:
             self.must(any(name in it for it in known), name, f"specs/ and proofs/ of {' '.join(sorted(crates))}")
 
     def rows(self, cell):
-        """`file` of unit_rows; `file`: firmware, firmware of sim_rows"""
+        """`file` of rows_units; `file`: firmware, firmware of sim_rows"""
         for group in (it.strip() for it in cell.split(";")):
             for file, names in re.findall(r"`([\w.-]+\.rows)`(?:: (.*))?", group):
-                path = self.top / "crates" / ("sim_rows" if names else "unit_rows") / "data" / file
+                path = self.top / "crates" / ("sim_rows" if names else "rows_units") / "data" / file
                 if self.must(path.is_file(), file, path.parent.relative_to(self.top)):
                     for name in names.split(", ") if names else ():
                         self.must(re.search(rf"\b{re.escape(name)}\.hex\b", path.read_text()), f"{name}.hex", path.relative_to(self.top))

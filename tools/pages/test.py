@@ -74,7 +74,7 @@ class Repository(unittest.TestCase):
         self.write("crates/low/proofs/HalfLaw.antt", "pub half_law : (x : ℕ) → IsHalf x\n")
         self.write("crates/avr_unit/src/registers.rt", "pub const ONE: u8 = 0x44;\npub const TWO: u8 = 0x46;\n        0x47 => Some(Register::THREE),\n")
         self.write("crates/top/src/lib.rt", "pub struct Twice;\n")
-        self.write("crates/unit_rows/data/half.rows", "")
+        self.write("crates/rows_units/data/half.rows", "")
         self.write("crates/sim_rows/data/run.rows", "files blink.hex\n")
         self.write("tools/there.sh", "echo one\n")
         self.write("docs/PROVED.md", PROVED)
@@ -137,7 +137,7 @@ class Names(Repository):
     def test_rows_and_laws(self):
         for old, new, said in [
             ("| `half`; ", "| `half_laws`; ", "docs/UNO.md:5: there is no half_laws in specs/ and proofs/ of low"),
-            ("`half.rows`", "`third.rows`", "docs/UNO.md:5: there is no third.rows in crates/unit_rows/data"),
+            ("`half.rows`", "`third.rows`", "docs/UNO.md:5: there is no third.rows in crates/rows_units/data"),
             (": blink", ": blank", "docs/UNO.md:5: there is no blank.hex in crates/sim_rows/data/run.rows"),
             ("0x44, ", "0x45, ", "docs/UNO.md:9: there is no ONE at 0x45 in the crates of the microcontroller"),
             ("0x46 to 0x47", "0x46", "docs/UNO.md:9: there is no address for each of `ONE`, `TWO`, `THREE`: bits in 0x44, 0x46"),

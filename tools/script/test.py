@@ -99,7 +99,7 @@ class Words(unittest.TestCase):
 
 class Pages(unittest.TestCase):
     def test_each_command_of_the_program_has_its_row(self):
-        definition = (ROOT / "crates/words_model/specs/Request.antt").read_text()
+        definition = (ROOT / "crates/cli_words_model/specs/Request.antt").read_text()
         known = set(re.findall(r'bytes_eq command \(codes "([a-z]+)"\)', definition))
         self.assertTrue({"bare", "check", "decode", "make", "module", "run", "twin", "replay"} <= known)
         self.assertEqual(set(pages.commands("The program")), known)

@@ -1,7 +1,7 @@
 #!/usr/bin/env python3
-"""Works out the rows of timers that unit_rows plays, from the text of the ATmega328P data sheet and not from the
+"""Works out the rows of timers that rows_units plays, from the text of the ATmega328P data sheet and not from the
 definitions: a PWM mode is a list of counts that is gone through again and again, as the timing diagrams draw it.
-`make.py` prints them; `make.py --write` writes them to crates/unit_rows/data/timers.rows."""
+`make.py` prints them; `make.py --write` writes them to crates/rows_units/data/timers.rows."""
 import os, sys
 
 UP, DOWN = False, True
@@ -146,7 +146,7 @@ def row(timer, *words):
     return " ".join([f"{timer.name}:", *words])
 
 def rows():
-    yield "# A row: a timer, and what is done with a new one and what it answers; crates/unit_rows/src/unit.rt lists the words."
+    yield "# A row: a timer, and what is done with a new one and what it answers; crates/rows_units/src/unit.rt lists the words."
     yield "# tools/timers/make.py works these out from the data sheet's text: up to 14 events, with the count, the flags and the"
     yield "# compare outputs behind each."
     yield "# timer 0 in every mode"
@@ -217,7 +217,7 @@ def rows():
 
 text = "".join(line + "\n" for line in rows())
 if sys.argv[1:] == ["--write"]:
-    with open(os.path.join(os.path.dirname(os.path.abspath(__file__)), "../../crates/unit_rows/data/timers.rows"), "w") as out:
+    with open(os.path.join(os.path.dirname(os.path.abspath(__file__)), "../../crates/rows_units/data/timers.rows"), "w") as out:
         out.write(text)
 else:
     sys.stdout.write(text)

@@ -3,7 +3,7 @@
 #   mudflatjar.wasm    for a memory of 64 bits
 #   mudflatjar32.wasm  the same for a memory of 32 bits, where binaryen's wasm-opt is there
 #   SUMS               of what kind and of which sources they are, and their SHA-256 sums
-# It proves crates/page and all crates below it. What the toolchain keeps of earlier runs of `rt ci` on this machine is not
+# It proves crates/web_page and all crates below it. What the toolchain keeps of earlier runs of `rt ci` on this machine is not
 # proved again. With --try it proves nothing: it compiles, for a first look.
 set -euo pipefail
 here=$(cd "$(dirname "$0")" && pwd)
@@ -23,7 +23,7 @@ broken() { # WHY; what the toolchain said last stands before it
 }
 case "$*" in
 "") kind=proved export=mudflatjar ;;
---try) kind=unproved export=mudflatjar=page_try::mudflatjar ;;
+--try) kind=unproved export=mudflatjar=web_page_try::mudflatjar ;;
 --help)
     sed -n '2,/^set /s/^# //p' "$0"
     exit 0
@@ -55,28 +55,28 @@ with_clang() { # LINE TO
 }
 
 # `rt ci` proves the crates side by side and leaves the libraries; then the compiler is called as `rt ci` calls it for a
-# program: it checks crates/page over these libraries, and compiles it once it is proved.
+# program: it checks crates/web_page over these libraries, and compiles it once it is proved.
 proved() {
     local it named words=()
-    "$sources" copy page "$repo"
+    "$sources" copy web_page "$repo"
     mkdir "$repo/.git"
-    say "proving crates/page and what is below it; where nothing is kept, this takes an hour or more"
+    say "proving crates/web_page and what is below it; where nothing is kept, this takes an hour or more"
     (cd "$repo" && rt ci) >"$log" 2>&1 </dev/null || broken "the proof failed"
     tail -n 1 "$log" | grep -q ' 0 failed$' || broken "rt ci does not say that all passed"
-    for it in $("$sources" names page); do
-        [ "$it" = page ] || words+=(-L "dependency=$repo/crates/$it/out/rlib")
+    for it in $("$sources" names web_page); do
+        [ "$it" = web_page ] || words+=(-L "dependency=$repo/crates/$it/out/rlib")
     done
-    read -r -a named <<<"$(sed -n 's/^page .*://p' "$repo/crates.txt")"
+    read -r -a named <<<"$(sed -n 's/^web_page .*://p' "$repo/crates.txt")"
     for it in "${named[@]}"; do words+=(--extern "$it=$repo/crates/$it/out/rlib/$it.rlib"); done
     with_clang "exec '$kit/toolchain/bin/clang' \"\$@\"" "$work/toolchain"
-    cd "$repo/crates/page"
-    say "compiling crates/page"
-    "$kit/bin/rattle" build --crate-name page src/lib.rt --crate-type staticlib --cpu x86-64 \
+    cd "$repo/crates/web_page"
+    say "compiling crates/web_page"
+    "$kit/bin/rattle" build --crate-name web_page src/lib.rt --crate-type staticlib --cpu x86-64 \
         --extern "std=$kit/rlibs/std.rlib" -L "dependency=$kit/rlibs" "${words[@]}" \
-        --antt-project "$kit/rattle/logic/antt-project.json" --logic-built "$kit/logic_built" --links page= --empty-contracts \
-        --toolchain "$work/toolchain" --backend llvm -o "$work/libpage.a" >"$work/said" 2>&1 </dev/null || { cat "$work/said" >>"$log" && broken "crates/page was not built"; }
+        --antt-project "$kit/rattle/logic/antt-project.json" --logic-built "$kit/logic_built" --links web_page= --empty-contracts \
+        --toolchain "$work/toolchain" --backend llvm -o "$work/libpage.a" >"$work/said" 2>&1 </dev/null || { cat "$work/said" >>"$log" && broken "crates/web_page was not built"; }
     cat "$work/said" >>"$log"
-    grep '^logic=proved ' "$work/said" || broken "the toolchain does not say that crates/page is proved"
+    grep '^logic=proved ' "$work/said" || broken "the toolchain does not say that crates/web_page is proved"
 }
 
 # A copy of the crates with a program in place of the library, whose main calls the export: only of a program does the
@@ -89,18 +89,18 @@ unproved() {
     cp "$kit/bin/rt" "$kit/bin/rtlib.py" "$view/bin/"
     with_clang "[ ! -f module.bc ] || [ \"\$(wc -c <module.bc)\" -lt 100000 ] || exit 1
 exec '$kit/toolchain/bin/clang' \"\$@\"" "$view/toolchain"
-    "$sources" copy page "$repo"
-    mv "$repo/crates/page" "$repo/crates/page_try"
-    sed -i 's/^page staticlib:/page_try:/' "$repo/crates.txt"
-    cat - >>"$repo/crates/page_try/src/lib.rt" <<'RT'
+    "$sources" copy web_page "$repo"
+    mv "$repo/crates/web_page" "$repo/crates/web_page_try"
+    sed -i 's/^web_page staticlib:/web_page_try:/' "$repo/crates.txt"
+    cat - >>"$repo/crates/web_page_try/src/lib.rt" <<'RT'
 
 fn main(rt: HostRuntime) {
     let mut out = [0u8; 8];
     let _answer = mudflatjar(rt.alloc(), b"", 0, 0, 0, &mut out);
 }
 RT
-    mv "$repo/crates/page_try/src/lib.rt" "$repo/crates/page_try/src/main.rt"
-    cd "$repo/crates/page_try"
+    mv "$repo/crates/web_page_try/src/lib.rt" "$repo/crates/web_page_try/src/main.rt"
+    cd "$repo/crates/web_page_try"
     say "compiling without a proof"
     "$view/bin/rt" try </dev/null >"$log" 2>&1 || true
     [ -f "$work/module.bc" ] || broken "it does not compile"
@@ -123,7 +123,7 @@ compile() { # FROM.bc TO.wasm EXPORT
     "$kit/bin/rattle-link" --target wasm64-unknown-unknown --toolchain "$kit/toolchain" --stack "$STACK" -o "$2" libpage.a
 }
 
-sum=$("$sources" sum page)
+sum=$("$sources" sum web_page)
 "$kind"
 [ -f "$work/module.bc" ] || stop "this toolchain hands clang no module.bc: tools/web/build.sh has to be adapted to it"
 say "compiling for wasm"

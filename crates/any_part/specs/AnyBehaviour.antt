@@ -1,8 +1,8 @@
 -- A behaviour of any kind: it reacts as its kind does (profile).
 use Rattle.std.specs.Prelude.{◌⊎◌}
 use Rattle.std.proofs.Common.{inl, inr}
-use Rattle.reactive_part.specs.Reaction.{Reaction, ReactionLaws}
-use Rattle.reactive_part.specs.Either.{either, either_laws}
+use Rattle.part_reactive.specs.Reaction.{Reaction, ReactionLaws}
+use Rattle.part_reactive.specs.Either.{either, either_laws}
 use Rattle.parts_basic.specs.Led.{LedState, led, led_laws}
 use Rattle.parts_basic.specs.Passive.{PassiveState, passive, passive_laws}
 use Rattle.parts_logic.specs.Gate.{GateState, gate, gate_laws}
@@ -10,8 +10,8 @@ use Rattle.parts_logic.specs.Shift595.{ShiftState, shift595, shift595_laws}
 use Rattle.parts_display.specs.Seven.{SevenState, seven, seven_laws}
 use Rattle.parts_display.specs.Lcd.{LcdState, lcd, lcd_laws}
 use Rattle.part_oled.specs.Oled.{OledState, oled, oled_laws}
-use Rattle.either_part.specs.EitherPart.{either_state}
-use Rattle.either_part.specs.declared.either.Either.{Either}
+use Rattle.part_either.specs.EitherPart.{either_state}
+use Rattle.part_either.specs.declared.either.Either.{Either}
 
 -- what is known of a behaviour is its state
 abbrev pub AnyBehaviour : Type 0

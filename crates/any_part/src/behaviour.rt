@@ -1,6 +1,6 @@
 //! A behaviour of any kind.
 
-use either_part::Either;
+use part_either::Either;
 use part_oled::Oled;
 use parts_basic::{Led, Passive};
 use parts_display::{Lcd, Seven};

@@ -3,14 +3,14 @@ use Rattle.std.proofs.Common.{◌≡◌, ℕ, zero, suc, ◌+◌, ◌-◌, ◌*�
 use Rattle.std.specs.Prelude.{◌==◌, ◌&&◌, ◌||◌, not, if◌then◌else◌, is_some}
 use Rattle.std.proofs.lemmas.Bool.{and_left, and_from, or_from, not_from_true, cond-true, cond-false, cond_both, eq-eqb, ne_eqb}
 use Rattle.sim_base.specs.declared.signal.Level.{Level}
-use Rattle.unit_law.specs.Bits.{is_set, with_bit}
-use Rattle.unit_law.specs.UnitMachine.{at_register}
+use Rattle.avr_unit.specs.Bits.{is_set, with_bit}
+use Rattle.avr_unit.specs.UnitMachine.{at_register}
 use Rattle.avr_adc.specs.declared.adc.Conversion.{Conversion}
 use Rattle.avr_adc.specs.declared.registers.Register.{Register}
 use Rattle.avr_adc.specs.declared.registers.Register.TheVariants.{ADCL, ADCH, ADCSRA, ADCSRB, ADMUX}
 use Rattle.avr_adc.specs.Registers.{register_at}
 use Rattle.avr_adc.specs.Adc.{Adc, adc, divisor, begun, sampled, is_free_running, ended, stepped, after_read, started, controlled, with_control, with_register, kept}
-use Rattle.unit_life.specs.Life.{Act, Nothing, Read, Write, WriteBit, Enter, acted, state, stepping}
+use Rattle.avr_unit_model.specs.Life.{Act, Nothing, Read, Write, WriteBit, Enter, acted, state, stepping}
 use Rattle.avr_adc.specs.AdcConversion.{IsStarted, IsConverted, Converts, length_of, next_length}
 
 -- ---- what the processor does while a conversion is on the way

@@ -1,7 +1,7 @@
 -- What the law of a conversion asks for comes about: a small case, worked by the definition itself.
 use Rattle.std.proofs.Common.{true, false, refl}
-use Rattle.unit_life.specs.Life.{state, stepping}
-use Rattle.unit_life.proofs.Cases.{polls, high, always}
+use Rattle.avr_unit_model.specs.Life.{state, stepping}
+use Rattle.avr_unit_model.proofs.Cases.{polls, high, always}
 use Rattle.avr_adc.specs.declared.registers.Register.TheVariants.{ADCSRA}
 use Rattle.avr_adc.specs.Adc.{Adc, adc, with_register}
 use Rattle.avr_adc.specs.AdcConversion.{IsStarted}

@@ -2,9 +2,9 @@
 -- is the profile's).
 use Rattle.std.specs.Prelude.{◌≡◌, ℕ, ◌+◌, ◌*◌, ◌%◌, ◌≤◌, ◌||◌, not, true, false, if◌then◌else◌, List, None, Some, is_some}
 use Rattle.sim_base.specs.declared.signal.Level.{Level}
-use Rattle.unit_law.specs.Bits.{is_set}
+use Rattle.avr_unit.specs.Bits.{is_set}
 use Rattle.avr_adc.specs.Adc.{Adc, adc, begun, divisor, sampled, is_free_running}
-use Rattle.unit_life.specs.Life.{Act, Nothing, state, stepping}
+use Rattle.avr_unit_model.specs.Life.{Act, Nothing, state, stepping}
 
 -- how long a conversion takes that begins where x is written: 25 clocks of the ADC the first time after ADEN was set, which this write
 -- may do, else 13

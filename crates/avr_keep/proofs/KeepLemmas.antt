@@ -4,9 +4,9 @@ use Rattle.std.specs.Prelude.{◌&&◌, nat_lt, nat_le, min, max, if◌then◌el
 use Rattle.std.proofs.lemmas.Bool.{or_parts, or_from, or_left, or_right}
 use Rattle.std.proofs.lemmas.Bool.Decides.{nat_tests}
 use Rattle.sim_base.specs.declared.limits.TheConstants.{MOST_CYCLES}
-use Rattle.unit_law.specs.UnitMachine.{UnitMachine, At, IsQuiet, IsFirstDue}
-use Rattle.unit_law.specs.Coming.{comes, IsAhead, or_end, within_run}
-use Rattle.unit_law.proofs.StillLemmas.{stands, rests, keeps_ahead, before_it, at_it, ahead_of}
+use Rattle.avr_unit.specs.UnitMachine.{UnitMachine, At, IsQuiet, IsFirstDue}
+use Rattle.avr_unit.specs.Coming.{comes, IsAhead, or_end, within_run}
+use Rattle.avr_unit.proofs.StillLemmas.{stands, rests, keeps_ahead, before_it, at_it, ahead_of}
 use Rattle.avr_keep.specs.declared.watchdog.Watchdog.{Watchdog}
 use Rattle.avr_keep.specs.Watchdog.{runs, period, times_out, watchdog_due}
 use Rattle.avr_keep.specs.Eeprom.{end_of}

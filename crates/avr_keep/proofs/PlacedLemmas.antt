@@ -1,7 +1,7 @@
 -- Which pins the watchdog and the EEPROM ask for something.
 use Rattle.std.proofs.Common.{refl}
 use Rattle.part_law.specs.Spans.{no_pins}
-use Rattle.unit_law.specs.Placed.{Placed}
+use Rattle.avr_unit.specs.Placed.{Placed}
 use Rattle.avr_keep.specs.Keep.{keep}
 
 pub keep_placed : Placed keep no_pins

@@ -1,7 +1,7 @@
 -- The EEPROM, cycle by cycle (data sheet, "EEPROM Data Memory", "EECR - The EEPROM Control Register").
 use Rattle.std.specs.Prelude.{ℕ, ◌+◌, ◌*◌, ◌/◌, ◌%◌, ◌==◌, ◌&&◌, ◌||◌, not, Bool, false, if◌then◌else◌, List, replicate, Option, None, Some, is_some, is_none, bit_and, slice_index, slice_set}
-use Rattle.unit_law.specs.Bits.{is_set, one}
-use Rattle.unit_law.specs.Coming.{comes}
+use Rattle.avr_unit.specs.Bits.{is_set, one}
+use Rattle.avr_unit.specs.Coming.{comes}
 use Rattle.avr_keep.specs.declared.eeprom.Programming.{Programming}
 use Rattle.avr_keep.specs.declared.eeprom.Eeprom.{Eeprom}
 use Rattle.avr_keep.specs.Watchdog.{open_after}

@@ -1,9 +1,9 @@
 -- The watchdog and the EEPROM as one unit: what goes on over sleep and over a watchdog reset (profile).
 use Rattle.std.specs.Prelude.{ℕ, ◌/◌, ◌%◌, ◌==◌, ◌&&◌, ◌||◌, Bool, if◌then◌else◌, List, [], ◌∷◌, None, is_some, is_none}
-use Rattle.unit_law.specs.Bits.{with_bit}
-use Rattle.unit_law.specs.Pad.{untouched}
-use Rattle.unit_law.specs.UnitMachine.{UnitMachine, at_register}
-use Rattle.unit_law.specs.declared.request.Request.{Request}
+use Rattle.avr_unit.specs.Bits.{with_bit}
+use Rattle.avr_unit.specs.Pad.{untouched}
+use Rattle.avr_unit.specs.UnitMachine.{UnitMachine, at_register}
+use Rattle.avr_unit.specs.declared.request.Request.{Request}
 use Rattle.avr_keep.specs.Registers.{register_at}
 use Rattle.avr_keep.specs.declared.registers.Register.{Register}
 use Rattle.avr_keep.specs.declared.registers.Register.TheVariants.{EECR, EEDR, EEARL, EEARH, MCUSR, WDTCSR}

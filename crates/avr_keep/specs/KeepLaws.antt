@@ -2,9 +2,9 @@
 use Rattle.std.specs.Prelude.{◌≡◌, ◌==◌, ◌&&◌, not, ℕ, Bool, false, Option, Some, None}
 use Rattle.std.proofs.Common.{refl, ap, ◌∙◌}
 use Rattle.std.proofs.lemmas.Bool.{or_parts, cond-false}
-use Rattle.unit_law.specs.Coming.{comes}
-use Rattle.unit_law.specs.Reach.{Reaches, nowhere, nowhere_reaches}
-use Rattle.unit_law.specs.UnitMachine.{Laws}
+use Rattle.avr_unit.specs.Coming.{comes}
+use Rattle.avr_unit.specs.Reach.{Reaches, nowhere, nowhere_reaches}
+use Rattle.avr_unit.specs.UnitMachine.{Laws}
 use Rattle.avr_keep.specs.declared.watchdog.Watchdog.{Watchdog}
 use Rattle.avr_keep.specs.declared.eeprom.Programming.{Programming}
 use Rattle.avr_keep.specs.Watchdog.{watchdog_step, watchdog_due, times_out, resets, timed_out, open_after}

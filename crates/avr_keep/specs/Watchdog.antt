@@ -1,7 +1,7 @@
 -- The watchdog and MCUSR, cycle by cycle (data sheet, "Watchdog Timer", "Reset Sources"; exact cycles are the profile's).
 use Rattle.std.specs.Prelude.{ℕ, ◌+◌, ◌*◌, ◌/◌, ◌%◌, ◌^◌, ◌&&◌, ◌||◌, not, nat_le, min, Bool, true, false, if◌then◌else◌, Option, None, Some, is_some, bit_and, bit_or}
-use Rattle.unit_law.specs.Bits.{is_set, one}
-use Rattle.unit_law.specs.Coming.{comes}
+use Rattle.avr_unit.specs.Bits.{is_set, one}
+use Rattle.avr_unit.specs.Coming.{comes}
 use Rattle.avr_keep.specs.declared.watchdog.Watchdog.{Watchdog}
 
 -- While WDRF is set WDE counts as set ("WDE: Watchdog System Reset Enable").

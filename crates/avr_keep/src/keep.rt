@@ -1,16 +1,16 @@
 //! Both as one unit.
 ghost use Rattle.std.specs.Prelude.{◌≡◌, ℕ, ◌+◌, ◌-◌, ◌<◌, ◌≤◌, min, true};
-ghost use Rattle.unit_law.specs.Bits.{with_bit};
+ghost use Rattle.avr_unit.specs.Bits.{with_bit};
 ghost use Rattle.avr_keep.specs.Keep.{register, with_register, kept};
 ghost use Rattle.avr_keep.specs.Watchdog.{has_reset};
 
 use crate::eeprom::{Eeprom, end_of};
 use crate::registers::{EE_READY, Register, WDT, register_at};
 use crate::watchdog::Watchdog;
+use avr_unit::{Awake, Pad, Request, Unit, least, or_end, with_bit, within_run};
 use part_law::Span;
 use sim_base::{Level, MOST_CYCLES};
 use std::marker::Model;
-use unit_law::{Awake, Pad, Request, Unit, least, or_end, with_bit, within_run};
 
 /// The watchdog and the EEPROM, before the step of `cycle`.
 #[derive(Drop)]
@@ -22,8 +22,8 @@ pub struct Keep {
 
 impl Model for Keep {
     ghost use Rattle.std.specs.Prelude.{◌<◌, ◌≤◌};
-    ghost use Rattle.unit_law.specs.UnitMachine.{At};
-    ghost use Rattle.unit_law.specs.Coming.{IsAhead};
+    ghost use Rattle.avr_unit.specs.UnitMachine.{At};
+    ghost use Rattle.avr_unit.specs.Coming.{IsAhead};
     ghost use Rattle.avr_keep.specs.EepromState.{Suits};
     ghost use Rattle.avr_keep.specs.Keep.{Keep as State};
     ghost use Rattle.sim_base.specs.declared.limits.TheConstants.{MOST_CYCLES};
@@ -44,7 +44,7 @@ impl Model for Keep {
 impl Unit for Keep {
     ghost use Rattle.avr_keep.specs.Keep.{Keep as State, keep};
     ghost use Rattle.avr_keep.specs.KeepLaws.{keep_laws, keep_reaches};
-    ghost use Rattle.unit_law.specs.Reach.{nowhere};
+    ghost use Rattle.avr_unit.specs.Reach.{nowhere};
 
     ghost State = { State };
 

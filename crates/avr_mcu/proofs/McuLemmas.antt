@@ -17,16 +17,16 @@ use Rattle.part_law.specs.Spans.{IsIn, all_pins}
 use Rattle.part_law.proofs.SpanLemmas.{none_in}
 use Rattle.avr_core.specs.CoreState.{Core}
 use Rattle.avr_core.specs.AvrStep.{Did}
-use Rattle.unit_law.specs.declared.pins.TheConstants.{PORT_PINS}
-use Rattle.unit_law.specs.UnitMachine.{UnitMachine, least, steps, FirstDue}
-use Rattle.unit_law.specs.UnitMachine as unit
-use Rattle.unit_law.specs.Lagging.{quiet_requests}
-use Rattle.unit_law.proofs.UnitLemmas.{step_none, step_last}
+use Rattle.avr_unit.specs.declared.pins.TheConstants.{PORT_PINS}
+use Rattle.avr_unit.specs.UnitMachine.{UnitMachine, least, steps, FirstDue}
+use Rattle.avr_unit.specs.UnitMachine as unit
+use Rattle.avr_unit.specs.Lagging.{quiet_requests}
+use Rattle.avr_unit.proofs.UnitLemmas.{step_none, step_last}
 use Rattle.avr_mcu.specs.declared.pins.TheConstants.{UNO_PINS}
 use Rattle.avr_mcu.specs.Units.{UnitsAt, pins, request, units_step}
 use Rattle.avr_mcu.specs.Touched.{Touched, bare}
-use Rattle.unit_law.specs.Placed.{hull, SameBut}
-use Rattle.unit_law.proofs.HullLemmas.{apart}
+use Rattle.avr_unit.specs.Placed.{hull, SameBut}
+use Rattle.avr_unit.proofs.HullLemmas.{apart}
 use Rattle.avr_mcu.specs.McuOf.{Mcu, mcu, mcu_step, ready, enters, starts, performed, acted, core_acted, units_acted, restarted, uno_drive, uno_drives}
 use Rattle.avr_mcu.specs.McuLawsOf.{drive_same, drives_same, length-uno_drives, rests, rested}
 use Rattle.avr_mcu.specs.McuState.{state_of}

@@ -2,10 +2,10 @@
 use Rattle.std.proofs.Common.{◌≡◌, ◌∙◌, ℕ, ◌-◌, ◌≤◌, List, arith, ap, sym, subst}
 use Rattle.sim_base.specs.declared.signal.Level.{Level}
 use Rattle.sim_base.specs.declared.limits.TheConstants.{MOST_CYCLES}
-use Rattle.unit_law.specs.UnitMachine.{UnitMachine, Laws, FirstDue, IsQuiet, least, steps}
-use Rattle.unit_law.specs.Lagging.{lag_first, lag_skip}
-use Rattle.unit_law.specs.Next.{SameNext}
-use Rattle.unit_law.proofs.UnitLemmas.{quiet_within, wait_requests}
+use Rattle.avr_unit.specs.UnitMachine.{UnitMachine, Laws, FirstDue, IsQuiet, least, steps}
+use Rattle.avr_unit.specs.Lagging.{lag_first, lag_skip}
+use Rattle.avr_unit.specs.Next.{SameNext}
+use Rattle.avr_unit.proofs.UnitLemmas.{quiet_within, wait_requests}
 use Rattle.avr_mcu.specs.Ready.{Ready}
 
 -- what is known of a group beside what it shows stays where what comes next does

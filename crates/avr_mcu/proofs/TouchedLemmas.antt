@@ -12,10 +12,10 @@ use Rattle.avr_core.specs.CoreState.{Core}
 use Rattle.avr_core.specs.Registers.{reg, pair, advanced, jumped, raised}
 use Rattle.avr_core.specs.AvrStep.{X, Y, Z, Did, did, acted, avr_step, stepped, entered, instr_at, loaded, after_load, after_store, is_own, after_call, after_push, pushed, did_ret, did_reti}
 use Rattle.avr_core.proofs.BusLemmas.{step_leads, entered_leads}
-use Rattle.unit_law.specs.Bits.{with_bit}
-use Rattle.unit_law.specs.Reach.{Touch, Touches, touched_if}
-use Rattle.unit_law.specs.UnitMachine.{UnitMachine, Laws}
-use Rattle.unit_law.specs.declared.pins.TheConstants.{PORT_PINS}
+use Rattle.avr_unit.specs.Bits.{with_bit}
+use Rattle.avr_unit.specs.Reach.{Touch, Touches, touched_if}
+use Rattle.avr_unit.specs.UnitMachine.{UnitMachine, Laws}
+use Rattle.avr_unit.specs.declared.pins.TheConstants.{PORT_PINS}
 use Rattle.avr_mcu.specs.Units.{Units, UnitsAt, unit_bus, plain, with_plain, with_asked, with_register, data_at}
 use Rattle.avr_mcu.specs.Touched.{Touched, bare, bared, touched_bus, Leads}
 

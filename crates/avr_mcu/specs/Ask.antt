@@ -3,11 +3,11 @@ use Rattle.std.specs.Prelude.{◌≡◌, ◌+◌, ◌<◌, ℕ, List, Bool, Opti
 use Rattle.sim_base.specs.declared.signal.Level.{Level}
 use Rattle.sim_base.specs.declared.limits.TheConstants.{MOST_CYCLES}
 use Rattle.part_law.specs.declared.span.Span.{Span}
-use Rattle.unit_law.specs.Placed.{StepMoves}
-use Rattle.unit_law.specs.Reach.{Touch}
-use Rattle.unit_law.specs.Signals.{signalled}
-use Rattle.unit_law.specs.UnitMachine.{UnitMachine}
-use Rattle.unit_law.specs.declared.signal.Signal.{Signal}
+use Rattle.avr_unit.specs.Placed.{StepMoves}
+use Rattle.avr_unit.specs.Reach.{Touch}
+use Rattle.avr_unit.specs.Signals.{signalled}
+use Rattle.avr_unit.specs.UnitMachine.{UnitMachine}
+use Rattle.avr_unit.specs.declared.signal.Signal.{Signal}
 
 -- a register that is read; one that is written, or one bit of it, with the pins that were touched before; a vector that is entered; a
 -- signal; the step of the cycle

@@ -1,6 +1,6 @@
 -- The units of the microcontroller: one more is one more `beside`.
-use Rattle.unit_law.specs.Reach.{Touch, Touches}
-use Rattle.unit_law.specs.UnitMachine.{UnitMachine, Laws}
+use Rattle.avr_unit.specs.Reach.{Touch, Touches}
+use Rattle.avr_unit.specs.UnitMachine.{UnitMachine, Laws}
 use Rattle.avr_ports.specs.PortLaws.{ports_laws}
 use Rattle.avr_ports.specs.PortReach.{ports_reaches}
 use Rattle.avr_keep.specs.KeepLaws.{keep_laws, keep_reaches}

@@ -4,9 +4,9 @@ use Rattle.std.specs.Prelude.{◌≡◌, ◌<◌, ℕ, ◌&&◌, nat_lt, List}
 use Rattle.sim_base.specs.declared.signal.Level.{Level}
 use Rattle.part_law.specs.declared.span.Span.{Span}
 use Rattle.part_law.specs.Spans.{IsIn}
-use Rattle.unit_law.specs.Reach.{Touch, touched_if}
-use Rattle.unit_law.specs.UnitMachine.{UnitMachine}
-use Rattle.unit_law.specs.declared.pins.TheConstants.{PORT_PINS}
+use Rattle.avr_unit.specs.Reach.{Touch, touched_if}
+use Rattle.avr_unit.specs.UnitMachine.{UnitMachine}
+use Rattle.avr_unit.specs.declared.pins.TheConstants.{PORT_PINS}
 use Rattle.avr_core.specs.AvrStep.{Did}
 use Rattle.avr_core.specs.Bus.{Bus}
 use Rattle.avr_mcu.specs.Units.{Units, UnitsAt, after_read, data_at, with_data, with_data_bit}

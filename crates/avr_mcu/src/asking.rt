@@ -4,11 +4,11 @@ ghost use Rattle.sim_base.specs.declared.signal.Level.{Level};
 ghost use Rattle.sim_base.specs.declared.signal.Level.TheVariants as levels;
 ghost use Rattle.avr_mcu.specs.Ask.{Ask, Told, after, levels_after, IsFit, left, Tells};
 ghost use Rattle.avr_mcu.specs.Ready.{Ready};
-ghost use Rattle.unit_law.specs.Placed.{StepMoves};
+ghost use Rattle.avr_unit.specs.Placed.{StepMoves};
 
+use avr_unit::{AwakeGroup, Group, PORT_PINS, Pad, Signal, notices};
 use part_law::Span;
 use sim_base::{Level, MOST_CYCLES};
-use unit_law::{AwakeGroup, Group, PORT_PINS, Pad, Signal, notices};
 
 /// The first cycle in which a unit has an event, or `MOST_CYCLES`, and the least vector that is enabled and flagged, or
 /// `VECTORS`.

@@ -7,8 +7,8 @@ use avr_spi::Spi;
 use avr_timer8::{Timer0, Timer2};
 use avr_timer16::Timer16;
 use avr_twi::Twi;
+use avr_unit::{Both, Late, Powered, Seldom};
 use avr_usart::Usart;
-use unit_law::{Both, Late, Powered, Seldom};
 
 pub(crate) type Devices = Powered<Awake, Clocked>;
 

@@ -12,7 +12,7 @@ ghost use Rattle.avr_mcu.specs.declared.pins.TheConstants.{UNO_PINS};
 ghost use Rattle.part_law.specs.Machine.{IsFirstDue};
 ghost use Rattle.part_law.specs.declared.span.Span.{Span};
 ghost use Rattle.part_law.specs.Spans.{all_pins, no_pins};
-ghost use Rattle.unit_law.specs.Placed.{hull, SameBut};
+ghost use Rattle.avr_unit.specs.Placed.{hull, SameBut};
 
 use crate::attended::{instruct, instruct_on};
 use crate::follow::follow;
@@ -22,12 +22,12 @@ use crate::units::Units;
 use avr_core::{Core, Mode, decode_all};
 use avr_isa::Instr;
 use avr_omit::Omissions;
+use avr_unit::{VECTORS, hull};
 use part_law::{Part, Span, Went};
 use sim_base::{Drive, Flash, Level, MOST_CYCLES, OutOfMemory, Steps};
 use std::alloc::Global;
 use std::marker::Model;
 use std::sync::ledger::Ledger;
-use unit_law::{VECTORS, hull};
 
 /// The microcontroller, before the step of `cycle`.
 #[derive(Drop)]

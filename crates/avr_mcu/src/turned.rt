@@ -4,14 +4,14 @@ ghost use Rattle.part_law.specs.Spans.{all_pins};
 ghost use Rattle.avr_mcu.specs.Devices.{devices};
 ghost use Rattle.avr_mcu.specs.McuOf.{units_acted, restarted};
 ghost use Rattle.avr_mcu.specs.McuState.{state_of};
-ghost use Rattle.unit_law.specs.Placed.{hull, SameBut};
+ghost use Rattle.avr_unit.specs.Placed.{hull, SameBut};
 
 use crate::pins::UNO_PINS;
 use crate::units::Units;
 use avr_core::Core;
+use avr_unit::hull;
 use part_law::Span;
 use sim_base::{Level, MOST_CYCLES};
-use unit_law::hull;
 
 /// What the units' part of a cycle leaves beside their state: the byte that leaves, the pins whose drives may have changed,
 /// and the cycle in which the next instruction starts.

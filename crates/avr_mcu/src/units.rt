@@ -2,9 +2,9 @@
 ghost use Rattle.std.specs.Prelude.{◌≡◌, ◌+◌, ◌-◌, ◌<◌, ◌≤◌, ℕ, List, length, true, false, replicate, slice_index_or, IfOk, vec_len, if◌then◌else◌, ◌%◌, ◌==◌, ◌&&◌, not, nat_lt};
 ghost use Rattle.sim_base.specs.declared.signal.Level.{Level};
 ghost use Rattle.sim_base.specs.declared.signal.Level.TheVariants as levels;
-ghost use Rattle.unit_law.specs.Bits.{is_set};
-ghost use Rattle.unit_law.specs.Pad.{driven};
-ghost use Rattle.unit_law.specs.UnitMachine.{steps, IsQuiet, FirstDue};
+ghost use Rattle.avr_unit.specs.Bits.{is_set};
+ghost use Rattle.avr_unit.specs.Pad.{driven};
+ghost use Rattle.avr_unit.specs.UnitMachine.{steps, IsQuiet, FirstDue};
 ghost use Rattle.avr_adc.specs.declared.registers.TheConstants.{ADCSRA, ADSC};
 ghost use Rattle.avr_mcu.specs.Devices.{devices, devices_touch};
 ghost use Rattle.avr_mcu.specs.Units.{reset, pins, request, units_step, units_restarted, above, above_in, with_above, with_asked, plain, plain_of, with_plain, register, after_read, with_register, with_register_bit};
@@ -13,9 +13,9 @@ ghost use Rattle.avr_mcu.specs.Ready.{Ready, Calm};
 ghost use Rattle.avr_mcu.specs.Ask.{after, levels_after, IsFit, left, Tells};
 ghost use Rattle.part_law.specs.Spans.{no_pins};
 ghost use Rattle.avr_mcu.specs.McuOf.{is_deep};
-ghost use Rattle.unit_law.specs.Reach.{touched_if};
-ghost use Rattle.unit_law.specs.Placed.{SameBut};
-ghost use Rattle.unit_law.specs.Signals.{signalled};
+ghost use Rattle.avr_unit.specs.Reach.{touched_if};
+ghost use Rattle.avr_unit.specs.Placed.{SameBut};
+ghost use Rattle.avr_unit.specs.Signals.{signalled};
 
 use crate::asking::{Asking, Hear, Next, Read, Taken, Turn, Write, WriteBit, begin, pad_of};
 use crate::devices::Devices;
@@ -23,11 +23,11 @@ use crate::pins::UNO_PINS;
 use avr_adc::{ADCSRA, ADSC};
 use avr_core::DataBus;
 use avr_omit::{Asked, Omissions};
+use avr_unit::{Group, PORT_PINS, Signal, VECTORS, has_bit, with_bit};
 use part_law::Span;
 use sim_base::{Drive, Level, MOST_CYCLES, OutOfMemory};
 use std::alloc::{AllocError, Global};
 use std::marker::Model;
-use unit_law::{Group, PORT_PINS, Signal, VECTORS, has_bit, with_bit};
 
 /// General purpose I/O registers, which only keep what is written (data sheet, "Register Summary").
 const GPIOR0: u8 = 0x3E;

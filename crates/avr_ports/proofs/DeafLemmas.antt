@@ -5,10 +5,10 @@ use Rattle.std.specs.Int.Bits.{and_zero_r}
 use Rattle.std.proofs.lemmas.Bool.Decides.{nat_tests}
 use Rattle.std.proofs.lemmas.Bool.{not-false, not-true}
 use Rattle.sim_base.specs.declared.signal.Level.{Level}
-use Rattle.unit_law.specs.Bits.{is_set}
-use Rattle.unit_law.specs.UnitMachine.{least}
-use Rattle.unit_law.specs.Unheard.{UnheardFrom}
-use Rattle.unit_law.proofs.UnheardLemmas.{still_unheard}
+use Rattle.avr_unit.specs.Bits.{is_set}
+use Rattle.avr_unit.specs.UnitMachine.{least}
+use Rattle.avr_unit.specs.Unheard.{UnheardFrom}
+use Rattle.avr_unit.proofs.UnheardLemmas.{still_unheard}
 use Rattle.avr_ports.specs.Deaf.{is_deaf}
 use Rattle.avr_ports.specs.PortLaws.{ports_still}
 use Rattle.avr_ports.specs.Ports.{Ports, ports, requests_int, is_edge, is_change, isc0, isc1, on, pinb, pinc, pind, requests, rouses, edges_sensed, changes_sensed, ports_step}

@@ -4,9 +4,9 @@ use Rattle.std.specs.Prelude.{if◌then◌else◌, ◌^◌, ◌&&◌, nat_le}
 use Rattle.std.proofs.lemmas.Bool.{leb-true, and_parts}
 use Rattle.std.proofs.lemmas.Bool.Decides.{eqb_tells}
 use Rattle.sim_base.specs.declared.signal.Level.{Level}
-use Rattle.unit_law.specs.Bits.{with_bit}
-use Rattle.unit_law.specs.UnitMachine.{at_register}
-use Rattle.unit_law.specs.Next.{WritesKeepNext}
+use Rattle.avr_unit.specs.Bits.{with_bit}
+use Rattle.avr_unit.specs.UnitMachine.{at_register}
+use Rattle.avr_unit.specs.Next.{WritesKeepNext}
 use Rattle.avr_ports.specs.Registers.{register_at}
 use Rattle.avr_ports.specs.declared.registers.Register.{Register}
 use Rattle.avr_ports.specs.declared.registers.Register.TheVariants.{PINB, DDRB, PORTB, PINC, DDRC, PORTC, PIND, DDRD, PORTD}

@@ -1,7 +1,7 @@
 -- Which pins the ports ask for something.
 use Rattle.std.proofs.Common.{arith}
 use Rattle.part_law.specs.Spans.{all_pins}
-use Rattle.unit_law.specs.Placed.{Placed}
+use Rattle.avr_unit.specs.Placed.{Placed}
 use Rattle.avr_ports.specs.Ports.{ports}
 
 pub ports_placed : Placed ports all_pins

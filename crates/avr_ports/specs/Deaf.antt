@@ -1,6 +1,6 @@
 -- Ports to which no change of levels matters. The code asks for this; the definition of the ports does not.
 use Rattle.std.specs.Prelude.{◌%◌, ◌==◌, ◌&&◌, not, Bool}
-use Rattle.unit_law.specs.Bits.{is_set}
+use Rattle.avr_unit.specs.Bits.{is_set}
 use Rattle.avr_ports.specs.Ports.{Ports}
 
 -- whether no edge is sensed, no change of a pin chosen and no external interrupt enabled

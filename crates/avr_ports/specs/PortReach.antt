@@ -6,12 +6,12 @@ use Rattle.std.specs.Int.Bits.{xor_zero_r}
 use Rattle.std.proofs.lemmas.Bool.Decides.{nat_tests}
 use Rattle.part_law.specs.declared.span.Span.{Span}
 use Rattle.part_law.specs.Spans.{IsIn, no_pins}
-use Rattle.unit_law.specs.Bits.{is_set, with_bit}
-use Rattle.unit_law.specs.Pad.{untouched}
-use Rattle.unit_law.specs.Reach.{Reach, Reaches}
-use Rattle.unit_law.specs.UnitMachine.{at_register}
-use Rattle.unit_law.specs.declared.pins.TheConstants.{PORT_PINS}
-use Rattle.unit_law.proofs.BitLemmas.{bit_keeps, toggle_keeps}
+use Rattle.avr_unit.specs.Bits.{is_set, with_bit}
+use Rattle.avr_unit.specs.Pad.{untouched}
+use Rattle.avr_unit.specs.Reach.{Reach, Reaches}
+use Rattle.avr_unit.specs.UnitMachine.{at_register}
+use Rattle.avr_unit.specs.declared.pins.TheConstants.{PORT_PINS}
+use Rattle.avr_unit.proofs.BitLemmas.{bit_keeps, toggle_keeps}
 use Rattle.avr_ports.specs.Registers.{register_at}
 use Rattle.avr_ports.specs.declared.registers.Register.{Register}
 use Rattle.avr_ports.specs.declared.registers.Register.TheVariants.{PINB, DDRB, PORTB, PINC, DDRC, PORTC, PIND, DDRD, PORTD, PCIFR, EIFR, EIMSK, PCICR, EICRA, PCMSK0, PCMSK1, PCMSK2}

@@ -3,11 +3,11 @@ use Rattle.std.specs.Prelude.{ℕ, ◌+◌, ◌-◌, ◌*◌, ◌/◌, ◌%◌, 
 use Rattle.sim_base.specs.Signal.{reads}
 use Rattle.sim_base.specs.declared.signal.Level.{Level}
 use Rattle.sim_base.specs.declared.signal.Level.TheVariants as levels
-use Rattle.unit_law.specs.declared.pad.Pad.{Pad}
-use Rattle.unit_law.specs.Pad.{untouched}
-use Rattle.unit_law.specs.Bits.{is_set, one, with_bit}
-use Rattle.unit_law.specs.UnitMachine.{UnitMachine, powerless, at_register}
-use Rattle.unit_law.specs.declared.request.Request.{Request}
+use Rattle.avr_unit.specs.declared.pad.Pad.{Pad}
+use Rattle.avr_unit.specs.Pad.{untouched}
+use Rattle.avr_unit.specs.Bits.{is_set, one, with_bit}
+use Rattle.avr_unit.specs.UnitMachine.{UnitMachine, powerless, at_register}
+use Rattle.avr_unit.specs.declared.request.Request.{Request}
 use Rattle.avr_ports.specs.Registers.{register_at}
 use Rattle.avr_ports.specs.declared.registers.Register.{Register}
 use Rattle.avr_ports.specs.declared.registers.Register.TheVariants.{PINB, DDRB, PORTB, PINC, DDRC, PORTC, PIND, DDRD, PORTD, PCIFR, EIFR, EIMSK, PCICR, EICRA, PCMSK0, PCMSK1, PCMSK2}

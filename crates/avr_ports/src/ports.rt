@@ -1,7 +1,7 @@
 //! The ports with their interrupts.
 ghost use Rattle.std.specs.Prelude.{◌≡◌, ◌+◌, ◌-◌, ◌<◌, ◌≤◌, ◌==◌, ◌&&◌, ◌||◌, ℕ, [], length, true, false, not};
-ghost use Rattle.unit_law.specs.Bits.{is_set};
-ghost use Rattle.unit_law.specs.UnitMachine.{least, steps};
+ghost use Rattle.avr_unit.specs.Bits.{is_set};
+ghost use Rattle.avr_unit.specs.UnitMachine.{least, steps};
 ghost use Rattle.avr_ports.specs.Ports.{requests, requests_int, acts_by_ones, register, with_register, with_register_bit, edges_sensed, changes_sensed, ports_step};
 ghost use Rattle.avr_ports.specs.Deaf.{is_deaf};
 ghost use Rattle.avr_ports.specs.PortReach.{moves, bit_moves, pins_of, pin_of, one_pin, reached, bit_reached};
@@ -9,12 +9,12 @@ ghost use Rattle.avr_ports.specs.declared.registers.Register.TheVariants.{PCIFR,
 
 use crate::pins::{bit_pad, is_change, is_edge, on, pinb, pinc, pind, requests_int};
 use crate::registers::{INT0, INT1, PCINT0, PCINT1, PCINT2, PINB, PORTD, Register, register_at};
+use avr_unit::{
+    Awake, PORT_PINS, Pad, Request, Unit, VECTORS, has_bit, least, mask, one, pins_if, with_bit,
+};
 use part_law::Span;
 use sim_base::{Level, MOST_CYCLES};
 use std::marker::Model;
-use unit_law::{
-    Awake, PORT_PINS, Pad, Request, Unit, VECTORS, has_bit, least, mask, one, pins_if, with_bit,
-};
 
 /// The ports, before the step of `cycle`.
 #[derive(Drop)]
@@ -41,7 +41,7 @@ pub struct Ports {
 
 impl Model for Ports {
     ghost use Rattle.std.specs.Prelude.{◌≤◌};
-    ghost use Rattle.unit_law.specs.UnitMachine.{At};
+    ghost use Rattle.avr_unit.specs.UnitMachine.{At};
     ghost use Rattle.avr_ports.specs.Ports.{Ports as State};
     ghost use Rattle.sim_base.specs.declared.limits.TheConstants.{MOST_CYCLES};
 

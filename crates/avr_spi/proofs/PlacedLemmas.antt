@@ -1,9 +1,9 @@
 -- Which pins the SPI asks for something.
 use Rattle.std.proofs.Common.{◌≡◌, ◌∙◌, ℕ, Bool, true, false, not, ap, arith, refl, sym}
 use Rattle.std.specs.Prelude.{if◌then◌else◌, ◌==◌}
-use Rattle.unit_law.specs.UnitMachine.{At}
-use Rattle.unit_law.specs.Placed.{SameBut, placed_same}
-use Rattle.unit_law.proofs.HullLemmas.{outside}
+use Rattle.avr_unit.specs.UnitMachine.{At}
+use Rattle.avr_unit.specs.Placed.{SameBut, placed_same}
+use Rattle.avr_unit.proofs.HullLemmas.{outside}
 use Rattle.avr_spi.specs.Shifter.{differ, shifted}
 use Rattle.avr_spi.specs.SpiReach.{spi_placed}
 use Rattle.avr_spi.specs.Spi.{Spi, spi, is_selected, deselected, looked, stepped}

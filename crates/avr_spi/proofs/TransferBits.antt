@@ -3,14 +3,14 @@ use Rattle.std.proofs.Common.{◌≡◌, ℕ, zero, suc, ◌+◌, ◌-◌, ◌*�
 use Rattle.std.specs.Prelude.{◌==◌, ◌&&◌, not, if◌then◌else◌}
 use Rattle.std.proofs.lemmas.Bool.{cond-true, cond-false, cases_lt, eqb-true, eq-eqb, ne_eqb, true≢false}
 use Rattle.sim_base.specs.declared.signal.Level.{Level}
-use Rattle.unit_law.specs.Bits.{is_set, with_bit}
+use Rattle.avr_unit.specs.Bits.{is_set, with_bit}
 use Rattle.avr_spi.specs.declared.shifter.Phase.{Phase}
 use Rattle.avr_spi.specs.declared.shifter.Phase.TheVariants.{First, Sampling, Second}
 use Rattle.avr_spi.specs.declared.shifter.Transfer.{Transfer}
 use Rattle.avr_spi.specs.declared.shifter.Shifter.{Shifter}
 use Rattle.avr_spi.specs.Shifter.{mosi_of, going, bit_over, acted as moved, shifted, is_second}
 use Rattle.avr_spi.specs.Spi.{Spi, spi, is_master, ss_low, miso}
-use Rattle.unit_life.specs.Life.{Act, before, state, stepping}
+use Rattle.avr_unit_model.specs.Life.{Act, before, state, stepping}
 use Rattle.avr_spi.specs.SpiTransfer.{place}
 use Rattle.avr_spi.proofs.TransferLemmas.{kept_act, one_cycle}
 

@@ -4,9 +4,9 @@ use Rattle.std.specs.Prelude.{◌==◌, ◌&&◌, not, if◌then◌else◌}
 use Rattle.std.proofs.Math.Nat.{suc-mul, mul-le-mul_right}
 use Rattle.std.proofs.lemmas.Bool.{and_left, cases_lt, ne_eqb}
 use Rattle.sim_base.specs.declared.signal.Level.{Level}
-use Rattle.unit_law.specs.Bits.{is_set, with_bit}
-use Rattle.unit_law.specs.Pad.{untouched, valued}
-use Rattle.unit_law.proofs.BitLemmas.{bit_keeps}
+use Rattle.avr_unit.specs.Bits.{is_set, with_bit}
+use Rattle.avr_unit.specs.Pad.{untouched, valued}
+use Rattle.avr_unit.proofs.BitLemmas.{bit_keeps}
 use Rattle.avr_spi.specs.declared.shifter.Phase.{Phase}
 use Rattle.avr_spi.specs.declared.shifter.Phase.TheVariants.{First}
 use Rattle.avr_spi.specs.declared.shifter.Transfer.{Transfer}
@@ -14,9 +14,9 @@ use Rattle.avr_spi.specs.declared.shifter.Shifter.{Shifter}
 use Rattle.avr_spi.specs.Shifter.{divisor, half_bit, differ, sck}
 use Rattle.avr_spi.specs.declared.registers.Register.TheVariants.{SPDR}
 use Rattle.avr_spi.specs.Spi.{Spi, spi, is_master, looked, stepped, with_register, ss_low, miso}
-use Rattle.unit_life.specs.Life.{Act, Nothing, acted, before, state}
+use Rattle.avr_unit_model.specs.Life.{Act, Nothing, acted, before, state}
 use Rattle.avr_spi.specs.SpiTransfer.{cycles_of_bit, place, first_half, IsUndisturbed, IsTransferred, Transfers}
-use Rattle.unit_life.proofs.BitLemmas.{bit_written, bits_written}
+use Rattle.avr_unit_model.proofs.BitLemmas.{bit_written, bits_written}
 use Rattle.avr_spi.proofs.TransferLemmas.{first_cycle, was_master, was_unselected, with_transfer}
 use Rattle.avr_spi.proofs.TransferBits.{bit, Stands, Half, in_first, in_second, ends, next}
 

@@ -2,9 +2,9 @@
 use Rattle.std.specs.Prelude.{◌≡◌, ℕ, ◌==◌, ◌&&◌, ◌||◌, not, Bool, true, false, if◌then◌else◌, Option, None, Some}
 use Rattle.std.proofs.Common.{refl, ap, sym, ◌∙◌}
 use Rattle.std.proofs.lemmas.Bool.{and_left, cond-true, cond-false}
-use Rattle.unit_law.specs.Bits.{is_set, with_bit}
-use Rattle.unit_law.specs.Coming.{comes}
-use Rattle.unit_law.specs.UnitMachine.{at_register}
+use Rattle.avr_unit.specs.Bits.{is_set, with_bit}
+use Rattle.avr_unit.specs.Coming.{comes}
+use Rattle.avr_unit.specs.UnitMachine.{at_register}
 use Rattle.avr_spi.specs.declared.registers.Register.{Register}
 use Rattle.avr_spi.specs.declared.registers.Register.TheVariants.{DDRB, SPCR, SPSR, SPDR}
 use Rattle.avr_spi.specs.declared.shifter.Transfer.{Transfer}
@@ -12,7 +12,7 @@ use Rattle.avr_spi.specs.declared.shifter.Shifter.{Shifter}
 use Rattle.avr_spi.specs.Registers.{register_at}
 use Rattle.avr_spi.specs.Shifter.{begun, started, acted as moved, shifted}
 use Rattle.avr_spi.specs.Spi.{Spi, spi, is_master, is_selected, looked, deselected, stepped, accessed, after_read, loaded, with_register, kept}
-use Rattle.unit_life.specs.Life.{Act, Nothing, Read, Write, WriteBit, Enter, acted}
+use Rattle.avr_unit_model.specs.Life.{Act, Nothing, Read, Write, WriteBit, Enter, acted}
 
 -- what the processor does to the shift register while a transfer is on the way: at most it clears SPIF
 pub record IsKept (old new : Shifter) : Type 0 where

@@ -2,9 +2,9 @@
 use Rattle.std.proofs.Common.{◌≡◌, ◌∙◌, ℕ, List, [], false, ◌&&◌, not, sym, refl}
 use Rattle.std.proofs.lemmas.Bool.{or_parts}
 use Rattle.sim_base.specs.declared.signal.Level.{Level}
-use Rattle.unit_law.specs.Coming.{comes}
-use Rattle.unit_law.specs.Unheard.{UnheardFrom}
-use Rattle.unit_law.proofs.UnheardLemmas.{still_unheard}
+use Rattle.avr_unit.specs.Coming.{comes}
+use Rattle.avr_unit.specs.Unheard.{UnheardFrom}
+use Rattle.avr_unit.proofs.UnheardLemmas.{still_unheard}
 use Rattle.avr_spi.specs.Shifter.{next_event}
 use Rattle.avr_spi.specs.Spi.{Spi, spi, watches, ss_low, miso}
 use Rattle.avr_spi.specs.SpiLaws.{quiet, quiet_by}

@@ -1,9 +1,9 @@
 -- What the law of a transfer asks for comes about: a small case, worked by the definition itself.
 use Rattle.std.proofs.Common.{true, false, refl}
 use Rattle.std.specs.Prelude.{◌&&◌, not}
-use Rattle.unit_law.specs.Bits.{is_set}
-use Rattle.unit_life.specs.Life.{state, stepping}
-use Rattle.unit_life.proofs.Cases.{polls, high, always}
+use Rattle.avr_unit.specs.Bits.{is_set}
+use Rattle.avr_unit_model.specs.Life.{state, stepping}
+use Rattle.avr_unit_model.proofs.Cases.{polls, high, always}
 use Rattle.avr_spi.specs.declared.registers.Register.TheVariants.{SPDR}
 use Rattle.avr_spi.specs.Spi.{Spi, spi, is_master, ss_low, with_register}
 use Rattle.avr_spi.specs.SpiTransfer.{IsUndisturbed}

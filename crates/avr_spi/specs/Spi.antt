@@ -3,12 +3,12 @@ use Rattle.std.specs.Prelude.{ℕ, ◌+◌, ◌*◌, ◌%◌, ◌==◌, ◌&&◌
 use Rattle.sim_base.specs.Signal.{reads}
 use Rattle.sim_base.specs.declared.signal.Level.{Level}
 use Rattle.sim_base.specs.declared.signal.Level.TheVariants as levels
-use Rattle.unit_law.specs.Bits.{is_set, one, with_bit}
-use Rattle.unit_law.specs.Coming.{comes}
-use Rattle.unit_law.specs.Pad.{untouched, valued}
-use Rattle.unit_law.specs.UnitMachine.{UnitMachine, powerless, at_register}
-use Rattle.unit_law.specs.declared.pad.Pad.{Pad}
-use Rattle.unit_law.specs.declared.request.Request.{Request}
+use Rattle.avr_unit.specs.Bits.{is_set, one, with_bit}
+use Rattle.avr_unit.specs.Coming.{comes}
+use Rattle.avr_unit.specs.Pad.{untouched, valued}
+use Rattle.avr_unit.specs.UnitMachine.{UnitMachine, powerless, at_register}
+use Rattle.avr_unit.specs.declared.pad.Pad.{Pad}
+use Rattle.avr_unit.specs.declared.request.Request.{Request}
 use Rattle.avr_spi.specs.declared.registers.Register.{Register}
 use Rattle.avr_spi.specs.declared.registers.Register.TheVariants.{DDRB, SPCR, SPSR, SPDR}
 use Rattle.avr_spi.specs.declared.shifter.Transfer.{Transfer}

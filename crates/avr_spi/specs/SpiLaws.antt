@@ -4,8 +4,8 @@ use Rattle.std.proofs.Common.{refl, ap, sym, ◌∙◌}
 use Rattle.std.proofs.lemmas.Bool.{or_parts, cond-false}
 use Rattle.sim_base.proofs.BoolLemmas.{and_opposite}
 use Rattle.sim_base.specs.declared.signal.Level.{Level}
-use Rattle.unit_law.specs.Coming.{comes}
-use Rattle.unit_law.specs.UnitMachine.{Laws, powerless_laws, at_register}
+use Rattle.avr_unit.specs.Coming.{comes}
+use Rattle.avr_unit.specs.UnitMachine.{Laws, powerless_laws, at_register}
 use Rattle.avr_spi.specs.declared.registers.Register.{Register}
 use Rattle.avr_spi.specs.declared.registers.Register.TheVariants.{DDRB, SPCR, SPSR, SPDR}
 use Rattle.avr_spi.specs.declared.shifter.Transfer.{Transfer}

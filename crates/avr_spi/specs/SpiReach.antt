@@ -3,13 +3,13 @@ use Rattle.std.specs.Prelude.{◌≡◌, ℕ, ◌==◌, Bool, true, false, if◌
 use Rattle.std.proofs.Common.{refl, arith, ap, sym, ◌∙◌}
 use Rattle.part_law.specs.declared.span.Span.{Span}
 use Rattle.part_law.specs.Spans.{no_pins}
-use Rattle.unit_law.specs.Bits.{is_set, with_bit}
-use Rattle.unit_law.specs.Pad.{untouched, valued}
-use Rattle.unit_law.specs.declared.pad.Pad.{Pad}
-use Rattle.unit_law.specs.Placed.{Placed, SameBut, placed_same}
-use Rattle.unit_law.specs.Reach.{Reach, Reaches}
-use Rattle.unit_law.specs.UnitMachine.{at_register}
-use Rattle.unit_law.proofs.HullLemmas.{outside}
+use Rattle.avr_unit.specs.Bits.{is_set, with_bit}
+use Rattle.avr_unit.specs.Pad.{untouched, valued}
+use Rattle.avr_unit.specs.declared.pad.Pad.{Pad}
+use Rattle.avr_unit.specs.Placed.{Placed, SameBut, placed_same}
+use Rattle.avr_unit.specs.Reach.{Reach, Reaches}
+use Rattle.avr_unit.specs.UnitMachine.{at_register}
+use Rattle.avr_unit.proofs.HullLemmas.{outside}
 use Rattle.avr_spi.specs.Registers.{register_at}
 use Rattle.avr_spi.specs.Shifter.{begun, differ, sck, started}
 use Rattle.avr_spi.specs.declared.registers.Register.{Register}

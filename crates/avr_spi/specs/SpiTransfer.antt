@@ -1,10 +1,10 @@
 -- A transfer of an SPI master (data sheet, "SPI - Serial Peripheral Interface", "Data Modes"; the cycles that bits take are the profile's).
 use Rattle.std.specs.Prelude.{◌≡◌, ℕ, ◌+◌, ◌-◌, ◌*◌, ◌/◌, ◌%◌, ◌<◌, ◌≤◌, ◌==◌, ◌&&◌, not, Bool, true, false, if◌then◌else◌, List, None}
 use Rattle.sim_base.specs.declared.signal.Level.{Level}
-use Rattle.unit_law.specs.Bits.{is_set}
-use Rattle.unit_law.specs.Pad.{untouched, valued}
+use Rattle.avr_unit.specs.Bits.{is_set}
+use Rattle.avr_unit.specs.Pad.{untouched, valued}
 use Rattle.avr_spi.specs.Spi.{Spi, spi, is_master, ss_low, miso}
-use Rattle.unit_life.specs.Life.{Act, Nothing, state, stepping}
+use Rattle.avr_unit_model.specs.Life.{Act, Nothing, state, stepping}
 
 -- the cycles of a bit, by SPI2X and SPR1:0 ("Relationship Between SCK and the Oscillator Frequency")
 abbrev pub cycles_of_bit : Bool → ℕ → ℕ

@@ -4,10 +4,10 @@ use Rattle.std.specs.Prelude.{if◌then◌else◌}
 use Rattle.sim_base.specs.declared.signal.Level.{Level}
 use Rattle.part_law.specs.declared.span.Span.{Span}
 use Rattle.part_law.specs.Spans.{no_pins}
-use Rattle.unit_law.specs.Placed.{Placed, StepMoves, placed_same}
-use Rattle.avr_count.specs.Outputs.{has_pins}
-use Rattle.avr_count.specs.Timing.{counter_step}
-use Rattle.avr_count.proofs.TimerLemmas.{no_pins as no_outputs}
+use Rattle.avr_unit.specs.Placed.{Placed, StepMoves, placed_same}
+use Rattle.avr_timer.specs.Outputs.{has_pins}
+use Rattle.avr_timer.specs.Timing.{counter_step}
+use Rattle.avr_timer.proofs.TimerLemmas.{no_pins as no_outputs}
 use Rattle.avr_timer8.specs.declared.registers.Which.{Which}
 use Rattle.avr_timer8.specs.Timer8.{Timer8, timer8, timing, mode_of, pin_a, pin_b}
 

@@ -4,9 +4,9 @@ use Rattle.std.specs.Prelude.{◌&&◌, not, if◌then◌else◌}
 use Rattle.std.proofs.Math.Nat.{suc-mul, mul-le-mul_right}
 use Rattle.std.proofs.lemmas.Bool.{cases_lt, cond-true, cond-false}
 use Rattle.sim_base.specs.declared.signal.Level.{Level}
-use Rattle.unit_law.specs.Bits.{is_set, with_bit}
-use Rattle.unit_law.specs.Pad.{untouched}
-use Rattle.unit_law.proofs.BitLemmas.{bit_keeps}
+use Rattle.avr_unit.specs.Bits.{is_set, with_bit}
+use Rattle.avr_unit.specs.Pad.{untouched}
+use Rattle.avr_unit.proofs.BitLemmas.{bit_keeps}
 use Rattle.avr_twi.specs.declared.status.Status.{Status}
 use Rattle.avr_twi.specs.declared.status.Status.TheVariants.{Start, RepeatedStart, NoInformation}
 use Rattle.avr_twi.specs.declared.master.Stage.{Stage}
@@ -15,9 +15,9 @@ use Rattle.avr_twi.specs.declared.master.Master.{Master}
 use Rattle.avr_twi.specs.Status.{code}
 use Rattle.avr_twi.specs.Master.{going, ended, stopped, begun}
 use Rattle.avr_twi.specs.Twi.{Twi, twi, half_period, open_drain, sda, scl}
-use Rattle.unit_life.specs.Life.{Act, state, stepping}
+use Rattle.avr_unit_model.specs.Life.{Act, state, stepping}
 use Rattle.avr_twi.specs.TwiActions.{next_half, IsBegun, Holds, IsDone, IsFree, IsStart, IsStop}
-use Rattle.unit_life.proofs.BitLemmas.{bit_written}
+use Rattle.avr_unit_model.proofs.BitLemmas.{bit_written}
 use Rattle.avr_twi.proofs.HalvesLemmas.{Stands, Ends, Wrote, holds, ends, follows, first_half, half_some, next_some, with_control}
 
 module _ (acts : ℕ → Act) (levels : ℕ → List Level) (u v : Twi) (t : ℕ) where

@@ -5,9 +5,9 @@ use Rattle.std.proofs.Math.Nat.{suc-mul, mul-le-mul_right}
 use Rattle.std.proofs.lemmas.Bool.{cases_lt, cond-true, cond-false, ne_eqb}
 use Rattle.std.proofs.lemmas.Nat.Bits.{bit_at_ones}
 use Rattle.sim_base.specs.declared.signal.Level.{Level}
-use Rattle.unit_law.specs.Bits.{is_set, with_bit}
-use Rattle.unit_law.specs.Pad.{untouched}
-use Rattle.unit_law.proofs.BitLemmas.{bit_keeps}
+use Rattle.avr_unit.specs.Bits.{is_set, with_bit}
+use Rattle.avr_unit.specs.Pad.{untouched}
+use Rattle.avr_unit.proofs.BitLemmas.{bit_keeps}
 use Rattle.avr_twi.specs.declared.packet.Kind.{Kind}
 use Rattle.avr_twi.specs.declared.packet.Kind.TheVariants.{SlaW, SlaR, DataOut, DataIn}
 use Rattle.avr_twi.specs.declared.packet.Packet.{Packet}
@@ -18,9 +18,9 @@ use Rattle.avr_twi.specs.Status.{code}
 use Rattle.avr_twi.specs.Packet.{wanted, answered, packet, bit_of, is_sent, is_sent_of, data_after, data_of}
 use Rattle.avr_twi.specs.Master.{going, ended, lost, bit_over, sent}
 use Rattle.avr_twi.specs.Twi.{Twi, twi, half_period, with_register, open_drain, sda}
-use Rattle.unit_life.specs.Life.{Act, state, stepping}
+use Rattle.avr_unit_model.specs.Life.{Act, state, stepping}
 use Rattle.avr_twi.specs.TwiActions.{line_bit, sends, IsBegun, Holds, IsDone, data_reads, loses, IsByte, IsLost, MasterDoes}
-use Rattle.unit_life.proofs.BitLemmas.{bit_written}
+use Rattle.avr_unit_model.proofs.BitLemmas.{bit_written}
 use Rattle.avr_twi.proofs.HalvesLemmas.{Ends, Wrote, holds, follows, first_half, with_control}
 use Rattle.avr_twi.proofs.ActionLaw.{some, stands, On, on_to, ends_of, same_cycles, rebased, is_done, twi_start, twi_stop, twi_stop_start}
 

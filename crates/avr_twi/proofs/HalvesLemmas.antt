@@ -3,9 +3,9 @@ use Rattle.std.proofs.Common.{◌≡◌, ℕ, zero, suc, ◌+◌, ◌-◌, ◌*�
 use Rattle.std.specs.Prelude.{◌==◌, ◌&&◌, not, if◌then◌else◌}
 use Rattle.std.proofs.lemmas.Bool.{and_left, and_right, cond-true, cond-false, eq-eqb, ne_eqb, not_from_true}
 use Rattle.sim_base.specs.declared.signal.Level.{Level}
-use Rattle.unit_law.specs.Bits.{is_set, with_bit}
-use Rattle.unit_law.specs.Pad.{untouched}
-use Rattle.unit_law.specs.UnitMachine.{at_register}
+use Rattle.avr_unit.specs.Bits.{is_set, with_bit}
+use Rattle.avr_unit.specs.Pad.{untouched}
+use Rattle.avr_unit.specs.UnitMachine.{at_register}
 use Rattle.avr_twi.specs.declared.registers.Register.{Register}
 use Rattle.avr_twi.specs.declared.registers.Register.TheVariants.{TWBR, TWSR, TWDR, TWCR}
 use Rattle.avr_twi.specs.declared.master.Stage.{Stage}
@@ -14,7 +14,7 @@ use Rattle.avr_twi.specs.declared.master.Master.{Master}
 use Rattle.avr_twi.specs.Registers.{register_at}
 use Rattle.avr_twi.specs.Master.{sda_of, scl_of, going, acted as moved, advanced, free, begun, idle_begins, controlled}
 use Rattle.avr_twi.specs.Twi.{Twi, twi, half_period, prescaler, open_drain, sda, scl, with_register, kept}
-use Rattle.unit_life.specs.Life.{Act, Nothing, Read, Write, WriteBit, Enter, acted, state, stepping}
+use Rattle.avr_unit_model.specs.Life.{Act, Nothing, Read, Write, WriteBit, Enter, acted, state, stepping}
 use Rattle.avr_twi.specs.TwiActions.{IsBegun, Shows, Holds}
 
 -- ---- what the processor does while an action is on the way: it may write registers, but not clear TWEN

@@ -1,5 +1,5 @@
 -- Which pins the TWI asks for something.
-use Rattle.unit_law.specs.Placed.{SameBut, placed_same}
+use Rattle.avr_unit.specs.Placed.{SameBut, placed_same}
 use Rattle.avr_twi.specs.TwiReach.{twi_placed}
 use Rattle.avr_twi.specs.Twi.{Twi, twi}
 

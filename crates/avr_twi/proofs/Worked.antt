@@ -1,8 +1,8 @@
 -- What the laws of a START and of a STOP ask for comes about: small cases, worked by the definition itself.
 use Rattle.std.proofs.Common.{true, refl, arith}
-use Rattle.unit_law.specs.Bits.{is_set}
-use Rattle.unit_life.specs.Life.{state, stepping}
-use Rattle.unit_life.proofs.Cases.{polls, high, always}
+use Rattle.avr_unit.specs.Bits.{is_set}
+use Rattle.avr_unit_model.specs.Life.{state, stepping}
+use Rattle.avr_unit_model.proofs.Cases.{polls, high, always}
 use Rattle.avr_twi.specs.declared.registers.Register.TheVariants.{TWCR}
 use Rattle.avr_twi.specs.Twi.{Twi, twi, with_register}
 use Rattle.avr_twi.specs.TwiActions.{IsBegun, IsFree}

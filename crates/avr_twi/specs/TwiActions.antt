@@ -2,13 +2,13 @@
 -- and Frame Format"; in which cycles the halves of a period begin is the profile's).
 use Rattle.std.specs.Prelude.{◌≡◌, ℕ, ◌+◌, ◌-◌, ◌*◌, ◌<◌, ◌≤◌, ◌==◌, ◌&&◌, not, Bool, true, false, if◌then◌else◌, List, None, Some}
 use Rattle.sim_base.specs.declared.signal.Level.{Level}
-use Rattle.unit_law.specs.Bits.{is_set}
+use Rattle.avr_unit.specs.Bits.{is_set}
 use Rattle.avr_twi.specs.declared.packet.Kind.{Kind}
 use Rattle.avr_twi.specs.declared.packet.Kind.TheVariants.{SlaW, SlaR, DataOut, DataIn}
 use Rattle.avr_twi.specs.Packet.{answered, wanted}
 use Rattle.avr_twi.specs.Status.{code}
 use Rattle.avr_twi.specs.Twi.{Twi, twi, half_period, open_drain, sda, scl}
-use Rattle.unit_life.specs.Life.{Act, Nothing, state, stepping}
+use Rattle.avr_unit_model.specs.Life.{Act, Nothing, state, stepping}
 
 -- Bit i of a byte, and the answer, which is bit 8: what the master lets SDA be. Of a byte out the receiver answers; of a byte in the
 -- master does, with 0 where TWEA is set.

@@ -2,12 +2,12 @@
 use Rattle.std.specs.Prelude.{◌≡◌, ℕ, ◌==◌, Bool, true, false, if◌then◌else◌, Option, None, Some}
 use Rattle.std.proofs.Common.{refl, arith}
 use Rattle.part_law.specs.declared.span.Span.{Span}
-use Rattle.unit_law.specs.Bits.{with_bit}
-use Rattle.unit_law.specs.Pad.{untouched}
-use Rattle.unit_law.specs.Placed.{Placed}
-use Rattle.unit_law.specs.Reach.{Reach, Reaches, by_register, by_register_reaches}
-use Rattle.unit_law.specs.UnitMachine.{at_register}
-use Rattle.unit_law.proofs.HullLemmas.{outside}
+use Rattle.avr_unit.specs.Bits.{with_bit}
+use Rattle.avr_unit.specs.Pad.{untouched}
+use Rattle.avr_unit.specs.Placed.{Placed}
+use Rattle.avr_unit.specs.Reach.{Reach, Reaches, by_register, by_register_reaches}
+use Rattle.avr_unit.specs.UnitMachine.{at_register}
+use Rattle.avr_unit.proofs.HullLemmas.{outside}
 use Rattle.avr_twi.specs.Registers.{register_at}
 use Rattle.avr_twi.specs.declared.registers.Register.{Register}
 use Rattle.avr_twi.specs.declared.registers.Register.TheVariants.{TWBR, TWSR, TWDR, TWCR}

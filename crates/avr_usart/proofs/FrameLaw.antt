@@ -4,10 +4,10 @@ use Rattle.std.specs.Prelude.{◌==◌, ◌&&◌, ◌||◌, ◌^◌, not, nat_lt
 use Rattle.std.proofs.Math.Nat.{suc-mul, mul-le-mul_right}
 use Rattle.std.proofs.lemmas.Bool.{and_left, and_from, cases_lt, eqb-true, cond-true, cond-false, eq-eqb, ne_eqb, lt-ltb, le-ltb, both_ways}
 use Rattle.sim_base.specs.declared.signal.Level.{Level}
-use Rattle.unit_law.specs.Bits.{is_set, one, with_bit}
-use Rattle.unit_law.specs.Pad.{untouched}
-use Rattle.unit_law.specs.declared.pad.Pad.{Pad}
-use Rattle.unit_law.specs.UnitMachine.{at_register}
+use Rattle.avr_unit.specs.Bits.{is_set, one, with_bit}
+use Rattle.avr_unit.specs.Pad.{untouched}
+use Rattle.avr_unit.specs.declared.pad.Pad.{Pad}
+use Rattle.avr_unit.specs.UnitMachine.{at_register}
 use Rattle.avr_usart.specs.declared.format.Format.{Format}
 use Rattle.avr_usart.specs.declared.format.Parity.{Parity}
 use Rattle.avr_usart.specs.declared.format.Parity.TheVariants.{Disabled, Even, Odd}
@@ -19,7 +19,7 @@ use Rattle.avr_usart.specs.Registers.{register_at}
 use Rattle.avr_usart.specs.Format.{frame_bits, has_parity, parity_bit, frame_bit}
 use Rattle.avr_usart.specs.Transmitter.{begun, loaded, frame_over, is_last, bit_over, transmitted, emitted, line, txd}
 use Rattle.avr_usart.specs.Usart.{Usart, usart, txen, format_of, after_read, with_register, kept}
-use Rattle.unit_life.specs.Life.{Act, Nothing, Read, Write, WriteBit, Enter, acted, state, stepping}
+use Rattle.avr_unit_model.specs.Life.{Act, Nothing, Read, Write, WriteBit, Enter, acted, state, stepping}
 use Rattle.avr_usart.specs.UsartFrame.{txd_is, IsLoaded, IsSent, SendsFrame, last, ending}
 
 -- ---- what the processor does to the transmitter while a frame is on the way: at most it fills the buffer and clears TXC

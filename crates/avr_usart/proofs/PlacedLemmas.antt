@@ -3,10 +3,10 @@ use Rattle.std.proofs.Common.{◌≡◌, ℕ, List, Bool, true, false, ap, sym, 
 use Rattle.std.specs.Prelude.{◌==◌, if◌then◌else◌}
 use Rattle.sim_base.specs.declared.signal.Level.{Level}
 use Rattle.part_law.specs.Spans.{no_pins}
-use Rattle.unit_law.specs.Pad.{untouched}
-use Rattle.unit_law.specs.declared.pad.Pad.{Pad}
-use Rattle.unit_law.specs.Placed.{StepMoves}
-use Rattle.unit_law.proofs.HullLemmas.{outside}
+use Rattle.avr_unit.specs.Pad.{untouched}
+use Rattle.avr_unit.specs.declared.pad.Pad.{Pad}
+use Rattle.avr_unit.specs.Placed.{StepMoves}
+use Rattle.avr_unit.proofs.HullLemmas.{outside}
 use Rattle.avr_usart.specs.Transmitter.{changes_line}
 use Rattle.avr_usart.specs.Usart.{Usart, usart, rxen, txen, format_of}
 use Rattle.avr_usart.specs.UsartLaws.{txd_kept}

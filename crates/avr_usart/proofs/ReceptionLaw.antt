@@ -5,9 +5,9 @@ use Rattle.std.proofs.Math.Nat.{suc-mul, mul-le-mul_right}
 use Rattle.std.proofs.lemmas.Nat.{pow_below}
 use Rattle.std.proofs.lemmas.Bool.{and_from, and_left, and_right, cases_lt, cond-true, cond-false, eq-eqb, ne_eqb, lt-ltb, le-ltb, both_ways}
 use Rattle.sim_base.specs.declared.signal.Level.{Level}
-use Rattle.unit_law.specs.Bits.{is_set, one, with_bit}
-use Rattle.unit_law.specs.UnitMachine.{at_register}
-use Rattle.unit_law.proofs.BitLemmas.{bit_keeps}
+use Rattle.avr_unit.specs.Bits.{is_set, one, with_bit}
+use Rattle.avr_unit.specs.UnitMachine.{at_register}
+use Rattle.avr_unit.proofs.BitLemmas.{bit_keeps}
 use Rattle.avr_usart.specs.declared.format.Format.{Format}
 use Rattle.avr_usart.specs.declared.receiver.Reception.{Reception}
 use Rattle.avr_usart.specs.declared.receiver.Receiver.{Receiver}
@@ -17,9 +17,9 @@ use Rattle.avr_usart.specs.Registers.{register_at}
 use Rattle.avr_usart.specs.Format.{has_parity, parity_bit, is_parity}
 use Rattle.avr_usart.specs.Receiver.{deaf, differ, heard, next_bit, ended, sampled, is_start, received}
 use Rattle.avr_usart.specs.Usart.{Usart, usart, rxen, rxd, format_of, after_read, with_register, kept as kept_bits, stepped}
-use Rattle.unit_life.specs.Life.{Act, Nothing, Read, Write, WriteBit, Enter, acted, before, state}
+use Rattle.avr_unit_model.specs.Life.{Act, Nothing, Read, Write, WriteBit, Enter, acted, before, state}
 use Rattle.avr_usart.specs.UsartReception.{at as life, done as left, format, middle, line, stop, IsFalling, TakesNothing, IsNoise, IsReceived, HearsFrame}
-use Rattle.unit_life.proofs.BitLemmas.{bit_written, bits_written}
+use Rattle.avr_unit_model.proofs.BitLemmas.{bit_written, bits_written}
 
 -- ---- what the processor does while a frame comes in: it may take bytes from the queue, but not clear RXEN
 

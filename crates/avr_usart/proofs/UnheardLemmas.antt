@@ -2,9 +2,9 @@
 use Rattle.std.proofs.Common.{◌≡◌, ◌∙◌, ℕ, List, [], false, ◌&&◌, not, sym, refl}
 use Rattle.std.proofs.lemmas.Bool.{or_parts}
 use Rattle.sim_base.specs.declared.signal.Level.{Level}
-use Rattle.unit_law.specs.Coming.{comes}
-use Rattle.unit_law.specs.Unheard.{UnheardFrom}
-use Rattle.unit_law.proofs.UnheardLemmas.{still_unheard}
+use Rattle.avr_unit.specs.Coming.{comes}
+use Rattle.avr_unit.specs.Unheard.{UnheardFrom}
+use Rattle.avr_unit.proofs.UnheardLemmas.{still_unheard}
 use Rattle.avr_usart.specs.Receiver.{listens, next_sample}
 use Rattle.avr_usart.specs.Transmitter.{bit_end}
 use Rattle.avr_usart.specs.Usart.{Usart, usart, rxd, rxen}

@@ -3,8 +3,8 @@ use Rattle.std.proofs.Common.{ℕ, List, [], true, refl}
 use Rattle.std.specs.Prelude.{replicate}
 use Rattle.sim_base.specs.declared.signal.Level.{Level}
 use Rattle.sim_base.specs.declared.signal.Level.TheVariants as levels
-use Rattle.unit_life.specs.Life.{Act, Nothing, state}
-use Rattle.unit_life.proofs.Cases.{polls, always}
+use Rattle.avr_unit_model.specs.Life.{Act, Nothing, state}
+use Rattle.avr_unit_model.proofs.Cases.{polls, always}
 use Rattle.avr_usart.specs.Usart.{Usart, usart, rxen, rxd, stepped}
 use Rattle.avr_usart.specs.UsartFrame.{IsLoaded}
 use Rattle.avr_usart.specs.UsartReception.{done, IsFalling}

@@ -2,14 +2,14 @@
 -- are the profile's).
 use Rattle.std.specs.Prelude.{◌≡◌, ℕ, ◌+◌, ◌-◌, ◌*◌, ◌%◌, ◌^◌, ◌<◌, ◌≤◌, Bool, true, false, List, None, Some}
 use Rattle.sim_base.specs.declared.signal.Level.{Level}
-use Rattle.unit_law.specs.Bits.{is_set}
-use Rattle.unit_law.specs.Pad.{untouched}
-use Rattle.unit_law.specs.declared.pad.Pad.{Pad}
+use Rattle.avr_unit.specs.Bits.{is_set}
+use Rattle.avr_unit.specs.Pad.{untouched}
+use Rattle.avr_unit.specs.declared.pad.Pad.{Pad}
 use Rattle.avr_usart.specs.declared.format.Format.{Format}
 use Rattle.avr_usart.specs.Format.{frame_bits, has_parity, parity_bit}
 use Rattle.avr_usart.specs.Transmitter.{begun}
 use Rattle.avr_usart.specs.Usart.{Usart, usart, txen, format_of}
-use Rattle.unit_life.specs.Life.{Act, Nothing, state, stepping}
+use Rattle.avr_unit_model.specs.Life.{Act, Nothing, state, stepping}
 
 -- TXD is an output with this value, whatever DDRD and PORTD are
 abbrev pub txd_is : Bool → Pad

@@ -2,11 +2,11 @@
 use Rattle.std.specs.Prelude.{◌≡◌, ℕ, ◌==◌, Bool, true, false, Option, None, Some}
 use Rattle.std.proofs.Common.{refl, arith}
 use Rattle.part_law.specs.declared.span.Span.{Span}
-use Rattle.unit_law.specs.Bits.{with_bit}
-use Rattle.unit_law.specs.Placed.{Placed}
-use Rattle.unit_law.specs.Reach.{Reach, Reaches, by_register, by_register_reaches}
-use Rattle.unit_law.specs.UnitMachine.{at_register}
-use Rattle.unit_law.proofs.HullLemmas.{outside}
+use Rattle.avr_unit.specs.Bits.{with_bit}
+use Rattle.avr_unit.specs.Placed.{Placed}
+use Rattle.avr_unit.specs.Reach.{Reach, Reaches, by_register, by_register_reaches}
+use Rattle.avr_unit.specs.UnitMachine.{at_register}
+use Rattle.avr_unit.proofs.HullLemmas.{outside}
 use Rattle.avr_usart.specs.Registers.{register_at}
 use Rattle.avr_usart.specs.declared.registers.Register.{Register}
 use Rattle.avr_usart.specs.declared.registers.Register.TheVariants.{UCSR0A, UCSR0B, UCSR0C, UBRR0L, UBRR0H, UDR0}

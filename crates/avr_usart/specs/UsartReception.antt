@@ -2,12 +2,12 @@
 -- of each bit is the profile's).
 use Rattle.std.specs.Prelude.{◌≡◌, ℕ, zero, suc, ◌+◌, ◌*◌, ◌/◌, ◌^◌, ◌<◌, ◌≤◌, ◌||◌, not, Bool, true, false, List, None}
 use Rattle.sim_base.specs.declared.signal.Level.{Level}
-use Rattle.unit_law.specs.Bits.{is_set, one}
+use Rattle.avr_unit.specs.Bits.{is_set, one}
 use Rattle.avr_usart.specs.declared.format.Format.{Format}
 use Rattle.avr_usart.specs.Format.{has_parity, parity_bit}
 use Rattle.avr_usart.specs.Receiver.{queued, is_full, differ}
 use Rattle.avr_usart.specs.Usart.{Usart, usart, rxen, rxd, format_of}
-use Rattle.unit_life.specs.Life.{Act, state, stepping}
+use Rattle.avr_unit_model.specs.Life.{Act, state, stepping}
 
 -- The USART is u in the step of cycle t, and v after it.
 module _ (acts : ℕ → Act) (levels : ℕ → List Level) (u v : Usart) (t : ℕ) where

@@ -13,7 +13,7 @@ use Rattle.std.proofs.lemmas.Bool.{ltb-true}
 use Rattle.part_catalog.specs.declared.kind.Kind.{Kind}
 use Rattle.part_catalog.specs.declared.kind.Kind.TheVariants as kinds
 use Rattle.part_catalog.specs.Pins.{pin_names, joins_of, contacts_in}
-use Rattle.pin_nets.specs.Labels.{IsBelow}
+use Rattle.net_pins.specs.Labels.{IsBelow}
 use Rattle.board_build.specs.declared.plan.PlanKind.{PlanKind}
 use Rattle.board_build.specs.declared.plan.PlanKind.TheVariants as plans
 use Rattle.board_build.specs.Pins.{IsShort, IsLow, count_of, starts_from, pairs_at, pairs_inside, joins_in, contacts_inside, resistors_in, pin_in, pin_of_part}

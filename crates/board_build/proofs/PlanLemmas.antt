@@ -18,9 +18,9 @@ use Rattle.sim_base.specs.declared.fault.Fault.TheVariants as faults
 use Rattle.sim_base.specs.Reads.{Reads}
 use Rattle.sim_base.specs.declared.wiring.Input.{Input}
 use Rattle.board_model.specs.Fits.{IsWiring}
-use Rattle.pin_nets.specs.Labels.{IsBelow}
-use Rattle.pin_nets.specs.Numbering.{net_numbers, net_count}
-use Rattle.pin_nets.proofs.BoundLemmas.{numbers_below, length-net_numbers}
+use Rattle.net_pins.specs.Labels.{IsBelow}
+use Rattle.net_pins.specs.Numbering.{net_numbers, net_count}
+use Rattle.net_pins.proofs.BoundLemmas.{numbers_below, length-net_numbers}
 use Rattle.part_catalog.specs.declared.kind.Kind.{Kind}
 use Rattle.part_catalog.specs.declared.kind.Kind.TheVariants as kinds
 use Rattle.part_catalog.specs.Kinds.{named_kind}

@@ -10,7 +10,7 @@ use Rattle.std.proofs.lemmas.Option.{get_or_from_slice_get, slice_get_past}
 use Rattle.document_model.specs.declared.diagram.Wire.{Wire}
 use Rattle.document_model.specs.Reading.{each_from}
 use Rattle.part_catalog.specs.Pins.{pin_names}
-use Rattle.pin_nets.specs.Labels.{IsBelow}
+use Rattle.net_pins.specs.Labels.{IsBelow}
 use Rattle.board_build.specs.declared.plan.PlanKind.{PlanKind}
 use Rattle.board_build.specs.declared.plan.PlanKind.TheVariants as plans
 use Rattle.board_build.specs.Parts.{found_chip, place_of}

@@ -10,7 +10,7 @@ use Rattle.document_model.specs.Reading.{◌>>=◌, each_from}
 use Rattle.input_texts.specs.declared.script.ScriptRow.{ScriptRow}
 use Rattle.board_build.specs.declared.plan.PlanKind.{PlanKind}
 use Rattle.board_build.specs.declared.plan.Plan.{Plan}
-use Rattle.pin_nets.specs.Numbering.{net_numbers, net_count}
+use Rattle.net_pins.specs.Numbering.{net_numbers, net_count}
 use Rattle.board_build.specs.Parts.{kind_of_part, ids_from, one_uno, found_chip, part_in_plan, is_chip, few_chips, input_of}
 use Rattle.board_build.specs.Pins.{count_of, starts_from, wire_on_board, joins_in, contacts_inside, resistors_in, pairs_inside}
 

@@ -1,7 +1,7 @@
 //! What joins the pins of the board.
 ghost use Rattle.std.specs.Prelude.{◌≡◌, ◌≤◌, ◌<◌, ◌++◌, length, map, sum, List, ℕ, IfOk, OnOk, Option, Some};
 ghost use Rattle.std.specs.List.{All};
-ghost use Rattle.pin_nets.specs.Labels.{IsBelow};
+ghost use Rattle.net_pins.specs.Labels.{IsBelow};
 ghost use Rattle.board_build.specs.Parts.{is_chip};
 ghost use Rattle.board_build.specs.Pins.{IsLow, IsShort, count_of, starts_from, pairs_at, pairs_inside, contacts_inside, resistors_in};
 ghost use Rattle.board_build.specs.Plan.{nets_of_pairs, joined, wiring_of};
@@ -10,8 +10,8 @@ ghost use Rattle.board_build.specs.Inside.{inside_of};
 use crate::kinds::is_chip;
 use crate::plan::PlanKind;
 use arrayvec::ArrayVec;
+use net_pins::number_nets;
 use part_catalog::{Kind, contacts_of, joins};
-use pin_nets::number_nets;
 use sim_base::{List, OutOfMemory, Wiring};
 use std::alloc::Global;
 

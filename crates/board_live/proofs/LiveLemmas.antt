@@ -10,11 +10,11 @@ use Rattle.part_law.specs.Machine.{Machine}
 use Rattle.part_law.specs.declared.part.Part.{Ghosts}
 use Rattle.board_model.specs.Board.{states, bytes}
 use Rattle.board_model.specs.Rows.{Shown, shown_before, rows}
-use Rattle.board_laws.specs.Active.{active_pairs}
+use Rattle.law_board.specs.Active.{active_pairs}
 use Rattle.board_model.specs.Fits.{AreInputs}
-use Rattle.board_laws.specs.Scripts.{with_input, SameRun}
-use Rattle.board_laws.proofs.ScriptLaw.{inputs_more, given_later}
-use Rattle.board_laws.proofs.Splits.{states_split, bytes_split, shown_split, rows_split, pairs_split}
+use Rattle.law_board.specs.Scripts.{with_input, SameRun}
+use Rattle.law_board.proofs.ScriptLaw.{inputs_more, given_later}
+use Rattle.law_board.proofs.Splits.{states_split, bytes_split, shown_split, rows_split, pairs_split}
 use Rattle.board_run.specs.BoardView.{BoardView}
 use Rattle.board_run.specs.declared.board.RunEnd.{RunEnd}
 use Rattle.board_run.specs.declared.board.RunEnd.TheVariants as ends

@@ -6,7 +6,7 @@ use Rattle.sim_base.specs.Rows.{Row}
 use Rattle.part_law.specs.declared.part.Part.{Ghosts}
 use Rattle.board_model.specs.Board.{states, bytes}
 use Rattle.board_model.specs.Rows.{Shown, shown_before, rows}
-use Rattle.board_laws.specs.Active.{active_cycles, active_pairs}
+use Rattle.law_board.specs.Active.{active_cycles, active_pairs}
 
 pub record LiveView (P : Type 0) : Type 0 where
   -- the parts at cycle 0

@@ -2,7 +2,7 @@
 ghost use Rattle.std.specs.Prelude.{◌≡◌, ℕ, ◌+◌, ◌<◌, ◌≤◌, List, length, map, true, false, None, OnOk, OnErr};
 ghost use Rattle.sim_base.specs.Causes.{Rose};
 ghost use Rattle.board_model.specs.Fits.{AreInputs};
-ghost use Rattle.board_laws.specs.Scripts.{with_input, SameRun};
+ghost use Rattle.law_board.specs.Scripts.{with_input, SameRun};
 ghost use Rattle.board_live.specs.LiveView.{LiveView, states_by, wakes_by};
 ghost use Rattle.board_live.specs.Follows.{Follows, StoppedBefore};
 

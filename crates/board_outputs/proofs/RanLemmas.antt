@@ -2,12 +2,12 @@
 use Rattle.std.proofs.Common.{◌≡◌, ◌∙◌, ◌+◌, ℕ, Ok, IfSome}
 use Rattle.sim_base.specs.declared.bench.Port.TheVariants as ports
 use Rattle.sim_base.specs.Outside.{Outside, SamePorts, Files}
-use Rattle.outcome_model.specs.Stop.{Texts}
-use Rattle.outcome_model.specs.Outcome.{Outcome, Accepted, WriteFailed, OutOfMemory}
-use Rattle.outcome_model.specs.Work.{SaidNothing}
-use Rattle.outcome_model.specs.Happens.{Answer, Ends, Counts}
-use Rattle.outcome_model.proofs.ReadLemmas.{if_some}
-use Rattle.outcome_model.proofs.EndLemmas.{on_after, begins_after}
+use Rattle.sim_outcome_model.specs.Stop.{Texts}
+use Rattle.sim_outcome_model.specs.Outcome.{Outcome, Accepted, WriteFailed, OutOfMemory}
+use Rattle.sim_outcome_model.specs.Work.{SaidNothing}
+use Rattle.sim_outcome_model.specs.Happens.{Answer, Ends, Counts}
+use Rattle.sim_outcome_model.proofs.ReadLemmas.{if_some}
+use Rattle.sim_outcome_model.proofs.EndLemmas.{on_after, begins_after}
 use Rattle.board_outputs.specs.Ran.{Ran}
 
 module _ (answer : Answer) (t : Texts) (a m b : Outside) (reads : m.read_faults ≡ a.read_faults) (same : SamePorts a m) where

@@ -8,10 +8,10 @@ use Rattle.sim_base.specs.declared.bench.WriteEnd.{WriteEnd}
 use Rattle.sim_base.specs.declared.bench.WriteEnd.TheVariants as writes
 use Rattle.sim_base.specs.Causes.{Rose}
 use Rattle.sim_base.specs.Outside.{Outside, SameOthers, IsKept, IsNamed, Opens, Grows, IsFront}
-use Rattle.outcome_model.specs.Stop.{Output, Texts}
-use Rattle.outcome_model.specs.Outcome.{IsOn, BeginsOn, IsFaultless, Hold, Begin, OutputRose}
-use Rattle.outcome_model.specs.Work.{SaidNothing}
-use Rattle.outcome_model.proofs.WriteLemmas.{becomes, grows_same, grows_more, front_none, front_all, still_named}
+use Rattle.sim_outcome_model.specs.Stop.{Output, Texts}
+use Rattle.sim_outcome_model.specs.Outcome.{IsOn, BeginsOn, IsFaultless, Hold, Begin, OutputRose}
+use Rattle.sim_outcome_model.specs.Work.{SaidNothing}
+use Rattle.sim_outcome_model.proofs.WriteLemmas.{becomes, grows_same, grows_more, front_none, front_all, still_named}
 use Rattle.vcd_text.specs.Ports as wave
 use Rattle.board_outputs.specs.Run.{Outputs, named_text, texts_for}
 use Rattle.board_outputs.specs.Ran.{OpensNamed, Writes, WritesUpToReport}

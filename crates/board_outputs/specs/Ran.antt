@@ -4,9 +4,9 @@ use Rattle.sim_base.specs.declared.bench.Port.{Port}
 use Rattle.sim_base.specs.declared.bench.WriteEnd.{WriteEnd}
 use Rattle.sim_base.specs.declared.bench.WriteEnd.TheVariants as writes
 use Rattle.sim_base.specs.Outside.{Outside, SameOthers, Opens}
-use Rattle.outcome_model.specs.Stop.{Texts}
-use Rattle.outcome_model.specs.Outcome.{Outcome, Accepted, WriteFailed, OutOfMemory, IsFaultless, Hold, Begin, OutputRose}
-use Rattle.outcome_model.specs.Work.{SaidNothing}
+use Rattle.sim_outcome_model.specs.Stop.{Texts}
+use Rattle.sim_outcome_model.specs.Outcome.{Outcome, Accepted, WriteFailed, OutOfMemory, IsFaultless, Hold, Begin, OutputRose}
+use Rattle.sim_outcome_model.specs.Work.{SaidNothing}
 use Rattle.board_outputs.specs.Run.{Outputs, texts_for}
 
 -- a port is opened where a file is named for it, under that name

@@ -5,8 +5,8 @@ use Rattle.text_model.specs.Wave.{wave_text}
 use Rattle.part_law.specs.Machine.{Machine}
 use Rattle.board_model.specs.Board.{bytes}
 use Rattle.board_model.specs.Rows.{rows}
-use Rattle.board_laws.specs.Active.{active_pairs}
-use Rattle.outcome_model.specs.Stop.{Output, Texts}
+use Rattle.law_board.specs.Active.{active_pairs}
+use Rattle.sim_outcome_model.specs.Stop.{Output, Texts}
 use Rattle.board_build.specs.declared.plan.Plan.{Plan}
 use Rattle.board_outputs.specs.Variables.{board_variables}
 

@@ -4,7 +4,7 @@ use Rattle.sim_base.specs.Rows.{Row}
 use Rattle.part_law.specs.declared.part.Part.{Ghosts}
 use Rattle.board_model.specs.Board.{bytes, states}
 use Rattle.board_model.specs.Rows.{rows}
-use Rattle.board_laws.specs.Active.{active_pairs}
+use Rattle.law_board.specs.Active.{active_pairs}
 use Rattle.board_run.specs.BoardView.{BoardView}
 
 -- a board before its first cycle

@@ -10,8 +10,8 @@ use Rattle.sim_base.specs.declared.bench.Port.{Port}
 use Rattle.sim_base.specs.declared.bench.WriteEnd.{WriteEnd}
 use Rattle.sim_base.specs.declared.bench.WriteEnd.TheVariants as writes
 use Rattle.sim_base.specs.Outside.{Outside}
-use Rattle.outcome_model.specs.Work.{Wrote}
-use Rattle.outcome_model.proofs.WriteLemmas.{grows_more, front_after}
+use Rattle.sim_outcome_model.specs.Work.{Wrote}
+use Rattle.sim_outcome_model.proofs.WriteLemmas.{grows_more, front_after}
 use Rattle.board_model.specs.Walks.{below}
 use Rattle.sim_report.specs.declared.row.ReportRow.{ReportRow}
 use Rattle.sim_report.specs.Lines.{line_of}

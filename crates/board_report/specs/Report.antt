@@ -4,7 +4,7 @@ use Rattle.std.specs.List.{concat, flat_map}
 use Rattle.std.proofs.Common.{inl, inr}
 use Rattle.sim_base.specs.declared.signal.Level.{Level}
 use Rattle.board_model.specs.Walks.{below}
-use Rattle.board_laws.specs.Player.{PlayerState}
+use Rattle.law_board.specs.Player.{PlayerState}
 use Rattle.avr_core.specs.declared.state.Mode.{Mode}
 use Rattle.avr_core.specs.declared.state.Mode.TheVariants as modes
 use Rattle.avr_mcu.specs.Mcu.{Mcu}
@@ -17,7 +17,7 @@ use Rattle.board_build.specs.declared.plan.PlanKind.TheVariants as plans
 use Rattle.board_build.specs.declared.plan.PlanPart.{PlanPart}
 use Rattle.board_build.specs.Parts.{is_chip}
 use Rattle.wasm_num.specs.Traps.{number_of}
-use Rattle.reactive_part.specs.Reaction.{Reacting}
+use Rattle.part_reactive.specs.Reaction.{Reacting}
 use Rattle.chip_host.specs.Chip.{Chip}
 use Rattle.chip_host.specs.declared.death.Death.{Death}
 use Rattle.chip_output.specs.Output.{picture}

@@ -3,7 +3,7 @@ ghost use Rattle.std.specs.Prelude.{◌≡◌, ◌+◌, ◌<◌, ℕ, List, true
 ghost use Rattle.board_build.specs.declared.plan.PlanPart.{PlanPart};
 ghost use Rattle.board_build.specs.Parts.{is_chip};
 ghost use Rattle.sim_base.specs.Outside.{SameOthers};
-ghost use Rattle.outcome_model.specs.Work.{Wrote, WroteOn};
+ghost use Rattle.sim_outcome_model.specs.Work.{Wrote, WroteOn};
 ghost use Rattle.any_part.specs.AnyBehaviour.{own_of};
 ghost use Rattle.sim_report.specs.Lines.{line_of};
 ghost use Rattle.board_report.specs.Report.{mode_of, is_input, ignored_row, uno_rows, own_rows, lcd_row, lcd_rows, page_row, oled_rows, chip_row, chosen_text, parts_text, text_of, shown_text};
@@ -14,12 +14,12 @@ use avr_mcu::Mcu;
 use board_build::{PlanKind, PlanPart};
 use chip_host::{Chip, Death};
 use chip_report::write_output;
-use either_part::Either::{self, Left, Right};
 use part_catalog::greatest_value;
+use part_either::Either::{self, Left, Right};
 use part_oled::Oled;
+use part_reactive::Reactive;
 use parts_basic::Led;
 use parts_display::Lcd;
-use reactive_part::Reactive;
 use sim_base::{Bench, Level, Name, Port, WriteEnd};
 use sim_report::{ReportRow, UnoMode, write_report};
 use trace_run::Player;
@@ -237,7 +237,7 @@ impl Shown for Mcu {
 }
 
 impl Shown for Reactive<AnyBehaviour> {
-    ghost use Rattle.reactive_part.specs.Reaction.{Reacting};
+    ghost use Rattle.part_reactive.specs.Reaction.{Reacting};
     ghost use Rattle.any_part.specs.AnyBehaviour.{AnyOwn, own_of};
     ghost use Rattle.board_report.specs.Report.{own_text};
 
@@ -271,7 +271,7 @@ impl Shown for Chip {
 
 /// A player of recorded drives has no lines.
 impl Shown for Player {
-    ghost use Rattle.board_laws.specs.Player.{PlayerState};
+    ghost use Rattle.law_board.specs.Player.{PlayerState};
     ghost use Rattle.board_report.specs.Report.{no_text};
 
     ghost Stood = { PlayerState };
@@ -287,7 +287,7 @@ impl Shown for Player {
 
 impl<P: Shown, Q: Shown> Shown for Either<P, Q> {
     ghost use Rattle.std.specs.Prelude.{◌⊎◌};
-    ghost use Rattle.either_part.specs.EitherPart.{either_state};
+    ghost use Rattle.part_either.specs.EitherPart.{either_state};
     ghost use Rattle.board_report.specs.Report.{either_text};
 
     ghost Stood = { P.Stood ⊎ Q.Stood };

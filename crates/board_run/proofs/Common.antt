@@ -27,18 +27,18 @@ pub use Rattle.net_resolve.specs.NetsView.{NetsView, AreChanged}
 pub use Rattle.board_model.specs.Rows.{Shown, shown_of, rows, chip_drives_of, same_list, same_level, shown_before, same_drive}
 pub use Rattle.board_model.proofs.Lists.{some_same, get_map_some, some_map, flat_map_same, same_lists, get_set_same, get_set_other, get_within, take_whole}
 pub use Rattle.board_model.proofs.Lists.{lt_or_eq, flat_map_room, done_none, done_more, done_all, Done, lent_whole}
-pub use Rattle.board_laws.specs.Alike.{Alike, SameShow}
-pub use Rattle.board_laws.specs.Stands.{Stands}
-pub use Rattle.board_laws.specs.Steady.{IsSteady}
-pub use Rattle.board_laws.proofs.StandsLaw.{stands_here, stands_shows, stands_holds, stands_valid, stands_sleeps, stands_silent}
-pub use Rattle.board_laws.proofs.SteadyLaw.{steady_states, steady_before, steady_rows, steady_cycles, steady_bytes, steady_pairs, quiet_dues}
+pub use Rattle.law_board.specs.Alike.{Alike, SameShow}
+pub use Rattle.law_board.specs.Stands.{Stands}
+pub use Rattle.law_board.specs.Steady.{IsSteady}
+pub use Rattle.law_board.proofs.StandsLaw.{stands_here, stands_shows, stands_holds, stands_valid, stands_sleeps, stands_silent}
+pub use Rattle.law_board.proofs.SteadyLaw.{steady_states, steady_before, steady_rows, steady_cycles, steady_bytes, steady_pairs, quiet_dues}
 pub use Rattle.sim_base.specs.Rows.{Row, StopsWithin, Handed, Appends, AreFronts, IsBehind}
 pub use Rattle.sim_base.specs.declared.signal.Level.{Level}
 pub use Rattle.net_resolve.specs.Watched.{flagged}
-pub use Rattle.board_laws.specs.Active.{sum_below, active_in, active_cycles, active_pairs, is_active}
+pub use Rattle.law_board.specs.Active.{sum_below, active_in, active_cycles, active_pairs, is_active}
 pub use Rattle.board_model.proofs.Steps.{length-steps_from, get-steps_from, get_step}
 pub use Rattle.board_model.proofs.SameLemmas.{level_same, list_same, levels_mean, drive_same}
-pub use Rattle.board_laws.specs.Stretch.{IsStretch}
+pub use Rattle.law_board.specs.Stretch.{IsStretch}
 pub use Rattle.net_resolve.specs.Marked.{has}
 pub use Rattle.net_resolve.proofs.ReachLemmas.{any_at, any_some}
 pub use Rattle.event_queue.proofs.TreeLemmas.{set_same}

@@ -5,8 +5,8 @@ use Rattle.std.specs.Prelude.{Result, Ok, Err, OnOk, OnErr}
 use Rattle.part_law.specs.declared.part.Part.{Ghosts}
 use Rattle.std.specs.Prelude.{nat_le, insert}
 use Rattle.std.proofs.lemmas.Bool.Decides.{nat_tests}
-use Rattle.board_laws.specs.Scripts.{with_input, SameRun}
-use Rattle.board_laws.proofs.ScriptLaw.{DoNotFall, each_more, order_more, given_later}
+use Rattle.law_board.specs.Scripts.{with_input, SameRun}
+use Rattle.law_board.proofs.ScriptLaw.{DoNotFall, each_more, order_more, given_later}
 
 is_le : (a b : ℕ) → a ≤ b → nat_le a b ≡ true
 is_le a b h = grind (arith, nat_tests)

@@ -7,8 +7,8 @@ use Rattle.board_run.proofs.Common.{NetsView, IsTold, AreDiffering, retold, leve
 use Rattle.board_run.proofs.Common.{Leg, PartSet, has_part, AreNone, level_same, list_same}
 use Rattle.board_model.specs.Board.{level_at, own_nets, levels_of, part_step, steps_from, board_step, states, bytes, options}
 use Rattle.board_model.specs.Rows.{Shown, same_list, same_level, shown_of, shown_before, row_if, rows}
-use Rattle.board_laws.proofs.AlikeLemmas.{alike_weaker, flat_map_alike}
-use Rattle.board_laws.proofs.BesideLaw.{same_levels, same_shown, same_drives, same_row, same_chips}
+use Rattle.law_board.proofs.AlikeLemmas.{alike_weaker, flat_map_alike}
+use Rattle.law_board.proofs.BesideLaw.{same_levels, same_shown, same_drives, same_row, same_chips}
 use Rattle.board_run.proofs.ScriptLemmas.{given_now}
 use Rattle.board_run.proofs.ShowLemmas.{shown_is, later_shown, still_of, not_first}
 use Rattle.board_run.proofs.ReadLemmas.{retold_suits, retold_is, flat_each}

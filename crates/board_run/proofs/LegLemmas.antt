@@ -8,8 +8,8 @@ use Rattle.board_run.proofs.Common.{MOST_CYCLES}
 use Rattle.board_model.specs.Board.{input_at, drives_of, contacts_of, states, bytes}
 use Rattle.board_model.specs.Rows.{chip_drives_of, shown_of, shown_before, rows}
 use Rattle.board_model.specs.Fresh.{AreFresh}
-use Rattle.board_laws.proofs.StretchLaw.{stretch_states, stretch_rows, stretch_bytes, stretch_pairs}
-use Rattle.board_laws.proofs.Splits.{states_split, bytes_split, shown_split, rows_split, pairs_split, cycles_split}
+use Rattle.law_board.proofs.StretchLaw.{stretch_states, stretch_rows, stretch_bytes, stretch_pairs}
+use Rattle.law_board.proofs.Splits.{states_split, bytes_split, shown_split, rows_split, pairs_split, cycles_split}
 use Rattle.board_run.proofs.NextLemmas.{quiet_until}
 use Rattle.board_run.proofs.ShowLemmas.{still_of, still_same, later_shown}
 use Rattle.board_run.proofs.TurnLemmas.{some_there, same_room}

@@ -2,8 +2,8 @@
 use Rattle.board_run.proofs.Common.{◌≡◌, ℕ, List, length, map, Bool, false, Option, ◌<◌, sym, subst, length-map, refl, Wiring, Input, Machine, Laws, Shown, shown_at, AreAt}
 use Rattle.board_run.proofs.Common.{BoardView, Engine, WentOn}
 use Rattle.part_law.specs.declared.part.Part.{Ghosts}
-use Rattle.board_laws.specs.Orders.{IsOrder, SameInOrders}
-use Rattle.board_laws.proofs.OrdersLaw.{in_orders}
+use Rattle.law_board.specs.Orders.{IsOrder, SameInOrders}
+use Rattle.law_board.proofs.OrdersLaw.{in_orders}
 use Rattle.board_run.specs.BoardWent.{BoardWent}
 use Rattle.board_run.specs.Engine.{wiring_of}
 use Rattle.board_run.proofs.LegLemmas.{at_here}

@@ -3,8 +3,8 @@ use Rattle.std.specs.Prelude.{◌≡◌, ℕ, ◌+◌, ◌-◌, ◌<◌, ◌≤�
 use Rattle.part_law.specs.declared.part.Part.{Ghosts}
 use Rattle.board_model.specs.Board.{states}
 use Rattle.board_model.specs.Rows.{shown_before}
-use Rattle.board_laws.specs.Active.{active_cycles, active_pairs}
-use Rattle.board_laws.specs.Steady.{IsSteady}
+use Rattle.law_board.specs.Active.{active_cycles, active_pairs}
+use Rattle.law_board.specs.Steady.{IsSteady}
 use Rattle.board_run.specs.BoardView.{BoardView}
 use Rattle.board_run.specs.Changes.{LastTells}
 

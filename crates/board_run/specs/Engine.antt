@@ -15,7 +15,7 @@ use Rattle.part_law.specs.declared.part.Part.{Ghosts}
 use Rattle.board_model.specs.Board.{input_at, bytes}
 use Rattle.board_model.specs.Rows.{rows, row_if}
 use Rattle.board_model.specs.Fits.{Fits}
-use Rattle.board_laws.specs.Steady.{IsSteady}
+use Rattle.law_board.specs.Steady.{IsSteady}
 use Rattle.board_run.specs.Changes.{LastTells}
 use Rattle.board_run.specs.CutOff.{IsCutOff}
 use Rattle.board_run.specs.Upcoming.{AreBehind, IsInOrder}

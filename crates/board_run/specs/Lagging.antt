@@ -9,9 +9,9 @@ use Rattle.board_model.specs.Board.{input_at, part_step, steps_from}
 use Rattle.board_model.specs.Rows.{same_list, same_level}
 use Rattle.board_model.specs.Fits.{Fits}
 use Rattle.net_resolve.specs.NetsView.{NetsView}
-use Rattle.board_laws.specs.Alike.{Alike, SameShow}
-use Rattle.board_laws.specs.Active.{active_in, sum_below}
-use Rattle.board_laws.specs.Stands.{Stands}
+use Rattle.law_board.specs.Alike.{Alike, SameShow}
+use Rattle.law_board.specs.Active.{active_in, sum_below}
+use Rattle.law_board.specs.Stands.{Stands}
 use Rattle.board_run.specs.declared.part_set.PartSet.{PartSet}
 use Rattle.board_run.specs.Parts.{has_part}
 use Rattle.board_run.specs.ReadingView.{IsTold, levels_on}

@@ -8,7 +8,7 @@ use Rattle.part_law.specs.declared.part.Went.{Went}
 use Rattle.board_model.specs.Board.{input_at, states}
 use Rattle.board_model.specs.Rows.{shown_before}
 use Rattle.board_model.specs.Fits.{Fits}
-use Rattle.board_laws.specs.Active.{active_cycles, active_pairs}
+use Rattle.law_board.specs.Active.{active_cycles, active_pairs}
 use Rattle.board_run.specs.Upcoming.{AreBehind}
 use Rattle.board_run.specs.ReadingView.{ReadingView, Suits, IsOf, IsTold, levels_on, shown_at}
 use Rattle.board_run.specs.Parts.{AreNone}

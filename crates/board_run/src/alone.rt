@@ -1,6 +1,6 @@
 //! One part goes on by itself, while no other is due.
 ghost use Rattle.std.specs.Prelude.{◌≡◌, ◌-◌, ◌<◌, ◌≤◌, true};
-ghost use Rattle.board_laws.specs.Steady.{IsSteady};
+ghost use Rattle.law_board.specs.Steady.{IsSteady};
 ghost use Rattle.board_run.specs.Lagging.{MayTurn};
 ghost use Rattle.board_run.specs.Legs.{WentBy};
 ghost use Rattle.board_run.specs.Engine.{wiring_of, MayRun, MayStretch, Watches, Showed, states_of};

@@ -11,7 +11,7 @@ use Rattle.wasm_decode.specs.declared.module.Module.{Module}
 use Rattle.wasm_decode.specs.declared.module.Import.{Import}
 use Rattle.wasm_decode.specs.declared.module.ImportDesc.{ImportDesc}
 use Rattle.wasm_decode.specs.declared.module.ImportDesc.TheVariants as descs
-use Rattle.wasm_eval.specs.Eval.{same_type, same_types, same_signature}
+use Rattle.wasm_semantics.specs.Eval.{same_type, same_types, same_signature}
 use Rattle.wasm_validate.specs.Validity.{import_texts, kind_of}
 use Rattle.wasm_validate.specs.Rules.{function_in, imported_functions, imported_tables, imported_globals}
 use Rattle.chip_abi.specs.declared.host_name.HostName.{HostName}

@@ -5,7 +5,7 @@ use Rattle.sim_base.specs.declared.fault.Refusal.{Refusal}
 use Rattle.sim_base.specs.declared.fault.Place.TheVariants as places
 use Rattle.sim_base.specs.Refusals.{ImportType, ImportUnknown}
 use Rattle.wasm_code.specs.declared.types.FuncType.{FuncType}
-use Rattle.wasm_eval.specs.Eval.{same_signature}
+use Rattle.wasm_semantics.specs.Eval.{same_signature}
 use Rattle.wasm_decode.specs.declared.module.Module.{Module}
 use Rattle.wasm_validate.specs.Rules.{capped}
 use Rattle.wasm_validate.specs.Validity.{import_texts}

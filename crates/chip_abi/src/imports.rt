@@ -2,7 +2,7 @@
 ghost use Rattle.std.specs.Prelude.{◌≡◌, ◌<◌, ◌+◌, length, Some, slice_get, IfOk};
 ghost use Rattle.sim_base.specs.Reads.{Reads};
 ghost use Rattle.sim_base.specs.Refusals.{ImportType, ImportUnknown};
-ghost use Rattle.wasm_eval.specs.Eval.{same_types, same_signature};
+ghost use Rattle.wasm_semantics.specs.Eval.{same_types, same_signature};
 ghost use Rattle.wasm_validate.specs.Rules.{capped};
 ghost use Rattle.chip_abi.specs.HostNames.{type_of_name};
 ghost use Rattle.chip_abi.specs.Imports.{typed, found, read_imports, imports_of};

@@ -4,8 +4,8 @@ use Rattle.std.specs.Prelude.{◌==◌, ◌&&◌, not, IfSome, slice_get, slice_
 use Rattle.std.proofs.Math.Bool.{and-true}
 use Rattle.std.proofs.lemmas.Bool.{or_parts, cond-false}
 use Rattle.sim_base.specs.declared.signal.Level.{Level}
-use Rattle.unit_law.specs.Coming.{comes}
-use Rattle.slave_law.specs.declared.request.EngineRequest.{EngineRequest}
+use Rattle.avr_unit.specs.Coming.{comes}
+use Rattle.slave_request.specs.declared.request.EngineRequest.{EngineRequest}
 use Rattle.slave_serial.specs.declared.transaction.Transaction.{Transaction}
 use Rattle.slave_serial.specs.declared.transaction.Transaction.TheVariants.{Idle, Opening, Between, Shifting, Stopped}
 use Rattle.slave_serial.specs.Spi.{spi_step, opens_in, is_opening, next_turn}

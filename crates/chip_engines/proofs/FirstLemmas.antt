@@ -4,7 +4,7 @@ use Rattle.std.specs.Prelude.{◌==◌, nat_le, nat_lt, min, if◌then◌else◌
 use Rattle.std.proofs.lemmas.Bool.Decides.{leb_tells, eqb_tells}
 use Rattle.std.proofs.lemmas.Bool.{or_from, or_left, or_right}
 use Rattle.sim_base.specs.declared.limits.TheConstants.{MOST_CYCLES}
-use Rattle.unit_law.specs.Coming.{comes}
+use Rattle.avr_unit.specs.Coming.{comes}
 use Rattle.slave_serial.specs.Reception.{next_sample}
 use Rattle.slave_serial.specs.Sending.{bit_end}
 use Rattle.slave_serial.specs.Spi.{is_opening, next_turn}

@@ -5,7 +5,7 @@ use Rattle.sim_base.specs.Signal.{reads}
 use Rattle.sim_base.specs.declared.signal.Drive.{Drive}
 use Rattle.sim_base.specs.declared.signal.Level.{Level}
 use Rattle.sim_base.specs.declared.signal.Level.TheVariants as levels
-use Rattle.slave_law.specs.declared.request.EngineRequest.{EngineRequest}
+use Rattle.slave_request.specs.declared.request.EngineRequest.{EngineRequest}
 use Rattle.slave_serial.specs.Uart.{waits_sent, begins}
 use Rattle.slave_serial.specs.Spi.{opened, stopped}
 use Rattle.chip_engines.specs.declared.serial.Serial.{Serial}

@@ -2,9 +2,9 @@
 use Rattle.std.specs.Prelude.{ℕ, ◌/◌, ◌%◌, ◌||◌, max, List, Bool, false, if◌then◌else◌, Option, None, Some, option_map}
 use Rattle.sim_base.specs.declared.signal.Drive.{Drive}
 use Rattle.sim_base.specs.declared.signal.Drive.TheVariants as drives
-use Rattle.unit_law.specs.Coming.{comes}
-use Rattle.slave_law.specs.declared.request.EngineRequest.{EngineRequest}
-use Rattle.slave_law.specs.Slave.{SlaveMachine}
+use Rattle.avr_unit.specs.Coming.{comes}
+use Rattle.slave_request.specs.declared.request.EngineRequest.{EngineRequest}
+use Rattle.slave_request.specs.Slave.{SlaveMachine}
 use Rattle.slave_serial.specs.declared.transaction.Spi.{Spi}
 use Rattle.slave_serial.specs.declared.transaction.Wires.{Wires}
 use Rattle.slave_serial.specs.Pins.{output}

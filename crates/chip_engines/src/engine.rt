@@ -6,7 +6,7 @@ ghost use Rattle.chip_engines.specs.Engine.{new_engine, pin_reads, inputs_of, in
 
 use crate::serial::{Inputs, Serial};
 use sim_base::{Drive, Level, MOST_CYCLES, reads_one};
-use slave_law::EngineRequest;
+use slave_request::EngineRequest;
 
 /// The positions of its pins: RX, none, TX; SCK, MOSI, MISO; SCL, SDA, SDA. None is a pin of -1.
 #[derive(Clone, Copy)]

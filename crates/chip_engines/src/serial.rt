@@ -9,7 +9,7 @@ ghost use Rattle.chip_engines.specs.Serial.{wires_of, lines_of, serial_step, ser
 
 use sim_base::{Drive, MOST_CYCLES};
 use slave_i2c::{Lines, Slave};
-use slave_law::EngineRequest;
+use slave_request::EngineRequest;
 use slave_serial::{Spi, Uart, Wires};
 
 /// An engine without its pins.

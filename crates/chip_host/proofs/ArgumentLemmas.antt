@@ -2,7 +2,7 @@
 use Rattle.std.proofs.Common.{◌≡◌, ℕ, suc, List, [], ◌∷◌, length, refl, sym, ap, ◌∙◌, get_or}
 use Rattle.wasm_code.specs.declared.types.ValType.{ValType}
 use Rattle.wasm_code.specs.declared.types.ValType.TheVariants as types
-use Rattle.wasm_eval.specs.Values.{HasType, HasTypes}
+use Rattle.wasm_semantics.specs.Values.{HasType, HasTypes}
 use Rattle.wasm_num.specs.declared.value.Value.{Value}
 use Rattle.wasm_num.specs.declared.value.Value.TheVariants.{I32, I64, F32, F64}
 use Rattle.chip_host.specs.Arguments.{number_of, long_of}

@@ -7,7 +7,7 @@ use Rattle.wasm_num.specs.declared.value.Value.{Value}
 use Rattle.wasm_num.specs.declared.value.Value.TheVariants.{I32}
 use Rattle.wasm_num.specs.Mem.{Mem}
 use Rattle.wasm_decode.specs.declared.module.Module.{Module}
-use Rattle.wasm_eval.specs.Eval.{Program, State, End, call}
+use Rattle.wasm_semantics.specs.Eval.{Program, State, End, call}
 use Rattle.wasm_exec.specs.Programs.{IsProgram}
 use Rattle.wasm_exec.specs.Instances.{Running, EndsAs, state_of, end_of}
 use Rattle.wasm_exec.specs.Slots.{slot_call, slot_type}

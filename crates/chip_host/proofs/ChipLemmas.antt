@@ -7,7 +7,7 @@ use Rattle.std.proofs.lemmas.List.FromFn.{get_or-map-range_with_len}
 use Rattle.sim_base.specs.declared.signal.Drive.{Drive}
 use Rattle.sim_base.specs.declared.signal.Drive.TheVariants as drives
 use Rattle.sim_base.specs.declared.signal.Level.{Level}
-use Rattle.slave_law.specs.declared.request.EngineRequest.{EngineRequest}
+use Rattle.slave_request.specs.declared.request.EngineRequest.{EngineRequest}
 use Rattle.chip_host.specs.Chip.{Chip, ChipAt, chip, chip_drive, chip_step, seeing, timers_first, turned, watch_turns, served, all_served, engines_last}
 use Rattle.chip_host.specs.ChipLaws.{Fixed, timer_turns_fixed, drive_count}
 

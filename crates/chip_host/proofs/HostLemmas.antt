@@ -17,7 +17,7 @@ use Rattle.chip_output.specs.Output.{OutputState}
 use Rattle.chip_output.specs.Calls.{output_does}
 use Rattle.wasm_num.specs.declared.value.Value.{Value}
 use Rattle.wasm_num.specs.Mem.{Mem}
-use Rattle.wasm_eval.specs.Eval.{Answer}
+use Rattle.wasm_semantics.specs.Eval.{Answer}
 use Rattle.chip_host.specs.Inventory.{HostState, Inventory, left}
 use Rattle.chip_host.specs.HostCall.{Done, fails, host_does, call_does, leaves_memory, leaves_output}
 

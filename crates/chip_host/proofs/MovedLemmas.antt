@@ -7,8 +7,8 @@ use Rattle.sim_base.specs.declared.signal.Drive.{Drive}
 use Rattle.sim_base.specs.declared.signal.Drive.TheVariants as drives
 use Rattle.part_law.specs.Spans.{IsIn, all_pins, no_pins}
 use Rattle.part_law.specs.declared.span.Span.{Span}
-use Rattle.slave_law.specs.declared.request.EngineRequest.{EngineRequest}
-use Rattle.slave_law.specs.declared.request.EngineRequest.TheVariants as requests
+use Rattle.slave_request.specs.declared.request.EngineRequest.{EngineRequest}
+use Rattle.slave_request.specs.declared.request.EngineRequest.TheVariants as requests
 use Rattle.chip_engines.specs.declared.engine.Engine.{Engine}
 use Rattle.chip_engines.specs.Engine.{out_drives, drives_at, gets_byte}
 use Rattle.chip_engines.specs.Serial.{serial_output}

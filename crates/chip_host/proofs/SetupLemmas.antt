@@ -11,7 +11,7 @@ use Rattle.wasm_validate.specs.Rules.{imported_functions, functions_of, import_e
 use Rattle.wasm_decode.specs.declared.module.Export.{Export}
 use Rattle.wasm_code.specs.declared.types.ValType.{ValType}
 use Rattle.wasm_code.specs.declared.types.FuncType.{FuncType}
-use Rattle.wasm_eval.specs.Values.{HasTypes}
+use Rattle.wasm_semantics.specs.Values.{HasTypes}
 use Rattle.wasm_exec.proofs.ListLemmas.{under, get_split}
 use Rattle.wasm_exec.proofs.ValidLemmas.{Keeps, keeps_of, kept, function_import}
 use Rattle.chip_abi.specs.Imports.{imports_of}

@@ -3,7 +3,7 @@ use Rattle.std.proofs.Common.{◌≡◌, ◌<◌, ◌≤◌, ◌+◌, ◌-◌, �
 use Rattle.std.specs.Prelude.{◌&&◌, if◌then◌else◌, slice_get, slice_set}
 use Rattle.sim_base.specs.declared.signal.Level.{Level}
 use Rattle.chip_engines.specs.declared.engine.Engine.{Engine}
-use Rattle.slave_law.specs.declared.request.EngineRequest.{EngineRequest}
+use Rattle.slave_request.specs.declared.request.EngineRequest.{EngineRequest}
 use Rattle.wasm_exec.specs.Instances.{Running}
 use Rattle.std.specs.Option.{is_some, option_to_list}
 use Rattle.chip_engines.specs.declared.engine.Turn.{Turn}

@@ -1,6 +1,6 @@
 -- Attributes of a chip: what the diagram gives to each by its name (profile).
 use Rattle.std.specs.Prelude.{ℕ, ◌-◌, ◌^◌, ◌==◌, nat_le, nat_lt, List, [], ◌∷◌, Option, None, Some, option_and_then, unwrap_or, if◌then◌else◌}
-use Rattle.numerals.specs.Numerals.{numeral}
+use Rattle.text_numerals.specs.Numerals.{numeral}
 use Rattle.part_catalog.specs.Attributes.{attribute}
 
 -- minus a number up to 2^31, mod 2^32

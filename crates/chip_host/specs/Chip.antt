@@ -13,13 +13,13 @@ use Rattle.wasm_num.specs.declared.value.Value.{Value}
 use Rattle.wasm_num.specs.declared.value.Value.TheVariants.{I32}
 use Rattle.wasm_decode.specs.declared.module.Module.{Module}
 use Rattle.wasm_num.specs.Mem.{Mem}
-use Rattle.wasm_eval.specs.Eval.{State, End, Gives, Fails, Wrong, call}
+use Rattle.wasm_semantics.specs.Eval.{State, End, Gives, Fails, Wrong, call}
 use Rattle.wasm_exec.specs.Programs.{memory_at_first, first_globals}
 use Rattle.wasm_exec.specs.Instances.{Running, state_of}
 use Rattle.wasm_exec.specs.Slots.{slot_call}
 use Rattle.wasm_program.specs.ProgramOf.{program_of}
-use Rattle.slave_law.specs.declared.request.EngineRequest.{EngineRequest}
-use Rattle.slave_law.specs.declared.request.EngineRequest.TheVariants as requests
+use Rattle.slave_request.specs.declared.request.EngineRequest.{EngineRequest}
+use Rattle.slave_request.specs.declared.request.EngineRequest.TheVariants as requests
 use Rattle.chip_engines.specs.declared.engine.Engine.{Engine}
 use Rattle.chip_output.specs.Output.{new_output}
 use Rattle.chip_engines.specs.Engine.{engine_turned, any_engine_due, gets_byte, gets_answer}

@@ -8,13 +8,13 @@ use Rattle.sim_base.specs.declared.signal.Level.{Level}
 use Rattle.wasm_num.specs.declared.value.Value.{Value}
 use Rattle.wasm_num.specs.declared.value.Value.TheVariants.{I32}
 use Rattle.wasm_decode.specs.declared.module.Module.{Module}
-use Rattle.wasm_eval.specs.Eval.{End, Gives, Fails, Wrong}
+use Rattle.wasm_semantics.specs.Eval.{End, Gives, Fails, Wrong}
 use Rattle.part_law.specs.Machine.{Laws, idle}
 use Rattle.chip_host.specs.declared.death.Death.{Death}
 use Rattle.chip_host.specs.declared.watch.Watch.{Watch}
 use Rattle.chip_host.specs.declared.timer.Timer.{Timer}
-use Rattle.slave_law.specs.declared.request.EngineRequest.{EngineRequest}
-use Rattle.slave_law.specs.declared.request.EngineRequest.TheVariants as requests
+use Rattle.slave_request.specs.declared.request.EngineRequest.{EngineRequest}
+use Rattle.slave_request.specs.declared.request.EngineRequest.TheVariants as requests
 use Rattle.chip_engines.specs.declared.engine.Engine.{Engine}
 use Rattle.chip_engines.specs.Engine.{engine_turned, any_engine_due}
 use Rattle.chip_engines.proofs.EngineLemmas.{engine_rests, set_same, none_due as none_due_engine}

@@ -11,7 +11,7 @@ use Rattle.wasm_num.specs.declared.trap.Trap.TheVariants as traps
 use Rattle.wasm_num.specs.declared.value.Value.{Value}
 use Rattle.wasm_num.specs.declared.value.Value.TheVariants.{I32, I64}
 use Rattle.wasm_num.specs.Mem.{Mem, has}
-use Rattle.wasm_eval.specs.Eval.{Answer}
+use Rattle.wasm_semantics.specs.Eval.{Answer}
 use Rattle.chip_abi.specs.declared.output_name.OutputName.{OutputName}
 use Rattle.chip_abi.specs.HostNames.{output_of}
 use Rattle.chip_output.specs.Output.{OutputState}

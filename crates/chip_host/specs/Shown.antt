@@ -3,8 +3,8 @@ use Rattle.std.specs.Prelude.{◌≡◌, ◌<◌, ◌+◌, ℕ, nat_lt, Bool, tr
 use Rattle.sim_base.specs.declared.signal.Drive.{Drive}
 use Rattle.part_law.specs.declared.span.Span.{Span}
 use Rattle.part_law.specs.Spans.{IsIn, all_pins, no_pins}
-use Rattle.slave_law.specs.declared.request.EngineRequest.{EngineRequest}
-use Rattle.slave_law.specs.declared.request.EngineRequest.TheVariants as requests
+use Rattle.slave_request.specs.declared.request.EngineRequest.{EngineRequest}
+use Rattle.slave_request.specs.declared.request.EngineRequest.TheVariants as requests
 use Rattle.chip_engines.specs.declared.engine.Engine.{Engine}
 use Rattle.chip_host.specs.Inventory.{out_pin}
 use Rattle.chip_host.specs.Chip.{Chip, chip_drive}

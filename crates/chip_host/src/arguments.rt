@@ -1,7 +1,7 @@
 //! The arguments of a host call, by the types that its import has.
 ghost use Rattle.std.specs.Prelude.{◌≡◌, [], ◌∷◌};
 ghost use Rattle.wasm_code.specs.declared.types.ValType.TheVariants as types;
-ghost use Rattle.wasm_eval.specs.Values.{HasTypes};
+ghost use Rattle.wasm_semantics.specs.Values.{HasTypes};
 ghost use Rattle.wasm_num.specs.declared.value.Value.TheVariants as values;
 ghost use Rattle.chip_host.specs.Arguments.{number_of, long_of};
 

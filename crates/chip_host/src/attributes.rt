@@ -4,8 +4,8 @@ ghost use Rattle.std.specs.Str.{bytes_eq};
 ghost use Rattle.part_catalog.specs.Attributes.{attribute};
 ghost use Rattle.chip_host.specs.Attributes.{below_zero, up_from_zero, whole_number, attr_value};
 
-use numerals::read_numeral;
 use sim_base::Text;
+use text_numerals::read_numeral;
 
 pub(crate) fn is_same(a: &[u8], b: &[u8]) -> bool
     ensures { result ≡ bytes_eq a.now b.now }

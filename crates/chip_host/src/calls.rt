@@ -3,7 +3,7 @@ ghost use Rattle.std.specs.Prelude.{◌≡◌, List, [], true, false, None, Some
 ghost use Rattle.std.specs.Option.{option_to_list};
 ghost use Rattle.wasm_validate.specs.Rules.{type_of};
 ghost use Rattle.wasm_code.specs.declared.types.FuncType.{FuncType};
-ghost use Rattle.wasm_eval.specs.Values.{HasTypes};
+ghost use Rattle.wasm_semantics.specs.Values.{HasTypes};
 ghost use Rattle.chip_host.specs.Hosts.{AreHosts};
 ghost use Rattle.chip_host.specs.Chip.{chip_from, called, replied, value_of, set_up, started, then_set_up};
 

@@ -2,7 +2,7 @@
 ghost use Rattle.std.specs.Prelude.{◌≡◌, ◌≤◌, ◌<◌, ◌+◌, ◌∷◌, [], IfOk, IfSome};
 ghost use Rattle.std.specs.Option.{option_to_list};
 ghost use Rattle.wasm_code.specs.declared.types.ValType.TheVariants as types;
-ghost use Rattle.wasm_eval.specs.Values.{HasTypes};
+ghost use Rattle.wasm_semantics.specs.Values.{HasTypes};
 ghost use Rattle.chip_engines.specs.Engine.{IsEngine};
 ghost use Rattle.chip_host.specs.Inventory.{left};
 ghost use Rattle.chip_host.specs.HostCall.{engine_of, given_pin, no_calls, two_words, four_words, uart_from, spi_from, i2c_from, engine_init, write_uart, start_spi, stop_spi, uarts, spis, i2cs};

@@ -2,7 +2,7 @@
 ghost use Rattle.std.specs.Prelude.{◌≡◌, ℕ, ◌<◌, ◌≤◌, ◌==◌, ◌+◌, ◌++◌, ◌*◌, [], ◌∷◌, not, length, map, drop, IfOk, IfSome, Some, slice_get, slice_set, option_map, option_to_list, None, false};
 ghost use Rattle.std.specs.List.{position_from};
 ghost use Rattle.wasm_code.specs.declared.types.ValType.TheVariants as types;
-ghost use Rattle.wasm_eval.specs.Values.{HasTypes};
+ghost use Rattle.wasm_semantics.specs.Values.{HasTypes};
 ghost use Rattle.chip_host.specs.Inventory.{HostState, left, pin_at, watch_at, engine_at, out_pin, with_mode, drive_of, pin_drives};
 ghost use Rattle.chip_abi.specs.HostNames.{type_of_name};
 ghost use Rattle.chip_abi.specs.Reading.{word_at, text_in};
@@ -28,8 +28,8 @@ use sim_base::{Display, Drive, Level, List, MOST_CYCLES, Name, OutOfMemory, Text
 use std::alloc::Global;
 use std::marker::Model;
 use std::mem;
-use wasm_eval::Host;
 use wasm_num::{Memory, Trap, Value};
+use wasm_semantics::Host;
 
 /// What a module imports from, in a cycle; `init` tells whether the chip is being set up.
 #[derive(Drop)]

@@ -4,7 +4,7 @@ ghost use Rattle.part_law.specs.Spans.{IsIn};
 ghost use Rattle.chip_host.specs.Shown.{out_span, request_span};
 
 use part_law::Span;
-use slave_law::EngineRequest;
+use slave_request::EngineRequest;
 
 /// A pin alone.
 fn one_pin(pin: u8) -> Span

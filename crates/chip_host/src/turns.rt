@@ -21,7 +21,7 @@ use chip_abi::ImportMap;
 use chip_engines::{Engine, Turn};
 use part_law::Span;
 use sim_base::{Display, Drive, Level, List, MOST_CYCLES, Name, OutOfMemory, Text};
-use slave_law::EngineRequest;
+use slave_request::EngineRequest;
 use std::alloc::Global;
 use std::marker::Model;
 use wasm_exec::Instance;

@@ -3,7 +3,7 @@ use Rattle.std.specs.Prelude.{ℕ, ◌+◌, ◌-◌, ◌^◌, ◌==◌, nat_le, 
 use Rattle.std.specs.Int.{w32}
 use Rattle.wasm_num.specs.declared.trap.Trap.TheVariants as traps
 use Rattle.wasm_num.specs.Mem.{Mem, has, put, written}
-use Rattle.wasm_eval.specs.Eval.{Answer}
+use Rattle.wasm_semantics.specs.Eval.{Answer}
 use Rattle.chip_output.specs.Output.{Frame, OutputState, bytes_at, gives, nothing, fails}
 
 -- the memory with both numbers, the width stored first

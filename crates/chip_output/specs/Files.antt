@@ -4,7 +4,7 @@ use Rattle.std.specs.Prelude.{ℕ, zero, suc, ◌+◌, ◌*◌, ◌^◌, ◌%◌
 use Rattle.std.specs.Int.{w32, from_le_bytes}
 use Rattle.wasm_num.specs.declared.trap.Trap.TheVariants as traps
 use Rattle.wasm_num.specs.Mem.{Mem, has, put, written}
-use Rattle.wasm_eval.specs.Eval.{Answer}
+use Rattle.wasm_semantics.specs.Eval.{Answer}
 use Rattle.chip_output.specs.Output.{OutputState, printed, bytes_at, gives, fails}
 
 -- errno: badf, inval, spipe

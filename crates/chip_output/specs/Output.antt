@@ -4,7 +4,7 @@ use Rattle.sim_base.specs.Display.{DisplaySize}
 use Rattle.wasm_num.specs.declared.trap.Trap.{Trap}
 use Rattle.wasm_num.specs.declared.value.Value.TheVariants.{I32}
 use Rattle.wasm_num.specs.Mem.{Mem}
-use Rattle.wasm_eval.specs.Eval.{Answer}
+use Rattle.wasm_semantics.specs.Eval.{Answer}
 
 -- a display: 4 bytes for each pixel, row by row, and whether `framebufferInit` has given it to the chip
 pub record Frame : Type 0 where

@@ -1,7 +1,7 @@
 //! The host calls on a chip's output, by their names.
 ghost use Rattle.std.specs.Prelude.{◌≡◌, length, IfOk};
 ghost use Rattle.std.specs.Option.{option_to_list};
-ghost use Rattle.wasm_eval.specs.Values.{HasTypes};
+ghost use Rattle.wasm_semantics.specs.Values.{HasTypes};
 ghost use Rattle.chip_abi.specs.HostNames.{output_row};
 ghost use Rattle.chip_output.specs.Calls.{output_does};
 

@@ -2,7 +2,7 @@
 ghost use Rattle.std.specs.Prelude.{◌≡◌, ◌+◌, ◌*◌, ◌≤◌, [], ◌∷◌, length, replicate, true, IfOk};
 ghost use Rattle.std.specs.Option.{option_to_list};
 ghost use Rattle.wasm_code.specs.declared.types.ValType.TheVariants as types;
-ghost use Rattle.wasm_eval.specs.Values.{HasTypes};
+ghost use Rattle.wasm_semantics.specs.Values.{HasTypes};
 ghost use Rattle.wasm_num.specs.Mem.{put};
 ghost use Rattle.chip_output.specs.Output.{blank, bytes_at};
 ghost use Rattle.chip_output.specs.Displays.{covers, give, draw, read_back};

@@ -2,7 +2,7 @@
 ghost use Rattle.std.specs.Prelude.{◌≡◌, ◌*◌, ◌≤◌, [], ◌∷◌, length, IfOk, IfSome, Some, None, Ok, if◌then◌else◌};
 ghost use Rattle.std.specs.Option.{option_to_list, option_map};
 ghost use Rattle.wasm_code.specs.declared.types.ValType.TheVariants as types;
-ghost use Rattle.wasm_eval.specs.Values.{HasTypes};
+ghost use Rattle.wasm_semantics.specs.Values.{HasTypes};
 ghost use Rattle.chip_output.specs.Output.{blank, new_output, picture};
 ghost use Rattle.chip_output.specs.Files.{is_console, answers_of, pieces, total, is_readable, fd_write, fd_fdstat_get, fd_seek, fd_close};
 ghost use Rattle.chip_output.specs.Displays.{framebuffer_init, buffer_write, buffer_read};

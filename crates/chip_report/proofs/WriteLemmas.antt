@@ -8,7 +8,7 @@ use Rattle.std.proofs.lemmas.List.{append_assoc, append-nil, at_drop_more, at_dr
 use Rattle.sim_base.specs.declared.bench.Port.TheVariants as ports
 use Rattle.sim_base.specs.declared.bench.WriteEnd.{WriteEnd}
 use Rattle.sim_base.specs.Outside.{Outside}
-use Rattle.outcome_model.specs.Work.{Wrote, WroteOn}
+use Rattle.sim_outcome_model.specs.Work.{Wrote, WroteOn}
 use Rattle.sim_report.specs.Lines.{hex_byte}
 use Rattle.chip_report.specs.Lines.{console_opening, console_text, is_drawn, row_opening, row_text, rows_text}
 use Rattle.chip_report.specs.Writing.{IsLeft, Goes, written, byte_text, line_end, rest_text}

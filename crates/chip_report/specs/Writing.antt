@@ -3,7 +3,7 @@ use Rattle.std.specs.Prelude.{◌≡◌, ℕ, ◌==◌, List, [], ◌∷◌, ◌
 use Rattle.sim_base.specs.declared.bench.Port.TheVariants as ports
 use Rattle.sim_base.specs.declared.bench.WriteEnd.{WriteEnd}
 use Rattle.sim_base.specs.Outside.{Outside}
-use Rattle.outcome_model.specs.Work.{Wrote}
+use Rattle.sim_outcome_model.specs.Work.{Wrote}
 use Rattle.chip_report.specs.Lines.{shown}
 
 -- a text was written on Report up to its end, which is left

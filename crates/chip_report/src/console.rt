@@ -1,13 +1,13 @@
 //! The lines of a console.
 ghost use Rattle.std.specs.Prelude.{◌≡◌, ◌++◌, List, ℕ, true, []};
 ghost use Rattle.sim_base.specs.Outside.{SameOthers};
-ghost use Rattle.outcome_model.specs.Work.{WroteOn};
+ghost use Rattle.sim_outcome_model.specs.Work.{WroteOn};
 ghost use Rattle.chip_report.specs.Lines.{shown, console_opening, console_text};
 ghost use Rattle.chip_report.specs.Writing.{Goes, written, byte_text, line_end};
 
 use crate::piece::{Piece, begin, put};
-use cli_work::write_next;
 use sim_base::{Bench, Name, Port, WriteEnd};
+use sim_io::write_next;
 
 fn shown(b: u8) -> u8
     ensures { result ≡ shown b }

@@ -1,14 +1,14 @@
 //! The lines of a display.
 ghost use Rattle.std.specs.Prelude.{◌≡◌, ◌*◌, ◌<◌, ◌++◌, List, ℕ, length, true};
 ghost use Rattle.sim_base.specs.Outside.{SameOthers};
-ghost use Rattle.outcome_model.specs.Work.{WroteOn};
+ghost use Rattle.sim_outcome_model.specs.Work.{WroteOn};
 ghost use Rattle.sim_report.specs.Lines.{hex_digit, hex_byte};
 ghost use Rattle.chip_report.specs.Lines.{is_drawn, row_opening, row_text, frame_text};
 ghost use Rattle.chip_report.specs.Writing.{Goes};
 
 use crate::piece::{Piece, begin, put};
-use cli_work::write_next;
 use sim_base::{Bench, Name, Port, WriteEnd};
+use sim_io::write_next;
 
 fn is_drawn(row: &[u8]) -> bool
     ensures { result ≡ is_drawn row.now }

@@ -1,7 +1,7 @@
 //! All lines of a chip.
 ghost use Rattle.std.specs.Prelude.{◌≡◌, ◌*◌, IfSome, length, option_map, true};
 ghost use Rattle.sim_base.specs.Outside.{SameOthers};
-ghost use Rattle.outcome_model.specs.Work.{WroteOn};
+ghost use Rattle.sim_outcome_model.specs.Work.{WroteOn};
 ghost use Rattle.chip_report.specs.Lines.{display_text, output_text};
 
 use crate::console::write_console;

@@ -1,13 +1,13 @@
 //! The end of the text that is written, which is kept until it is full.
 ghost use Rattle.std.specs.Prelude.{◌≡◌, ◌+◌, ◌≤◌, ◌<◌, ◌++◌, List, ℕ, length, true, []};
 ghost use Rattle.sim_base.specs.Outside.{SameOthers};
-ghost use Rattle.outcome_model.specs.Work.{WroteOn};
+ghost use Rattle.sim_outcome_model.specs.Work.{WroteOn};
 ghost use Rattle.chip_report.specs.Lines.{opening};
 ghost use Rattle.chip_report.specs.Writing.{Goes};
 
 use arrayvec::ArrayVec;
-use cli_work::write_next;
 use sim_base::{Bench, Name, Port, WriteEnd};
+use sim_io::write_next;
 
 /// How many bytes are written at once, at most.
 pub(crate) type Piece = ArrayVec<u8, 320>;

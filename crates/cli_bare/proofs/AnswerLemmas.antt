@@ -2,13 +2,13 @@
 use Rattle.std.proofs.Common.{◌*◌, ℕ, List, Option, Ok, IfSome}
 use Rattle.sim_base.specs.Outside.{Outside, SamePorts, Files}
 use Rattle.text_model.specs.Hex.{hex_image}
-use Rattle.outcome_model.specs.Stop.{Texts}
-use Rattle.outcome_model.specs.Outcome.{Outcome}
-use Rattle.outcome_model.specs.Work.{IsFile, ReadStops}
-use Rattle.outcome_model.specs.Happens.{Ends}
-use Rattle.outcome_model.specs.Promises.{IsOne}
-use Rattle.outcome_model.proofs.ReadLemmas.{one_file}
-use Rattle.outcome_model.proofs.EndLemmas.{answered, answer_stops, one_answer}
+use Rattle.sim_outcome_model.specs.Stop.{Texts}
+use Rattle.sim_outcome_model.specs.Outcome.{Outcome}
+use Rattle.sim_outcome_model.specs.Work.{IsFile, ReadStops}
+use Rattle.sim_outcome_model.specs.Happens.{Ends}
+use Rattle.sim_outcome_model.specs.Promises.{IsOne}
+use Rattle.sim_outcome_model.proofs.ReadLemmas.{one_file}
+use Rattle.sim_outcome_model.proofs.EndLemmas.{answered, answer_stops, one_answer}
 use Rattle.cli_bare.specs.Bare.{bare_run}
 use Rattle.cli_bare.specs.Answer.{BareAnswer}
 

@@ -5,7 +5,7 @@ use Rattle.sim_base.specs.Outside.{Outside}
 use Rattle.text_model.specs.Wave.{Variable, wave_text}
 use Rattle.board_model.specs.Board.{bytes}
 use Rattle.board_model.specs.Rows.{rows}
-use Rattle.board_laws.specs.Active.{active_pairs}
+use Rattle.law_board.specs.Active.{active_pairs}
 use Rattle.board_run.specs.BoardView.{BoardView}
 use Rattle.avr_mcu.specs.Mcu.{McuAt, mcu}
 use Rattle.board_outputs.specs.Run.{texts_for}

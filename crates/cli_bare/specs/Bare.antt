@@ -6,7 +6,7 @@ use Rattle.part_catalog.specs.declared.kind.Kind.TheVariants as kinds
 use Rattle.board_build.specs.declared.plan.PlanKind.TheVariants as plans
 use Rattle.board_build.specs.declared.plan.PlanPart.{PlanPart}
 use Rattle.board_build.specs.declared.plan.Plan.{Plan}
-use Rattle.outcome_model.specs.Stop.{Texts}
+use Rattle.sim_outcome_model.specs.Stop.{Texts}
 use Rattle.avr_mcu.specs.Mcu.{Mcu, mcu, start}
 use Rattle.board_outputs.specs.Run.{Outputs, board_wave, board_bytes, board_wakes, texts_for}
 

@@ -1,9 +1,9 @@
 //! `bare HEX --us N`: one Uno without wires.
 ghost use Rattle.std.specs.Prelude.{◌≡◌, ◌≤◌, ◌<◌, ◌+◌, [], IfOk, map};
-ghost use Rattle.outcome_model.specs.Outcome as ends;
-ghost use Rattle.outcome_model.specs.Happens.{Ends, Counts};
-ghost use Rattle.outcome_model.specs.Work.{SaidNothing};
-ghost use Rattle.cli_work.specs.Outcomes.{outcome_of};
+ghost use Rattle.sim_outcome_model.specs.Outcome as ends;
+ghost use Rattle.sim_outcome_model.specs.Happens.{Ends, Counts};
+ghost use Rattle.sim_outcome_model.specs.Work.{SaidNothing};
+ghost use Rattle.sim_io.specs.Outcomes.{outcome_of};
 ghost use Rattle.avr_mcu.specs.Mcu.{McuAt};
 ghost use Rattle.board_outputs.specs.Ran.{Ran};
 ghost use Rattle.board_outputs.specs.Start.{IsAtStart};
@@ -15,8 +15,8 @@ use avr_mcu::Mcu;
 use board_build::Plan;
 use board_outputs::{Outputs, open_and_play, wave_head};
 use board_run::Board;
-use cli_work::{HexFile, WorkEnd, read_document};
 use sim_base::{Bench, Flash, MOST_CYCLES, OutOfMemory, Steps, WriteEnd};
+use sim_io::{HexFile, WorkEnd, read_document};
 use std::alloc::Global;
 use std::mem::drop;
 use std::sync::ledger::Ledger;

@@ -1,13 +1,13 @@
 -- The answer to `decode`, by its wave.
 use Rattle.std.proofs.Common.{◌≡◌, ℕ, List, Option, Result, Ok, Err, IfSome, ap, sym}
 use Rattle.sim_base.specs.Outside.{Outside, SamePorts, Files}
-use Rattle.outcome_model.specs.Stop.{Stop, Texts}
-use Rattle.outcome_model.specs.Outcome.{Outcome}
-use Rattle.outcome_model.specs.Work.{ReadStops}
-use Rattle.outcome_model.specs.Happens.{Ends}
-use Rattle.outcome_model.specs.Promises.{IsOne}
-use Rattle.outcome_model.proofs.EndLemmas.{answered, answer_stops, one_answer}
-use Rattle.outcome_model.proofs.ReadLemmas.{one_within}
+use Rattle.sim_outcome_model.specs.Stop.{Stop, Texts}
+use Rattle.sim_outcome_model.specs.Outcome.{Outcome}
+use Rattle.sim_outcome_model.specs.Work.{ReadStops}
+use Rattle.sim_outcome_model.specs.Happens.{Ends}
+use Rattle.sim_outcome_model.specs.Promises.{IsOne}
+use Rattle.sim_outcome_model.proofs.EndLemmas.{answered, answer_stops, one_answer}
+use Rattle.sim_outcome_model.proofs.ReadLemmas.{one_within}
 use Rattle.wave_decode.specs.declared.bus.Bus.{Bus}
 use Rattle.wave_decode.specs.Levels.{Levels, levels_text}
 use Rattle.cli_decode.specs.Answer.{DecodeAnswer, LevelsIn, texts_by}

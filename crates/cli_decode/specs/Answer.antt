@@ -1,9 +1,9 @@
 -- What `decode WAVE` with the words of a bus is answered with (profile).
 use Rattle.std.specs.Prelude.{ℕ, List, Option, Result}
 use Rattle.sim_base.specs.Outside.{Files}
-use Rattle.outcome_model.specs.Stop.{Stop, Texts, printed, report_alone}
-use Rattle.outcome_model.specs.Work.{Reading, IsFileWithin}
-use Rattle.outcome_model.specs.Happens.{AnswerOf}
+use Rattle.sim_outcome_model.specs.Stop.{Stop, Texts, printed, report_alone}
+use Rattle.sim_outcome_model.specs.Work.{Reading, IsFileWithin}
+use Rattle.sim_outcome_model.specs.Happens.{AnswerOf}
 use Rattle.wave_decode.specs.declared.bus.Bus.{Bus}
 use Rattle.wave_decode.specs.Frames.{frames_text}
 use Rattle.wave_decode.specs.Levels.{Levels, levels_text}

@@ -2,16 +2,16 @@
 ghost use Rattle.std.specs.Prelude.{◌≡◌, length, IfOk};
 ghost use Rattle.std.specs.Option.{option_map};
 ghost use Rattle.sim_base.specs.Outside.{SameOthers, SamePorts};
-ghost use Rattle.outcome_model.specs.Happens.{Ends};
-ghost use Rattle.outcome_model.specs.Stop.{printed};
-ghost use Rattle.outcome_model.specs.Work.{Got, RanOn, SaidNothing};
+ghost use Rattle.sim_outcome_model.specs.Happens.{Ends};
+ghost use Rattle.sim_outcome_model.specs.Stop.{printed};
+ghost use Rattle.sim_outcome_model.specs.Work.{Got, RanOn, SaidNothing};
 ghost use Rattle.wave_decode.specs.Frames.{AreHeard, frames_text, IsBus, line_count};
-ghost use Rattle.cli_work.specs.Outcomes.{outcome_of, stop_of};
+ghost use Rattle.sim_io.specs.Outcomes.{outcome_of, stop_of};
 ghost use Rattle.cli_decode.specs.Answer.{DecodeAnswer, LevelsIn};
 ghost use Rattle.wave_decode.specs.Levels.{names_given};
 
-use cli_work::{Stop, WorkEnd, read_within, stopped};
 use sim_base::{Bench, Fault, Port, WriteEnd};
+use sim_io::{Stop, WorkEnd, read_within, stopped};
 use std::alloc::Global;
 use wave_decode::{Bus, LevelRows, frames, read_levels};
 

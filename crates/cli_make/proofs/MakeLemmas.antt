@@ -5,14 +5,14 @@ use Rattle.std.proofs.lemmas.List.{append-nil}
 use Rattle.sim_base.specs.declared.bench.Port.TheVariants as ports
 use Rattle.sim_base.specs.declared.bench.Port.{Port}
 use Rattle.sim_base.specs.Outside.{Outside, SamePorts, SameOthers, Files}
-use Rattle.outcome_model.specs.Stop.{Stop, Missing, Refused, Output, Texts, printed}
-use Rattle.outcome_model.specs.Outcome.{Outcome, Accepted, WriteFailed, OutOfMemory, Hold, Begin}
-use Rattle.outcome_model.specs.Work.{Reading, Is, ReadStops, RanOn, SaidNothing, IsSteady, IsOneReading}
-use Rattle.outcome_model.specs.Happens.{Answer, Ends}
-use Rattle.outcome_model.specs.Promises.{IsOne}
-use Rattle.outcome_model.proofs.ReadLemmas.{if_some, one_both, one_function}
-use Rattle.outcome_model.proofs.JudgeLemmas.{once_as}
-use Rattle.outcome_model.proofs.EndLemmas.{answered, answer_stops, one_answer, alone_ran, on_after, begins_after, untouched_after}
+use Rattle.sim_outcome_model.specs.Stop.{Stop, Missing, Refused, Output, Texts, printed}
+use Rattle.sim_outcome_model.specs.Outcome.{Outcome, Accepted, WriteFailed, OutOfMemory, Hold, Begin}
+use Rattle.sim_outcome_model.specs.Work.{Reading, Is, ReadStops, RanOn, SaidNothing, IsSteady, IsOneReading}
+use Rattle.sim_outcome_model.specs.Happens.{Answer, Ends}
+use Rattle.sim_outcome_model.specs.Promises.{IsOne}
+use Rattle.sim_outcome_model.proofs.ReadLemmas.{if_some, one_both, one_function}
+use Rattle.sim_outcome_model.proofs.JudgeLemmas.{once_as}
+use Rattle.sim_outcome_model.proofs.EndLemmas.{answered, answer_stops, one_answer, alone_ran, on_after, begins_after, untouched_after}
 use Rattle.document_model.specs.declared.project.Project.{Project}
 use Rattle.board_make.specs.Board.{chip_file, diagram, lamps_parts}
 use Rattle.board_make.specs.Inverter.{inverter}
@@ -22,8 +22,8 @@ use Rattle.chip_module.specs.Binary.{Binary, Judges}
 use Rattle.chip_module.proofs.BinaryLemmas.{one_binary, not_both, one_refusal}
 use Rattle.project_model.specs.Work.{Work, in_folder}
 use Rattle.vcd_text.specs.Writers.{capped}
-use Rattle.cli_board.specs.Counted.{run_changes}
-use Rattle.cli_board.specs.Run.{run_bytes, run_wakes}
+use Rattle.project_run.specs.Counted.{run_changes}
+use Rattle.project_run.specs.Run.{run_bytes, run_wakes}
 use Rattle.cli_project.proofs.ProjectLemmas.{same_here}
 use Rattle.cli_make.specs.Answer.{JudgedBytes, MadeIn, MakeAnswer, contents, folder, line, made_line, made_texts}
 

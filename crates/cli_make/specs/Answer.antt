@@ -1,9 +1,9 @@
 -- What `make SEED --us N` is answered with (profile).
 use Rattle.std.specs.Prelude.{◌*◌, ℕ, List, [], ◌∷◌, ◌++◌, length, codes, decimal, None, Some, Result}
 use Rattle.sim_base.specs.Outside.{Files}
-use Rattle.outcome_model.specs.Stop.{Stop, Texts, JudgedAs, printed}
-use Rattle.outcome_model.specs.Work.{Reading, Then}
-use Rattle.outcome_model.specs.Happens.{AnswerOf}
+use Rattle.sim_outcome_model.specs.Stop.{Stop, Texts, JudgedAs, printed}
+use Rattle.sim_outcome_model.specs.Work.{Reading, Then}
+use Rattle.sim_outcome_model.specs.Happens.{AnswerOf}
 use Rattle.document_model.specs.declared.project.Project.{Project}
 use Rattle.document_model.specs.declared.diagram.Diagram.{Diagram}
 use Rattle.board_make.specs.Board.{chip_file, chip_pins, diagram, project}
@@ -14,8 +14,8 @@ use Rattle.chip_module.specs.declared.source.ChipSource.{ChipSource}
 use Rattle.project_model.specs.Work.{Work, BehindScript, in_folder}
 use Rattle.any_part.specs.Start.{Contents}
 use Rattle.vcd_text.specs.Writers.{capped}
-use Rattle.cli_board.specs.Counted.{run_changes}
-use Rattle.cli_board.specs.Run.{run_bytes, run_wakes}
+use Rattle.project_run.specs.Counted.{run_changes}
+use Rattle.project_run.specs.Run.{run_bytes, run_wakes}
 
 -- no file is read; a complaint names this folder
 abbrev pub folder : List ℕ

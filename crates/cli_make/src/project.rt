@@ -1,20 +1,20 @@
 //! The generated project, checked as one that is read.
 ghost use Rattle.std.specs.Prelude.{◌≡◌, ◌≤◌, ◌∷◌, [], length, IfOk};
 ghost use Rattle.sim_base.specs.Outside.{Outside};
-ghost use Rattle.outcome_model.specs.Work.{Got};
+ghost use Rattle.sim_outcome_model.specs.Work.{Got};
 ghost use Rattle.board_make.specs.Board.{chip_file};
 ghost use Rattle.chip_module.specs.Sources.{HasFewPins};
 ghost use Rattle.project_model.specs.Work.{in_folder};
 ghost use Rattle.cli_project.specs.Works.{IsSound, work_of};
-ghost use Rattle.cli_work.specs.Outcomes.{outcome_of};
+ghost use Rattle.sim_io.specs.Outcomes.{outcome_of};
 ghost use Rattle.cli_make.specs.Answer.{BehindModule, JudgedBytes, MadeIn, folder};
 
 use board_make::{Made, make};
 use chip_module::{ChipModule, ChipSource};
 use cli_project::{ScriptedProject, Work, plan_board};
-use cli_work::{Stop, WorkEnd, stopped};
 use document_model::{Diagram, Project};
 use sim_base::{Fault, Flash, List, OutOfMemory};
+use sim_io::{Stop, WorkEnd, stopped};
 use std::alloc::Global;
 
 /// The module of the chip.

@@ -1,20 +1,20 @@
 //! `make SEED --us N`: the generated board runs, and one line says what it counts.
 ghost use Rattle.std.specs.Prelude.{◌≡◌, ◌≤◌, ◌<◌, ◌+◌, IfOk, string_bytes};
 ghost use Rattle.sim_base.specs.Outside.{SameOthers, SamePorts};
-ghost use Rattle.outcome_model.specs.Happens.{Ends, Counts};
-ghost use Rattle.outcome_model.specs.Outcome as ends;
-ghost use Rattle.outcome_model.specs.Stop.{printed};
-ghost use Rattle.outcome_model.specs.Work.{RanOn, SaidNothing};
-ghost use Rattle.cli_board.specs.Run.{run_wakes};
+ghost use Rattle.sim_outcome_model.specs.Happens.{Ends, Counts};
+ghost use Rattle.sim_outcome_model.specs.Outcome as ends;
+ghost use Rattle.sim_outcome_model.specs.Stop.{printed};
+ghost use Rattle.sim_outcome_model.specs.Work.{RanOn, SaidNothing};
+ghost use Rattle.project_run.specs.Run.{run_wakes};
 ghost use Rattle.cli_project.specs.Works.{IsSound, work_of};
-ghost use Rattle.cli_work.specs.Outcomes.{outcome_of};
+ghost use Rattle.sim_io.specs.Outcomes.{outcome_of};
 ghost use Rattle.cli_make.specs.Answer.{MakeAnswer, contents, line, made_line};
 
 use crate::project::made_work;
-use cli_board::{Contents, count_board};
 use cli_project::Work;
-use cli_work::{WorkEnd, write_text};
+use project_run::{Contents, count_board};
 use sim_base::{Bench, MOST_CYCLES, OutOfMemory, Port, Steps};
+use sim_io::{WorkEnd, write_text};
 use std::alloc::{AllocError, Global};
 use std::sync::ledger::Ledger;
 

@@ -1,13 +1,13 @@
 -- The answer to `module`, by its file.
 use Rattle.std.proofs.Common.{◌≡◌, ℕ, List, Option, Ok, refl, IfSome}
 use Rattle.sim_base.specs.Outside.{Outside, SamePorts, Files}
-use Rattle.outcome_model.specs.Stop.{Texts, accepted}
-use Rattle.outcome_model.specs.Outcome.{Outcome}
-use Rattle.outcome_model.specs.Work.{JudgedFile, ReadStops}
-use Rattle.outcome_model.specs.Happens.{Ends}
-use Rattle.outcome_model.specs.Promises.{IsOne}
-use Rattle.outcome_model.proofs.EndLemmas.{answered, answer_stops, only_texts, one_answer}
-use Rattle.outcome_model.proofs.JudgeLemmas.{one_judged}
+use Rattle.sim_outcome_model.specs.Stop.{Texts, accepted}
+use Rattle.sim_outcome_model.specs.Outcome.{Outcome}
+use Rattle.sim_outcome_model.specs.Work.{JudgedFile, ReadStops}
+use Rattle.sim_outcome_model.specs.Happens.{Ends}
+use Rattle.sim_outcome_model.specs.Promises.{IsOne}
+use Rattle.sim_outcome_model.proofs.EndLemmas.{answered, answer_stops, only_texts, one_answer}
+use Rattle.sim_outcome_model.proofs.JudgeLemmas.{one_judged}
 use Rattle.chip_module.specs.Binary.{Binary, Judges}
 use Rattle.chip_module.proofs.BinaryLemmas.{one_binary, not_both, one_refusal}
 use Rattle.cli_module.specs.Answer.{ModuleAnswer}

@@ -1,15 +1,15 @@
 //! `module FILE`: the bytes of a file, as the module of a chip.
 ghost use Rattle.std.specs.Prelude.{◌≡◌};
 ghost use Rattle.sim_base.specs.Outside.{SamePorts};
-ghost use Rattle.outcome_model.specs.Work.{Got, JudgedFile, SaidNothing};
-ghost use Rattle.outcome_model.specs.Happens.{Ends};
+ghost use Rattle.sim_outcome_model.specs.Work.{Got, JudgedFile, SaidNothing};
+ghost use Rattle.sim_outcome_model.specs.Happens.{Ends};
 ghost use Rattle.chip_module.specs.Binary.{Judges};
-ghost use Rattle.cli_work.specs.Outcomes.{outcome_of};
+ghost use Rattle.sim_io.specs.Outcomes.{outcome_of};
 ghost use Rattle.cli_module.specs.Answer.{ModuleAnswer};
 
 use chip_module::ChipModule;
-use cli_work::{Stop, WorkEnd, read_bytes, stopped, write_text};
 use sim_base::{Bench, Fault, Port};
+use sim_io::{Stop, WorkEnd, read_bytes, stopped, write_text};
 use std::alloc::Global;
 
 /// The module of a file of at most 1,048,576 bytes, or the end of the work by it.

@@ -14,13 +14,13 @@ pub use Rattle.document_model.specs.declared.project.ChipFile.{ChipFile}
 pub use Rattle.chip_json.specs.Display.{pins_and_display}
 pub use Rattle.chip_module.specs.Binary.{Binary, Judges}
 pub use Rattle.chip_module.specs.declared.source.ChipSource.{ChipSource}
-pub use Rattle.outcome_model.specs.Stop.{Stop, Texts, accepted, printed}
-pub use Rattle.outcome_model.specs.Work.{Reading, Is, ReadStops, Got, IsSteady, IsOneReading, IsFile, JudgedFile, Then, IsFileWithin}
-pub use Rattle.outcome_model.proofs.ReadLemmas.{if_always, first_stops, got_both, steady_file, steady_within, steady_both, steady_rule, one_file, one_within}
-pub use Rattle.outcome_model.proofs.ReadLemmas.{one_function, one_both, named_stop}
-pub use Rattle.outcome_model.proofs.JudgeLemmas.{steady_judged, one_judged}
-pub use Rattle.outcome_model.proofs.EndLemmas.{answered, answer_stops, only_texts, one_answer, alone_ran}
-pub use Rattle.cli_work.specs.Outcomes.{outcome_of, stop_of}
+pub use Rattle.sim_outcome_model.specs.Stop.{Stop, Texts, accepted, printed}
+pub use Rattle.sim_outcome_model.specs.Work.{Reading, Is, ReadStops, Got, IsSteady, IsOneReading, IsFile, JudgedFile, Then, IsFileWithin}
+pub use Rattle.sim_outcome_model.proofs.ReadLemmas.{if_always, first_stops, got_both, steady_file, steady_within, steady_both, steady_rule, one_file, one_within}
+pub use Rattle.sim_outcome_model.proofs.ReadLemmas.{one_function, one_both, named_stop}
+pub use Rattle.sim_outcome_model.proofs.JudgeLemmas.{steady_judged, one_judged}
+pub use Rattle.sim_outcome_model.proofs.EndLemmas.{answered, answer_stops, only_texts, one_answer, alone_ran}
+pub use Rattle.sim_io.specs.Outcomes.{outcome_of, stop_of}
 pub use Rattle.project_model.specs.Work.{in_folder, PinsIn, ChipsAfter, BehindChips, diagram_name, drawn, BehindDiagram, BehindFirmware, ScriptIn, WaveIn}
 pub use Rattle.project_model.specs.Work.{PlanIn, BehindScript, BehindProject}
 pub use Rattle.document_model.proofs.LimitLemmas.{few_parts, few_chips}

@@ -8,10 +8,10 @@ use Rattle.sim_base.specs.declared.wiring.Input.{Input}
 use Rattle.sim_base.specs.Refusals.{ScriptOrder, ScriptLimit}
 use Rattle.sim_base.specs.declared.limits.TheConstants.{LONGEST_RUN}
 use Rattle.text_model.specs.Lines.{lines}
-use Rattle.script_text.specs.declared.action.Action.{Action}
-use Rattle.script_text.specs.Script.{Verdict, Passed, Acts, Faulty, words, is_passed, action_of, judged, verdict, after, row_of, with_rows, rows_from, script_of}
+use Rattle.input_script.specs.declared.action.Action.{Action}
+use Rattle.input_script.specs.Script.{Verdict, Passed, Acts, Faulty, words, is_passed, action_of, judged, verdict, after, row_of, with_rows, rows_from, script_of}
 use Rattle.board_model.specs.Fits.{AreInputs}
-use Rattle.cli_work.specs.Documents.{IsRead}
+use Rattle.sim_io.specs.Documents.{IsRead}
 
 -- an action's time is not below the one before
 not_below : (last count : ℕ) (action x : Action) (p q : Bool) → (nat_lt x.cycle last || nat_lt LONGEST_RUN x.cycle) ≡ p →

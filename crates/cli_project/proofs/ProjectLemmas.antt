@@ -8,11 +8,11 @@ use Rattle.std.proofs.lemmas.List.{take_all}
 use Rattle.document_model.specs.declared.diagram.Diagram.{Diagram}
 use Rattle.document_model.specs.Diagram.{diagram_text}
 use Rattle.chip_module.proofs.BinaryLemmas.{one_binary, not_both, one_refusal}
-use Rattle.script_text.specs.Script.{script_of}
-use Rattle.outcome_model.specs.Outcome.{Outcome, Stopped, OutOfMemory}
+use Rattle.input_script.specs.Script.{script_of}
+use Rattle.sim_outcome_model.specs.Outcome.{Outcome, Stopped, OutOfMemory}
 use Rattle.project_model.specs.Work.{Work, in_folder, with_bytes, drawn, ChipIn, ChipsAfter, PinsIn, ScriptIn, WaveIn, WorkIn}
-use Rattle.outcome_model.specs.Happens.{Ends}
-use Rattle.outcome_model.specs.Promises.{IsOne}
+use Rattle.sim_outcome_model.specs.Happens.{Ends}
+use Rattle.sim_outcome_model.specs.Promises.{IsOne}
 use Rattle.cli_project.specs.Answer.{CheckAnswer}
 
 pub steady_script : (script : Option (List ℕ)) → IsSteady (ScriptIn script)

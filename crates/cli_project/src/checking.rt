@@ -1,13 +1,13 @@
 //! `check FOLDER`: whether a project is accepted.
 ghost use Rattle.std.specs.Prelude.{◌≡◌};
-ghost use Rattle.outcome_model.specs.Work.{SaidNothing};
-ghost use Rattle.outcome_model.specs.Happens.{Ends};
+ghost use Rattle.sim_outcome_model.specs.Work.{SaidNothing};
+ghost use Rattle.sim_outcome_model.specs.Happens.{Ends};
 ghost use Rattle.cli_project.specs.Answer.{CheckAnswer};
-ghost use Rattle.cli_work.specs.Outcomes.{outcome_of};
+ghost use Rattle.sim_io.specs.Outcomes.{outcome_of};
 
 use crate::project::read_folder;
-use cli_work::{WorkEnd, write_text};
 use sim_base::{Bench, Port};
+use sim_io::{WorkEnd, write_text};
 use std::alloc::Global;
 use std::mem::drop;
 

@@ -2,18 +2,18 @@
 ghost use Rattle.std.specs.Prelude.{◌≡◌, ◌+◌, ◌≤◌, [], IfOk, length};
 ghost use Rattle.std.specs.List.{All};
 ghost use Rattle.sim_base.specs.Outside.{SamePorts};
-ghost use Rattle.outcome_model.specs.Work.{Got, JudgedFile};
+ghost use Rattle.sim_outcome_model.specs.Work.{Got, JudgedFile};
 ghost use Rattle.chip_module.specs.Binary.{Judges};
 ghost use Rattle.chip_module.specs.Sources.{HasFewPins};
-ghost use Rattle.cli_work.specs.Outcomes.{outcome_of};
+ghost use Rattle.sim_io.specs.Outcomes.{outcome_of};
 ghost use Rattle.project_model.specs.Work.{ChipIn, ChipsAfter, PinsIn, in_folder};
 
 use crate::documents::{PinsFile, name_in, read_in};
 use chip_module::{ChipModule, ChipSource};
 use cli_module::read_module;
-use cli_work::WorkEnd;
 use document_model::ChipFile;
 use sim_base::{Bench, List};
+use sim_io::WorkEnd;
 use std::alloc::Global;
 use std::mem::drop;
 

@@ -1,19 +1,19 @@
 //! The documents of a project, each a kind of file.
 ghost use Rattle.std.specs.Prelude.{◌≡◌, IfOk, string_bytes};
 ghost use Rattle.sim_base.specs.Outside.{SamePorts};
-ghost use Rattle.outcome_model.specs.Work.{Got, IsFile};
-ghost use Rattle.cli_work.specs.Documents.{IsRead};
-ghost use Rattle.cli_work.specs.Outcomes.{outcome_of};
+ghost use Rattle.sim_outcome_model.specs.Work.{Got, IsFile};
+ghost use Rattle.sim_io.specs.Documents.{IsRead};
+ghost use Rattle.sim_io.specs.Outcomes.{outcome_of};
 ghost use Rattle.project_model.specs.Work.{in_folder};
 
 use chip_json::read_chip_file;
-use cli_work::{Document, WorkEnd, read_document};
 use diagram_json::read_diagram;
 use document_model::{ChipPins, Diagram, Project};
+use input_script::read_script;
 use input_texts::Script;
 use project_files::read_project;
-use script_text::read_script;
 use sim_base::{Bench, Display, Fault, List};
+use sim_io::{Document, WorkEnd, read_document};
 use std::alloc::{AllocError, Global};
 
 /// `wokwi.toml`.
@@ -71,7 +71,7 @@ impl Document for PinsFile {
 pub(crate) struct ScriptFile;
 
 impl Document for ScriptFile {
-    ghost use Rattle.script_text.specs.Script.{script_of};
+    ghost use Rattle.input_script.specs.Script.{script_of};
 
     type Text = Script;
 

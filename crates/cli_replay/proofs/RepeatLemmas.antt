@@ -3,17 +3,17 @@ use Rattle.std.proofs.Common.{◌≡◌, ◌∙◌, ◌≤◌, ◌<◌, ◌*◌,
 use Rattle.sim_base.specs.Outside.{Outside, SamePorts, Files}
 use Rattle.sim_base.specs.declared.fault.Refusal.{Refusal}
 use Rattle.sim_base.specs.declared.limits.TheConstants.{LONGEST_RUN}
-use Rattle.outcome_model.specs.Stop.{Refused}
-use Rattle.outcome_model.specs.Outcome.{Outcome, Stopped, OutOfMemory}
-use Rattle.outcome_model.specs.Work.{Reading, ReadStops, Then}
-use Rattle.outcome_model.specs.Happens.{Ends}
-use Rattle.outcome_model.proofs.ReadLemmas.{if_some, if_always}
-use Rattle.outcome_model.proofs.EndLemmas.{answered, answer_stops}
+use Rattle.sim_outcome_model.specs.Stop.{Refused}
+use Rattle.sim_outcome_model.specs.Outcome.{Outcome, Stopped, OutOfMemory}
+use Rattle.sim_outcome_model.specs.Work.{Reading, ReadStops, Then}
+use Rattle.sim_outcome_model.specs.Happens.{Ends}
+use Rattle.sim_outcome_model.proofs.ReadLemmas.{if_some, if_always}
+use Rattle.sim_outcome_model.proofs.EndLemmas.{answered, answer_stops}
 use Rattle.text_model.specs.Wave.{wave_text}
 use Rattle.board_model.specs.Board.{bytes, states}
 use Rattle.board_model.specs.Rows.{rows}
-use Rattle.board_laws.specs.Player.{DriveRows, PlayerState}
-use Rattle.board_laws.specs.Play.{or_player}
+use Rattle.law_board.specs.Player.{DriveRows, PlayerState}
+use Rattle.law_board.specs.Play.{or_player}
 use Rattle.board_build.specs.declared.plan.Plan.{Plan}
 use Rattle.board_report.specs.Report.{play_part_text, rest_text}
 use Rattle.chip_module.specs.Sources.{pins_of}
@@ -21,13 +21,13 @@ use Rattle.any_part.specs.AnyPart.{AnyState, any}
 use Rattle.any_part.specs.Start.{Contents}
 use Rattle.board_outputs.specs.Variables.{board_variables}
 use Rattle.vcd_text.specs.Tracks.{wave_rows}
-use Rattle.cli_board.specs.Run.{run_bytes, run_wave}
+use Rattle.project_run.specs.Run.{run_bytes, run_wave}
 use Rattle.board_outputs.specs.Run.{Outputs, texts_for}
-use Rattle.isolation.specs.PlayRun.{play_bytes, play_rest, play_starts, play_wave}
-use Rattle.replay_law.specs.Replayed.{IsReplayed, own_drives, part_of, run_rest}
-use Rattle.replay_law.proofs.FuelLemmas.{starts_same}
-use Rattle.replay_law.proofs.ReplayLaw.{replayed}
-use Rattle.replay_law.proofs.VariableLemmas.{few_shown}
+use Rattle.law_isolation.specs.PlayRun.{play_bytes, play_rest, play_starts, play_wave}
+use Rattle.law_replay.specs.Replayed.{IsReplayed, own_drives, part_of, run_rest}
+use Rattle.law_replay.proofs.FuelLemmas.{starts_same}
+use Rattle.law_replay.proofs.ReplayLaw.{replayed}
+use Rattle.law_replay.proofs.VariableLemmas.{few_shown}
 use Rattle.project_model.specs.Work.{WorkIn}
 use Rattle.cli_project.specs.declared.project.Work as declared_works
 use Rattle.cli_project.specs.Works.{IsSound, work_of}

@@ -5,16 +5,16 @@ use Rattle.sim_base.specs.declared.wiring.Wiring.{Wiring}
 use Rattle.sim_base.specs.declared.wiring.Input.{Input}
 use Rattle.sim_base.specs.Outside.{Outside, SamePorts, Files}
 use Rattle.text_model.specs.Wave.{Variable}
-use Rattle.outcome_model.specs.Stop.{◌>>=◌, Stop, Refused, refused_in}
-use Rattle.outcome_model.specs.Outcome.{Outcome, Stopped, OutOfMemory}
-use Rattle.outcome_model.specs.Work.{ReadStops}
-use Rattle.outcome_model.specs.Happens.{Ends}
-use Rattle.outcome_model.specs.Promises.{IsOne}
-use Rattle.outcome_model.proofs.ReadLemmas.{if_always, one_both, one_function}
-use Rattle.outcome_model.proofs.EndLemmas.{answered, answer_stops, one_answer}
+use Rattle.sim_outcome_model.specs.Stop.{◌>>=◌, Stop, Refused, refused_in}
+use Rattle.sim_outcome_model.specs.Outcome.{Outcome, Stopped, OutOfMemory}
+use Rattle.sim_outcome_model.specs.Work.{ReadStops}
+use Rattle.sim_outcome_model.specs.Happens.{Ends}
+use Rattle.sim_outcome_model.specs.Promises.{IsOne}
+use Rattle.sim_outcome_model.proofs.ReadLemmas.{if_always, one_both, one_function}
+use Rattle.sim_outcome_model.proofs.EndLemmas.{answered, answer_stops, one_answer}
 use Rattle.part_law.specs.Machine.{Machine}
-use Rattle.board_laws.specs.Active.{active_pairs}
-use Rattle.board_laws.specs.Player.{DriveRows}
+use Rattle.law_board.specs.Active.{active_pairs}
+use Rattle.law_board.specs.Player.{DriveRows}
 use Rattle.chip_module.specs.Sources.{pins_of}
 use Rattle.board_outputs.specs.Variables.{board_variables}
 use Rattle.project_model.specs.Work.{Work}

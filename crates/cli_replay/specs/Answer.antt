@@ -1,23 +1,23 @@
 -- What `replay FOLDER WAVE --us N [--script FILE] [--vcd FILE] [--report FILE]` is answered with (profile).
 use Rattle.std.specs.Prelude.{◌≡◌, ◌≢◌, ◌*◌, ℕ, List, length, Option, Some, Result, Ok, Err}
 use Rattle.sim_base.specs.Outside.{Files}
-use Rattle.outcome_model.specs.Stop.{◌>>=◌, Stop, Texts, refused_in}
-use Rattle.outcome_model.specs.Work.{Reading, Is, Then}
-use Rattle.outcome_model.specs.Happens.{AnswerOf}
-use Rattle.board_laws.specs.Active.{active_pairs}
-use Rattle.board_laws.specs.Player.{DriveRows}
-use Rattle.board_laws.specs.Play.{or_player}
+use Rattle.sim_outcome_model.specs.Stop.{◌>>=◌, Stop, Texts, refused_in}
+use Rattle.sim_outcome_model.specs.Work.{Reading, Is, Then}
+use Rattle.sim_outcome_model.specs.Happens.{AnswerOf}
+use Rattle.law_board.specs.Active.{active_pairs}
+use Rattle.law_board.specs.Player.{DriveRows}
+use Rattle.law_board.specs.Play.{or_player}
 use Rattle.chip_module.specs.Sources.{pins_of}
 use Rattle.any_part.specs.AnyPart.{any}
 use Rattle.any_part.specs.Start.{Contents}
 use Rattle.board_outputs.specs.Variables.{board_variables}
 use Rattle.project_model.specs.Work.{Work, WorkIn}
 use Rattle.vcd_text.specs.Tracks.{wave_rows}
-use Rattle.played_part.specs.Start.{rows_of_part}
-use Rattle.cli_board.specs.Run.{run_bytes, run_wave}
+use Rattle.part_played.specs.Start.{rows_of_part}
+use Rattle.project_run.specs.Run.{run_bytes, run_wave}
 use Rattle.board_outputs.specs.Run.{Outputs, texts_for}
-use Rattle.isolation.specs.PlayRun.{play_starts, play_wave, play_bytes, play_rest}
-use Rattle.replay_law.specs.Replayed.{run_rest}
+use Rattle.law_isolation.specs.PlayRun.{play_starts, play_wave, play_bytes, play_rest}
+use Rattle.law_replay.specs.Replayed.{run_rest}
 
 -- a project, and what a wave says of each pin of its board
 pub record Play : Type 0 where

@@ -2,24 +2,24 @@
 //! place of each chip.
 ghost use Rattle.std.specs.Prelude.{◌≡◌, ◌≤◌, ◌<◌, ◌+◌, Some, IfOk};
 ghost use Rattle.sim_base.specs.Outside.{Outside, SamePorts};
-ghost use Rattle.outcome_model.specs.Outcome as ends;
-ghost use Rattle.outcome_model.specs.Happens.{Ends, Counts};
-ghost use Rattle.cli_work.specs.Outcomes.{outcome_of};
+ghost use Rattle.sim_outcome_model.specs.Outcome as ends;
+ghost use Rattle.sim_outcome_model.specs.Happens.{Ends, Counts};
+ghost use Rattle.sim_io.specs.Outcomes.{outcome_of};
 ghost use Rattle.cli_project.specs.Works.{IsSound, script_path, work_of};
 ghost use Rattle.board_outputs.specs.Outputs.{outputs_of};
 ghost use Rattle.board_outputs.specs.Ran.{Ran};
-ghost use Rattle.outcome_model.specs.Work.{Got, SaidNothing, Then};
+ghost use Rattle.sim_outcome_model.specs.Work.{Got, SaidNothing, Then};
 ghost use Rattle.project_model.specs.Work.{WorkIn};
 ghost use Rattle.cli_replay.specs.Answer.{PlayIn, RepeatAnswer, RepeatIn, ReplayAnswer, RowsIn, play_wakes, replay_texts};
 ghost use Rattle.cli_replay.specs.Plays.{IsReady, play_of};
 
 use board_outputs::Outputs;
 use board_run::Board;
-use cli_board::{Loaded, make_head, write_run};
 use cli_project::{ScriptedProject, Work, read_work};
-use cli_work::{Stop, WorkEnd, stopped};
-use played_part::load_played;
+use part_played::load_played;
+use project_run::{Loaded, make_head, write_run};
 use sim_base::{Bench, Fault, LONGEST_RUN, MOST_CYCLES, Steps};
+use sim_io::{Stop, WorkEnd, stopped};
 use std::alloc::Global;
 use std::mem::drop;
 use std::sync::ledger::Ledger;

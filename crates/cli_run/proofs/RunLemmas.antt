@@ -1,22 +1,22 @@
 -- The answer to `run`.
 use Rattle.std.proofs.Common.{◌≡◌, ◌∙◌, ◌*◌, ℕ, List, Option, None, Result, Ok, Err, IfSome, refl, ap, sym}
 use Rattle.sim_base.specs.Outside.{Outside, SamePorts, Files}
-use Rattle.outcome_model.specs.Stop.{Stop, Texts}
-use Rattle.outcome_model.specs.Outcome.{Outcome}
-use Rattle.outcome_model.specs.Work.{ReadStops}
-use Rattle.outcome_model.specs.Happens.{Ends}
-use Rattle.outcome_model.specs.Promises.{IsOne}
-use Rattle.outcome_model.proofs.ReadLemmas.{if_some}
-use Rattle.outcome_model.proofs.EndLemmas.{answered, answer_stops, one_answer, stopped_by}
+use Rattle.sim_outcome_model.specs.Stop.{Stop, Texts}
+use Rattle.sim_outcome_model.specs.Outcome.{Outcome}
+use Rattle.sim_outcome_model.specs.Work.{ReadStops}
+use Rattle.sim_outcome_model.specs.Happens.{Ends}
+use Rattle.sim_outcome_model.specs.Promises.{IsOne}
+use Rattle.sim_outcome_model.proofs.ReadLemmas.{if_some}
+use Rattle.sim_outcome_model.proofs.EndLemmas.{answered, answer_stops, one_answer, stopped_by}
 use Rattle.board_build.specs.IsPlan.{IsPlan}
 use Rattle.chip_module.specs.Sources.{pins_of}
 use Rattle.project_model.specs.Work.{Work, WorkIn}
 use Rattle.cli_project.proofs.ProjectLemmas.{one_work}
-use Rattle.cli_board.specs.Run.{run_texts}
+use Rattle.project_run.specs.Run.{run_texts}
 use Rattle.board_outputs.specs.Run.{Outputs}
-use Rattle.isolation.specs.PlayRun.{play_texts}
-use Rattle.isolation.specs.Isolated.{Fact, Follows, Isolated}
-use Rattle.isolation.proofs.Isolation.{isolated}
+use Rattle.law_isolation.specs.PlayRun.{play_texts}
+use Rattle.law_isolation.specs.Isolated.{Fact, Follows, Isolated}
+use Rattle.law_isolation.proofs.Isolation.{isolated}
 use Rattle.cli_run.specs.Answer.{contents, RunAnswer, PlayAnswer, AnswerSuch}
 
 module _ (folder : List ℕ) (us : ℕ) (script : Option (List ℕ)) (budget : ℕ) (out : Outputs) where

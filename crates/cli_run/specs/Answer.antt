@@ -1,15 +1,15 @@
 -- What `run FOLDER --us N [--script FILE] [--vcd FILE] [--report FILE] [--budget N]` is answered with (profile).
 use Rattle.std.specs.Prelude.{◌*◌, List, ℕ, Option, None, Result, Ok, Err}
 use Rattle.sim_base.specs.Outside.{Files}
-use Rattle.outcome_model.specs.Stop.{Stop, Texts}
-use Rattle.outcome_model.specs.Work.{Reading}
-use Rattle.outcome_model.specs.Happens.{AnswerOf}
+use Rattle.sim_outcome_model.specs.Stop.{Stop, Texts}
+use Rattle.sim_outcome_model.specs.Work.{Reading}
+use Rattle.sim_outcome_model.specs.Happens.{AnswerOf}
 use Rattle.any_part.specs.Start.{Contents}
 use Rattle.project_model.specs.Work.{Work, WorkIn}
-use Rattle.cli_board.specs.Run.{run_texts}
+use Rattle.project_run.specs.Run.{run_texts}
 use Rattle.board_outputs.specs.Run.{Outputs}
-use Rattle.isolation.specs.PlayRun.{play_texts}
-use Rattle.isolation.specs.Isolated.{Fact}
+use Rattle.law_isolation.specs.PlayRun.{play_texts}
+use Rattle.law_isolation.specs.Isolated.{Fact}
 
 -- what the parts are loaded with, where each call into a chip gets so much fuel
 abbrev pub contents : Work → ℕ → Contents

@@ -1,18 +1,18 @@
 //! `run FOLDER --us N [--script FILE] [--vcd FILE] [--report FILE] [--budget N]`: a project.
 ghost use Rattle.std.specs.Prelude.{◌≡◌, ◌≤◌, ◌<◌};
-ghost use Rattle.outcome_model.specs.Happens.{Ends, Counts};
-ghost use Rattle.outcome_model.specs.Work.{SaidNothing};
-ghost use Rattle.cli_work.specs.Outcomes.{outcome_of};
+ghost use Rattle.sim_outcome_model.specs.Happens.{Ends, Counts};
+ghost use Rattle.sim_outcome_model.specs.Work.{SaidNothing};
+ghost use Rattle.sim_io.specs.Outcomes.{outcome_of};
 ghost use Rattle.cli_project.specs.Works.{script_path};
 ghost use Rattle.board_outputs.specs.Outputs.{outputs_of};
-ghost use Rattle.isolation.specs.Isolated.{Isolated};
+ghost use Rattle.law_isolation.specs.Isolated.{Isolated};
 ghost use Rattle.cli_run.specs.Answer.{RunAnswer, AnswerSuch};
 
 use board_outputs::Outputs;
-use cli_board::{Contents, run_board};
 use cli_project::{ScriptedProject, Work, read_work};
-use cli_work::WorkEnd;
+use project_run::{Contents, run_board};
 use sim_base::{Bench, Steps};
+use sim_io::WorkEnd;
 use std::alloc::Global;
 use std::sync::ledger::Ledger;
 

@@ -4,10 +4,10 @@ use Rattle.cli_twin.proofs.Common.{arith, Outside, SamePorts, SameOthers, Files,
 use Rattle.cli_twin.proofs.Common.{IsOneReading, Then, if_some, one_both, one_function, WorkIn, one_work, Pair, PairIn, other_path, paired, Found}
 use Rattle.cli_twin.proofs.Common.{line}
 use Rattle.sim_base.specs.declared.bench.Port.TheVariants as ports
-use Rattle.outcome_model.specs.Outcome.{Outcome}
-use Rattle.outcome_model.specs.Happens.{Counts, Ends}
-use Rattle.outcome_model.specs.Promises.{AreSame, IsOne}
-use Rattle.outcome_model.proofs.EndLemmas.{alone_ran, stopped_by}
+use Rattle.sim_outcome_model.specs.Outcome.{Outcome}
+use Rattle.sim_outcome_model.specs.Happens.{Counts, Ends}
+use Rattle.sim_outcome_model.specs.Promises.{AreSame, IsOne}
+use Rattle.sim_outcome_model.proofs.EndLemmas.{alone_ran, stopped_by}
 use Rattle.cli_twin.specs.Answer.{IsLineOf, TwinAnswer, line_texts, pair_line}
 use Rattle.cli_twin.proofs.PlanLemmas.{both_given, no_inputs, one_plan, was_read}
 use Rattle.cli_twin.proofs.SharedLemmas.{flash_means, shared}

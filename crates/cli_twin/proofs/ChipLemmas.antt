@@ -11,7 +11,7 @@ use Rattle.board_model.specs.Fresh.{AreFresh}
 use Rattle.board_build.specs.declared.plan.PlanKind.TheVariants as plans
 use Rattle.board_build.specs.Parts as parts_model
 use Rattle.any_part.proofs.StartLemmas.{all_ready, begins_valid, start_at, starts_fit, starts_many}
-use Rattle.isolation.proofs.Isolation.{isolated}
+use Rattle.law_isolation.proofs.Isolation.{isolated}
 use Rattle.cli_twin.proofs.ContactLemmas.{free_of_contacts}
 use Rattle.cli_twin.proofs.WithLemmas.{chip_inside, chips_there, fits_pins, item_there, own_at, with_same}
 

@@ -1,6 +1,6 @@
 -- No chip of two boards has contacts.
 use Rattle.cli_twin.proofs.Common.{Plan, IsPlan, pins_of, any, Contents, starts, HaveNoContacts}
-use Rattle.isolation.proofs.ChipLemmas.{quiet_chips, chips_begin}
+use Rattle.law_isolation.proofs.ChipLemmas.{quiet_chips, chips_begin}
 
 pub free_of_contacts : (one two : Contents) (plan : Plan) → IsPlan (pins_of one.chips) plan → IsPlan (pins_of two.chips) plan →
     HaveNoContacts any plan.wiring (starts one plan.parts) (starts two plan.parts)

@@ -2,12 +2,12 @@
 use Rattle.cli_twin.proofs.Common.{◌≡◌, ◌∙◌, ◌+◌, ◌-◌, ◌≤◌, ℕ, zero, suc, List, [], false, map, Option, None, Some, true, refl, ap, sym, subst, arith}
 use Rattle.cli_twin.proofs.Common.{zero-add, option_or, Input, Wiring, SameRest, Plan, pins_of, AnyPart, AnyState, any, state_of, Contents, starts, run_states}
 use Rattle.cli_twin.proofs.Common.{Pair, Found, IsLoaded, beside, diff_of, twin_view}
-use Rattle.board_laws.specs.Active.{active_pairs}
-use Rattle.board_laws.specs.FirstDiff.{Difference, first_diff, part_diff}
+use Rattle.law_board.specs.Active.{active_pairs}
+use Rattle.law_board.specs.FirstDiff.{Difference, first_diff, part_diff}
 use Rattle.board_run.specs.BoardView.{BoardView}
-use Rattle.twin_run.specs.declared.twin.TwinEnd.{TwinEnd}
-use Rattle.twin_run.specs.declared.twin.TwinEnd.TheVariants as ends
-use Rattle.twin_run.specs.Twins.{IsTwin, TwinView, chip_pairs, cycle_of, end_of, other_states}
+use Rattle.board_twin.specs.declared.twin.TwinEnd.{TwinEnd}
+use Rattle.board_twin.specs.declared.twin.TwinEnd.TheVariants as ends
+use Rattle.board_twin.specs.Twins.{IsTwin, TwinView, chip_pairs, cycle_of, end_of, other_states}
 use Rattle.cli_twin.specs.Line.{end_at, line, run_diff}
 use Rattle.cli_twin.specs.Answer.{IsLineOf, contents, difference, line_texts, pair_wakes}
 

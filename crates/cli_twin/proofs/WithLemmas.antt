@@ -5,7 +5,7 @@ use Rattle.cli_twin.proofs.Common.{slice_get_within, Wiring, Fits, SamePins, chi
 use Rattle.std.proofs.lemmas.List.Concat.{flat_map-cons}
 use Rattle.part_law.specs.Machine.{Machine}
 use Rattle.board_model.proofs.Lists.{get_map_some, same_lists}
-use Rattle.board_laws.proofs.WithChips.{get-with_chips, rest_with_chips}
+use Rattle.law_board.proofs.WithChips.{get-with_chips, rest_with_chips}
 use Rattle.board_run.proofs.PartLemmas.{end_is}
 
 -- an item that there is

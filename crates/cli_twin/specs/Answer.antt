@@ -1,17 +1,17 @@
 -- What `twin FOLDER_A FOLDER_B --us N [--budget N]` is answered with (profile).
 use Rattle.std.specs.Prelude.{◌≡◌, ◌≤◌, ◌+◌, ◌*◌, ℕ, List, Option, Result, Ok, Err}
 use Rattle.sim_base.specs.Outside.{Files}
-use Rattle.board_laws.specs.FirstDiff.{Difference}
-use Rattle.board_laws.specs.Worlds.{SameRest}
-use Rattle.outcome_model.specs.Stop.{Stop, Texts, printed, report_alone}
-use Rattle.outcome_model.specs.Work.{Reading, Then}
-use Rattle.twin_run.specs.Twins.{chip_pairs}
+use Rattle.law_board.specs.FirstDiff.{Difference}
+use Rattle.law_board.specs.Worlds.{SameRest}
+use Rattle.sim_outcome_model.specs.Stop.{Stop, Texts, printed, report_alone}
+use Rattle.sim_outcome_model.specs.Work.{Reading, Then}
+use Rattle.board_twin.specs.Twins.{chip_pairs}
 use Rattle.any_part.specs.AnyPart.{any}
 use Rattle.any_part.specs.Start.{Contents, starts}
 use Rattle.chip_module.specs.Sources.{pins_of}
 use Rattle.project_model.specs.Work.{Work}
-use Rattle.cli_board.specs.Run.{run_wakes}
-use Rattle.isolation.specs.Worlds.{run_states}
+use Rattle.project_run.specs.Run.{run_wakes}
+use Rattle.law_isolation.specs.Worlds.{run_states}
 use Rattle.cli_twin.specs.Shared.{Pair, PairIn}
 use Rattle.cli_twin.specs.Line.{end_at, line, run_diff}
 

@@ -2,10 +2,10 @@
 use Rattle.std.specs.Prelude.{◌≡◌, ℕ, List, [], map, false, Option, None, Some, true}
 use Rattle.sim_base.specs.declared.wiring.Wiring.{Wiring}
 use Rattle.board_model.specs.Fresh.{AreFresh}
-use Rattle.board_laws.specs.FirstDiff.{Difference}
-use Rattle.twin_run.specs.declared.twin.TwinEnd.{TwinEnd}
-use Rattle.twin_run.specs.declared.twin.TwinEnd.TheVariants as ends
-use Rattle.twin_run.specs.Twins.{AreTwins, HaveNoContacts, IsTwin, TwinView, other_states}
+use Rattle.law_board.specs.FirstDiff.{Difference}
+use Rattle.board_twin.specs.declared.twin.TwinEnd.{TwinEnd}
+use Rattle.board_twin.specs.declared.twin.TwinEnd.TheVariants as ends
+use Rattle.board_twin.specs.Twins.{AreTwins, HaveNoContacts, IsTwin, TwinView, other_states}
 use Rattle.board_build.specs.declared.plan.Plan.{Plan}
 use Rattle.any_part.specs.AnyPart.{AnyPart, any, state_of, cycle_of, wakes_of}
 use Rattle.any_part.specs.Start.{Contents, starts}

@@ -3,7 +3,7 @@ use Rattle.std.specs.Prelude.{ℕ, zero, suc, List, [], ◌++◌, Option, None, 
 use Rattle.std.specs.Option.{option_or}
 use Rattle.sim_base.specs.declared.signal.Drive.{Drive}
 use Rattle.sim_base.specs.declared.signal.Drive.TheVariants as drives
-use Rattle.board_laws.specs.FirstDiff.{Difference, part_diff}
+use Rattle.law_board.specs.FirstDiff.{Difference, part_diff}
 use Rattle.board_build.specs.declared.plan.PlanKind.{PlanKind}
 use Rattle.board_build.specs.declared.plan.PlanKind.TheVariants as plans
 use Rattle.board_build.specs.declared.plan.PlanPart.{PlanPart}
@@ -11,7 +11,7 @@ use Rattle.board_build.specs.declared.plan.Plan.{Plan}
 use Rattle.board_build.specs.Pins.{pins_of_chip}
 use Rattle.any_part.specs.AnyPart.{any}
 use Rattle.any_part.specs.Start.{Contents}
-use Rattle.isolation.specs.Worlds.{run_states}
+use Rattle.law_isolation.specs.Worlds.{run_states}
 
 -- the first difference of two runs in their first n cycles, each of its own board
 unfoldable pub run_diff : Contents → Plan → Contents → Plan → ℕ → Option Difference

@@ -4,8 +4,8 @@ use Rattle.std.specs.Str.{bytes_eq}
 use Rattle.sim_base.specs.declared.fault.Place.TheVariants as places
 use Rattle.sim_base.specs.Refusals.{TwinDiffers}
 use Rattle.document_model.specs.declared.project.ChipFile.{ChipFile}
-use Rattle.outcome_model.specs.Stop.{Stop, Refused}
-use Rattle.outcome_model.specs.Work.{Reading, Is, Then}
+use Rattle.sim_outcome_model.specs.Stop.{Stop, Refused}
+use Rattle.sim_outcome_model.specs.Work.{Reading, Is, Then}
 use Rattle.board_model.specs.Rows.{same_list}
 use Rattle.chip_module.specs.declared.source.ChipSource.{ChipSource}
 use Rattle.project_model.specs.Work.{Work, WorkIn, in_folder}

@@ -7,10 +7,10 @@ ghost use Rattle.cli_twin.specs.Found.{diff_of};
 ghost use Rattle.cli_twin.specs.Line.{drive_word, id_of, line, pin_of};
 
 use board_build::{PlanKind, PlanPart};
+use board_twin::TwinEnd;
 use chip_module::ChipSource;
 use sim_base::Drive;
 use std::alloc::{AllocError, Global};
-use twin_run::TwinEnd;
 
 fn drive_word(drive: Drive) -> &'static str
     ensures { result.now ≡ drive_word drive }

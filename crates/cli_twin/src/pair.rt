@@ -3,20 +3,20 @@ ghost use Rattle.std.specs.Prelude.{◌≡◌, ◌⊎◌, IfOk};
 ghost use Rattle.sim_base.specs.Outside.{Outside, SamePorts};
 ghost use Rattle.sim_base.specs.declared.fault.Place.TheVariants as places;
 ghost use Rattle.sim_base.specs.Refusals.{TwinDiffers};
-ghost use Rattle.outcome_model.specs.Stop.{Refused};
-ghost use Rattle.outcome_model.specs.Outcome as ends;
-ghost use Rattle.outcome_model.specs.Work.{Got, Is};
+ghost use Rattle.sim_outcome_model.specs.Stop.{Refused};
+ghost use Rattle.sim_outcome_model.specs.Outcome as ends;
+ghost use Rattle.sim_outcome_model.specs.Work.{Got, Is};
 ghost use Rattle.project_model.specs.Work.{in_folder};
-ghost use Rattle.cli_work.specs.Outcomes.{outcome_of};
+ghost use Rattle.sim_io.specs.Outcomes.{outcome_of};
 ghost use Rattle.cli_project.specs.Works.{IsSound, work_of};
 ghost use Rattle.cli_twin.specs.Pairs.{IsReady, pair_of};
 ghost use Rattle.cli_twin.specs.Shared.{PairIn, other_path, paired};
 
 use crate::sharing::other_path;
 use cli_project::{Work, name_in, read_folder};
-use cli_work::{Stop, WorkEnd, stopped};
 use sim_base::refusals::TWIN_DIFFERS;
 use sim_base::{Bench, Place, Refusal};
+use sim_io::{Stop, WorkEnd, stopped};
 use std::alloc::Global;
 use std::mem::drop;
 

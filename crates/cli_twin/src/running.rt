@@ -1,14 +1,14 @@
 //! `twin FOLDER_A FOLDER_B --us N [--budget N]`: two projects that differ in what their chips are made of, on one board.
 ghost use Rattle.std.specs.Prelude.{◌≡◌, ◌≤◌, ◌<◌, [], map, IfOk, string_bytes};
 ghost use Rattle.std.specs.List.{All};
-ghost use Rattle.outcome_model.specs.Happens.{Ends, Counts};
-ghost use Rattle.outcome_model.specs.Work.{SaidNothing};
+ghost use Rattle.sim_outcome_model.specs.Happens.{Ends, Counts};
+ghost use Rattle.sim_outcome_model.specs.Work.{SaidNothing};
 ghost use Rattle.board_model.specs.Fits.{IsWiring};
 ghost use Rattle.board_model.specs.Fresh.{AreFresh};
 ghost use Rattle.board_build.specs.IsPlan.{IsPlan};
 ghost use Rattle.chip_module.specs.Sources.{HasFewPins, pins_of};
-ghost use Rattle.twin_run.specs.Twins.{AreTwins, HaveNoContacts, IsTwin, other_states};
-ghost use Rattle.cli_work.specs.Outcomes.{outcome_of};
+ghost use Rattle.board_twin.specs.Twins.{AreTwins, HaveNoContacts, IsTwin, other_states};
+ghost use Rattle.sim_io.specs.Outcomes.{outcome_of};
 ghost use Rattle.cli_twin.specs.Answer.{TwinAnswer};
 ghost use Rattle.cli_twin.specs.Found.{Found, IsLoaded, twin_view};
 ghost use Rattle.cli_twin.specs.Pairs.{IsReady, pair_of};
@@ -19,15 +19,15 @@ use crate::pair::{Pair, read_pair};
 use any_part::{AnyPart, load};
 use board_build::Plan;
 use board_run::Board;
+use board_twin::{Twin, TwinEnd};
 use chip_module::ChipSource;
 use cli_project::Work;
-use cli_work::{WorkEnd, write_text};
 use part_law::Part;
 use sim_base::{Bench, Flash, List, MOST_CYCLES, OutOfMemory, Port, Steps, Wiring};
+use sim_io::{WorkEnd, write_text};
 use std::alloc::Global;
 use std::mem::drop;
 use std::sync::ledger::Ledger;
-use twin_run::{Twin, TwinEnd};
 
 /// Runs a board beside the chips of another for `n` cycles. No script is for a twin.
 fn run_beside<P: Part + Drop, L: Ledger>(

@@ -7,7 +7,7 @@ use Rattle.clap.specs.Words.{App, Row, fault_of, matches_of}
 use Rattle.clap.specs.Simple.{entered}
 use Rattle.clap.specs.Walk.{rows_after, nothing_held, walk, walk_from, settled, Held}
 use Rattle.clap.specs.Faults.{built_fault, entered_fault, check_fault, settle_fault}
-use Rattle.words_model.specs.Words.{Text, texts_of}
+use Rattle.cli_words_model.specs.Words.{Text, texts_of}
 use Rattle.cli_words.specs.Commands.{app_for, row}
 use Rattle.cli_words.proofs.RuleLemmas.{Entry, made, optional, table, shape, found, by_long, by_short, by_index, built_is, no_defaults, no_default_faults, none_required}
 use Rattle.cli_words.proofs.WalkLemmas.{Suits, pick, outcome, walks}

@@ -4,7 +4,7 @@ use Rattle.std.specs.Char.{encode_utf8}
 use Rattle.std.specs.Str.{chars, is_utf8, chars_after, continuation_len, lead_bits}
 use Rattle.std.proofs.lemmas.Bool.{eqb-true, and_parts}
 use Rattle.clap.specs.Lexer.{long_of, short_of}
-use Rattle.words_model.specs.Words.{Text, Word, Positional, End, Named, Unknown, word_of, named, after_hyphen}
+use Rattle.cli_words_model.specs.Words.{Text, Word, Positional, End, Named, Unknown, word_of, named, after_hyphen}
 
 -- a text begins with a character
 abbrev pub BeginsChar : Text → Type 0

@@ -12,7 +12,7 @@ use Rattle.clap.specs.declared.parser.matches.ArgMatches.{ArgMatches}
 use Rattle.clap.specs.Simple.{on_top}
 use Rattle.clap.specs.declared.error.kind.ErrorKind.{ErrorKind}
 use Rattle.clap.specs.declared.error.kind.ErrorKind.TheVariants as kind
-use Rattle.words_model.specs.Words.{Text, Given, text_of}
+use Rattle.cli_words_model.specs.Words.{Text, Given, text_of}
 use Rattle.cli_words.specs.Commands.{row, with_rules, AreOf}
 use Rattle.cli_words.proofs.WalkLemmas.{pick}
 

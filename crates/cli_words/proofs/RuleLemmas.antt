@@ -12,7 +12,7 @@ use Rattle.clap.specs.Faults.{defaults_fault, is_free_app}
 use Rattle.clap.specs.Takes.{is_given}
 use Rattle.clap.specs.declared.builder.action.ArgAction.TheVariants.{Set}
 use Rattle.clap.specs.declared.builder.value_parser.ValueParser.TheVariants as parsers
-use Rattle.words_model.specs.Words.{Text, has_name}
+use Rattle.cli_words_model.specs.Words.{Text, has_name}
 use Rattle.cli_words.specs.Commands.{app_for, word_rule, option_rule}
 
 -- an argument by its long name, its position and its id

@@ -14,7 +14,7 @@ use Rattle.clap.specs.Faults.{walk_fault, turn_fault, settle_fault, step_fault, 
 use Rattle.clap.specs.declared.error.kind.ErrorKind.TheVariants as kind
 use Rattle.clap.specs.declared.parser.matches.ValueSource.TheVariants.{CommandLine}
 use Rattle.clap.specs.declared.builder.value_parser.ValueParser.TheVariants as parsers
-use Rattle.words_model.specs.Words.{Text, Given, Word, Positional, End, Named, Unknown, word_of, has_name, with, positional, one_option, one_word, one_value, given_by, is_given, once}
+use Rattle.cli_words_model.specs.Words.{Text, Given, Word, Positional, End, Named, Unknown, word_of, has_name, with, positional, one_option, one_word, one_value, given_by, is_given, once}
 use Rattle.cli_words.specs.Commands.{row}
 use Rattle.cli_words.proofs.LexLemmas.{Lexed, lexed}
 use Rattle.cli_words.proofs.RuleLemmas.{Entry, made, optional, shape, Found, Stands}

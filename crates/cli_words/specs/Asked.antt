@@ -1,7 +1,7 @@
 -- A request without where its texts lie in memory.
 use Rattle.std.specs.Prelude.{◌<◌, ◌≤◌}
 use Rattle.std.specs.Option.{option_map}
-use Rattle.words_model.specs.Request as asks
+use Rattle.cli_words_model.specs.Request as asks
 use Rattle.cli_words.specs.declared.request.NamedFiles.{NamedFiles}
 use Rattle.cli_words.specs.declared.request.NamedBus.{NamedBus}
 use Rattle.cli_words.specs.declared.request.NamedBus.TheVariants as buses

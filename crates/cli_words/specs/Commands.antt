@@ -6,7 +6,7 @@ use Rattle.clap.specs.declared.builder.action.ArgAction.TheVariants.{Set}
 use Rattle.clap.specs.declared.builder.value_parser.ValueParser.TheVariants as parsers
 use Rattle.clap.specs.declared.parser.matches.ArgMatches.{ArgMatches}
 use Rattle.clap.specs.declared.parser.matches.ValueSource.TheVariants.{CommandLine}
-use Rattle.words_model.specs.Words.{Text, Given}
+use Rattle.cli_words_model.specs.Words.{Text, Given}
 
 abbrev pub word_rule : Text → Rule
 word_rule name = record (new_rule name) { action = Some Set }

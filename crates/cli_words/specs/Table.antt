@@ -2,10 +2,10 @@
 use Rattle.std.specs.Prelude.{List, map, Option, None, Some}
 use Rattle.std.specs.Borrow.{Bor}
 use Rattle.std.specs.Option.{option_and_then}
-use Rattle.words_model.specs.Words.{Given, Syntax, Text, texts_of}
-use Rattle.words_model.specs.Request.{Request, bare_syntax, bare_of, check_syntax, check_of, module_syntax, module_of}
-use Rattle.words_model.specs.Request.{run_syntax, run_of, replay_syntax, replay_of, twin_syntax, twin_of}
-use Rattle.words_model.specs.Request.{make_syntax, make_of, decode_syntax, decode_of}
+use Rattle.cli_words_model.specs.Words.{Given, Syntax, Text, texts_of}
+use Rattle.cli_words_model.specs.Request.{Request, bare_syntax, bare_of, check_syntax, check_of, module_syntax, module_of}
+use Rattle.cli_words_model.specs.Request.{run_syntax, run_of, replay_syntax, replay_of, twin_syntax, twin_of}
+use Rattle.cli_words_model.specs.Request.{make_syntax, make_of, decode_syntax, decode_of}
 use Rattle.cli_words.specs.declared.request.Command.{Command}
 use Rattle.cli_words.specs.declared.request.Command.TheVariants as commands
 

@@ -2,7 +2,7 @@
 ghost use Rattle.std.specs.Prelude.{◌≡◌, ◌<◌, map, string_bytes, length, IfOk};
 ghost use Rattle.std.specs.Option.{option_map};
 ghost use Rattle.clap.specs.Words.{app_of, rows_of, found_of};
-ghost use Rattle.words_model.specs.Words.{Given, texts_of, text_of};
+ghost use Rattle.cli_words_model.specs.Words.{Given, texts_of, text_of};
 ghost use Rattle.cli_words.specs.Commands.{app_for, row, AreOf};
 
 use clap::error::ErrorKind;

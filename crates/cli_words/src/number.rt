@@ -1,7 +1,7 @@
 //! Numbers in words.
 ghost use Rattle.std.specs.Prelude.{◌≡◌, ◌≤◌, length, true};
 ghost use Rattle.std.specs.List.{list_all};
-ghost use Rattle.words_model.specs.Request.{is_digit, value_of, number_within};
+ghost use Rattle.cli_words_model.specs.Request.{is_digit, value_of, number_within};
 
 fn is_number(word: &[u8]) -> bool
     ensures { result ≡ list_all is_digit word.now }

@@ -1,10 +1,10 @@
 //! The request of the words.
 ghost use Rattle.std.specs.Prelude.{◌≡◌, ◌≤◌, ◌<◌, List, Some, length, map, string_bytes, IfOk, IfSome};
 ghost use Rattle.std.specs.Option.{option_map};
-ghost use Rattle.words_model.specs.Words.{Text, Given};
-ghost use Rattle.words_model.specs.Request.{request_of, asked_by, path_of, file_of, named_of, micros_of, budget_of};
-ghost use Rattle.words_model.specs.Request.{bare_of, check_of, module_of, run_of, replay_of, twin_of, make_of, seed_of, decode_of};
-ghost use Rattle.words_model.specs.Request.{bus_of, uart_of, spi_of, i2c_of, bit_of, mode_of, is_absent, lacks_uart, lacks_spi, lacks_i2c};
+ghost use Rattle.cli_words_model.specs.Words.{Text, Given};
+ghost use Rattle.cli_words_model.specs.Request.{request_of, asked_by, path_of, file_of, named_of, micros_of, budget_of};
+ghost use Rattle.cli_words_model.specs.Request.{bare_of, check_of, module_of, run_of, replay_of, twin_of, make_of, seed_of, decode_of};
+ghost use Rattle.cli_words_model.specs.Request.{bus_of, uart_of, spi_of, i2c_of, bit_of, mode_of, is_absent, lacks_uart, lacks_spi, lacks_i2c};
 ghost use Rattle.cli_words.specs.Commands.{AreOf};
 ghost use Rattle.cli_words.specs.Asked.{asked_of, bus_by, named_by, IsNamedBus, IsRunTime};
 ghost use Rattle.cli_words.specs.Table.{asked_with, request_of_texts, syntax_by, syntax_of};

@@ -6,7 +6,7 @@ use Rattle.net_resolve.proofs.Common.{walk_back, walk_sound, walk_complete, some
 use Rattle.net_resolve.proofs.Common.{is_loose, sum_at, added, strong_level, joins_cases, contact_of, contact_is, contact_bounds, joined_bounds, same_or_swap}
 use Rattle.net_resolve.proofs.Common.{walks_start, all_joined}
 use Rattle.sim_base.specs.declared.signal.Level.TheVariants as levels
-use Rattle.union_find.proofs.ForestLemmas.{label_root}
+use Rattle.net_union_find.proofs.ForestLemmas.{label_root}
 use Rattle.net_resolve.proofs.ReachLemmas.{any_at, any_some, one_label, loose_is, loose_group, contact_passes, passes_ends}
 
 -- What holds once the strong drives are summed by group.

@@ -21,9 +21,9 @@ pub use Rattle.board_model.specs.Resolve.{level_of_values, level_of_all, resolve
 pub use Rattle.board_model.proofs.WalkLemmas.{walk_join, walk_back, walk_sound, walk_complete}
 pub use Rattle.board_model.proofs.Lists.{some_same, some_map, get_map_some, get_within, get_set_same, get_set_other, lent_whole, take_whole, same_lists}
 pub use Rattle.board_model.proofs.Lists.{Filled, lt_or_eq, get-below, length-below, take_set_more, all_taken, filled_more}
-pub use Rattle.union_find.specs.Forest.{AreLabels, IsForest, root_of, same_or, Joins}
-pub use Rattle.union_find.proofs.PairLemmas.{joins_cases, contact_of, contact_is, contact_bounds, joined_bounds, same_or_swap, walks_start, all_joined}
-pub use Rattle.union_find.proofs.PairLemmas.{joins_is, joins_swap, joined_is, get_replicate}
+pub use Rattle.net_union_find.specs.Forest.{AreLabels, IsForest, root_of, same_or, Joins}
+pub use Rattle.net_union_find.proofs.PairLemmas.{joins_cases, contact_of, contact_is, contact_bounds, joined_bounds, same_or_swap, walks_start, all_joined}
+pub use Rattle.net_union_find.proofs.PairLemmas.{joins_is, joins_swap, joined_is, get_replicate}
 pub use mathlib.Core.List.{map-map}
 pub use Rattle.board_model.specs.Board.{level_at}
 pub use Rattle.sim_base.specs.Signal.{value_of, strong_of, is_weak, is_upper}

@@ -9,9 +9,9 @@ ghost use Rattle.board_model.specs.Pairs.{ArePairs};
 use crate::room::zeros;
 use crate::subcircuit::Subcircuit;
 use crate::whole::Whole;
+use net_union_find::{join_pairs, label_pairs};
 use sim_base::{List, OutOfMemory, Wiring};
 use std::alloc::{AllocError, Global};
-use union_find::{join_pairs, label_pairs};
 
 /// The number of each net's subcircuit, which is its first net, and the numbers of the nets, pins,
 /// contacts and resistors that each subcircuit has.

@@ -4,7 +4,7 @@ ghost use Rattle.std.specs.List.{zip};
 ghost use Rattle.board_model.specs.Walks.{below};
 ghost use Rattle.board_model.specs.Resolve.{contact_joins, resolve};
 ghost use Rattle.sim_base.specs.declared.signal.Level.{Level};
-ghost use Rattle.union_find.specs.Forest.{AreLabels, Joins};
+ghost use Rattle.net_union_find.specs.Forest.{AreLabels, Joins};
 ghost use Rattle.net_resolve.specs.Groups.{AreGroups};
 ghost use Rattle.net_resolve.specs.Rooms.{FitsRoom};
 ghost use Rattle.net_resolve.specs.Sums.{sum_at, added, strong_level, weak_level, is_loose, resistors_add};
@@ -13,9 +13,9 @@ ghost use Rattle.board_model.specs.Pairs.{ArePairs};
 use crate::groups::put_bridges;
 use crate::room::{all_z, no_flags, zeros};
 use crate::sums::{add_resistors, add_strong, add_weak, put_levels, put_strong};
+use net_union_find::{join_chosen, label_chosen};
 use sim_base::{Drive, Level, OutOfMemory};
 use std::alloc::Global;
-use union_find::{join_chosen, label_chosen};
 
 /// Room in which levels are found.
 #[derive(Drop)]

@@ -1,7 +1,7 @@
 -- The attributes that parts read (Wokwi documentation, the pages of the parts; the form of numbers is ours).
 use Rattle.std.specs.Prelude.{ℕ, false, List, [], ◌∷◌, drop, take, Bool, nat_le, Option, None, Some, if◌then◌else◌, codes}
 use Rattle.std.specs.Str.{bytes_eq}
-use Rattle.numerals.specs.Numerals.{numeral}
+use Rattle.text_numerals.specs.Numerals.{numeral}
 use Rattle.part_catalog.specs.declared.kind.Kind.{Kind}
 use Rattle.part_catalog.specs.declared.kind.Kind.TheVariants as kinds
 use Rattle.part_catalog.specs.declared.settings.Settings.{Settings}

@@ -4,8 +4,8 @@ ghost use Rattle.std.specs.Option.{option_map};
 ghost use Rattle.part_catalog.specs.Attributes.{attribute, number, address, which, both, read_or, decimal_to, settings_from, wired_kind, greatest_of};
 
 use crate::kind::Kind;
-use numerals::read_numeral;
 use sim_base::{List, Text};
+use text_numerals::read_numeral;
 
 /// What the attributes of a part set: a value at the start or an address, and a choice, which is 0
 /// for `anode` and `full` and 1 for `cathode` and `i2c`. What a part has not is 0.

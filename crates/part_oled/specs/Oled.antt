@@ -6,10 +6,10 @@ use Rattle.sim_base.specs.declared.signal.Drive.{Drive}
 use Rattle.sim_base.specs.declared.signal.Drive.TheVariants as drives
 use Rattle.sim_base.specs.declared.signal.Level.{Level}
 use Rattle.part_catalog.specs.declared.settings.Settings.{Settings}
-use Rattle.reactive_part.specs.Pins.{reads_at}
-use Rattle.reactive_part.specs.Reaction.{Reaction, ReactionLaws}
-use Rattle.slave_law.specs.declared.request.EngineRequest.{EngineRequest}
-use Rattle.slave_law.specs.declared.request.EngineRequest.TheVariants as requests
+use Rattle.part_reactive.specs.Pins.{reads_at}
+use Rattle.part_reactive.specs.Reaction.{Reaction, ReactionLaws}
+use Rattle.slave_request.specs.declared.request.EngineRequest.{EngineRequest}
+use Rattle.slave_request.specs.declared.request.EngineRequest.TheVariants as requests
 use Rattle.slave_i2c.specs.declared.lines.Lines.{Lines}
 use Rattle.slave_i2c.specs.declared.slave.Slave.{Slave}
 use Rattle.slave_i2c.specs.I2c.{i2c_step, new_slave, with_answer}

@@ -1,7 +1,7 @@
 -- The bytes of one write to an OLED: control bytes, which tell what the bytes after them are, commands and data (SSD1306 data sheet,
 -- "I2C-bus Write data", "Write mode for I2C").
 use Rattle.std.specs.Prelude.{ℕ, Bool, true, false, if◌then◌else◌}
-use Rattle.reactive_part.specs.Pins.{bit}
+use Rattle.part_reactive.specs.Pins.{bit}
 use Rattle.part_oled.specs.declared.stream.Stream.{Stream}
 use Rattle.part_oled.specs.declared.stream.Stream.TheVariants.{Control, One, All}
 use Rattle.part_oled.specs.Picture.{Picture, with_command, with_data}

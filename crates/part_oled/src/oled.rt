@@ -8,10 +8,10 @@ ghost use Rattle.part_oled.specs.Oled.{new_oled, lines_at, heard, oled_step};
 use crate::picture::Picture;
 use crate::stream::Stream;
 use part_catalog::Settings;
-use reactive_part::{Behaviour, reads_at};
+use part_reactive::{Behaviour, reads_at};
 use sim_base::{Drive, Level};
 use slave_i2c::{Lines, Slave};
-use slave_law::EngineRequest;
+use slave_request::EngineRequest;
 use std::marker::Model;
 
 // its pins; GND and VCC are not looked at

@@ -3,7 +3,7 @@ ghost use Rattle.std.specs.Prelude.{◌≡◌};
 ghost use Rattle.part_oled.specs.Stream.{controlled, with_byte, put, after};
 
 use crate::picture::Picture;
-use reactive_part::bit;
+use part_reactive::bit;
 
 /// What the next byte of a write is; the flag tells data from commands.
 #[derive(Clone, Copy)]

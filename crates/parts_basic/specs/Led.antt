@@ -4,8 +4,8 @@ use Rattle.std.proofs.Common.{refl, ap, arith}
 use Rattle.std.specs.Prelude.{◌≡◌, ◌≤◌, ℕ, ◌+◌, List, [], ◌∷◌, Bool, true, false, not, ◌&&◌, if◌then◌else◌}
 use Rattle.sim_base.specs.declared.signal.Drive.TheVariants as drives
 use Rattle.sim_base.specs.declared.signal.Level.{Level}
-use Rattle.reactive_part.specs.Pins.{at_pin, is_low, reads_at}
-use Rattle.reactive_part.specs.Reaction.{Reaction, ReactionLaws}
+use Rattle.part_reactive.specs.Pins.{at_pin, is_low, reads_at}
+use Rattle.part_reactive.specs.Reaction.{Reaction, ReactionLaws}
 
 -- lit on these levels of A and C: A reads 1, and C is Low
 abbrev pub is_lit : List Level → Bool

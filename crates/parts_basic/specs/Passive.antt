@@ -11,8 +11,8 @@ use Rattle.part_catalog.specs.declared.kind.Kind.TheVariants as kinds
 use Rattle.part_catalog.specs.declared.settings.Settings.{Settings}
 use Rattle.part_catalog.specs.Pins.{pin_names, contacts_in}
 use Rattle.part_catalog.specs.Attributes.{greatest_of}
-use Rattle.reactive_part.specs.Pins.{bit}
-use Rattle.reactive_part.specs.Reaction.{Reaction, ReactionLaws}
+use Rattle.part_reactive.specs.Pins.{bit}
+use Rattle.part_reactive.specs.Reaction.{Reaction, ReactionLaws}
 
 -- which part it is, and its value, which is 0 for a part that nothing sets
 pub record PassiveState : Type 0 where

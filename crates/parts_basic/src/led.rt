@@ -2,7 +2,7 @@
 ghost use Rattle.std.specs.Prelude.{◌≡◌};
 ghost use Rattle.parts_basic.specs.Led.{is_lit, unlit};
 
-use reactive_part::Behaviour;
+use part_reactive::Behaviour;
 use sim_base::{Drive, Level, reads_one};
 use std::marker::Model;
 

@@ -3,7 +3,7 @@ ghost use Rattle.std.specs.Prelude.{◌≡◌, ◌<◌};
 ghost use Rattle.parts_basic.specs.Passive.{set_to, new_passive};
 
 use part_catalog::{Kind, Settings, greatest_value, pin_count};
-use reactive_part::Behaviour;
+use part_reactive::Behaviour;
 use sim_base::{Drive, Level};
 use std::marker::Model;
 

@@ -1,9 +1,9 @@
 -- The expander between the bus and a text display: a slave whose port of eight bits is wired to the display (PCF8574 data sheet,
 -- "Quasi-bidirectional I/Os"; which bit leads where is that of the usual board, what reads answer is the profile's).
 use Rattle.std.specs.Prelude.{ℕ, ◌*◌, ◌/◌, ◌&&◌, not, List, [], ◌∷◌, if◌then◌else◌}
-use Rattle.reactive_part.specs.Pins.{bit}
-use Rattle.slave_law.specs.declared.request.EngineRequest.{EngineRequest}
-use Rattle.slave_law.specs.declared.request.EngineRequest.TheVariants as requests
+use Rattle.part_reactive.specs.Pins.{bit}
+use Rattle.slave_request.specs.declared.request.EngineRequest.{EngineRequest}
+use Rattle.slave_request.specs.declared.request.EngineRequest.TheVariants as requests
 use Rattle.slave_i2c.specs.declared.lines.Lines.{Lines}
 use Rattle.slave_i2c.specs.I2c.{i2c_step, new_slave, with_answer, with_byte}
 use Rattle.parts_display.specs.declared.expander.Expander.{Expander}

@@ -2,7 +2,7 @@
 -- "Instructions"; that no instruction takes time, and that nothing is read or shifted, is the profile's).
 use Rattle.std.specs.Prelude.{ℕ, ◌<◌, ◌+◌, ◌-◌, ◌*◌, ◌/◌, ◌==◌, ◌||◌, not, ◌&&◌, nat_lt, Bool, true, false, if◌then◌else◌}
 use Rattle.std.specs.Prelude.{List, [], ◌∷◌, replicate, slice_set, get_or, Option, None, Some}
-use Rattle.reactive_part.specs.Pins.{bit}
+use Rattle.part_reactive.specs.Pins.{bit}
 
 -- The character at each address; the address and whether it counts up; whether the display is on; whether bytes come in
 -- 8 bits, and else the high half that came; whether data vanish.

@@ -7,8 +7,8 @@ use Rattle.std.specs.Prelude.{◌≡◌, ◌≤◌, ℕ, ◌+◌, ◌*◌, ◌==
 use Rattle.sim_base.specs.declared.signal.Drive.TheVariants as drives
 use Rattle.sim_base.specs.declared.signal.Level.{Level}
 use Rattle.part_catalog.specs.declared.settings.Settings.{Settings}
-use Rattle.reactive_part.specs.Pins.{at_pin, is_low, reads_at}
-use Rattle.reactive_part.specs.Reaction.{Reaction, ReactionLaws}
+use Rattle.part_reactive.specs.Pins.{at_pin, is_low, reads_at}
+use Rattle.part_reactive.specs.Reaction.{Reaction, ReactionLaws}
 use Rattle.parts_display.specs.Halves.{half}
 
 -- behind the segments A to G and DP

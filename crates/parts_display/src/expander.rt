@@ -5,9 +5,9 @@ ghost use Rattle.slave_i2c.specs.I2c.{IsPlace};
 ghost use Rattle.parts_display.specs.Expander.{new_expander, ported, heard, expander_step};
 
 use crate::screen::Screen;
-use reactive_part::bit;
+use part_reactive::bit;
 use slave_i2c::{Lines, Slave};
-use slave_law::EngineRequest;
+use slave_request::EngineRequest;
 
 // the bits of its port; D4 to D7 of the display are at 4 to 7
 const RS: u8 = 0;

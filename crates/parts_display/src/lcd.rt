@@ -7,7 +7,7 @@ use crate::expander::Expander;
 use crate::halves::half;
 use crate::screen::Screen;
 use part_catalog::Settings;
-use reactive_part::{Behaviour, falls, reads_at};
+use part_reactive::{Behaviour, falls, reads_at};
 use sim_base::{Drive, Level};
 use slave_i2c::Lines;
 use std::marker::Model;

@@ -3,7 +3,7 @@ ghost use Rattle.std.specs.Prelude.{◌≡◌, ◌<◌};
 ghost use Rattle.parts_display.specs.Screen.{blank, holds, counting, next, previous, counted, with_data, with_instruction, with_byte, taken};
 ghost use Rattle.parts_display.specs.Screen.{shown, shown_at, line};
 
-use reactive_part::bit;
+use part_reactive::bit;
 use std::marker::Model;
 
 /// The characters of two lines, and what instructions have set.

@@ -4,7 +4,7 @@ ghost use Rattle.parts_display.specs.Seven.{dark, is_lit, lit_segments};
 
 use crate::halves::half;
 use part_catalog::Settings;
-use reactive_part::{Behaviour, is_low, reads_at};
+use part_reactive::{Behaviour, is_low, reads_at};
 use sim_base::{Drive, Level};
 use std::marker::Model;
 

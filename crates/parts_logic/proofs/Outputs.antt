@@ -1,7 +1,7 @@
 -- The outputs Q0 to Q7 of the shift register, one by one.
 use Rattle.std.proofs.Common.{◌≡◌, ◌<◌, ◌≤◌, ◌+◌, ◌-◌, ℕ, zero, suc, Bool, refl, ap, sym, ◌∙◌, arith}
 use Rattle.std.specs.Prelude.{slice_get, Some}
-use Rattle.reactive_part.specs.Pins.{bit}
+use Rattle.part_reactive.specs.Pins.{bit}
 use Rattle.parts_logic.specs.Shift595.{ShiftState, drives_of, q}
 
 q_at : (off : Bool) (storage : ℕ) (q7s : Bool) (k : ℕ) → k < 8 → slice_get (drives_of off storage q7s) (5 + k) ≡ Some (q off (bit k storage))

@@ -8,8 +8,8 @@ use Rattle.sim_base.specs.declared.signal.Drive.TheVariants as drives
 use Rattle.sim_base.specs.declared.signal.Level.{Level}
 use Rattle.part_catalog.specs.declared.kind.Kind.{Kind}
 use Rattle.part_catalog.specs.declared.kind.Kind.TheVariants as kinds
-use Rattle.reactive_part.specs.Pins.{reads_at, output, digit}
-use Rattle.reactive_part.specs.Reaction.{Reaction, ReactionLaws}
+use Rattle.part_reactive.specs.Pins.{reads_at, output, digit}
+use Rattle.part_reactive.specs.Reaction.{Reaction, ReactionLaws}
 use Rattle.parts_logic.specs.Same.{beq_then, beq_self}
 use Rattle.parts_logic.specs.declared.gate.GateOp.{GateOp}
 use Rattle.parts_logic.specs.declared.gate.GateOp.TheVariants as ops

@@ -7,8 +7,8 @@ use Rattle.std.specs.Prelude.{◌≡◌, ℕ, ◌+◌, ◌*◌, ◌%◌, ◌==�
 use Rattle.sim_base.specs.declared.signal.Drive.{Drive}
 use Rattle.sim_base.specs.declared.signal.Drive.TheVariants as drives
 use Rattle.sim_base.specs.declared.signal.Level.{Level}
-use Rattle.reactive_part.specs.Pins.{at_pin, is_low, reads_at, rises, output, digit, bit}
-use Rattle.reactive_part.specs.Reaction.{Reaction, ReactionLaws}
+use Rattle.part_reactive.specs.Pins.{at_pin, is_low, reads_at, rises, output, digit, bit}
+use Rattle.part_reactive.specs.Reaction.{Reaction, ReactionLaws}
 use Rattle.parts_logic.specs.Same.{beq_then, beq_self}
 
 -- the pins that it reads; behind them stand Q0 to Q7, Q7S, GND and VCC

@@ -3,7 +3,7 @@ ghost use Rattle.std.specs.Prelude.{◌≡◌};
 ghost use Rattle.parts_logic.specs.Gate.{input_count, out_by, gate_of, new_gate};
 
 use part_catalog::Kind;
-use reactive_part::{Behaviour, output, reads_at};
+use part_reactive::{Behaviour, output, reads_at};
 use sim_base::{Drive, Level};
 use std::marker::Model;
 

@@ -2,7 +2,7 @@
 ghost use Rattle.std.specs.Prelude.{◌≡◌, length};
 ghost use Rattle.parts_logic.specs.Shift595.{cleared, shifted, q};
 
-use reactive_part::{Behaviour, bit, is_low, output, reads_at, rises};
+use part_reactive::{Behaviour, bit, is_low, output, reads_at, rises};
 use sim_base::{Drive, Level};
 use std::marker::Model;
 

@@ -8,14 +8,14 @@ use Rattle.document_model.specs.declared.project.ChipFile.{ChipFile}
 use Rattle.document_model.specs.declared.diagram.Diagram.{Diagram}
 use Rattle.document_model.specs.Project.{project_text}
 use Rattle.document_model.specs.Diagram.{diagram_text}
-use Rattle.outcome_model.specs.Stop.{Stop, Refused}
-use Rattle.outcome_model.specs.Work.{Reading, Is, IsFile, IsFileWithin, JudgedFile, Then}
+use Rattle.sim_outcome_model.specs.Stop.{Stop, Refused}
+use Rattle.sim_outcome_model.specs.Work.{Reading, Is, IsFile, IsFileWithin, JudgedFile, Then}
 use Rattle.chip_json.specs.Display.{pins_and_display}
 use Rattle.chip_module.specs.Binary.{Binary, Judges}
 use Rattle.chip_module.specs.Sources.{pins_of}
 use Rattle.chip_module.specs.declared.source.ChipSource.{ChipSource}
 use Rattle.input_texts.specs.declared.script.ScriptRow.{ScriptRow}
-use Rattle.script_text.specs.Script.{script_of}
+use Rattle.input_script.specs.Script.{script_of}
 use Rattle.board_build.specs.declared.plan.Plan.{Plan}
 use Rattle.board_build.specs.Plan.{plan_of}
 

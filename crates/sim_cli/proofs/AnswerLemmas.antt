@@ -1,22 +1,22 @@
 -- Each request has one answer, and those that run no board count no wakes.
 use Rattle.std.proofs.Common.{◌≡◌, ℕ, List, Option, None, Some, Ok, refl, ap, arith}
 use Rattle.sim_base.specs.Outside.{Outside, Files}
-use Rattle.outcome_model.specs.Outcome.{Hold, Outcome, Accepted, Stopped, status_of}
-use Rattle.outcome_model.specs.Happens.{Answer, Ends}
-use Rattle.outcome_model.specs.Happens as outcomes
-use Rattle.outcome_model.proofs.EndLemmas.{counts_asked}
-use Rattle.outcome_model.proofs.ReadLemmas.{if_some}
+use Rattle.sim_outcome_model.specs.Outcome.{Hold, Outcome, Accepted, Stopped, status_of}
+use Rattle.sim_outcome_model.specs.Happens.{Answer, Ends}
+use Rattle.sim_outcome_model.specs.Happens as outcomes
+use Rattle.sim_outcome_model.proofs.EndLemmas.{counts_asked}
+use Rattle.sim_outcome_model.proofs.ReadLemmas.{if_some}
 use Rattle.cli_project.specs.Answer.{CheckAnswer}
 use Rattle.cli_project.proofs.ProjectLemmas.{one_check, check_only}
-use Rattle.outcome_model.specs.Stop.{Missing, Texts}
+use Rattle.sim_outcome_model.specs.Stop.{Missing, Texts}
 use Rattle.cli_module.specs.Answer.{ModuleAnswer}
-use Rattle.words_model.specs.Request.{NamedBus, Request, Bare, Check, Module, Run, Replay, Twin, Make, Decode}
-use Rattle.outcome_model.specs.Promises.{HoldsAnswer, IsOne}
-use Rattle.outcome_model.proofs.PromiseLemmas.{holds_answer}
-use Rattle.oled_law.specs.OledRun.{AreShown}
-use Rattle.isolation.specs.ChipRun.{AreAlone}
-use Rattle.isolation.specs.Worlds.{SeesDrivesAlone}
-use Rattle.isolation.specs.Isolated.{Fact, Follows, Isolated}
+use Rattle.cli_words_model.specs.Request.{NamedBus, Request, Bare, Check, Module, Run, Replay, Twin, Make, Decode}
+use Rattle.sim_outcome_model.specs.Promises.{HoldsAnswer, IsOne}
+use Rattle.sim_outcome_model.proofs.PromiseLemmas.{holds_answer}
+use Rattle.law_oled.specs.OledRun.{AreShown}
+use Rattle.law_isolation.specs.ChipRun.{AreAlone}
+use Rattle.law_isolation.specs.Worlds.{SeesDrivesAlone}
+use Rattle.law_isolation.specs.Isolated.{Fact, Follows, Isolated}
 use Rattle.cli_bare.proofs.AnswerLemmas.{one_bare}
 use Rattle.cli_module.proofs.AnswerLemmas.{one_module, module_only}
 use Rattle.cli_run.proofs.RunLemmas.{one_run, played_answer, such_answer}

@@ -1,14 +1,14 @@
 -- What each request is answered with: a line for each command.
 use Rattle.std.specs.Prelude.{ℕ, List, Option, None, Some, true, Result}
 use Rattle.sim_base.specs.Outside.{Files}
-use Rattle.words_model.specs.Request.{NamedBus, NamedFiles, Request, Bare, Check, Module, Run, Replay, Twin, Make, Decode, Uart, Spi, I2c}
-use Rattle.outcome_model.specs.Stop.{Stop, Texts}
-use Rattle.outcome_model.specs.Happens.{Answer}
+use Rattle.cli_words_model.specs.Request.{NamedBus, NamedFiles, Request, Bare, Check, Module, Run, Replay, Twin, Make, Decode, Uart, Spi, I2c}
+use Rattle.sim_outcome_model.specs.Stop.{Stop, Texts}
+use Rattle.sim_outcome_model.specs.Happens.{Answer}
 use Rattle.cli_bare.specs.Answer.{BareAnswer}
 use Rattle.cli_project.specs.Answer.{CheckAnswer}
 use Rattle.cli_module.specs.Answer.{ModuleAnswer}
 use Rattle.board_outputs.specs.Run.{Outputs}
-use Rattle.isolation.specs.Isolated.{Fact}
+use Rattle.law_isolation.specs.Isolated.{Fact}
 use Rattle.cli_run.specs.Answer.{RunAnswer, PlayAnswer, AnswerSuch}
 use Rattle.cli_replay.specs.Answer.{ReplayAnswer, RepeatAnswer}
 use Rattle.cli_twin.specs.Answer.{TwinAnswer}

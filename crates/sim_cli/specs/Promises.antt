@@ -1,14 +1,14 @@
--- What a caller of the program may rest on: what happens by the answers of its commands (`outcome_model`).
+-- What a caller of the program may rest on: what happens by the answers of its commands (`sim_outcome_model`).
 use Rattle.std.specs.Prelude.{◌≡◌, ℕ, List, Option, None, Some}
 use Rattle.sim_base.specs.Outside.{Outside}
-use Rattle.words_model.specs.Request.{Request, Bare, Check, Module, Run, Replay, Twin, Make, Decode, request_of}
-use Rattle.outcome_model.specs.Outcome.{Outcome}
-use Rattle.outcome_model.specs.Happens as outcomes
-use Rattle.outcome_model.specs.Promises as promises
-use Rattle.oled_law.specs.OledRun.{AreShown}
-use Rattle.isolation.specs.ChipRun.{AreAlone}
-use Rattle.isolation.specs.Worlds.{SeesDrivesAlone}
-use Rattle.isolation.specs.Isolated.{Isolated}
+use Rattle.cli_words_model.specs.Request.{Request, Bare, Check, Module, Run, Replay, Twin, Make, Decode, request_of}
+use Rattle.sim_outcome_model.specs.Outcome.{Outcome}
+use Rattle.sim_outcome_model.specs.Happens as outcomes
+use Rattle.sim_outcome_model.specs.Promises as promises
+use Rattle.law_oled.specs.OledRun.{AreShown}
+use Rattle.law_isolation.specs.ChipRun.{AreAlone}
+use Rattle.law_isolation.specs.Worlds.{SeesDrivesAlone}
+use Rattle.law_isolation.specs.Isolated.{Isolated}
 use Rattle.sim_cli.specs.Answers.{Answers, PlayAnswers, AnswersSuch, RepeatAnswers}
 
 abbrev pub Happens : Outcome → Option Request → Outside → Outside → Type 0

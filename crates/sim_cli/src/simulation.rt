@@ -1,13 +1,13 @@
 //! The top call.
 ghost use Rattle.std.specs.Prelude.{◌≡◌, map, string_bytes};
-ghost use Rattle.words_model.specs.Request.{request_of, Decode};
-ghost use Rattle.outcome_model.specs.Happens.{Ends};
-ghost use Rattle.outcome_model.specs.Promises.{WordsAlone, HasCause, ComplainsAlone, IsStatus};
-ghost use Rattle.outcome_model.specs.Work.{SaidNothing};
+ghost use Rattle.cli_words_model.specs.Request.{request_of, Decode};
+ghost use Rattle.sim_outcome_model.specs.Happens.{Ends};
+ghost use Rattle.sim_outcome_model.specs.Promises.{WordsAlone, HasCause, ComplainsAlone, IsStatus};
+ghost use Rattle.sim_outcome_model.specs.Work.{SaidNothing};
 ghost use Rattle.sim_cli.specs.Promises.{Happens, HappensIsolated, HappensRepeated, Counts, CountsNone, Does};
 ghost use Rattle.sim_cli.specs.Promises.{IsAnswered, IsComplete, HoldsAnswer, IsStopped, IsTrueStop, HoldsFront, CountsWakes};
 ghost use Rattle.sim_cli.specs.Promises.{HoldsPlay, HoldsAlone, HoldsWorlds, HoldsShown, HoldsRepeat};
-ghost use Rattle.cli_work.specs.Outcomes.{outcome_of};
+ghost use Rattle.sim_io.specs.Outcomes.{outcome_of};
 ghost use Rattle.cli_words.specs.Asked.{bus_by, named_by, IsNamedBus};
 ghost use Rattle.board_outputs.specs.Outputs.{outputs_of};
 ghost use Rattle.sim_cli.specs.Answers.{outputs_to, Answers};
@@ -22,8 +22,8 @@ use cli_replay::replay;
 use cli_run::run;
 use cli_twin::twin;
 use cli_words::{NamedBus, NamedFiles, Request, read_words};
-use cli_work::{WorkEnd, status, tell};
 use sim_base::{Bench, Steps};
+use sim_io::{WorkEnd, status, tell};
 use std::alloc::Global;
 use std::sync::ledger::Ledger;
 use wave_decode::Bus;

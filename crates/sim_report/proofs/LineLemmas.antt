@@ -6,7 +6,7 @@ use Rattle.sim_base.specs.declared.bench.WriteEnd.{WriteEnd}
 use Rattle.sim_base.specs.declared.bench.WriteEnd.TheVariants as writes
 use Rattle.sim_base.specs.Causes.{WriteCause}
 use Rattle.sim_base.specs.Outside.{Outside, WriteLeaves}
-use Rattle.outcome_model.specs.Work.{Wrote}
+use Rattle.sim_outcome_model.specs.Work.{Wrote}
 use Rattle.sim_report.specs.declared.row.ReportRow.{ReportRow}
 use Rattle.sim_report.specs.Lines.{subject, id_of, spaced, words_of, line_of}
 

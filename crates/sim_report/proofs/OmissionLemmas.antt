@@ -4,8 +4,8 @@ use Rattle.sim_base.specs.declared.bench.Port.{Port}
 use Rattle.sim_base.specs.declared.bench.WriteEnd.{WriteEnd}
 use Rattle.sim_base.specs.declared.bench.WriteEnd.TheVariants as writes
 use Rattle.sim_base.specs.Outside.{Outside}
-use Rattle.outcome_model.specs.Work.{Wrote}
-use Rattle.outcome_model.proofs.WriteLemmas.{grows_more, front_after}
+use Rattle.sim_outcome_model.specs.Work.{Wrote}
+use Rattle.sim_outcome_model.proofs.WriteLemmas.{grows_more, front_after}
 
 -- what was written of a text is what was written of an equal one
 pub wrote_same : (end : WriteEnd) (p : Port) (t u : List ℕ) (a b : Outside) → t ≡ u → Wrote end p t a b → Wrote end p u a b

@@ -1,7 +1,7 @@
 //! The lines of what firmware asked for that is left out, written.
 ghost use Rattle.std.specs.Prelude.{◌≡◌, true};
 ghost use Rattle.sim_base.specs.Outside.{SameOthers};
-ghost use Rattle.outcome_model.specs.Work.{WroteOn};
+ghost use Rattle.sim_outcome_model.specs.Work.{WroteOn};
 ghost use Rattle.sim_report.specs.Lines.{line_of};
 ghost use Rattle.sim_report.specs.Omissions.{asked_text, omissions_text};
 

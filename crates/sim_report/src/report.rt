@@ -1,13 +1,13 @@
 //! A line of the report, written.
 ghost use Rattle.std.specs.Prelude.{◌≡◌, true};
 ghost use Rattle.sim_base.specs.Outside.{SameOthers};
-ghost use Rattle.outcome_model.specs.Work.{Wrote};
+ghost use Rattle.sim_outcome_model.specs.Work.{Wrote};
 ghost use Rattle.sim_report.specs.Lines.{line_of};
 
 use crate::line::{id, rest, subject};
 use crate::row::ReportRow;
-use cli_work::write_next;
 use sim_base::{Bench, Port, WriteEnd};
+use sim_io::write_next;
 
 /// Writes a line on Report: all of it, or a first part where a write fails.
 pub fn write_report<B: Bench>(row: &ReportRow, bench: &mut B) -> WriteEnd

@@ -2,9 +2,9 @@
 use crate::ended::{Ended, REPORT_ROOM, SERIAL_ROOM};
 use crate::row::Row;
 use crate::stage::StagedFile;
-use page_call::{NO_LIST, TOO_LONG, call};
 use sim_base::Port;
 use std::alloc::{AllocError, Global};
+use web_call::{NO_LIST, TOO_LONG, call};
 
 /// Bytes that are put together piece by piece. If memory runs out for one of them, the whole is none.
 #[derive(Drop)]

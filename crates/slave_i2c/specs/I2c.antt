@@ -1,10 +1,10 @@
 -- A slave at an address, cycle by cycle (UM10204, "The I2C-bus protocol"; that each answer comes in the cycle of its bit, and
 -- that a slave never holds SCL, are the profile's). Bits are read when SCL rises and driven when it falls.
 use Rattle.std.specs.Prelude.{ℕ, ◌+◌, ◌-◌, ◌*◌, ◌/◌, ◌%◌, ◌≤◌, ◌==◌, not, nat_lt, List, [], ◌∷◌, Bool, true, false, if◌then◌else◌}
-use Rattle.unit_law.specs.Bits.{is_set, one}
-use Rattle.slave_law.specs.declared.request.EngineRequest.{EngineRequest}
-use Rattle.slave_law.specs.declared.request.EngineRequest.TheVariants as requests
-use Rattle.slave_law.specs.Slave.{SlaveMachine}
+use Rattle.avr_unit.specs.Bits.{is_set, one}
+use Rattle.slave_request.specs.declared.request.EngineRequest.{EngineRequest}
+use Rattle.slave_request.specs.declared.request.EngineRequest.TheVariants as requests
+use Rattle.slave_request.specs.Slave.{SlaveMachine}
 use Rattle.slave_i2c.specs.declared.lines.Lines.{Lines}
 use Rattle.slave_i2c.specs.declared.slave.Phase.{Phase}
 use Rattle.slave_i2c.specs.declared.slave.Phase.TheVariants.{Idle, Address, Data, Connecting, Judging, Accepting, Accepted, Reading, Sending, Ending, Wanted}

@@ -5,8 +5,8 @@ ghost use Rattle.slave_i2c.specs.declared.slave.Phase.TheVariants as phases;
 ghost use Rattle.slave_i2c.specs.I2c.{i2c_step, new_slave, with_bit_in, addressed, byte_in, bit_in, bit_out, off, with_byte, with_answer, IsPlace, disconnects, asks_in, asks_out};
 
 use crate::lines::Lines;
-use slave_law::EngineRequest;
-use unit_law::has_bit;
+use avr_unit::has_bit;
+use slave_request::EngineRequest;
 
 /// Where a slave is in the traffic on the bus.
 #[derive(Clone, Copy)]

@@ -1,8 +1,8 @@
 -- A cycle without an event, on wires that stay, leaves an SPI slave as it is, and it asks for nothing.
 use Rattle.std.proofs.Common.{◌≡◌, ℕ, [], ◌∷◌, Bool, true, false, not, ◌&&◌, if◌then◌else◌, None, ◌==◌, refl, ap, ◌∙◌}
 use Rattle.std.proofs.lemmas.Bool.{cond-false}
-use Rattle.unit_law.specs.Coming.{comes}
-use Rattle.slave_law.specs.declared.request.EngineRequest.TheVariants as requests
+use Rattle.avr_unit.specs.Coming.{comes}
+use Rattle.slave_request.specs.declared.request.EngineRequest.TheVariants as requests
 use Rattle.slave_serial.specs.declared.transaction.Wires.{Wires}
 use Rattle.slave_serial.specs.declared.transaction.Transaction.{Transaction}
 use Rattle.slave_serial.specs.declared.transaction.Transaction.TheVariants.{Idle, Opening, Between, Shifting, Stopped}

@@ -3,9 +3,9 @@ use Rattle.std.proofs.Common.{◌≡◌, ℕ, ◌+◌, ◌-◌, Bool, true, fals
 use Rattle.std.specs.Prelude.{if◌then◌else◌, ◌++◌, ◌&&◌, []}
 use Rattle.std.specs.Option.{option_to_list}
 use Rattle.std.proofs.lemmas.Bool.{or_parts, cond-false}
-use Rattle.unit_law.specs.Coming.{comes}
-use Rattle.slave_law.specs.declared.request.EngineRequest.{EngineRequest}
-use Rattle.slave_law.specs.declared.request.EngineRequest.TheVariants as requests
+use Rattle.avr_unit.specs.Coming.{comes}
+use Rattle.slave_request.specs.declared.request.EngineRequest.{EngineRequest}
+use Rattle.slave_request.specs.declared.request.EngineRequest.TheVariants as requests
 use Rattle.slave_serial.specs.declared.reception.Reception.{Reception}
 use Rattle.slave_serial.specs.declared.sending.Sending.{Sending}
 use Rattle.slave_serial.specs.declared.sending.Sending.TheVariants.{Idle, Empty, Start, Bits}

@@ -1,10 +1,10 @@
 -- A frame that comes in, cycle by cycle: a start bit, 8 data bits from the lowest, a stop bit; each is sampled once, in its
 -- middle (profile; the frame is that of the data sheet's "USART0", "Frame Formats").
 use Rattle.std.specs.Prelude.{ℕ, ◌+◌, ◌-◌, ◌/◌, ◌≤◌, ◌==◌, ◌&&◌, not, nat_lt, Bool, if◌then◌else◌, Option, None, Some}
-use Rattle.unit_law.specs.Bits.{with_bit}
-use Rattle.unit_law.specs.Coming.{IsAhead}
-use Rattle.slave_law.specs.declared.request.EngineRequest.{EngineRequest}
-use Rattle.slave_law.specs.declared.request.EngineRequest.TheVariants as requests
+use Rattle.avr_unit.specs.Bits.{with_bit}
+use Rattle.avr_unit.specs.Coming.{IsAhead}
+use Rattle.slave_request.specs.declared.request.EngineRequest.{EngineRequest}
+use Rattle.slave_request.specs.declared.request.EngineRequest.TheVariants as requests
 use Rattle.slave_serial.specs.declared.reception.Reception.{Reception}
 
 -- a start bit begins in cycle t

@@ -1,10 +1,10 @@
 -- The bytes of a call that go out at TX, cycle by cycle, each in a frame: a start bit 0, 8 data bits from the lowest, a stop
 -- bit 1 (profile; the frame is that of the data sheet's "USART0", "Frame Formats"). A frame follows the one before at once.
 use Rattle.std.specs.Prelude.{ℕ, ◌+◌, ◌-◌, ◌<◌, ◌==◌, ◌&&◌, nat_lt, Bool, true, false, if◌then◌else◌, Option, None, Some}
-use Rattle.unit_law.specs.Bits.{is_set}
-use Rattle.unit_law.specs.Coming.{IsAhead}
-use Rattle.slave_law.specs.declared.request.EngineRequest.{EngineRequest}
-use Rattle.slave_law.specs.declared.request.EngineRequest.TheVariants as requests
+use Rattle.avr_unit.specs.Bits.{is_set}
+use Rattle.avr_unit.specs.Coming.{IsAhead}
+use Rattle.slave_request.specs.declared.request.EngineRequest.{EngineRequest}
+use Rattle.slave_request.specs.declared.request.EngineRequest.TheVariants as requests
 use Rattle.slave_serial.specs.declared.buffer.Buffer.{Buffer}
 use Rattle.slave_serial.specs.declared.sending.Frame.{Frame}
 use Rattle.slave_serial.specs.declared.sending.Sending.{Sending}

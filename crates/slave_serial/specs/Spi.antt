@@ -1,11 +1,11 @@
 -- An SPI slave, cycle by cycle (data sheet, "SPI - Serial Peripheral Interface", "Data Modes"; in which cycles bytes are fetched
 -- and what MISO has between transactions are the profile's). Bits go from the highest.
 use Rattle.std.specs.Prelude.{ℕ, ◌+◌, ◌-◌, ◌/◌, ◌%◌, ◌<◌, ◌≤◌, ◌==◌, ◌&&◌, ◌||◌, not, nat_lt, List, [], ◌∷◌, Bool, true, false, if◌then◌else◌, Option, None, Some}
-use Rattle.unit_law.specs.Bits.{is_set, with_bit}
-use Rattle.unit_law.specs.Coming.{comes, IsAhead}
-use Rattle.slave_law.specs.declared.request.EngineRequest.{EngineRequest}
-use Rattle.slave_law.specs.declared.request.EngineRequest.TheVariants as requests
-use Rattle.slave_law.specs.Slave.{SlaveMachine}
+use Rattle.avr_unit.specs.Bits.{is_set, with_bit}
+use Rattle.avr_unit.specs.Coming.{comes, IsAhead}
+use Rattle.slave_request.specs.declared.request.EngineRequest.{EngineRequest}
+use Rattle.slave_request.specs.declared.request.EngineRequest.TheVariants as requests
+use Rattle.slave_request.specs.Slave.{SlaveMachine}
 use Rattle.slave_serial.specs.declared.buffer.Buffer.{Buffer}
 use Rattle.slave_serial.specs.declared.transaction.Wires.{Wires}
 use Rattle.slave_serial.specs.declared.transaction.Shift.{Shift}

@@ -1,10 +1,10 @@
 -- A UART, cycle by cycle: 8 data bits, no parity, one stop bit (profile).
 use Rattle.std.specs.Prelude.{ℕ, List, ◌∷◌, ◌++◌, Bool, true, false, ◌||◌, None}
 use Rattle.std.specs.Option.{option_to_list}
-use Rattle.unit_law.specs.Coming.{comes}
-use Rattle.slave_law.specs.declared.request.EngineRequest.{EngineRequest}
-use Rattle.slave_law.specs.declared.request.EngineRequest.TheVariants as requests
-use Rattle.slave_law.specs.Slave.{SlaveMachine}
+use Rattle.avr_unit.specs.Coming.{comes}
+use Rattle.slave_request.specs.declared.request.EngineRequest.{EngineRequest}
+use Rattle.slave_request.specs.declared.request.EngineRequest.TheVariants as requests
+use Rattle.slave_request.specs.Slave.{SlaveMachine}
 use Rattle.slave_serial.specs.declared.sending.Sending.{Sending}
 use Rattle.slave_serial.specs.declared.sending.Sending.TheVariants.{Idle}
 use Rattle.slave_serial.specs.declared.transceiver.Uart.{Uart}

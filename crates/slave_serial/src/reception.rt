@@ -1,11 +1,11 @@
 //! A frame that comes in: a start bit, 8 data bits and a stop bit.
 ghost use Rattle.std.specs.Prelude.{◌≡◌, ◌+◌, ◌-◌, ◌<◌, ◌≤◌, ◌==◌, ◌&&◌, not};
-ghost use Rattle.unit_law.specs.Bits.{with_bit};
+ghost use Rattle.avr_unit.specs.Bits.{with_bit};
 ghost use Rattle.slave_serial.specs.Reception.{next_bit, sampled, received, taken_in, next_sample, IsBit, Receives};
 
+use avr_unit::with_bit;
 use sim_base::MOST_CYCLES;
-use slave_law::EngineRequest;
-use unit_law::with_bit;
+use slave_request::EngineRequest;
 
 /// Which bit is sampled next, in which cycle, and the byte so far.
 #[derive(Clone, Copy)]

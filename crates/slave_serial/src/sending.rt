@@ -4,9 +4,9 @@ ghost use Rattle.slave_serial.specs.Reception.{IsBit};
 ghost use Rattle.slave_serial.specs.Sending.{begun, bit_over, sent, put_out, given, frame_bit, next_line, bit_end, is_sending, IsSending, Sends};
 
 use crate::buffer::Buffer;
+use avr_unit::has_bit;
 use sim_base::MOST_CYCLES;
-use slave_law::EngineRequest;
-use unit_law::has_bit;
+use slave_request::EngineRequest;
 
 /// A frame on the way: its byte, which of its bits is sent, and the last cycle of that bit.
 #[derive(Clone, Copy)]

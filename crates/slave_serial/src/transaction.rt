@@ -1,14 +1,14 @@
 //! A transaction of the SPI slave, by the edges of SCK.
 ghost use Rattle.std.specs.Prelude.{◌≡◌, ℕ, ◌+◌, ◌-◌, ◌<◌, ◌≤◌, ◌==◌, ◌&&◌, ◌++◌, not};
 ghost use Rattle.std.specs.Option.{option_to_list};
-ghost use Rattle.unit_law.specs.Bits.{with_bit};
+ghost use Rattle.avr_unit.specs.Bits.{with_bit};
 ghost use Rattle.slave_serial.specs.declared.transaction.Transaction.TheVariants as transactions;
 ghost use Rattle.slave_serial.specs.Spi.{idle_in, is_away, leads, trails, reads_bit, presents, fresh, with_read, loaded, byte_over, bit_read, moved, spi_step, next_turn, opened, opens_in, is_opening, stopped, with_byte, is_open, IsTransaction, Stands};
 
 use crate::buffer::Buffer;
+use avr_unit::{has_bit, with_bit};
 use sim_base::MOST_CYCLES;
-use slave_law::EngineRequest;
-use unit_law::{has_bit, with_bit};
+use slave_request::EngineRequest;
 
 /// What SCK and MOSI read.
 #[derive(Clone, Copy, PartialEq, Eq, Debug)]

@@ -9,7 +9,7 @@ ghost use Rattle.slave_serial.specs.Uart.{idle_uart, uart_step, begins, with_byt
 use crate::reception::{Reception, next_sample, received, taken_in};
 use crate::sending::{Sending, begun};
 use sim_base::MOST_CYCLES;
-use slave_law::EngineRequest;
+use slave_request::EngineRequest;
 
 /// How many cycles a bit has, what comes in, and what goes out.
 #[derive(Clone, Copy)]

@@ -7,7 +7,7 @@ use Rattle.std.proofs.lemmas.Option.{get_or_from_slice_get, slice_get_read, slic
 use Rattle.std.proofs.lemmas.Bool.{or_parts}
 use Rattle.part_law.specs.declared.span.Span.{Span}
 use Rattle.part_law.specs.Spans.{IsIn, no_pins}
-use Rattle.board_laws.specs.Player.{DriveRows, has_row}
+use Rattle.law_board.specs.Player.{DriveRows, has_row}
 use Rattle.trace_run.specs.Rows.{AreAllPast, AreCounts, ArePast, IsCount, IsNext, any_row, earlier}
 use Rattle.trace_run.proofs.RowLemmas.{count_later, next_earlier}
 

@@ -7,7 +7,7 @@ use Rattle.std.proofs.lemmas.Option.{slice_get-map}
 use Rattle.std.proofs.lemmas.Bool.Decides.{leb_tells, eqb_tells}
 use Rattle.sim_base.specs.declared.signal.Drive.{Drive}
 use Rattle.sim_base.specs.declared.signal.Drive.TheVariants as drives
-use Rattle.board_laws.specs.Player.{DriveRows, drive_from, drive_at, has_row}
+use Rattle.law_board.specs.Player.{DriveRows, drive_from, drive_at, has_row}
 use Rattle.trace_run.specs.Rows.{AreCounts, AreInOrder, ArePast, IsCount, IsNext, cycle_at, earlier}
 
 -- the last of the rows that stand at or before a cycle, where so many do

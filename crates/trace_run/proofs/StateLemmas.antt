@@ -11,8 +11,8 @@ use Rattle.part_law.specs.Machine.{glide, IsQuiet, IsFirstDue}
 use Rattle.part_law.specs.declared.span.Span.{Span}
 use Rattle.part_law.specs.Spans.{IsIn}
 use Rattle.part_law.proofs.SpanLemmas.{none_in}
-use Rattle.board_laws.specs.Player.{DriveRows, PlayerState, player}
-use Rattle.board_laws.proofs.PlayerLemmas.{player_glides, player_quiet}
+use Rattle.law_board.specs.Player.{DriveRows, PlayerState, player}
+use Rattle.law_board.proofs.PlayerLemmas.{player_glides, player_quiet}
 use Rattle.trace_run.specs.Rows.{AreCounts, IsNext, any_row}
 use Rattle.trace_run.proofs.RowLemmas.{eq_no}
 use Rattle.trace_run.proofs.CountLemmas.{counts_later}

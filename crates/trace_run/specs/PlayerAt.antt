@@ -1,7 +1,7 @@
 -- A player on a board: before the step of its cycle.
 use Rattle.std.specs.Prelude.{ℕ, ◌+◌}
 use Rattle.part_law.specs.declared.span.Span.{Span}
-use Rattle.board_laws.specs.Player.{PlayerState}
+use Rattle.law_board.specs.Player.{PlayerState}
 
 pub record PlayerAt : Type 0 where
   pub player : PlayerState

@@ -3,7 +3,7 @@ use Rattle.std.specs.Prelude.{◌≡◌, ℕ, ◌<◌, ◌≤◌, List, Bool, tr
 use Rattle.std.specs.List.{list_any}
 use Rattle.std.specs.List.Sorted.{IsNonDecreasingBy}
 use Rattle.sim_base.specs.declared.signal.Drive.TheVariants as drives
-use Rattle.board_laws.specs.Player.{DriveRows, has_row}
+use Rattle.law_board.specs.Player.{DriveRows, has_row}
 
 -- their cycles do not fall
 abbrev pub AreInOrder : DriveRows → Type 0

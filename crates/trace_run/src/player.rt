@@ -2,7 +2,7 @@
 ghost use Rattle.std.specs.Prelude.{◌≡◌, ◌≤◌, ◌<◌, ◌+◌, ℕ, length, slice_get};
 ghost use Rattle.std.specs.List.{All};
 ghost use Rattle.part_law.specs.Spans.{IsIn, no_pins};
-ghost use Rattle.board_laws.specs.Player.{new_player, player};
+ghost use Rattle.law_board.specs.Player.{new_player, player};
 ghost use Rattle.trace_run.specs.PlayerAt.{stepped};
 ghost use Rattle.trace_run.specs.Rows.{AreInOrder};
 
@@ -102,8 +102,8 @@ impl Player {
 impl Part for Player {
     ghost use Rattle.std.specs.Prelude.{nat_lt};
     ghost use Rattle.part_law.specs.Spans.{is_in};
-    ghost use Rattle.board_laws.specs.Player.{PlayerState, player};
-    ghost use Rattle.board_laws.specs.PlayerLaws.{player_laws};
+    ghost use Rattle.law_board.specs.Player.{PlayerState, player};
+    ghost use Rattle.law_board.specs.PlayerLaws.{player_laws};
 
     ghost State = { PlayerState };
 

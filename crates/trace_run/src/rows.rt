@@ -2,7 +2,7 @@
 ghost use Rattle.std.specs.Prelude.{◌≡◌, ◌≢◌, ◌≤◌, ◌<◌, ℕ, List, length, slice_index};
 ghost use Rattle.std.specs.List.{All};
 ghost use Rattle.part_law.specs.Spans.{IsIn};
-ghost use Rattle.board_laws.specs.Player.{drive_at, has_row};
+ghost use Rattle.law_board.specs.Player.{drive_at, has_row};
 ghost use Rattle.trace_run.specs.Rows.{AreAllPast, AreCounts, AreInOrder, ArePast, IsCount, IsNext, any_row, earlier};
 
 use part_law::Span;

@@ -2,13 +2,13 @@
 use Rattle.std.proofs.Common.{◌≡◌, ℕ, Option, Some, None, Bool, true, false, subst}
 use Rattle.sim_base.specs.declared.fault.Fault.{Fault}
 use Rattle.sim_base.specs.Refusals.{WasmCut, WasmLeb}
-use Rattle.wasm_text.specs.declared.reader.Reader.{Reader}
-use Rattle.wasm_text.specs.Form.{Form, give, flag, judge_flag, ◌>>=◌}
-use Rattle.wasm_text.specs.Proper.{Proper}
-use Rattle.wasm_text.proofs.Exact.{give_proper, byte_proper, then_proper, unsigned_proper}
-use Rattle.wasm_text.specs.Leb.{u32}
-use Rattle.wasm_text.specs.Reads.{Reads, Fails}
-use Rattle.wasm_text.proofs.Steps.{stops, then_reads, then_fails, given}
+use Rattle.wasm_binary.specs.declared.reader.Reader.{Reader}
+use Rattle.wasm_binary.specs.Form.{Form, give, flag, judge_flag, ◌>>=◌}
+use Rattle.wasm_binary.specs.Proper.{Proper}
+use Rattle.wasm_binary.proofs.Exact.{give_proper, byte_proper, then_proper, unsigned_proper}
+use Rattle.wasm_binary.specs.Leb.{u32}
+use Rattle.wasm_binary.specs.Reads.{Reads, Fails}
+use Rattle.wasm_binary.proofs.Steps.{stops, then_reads, then_fails, given}
 use Rattle.wasm_code.specs.declared.types.Limits.{Limits}
 use Rattle.wasm_code.specs.TypeText.{limits, greatest_if}
 

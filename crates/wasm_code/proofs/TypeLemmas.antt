@@ -2,15 +2,15 @@
 use Rattle.std.proofs.Common.{◌≡◌, ℕ, List, Bool, Result, sym, subst}
 use Rattle.sim_base.specs.declared.fault.Fault.{Fault}
 use Rattle.sim_base.specs.Refusals.{WasmCut, WasmType}
-use Rattle.wasm_text.specs.declared.reader.Reader.{Reader}
-use Rattle.wasm_text.specs.Form.{Form, give, flag, judge_tag, ◌>>=◌}
-use Rattle.wasm_text.specs.Reads.{Reads, Fails, Decodes}
-use Rattle.wasm_text.proofs.Steps.{stops, then, then_reads, then_fails, given}
-use Rattle.wasm_text.specs.Form.{judge_flag}
-use Rattle.wasm_text.specs.Proper.{Proper}
-use Rattle.wasm_text.proofs.Exact.{give_proper, byte_proper, then_proper, vec_proper, vec_to_proper}
-use Rattle.wasm_text.specs.Leb.{u32}
-use Rattle.wasm_text.specs.Lists.{vec, vec_to, items}
+use Rattle.wasm_binary.specs.declared.reader.Reader.{Reader}
+use Rattle.wasm_binary.specs.Form.{Form, give, flag, judge_tag, ◌>>=◌}
+use Rattle.wasm_binary.specs.Reads.{Reads, Fails, Decodes}
+use Rattle.wasm_binary.proofs.Steps.{stops, then, then_reads, then_fails, given}
+use Rattle.wasm_binary.specs.Form.{judge_flag}
+use Rattle.wasm_binary.specs.Proper.{Proper}
+use Rattle.wasm_binary.proofs.Exact.{give_proper, byte_proper, then_proper, vec_proper, vec_to_proper}
+use Rattle.wasm_binary.specs.Leb.{u32}
+use Rattle.wasm_binary.specs.Lists.{vec, vec_to, items}
 use Rattle.wasm_code.specs.declared.types.ValType.{ValType}
 use Rattle.wasm_code.specs.declared.types.FuncType.{FuncType}
 use Rattle.wasm_code.specs.declared.types.GlobalType.{GlobalType}

@@ -7,9 +7,9 @@ use Rattle.wasm_code.specs.declared.types.BlockType.{BlockType}
 use Rattle.wasm_code.specs.declared.types.FuncType.{FuncType}
 use Rattle.wasm_code.specs.declared.types.GlobalType.{GlobalType}
 use Rattle.wasm_code.specs.declared.types.Limits.{Limits}
-use Rattle.wasm_text.specs.Form.{Form, give, byte, judge_tag, flag, ◌>>=◌}
-use Rattle.wasm_text.specs.Leb.{u32}
-use Rattle.wasm_text.specs.Lists.{vec, vec_to}
+use Rattle.wasm_binary.specs.Form.{Form, give, byte, judge_tag, flag, ◌>>=◌}
+use Rattle.wasm_binary.specs.Leb.{u32}
+use Rattle.wasm_binary.specs.Lists.{vec, vec_to}
 
 abbrev pub judge_val_type : ℕ → Result ValType ℕ
 judge_val_type b = if b == 0x7F then Ok I32 else if b == 0x7E then Ok I64 else if b == 0x7D then Ok F32 else if b == 0x7C then Ok F64 else Err WasmType

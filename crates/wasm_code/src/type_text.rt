@@ -1,13 +1,13 @@
 //! The text of types.
 ghost use Rattle.wasm_code.specs.TypeText.{func_type, limits, table_type, global_type};
-ghost use Rattle.wasm_text.specs.Reads.{Decodes};
-ghost use Rattle.wasm_text.specs.Lists.{vec, items};
+ghost use Rattle.wasm_binary.specs.Reads.{Decodes};
+ghost use Rattle.wasm_binary.specs.Lists.{vec, items};
 
 use crate::types::{BlockType, FuncType, GlobalType, Limits, ValType};
 use sim_base::refusals::WASM_TYPE;
 use sim_base::{Fault, List};
 use std::alloc::Global;
-use wasm_text::{Decode, FromByte, Reader, index, judged, list, list_to, tag};
+use wasm_binary::{Decode, FromByte, Reader, index, judged, list, list_to, tag};
 
 /// At most so many parameters of a type.
 const PARAMS: u32 = 16;

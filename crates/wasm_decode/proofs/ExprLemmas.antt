@@ -4,13 +4,13 @@ use Rattle.std.specs.Option.{option_map_or}
 use Rattle.std.specs.Prelude.{if◌then◌else◌, ◌==◌, nat_le, is_some}
 use Rattle.sim_base.specs.declared.fault.Fault.{Fault}
 use Rattle.sim_base.specs.Refusals.{WasmOpcode, WasmLimit}
-use Rattle.wasm_text.specs.declared.reader.Reader.{Reader}
-use Rattle.wasm_text.specs.Form.{Form, give, choose}
-use Rattle.wasm_text.specs.Lists.{Run}
-use Rattle.wasm_text.specs.Reads.{Reads, Fails}
-use Rattle.wasm_text.proofs.Runs.{HasRun, begins, goes, run_fails, ends}
-use Rattle.wasm_text.specs.Proper.{Proper}
-use Rattle.wasm_text.proofs.Exact.{repeated_proper}
+use Rattle.wasm_binary.specs.declared.reader.Reader.{Reader}
+use Rattle.wasm_binary.specs.Form.{Form, give, choose}
+use Rattle.wasm_binary.specs.Lists.{Run}
+use Rattle.wasm_binary.specs.Reads.{Reads, Fails}
+use Rattle.wasm_binary.proofs.Runs.{HasRun, begins, goes, run_fails, ends}
+use Rattle.wasm_binary.specs.Proper.{Proper}
+use Rattle.wasm_binary.proofs.Exact.{repeated_proper}
 use Rattle.wasm_decode.proofs.InstrLemmas.{instr_proper}
 use Rattle.wasm_code.specs.declared.types.ValType.{ValType}
 use Rattle.wasm_code.specs.declared.instr.Instr.{Instr}

@@ -1,16 +1,16 @@
 -- Reading instructions.
 use Rattle.std.proofs.Common.{◌≡◌, ℕ, List, Result, Ok, Err, sym, subst}
 use Rattle.sim_base.specs.declared.fault.Fault.{Fault}
-use Rattle.wasm_text.specs.declared.reader.Reader.{Reader}
+use Rattle.wasm_binary.specs.declared.reader.Reader.{Reader}
 use Rattle.std.specs.Prelude.{◌%◌, ◌==◌, nat_lt}
 use Rattle.std.specs.Int.{w32, w64, from_le_bytes}
-use Rattle.wasm_text.specs.Form.{Form, give, byte, judge_tag, ◌>>=◌}
-use Rattle.wasm_text.specs.Reads.{Reads, Fails, Decodes}
-use Rattle.wasm_text.proofs.Steps.{stops, then, then_reads, then_fails, given}
-use Rattle.wasm_text.specs.Proper.{Proper}
-use Rattle.wasm_text.proofs.Exact.{give_proper, byte_proper, then_proper, unsigned_proper, signed_proper, vec_to_proper, bytes_proper, choose_proper}
-use Rattle.wasm_text.specs.Leb.{u32, unsigned, signed}
-use Rattle.wasm_text.specs.Lists.{vec_to, bytes_of_length}
+use Rattle.wasm_binary.specs.Form.{Form, give, byte, judge_tag, ◌>>=◌}
+use Rattle.wasm_binary.specs.Reads.{Reads, Fails, Decodes}
+use Rattle.wasm_binary.proofs.Steps.{stops, then, then_reads, then_fails, given}
+use Rattle.wasm_binary.specs.Proper.{Proper}
+use Rattle.wasm_binary.proofs.Exact.{give_proper, byte_proper, then_proper, unsigned_proper, signed_proper, vec_to_proper, bytes_proper, choose_proper}
+use Rattle.wasm_binary.specs.Leb.{u32, unsigned, signed}
+use Rattle.wasm_binary.specs.Lists.{vec_to, bytes_of_length}
 use Rattle.wasm_code.specs.declared.types.BlockType.{BlockType}
 use Rattle.wasm_code.specs.declared.instr.Instr.{Instr}
 use Rattle.wasm_code.specs.declared.instr.Instr.TheVariants as instrs
@@ -18,8 +18,8 @@ use Rattle.wasm_code.specs.declared.instr.FloatInstr.TheVariants as floats
 use Rattle.wasm_code.specs.TypeText.{block_type, judge_block_type, tag}
 use Rattle.wasm_decode.specs.declared.instructions.Shape.{Shape}
 use Rattle.wasm_decode.specs.declared.instructions.Shape.TheVariants as shapes
-use Rattle.wasm_text.specs.Form.{any_byte}
-use Rattle.wasm_text.proofs.Steps.{judged_ends, judged_ok, judged_err}
+use Rattle.wasm_binary.specs.Form.{any_byte}
+use Rattle.wasm_binary.proofs.Steps.{judged_ends, judged_ok, judged_err}
 use Rattle.sim_base.specs.declared.fault.Fault.TheVariants as faults
 use Rattle.sim_base.specs.declared.fault.Place.TheVariants as places
 use Rattle.sim_base.specs.Refusals.{WasmCut, WasmLeb, WasmOpcode}

@@ -2,22 +2,22 @@
 use Rattle.std.proofs.Common.{◌≡◌, ℕ, List, [], ◌∷◌, length, false, Result, sym, subst}
 use Rattle.sim_base.specs.declared.fault.Fault.{Fault}
 use Rattle.sim_base.specs.Refusals.{WasmCut, WasmLeb, WasmType, WasmCount, WasmLimit}
-use Rattle.wasm_text.specs.declared.reader.Reader.{Reader}
-use Rattle.wasm_text.specs.Form.{Form, give, byte, judge_tag, ◌>>=◌}
-use Rattle.wasm_text.specs.Reads.{Reads, Fails, Decodes}
-use Rattle.wasm_text.proofs.Steps.{stops, then, then_reads, then_fails, given}
-use Rattle.wasm_text.specs.Proper.{Proper}
-use Rattle.wasm_text.proofs.Exact.{give_proper, byte_proper, then_proper, repeated_proper, unsigned_proper, vec_proper, byte_vec_proper, sized_proper}
-use Rattle.wasm_text.specs.Leb.{u32, at_most, exactly}
-use Rattle.wasm_text.specs.Lists.{vec, byte_vec, repeated}
-use Rattle.wasm_text.specs.Names.{name}
+use Rattle.wasm_binary.specs.declared.reader.Reader.{Reader}
+use Rattle.wasm_binary.specs.Form.{Form, give, byte, judge_tag, ◌>>=◌}
+use Rattle.wasm_binary.specs.Reads.{Reads, Fails, Decodes}
+use Rattle.wasm_binary.proofs.Steps.{stops, then, then_reads, then_fails, given}
+use Rattle.wasm_binary.specs.Proper.{Proper}
+use Rattle.wasm_binary.proofs.Exact.{give_proper, byte_proper, then_proper, repeated_proper, unsigned_proper, vec_proper, byte_vec_proper, sized_proper}
+use Rattle.wasm_binary.specs.Leb.{u32, at_most, exactly}
+use Rattle.wasm_binary.specs.Lists.{vec, byte_vec, repeated}
+use Rattle.wasm_binary.specs.Names.{name}
 use Rattle.wasm_code.specs.declared.types.ValType.{ValType}
 use Rattle.wasm_code.specs.declared.types.FuncType.{FuncType}
 use Rattle.wasm_code.specs.declared.types.GlobalType.{GlobalType}
 use Rattle.wasm_code.specs.declared.types.Limits.{Limits}
 use Rattle.wasm_code.specs.declared.instr.Instr.{Instr}
-use Rattle.wasm_text.specs.Lists.{is_zero}
-use Rattle.wasm_text.specs.Names.{name_of_length, judge_in_name, in_name, InName}
+use Rattle.wasm_binary.specs.Lists.{is_zero}
+use Rattle.wasm_binary.specs.Names.{name_of_length, judge_in_name, in_name, InName}
 use Rattle.wasm_code.specs.TypeText.{val_type, judge_val_type, tag, limits, table_type, global_type}
 use Rattle.wasm_decode.specs.declared.module.Extern.{Extern}
 use Rattle.wasm_decode.specs.declared.module.Extern.TheVariants as externs

@@ -3,10 +3,10 @@ use Rattle.std.proofs.Common.{◌≡◌, ℕ, Result, Ok, Err, sym, subst}
 use Rattle.sim_base.specs.declared.fault.Fault.{Fault}
 use Rattle.sim_base.specs.declared.fault.Fault.TheVariants as faults
 use Rattle.sim_base.specs.declared.fault.Place.TheVariants as places
-use Rattle.wasm_text.specs.declared.reader.Reader.{Reader}
-use Rattle.wasm_text.specs.Form.{any_byte, byte, ◌>>=◌}
-use Rattle.wasm_text.specs.Reads.{Reads, Fails, Decodes}
-use Rattle.wasm_text.proofs.Steps.{stops, then, judged_ends, judged_ok, judged_err}
+use Rattle.wasm_binary.specs.declared.reader.Reader.{Reader}
+use Rattle.wasm_binary.specs.Form.{any_byte, byte, ◌>>=◌}
+use Rattle.wasm_binary.specs.Reads.{Reads, Fails, Decodes}
+use Rattle.wasm_binary.proofs.Steps.{stops, then, judged_ends, judged_ok, judged_err}
 use Rattle.wasm_decode.specs.declared.progress.Progress.{Progress}
 use Rattle.wasm_decode.specs.declared.progress.Section.{Section}
 use Rattle.wasm_decode.specs.SectionText.{judge_id, section_of, section}

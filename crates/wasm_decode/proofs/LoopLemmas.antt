@@ -3,10 +3,10 @@ use Rattle.std.proofs.Common.{◌≡◌, ℕ, zero, suc, ◌+◌, ◌-◌, ◌<�
 use Rattle.std.proofs.lemmas.Bool.{cases_lt}
 use Rattle.std.specs.Prelude.{slice_index}
 use Rattle.sim_base.specs.declared.fault.Fault.{Fault}
-use Rattle.wasm_text.specs.declared.reader.Reader.{Reader}
-use Rattle.wasm_text.specs.Lists.{repeated, is_zero, sized}
-use Rattle.wasm_text.specs.Reads.{Reads, Fails}
-use Rattle.wasm_text.proofs.Runs.{HasRun, begins, goes, run_fails, ends, not_zero, zero_is}
+use Rattle.wasm_binary.specs.declared.reader.Reader.{Reader}
+use Rattle.wasm_binary.specs.Lists.{repeated, is_zero, sized}
+use Rattle.wasm_binary.specs.Reads.{Reads, Fails}
+use Rattle.wasm_binary.proofs.Runs.{HasRun, begins, goes, run_fails, ends, not_zero, zero_is}
 use Rattle.wasm_code.specs.declared.types.FuncType.{FuncType}
 use Rattle.wasm_decode.specs.declared.module.Extern.{Extern}
 use Rattle.wasm_decode.specs.declared.module.ImportDesc.{ImportDesc}

@@ -6,15 +6,15 @@ use Rattle.sim_base.specs.declared.fault.Fault.TheVariants as faults
 use Rattle.sim_base.specs.declared.fault.Refusal.{Refusal}
 use Rattle.sim_base.specs.declared.fault.Place.TheVariants as places
 use Rattle.sim_base.specs.Refusals.{WasmMagic, WasmCount}
-use Rattle.wasm_text.specs.declared.reader.Reader.{Reader}
-use Rattle.wasm_text.specs.Form.{byte_or, judge_tag}
-use Rattle.wasm_text.specs.Proper.{IsOnce, Proper}
-use Rattle.wasm_text.specs.Reads.{Reads, Fails, Decodes}
-use Rattle.wasm_text.proofs.Steps.{append-nil, is_nil, then}
-use Rattle.wasm_text.proofs.Runs.{HasRun, begins, goes}
-use Rattle.wasm_text.proofs.Exact.{give_proper, byte_proper, then_proper}
-use Rattle.wasm_text.proofs.Cuts.{rest_is}
-use Rattle.wasm_text.proofs.Once.{BreaksBehind, then_once, run_once}
+use Rattle.wasm_binary.specs.declared.reader.Reader.{Reader}
+use Rattle.wasm_binary.specs.Form.{byte_or, judge_tag}
+use Rattle.wasm_binary.specs.Proper.{IsOnce, Proper}
+use Rattle.wasm_binary.specs.Reads.{Reads, Fails, Decodes}
+use Rattle.wasm_binary.proofs.Steps.{append-nil, is_nil, then}
+use Rattle.wasm_binary.proofs.Runs.{HasRun, begins, goes}
+use Rattle.wasm_binary.proofs.Exact.{give_proper, byte_proper, then_proper}
+use Rattle.wasm_binary.proofs.Cuts.{rest_is}
+use Rattle.wasm_binary.proofs.Once.{BreaksBehind, then_once, run_once}
 use Rattle.wasm_decode.specs.declared.module.Module.{Module}
 use Rattle.wasm_decode.specs.declared.progress.Progress.{Progress}
 use Rattle.wasm_decode.specs.declared.progress.Section.{Section}

@@ -4,11 +4,11 @@ use Rattle.sim_base.specs.declared.fault.Fault.{Fault}
 use Rattle.sim_base.specs.declared.fault.Fault.TheVariants as faults
 use Rattle.sim_base.specs.declared.fault.Place.TheVariants as places
 use Rattle.sim_base.specs.Refusals.{WasmCut}
-use Rattle.wasm_text.specs.declared.reader.Reader.{Reader}
-use Rattle.wasm_text.specs.Leb.{u32}
-use Rattle.wasm_text.specs.Names.{name}
-use Rattle.wasm_text.specs.Reads.{Took, Reads, Fails}
-use Rattle.wasm_text.proofs.Steps.{took_then}
+use Rattle.wasm_binary.specs.declared.reader.Reader.{Reader}
+use Rattle.wasm_binary.specs.Leb.{u32}
+use Rattle.wasm_binary.specs.Names.{name}
+use Rattle.wasm_binary.specs.Reads.{Took, Reads, Fails}
+use Rattle.wasm_binary.proofs.Steps.{took_then}
 use Rattle.wasm_decode.specs.declared.progress.Section.TheVariants as sections
 use Rattle.wasm_decode.specs.SectionText.{custom}
 

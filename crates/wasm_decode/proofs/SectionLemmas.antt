@@ -3,17 +3,17 @@ use Rattle.std.proofs.Common.{◌≡◌, ℕ, ◌-◌, ◌<◌, List, ◌++◌, 
 use Rattle.std.specs.Prelude.{◌==◌}
 use Rattle.sim_base.specs.declared.fault.Fault.{Fault}
 use Rattle.sim_base.specs.Refusals.{WasmCut, WasmLeb}
-use Rattle.wasm_text.specs.declared.reader.Reader.{Reader}
-use Rattle.wasm_text.specs.Form.{Form, give, byte, ◌>>=◌}
-use Rattle.wasm_text.specs.Leb.{u32}
-use Rattle.wasm_text.specs.Lists.{vec, vec_to, sized}
-use Rattle.wasm_text.specs.Names.{name}
-use Rattle.wasm_text.specs.Proper.{IsOnce, Proper}
-use Rattle.wasm_text.specs.Reads.{Reads, Fails}
-use Rattle.wasm_text.proofs.Steps.{stops, then_reads, given}
-use Rattle.wasm_text.proofs.Exact.{give_proper, byte_proper, then_proper, unsigned_proper, vec_proper, vec_to_proper, choose_proper, sized_proper}
-use Rattle.wasm_text.proofs.Cuts.{take_front, rest_is, recut, whole_is, same_length}
-use Rattle.wasm_text.proofs.Once.{then_once}
+use Rattle.wasm_binary.specs.declared.reader.Reader.{Reader}
+use Rattle.wasm_binary.specs.Form.{Form, give, byte, ◌>>=◌}
+use Rattle.wasm_binary.specs.Leb.{u32}
+use Rattle.wasm_binary.specs.Lists.{vec, vec_to, sized}
+use Rattle.wasm_binary.specs.Names.{name}
+use Rattle.wasm_binary.specs.Proper.{IsOnce, Proper}
+use Rattle.wasm_binary.specs.Reads.{Reads, Fails}
+use Rattle.wasm_binary.proofs.Steps.{stops, then_reads, given}
+use Rattle.wasm_binary.proofs.Exact.{give_proper, byte_proper, then_proper, unsigned_proper, vec_proper, vec_to_proper, choose_proper, sized_proper}
+use Rattle.wasm_binary.proofs.Cuts.{take_front, rest_is, recut, whole_is, same_length}
+use Rattle.wasm_binary.proofs.Once.{then_once}
 use Rattle.wasm_code.specs.TypeText.{func_type, limits, table_type}
 use Rattle.wasm_code.proofs.LimitsLemmas.{limits_proper}
 use Rattle.wasm_code.proofs.TypeLemmas.{func_type_proper, table_type_proper}

@@ -9,9 +9,9 @@ use Rattle.wasm_code.specs.declared.instr.Instr.TheVariants as instrs
 use Rattle.wasm_code.specs.declared.instr.FloatInstr.TheVariants as floats
 use Rattle.wasm_code.specs.declared.instr.MemArg.{MemArg}
 use Rattle.wasm_code.specs.Opcodes.{unary_of, binary_of, load_of, store_of, float_load, float_store, float_unary, float_binary, truncate, from}
-use Rattle.wasm_text.specs.Form.{Form, give, byte, choose, ◌>>=◌}
-use Rattle.wasm_text.specs.Leb.{u32, unsigned, signed}
-use Rattle.wasm_text.specs.Lists.{repeated, vec_to, bytes_of_length}
+use Rattle.wasm_binary.specs.Form.{Form, give, byte, choose, ◌>>=◌}
+use Rattle.wasm_binary.specs.Leb.{u32, unsigned, signed}
+use Rattle.wasm_binary.specs.Lists.{repeated, vec_to, bytes_of_length}
 use Rattle.wasm_code.specs.TypeText.{block_type, tag}
 use Rattle.wasm_decode.specs.declared.instructions.Shape.{Shape}
 use Rattle.wasm_decode.specs.declared.instructions.Shape.TheVariants as shapes

@@ -2,10 +2,10 @@
 use Rattle.std.specs.Prelude.{ℕ, ◌+◌, ◌-◌, List, [], ◌∷◌, length, Bool, true, false, nat_lt, ◌==◌, ◌&&◌, if◌then◌else◌, Result, Ok, Err, Option, Some, None, slice_get}
 use Rattle.sim_base.specs.Refusals.{WasmType, WasmLimit}
 use Rattle.wasm_code.specs.declared.types.FuncType.{FuncType}
-use Rattle.wasm_text.specs.Form.{Form, give, byte, ◌>>=◌}
-use Rattle.wasm_text.specs.Leb.{u32, at_most, exactly}
-use Rattle.wasm_text.specs.Lists.{repeated, is_zero, vec, byte_vec, sized}
-use Rattle.wasm_text.specs.Names.{name}
+use Rattle.wasm_binary.specs.Form.{Form, give, byte, ◌>>=◌}
+use Rattle.wasm_binary.specs.Leb.{u32, at_most, exactly}
+use Rattle.wasm_binary.specs.Lists.{repeated, is_zero, vec, byte_vec, sized}
+use Rattle.wasm_binary.specs.Names.{name}
 use Rattle.wasm_code.specs.TypeText.{val_type, tag, limits, table_type, global_type}
 use Rattle.wasm_decode.specs.InstrText.{expr}
 use Rattle.wasm_decode.specs.declared.module.Extern.{Extern}

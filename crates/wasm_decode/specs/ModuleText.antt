@@ -4,8 +4,8 @@ use Rattle.sim_base.specs.declared.fault.Fault.{Fault}
 use Rattle.sim_base.specs.declared.fault.Fault.TheVariants as faults
 use Rattle.sim_base.specs.declared.fault.Place.TheVariants as places
 use Rattle.sim_base.specs.Refusals.{WasmMagic, WasmCount}
-use Rattle.wasm_text.specs.Form.{Form, give, byte_or, judge_tag, ◌>>=◌}
-use Rattle.wasm_text.specs.Lists.{Run}
+use Rattle.wasm_binary.specs.Form.{Form, give, byte_or, judge_tag, ◌>>=◌}
+use Rattle.wasm_binary.specs.Lists.{Run}
 use Rattle.wasm_decode.specs.SectionText.{wants_bodies, section, with_section}
 use Rattle.wasm_decode.specs.declared.module.Module.{Module}
 use Rattle.wasm_decode.specs.declared.progress.Progress.{Progress}

@@ -1,10 +1,10 @@
 -- Sections (WebAssembly core specification, "Binary Format", "Sections" to "Data Section", "Custom Section").
 use Rattle.std.specs.Prelude.{◌≡◌, ℕ, ◌+◌, ◌-◌, ◌<◌, List, ◌++◌, length, take, ◌⊎◌, Bool, false, not, ◌&&◌, ◌||◌, nat_le, nat_lt, ◌==◌, if◌then◌else◌, Result, Ok, Err, Some}
 use Rattle.sim_base.specs.Refusals.{WasmCut, WasmSection, WasmCount}
-use Rattle.wasm_text.specs.Form.{Form, give, byte, choose, ◌>>=◌}
-use Rattle.wasm_text.specs.Leb.{u32}
-use Rattle.wasm_text.specs.Lists.{vec, vec_to, sized}
-use Rattle.wasm_text.specs.Names.{name}
+use Rattle.wasm_binary.specs.Form.{Form, give, byte, choose, ◌>>=◌}
+use Rattle.wasm_binary.specs.Leb.{u32}
+use Rattle.wasm_binary.specs.Lists.{vec, vec_to, sized}
+use Rattle.wasm_binary.specs.Names.{name}
 use Rattle.wasm_code.specs.TypeText.{func_type, limits, table_type}
 use Rattle.wasm_decode.specs.ItemText.{imports, imported, global, export, element, segment, bodies, is_none_left}
 use Rattle.wasm_decode.specs.declared.module.Module.{Module}

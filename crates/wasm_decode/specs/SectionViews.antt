@@ -3,7 +3,7 @@ use Rattle.std.specs.Prelude.{◌≡◌, ℕ, ◌+◌, List, false, Result, Ok, 
 use Rattle.sim_base.specs.declared.fault.Fault.{Fault}
 use Rattle.sim_base.specs.declared.fault.Fault.TheVariants as faults
 use Rattle.sim_base.specs.declared.fault.Place.TheVariants as places
-use Rattle.wasm_text.specs.declared.reader.Reader.{Reader}
+use Rattle.wasm_binary.specs.declared.reader.Reader.{Reader}
 use Rattle.wasm_decode.specs.declared.progress.Progress.{Progress}
 use Rattle.wasm_decode.specs.declared.progress.Section.{Section}
 use Rattle.wasm_decode.specs.SectionText.{wants_bodies}

@@ -1,15 +1,15 @@
 //! Bodies.
 ghost use Rattle.std.specs.Prelude.{◌≡◌, ◌<◌, ◌^◌, length, Bool};
 ghost use Rattle.wasm_decode.specs.ItemText.{local_run as run_form, locals_of, body as body_form, room_of, bodies as bodies_form, body_of, rest_of, is_none_left};
-ghost use Rattle.wasm_text.specs.Lists.{sized, repeated};
-ghost use Rattle.wasm_text.specs.Reads.{Decodes};
+ghost use Rattle.wasm_binary.specs.Lists.{sized, repeated};
+ghost use Rattle.wasm_binary.specs.Reads.{Decodes};
 
 use crate::expressions::read_expr;
 use crate::module::{Body, LocalRun};
 use sim_base::{Fault, List};
 use std::alloc::Global;
+use wasm_binary::{Reader, close, count_exactly, count_to, index, judged};
 use wasm_code::FuncType;
-use wasm_text::{Reader, close, count_exactly, count_to, index, judged};
 
 /// At most so many locals of a function, its parameters with them.
 const LOCALS: usize = 1024;

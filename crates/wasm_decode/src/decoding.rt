@@ -2,8 +2,8 @@
 ghost use Rattle.std.specs.Prelude.{◌≡◌, ◌<◌, length};
 ghost use Rattle.wasm_decode.specs.ModuleText.{IsDecoded, nothing, magic as magic_form, these_bytes as these_form};
 ghost use Rattle.wasm_decode.specs.SectionViews.{SectionsRead, SectionsPut};
-ghost use Rattle.wasm_text.specs.Form.{byte_or, judge_tag};
-ghost use Rattle.wasm_text.specs.Reads.{Decodes};
+ghost use Rattle.wasm_binary.specs.Form.{byte_or, judge_tag};
+ghost use Rattle.wasm_binary.specs.Reads.{Decodes};
 ghost use Rattle.sim_base.specs.Refusals.{WasmMagic};
 
 use crate::module::Module;
@@ -13,7 +13,7 @@ use sim_base::Fault;
 use sim_base::refusals::{WASM_COUNT, WASM_MAGIC};
 use std::alloc::Global;
 use std::mem::drop;
-use wasm_text::{Reader, refused};
+use wasm_binary::{Reader, refused};
 
 /// The magic and the version.
 const MAGIC: [u8; 8] = [0x00, 0x61, 0x73, 0x6D, 0x01, 0x00, 0x00, 0x00];

@@ -2,13 +2,13 @@
 ghost use Rattle.std.specs.Prelude.{◌≡◌, reverse, OnOk, false};
 ghost use Rattle.wasm_decode.specs.InstrText.{expr, in_expr, at_else, at_end, InExpr};
 ghost use Rattle.wasm_decode.specs.ExprViews.{state_of};
-ghost use Rattle.wasm_text.specs.Reads.{Decodes};
+ghost use Rattle.wasm_binary.specs.Reads.{Decodes};
 
 use crate::instructions::instruction;
 use sim_base::{Fault, List};
 use std::alloc::{AllocError, Global};
+use wasm_binary::Reader;
 use wasm_code::{Expr, Instr};
-use wasm_text::Reader;
 
 /// The blocks open at a place of an expression, the innermost last: for each, whether an `else` may
 /// come; and whether the last `end` has been read.

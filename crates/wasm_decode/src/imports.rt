@@ -1,15 +1,15 @@
 //! Imports.
 ghost use Rattle.std.specs.Prelude.{◌≡◌, ◌≤◌, ℕ, List, Ok, Err};
 ghost use Rattle.wasm_decode.specs.ItemText.{judge_import, import_desc as desc_form, import_item as item_form, imports as imports_form, imports_of, imported as imported_of, is_function};
-ghost use Rattle.wasm_text.specs.Form.{byte};
-ghost use Rattle.wasm_text.specs.Reads.{Decodes};
+ghost use Rattle.wasm_binary.specs.Form.{byte};
+ghost use Rattle.wasm_binary.specs.Reads.{Decodes};
 
 use crate::module::{Extern, Import, ImportDesc};
 use sim_base::refusals::{WASM_LIMIT, WASM_TYPE};
 use sim_base::{Fault, List};
 use std::alloc::Global;
+use wasm_binary::{FromByte, Reader, index, read_name, refused};
 use wasm_code::{read_global_type, read_limits, table_limits};
-use wasm_text::{FromByte, Reader, index, read_name, refused};
 
 /// At most so many functions, imported ones with them.
 pub const FUNCTIONS: u32 = 4096;

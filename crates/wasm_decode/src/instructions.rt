@@ -3,17 +3,17 @@ ghost use Rattle.std.specs.Int.{w32, w64, from_le_bytes};
 ghost use Rattle.std.specs.Prelude.{◌≡◌, ◌≤◌, true, reverse, length, Ok, Err, ◌&&◌, ◌==◌, not, nat_le};
 ghost use Rattle.wasm_code.specs.Opcodes.{from};
 ghost use Rattle.wasm_decode.specs.InstrText.{else_may_come as may_come, is_opcode, is_other, is_access, is_numeric, judge_opcode, is_bare, bare as bare_instr, block_of, block as block_form, is_indexed, index_of, indexed as indexed_form, br_table as br_table_form, call_indirect as call_indirect_form, access_at, float_access, access as access_form, memory_of, reserved as reserved_form, const_32 as const_32_form, const_64 as const_64_form, float_32 as float_32_form, float_64 as float_64_form, shape_of, numeric_of, float_numeric, immediates as immediates_form, instr};
-ghost use Rattle.wasm_text.specs.Reads.{Decodes};
+ghost use Rattle.wasm_binary.specs.Reads.{Decodes};
 
 use crate::prefixed::prefixed;
 use sim_base::refusals::{WASM_LIMIT, WASM_OPCODE};
 use sim_base::{Fault, List};
 use std::alloc::Global;
+use wasm_binary::{Reader, index, judged, list_to, refused, signed, tag, zero};
 use wasm_code::{
     BlockType, FloatInstr, Instr, Labels, MemArg, ValType, binary_of, float_binary_row,
     float_load_row, float_store_row, float_unary_row, load_of, store_of, unary_of,
 };
-use wasm_text::{Reader, index, judged, list_to, refused, signed, tag, zero};
 
 /// At most so many labels of a `br_table` beside its default.
 const LABELS: u32 = 4096;

@@ -5,8 +5,8 @@ use sim_base::Fault;
 use sim_base::refusals::WASM_TYPE;
 use std::alloc::Global;
 use std::mem::drop;
+use wasm_binary::{Decode, Reader, byte_list, index, judged, list, read_name, tag};
 use wasm_code::read_global_type;
-use wasm_text::{Decode, Reader, byte_list, index, judged, list, read_name, tag};
 
 impl Decode for GlobalDef {
     ghost use Rattle.wasm_decode.specs.ItemText.{global};

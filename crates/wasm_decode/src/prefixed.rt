@@ -1,13 +1,13 @@
 //! Instructions behind the byte `FC`.
 ghost use Rattle.std.specs.Prelude.{◌≡◌, Ok, Err};
 ghost use Rattle.wasm_decode.specs.InstrText.{is_prefixed, judge_prefixed, zeros_behind as zeros_form, prefix_number as number_form, memory_copy as copy_form, memory_fill as fill_form, prefixed_of as of_form, prefixed as prefixed_form};
-ghost use Rattle.wasm_text.specs.Form.{byte as byte_form};
-ghost use Rattle.wasm_text.specs.Reads.{Decodes};
+ghost use Rattle.wasm_binary.specs.Form.{byte as byte_form};
+ghost use Rattle.wasm_binary.specs.Reads.{Decodes};
 
 use sim_base::Fault;
 use sim_base::refusals::WASM_OPCODE;
+use wasm_binary::{Reader, refused, tag, zero};
 use wasm_code::{FloatInstr, Instr, truncate_row};
-use wasm_text::{Reader, refused, tag, zero};
 
 pub fn prefixed(reader: &mut Reader) -> Result<Instr, Fault>
     ensures { Decodes prefixed_form result reader.old reader.new }

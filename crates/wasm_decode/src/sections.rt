@@ -2,8 +2,8 @@
 ghost use Rattle.std.specs.Prelude.{◌≡◌, ◌-◌, false};
 ghost use Rattle.wasm_decode.specs.ItemText.{imported as imported_of};
 ghost use Rattle.wasm_decode.specs.SectionText.{judge_id, custom as custom_form, content as content_form, section_of as section_of_form, section as section_form};
-ghost use Rattle.wasm_text.specs.Lists.{sized as sized_form};
-ghost use Rattle.wasm_text.specs.Reads.{Decodes};
+ghost use Rattle.wasm_binary.specs.Lists.{sized as sized_form};
+ghost use Rattle.wasm_binary.specs.Reads.{Decodes};
 
 use crate::bodies::bodies;
 use crate::imports::{FUNCTIONS, imported, imports};
@@ -13,8 +13,8 @@ use sim_base::Fault;
 use sim_base::refusals::{WASM_COUNT, WASM_CUT, WASM_SECTION};
 use std::alloc::Global;
 use std::mem::drop;
+use wasm_binary::{Reader, close, index, list, list_to, read_name, refused};
 use wasm_code::tables;
-use wasm_text::{Reader, close, index, list, list_to, read_name, refused};
 
 /// At most so many types, globals and exports.
 const ITEMS: u32 = 1024;

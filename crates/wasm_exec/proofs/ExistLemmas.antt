@@ -6,7 +6,7 @@ use Rattle.wasm_decode.specs.declared.module.Module.{Module}
 use Rattle.wasm_decode.specs.declared.module.Body.{Body as Text}
 use Rattle.wasm_validate.specs.Rules.{imported_functions}
 use Rattle.wasm_validate.specs.Validity.{AllTyped, declared}
-use Rattle.wasm_eval.specs.Eval.{Program, Func}
+use Rattle.wasm_semantics.specs.Eval.{Program, Func}
 use Rattle.wasm_exec.specs.Programs.{FuncsAre, IsProgram, table_at_first}
 use Rattle.wasm_exec.proofs.ListLemmas.{under}
 

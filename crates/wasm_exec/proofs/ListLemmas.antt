@@ -5,7 +5,7 @@ use Rattle.std.proofs.lemmas.List.{length-map, map-append}
 use Rattle.wasm_num.specs.declared.value.Value.{Value}
 use Rattle.wasm_num.specs.Mem.{put}
 use Rattle.wasm_code.specs.declared.types.ValType.{ValType}
-use Rattle.wasm_eval.specs.Values.{HasTypes}
+use Rattle.wasm_semantics.specs.Values.{HasTypes}
 
 pub under : {X : Type 0} (xs : List X) (i : ℕ) → i < length xs → (x : X) × (slice_get xs i ≡ Some x)
 under [] i lt = absurd (omega arith)

@@ -11,12 +11,12 @@ use Rattle.wasm_decode.specs.declared.module.GlobalDef.{GlobalDef}
 use Rattle.wasm_decode.specs.declared.module.Module.{Module}
 use Rattle.wasm_validate.specs.Rules.{imported_globals, functions_of, tables_of, globals_of, kinds_of, least_of, offset_of}
 use Rattle.wasm_validate.specs.Validity.{IsValid}
-use Rattle.wasm_eval.specs.Values.{HasType, HasTypes}
-use Rattle.wasm_run.specs.declared.compiled.Compiled.{Compiled}
-use Rattle.wasm_run.specs.declared.store.Store.{Store}
-use Rattle.wasm_run.specs.Machine.{slot}
-use Rattle.wasm_run.specs.Loaded.{value_types}
-use Rattle.wasm_run.specs.Calling.{as_type, as_types}
+use Rattle.wasm_semantics.specs.Values.{HasType, HasTypes}
+use Rattle.wasm_interpreter.specs.declared.compiled.Compiled.{Compiled}
+use Rattle.wasm_interpreter.specs.declared.store.Store.{Store}
+use Rattle.wasm_interpreter.specs.Machine.{slot}
+use Rattle.wasm_interpreter.specs.Loaded.{value_types}
+use Rattle.wasm_interpreter.specs.Calling.{as_type, as_types}
 use Rattle.wasm_compile.specs.declared.open.TypeRow.{TypeRow}
 use Rattle.wasm_exec.specs.Programs.{constant, constants, no_entries, put_entries, with_elements, table_at_first}
 use Rattle.wasm_exec.specs.Compiled.{CompiledOf}

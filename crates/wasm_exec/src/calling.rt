@@ -2,8 +2,8 @@
 ghost use Rattle.std.specs.Prelude.{◌≡◌, ◌<◌, ℕ, Bool, Option, Some, true, [], ◌∷◌, option_map, length, map, slice_get, if◌then◌else◌};
 ghost use Rattle.wasm_code.specs.declared.types.ValType.TheVariants as types;
 ghost use Rattle.wasm_code.specs.declared.types.FuncType.{FuncType};
-ghost use Rattle.wasm_eval.specs.Eval.{Program, call as calls, same_type, same_types, same_signature};
-ghost use Rattle.wasm_eval.specs.Values.{HasType, HasTypes};
+ghost use Rattle.wasm_semantics.specs.Eval.{Program, call as calls, same_type, same_types, same_signature};
+ghost use Rattle.wasm_semantics.specs.Values.{HasType, HasTypes};
 ghost use Rattle.wasm_validate.specs.Rules.{functions_of, imported_functions, type_of};
 ghost use Rattle.wasm_exec.specs.Programs.{IsProgram};
 ghost use Rattle.wasm_exec.specs.Instances.{EndsAs, GivesTypes, state_of};
@@ -14,9 +14,9 @@ use crate::parts::{CALLS, Parts};
 use crate::values::{answer, put_args, result_type, type_at};
 use wasm_code::{FuncType, ValType};
 use wasm_decode::Module;
-use wasm_eval::Host;
+use wasm_interpreter::{Entry, call};
 use wasm_num::{Trap, Value};
-use wasm_run::{Entry, call};
+use wasm_semantics::Host;
 
 /// Calls a function of the module that these are the parts of.
 pub fn invoke<H: Host>(

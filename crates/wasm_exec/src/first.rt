@@ -1,8 +1,8 @@
 //! The memory and the globals as they are at first.
 ghost use Rattle.std.specs.Prelude.{◌≡◌, ◌*◌, IfOk, true, map, length};
-ghost use Rattle.wasm_eval.specs.Values.{HasType, HasTypes};
-ghost use Rattle.wasm_run.specs.Machine.{slot};
-ghost use Rattle.wasm_run.specs.Loaded.{value_types};
+ghost use Rattle.wasm_semantics.specs.Values.{HasType, HasTypes};
+ghost use Rattle.wasm_interpreter.specs.Machine.{slot};
+ghost use Rattle.wasm_interpreter.specs.Loaded.{value_types};
 ghost use Rattle.wasm_validate.specs.Rules.{memories_of, is_constant, kinds_of, least_of};
 ghost use Rattle.wasm_exec.specs.Programs.{constant, constants, first_memory, with_segments, memory_at_first};
 ghost use Rattle.wasm_exec.specs.Whole.{AreConstant, MemoriesFit, SegmentsFit};

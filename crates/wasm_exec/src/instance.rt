@@ -1,8 +1,8 @@
 //! Instances.
 ghost use Rattle.std.specs.Prelude.{◌≡◌, ◌<◌, ℕ, [], IfOk, Some, map, length, slice_get, slice_set};
 ghost use Rattle.wasm_code.specs.declared.types.FuncType.{FuncType};
-ghost use Rattle.wasm_eval.specs.Eval.{Program, call as calls};
-ghost use Rattle.wasm_eval.specs.Values.{HasTypes};
+ghost use Rattle.wasm_semantics.specs.Eval.{Program, call as calls};
+ghost use Rattle.wasm_semantics.specs.Values.{HasTypes};
 ghost use Rattle.wasm_validate.specs.Rules.{imported_functions, imported_tables, imported_globals, type_of};
 ghost use Rattle.wasm_exec.specs.Programs.{IsProgram, memory_at_first, first_globals};
 ghost use Rattle.wasm_exec.specs.Instances.{EndsAs, GivesTypes, state_of};
@@ -14,8 +14,8 @@ use sim_base::OutOfMemory;
 use std::alloc::Global;
 use std::marker::Model;
 use std::mem::drop;
-use wasm_eval::Host;
 use wasm_num::{Memory, Trap, Value};
+use wasm_semantics::Host;
 use wasm_validate::Valid;
 
 /// A module that runs, with its memory, its globals and its table.

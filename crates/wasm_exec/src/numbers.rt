@@ -10,7 +10,7 @@ use std::alloc::Global;
 use wasm_code::{FuncType, ValType};
 use wasm_compile::TypeRow;
 use wasm_decode::{Import, ImportDesc};
-use wasm_run::Arity;
+use wasm_interpreter::Arity;
 
 /// No function that `decode` accepts has more parameters.
 const ARGUMENTS: usize = 16;

@@ -1,8 +1,8 @@
 //! What an instance is made of.
 ghost use Rattle.std.specs.Prelude.{◌≡◌, ◌*◌, ℕ, List, [], IfOk, map, length};
-ghost use Rattle.wasm_eval.specs.Values.{HasTypes};
-ghost use Rattle.wasm_run.specs.Machine.{slot};
-ghost use Rattle.wasm_run.specs.Loaded.{value_types};
+ghost use Rattle.wasm_semantics.specs.Values.{HasTypes};
+ghost use Rattle.wasm_interpreter.specs.Machine.{slot};
+ghost use Rattle.wasm_interpreter.specs.Loaded.{value_types};
 ghost use Rattle.wasm_compile.specs.declared.open.TypeRow.{TypeRow};
 ghost use Rattle.wasm_validate.specs.Rules.{functions_of, imported_tables, imported_globals, kinds_of};
 ghost use Rattle.wasm_validate.specs.Validity.{IsValid};
@@ -18,7 +18,7 @@ use sim_base::{List, OutOfMemory};
 use std::alloc::Global;
 use std::mem::drop;
 use wasm_decode::Module;
-use wasm_run::{Compiled, Store};
+use wasm_interpreter::{Compiled, Store};
 use wasm_validate::{Space, spaces};
 
 /// How many calls may be nested.

@@ -11,7 +11,7 @@ use std::alloc::Global;
 use wasm_code::{Instr, Limits};
 use wasm_compile::TypeRow;
 use wasm_decode::{ElementSegment, Module};
-use wasm_run::Entry;
+use wasm_interpreter::Entry;
 
 /// The number of an offset, which is one constant.
 pub fn offset(code: &[Instr]) -> u32

@@ -1,15 +1,15 @@
 //! Arguments and results in slots.
 ghost use Rattle.std.specs.Prelude.{◌≡◌, ◌≤◌, ℕ, Some, Option, option_map, length, map, take, slice_get};
 ghost use Rattle.wasm_code.specs.declared.types.FuncType.{FuncType};
-ghost use Rattle.wasm_run.specs.Machine.{slot};
-ghost use Rattle.wasm_run.specs.Calling.{as_type};
+ghost use Rattle.wasm_interpreter.specs.Machine.{slot};
+ghost use Rattle.wasm_interpreter.specs.Calling.{as_type};
 ghost use Rattle.wasm_validate.specs.Rules.{functions_of, type_of};
 ghost use Rattle.wasm_exec.specs.Ready.{first_value, answer_of};
 
 use wasm_code::{FuncType, ValType};
 use wasm_decode::Module;
+use wasm_interpreter::Ending;
 use wasm_num::{Trap, Value};
-use wasm_run::Ending;
 
 fn slot_of(value: Value) -> u64
     ensures { result ≡ slot value }

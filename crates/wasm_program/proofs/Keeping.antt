@@ -12,7 +12,7 @@ use Rattle.wasm_code.specs.declared.instr.Instr.{Instr}
 use Rattle.wasm_code.specs.declared.instr.Instr.TheVariants as instrs
 use Rattle.wasm_code.specs.declared.operators.StoreOp.{StoreOp}
 use Rattle.wasm_code.specs.Code.{Block, Loop, If, Code, Done, Then, In, Both}
-use Rattle.wasm_eval.specs.Eval.{Program, Func, func_types, same_signature, State, Outcome, Falls, Branches, Returns, Traps, Stuck, End, Gives, Fails, Wrong, Answer, Next, Calls, unit_of, settled, pushed, branch_if, branch_table, ended, called, of_type, through, call_indirect, memory_copy, memory_fill, taking, is_float, does, block_exit, loop_exit, chosen, eval, arity, body_exit, answered, made, of_index, call}
+use Rattle.wasm_semantics.specs.Eval.{Program, Func, func_types, same_signature, State, Outcome, Falls, Branches, Returns, Traps, Stuck, End, Gives, Fails, Wrong, Answer, Next, Calls, unit_of, settled, pushed, branch_if, branch_table, ended, called, of_type, through, call_indirect, memory_copy, memory_fill, taking, is_float, does, block_exit, loop_exit, chosen, eval, arity, body_exit, answered, made, of_index, call}
 
 module _ {S X : Type 0} (kept : S → X) (x : X) where
   abbrev pub Keeps : Outcome S → Type 0

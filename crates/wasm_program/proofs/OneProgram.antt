@@ -9,7 +9,7 @@ use Rattle.wasm_decode.specs.declared.module.Module.{Module}
 use Rattle.wasm_decode.specs.declared.module.Body.{Body}
 use Rattle.wasm_validate.specs.Rules.{imported_functions}
 use Rattle.wasm_validate.specs.Validity.{declared}
-use Rattle.wasm_eval.specs.Eval.{Program, Func}
+use Rattle.wasm_semantics.specs.Eval.{Program, Func}
 use Rattle.wasm_exec.specs.Programs.{FuncsAre, IsProgram, table_at_first}
 use Rattle.wasm_code.specs.declared.types.ValType.{ValType}
 use Rattle.wasm_exec.proofs.ProgramLemmas.{types_plain}

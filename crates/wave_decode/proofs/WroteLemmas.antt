@@ -4,8 +4,8 @@ use Rattle.sim_base.specs.declared.bench.Port.{Port}
 use Rattle.sim_base.specs.declared.bench.WriteEnd.{WriteEnd}
 use Rattle.sim_base.specs.declared.bench.WriteEnd.TheVariants as writes
 use Rattle.sim_base.specs.Outside.{Outside}
-use Rattle.outcome_model.specs.Work.{Wrote}
-use Rattle.outcome_model.proofs.WriteLemmas.{front_after, grows_more}
+use Rattle.sim_outcome_model.specs.Work.{Wrote}
+use Rattle.sim_outcome_model.proofs.WriteLemmas.{front_after, grows_more}
 
 pub wrote_both : (r : WriteEnd) (p : Port) (a b c : Outside) (text more : List ℕ) → Wrote writes.Ok p text a b → Wrote r p more b c → Wrote r p (text ++ more) a c
 wrote_both writes.Ok p a b c text more w v = (grows_more _ _ _ text more (text ++ more) w.0 v.0 refl, v.1 ∙ w.1)

@@ -3,7 +3,7 @@ use Rattle.std.specs.Prelude.{ℕ, suc, ◌≡◌, ◌≤◌, ◌++◌, List}
 use Rattle.sim_base.specs.declared.bench.Port.TheVariants as ports
 use Rattle.sim_base.specs.declared.bench.WriteEnd.{WriteEnd}
 use Rattle.sim_base.specs.Outside.{Outside}
-use Rattle.outcome_model.specs.Work.{Wrote}
+use Rattle.sim_outcome_model.specs.Work.{Wrote}
 use Rattle.sim_base.specs.declared.signal.Level.{Level}
 use Rattle.sim_base.specs.declared.signal.Level.TheVariants as levels
 use Rattle.wave_decode.specs.declared.bus.Bus.{Bus}

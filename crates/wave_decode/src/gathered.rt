@@ -1,7 +1,7 @@
 //! The lines, gathered and written in pieces.
 ghost use Rattle.std.specs.Prelude.{◌≡◌, ◌≤◌, ◌+◌, ◌++◌, ℕ, List, [], true, length};
 ghost use Rattle.sim_base.specs.Outside.{Outside, SameOthers};
-ghost use Rattle.outcome_model.specs.Work.{Wrote, WroteOn};
+ghost use Rattle.sim_outcome_model.specs.Work.{Wrote, WroteOn};
 ghost use Rattle.wave_decode.specs.Listening.{Gathers};
 
 use crate::telling::Line;

@@ -1,7 +1,7 @@
 //! The frames on a bus, from change to change.
 ghost use Rattle.std.specs.Prelude.{◌≡◌, ◌≤◌, true, length, slice_get, unwrap_or, []};
 ghost use Rattle.sim_base.specs.Outside.{SameOthers};
-ghost use Rattle.outcome_model.specs.Work.{Wrote};
+ghost use Rattle.sim_outcome_model.specs.Work.{Wrote};
 ghost use Rattle.wave_decode.specs.Frames.{AreHeard, IsBus, frames_text, heard_text, line_count, nothing};
 ghost use Rattle.wave_decode.specs.Rising.{IsRising};
 

@@ -3,7 +3,7 @@ use Rattle.std.proofs.Common.{◌≡◌, ◌<◌, ◌≤◌, ◌*◌, ◌/◌, �
 use Rattle.std.proofs.lemmas.Bool.{and_parts, eqb-true}
 use Rattle.std.proofs.lemmas.Bool.Decides.{nat_tests}
 use Rattle.sim_base.specs.Refusals.{WaveLine, WaveTime}
-use Rattle.numerals.specs.Numerals.{value_of}
+use Rattle.text_numerals.specs.Numerals.{value_of}
 use Rattle.wave_lines.specs.declared.line.Line.TheVariants as says
 use Rattle.wave_lines.specs.declared.line.Stage.{Stage}
 use Rattle.wave_lines.specs.Timely.{IsTimely}

@@ -3,7 +3,7 @@ ghost use Rattle.std.specs.Prelude.{◌≡◌, ◌≤◌, ◌+◌, ◌*◌, true
 ghost use Rattle.std.specs.List.{list_all};
 ghost use Rattle.std.specs.Char.{digit_value, is_ascii_digit};
 ghost use Rattle.std.specs.Str.{bytes_eq};
-ghost use Rattle.numerals.specs.Numerals.{value_of};
+ghost use Rattle.text_numerals.specs.Numerals.{value_of};
 ghost use Rattle.sim_base.specs.declared.limits.TheConstants.{LONGEST_RUN};
 ghost use Rattle.sim_base.specs.Refusals.{WaveLine};
 ghost use Rattle.wave_lines.specs.Reading.{after_value, is_decimal, is_printable, is_value, judged, line_said, number_of, time_said, value_said};

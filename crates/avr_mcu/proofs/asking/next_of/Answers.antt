@@ -1,5 +1,5 @@
 use Rattle.std.proofs.Common.{ℕ, sym, subst}
-use Rattle.unit_law.specs.UnitMachine.{FirstDue}
+use Rattle.avr_unit.specs.UnitMachine.{FirstDue}
 use Rattle.avr_mcu.proofs.asking.next_of.Goals as goal
 
 pub returns : goal.returns

@@ -1,5 +1,5 @@
 use Rattle.std.proofs.Common.{◌∙◌}
-use Rattle.unit_law.proofs.PadLemmas.{below, joined_none}
+use Rattle.avr_unit.proofs.PadLemmas.{below, joined_none}
 use Rattle.avr_mcu.proofs.asking.pad_of.Goals as goal
 
 pub returns : goal.returns

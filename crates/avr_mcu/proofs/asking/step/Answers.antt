@@ -1,5 +1,5 @@
 use Rattle.std.proofs.Common.{◌∙◌}
-use Rattle.unit_law.proofs.StepLemmas.{first_of_two-none}
+use Rattle.avr_unit.proofs.StepLemmas.{first_of_two-none}
 use Rattle.avr_mcu.proofs.asking.step.Goals as goal
 
 pub returns-clause-byte : goal.returns-clause-byte

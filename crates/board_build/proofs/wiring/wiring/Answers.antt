@@ -1,5 +1,5 @@
 use Rattle.std.proofs.Common.{◌≡◌, ◌∙◌, ap, refl, length, List, ℕ}
-use Rattle.pin_nets.proofs.BoundLemmas.{length-net_numbers}
+use Rattle.net_pins.proofs.BoundLemmas.{length-net_numbers}
 use Rattle.board_build.proofs.wiring.wiring.Goals as goal
 
 pub nets_inside-requires-clause-below : goal.nets_inside-requires-clause-below

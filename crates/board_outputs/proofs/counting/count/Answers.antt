@@ -3,7 +3,7 @@ use Rattle.sim_base.specs.Rows.{Row}
 use Rattle.text_model.specs.Wave.{wave_count, wave_text}
 use Rattle.board_model.specs.Board.{bytes}
 use Rattle.board_model.specs.Rows.{Shown, rows}
-use Rattle.board_laws.specs.Active.{active_pairs}
+use Rattle.law_board.specs.Active.{active_pairs}
 use Rattle.vcd_text.specs.Ports.{Leaves, BreaksOff}
 use Rattle.vcd_text.specs.Writers.{Tied, texts_of, capped}
 use Rattle.vcd_text.proofs.CallerLemmas.{stopped_within}

@@ -4,7 +4,7 @@ use Rattle.sim_base.specs.Outside.{Outside}
 use Rattle.text_model.specs.Wave.{wave_text}
 use Rattle.board_model.specs.Board.{bytes}
 use Rattle.board_model.specs.Rows.{rows}
-use Rattle.board_laws.specs.Active.{active_pairs}
+use Rattle.law_board.specs.Active.{active_pairs}
 use Rattle.vcd_text.specs.Ports.{texts, Writes}
 use Rattle.board_outputs.specs.Outputs.{outputs_of}
 use Rattle.board_outputs.specs.Run.{Outputs}

@@ -2,7 +2,7 @@ use Rattle.std.proofs.Common.{◌≡◌, ◌∙◌, ◌-◌, ◌+◌, [], List, 
 use Rattle.sim_base.specs.Rows.{Row}
 use Rattle.sim_base.specs.declared.bench.WriteEnd.TheVariants as writes
 use Rattle.board_model.specs.Board.{bytes, states}
-use Rattle.board_laws.specs.Active.{active_pairs}
+use Rattle.law_board.specs.Active.{active_pairs}
 use Rattle.board_model.specs.Rows.{rows}
 use Rattle.text_model.specs.Wave.{wave_text}
 use Rattle.vcd_text.specs.Ports.{Writes, BreaksOff}

@@ -3,7 +3,7 @@ use Rattle.std.specs.List.{flat_map}
 use Rattle.sim_base.specs.declared.bench.Port.TheVariants as ports
 use Rattle.sim_base.specs.Outside.{SameOthers}
 use Rattle.board_model.specs.Walks.{below}
-use Rattle.outcome_model.specs.Work.{WroteOn}
+use Rattle.sim_outcome_model.specs.Work.{WroteOn}
 use Rattle.sim_report.specs.declared.row.ReportRow.TheVariants as lines
 use Rattle.board_report.specs.Report.{page_row, text_of}
 use Rattle.board_report.proofs.report.write_oled.Given as goal

@@ -1,6 +1,6 @@
 use Rattle.std.proofs.Common.{◌≡◌, ◌∙◌, ◌++◌, ap, sym}
 use Rattle.sim_base.specs.declared.bench.Port.TheVariants as ports
-use Rattle.either_part.specs.declared.either.Either.TheVariants as eithers
+use Rattle.part_either.specs.declared.either.Either.TheVariants as eithers
 use Rattle.any_part.specs.AnyBehaviour.{AnyBehaviour, own_of}
 use Rattle.board_report.specs.Report.{own_rows, text_of}
 use Rattle.board_report.proofs.ReportLemmas.{wrote_same}

@@ -1,7 +1,7 @@
 use Rattle.std.proofs.Common.{◌≡◌, ◌∙◌, ◌+◌, ◌++◌, ◌<◌, ◌≤◌, ℕ, List, [], length, drop, min, map, ap, sym, refl, arith}
 use Rattle.std.proofs.lemmas.List.{append_assoc, append-nil}
 use Rattle.sim_base.specs.declared.bench.Port.TheVariants as ports
-use Rattle.outcome_model.proofs.WriteLemmas.{others_more}
+use Rattle.sim_outcome_model.proofs.WriteLemmas.{others_more}
 use Rattle.board_build.specs.declared.plan.PlanPart.{PlanPart}
 use Rattle.board_report.specs.Report.{chosen_text, parts_text}
 use Rattle.board_report.proofs.ReportLemmas.{wrote_same, parts_more, parts_done}

@@ -1,7 +1,7 @@
 use Rattle.std.proofs.Common.{◌≡◌, ◌++◌, true, List, ℕ, drop, map}
 use Rattle.sim_base.specs.declared.bench.Port.TheVariants as ports
 use Rattle.sim_base.specs.Outside.{SameOthers}
-use Rattle.outcome_model.specs.Work.{WroteOn}
+use Rattle.sim_outcome_model.specs.Work.{WroteOn}
 use Rattle.board_report.specs.Report.{parts_text}
 use Rattle.board_report.proofs.report.write_parts.Given as goal
 

@@ -2,8 +2,8 @@ use Rattle.std.proofs.Common.{◌≡◌, ◌∙◌, ◌++◌, ◌∷◌, ℕ, Li
 use Rattle.std.specs.List.{flat_map}
 use Rattle.sim_base.specs.declared.bench.Port.TheVariants as ports
 use Rattle.board_model.specs.Walks.{below}
-use Rattle.outcome_model.specs.Work.{Wrote}
-use Rattle.outcome_model.proofs.WriteLemmas.{others_more}
+use Rattle.sim_outcome_model.specs.Work.{Wrote}
+use Rattle.sim_outcome_model.proofs.WriteLemmas.{others_more}
 use Rattle.sim_report.specs.declared.row.ReportRow.{ReportRow}
 use Rattle.sim_report.specs.declared.row.ReportRow.TheVariants as lines
 use Rattle.board_report.specs.Report.{mode_of, ignored_rows, text_of}

@@ -1,6 +1,6 @@
 use Rattle.std.proofs.Common.{ℕ, List, ◌++◌, ◌∙◌, false, refl, sym, ap}
 use Rattle.sim_base.specs.declared.bench.Port.TheVariants as ports
-use Rattle.outcome_model.proofs.WriteLemmas.{others_more}
+use Rattle.sim_outcome_model.proofs.WriteLemmas.{others_more}
 use Rattle.chip_report.specs.Lines.{console_opening}
 use Rattle.chip_report.specs.Writing.{rest_text}
 use Rattle.chip_report.proofs.WriteLemmas.{goes_none, byte_more, console_written}

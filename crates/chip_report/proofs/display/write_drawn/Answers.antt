@@ -1,7 +1,7 @@
 use Rattle.std.proofs.Common.{ℕ, List, [], ◌∷◌, ◌++◌, ◌∙◌, sym, ap}
 use Rattle.std.specs.List.{flat_map}
 use Rattle.sim_base.specs.declared.bench.Port.TheVariants as ports
-use Rattle.outcome_model.proofs.WriteLemmas.{others_more}
+use Rattle.sim_outcome_model.proofs.WriteLemmas.{others_more}
 use Rattle.sim_report.specs.Lines.{hex_byte}
 use Rattle.chip_report.specs.Lines.{row_opening}
 use Rattle.chip_report.proofs.WriteLemmas.{goes_from, digits_more, row_written}

@@ -1,6 +1,6 @@
 use Rattle.std.proofs.Common.{◌*◌, ◌∙◌, refl}
 use Rattle.sim_base.specs.declared.bench.Port.TheVariants as ports
-use Rattle.outcome_model.proofs.WriteLemmas.{others_more}
+use Rattle.sim_outcome_model.proofs.WriteLemmas.{others_more}
 use Rattle.chip_report.specs.Lines.{rows_text}
 use Rattle.chip_report.proofs.WriteLemmas.{size_begin, row_fits, size_left, rows_begin, rows_more, rows_end}
 use Rattle.chip_report.proofs.display.write_frame.Goals as goal

@@ -1,9 +1,9 @@
 use Rattle.std.proofs.Common.{◌*◌, ℕ, List, Ok, IfSome}
 use Rattle.sim_base.specs.Outside.{Outside}
 use Rattle.text_model.specs.Hex.{hex_image}
-use Rattle.outcome_model.specs.Work.{IsFile}
-use Rattle.outcome_model.proofs.EndLemmas.{stops_counts}
-use Rattle.cli_work.specs.Outcomes.{outcome_of}
+use Rattle.sim_outcome_model.specs.Work.{IsFile}
+use Rattle.sim_outcome_model.proofs.EndLemmas.{stops_counts}
+use Rattle.sim_io.specs.Outcomes.{outcome_of}
 use Rattle.board_outputs.proofs.RanLemmas.{ran_ends, ran_said, ran_counts}
 use Rattle.cli_bare.specs.Bare.{bare_run}
 use Rattle.cli_bare.specs.Answer.{BareAnswer}

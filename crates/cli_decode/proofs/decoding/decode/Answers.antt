@@ -1,9 +1,9 @@
 use Rattle.std.proofs.Common.{ℕ, List, Option, Ok, IfSome}
 use Rattle.std.specs.Option.{option_map}
 use Rattle.std.specs.Borrow.{Bor}
-use Rattle.outcome_model.specs.Stop.{printed}
-use Rattle.outcome_model.proofs.EndLemmas.{alone_ran}
-use Rattle.cli_work.specs.Outcomes.{outcome_of}
+use Rattle.sim_outcome_model.specs.Stop.{printed}
+use Rattle.sim_outcome_model.proofs.EndLemmas.{alone_ran}
+use Rattle.sim_io.specs.Outcomes.{outcome_of}
 use Rattle.wave_decode.specs.Frames.{frames_text}
 use Rattle.cli_decode.specs.Answer.{DecodeAnswer, texts_by}
 use Rattle.cli_decode.proofs.AnswerLemmas.{decode_answer, decode_stops}

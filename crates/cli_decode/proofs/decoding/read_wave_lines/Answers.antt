@@ -1,8 +1,8 @@
 use Rattle.std.proofs.Common.{List, ℕ}
 use Rattle.std.specs.Option.{option_map}
 use Rattle.std.specs.Borrow.{Bor}
-use Rattle.outcome_model.proofs.ReadLemmas.{named_stop}
-use Rattle.cli_work.specs.Outcomes.{outcome_of, stop_of}
+use Rattle.sim_outcome_model.proofs.ReadLemmas.{named_stop}
+use Rattle.sim_io.specs.Outcomes.{outcome_of, stop_of}
 use Rattle.cli_decode.specs.Answer.{LevelsIn}
 use Rattle.cli_decode.proofs.decoding.read_wave_lines.Goals as goal
 

@@ -1,14 +1,14 @@
 use Rattle.std.proofs.Common.{◌∙◌, ◌<◌, ℕ, List, [], ◌∷◌, None, Ok, refl, arith, ap, sym}
 use Rattle.std.proofs.lemmas.List.Elements.{All-push}
-use Rattle.outcome_model.specs.Work.{Reading}
-use Rattle.outcome_model.proofs.ReadLemmas.{if_always, first_stops, got_both, steady_rule}
+use Rattle.sim_outcome_model.specs.Work.{Reading}
+use Rattle.sim_outcome_model.proofs.ReadLemmas.{if_always, first_stops, got_both, steady_rule}
 use Rattle.board_build.specs.declared.plan.Plan.{Plan}
 use Rattle.chip_module.specs.Sources.{HasFewPins}
 use Rattle.chip_module.specs.declared.source.ChipSource.{ChipSource}
 use Rattle.document_model.specs.declared.project.Project.{Project}
 use Rattle.project_model.specs.Work as model
 use Rattle.project_model.specs.Work.{PlanIn}
-use Rattle.cli_work.specs.Outcomes.{outcome_of}
+use Rattle.sim_io.specs.Outcomes.{outcome_of}
 use Rattle.cli_project.specs.declared.project.Work.{Work}
 use Rattle.cli_project.specs.Works.{work_of}
 use Rattle.cli_project.proofs.ProjectLemmas.{same_here}

@@ -1,12 +1,12 @@
 use Rattle.std.proofs.Common.{ℕ, List, Err, refl, subst}
 use Rattle.sim_base.specs.declared.fault.Fault.{Fault}
-use Rattle.outcome_model.specs.Stop.{Refused}
-use Rattle.outcome_model.specs.Outcome.{Stopped}
-use Rattle.outcome_model.proofs.ReadLemmas.{if_always, named_stop}
+use Rattle.sim_outcome_model.specs.Stop.{Refused}
+use Rattle.sim_outcome_model.specs.Outcome.{Stopped}
+use Rattle.sim_outcome_model.proofs.ReadLemmas.{if_always, named_stop}
 use Rattle.board_make.specs.Board.{chip_file}
 use Rattle.chip_module.specs.Binary.{IsReading}
 use Rattle.project_model.specs.Work.{in_folder}
-use Rattle.cli_work.specs.Outcomes.{outcome_of}
+use Rattle.sim_io.specs.Outcomes.{outcome_of}
 use Rattle.cli_make.specs.Answer.{JudgedBytes, folder}
 use Rattle.cli_make.proofs.project.judged.Goals as goal
 

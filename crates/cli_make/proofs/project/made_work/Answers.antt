@@ -1,12 +1,12 @@
 use Rattle.std.proofs.Common.{ℕ, List, refl, arith}
-use Rattle.outcome_model.specs.Work.{Reading}
-use Rattle.outcome_model.proofs.ReadLemmas.{first_stops, got_both}
+use Rattle.sim_outcome_model.specs.Work.{Reading}
+use Rattle.sim_outcome_model.proofs.ReadLemmas.{first_stops, got_both}
 use Rattle.board_make.specs.Board.{chip_file, diagram, project}
 use Rattle.board_make.specs.Firmware.{image}
 use Rattle.board_make.specs.Inverter.{inverter}
 use Rattle.chip_module.specs.Binary.{Binary}
 use Rattle.project_model.specs.Work.{Work, in_folder}
-use Rattle.cli_work.specs.Outcomes.{outcome_of}
+use Rattle.sim_io.specs.Outcomes.{outcome_of}
 use Rattle.cli_project.specs.Works.{work_of}
 use Rattle.cli_project.proofs.ProjectLemmas.{same_here}
 use Rattle.cli_make.specs.Answer.{BehindModule, JudgedBytes, folder, source}

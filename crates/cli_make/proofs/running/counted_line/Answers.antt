@@ -3,8 +3,8 @@ use Rattle.chip_module.specs.declared.source.ChipSource.{ChipSource}
 use Rattle.any_part.specs.Start.{Contents}
 use Rattle.project_model.specs.Work.{Work}
 use Rattle.vcd_text.specs.Writers.{capped}
-use Rattle.cli_board.specs.Counted.{run_changes}
-use Rattle.cli_board.specs.Run.{run_bytes, run_wakes}
+use Rattle.project_run.specs.Counted.{run_changes}
+use Rattle.project_run.specs.Run.{run_bytes, run_wakes}
 use Rattle.cli_project.specs.Works.{work_of}
 use Rattle.cli_make.proofs.MakeLemmas.{line_is}
 use Rattle.cli_make.proofs.running.counted_line.Goals as goal

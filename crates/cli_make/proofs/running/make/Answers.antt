@@ -1,8 +1,8 @@
 use Rattle.std.proofs.Common.{◌*◌, ℕ}
 use Rattle.sim_base.specs.Outside.{Outside}
-use Rattle.outcome_model.proofs.EndLemmas.{stops_counts}
+use Rattle.sim_outcome_model.proofs.EndLemmas.{stops_counts}
 use Rattle.project_model.specs.Work.{Work}
-use Rattle.cli_work.specs.Outcomes.{outcome_of}
+use Rattle.sim_io.specs.Outcomes.{outcome_of}
 use Rattle.cli_project.specs.Works.{work_of}
 use Rattle.cli_project.proofs.ProjectLemmas.{same_here}
 use Rattle.board_outputs.proofs.RanLemmas.{ran_counts}

@@ -1,9 +1,9 @@
 use Rattle.std.proofs.Common.{◌∙◌, ℕ, List, subst}
 use Rattle.sim_base.specs.declared.bench.Port.TheVariants as ports
 use Rattle.sim_base.specs.Outside.{Outside}
-use Rattle.outcome_model.specs.Stop.{printed}
-use Rattle.outcome_model.specs.Work.{RanOn}
-use Rattle.cli_work.specs.Outcomes.{outcome_of}
+use Rattle.sim_outcome_model.specs.Stop.{printed}
+use Rattle.sim_outcome_model.specs.Work.{RanOn}
+use Rattle.sim_io.specs.Outcomes.{outcome_of}
 use Rattle.cli_project.specs.Works.{work_of}
 use Rattle.cli_make.specs.Answer.{made_line}
 use Rattle.cli_make.proofs.MakeLemmas.{ran_after, others_after, nothing_ran, nothing_else, one_part}

@@ -1,7 +1,7 @@
 use Rattle.std.proofs.Common.{ℕ, List, Ok, IfSome, codes}
-use Rattle.outcome_model.specs.Stop.{accepted, printed}
-use Rattle.outcome_model.proofs.EndLemmas.{alone_ran}
-use Rattle.cli_work.specs.Outcomes.{outcome_of}
+use Rattle.sim_outcome_model.specs.Stop.{accepted, printed}
+use Rattle.sim_outcome_model.proofs.EndLemmas.{alone_ran}
+use Rattle.sim_io.specs.Outcomes.{outcome_of}
 use Rattle.cli_module.specs.Answer.{ModuleAnswer}
 use Rattle.cli_module.proofs.AnswerLemmas.{module_answer, module_stops}
 use Rattle.cli_module.proofs.judging.check_module.Goals as goal

@@ -1,8 +1,8 @@
 use Rattle.std.proofs.Common.{ℕ, List, Err, subst}
 use Rattle.sim_base.specs.declared.fault.Fault.{Fault}
-use Rattle.outcome_model.proofs.JudgeLemmas.{refused}
+use Rattle.sim_outcome_model.proofs.JudgeLemmas.{refused}
 use Rattle.chip_module.specs.Binary.{Judges, IsReading}
-use Rattle.cli_work.specs.Outcomes.{outcome_of}
+use Rattle.sim_io.specs.Outcomes.{outcome_of}
 use Rattle.cli_module.proofs.judging.read_module.Goals as goal
 
 pub returns-in-Err-Refused-clause-got : goal.returns-in-Err-Refused-clause-got

@@ -3,17 +3,17 @@ use Rattle.std.specs.List.{All}
 use Rattle.std.proofs.lemmas.List.Elements.{All-map}
 use Rattle.board_model.specs.Fits.{AreInputs}
 use Rattle.board_run.specs.BoardView.{BoardView}
-use Rattle.board_laws.specs.Play.{or_player}
+use Rattle.law_board.specs.Play.{or_player}
 use Rattle.board_build.specs.Pins.{IsShort}
 use Rattle.chip_module.specs.declared.source.ChipSource.{ChipSource}
 use Rattle.chip_module.specs.Sources.{pins_of}
 use Rattle.any_part.specs.AnyPart.{any}
 use Rattle.board_report.specs.Report.{play_part_text}
-use Rattle.played_part.specs.Played.{PlayedPart, state_of}
+use Rattle.part_played.specs.Played.{PlayedPart, state_of}
 use Rattle.board_outputs.specs.Outputs.{outputs_of}
 use Rattle.board_outputs.specs.Start.{IsAtStart}
-use Rattle.cli_work.specs.Outcomes.{outcome_of}
-use Rattle.cli_board.proofs.PlayLemmas.{same_texts}
+use Rattle.sim_io.specs.Outcomes.{outcome_of}
+use Rattle.project_run.proofs.PlayLemmas.{same_texts}
 use Rattle.board_outputs.proofs.VariableLemmas.{pins_few}
 use Rattle.cli_replay.proofs.ReplayLemmas.{same_wakes}
 use Rattle.cli_replay.proofs.replaying.play_board.Goals as goal

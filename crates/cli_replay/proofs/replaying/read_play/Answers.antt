@@ -1,9 +1,9 @@
 use Rattle.std.proofs.Common.{ℕ, List, Option, Some}
 use Rattle.std.proofs.lemmas.Result.{err_from_is_err_and}
 use Rattle.sim_base.specs.Outside.{Outside}
-use Rattle.outcome_model.proofs.ReadLemmas.{first_stops, got_both}
+use Rattle.sim_outcome_model.proofs.ReadLemmas.{first_stops, got_both}
 use Rattle.project_model.specs.Work.{WorkIn}
-use Rattle.cli_work.specs.Outcomes.{outcome_of}
+use Rattle.sim_io.specs.Outcomes.{outcome_of}
 use Rattle.cli_project.specs.Works.{script_path, work_of}
 use Rattle.cli_project.proofs.ProjectLemmas.{steady_work}
 use Rattle.cli_replay.specs.Answer.{RepeatIn, RowsIn}

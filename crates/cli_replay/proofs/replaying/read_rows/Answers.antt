@@ -2,12 +2,12 @@ use Rattle.std.proofs.Common.{◌≡◌, ◌∙◌, ℕ, List, length, Ok, Err, 
 use Rattle.sim_base.specs.declared.fault.Fault.{Fault}
 use Rattle.sim_base.specs.Reads.{Reads}
 use Rattle.text_model.specs.Wave.{Variable}
-use Rattle.board_laws.specs.Player.{DriveRows}
+use Rattle.law_board.specs.Player.{DriveRows}
 use Rattle.board_outputs.specs.Variables.{board_variables}
 use Rattle.chip_module.specs.declared.source.ChipSource.{ChipSource}
 use Rattle.chip_module.specs.Sources.{pins_of}
 use Rattle.vcd_text.specs.Tracks.{wave_rows}
-use Rattle.cli_work.specs.Outcomes.{outcome_of}
+use Rattle.sim_io.specs.Outcomes.{outcome_of}
 use Rattle.cli_project.specs.Works.{work_of}
 use Rattle.cli_replay.specs.Plays.{IsReady}
 use Rattle.cli_replay.proofs.OrderLemmas.{rows_ordered}

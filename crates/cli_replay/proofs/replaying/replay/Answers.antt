@@ -1,8 +1,8 @@
 use Rattle.std.proofs.Common.{◌*◌, ℕ, List, Option}
 use Rattle.sim_base.specs.Outside.{Outside}
-use Rattle.outcome_model.specs.Stop.{Texts}
-use Rattle.outcome_model.proofs.EndLemmas.{stops_counts}
-use Rattle.cli_work.specs.Outcomes.{outcome_of}
+use Rattle.sim_outcome_model.specs.Stop.{Texts}
+use Rattle.sim_outcome_model.proofs.EndLemmas.{stops_counts}
+use Rattle.sim_io.specs.Outcomes.{outcome_of}
 use Rattle.cli_project.specs.Works.{script_path}
 use Rattle.board_outputs.specs.Outputs.{outputs_of}
 use Rattle.board_outputs.proofs.RanLemmas.{ran_ends, ran_said, ran_counts}

@@ -1,18 +1,18 @@
 use Rattle.std.proofs.Common.{◌≡◌, ◌+◌, ◌*◌, ℕ, List, Option, None, subst}
 use Rattle.sim_base.specs.Outside.{Outside}
-use Rattle.outcome_model.specs.Stop.{Texts}
+use Rattle.sim_outcome_model.specs.Stop.{Texts}
 use Rattle.project_model.specs.Work.{Work, WorkIn}
 use Rattle.chip_module.specs.declared.source.ChipSource.{ChipSource}
 use Rattle.any_part.specs.Start.{Contents}
-use Rattle.outcome_model.specs.Outcome.{Accepted}
-use Rattle.outcome_model.proofs.EndLemmas.{stops_counts}
-use Rattle.cli_work.specs.Outcomes.{outcome_of}
+use Rattle.sim_outcome_model.specs.Outcome.{Accepted}
+use Rattle.sim_outcome_model.proofs.EndLemmas.{stops_counts}
+use Rattle.sim_io.specs.Outcomes.{outcome_of}
 use Rattle.cli_project.specs.Works.{script_path, work_of}
 use Rattle.board_outputs.specs.Outputs.{outputs_of}
 use Rattle.board_outputs.specs.Ran.{Ran}
-use Rattle.cli_board.specs.Run.{run_texts, run_wakes}
+use Rattle.project_run.specs.Run.{run_texts, run_wakes}
 use Rattle.board_outputs.proofs.RanLemmas.{ran_ends, ran_said, ran_counts}
-use Rattle.isolation.specs.Isolated.{Isolated}
+use Rattle.law_isolation.specs.Isolated.{Isolated}
 use Rattle.cli_run.specs.Answer.{RunAnswer, AnswerSuch}
 use Rattle.cli_run.proofs.RunLemmas.{run_answer, run_stops, isolated_answer, isolated_stops}
 use Rattle.cli_run.proofs.running.run.Goals as goal

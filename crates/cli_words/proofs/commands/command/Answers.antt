@@ -1,6 +1,6 @@
 use Rattle.std.proofs.Common.{◌≡◌, rules, [], Bor, get_or, map}
 use Rattle.clap.specs.Words.{rule_of}
-use Rattle.words_model.specs.Words.{Text}
+use Rattle.cli_words_model.specs.Words.{Text}
 use Rattle.cli_words.specs.Commands.{word_rule, option_rule, no_rules, with_rules}
 use Rattle.cli_words.proofs.ReadLemmas.{one_more}
 use Rattle.cli_words.proofs.commands.command.Goals as goal

@@ -4,7 +4,7 @@ use Rattle.clap.specs.Kinds.{HasKind, Kinds}
 use Rattle.clap.specs.Values.{kind_of}
 use Rattle.clap.specs.Words.{App, app_of, fault_of, matches_of, is_simple, is_simple_and_free}
 use Rattle.clap.specs.declared.error.kind.ErrorKind.TheVariants as kind
-use Rattle.words_model.specs.Words.{Text}
+use Rattle.cli_words_model.specs.Words.{Text}
 use Rattle.cli_words.specs.Commands.{app_for}
 use Rattle.cli_words.proofs.RuleLemmas.{simple, simple_and_free}
 use Rattle.cli_words.proofs.WalkLemmas.{pick}

@@ -1,5 +1,5 @@
 use Rattle.std.proofs.Common.{◌≡◌, ◌<◌, ◌^◌, take}
-use Rattle.words_model.specs.Request.{value_of}
+use Rattle.cli_words_model.specs.Request.{value_of}
 use Rattle.cli_words.proofs.number.value.Given as goal
 
 abbrev pub invariant-loop-c : goal.invariant-loop-c

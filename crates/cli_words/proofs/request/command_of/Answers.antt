@@ -1,6 +1,6 @@
 use Rattle.std.proofs.Common.{◌≡◌, ◌∙◌, Bool, true, false, if◌then◌else◌, bytes_eq, codes, refl}
 use Rattle.std.proofs.lemmas.Slice.Eq.{bytes_eq-Decides}
-use Rattle.words_model.specs.Words.{Text}
+use Rattle.cli_words_model.specs.Words.{Text}
 use Rattle.cli_words.proofs.request.command_of.Goals as goal
 
 another : {X : Type 0} (a b : Text) (x y : X) → (a ≡ b → ⊥) → (if bytes_eq a b then x else y) ≡ y

@@ -1,6 +1,6 @@
 use Rattle.std.proofs.Common.{◌∙◌, ap, map, string_bytes}
 use Rattle.std.specs.Option.{option_map}
-use Rattle.words_model.specs.Words.{Syntax, texts_of}
+use Rattle.cli_words_model.specs.Words.{Syntax, texts_of}
 use Rattle.cli_words.specs.Asked.{asked_of}
 use Rattle.cli_words.specs.Commands.{row}
 use Rattle.cli_words.specs.Table.{request_of_texts, syntax_of}

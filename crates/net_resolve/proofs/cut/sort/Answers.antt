@@ -1,6 +1,6 @@
 use Rattle.net_resolve.proofs.Common.{◌≡◌, ◌∙◌, ℕ, List, length, arith, sym, ap, subst, Some, slice_get, joined_by, lent_whole, joined_is, joins_is, IsCut}
 use Rattle.net_resolve.proofs.Common.{whole_of}
-use Rattle.union_find.proofs.ClassLemmas.{joins_keep, joins_same}
+use Rattle.net_union_find.proofs.ClassLemmas.{joins_keep, joins_same}
 use Rattle.net_resolve.proofs.WholeLemmas.{pairs_moved}
 use Rattle.net_resolve.proofs.cut.sort.Goals as goal
 

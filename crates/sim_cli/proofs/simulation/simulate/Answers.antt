@@ -1,10 +1,10 @@
 use Rattle.std.proofs.Common.{map, string_bytes}
-use Rattle.words_model.specs.Request.{request_of}
-use Rattle.cli_work.specs.Outcomes.{outcome_of}
-use Rattle.outcome_model.proofs.WriteLemmas.{complains, complains_since}
-use Rattle.outcome_model.proofs.EndLemmas.{told}
-use Rattle.outcome_model.proofs.PromiseLemmas.{words_alone, answered, complete, holds_answer, stopped, true_stop, has_cause, holds_front, complains_alone, is_status}
-use Rattle.isolation.specs.Isolated.{Isolated}
+use Rattle.cli_words_model.specs.Request.{request_of}
+use Rattle.sim_io.specs.Outcomes.{outcome_of}
+use Rattle.sim_outcome_model.proofs.WriteLemmas.{complains, complains_since}
+use Rattle.sim_outcome_model.proofs.EndLemmas.{told}
+use Rattle.sim_outcome_model.proofs.PromiseLemmas.{words_alone, answered, complete, holds_answer, stopped, true_stop, has_cause, holds_front, complains_alone, is_status}
+use Rattle.law_isolation.specs.Isolated.{Isolated}
 use Rattle.sim_cli.specs.Answers.{Answers, AnswersSuch, RepeatAnswers}
 use Rattle.sim_cli.proofs.AnswerLemmas.{one, counted, holds_play, holds_alone, holds_worlds, holds_shown}
 use Rattle.sim_cli.proofs.simulation.simulate.Goals as goal

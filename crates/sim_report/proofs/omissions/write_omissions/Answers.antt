@@ -2,7 +2,7 @@ use Rattle.std.proofs.Common.{◌≡◌, ◌∙◌, ◌++◌, ◌<◌, ℕ, List
 use Rattle.std.specs.List.{concat}
 use Rattle.std.proofs.lemmas.List.{append_assoc}
 use Rattle.sim_base.specs.declared.bench.Port.TheVariants as ports
-use Rattle.outcome_model.proofs.WriteLemmas.{part_more, others_more}
+use Rattle.sim_outcome_model.proofs.WriteLemmas.{part_more, others_more}
 use Rattle.avr_omit.specs.declared.omission.Omission.{Omission}
 use Rattle.avr_omit.specs.declared.omission.Omission.TheVariants.{HeldPrescaler}
 use Rattle.avr_omit.specs.declared.kept.Asked.{Asked}

@@ -2,7 +2,7 @@ use Rattle.std.proofs.Common.{◌≡◌, map, take, true}
 use Rattle.std.specs.List.{concat}
 use Rattle.sim_base.specs.declared.bench.Port.TheVariants as ports
 use Rattle.sim_base.specs.Outside.{SameOthers}
-use Rattle.outcome_model.specs.Work.{WroteOn}
+use Rattle.sim_outcome_model.specs.Work.{WroteOn}
 use Rattle.avr_omit.specs.Names.{all}
 use Rattle.sim_report.specs.Omissions.{omission_text}
 use Rattle.sim_report.proofs.omissions.write_omissions.Given as goal

@@ -2,7 +2,7 @@ use Rattle.std.proofs.Common.{◌≡◌, ◌<◌, ◌+◌, ◌-◌, ℕ, Some, N
 use Rattle.std.specs.Prelude.{slice_get, slice_index, slice_set}
 use Rattle.std.proofs.lemmas.Option.{slice_get_read}
 use Rattle.part_law.specs.declared.span.Span.{Span}
-use Rattle.board_laws.specs.Player.{DriveRows, has_row}
+use Rattle.law_board.specs.Player.{DriveRows, has_row}
 use Rattle.trace_run.specs.Rows.{ArePast, IsCount, IsNext}
 use Rattle.trace_run.proofs.CountLemmas.{Counted, counted_more, counted_none}
 use Rattle.trace_run.proofs.rows.count_all.Goals as goal

@@ -1,7 +1,7 @@
 use Rattle.std.proofs.Common.{◌≡◌, ◌-◌, ◌+◌, ℕ, arith}
 use Rattle.std.proofs.lemmas.Result.{err_from_is_err_and}
-use Rattle.wasm_text.specs.Lists.{is_zero}
-use Rattle.wasm_text.proofs.Runs.{begins, goes, run_fails, ends, not_zero, zero_is}
+use Rattle.wasm_binary.specs.Lists.{is_zero}
+use Rattle.wasm_binary.proofs.Runs.{begins, goes, run_fails, ends, not_zero, zero_is}
 use Rattle.wasm_code.specs.TypeText.{table_type}
 use Rattle.wasm_code.proofs.type_text.table_items.Goals as goal
 

@@ -1,6 +1,6 @@
 use Rattle.std.proofs.Common.{◌-◌, ℕ}
-use Rattle.wasm_text.specs.Lists.{is_zero}
-use Rattle.wasm_text.proofs.Runs.{HasRun}
+use Rattle.wasm_binary.specs.Lists.{is_zero}
+use Rattle.wasm_binary.proofs.Runs.{HasRun}
 use Rattle.wasm_code.specs.TypeText.{table_type}
 use Rattle.wasm_code.proofs.type_text.table_items.Given as goal
 

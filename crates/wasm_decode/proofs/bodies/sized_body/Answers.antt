@@ -1,5 +1,5 @@
 use Rattle.std.proofs.lemmas.Result.{err_from_is_err_and}
-use Rattle.wasm_text.proofs.Parts.{sized_fails, sized_short, sized_reads, sized_inside}
+use Rattle.wasm_binary.proofs.Parts.{sized_fails, sized_short, sized_reads, sized_inside}
 use Rattle.wasm_decode.specs.ItemText.{body}
 use Rattle.wasm_decode.proofs.bodies.sized_body.Goals as goal
 

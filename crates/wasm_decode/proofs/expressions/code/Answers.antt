@@ -1,7 +1,7 @@
 use Rattle.std.proofs.Common.{List, Bool, subst}
 use Rattle.std.specs.Prelude.{reverse}
 use Rattle.std.proofs.lemmas.Result.{err_from_is_err_and}
-use Rattle.wasm_text.specs.Reads.{Reads, Fails}
+use Rattle.wasm_binary.specs.Reads.{Reads, Fails}
 use Rattle.wasm_decode.specs.InstrText.{instr}
 use Rattle.wasm_decode.specs.ExprViews.{state_of}
 use Rattle.wasm_decode.proofs.ExprLemmas.{expr_goes, expr_fails, expr_ends, instr_some}

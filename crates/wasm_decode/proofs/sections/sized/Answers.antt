@@ -1,6 +1,6 @@
 use Rattle.std.proofs.Common.{false}
 use Rattle.std.proofs.lemmas.Result.{err_from_is_err_and}
-use Rattle.wasm_text.proofs.Parts.{sized_fails, sized_short, sized_reads, sized_inside}
+use Rattle.wasm_binary.proofs.Parts.{sized_fails, sized_short, sized_reads, sized_inside}
 use Rattle.wasm_decode.specs.SectionText.{content}
 use Rattle.wasm_decode.proofs.sections.sized.Goals as goal
 

@@ -1,5 +1,5 @@
 use Rattle.std.proofs.Common.{◌≡◌, Option, Some, None, ap, refl, sym, ◌∙◌, rules}
-use Rattle.wasm_run.specs.declared.op.Entry.{Entry}
+use Rattle.wasm_interpreter.specs.declared.op.Entry.{Entry}
 use Rattle.wasm_validate.specs.Rules.{type_of}
 use Rattle.wasm_exec.proofs.SlotLemmas.{no_entry, empty_entry, full_entry, entry_type}
 use Rattle.wasm_exec.proofs.calling.entered.Goals as goal

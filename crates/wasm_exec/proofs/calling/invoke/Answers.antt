@@ -1,7 +1,7 @@
 use Rattle.std.proofs.Common.{◌≡◌, Option, length, ap, arith, sym, subst, ◌∙◌, Some}
 use Rattle.wasm_code.specs.declared.types.ValType.{ValType}
 use Rattle.wasm_code.specs.declared.types.FuncType.{FuncType}
-use Rattle.wasm_eval.specs.Eval.{call}
+use Rattle.wasm_semantics.specs.Eval.{call}
 use Rattle.wasm_exec.specs.Instances.{EndsAs, GivesTypes, state_of}
 use Rattle.wasm_exec.specs.Ready.{running, answer_of}
 use Rattle.wasm_exec.proofs.InvokeLemmas.{args_fit, one_result, all_slots, called, asked, ends_as, typed_as, ready_after}

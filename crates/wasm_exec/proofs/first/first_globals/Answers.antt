@@ -1,9 +1,9 @@
 use Rattle.std.proofs.Common.{◌≡◌, ◌+◌, ◌++◌, ℕ, List, suc, [], ◌∷◌, ap, map, take, sym, subst, arith, Some, ◌∙◌}
 use Rattle.std.specs.Prelude.{slice_get}
 use Rattle.wasm_code.specs.declared.instr.Instr.{Instr}
-use Rattle.wasm_eval.specs.Values.{HasType, HasTypes}
-use Rattle.wasm_run.specs.Machine.{slot}
-use Rattle.wasm_run.specs.Loaded.{value_types}
+use Rattle.wasm_semantics.specs.Values.{HasType, HasTypes}
+use Rattle.wasm_interpreter.specs.Machine.{slot}
+use Rattle.wasm_interpreter.specs.Loaded.{value_types}
 use Rattle.wasm_validate.specs.Rules.{kinds_of}
 use Rattle.wasm_exec.specs.Programs.{constant, constants}
 use Rattle.wasm_exec.proofs.ListLemmas.{get_item}

@@ -1,7 +1,7 @@
 use Rattle.std.proofs.Common.{◌≡◌, map, take}
-use Rattle.wasm_eval.specs.Values.{HasTypes}
-use Rattle.wasm_run.specs.Machine.{slot}
-use Rattle.wasm_run.specs.Loaded.{value_types}
+use Rattle.wasm_semantics.specs.Values.{HasTypes}
+use Rattle.wasm_interpreter.specs.Machine.{slot}
+use Rattle.wasm_interpreter.specs.Loaded.{value_types}
 use Rattle.wasm_validate.specs.Rules.{kinds_of}
 use Rattle.wasm_exec.specs.Programs.{constants}
 use Rattle.wasm_exec.proofs.first.first_globals.Given as goal

@@ -1,8 +1,8 @@
 use Rattle.std.proofs.Common.{◌≡◌, ◌<◌, ◌-◌, ◌++◌, ◌∙◌, ℕ, suc, List, [], refl, sym, ap, subst, arith}
 use Rattle.sim_base.specs.declared.bench.Port.TheVariants as ports
 use Rattle.sim_base.specs.declared.bench.WriteEnd.TheVariants as writes
-use Rattle.outcome_model.specs.Work.{Wrote}
-use Rattle.outcome_model.proofs.WriteLemmas.{others_more, wrote_start}
+use Rattle.sim_outcome_model.specs.Work.{Wrote}
+use Rattle.sim_outcome_model.proofs.WriteLemmas.{others_more, wrote_start}
 use Rattle.wave_decode.specs.Frames.{reading, told}
 use Rattle.wave_decode.specs.Listening.{Gathers}
 use Rattle.wave_decode.specs.Rising.{first_cycle}

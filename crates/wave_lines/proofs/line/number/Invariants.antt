@@ -1,7 +1,7 @@
 use Rattle.std.proofs.Common.{◌≡◌, ◌≤◌, min, take, true}
 use Rattle.std.specs.List.{list_all}
 use Rattle.std.specs.Char.{is_ascii_digit}
-use Rattle.numerals.specs.Numerals.{value_of}
+use Rattle.text_numerals.specs.Numerals.{value_of}
 use Rattle.wave_lines.specs.Timely.{latest}
 use Rattle.wave_lines.proofs.line.number.Given as goal
 

@@ -1,7 +1,7 @@
 use Rattle.std.proofs.Common.{◌+◌, ◌<◌, ◌≤◌, ℕ, sym, subst, arith}
-use Rattle.unit_law.specs.UnitMachine.{FirstDue}
-use Rattle.unit_law.proofs.UnitLemmas.{move_none}
-use Rattle.unit_law.proofs.PassLemmas.{pass_due, pass_silent, pass_state, pass_request}
+use Rattle.avr_unit.specs.UnitMachine.{FirstDue}
+use Rattle.avr_unit.proofs.UnitLemmas.{move_none}
+use Rattle.avr_unit.proofs.PassLemmas.{pass_due, pass_silent, pass_state, pass_request}
 use Rattle.avr_mcu.proofs.asking.HearAsking.of.Goals as goal
 
 pub notices-requires-clause-due : goal.notices-requires-clause-due

@@ -1,5 +1,5 @@
 use Rattle.std.proofs.Common.{◌≡◌, ◌<◌, subst, arith}
-use Rattle.unit_law.specs.UnitMachine.{FirstDue}
+use Rattle.avr_unit.specs.UnitMachine.{FirstDue}
 use Rattle.avr_mcu.specs.Devices.{Devices, devices}
 use Rattle.avr_mcu.specs.Units.{request}
 use Rattle.avr_mcu.specs.Touched.{Touched}

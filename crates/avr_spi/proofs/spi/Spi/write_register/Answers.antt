@@ -1,5 +1,5 @@
 use Rattle.std.proofs.Common.{◌∙◌, ℕ, Bool, ap}
-use Rattle.unit_law.specs.UnitMachine.{At}
+use Rattle.avr_unit.specs.UnitMachine.{At}
 use Rattle.avr_spi.specs.Spi.{Spi}
 use Rattle.avr_spi.specs.SpiReach.{moved_since, moved_is}
 use Rattle.avr_spi.proofs.spi.Spi.write_register.Goals as goal

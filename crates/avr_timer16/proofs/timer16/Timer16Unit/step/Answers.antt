@@ -1,8 +1,8 @@
 use Rattle.std.proofs.Common.{◌∙◌, ap, sym, subst}
 use Rattle.part_law.specs.declared.span.Span.{Span}
 use Rattle.part_law.specs.Spans.{IsIn}
-use Rattle.avr_count.specs.Outputs.{has_pins}
-use Rattle.unit_law.specs.UnitMachine.{At}
+use Rattle.avr_timer.specs.Outputs.{has_pins}
+use Rattle.avr_unit.specs.UnitMachine.{At}
 use Rattle.avr_timer16.specs.Timer16.{Timer16, mode_of}
 use Rattle.avr_timer16.proofs.PlacedLemmas.{timer_moves}
 use Rattle.avr_timer16.proofs.timer16.Timer16Unit.step.Goals as goal

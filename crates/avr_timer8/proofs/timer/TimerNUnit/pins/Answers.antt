@@ -1,6 +1,6 @@
 use Rattle.std.proofs.Common.{sym, subst}
 use Rattle.part_law.specs.declared.span.Span.{Span}
-use Rattle.unit_law.specs.Placed.{Placed}
+use Rattle.avr_unit.specs.Placed.{Placed}
 use Rattle.avr_timer8.specs.Timer8.{timer8}
 use Rattle.avr_timer8.specs.Timer8Reach.{timer_placed}
 use Rattle.avr_timer8.proofs.timer.TimerNUnit.pins.Goals as goal

@@ -1,7 +1,7 @@
 use Rattle.std.proofs.Common.{sym, subst}
 use Rattle.part_law.specs.declared.span.Span.{Span}
 use Rattle.part_law.specs.Spans.{IsIn}
-use Rattle.unit_law.specs.Placed.{Placed}
+use Rattle.avr_unit.specs.Placed.{Placed}
 use Rattle.avr_timer8.specs.Timer8.{timer8}
 use Rattle.avr_timer8.specs.Timer8Reach.{timer_placed}
 use Rattle.avr_timer8.proofs.PlacedLemmas.{timer_moves}

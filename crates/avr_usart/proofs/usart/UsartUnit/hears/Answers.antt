@@ -1,5 +1,5 @@
 use Rattle.std.proofs.Common.{◌∙◌, ◌&&◌, Bool, not, ap, sym}
-use Rattle.unit_law.specs.UnitMachine.{At}
+use Rattle.avr_unit.specs.UnitMachine.{At}
 use Rattle.avr_usart.specs.Receiver.{listens}
 use Rattle.avr_usart.specs.Usart.{Usart, rxd, rxen}
 use Rattle.avr_usart.proofs.UnheardLemmas.{usart_unheard}

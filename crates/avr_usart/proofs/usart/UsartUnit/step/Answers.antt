@@ -1,7 +1,7 @@
 use Rattle.std.proofs.Common.{◌∙◌, ap, sym, subst}
 use Rattle.part_law.specs.declared.span.Span.{Span}
 use Rattle.part_law.specs.Spans.{IsIn}
-use Rattle.unit_law.specs.UnitMachine.{At}
+use Rattle.avr_unit.specs.UnitMachine.{At}
 use Rattle.avr_usart.specs.Transmitter.{changes_line}
 use Rattle.avr_usart.specs.Usart.{Usart}
 use Rattle.avr_usart.proofs.PlacedLemmas.{usart_moves}

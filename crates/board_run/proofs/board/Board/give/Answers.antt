@@ -1,5 +1,5 @@
 use Rattle.board_run.proofs.Common.{ap, arith, subst, List, Input, BoardView}
-use Rattle.board_laws.specs.Scripts.{SameRun}
+use Rattle.law_board.specs.Scripts.{SameRun}
 use Rattle.board_run.proofs.GiveLemmas.{given_past}
 use Rattle.board_run.proofs.board.Board.give.Goals as goal
 

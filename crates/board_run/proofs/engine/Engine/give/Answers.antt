@@ -1,6 +1,6 @@
 use Rattle.board_run.proofs.Common.{◌≡◌, List, subst, refl, Input}
 use Rattle.std.specs.Prelude.{insert}
-use Rattle.board_laws.specs.Scripts.{with_input}
+use Rattle.law_board.specs.Scripts.{with_input}
 use Rattle.board_run.proofs.GiveLemmas.{given_to}
 use Rattle.board_run.proofs.engine.Engine.give.Goals as goal
 

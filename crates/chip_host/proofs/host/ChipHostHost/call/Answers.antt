@@ -2,8 +2,8 @@ use Rattle.std.proofs.Common.{◌≡◌, None, Option, Some, sym, ap, subst, ◌
 use Rattle.std.specs.Prelude.{IfOk, option_to_list, slice_get}
 use Rattle.wasm_code.specs.declared.types.FuncType.{FuncType}
 use Rattle.wasm_num.specs.declared.value.Value.{Value}
-use Rattle.wasm_eval.specs.Eval.{Answer}
-use Rattle.wasm_eval.specs.Values.{HasTypes}
+use Rattle.wasm_semantics.specs.Eval.{Answer}
+use Rattle.wasm_semantics.specs.Values.{HasTypes}
 use Rattle.chip_abi.specs.HostNames.{output_of, type_of_name}
 use Rattle.chip_output.specs.Calls.{output_does}
 use Rattle.chip_host.specs.Inventory.{HostState, Inventory, left}

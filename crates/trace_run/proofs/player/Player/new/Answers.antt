@@ -1,7 +1,7 @@
 use Rattle.std.proofs.Common.{ap, ◌∙◌, List}
 use Rattle.sim_base.specs.declared.signal.Level.{Level}
 use Rattle.part_law.specs.declared.span.Span.{Span}
-use Rattle.board_laws.specs.Player.{new_player}
+use Rattle.law_board.specs.Player.{new_player}
 use Rattle.trace_run.proofs.CountLemmas.{none_past}
 use Rattle.trace_run.proofs.StateLemmas.{held_at_start}
 use Rattle.trace_run.proofs.player.Player.new.Goals as goal

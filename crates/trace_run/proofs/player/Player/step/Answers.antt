@@ -1,6 +1,6 @@
 use Rattle.std.proofs.Common.{◌≡◌, ◌∙◌, ◌+◌, List, length, take, false, refl, ap, sym, subst, arith}
 use Rattle.std.specs.Prelude.{slice_get}
-use Rattle.board_laws.specs.Player.{DriveRows, PlayerState, player}
+use Rattle.law_board.specs.Player.{DriveRows, PlayerState, player}
 use Rattle.trace_run.specs.PlayerAt.{PlayerAt}
 use Rattle.trace_run.specs.Rows.{AreAllPast, AreCounts, IsNext, any_row}
 use Rattle.trace_run.proofs.CountLemmas.{still_past}

@@ -3,7 +3,7 @@ use Rattle.std.specs.Prelude.{slice_get, slice_index, option_map}
 use Rattle.std.proofs.lemmas.List.{length-map}
 use Rattle.std.proofs.lemmas.Option.{slice_get_read, slice_get-map}
 use Rattle.sim_base.specs.declared.signal.Drive.{Drive}
-use Rattle.board_laws.specs.Player.{DriveRows, player, drive_at}
+use Rattle.law_board.specs.Player.{DriveRows, player, drive_at}
 use Rattle.trace_run.specs.PlayerAt.{PlayerAt}
 use Rattle.trace_run.specs.Rows.{IsCount}
 use Rattle.trace_run.proofs.CountLemmas.{count_of}

@@ -1,5 +1,5 @@
 use Rattle.std.proofs.Common.{◌≡◌, None, Some, ap, ◌∙◌}
-use Rattle.board_laws.specs.Player.{PlayerState}
+use Rattle.law_board.specs.Player.{PlayerState}
 use Rattle.trace_run.specs.PlayerAt.{PlayerAt}
 use Rattle.trace_run.proofs.StateLemmas.{first_at, first_far, first_none, next_now}
 use Rattle.trace_run.proofs.player.PlayerPart.due.Goals as goal

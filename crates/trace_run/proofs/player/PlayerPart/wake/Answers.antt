@@ -1,7 +1,7 @@
 use Rattle.std.proofs.Common.{ap, ◌∙◌}
 use Rattle.std.specs.Prelude.{slice_get}
 use Rattle.part_law.proofs.SpanLemmas.{not_in_span}
-use Rattle.board_laws.specs.Player.{player}
+use Rattle.law_board.specs.Player.{player}
 use Rattle.trace_run.specs.PlayerAt.{PlayerAt}
 use Rattle.trace_run.proofs.StateLemmas.{none_moved}
 use Rattle.trace_run.proofs.player.PlayerPart.wake.Goals as goal

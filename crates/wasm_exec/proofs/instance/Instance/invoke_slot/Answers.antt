@@ -1,6 +1,6 @@
 use Rattle.std.proofs.Common.{refl, ap, subst, ◌∙◌, Ok, Err}
 use Rattle.wasm_decode.specs.declared.module.Module.{Module}
-use Rattle.wasm_eval.specs.Eval.{call}
+use Rattle.wasm_semantics.specs.Eval.{call}
 use Rattle.wasm_exec.specs.Instances.{Running, state_of}
 use Rattle.wasm_exec.proofs.SlotLemmas.{ends_slot, gives_asked, stops}
 use Rattle.wasm_exec.proofs.instance.Instance.invoke_slot.Goals as goal

@@ -1,5 +1,0 @@
-use Rattle.std.proofs.Common.{length}
-use Rattle.call_rows.proofs.signatures.+add_types.Given as goal
-
-abbrev pub decreases-add_types : goal.decreases-add_types
-decreases-add_types l = length l.numbers.now

@@ -1,5 +1,0 @@
-use Rattle.std.proofs.Common.{◌≡◌}
-use Rattle.net_rows.proofs.rows.set_contacts.Given as goal
-
-abbrev pub invariant-loop-contact : goal.invariant-loop-contact
-invariant-loop-contact l = l.nets.wiring ≡ l.fn.nets.wiring

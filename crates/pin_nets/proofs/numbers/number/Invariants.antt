@@ -1,5 +1,0 @@
-use Rattle.pin_nets.proofs.NumberLemmas.{Numbered}
-use Rattle.pin_nets.proofs.numbers.number.Given as goal
-
-abbrev pub invariant-loop-pin : goal.invariant-loop-pin
-invariant-loop-pin l = Numbered l.fn.labels l.labels l.pin l.nets

@@ -1,7 +1,0 @@
-use Rattle.std.proofs.Common.{◌≡◌, drop}
-use Rattle.std.specs.Prelude.{◌||◌}
-use Rattle.board_model.specs.Nets.{joined_by}
-use Rattle.plain_nets.proofs.plain.is_joined.Given as goal
-
-abbrev pub invariant-loop-pair : goal.invariant-loop-pair
-invariant-loop-pair l = (l.found || joined_by (drop l.pair-index l.pairs) l.n l.m) ≡ joined_by l.pairs l.n l.m

@@ -1,5 +1,0 @@
-use Rattle.script_text.proofs.WordLemmas.{five_words}
-use Rattle.script_text.proofs.action.five_words.Goals as goal
-
-pub returns-clause-action : goal.returns-clause-action
-returns-clause-action c = λ a b d e. five_words a b d e c.args._rest.now

@@ -1,4 +1,0 @@
-use Rattle.unit_law.proofs.seldom.SeldomGroup.asked.Goals as goal
-
-pub returns : goal.returns
-returns g c = λ l t h. c.asked.ensures l t h.here

@@ -1,4 +1,0 @@
-use Rattle.unit_law.proofs.seldom.SeldomGroup.request.Goals as goal
-
-pub returns : goal.returns
-returns g c = λ t h. h.request_is

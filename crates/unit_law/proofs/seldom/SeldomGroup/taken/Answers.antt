@@ -1,8 +1,0 @@
-use Rattle.unit_law.proofs.seldom.SeldomGroup.taken.Goals as goal
-
-pub returns-clause-stands : goal.returns-clause-stands
-returns-clause-stands g c = record {
-  here = c.taken.ensures.stands;
-  due_is = c.due-self.ensures;
-  request_is = c.request-self.ensures _ c.taken.ensures.stands;
-}

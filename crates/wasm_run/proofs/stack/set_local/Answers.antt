@@ -1,5 +1,0 @@
-use Rattle.wasm_run.proofs.Stacks.{local_new}
-use Rattle.wasm_run.proofs.stack.set_local.Goals as goal
-
-pub returns : goal.returns
-returns c = local_new c.args.slots.now c.args.sp c.args.i c.args.value c.requires.below

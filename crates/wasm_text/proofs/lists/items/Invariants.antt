@@ -1,7 +1,0 @@
-use Rattle.std.proofs.Common.{◌-◌, ℕ}
-use Rattle.wasm_text.specs.Lists.{is_zero}
-use Rattle.wasm_text.proofs.Runs.{HasRun}
-use Rattle.wasm_text.proofs.lists.items.Given as goal
-
-abbrev pub invariant-loop-i : goal.invariant-loop-i
-invariant-loop-i g l = HasRun (λ (left : ℕ). g.T.Decode.form) (λ left x. left - 1) is_zero l.fn.reader l.reader l.fn.count l.items (l.fn.count - l.i)
