@@ -109,9 +109,9 @@ class Pages(unittest.TestCase):
         self.assertEqual((it.takes, it.needed, it.one_of), (["WAVE"], [], [["--uart", "--bit"], ["--spi", "--data", "--mode"], ["--i2c", "--sda"]]))
 
     def test_each_refusal_has_its_row(self):
-        source = (ROOT / "crates/sim_base/src/refusals.rt").read_text()
+        source = (ROOT / "crates/sim_refusals/src/numbers.rt").read_text()
         numbers = {name: int(number) for name, number in re.findall(r"(?m)^pub const ([A-Z0-9_]+): u\d+ = (\d+);", source)}
-        readers = "".join(it.read_text() for it in ROOT.glob("crates/*/src/*.rt") if it.parts[-3] != "sim_base")
+        readers = "".join(it.read_text() for it in ROOT.glob("crates/*/src/*.rt") if it.parts[-3] != "sim_refusals")
         given = {name: number for name, number in numbers.items() if re.search(rf"\b{name}\b", readers)}
         self.assertGreater(len(given), 40)
         self.assertEqual([name for name, number in given.items() if pages.refusal(number)[0] is None], [])

@@ -1,5 +1,5 @@
-//! What firmware can write that this Uno leaves out: a table of addresses, masks and values, and for each thing that is
-//! left out the first write that asked for it.
+//! What firmware can ask for that this Uno leaves out: a table of addresses, masks and values, and the first write
+//! that asked for each thing.
 //! No call takes memory, and none fails.
 #![tactic(auto)]
 

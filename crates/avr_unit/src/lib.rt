@@ -1,7 +1,8 @@
-//! The law of a hardware unit of the microcontroller, and how units become one (data sheet, "Register Summary",
-//! "Reset and Interrupt Vectors", "Alternate Port Functions").
-//! A unit is moved by one cycle at a time; one without an event may lag behind; several side by side are one.
-//! No call takes memory, and none fails.
+//! The trait `Unit` with its law: what a hardware unit of the microcontroller is, how it may lag behind the board,
+//! how two units become one, and how the clock of some stops (data sheet, "Register Summary", "Reset and Interrupt
+//! Vectors", "Alternate Port Functions").
+//! A unit is moved by one cycle at a time; one without an event may lag behind; several side by side are one. No
+//! call takes memory, and none fails.
 #![tactic(auto)]
 
 mod bits;

@@ -1,3 +1,4 @@
-//! A hardware unit next to the processor, cycle by cycle: what the processor does with its registers, and what each step leaves.
+//! What a unit's data sheet section is stated in, as definitions: what the processor does with a unit's registers
+//! cycle by cycle, and what each step leaves.
 //! There is no code here; the laws of the units' data sheet sections are stated in these words.
 #![tactic(auto)]

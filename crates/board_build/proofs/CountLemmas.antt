@@ -3,7 +3,7 @@ use Rattle.std.proofs.Common.{◌≡◌, ◌+◌, ◌-◌, ◌<◌, ◌≤◌, �
 use Rattle.std.proofs.lemmas.List.{drop_more, drop_all}
 use Rattle.sim_base.specs.declared.fault.Refusal.{Refusal}
 use Rattle.sim_base.specs.declared.fault.Place.TheVariants as places
-use Rattle.sim_base.specs.Refusals.{BoardCount}
+use Rattle.sim_refusals.specs.Refusals.{BoardCount}
 use Rattle.document_model.specs.Reading.{refusal}
 use Rattle.board_build.specs.Parts.{numbers_from, one_of}
 

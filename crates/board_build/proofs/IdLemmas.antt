@@ -10,7 +10,7 @@ use Rattle.sim_base.proofs.BoolLemmas.{not_swap}
 use Rattle.indexmap.specs.IndexSet.{keys, insert_key}
 use Rattle.sim_base.specs.declared.fault.Refusal.{Refusal}
 use Rattle.sim_base.specs.declared.fault.Place.TheVariants as places
-use Rattle.sim_base.specs.Refusals.{IdRepeated}
+use Rattle.sim_refusals.specs.Refusals.{IdRepeated}
 use Rattle.document_model.specs.declared.diagram.PartText.{PartText}
 use Rattle.document_model.specs.Reading.{refusal}
 use Rattle.board_build.specs.Parts.{ids_from, place_of}

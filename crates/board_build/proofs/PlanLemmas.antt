@@ -37,7 +37,7 @@ use Rattle.board_build.specs.declared.plan.PlanPart.{PlanPart}
 use Rattle.board_build.specs.declared.plan.Plan.{Plan}
 use Rattle.part_catalog.specs.declared.settings.Settings.{Settings}
 use Rattle.sim_base.specs.declared.fault.Place.TheVariants as places
-use Rattle.sim_base.specs.Refusals.{AttrValue, ScriptPart}
+use Rattle.sim_refusals.specs.Refusals.{AttrValue, ScriptPart}
 use Rattle.board_build.specs.Parts.{ids_from, chip_place, is_chip_type, chosen, kind_of_part, numbers_from, is_uno, one_of, one_uno, found_chip, settings_in, planned, part_in_plan, is_chip, no_ninth, few_chips, takes, input_for, input_of, place_of}
 use Rattle.board_build.specs.Pins.{count_of, starts_from, wire_on_board, contacts_inside, resistors_in, pairs_inside, pairs_at}
 use Rattle.board_build.specs.Plan.{nets_of_pairs, joined, wiring_of, plan_in, plan_of}

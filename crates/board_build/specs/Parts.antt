@@ -5,7 +5,7 @@ use Rattle.std.specs.Str.{bytes_eq}
 use Rattle.sim_base.specs.declared.fault.Refusal.{Refusal}
 use Rattle.sim_base.specs.declared.fault.Place.TheVariants as places
 use Rattle.sim_base.specs.declared.wiring.Input.{Input}
-use Rattle.sim_base.specs.Refusals.{TypeUnknown, IdRepeated, BoardCount, ChipMissing, AttrValue, BoardLimit, ScriptPart}
+use Rattle.sim_refusals.specs.Refusals.{TypeUnknown, IdRepeated, BoardCount, ChipMissing, AttrValue, BoardLimit, ScriptPart}
 use Rattle.part_catalog.specs.declared.kind.Kind.{Kind}
 use Rattle.part_catalog.specs.declared.kind.Kind.TheVariants as kinds
 use Rattle.part_catalog.specs.declared.settings.Settings.{Settings}

@@ -4,7 +4,7 @@ use Rattle.std.specs.List.{position_from}
 use Rattle.std.specs.Str.{bytes_eq}
 use Rattle.sim_base.specs.declared.fault.Refusal.{Refusal}
 use Rattle.sim_base.specs.declared.fault.Place.TheVariants as places
-use Rattle.sim_base.specs.Refusals.{PinUnknown}
+use Rattle.sim_refusals.specs.Refusals.{PinUnknown}
 use Rattle.part_catalog.specs.declared.kind.Kind.TheVariants as kinds
 use Rattle.part_catalog.specs.Pins.{pin_names, number_of, joins_of, contacts_in}
 use Rattle.document_model.specs.declared.diagram.Wire.{Wire}

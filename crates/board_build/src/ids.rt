@@ -9,8 +9,8 @@ ghost use Rattle.board_build.specs.Ids.{ids_in};
 use crate::refusals::refused;
 use document_model::PartText;
 use indexmap::IndexSet;
-use sim_base::refusals::ID_REPEATED;
 use sim_base::{Fault, Name, Place};
+use sim_refusals::numbers::ID_REPEATED;
 use std::alloc::Global;
 
 /// The ids with their places. Refuses with 43 IdRepeated at the later part.

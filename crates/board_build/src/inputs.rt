@@ -11,8 +11,8 @@ use crate::refusals::refused;
 use indexmap::IndexSet;
 use input_texts::ScriptRow;
 use part_catalog::{Kind, greatest_value};
-use sim_base::refusals::SCRIPT_PART;
 use sim_base::{Fault, Input, List, Place};
+use sim_refusals::numbers::SCRIPT_PART;
 use std::alloc::Global;
 
 fn is_button(kind: Kind) -> bool

@@ -8,8 +8,8 @@ use crate::plan::PlanKind;
 use crate::refusals::refused;
 use document_model::{ChipFile, PartText};
 use part_catalog::{Kind, kind_of, kind_with};
-use sim_base::refusals::{BOARD_COUNT, BOARD_LIMIT, CHIP_MISSING, TYPE_UNKNOWN};
 use sim_base::{Fault, List, Place};
+use sim_refusals::numbers::{BOARD_COUNT, BOARD_LIMIT, CHIP_MISSING, TYPE_UNKNOWN};
 use std::alloc::Global;
 
 fn chip_place(chips: &[ChipFile], name: &[u8]) -> Option<u8>

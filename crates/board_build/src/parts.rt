@@ -9,8 +9,8 @@ use crate::plan::{PlanKind, PlanPart};
 use crate::refusals::refused;
 use document_model::PartText;
 use part_catalog::{Settings, settings_of};
-use sim_base::refusals::ATTR_VALUE;
 use sim_base::{Fault, List, OutOfMemory, Place, Text};
+use sim_refusals::numbers::ATTR_VALUE;
 use std::alloc::Global;
 
 fn settings_in(kind: PlanKind, attrs: &List<(Text, Text)>) -> Option<Settings>

@@ -12,8 +12,8 @@ use crate::refusals::refused;
 use document_model::{ChipPins, Wire};
 use indexmap::IndexSet;
 use part_catalog::{pin_count, pin_number};
-use sim_base::refusals::PIN_UNKNOWN;
 use sim_base::{Fault, List, Name, OutOfMemory, Place};
+use sim_refusals::numbers::PIN_UNKNOWN;
 use std::alloc::Global;
 
 fn chip_pins(pins: &[ChipPins], chip: u8) -> &[Option<Name>]

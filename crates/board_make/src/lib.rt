@@ -1,5 +1,6 @@
-//! A large board that is the same for a seed on every machine: its project, its firmware, its diagram and its chip.
-//! `make` gives them exactly (`specs/Board.antt`, Firmware, Inverter); it answers otherwise only where memory runs out.
+//! A large board that is the same for a seed on every machine: its project, firmware, diagram and chip.
+//! `make` gives them exactly (`specs/Board.antt`, Firmware, Inverter); it answers otherwise only where memory runs
+//! out.
 #![tactic(auto)]
 
 mod board;

@@ -1,8 +1,7 @@
-//! The run of a board of any parts for a command: what its wave shows, and its bytes on Serial and its wave in a file, if one
-//! is named.
-//! `open_and_play` opens the outputs and leaves the wave and the bytes of the board stepped cycle by cycle (`specs/Run.antt`,
-//! `specs/Ran.antt`), and `count` counts what they would have and writes nothing.
-//! Only `wave_head` takes memory.
+//! The run of a board of any parts for a command: the bytes on Serial, and the wave in a file if one is named.
+//! `open_and_play` opens the outputs and leaves the wave and the bytes of the board stepped cycle by cycle
+//! (`specs/Run.antt`, `specs/Ran.antt`), and `count` counts what they would have and writes nothing. Only
+//! `wave_head` takes memory.
 #![tactic(auto)]
 
 mod counting;

@@ -1,5 +1,5 @@
-//! The report of a board: a line for the cycles of its run, and the lines of each part in order, by how
-//! it stands (`specs/Report.antt`).
+//! The report of a board: a line for the cycles of its run, and the lines of each part in order
+//! (`specs/Report.antt`).
 //! No call takes memory; a write may fail, and nothing is written after one that did.
 #![tactic(auto)]
 

@@ -3,7 +3,7 @@ use Rattle.std.proofs.Common.{◌≡◌, ℕ, ◌+◌, List, [], ◌∷◌, ◌+
 use Rattle.std.specs.Prelude.{slice_get, option_to_list, if◌then◌else◌}
 use Rattle.std.proofs.lemmas.Bool.{and_parts}
 use Rattle.sim_base.specs.declared.fault.Refusal.{Refusal}
-use Rattle.sim_base.specs.Refusals.{ImportType, ImportUnknown}
+use Rattle.sim_refusals.specs.Refusals.{ImportType, ImportUnknown}
 use Rattle.wasm_code.specs.declared.types.ValType.{ValType}
 use Rattle.wasm_code.specs.declared.types.ValType.TheVariants as types
 use Rattle.wasm_code.specs.declared.types.FuncType.{FuncType}

@@ -3,7 +3,7 @@ use Rattle.std.specs.Prelude.{ℕ, ◌+◌, List, [], ◌∷◌, ◌++◌, Bool,
 use Rattle.std.specs.Str.{bytes_eq}
 use Rattle.sim_base.specs.declared.fault.Refusal.{Refusal}
 use Rattle.sim_base.specs.declared.fault.Place.TheVariants as places
-use Rattle.sim_base.specs.Refusals.{ImportType, ImportUnknown}
+use Rattle.sim_refusals.specs.Refusals.{ImportType, ImportUnknown}
 use Rattle.wasm_code.specs.declared.types.FuncType.{FuncType}
 use Rattle.wasm_semantics.specs.Eval.{same_signature}
 use Rattle.wasm_decode.specs.declared.module.Module.{Module}

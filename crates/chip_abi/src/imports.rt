@@ -1,15 +1,15 @@
 //! The imports of a chip's module.
 ghost use Rattle.std.specs.Prelude.{◌≡◌, ◌<◌, ◌+◌, length, Some, slice_get, IfOk};
 ghost use Rattle.sim_base.specs.Reads.{Reads};
-ghost use Rattle.sim_base.specs.Refusals.{ImportType, ImportUnknown};
+ghost use Rattle.sim_refusals.specs.Refusals.{ImportType, ImportUnknown};
 ghost use Rattle.wasm_semantics.specs.Eval.{same_types, same_signature};
 ghost use Rattle.wasm_validate.specs.Rules.{capped};
 ghost use Rattle.chip_abi.specs.HostNames.{type_of_name};
 ghost use Rattle.chip_abi.specs.Imports.{typed, found, read_imports, imports_of};
 
 use crate::host_name::{HostName, named, params_of, results_of};
-use sim_base::refusals::{IMPORT_TYPE, IMPORT_UNKNOWN};
 use sim_base::{Fault, List, OutOfMemory, Place, Refusal};
+use sim_refusals::numbers::{IMPORT_TYPE, IMPORT_UNKNOWN};
 use std::alloc::Global;
 use std::marker::Model;
 use wasm_code::{FuncType, ValType};

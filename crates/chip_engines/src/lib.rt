@@ -1,5 +1,5 @@
-//! The serial engines of a chip, each behind its pins: a UART, an SPI slave or an I2C slave, what it calls back for, and the bytes
-//! that it is told to send or to exchange (profile, docs/CHIPS.md, "Serial engines").
+//! The serial engines of a chip, each with its pins: a UART, an SPI slave or an I2C slave, what it calls back for,
+//! and the bytes that it is given to send (docs/CHIPS.md, "Serial engines").
 //! Each call leaves what the definition (`specs/Engine.antt`) leaves; a turn is one cycle of the engine's machine.
 //! No call takes memory, and none fails.
 #![tactic(auto)]

@@ -4,7 +4,7 @@ use Rattle.std.specs.Prelude.{slice_get, option_and_then, ◌==◌, if◌then◌
 use Rattle.std.specs.Prelude.{option_to_list, IfSome}
 use Rattle.std.proofs.lemmas.Bool.Decides.{eqb_tells}
 use Rattle.std.proofs.lemmas.Bool.{and_parts, ltb-true}
-use Rattle.sim_base.specs.Refusals.{ValidIndex, ValidForm}
+use Rattle.sim_refusals.specs.Refusals.{ValidIndex, ValidForm}
 use Rattle.wasm_decode.specs.declared.module.ImportDesc.{ImportDesc}
 use Rattle.wasm_decode.specs.declared.module.Module.{Module}
 use Rattle.wasm_validate.specs.Rules.{imported_functions, functions_of, import_exists, desc_exists, type_exists, outside, starts, start_fits, function_exists, is_plain_or, is_plain_type, type_of, chip_init, find_init, is_chip_init}

@@ -1,7 +1,7 @@
-//! A chip: a module that runs as a part of a board, called where a timer is due, a watched pin changes, or a
-//! serial engine asks for something.
-//! Each call leaves what the definition (`specs/Chip.antt`) leaves; a trap ends the chip.
-//! Only `Chip::new` takes memory.
+//! A chip: a module that runs as a part of a board, called when a timer is due, a watched pin changes, or a serial
+//! engine requests something.
+//! Each call leaves what the definition (`specs/Chip.antt`) leaves; a trap ends the chip. Only `Chip::new` takes
+//! memory.
 #![tactic(auto)]
 
 mod arguments;

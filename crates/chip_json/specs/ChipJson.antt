@@ -8,7 +8,7 @@ use Rattle.serde_json.specs.Find.{as_str}
 use Rattle.sim_base.specs.declared.fault.Refusal.{Refusal}
 use Rattle.sim_base.specs.declared.fault.Place.TheVariants as places
 use Rattle.sim_base.specs.Names.{is_name}
-use Rattle.sim_base.specs.Refusals.{ChipText, ChipShape, ChipPinName, ChipLimit}
+use Rattle.sim_refusals.specs.Refusals.{ChipText, ChipShape, ChipPinName, ChipLimit}
 use Rattle.document_model.specs.Json.{array_at, json_document, string_at}
 use Rattle.document_model.specs.Reading.{◌>>=◌, refusal, checked}
 

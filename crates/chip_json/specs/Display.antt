@@ -5,7 +5,7 @@ use Rattle.serde_json.specs.Find.{get, as_number, as_u64}
 use Rattle.sim_base.specs.declared.fault.Refusal.{Refusal}
 use Rattle.sim_base.specs.declared.fault.Place.TheVariants as places
 use Rattle.sim_base.specs.Display.{DisplaySize, is_display}
-use Rattle.sim_base.specs.Refusals.{ChipText, ChipDisplay}
+use Rattle.sim_refusals.specs.Refusals.{ChipText, ChipDisplay}
 use Rattle.document_model.specs.Json.{json_document}
 use Rattle.document_model.specs.Reading.{◌>>=◌, refusal}
 use Rattle.chip_json.specs.ChipJson.{chip_text}

@@ -10,8 +10,8 @@ use crate::refusals::refused;
 use diagram_json::read_json;
 use document_model::ChipPins;
 use serde_json::Value;
-use sim_base::refusals::{CHIP_DISPLAY, CHIP_TEXT};
 use sim_base::{Display, Fault};
+use sim_refusals::numbers::{CHIP_DISPLAY, CHIP_TEXT};
 use std::alloc::Global;
 
 fn whole_at(value: &Value, key: &str) -> Option<u64>

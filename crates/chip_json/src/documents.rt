@@ -10,8 +10,8 @@ use crate::refusals::refused;
 use diagram_json::{array_of, read_json};
 use document_model::ChipPins;
 use serde_json::Value;
-use sim_base::refusals::{CHIP_LIMIT, CHIP_PIN_NAME, CHIP_SHAPE, CHIP_TEXT};
 use sim_base::{Fault, OutOfMemory};
+use sim_refusals::numbers::{CHIP_LIMIT, CHIP_PIN_NAME, CHIP_SHAPE, CHIP_TEXT};
 use std::alloc::Global;
 
 /// The items of an array that are all strings.

@@ -1,6 +1,7 @@
-//! The module of a chip, accepted: decoded, valid, and with imports that the host has.
-//! `ChipModule::read` is exact: what the bytes stand for, or why they stand for nothing: a rule that their text breaks, or the first of
-//! validity and of imports that fails (`specs/Binary.antt`). A call answers otherwise only where memory runs out.
+//! The module of a chip, accepted: decoded, validated, and with imports that the host has.
+//! `ChipModule::read` is exact: what the bytes stand for, or why they stand for nothing: a rule that their text
+//! breaks, or the first of validity and of imports that fails (`specs/Binary.antt`). A call answers otherwise only
+//! where memory runs out.
 #![tactic(auto)]
 
 mod binary;

@@ -5,7 +5,7 @@ use Rattle.cli_project.proofs.Common.{cycles_of}
 use Rattle.std.proofs.lemmas.Bool.{ltb-false, or_parts}
 use Rattle.std.proofs.lemmas.Option.{slice_get-map}
 use Rattle.sim_base.specs.declared.wiring.Input.{Input}
-use Rattle.sim_base.specs.Refusals.{ScriptOrder, ScriptLimit}
+use Rattle.sim_refusals.specs.Refusals.{ScriptOrder, ScriptLimit}
 use Rattle.sim_base.specs.declared.limits.TheConstants.{LONGEST_RUN}
 use Rattle.text_model.specs.Lines.{lines}
 use Rattle.input_script.specs.declared.action.Action.{Action}

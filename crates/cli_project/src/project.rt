@@ -20,9 +20,9 @@ use board_build::{Plan, build};
 use chip_module::{ChipSource, pins_of};
 use document_model::{Diagram, Project};
 use input_texts::Script;
-use sim_base::refusals::SCRIPT_PART;
 use sim_base::{Bench, Fault, Flash, List, Refusal};
 use sim_io::{HexFile, Stop, WorkEnd, read_document, read_within, stopped};
+use sim_refusals::numbers::SCRIPT_PART;
 use std::alloc::Global;
 use std::mem::drop;
 

@@ -7,7 +7,7 @@ use Rattle.cli_twin.proofs.Common.{ChipsAfter, PlanIn, ScriptIn, WaveIn, by_rule
 use Rattle.std.specs.FinMap.{get}
 use Rattle.sim_base.specs.declared.fault.Refusal.{Refusal}
 use Rattle.sim_base.specs.declared.fault.Place.TheVariants as places
-use Rattle.sim_base.specs.Refusals.{TypeUnknown}
+use Rattle.sim_refusals.specs.Refusals.{TypeUnknown}
 use Rattle.text_model.specs.Hex.{Verdict, Passed, Data, Base, End, Faulty, after, hex_image, image_of, put, verdict}
 use Rattle.text_model.specs.Lines.{lines}
 use Rattle.part_catalog.specs.declared.kind.Kind.{Kind}

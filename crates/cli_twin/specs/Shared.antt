@@ -2,7 +2,7 @@
 use Rattle.std.specs.Prelude.{ℕ, zero, suc, List, ◌∷◌, map, Bool, true, false, ◌&&◌, ◌==◌, if◌then◌else◌, Option, None, Some, Result, Ok, Err, codes, slice_index}
 use Rattle.std.specs.Str.{bytes_eq}
 use Rattle.sim_base.specs.declared.fault.Place.TheVariants as places
-use Rattle.sim_base.specs.Refusals.{TwinDiffers}
+use Rattle.sim_refusals.specs.Refusals.{TwinDiffers}
 use Rattle.document_model.specs.declared.project.ChipFile.{ChipFile}
 use Rattle.sim_outcome_model.specs.Stop.{Stop, Refused}
 use Rattle.sim_outcome_model.specs.Work.{Reading, Is, Then}

@@ -2,7 +2,7 @@
 ghost use Rattle.std.specs.Prelude.{◌≡◌, ◌⊎◌, IfOk};
 ghost use Rattle.sim_base.specs.Outside.{Outside, SamePorts};
 ghost use Rattle.sim_base.specs.declared.fault.Place.TheVariants as places;
-ghost use Rattle.sim_base.specs.Refusals.{TwinDiffers};
+ghost use Rattle.sim_refusals.specs.Refusals.{TwinDiffers};
 ghost use Rattle.sim_outcome_model.specs.Stop.{Refused};
 ghost use Rattle.sim_outcome_model.specs.Outcome as ends;
 ghost use Rattle.sim_outcome_model.specs.Work.{Got, Is};
@@ -14,9 +14,9 @@ ghost use Rattle.cli_twin.specs.Shared.{PairIn, other_path, paired};
 
 use crate::sharing::other_path;
 use cli_project::{Work, name_in, read_folder};
-use sim_base::refusals::TWIN_DIFFERS;
 use sim_base::{Bench, Place, Refusal};
 use sim_io::{Stop, WorkEnd, stopped};
+use sim_refusals::numbers::TWIN_DIFFERS;
 use std::alloc::Global;
 use std::mem::drop;
 

@@ -10,8 +10,8 @@ use crate::parts::read_parts;
 use crate::refusals::{not_json, not_shaped, over_limit};
 use document_model::{Diagram, PartText, Wire};
 use serde_json::Value;
-use sim_base::refusals::JSON_TEXT;
 use sim_base::{Fault, List, Place};
+use sim_refusals::numbers::JSON_TEXT;
 use std::alloc::Global;
 
 /// The document that a JSON text is. Refuses with this number, at Whole, a text that is none.

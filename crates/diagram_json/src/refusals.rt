@@ -1,10 +1,10 @@
 //! The refusals of a diagram, and that of a text that is no JSON.
 ghost use Rattle.std.specs.Prelude.{◌≡◌};
-ghost use Rattle.sim_base.specs.Refusals.{DiagramLimit, DiagramShape};
+ghost use Rattle.sim_refusals.specs.Refusals.{DiagramLimit, DiagramShape};
 ghost use Rattle.document_model.specs.Reading.{refusal};
 
-use sim_base::refusals::{DIAGRAM_LIMIT, DIAGRAM_SHAPE};
 use sim_base::{Fault, Place, Refusal};
+use sim_refusals::numbers::{DIAGRAM_LIMIT, DIAGRAM_SHAPE};
 
 pub(crate) fn not_json(number: u8) -> Fault
     ensures { result ≡ Fault.Refused (refusal number Place.Whole) }

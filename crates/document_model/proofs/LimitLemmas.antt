@@ -7,7 +7,7 @@ use Rattle.serde_json.specs.Data.{Data}
 use Rattle.toml.specs.Data.{Data as Table, get}
 use Rattle.sim_base.specs.declared.fault.Refusal.{Refusal}
 use Rattle.sim_base.specs.declared.fault.Place.TheVariants as places
-use Rattle.sim_base.specs.Refusals.{TomlShape, JsonText, DiagramShape, DiagramLimit}
+use Rattle.sim_refusals.specs.Refusals.{TomlShape, JsonText, DiagramShape, DiagramLimit}
 use Rattle.document_model.specs.declared.diagram.Diagram.{Diagram}
 use Rattle.document_model.specs.declared.diagram.PartText.{PartText}
 use Rattle.document_model.specs.declared.diagram.Wire.{Wire}

@@ -7,7 +7,7 @@ use Rattle.serde_json.specs.Data.{Data, null, boolean, number, string, array, ob
 use Rattle.serde_json.specs.Find.{get, as_number, as_object, as_u64}
 use Rattle.sim_base.specs.declared.fault.Refusal.{Refusal}
 use Rattle.sim_base.specs.declared.fault.Place.TheVariants as places
-use Rattle.sim_base.specs.Refusals.{JsonText, DiagramShape, DiagramLimit}
+use Rattle.sim_refusals.specs.Refusals.{JsonText, DiagramShape, DiagramLimit}
 use Rattle.sim_base.specs.Names.{is_name}
 use Rattle.document_model.specs.declared.diagram.Diagram.{Diagram}
 use Rattle.document_model.specs.declared.diagram.PartText.{PartText}

@@ -6,7 +6,7 @@ use Rattle.std.specs.Str.{bytes_eq}
 use Rattle.toml.specs.Data.{Data, get, as_array, as_integer}
 use Rattle.sim_base.specs.declared.fault.Refusal.{Refusal}
 use Rattle.sim_base.specs.declared.fault.Place.TheVariants as places
-use Rattle.sim_base.specs.Refusals.{TomlShape}
+use Rattle.sim_refusals.specs.Refusals.{TomlShape}
 use Rattle.sim_base.specs.Names.{is_name}
 use Rattle.document_model.specs.declared.project.Project.{Project}
 use Rattle.document_model.specs.declared.project.ChipFile.{ChipFile}

@@ -5,7 +5,7 @@ use Rattle.toml.specs.Data.{Data, table, Items, no_items, item, get, as_str}
 use Rattle.toml.specs.Parse.{parse_document}
 use Rattle.sim_base.specs.declared.fault.Refusal.{Refusal}
 use Rattle.sim_base.specs.declared.fault.Place.TheVariants as places
-use Rattle.sim_base.specs.Refusals.{TomlText}
+use Rattle.sim_refusals.specs.Refusals.{TomlText}
 use Rattle.document_model.specs.Reading.{refusal}
 
 -- the items of an array, as a list

@@ -1,5 +1,5 @@
-//! The documents of a project, as definitions: what a JSON or TOML text stands for, or the first
-//! rule that it breaks with its place.
+//! The documents of a project, as definitions: what a JSON or TOML text means, or the first rule that it breaks
+//! with its place.
 //! Of code there are the types alone: the readers in the crates above are proved against these.
 #![tactic(auto)]
 

@@ -4,7 +4,7 @@ use Rattle.std.specs.Option.{option_map}
 use Rattle.std.specs.Str.{bytes_eq}
 use Rattle.sim_base.specs.declared.fault.Refusal.{Refusal}
 use Rattle.sim_base.specs.declared.fault.Place.TheVariants as places
-use Rattle.sim_base.specs.Refusals.{ScriptLine, ScriptOrder, ScriptLimit}
+use Rattle.sim_refusals.specs.Refusals.{ScriptLine, ScriptOrder, ScriptLimit}
 use Rattle.sim_base.specs.declared.limits.TheConstants.{LONGEST_RUN}
 use Rattle.text_model.specs.Lines.{lines, before_first_line}
 use Rattle.text_numerals.specs.Numerals.{numeral}

@@ -6,8 +6,8 @@ ghost use Rattle.input_script.specs.Verdicts.{seen, IsFitting};
 
 use crate::words::next_word;
 use diagram_json::read_id;
-use sim_base::refusals::{SCRIPT_LIMIT, SCRIPT_LINE, SCRIPT_ORDER};
 use sim_base::{LONGEST_RUN, Name};
+use sim_refusals::numbers::{SCRIPT_LIMIT, SCRIPT_LINE, SCRIPT_ORDER};
 use text_numerals::read_numeral;
 
 /// What a line does: the part gets the value in the cycle.

@@ -5,8 +5,8 @@ ghost use Rattle.text_model.specs.Hex.{hex_image, put, length_of, data_of};
 
 use crate::lines::next_line;
 use crate::record::{Line, Record, read_line};
-use sim_base::refusals::HEX_NO_END;
 use sim_base::{Fault, Flash, Place, Refusal};
+use sim_refusals::numbers::HEX_NO_END;
 use std::alloc::Global;
 
 fn write_data(flash: &mut Flash, address: u32, bytes: &[u8])

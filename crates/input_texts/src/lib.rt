@@ -1,6 +1,6 @@
-//! Readers of the texts that a user hands in: the firmware as Intel HEX.
-//! Each reader answers what its text stands for, or the first rule that is broken with its line
-//! (`text_model`, Hex); out of memory is the one other answer.
+//! The reader of the firmware as Intel HEX, and what a script means.
+//! Each reader answers what its text stands for, or the first rule that is broken with its line (`text_model`,
+//! Hex); out of memory is the one other answer.
 #![tactic(auto)]
 
 mod hex;

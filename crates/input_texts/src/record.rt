@@ -6,7 +6,7 @@ ghost use Rattle.text_model.specs.Hex.{hex_bytes, verdict, says, length_of};
 ghost use Rattle.input_texts.specs.Records.{seen, IsFitting};
 
 use arrayvec::ArrayVec;
-use sim_base::refusals::{HEX_DIGIT, HEX_LENGTH, HEX_RANGE, HEX_START, HEX_SUM, HEX_TYPE};
+use sim_refusals::numbers::{HEX_DIGIT, HEX_LENGTH, HEX_RANGE, HEX_START, HEX_SUM, HEX_TYPE};
 
 /// The bytes of a record: length, address, type, data and check byte.
 pub type Record = ArrayVec<u8, 260>;

@@ -10,7 +10,7 @@ use Rattle.std.proofs.lemmas.Option.{slice_get_within}
 use Rattle.std.proofs.Math.Bool.{and-false}
 use Rattle.sim_base.specs.declared.fault.Refusal.{Refusal}
 use Rattle.sim_base.specs.declared.fault.Place.TheVariants as places
-use Rattle.sim_base.specs.Refusals.{WaveLine, WaveTime, WaveName, WaveEnd}
+use Rattle.sim_refusals.specs.Refusals.{WaveLine, WaveTime, WaveName, WaveEnd}
 use Rattle.text_numerals.specs.Numerals.{value_of}
 use Rattle.text_model.specs.Wave.{Variable, char_x}
 use Rattle.wave_lines.specs.declared.line.Line.{Line}

@@ -1,3 +1,4 @@
-//! What the run of a board promises of its chips: each is a function of its own pins, and what it drives is all that the rest sees.
+//! Isolation: each chip of a run is a function of its own pins, and what it drives is all that the rest of the
+//! board sees of it.
 //! There is no code here; the laws speak of the texts that `run` writes (`project_run`).
 #![tactic(auto)]

@@ -4,7 +4,7 @@ use Rattle.std.specs.List.{list_any, position_from, zip, sum_by}
 use Rattle.std.specs.Str.{bytes_eq}
 use Rattle.sim_base.specs.declared.fault.Refusal.{Refusal}
 use Rattle.sim_base.specs.declared.fault.Place.TheVariants as places
-use Rattle.sim_base.specs.Refusals.{TypeUnknown, IdRepeated, AttrValue, ChipMissing}
+use Rattle.sim_refusals.specs.Refusals.{TypeUnknown, IdRepeated, AttrValue, ChipMissing}
 use Rattle.document_model.specs.declared.diagram.Diagram.{Diagram}
 use Rattle.document_model.specs.declared.diagram.PartText.{PartText}
 use Rattle.document_model.specs.declared.diagram.Wire.{Wire}

@@ -2,7 +2,7 @@
 use Rattle.std.proofs.Common.{◌≡◌, ◌∙◌, ℕ, List, [], length, Bool, true, false, Option, None, Some, Result, Ok, Err, ap, sym, subst, codes, nat_lt, if◌then◌else◌}
 use Rattle.std.specs.FinMap.{get}
 use Rattle.sim_base.specs.declared.fault.Place.TheVariants as places
-use Rattle.sim_base.specs.Refusals.{FileTooLong}
+use Rattle.sim_refusals.specs.Refusals.{FileTooLong}
 use Rattle.sim_base.specs.declared.fault.Refusal.{Refusal}
 use Rattle.sim_base.specs.Outside.{Files}
 use Rattle.sim_outcome_model.specs.Stop.{Stop, Missing, Refused, file_within, read_from, refused_in}

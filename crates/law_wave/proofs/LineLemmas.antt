@@ -11,7 +11,7 @@ use Rattle.sim_base.specs.declared.signal.Drive.TheVariants as drives
 use Rattle.sim_base.specs.declared.signal.Level.{Level}
 use Rattle.sim_base.specs.declared.signal.Level.TheVariants as levels
 use Rattle.sim_base.specs.Signal.{is_upper}
-use Rattle.sim_base.specs.Refusals.{WaveLine, WaveTime}
+use Rattle.sim_refusals.specs.Refusals.{WaveLine, WaveTime}
 use Rattle.law_board.proofs.OwnRows.{is_le}
 use Rattle.text_numerals.specs.Numerals.{value_of}
 use Rattle.text_model.specs.Wave.{Source, Net, Strong, Weak, Variable, char_x, char_z, bit_value, level_value, strong_value, weak_value, shown_value, id_of}

@@ -7,7 +7,7 @@ use Rattle.std.proofs.lemmas.Bool.{eq-eqb, eqb-true}
 use Rattle.std.proofs.lemmas.List.{append_assoc, append-nil, length-map}
 use Rattle.std.specs.Fmt.{digits}
 use Rattle.sim_base.specs.declared.fault.Place.TheVariants as places
-use Rattle.sim_base.specs.Refusals.{WaveHead}
+use Rattle.sim_refusals.specs.Refusals.{WaveHead}
 use Rattle.sim_base.specs.Rows.{Row}
 use Rattle.text_model.specs.Wave.{Variable, shown_value, values, head, time_line, value_line, value_lines, initial_values, changes, change_count, value_changes}
 use Rattle.text_model.specs.Wave.{later_text, begun_text, wave_text}

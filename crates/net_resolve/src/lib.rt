@@ -1,4 +1,4 @@
-//! The levels of the nets of a board (profile): what the pins drive, over closed contacts and resistors.
+//! The levels of the nets of a board: what the pins drive, over closed contacts and resistors.
 //! `Nets::resolve_marked` is exactly the definition and lists the nets that changed, at a cost that grows with what
 //! changed pins and contacts touch. Only `new` takes memory and may fail.
 #![tactic(auto)]

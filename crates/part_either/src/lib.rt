@@ -1,6 +1,6 @@
-//! A part of one of two kinds, which is a part as each of them is; nested, of one of many: proved once for all kinds. The same
-//! of behaviours.
-//! No call takes memory, and none fails.
+//! A part of one of two kinds, and so, nested, of one of many: proved once for all kinds, and the same for
+//! behaviours.
+//! The same of behaviours. No call takes memory, and none fails.
 #![tactic(auto)]
 
 mod either;

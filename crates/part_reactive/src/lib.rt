@@ -1,5 +1,5 @@
-//! Parts that do nothing by themselves, written once: what such a part does when a level changes or a
-//! script value comes is its `Behaviour`, and `Reactive` makes a part of a board of it.
+//! Parts without events of their own, written once: a `Behaviour` says what a part does when a level changes or a
+//! script value comes, and `Reactive` makes a part of it.
 //! No call takes memory, and none fails.
 #![tactic(auto)]
 

@@ -1,10 +1,10 @@
 //! The two refusals of a project file.
 ghost use Rattle.std.specs.Prelude.{◌≡◌};
-ghost use Rattle.sim_base.specs.Refusals.{TomlShape, TomlText};
+ghost use Rattle.sim_refusals.specs.Refusals.{TomlShape, TomlText};
 ghost use Rattle.document_model.specs.Reading.{refusal};
 
-use sim_base::refusals::{TOML_SHAPE, TOML_TEXT};
 use sim_base::{Fault, Place, Refusal};
+use sim_refusals::numbers::{TOML_SHAPE, TOML_TEXT};
 
 /// 30 TomlText.
 pub(crate) fn not_toml() -> Fault

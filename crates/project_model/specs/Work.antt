@@ -1,7 +1,7 @@
 -- A project in a folder (Wokwi, "wokwi.toml", "diagram.json"; the order of the files and their names are the profile's).
 use Rattle.std.specs.Prelude.{List, [], ◌∷◌, ◌++◌, ◌==◌, ℕ, codes, if◌then◌else◌, Option, None, Some, unwrap_or, Result, Ok, Err}
 use Rattle.sim_base.specs.declared.fault.Refusal.{Refusal}
-use Rattle.sim_base.specs.Refusals.{ScriptPart}
+use Rattle.sim_refusals.specs.Refusals.{ScriptPart}
 use Rattle.text_model.specs.Hex.{hex_image}
 use Rattle.document_model.specs.declared.project.Project.{Project}
 use Rattle.document_model.specs.declared.project.ChipFile.{ChipFile}

@@ -1,7 +1,8 @@
 //! The answer to the bytes of a module.
 ghost use Rattle.std.specs.Prelude.{◌<◌, length};
 
-use sim_base::{Fault, Place, Refusal, refusal_name};
+use sim_base::{Fault, Place, Refusal};
+use sim_refusals::refusal_name;
 use std::alloc::Global;
 use std::fmt;
 use std::fmt::{Display, Formatter, Write};

@@ -1,6 +1,7 @@
 //! Modules that were cut.
 use crate::answer::{Answer, answer_to};
-use sim_base::{Place, Refusal, refusal_name};
+use sim_base::{Place, Refusal};
+use sim_refusals::refusal_name;
 use std::alloc::Global;
 use std::io;
 

@@ -1,5 +1,5 @@
-//! Nets for the gate. The word `rows` has worked ones and every combination of drives on three pins played, `bench` a
-//! large board resolved 1,000,000 times, which `bench/nets.sh` measures.
+//! Nets for the gate: plays worked nets and every combination of drives on three pins (`rows`), or resolves a large
+//! board 1,000,000 times (`bench`, which `bench/nets.sh` measures).
 #![tactic(auto)]
 
 mod bench;

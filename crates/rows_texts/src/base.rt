@@ -1,7 +1,8 @@
 //! Rows of the lowest types: which levels read as 1, refusals by their numbers, names and texts.
 use crate::answer::Answer;
 use crate::row::str_of;
-use sim_base::{Level, Name, OutOfMemory, Text, reads_one, refusal_name};
+use sim_base::{Level, Name, OutOfMemory, Text, reads_one};
+use sim_refusals::refusal_name;
 use std::alloc::Global;
 
 /// - `reads WIPED`: what an input reads on a wiper at a position; `reads High` and its like

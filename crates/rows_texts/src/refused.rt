@@ -1,6 +1,7 @@
 //! The answer of a reader that refuses its text.
 use crate::answer::Answer;
-use sim_base::{Fault, Place, Refusal, refusal_name};
+use sim_base::{Fault, Place, Refusal};
+use sim_refusals::refusal_name;
 
 /// Says what is refused, and where.
 pub fn refused(made: &mut Answer, fault: &Fault) {

@@ -1,7 +1,9 @@
-//! Plays rows of one thing alone each and prints those that come out otherwise, with a count of each file. Its words name
-//! the files; the name of a file says who answers its rows: `arithmetic.rows` the ALU, `encoding.rows` the decoder,
-//! `instructions.rows` the core, those that begin with `slave` a serial engine of a chip, the others a unit of the
-//! microcontroller. ADD and SUB are tried on all operands. A further row needs no change here.
+//! Plays rows of one instruction, one unit of the microcontroller or one serial engine alone, and prints those that
+//! come out otherwise, with a count of each file.
+//! Its words name the files; the name of a file says who answers its rows: `arithmetic.rows` the ALU,
+//! `encoding.rows` the decoder, `instructions.rows` the core, those that begin with `slave` a serial engine of a
+//! chip, the others a unit of the microcontroller. ADD and SUB are tried on all operands. A further row needs no
+//! change here.
 #![tactic(auto)]
 
 mod arithmetic;

@@ -1,5 +1,5 @@
-//! What the crates of the simulator share: drives and levels, refusals, lists, the flash image,
-//! the environment as the trait `Bench`, and what joins the parts of a board.
+//! What all crates share: drives and levels, the type of a refusal with its place, lists, the flash image, the
+//! environment as the trait `Bench`, and the wiring and script values of a board.
 //! Each call is exact; one that grows a list or makes an image may answer that memory ran out.
 #![tactic(auto)]
 
@@ -11,7 +11,6 @@ mod limits;
 mod list;
 mod mem_bench;
 mod name;
-pub mod refusals;
 mod signal;
 mod steps;
 mod text;
@@ -26,7 +25,6 @@ pub use limits::{LONGEST_RUN, MOST_CYCLES};
 pub use list::List;
 pub use mem_bench::MemBench;
 pub use name::Name;
-pub use refusals::refusal_name;
 pub use signal::{Drive, Level, reads_one};
 pub use steps::Steps;
 pub use text::Text;

@@ -10,7 +10,8 @@ ghost use Rattle.sim_io.specs.Outcomes.{outcome_of};
 use crate::outcome::WorkEnd;
 use crate::writing::{write_next, write_parts};
 use itoa::Buffer;
-use sim_base::{Bench, Place, Port, Refusal, WriteEnd, refusal_name};
+use sim_base::{Bench, Place, Port, Refusal, WriteEnd};
+use sim_refusals::refusal_name;
 
 fn tell_text<B: Bench>(end: WriteEnd, text: &str, bench: &mut B) -> WriteEnd
     ensures next { WroteOn end result Port.Complaint text.now (B.outside bench.old) (B.outside bench.new) }

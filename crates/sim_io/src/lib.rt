@@ -1,5 +1,5 @@
-//! What the work of each command is made of: how it ends, reading a file, writing a text on a port,
-//! and the line on Complaint (`sim_outcome_model`).
+//! What every command is made of: how it ends, reading a file, writing a text on a port, and the line on Complaint
+//! (`sim_outcome_model`).
 //! No call but those that take an allocator takes memory.
 #![tactic(auto)]
 

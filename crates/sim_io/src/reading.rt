@@ -9,8 +9,8 @@ ghost use Rattle.sim_io.specs.Outcomes.{outcome_of, stop_of};
 
 use crate::outcome::{Stop, WorkEnd, stopped};
 use input_texts::read_hex;
-use sim_base::refusals::FILE_TOO_LONG;
 use sim_base::{Bench, Fault, Flash, Place, ReadEnd, Refusal};
+use sim_refusals::numbers::FILE_TOO_LONG;
 use std::alloc::Global;
 
 /// The bytes of a file of at most `limit` bytes.

@@ -5,7 +5,7 @@ use Rattle.sim_base.specs.declared.fault.Place.{Place}
 use Rattle.sim_base.specs.declared.fault.Place.TheVariants as places
 use Rattle.sim_base.specs.declared.bench.Port.{Port}
 use Rattle.sim_base.specs.declared.bench.Port.TheVariants as ports
-use Rattle.sim_base.specs.Refusals.{name_of}
+use Rattle.sim_refusals.specs.Refusals.{name_of}
 use Rattle.sim_base.specs.Causes.{Rose}
 use Rattle.sim_base.specs.Outside.{Outside, Becomes, Grows, IsFront, IsKept, IsNamed}
 use Rattle.sim_outcome_model.specs.Stop.{Stop, Missing, Refused, Output, Texts}

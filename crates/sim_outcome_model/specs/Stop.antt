@@ -3,7 +3,7 @@ use Rattle.std.specs.Prelude.{◌≡◌, ℕ, nat_lt, if◌then◌else◌, List,
 use Rattle.std.specs.FinMap.{get}
 use Rattle.sim_base.specs.declared.fault.Refusal.{Refusal}
 use Rattle.sim_base.specs.declared.fault.Place.TheVariants as places
-use Rattle.sim_base.specs.Refusals.{FileTooLong}
+use Rattle.sim_refusals.specs.Refusals.{FileTooLong}
 use Rattle.sim_base.specs.Outside.{Files}
 
 -- the first event that ends the work: a file that is missing, or a refusal with the file that it names

@@ -1,5 +1,6 @@
-//! The report, which has the final states of a run, one fact a line (`specs/Lines.antt`).
-//! A line is written by two to four writes, and none follows one that fails. No call takes memory; a write may fail.
+//! The lines of the report, which has the final states of a run, one fact a line (`specs/Lines.antt`).
+//! A line is written by two to four writes, and none follows one that fails. No call takes memory; a write may
+//! fail.
 #![tactic(auto)]
 
 mod line;

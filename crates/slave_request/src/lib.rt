@@ -1,4 +1,4 @@
-//! The law of the serial engines of chips: what one asks for in a cycle, and what its machine is (profile).
+//! What a serial slave requests in a cycle, and what its machine of one step a cycle is.
 //! An engine is a machine of one step a cycle on what its lines read.
 #![tactic(auto)]
 

@@ -5,7 +5,7 @@ use Rattle.std.specs.List.{list_all}
 use Rattle.std.specs.Char.{is_ascii_hexdigit, digit_value}
 use Rattle.sim_base.specs.declared.fault.Refusal.{Refusal}
 use Rattle.sim_base.specs.declared.fault.Place.TheVariants as places
-use Rattle.sim_base.specs.Refusals.{HexStart, HexDigit, HexLength, HexSum, HexType, HexRange, HexNoEnd}
+use Rattle.sim_refusals.specs.Refusals.{HexStart, HexDigit, HexLength, HexSum, HexType, HexRange, HexNoEnd}
 use Rattle.text_model.specs.Lines.{lines}
 
 -- the bytes that pairs of digits spell

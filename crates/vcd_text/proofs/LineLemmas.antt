@@ -3,7 +3,7 @@ use Rattle.std.proofs.Common.{◌≡◌, ◌&&◌, ◌==◌, ℕ, List, not, Boo
 use Rattle.std.specs.Prelude.{slice_get}
 use Rattle.std.specs.Option.{option_map}
 use Rattle.std.proofs.lemmas.Option.{slice_get_within}
-use Rattle.sim_base.specs.Refusals.{WaveLine}
+use Rattle.sim_refusals.specs.Refusals.{WaveLine}
 use Rattle.text_model.specs.Wave.{Variable, char_x}
 use Rattle.wave_lines.specs.declared.line.Line.TheVariants as says
 use Rattle.wave_lines.specs.Reading.{value_of_variable}

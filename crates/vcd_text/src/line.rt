@@ -7,7 +7,7 @@ ghost use Rattle.vcd_text.specs.Variables.{source_of, variables_of};
 ghost use Rattle.wave_lines.specs.Reading.{value_of_variable};
 
 use crate::variable::{Source, Variable};
-use sim_base::refusals::{WAVE_LINE, WAVE_NAME};
+use sim_refusals::numbers::{WAVE_LINE, WAVE_NAME};
 use wave_lines::{Line, Stage};
 
 fn shows_net(shows: Source) -> bool

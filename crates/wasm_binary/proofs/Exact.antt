@@ -2,7 +2,7 @@
 -- once.
 use Rattle.std.proofs.Common.{◌≡◌, ℕ, zero, suc, ◌+◌, ◌-◌, ◌*◌, ◌^◌, ◌<◌, ◌≤◌, List, [], ◌∷◌, ◌++◌, length, Result, Ok, Err, Bool, true, false, refl, sym, ap, subst, ◌∙◌, arith, ◌⊎◌, append_assoc, ⊎_elim, length-append}
 use Rattle.std.specs.Prelude.{take}
-use Rattle.sim_base.specs.Refusals.{WasmLeb, WasmLimit}
+use Rattle.sim_refusals.specs.Refusals.{WasmLeb, WasmLimit}
 use Rattle.wasm_binary.specs.Form.{Form, give, byte_or, ByteBreaks, ◌>>=◌, choose}
 use Rattle.wasm_binary.specs.Leb.{IsUnsigned, ByteIsFaulty, high_least, high_greatest, BreaksUnsigned, unsigned, u32, at_most, IsSigned, IsUnlikeSign, BreaksSigned, signed}
 use Rattle.wasm_binary.specs.Lists.{Run, repeated, is_zero, items, vec, vec_to, bytes_of_length, byte_vec, short_number, ContentBreaks, sized}

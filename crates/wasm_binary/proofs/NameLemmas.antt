@@ -10,7 +10,7 @@ use Rattle.std.specs.Char.{IsScalar, InScalarRange}
 use Rattle.sim_base.specs.declared.fault.Fault.{Fault}
 use Rattle.sim_base.specs.declared.fault.Fault.TheVariants as faults
 use Rattle.sim_base.specs.declared.fault.Place.TheVariants as places
-use Rattle.sim_base.specs.Refusals.{WasmUtf8}
+use Rattle.sim_refusals.specs.Refusals.{WasmUtf8}
 use Rattle.wasm_binary.specs.declared.reader.Reader.{Reader}
 use Rattle.wasm_binary.specs.Form.{any_byte, byte}
 use Rattle.wasm_binary.specs.Reads.{Reads, Fails}

@@ -4,7 +4,7 @@ use Rattle.std.proofs.lemmas.Nat.{pow-add, shr_high, shr_le}
 use Rattle.sim_base.specs.declared.fault.Fault.{Fault}
 use Rattle.sim_base.specs.declared.fault.Fault.TheVariants as faults
 use Rattle.sim_base.specs.declared.fault.Place.TheVariants as places
-use Rattle.sim_base.specs.Refusals.{WasmLeb}
+use Rattle.sim_refusals.specs.Refusals.{WasmLeb}
 use Rattle.wasm_binary.specs.declared.reader.Reader.{Reader}
 use Rattle.wasm_binary.specs.Reads.{Took, Reads, Fails}
 use Rattle.wasm_binary.specs.Leb.{IsUnsigned, BreaksUnsigned, ByteIsFaulty, some_high, high_least, high_greatest, unsigned, IsSigned, BreaksSigned, IsUnlikeSign, signed}

@@ -1,7 +1,7 @@
 -- Forms of text (WebAssembly core specification, "Binary Format", "Grammar"): which bytes spell which value, and where and by
 -- which rule bytes break that no text of the form begins.
 use Rattle.std.specs.Prelude.{◌≡◌, ℕ, ◌+◌, List, [], ◌∷◌, ◌++◌, length, ◌⊎◌, Bool, true, false, if◌then◌else◌, ◌==◌, Result, Ok, Err}
-use Rattle.sim_base.specs.Refusals.{WasmCut, WasmType}
+use Rattle.sim_refusals.specs.Refusals.{WasmCut, WasmType}
 
 pub record Form (X : Type 0) : Type 1 where
   -- the whole text and its value

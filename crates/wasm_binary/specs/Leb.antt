@@ -1,6 +1,6 @@
 -- LEB128 numbers (WebAssembly core specification, "Integers").
 use Rattle.std.specs.Prelude.{◌≡◌, ℕ, zero, suc, ◌+◌, ◌-◌, ◌*◌, ◌/◌, ◌^◌, ◌<◌, ◌≤◌, List, [], ◌∷◌, ◌⊎◌}
-use Rattle.sim_base.specs.Refusals.{WasmCut, WasmLeb, WasmCount, WasmLimit}
+use Rattle.sim_refusals.specs.Refusals.{WasmCut, WasmLeb, WasmCount, WasmLimit}
 use Rattle.wasm_binary.specs.Form.{Form}
 
 -- uN: a byte below 128 stands for itself; one from 128 on has the low seven bits, and the rest has N - 7.

@@ -1,6 +1,6 @@
 -- Vectors and parts with a size (WebAssembly core specification, "Vectors", "Sections", "Code Section").
 use Rattle.std.specs.Prelude.{◌≡◌, ℕ, zero, suc, ◌+◌, ◌-◌, ◌<◌, List, [], ◌∷◌, ◌++◌, length, take, ◌⊎◌, Bool, true, false}
-use Rattle.sim_base.specs.Refusals.{WasmCut, WasmSection}
+use Rattle.sim_refusals.specs.Refusals.{WasmCut, WasmSection}
 use Rattle.wasm_binary.specs.Form.{Form, ◌>>=◌}
 use Rattle.wasm_binary.specs.Leb.{u32, at_most}
 

@@ -1,6 +1,6 @@
 -- Names (WebAssembly core specification, "Names"; The Unicode Standard, "Well-Formed UTF-8 Byte Sequences").
 use Rattle.std.specs.Prelude.{ℕ, ◌-◌, List, [], ◌∷◌, length, Bool, ◌&&◌, ◌==◌, nat_lt, nat_le, if◌then◌else◌, Result, Ok, Err, Option, Some, None, unwrap_or}
-use Rattle.sim_base.specs.Refusals.{WasmUtf8}
+use Rattle.sim_refusals.specs.Refusals.{WasmUtf8}
 use Rattle.wasm_binary.specs.Form.{Form, byte, ◌>>=◌}
 use Rattle.wasm_binary.specs.Leb.{u32}
 use Rattle.wasm_binary.specs.Lists.{repeated, is_zero}

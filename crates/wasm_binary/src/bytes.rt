@@ -5,7 +5,7 @@ ghost use Rattle.wasm_binary.specs.Reads.{Decodes};
 
 use crate::reader::{Reader, refused};
 use sim_base::Fault;
-use sim_base::refusals::WASM_TYPE;
+use sim_refusals::numbers::WASM_TYPE;
 
 /// A value that one byte spells.
 pub trait FromByte: Sized {

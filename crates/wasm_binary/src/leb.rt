@@ -2,13 +2,13 @@
 ghost use Rattle.std.specs.Prelude.{◌≡◌, ◌+◌, ◌-◌, ◌^◌, zero, [], ◌∷◌, ◌/◌, ◌<◌, ◌≤◌, IfOk, IfErr, Ok, Err, MatchResult};
 ghost use Rattle.sim_base.specs.declared.fault.Fault.TheVariants as faults;
 ghost use Rattle.sim_base.specs.declared.fault.Place.TheVariants as places;
-ghost use Rattle.sim_base.specs.Refusals.{WasmLeb};
+ghost use Rattle.sim_refusals.specs.Refusals.{WasmLeb};
 ghost use Rattle.wasm_binary.specs.Reads.{Decodes};
 ghost use Rattle.wasm_binary.specs.Leb.{IsUnsigned, ByteIsFaulty, IsSigned, IsUnlikeSign, unsigned, signed as signed_form, u32 as any_u32, at_most, exactly, high_least, high_greatest};
 
 use crate::reader::{Reader, refused};
 use sim_base::Fault;
-use sim_base::refusals::{WASM_COUNT, WASM_LEB, WASM_LIMIT};
+use sim_refusals::numbers::{WASM_COUNT, WASM_LEB, WASM_LIMIT};
 
 /// A u32 index or size.
 pub fn index(reader: &mut Reader) -> Result<u32, Fault>

@@ -1,7 +1,7 @@
-//! Forms of text of the WebAssembly binary format, and the reader that reads them
-//! (WebAssembly core specification, "Binary Format").
-//! Each call reads a text of its form and its value, or answers where and by which rule the bytes break.
-//! It may answer out of memory where it makes a list.
+//! The values of the WebAssembly binary format (integers, names, lists) and the reader that reads them (WebAssembly
+//! core specification, "Binary Format").
+//! Each call reads a text of its form and its value, or answers where and by which rule the bytes break. It may
+//! answer out of memory where it makes a list.
 #![tactic(auto)]
 
 mod bytes;

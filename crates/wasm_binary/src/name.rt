@@ -3,12 +3,12 @@ ghost use Rattle.std.specs.Prelude.{◌≡◌, MatchOption, Ok, Err, length};
 ghost use Rattle.wasm_binary.specs.Names.{name, name_of_length, judge_in_name, tails_after, tails_of};
 ghost use Rattle.wasm_binary.specs.Reads.{Decodes, DecodesAs};
 ghost use Rattle.wasm_binary.specs.NameViews.{spans_of};
-ghost use Rattle.sim_base.specs.Refusals.{WasmUtf8};
+ghost use Rattle.sim_refusals.specs.Refusals.{WasmUtf8};
 
 use crate::leb::index;
 use crate::reader::{Reader, refused};
-use sim_base::refusals::WASM_UTF8;
 use sim_base::{Fault, Text};
+use sim_refusals::numbers::WASM_UTF8;
 use std::alloc::Global;
 
 /// The bytes that a character still wants: how many, and the bounds of the next.

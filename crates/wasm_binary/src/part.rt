@@ -7,7 +7,7 @@ ghost use Rattle.wasm_binary.specs.Reads.{Took};
 
 use crate::reader::{Reader, refused};
 use sim_base::Fault;
-use sim_base::refusals::{WASM_CUT, WASM_SECTION};
+use sim_refusals::numbers::{WASM_CUT, WASM_SECTION};
 
 /// Passes over a part of that size whose content ended where `inner` stands.
 /// Refuses with 63 where that is before the end that the size gives, and with 61 where the bytes end

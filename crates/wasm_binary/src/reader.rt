@@ -3,8 +3,8 @@ ghost use Rattle.std.specs.Prelude.{◌≡◌, ◌+◌, ◌^◌, ◌<◌, ◌≤
 ghost use Rattle.sim_base.specs.declared.fault.Fault.TheVariants as faults;
 ghost use Rattle.sim_base.specs.declared.fault.Place.TheVariants as places;
 
-use sim_base::refusals::WASM_CUT;
 use sim_base::{Fault, Place, Refusal};
+use sim_refusals::numbers::WASM_CUT;
 
 /// A refusal by a rule at a byte.
 pub fn refused(number: u8, at: u32) -> Fault

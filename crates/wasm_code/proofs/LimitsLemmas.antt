@@ -1,7 +1,7 @@
 -- Reading limits.
 use Rattle.std.proofs.Common.{◌≡◌, ℕ, Option, Some, None, Bool, true, false, subst}
 use Rattle.sim_base.specs.declared.fault.Fault.{Fault}
-use Rattle.sim_base.specs.Refusals.{WasmCut, WasmLeb}
+use Rattle.sim_refusals.specs.Refusals.{WasmCut, WasmLeb}
 use Rattle.wasm_binary.specs.declared.reader.Reader.{Reader}
 use Rattle.wasm_binary.specs.Form.{Form, give, flag, judge_flag, ◌>>=◌}
 use Rattle.wasm_binary.specs.Proper.{Proper}

@@ -1,7 +1,7 @@
 -- Reading types.
 use Rattle.std.proofs.Common.{◌≡◌, ℕ, List, Bool, Result, sym, subst}
 use Rattle.sim_base.specs.declared.fault.Fault.{Fault}
-use Rattle.sim_base.specs.Refusals.{WasmCut, WasmType}
+use Rattle.sim_refusals.specs.Refusals.{WasmCut, WasmType}
 use Rattle.wasm_binary.specs.declared.reader.Reader.{Reader}
 use Rattle.wasm_binary.specs.Form.{Form, give, flag, judge_tag, ◌>>=◌}
 use Rattle.wasm_binary.specs.Reads.{Reads, Fails, Decodes}

@@ -1,6 +1,6 @@
 -- Types (WebAssembly core specification, "Binary Format", "Types").
 use Rattle.std.specs.Prelude.{ℕ, Bool, true, false, ◌==◌, if◌then◌else◌, Result, Ok, Err, Option, Some, None}
-use Rattle.sim_base.specs.Refusals.{WasmType}
+use Rattle.sim_refusals.specs.Refusals.{WasmType}
 use Rattle.wasm_code.specs.declared.types.ValType.{ValType}
 use Rattle.wasm_code.specs.declared.types.ValType.TheVariants.{I32, I64, F32, F64}
 use Rattle.wasm_code.specs.declared.types.BlockType.{BlockType}

@@ -4,8 +4,8 @@ ghost use Rattle.wasm_binary.specs.Reads.{Decodes};
 ghost use Rattle.wasm_binary.specs.Lists.{vec, items};
 
 use crate::types::{BlockType, FuncType, GlobalType, Limits, ValType};
-use sim_base::refusals::WASM_TYPE;
 use sim_base::{Fault, List};
+use sim_refusals::numbers::WASM_TYPE;
 use std::alloc::Global;
 use wasm_binary::{Decode, FromByte, Reader, index, judged, list, list_to, tag};
 

@@ -22,7 +22,7 @@ use Rattle.wasm_binary.specs.Form.{any_byte}
 use Rattle.wasm_binary.proofs.Steps.{judged_ends, judged_ok, judged_err}
 use Rattle.sim_base.specs.declared.fault.Fault.TheVariants as faults
 use Rattle.sim_base.specs.declared.fault.Place.TheVariants as places
-use Rattle.sim_base.specs.Refusals.{WasmCut, WasmLeb, WasmOpcode}
+use Rattle.sim_refusals.specs.Refusals.{WasmCut, WasmLeb, WasmOpcode}
 use Rattle.wasm_decode.specs.InstrText.{block_of, block, index_of, indexed, br_table, table_zero, call_indirect, access_of, access, memory_of, reserved, const_32, const_64, float_32, float_64, judge_prefixed, zeros_behind, prefix_number, memory_copy, memory_fill, prefixed_of, prefixed, shape_of, behind, immediates, judge_opcode, Opened, instr, bare, numeric_of}
 
 abbrev pub block_1 : (op : ℕ) (kind : BlockType) → Form Instr

@@ -1,7 +1,7 @@
 -- Reading items.
 use Rattle.std.proofs.Common.{◌≡◌, ℕ, List, [], ◌∷◌, length, false, Result, sym, subst}
 use Rattle.sim_base.specs.declared.fault.Fault.{Fault}
-use Rattle.sim_base.specs.Refusals.{WasmCut, WasmLeb, WasmType, WasmCount, WasmLimit}
+use Rattle.sim_refusals.specs.Refusals.{WasmCut, WasmLeb, WasmType, WasmCount, WasmLimit}
 use Rattle.wasm_binary.specs.declared.reader.Reader.{Reader}
 use Rattle.wasm_binary.specs.Form.{Form, give, byte, judge_tag, ◌>>=◌}
 use Rattle.wasm_binary.specs.Reads.{Reads, Fails, Decodes}

@@ -5,7 +5,7 @@ use Rattle.sim_base.specs.declared.fault.Fault.{Fault}
 use Rattle.sim_base.specs.declared.fault.Fault.TheVariants as faults
 use Rattle.sim_base.specs.declared.fault.Refusal.{Refusal}
 use Rattle.sim_base.specs.declared.fault.Place.TheVariants as places
-use Rattle.sim_base.specs.Refusals.{WasmMagic, WasmCount}
+use Rattle.sim_refusals.specs.Refusals.{WasmMagic, WasmCount}
 use Rattle.wasm_binary.specs.declared.reader.Reader.{Reader}
 use Rattle.wasm_binary.specs.Form.{byte_or, judge_tag}
 use Rattle.wasm_binary.specs.Proper.{IsOnce, Proper}

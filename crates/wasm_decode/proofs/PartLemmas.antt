@@ -3,7 +3,7 @@ use Rattle.std.proofs.Common.{◌≡◌, ℕ, ◌+◌, ◌<◌, ◌≤◌, List,
 use Rattle.sim_base.specs.declared.fault.Fault.{Fault}
 use Rattle.sim_base.specs.declared.fault.Fault.TheVariants as faults
 use Rattle.sim_base.specs.declared.fault.Place.TheVariants as places
-use Rattle.sim_base.specs.Refusals.{WasmCut}
+use Rattle.sim_refusals.specs.Refusals.{WasmCut}
 use Rattle.wasm_binary.specs.declared.reader.Reader.{Reader}
 use Rattle.wasm_binary.specs.Leb.{u32}
 use Rattle.wasm_binary.specs.Names.{name}

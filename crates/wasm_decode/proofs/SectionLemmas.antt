@@ -2,7 +2,7 @@
 use Rattle.std.proofs.Common.{◌≡◌, ℕ, ◌-◌, ◌<◌, List, ◌++◌, length, take, false, sym, ap, subst, ◌∙◌, arith, ◌⊎◌, ⊎_elim, append_assoc, length-append}
 use Rattle.std.specs.Prelude.{◌==◌}
 use Rattle.sim_base.specs.declared.fault.Fault.{Fault}
-use Rattle.sim_base.specs.Refusals.{WasmCut, WasmLeb}
+use Rattle.sim_refusals.specs.Refusals.{WasmCut, WasmLeb}
 use Rattle.wasm_binary.specs.declared.reader.Reader.{Reader}
 use Rattle.wasm_binary.specs.Form.{Form, give, byte, ◌>>=◌}
 use Rattle.wasm_binary.specs.Leb.{u32}

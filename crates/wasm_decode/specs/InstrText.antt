@@ -2,7 +2,7 @@
 use Rattle.std.specs.Int.{w32, w64, from_le_bytes}
 use Rattle.std.specs.Option.{option_map_or}
 use Rattle.std.specs.Prelude.{ℕ, ◌%◌, nat_lt, List, [], ◌∷◌, length, Bool, true, false, not, ◌&&◌, ◌||◌, ◌==◌, nat_le, if◌then◌else◌, Result, Ok, Err, Option, is_some}
-use Rattle.sim_base.specs.Refusals.{WasmOpcode, WasmLimit}
+use Rattle.sim_refusals.specs.Refusals.{WasmOpcode, WasmLimit}
 use Rattle.wasm_code.specs.declared.types.ValType.{ValType}
 use Rattle.wasm_code.specs.declared.instr.Instr.{Instr}
 use Rattle.wasm_code.specs.declared.instr.Instr.TheVariants as instrs

@@ -1,6 +1,6 @@
 -- The items of the sections (WebAssembly core specification, "Binary Format", "Modules").
 use Rattle.std.specs.Prelude.{ℕ, ◌+◌, ◌-◌, List, [], ◌∷◌, length, Bool, true, false, nat_lt, ◌==◌, ◌&&◌, if◌then◌else◌, Result, Ok, Err, Option, Some, None, slice_get}
-use Rattle.sim_base.specs.Refusals.{WasmType, WasmLimit}
+use Rattle.sim_refusals.specs.Refusals.{WasmType, WasmLimit}
 use Rattle.wasm_code.specs.declared.types.FuncType.{FuncType}
 use Rattle.wasm_binary.specs.Form.{Form, give, byte, ◌>>=◌}
 use Rattle.wasm_binary.specs.Leb.{u32, at_most, exactly}

@@ -3,7 +3,7 @@ use Rattle.std.specs.Prelude.{◌≡◌, ℕ, ◌+◌, List, [], ◌∷◌, ◌+
 use Rattle.sim_base.specs.declared.fault.Fault.{Fault}
 use Rattle.sim_base.specs.declared.fault.Fault.TheVariants as faults
 use Rattle.sim_base.specs.declared.fault.Place.TheVariants as places
-use Rattle.sim_base.specs.Refusals.{WasmMagic, WasmCount}
+use Rattle.sim_refusals.specs.Refusals.{WasmMagic, WasmCount}
 use Rattle.wasm_binary.specs.Form.{Form, give, byte_or, judge_tag, ◌>>=◌}
 use Rattle.wasm_binary.specs.Lists.{Run}
 use Rattle.wasm_decode.specs.SectionText.{wants_bodies, section, with_section}

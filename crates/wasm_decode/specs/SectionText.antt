@@ -1,6 +1,6 @@
 -- Sections (WebAssembly core specification, "Binary Format", "Sections" to "Data Section", "Custom Section").
 use Rattle.std.specs.Prelude.{◌≡◌, ℕ, ◌+◌, ◌-◌, ◌<◌, List, ◌++◌, length, take, ◌⊎◌, Bool, false, not, ◌&&◌, ◌||◌, nat_le, nat_lt, ◌==◌, if◌then◌else◌, Result, Ok, Err, Some}
-use Rattle.sim_base.specs.Refusals.{WasmCut, WasmSection, WasmCount}
+use Rattle.sim_refusals.specs.Refusals.{WasmCut, WasmSection, WasmCount}
 use Rattle.wasm_binary.specs.Form.{Form, give, byte, choose, ◌>>=◌}
 use Rattle.wasm_binary.specs.Leb.{u32}
 use Rattle.wasm_binary.specs.Lists.{vec, vec_to, sized}

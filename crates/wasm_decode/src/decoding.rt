@@ -4,13 +4,13 @@ ghost use Rattle.wasm_decode.specs.ModuleText.{IsDecoded, nothing, magic as magi
 ghost use Rattle.wasm_decode.specs.SectionViews.{SectionsRead, SectionsPut};
 ghost use Rattle.wasm_binary.specs.Form.{byte_or, judge_tag};
 ghost use Rattle.wasm_binary.specs.Reads.{Decodes};
-ghost use Rattle.sim_base.specs.Refusals.{WasmMagic};
+ghost use Rattle.sim_refusals.specs.Refusals.{WasmMagic};
 
 use crate::module::Module;
 use crate::progress::Progress;
 use crate::sections::section;
 use sim_base::Fault;
-use sim_base::refusals::{WASM_COUNT, WASM_MAGIC};
+use sim_refusals::numbers::{WASM_COUNT, WASM_MAGIC};
 use std::alloc::Global;
 use std::mem::drop;
 use wasm_binary::{Reader, refused};

@@ -5,8 +5,8 @@ ghost use Rattle.wasm_binary.specs.Form.{byte};
 ghost use Rattle.wasm_binary.specs.Reads.{Decodes};
 
 use crate::module::{Extern, Import, ImportDesc};
-use sim_base::refusals::{WASM_LIMIT, WASM_TYPE};
 use sim_base::{Fault, List};
+use sim_refusals::numbers::{WASM_LIMIT, WASM_TYPE};
 use std::alloc::Global;
 use wasm_binary::{FromByte, Reader, index, read_name, refused};
 use wasm_code::{read_global_type, read_limits, table_limits};

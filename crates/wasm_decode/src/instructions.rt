@@ -6,8 +6,8 @@ ghost use Rattle.wasm_decode.specs.InstrText.{else_may_come as may_come, is_opco
 ghost use Rattle.wasm_binary.specs.Reads.{Decodes};
 
 use crate::prefixed::prefixed;
-use sim_base::refusals::{WASM_LIMIT, WASM_OPCODE};
 use sim_base::{Fault, List};
+use sim_refusals::numbers::{WASM_LIMIT, WASM_OPCODE};
 use std::alloc::Global;
 use wasm_binary::{Reader, index, judged, list_to, refused, signed, tag, zero};
 use wasm_code::{

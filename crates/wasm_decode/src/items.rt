@@ -2,7 +2,7 @@
 use crate::expressions::read_expr;
 use crate::module::{DataSegment, ElementSegment, Export, GlobalDef};
 use sim_base::Fault;
-use sim_base::refusals::WASM_TYPE;
+use sim_refusals::numbers::WASM_TYPE;
 use std::alloc::Global;
 use std::mem::drop;
 use wasm_binary::{Decode, Reader, byte_list, index, judged, list, read_name, tag};

@@ -5,7 +5,7 @@ ghost use Rattle.wasm_binary.specs.Form.{byte as byte_form};
 ghost use Rattle.wasm_binary.specs.Reads.{Decodes};
 
 use sim_base::Fault;
-use sim_base::refusals::WASM_OPCODE;
+use sim_refusals::numbers::WASM_OPCODE;
 use wasm_binary::{Reader, refused, tag, zero};
 use wasm_code::{FloatInstr, Instr, truncate_row};
 

@@ -10,7 +10,7 @@ use crate::imports::{FUNCTIONS, imported, imports};
 use crate::module::Module;
 use crate::progress::{Progress, Section};
 use sim_base::Fault;
-use sim_base::refusals::{WASM_COUNT, WASM_CUT, WASM_SECTION};
+use sim_refusals::numbers::{WASM_COUNT, WASM_CUT, WASM_SECTION};
 use std::alloc::Global;
 use std::mem::drop;
 use wasm_binary::{Reader, close, index, list, list_to, read_name, refused};

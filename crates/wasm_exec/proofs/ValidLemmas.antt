@@ -5,7 +5,7 @@ use Rattle.std.specs.Option.{ForSome}
 use Rattle.std.proofs.lemmas.Bool.{and_parts, ltb-true, leb-true}
 use Rattle.sim_base.specs.declared.fault.Refusal.{Refusal}
 use Rattle.sim_base.specs.declared.fault.Place.TheVariants as places
-use Rattle.sim_base.specs.Refusals.{ValidIndex, ValidConst, ValidForm, ValidSegment, ValidLimit}
+use Rattle.sim_refusals.specs.Refusals.{ValidIndex, ValidConst, ValidForm, ValidSegment, ValidLimit}
 use Rattle.wasm_code.specs.declared.types.Limits.{Limits}
 use Rattle.wasm_decode.specs.declared.module.Import.{Import}
 use Rattle.wasm_decode.specs.declared.module.ImportDesc.{ImportDesc}

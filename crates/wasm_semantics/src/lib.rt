@@ -1,5 +1,5 @@
-//! What running a WebAssembly module means: evaluation with fuel on nested code, and the host that its imports call
-//! (core specification, "Execution").
+//! What running a WebAssembly module means, as definitions: evaluation with fuel on nested code, and the host that
+//! its imports call (core specification, "Execution").
 #![tactic(auto)]
 
 mod host;

@@ -6,7 +6,7 @@ use Rattle.std.proofs.lemmas.Bool.{leb-true}
 use Rattle.std.proofs.lemmas.Bool.Decides.{leb_tells}
 use Rattle.std.proofs.lemmas.Option.{slice_get_past, slice_get-get_or}
 use Rattle.std.proofs.Math.Bool.{and-false}
-use Rattle.sim_base.specs.Refusals.{ValidIndex, ValidType, ValidLimit}
+use Rattle.sim_refusals.specs.Refusals.{ValidIndex, ValidType, ValidLimit}
 use Rattle.wasm_code.specs.declared.types.ValType.{ValType}
 use Rattle.wasm_code.specs.declared.types.ValType.TheVariants.{I32}
 use Rattle.wasm_code.specs.declared.instr.Instr.{Instr}

@@ -1,6 +1,6 @@
 -- Typing (WebAssembly core specification, "Validation", "Instructions"). Operand lists begin at their top.
 use Rattle.std.specs.Prelude.{◌≡◌, ℕ, ◌+◌, ◌-◌, ◌^◌, ◌<◌, ◌≤◌, List, [], ◌∷◌, ◌++◌, Option, Some, None, Bool, true, false, nat_lt, nat_le, if◌then◌else◌, slice_get, option_to_list, option_map, option_and_then, length, reverse, take, ◌&&◌, ◌⊎◌, is_some}
-use Rattle.sim_base.specs.Refusals.{ValidIndex, ValidType, ValidLimit}
+use Rattle.sim_refusals.specs.Refusals.{ValidIndex, ValidType, ValidLimit}
 use Rattle.wasm_code.specs.declared.types.ValType.{ValType}
 use Rattle.wasm_code.specs.declared.types.ValType.TheVariants.{I32, I64, F32, F64}
 use Rattle.wasm_code.specs.declared.types.FuncType.{FuncType}

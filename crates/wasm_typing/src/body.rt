@@ -8,7 +8,7 @@ use crate::checker::Checker;
 use crate::context::BodyContext;
 use crate::steps::step;
 use sim_base::OutOfMemory;
-use sim_base::refusals::{VALID_INDEX, VALID_LIMIT, VALID_TYPE};
+use sim_refusals::numbers::{VALID_INDEX, VALID_LIMIT, VALID_TYPE};
 use std::alloc::Global;
 use wasm_code::{FloatInstr, Instr};
 

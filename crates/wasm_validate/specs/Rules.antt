@@ -4,7 +4,7 @@ use Rattle.std.specs.Prelude.{ℕ, ◌+◌, ◌*◌, List, [], ◌∷◌, ◌++�
 use Rattle.std.specs.Str.{bytes_eq}
 use Rattle.sim_base.specs.declared.fault.Refusal.{Refusal}
 use Rattle.sim_base.specs.declared.fault.Place.TheVariants as places
-use Rattle.sim_base.specs.Refusals.{ValidIndex, ValidConst, ValidExport, ValidForm, ValidSegment, ValidLimit}
+use Rattle.sim_refusals.specs.Refusals.{ValidIndex, ValidConst, ValidExport, ValidForm, ValidSegment, ValidLimit}
 use Rattle.wasm_code.specs.declared.types.ValType.{ValType}
 use Rattle.wasm_code.specs.declared.types.ValType.TheVariants.{I32, I64, F32, F64}
 use Rattle.wasm_code.specs.declared.types.FuncType.{FuncType}

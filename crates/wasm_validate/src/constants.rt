@@ -5,8 +5,8 @@ ghost use Rattle.wasm_validate.specs.Rules.{constants as constants_form, names a
 
 use crate::rules::{Rule, first_fault, or_then};
 use crate::space::Space;
-use sim_base::refusals::{VALID_CONST, VALID_EXPORT, VALID_LIMIT, VALID_SEGMENT};
 use sim_base::{Refusal, Text};
+use sim_refusals::numbers::{VALID_CONST, VALID_EXPORT, VALID_LIMIT, VALID_SEGMENT};
 use wasm_code::{FloatInstr, Instr, Limits, ValType};
 use wasm_decode::{DataSegment, ElementSegment, Export, GlobalDef, Import, ImportDesc};
 

@@ -5,7 +5,7 @@ ghost use Rattle.wasm_validate.specs.Rules.{forms as forms_form, fits as fits_fo
 use crate::rules::{Rule, first_fault, or_then, refused};
 use crate::space::Space;
 use sim_base::Refusal;
-use sim_base::refusals::VALID_FORM;
+use sim_refusals::numbers::VALID_FORM;
 use wasm_code::{FuncType, Limits};
 use wasm_decode::{Import, ImportDesc};
 

@@ -7,7 +7,7 @@ ghost use Rattle.wasm_typing.specs.Contexts.{context_of};
 use crate::rules::{Rule, first_fault, or_then, refused};
 use crate::space::Space;
 use sim_base::Refusal;
-use sim_base::refusals::VALID_INDEX;
+use sim_refusals::numbers::VALID_INDEX;
 use wasm_code::Instr;
 use wasm_decode::{DataSegment, ElementSegment, Export, Extern, GlobalDef, Import, ImportDesc};
 use wasm_typing::{BodyContext, are_below, exists};

@@ -10,7 +10,7 @@ use Rattle.std.proofs.lemmas.List.{append_assoc, append-nil, map-append}
 use Rattle.sim_base.proofs.BoolLemmas.{not_swap}
 use Rattle.sim_base.specs.declared.fault.Refusal.{Refusal}
 use Rattle.sim_base.specs.declared.fault.Place.TheVariants as places
-use Rattle.sim_base.specs.Refusals.{WaveHead}
+use Rattle.sim_refusals.specs.Refusals.{WaveHead}
 use Rattle.text_model.specs.Wave.{Variable, declaration, declarations, id_of}
 use Rattle.wave_lines.specs.Reading.{behind, ended_lines, line_count}
 use Rattle.wave_decode.specs.Head.{as_net, declared_line, first_name, head_behind, head_of_names, head_with, last_lines, names_from, nets, next_name, with_name}

@@ -5,7 +5,7 @@ use Rattle.std.specs.List.{list_all, list_any}
 use Rattle.std.specs.Str.{bytes_eq}
 use Rattle.sim_base.specs.declared.fault.Refusal.{Refusal}
 use Rattle.sim_base.specs.declared.fault.Place.TheVariants as places
-use Rattle.sim_base.specs.Refusals.{WaveHead}
+use Rattle.sim_refusals.specs.Refusals.{WaveHead}
 use Rattle.text_model.specs.Wave.{Net, Variable, printable, id_of, declarations}
 use Rattle.wave_lines.specs.Reading.{behind, ended_lines, is_printable}
 

@@ -7,7 +7,7 @@ use Rattle.sim_base.specs.declared.fault.Refusal.{Refusal}
 use Rattle.sim_base.specs.declared.fault.Place.TheVariants as places
 use Rattle.sim_base.specs.declared.signal.Level.{Level}
 use Rattle.sim_base.specs.declared.signal.Level.TheVariants as levels
-use Rattle.sim_base.specs.Refusals.{WaveVar}
+use Rattle.sim_refusals.specs.Refusals.{WaveVar}
 use Rattle.text_model.specs.Wave.{char_0, char_1, char_x, char_z}
 use Rattle.wave_lines.specs.declared.line.Stage.{Stage}
 use Rattle.wave_lines.specs.declared.line.Stage.TheVariants as stages

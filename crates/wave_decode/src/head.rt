@@ -9,7 +9,7 @@ ghost use Rattle.wave_decode.specs.Names.{found, texts_in};
 use crate::names::next_name;
 use indexmap::IndexSet;
 use sim_base::Fault;
-use sim_base::refusals::WAVE_HEAD;
+use sim_refusals::numbers::WAVE_HEAD;
 use std::alloc::Global;
 use wave_lines::{behind, refused};
 

@@ -2,7 +2,7 @@
 ghost use Rattle.std.specs.Prelude.{◌≡◌, ◌≤◌, ◌<◌, ◌∷◌, [], length, IfOk};
 ghost use Rattle.std.specs.Option.{option_map};
 ghost use Rattle.sim_base.specs.Reads.{Reads};
-ghost use Rattle.sim_base.specs.Refusals.{WaveVar};
+ghost use Rattle.sim_refusals.specs.Refusals.{WaveVar};
 ghost use Rattle.wave_decode.specs.Frames.{AreHeard};
 ghost use Rattle.wave_decode.specs.Bodies.{flat, of_body};
 ghost use Rattle.wave_decode.specs.Rising.{IsRising};
@@ -10,8 +10,8 @@ ghost use Rattle.wave_decode.specs.Levels.{last_cycle, levels_text, names_given}
 
 use crate::body::{Body, read_body};
 use crate::head::read_head;
-use sim_base::refusals::WAVE_VAR;
 use sim_base::{Fault, Level, List, Place, Refusal};
+use sim_refusals::numbers::WAVE_VAR;
 use std::alloc::Global;
 use std::marker::Model;
 

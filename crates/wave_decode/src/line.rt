@@ -4,8 +4,8 @@ ghost use Rattle.wave_lines.specs.Reading.{value_of_variable, verdict};
 ghost use Rattle.wave_decode.specs.Levels.{below, is_opened, last_cycle, level_of};
 ghost use Rattle.wave_decode.specs.Fitting.{IsFitting};
 
-use sim_base::refusals::WAVE_NAME;
 use sim_base::{LONGEST_RUN, Level};
+use sim_refusals::numbers::WAVE_NAME;
 use wave_lines::{Line, Stage};
 
 fn value_of_variable(variables: usize, i: usize, value: u8) -> Line

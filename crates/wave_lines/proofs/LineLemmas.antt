@@ -2,7 +2,7 @@
 use Rattle.std.proofs.Common.{◌≡◌, ◌<◌, ◌≤◌, ◌*◌, ◌/◌, ◌%◌, ◌&&◌, ◌==◌, ℕ, List, [], ◌∷◌, nat_lt, nat_le, Bool, true, false, if◌then◌else◌, Option, None, Some, refl, arith}
 use Rattle.std.proofs.lemmas.Bool.{and_parts, eqb-true}
 use Rattle.std.proofs.lemmas.Bool.Decides.{nat_tests}
-use Rattle.sim_base.specs.Refusals.{WaveLine, WaveTime}
+use Rattle.sim_refusals.specs.Refusals.{WaveLine, WaveTime}
 use Rattle.text_numerals.specs.Numerals.{value_of}
 use Rattle.wave_lines.specs.declared.line.Line.TheVariants as says
 use Rattle.wave_lines.specs.declared.line.Stage.{Stage}

@@ -5,7 +5,7 @@ use Rattle.std.specs.List.{list_any}
 use Rattle.std.proofs.lemmas.Bool.{ne_eqb, eq-eqb, or_right}
 use Rattle.std.proofs.lemmas.List.{take-append-drop, drop_more, drop_all, length-take-le, get_or-take}
 use Rattle.sim_base.specs.declared.fault.Place.TheVariants as places
-use Rattle.sim_base.specs.Refusals.{WaveHead}
+use Rattle.sim_refusals.specs.Refusals.{WaveHead}
 use Rattle.wave_lines.specs.Reading.{before_line, ended_lines, line_count, unended, behind}
 
 -- no byte is LF

@@ -7,7 +7,7 @@ use Rattle.std.specs.Char.{is_ascii_digit}
 use Rattle.std.specs.Str.{bytes_eq}
 use Rattle.sim_base.specs.declared.fault.Refusal.{Refusal}
 use Rattle.sim_base.specs.declared.fault.Place.TheVariants as places
-use Rattle.sim_base.specs.Refusals.{WaveHead, WaveLine, WaveTime, WaveName, WaveEnd}
+use Rattle.sim_refusals.specs.Refusals.{WaveHead, WaveLine, WaveTime, WaveName, WaveEnd}
 use Rattle.text_numerals.specs.Numerals.{value_of}
 use Rattle.text_model.specs.Wave.{char_0, char_1, char_x, char_z, first_printable, printable}
 use Rattle.wave_lines.specs.declared.line.Line.{Line}

@@ -1,6 +1,6 @@
-//! The lines of a wave that is read, one by one: what a line says behind those before it, where a
-//! text ends, which variables have a first value, and the rows of a value that changes from cycle to
-//! cycle. Readers of the values of nets and of what pins drive stand on these.
+//! The lines of a wave that is read, one by one: what a line says after those before it, where a text ends, and the
+//! rows of a value from cycle to cycle.
+//! Readers of the values of nets and of what pins drive stand on these.
 #![tactic(auto)]
 
 mod given;

@@ -5,11 +5,11 @@ ghost use Rattle.std.specs.Char.{digit_value, is_ascii_digit};
 ghost use Rattle.std.specs.Str.{bytes_eq};
 ghost use Rattle.text_numerals.specs.Numerals.{value_of};
 ghost use Rattle.sim_base.specs.declared.limits.TheConstants.{LONGEST_RUN};
-ghost use Rattle.sim_base.specs.Refusals.{WaveLine};
+ghost use Rattle.sim_refusals.specs.Refusals.{WaveLine};
 ghost use Rattle.wave_lines.specs.Reading.{after_value, is_decimal, is_printable, is_value, judged, line_said, number_of, time_said, value_said};
 ghost use Rattle.wave_lines.specs.Timely.{latest, IsTimely};
 
-use sim_base::refusals::{WAVE_LINE, WAVE_TIME};
+use sim_refusals::numbers::{WAVE_LINE, WAVE_TIME};
 
 /// What may come next in a wave after its head.
 #[derive(Clone, Copy)]

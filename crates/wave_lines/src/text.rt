@@ -3,8 +3,8 @@ ghost use Rattle.std.specs.Prelude.{◌≡◌, ◌<◌, ◌≤◌, ◌+◌, [], 
 ghost use Rattle.std.specs.Result.{result_map_both};
 ghost use Rattle.wave_lines.specs.Reading.{behind, end_fault, ended_lines, line_count, unended};
 
-use sim_base::refusals::{WAVE_END, WAVE_HEAD, WAVE_LINE};
 use sim_base::{Place, Refusal};
+use sim_refusals::numbers::{WAVE_END, WAVE_HEAD, WAVE_LINE};
 
 /// The refusal of a line.
 pub fn refused(number: u8, line: u32) -> Refusal

@@ -4,8 +4,8 @@ ghost use Rattle.board_live.specs.LiveView.{wakes_by};
 ghost use Rattle.vcd_text.specs.Ports.{Writes, Leaves, BreaksOff};
 ghost use Rattle.wave_live.specs.Plays.{IsPlaying, writer_of, begun_by, texts_by};
 
-use board_run::RunEnd;
 use board_live::LiveBoard;
+use board_run::RunEnd;
 use part_law::Part;
 use sim_base::{Bench, MOST_CYCLES, Port, Steps, WriteEnd};
 use std::snapshot::Snapshot;
@@ -41,11 +41,7 @@ pub fn begin<P: Part, B: Bench>(
     let mut head = head;
     let writer = WaveWriter::new(&mut head, bench, start, wave, serial);
     let mark = writer.mark();
-    Play {
-        live,
-        head,
-        mark,
-    }
+    Play { live, head, mark }
 }
 
 /// Goes on to cycle n, at most `MOST_CYCLES`, and writes what is wanted of what the cycles before n show. If a write fails, the

@@ -1,5 +1,5 @@
 use Rattle.std.proofs.Common.{[], decimal, codes}
-use Rattle.sim_base.specs.Refusals.{name_of}
+use Rattle.sim_refusals.specs.Refusals.{name_of}
 use Rattle.sim_base.specs.declared.bench.Port.TheVariants as ports
 use Rattle.sim_outcome_model.specs.Outcome.{place_parts}
 use Rattle.sim_outcome_model.proofs.WriteLemmas.{wrote_start, others_more}
