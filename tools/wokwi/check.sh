@@ -24,8 +24,8 @@ check() { # NAME COMMAND WORDS
     if "$@" >"$work/log" 2>&1; then echo "wokwi: $name: ok"; else sed 's/^/    /' "$work/log"; echo "wokwi: $name: failed"; bad=1; fi
 }
 
-check "lowering" python3 -B "$here/tests.py"
-check "scenarios, tests, play" python3 -B "$here/tests_runs.py"
+check "lowering" python3 -B "$here/test_lower.py"
+check "scenarios, tests, play" python3 -B "$here/test_runs.py"
 
 chips=yes
 if command -v "${CLANG:-clang}" >/dev/null && command -v wasm-ld >/dev/null; then

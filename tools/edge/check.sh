@@ -2,9 +2,9 @@
 # The program on the real system: files that are missing, cannot be read or are folders; a word that is no text; outputs that cannot
 # be made or written, and a good run whose file is compared byte for byte. Each with its status and its line on standard error.
 # Ends with 1 where one ends otherwise. PROGRAM is the program to try, target/mudflatjar if it is not set.
-here=$(cd "$(dirname "$0")" && pwd)
-program=${PROGRAM:-$here/../target/mudflatjar}
-examples=$here/../examples
+here=$(cd "$(dirname "$0")/../.." && pwd)
+program=${PROGRAM:-$here/target/mudflatjar}
+examples=$here/examples
 folder=$(mktemp -d) || exit 1
 trap 'chmod -R u+rwx "$folder"; rm -rf "$folder"' EXIT
 cd "$folder" || exit 1

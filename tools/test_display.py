@@ -1,5 +1,5 @@
 #!/usr/bin/env python3
-"""Tests of display.py, with nothing but Python's own library: `tools/display_test.py`. With the program that PROGRAM names, reports of
+"""Tests of display.py, with nothing but Python's own library: `tools/test_display.py`. With the program that PROGRAM names, reports of
 its runs are drawn too."""
 import io
 import json

@@ -2,7 +2,7 @@
 # Runs docs/TESTING.md: its indented commands in their order, in an empty folder where `mudflatjar` is this repository, and the
 # commands of the CI jobs that it speaks of. What is no command is compared with what it quotes. `sudo` and `arduino-cli` are
 # stand-ins. Ends with 1 where one fails. PROGRAM is the program to try, ./mudflatjar if it is not set.
-here=$(cd "$(dirname "$0")/.." && pwd) || exit 1
+here=$(cd "$(dirname "$0")/../.." && pwd) || exit 1
 program=$(realpath "${PROGRAM:-$here/target/mudflatjar}")
 [ -x "$program" ] || program=$here/mudflatjar
 page=$here/docs/TESTING.md
