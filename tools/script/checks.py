@@ -2,7 +2,7 @@
 """Runs the checks of tools/checks.txt on the program in PROGRAM:  ./mudflatjar test [--list] [--installed] [CHECK..]
 
 Without names it runs all of them, as many at once as there are processors, and first installs the packages that they need
-(tools/setup.sh), but with --installed it takes what is there. What a check says comes when it has ended.
+(tools/setup.sh), but with --installed it takes what is there. --list says what each shows, and its command. What a check says comes when it has ended.
 The last lines count what passed, failed and was skipped, and name what was. Ends with 1 where a check failed."""
 import concurrent.futures
 import os
@@ -11,6 +11,7 @@ import signal
 import subprocess
 import sys
 import time
+from typing import Dict, List, NamedTuple
 
 import made
 
@@ -19,17 +20,32 @@ LIMIT = 3600  # seconds for one check
 RUNNING = {}
 
 
-def checks():
-    """By name the command of each check, in the order of the list."""
-    found = {}
+class Check(NamedTuple):
+    """A line of the list: the words of its command, and what the lines above it say that it shows."""
+
+    words: List[str]
+    shows: str
+
+
+def checks() -> Dict[str, Check]:
+    """Each check by its name, in the order of the list. Ends the program where a line has no name of its own, no command, or
+    no sentence above it."""
+    found: Dict[str, Check] = {}
     if not LIST.is_file():
         made.stop("a release has no checks: they are in the repository", 2)
+    above: List[str] = []
     for number, line in enumerate(LIST.read_text(encoding="utf-8").splitlines(), 1):
-        if line.strip() and not line.startswith("#"):
+        if line.startswith("#"):
+            above.append(line.lstrip("# "))
+            continue
+        if line.strip():
             words = line.split()
             if len(words) < 2 or words[0] in found:
                 made.stop(f"tools/checks.txt, line {number}: a name of its own and a command", 2)
-            found[words[0]] = words[1:]
+            if not above:
+                made.stop(f"tools/checks.txt, line {number}: no line above {words[0]} says what it shows", 2)
+            found[words[0]] = Check(words[1:], " ".join(above))
+        above = []
     return found
 
 
@@ -79,7 +95,7 @@ def ended(number, _):
 def main(names):
     known = checks()
     if names == ["--list"]:
-        print("\n".join(f"{name}: {' '.join(words)}" for name, words in known.items()))
+        print("\n".join(f"{name}: {check.shows}\n    {' '.join(check.words)}" for name, check in known.items()))
         return 0
     is_installed, only_looks = "--installed" in names, "--known" in names
     names = [it for it in names if it not in ("--installed", "--known")]
@@ -97,7 +113,7 @@ def main(names):
     kind = {"released": "the released program", "tried": "a program that is not proved", "checked": "a program that is not proved"}
     print(f"testing {kind.get(os.environ.get('KIND'), 'the built program')}, {os.environ['PROGRAM']}", flush=True)
     with concurrent.futures.ThreadPoolExecutor(processors()) as pool:
-        runs = {pool.submit(run, name, known[name]): name for name in asked}
+        runs = {pool.submit(run, name, known[name].words): name for name in asked}
         for it in concurrent.futures.as_completed(runs):
             said, status, seconds = it.result()
             name = runs[it]

@@ -1,5 +1,6 @@
 #!/usr/bin/env python3
 """Tests of the script's parts: what is wrong with words, what the pages' tables say, and the sentences about a run."""
+import io
 import os
 import pathlib
 import re
@@ -9,9 +10,11 @@ import sys
 import tempfile
 import time
 import unittest
+from unittest import mock
 
 sys.path.insert(0, str(pathlib.Path(__file__).resolve().parent))
 import build
+import checks
 import manual
 import pages
 import run
@@ -258,6 +261,38 @@ finally:
         play, checks = str(ROOT / "tools/wokwi/play"), str(ROOT / "tools/script/checks.py")
         self.assertEqual(tool.too_old(play, (3, 10, 12)), "this needs Python 3.11 or later, and python3 is 3.10")
         self.assertEqual([tool.too_old(play, (3, 11, 2)), tool.too_old(checks, (3, 8, 10))], [None, None])
+
+
+class Checks(unittest.TestCase):
+    def read(self, text: str) -> dict:
+        with tempfile.NamedTemporaryFile("w", suffix=".txt") as file:
+            file.write(text)
+            file.flush()
+            with mock.patch.object(checks, "LIST", pathlib.Path(file.name)), mock.patch("sys.stderr", io.StringIO()) as self.said:
+                return checks.checks()
+
+    def test_a_check_has_what_the_lines_above_it_say(self):
+        found = self.read("# the list\n\n# One thing,\n# and another.\none  sh one.sh\n# More.\ntwo  sh two.sh x\n")
+        self.assertEqual(found, {"one": (["sh", "one.sh"], "One thing, and another."), "two": (["sh", "two.sh", "x"], "More.")})
+
+    def test_what_is_wrong_with_a_list_has_its_line(self):
+        for text, fault in (
+            ("# All.\n\none  true\n", "line 3: no line above one says what it shows"),
+            ("# One.\none  true\ntwo  true\n", "line 3: no line above two says what it shows"),
+            ("# One.\none\n", "line 2: a name of its own and a command"),
+            ("# One.\none  true\n# One.\none  true\n", "line 4: a name of its own and a command"),
+        ):
+            with self.subTest(text), self.assertRaises(SystemExit) as end:
+                self.read(text)
+            self.assertIn(fault, self.said.getvalue() + str(end.exception))
+
+    def test_tests_have_the_names_of_tests(self):
+        named = {it[0].split("/")[-1] for it in (check.words[-1:] for check in checks.checks().values())}
+        others = {it for it in named if not re.fullmatch(r"test_\w+\.py|check\.sh|(wrong|names|crates|links|memory|limits|commands)\.py", it)}
+        self.assertEqual(others, set())
+        tests = [it for it in (ROOT / "tools").rglob("*.py") if "\nimport unittest\n" in it.read_text(encoding="utf-8")]
+        self.assertEqual([it.name for it in tests if not it.name.startswith("test_")], [])
+        self.assertGreater(len(tests), 10)
 
 
 class Build(unittest.TestCase):
