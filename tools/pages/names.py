@@ -1,7 +1,7 @@
 #!/usr/bin/env python3
 """Looks whether what docs/PROVED.md and docs/UNO.md name is where they say it is: crates, clauses, calls, definitions, laws,
-rows and files; and whether what docs/ARCHITECTURE.md names is there at all. Says each name that is not there, and then ends
-with 1.
+rows and files; and whether what docs/ARCHITECTURE.md and docs/ENGINE.md name is there at all. Says each name that is not
+there, and then ends with 1.
 
 How the pages name things:
   `crate`: Name (a, b), Other   modules of crates/crate/specs, and definitions in the first of them
@@ -12,8 +12,8 @@ How the pages name things:
   0x44 to 0x46 | `A`, `B`       registers at these addresses: the value of the constant or the arm of `Register` of that name
   `law`, (Law, OtherLaw)        in a row: a definition, lemma, module, call or clause of a crate that the row names, or of
                                 one that this uses; in a sentence outside tables: of any crate, or a file
-In docs/ARCHITECTURE.md `name`, `impl Name` and `Name<..>` are of any crate, also a field, or a file, whose path may begin in
-a crate.
+In the other two pages `name`, `impl Name` and `Name<..>` are of any crate, also a field, or a file, whose path may begin in a
+crate.
 """
 import pathlib
 import re
@@ -270,13 +270,14 @@ class Tour(Page):
 
 def main():
     bad, found = [], 0
-    for page in (Page(TOP, "PROVED.md"), Page(TOP, "UNO.md"), Tour(TOP, "ARCHITECTURE.md")):
+    pages = [Page(TOP, "PROVED.md"), Page(TOP, "UNO.md"), Tour(TOP, "ARCHITECTURE.md"), Tour(TOP, "ENGINE.md")]
+    for page in pages:
         bad += page.read()
         found += page.found
     for line in bad:
         print(line, file=sys.stderr)
-    print(f"{found} names in docs/PROVED.md, docs/UNO.md and docs/ARCHITECTURE.md, {len(bad)} that are not there")
-    return bool(bad) or not found
+    print(f"{found} names in {', '.join(f'docs/{page.name}' for page in pages)}: {len(bad)} that are not there")
+    return bool(bad) or not all(page.found for page in pages)
 
 
 if __name__ == "__main__":
