@@ -173,7 +173,7 @@ class Lowering:
     def keep_chip(self, part, attrs):
         chip = part["type"][len("chip-"):]
         if chip not in self.chip_pins:
-            self.faults.append(f"{part['id']} ({part['type']}): the folder has no chip {chip}")
+            self.faults.append(f"{part['id']} ({part['type']}): the folder has no chip {chip}: neither {chip}.chip.wasm nor {chip}.chip.c")
             return
         pins = self.chip_pins[chip]
         name = part["id"]
@@ -246,7 +246,8 @@ class Lowering:
                 self.faults.append(f"connection {place}: there is no part {name}")
             return None  # of a part that is a fault itself nothing more is said
         if self.pins[name] is not None and pin not in self.pins[name]:
-            self.faults.append(f"connection {place}: {name} has no pin {pin}")
+            its = ", ".join(sorted(self.pins[name], key=lambda it: (len(it), it)))
+            self.faults.append(f"connection {place}: {name} has no pin {pin}" + (f"; it has {its}" if 0 < len(self.pins[name]) <= 16 else ""))
             return None
         return name, pin
 
@@ -326,7 +327,8 @@ class Lowering:
         chips = sum(kind.startswith("chip-") for kind in kinds)
         for count, most, what in ((len(kinds), MOST_PARTS, "parts"), (len(self.wires), MOST_WIRES, "connections"), (chips, MOST_CHIPS, "parts that are chips")):
             if count > most:
-                self.refuse_board(f"there are {count} {what}, and {most} is the most")
+                ours = ", ".join(part["id"] for part in self.parts if part["type"][len("chip-"):] in self.own_chips) if what == "parts that are chips" else ""
+                self.refuse_board(f"there are {count} {what}, and {most} is the most" + (f"; chips in place of Wokwi's parts are {ours}" if ours else ""))
         made = {"version": 1, "author": self.diagram.get("author", ""), "editor": "wokwi", "parts": self.parts, "connections": self.wires, "dependencies": {}}
         drawn = self.drawing() if self.scenery else self.diagram.get("drawn")
         return dict(made, drawn=drawn) if drawn else made

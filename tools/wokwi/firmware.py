@@ -2,6 +2,8 @@
 import struct
 
 ROOM = 32768  # bytes of flash
+BOOTED = 32256  # of them with a board's boot loader
+RAM = 2048
 DATA = 0x800000  # from here on are avr-gcc's addresses of data, EEPROM and fuses
 
 
@@ -21,23 +23,43 @@ def hex_of(image):
     return "\n".join([*lines, record(0, 1, b""), ""])
 
 
-def image_of_elf(elf):
-    """What an ELF file of an AVR has for the flash: (address, bytes) of each loaded segment."""
+def segments_of_elf(elf):
+    """(offset, address that the firmware uses, address where it is stored, bytes in the file, bytes in memory) of each loaded
+    segment of an AVR's ELF file."""
     try:
         if elf[:6] != b"\x7fELF\x01\x01" or struct.unpack_from("<H", elf, 18)[0] != 83:
             raise ValueError("it is no ELF file of an AVR")
         table, = struct.unpack_from("<I", elf, 28)
         size, count = struct.unpack_from("<HH", elf, 42)
-        image = []
-        for n in range(count):
-            kind, offset, _, address, length = struct.unpack_from("<IIIII", elf, table + n * size)
-            if kind == 1 and length and address < DATA:
-                if offset + length > len(elf):
-                    raise ValueError("the ELF file was cut")
-                image.append((address, elf[offset:offset + length]))
+        rows = [struct.unpack_from("<IIIIII", elf, table + n * size) for n in range(count)]
     except struct.error:
         raise ValueError("the ELF file was cut") from None
+    return [row[1:] for row in rows if row[0] == 1]
+
+
+def image_of_elf(elf):
+    """What an ELF file of an AVR has for the flash: (address, bytes) of each loaded segment."""
+    image = []
+    for offset, _, address, length, _ in segments_of_elf(elf):
+        if length and address < DATA:
+            if offset + length > len(elf):
+                raise ValueError("the ELF file was cut")
+            image.append((address, elf[offset:offset + length]))
     return image
+
+
+def sizes_of_elf(elf):
+    """(bytes of flash, bytes of RAM for variables) of an AVR's ELF file."""
+    rows = segments_of_elf(elf)
+    return sum(row[3] for row in rows if row[2] < DATA), sum(row[4] for row in rows if DATA <= row[1] < DATA + 0x10000)
+
+
+def said_of_sizes(flash, ram):
+    """What a build took, as the Arduino IDE counts it."""
+    text = f"it takes {flash:,} bytes of flash ({100 * flash // BOOTED} % of {BOOTED:,}), and its variables {ram:,} bytes of RAM ({100 * ram // RAM} % of {RAM:,})"
+    if flash > BOOTED:
+        return text + ": too much for a board with a boot loader"
+    return text + (f", which leaves {RAM - ram} for the stack: too few, perhaps" if 4 * (RAM - ram) < RAM else "")
 
 
 def as_hex(path):

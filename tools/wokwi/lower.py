@@ -15,11 +15,13 @@ import tomllib
 
 HERE = os.path.dirname(os.path.abspath(__file__))
 sys.path.insert(0, HERE)
+import attributes
 import diagram as diagrams
 import firmware as firmwares
 import sketch as sketches
 
 CHIPS = os.path.join(HERE, "chips")
+SERVERS = ("gdbServerPort", "rfc2217ServerPort")  # of wokwi.toml: no command here takes them
 BUILD = os.path.join(HERE, "..", "..", "sdk", "build.sh")
 
 
@@ -51,15 +53,21 @@ def read_diagram(folder):
     return value
 
 
-def read_settings(folder):
-    """(the firmware's path or None, {name: path of the module}) by wokwi.toml, which may be absent."""
+def read_settings(folder, say=lambda text: None):
+    """(the firmware's path or None, {name: path of the module}) by wokwi.toml, which may be absent. Where the firmware is not there
+    and its `elf` is, that is taken. Says which keys no command here takes."""
     path = os.path.join(folder, "wokwi.toml")
     if not os.path.exists(path):
         return None, {}
     try:
         with open(path, "rb") as file:
             value = tomllib.load(file)
-        firmware = value.get("wokwi", {}).get("firmware")
+        firmware, elf = (value.get("wokwi", {}).get(key) for key in ("firmware", "elf"))
+        if isinstance(elf, str) and os.path.isfile(os.path.join(folder, elf)) and not (isinstance(firmware, str) and os.path.isfile(os.path.join(folder, firmware))):
+            firmware = elf
+        for key in SERVERS:
+            if key in value.get("wokwi", {}):
+                say(f"wokwi.toml has {key}: no command here opens such a server, so it is not used")
         chips = {chip["name"]: chip["binary"] for chip in value.get("chip", [])}
         if not all(isinstance(it, str) for it in (firmware or "", *chips, *chips.values())):
             raise ValueError("a name or a path is no text")
@@ -72,7 +80,7 @@ class Chip:
     """A chip of the project: its module or its source, and its pins."""
 
     def __init__(self, folder, name, binary):
-        self.name = name
+        self.name, self.folder, self.binary = name, folder, binary
         self.module = os.path.join(folder, binary) if binary else None
         stems = [os.path.join(folder, f"{name}.chip"), os.path.join(folder, name)]
         if binary:
@@ -85,14 +93,26 @@ class Chip:
 
     def pins(self):
         if not (self.module or self.source):
-            raise Fault(f"chip {self.name}: neither a module nor {self.name}.chip.c is there")
+            named = f"{os.path.join(self.folder, self.binary)}, " if self.binary else ""
+            raise Fault(f"chip {self.name} is not built and has no source: looked for {named}{self.name}.chip.wasm and {self.name}.chip.c in {self.folder}")
         if not self.text:
-            raise Fault(f"chip {self.name}: {self.name}.chip.json is missing")
+            raise Fault(f"chip {self.name}: {self.name}.chip.json is missing in {self.folder}")
         value = read_json(self.text, "file of pins")
         pins = value.get("pins") if isinstance(value, dict) else None
         if not isinstance(pins, list) or not all(isinstance(pin, str) for pin in pins):
             raise Fault(f"{self.text} has no array `pins` of texts")
         return [pin for pin in pins if pin]
+
+    def unlisted(self):
+        """The pins that the chip asks for and that its JSON file lacks, as its module or its source says."""
+        if self.module:
+            with open(self.module, "rb") as file:
+                asked = attributes.asked(file.read(), "pinInit")[0]
+        else:
+            with open(self.source, encoding="utf-8", errors="replace") as file:
+                asked = re.findall(r'\bpin_init\s*\(\s*"([^"\\\n]*)"', file.read())
+        pins = self.pins()
+        return [pin for pin in dict.fromkeys(asked) if pin not in pins]
 
     def wants_libc(self):
         """Whether the source includes headers of C's library, and the kit can link it."""
@@ -112,6 +132,9 @@ class Chip:
                 break
         else:
             raise Fault(f"chip {self.name}: {ran.stdout.strip()}")
+        for line in ran.stdout.splitlines():
+            if line.strip() and not line.startswith(module):
+                say(f"chip {self.name}: {line}")
         os.chmod(module, 0o644)
 
 
@@ -135,6 +158,8 @@ def put_firmware(folder, named, out, say):
     if not (path and os.path.isfile(path)):
         path = None
         if main:
+            if named:
+                say(f"the firmware that is named, {os.path.join(folder, named)}, is not there: the sketch is built")
             say(f"building {main}")
             try:
                 sketches.build(place, main, made, say)
@@ -142,8 +167,12 @@ def put_firmware(folder, named, out, say):
                 raise Fault(f"{main}: {fault}") from None
             return
         files = [name for name in sorted(os.listdir(folder)) if name.endswith((".hex", ".elf"))]
+        files = [name for name in files if not (name.endswith(".elf") and name[:-4] + ".hex" in files)]  # the same firmware with its lines
         if len(files) != 1:
-            raise Fault(f"{folder} has no sketch, and " + ("more than one HEX file" if files else "no firmware"))
+            missing = f"the firmware that is named, {os.path.join(folder, named)}, is not there, and " if named else ""
+            raise Fault(f"{missing}{folder} has no sketch, and " + (f"more than one HEX file: {', '.join(files)}" if files else "no firmware"))
+        if named:
+            say(f"the firmware that is named, {os.path.join(folder, named)}, is not there: {files[0]} is taken")
         path = os.path.join(folder, files[0])
     try:
         data = firmwares.as_hex(path)
@@ -151,6 +180,9 @@ def put_firmware(folder, named, out, say):
         raise Fault(f"{path}: {fault}") from None
     with open(made, "wb") as file:
         file.write(data)
+    elf = os.path.splitext(path)[0] + ".elf"
+    if os.path.isfile(elf):
+        shutil.copyfile(elf, sketches.elf_beside(made))
 
 
 def settings_text(chips):
@@ -171,12 +203,17 @@ def lower(folder, out, anyway=False, firmware=None, edit=None, change=None, say=
         value = read_diagram(folder)
         if edit:
             edit(value)
-        named, binaries = read_settings(folder)
+        named, binaries = read_settings(folder, say)
+        if firmware and not os.path.isfile(firmware):
+            raise Fault(f"{firmware}: the firmware that is named is not there")
         chips = chips_of(folder, value, binaries)
         lowering = diagrams.Lowering(value, {name: chip.pins() for name, chip in chips.items()})
         made = lowering.outcome()
+        unlisted = [(name, pin, chip.pins()) for name, chip in chips.items() for pin in chip.unlisted()] if lowering.faults else []
     except Fault as fault:
         return [str(fault)]
+    for name, pin, pins in unlisted:
+        lowering.faults.append(f'chip {name} asks for the pin "{pin}", which is not in its JSON file ({", ".join(pins) or "no pin"})')
     for note in lowering.notes:
         say(note)
     if lowering.faults and not (anyway and lowering.is_board):
@@ -199,6 +236,11 @@ def lower(folder, out, anyway=False, firmware=None, edit=None, change=None, say=
             for ending in (".wasm", ".json"):
                 shutil.copyfile(os.path.join(CHIPS, own + ending), os.path.join(out, own + ending))
             stems.append((name, own))
+        for part in made["parts"]:
+            stem = next((stem for name, stem in stems if part["type"] == f"chip-{name}"), None)
+            if stem:
+                with open(os.path.join(out, f"{stem}.wasm"), "rb") as file:
+                    part["attrs"] = attributes.hand_over(part["attrs"], file.read())
         if change:
             stems += change(lowering, made, out) or []
         with open(os.path.join(out, "diagram.json"), "w", encoding="utf-8") as file:

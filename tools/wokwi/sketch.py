@@ -11,9 +11,11 @@ import subprocess
 import sys
 import tempfile
 
+import firmware
+
 BASE = "/usr/share/arduino/hardware/arduino/avr"
 HERE = os.path.dirname(os.path.abspath(__file__))
-COMMON = ["-c", "-Os", "-w", "-ffunction-sections", "-fdata-sections", "-flto", "-mmcu=atmega328p", "-DF_CPU=16000000L",
+COMMON = ["-c", "-g", "-Os", "-w", "-ffunction-sections", "-fdata-sections", "-flto", "-mmcu=atmega328p", "-DF_CPU=16000000L",
           "-DARDUINO=10819", "-DARDUINO_AVR_UNO", "-DARDUINO_ARCH_AVR", f"-I{BASE}/cores/arduino", f"-I{BASE}/variants/standard"]
 C = ["avr-gcc", "-std=gnu11", "-fno-fat-lto-objects"]
 # gcc-avr 5.4 leaves DECIMAL_DIG out of its float.h for C++, and WString.cpp wants it
@@ -222,6 +224,17 @@ def keep(made, kept):
         pass
 
 
+def elf_beside(hex_file):
+    return os.path.splitext(hex_file)[0] + ".elf"
+
+
+def put(made, out):
+    """Copies a HEX file, and the ELF file beside it, which has the lines of the source."""
+    shutil.copyfile(made, out)
+    if os.path.exists(elf_beside(made)):
+        shutil.copyfile(elf_beside(made), elf_beside(out))
+
+
 def core_key():
     """What the core's archive depends on."""
     core = f"{BASE}/cores/arduino"
@@ -248,6 +261,16 @@ def core_archive(key, work, say):
     return made
 
 
+def library_nearby(header, folder):
+    """The folder of a library with this header that is in a sketch's folder, or next to it; the IDE does not look there either."""
+    stem = os.path.splitext(os.path.basename(header))[0]
+    inside = sorted(it.path for it in os.scandir(folder) if it.is_dir() and it.name != "libraries")
+    for place in (*inside, os.path.join(os.path.dirname(folder), stem)):
+        if any(os.path.isfile(os.path.join(place, more, header)) for more in ("", "src")):
+            return place
+    return None
+
+
 def missing_library(fault, folder):
     """What to do about a header that no library has."""
     found = re.search(r"fatal error: ([^:\s]+): No such file", fault)
@@ -259,6 +282,9 @@ def missing_library(fault, folder):
         with open(listed, encoding="utf-8", errors="replace") as file:
             names = [line.split("@")[0].strip() for line in file if line.strip() and not line.startswith("#")]
     hint = f"; libraries.txt has {', '.join(names)}" if names else ""
+    near = library_nearby(found[1], folder)
+    if near:
+        return f"{fault}\n{near} has {found[1]}, and libraries are looked for in {os.path.join(folder, 'libraries')}: move it there, or name the folder that it is in in ARDUINO_LIBRARIES"
     return f"{fault}\nno library here has {found[1]}{hint}: put its folder into {os.path.join(folder, 'libraries')}, or name the folder of your libraries in ARDUINO_LIBRARIES"
 
 
@@ -284,10 +310,11 @@ def by_debian(folder, main, out, say, flags):
         if not os.path.exists(kept):
             sources = [file for file in of_libraries if os.path.splitext(file)[1] in SOURCES]
             made = linked(work, folder, text, own, sources, [*flags, f"-I{folder}", *libraries.words()], core_archive(key, work, say))
+            keep(elf_beside(made), elf_beside(kept))
             keep(made, kept)
-            shutil.copyfile(made, out)
         else:
-            shutil.copyfile(kept, out)
+            made = kept
+        put(made, out)
     except BuildFault as fault:
         raise BuildFault(missing_library(str(fault), folder)) from None
     finally:
@@ -307,7 +334,7 @@ def linked(work, folder, text, own, of_libraries, words, core):
         archives.insert(0, os.path.join(work, "libraries.a"))
         call(["avr-gcc-ar", "rcs", archives[0], *compiled(of_libraries, words, below)], work)
     elf, made = os.path.join(work, "sketch.elf"), os.path.join(work, "sketch.hex")
-    call(["avr-gcc", "-w", "-Os", "-flto", "-fuse-linker-plugin", "-Wl,--gc-sections", "-mmcu=atmega328p", "-o", elf, *objects, *archives, "-lm"], work)
+    call(["avr-gcc", "-g", "-w", "-Os", "-flto", "-fuse-linker-plugin", "-Wl,--gc-sections", "-mmcu=atmega328p", "-o", elf, *objects, *archives, "-lm"], work)
     call(["avr-objcopy", "-O", "ihex", "-R", ".eeprom", elf, made], work)
     return made
 
@@ -332,7 +359,7 @@ def by_cli(folder, main, out, flags):
             if os.path.isdir(place):
                 words += ["--libraries", os.path.abspath(place)]
         call([*words, copy], work)
-        shutil.copy(os.path.join(work, "build", "sketch.ino.hex"), out)
+        put(os.path.join(work, "build", "sketch.ino.hex"), out)
     except BuildFault as fault:
         text = missing_library(str(fault), folder)
         raise BuildFault(text + ("\nor `arduino-cli lib install NAME`" if text != str(fault) else "")) from None
@@ -349,6 +376,16 @@ def build(folder, main, out, say=lambda text: None, flags=()):
         by_debian(folder, main, out, say, list(flags))
     else:
         raise BuildFault("there is neither arduino-cli nor Debian's arduino-core-avr, gcc-avr and avr-libc to build the sketch with: ./mudflatjar setup sketches installs these", missing=True)
+    say_sizes(elf_beside(out), say)
+
+
+def say_sizes(elf, say):
+    """Says what a build took, where its ELF file is there."""
+    try:
+        with open(elf, "rb") as file:
+            say(firmware.said_of_sizes(*firmware.sizes_of_elf(file.read())))
+    except (OSError, ValueError):
+        pass
 
 
 def main(words):

@@ -208,7 +208,7 @@ class Parts(unittest.TestCase):
             (uno(part("wokwi-pi-pico", "pico")), "pico (wokwi-pi-pico): has another microcontroller than the Uno"),
             (uno(part("board-esp32-devkit-c-v4", "esp")), "esp (board-esp32-devkit-c-v4): has another microcontroller than the Uno"),
             (uno(part("wokwi-teapot", "t")), "t (wokwi-teapot): is no type that is known here"),
-            (uno(part("chip-own", "c")), "c (chip-own): the folder has no chip own"),
+            (uno(part("chip-own", "c")), "c (chip-own): the folder has no chip own: neither own.chip.wasm nor own.chip.c"),
             (uno(part("wokwi-7segment", "d", digits="5")), "d (wokwi-7segment): digits is '5', and not one of 1, 2, 3, 4"),
             (uno(part("wokwi-potentiometer", "p", value="1024")), "p: value '1024' is not within 0 and 1023"),
             (uno(part("wokwi-slide-switch", "s", value="on")), "s: value 'on' is no number"),
@@ -216,9 +216,9 @@ class Parts(unittest.TestCase):
             (uno(part("wokwi-dht22", "d", temperature="warm")), "d (wokwi-dht22): temperature 'warm' is no number"),
             (uno(part("wokwi-ds1307", "r", initTime="noon")), "r (wokwi-ds1307): initTime 'noon' Invalid isoformat string: 'noon'"),
             (uno(wires=[("uno:2", "led:A")]), "connection 1: there is no part led"),
-            (uno(part("wokwi-led", "led"), wires=[("uno:2", "led:B")]), "connection 1: led has no pin B"),
+            (uno(part("wokwi-led", "led"), wires=[("uno:2", "led:B")]), "connection 1: led has no pin B; it has A, C"),
             (uno(wires=[("uno:D2", "uno:3")]), "connection 1: uno has no pin D2"),
-            (uno(*(part("wokwi-dht22", f"d{n}") for n in range(9))), "there are 9 parts that are chips, and 8 is the most"),
+            (uno(*(part("wokwi-dht22", f"d{n}") for n in range(9))), "there are 9 parts that are chips, and 8 is the most; chips in place of Wokwi's parts are d0, d1, d2, d3, d4, d5, d6, d7, d8"),
             (uno(*(part("wokwi-led-bar-graph", f"b{n}") for n in range(7))), "there are 71 parts, and 64 is the most"),
         ]
         for value, fault in cases:
@@ -329,11 +329,11 @@ class Folders(unittest.TestCase):
         self.put("any.hex", EMPTY_HEX)
         self.put("diagram.json", json.dumps(uno(part("chip-a", "it"))))
         self.put("a.chip.c", "")
-        self.assertEqual(self.lower(), ["chip a: a.chip.json is missing"])
+        self.assertEqual(self.lower(), [f"chip a: a.chip.json is missing in {self.folder}"])
         self.put("a.chip.json", '{"pins": [1]}')
         self.assertIn("no array `pins` of texts", self.lower()[0])
         self.put("wokwi.toml", "[wokwi]\nversion = 1\nfirmware = 'any.hex'\n[[chip]]\nname = 'b'\nbinary = 'b.wasm'\n")
-        self.assertIn("chip b: neither a module", self.lower()[0])
+        self.assertEqual(self.lower(), [f"chip b is not built and has no source: looked for {self.folder}/b.wasm, b.chip.wasm and b.chip.c in {self.folder}"])
 
     def test_anyway_leaves_out_what_cannot_be_done(self):
         self.put("any.hex", EMPTY_HEX)
