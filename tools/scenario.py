@@ -7,47 +7,82 @@ Without SCENARIO.yaml and --expect-text it is the folder's own: scenario.yaml, N
   --expect-text TEXT   waits for this text after the steps
   --fail-text TEXT     fails where this text is sent
   --baud N             the speed of write-serial
-  --serial FILE, --vcd FILE, --report FILE   what was sent, the wave and the report up to the end
+  --budget N           how many units of fuel each call of a chip may spend (1,000,000)
+  --allow NAME         this does not fail it: halt, trap, left-out, attribute, pin, console, wiring, or a register's name;
+                       once more for each, beside the scenario's own `allow: [..]`
+  --strict             what is told alone fails it too, and so does a scenario that expects nothing
+  --serial FILE, --vcd FILE, --report FILE, --page FILE
+                       what was sent, the wave, the report and the page of the run: up to the end, and after a failure 1 ms more
+  --keep FOLDER        puts the project there, with what was set as script.txt, and the command that runs it again in again.txt
   --program FILE       the program; else MUDFLATJAR in the environment names it, else it is the one of this repository
   --quiet              says what failed alone
 
 Status: 0 all steps passed, 1 one failed, 42 the time was over, 2 the words or the scenario are not understood, else the
-program's own. docs/TESTING.md has the steps."""
+program's own. docs/TESTING.md has the steps, and what fails a scenario whose steps all passed."""
 import argparse
 import math
 import os
 import re
+import shlex
 import shutil
 import subprocess
 import sys
 import tempfile
+from typing import NamedTuple
 
 HERE = os.path.dirname(os.path.abspath(__file__))
-sys.path.insert(0, os.path.join(HERE, "wokwi"))
+sys.path[:0] = [HERE, os.path.join(HERE, "wokwi")]
 import diagram as diagrams
 import formulas
 import lower
+import truth
 import typist
 from program import program_path
 from wave import CYCLES, Wave, frames
 
 PASSED, FAILED, MISUSED, OVER = 0, 1, 2, 42
 MOST = 10_000_000  # microseconds of a run
+BEYOND = 16_000  # cycles that are kept of a run after the moment in which a step failed
+TAIL = 2000  # bytes that are shown of what was sent
 UNITS = {"ns": 0.016, "us": 16, "ms": 16_000, "s": 16_000_000}
 TYPIST = "mudflatjar-typist"
+PLACE = re.compile(r"^(uno \S+ pc )0x[0-9A-F]+")  # of the next instruction, which another compiler puts elsewhere
 FILE = re.compile(r"(?:.*\.)?(?:scenario|test)\.ya?ml")
 
 
 class Stop(Exception):
-    """The end of a scenario before its last step, with a status."""
+    """The end of a scenario before its last step: a status, the cycle up to which the failed step looked, and the step's line in
+    the file. What could not be tried is an error, and no failure."""
 
-    def __init__(self, status, text):
+    def __init__(self, status, text, until=0, line=None, is_error=False):
         super().__init__(text)
-        self.status = status
+        self.status, self.until, self.line, self.is_error = status, until, line, is_error
+
+
+class Step(NamedTuple):
+    """A step of a scenario's file."""
+
+    word: str
+    value: object
+    line: int
+
+
+class Outcome(NamedTuple):
+    """How a scenario ended: the status, and why where that is not 0; what is told all the same; the scenario's own name; the line
+    of the step that failed; whether it could not be tried; the last bytes that were sent; the command that runs it again."""
+
+    status: int
+    text: str
+    told: list
+    name: str = ""
+    line: int = 0
+    is_error: bool = False
+    sent: bytes = b""
+    again: str = ""
 
 
 def misused(text):
-    return Stop(MISUSED, text)
+    return Stop(MISUSED, text, is_error=True)
 
 
 def cycles(text, what="a time"):
@@ -73,6 +108,8 @@ class Run:
         self.wave_file = os.path.join(folder, "wave.vcd")
         self.report_file = os.path.join(folder, "report.txt")
         words = [board.program, "run", board.folder, "--us", str(us), "--vcd", self.wave_file, "--report", self.report_file]
+        if board.budget:
+            words += ["--budget", str(board.budget)]
         if board.script:
             path = os.path.join(folder, "script.txt")
             with open(path, "w", encoding="utf-8") as file:
@@ -81,9 +118,9 @@ class Run:
         try:
             ran = subprocess.run(words, stdout=subprocess.PIPE, stderr=subprocess.PIPE, stdin=subprocess.DEVNULL, check=False)
         except OSError as fault:
-            raise Stop(FAILED, f"{board.program}: {fault.strerror}") from None
+            raise Stop(FAILED, f"{board.program}: {fault.strerror}", is_error=True) from None
         if ran.returncode:
-            raise Stop(ran.returncode if ran.returncode > 0 else FAILED, ran.stderr.decode("utf-8", "replace").strip())
+            raise Stop(ran.returncode if ran.returncode > 0 else FAILED, ran.stderr.decode("utf-8", "replace").strip(), is_error=True)
         self.sent = ran.stdout
         self.wave_of = {}
 
@@ -106,19 +143,19 @@ class Run:
 class Board:
     """A project in a folder of its own, under the script so far."""
 
-    def __init__(self, program, folder, work, before, with_typist, baud, say):
-        self.program, self.work, self.say = program, work, say
+    def __init__(self, program, folder, work, before, with_typist, baud, say, budget=None):
+        self.program, self.work, self.say, self.budget = program, work, say, budget
         self.source = folder
         self.folder = os.path.join(work, "project")
         self.set_before = before  # (part, control, value) of chips, which are attributes of the diagram
         self.with_typist, self.baud = with_typist, baud
         self.script, self.typed = [], []
-        self.kept = (None, None)  # what a run was made of, and the run
+        self.kept = self.ended = (None, None)  # what a run was made of, and the run: the longest one, and the last of `exactly`
         self.values = {}  # of parts whose bits are set one by one
         self.original = self.made = self.uno = None  # parts by id before lowering; the diagram after it; the Uno's id
         faults = lower.lower(folder, self.folder, edit=self.edited, change=self.changed)
         if faults:
-            raise Stop(FAILED, "\n".join(faults))
+            raise Stop(FAILED, "\n".join(faults), is_error=True)
         self.types = {part["id"]: part["type"] for part in self.made["parts"]}
 
     def edited(self, diagram):
@@ -135,6 +172,10 @@ class Board:
         self.uno = next((part["id"] for part in made["parts"] if part["type"] == "wokwi-arduino-uno"), "uno")
         if not self.with_typist:
             return []
+        for count, most, what in ((len(made["parts"]), diagrams.MOST_PARTS, "parts"), (len(made["connections"]), diagrams.MOST_WIRES, "connections"),
+                                  (sum(part["type"].startswith("chip-") for part in made["parts"]), diagrams.MOST_CHIPS, "parts that are chips")):
+            if count >= most:
+                raise lower.Fault(f"write-serial types by a chip of its own, and the board has {count} {what} already: with it {most - 1} are the most")
         made["parts"].append({"type": f"chip-{TYPIST}", "id": lowering.new_id(TYPIST), "attrs": {"baud": "9600"}})
         made["connections"].append([f"{made['parts'][-1]['id']}:TX", f"{self.uno}:0", "", []])
         shutil.copyfile(os.path.join(lower.CHIPS, "typist.json"), os.path.join(out, f"{TYPIST}.json"))
@@ -180,7 +221,13 @@ class Board:
 
     def exactly(self, until):
         """A run that ends with the microsecond of the cycle before `until`."""
-        return Run(self, min(MOST, max(1, -(-until // CYCLES))), tempfile.mkdtemp(dir=self.work))
+        us = min(MOST, max(1, -(-until // CYCLES)))
+        made_of = (tuple(self.script), tuple(self.typed))
+        for of, run in (self.kept, self.ended):
+            if of == made_of and run.us == us:
+                return run
+        self.ended = (made_of, Run(self, us, tempfile.mkdtemp(dir=self.work)))
+        return self.ended[1]
 
 
 # ---- steps
@@ -207,10 +254,10 @@ class Scenario:
         run = self.board.run(self.limit)
         if self.fail_text and self.fail_text in run.sent:
             return Stop(FAILED, f"{self.fail_text.decode('utf-8', 'replace')!r} is sent")
-        return Stop(OVER, f"within {shown(self.limit)} {text}")
+        return Stop(OVER, f"within {shown(self.limit)} {text}", self.limit)
 
-    def failed(self, text):
-        return Stop(FAILED, f"at {shown(self.now)} {text}")
+    def failed(self, text, until=0):
+        return Stop(FAILED, f"at {shown(self.now)} {text}", max(until, self.now) + BEYOND)
 
     def sent_at(self, run, count):
         """The cycle by whose end `count` bytes are sent."""
@@ -244,10 +291,17 @@ class Scenario:
     # each step: its name with _ in place of -
 
     def delay(self, value):
-        self.pass_time(self.now + cycles(value))
+        to = self.now + cycles(value)
+        if to > self.limit:
+            most = "; 10 s is the most" if self.limit < MOST * CYCLES else ", which is the most that a run has"
+            self.now = self.limit
+            raise self.over(f"all must be done (--timeout, or timeout: in the scenario{most}), and this delay of {value} ends at {shown(to)}")
+        self.pass_time(to)
 
     def wait_serial(self, value):
         text = str(value).encode()
+        if not text:
+            raise misused("wait-serial: an empty text is there at once: name the text that is to be sent")
 
         def find(run):
             at = run.sent.find(text, self.seen)
@@ -286,8 +340,9 @@ class Scenario:
         if self.now == 0:
             raise misused("expect-report: no time has passed yet")
         report = self.board.exactly(self.now).report()
+        anywhere = [PLACE.sub(r"\1*", line) for line in report]
         for line in lines:
-            if str(line) not in report:
+            if str(line) not in report and not (" pc * " in str(line) and str(line) in anywhere):
                 words = str(line).split()[:2]
                 alike = [it for it in report if it.split()[:2] == words] or report
                 raise self.failed(f"the report has no line {str(line)!r}; it has\n  " + "\n  ".join(alike))
@@ -319,7 +374,7 @@ class Scenario:
             self.pass_time(begun)
             run = self.board.run(min(self.limit, begun + most + 1))
             now, since = run.wave(second).level(second, min(begun + most, run.end() - 1))
-            raise self.failed(f"{first} becomes {first_level}, and {second} does not become {level} within {span}: it is {now} since {shown(since)}")
+            raise self.failed(f"{first} becomes {first_level}, and {second} does not become {level} within {span}: it is {now} since {shown(since)}", begun + most)
         self.pass_time(ended)
 
     @staticmethod
@@ -334,12 +389,12 @@ class Scenario:
              "expect-report": expect_report, "expect-pulse": expect_pulse, "expect-within": expect_within}
 
     def play(self, steps, expect_text):
-        for place, (word, value) in enumerate(steps, 1):
+        for place, (word, value, line) in enumerate(steps, 1):
             try:
                 self.STEPS[word](self, value)
                 self.check_fail_text()
             except Stop as stop:
-                raise Stop(stop.status, f"step {place}, {word}: {stop}") from None
+                raise Stop(stop.status, f"step {place}, {word}: {stop}", stop.until, line, stop.is_error) from None
             self.say(f"{shown(self.now):>14}  {word}: {value!r}")
         if expect_text:
             self.seen = 0
@@ -429,22 +484,26 @@ def own_scenario(folder):
 
 
 def read_steps(path):
-    """(the steps as (word, value), the other keys) of a scenario's file."""
+    """(the steps, the other keys) of a scenario's file."""
     try:
         import yaml
     except ImportError:
         raise misused("reading scenarios needs Debian's python3-yaml (or pip's PyYAML)") from None
     try:
         with open(path, encoding="utf-8") as file:
-            value = yaml.safe_load(file)
+            text = file.read()
+        value, tree = yaml.safe_load(text), yaml.compose(text, Loader=yaml.SafeLoader)
     except OSError as fault:
         raise misused(f"{path}: {fault.strerror}") from None
     except (yaml.YAMLError, UnicodeDecodeError, RecursionError) as fault:
         raise misused(f"{path} is no YAML: {fault}") from None
     if not isinstance(value, dict) or not isinstance(value.get("steps"), list):
         raise misused(f"{path} has no list `steps`")
-    if value.get("version", 1) != 1:
+    if "version" not in value:
+        raise misused(f"{path} has no `version`: write `version: 1`, by which later ones can be told from this one")
+    if value["version"] != 1:
         raise misused(f"{path}: its version is {value['version']!r}, and not 1")
+    lines = [step.start_mark.line + 1 for key, node in tree.value if key.value == "steps" for step in node.value]
     steps = []
     for place, step in enumerate(value["steps"], 1):
         if not isinstance(step, dict) or len(step) != 1:
@@ -452,7 +511,7 @@ def read_steps(path):
         (word, given), = step.items()
         if word not in Scenario.STEPS:
             raise misused(f"{path}: step {place}: there is no step {word} here; there are {', '.join(Scenario.STEPS)}")
-        steps.append((word, given))
+        steps.append(Step(word, given, lines[place - 1]))
     return steps, value
 
 
@@ -462,9 +521,9 @@ def set_before(folder, steps):
     try:
         kinds = {part["id"]: part["type"] for part in lower.read_diagram(folder)["parts"]}
     except lower.Fault as fault:
-        raise Stop(FAILED, str(fault)) from None
+        raise Stop(FAILED, str(fault), is_error=True) from None
     found = []
-    for word, value in steps:
+    for word, value, _ in steps:
         if word != "set-control":
             break
         name, control, new = fields(value, word, "part-id", "control", "value")
@@ -473,10 +532,42 @@ def set_before(folder, steps):
     return found
 
 
-def play(folder, path, program, limit=None, expect_text=None, fail_text=None, baud=None, say=lambda text: None, outputs=None):
-    """Plays a scenario, and returns (status, what failed). `outputs` are files by the names serial, vcd and report."""
+def allowed_by(more, given, parts):
+    """The words by which a scenario, and the words of the call, say what they mean; each must name something."""
+    words = more.get("allow", [])
+    if not isinstance(words, list) or not all(isinstance(word, str) for word in words):
+        raise misused("allow: it is a list of names, such as [halt, CLKPR]")
+    allowed = [*words, *given]
+    for word in truth.unknown(allowed, parts):
+        raise misused(f"allow: {word!r} is none of {', '.join(truth.KINDS)}, no register that is not there, and no part")
+    return allowed
+
+
+def check_truth(board, scenario, allowed, strict, stop):
+    """(what fails a scenario whose steps passed, what is told) of the run up to its end. After a failed step all is told."""
+    now = max(scenario.now, stop.until if stop else 0, 1)
+    run = board.exactly(now)
+    found = truth.findings(board.folder, "\n".join(run.report()), run.wave_file, board.source)
+    firmware = os.path.join(board.folder, "firmware.hex")
+    found = [it for it in found if not set(it.names) & set(allowed)]
+    fails, told = truth.verdict(found, hex_file=firmware, strict=strict)
+    if not fails or stop:
+        return "", told + fails, run
+    return f"all steps passed, but at {shown(now)} " + "\n".join([*fails, truth.how_to_allow([it for it in found if it.fails or strict])]), told, run
+
+
+def expects(steps, *texts):
+    """Whether a scenario can fail by what its firmware does."""
+    return any(texts) or any(word == "wait-serial" or word.startswith("expect") for word, _, _ in steps)
+
+
+def play(folder, path, program, limit=None, expect_text=None, fail_text=None, baud=None, say=lambda text: None, outputs=None, budget=None, allow=(), strict=False):
+    """Plays a scenario, and returns its Outcome. `outputs` are files by the names serial, vcd, report and page, and the folder
+    `again`; the first four may be absent."""
+    name, told, again, sent = "", [], "", b""
     try:
         steps, more = read_steps(path) if path else ([], {})
+        name = str(more.get("name") or "")
         if limit is None:
             limit = cycles(more.get("timeout", "10s"), "timeout")
         limit = min(limit, MOST * CYCLES)
@@ -484,36 +575,99 @@ def play(folder, path, program, limit=None, expect_text=None, fail_text=None, ba
         if baud is not None and not (isinstance(baud, int) and 300 <= baud <= 2_000_000):
             raise misused(f"baud {baud!r} is no number from 300 to 2000000")
         with tempfile.TemporaryDirectory() as work:
-            board = Board(program, folder, work, set_before(folder, steps), any(word == "write-serial" for word, _ in steps), baud, say)
-            scenario = Scenario(board, limit, fail_text.encode() if fail_text else None, say)
+            board = Board(program, folder, work, set_before(folder, steps), any(word == "write-serial" for word, _, _ in steps), baud, say, budget)
+            allowed = allowed_by(more, allow, board.types)
+            scenario, stop = Scenario(board, limit, fail_text.encode() if fail_text else None, say), None
             try:
                 scenario.play(steps, expect_text)
-            finally:
+                if strict and not expects(steps, expect_text, fail_text):
+                    raise Stop(FAILED, "it expects nothing: no step of it waits for a text or expects anything")
+            except Stop as ended:
+                stop = ended
+            if stop is None or not stop.is_error:
+                text, told, run = check_truth(board, scenario, allowed, strict, stop)
+                sent = run.sent[-TAIL:]
+                stop = Stop(FAILED, text, scenario.now + BEYOND) if text else stop
+                if not expects(steps, expect_text, fail_text) and not strict:
+                    told = [*told, "it expects nothing: no step of it waits for a text or expects anything"]
                 if outputs and any(outputs.values()):
-                    put_outputs(board, scenario.now, outputs)
-        return PASSED, ""
+                    again = put_outputs(board, max(scenario.now, stop.until if stop else 0), outputs, name)
+            for text in told:
+                say(f"{shown(scenario.now):>14}  {text}")
+            if stop:
+                raise stop
+        return Outcome(PASSED, "", told, name, sent=sent, again=again)
     except Stop as stop:
-        return stop.status, str(stop)
+        return Outcome(stop.status, str(stop), told, name, stop.line or 0, stop.is_error, sent, again)
 
 
-def put_outputs(board, now, outputs):
-    """Copies what the run up to the end wrote."""
+def put_outputs(board, now, outputs, title):
+    """Copies what the run up to the end wrote, and returns the command that runs it again, if the project is kept."""
     run = board.exactly(now)
     for name, source in (("vcd", run.wave_file), ("report", run.report_file)):
         if outputs.get(name):
-            with open(source, "rb") as file, open(outputs[name], "wb") as copy:
-                copy.write(file.read())
+            shutil.copyfile(source, outputs[name])
     if outputs.get("serial"):
         with open(outputs["serial"], "wb") as file:
             file.write(run.sent)
+    if outputs.get("page"):
+        put_page(board, run, outputs["page"], title)
+    return keep_project(board, run.us, outputs["again"]) if outputs.get("again") else ""
+
+
+def put_page(board, run, page, title):
+    """Writes the page of a run (docs/LOOK.md); what look says is said."""
+    words = [sys.executable, "-B", os.path.join(HERE, "look", "look.py"), board.folder, "--us", str(run.us), "-o", page, "--title", title or os.path.basename(os.path.abspath(board.source))]
+    words += ["--script", os.path.join(os.path.dirname(run.report_file), "script.txt")] if board.script else []
+    words += ["--budget", str(board.budget)] if board.budget else []
+    ran = subprocess.run(words, env=dict(os.environ, PROGRAM=board.program), stdout=subprocess.PIPE, stderr=subprocess.STDOUT, text=True, errors="replace", check=False)
+    if ran.returncode:
+        board.say(f"no page: {ran.stdout.strip()}")
+
+
+def command_again(folder, words):
+    """The command that shows a kept run: of this repository, in a folder."""
+    program = os.path.normpath(os.path.join(HERE, "..", "mudflatjar"))
+    return f"cd {shlex.quote(os.path.abspath(folder))} && {shlex.quote(program)} look {words} --open"
+
+
+def keep_project(board, us, folder):
+    """Puts the project with all that was set and typed into a folder, and returns the command that shows its run."""
+    shutil.copytree(board.folder, os.path.join(folder, "project"), dirs_exist_ok=True)
+    words = f"project --us {us}"
+    if board.script:
+        words += " --script script.txt"
+        with open(os.path.join(folder, "script.txt"), "w", encoding="utf-8") as file:
+            file.writelines(f"{at}cy {line}\n" for at, line in board.script)
+    if board.budget:
+        words += f" --budget {board.budget}"
+    return put_again(folder, words)
+
+
+def put_again(folder, words):
+    """Writes the command that shows a kept run into again.txt, and returns it."""
+    command = command_again(folder, words)
+    with open(os.path.join(folder, "again.txt"), "w", encoding="utf-8") as file:
+        file.write(command + "\n")
+    return command
+
+
+def budget_of(text):
+    """The units of --budget, as the program takes them."""
+    if not re.fullmatch("[0-9]{1,10}", text) or not 1 <= int(text) <= 10_000_000:
+        raise argparse.ArgumentTypeError(f"--budget takes 1 to 10000000, and not {text}")
+    return int(text)
 
 
 def main(words):
     parser = argparse.ArgumentParser(usage=__doc__, add_help=False)
-    for name in ("timeout", "expect-text", "fail-text", "program", "serial", "vcd", "report"):
+    for name in ("timeout", "expect-text", "fail-text", "program", "serial", "vcd", "report", "page", "keep"):
         parser.add_argument(f"--{name}")
     parser.add_argument("--baud", type=int)
-    parser.add_argument("--quiet", action="store_true")
+    parser.add_argument("--budget", type=budget_of)
+    parser.add_argument("--allow", action="append", default=[])
+    for name in ("quiet", "strict"):
+        parser.add_argument(f"--{name}", action="store_true")
     parser.add_argument("-h", "--help", action="store_true")
     parser.add_argument("folder", nargs="?")
     parser.add_argument("scenario", nargs="?")
@@ -525,16 +679,26 @@ def main(words):
     try:
         limit = cycles(given.timeout, "--timeout") if given.timeout else None
         path = given.scenario or (None if given.expect_text else own_scenario(given.folder))
+        if given.keep:
+            os.makedirs(given.keep, exist_ok=True)
     except Stop as stop:
         print(f"scenario: {stop}", file=sys.stderr)
         return stop.status
+    except OSError as fault:
+        print(f"scenario: --keep {given.keep}: {fault.strerror}", file=sys.stderr)
+        return FAILED
     if limit and limit > MOST * CYCLES:
         print("scenario: a run has 10 s at most, so that is the time", file=sys.stderr)
-    status, text = play(given.folder, path, program_path(given.program), limit, given.expect_text, given.fail_text, given.baud, say,
-                        {"serial": given.serial, "vcd": given.vcd, "report": given.report})
-    if status:
-        print(f"scenario: {text}", file=sys.stderr)
-    return status
+    outputs = {"serial": given.serial, "vcd": given.vcd, "report": given.report, "page": given.page, "again": given.keep}
+    ended = play(given.folder, path, program_path(given.program), limit, given.expect_text, given.fail_text, given.baud, say, outputs, given.budget, given.allow, given.strict)
+    if ended.status:
+        for text in ended.told if given.quiet else ():
+            print(f"scenario: {text}", file=sys.stderr)
+        place = f"{path}:{ended.line}: " if ended.line else ""
+        print(f"scenario: {place}{ended.text}", file=sys.stderr)
+        if ended.again:
+            print(f"scenario: to see it again: {ended.again}", file=sys.stderr)
+    return ended.status
 
 
 if __name__ == "__main__":

@@ -3,6 +3,7 @@
 
     look.py FOLDER --us N [--script FILE] [-o PAGE] [--open] [--from US] [--to US]
             [--svg PINS | --svg-board US] [--edges N] [--samples N] [--title TEXT] [--note TEXT]..
+            [--budget N] [--sketch FOLDER] [--quiet]
 
 docs/LOOK.md describes the page. PROGRAM names the simulator, else it is the one that ./mudflatjar builds.
 """
@@ -14,6 +15,7 @@ import re
 import sys
 import time
 import webbrowser
+from array import array
 from typing import NamedTuple
 
 from engine import EngineMissing, board_svg
@@ -25,7 +27,8 @@ from serial_times import decided, readings
 from shorter import first_times, shown_times
 from wave import Waves, moved_names, read_wave
 
-sys.path.append(os.path.join(os.path.dirname(os.path.abspath(__file__)), "..", "script"))
+TOOLS = os.path.join(os.path.dirname(os.path.abspath(__file__)), "..")
+sys.path += [TOOLS, os.path.join(TOOLS, "script")]
 import tell
 
 CYCLES_A_MICROSECOND = 16
@@ -53,6 +56,7 @@ class Seen(NamedTuple):
     firsts: dict
     left: str
     made: list
+    told: list = []
 
 
 def microseconds(text):
@@ -79,7 +83,12 @@ def arguments(words):
     parser.add_argument("--samples", type=int, default=SAMPLES, help=f"how many shorter runs may be made, for what no wave tells ({SAMPLES})")
     parser.add_argument("--title", help="what stands over the page; the folder's name if nothing is said")
     parser.add_argument("--note", action="append", default=[], metavar="TEXT", help="says in the page how the project was made of another; may stand several times")
+    parser.add_argument("--budget", type=int, metavar="N", help="how many units of fuel each call of a chip may spend")
+    parser.add_argument("--sketch", metavar="FOLDER", help="the folder with the sketch that the project was made of, for what is said of its wiring")
+    parser.add_argument("--quiet", action="store_true", help="does not say what the run left out, which the page says too")
     given = parser.parse_args(words)
+    if given.budget is not None and not 1 <= given.budget <= 10_000_000:
+        parser.error("--budget takes 1 to 10000000")
     if given.to is None:
         given.to = given.us
     if not 0 <= given.start < given.to <= given.us:
@@ -99,7 +108,7 @@ def seen_of(given):
     start, end = given.start * CYCLES_A_MICROSECOND, given.to * CYCLES_A_MICROSECOND
     kept = functools.partial(keep_whole, given.folder)
     sent, report, (waves, cut) = run(given.folder, given.us, given.script,
-                                     lambda stream: read_wave(stream, given.edges, start, end, kept))
+                                     lambda stream: read_wave(stream, given.edges, start, end, kept), budget=given.budget)
     diagram, chips = diagram_of(given.folder), chips_of(given.folder)   # the program has accepted them
     if given.script:
         with open(given.script, encoding="utf-8", errors="replace") as file:
@@ -110,12 +119,30 @@ def seen_of(given):
                 f" of {given.us:,} µs. Bytes and report are those of the whole run; --from and --to keep another part.")
         end = min(end, cut)
     transmit = waves.waves[waves.of[waves.names.index(uno_of(diagram) + ".1")]]
-    runs = ShorterRuns(given.folder, given.script, given.samples)
+    runs = ShorterRuns(given.folder, given.script, given.samples, given.budget)
     ways = decided(readings(transmit, sent, None if end == given.us * CYCLES_A_MICROSECOND else end), runs.sent)
     formats, times = ways[0] if ways else ([], None)
     return Seen(given.title or os.path.basename(os.path.abspath(given.folder)), given.us * CYCLES_A_MICROSECOND, start, max(end, start + 1), diagram, chips, script,
                 waves, sent, times, formats, [way.formats[0] for way in ways[1:]], report, shown_times(waves.waves, report, given.us, runs),
-                first_times(report, given.us, runs), left, given.note)
+                first_times(report, given.us, runs), left, given.note, told_of(given, report, waves))
+
+
+def told_of(given, report, waves):
+    """[part, sentence] of what was not as it was meant and has no line of its own in the report; with its lines it is said."""
+    import truth  # what it reads needs Python 3.11
+
+    found = {}
+    for name in truth.wiring.watched(given.folder):
+        at = waves.waves[waves.of[waves.names.index(name)]] if name in waves.names else array("Q")
+        if any(it & 3 == 3 for it in set(at.tobytes()[0 if sys.byteorder == "little" else at.itemsize - 1 :: at.itemsize])):
+            times = [(it >> 2, after >> 2) for it, after in zip(at, [*at[1:], waves.end << 2]) if it & 3 == 3]
+            found[name] = times[0][0], sum(end - begin for begin, end in times)
+    of_report = truth.of_report(report)
+    others = [it for it in of_report if not it.line] + truth.of_project(given.folder) + truth.of_wiring(given.folder, found, given.sketch)
+    if not given.quiet:
+        for text in truth.texts([it for it in of_report if it.line] + others, truth.hex_of(given.folder)):
+            print(f"look: {text}", file=sys.stderr)
+    return [[it.names[-1], it.text] for it in others]
 
 
 @functools.cache

@@ -8,7 +8,7 @@ import re
 
 from packing import packed
 from picture import waves_svg
-from told import halts, registers, traps
+from told import halts, omissions, registers, traps
 from wave import moved_names
 
 HERE = os.path.join(os.path.dirname(os.path.abspath(__file__)), "page")
@@ -26,7 +26,7 @@ def text_of(name):
 
 def script_of(names):
     """Scripts one after another, as one, after the tables of the documents that they speak of."""
-    tables = f"const REGISTERS = {json_text(registers())};\nconst HALTS = {json_text(halts())};\nconst TRAPS = {json_text(traps())};\n"
+    tables = f"const REGISTERS = {json_text(registers())};\nconst HALTS = {json_text(halts())};\nconst OMISSIONS = {json_text(omissions())};\nconst TRAPS = {json_text(traps())};\n"
     return "'use strict';\n" + tables + "".join(text_of(name).replace("'use strict';\n", "", 1) for name in names)
 
 
@@ -58,7 +58,7 @@ def data_of(seen):
     return {"title": seen.title, "cycles": seen.cycles, "from": seen.start, "to": seen.end, "diagram": seen.diagram, "chips": seen.chips,
             "script": seen.script, "names": seen.waves.names, "of": seen.waves.of, "counts": [len(wave) for wave in seen.waves.waves],
             "serial": base64.b64encode(seen.sent).decode(), "times": steps, "formats": seen.formats, "others": seen.others, "report": seen.report, "states": seen.states,
-            "firsts": seen.firsts, "left": seen.left, "made": seen.made}
+            "firsts": seen.firsts, "left": seen.left, "made": seen.made, "told": seen.told}
 
 
 def still_of(seen):
@@ -67,6 +67,8 @@ def still_of(seen):
     parts = [f"<h1>{html.escape(seen.title)}</h1>\n"]
     if seen.left:
         parts.append(f"<p><strong>{html.escape(seen.left)}</strong></p>\n")
+    if seen.told:
+        parts.append("<h2>What was not as it was meant</h2>\n<ul>" + "".join(f"<li>{html.escape(text)}</li>" for _, text in seen.told) + "</ul>\n")
     if seen.made:
         parts.append("<h2>How this project was made</h2>\n<ul>" + "".join(f"<li>{html.escape(line)}</li>" for line in seen.made) + "</ul>\n")
     if rows:

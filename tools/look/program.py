@@ -22,11 +22,12 @@ def program():
     return os.environ.get("PROGRAM") or (built if os.access(built, os.X_OK) else os.path.join(root, "mudflatjar"))
 
 
-def run(folder, us, script=None, read=None, quiet=False):
+def run(folder, us, script=None, read=None, quiet=False, budget=None):
     """(what was sent, the report, what `read` made of the wave). `read` gets the wave as a stream while the program writes it."""
     with tempfile.TemporaryDirectory() as box:
         words = [program(), "run", "--us", str(us), "--report", os.path.join(box, "report")]
         words += ["--script", script] if script else []
+        words += ["--budget", str(budget)] if budget else []
         if read is None:
             return *finished(words, folder, box, quiet), None
         receiving, sending = os.pipe()
@@ -72,8 +73,8 @@ def finished(words, folder, box, quiet, pipe=None):
 class ShorterRuns:
     """Reports of shorter runs. A run that is shorter has the same beginning, so its report is the state at its end."""
 
-    def __init__(self, folder, script, most):
-        self.folder, self.script, self.left, self.known = folder, script, most, {}
+    def __init__(self, folder, script, most, budget=None):
+        self.folder, self.script, self.left, self.known, self.budget = folder, script, most, {}, budget
 
     def report(self, us):
         """The report after `us` microseconds; None where no run is left."""
@@ -89,5 +90,5 @@ class ShorterRuns:
             if self.left == 0:
                 return None, None
             self.left -= 1
-            self.known[us] = run(self.folder, us, self.script, quiet=True)[:2]
+            self.known[us] = run(self.folder, us, self.script, quiet=True, budget=self.budget)[:2]
         return self.known[us]

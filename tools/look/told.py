@@ -31,6 +31,15 @@ def registers():
             for address, name in re.findall(r"`(0x[0-9A-F]{2})` (\w+)", cell)}
 
 
+def omissions():
+    """{'PinClock': {'0x45': what is said}}"""
+    found = {}
+    for name, cell, said, *_ in rows_of("REPORT.md", "What firmware asked for that is left out"):
+        for address in re.findall(r"`(0x[0-9A-F]{2})`", cell):
+            found.setdefault(name, {})[address] = plain(said)
+    return found
+
+
 def halts():
     """{'0x95E8': what it is}"""
     return {plain(word): plain(what) for word, what, *_ in rows_of("REPORT.md", "A core that has halted")}

@@ -82,6 +82,15 @@ def registers():
     return found
 
 
+def omissions():
+    """By the name of what firmware can ask for that is left out: {data address: (register, what is said, whether a test fails)}."""
+    found = {}
+    for cells in rows("REPORT.md", "What firmware asked for that is left out"):
+        for address, name in re.findall(r"`0x([0-9A-F]{2})` ([A-Z0-9]+)", cells[1] if len(cells) == 4 else ""):
+            found.setdefault(cells[0], {})[int(address, 16)] = name, plain(cells[2]), cells[3] == "fails"
+    return found
+
+
 def halts():
     """By word: what it is, from REPORT.md."""
     return {int(cells[0].strip("`"), 16): plain(cells[1]) for cells in rows("REPORT.md", "A core that has halted") if len(cells) == 2 and re.fullmatch(r"`0x[0-9A-F]{4}`", cells[0])}

@@ -9,6 +9,7 @@ import pages
 import words
 
 CYCLES_PER_US = 16
+CONSOLE = 65_536  # bytes that are kept of what a chip prints
 PLAYED = (".ino", ".pde", ".hex", ".elf")
 
 
@@ -62,11 +63,43 @@ def micros(cycle):
     return f"{cycle / CYCLES_PER_US:.10g}"
 
 
+def cut_consoles(report):
+    """(part, sentence) of each chip that printed as much as is kept of it: what came after that is not in the report."""
+    printed = {}
+    for line in report.splitlines():
+        facts = line.split(" ", 3)
+        if facts[0] == "chip" and facts[2:3] == ["|"]:
+            printed[facts[1]] = printed.get(facts[1], 0) + len(facts[3] if len(facts) > 3 else "") + 1
+    for part, count in printed.items():
+        if count >= CONSOLE:
+            yield part, f"{part}: what this chip printed after its first {CONSOLE:,} bytes is not shown (docs/REPORT.md)"
+
+
+def omitted(facts):
+    """What a line `uno ID omits NAME at CYCLE 0xAA 0xVV` says: (register, sentence, whether a test fails), or None."""
+    if facts[0] != "uno" or facts[2:3] != ["omits"] or len(facts) != 8:
+        return None
+    return pages.omissions().get(facts[3], {}).get(int(facts[6], 16))
+
+
+def decided(report):
+    """A report's lines without those of registers of which its lines `omits` say more: where it has these, or a live board was asked
+    for them and has none (a line `omitted`), the lines `ignored` of the table's addresses say nothing."""
+    lines = report.splitlines()
+    if not any(line.split(" ")[:1] == ["omitted"] or line.split(" ")[2:3] == ["omits"] for line in lines):
+        return lines
+    known = {address for rows in pages.omissions().values() for address in rows}
+    return [line for line in lines if line.split(" ")[2:3] != ["ignored"] or int(line.split(" ")[3], 16) not in known]
+
+
 def left_out(report, hex_file=None):
     """Sentences about what a report says did not happen as the firmware or a chip meant it."""
     written = {}
-    for line in report.splitlines():
+    for line in decided(report):
         facts = line.split(" ")
+        row = omitted(facts)
+        if row:
+            yield f"{facts[1]}: {row[1]} ({row[0]} {facts[7]} after {micros(int(facts[5]))} us; docs/REPORT.md, \"What firmware asked for that is left out\")"
         if facts[0] == "uno" and len(facts) >= 5 and facts[2] == "pc":
             address, place = int(facts[3], 16), ""
             place = place_in_source(hex_file, address)
@@ -81,6 +114,7 @@ def left_out(report, hex_file=None):
         elif facts[0] == "chip" and len(facts) == 6 and facts[2] == "trap":
             name, what, remedy = pages.trap(facts[3]) or ("", "", "")
             yield f"{facts[1]}: trap {facts[3]} ({name}) ended this chip after {micros(int(facts[5]))} us: {what}. What to do: {remedy} (docs/CHIPS.md, \"What ends a chip\")"
+    yield from (text for _, text in cut_consoles(report))
     for part, addresses in written.items():
         yield from of_registers(part, addresses)
 

@@ -25,6 +25,7 @@ check() { # NAME COMMAND WORDS
 }
 
 check "lowering" python3 -B "$here/test_lower.py"
+check "what fails a test" python3 -B "$here/../test_truth.py"
 check "scenarios, tests, play" python3 -B "$here/test_runs.py"
 
 chips=yes

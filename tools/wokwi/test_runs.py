@@ -51,7 +51,7 @@ class ScenarioFiles(unittest.TestCase):
             self.assertRaises(scenario.Stop, scenario.cycles, text)
 
     def test_what_is_no_scenario(self):
-        for text in ("", "steps: 3", "steps:\n- wait", "steps:\n- {a: 1, b: 2}", "steps:\n- take-screenshot: x", "version: 2\nsteps: []", "a: [", "\x00"):
+        for text in ("", "steps: 3", "steps:\n- wait", "steps:\n- {a: 1, b: 2}", "steps:\n- take-screenshot: x", "version: 2\nsteps: []", "steps: []", "a: [", "\x00"):
             with tempfile.NamedTemporaryFile("w", suffix=".yaml", delete=False) as file:
                 file.write(text)
             try:
@@ -131,7 +131,7 @@ class Scenarios(WithWork):
         shutil.copytree(os.path.join(EXAMPLES, "serial-hello"), folder)
         status, _, err = call("scenario.py", folder)
         self.assertEqual((status, "has no scenario: name one" in err), (2, True))
-        self.put("serial/a.scenario.yaml", "steps:\n  - wait-serial: hello 1\n")
+        self.put("serial/a.scenario.yaml", "version: 1\nsteps:\n  - wait-serial: hello 1\n")
         self.assertEqual(call("scenario.py", folder)[0], 0)
         self.put("serial/b.test.yaml", "steps: []\n")
         status, _, err = call("scenario.py", folder)
@@ -241,7 +241,7 @@ class RunTests(WithWork):
     def test_what_keeps_a_test_from_running(self):
         for files, text in (({"us_txt": "long"}, "is no time"), ({"us_txt": "0"}, "0 is no time from 1us to 10s"), ({"us_txt": "11s"}, "11s is no time from 1us to 10s"), ({"script_txt": "5us push btn1\n"}, "refused 80 ScriptLine line 1"),
                             ({"diagram_json": "{"}, "is no diagram"), ({"wokwi_toml": "[wokwi]\nversion = 1\nfirmware = 'none.hex'\n"}, ""),
-                            ({"scenario_yaml": "steps:\n  - jump: 1\n"}, "there is no step jump")):
+                            ({"scenario_yaml": "version: 1\nsteps:\n  - jump: 1\n"}, "there is no step jump"), ({"scenario_yaml": "steps: []\n"}, "has no `version`")):
             folder = self.button("a", **files)
             if "none.hex" in files.get("wokwi_toml", ""):
                 os.unlink(os.path.join(folder, "button.ino"))
@@ -298,6 +298,169 @@ class RunTests(WithWork):
         self.assertEqual(call("run-tests", self.work)[0], 2)
         self.assertEqual(call("run-tests", os.path.join(self.work, "none"))[0], 2)
         self.assertEqual(call("run-tests", "--help")[0], 0)
+
+
+class NotAsMeant(WithWork):
+    """What a run did not do as it was meant fails its tests, and `play --strict`."""
+
+    EMPTY = ":00000001FF\n"  # the core meets empty flash at once
+    CLKPR = ":0600000000936100FFCF38\n:00000001FF\n"  # writes CLKPR, and goes round
+    HALT = "uno: the core halted at word address 0x0000, on the word 0xFFFF: empty flash"
+
+    def project(self, firmware, name="t", steps="  - delay: 1ms\n", parts="", wires="", more=""):
+        self.put(f"{name}/a.hex", firmware)
+        self.put(f"{name}/diagram.json", f'{{"version": 1, "parts": [{{"type": "wokwi-arduino-uno", "id": "uno"}}{parts}], "connections": [{wires}]}}')
+        self.put(f"{name}/a.test.yaml", f"name: it boots\nversion: 1\n{more}steps:\n{steps}")
+        return os.path.join(self.work, name)
+
+    def test_a_halted_core_fails_a_scenario(self):
+        status, _, err = call("scenario.py", self.project(self.EMPTY, steps="  - delay: 1ms\n  - expect-pin: {part-id: uno, pin: 13, value: z}\n"))
+        self.assertEqual(status, 1)
+        self.assertIn(f"scenario: all steps passed, but at 1 ms {self.HALT}", err)
+        self.assertIn("allow: [..] in the scenario, or --allow, with one of: halt)", err)
+
+    def test_where_it_is_meant_it_passes(self):
+        expects = "  - delay: 1ms\n  - expect-report: uno uno pc * halt 0xFFFF\n"
+        self.assertEqual(call("scenario.py", self.project(self.EMPTY, steps=expects, more="allow: [halt]\n"))[0], 0)
+        self.assertEqual(call("scenario.py", self.project(self.EMPTY, steps=expects), "--allow", "halt")[0], 0)
+        status, _, err = call("scenario.py", self.project(self.EMPTY, steps=expects, more="allow: [hlat]\n"))
+        self.assertEqual((status, "allow: 'hlat' is none of halt, trap" in err), (2, True))
+        self.assertEqual(call("scenario.py", self.project(self.EMPTY, steps=expects, more="allow: halt\n"))[0], 2)
+
+    def test_what_was_written_to_and_is_not_there(self):
+        folder = self.project(self.CLKPR)
+        status, _, err = call("scenario.py", folder)
+        self.assertEqual((status, "(CLKPR 0x61), which is not simulated" in err), (1, True))
+        for name in ("CLKPR", "left-out", "0x61"):
+            self.assertEqual(call("scenario.py", folder, "--allow", name)[0], 0)
+        self.assertEqual(call("scenario.py", folder, "--allow", "PRR")[0], 1)
+
+    def test_a_scenario_that_expects_nothing_says_so(self):
+        loop = ":02000000FFCF30\n:00000001FF\n"
+        folder = self.project(loop)
+        status, out, _ = call("scenario.py", folder)
+        self.assertEqual((status, "it expects nothing: no step of it waits" in out), (0, True))
+        self.assertEqual(call("scenario.py", folder, "--strict")[0], 1)
+        self.assertEqual(call("scenario.py", folder, "--expect-text", "x", "--timeout", "5ms")[0], 42)
+        status, _, err = call("scenario.py", self.project("x\n"))  # refused firmware
+        self.assertEqual((status, "refused 20 HexStart line 1" in err), (3, True))
+
+    def test_the_report_s_place_may_be_any(self):
+        step = "  - delay: 1ms\n  - expect-report: uno uno pc * %s\n"
+        loop = ":02000000FFCF30\n:00000001FF\n"
+        self.assertEqual(call("scenario.py", self.project(loop, steps=step % "run"))[0], 0)
+        status, _, err = call("scenario.py", self.project(loop, steps=step % "sleep"))
+        self.assertEqual((status, "uno uno pc 0x0000 run" in err), (1, True))
+
+    def test_texts_and_times_that_cannot_be_meant(self):
+        status, _, err = call("scenario.py", self.project(self.EMPTY, steps="  - wait-serial: ''\n"))
+        self.assertEqual((status, "an empty text is there at once" in err), (2, True))
+        status, _, err = call("scenario.py", self.project(self.EMPTY, steps="  - delay: 30s\n"), "--allow", "halt")
+        self.assertEqual((status, "within 10000 ms all must be done" in err, "this delay of 30s ends at 30000 ms" in err), (42, True, True))
+
+    def test_the_evidence_goes_on_to_the_failure_and_beyond(self):
+        names = {name: os.path.join(self.work, name) for name in ("serial", "report", "vcd", "page")}
+        words = [word for name, path in names.items() for word in (f"--{name}", path)] + ["--keep", os.path.join(self.work, "kept")]
+        example = os.path.join(EXAMPLES, "serial-hello")
+        path = self.put("s.yaml", "name: it\nversion: 1\nsteps:\n  - wait-serial: hello 0\n  - wait-serial: bye\n")
+        status, _, err = call("scenario.py", example, path, "--timeout", "150ms", *words)
+        self.assertEqual(status, 42)
+        self.assertIn(f"scenario: {path}:5: step 2, wait-serial: within 150 ms 'bye' is not sent", err)
+        self.assertEqual(self.read("serial"), "hello 0\nhello 1\n")
+        self.assertIn("cycles 2400000\n", self.read("report"))
+        self.assertTrue(self.read("vcd").endswith("#1500000000\n"))
+        self.assertIn("hello 1", self.read("page"))
+        again = self.read("kept/again.txt")
+        self.assertIn(f"scenario: to see it again: {again}", err)
+        self.assertRegex(again, r"^cd \S+/kept && \S+/mudflatjar look project --us 150000 --open\n$")
+        self.assertEqual(subprocess.run([program_path(), "check", os.path.join(self.work, "kept", "project")], capture_output=True, check=True).stdout, b"accepted\n")
+        path = self.put("s.yaml", "version: 1\nsteps:\n  - delay: 5ms\n  - expect-pin: {part-id: uno, pin: 13, value: 1}\n")
+        self.assertEqual(call("scenario.py", example, path, "--report", names["report"])[0], 1)
+        self.assertIn("cycles 96000\n", self.read("report"))  # 1 ms beyond
+        path = self.put("s.yaml", "version: 1\nsteps:\n  - delay: 5ms\n  - expect-report: uno uno pc * run\n")
+        self.assertEqual(call("scenario.py", example, path, "--report", names["report"])[0], 0)
+        self.assertIn("cycles 80000\n", self.read("report"))  # and none where it passed
+
+    def test_folders_and_junit(self):
+        folder = self.project(self.EMPTY)
+        self.put("t/us.txt", "1ms\n")
+        self.put("t/expected/serial.txt", "")
+        self.project("x\n", "refused")
+        junit, keep = os.path.join(self.work, "j.xml"), os.path.join(self.work, "kept")
+        status, out, _ = call("run-tests", self.work, "--junit", junit, "--keep", keep, "--page")
+        self.assertEqual(status, 1)
+        self.assertIn(f"{folder}: failed\n    {self.HALT}", out)
+        self.assertIn("a line of allow.txt, or --allow, with one of: halt)", out)
+        self.assertIn("refused/a.test.yaml: could not be tried\n    status 3: ", out)
+        suite = xml.etree.ElementTree.parse(junit).getroot()
+        self.assertEqual((suite.get("tests"), suite.get("failures"), suite.get("errors")), ("3", "2", "1"))
+        cases = {case.get("file"): case for case in suite.iter("testcase")}
+        case = cases[os.path.join(folder, "a.test.yaml")]
+        self.assertEqual((case.get("name"), case.get("classname")), ("it boots", folder))
+        self.assertIn(self.HALT, case.find("failure").text)
+        self.assertIn("it expects nothing", case.find("system-out").text)
+        self.assertIn("refused 20 HexStart", cases[os.path.join(self.work, "refused", "a.test.yaml")].find("error").text)
+        kept = {name: sorted(os.listdir(os.path.join(keep, name))) for name in os.listdir(keep)}
+        self.assertEqual(len(kept), 2)  # what could not be tried wrote nothing
+        whole = ["again.txt", "page.html", "project", "report.txt", "serial.txt", "wave.vcd"]
+        self.assertEqual(list(kept.values()), [whole, whole])
+        for words in (["--allow", "halt"], ["--allow", "halt", "--strict", "--list"]):
+            self.assertEqual(call("run-tests", folder, *words)[0], 0)
+        self.assertEqual(call("run-tests", folder, "--allow", "halt", "--strict")[0], 1)  # the scenario expects nothing
+        self.put("t/allow.txt", "# the sketch is empty\nhalt\n")
+        os.unlink(os.path.join(folder, "a.test.yaml"))
+        self.assertEqual(call("run-tests", folder)[0], 0)
+        self.assertEqual(call("run-tests", folder, "--page")[0], 2)
+
+    def test_update_of_a_dead_board_writes_nothing(self):
+        folder = self.project(self.EMPTY)
+        os.unlink(os.path.join(folder, "a.test.yaml"))
+        self.put("t/us.txt", "1ms\n")
+        os.mkdir(os.path.join(folder, "expected"))
+        status, out, _ = call("run-tests", folder, "--update")
+        self.assertEqual((status, "--update wrote nothing" in out, os.listdir(os.path.join(folder, "expected"))), (1, True, []))
+        self.assertEqual(call("run-tests", folder, "--update", "--allow", "halt")[0], 0)
+        self.assertIn("uno uno pc * halt 0xFFFF\n", self.read("t/expected/report.txt"))
+        self.assertEqual(call("run-tests", folder)[0], 0)  # its line is expected now
+
+    def test_what_is_told_alone_fails_by_strict(self):
+        parts = ', {"type": "wokwi-potentiometer", "id": "pot1"}'
+        folder = self.project(":02000000FFCF30\n:00000001FF\n", steps="  - delay: 1ms\n  - expect-report: uno uno pc * run\n", parts=parts, wires='["pot1:SIG", "uno:A0", "", []]')
+        status, out, _ = call("run-tests", folder)
+        self.assertEqual((status, f"{folder}/a.test.yaml: passed, and yet\n    pot1: its VCC and GND are not wired" in out), (0, True))
+        status, out, _ = call("run-tests", folder, "--strict")
+        self.assertEqual((status, "all steps passed, but at 1 ms pot1: its VCC and GND are not wired" in out), (1, True))
+        self.assertEqual(call("run-tests", folder, "--strict", "--allow", "wiring")[0], 0)
+
+    def test_play_and_look_say_the_same(self):
+        folder = self.project(self.EMPTY, parts=', {"type": "wokwi-potentiometer", "id": "pot1"}, {"type": "wokwi-servo", "id": "s"}', wires='["pot1:SIG", "uno:A0", "", []]')
+        page = os.path.join(self.work, "page.html")
+        status, _, err = call("wokwi/play", folder, "--us", "1ms", "--quiet", "--page", page)
+        self.assertEqual(status, 0)
+        self.assertEqual(err.count(self.HALT), 1)
+        self.assertEqual(err.count("play: pot1: its VCC and GND are not wired"), 1)
+        self.assertIn("pot1: its VCC and GND are not wired", self.read("page.html"))
+        self.assertEqual(call("wokwi/play", folder, "--us", "1ms", "--quiet", "--strict")[0], 1)
+        loop = self.project(":02000000FFCF30\n:00000001FF\n", "loop", parts=', {"type": "wokwi-servo", "id": "s"}')
+        self.assertEqual([call("wokwi/play", loop, "--us", "1ms", *words)[0] for words in ([], ["--strict"])], [0, 1])  # a part is left out
+        self.assertEqual(call("wokwi/play", self.project(":02000000FFCF30\n:00000001FF\n", "plain"), "--us", "1ms", "--strict")[0], 0)
+        made = os.path.join(self.work, "made")
+        self.assertEqual(call("wokwi/play", folder, "--us", "1ms", "--keep", made)[0], 0)
+        status, _, err = call("look/look.py", made, "--us", "1ms", "-o", page, PROGRAM=program_path())
+        self.assertEqual((status, f"look: {self.HALT}" in err, "look: pot1: its VCC and GND are not wired" in err), (0, True, True))
+
+    def test_a_budget_for_each_call_of_a_chip(self):
+        example = os.path.join(EXAMPLES, "chip-printf")
+        for words in (["wokwi/play", example, "--us", "2ms"], ["look/look.py", example, "--us", "2ms", "-o", os.path.join(self.work, "p.html")]):
+            self.assertNotIn("trap 9", call(*words, PROGRAM=program_path())[2])
+            self.assertIn("trap 9 (Budget)", call(*words, "--budget", "10", PROGRAM=program_path())[2])
+            self.assertEqual(call(*words, "--budget", "0", PROGRAM=program_path())[0], 2)
+        path = self.put("s.yaml", "version: 1\nsteps:\n  - delay: 2ms\n")
+        status, _, err = call("scenario.py", example, path, "--budget", "10")
+        self.assertEqual((status, "trap 9 (Budget)" in err, "--budget" in err), (1, True, True))
+        shutil.copytree(example, os.path.join(self.work, "c"))
+        shutil.move(path, os.path.join(self.work, "c", "s.test.yaml"))
+        self.assertEqual([call("run-tests", os.path.join(self.work, "c"), *words)[0] for words in ([], ["--budget", "10"], ["--budget", "10", "--allow", "trap"])], [0, 1, 0])
 
 
 class Play(WithWork):

@@ -18,7 +18,7 @@ function runFrom({ title, us, diagram, chips, script, vcd, serial, report, progr
 
 // From waves that are read already.
 function makeRun({ title, cycles, from = 0, to = cycles, diagram, chips = {}, script = '', names, of, waves, serial, times = null, formats = [], others = [],
-  report = '', states = [], firsts = {}, left = '', made = [], program = '' }) {
+  report = '', states = [], firsts = {}, left = '', made = [], told = [], program = '' }) {
   const drawing = typeof diagram === 'string' ? JSON.parse(diagram) : diagram;
   const parts = (drawing.parts || []).map(part => partOf(part, chips)), wires = wiresOf(drawing), { scenery, drawn } = drawnOf(drawing, wires);
   const run = {
@@ -27,7 +27,7 @@ function makeRun({ title, cycles, from = 0, to = cycles, diagram, chips = {}, sc
     waveOf: new Map(names.map((name, i) => [name, of[i]])),
     inputs: inputsOf(parts, script),
     serial: { bytes: serial || new Uint8Array(0), times, formats, others },
-    notes: notesOf(report, firsts),
+    notes: notesOf(report, firsts, told),
     cache: new Map(),               // what displays and decoders found, by a name that they choose
   };
   run.sharing = sharingOf(run, of);
