@@ -9,6 +9,8 @@ import os
 import re
 import sys
 
+import wasm
+
 # imports of the C library that are there: those by which it prints
 PRINTS = {"fd_close", "fd_fdstat_get", "fd_seek", "fd_write"}
 # others, and what a chip calls to get them
@@ -34,92 +36,34 @@ HINTS = {
 FLOATS = {0x7D: "float", 0x7C: "double"}
 
 
-class Reader:
-    def __init__(self, data):
-        self.data = data
-        self.at = 0
-
-    def byte(self):
-        self.at += 1
-        return self.data[self.at - 1]
-
-    def number(self):
-        value = shift = 0
-        while True:
-            byte = self.byte()
-            value |= (byte & 0x7F) << shift
-            shift += 7
-            if byte < 0x80:
-                return value
-
-    def bytes(self):
-        count = self.number()
-        self.at += count
-        return self.data[self.at - count : self.at]
-
-    def name(self):
-        return self.bytes().decode("utf-8", "replace")
-
-    def limits(self):
-        flags = self.byte()
-        self.number()
-        if flags & 1:
-            self.number()
+def header():
+    """The functions that there are, by wokwi-api.h: {name}."""
+    path = os.path.join(os.path.dirname(os.path.abspath(__file__)), "wokwi-api.h")
+    with open(path, encoding="utf-8") as file:
+        return set(re.findall(r'^CHIP_IMPORT\("(\w+)"\)', file.read(), re.M))
 
 
-def sections(data):
-    reader = Reader(data)
-    reader.at = 8
-    while reader.at < len(data):
-        number = reader.byte()
-        yield number, Reader(reader.bytes())
+def complaint(it, known):
+    """What is wrong with an import, from its second word on, or None."""
+    if it.module == "wasi_snapshot_preview1" and it.name in PRINTS:
+        return None
+    if it.module == "wasi_snapshot_preview1":
+        calls = SYSTEM.get(it.name, "files or the system")
+        return f"{it.name} of the C library, which is not there: it comes from {calls}"
+    if it.module != "env" or it.name not in known:
+        hint = next((": " + text for part, text in HINTS.items() if part in it.name), "")
+        return f"{it.module} {it.name}, which is not there{hint}"
+    kinds = [kind for byte, kind in FLOATS.items() if byte in it.parameters + it.result]
+    return f"{it.name} with a {kinds[0]}, and here it has whole numbers: use the wokwi-api.h of the kit" if kinds else None
 
 
-def parts(data):
-    """The imported functions as (module, name, types of parameters and result), and the names of the exported ones."""
-    types, imports, exports = [], [], []
-    for number, section in sections(data):
-        if number not in (1, 2, 7):
-            continue
-        for _ in range(section.number()):
-            if number == 1:
-                section.byte()
-                types.append(section.bytes() + section.bytes())
-            elif number == 2:
-                module, name, kind = section.name(), section.name(), section.byte()
-                if kind == 0:
-                    imports.append((module, name, types[section.number()]))
-                elif kind == 1:
-                    section.byte()
-                    section.limits()
-                elif kind == 2:
-                    section.limits()
-                else:
-                    section.at += 2
-            else:
-                name, kind, _ = section.name(), section.byte(), section.number()
-                if kind == 0:
-                    exports.append(name)
-    return imports, exports
-
-
-def complaints(data, known):
-    imports, exports = parts(data)
-    if "chipInit" not in exports:
+def complaints(module, known):
+    if module.exports.get("chipInit", (1, 0))[0] != 0:
         yield 'exports no chipInit: one of the files has the function `void chip_init(void)`, and includes "wokwi-api.h"'
-    for module, name, types in imports:
-        if module == "wasi_snapshot_preview1" and name in PRINTS:
-            continue
-        if module == "wasi_snapshot_preview1":
-            calls = SYSTEM.get(name, "files or the system")
-            yield f"imports {name} of the C library, which is not there: it comes from {calls}"
-        elif module != "env" or name not in known:
-            hint = next((": " + text for part, text in HINTS.items() if part in name), "")
-            yield f"imports {module} {name}, which is not there{hint}"
-        else:
-            for byte, kind in FLOATS.items():
-                if byte in types:
-                    yield f"imports {name} with a {kind}, and here it has whole numbers: use the wokwi-api.h of the kit"
+    for it in module.functions():
+        said = complaint(it, known)
+        if said:
+            yield f"imports {said}"
 
 
 def unlisted_pins(list_of_pins, sources):
@@ -145,11 +89,8 @@ def main(words):
         print("usage: sdk/module.py MODULE NAME.wasm SOURCE ..", file=sys.stderr)
         return 2
     with open(words[1], "rb") as file:
-        data = file.read()
-    header = os.path.join(os.path.dirname(os.path.abspath(__file__)), "wokwi-api.h")
-    with open(header, encoding="utf-8") as file:
-        known = set(re.findall(r'^CHIP_IMPORT\("(\w+)"\)', file.read(), re.M))
-    said = list(complaints(data, known))
+        module = wasm.Module(file.read())
+    said = list(complaints(module, header()))
     for text in said:
         say(f"{words[2]} {text}")
     if said:

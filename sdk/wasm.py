@@ -25,9 +25,9 @@ IMMEDIATES = {
     0xD2: "u",
     0x0E: "b",
 }
-IMMEDIATES |= {opcode: "s" for opcode in (0x02, 0x03, 0x04)}
-IMMEDIATES |= {opcode: "u" for opcode in range(0x20, 0x27)}
-IMMEDIATES |= {opcode: "uu" for opcode in range(0x28, 0x3F)}
+IMMEDIATES.update({opcode: "s" for opcode in (0x02, 0x03, 0x04)})
+IMMEDIATES.update({opcode: "u" for opcode in range(0x20, 0x27)})
+IMMEDIATES.update({opcode: "uu" for opcode in range(0x28, 0x3F)})
 PREFIXED = {8: "uu", 9: "u", 10: "uu", 11: "u", 12: "uu", 13: "u", 14: "uu", 15: "u", 16: "u", 17: "u"}
 # Instructions that put a float on the operand stack, or take one.
 FLOAT = {

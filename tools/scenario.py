@@ -31,10 +31,11 @@ import tempfile
 from typing import NamedTuple
 
 HERE = os.path.dirname(os.path.abspath(__file__))
-sys.path[:0] = [HERE, os.path.join(HERE, "wokwi")]
+sys.path[:0] = [HERE, os.path.join(HERE, "wokwi"), os.path.join(HERE, "script")]
 import diagram as diagrams
 import formulas
 import lower
+import option
 import truth
 import typist
 from program import program_path
@@ -652,19 +653,12 @@ def put_again(folder, words):
     return command
 
 
-def budget_of(text):
-    """The units of --budget, as the program takes them."""
-    if not re.fullmatch("[0-9]{1,10}", text) or not 1 <= int(text) <= 10_000_000:
-        raise argparse.ArgumentTypeError(f"--budget takes 1 to 10000000, and not {text}")
-    return int(text)
-
-
 def main(words):
-    parser = argparse.ArgumentParser(usage=__doc__, add_help=False)
+    parser = option.each_once(argparse.ArgumentParser(usage=__doc__, add_help=False))
     for name in ("timeout", "expect-text", "fail-text", "program", "serial", "vcd", "report", "page", "keep"):
         parser.add_argument(f"--{name}")
     parser.add_argument("--baud", type=int)
-    parser.add_argument("--budget", type=budget_of)
+    parser.add_argument("--budget", type=option.budget)
     parser.add_argument("--allow", action="append", default=[])
     for name in ("quiet", "strict"):
         parser.add_argument(f"--{name}", action="store_true")

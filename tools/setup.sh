@@ -75,7 +75,7 @@ if [ -n "$only" ]; then
     echo "$wanted"
     exit 0
 fi
-[ -n "$wanted" ] || exit 0
+[ -n "$wanted" ] || { echo "setup: nothing to do: all packages of${groups:- all groups} are installed" >&2; exit 0; }
 as_root=
 if [ "$(id -u)" != 0 ]; then
     as_root=sudo

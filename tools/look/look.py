@@ -29,6 +29,7 @@ from wave import Waves, moved_names, read_wave
 
 TOOLS = os.path.join(os.path.dirname(os.path.abspath(__file__)), "..")
 sys.path += [TOOLS, os.path.join(TOOLS, "script")]
+import option
 import tell
 
 CYCLES_A_MICROSECOND = 16
@@ -69,7 +70,7 @@ def microseconds(text):
 
 
 def arguments(words):
-    parser = argparse.ArgumentParser(prog="look", description="Runs a project and writes a page in which the run can be seen.")
+    parser = option.each_once(argparse.ArgumentParser(prog="look", description="Runs a project and writes a page in which the run can be seen."))
     parser.add_argument("folder")
     parser.add_argument("--us", type=microseconds, required=True, metavar="N", help="how long the run is: microseconds, or a number with us, ms or s")
     parser.add_argument("--script", help="presses buttons and turns wipers (docs/SCRIPTS.md)")
@@ -83,12 +84,10 @@ def arguments(words):
     parser.add_argument("--samples", type=int, default=SAMPLES, help=f"how many shorter runs may be made, for what no wave tells ({SAMPLES})")
     parser.add_argument("--title", help="what stands over the page; the folder's name if nothing is said")
     parser.add_argument("--note", action="append", default=[], metavar="TEXT", help="says in the page how the project was made of another; may stand several times")
-    parser.add_argument("--budget", type=int, metavar="N", help="how many units of fuel each call of a chip may spend")
+    parser.add_argument("--budget", type=option.budget, metavar="N", help="how many units of fuel each call of a chip may spend")
     parser.add_argument("--sketch", metavar="FOLDER", help="the folder with the sketch that the project was made of, for what is said of its wiring")
     parser.add_argument("--quiet", action="store_true", help="does not say what the run left out, which the page says too")
     given = parser.parse_args(words)
-    if given.budget is not None and not 1 <= given.budget <= 10_000_000:
-        parser.error("--budget takes 1 to 10000000")
     if given.to is None:
         given.to = given.us
     if not 0 <= given.start < given.to <= given.us:

@@ -122,6 +122,7 @@ def after(status, said, report, given):
         yield from tell.refused(line)
     elif status in (4, 5):
         yield from tell.unread(given)
+        yield from tell.missing(line)
     elif status == 6:
         yield from tell.unwritten(given)
 

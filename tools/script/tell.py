@@ -4,12 +4,14 @@ import os
 import re
 import shutil
 import subprocess
+import sys
 
 import pages
 import words
 
 CYCLES_PER_US = 16
 CONSOLE = 65_536  # bytes that are kept of what a chip prints
+WAVE = 16_777_216  # bytes that a wave that is read may have
 PLAYED = (".ino", ".pde", ".hex", ".elf")
 
 
@@ -184,6 +186,79 @@ def unwritten(given):
             yield f"{name} {shown(file)}: you may not write it"
 
 
+def kit():
+    """The kit's two modules, which read modules of chips."""
+    folder = os.path.join(os.path.dirname(os.path.realpath(__file__)), "..", "..", "sdk")
+    if folder not in sys.path:
+        sys.path.append(folder)
+    import module
+    import wasm
+
+    return module, wasm
+
+
+def chip_module(file):
+    """A module as the kit reads it; None where it is none."""
+    try:
+        with open(file, "rb") as it:
+            return kit()[1].Module(it.read(1_048_576))
+    except (OSError, ValueError, ImportError):
+        return None
+
+
+def import_of(file, number):
+    """The name of an import of a module, from 1 on, and why it is refused."""
+    module = chip_module(file)
+    if not module or not 0 < number <= len(module.imports):
+        return None
+    it = module.imports[number - 1]
+    kinds = {0x7F: "i32", 0x7E: "i64", 0x7D: "float", 0x7C: "double"}
+    types = lambda codes: ", ".join(kinds.get(code, "?") for code in codes) or "nothing"
+    why = kit()[0].complaint(it, kit()[0].header()) if it.kind == 0 else None
+    form = f" ({types(it.parameters)} to {types(it.result)})" if it.kind == 0 else ""
+    more = "; a module that was made for Wokwi's simulator alone has it so: build its source with sdk/build.sh" if why and "whole numbers" in why else ""
+    return f"{it.module} {it.name}{form}" + (f", {why.split(', ', 1)[1]}{more}" if why and ", " in why else "")
+
+
+def too_much(file, place):
+    """Which of the three causes of 79 it is, with the number that the module has."""
+    if place[:1] == ["function"]:
+        return "the body's expression has more than 1,024 operands at once. What to do: split it"
+    module = chip_module(file)
+    for pages, _ in module.memories if module else ():
+        if pages > 64:
+            return f"the memory begins with {pages:,} pages of 64 KiB ({pages * 65536:,} bytes), and 64 is the most. What to do: fewer static data, -Wl,--initial-memory, -z stack-size"
+    for entries, _ in module.tables if module else ():
+        if entries > 8192:
+            return f"the table begins with {entries:,} entries, and 8,192 is the most. What to do: fewer functions whose address is taken"
+    return None
+
+
+def of_a_file(file, number, at):
+    """What a file is that was refused for its first bytes or its length, where that can be seen."""
+    try:
+        with open(file, "rb") as it:
+            begin, size = it.read(16), os.path.getsize(file)
+    except OSError:
+        return
+    if number == 20 and begin[:4] == b"\x7fELF":
+        yield f"{shown(file)} is an ELF file, and a firmware is Intel HEX here: ./mudflatjar play takes it, or avr-objcopy -O ihex -R .eeprom {shown(file)} firmware.hex"
+    elif number == 10 and begin[:1] == b"$" and size > WAVE:
+        yield f"the wave has {size:,} bytes, and {WAVE:,} is the most: a run of a shorter --us writes a shorter one"
+
+
+def missing(line):
+    """Sentences about a line `FILE: missing` of what a project names."""
+    file = line[: -len(": missing")] if line.endswith(": missing") else ""
+    folder, stem = os.path.dirname(file), os.path.splitext(file)[0]
+    source = next((it for it in (f"{stem}.c", f"{stem}.chip.c") if os.path.isfile(it)), None)
+    if file.endswith(".wasm"):
+        remedy = f": sdk/build.sh -o {shown(file)} {shown(source)} builds it" if source else ": its source is not next to where it was looked for"
+        yield f"this chip is not built{remedy}" + (f"; ./mudflatjar play {shown(folder)} does too" if source and can_play(folder) else "")
+    elif file.lower().endswith((".hex", ".elf")):
+        yield "the firmware that wokwi.toml names is not there" + (f": ./mudflatjar play {shown(folder)} builds the sketch" if can_play(folder) else "")
+
+
 def refused(line):
     """Sentences about a line `FILE: refused 44 PinUnknown connection 3`."""
     found = re.fullmatch(r"(.*): refused ([0-9]+) [A-Za-z0-9]+((?: [a-z]+ [0-9]+)*)", line, re.S)
@@ -195,10 +270,18 @@ def refused(line):
         it = item_of(file, kind, at)
     elif kind == "chip":
         it = chip_of(file, at)
+    elif kind == "import":
+        it = import_of(file, at)
     else:
         it = line_of(file, at) if kind == "line" else None
-    if it:
-        yield f"{kind} {at} is {shown(it)}"
+    found_out = list(of_a_file(file, number, at))
+    if it and not found_out:
+        yield f"{kind} {at} is {shown(it, 400 if kind == 'import' else 80)}"
+    yield from found_out
     row, page = pages.refusal(number)
+    cause = too_much(file, place) if number == 79 else None
+    if cause:
+        yield f"{row[0]}: {cause} ({page})"
+        return
     if row:
         yield f"{row[0]}: {row[1]}. What to do: {row[2]} ({page})"

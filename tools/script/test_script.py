@@ -177,6 +177,50 @@ class Sentences(unittest.TestCase):
             pathlib.Path(script).write_text("5us press b\n6us push b\n")
             self.assertEqual(list(tell.refused(f"{script}: refused 80 ScriptLine line 2"))[0], 'line 2 is "6us push b"')
 
+    def refused(self, name, data, line):
+        with tempfile.TemporaryDirectory() as folder:
+            file = pathlib.Path(folder, name)
+            file.write_bytes(data)
+            return [text.replace(f"{folder}/", "") for text in tell.refused(f"{file}: {line}")]
+
+    def test_an_import_that_is_refused_is_named_with_its_types(self):
+        def module(name, types):
+            section = lambda kind, body: bytes([kind, len(body)]) + body
+            return b"\0asm\1\0\0\0" + section(1, b"\1\x60" + types) + section(2, b"\1\3env" + bytes([len(name)]) + name + b"\0\0")
+
+        said = self.refused("a.wasm", module(b"getSimNanos", b"\0\1\x7c"), "refused 76 ImportType import 1")
+        self.assertEqual(said[0], "import 1 is env getSimNanos (nothing to double), and here it has whole numbers: use the wokwi-api.h of the kit; "
+                                  "a module that was made for Wokwi's simulator alone has it so: build its source with sdk/build.sh")
+        said = self.refused("a.wasm", module(b"pinADCRead", b"\1\x7f\1\x7d"), "refused 75 ImportUnknown import 1")
+        self.assertEqual(said[0], "import 1 is env pinADCRead (i32 to float), which is not there: pins are low or high")
+        said = self.refused("a.wasm", module(b"pinRead", b"\1\x7f\0"), "refused 76 ImportType import 1")
+        self.assertEqual(said[0], "import 1 is env pinRead (i32 to nothing)")
+        self.assertEqual(len(self.refused("a.wasm", b"x", "refused 75 ImportUnknown import 1")), 1)
+
+    def test_the_three_causes_of_79_are_told_apart(self):
+        data = ROOT / "crates/rows_modules/data"
+        for name, place, text in (("79-memory", "section 5 entry 0", "the memory begins with 65 pages of 64 KiB (4,259,840 bytes), and 64 is the most"),
+                                  ("79-table", "section 4 entry 0", "the table begins with 8,193 entries, and 8,192 is the most"),
+                                  ("79-operands", "function 0 instruction 1024", "the body's expression has more than 1,024 operands at once")):
+            (said,) = self.refused("a.wasm", (data / f"{name}.wasm").read_bytes(), f"refused 79 ValidLimit {place}")
+            self.assertTrue(said.startswith(f"ValidLimit: {text}"), said)
+
+    def test_what_a_file_is_that_was_refused(self):
+        said = self.refused("f.hex", b"\x7fELF....", "refused 20 HexStart line 1")
+        self.assertIn("f.hex is an ELF file, and a firmware is Intel HEX here: ./mudflatjar play takes it, or avr-objcopy", said[0])
+        said = self.refused("w.vcd", b"$timescale" + bytes(16_777_216), "refused 10 FileTooLong")
+        self.assertEqual(said[0], "the wave has 16,777,226 bytes, and 16,777,216 is the most: a run of a shorter --us writes a shorter one")
+        self.assertEqual(len(self.refused("w.vcd", b"$timescale", "refused 10 FileTooLong")), 1)
+
+    def test_what_is_not_built_is_told(self):
+        with tempfile.TemporaryDirectory() as folder:
+            self.assertEqual(list(tell.missing(f"{folder}/a.wasm: missing")), ["this chip is not built: its source is not next to where it was looked for"])
+            pathlib.Path(folder, "a.chip.c").touch()
+            pathlib.Path(folder, "a.ino").touch()
+            self.assertEqual(list(tell.missing(f"{folder}/a.wasm: missing")), [f"this chip is not built: sdk/build.sh -o {folder}/a.wasm {folder}/a.chip.c builds it; ./mudflatjar play {folder} does too"])
+            self.assertEqual(list(tell.missing(f"{folder}/b.hex: missing")), [f"the firmware that wokwi.toml names is not there: ./mudflatjar play {folder} builds the sketch"])
+            self.assertEqual(list(tell.missing(f"{folder}/diagram.json: missing")), [])
+
     def test_a_word_of_another_kind_is_told(self):
         with tempfile.TemporaryDirectory() as folder:
             for name in ("a/diagram.json", "a/a.ino", "p/wokwi.toml", "s/s.ino"):
@@ -237,7 +281,7 @@ finally:
 
     def test_words_and_status(self):
         _, tool_ = self.started("import sys\nprint(sys.argv[1:])\nsys.exit(3)", "x", "--us", "2s")
-        self.assertEqual((tool_.communicate()[0], tool_.returncode), (b"['x', '--us', '2000000']\n", 3))
+        self.assertEqual((tool_.communicate()[0], tool_.returncode), (b"['x', '--us', '2s']\n", 3))
         _, tool_ = self.started("import os\nos.kill(os.getpid(), 9)")
         tool_.communicate()
         self.assertEqual(tool_.returncode, -9)

@@ -1,5 +1,5 @@
 #!/usr/bin/env python3
-"""Runs a Python file of tools/ with times of --us as microseconds:  tool.py FILE COMMAND WORDS
+"""Runs a Python file of tools/ with the words as they are:  tool.py FILE COMMAND WORDS
 
 A signal that ends this ends all that the file began."""
 import contextlib
@@ -9,7 +9,6 @@ import subprocess
 import sys
 
 import run
-import words
 
 OLDEST = (3, 11)  # tomllib
 GRACE = 5  # seconds
@@ -43,7 +42,7 @@ def main(file, *call):
         if signal.getsignal(it) != signal.SIG_IGN:
             signal.signal(it, end)
     signal.signal(signal.SIGALRM, lambda *_: tell(signal.SIGKILL))
-    whole = [sys.executable, "-B", file, *words.with_micros([*call])[1:]]
+    whole = [sys.executable, "-B", file, *call[1:]]
     begun.append(subprocess.Popen(whole, close_fds=False, start_new_session=True, preexec_fn=lambda: signal.signal(signal.SIGINT, signal.SIG_DFL)))
     if ended_by:
         tell(signal.SIGINT)

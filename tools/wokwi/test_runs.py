@@ -195,7 +195,7 @@ class RunTests(WithWork):
         self.button("deep/b", scenario_yaml="version: 1\nsteps:\n  - delay: 1ms\n")
         status, out, _ = call("run-tests", self.work)
         self.assertEqual(status, 0)
-        self.assertRegex(out, r"^3 passed, 0 failed, in [0-9.]+ s\n$")
+        self.assertRegex(out, r"deep/b/scenario.yaml: passed, and yet\n    it expects nothing: .*\n3 passed, 0 failed, in [0-9.]+ s\n$")
         self.put("a/expected/report.txt", self.read("a/expected/report.txt").replace("lit 2", "lit 3"))
         junit = os.path.join(self.work, "made", "out.xml")
         keep = os.path.join(self.work, "kept")
@@ -461,6 +461,66 @@ class NotAsMeant(WithWork):
         shutil.copytree(example, os.path.join(self.work, "c"))
         shutil.move(path, os.path.join(self.work, "c", "s.test.yaml"))
         self.assertEqual([call("run-tests", os.path.join(self.work, "c"), *words)[0] for words in ([], ["--budget", "10"], ["--budget", "10", "--allow", "trap"])], [0, 1, 0])
+
+
+class Messages(WithWork):
+    LOOP = ":02000000FFCF30\n:00000001FF\n"
+
+    def test_a_word_that_comes_twice_is_refused(self):
+        for words in (["scenario.py", "x", "--timeout", "1s", "--timeout", "2s"], ["run-tests", "x", "--keep", "a", "--keep", "b"], ["wokwi/play", "x", "--us", "1s", "--us=2s"],
+                      ["look/look.py", "x", "--us", "5", "--us", "6"]):
+            status, _, err = call(*words, PROGRAM=program_path())
+            self.assertEqual((status, f"{words[2]} is given 2 times" in err or "--us is given 2 times" in err), (2, True), err)
+
+    def test_a_time_is_echoed_as_it_was_given(self):
+        self.assertIn("play: --us 30s: it is a time from 1us to 10s", call("wokwi/play", "x", "--us", "30s")[2])
+
+    def test_firmware_that_is_named_and_not_there(self):
+        none = os.path.join(self.work, "none.hex")
+        self.assertIn(f"play: {none}: the firmware that is named is not there", call("wokwi/play", os.path.join(EXAMPLES, "button"), "--firmware", none)[2])
+        self.put("p/diagram.json", '{"version": 1, "parts": [{"type": "wokwi-arduino-uno", "id": "uno"}], "connections": []}')
+        self.put("p/wokwi.toml", "[wokwi]\nversion = 1\nfirmware = 'build/a.hex'\ngdbServerPort = 3333\n")
+        folder = os.path.join(self.work, "p")
+        status, _, err = call("wokwi/play", folder)
+        self.assertEqual((status, f"the firmware that is named, {folder}/build/a.hex, is not there, and {folder} has no sketch, and no firmware" in err), (1, True), err)
+        self.assertIn("wokwi.toml has gdbServerPort: no command here opens such a server", err)
+        self.put("p/b.hex", self.LOOP)
+        status, _, err = call("wokwi/play", folder, "--us", "1ms")
+        self.assertEqual((status, f"the firmware that is named, {folder}/build/a.hex, is not there: b.hex is taken" in err), (0, True), err)
+
+    def test_no_advice_names_a_folder_that_will_be_gone(self):
+        wrong = self.put("bad.hex", "x\n")
+        status, _, err = call("wokwi/play", wrong, "--us", "1ms")
+        self.assertEqual((status, err.splitlines()[0]), (3, f"the project made of {wrong}: firmware.hex: refused 20 HexStart line 1"))
+
+    def test_write_serial_has_a_chip_of_its_own(self):
+        parts = "".join(f', {{"type": "wokwi-dht22", "id": "d{n}"}}' for n in range(8))
+        self.put("p/diagram.json", f'{{"version": 1, "parts": [{{"type": "wokwi-arduino-uno", "id": "uno"}}{parts}], "connections": []}}')
+        self.put("p/a.hex", self.LOOP)
+        self.put("p/a.test.yaml", "version: 1\nsteps:\n  - write-serial: x\n  - delay: 1ms\n")
+        status, _, err = call("scenario.py", os.path.join(self.work, "p"))
+        self.assertEqual((status, "write-serial types by a chip of its own, and the board has 8 parts that are chips already: with it 7 are the most" in err), (1, True), err)
+
+    @unittest.skipUnless(shutil.which("avr-g++") and not shutil.which("arduino-cli"), "no avr-g++")
+    def test_a_build_says_what_it_takes_and_where_a_library_is(self):
+        self.put("a/a.ino", "#include <Blinker.h>\nvoid setup() {}\nvoid loop() {}\n")
+        self.put("a/Blinker/Blinker.h", "")
+        status, _, err = call("wokwi/play", os.path.join(self.work, "a", "a.ino"), "--us", "1ms")
+        self.assertEqual((status, f"{self.work}/a/Blinker has Blinker.h, and libraries are looked for in {self.work}/a/libraries: move it there" in err), (1, True), err)
+        self.put("a/libraries/Blinker/Blinker.h", "")
+        status, _, err = call("wokwi/play", os.path.join(self.work, "a", "a.ino"), "--us", "1ms")
+        self.assertEqual(status, 0, err)
+        self.assertRegex(err, r"play: it takes [0-9,]+ bytes of flash \([0-9]+ % of 32,256\), and its variables [0-9,]+ bytes of RAM \([0-9]+ % of 2,048\)\n")
+        self.assertRegex(err, r"at the end the program counter is 0x[0-9A-F]{4}, in \w+")
+
+    @unittest.skipUnless(shutil.which("avr-g++") and not shutil.which("arduino-cli") and shutil.which("avr-addr2line"), "no avr-g++")
+    def test_the_line_where_a_core_halts(self):
+        self.put("h/h.ino", 'void setup() {}\nvoid loop() {\n  asm volatile(".word 0x00FF");\n}\n')
+        self.put("h/diagram.json", '{"version": 1, "parts": [{"type": "wokwi-arduino-uno", "id": "uno"}], "connections": []}')
+        self.put("h/a.test.yaml", "version: 1\nsteps:\n  - delay: 1ms\n")
+        for words in (["wokwi/play", os.path.join(self.work, "h"), "--us", "1ms"], ["scenario.py", os.path.join(self.work, "h")], ["run-tests", os.path.join(self.work, "h")]):
+            _, out, err = call(*words)
+            self.assertRegex(out + err, r"the core halted at word address 0x[0-9A-F]{4}, in \w+ at h\.ino:3, on the word 0x00FF")
 
 
 class Play(WithWork):
