@@ -1,5 +1,6 @@
 #!/usr/bin/env python3
 """Runs a project and writes one HTML file in which the run can be seen: the board, its waves, what was sent, how it ended.
+FOLDER may also be one of Wokwi's editor, or its ZIP archive: it is built, and made a project, as `play` does.
 
     look.py FOLDER --us N [--script FILE] [-o PAGE] [--open] [--from US] [--to US]
             [--svg PINS | --svg-board US] [--edges N] [--samples N] [--title TEXT] [--note TEXT]..
@@ -13,6 +14,7 @@ import os
 import pathlib
 import re
 import sys
+import tempfile
 import time
 import webbrowser
 from array import array
@@ -21,6 +23,7 @@ from typing import NamedTuple
 from engine import EngineMissing, board_svg
 from page import page_of
 from picture import waves_svg
+from prepared import NoProject, project_of, script_of
 from program import Refused, ShorterRuns, run
 from project import chips_of, diagram_of, displays_of, uno_of
 from serial_times import decided, readings
@@ -71,7 +74,7 @@ def microseconds(text):
 
 def arguments(words):
     parser = option.each_once(argparse.ArgumentParser(prog="look", description="Runs a project and writes a page in which the run can be seen."))
-    parser.add_argument("folder")
+    parser.add_argument("folder", help="a project, a folder of Wokwi's editor, or the ZIP archive of one")
     parser.add_argument("--us", type=microseconds, required=True, metavar="N", help="how long the run is: microseconds, or a number with us, ms or s")
     parser.add_argument("--script", help="presses buttons and turns wipers (docs/SCRIPTS.md)")
     parser.add_argument("-o", metavar="FILE", help="where to write; FOLDER.html if nothing is said")
@@ -88,6 +91,7 @@ def arguments(words):
     parser.add_argument("--sketch", metavar="FOLDER", help="the folder with the sketch that the project was made of, for what is said of its wiring")
     parser.add_argument("--quiet", action="store_true", help="does not say what the run left out, which the page says too")
     given = parser.parse_args(words)
+    given.name = re.sub(r"\.zip$", "", os.path.basename(os.path.abspath(given.folder)), flags=re.I)
     if given.to is None:
         given.to = given.us
     if not 0 <= given.start < given.to <= given.us:
@@ -121,7 +125,7 @@ def seen_of(given):
     runs = ShorterRuns(given.folder, given.script, given.samples, given.budget)
     ways = decided(readings(transmit, sent, None if end == given.us * CYCLES_A_MICROSECOND else end), runs.sent)
     formats, times = ways[0] if ways else ([], None)
-    return Seen(given.title or os.path.basename(os.path.abspath(given.folder)), given.us * CYCLES_A_MICROSECOND, start, max(end, start + 1), diagram, chips, script,
+    return Seen(given.title or given.name, given.us * CYCLES_A_MICROSECOND, start, max(end, start + 1), diagram, chips, script,
                 waves, sent, times, formats, [way.formats[0] for way in ways[1:]], report, shown_times(waves.waves, report, given.us, runs),
                 first_times(report, given.us, runs), left, given.note, told_of(given, report, waves))
 
@@ -168,19 +172,36 @@ def pictured(given, seen):
 
 
 def main(words):
-    given, begun = arguments(words), time.time()
+    given, said = arguments(words), []
+    with tempfile.TemporaryDirectory() as box:
+        try:
+            folder = project_of(given.folder, box, said.append)
+        except NoProject as why:
+            said, folder = why.args, None
+        for text in said:
+            print(f"look: {text}", file=sys.stderr)
+        if folder is None:
+            return 1
+        given.note, given.script = said + given.note, given.script or script_of(given.folder, box)
+        return show(given, folder)
+
+
+def show(given, folder):
+    """Runs the project, and writes its page or picture; the status of the command."""
+    begun = time.time()
     picture = given.svg is not None or given.svg_board is not None
     try:
+        named, given.folder = given.folder, folder
         seen = seen_of(given)
         text = pictured(given, seen) if picture else page_of(seen)
     except Refused as refused:
-        for said in tell.no_project("look", given.folder):
+        for said in tell.no_project("look", named):
             print(f"look: {said}", file=sys.stderr)
         return refused.status
     except EngineMissing as missing:
         print(f"look: {missing}", file=sys.stderr)
         return 1
-    name = given.o or os.path.basename(os.path.abspath(given.folder)) + (".svg" if picture else ".html")
+    name = given.o or given.name + (".svg" if picture else ".html")
     try:
         with open(name, "w", encoding="utf-8", newline="\n") as file:
             file.write(text)

@@ -11,6 +11,7 @@ import sys
 import tempfile
 import unittest.mock
 import xml.etree.ElementTree as ET
+import zipfile
 from array import array
 
 import examples
@@ -18,6 +19,7 @@ from look import SAMPLES, arguments, main, seen_of
 from packing import packed, unpacked
 from page import SCRIPTS, STYLES, page_of, script_of, style_of
 from picture import waves_svg
+from prepared import project_of
 from program import Refused, run
 from serial_times import FORMATS, decided, levels_of, readings
 from shorter import shown_times
@@ -264,6 +266,44 @@ def check_left_out():
         return page_of(seen)
 
 
+def check_prepared():
+    """A folder or an archive of Wokwi's editor is made a project; what is wrong with one is said, and a project stays what it is."""
+    diagram = {"version": 1, "parts": [{"type": "wokwi-arduino-uno", "id": "uno"}, {"type": "wokwi-breadboard-mini", "id": "bb"}, {"type": "wokwi-led", "id": "led"}, {"type": "wokwi-servo", "id": "s"}],
+               "connections": [["led:A", "bb:2t.a", "", ["$bb"]], ["bb:2t.e", "uno:13", "green", []], ["led:C", "uno:GND.1", "black", []]]}
+    with tempfile.TemporaryDirectory() as box, contextlib.redirect_stderr(io.StringIO()) as said:
+        lab, page = os.path.join(box, "lab.zip"), os.path.join(box, "lab.html")
+        with zipfile.ZipFile(lab, "w") as out:
+            out.writestr("diagram.json", json.dumps(diagram))
+            out.write(os.path.join(examples.folder_of("arduino-blink"), "arduino-blink.hex"), "sketch.ino.hex")
+            out.writestr("script.txt", "# nothing is pressed\n")
+        assert main([lab, "--us", "2s", "-o", page]) == 0, said.getvalue()
+        assert said.getvalue().startswith("look: s (wokwi-servo) only moves, and is left out"), said.getvalue()
+        with open(page, encoding="utf-8") as file:
+            text = file.read()
+        data = json.loads(re.search(r'id="data">(.*?)</script>', text, re.S)[1])
+        assert [data["title"], len(data["made"]), data["script"], len(data["diagram"]["drawn"]["parts"])] == ["lab", 1, "# nothing is pressed\n", 2]
+        assert "led led off lit 1" in data["report"], data["report"]
+        folder = os.path.join(box, "lab")
+        os.mkdir(folder)
+        with zipfile.ZipFile(lab) as archive:
+            archive.extractall(folder)
+        assert project_of(folder, os.path.join(box, "one"), print) == os.path.join(box, "one", "made", "lab")
+        assert project_of(examples.folder_of("button"), box, print) == examples.folder_of("button")
+        with zipfile.ZipFile(lab, "a") as out:
+            out.writestr("../x", "")
+        with open(os.path.join(box, "empty.zip"), "wb") as file:
+            file.write(b"PK\5\6" + bytes(18))
+        os.unlink(os.path.join(folder, "sketch.ino.hex"))
+        diagram["parts"][0]["type"] = "wokwi-pi-pico"
+        for name, text in (("diagram.json", json.dumps(diagram)), ("sketch.ino", "void setup() {}\n")):
+            with open(os.path.join(folder, name), "w", encoding="ascii") as file:
+                file.write(text)
+        for name, fault in (("lab.zip", "../x: this name leads out"), ("empty.zip", "it has no diagram.json"), ("lab", "there is no Arduino Uno")):
+            said.truncate(0)
+            assert main([os.path.join(box, name), "--us", "10", "-o", os.path.join(box, "none.html")]) == 1 and fault in said.getvalue(), said.getvalue()
+        assert not os.path.exists(os.path.join(box, "none.html"))
+
+
 def check_words():
     """Wrong words and a project that is refused end with a status, and write nothing."""
     with tempfile.TemporaryDirectory() as box:
@@ -317,12 +357,13 @@ def everything():
             except (AssertionError, Refused, StopIteration, ValueError, KeyError, ET.ParseError) as error:
                 print(f"{name}: failed: {type(error).__name__} {error}")
                 bad = 1
-    try:
-        check_words()
-        print("look, words: ok")
-    except AssertionError as error:
-        print(f"look, words: failed: {error}")
-        bad = 1
+    for name, check in (("words", check_words), ("folders and archives of the editor", check_prepared)):
+        try:
+            check()
+            print(f"look, {name}: ok")
+        except AssertionError as error:
+            print(f"look, {name}: failed: {error}")
+            bad = 1
     return bad
 
 

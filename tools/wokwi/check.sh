@@ -24,6 +24,7 @@ check() { # NAME COMMAND WORDS
     if "$@" >"$work/log" 2>&1; then echo "wokwi: $name: ok"; else sed 's/^/    /' "$work/log"; echo "wokwi: $name: failed"; bad=1; fi
 }
 
+check "archives" python3 -B "$here/test_archive.py"
 check "lowering" python3 -B "$here/test_lower.py"
 check "what fails a test" python3 -B "$here/../test_truth.py"
 check "scenarios, tests, play" python3 -B "$here/test_runs.py"

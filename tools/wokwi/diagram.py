@@ -194,8 +194,9 @@ class Lowering:
             for key, how in piece.get("attrs", {}).items():
                 try:
                     given[key] = value_of(how, attrs)
-                except (ValueError, OverflowError, ZeroDivisionError) as fault:
-                    self.faults.append(f"{name} ({kind}): {how['from']} {attrs.get(how['from'])!r} {fault}")
+                except (ValueError, ArithmeticError) as fault:
+                    why = "is beyond what can be calculated" if isinstance(fault, ArithmeticError) else fault
+                    self.faults.append(f"{name} ({kind}): {how['from']} {attrs.get(how['from'])!r} {why}")
             if piece["type"] in self.types["simulated"]:
                 given = self.fitting(name, given, self.types["simulated"][piece["type"]])
             for pin, new in piece["pins"].items():

@@ -50,13 +50,19 @@ def dark(text, attrs):
     return str(int(5 * ohms / (ohms + 10) > number(attrs.get("threshold", "2.5"))))
 
 
+DATE = r"[0-9]{4}(-?)[0-9]{2}\1[0-9]{2}(?:[T ][0-9]{2}(?:(:?)[0-9]{2}(?:\2[0-9]{2}(?:\.[0-9]{1,6})?)?)?(?:Z|[+-][0-9]{2}:?[0-9]{2})?)?"
+
+
 def time(text, attrs):
     """Seconds from 1970 on; a run repeats, so `now` is 2000-01-01."""
     if text in ("now", ""):
         return "946684800"
     if re.fullmatch(r"[0-9]{1,10}", text):
         return whole(int(text))
-    moment = datetime.datetime.fromisoformat(text.replace("Z", "+00:00"))
+    try:
+        moment = datetime.datetime.fromisoformat(re.fullmatch(DATE, text)[0].replace("Z", "+00:00"))
+    except (TypeError, ValueError):
+        raise ValueError("is no time") from None
     if moment.tzinfo is None:
         moment = moment.replace(tzinfo=datetime.timezone.utc)
     seconds = int(moment.timestamp())

@@ -1,6 +1,8 @@
 #!/usr/bin/env python3
 """Makes of a folder as Wokwi's editor writes it one that the simulator runs:  tools/wokwi/lower.py [--anyway] FOLDER OUT
 
+FOLDER may be a ZIP archive of one.
+
 Breadboards become wires, parts that the simulator lacks become parts and chips that it has, or are left out with their
 wires kept; a sketch is built where there is no firmware, and chips in C where there is no module. It says on standard
 error what it did. Where it can't do something it says what, by part and wire, writes nothing and ends with 1; with
@@ -11,10 +13,12 @@ import re
 import shutil
 import subprocess
 import sys
+import tempfile
 import tomllib
 
 HERE = os.path.dirname(os.path.abspath(__file__))
 sys.path.insert(0, HERE)
+import archive
 import attributes
 import diagram as diagrams
 import firmware as firmwares
@@ -264,7 +268,14 @@ def main(words):
         print(__doc__, file=sys.stderr)
         return 2
     say = lambda text: print(f"lower: {text}", file=sys.stderr)
-    faults = lower(*words, anyway=anyway, say=say)
+    with tempfile.TemporaryDirectory() as work:
+        try:
+            folder = archive.unpack(words[0], work) if archive.is_archive(words[0]) else words[0]
+            faults = lower(folder, words[1], anyway=anyway, say=say)
+        except archive.ArchiveFault as fault:
+            faults = [f"{words[0]}: {fault}"]
+        except OSError as fault:
+            faults = [f"{words[0]}: {fault.strerror}"]
     for fault in faults:
         say(fault)
     return 1 if faults else 0

@@ -214,7 +214,7 @@ class Parts(unittest.TestCase):
             (uno(part("wokwi-slide-switch", "s", value="on")), "s: value 'on' is no number"),
             (uno(part("wokwi-lcd1602", "l", pins="spi")), "l: pins 'spi' is none of full, i2c"),
             (uno(part("wokwi-dht22", "d", temperature="warm")), "d (wokwi-dht22): temperature 'warm' is no number"),
-            (uno(part("wokwi-ds1307", "r", initTime="noon")), "r (wokwi-ds1307): initTime 'noon' Invalid isoformat string: 'noon'"),
+            (uno(part("wokwi-ds1307", "r", initTime="noon")), "r (wokwi-ds1307): initTime 'noon' is no time"),
             (uno(wires=[("uno:2", "led:A")]), "connection 1: there is no part led"),
             (uno(part("wokwi-led", "led"), wires=[("uno:2", "led:B")]), "connection 1: led has no pin B; it has A, C"),
             (uno(wires=[("uno:D2", "uno:3")]), "connection 1: uno has no pin D2"),

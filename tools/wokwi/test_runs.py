@@ -8,6 +8,7 @@ import sys
 import tempfile
 import time
 import unittest
+import zipfile
 import xml.etree.ElementTree
 
 HERE = os.path.dirname(os.path.abspath(__file__))
@@ -589,6 +590,23 @@ class Play(WithWork):
         self.assertEqual(status, 0, err)
         self.assertIn("btn1", self.read("page.html"))
 
+    def test_an_archive_is_run_with_its_script_or_refused(self):
+        files = {name: os.path.join(EXAMPLES, "button", name) for name in ("diagram.json", "button.hex", "script.txt")}
+        lab, page = os.path.join(self.work, "lab.zip"), os.path.join(self.work, "page.html")
+        with zipfile.ZipFile(lab, "w", zipfile.ZIP_DEFLATED) as out:
+            for name, path in files.items():
+                out.write(path, name)
+            out.writestr("wokwi-project.txt", "Downloaded\n")
+        status, _, err = call("wokwi/play", lab, "--us", "60ms", "--page", page)
+        self.assertEqual(status, 0, err)
+        self.assertIn("play: led led1 off lit 2\n", err)
+        self.assertTrue("<title>lab: a run</title>" in self.read("page.html"))
+        with zipfile.ZipFile(lab, "a") as out:
+            out.writestr("../../x.hex", "")
+        self.assertEqual(call("wokwi/play", lab), (1, "", f"play: {lab}: ../../x.hex: this name leads out of the archive's folder\n"))
+        self.assertEqual(call("wokwi/lower.py", lab, os.path.join(self.work, "out")), (1, "", f"lower: {lab}: ../../x.hex: this name leads out of the archive's folder\n"))
+        self.assertEqual(sorted(os.listdir(self.work)), ["lab.zip", "page.html"])
+
     def test_words_and_files_that_are_not_there(self):
         self.assertEqual(call("wokwi/play")[0], 2)
         self.assertEqual(call("wokwi/play", self.work, "--us", "11s")[0], 2)
@@ -598,7 +616,7 @@ class Play(WithWork):
         self.put("bad.hex", "x\n")
         self.assertEqual(call("wokwi/play", os.path.join(self.work, "bad.hex"))[0], 3)
         file = self.put("notes.txt", "x\n")
-        self.assertEqual(call("wokwi/play", file)[1:], ("", f"play: {file}: it is neither a sketch (.ino) nor a firmware (.hex, .elf)\n"))
+        self.assertEqual(call("wokwi/play", file)[1:], ("", f"play: {file}: it is neither a sketch (.ino) nor a firmware (.hex, .elf) nor an archive (.zip)\n"))
 
 
 class Unity(WithWork):
