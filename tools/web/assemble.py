@@ -23,7 +23,7 @@ sys.path.insert(0, os.path.join(ROOT, "tools", "look"))
 import page as look
 
 # In this order, since each uses those before it.
-SCRIPTS = ["places.js", "script.js", "archive.js", "project.js", "machine.js", "hand.js", "editor.js", "saving.js", "app.js", "start.js"]
+SCRIPTS = ["places.js", "script.js", "archive.js", "json.js", "formulas.js", "lower.js", "firmware.js", "project.js", "prepare.js", "machine.js", "hand.js", "editor.js", "saving.js", "app.js", "start.js"]
 MODULES = {"WIDE": "mudflatjar.wasm", "NARROW": "mudflatjar32.wasm"}
 MOST = 3_000_000            # bytes of what is made
 RULE = re.compile(r"^\| (\d\d) \| (\w+) \| (.+?) \| (.+?) \|$", re.M)
@@ -79,6 +79,21 @@ def examples():
     return [it for it in map(example, names) if it]
 
 
+def types():
+    """What Wokwi's parts become here."""
+    return json.loads(read(ROOT, "tools", "wokwi", "types.json"))
+
+
+def chips():
+    """The chips that such parts become: modules and pin files by their names."""
+    found = {}
+    for rule in types()["lowered"].values():
+        for name in (rule["chip"] + ending for ending in (".wasm", ".json") if "chip" in rule):
+            with open(os.path.join(ROOT, "tools", "wokwi", "chips", name), "rb") as file:
+                found[name] = base64.b64encode(file.read()).decode()
+    return found
+
+
 def script_of():
     """The look's code as it is, and the page's within a function, so that no name of the one is one of the other."""
     own = "".join(read(HERE, "page", name).replace("'use strict';\n", "", 1) for name in SCRIPTS)
@@ -110,7 +125,7 @@ def page_of(modules):
     style, script = "\n" + read(HERE, "page", "app.css") + look.style_of(look.STYLES), "\n" + script_of()
     policy = (f"default-src 'none'; script-src {look.digest(script)} 'wasm-unsafe-eval'; worker-src blob:; style-src {look.digest(style)}; "
               "base-uri 'none'; form-action 'none'")
-    data = {"examples": examples(), "refusals": refusals()}
+    data = {"examples": examples(), "refusals": refusals(), "types": types(), "chips": chips()}
     values = {"POLICY": policy, "STYLE": style[1:], "SCRIPT": script[1:], "WORKER": worker(), "TEMPLATE": packed(template().encode()),
               "DATA": packed(json.dumps(data, separators=(",", ":"), sort_keys=True).encode()), "WIDE": "", "NARROW": ""}
     for place, name in found.items():

@@ -29,6 +29,7 @@ quietly "the look at modules" python3 "$here/test/test_module.py"
 [ -d "$root/tools/look/page" ] && quietly "the page's file" python3 "$here/test/test_assemble.py"
 if command -v node >/dev/null; then
     quietly "the page's code" node --test "$here/test/test_page_code.mjs"
+    quietly "the page's code and that of tools/wokwi do the same" python3 "$here/test/test_same.py"
 else
     skip "no node: the page's code and the program in Node are not tried"
 fi

@@ -1,4 +1,6 @@
-"""A project in a ZIP archive, as Wokwi's editor saves one: reads it with limits, and finds the project's folder in it."""
+"""A project in a ZIP archive, as Wokwi's editor saves one: reads it with limits, and finds the project's folder in it.
+
+tools/web/page/archive.js reads archives by the same rules and with the same sentences."""
 
 import os
 import re

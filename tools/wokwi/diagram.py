@@ -1,4 +1,6 @@
-"""Makes of a diagram as Wokwi's editor writes it one whose parts the simulator has. `types.json` says how; here is no type's name."""
+"""Makes of a diagram as Wokwi's editor writes it one whose parts the simulator has. `types.json` says how; here is no type's name.
+
+tools/web/page/lower.js does the same in the page, text for text; tools/web/test/test_same.py compares both."""
 import json
 import os
 import re

@@ -1,4 +1,5 @@
-"""What Wokwi's attributes are as values of the parts and chips here. `types.json` names the formulas."""
+"""What Wokwi's attributes are as values of the parts and chips here. `types.json` names the formulas, which
+tools/web/page/formulas.js has too."""
 import datetime
 import math
 import re

@@ -1,10 +1,11 @@
 'use strict';
 // The page: a project, its run, and what can be done with both.
 
-const MOST_TIME = 10000000, LONG_LINK = 8000;
+const MOST_TIME = 10000000, FIRST_TIME = 1000000, LONG_LINK = 8000;       // microseconds; characters
 
 async function openApp(host, data, carried) {
-  const app = { data, project: makeProject('project', []), us: 1000, run: null, opened: 0, rate: null, template: null, warm: warmRun(data.examples) };
+  const app = { data, project: makeProject('project', []), ready: null, notes: [], us: FIRST_TIME, run: null, opened: 0, rate: null, template: null, warm: warmRun(data.examples),
+    kit: { types: data.types, chips: Object.fromEntries(Object.entries(data.chips).map(([name, text]) => [name, fromBase64(text)])) } };
   buildApp(app, host);
   app.machine = makeMachine(carried.worker, await Promise.all(carried.forms.map(text => inflate(fromBase64(text), 'deflate'))), app.warm);
   app.template = async () => plainText.decode(await inflate(fromBase64(carried.template), 'deflate'));
@@ -38,7 +39,7 @@ function buildApp(app, host) {
   };
   parts.messages = make('div', { className: 'messages', hidden: true }, parts.advice, parts.complaint);
   for (const { name } of app.data.examples) parts.example.append(new Option(name, name));
-  app.editor = makeEditor({ onEdit: () => { say(app, 'changed; Run shows what comes of it'); advise(app, []); } });
+  app.editor = makeEditor({ onEdit: () => { say(app, 'changed; Run shows what comes of it'); app.notes = []; advise(app); } });
   app.hand = makeHand({ onLine: (action, id, value) => addLines(app, [[app.look.view.t, action, id, value]]), onTap: (id, cycles) => addLines(app, [[app.look.view.t, 'press', id], [app.look.view.t + cycles, 'release', id]]) });
   const side = make('aside', { className: 'side' }, app.hand.element, app.editor.element);
   side.addEventListener('keydown', event => { if (!(event.ctrlKey || event.metaKey)) event.stopPropagation(); });     // the keys of the look are for the rest of the page
@@ -60,21 +61,21 @@ const say = (app, text) => setText(app.elements.said, text);
 function show(app, project, us, notes) {
   app.machine.stop();
   app.opened++;
-  app.project = project; app.run = null; app.rate = null;
+  Object.assign(app, { project, notes, ready: null, run: null, rate: null });
   app.us = us;
   app.elements.time.value = `${us} us`;
   app.elements.stage.hidden = true;
   app.hand.show([], () => 0);
   app.editor.open(project, 'diagram.json');
   complain(app, null);
-  advise(app, notes);
+  advise(app);
   document.title = project.files.size ? `${project.name}: Mudflatjar` : 'Mudflatjar';
   say(app, '');
   if (!adviceOf(project)) runNow(app);
 }
 
-function advise(app, notes) {
-  const advice = adviceOf(app.project), lines = [...notes, ...(advice ? [advice] : [])];
+function advise(app) {
+  const advice = adviceOf(app.project), faults = app.ready ? app.ready.faults : [], lines = [...app.notes, ...faults.map(fault => `Left out: ${fault}.`), ...(advice ? [advice] : [])];
   app.elements.advice.hidden = lines.length === 0;
   app.elements.advice.replaceChildren(...lines.map(line => make('p', {}, line)));
   showMessages(app);
@@ -88,7 +89,7 @@ async function openLink(app) {
     if (linked) { app.elements.example.value = ''; show(app, linked.project, timeWithin(linked.us), []); }
     return linked !== null;
   } catch {
-    show(app, makeProject('project', []), 1000, ['The link is cut or was changed: it holds no project.']);
+    show(app, makeProject('project', []), FIRST_TIME, ['The link is cut or was changed: it holds no project.']);
     return true;
   }
 }
@@ -123,13 +124,13 @@ async function take(app, files) {
     app.elements.example.value = '';
     if (isProject || !app.project.files.size) {
       const project = projectOfFiles(files), notes = complete(project);
-      show(app, project, app.us, project.files.size ? notes : ['There is no file of a project among these.']);
+      show(app, project, FIRST_TIME, project.files.size ? notes : ['There is no file of a project among these.']);
       return;
     }
-    const notes = files.flatMap(([path, bytes]) => (isHex(path) ? withFirmware(app.project, path, bytes) : put(app.project, path, bytes)));
+    const notes = files.flatMap(([path, bytes]) => (isFirmware(path) ? withFirmware(app.project, path, bytes) : put(app.project, path, bytes)));
     show(app, app.project, app.us, notes);
   } catch (error) {
-    say(app, error.message);
+    if (error instanceof ArchiveFault) complain(app, `${files[0][0]}: ${error.message}`); else say(app, error.message);
   }
 }
 
@@ -197,7 +198,7 @@ async function readEntry(entry, base, files) {
 
 // ---- Running
 
-const timeWithin = us => (Number.isFinite(us) ? Math.min(Math.max(Math.round(us), 1), MOST_TIME) : 1000);
+const timeWithin = us => (Number.isFinite(us) ? Math.min(Math.max(Math.round(us), 1), MOST_TIME) : FIRST_TIME);
 function setTime(app) {
   const cycles = parsedTime(app.elements.time.value);
   if (cycles !== null) app.us = timeWithin(cycles / MICROSECOND);
@@ -207,13 +208,17 @@ function setTime(app) {
 
 async function runNow(app) {
   setTime(app);
-  const { project, us } = app, opened = app.opened, { words, files } = callOf(project, us);
+  const { us } = app, opened = app.opened, ready = preparedOf(app.project, app.kit);
+  app.ready = ready.complaint ? null : ready;
+  advise(app);
+  if (ready.complaint) { complain(app, ready.complaint); say(app, 'not run'); return; }
+  const { words, files } = callOf(ready.project, us);
   busy(app, true);
   try {
     const { ended, ms } = await app.machine.run({ words, files });
     if (opened !== app.opened) return;
     app.rate = ms / us;
-    if (ended.status === 0) { complain(app, null); showEnd(app, ended, us); say(app, `${us} µs in ${ms < 100 ? ms.toFixed(1) : Math.round(ms)} ms`); }
+    if (ended.status === 0) { complain(app, null); showEnd(app, ready, ended, us); say(app, `${us} µs in ${ms < 100 ? ms.toFixed(1) : Math.round(ms)} ms`); }
     else { complain(app, ended.complaint ? plainText.decode(ended.complaint) : 'out of memory'); say(app, `ended with status ${ended.status}`); }
   } catch (error) {
     if (error === null) { if (opened === app.opened) say(app, 'stopped'); }
@@ -242,10 +247,12 @@ function busy(app, is) {
 }
 
 // The look stays where it is: at its cursors, in its range, and playing.
-function showEnd(app, ended, us) {
-  const { project } = app, kept = app.run && { ...app.look.view, cycles: app.run.cycles };
+function showEnd(app, { project, notes }, ended, us) {
+  const kept = app.run && { ...app.look.view, cycles: app.run.cycles };
   app.ended = ended;
-  app.run = runFrom({ title: project.name, us, diagram: textOf(project, 'diagram.json').replace(/^\uFEFF/, ''), chips: chipsOf(project), script: textOf(project, SCRIPT), vcd: ended.wave, serial: ended.serial, report: plainText.decode(ended.report), program: 'in a page' });
+  app.shown = { diagram: textOf(project, 'diagram.json').replace(/^\uFEFF/, ''), chips: chipsOf(project), script: textOf(project, SCRIPT) };
+  app.run = runFrom({ title: project.name, us, ...app.shown, vcd: ended.wave, serial: ended.serial, report: plainText.decode(ended.report), program: 'in a page' });
+  app.run.made = notes;
   app.elements.stage.hidden = false;
   app.look.show(app.run);
   if (kept && kept.cycles === app.run.cycles) app.look.range(kept.from, kept.to);
@@ -277,7 +284,7 @@ function complain(app, text) {
   if (complaint.kind === 'missing') lines.push(make('p', {}, inside ? `The project has no file ${inside}.` : 'That file is not there.'));
   if (complaint.text === 'write failed') lines.push(make('p', {}, 'The wave or the bytes need more memory than a page can have. A shorter run time helps.'));
   box.replaceChildren(...lines);
-  if (inside !== null && app.project.files.has(inside)) app.editor.mark(inside, rangeOf(textOf(app.project, inside), complaint.place));
+  if (inside !== null && app.project.files.has(inside)) app.editor.mark(inside, rangeOf(textOf(app.project, inside), app.ready ? app.ready.placeOf(complaint.place, inside) : complaint.place));
 }
 
 // ---- Saving
@@ -286,7 +293,7 @@ const SAVES = {
   wave: { title: 'wave (VCD)', needsRun: true, do: app => saveAs(`${app.project.name}.vcd`, app.ended.wave) },
   report: { title: 'report', needsRun: true, do: app => saveAs(`${app.project.name}-report.txt`, app.ended.report, 'text/plain') },
   bytes: { title: 'bytes that were sent', needsRun: true, do: app => saveAs(`${app.project.name}-serial.txt`, app.ended.serial) },
-  page: { title: 'page of this run', needsRun: true, do: async app => saveAs(`${app.project.name}.html`, await pageOfRun(await app.template(), app.run, { diagram: textOf(app.project, 'diagram.json').replace(/^\uFEFF/, ''), chips: chipsOf(app.project), script: textOf(app.project, SCRIPT) }), 'text/html') },
+  page: { title: 'page of this run', needsRun: true, do: async app => saveAs(`${app.project.name}.html`, await pageOfRun(await app.template(), app.run, app.shown), 'text/html') },
   project: { title: 'project (ZIP)', do: app => saveAs(`${app.project.name}.zip`, zipped([...app.project.files].map(([path, bytes]) => [`${app.project.name}/${path}`, bytes]))) },
   link: { title: 'link with the project', do: app => putLink(app) },
 };

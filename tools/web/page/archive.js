@@ -18,33 +18,104 @@ function toBase64(bytes) {
   return btoa(binary);
 }
 
-// ---- ZIP: archives of plain and deflated files, without encryption
+// ---- ZIP: archives of plain and deflated files. tools/wokwi/archive.py reads them by the same rules and with the same sentences.
 
-const CENTRAL = 0x02014b50, LOCAL = 0x04034b50, END = 0x06054b50, MOST_BYTES = 64 << 20;
+const CENTRAL = 0x02014b50, LOCAL = 0x04034b50, END = 0x06054b50, END_ROOM = 22 + 0xffff;
+const MOST_BYTES = 64 << 20, MOST_ENTRIES = 1000, MOST_NAME = 255, MOST_LIST = 1 << 20;      // of the archive and unpacked; files and folders; a name; the list of names
+const ENCRYPTED = 1, IN_UTF8 = 0x800, PLAIN = 0, DEFLATED = 8;
+const KIND = 0o170000, REGULAR = 0o100000, FOLDER = 0o040000, LINK = 0o120000;                // what a mode of Unix says that an entry is
+const CP437 = 'ÇüéâäàåçêëèïîìÄÅÉæÆôöòûùÿÖÜ¢£¥₧ƒáíóúñÑªº¿⌐¬½¼¡«»░▒▓│┤╡╢╖╕╣║╗╝╜╛┐└┴┬├─┼╞╟╚╔╩╦╠═╬╧╨╤╥╙╘╒╓╫╪┘┌█▄▌▐▀αßΓπΣσµτΦΘΩδ∞φε∩≡±≥≤⌠⌡÷≈°∙·√ⁿ²■\u00a0';
+
+class ArchiveFault extends Error {}
+const shownName = name => { const text = name.replace(/[\x00-\x1f\x7f-\x9f\ud800-\udfff]/gu, '?'); return [...text].length > 80 ? [...text].slice(0, 80).join('') + '..' : text; };
+
+// Where the list of entries is: {at, count, shift}, `shift` how many bytes are before the archive.
+function listAt(bytes, view) {
+  let end = bytes.length - 22;
+  const first = Math.max(0, bytes.length - END_ROOM);
+  while (end >= first && view.getUint32(end, true) !== END) end--;
+  if (end < first) throw new ArchiveFault('it is no ZIP archive');
+  const count = view.getUint16(end + 10, true), size = view.getUint32(end + 12, true), offset = view.getUint32(end + 16, true);
+  if (count === 0xffff || size === 0xffffffff || offset === 0xffffffff) throw new ArchiveFault('it is a ZIP64 archive, which is not read');
+  if (count > MOST_ENTRIES) throw new ArchiveFault(`the archive has ${count} files and folders, and ${MOST_ENTRIES} is the most`);
+  if (size > MOST_LIST) throw new ArchiveFault(`the archive's list of its files has more than ${MOST_LIST >> 20} MiB`);
+  if (end - size - offset < 0) throw new ArchiveFault('the archive is damaged');
+  return { at: end - size, count, shift: end - size - offset };
+}
+
+// An entry's name: UTF-8 where it says so or can be, as macOS writes it, else the letters of the first PC.
+function entryName(bytes, flags) {
+  try {
+    return new TextDecoder('utf-8', { fatal: true, ignoreBOM: true }).decode(bytes);
+  } catch {
+    if (flags & IN_UTF8) throw new ArchiveFault('the archive is damaged');
+    return Array.from(bytes, byte => (byte < 128 ? String.fromCharCode(byte) : CP437[byte - 128])).join('');
+  }
+}
+
+// The path in the archive's folder, '' for that folder itself.
+function pathOfEntry(name) {
+  const path = name.replace(/\\/g, '/'), steps = path.split('/');
+  if (path.startsWith('/') || /^[A-Za-z]:/.test(path) || steps.includes('..')) throw new ArchiveFault(`${shownName(name)}: this name leads out of the archive's folder`);
+  if (name.includes('\0') || !name) throw new ArchiveFault(`${shownName(name)}: this is no name of a file`);
+  if (utf8.encode(path).length > MOST_NAME) throw new ArchiveFault(`${shownName(name)}: this name has more than ${MOST_NAME} bytes`);
+  return steps.filter(step => step !== '' && step !== '.').join('/');
+}
+
+function kindOfEntry(mode, name) {
+  const kind = mode & KIND;
+  if (kind === LINK) throw new ArchiveFault(`${shownName(name)}: this is a link, and only files are taken`);
+  if (kind !== 0 && kind !== REGULAR && kind !== FOLDER) throw new ArchiveFault(`${shownName(name)}: this is neither a file nor a folder`);
+  return /[\\/]$/.test(name) || kind === FOLDER ? FOLDER : REGULAR;
+}
+
+// An entry's bytes. No more than `whole` of them are unpacked, whatever the packed ones would become.
+async function unpackedEntry(bytes, view, entry, room) {
+  const { name, nameBytes, flags, method, size, whole, crc, local } = entry, damaged = () => new ArchiveFault(`${shownName(name)}: this file is damaged`);
+  if (flags & ENCRYPTED) throw new ArchiveFault(`${shownName(name)}: this file is encrypted`);
+  if (method !== PLAIN && method !== DEFLATED) throw new ArchiveFault(`${shownName(name)}: this file is packed by method ${method}, and only 0 and 8 are read`);
+  if (whole > room) throw new ArchiveFault(`unpacked, the archive has more than ${MOST_BYTES >> 20} MiB`);
+  if (local + 30 > bytes.length || view.getUint32(local, true) !== LOCAL) throw damaged();
+  const long = view.getUint16(local + 26, true), from = local + 30 + long + view.getUint16(local + 28, true);
+  if (from + size > bytes.length || long !== nameBytes.length || !nameBytes.every((byte, i) => bytes[local + 30 + i] === byte)) throw damaged();
+  const packed = bytes.subarray(from, from + size), content = method === PLAIN ? packed.slice() : await inflatedUpTo(packed, whole).catch(() => null);
+  if (!content || content.length !== whole || crc32(content) !== crc) throw damaged();
+  return content;
+}
+
+async function inflatedUpTo(packed, most) {
+  const reader = new Blob([packed]).stream().pipeThrough(new DecompressionStream('deflate-raw')).getReader(), content = new Uint8Array(most);
+  let size = 0;
+  for (;;) {
+    const { done, value } = await reader.read();
+    if (done) return content.subarray(0, size);
+    if (size + value.length > most) { reader.cancel().catch(() => {}); return null; }
+    content.set(value, size);
+    size += value.length;
+  }
+}
 
 // [[path, bytes], ..] of an archive.
 async function unzipped(bytes) {
-  const view = new DataView(bytes.buffer, bytes.byteOffset, bytes.length);
-  let end = bytes.length - 22;
-  while (end >= 0 && view.getUint32(end, true) !== END) end--;
-  if (end < 0) throw new Error('this is no ZIP archive');
-  const files = [];
-  let at = view.getUint32(end + 16, true), total = 0;
-  for (let left = view.getUint16(end + 10, true); left > 0; left--) {
-    if (at + 46 > bytes.length || view.getUint32(at, true) !== CENTRAL) throw new Error('the ZIP archive is cut');
-    const flags = view.getUint16(at + 8, true), method = view.getUint16(at + 10, true), size = view.getUint32(at + 20, true), whole = view.getUint32(at + 24, true);
-    const long = view.getUint16(at + 28, true), local = view.getUint32(at + 42, true), path = plainText.decode(bytes.subarray(at + 46, at + 46 + long));
-    at += 46 + long + view.getUint16(at + 30, true) + view.getUint16(at + 32, true);
-    if (path.endsWith('/')) continue;
-    total += whole;
-    if (flags & 1) throw new Error('the ZIP archive is encrypted');
-    if (total > MOST_BYTES) throw new Error('the ZIP archive holds more than 64 MiB');
-    if (local + 30 > bytes.length || view.getUint32(local, true) !== LOCAL) throw new Error('the ZIP archive is cut');
-    const from = local + 30 + view.getUint16(local + 26, true) + view.getUint16(local + 28, true), packed = bytes.subarray(from, from + size);
-    if (method !== 0 && method !== 8) throw new Error(`${path} is packed in a way that this page does not read`);
-    files.push([path, method ? await inflate(packed, 'deflate-raw') : packed.slice()]);
+  if (bytes.length > MOST_BYTES) throw new ArchiveFault(`the archive has more than ${MOST_BYTES >> 20} MiB`);
+  const view = new DataView(bytes.buffer, bytes.byteOffset, bytes.length), files = new Map(), folders = new Set(), list = listAt(bytes, view);
+  let { at } = list, room = MOST_BYTES;
+  for (let left = list.count; left > 0; left--) {
+    if (at + 46 > bytes.length || view.getUint32(at, true) !== CENTRAL) throw new ArchiveFault('the archive is damaged');
+    const entry = { flags: view.getUint16(at + 8, true), method: view.getUint16(at + 10, true), crc: view.getUint32(at + 16, true), size: view.getUint32(at + 20, true), whole: view.getUint32(at + 24, true),
+      local: view.getUint32(at + 42, true) + list.shift, nameBytes: bytes.subarray(at + 46, at + 46 + view.getUint16(at + 28, true)) };
+    entry.name = entryName(entry.nameBytes, entry.flags);
+    const { name } = entry, path = pathOfEntry(name), kind = kindOfEntry(view.getUint32(at + 38, true) >>> 16, name), steps = path.split('/');
+    at += 46 + view.getUint16(at + 28, true) + view.getUint16(at + 30, true) + view.getUint16(at + 32, true);
+    for (let n = 1; n < steps.length + (kind === FOLDER ? 1 : 0); n++) folders.add(steps.slice(0, n).join('/'));
+    if (kind === FOLDER) continue;
+    if (!path) throw new ArchiveFault(`${shownName(name)}: this is no name of a file`);
+    if (files.has(path)) throw new ArchiveFault(`${shownName(name)}: this file is there twice`);
+    files.set(path, await unpackedEntry(bytes, view, entry, room));
+    room -= files.get(path).length;
   }
-  return files;
+  for (const path of files.keys()) if (folders.has(path)) throw new ArchiveFault(`${shownName(path)}: this is a file and a folder`);
+  return [...files];
 }
 
 const CRC_TABLE = Uint32Array.from({ length: 256 }, (_, n) => { for (let k = 0; k < 8; k++) n = n & 1 ? 0xedb88320 ^ (n >>> 1) : n >>> 1; return n >>> 0; });

@@ -14,9 +14,10 @@ function makeEditor({ onEdit }) {
     tabs: make('div', { className: 'tabs', role: 'tablist', 'aria-label': 'files' }),
     text: make('textarea', { spellcheck: false, autocomplete: 'off', 'aria-label': 'text of the file', wrap: 'off' }),
     back: make('pre', { className: 'marks', 'aria-hidden': 'true' }), note: make('p', { className: 'binary' }),
+    hint: make('p', { className: 'hint', hidden: true }, 'To be read: a page does not compile. ./mudflatjar play runs a sketch and chips in C; here a HEX file and modules run.'),
   };
   editor.sheet = make('div', { className: 'sheet' }, editor.back, editor.text);
-  editor.element = make('div', { className: 'editor' }, editor.tabs, editor.sheet, editor.note);
+  editor.element = make('div', { className: 'editor' }, editor.tabs, editor.hint, editor.sheet, editor.note);
   editor.open = (project, path) => { editor.project = project; editor.marked = null; editor.show(project.files.has(path) ? path : firstPath(project)); };
   editor.show = path => { editor.path = path; drawTabs(editor); drawText(editor); };
   editor.refresh = () => { drawTabs(editor); drawText(editor); };
@@ -59,6 +60,8 @@ function drawText(editor) {
   const { project, path } = editor, bytes = path ? project.files.get(path) || new Uint8Array(0) : null, shown = bytes !== null && isText(path, bytes);
   editor.sheet.hidden = !shown;
   editor.note.hidden = shown;
+  editor.hint.hidden = !shown || !isSource(path);
+  editor.text.readOnly = !editor.hint.hidden;
   if (shown) editor.text.value = plainText.decode(bytes);
   else setText(editor.note, bytes ? `${path}: ${grouped(bytes.length)} bytes` : '');
   editor.text.placeholder = path === SCRIPT ? '10000us press btn1\n20000us release btn1' : '';

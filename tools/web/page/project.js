@@ -3,7 +3,7 @@
 
 const FIRST_FILES = ['diagram.json', 'script.txt', 'wokwi.toml'], SCRIPT = 'script.txt';
 const UNO_ALONE = '{\n  "version": 1,\n  "parts": [\n    { "type": "wokwi-arduino-uno", "id": "uno", "top": 0, "left": 0 }\n  ],\n  "connections": []\n}\n';
-const isHex = path => /\.hex$/i.test(path);
+const isHex = path => /\.hex$/i.test(path), isFirmware = path => /\.(hex|elf)$/i.test(path), isSource = path => /\.(ino|pde|c|cc|cpp|h|hpp|s)$/i.test(path);
 const isHidden = path => path.split('/').some(name => name.startsWith('.') || name === '__MACOSX' || name === 'node_modules');
 
 function makeProject(name, files) {
@@ -26,9 +26,9 @@ const textOf = (project, path) => (project.files.has(path) ? plainText.decode(pr
 const firmwareOf = project => (/^[ \t]*firmware[ \t]*=[ \t]*(['"])(.*?)\1/m.exec(textOf(project, 'wokwi.toml')) || [])[2];
 
 // Gives a project what the simulator needs and the folder can tell: a wokwi.toml for its one HEX file, a diagram of an Uno alone
-// for a HEX file without one. Answers what was made, in words.
+// for a HEX file without one. An ELF file does as well. Answers what was made, in words.
 function complete(project) {
-  const hex = [...project.files.keys()].filter(isHex).filter(path => !/bootloader/i.test(path)).sort((a, b) => a.length - b.length), made = [];
+  const hex = [...project.files.keys()].filter(isFirmware).filter(path => !/bootloader/i.test(path)).sort((a, b) => a.length - b.length), made = [];
   if (hex.length && !project.files.has('diagram.json')) {
     project.files.set('diagram.json', utf8.encode(UNO_ALONE));
     made.push('There was no diagram.json, so the board is an Uno alone.');
@@ -47,29 +47,31 @@ function withFirmware(project, name, bytes) {
   return [`${name} is the firmware now${path === name ? '' : `, as ${path}`}.`, ...complete(project)];
 }
 
-const hasBreadboard = project => {
-  try { return JSON.parse(textOf(project, 'diagram.json')).parts.some(part => /^wokwi-breadboard/.test(part.type)); } catch { return false; }    // the simulator says what is wrong
-};
-
 // What a user can do about a project that cannot run yet; null where nothing is known to be amiss.
 function adviceOf(project) {
-  const firmware = firmwareOf(project), hex = [...project.files.keys()].filter(isHex);
   if (!project.files.size) return 'Open an example, or drop a project\'s folder, its ZIP archive or a HEX file here.';
-  const isBare = !hex.length && !(firmware && project.files.has(firmware));
-  if (hasBreadboard(project)) {
-    return `The diagram has a breadboard${isBare ? ', and there is no firmware' : ''}. tools/wokwi/lower.py of Mudflatjar's folder makes wires of it${isBare ? ' and compiles the sketch' : ''}; drop the folder that it writes here.`;
-  }
-  if (isBare) return 'There is no firmware: a page cannot compile a sketch. In the Arduino IDE choose Sketch, Export Compiled Binary, and drop the file NAME.ino.hex (not the one with_bootloader) here.';
-  return null;
+  if ([...project.files.keys()].some(isFirmware) || project.files.has(firmwareOf(project))) return null;
+  return 'There is no firmware, and a page cannot compile: in the Arduino IDE choose Sketch, Export Compiled Binary, and drop NAME.ino.hex here; or drop what ./mudflatjar play FOLDER --keep OUT writes.';
+}
+
+// The file of the firmware: the one that wokwi.toml names, else the only one; null where there is none.
+function firmwarePath(project) {
+  const named = firmwareOf(project), found = [...project.files.keys()].filter(path => isFirmware(path) && !/bootloader/i.test(path));
+  return named && project.files.has(named) ? named : found.length === 1 ? found[0] : null;
+}
+
+// The chips that wokwi.toml names: [{name, binary}, ..].
+function chipTables(project) {
+  return textOf(project, 'wokwi.toml').split(/^[ \t]*\[\[[ \t]*chip[ \t]*\]\].*$/m).slice(1).map(table => {
+    const value = key => (new RegExp(`^[ \\t]*${key}[ \\t]*=[ \\t]*(['"])(.*?)\\1`, 'm').exec(table) || [])[2];
+    return { name: value('name'), binary: value('binary') };
+  }).filter(({ name, binary }) => name && binary);
 }
 
 // The chips' pins, as a look at a run wants them: {'chip-NAME': [pin, ..]}. The simulator has accepted these files.
 function chipsOf(project) {
   const chips = {};
-  for (const table of textOf(project, 'wokwi.toml').split(/^[ \t]*\[\[[ \t]*chip[ \t]*\]\].*$/m).slice(1)) {
-    const value = key => (new RegExp(`^[ \\t]*${key}[ \\t]*=[ \\t]*(['"])(.*?)\\1`, 'm').exec(table) || [])[2];
-    const name = value('name'), binary = value('binary');
-    if (!name || !binary) continue;
+  for (const { name, binary } of chipTables(project)) {
     try { chips['chip-' + name] = JSON.parse(textOf(project, binary.replace(/\.wasm$/, '.json'))).pins; } catch { /* drawn without its pins' places */ }
   }
   return chips;

@@ -236,20 +236,85 @@ class Page(unittest.TestCase):
         self.drop(os.path.join(ROOT, "examples", "arduino-blink", "arduino-blink.hex"))
         self.assertTrue(self.js("until(() => document.querySelector('.advice').textContent.includes('arduino-blink.hex is the firmware now'))"), self.js("said()"))
 
-    def test_a_lowered_folder_is_drawn_with_its_breadboard(self):
+    PLUGGED = {"version": 1, "parts": [{"type": "wokwi-arduino-uno", "id": "uno"}, {"type": "wokwi-breadboard-mini", "id": "bb"}, {"type": "wokwi-led", "id": "led"}, {"type": "wokwi-microsd-card", "id": "sd"}],
+               "connections": [["led:A", "bb:2t.a", "", ["$bb"]], ["bb:2t.e", "uno:13", "green", []], ["led:C", "uno:GND.1", "black", []]]}
+
+    def test_a_folder_with_a_breadboard_runs_as_it_is(self):
         with tempfile.TemporaryDirectory() as box:
             source, folder = os.path.join(box, "plugged"), os.path.join(box, "wired")
             os.mkdir(source)
             shutil.copy(os.path.join(ROOT, "examples", "arduino-blink", "arduino-blink.hex"), source)
             with open(os.path.join(source, "diagram.json"), "w", encoding="ascii") as file:
-                json.dump({"version": 1, "parts": [{"type": "wokwi-arduino-uno", "id": "uno"}, {"type": "wokwi-breadboard-mini", "id": "bb"}, {"type": "wokwi-led", "id": "led"}],
-                           "connections": [["led:A", "bb:2t.a", "", ["$bb"]], ["bb:2t.e", "uno:13", "green", []], ["led:C", "uno:GND.1", "black", []]]}, file)
+                json.dump(self.PLUGGED, file)
             self.drop(source)
-            self.assertTrue(self.js("until(() => document.querySelector('.advice').textContent.includes('lower.py'))"))
-            subprocess.run([sys.executable, "-B", os.path.join(ROOT, "tools", "wokwi", "lower.py"), source, folder], check=True, stderr=subprocess.DEVNULL)
-            self.drop(folder)
             self.assertTrue(self.js("until(() => it.run)"), self.js("said()"))
-            self.assertEqual(self.js("[document.querySelectorAll('.board .breadboard').length, it.run.scenery[0].columns, document.querySelector('.advice').hidden]"), [1, 17, True])
+            drawn = "[document.querySelectorAll('.board .breadboard').length, it.run.scenery[0].columns, it.run.cycles, it.run.parts.map(part => part.id)]"
+            self.assertEqual(self.js(drawn), [1, 17, 16000000, ["uno", "led"]])
+            self.assertEqual(self.js("[...document.querySelectorAll('.advice p')].map(line => line.textContent)"),
+                             ["There was no wokwi.toml, so the firmware is arduino-blink.hex.", "Left out: sd (wokwi-microsd-card): is not there."])
+            self.assertEqual(self.js("JSON.parse(textOf('diagram.json')).parts.length"), 4, "the project's own diagram stays")
+            report = self.js("it.run.report")
+            self.picture("breadboard")
+            subprocess.run([sys.executable, "-B", os.path.join(ROOT, "tools", "wokwi", "lower.py"), "--anyway", source, folder], check=True, stderr=subprocess.DEVNULL)
+            self.js("{ window.earlier = it.run; 0 }")
+            self.drop(folder)
+            self.assertTrue(self.js("until(() => it.run && it.run !== earlier)"), self.js("said()"))
+            self.assertEqual(self.js(drawn), [1, 17, 16000000, ["uno", "led"]])
+            self.assertEqual(self.js("it.run.report"), report, "what the page makes of a folder is what the tool makes of it")
+
+    def test_a_complaint_of_a_script_is_marked_where_the_folder_is_lowered(self):
+        with tempfile.TemporaryDirectory() as box:
+            shutil.copy(os.path.join(ROOT, "examples", "arduino-blink", "arduino-blink.hex"), box)
+            for name, text in (("diagram.json", json.dumps(self.PLUGGED)), ("script.txt", "5us press led\n")):
+                with open(os.path.join(box, name), "w", encoding="ascii") as file:
+                    file.write(text)
+            self.drop(box)
+            self.assertTrue(self.js("until(() => !document.querySelector('.complaint').hidden)"), self.js("said()"))
+            self.assertIn("script.txt: refused 83 ScriptPart", self.js("document.querySelector('.complaint strong').textContent"))
+            self.assertEqual(self.js("document.querySelector('.marks mark').textContent"), "5us press led")
+
+    def archive(self, box, files):
+        """A ZIP archive as Wokwi's editor packs one: the files at its top."""
+        path = os.path.join(box, "lab.zip")
+        with zipfile.ZipFile(path, "w", zipfile.ZIP_DEFLATED) as out:
+            for name, data in files.items():
+                out.writestr(name, data)
+        return path
+
+    def test_an_archive_of_the_editor_runs_with_a_hex_file_and_else_says_how_to_get_one(self):
+        folder = os.path.join(ROOT, "tools", "wokwi", "projects", "rgb-led")
+        with tempfile.TemporaryDirectory() as box:
+            files = {}
+            for name in ("diagram.json", "sketch.ino"):
+                with open(os.path.join(folder, name), "rb") as file:
+                    files[name] = file.read()
+            files["wokwi-project.txt"] = b"Downloaded from the editor\n"
+            self.handed(2, self.archive(box, files))
+            self.assertTrue(self.js("until(() => it.project.files.size)"))
+            self.assertEqual(self.js("[it.project.name, it.run, [...document.querySelectorAll('.advice p')].length]"), ["lab", None, 1])
+            self.assertIn("Export Compiled Binary", self.js("document.querySelector('.advice').textContent"))
+            self.js("it.editor.show('sketch.ino'); 0")
+            self.assertEqual(self.js("[document.querySelector('.hint').hidden, it.editor.text.readOnly]"), [False, True])
+            self.picture("archive-without-firmware")
+            self.js("it.editor.show('diagram.json'); 0")
+            self.assertEqual(self.js("[document.querySelector('.hint').hidden, it.editor.text.readOnly]"), [True, False])
+            with open(os.path.join(ROOT, "examples", "fade", "fade.hex"), "rb") as file:
+                files["sketch.ino.hex"] = file.read()
+            self.handed(2, self.archive(box, files))
+            self.assertTrue(self.js("until(() => it.run)"), self.js("said()"))
+            self.assertEqual(self.js("it.run.parts.map(part => part.id)"), ["uno", "rgb1-r", "rgb1-g", "rgb1-b", "rgb2-r", "rgb2-g", "rgb2-b", *self.js("it.run.parts.slice(7).map(part => part.id)")])
+            self.assertTrue(self.js("it.run.made.some(note => note.startsWith('rgb1 (wokwi-rgb-led) is rgb1-r'))"))
+            self.picture("archive-with-firmware")
+            page = self.save(box, "page")
+            self.browser.open(page)
+            self.assertEqual(self.js("it.run.made.length"), 2)
+
+    def test_an_archive_that_leads_out_of_its_folder_is_refused(self):
+        self.js("pick('button')")
+        with tempfile.TemporaryDirectory() as box:
+            self.handed(2, self.archive(box, {"diagram.json": b"{}", "../x.hex": b""}))
+            self.assertTrue(self.js("until(() => !document.querySelector('.complaint').hidden)"))
+            self.assertEqual(self.js("[document.querySelector('.complaint').textContent, it.project.name]"), ["lab.zip: ../x.hex: this name leads out of the archive's folder", "button"])
 
     def run_for(self, text):
         self.js(f"{{ const time = document.querySelector('.run-time'); time.value = '{text}'; time.dispatchEvent(new Event('change')); press('Run'); }}")

@@ -9,9 +9,14 @@ import { listOf } from '../call.mjs';
 
 const here = path.dirname(fileURLToPath(import.meta.url)), root = path.join(here, '../../..');
 const NAMES = ['complaintOf', 'rangeOf', 'withLine', 'unzipped', 'zipped', 'linkOf', 'projectOfLink', 'makeProject', 'projectOfFiles', 'complete', 'withFirmware', 'adviceOf',
-  'firmwareOf', 'chipsOf', 'callOf', 'packedWaves', 'escaped', 'textOf'];
-const source = ['places.js', 'script.js', 'archive.js', 'project.js', 'saving.js'].map(name => fs.readFileSync(path.join(here, '../page', name), 'utf8')).join('\n');
-const page = new Function(`${source}\nreturn { ${NAMES.join(', ')} };`)();
+  'firmwareOf', 'firmwarePath', 'chipsOf', 'callOf', 'packedWaves', 'escaped', 'textOf', 'preparedOf', 'asHex', 'floatText', 'readJson', 'jsonText'];
+const textsOf = (folder, names) => names.map(name => fs.readFileSync(path.join(root, folder, name), 'utf8')).join('\n');
+const look = textsOf('tools/look/page', ['wave.js', 'run.js']);
+const own = textsOf('tools/web/page', ['places.js', 'script.js', 'archive.js', 'json.js', 'formulas.js', 'lower.js', 'firmware.js', 'project.js', 'prepare.js', 'saving.js']);
+const page = new Function(`${look}\n{\n${own}\nreturn { ${NAMES.join(', ')} };\n}`)();
+const types = JSON.parse(fs.readFileSync(path.join(root, 'tools/wokwi/types.json'), 'utf8'));
+const chips = Object.fromEntries(fs.readdirSync(path.join(root, 'tools/wokwi/chips')).map(name => [name, new Uint8Array(fs.readFileSync(path.join(root, 'tools/wokwi/chips', name)))]));
+const kit = { types, chips };
 const bytes = text => new TextEncoder().encode(text), text = it => new TextDecoder().decode(it);
 
 test('a list has each word and file as blocks after their length', () => {
@@ -119,13 +124,90 @@ test('what a folder lacks is made or said', () => {
   assert.equal(page.adviceOf(project), null);
   assert.match(page.adviceOf(page.makeProject('p', [['diagram.json', bytes('{}')], ['sketch.ino', bytes('')]])), /Export Compiled Binary/);
   const sketch = page.makeProject('p', [['diagram.json', bytes('{"parts":[{"type":"wokwi-breadboard-half"}]}')], ['sketch.ino', bytes('')]]);
-  assert.match(page.adviceOf(sketch), /breadboard, and there is no firmware.* compiles the sketch/);
+  assert.match(page.adviceOf(sketch), /^There is no firmware: .*Export Compiled Binary.*NAME\.ino\.hex.*$/);
   page.withFirmware(sketch, 'b.hex', bytes(''));
-  assert.match(page.adviceOf(sketch), /breadboard\. .* makes wires of it;/);
-  const lowered = page.makeProject('p', [['diagram.json', bytes('{"parts":[],"drawn":{"parts":[{"type":"wokwi-breadboard-half"}]}}')], ['a.hex', bytes('')]]);
-  assert.equal(page.adviceOf(lowered), null, 'of a breadboard that is only drawn nothing is said');
+  assert.equal(page.adviceOf(sketch), null);
   assert.match(page.adviceOf(page.makeProject('p', [['diagram.json', bytes('{"parts":7}')]])), /no firmware/);
 });
+
+const HEX = ':00000001FF\n', UNO = { type: 'wokwi-arduino-uno', id: 'uno' };
+const folder = (parts, connections, more) => page.makeProject('lab', Object.entries({ 'diagram.json': JSON.stringify({ version: 1, parts, connections }), ...more }).map(([name, it]) => [name, typeof it === 'string' ? bytes(it) : it]));
+const fileOf = ({ project }, name) => text(project.files.get(name));
+
+test('a project that the simulator takes as it is stays what it is', () => {
+  const project = folder([UNO], [], { 'wokwi.toml': "[wokwi]\nfirmware = 'a.hex'\n", 'a.hex': HEX });
+  assert.equal(page.preparedOf(project, kit).project, project);
+  for (const name of fs.readdirSync(path.join(root, 'examples'))) {
+    const at = path.join(root, 'examples', name);
+    if (!fs.existsSync(path.join(at, 'wokwi.toml'))) continue;
+    const whole = page.makeProject(name, fs.readdirSync(at, { recursive: true }).filter(file => fs.statSync(path.join(at, file)).isFile()).map(file => [file, new Uint8Array(fs.readFileSync(path.join(at, file)))]));
+    assert.equal(page.preparedOf(whole, kit).project, whole, name);
+  }
+  for (const parts of [[UNO, { type: 'wokwi-lex', id: 'a' }], [UNO, UNO], [], [UNO, { type: 'wokwi-potentiometer', id: 'p', attrs: { value: '2000' } }]]) {
+    const refused = folder(parts, [['uno:13', 'a:A', '', []]], { 'wokwi.toml': "[wokwi]\nfirmware = 'a.hex'\n", 'a.hex': HEX });
+    assert.equal(page.preparedOf(refused, kit).project, refused, 'the simulator says what is wrong, and where');
+  }
+  for (const wild of ['{', '[]', '{"version": 1, "parts": [3], "connections": []}']) {
+    const odd = page.makeProject('p', [['diagram.json', bytes(wild)]]);
+    assert.equal(page.preparedOf(odd, kit).project, odd);
+  }
+});
+
+test('a breadboard becomes wires, and the files of the new project are all that the simulator reads', () => {
+  const led = { type: 'wokwi-led', id: 'led1' }, board = { type: 'wokwi-breadboard-mini', id: 'bb' }, servo = { type: 'wokwi-servo', id: 's' }, card = { type: 'wokwi-microsd-card', id: 'sd' };
+  const project = folder([board, UNO, card, servo, led], [['led1:A', 'bb:2t.a', '', ['$bb']], ['bb:2t.e', 'uno:13', 'green', []], ['led1:C', 'uno:GND.1', 'black', []], ['sd:SCK', 'uno:12', '', []]], { 'sketch.ino': '', 'sketch.ino.hex': HEX, 'script.txt': '5us press b\n' });
+  page.complete(project);
+  const before = [...project.files.keys()], ready = page.preparedOf(project, kit);
+  assert.deepEqual([...project.files.keys()], before, 'the project itself is as it was');
+  assert.deepEqual([...ready.project.files.keys()].sort(), ['diagram.json', 'firmware.hex', 'script.txt', 'wokwi.toml']);
+  const made = JSON.parse(fileOf(ready, 'diagram.json'));
+  assert.deepEqual(made.parts.map(part => part.id), ['uno', 'led1']);
+  assert.deepEqual(made.connections.map(wire => wire.slice(0, 2).sort()), [['led1:C', 'uno:GND.1'], ['led1:A', 'uno:13']]);
+  assert.equal(fileOf(ready, 'wokwi.toml'), "[wokwi]\nversion = 1\nfirmware = 'firmware.hex'\n");
+  assert.deepEqual(ready.faults, ['sd (wokwi-microsd-card): is not there']);
+  assert.match(ready.notes[0], /^s \(wokwi-servo\) only moves/);
+  const place = (what, n) => ready.placeOf({ what, n }, 'diagram.json');
+  assert.deepEqual([place('part', 2), place('connection', 1), place('connection', 2), place('part', 9)], [{ what: 'part', n: 5 }, { what: 'connection', n: 3 }, null, null]);
+  assert.deepEqual(ready.placeOf({ what: 'line', n: 1 }, 'script.txt'), { what: 'line', n: 1 });
+  assert.equal(ready.placeOf({ what: 'chip', n: 1 }, 'wokwi.toml'), null);
+});
+
+test('chips that parts become, and chips of the folder that no wokwi.toml names, are in the new project', () => {
+  const project = folder([UNO, { type: 'wokwi-dht22', id: 'd' }, { type: 'chip-own', id: 'o' }], [['d:SDA', 'uno:2', '', []], ['o:IN', 'uno:3', '', []]], { 'a.hex': HEX, 'own.chip.wasm': 'module', 'own.chip.json': '{"name": "own", "pins": ["IN", ""]}' });
+  page.complete(project);
+  const ready = page.preparedOf(project, kit);
+  assert.equal(fileOf(ready, 'wokwi.toml'), "[wokwi]\nversion = 1\nfirmware = 'firmware.hex'\n\n[[chip]]\nname = \"own\"\nbinary = \"chip-own.wasm\"\n\n[[chip]]\nname = \"dht22\"\nbinary = \"dht22.wasm\"\n");
+  assert.equal(fileOf(ready, 'chip-own.wasm'), 'module');
+  assert.deepEqual(ready.project.files.get('dht22.wasm'), chips['dht22.wasm']);
+  assert.deepEqual(page.chipsOf(ready.project)['chip-dht22'], JSON.parse(text(chips['dht22.json'])).pins);
+});
+
+test('what a page cannot make a board of is said', () => {
+  const said = (...words) => page.preparedOf(folder(...words), kit).complaint;
+  assert.match(said([UNO, { type: 'chip-own', id: 'o' }], [], { 'a.hex': HEX, 'own.chip.c': '', 'own.chip.json': '{"pins": []}' }), /^chip own: own\.chip\.c is there and no module of it\. A page cannot compile it: \.\/mudflatjar play lab --keep OUT does/);
+  assert.match(said([UNO, { type: 'chip-own', id: 'o' }], [], { 'a.hex': HEX, 'own.chip.wasm': '' }), /own\.chip\.json is missing/);
+  assert.match(said([UNO, { type: 'chip-own', id: 'o' }], [], { 'a.hex': HEX, 'own.chip.wasm': '', 'own.chip.json': '{"pins": [1]}' }), /no array `pins` of texts/);
+  assert.equal(said([{ type: 'wokwi-pi-pico', id: 'pico' }], [], { 'a.hex': HEX }), 'pico (wokwi-pi-pico): has another microcontroller than the Uno\nthere is no Arduino Uno');
+  assert.match(said([UNO], [], { 'a.elf': new Uint8Array([0x7f, 0x45, 0x4c, 0x46, 0]) }), /^a\.elf: it is no ELF file of an AVR$/);
+});
+
+test('an ELF file becomes the HEX file that the tools in Python make of it', () => {
+  const made = execFileSync('python3', ['-B', '-c', `import sys\nsys.path.insert(0, "tools/wokwi")\nimport tests, firmware\nelf = tests.Firmware().elf([(0x800100, b"data"), (20, b"\\xff"), (0, bytes(range(20)))])\nsys.stdout.buffer.write(len(elf).to_bytes(4, "little") + elf + firmware.hex_of(firmware.image_of_elf(elf)).encode())`], { cwd: root });
+  const size = made.readUInt32LE(0), bytesOf = new Uint8Array(made.subarray(4, 4 + size));
+  assert.equal(text(page.asHex(bytesOf)), made.subarray(4 + size).toString());
+  assert.throws(() => page.asHex(bytesOf.slice(0, size - 1)), /was cut/);
+  assert.throws(() => page.asHex(Uint8Array.from(bytesOf, (byte, i) => (i === 18 ? 62 : byte))), /no ELF file of an AVR/);
+  const ready = page.preparedOf(folder([UNO], [], { 'firmware.elf': bytesOf }), kit);
+  assert.equal(fileOf(ready, 'firmware.hex'), made.subarray(4 + size).toString());
+});
+
+test('numbers are written as Python writes them', () => {
+  const cases = { 0: '0.0', 1: '1.0', 0.1: '0.1', 1e-4: '0.0001', 1e-5: '1e-05', 123456.789: '123456.789', 1e15: '1000000000000000.0', 1e16: '1e+16', 1.5e22: '1.5e+22', 1e100: '1e+100', 2.5e-7: '2.5e-07' };
+  for (const [x, written] of Object.entries(cases)) { assert.equal(page.floatText(Number(x)), written); assert.equal(page.floatText(-Number(x)), `-${written}`); }
+  assert.equal(page.jsonText(page.readJson(' {"b" :[1, 2.50,-0, true,null,"a\\u00e9\\n\\ud800"] , "1":{}, "b2":1E2}')), '{"b": [1, 2.5, 0, true, null, "a\u00e9\\n?"], "1": {}, "b2": 100.0}');
+});
+
+test('an archive of more than 64 MiB is not looked at', () => assert.rejects(page.unzipped({ length: (64 << 20) + 1 }), /has more than 64 MiB/));
 
 test('the words of a run name the files as they are passed', () => {
   const project = page.makeProject('button', [['diagram.json', bytes('{}')], ['script.txt', bytes('5us press b\n')]]);

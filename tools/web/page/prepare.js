@@ -1,0 +1,98 @@
+'use strict';
+// What the simulator is given of a project: the project itself where it takes it as it is, else one that is made of it, as
+// tools/wokwi/lower.py makes one of a folder of Wokwi's editor. A page compiles nothing: firmware and chips' modules must be there.
+//
+//   preparedOf(project, { types, chips })    types: tools/wokwi/types.json; chips: {file of tools/wokwi/chips: bytes}
+//     -> { project, notes, faults, placeOf }     notes say what was changed, faults what was left out
+//     -> { complaint }                           why there is nothing to run
+//   placeOf(place, file) is where a place of a new file was in the project's own; null of what is new in it.
+
+class ProjectFault extends Error {}
+
+function preparedOf(project, kit) {
+  const same = { project, notes: [], faults: [], placeOf: place => place };
+  let diagram;
+  try { diagram = readJson(textOf(project, 'diagram.json').replace(/^\uFEFF/, '')); } catch { return same; }      // the simulator says what is wrong
+  if (shapeFault(diagram) || !isToBeLowered(project, diagram, kit.types)) return same;
+  try {
+    return loweredProject(project, diagram, kit) || same;
+  } catch (fault) {
+    if (fault instanceof ProjectFault) return { complaint: fault.message };
+    throw fault;
+  }
+}
+
+function hasOtherFirmware(project) {
+  const path = firmwarePath(project);
+  return path !== null && (path !== firmwareOf(project) || isElf(project.files.get(path)));
+}
+
+function isToBeLowered(project, diagram, types) {
+  const known = new Set(chipTables(project).filter(({ binary }) => project.files.has(binary)).map(({ name }) => name));
+  return hasOtherFirmware(project) || needsLowering(diagram, types) || [...chipsIn(project, diagram).keys()].some(name => !known.has(name));
+}
+
+// Whether a diagram has parts of the editor that the simulator lacks: one that has none, and a fault, the simulator refuses by place.
+const isOfEditor = (diagram, { lowered, breadboards, ...others }) => diagram.get('parts').some(part => [lowered, breadboards, others['left out'], others['not there']].some(types => Object.hasOwn(types, part.get('type'))));
+
+// The chips that wokwi.toml names, and those of parts whose source or module is in the folder.
+function chipsIn(project, diagram) {
+  const chips = new Map(chipTables(project).map(({ name, binary }) => [name, chipOf(project, name, binary)]));
+  for (const part of diagram.get('parts')) {
+    const name = part.get('type').slice('chip-'.length);
+    if (!part.get('type').startsWith('chip-') || chips.has(name) || /[/\0]/.test(name)) continue;
+    const chip = chipOf(project, name, null);
+    if (chip.module || chip.source) chips.set(name, chip);
+  }
+  return chips;
+}
+
+// A chip's module, source and pin file, as far as they are there.
+function chipOf(project, name, binary) {
+  const stems = [...(binary ? [binary.replace(/\.[^./]*$/, '')] : []), `${name}.chip`, name], first = ending => stems.map(stem => stem + ending).find(path => project.files.has(path));
+  return { name, module: binary && project.files.has(binary) ? binary : first('.wasm'), source: first('.c'), text: first('.json') };
+}
+
+function pinsOf(project, { name, module, source, text }) {
+  if (!module && source) throw new ProjectFault(`chip ${name}: ${source} is there and no module of it. A page cannot compile it: ./mudflatjar play ${project.name} --keep OUT does; drop the folder OUT here.`);
+  if (!module) throw new ProjectFault(`chip ${name}: neither a module nor ${name}.chip.c is there`);
+  if (!text) throw new ProjectFault(`chip ${name}: ${name}.chip.json is missing`);
+  let pins = null;
+  try { ({ pins } = JSON.parse(textOf(project, text).replace(/^\uFEFF/, ''))); } catch { /* said below */ }
+  if (!Array.isArray(pins) || !pins.every(pin => typeof pin === 'string')) throw new ProjectFault(`${text} has no array \`pins\` of texts`);
+  return pins.filter(Boolean);
+}
+
+// wokwi.toml with the firmware and [name, stem of the file] of each chip.
+function settingsText(chips) {
+  return "[wokwi]\nversion = 1\nfirmware = 'firmware.hex'\n" + chips.map(([name, stem]) => `\n[[chip]]\nname = ${JSON.stringify(name)}\nbinary = ${JSON.stringify(`${stem}.wasm`)}\n`).join('');
+}
+
+// Null of a diagram that the simulator is to refuse.
+function loweredProject(project, diagram, kit) {
+  const chips = chipsIn(project, diagram), lowering = new Lowering(diagram, new Map([...chips].map(([name, chip]) => [name, pinsOf(project, chip)])), kit.types), text = lowering.outcome();
+  if (lowering.faults.length && !isOfEditor(diagram, kit.types) && !hasOtherFirmware(project)) return null;
+  if (!lowering.isBoard) throw new ProjectFault(lowering.faults.join('\n'));
+  const path = firmwarePath(project), files = new Map(), stems = [];
+  if (path) {
+    try { files.set('firmware.hex', asHex(project.files.get(path))); } catch (fault) { throw new ProjectFault(`${path}: ${fault.message}`); }
+  }
+  for (const [name, chip] of chips) {
+    let stem = `chip-${name.replace(/[^A-Za-z0-9_-]/gu, '_')}`;
+    while (stems.some(([, other]) => other === stem)) stem += '_';
+    files.set(`${stem}.json`, project.files.get(chip.text)).set(`${stem}.wasm`, project.files.get(chip.module));
+    stems.push([name, stem]);
+  }
+  for (const [name, own] of lowering.ownChips) {
+    for (const ending of ['.wasm', '.json']) files.set(own + ending, kit.chips[own + ending]);
+    stems.push([name, own]);
+  }
+  files.set('diagram.json', utf8.encode(text)).set('wokwi.toml', utf8.encode(settingsText(stems)));
+  if (project.files.has(SCRIPT)) files.set(SCRIPT, project.files.get(SCRIPT));
+  const placeOf = (place, file) => {
+    if (file === SCRIPT) return place;
+    const n = file === 'diagram.json' && place && lowering.places[place.what] ? lowering.places[place.what][place.n - 1] : 0;
+    return n ? { ...place, n } : null;
+  };
+  return { project: { name: project.name, files }, notes: lowering.notes, faults: lowering.faults, placeOf };
+}
