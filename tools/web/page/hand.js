@@ -5,7 +5,7 @@
 //   hand.show(parts, valueOf)    one control for each part that a script can set; valueOf(id) is its value at the cursor
 //   hand.use(id)                 what a click on the part does
 
-const TAP = 320000;                 // 20 ms in cycles: how long a tap presses
+const TAP = 1920000;                // 120 ms in cycles: how long a finger's tap presses
 const HANDS = {
   'wokwi-pushbutton': buttonHand, 'wokwi-slide-switch': switchHand, 'wokwi-dip-switch-8': dipHand, 'wokwi-potentiometer': wiperHand,
 };
@@ -36,7 +36,7 @@ function makeHand({ onLine, onTap }) {
 function buttonHand({ id }, { onLine, onTap }) {
   let value = 0;
   const toggle = () => onLine(value ? 'release' : 'press', id), main = make('button', { type: 'button', onclick: toggle });
-  return { elements: [main, make('button', { type: 'button', title: 'presses at the cursor, and releases 20 ms later', onclick: () => onTap(id, TAP) }, 'tap')],
+  return { elements: [main, make('button', { type: 'button', title: 'presses at the cursor, and releases 120 ms later', onclick: () => onTap(id, TAP) }, 'tap')],
     update(now) { value = now; setText(main, now ? 'release' : 'press'); main.setAttribute('aria-pressed', String(now === 1)); }, use: toggle };
 }
 

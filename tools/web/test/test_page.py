@@ -93,9 +93,10 @@ class Page(unittest.TestCase):
         self.assertEqual(self.js("document.querySelector('.hand-line button').textContent"), "release")
         self.js("press('release'); idle()")
         self.assertIn("2500us release btn1\n", self.js("textOf('script.txt')"))
+        self.run_for("200 ms")
         self.js("it.look.go(16); press('tap'); idle()")
         self.assertTrue(self.js("textOf('script.txt')").count("\n") >= before.count("\n") + 3)
-        self.assertIn("20001us release btn1\n", self.js("textOf('script.txt')"))
+        self.assertIn("120001us release btn1\n", self.js("textOf('script.txt')"))
 
     def test_a_part_of_the_board_is_used_with_the_mouse(self):
         self.js("pick('button')")
