@@ -45,6 +45,7 @@ few_names kinds.Lcd1602Full = lit≤ tt
 few_names kinds.Lcd1602I2c = lit≤ tt
 few_names kinds.Ssd1306 = lit≤ tt
 few_names kinds.MembraneKeypad = lit≤ tt
+few_names kinds.Source = lit≤ tt
 
 -- whether both pins of all pairs are below a count
 abbrev are_below : ℕ → List (ℕ × ℕ) → Bool
@@ -77,6 +78,7 @@ joins_below kinds.Lcd1602Full = refl
 joins_below kinds.Lcd1602I2c = refl
 joins_below kinds.Ssd1306 = refl
 joins_below kinds.MembraneKeypad = refl
+joins_below kinds.Source = refl
 
 contacts_below : (kind : Kind) → are_below (length (pin_names kind)) (contacts_in kind) ≡ true
 unfolding pin_names contacts_in
@@ -105,6 +107,7 @@ contacts_below kinds.Lcd1602Full = refl
 contacts_below kinds.Lcd1602I2c = refl
 contacts_below kinds.Ssd1306 = refl
 contacts_below kinds.MembraneKeypad = refl
+contacts_below kinds.Source = refl
 
 list_all_each : {X : Type 0} (p : X → Bool) (xs : List X) → list_all p xs ≡ true → (k : ℕ) (d : X) → k < length xs → p (get_or xs k d) ≡ true
 list_all_each p xs all k d h = elim (cases_Bool (p (get_or xs k d))) [
@@ -146,6 +149,7 @@ resistors_stock kinds.Lcd1602Full k d h = absurd (omega arith)
 resistors_stock kinds.Lcd1602I2c k d h = absurd (omega arith)
 resistors_stock kinds.Ssd1306 k d h = absurd (omega arith)
 resistors_stock kinds.MembraneKeypad k d h = absurd (omega arith)
+resistors_stock kinds.Source k d h = absurd (omega arith)
 
 module _ (pins : List (List (Option (List ℕ)))) where
   pub starts_length : (n : ℕ) (kinds : List (Option PlanKind)) → length (starts_from pins n kinds) ≡ length kinds

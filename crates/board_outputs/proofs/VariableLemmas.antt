@@ -50,6 +50,7 @@ shown_first kinds.Lcd1602Full = refl
 shown_first kinds.Lcd1602I2c = refl
 shown_first kinds.Ssd1306 = refl
 shown_first kinds.MembraneKeypad = refl
+shown_first kinds.Source = refl
 
 pub shown_few : (kind : Kind) → length (shown_names [] (plans.Stock kind)) ≤ length (pin_names kind)
 shown_few kind =

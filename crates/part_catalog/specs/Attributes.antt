@@ -51,6 +51,7 @@ settings_from kinds.SevenSegment attrs = both (Some 0) (read_or 0 (which (codes 
 settings_from kinds.Lcd1602Full attrs = both (read_or 0x27 address (attribute (codes "i2cAddress") attrs)) (read_or 0 (which (codes "full") (codes "i2c")) (attribute (codes "pins") attrs))
 settings_from kinds.Lcd1602I2c attrs = both (read_or 0x27 address (attribute (codes "i2cAddress") attrs)) (read_or 0 (which (codes "full") (codes "i2c")) (attribute (codes "pins") attrs))
 settings_from kinds.Ssd1306 attrs = both (read_or 0x3C address (attribute (codes "i2cAddress") attrs)) (Some 0)
+settings_from kinds.Source attrs = both (read_or 2 (decimal_to 2) (attribute (codes "value") attrs)) (Some 0)
 settings_from kind attrs = both (Some 0) (Some 0)
 
 abbrev pub is_text : List ℕ → Option (List ℕ) → Bool
@@ -66,6 +67,7 @@ wired_kind kind attrs = kind
 abbrev pub greatest_of : Kind → Option ℕ
 greatest_of kinds.Pushbutton = Some 1
 greatest_of kinds.SlideSwitch = Some 1
+greatest_of kinds.Source = Some 2
 greatest_of kinds.DipSwitch8 = Some 255
 greatest_of kinds.Potentiometer = Some 1023
 greatest_of kinds.MembraneKeypad = Some 65535

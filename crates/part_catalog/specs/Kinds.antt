@@ -1,4 +1,4 @@
--- The types of parts (Wokwi documentation, "Diagram file format" and the pages of the parts; the names of the gates' types are ours).
+-- The types of parts (Wokwi documentation, "Diagram file format" and the pages of the parts; the names of the gates' types and of the source's are ours).
 use Rattle.std.specs.Prelude.{ℕ, List, [], ◌∷◌, Option, None, Some, if◌then◌else◌, codes}
 use Rattle.std.specs.Str.{bytes_eq}
 use Rattle.part_catalog.specs.declared.kind.Kind.{Kind}
@@ -29,7 +29,8 @@ types =
     (codes "wokwi-7segment", kinds.SevenSegment) ∷
     (codes "wokwi-lcd1602", kinds.Lcd1602Full) ∷
     (codes "board-ssd1306", kinds.Ssd1306) ∷
-    (codes "wokwi-membrane-keypad", kinds.MembraneKeypad) ∷ []
+    (codes "wokwi-membrane-keypad", kinds.MembraneKeypad) ∷
+    (codes "board-source", kinds.Source) ∷ []
 
 abbrev pub kind_in : List (List ℕ × Kind) → List ℕ → Option Kind
 kind_in [] text = None

@@ -1,4 +1,4 @@
--- The pins of parts, and which of them a part joins (Wokwi documentation, the pages of the parts; the gates' pins are ours).
+-- The pins of parts, and which of them a part joins (Wokwi documentation, the pages of the parts; the pins of the gates and of the source are ours).
 use Rattle.std.specs.Prelude.{ℕ, List, [], ◌∷◌, Option, ◌==◌, if◌then◌else◌, codes, unwrap_or}
 use Rattle.std.specs.List.{position_from}
 use Rattle.std.specs.Str.{bytes_eq}
@@ -41,6 +41,7 @@ pin_names kinds.Lcd1602Full = words (codes "VSS VDD V0 RS RW E D0 D1 D2 D3 D4 D5
 pin_names kinds.Lcd1602I2c = words (codes "GND VCC SDA SCL")
 pin_names kinds.Ssd1306 = words (codes "GND VCC SCL SDA")
 pin_names kinds.MembraneKeypad = words (codes "R1 R2 R3 R4 C1 C2 C3 C4")
+pin_names kinds.Source = words (codes "OUT")
 
 -- the number of the pin with a name
 abbrev pub number_of : Kind → List ℕ → Option ℕ

@@ -33,6 +33,7 @@ pub enum Kind {
     Lcd1602I2c,
     Ssd1306,
     MembraneKeypad,
+    Source,
 }
 
 fn type_names() -> &'static [(&'static str, Kind)]
@@ -63,6 +64,7 @@ fn type_names() -> &'static [(&'static str, Kind)]
         ("wokwi-lcd1602", Kind::Lcd1602Full),
         ("board-ssd1306", Kind::Ssd1306),
         ("wokwi-membrane-keypad", Kind::MembraneKeypad),
+        ("board-source", Kind::Source),
     ]
 }
 

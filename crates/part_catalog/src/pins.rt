@@ -57,6 +57,7 @@ fn texts(kind: Kind) -> &'static [&'static str]
         Kind::Lcd1602I2c => &["GND", "VCC", "SDA", "SCL"],
         Kind::Ssd1306 => &["GND", "VCC", "SCL", "SDA"],
         Kind::MembraneKeypad => &["R1", "R2", "R3", "R4", "C1", "C2", "C3", "C4"],
+        Kind::Source => &["OUT"],
     }
 }
 

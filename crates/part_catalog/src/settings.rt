@@ -65,12 +65,12 @@ fn which(first: &str, second: &str, text: &str) -> Option<u8>
     }
 }
 
-fn value_to(greatest: u16, attrs: &[(Text, Text)]) -> Option<u16>
-    ensures { result ≡ read_or 0 (decimal_to greatest) (attribute (codes "value") attrs.now) }
+fn value_to(usual: u16, greatest: u16, attrs: &[(Text, Text)]) -> Option<u16>
+    ensures { result ≡ read_or usual (decimal_to greatest) (attribute (codes "value") attrs.now) }
 {
     match attribute_text("value", attrs) {
         Some(text) => decimal_to(greatest, text),
-        None => Some(0),
+        None => Some(usual),
     }
 }
 
@@ -108,14 +108,15 @@ pub fn settings_of(kind: Kind, attrs: &List<(Text, Text)>) -> Option<Settings>
 {
     let attrs = attrs.as_slice();
     match kind {
-        Kind::SlideSwitch => both(value_to(1, attrs), Some(0)),
-        Kind::Potentiometer => both(value_to(1023, attrs), Some(0)),
+        Kind::SlideSwitch => both(value_to(0, 1, attrs), Some(0)),
+        Kind::Potentiometer => both(value_to(0, 1023, attrs), Some(0)),
         Kind::SevenSegment => both(Some(0), choice("common", "anode", "cathode", attrs)),
         Kind::Lcd1602Full | Kind::Lcd1602I2c => both(
             display_address(0x27, attrs),
             choice("pins", "full", "i2c", attrs),
         ),
         Kind::Ssd1306 => both(display_address(0x3C, attrs), Some(0)),
+        Kind::Source => both(value_to(2, 2, attrs), Some(0)),
         _ => both(Some(0), Some(0)),
     }
 }
@@ -137,6 +138,7 @@ pub fn greatest_value(kind: Kind) -> Option<u16>
 {
     match kind {
         Kind::Pushbutton | Kind::SlideSwitch => Some(1),
+        Kind::Source => Some(2),
         Kind::DipSwitch8 => Some(255),
         Kind::Potentiometer => Some(1023),
         Kind::MembraneKeypad => Some(0xFFFF),

@@ -1,8 +1,8 @@
--- Parts whose drives and contacts depend on a set value alone: switches, the keypad, the potentiometer, supplies, and parts whose wires
+-- Parts whose drives and contacts depend on a set value alone: switches, the keypad, the potentiometer, a source of levels, supplies, and parts whose wires
 -- or resistor are in the wiring (Wokwi documentation, the pages of the parts).
 use Rattle.std.proofs.Common.{refl, sym, ◌∙◌, arith}
 use Rattle.std.proofs.lemmas.List.{length-replicate}
-use Rattle.std.specs.Prelude.{◌≡◌, ◌≤◌, ℕ, zero, suc, ◌==◌, List, [], ◌∷◌, length, map, replicate, Bool, true, Option, None, Some, min, unwrap_or}
+use Rattle.std.specs.Prelude.{◌≡◌, ◌≤◌, ℕ, zero, suc, ◌==◌, List, [], ◌∷◌, length, map, replicate, Bool, true, Option, None, Some, min, unwrap_or, if◌then◌else◌}
 use Rattle.sim_base.specs.declared.signal.Drive.{Drive}
 use Rattle.sim_base.specs.declared.signal.Drive.TheVariants as drives
 use Rattle.sim_base.specs.declared.signal.Level.{Level}
@@ -23,11 +23,16 @@ pub record PassiveState : Type 0 where
 abbrev pub set_to : Kind → ℕ → ℕ
 set_to kind value = min value (unwrap_or (greatest_of kind) 0)
 
+-- what a source drives: Low at 0, High at 1, nothing at 2
+abbrev pub source_drive : ℕ → Drive
+source_drive value = if value == 0 then drives.Low else if value == 1 then drives.High else drives.Z
+
 -- what its pins drive
 abbrev pub drives_at : Kind → ℕ → List Drive
 drives_at kinds.Vcc value = drives.High ∷ []
 drives_at kinds.Gnd value = drives.Low ∷ []
 drives_at kinds.Potentiometer value = drives.Z ∷ drives.Wiper value ∷ drives.Z ∷ []
+drives_at kinds.Source value = source_drive value ∷ []
 drives_at kind value = replicate (length (pin_names kind)) drives.Z
 
 -- so many bits of a value, from one on
@@ -66,6 +71,7 @@ unfolding pin_names
 length-drives_at kinds.Vcc value = refl
 length-drives_at kinds.Gnd value = refl
 length-drives_at kinds.Potentiometer value = refl
+length-drives_at kinds.Source value = refl
 length-drives_at kind value = length-replicate (length (pin_names kind)) drives.Z
 
 pub length-closed_at : (kind : Kind) (value : ℕ) → length (closed_at kind value) ≡ length (contacts_in kind)

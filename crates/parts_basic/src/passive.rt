@@ -1,14 +1,14 @@
 //! Parts whose drives and contacts depend on a set value alone.
 ghost use Rattle.std.specs.Prelude.{◌≡◌, ◌<◌};
-ghost use Rattle.parts_basic.specs.Passive.{set_to, new_passive};
+ghost use Rattle.parts_basic.specs.Passive.{set_to, source_drive, new_passive};
 
 use part_catalog::{Kind, Settings, greatest_value, pin_count};
 use part_reactive::Behaviour;
 use sim_base::{Drive, Level};
 use std::marker::Model;
 
-/// A switch, a keypad, a potentiometer, a supply, a resistor, a junction or a text, with its value: which
-/// contacts are closed, or where the wiper stands.
+/// A switch, a keypad, a potentiometer, a source of levels, a supply, a resistor, a junction or a text, with its
+/// value: which contacts are closed, where the wiper is, or what the source drives.
 #[derive(Drop)]
 pub struct Passive {
     kind: Kind,
@@ -29,6 +29,16 @@ fn set_to(kind: Kind, value: u16) -> u16
     value.min(greatest_value(kind).unwrap_or(0))
 }
 
+fn source_drive(value: u16) -> Drive
+    ensures { result ≡ source_drive value }
+{
+    match value {
+        0 => Drive::Low,
+        1 => Drive::High,
+        _ => Drive::Z,
+    }
+}
+
 impl Passive {
     /// Such a part as its attributes set it; a value above the greatest counts as the greatest.
     pub fn new(kind: Kind, settings: Settings) -> Self
@@ -41,7 +51,7 @@ impl Passive {
     }
 
     /// The value that it is set to: 0 and 1 for a button or a slide switch, 0 to 255 for a DIP switch,
-    /// 0 to 1023 for a potentiometer, 0 to 65,535 for a keypad.
+    /// 0 to 1023 for a potentiometer, 0 to 65,535 for a keypad, and for a source 0 Low, 1 High and 2 open.
     pub fn value(&self) -> u16
         ensures { result ≡ self.now.value }
     {
@@ -77,6 +87,7 @@ impl Behaviour for Passive {
             Kind::Vcc => Drive::High,
             Kind::Gnd => Drive::Low,
             Kind::Potentiometer if pin == 1 => Drive::Wiper(self.value),
+            Kind::Source => source_drive(self.value),
             _ => Drive::Z,
         }
     }

@@ -8,7 +8,7 @@ use part_catalog::{
 use sim_base::{List, Name, OutOfMemory, Text};
 use std::alloc::{AllocError, Global};
 
-const KINDS: [Kind; 25] = [
+const KINDS: [Kind; 26] = [
     Kind::ArduinoUno,
     Kind::Led,
     Kind::Pushbutton,
@@ -34,6 +34,7 @@ const KINDS: [Kind; 25] = [
     Kind::Lcd1602I2c,
     Kind::Ssd1306,
     Kind::MembraneKeypad,
+    Kind::Source,
 ];
 
 /// - `type TEXT`: its kind; each row below has a kind as its second word
