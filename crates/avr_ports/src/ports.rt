@@ -4,13 +4,14 @@ ghost use Rattle.avr_unit.specs.Bits.{is_set};
 ghost use Rattle.avr_unit.specs.UnitMachine.{least, steps};
 ghost use Rattle.avr_ports.specs.Ports.{requests, requests_int, acts_by_ones, register, with_register, with_register_bit, edges_sensed, changes_sensed, ports_step};
 ghost use Rattle.avr_ports.specs.Deaf.{is_deaf};
-ghost use Rattle.avr_ports.specs.PortReach.{moves, bit_moves, pins_of, pin_of, one_pin, reached, bit_reached};
+ghost use Rattle.avr_ports.specs.PinsAt.{pins_at};
+ghost use Rattle.avr_ports.specs.PortReach.{Least, turned, first_pin, reached, bit_reached};
 ghost use Rattle.avr_ports.specs.declared.registers.Register.TheVariants.{PCIFR, EIFR, EICRA};
 
 use crate::pins::{bit_pad, is_change, is_edge, on, pinb, pinc, pind, requests_int};
 use crate::registers::{INT0, INT1, PCINT0, PCINT1, PCINT2, PINB, PORTD, Register, register_at};
 use avr_unit::{
-    Awake, PORT_PINS, Pad, Request, Unit, VECTORS, has_bit, least, mask, one, pins_if, with_bit,
+    Awake, PORT_PINS, Pad, Request, Unit, VECTORS, has_bit, least, mask, one, with_bit,
 };
 use part_law::Span;
 use sim_base::{Level, MOST_CYCLES};
@@ -350,67 +351,58 @@ impl Ports {
         }
     }
 
-    // The pins that a write of a register reaches: those of its port, where it changes what they are asked for.
+    // The pins that a write of a register reaches: those of which it changes what they are asked for, and those between.
     #[inline]
     fn reached(&self, register: Register, value: u8) -> Span
-        ensures { result ≡ reached self.now.unit register value }
+        ensures value { result ≡ reached self.now.unit register value }
+        ensures least { Least (with_register self.now.unit register value) self.now.unit result }
     {
-        pins_if(self.register_moves(register, value), pins_of(register))
+        pins_at(first_pin(register), self.turned(register, value))
     }
 
     // The pin that a write of one bit alone reaches.
     #[inline]
     fn bit_reached(&self, register: Register, bit: u8, value: bool) -> Span
         requires { bit < 8 }
-        ensures { result ≡ bit_reached self.now.unit register bit value }
+        ensures value { result ≡ bit_reached self.now.unit register bit value }
+        ensures least { Least (with_register_bit self.now.unit register bit value) self.now.unit result }
     {
-        pins_if(
-            self.register_bit_moves(register, bit, value),
-            pin_of(register, bit),
-        )
-    }
-
-    // Whether writing a register changes what a pin is asked for; a 1 in PINx toggles PORTx.
-    #[inline]
-    fn register_moves(&self, register: Register, value: u8) -> bool
-        ensures { result ≡ moves self.now.unit register value }
-    {
-        match register {
-            Register::PINB | Register::PINC | Register::PIND => value != 0,
-            Register::DDRB => value != self.ddrb,
-            Register::PORTB => value != self.portb,
-            Register::DDRC => value != self.ddrc,
-            Register::PORTC => value != self.portc,
-            Register::DDRD => value != self.ddrd,
-            Register::PORTD => value != self.portd,
-            _ => false,
+        if acts_by_ones(register) {
+            self.one_reached(register, bit, value)
+        } else {
+            self.reached(register, with_bit(self.kept(register), bit, value))
         }
     }
 
-    // Whether writing one bit alone does.
+    // The pin that writing a 1 into a register of which ones act reaches.
     #[inline]
-    fn register_bit_moves(&self, register: Register, bit: u8, value: bool) -> bool
-        requires { bit < 8 }
-        ensures { result ≡ bit_moves self.now.unit register bit value }
-    {
-        match register {
-            Register::PINB | Register::PINC | Register::PIND | Register::PCIFR | Register::EIFR =>
-                self.one_moves(register, bit, value),
-            _ => self.register_moves(register, with_bit(self.kept(register), bit, value)),
-        }
-    }
-
-    // Whether writing a 1 into a register of which ones act does.
-    #[inline]
-    fn one_moves(&self, register: Register, bit: u8, value: bool) -> bool
+    fn one_reached(&self, register: Register, bit: u8, value: bool) -> Span
         requires register { acts_by_ones register ≡ true }
         requires bit { bit < 8 }
-        ensures { result ≡ bit_moves self.now.unit register bit value }
+        ensures { result ≡ bit_reached self.now.unit register bit value }
     {
         if value {
-            self.register_moves(register, mask(bit))
+            self.reached(register, mask(bit))
         } else {
-            false
+            Span::none()
+        }
+    }
+
+    // The bits that a write turns over, of those that have a pin; a 1 in PINx toggles PORTx.
+    #[inline]
+    fn turned(&self, register: Register, value: u8) -> u8
+        ensures { result ≡ turned self.now.unit register value }
+    {
+        match register {
+            Register::PINB | Register::PINC => value % 64,
+            Register::PIND => value,
+            Register::DDRB => (value ^ self.ddrb) % 64,
+            Register::PORTB => (value ^ self.portb) % 64,
+            Register::DDRC => (value ^ self.ddrc) % 64,
+            Register::PORTC => (value ^ self.portc) % 64,
+            Register::DDRD => value ^ self.ddrd,
+            Register::PORTD => value ^ self.portd,
+            _ => 0,
         }
     }
 
@@ -483,41 +475,42 @@ impl Ports {
     }
 }
 
-// The pins of a register's port.
+// Whether a 1 acts in a register and a 0 does nothing.
 #[inline]
-fn pins_of(register: Register) -> Span
-    ensures { result ≡ pins_of register }
+fn acts_by_ones(register: Register) -> bool
+    ensures { result ≡ acts_by_ones register }
 {
     match register {
-        Register::PINB | Register::DDRB | Register::PORTB => Span { from: 8, to: 14 },
-        Register::PINC | Register::DDRC | Register::PORTC => Span { from: 14, to: 20 },
-        Register::PIND | Register::DDRD | Register::PORTD => Span { from: 0, to: 8 },
-        _ => Span::none(),
+        Register::PINB | Register::PINC | Register::PIND | Register::PCIFR | Register::EIFR => true,
+        _ => false,
     }
 }
 
-// The pin of a bit of it.
+// The pin of bit 0 of a register's port.
 #[inline]
-fn pin_of(register: Register, bit: u8) -> Span
-    requires { bit < 8 }
-    ensures { result ≡ pin_of register bit }
+fn first_pin(register: Register) -> u8
+    ensures value { result ≡ first_pin register }
+    ensures few { result ≤ 14 }
 {
     match register {
-        Register::PINB | Register::DDRB | Register::PORTB => one_pin(8 + bit),
-        Register::PINC | Register::DDRC | Register::PORTC => one_pin(14 + bit),
-        Register::PIND | Register::DDRD | Register::PORTD => one_pin(bit),
-        _ => Span::none(),
+        Register::PINB | Register::DDRB | Register::PORTB => 8,
+        Register::PINC | Register::DDRC | Register::PORTC => 14,
+        _ => 0,
     }
 }
 
-// A pin alone.
+// The least span that has the pin of each 1, where bit 0 has this pin.
 #[inline]
-fn one_pin(pin: u8) -> Span
-    requires { pin < 255 }
-    ensures { result ≡ one_pin pin }
+fn pins_at(first: u8, bits: u8) -> Span
+    requires { first ≤ 14 }
+    ensures { result ≡ pins_at first bits }
 {
-    Span {
-        from: pin,
-        to: pin + 1,
+    if bits == 0 {
+        Span::none()
+    } else {
+        Span {
+            from: first + bits.trailing_zeros() as u8,
+            to: first + (8 - bits.leading_zeros() as u8),
+        }
     }
 }
