@@ -1,9 +1,12 @@
 -- A unit whose cycles move a counter and nothing else.
-use Rattle.std.proofs.Common.{◌≡◌, ℕ, zero, suc, ◌+◌, ◌-◌, ◌∙◌, [], List, Bool, true, false, Option, None, Some, ap, sym, subst, refl}
+use Rattle.std.proofs.Common.{◌≡◌, ℕ, zero, suc, ◌+◌, ◌-◌, ◌∙◌, [], List, Bool, true, false, not, ◌&&◌, ◌||◌, Option, None, Some, ap, sym, subst, refl, arith}
 use Rattle.std.specs.Prelude.{◌==◌, if◌then◌else◌}
-use Rattle.std.proofs.lemmas.Bool.{or_parts}
+use Rattle.std.proofs.lemmas.Bool.Decides.{nat_tests}
 use Rattle.sim_base.specs.declared.signal.Level.{Level}
 use Rattle.sim_base.specs.declared.limits.TheConstants.{MOST_CYCLES}
+use Rattle.part_law.specs.declared.span.Span.{Span}
+use Rattle.part_law.specs.Spans.{IsIn, no_pins}
+use Rattle.avr_unit.specs.Placed.{apart_hull}
 use Rattle.avr_unit.specs.UnitMachine.{UnitMachine, At, steps, IsQuiet, IsFirstDue}
 use Rattle.avr_unit.specs.Pad.{untouched, valued}
 use Rattle.avr_unit.specs.declared.pad.Pad.{Pad}
@@ -14,7 +17,7 @@ use Rattle.avr_timer.specs.declared.timing.Timing.{Timing}
 use Rattle.avr_timer.specs.Timing.{counter_step, counter_due, counter_steps, IsStill, IsNext}
 use Rattle.avr_timer.specs.declared.mode.Kind.{Kind}
 use Rattle.avr_timer.specs.declared.mode.Com.{Com}
-use Rattle.avr_timer.specs.Outputs.{has_pin, has_pins, compare_pad, compare_pads}
+use Rattle.avr_timer.specs.Outputs.{has_pin, compare_pad, compare_pads, turned_pin, turned_pins}
 use Rattle.avr_timer.specs.Flags.{requests_from, entered}
 use Rattle.avr_timer.proofs.TimingLemmas.{Keeps}
 
@@ -63,6 +66,9 @@ module _ {U : Type 0} (m : UnitMachine U) (is : TimerOf m) where
   first_is u t None h = quiet_is u t (MOST_CYCLES - t) h
   first_is u t (Some d) h = (h.0, h.1, quiet_is u t (d - t) h.2, due_is u t (d - t) d ∙ h.3)
 
+same_number : (p q : ℕ) → (p == q) ≡ true → p ≡ q
+same_number p q h = grind (arith, nat_tests, h)
+
 -- Two counters with the same latches ask the same of a pin.
 pub record Latches (x c : Counter) : Type 0 where
   pub a : x.a.latch ≡ c.a.latch
@@ -73,21 +79,34 @@ pads_by oca ocb m x c pin h =
     ap (λ (l : Bool). compare_pads oca ocb m (record x { a = record (x.a) { latch = l } }) pin) h.a
     ∙ ap (λ (l : Bool). compare_pads oca ocb m (record c { b = record (c.b) { latch = l } }) pin) h.b
 
-choose_pad : (s t : Bool) (x y z w u : Pad) → x ≡ z → y ≡ w → (if s then x else if t then y else u) ≡ (if s then z else if t then w else u)
-choose_pad s t x y z w u e f = ap (λ (p : Pad). if s then p else if t then y else u) e ∙ ap (λ (p : Pad). if s then z else if t then p else u) f
-
-no_pin : (k : Kind) (how : Com) (a b : Bool) → has_pin k how ≡ false → compare_pad k how a ≡ compare_pad k how b
-no_pin k how a b h = by (has_pin k how) h
+-- a channel's pin that is not told is asked the same
+kept_pin : (k : Kind) (how : Com) (before latch : Bool) (pin : ℕ) → ¬ IsIn (turned_pin k how before latch pin) pin → compare_pad k how latch ≡ compare_pad k how before
+kept_pin k how before latch pin out = by (has_pin k how) before latch out
   where
-    by : (t : Bool) → t ≡ false → (if t then valued a else untouched) ≡ (if t then valued b else untouched)
-    by true e = cc
-    by false e = refl
+    by : (has b l : Bool) → ¬ IsIn (if has && ((b && not l) || (not b && l)) then record { from = pin; to = pin + 1 } else no_pins) pin →
+        (if has then valued l else untouched) ≡ (if has then valued b else untouched)
+    by true true true out = refl
+    by true true false out = absurd (out (omega arith, omega arith))
+    by true false true out = absurd (out (omega arith, omega arith))
+    by true false false out = refl
+    by false b l out = refl
 
--- a timer whose channels leave their pins alone asks the same whatever its counter is
-pub no_pins : (oca ocb : ℕ) (m : Mode) (x c : Counter) (pin : ℕ) → has_pins m ≡ false → compare_pads oca ocb m x pin ≡ compare_pads oca ocb m c pin
-no_pins oca ocb m x c pin h =
-    let d = or_parts (has_pin m.kind m.com_a) (has_pin m.kind m.com_b) h in
-    choose_pad (pin == oca) (pin == ocb) _ _ _ _ untouched (no_pin m.kind m.com_a x.a.latch c.a.latch d.0) (no_pin m.kind m.com_b x.b.latch c.b.latch d.1)
+-- so are pins that are none of those whose latches were others before
+pub not_turned : (oca ocb : ℕ) (m : Mode) (x c : Counter) (p : ℕ) → ¬ IsIn (turned_pins oca ocb m c.a.latch c.b.latch x) p → compare_pads oca ocb m x p ≡ compare_pads oca ocb m c p
+not_turned oca ocb m x c p out = by (p == oca) (p == ocb) refl refl
+  where
+    first : Span
+    first = turned_pin m.kind m.com_a c.a.latch x.a.latch oca
+
+    second : Span
+    second = turned_pin m.kind m.com_b c.b.latch x.b.latch ocb
+
+    by : (s t : Bool) → (p == oca) ≡ s → (p == ocb) ≡ t →
+        (if s then compare_pad m.kind m.com_a x.a.latch else if t then compare_pad m.kind m.com_b x.b.latch else untouched)
+        ≡ (if s then compare_pad m.kind m.com_a c.a.latch else if t then compare_pad m.kind m.com_b c.b.latch else untouched)
+    by true t e f = kept_pin m.kind m.com_a c.a.latch x.a.latch oca (subst (λ (q : ℕ). ¬ IsIn first q) (same_number p oca e) (apart_hull first second p out).0)
+    by false true e f = kept_pin m.kind m.com_b c.b.latch x.b.latch ocb (subst (λ (q : ℕ). ¬ IsIn second q) (same_number p ocb f) (apart_hull first second p out).1)
+    by false false e f = refl
 
 pub keeps_latches : (s x : Counter) → Keeps s x → Latches x s
 keeps_latches s x h = record { a = ap (λ (ch : Channel). ch.latch) h.a; b = ap (λ (ch : Channel). ch.latch) h.b }

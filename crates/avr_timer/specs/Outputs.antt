@@ -1,6 +1,9 @@
 -- A compare channel's register and pin (data sheet, "Output Compare Unit", "Compare Match Output Unit").
-use Rattle.std.specs.Prelude.{ℕ, ◌==◌, ◌||◌, Bool, true, false, not, if◌then◌else◌}
+use Rattle.std.specs.Prelude.{ℕ, ◌+◌, ◌==◌, ◌&&◌, ◌||◌, Bool, true, false, not, if◌then◌else◌}
+use Rattle.part_law.specs.declared.span.Span.{Span}
+use Rattle.part_law.specs.Spans.{no_pins}
 use Rattle.avr_unit.specs.Pad.{untouched, valued}
+use Rattle.avr_unit.specs.Placed.{hull}
 use Rattle.avr_unit.specs.declared.pad.Pad.{Pad}
 use Rattle.avr_timer.specs.declared.mode.Kind.{Kind}
 use Rattle.avr_timer.specs.declared.mode.Com.{Com}
@@ -24,13 +27,18 @@ has_pin kind Set = true
 abbrev pub compare_pad : Kind → Com → Bool → Pad
 compare_pad kind how latch = if has_pin kind how then valued latch else untouched
 
--- whether one of the channels has its pin
-abbrev pub has_pins : Mode → Bool
-has_pins m = has_pin m.kind m.com_a || has_pin m.kind m.com_b
-
 -- what the timer with OCnA and OCnB on these Uno pins asks of a pin
 abbrev pub compare_pads : ℕ → ℕ → Mode → Counter → ℕ → Pad
 compare_pads oca ocb m c pin =
     if pin == oca then compare_pad m.kind m.com_a c.a.latch
     else if pin == ocb then compare_pad m.kind m.com_b c.b.latch
     else untouched
+
+-- The pin of a channel, where the channel has it and its latch was another before.
+abbrev pub turned_pin : Kind → Com → Bool → Bool → ℕ → Span
+turned_pin kind how before latch pin =
+    if has_pin kind how && ((before && not latch) || (not before && latch)) then record { from = pin; to = pin + 1 } else no_pins
+
+-- those of both channels, with those between, where the latches were these before
+abbrev pub turned_pins : ℕ → ℕ → Mode → Bool → Bool → Counter → Span
+turned_pins oca ocb m a b c = hull (turned_pin m.kind m.com_a a c.a.latch oca) (turned_pin m.kind m.com_b b c.b.latch ocb)

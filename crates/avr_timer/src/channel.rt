@@ -1,10 +1,11 @@
 //! A compare channel (data sheet, "Output Compare Unit", "Compare Match Output Unit").
-ghost use Rattle.std.specs.Prelude.{◌≡◌, not};
+ghost use Rattle.std.specs.Prelude.{◌≡◌, ◌<◌, not};
 ghost use Rattle.avr_timer.specs.Count.{still, loads, plain_act, fast_act, phase_act, pin_act, compared};
-ghost use Rattle.avr_timer.specs.Outputs.{ocr_written, has_pin, has_pins, compare_pad};
+ghost use Rattle.avr_timer.specs.Outputs.{ocr_written, has_pin, turned_pin, compare_pad};
 
-use crate::mode::{Com, Kind, Mode, is_buffered};
-use avr_unit::Pad;
+use crate::mode::{Com, Kind, is_buffered};
+use avr_unit::{Pad, pins_if};
+use part_law::Span;
 
 /// OCRnx as it was written and as it is compared, OCFnx, and the compare latch OCnx.
 #[derive(Clone, Copy, Debug, PartialEq, Eq)]
@@ -132,11 +133,18 @@ fn has_pin(kind: Kind, how: Com) -> bool
     }
 }
 
-/// Whether one of the channels has its pin.
-pub fn has_pins(mode: &Mode) -> bool
-    ensures { result ≡ has_pins mode.now }
+/// The pin of a channel, where the channel has it and its latch was another before.
+pub(crate) fn turned_pin(kind: Kind, how: Com, before: bool, latch: bool, pin: u8) -> Span
+    requires { pin < 255 }
+    ensures { result ≡ turned_pin kind how before latch pin }
 {
-    has_pin(mode.kind, mode.com_a) | has_pin(mode.kind, mode.com_b)
+    pins_if(
+        has_pin(kind, how) & ((before & !latch) | (!before & latch)),
+        Span {
+            from: pin,
+            to: pin + 1,
+        },
+    )
 }
 
 /// What a channel asks of its pin.

@@ -3,14 +3,15 @@ ghost use Rattle.std.specs.Prelude.{◌≡◌, ◌≤◌, ◌<◌, ◌-◌, ℕ,
 ghost use Rattle.avr_timer.specs.Modes.{is_icr, is_phase};
 ghost use Rattle.avr_timer.specs.Count.{cleared, tick, upward, slope, top_of, turned, direction, overflows, next, has_event};
 ghost use Rattle.avr_timer.specs.Counted.{IsMode, Holds, last, icr_or, wait_up, wait_down, is_back, wait, place, counted};
-ghost use Rattle.avr_timer.specs.Outputs.{compare_pads};
+ghost use Rattle.avr_timer.specs.Outputs.{compare_pads, turned_pins};
 ghost use Rattle.avr_timer.specs.Timing.{counter_step, counter_steps, IsStill, IsNext, Begun};
 
-use crate::channel::{Channel, compare_pad, loads};
+use crate::channel::{Channel, compare_pad, loads, turned_pin};
 use crate::mode::{Kind, Mode, Top, is_icr, is_phase};
 use crate::timing::Timing;
 use crate::wheel::{ahead, behind, forward, lesser};
-use avr_unit::Pad;
+use avr_unit::{Pad, hull};
+use part_law::Span;
 use sim_base::MOST_CYCLES;
 
 /// TCNTn, whether it goes down, the channels, ICRn with ICFn, and TOVn. A timer without ICRn leaves those two 0.
@@ -118,6 +119,18 @@ impl Counter {
         } else {
             Pad::untouched()
         }
+    }
+
+    /// The pins of its outputs whose latches were others before, with those between.
+    pub fn turned(&self, mode: &Mode, before_a: bool, before_b: bool, oca: u8, ocb: u8) -> Span
+        requires first { oca < 255 }
+        requires second { ocb < 255 }
+        ensures { result ≡ turned_pins oca ocb mode.now before_a before_b self.now }
+    {
+        hull(
+            turned_pin(mode.kind, mode.com_a, before_a, self.a.latch, oca),
+            turned_pin(mode.kind, mode.com_b, before_b, self.b.latch, ocb),
+        )
     }
 
     fn top(&self, mode: &Mode) -> u16

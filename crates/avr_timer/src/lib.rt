@@ -10,7 +10,7 @@ mod mode;
 mod timing;
 mod wheel;
 
-pub use channel::{Channel, has_pins};
+pub use channel::Channel;
 pub use counter::Counter;
 pub use mode::{Com, Kind, Mode, Row, Top, mode_by};
 pub use timing::Timing;

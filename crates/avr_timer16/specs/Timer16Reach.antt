@@ -7,10 +7,12 @@ use Rattle.avr_unit.specs.Placed.{Placed}
 use Rattle.avr_unit.specs.Reach.{Reach, Reaches, by_register, by_register_reaches}
 use Rattle.avr_unit.specs.UnitMachine.{at_register}
 use Rattle.avr_unit.proofs.HullLemmas.{outside}
+use Rattle.avr_timer.specs.Outputs.{turned_pins}
+use Rattle.avr_timer.specs.Timing.{counter_step}
 use Rattle.avr_timer16.specs.Registers.{register_at}
 use Rattle.avr_timer16.specs.declared.registers.Register.{Register}
 use Rattle.avr_timer16.specs.declared.registers.Register.TheVariants.{TIFR1, GTCCR, TIMSK1, TCCR1A, TCCR1B, TCNT1L, TCNT1H, ICR1L, ICR1H, OCR1AL, OCR1AH, OCR1BL, OCR1BH}
-use Rattle.avr_timer16.specs.Timer16.{Timer16, timer16, pad, with_register, kept}
+use Rattle.avr_timer16.specs.Timer16.{Timer16, timer16, timing, mode_of, pad, with_register, kept}
 
 abbrev pub its_pins : Span
 its_pins = record { from = 9; to = 11 }
@@ -23,6 +25,10 @@ timer1_placed u p less out = rw (first, second) refl
 
     second : (p == 10) ≡ false
     second = outside 9 11 10 p out (omega arith) (omega arith)
+
+-- A cycle turns over outputs: their pins, with those between.
+abbrev pub moved : Timer16 → ℕ → Span
+moved u t = turned_pins 9 10 (mode_of u.tccra u.tccrb) u.counter.a.latch u.counter.b.latch (counter_step (timing u) u.counter t)
 
 -- The modes and the compare outputs are chosen in TCCR1A and TCCR1B.
 abbrev pub moves_pad : Register → Bool

@@ -7,12 +7,14 @@ use Rattle.avr_unit.specs.Placed.{Placed}
 use Rattle.avr_unit.specs.Reach.{Reach, Reaches, by_register, by_register_reaches}
 use Rattle.avr_unit.specs.UnitMachine.{at_register}
 use Rattle.avr_unit.proofs.HullLemmas.{outside}
+use Rattle.avr_timer.specs.Outputs.{turned_pins}
+use Rattle.avr_timer.specs.Timing.{counter_step}
 use Rattle.avr_timer8.specs.Registers.{register_at}
 use Rattle.avr_timer8.specs.declared.registers.Register.{Register}
 use Rattle.avr_timer8.specs.declared.registers.Register.TheVariants.{TIFRn, GTCCR, TCCRnA, TCCRnB, TCNTn, OCRnA, OCRnB, TIMSKn}
 use Rattle.avr_timer8.specs.declared.registers.Which.{Which}
 use Rattle.avr_timer8.specs.declared.registers.Which.TheVariants.{Zero, Two}
-use Rattle.avr_timer8.specs.Timer8.{Timer8, timer8, pad, with_register, kept}
+use Rattle.avr_timer8.specs.Timer8.{Timer8, timer8, timing, mode_of, pin_a, pin_b, pad, with_register, kept}
 
 -- those of its outputs, with those between
 abbrev pub its_pins : Which → Span
@@ -40,6 +42,10 @@ timer2_placed u p less out = rw (first, second) refl
 pub timer_placed : (w : Which) → Placed (timer8 w) (its_pins w)
 timer_placed Zero = timer0_placed
 timer_placed Two = timer2_placed
+
+-- A cycle turns over outputs: their pins, with those between.
+abbrev pub moved : Which → Timer8 → ℕ → Span
+moved w u t = turned_pins (pin_a w) (pin_b w) (mode_of u.tccra u.tccrb) u.counter.a.latch u.counter.b.latch (counter_step (timing w u) u.counter t)
 
 -- The modes and the compare outputs are chosen in TCCRnA and TCCRnB.
 abbrev pub moves_pad : Register → Bool
