@@ -2,13 +2,14 @@
 # Makes the module of a chip from its C or C++ files; the text below says how.
 here=$(cd "$(dirname "$0")" && pwd) || exit 1
 clang=${CLANG:-clang}
-usage='usage: sdk/build.sh [--libc] -o NAME.wasm [WORDS] FILE.c ...'
+usage='usage: sdk/build.sh [--libc] [--names] -o NAME.wasm [WORDS] FILE.c ...'
 help="$usage
 
 Makes the module of a chip from its C files, or C++ files without C++'s library.
 
   -o NAME.wasm  the module; the list of its pins is NAME.json, next to it
   --libc        links the C library: stdio.h, stdlib.h, string.h and so on
+  --names       keeps the names of its functions, by which a trap is told
   --help        shows this text
 
 WORDS that begin with - are handed to clang: -O0, -D NAME=VALUE, -I FOLDER.
@@ -26,6 +27,7 @@ say() { echo "sdk/build.sh: $*" >&2; }
 misused() { say "$*"; echo "$usage" >&2; exit 2; }
 
 libc=
+strip=--strip-all
 module=
 sources=()
 compiling=()
@@ -34,6 +36,7 @@ while [ $# -gt 0 ]; do
     case $1 in
     --help | -h) echo "$help"; exit 0 ;;
     --libc) libc=yes ;;
+    --names) strip=--strip-debug ;;
     -o | -D | -U | -I | -L | -l | -z | -x | -include | -imacros | -iquote | -isystem | -idirafter | -MF | -MT | -MQ | -Xclang | -Xlinker | -mllvm)
         [ $# -gt 1 ] || misused "$1 has no word after it"
         case $1 in
@@ -131,11 +134,12 @@ for source in "${sources[@]}"; do
     compile "$source" "${compiling[@]}" || bad=1
 done
 [ $bad = 0 ] || explain
+if have python3; then python3 -B "$here/module.py" --floats "${objects[@]}" || exit 1; fi
 [ -z "$kit" ] || compile "$kit" || explain
 
 # -O is not among these words: with it clang runs wasm-opt where binaryen is installed, which refuses memory.copy.
-tool "$target" "${layout[@]}" -Wl,--no-entry,--export-table,--strip-all "${objects[@]}" "${linking[@]}" -o "$work/module.wasm" || explain
+tool "$target" "${layout[@]}" "-Wl,--no-entry,--export-table,$strip" "${objects[@]}" "${linking[@]}" -o "$work/module.wasm" || explain
 if have python3; then
-    python3 "$here/module.py" "$work/module.wasm" "$module" "${sources[@]}" || exit 1
+    python3 -B "$here/module.py" "$work/module.wasm" "$module" "${sources[@]}" || exit 1
 fi
 cat "$work/module.wasm" 2>/dev/null >"$module" || { say "$module cannot be written"; exit 1; }

@@ -3,7 +3,12 @@
 
 Says in words what the simulator would refuse it for by a number: no `chipInit`, or a function that is imported and is not there;
 then it ends with 1. NAME.wasm is where the module will be. Where NAME.json is next to it, it also says which pins the sources
-ask for that are not listed there. The functions that there are, it reads from wokwi-api.h."""
+ask for that are not listed there; and what the sources do that is otherwise here than in Wokwi. The functions that there are, it
+reads from wokwi-api.h.
+
+    sdk/module.py --floats OBJECT ..
+
+says which functions of the objects that clang made of a chip's sources calculate with floats."""
 import json
 import os
 import re
@@ -31,7 +36,8 @@ SYSTEM = {
 HINTS = {
     "ADC": "pins are low or high",
     "DAC": "pins are low or high",
-    "Float": "attributes are whole numbers",
+    "Float": "attributes are whole numbers: attr_init_thousandths and attr_read_thousandths give 23500 for 23.5",
+    "tring": "attributes are whole numbers",
 }
 FLOATS = {0x7D: "float", 0x7C: "double"}
 
@@ -80,13 +86,57 @@ def unlisted_pins(list_of_pins, sources):
                     yield source, pin
 
 
+def body_of(text, function):
+    """What is between the braces of a function of a C source."""
+    found = re.search(rf"\b{function}\s*\([^()]*\)\s*{{", text)
+    depth, at = 1, found.end() if found else len(text)
+    start = at
+    while depth and at < len(text):
+        depth += {"{": 1, "}": -1}.get(text[at], 0)
+        at += 1
+    return text[start:at]
+
+
+def otherwise(source):
+    """Sentences about what a source does that is otherwise here than in Wokwi."""
+    with open(source, encoding="utf-8", errors="replace") as file:
+        text = re.sub(r"//[^\n]*|/\*.*?\*/", "", file.read(), flags=re.S)
+    if re.search(r"\bpin_read\s*\(", body_of(text, "chip_init")):
+        yield f"{source} reads a pin in chip_init, where every pin reads 0: read it in a callback"
+    for config in re.findall(r"\bi2c_config_t\s+\w+\s*=\s*\{(.*?)\}\s*;", text, flags=re.S):
+        if re.search(r"\.\w+\s*=", config) and not re.search(r"\.address\s*=\s*(?!0[xX]?0*\s*[,}\n]|0[xX]?0*\s*$)", config):
+            yield f"{source} sets an I2C slave up at address 0: it is never called here (in Wokwi it is called for every address)"
+
+
+def calculating(objects):
+    """(the name of a source, its functions that have an instruction on floats) of objects that clang wrote."""
+    for path in objects:
+        with open(path, "rb") as file:
+            module = wasm.Module(file.read())
+        names, first = wasm.function_names(module), len(module.functions())
+        found = [names.get(first + place, "a function") for place, body in enumerate(module.bodies) if any(map(wasm.is_float, wasm.instructions(body)))]
+        if found:
+            yield os.path.splitext(os.path.basename(path))[0], found
+
+
+def say_floats(objects):
+    """Says which functions of a chip calculate with floats. Those of the C library do no harm while they are not called."""
+    for stem, functions in calculating(objects):
+        shown = ", ".join(functions[:8]) + (" and others" if len(functions) > 8 else "")
+        verb = "calculates" if len(functions) == 1 else "calculate"
+        say(f"{shown} of {stem} {verb} with float or double: the chip ends with trap 14 where it comes there. Use integers, as thousandths (docs/CHIPS.md)")
+
+
 def say(text):
     print("sdk/build.sh:", text, file=sys.stderr)
 
 
 def main(words):
+    if words[1:2] == ["--floats"]:
+        say_floats(words[2:])
+        return 0
     if len(words) < 3:
-        print("usage: sdk/module.py MODULE NAME.wasm SOURCE ..", file=sys.stderr)
+        print("usage: sdk/module.py MODULE NAME.wasm SOURCE .. | sdk/module.py --floats OBJECT ..", file=sys.stderr)
         return 2
     with open(words[1], "rb") as file:
         module = wasm.Module(file.read())
@@ -99,6 +149,9 @@ def main(words):
     list_of_pins = os.path.splitext(words[2])[0] + ".json"
     for source, pin in unlisted_pins(list_of_pins, words[3:]):
         say(f'{source} asks for the pin "{pin}", which is not in {list_of_pins}: pin_init answers NO_PIN')
+    for source in words[3:]:
+        for text in otherwise(source):
+            say(text)
     return 0
 
 

@@ -7,7 +7,7 @@ from typing import Iterator, NamedTuple, Optional
 
 CUSTOM, TYPE, IMPORT, FUNCTION, TABLE, MEMORY, GLOBAL, EXPORT, START, ELEMENT, CODE, DATA = range(12)
 I32, I64, F32, F64 = 0x7F, 0x7E, 0x7D, 0x7C
-CALL, I32_CONST, PREFIX = 0x10, 0x41, 0xFC
+CALL, CALL_INDIRECT, I32_CONST, PREFIX = 0x10, 0x11, 0x41, 0xFC
 # By opcode, what comes after it: `u` an unsigned number, `s` a signed one, `4` and `8` so many bytes. Others have nothing.
 IMMEDIATES = {
     0x0C: "u",
@@ -113,6 +113,15 @@ class Reader:
         return least, self.number() if flags & 1 else None
 
 
+def sections(data: bytes) -> Iterator[tuple]:
+    """(number, bytes) of each section of a module."""
+    if data[:8] != b"\0asm\1\0\0\0":
+        raise ValueError("it is no module")
+    reader = Reader(data, 8)
+    while reader.at < len(data):
+        yield reader.byte(), reader.bytes()
+
+
 class Module:
     """What a module has. Functions count from 0, the imported ones first."""
 
@@ -126,16 +135,13 @@ class Module:
         self.bodies: list = []  # the bytes of each function that is defined
         self.data: list = []  # (address, bytes) of the segments whose address is a constant
         self.customs: dict = {}
-        if data[:8] != b"\0asm\1\0\0\0":
-            raise ValueError("it is no module")
-        reader = Reader(data, 8)
-        while reader.at < len(data):
-            kind = reader.byte()
-            self.read(kind, Reader(reader.bytes()))
+        for kind, body in sections(data):
+            self.read(kind, Reader(body))
 
     def read(self, kind: int, section: Reader) -> None:
         if kind == CUSTOM:
-            self.customs[section.name()] = section.data[section.at :]
+            name = section.name()
+            self.customs[name] = section.data[section.at :]
             return
         one = {
             TYPE: self.read_type,

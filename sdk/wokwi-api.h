@@ -61,11 +61,13 @@ typedef struct {
 
 // The pin with a name in a mode; NO_PIN where the chip's JSON file has no such name.
 CHIP_IMPORT("pinInit") pin_t pin_init(const char *name, uint32_t mode);
+// In chip_init every pin reads 0: nothing is driven yet.
 CHIP_IMPORT("pinRead") uint32_t pin_read(pin_t pin);
 // A pin keeps its value in every mode, and drives it as an output.
 CHIP_IMPORT("pinWrite") void pin_write(pin_t pin, uint32_t value);
 CHIP_IMPORT("pinMode") void pin_mode(pin_t pin, uint32_t mode);
-// Calls back in the cycle of each edge; a pin has one watch, and the later one counts.
+// Calls back in the cycle of each edge; a pin has one watch, and the later one counts. Before cycle 0 each pin reads 0, so a pin
+// that a pull-up holds high has a rising edge in cycle 0.
 CHIP_IMPORT("pinWatch") bool pin_watch(pin_t pin, const pin_watch_config_t *config);
 CHIP_IMPORT("pinWatchStop") void pin_watch_stop(pin_t pin);
 
@@ -73,6 +75,32 @@ CHIP_IMPORT("pinWatchStop") void pin_watch_stop(pin_t pin);
 
 CHIP_IMPORT("attrInit") uint32_t attr_init(const char *name, uint32_t default_value);
 CHIP_IMPORT("attrRead") uint32_t attr_read(uint32_t attr);
+
+// An attribute as a number of thousandths, from -2,147,483.648 to 2,147,483.647: of "23.5" in the diagram 23500, of "23" 23000.
+// A whole number is read as it is. Any other is handed over by the tools (play, scenario, run-tests, tools/wokwi/lower.py), in
+// thousandths and under the name with this ending; `run` alone gives the default for it. Takes two of the 64 attributes.
+static inline uint32_t attr_init_thousandths(const char *name, int32_t default_value) {
+    static const volatile char ending[] = ".thousandths";
+    const uint32_t none = 0x80000000u;
+    uint32_t whole = attr_init(name, none), length = 0;
+    if (attr_read(whole) != none) {
+        return whole | none;
+    }
+    char made[64];
+    for (; name[length] != 0 && length < sizeof made - sizeof ending; length++) {
+        made[length] = name[length];
+    }
+    for (uint32_t at = 0; at < sizeof ending; at++) {
+        made[length + at] = ending[at];
+    }
+    return attr_init(made, (uint32_t)default_value);
+}
+
+static inline int32_t attr_read_thousandths(uint32_t attr) {
+    int64_t value = (int32_t)attr_read(attr & 0x7FFFFFFFu);
+    value = attr >> 31 ? value * 1000 : value;
+    return value > INT32_MAX ? INT32_MAX : value < INT32_MIN ? INT32_MIN : (int32_t)value;
+}
 
 // ---- timers, at most 32
 
@@ -144,6 +172,7 @@ typedef uint32_t i2c_dev_t;
 
 typedef struct {
     void *user_data;
+    // 1 to 127; a chip at address 0 is never called (in Wokwi it is called for every address)
     uint32_t address;
     pin_t scl;
     pin_t sda;
@@ -169,11 +198,15 @@ CHIP_IMPORT("bufferRead") void buffer_read(buffer_t buffer, uint32_t offset, voi
 
 // ---- what is not here
 
-CHIP_MISSING("pins are low or high: use pin_read") float pin_adc_read(pin_t pin);
-CHIP_MISSING("pins are low or high: use pin_write") float pin_dac_write(pin_t pin, float voltage);
-CHIP_MISSING("attributes are whole numbers: use attr_init, in thousandths for instance")
-uint32_t attr_init_float(const char *name, float default_value);
-CHIP_MISSING("attributes are whole numbers: use attr_read, in thousandths for instance") float attr_read_float(uint32_t attr);
+CHIP_MISSING("pins are low or high: use pin_read, or take the value from an attribute") float pin_adc_read(pin_t pin);
+CHIP_MISSING("pins are low or high: use pin_write, or send the value by UART, SPI or I2C") float pin_dac_write(pin_t pin, float voltage);
+CHIP_MISSING("attributes are whole numbers: use attr_init_thousandths") uint32_t attr_init_float(const char *name, float default_value);
+CHIP_MISSING("attributes are whole numbers: use attr_read_thousandths, which gives 23500 for 23.5") float attr_read_float(uint32_t attr);
+typedef uint32_t string_t;
+CHIP_MISSING("attributes are whole numbers: give a text as numbers, as examples/chip-typist does") string_t attr_string_init(const char *name);
+CHIP_MISSING("attributes are whole numbers: give a text as numbers, as examples/chip-typist does") uint32_t string_get_length(string_t text);
+CHIP_MISSING("attributes are whole numbers: give a text as numbers, as examples/chip-typist does")
+uint32_t string_read(string_t text, char *buffer, uint32_t size);
 CHIP_MISSING("use timer_start_ns, which takes a whole number") void timer_start_ns_d(timer_t timer, double nanos, bool repeat);
 CHIP_MISSING("use get_sim_nanos, which gives a whole number") double get_sim_nanos_d(void);
 

@@ -54,7 +54,7 @@ also() { # TEXT that was said too
 cd "$work" || exit 1
 echo '#include "wokwi-api.h"
 void chip_init(void) {}' >good.c
-says help 0 'usage: sdk/build.sh [--libc] -o NAME.wasm' --help
+says help 0 'usage: sdk/build.sh [--libc] [--names] -o NAME.wasm' --help
 says "no module named" 2 'no module is named' good.c
 says "no file named" 2 'no C file is named' -o a.wasm
 says "a source as the module" 2 'good.c is a source' -o good.c
@@ -93,7 +93,7 @@ __attribute__((import_module("env"), import_name("timerStartNanos"))) void start
 void chip_init(void) { pin_toggle(0); board_read(1); attr_float("a", 1); start(0, 1, 0); }' >imports.c
 says "an unknown import" 1 'a.wasm imports env pinToggle, which is not there' -o a.wasm imports.c
 also 'a.wasm imports board pinRead, which is not there'
-also 'a.wasm imports env attrInitFloat, which is not there: attributes are whole numbers'
+also 'a.wasm imports env attrInitFloat, which is not there: attributes are whole numbers: attr_init_thousandths'
 also 'a.wasm imports timerStartNanos with a double'
 echo '#include "wokwi-api.h"
 void chip_init(void) {
@@ -103,11 +103,13 @@ void chip_init(void) {
     attr_read_float(0);
     timer_start_ns_d(0, 1, true);
     get_sim_nanos_d();
+    attr_string_init("b");
 }' >missing.c
 says "what is not there" 1 "missing.c:3:5: error: 'pin_adc_read' is unavailable: pins are low or high: use pin_read" -o a.wasm missing.c
 also "missing.c:4:5: error: 'pin_dac_write' is unavailable: pins are low or high: use pin_write"
-also "missing.c:5:5: error: 'attr_init_float' is unavailable: attributes are whole numbers: use attr_init"
-also "missing.c:6:5: error: 'attr_read_float' is unavailable: attributes are whole numbers: use attr_read"
+also "missing.c:5:5: error: 'attr_init_float' is unavailable: attributes are whole numbers: use attr_init_thousandths"
+also "missing.c:6:5: error: 'attr_read_float' is unavailable: attributes are whole numbers: use attr_read_thousandths, which gives 23500 for 23.5"
+also "missing.c:9:5: error: 'attr_string_init' is unavailable: attributes are whole numbers: give a text as numbers"
 also "missing.c:7:5: error: 'timer_start_ns_d' is unavailable: use timer_start_ns"
 also "missing.c:8:5: error: 'get_sim_nanos_d' is unavailable: use get_sim_nanos"
 is "no module where it failed" "$(ls -- *.wasm 2>/dev/null)" ""
@@ -129,6 +131,29 @@ is "pins that are listed: messages" "$(cat said)" ""
 echo '{"pins": 1' >pins.json
 says "a list that is none" 0 '' -o pins.wasm pins.c
 is "a list that is none: messages" "$(cat said)" ""
+
+# what is otherwise than in Wokwi, and floats, by the instructions of the chip's own functions
+cat >otherwise.c <<'END'
+#include "wokwi-api.h"
+static volatile float level;
+static void on_timer(void *user_data) { level = level * 2; }
+static bool connect(void *user_data, uint32_t address, bool read) { return true; }
+void chip_init(void) {
+    pin_t in = pin_init("IN", INPUT);
+    if (pin_read(in)) { level = 1; }
+    const timer_config_t timer = {.callback = on_timer};
+    timer_start(timer_init(&timer), 10, true);
+    const i2c_config_t config = {.scl = in, .sda = in, .connect = connect};
+    i2c_init(&config);
+}
+END
+says "what is otherwise" 0 'otherwise.c reads a pin in chip_init, where every pin reads 0: read it in a callback' -o a.wasm otherwise.c
+also 'otherwise.c sets an I2C slave up at address 0: it is never called here'
+also 'on_timer of otherwise calculates with float or double: the chip ends with trap 14 where it comes there'
+is "what is otherwise: messages" "$(wc -l <said)" 3
+sed 's/if (pin_read.*//; s/volatile float/volatile int/; s/{.scl/{.address = 0x27, .scl/' otherwise.c >same.c
+says "what is the same" 0 '' -o a.wasm same.c
+is "what is the same: messages" "$(cat said)" ""
 
 # a compiler that answers as one does whose linker, library or target is missing
 cat >stand-in <<'END'
@@ -243,6 +268,25 @@ compiled buffer -D STORAGE=static "$here/chips/spi-buffer.c"
 is "spi_start of a static buffer" "$(spi buffer.wasm)" "12 34 AB CD "
 compiled buffer -D STORAGE= "$here/chips/spi-buffer.c"
 is "spi_start of a local buffer" "$(spi buffer.wasm)" "3F 3F 3F 3F "
+
+# an attribute in thousandths: a whole number as it is, a decimal as the tools hand it over, else the default
+cat >thousandths.c <<'END'
+#include "wokwi-api.h"
+void chip_init(void) {
+    uint32_t value = (uint32_t)attr_read_thousandths(attr_init_thousandths("micros", -1500));
+    while (value != EXPECTED) __builtin_trap();
+}
+END
+for value in '"micros": "23"=23000' '"micros": "-7"=-7000' '"micros": 3000000=2147483647' '"micros": "23.5"=-1500' '"other": "1"=-1500' \
+    '"micros": "23.5", "micros.thousandths": "23500"=23500'; do
+    compiled thousandths -D "EXPECTED=(uint32_t)(${value##*=})" thousandths.c
+    rm -rf board && cp -r "$top/examples/chip-blinker" board && cp thousandths.wasm board/blinker.wasm
+    sed "s/\"micros\": \"500\"/${value%=*}/" "$top/examples/chip-blinker/diagram.json" >board/diagram.json
+    is "thousandths of ${value%=*}" "$("$program" run board --us 2 --report - | sed -n 's/^chip blink1 //p')" alive
+done
+sed -i 's/, "micros.thousandths": "23500"//' board/diagram.json
+python3 -B "$top/tools/wokwi/lower.py" board lowered 2>/dev/null
+is "thousandths by the tools" "$("$program" run lowered --us 2 --report - | sed -n 's/^chip blink1 //p')" alive
 
 # ---- with the C library
 

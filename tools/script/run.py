@@ -116,6 +116,8 @@ def after(status, said, report, given):
     line = said.decode("utf-8", "surrogateescape").rstrip("\n")
     if status == 0 and report:
         yield from tell.left_out(report.decode("utf-8", "replace"), words.firmware(given))
+        for folder in words.folders(given) if given[0] == "run" else ():
+            yield from tell.of_chips(folder)
     elif status == 2 and line == "words not understood":
         yield from words.sentences(given)
     elif status == 3:

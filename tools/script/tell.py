@@ -247,6 +247,22 @@ def of_a_file(file, number, at):
         yield f"the wave has {size:,} bytes, and {WAVE:,} is the most: a run of a shorter --us writes a shorter one"
 
 
+def of_chips(folder):
+    """Sentences about attributes and pins that the chips of a project do not get (tools/wokwi/attributes.py); none where it has no
+    chip, or where Python is older than that needs."""
+    if sys.version_info < (3, 11) or not any(name == "binary" for name, _ in words.named_in(folder)):
+        return
+    tools = os.path.join(os.path.dirname(os.path.realpath(__file__)), "..", "wokwi")
+    if tools not in sys.path:
+        sys.path.append(tools)
+    try:
+        import attributes
+    except ImportError:
+        return
+    for _, _, _, text in attributes.faults(folder):
+        yield text
+
+
 def missing(line):
     """Sentences about a line `FILE: missing` of what a project names."""
     file = line[: -len(": missing")] if line.endswith(": missing") else ""

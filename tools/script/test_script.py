@@ -212,6 +212,21 @@ class Sentences(unittest.TestCase):
         self.assertEqual(said[0], "the wave has 16,777,226 bytes, and 16,777,216 is the most: a run of a shorter --us writes a shorter one")
         self.assertEqual(len(self.refused("w.vcd", b"$timescale", "refused 10 FileTooLong")), 1)
 
+    @unittest.skipIf(sys.version_info < (3, 11), "it needs Python 3.11")
+    def test_what_a_chip_does_not_get_is_told(self):
+        with tempfile.TemporaryDirectory() as folder:
+            example = ROOT / "examples/chip-blinker"
+            for name in ("wokwi.toml", "blinker.wasm", "blinker.json"):
+                pathlib.Path(folder, name).write_bytes((example / name).read_bytes())
+            text = (example / "diagram.json").read_text()
+            for value, said in (('"micros": "500"', []), ('"micros": "0.5"', ['blink1: the chip reads its attribute "micros" as a whole number, and "0.5" is none']),
+                                ('"micro": "500"', ['blink1: its attribute "micro" ("500") is none that the chip asks for; is it "micros"?'])):
+                pathlib.Path(folder, "diagram.json").write_text(text.replace('"micros": "500"', value))
+                found = list(tell.of_chips(folder))
+                self.assertEqual([text[: len(part)] for text, part in zip(found, said)], said)
+                self.assertEqual(len(found), len(said))
+        self.assertEqual(list(tell.of_chips(str(ROOT / "examples/button"))), [])
+
     def test_what_is_not_built_is_told(self):
         with tempfile.TemporaryDirectory() as folder:
             self.assertEqual(list(tell.missing(f"{folder}/a.wasm: missing")), ["this chip is not built: its source is not next to where it was looked for"])
