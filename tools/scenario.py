@@ -36,6 +36,7 @@ import diagram as diagrams
 import formulas
 import lower
 import option
+import trapped
 import truth
 import typist
 from program import program_path
@@ -552,6 +553,9 @@ def check_truth(board, scenario, allowed, strict, stop):
     firmware = os.path.join(board.folder, "firmware.hex")
     found = [it for it in found if not set(it.names) & set(allowed)]
     fails, told = truth.verdict(found, hex_file=firmware, strict=strict)
+    if any(it.names[0] == "trap" for it in found):
+        script = os.path.join(os.path.dirname(run.report_file), "script.txt") if board.script else None
+        told = told + trapped.sentences(board.program, board.folder, "\n".join(run.report()), script, board.budget)
     if not fails or stop:
         return "", told + fails, run
     return f"all steps passed, but at {shown(now)} " + "\n".join([*fails, truth.how_to_allow([it for it in found if it.fails or strict])]), told, run

@@ -131,13 +131,13 @@ class Chip:
             return
         say(f"building chip {self.name} from {os.path.basename(self.source)}")
         for words in ([], ["--libc"]) if self.wants_libc() else ([],):
-            ran = subprocess.run([BUILD, *words, "-o", module, self.source], stdout=subprocess.PIPE, stderr=subprocess.STDOUT, text=True, errors="replace", check=False)
+            ran = subprocess.run([BUILD, "--names", *words, "-o", module, self.source], stdout=subprocess.PIPE, stderr=subprocess.STDOUT, text=True, errors="replace", check=False)
             if not ran.returncode:
                 break
         else:
             raise Fault(f"chip {self.name}: {ran.stdout.strip()}")
         for line in ran.stdout.splitlines():
-            if line.strip() and not line.startswith(module):
+            if line.strip() and not line.startswith(module) and not re.fullmatch(r"[0-9]+ warnings? generated\.", line):
                 say(f"chip {self.name}: {line}")
         os.chmod(module, 0o644)
 

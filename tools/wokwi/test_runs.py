@@ -524,6 +524,87 @@ class Messages(WithWork):
             self.assertRegex(out + err, r"the core halted at word address 0x[0-9A-F]{4}, in \w+ at h\.ino:3, on the word 0x00FF")
 
 
+@unittest.skipUnless(shutil.which("clang") and shutil.which("wasm-ld"), "no clang or wasm-ld")
+class ChipsOfTheirOwn(WithWork):
+    """Chips in C, which are built on the way."""
+
+    LOOP = ":02000000FFCF30\n:00000001FF\n"
+    TRAPS = """#include "wokwi-api.h"
+static volatile int count, zero;
+__attribute__((noinline)) static void deep(void) { if (++count == 3) count = 7 / zero; }
+static void on_timer(void *user_data) { deep(); }
+static void other(void *user_data) { count += 0; }
+void chip_init(void) {
+    const timer_config_t first = {.callback = on_timer}, second = {.callback = other};
+    timer_start(timer_init(&first), 10, true);
+    timer_start(timer_init(&second), 10, true);
+}
+"""
+
+    def project(self, source, attrs="{}", pins="[]"):
+        self.put("p/a.hex", self.LOOP)
+        self.put("p/it.chip.c", source)
+        self.put("p/it.chip.json", f'{{"name": "it", "pins": {pins}}}')
+        self.put("p/diagram.json", f'{{"version": 1, "parts": [{{"type": "wokwi-arduino-uno", "id": "uno"}}, {{"type": "chip-it", "id": "c", "attrs": {attrs}}}], "connections": []}}')
+        self.put("p/a.test.yaml", "version: 1\nsteps:\n  - delay: 1ms\n")
+        return os.path.join(self.work, "p")
+
+    def test_the_function_in_which_a_trap_came(self):
+        folder = self.project(self.TRAPS)
+        said = "c: trap 3 came in its function deep (chip-it.wasm)"
+        self.assertIn(f"play: {said}", call("wokwi/play", folder, "--us", "1ms")[2])
+        self.assertIn(said, call("scenario.py", folder)[1])
+        os.unlink(os.path.join(folder, "a.test.yaml"))
+        self.put("p/us.txt", "1ms")
+        self.put("p/expected/serial.txt", "")
+        status, out, _ = call("run-tests", folder)
+        self.assertEqual((status, f"    {said}\n" in out, "c: trap 3 (DivideByZero) ended this chip after 30 us" in out), (1, True, True), out)
+        status, out, _ = call("run-tests", folder, "--allow", "trap")
+        self.assertEqual((status, said in out), (0, False))
+
+    def test_attributes_in_thousandths(self):
+        source = """#include "wokwi-api.h"
+void chip_init(void) { if (attr_read_thousandths(attr_init_thousandths("distance", 0)) != EXPECTED) __builtin_trap(); }
+"""
+        for value, expected in (('"23.5"', 23500), ('"23"', 23000), ("-1.25", -1250), ('"0.0004"', 0)):
+            folder = self.project(source.replace("EXPECTED", str(expected)), f'{{"distance": {value}}}')
+            self.assertEqual(call("wokwi/play", folder, "--us", "1ms", "--strict")[0], 0, value)
+            self.assertEqual(call("scenario.py", folder)[0], 0, value)
+        folder = self.project(source.replace("EXPECTED", "7000"))
+        self.put("p/a.test.yaml", "version: 1\nsteps:\n  - set-control: {part-id: c, control: distance, value: 7}\n  - delay: 1ms\n")
+        self.assertEqual(call("scenario.py", folder)[0], 0)
+        self.put("p/a.test.yaml", "version: 1\nsteps:\n  - set-control: {part-id: c, control: distnace, value: 7}\n  - delay: 1ms\n")
+        self.assertIn('c: its attribute "distnace" ("7") is none that the chip asks for; is it "distance"?', call("scenario.py", folder)[2])
+
+    def test_what_the_compiler_says_of_a_chip_is_said(self):
+        source = '#include "wokwi-api.h"\nstatic int unused;\nvoid chip_init(void) { pin_init("OUT", OUTPUT); }\n'
+        folder = self.project(source, pins='["Y"]')
+        status, _, err = call("wokwi/play", folder, "--us", "1ms", "--strict")
+        self.assertEqual((status, "unused variable 'unused'" in err, 'asks for the pin "OUT", which is not in ' in err), (1, True, True), err)
+        self.assertIn('c: the chip asks for the pin "OUT", which is not in its JSON file (Y)', err)
+        status, _, err = call("scenario.py", folder)
+        self.assertEqual((status, 'c: the chip asks for the pin "OUT"' in err), (1, True))
+
+    def test_a_console_that_is_cut(self):
+        source = """#include "wokwi-api.h"
+__attribute__((import_module("wasi_snapshot_preview1"), import_name("fd_write"))) int fd_write(int, const void *, int, void *);
+static char line[8192];
+void chip_init(void) {
+    static uint32_t piece[2], written;
+    piece[0] = (uint32_t)(uintptr_t)line, piece[1] = sizeof line;
+    for (unsigned at = 0; at < sizeof line; at++) line[at] = at % 64 == 63 ? 10 : 120;
+    for (int n = 0; n < 9; n++) fd_write(1, piece, 1, &written);
+}
+"""
+        folder = self.project(source)
+        said = "c: what this chip printed after its first 65,536 bytes is not shown"
+        status, _, err = call("wokwi/play", folder, "--us", "1ms", "--strict", "--quiet")
+        self.assertEqual((status, err.count(said)), (1, 1))
+        status, _, err = call("scenario.py", folder)
+        self.assertEqual((status, said in err), (1, True))
+        self.assertEqual(call("scenario.py", folder, "--allow", "console")[0], 0)
+
+
 class Play(WithWork):
     def test_a_folder_is_run(self):
         status, out, err = call("wokwi/play", os.path.join(EXAMPLES, "serial-hello"), "--us", "10ms")
