@@ -237,7 +237,7 @@ def main():
             if file in words:
                 sys.exit("twice: " + file)
             if bytes_ is None:
-                print("not made anew, for want of a rustc for wasm32: " + file, file=sys.stderr)
+                print(f"{file}: there is no rustc for wasm32, so making it anew is skipped", file=sys.stderr)
                 with open(os.path.join(data, file), "rb") as stands:
                     bytes_ = stands.read()
             put_file(os.path.join(data, file), bytes_, check)
