@@ -124,7 +124,7 @@ test('what a folder lacks is made or said', () => {
   assert.equal(page.adviceOf(project), null);
   assert.match(page.adviceOf(page.makeProject('p', [['diagram.json', bytes('{}')], ['sketch.ino', bytes('')]])), /Export Compiled Binary/);
   const sketch = page.makeProject('p', [['diagram.json', bytes('{"parts":[{"type":"wokwi-breadboard-half"}]}')], ['sketch.ino', bytes('')]]);
-  assert.match(page.adviceOf(sketch), /^There is no firmware: .*Export Compiled Binary.*NAME\.ino\.hex.*$/);
+  assert.match(page.adviceOf(sketch), /^There is no firmware, and a page cannot compile: .*Export Compiled Binary, and drop NAME\.ino\.hex here.*$/);
   page.withFirmware(sketch, 'b.hex', bytes(''));
   assert.equal(page.adviceOf(sketch), null);
   assert.match(page.adviceOf(page.makeProject('p', [['diagram.json', bytes('{"parts":7}')]])), /no firmware/);
@@ -192,7 +192,7 @@ test('what a page cannot make a board of is said', () => {
 });
 
 test('an ELF file becomes the HEX file that the tools in Python make of it', () => {
-  const made = execFileSync('python3', ['-B', '-c', `import sys\nsys.path.insert(0, "tools/wokwi")\nimport tests, firmware\nelf = tests.Firmware().elf([(0x800100, b"data"), (20, b"\\xff"), (0, bytes(range(20)))])\nsys.stdout.buffer.write(len(elf).to_bytes(4, "little") + elf + firmware.hex_of(firmware.image_of_elf(elf)).encode())`], { cwd: root });
+  const made = execFileSync('python3', ['-B', '-c', `import sys\nsys.path.insert(0, "tools/wokwi")\nimport test_lower, firmware\nelf = test_lower.Firmware().elf([(0x800100, b"data"), (20, b"\\xff"), (0, bytes(range(20)))])\nsys.stdout.buffer.write(len(elf).to_bytes(4, "little") + elf + firmware.hex_of(firmware.image_of_elf(elf)).encode())`], { cwd: root });
   const size = made.readUInt32LE(0), bytesOf = new Uint8Array(made.subarray(4, 4 + size));
   assert.equal(text(page.asHex(bytesOf)), made.subarray(4 + size).toString());
   assert.throws(() => page.asHex(bytesOf.slice(0, size - 1)), /was cut/);
