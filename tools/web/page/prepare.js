@@ -29,7 +29,7 @@ function hasOtherFirmware(project) {
 
 function isToBeLowered(project, diagram, types) {
   const known = new Set(chipTables(project).filter(({ binary }) => project.files.has(binary)).map(({ name }) => name));
-  return hasOtherFirmware(project) || needsLowering(diagram, types) || [...chipsIn(project, diagram).keys()].some(name => !known.has(name));
+  return hasOtherFirmware(project) || needsLowering(diagram, types) || [...chipsIn(project, diagram).keys()].some(name => !known.has(name)) || needsThousandths(project, diagram);
 }
 
 // Whether a diagram has parts of the editor that the simulator lacks: one that has none, and a fault, the simulator refuses by place.
@@ -63,6 +63,24 @@ function pinsOf(project, { name, module, source, text }) {
   return pins.filter(Boolean);
 }
 
+// ---- Attributes in thousandths (sdk/wokwi-api.h), as tools/wokwi/attributes.py hands them over: a chip whose module asks for such gets
+// `distance` "23.5" also as `distance.thousandths` "23500".
+
+const THOUSANDTHS = '.thousandths', DECIMAL = new RegExp(`^${SPACE}[+-]?(?:[0-9]+(?:\\.[0-9]*)?|\\.[0-9]+)(?:[eE][+-]?[0-9]{1,3})?${SPACE}$`);
+const isWholeText = text => /^-?[0-9]{1,10}$/.test(text) && Number(text) >= -(2 ** 31) && Number(text) < 2 ** 32;
+const asksThousandths = module => { let text = ''; for (let i = 0; i < module.length; i += 0x8000) text += String.fromCharCode(...module.subarray(i, i + 0x8000)); return text.includes(`${THOUSANDTHS}\0`); };
+function thousandthsOf(text) {
+  const number = DECIMAL.test(text) ? Number(stripped(text)) : NaN, made = isFinite(number) ? Number(rounded(number * 1000)) : NaN;
+  return made >= -(2 ** 31) && made < 2 ** 31 ? String(made) : null;
+}
+const needsThousandths = (project, diagram) => [...chipsIn(project, diagram).values()].some(({ name, module }) => asksThousandths(project.files.get(module) || new Uint8Array(0))
+  && diagram.get('parts').some(part => part.get('type') === `chip-${name}` && [...attrsOf(part).values()].some(value => !isWholeText(value) && thousandthsOf(value) !== null)));
+function handedOver(attrs, module) {
+  const made = new Map(attrs);
+  if (asksThousandths(module)) for (const [name, value] of attrs) { const number = isWholeText(value) ? null : thousandthsOf(value); if (number !== null) made.set(name + THOUSANDTHS, number); }
+  return made;
+}
+
 // wokwi.toml with the firmware and [name, stem of the file] of each chip.
 function settingsText(chips) {
   return "[wokwi]\nversion = 1\nfirmware = 'firmware.hex'\n" + chips.map(([name, stem]) => `\n[[chip]]\nname = ${JSON.stringify(name)}\nbinary = ${JSON.stringify(`${stem}.wasm`)}\n`).join('');
@@ -70,7 +88,12 @@ function settingsText(chips) {
 
 // Null of a diagram that the simulator is to refuse.
 function loweredProject(project, diagram, kit) {
-  const chips = chipsIn(project, diagram), lowering = new Lowering(diagram, new Map([...chips].map(([name, chip]) => [name, pinsOf(project, chip)])), kit.types), text = lowering.outcome();
+  const chips = chipsIn(project, diagram), lowering = new Lowering(diagram, new Map([...chips].map(([name, chip]) => [name, pinsOf(project, chip)])), kit.types);
+  for (const part of lowering.parts) {
+    const name = part.get('type').slice('chip-'.length), own = lowering.ownChips.get(name), module = !part.get('type').startsWith('chip-') ? null : own ? kit.chips[`${own}.wasm`] : project.files.get(chips.get(name).module);
+    if (module) part.set('attrs', handedOver(part.get('attrs'), module));
+  }
+  const text = lowering.outcome();
   if (lowering.faults.length && !isOfEditor(diagram, kit.types) && !hasOtherFirmware(project)) return null;
   if (!lowering.isBoard) throw new ProjectFault(lowering.faults.join('\n'));
   const path = firmwarePath(project), files = new Map(), stems = [];

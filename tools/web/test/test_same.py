@@ -323,6 +323,59 @@ class Same(unittest.TestCase):
                 self.assertEqual(found, made)
         self.assertLessEqual(len(as_they_are), 5, as_they_are)
 
+    def test_attributes_in_thousandths_are_handed_over_to_chips_that_ask_for_them(self) -> None:
+        values = [
+            "23.5",
+            "2",
+            "-0.0005",
+            "0.0015",
+            "0.0025",
+            "1e3",
+            " +.5 ",
+            "2147483.647",
+            "2147483.648",
+            "1e999",
+            "4294967296",
+            "-",
+            "0x10",
+            "5.",
+            "\u0663.5",
+            2.5,
+            7,
+            True,
+        ]
+        part = {"type": "chip-own", "id": "it", "attrs": {f"a{n}": value for n, value in enumerate(values)}}
+        given, expected = [], []
+        with tempfile.TemporaryDirectory() as box:
+            for name, image in (("asks", b"\0asm a0.thousandths\0"), ("asks not", b"\0asm a0.thousandth\0")):
+                folder, out = os.path.join(box, name), os.path.join(box, "made", name)
+                os.mkdir(folder)
+                texts = {
+                    "diagram.json": json.dumps(
+                        {
+                            "version": 1,
+                            "parts": [
+                                {"type": "wokwi-arduino-uno", "id": "uno"},
+                                part,
+                                {"type": "wokwi-servo", "id": "s"},
+                            ],
+                            "connections": [],
+                        }
+                    ),
+                    "own.chip.json": '{"pins": ["A"]}',
+                    "a.hex": ":00000001FF\n",
+                }
+                for file, data in [*((file, text.encode()) for file, text in texts.items()), ("own.chip.wasm", image)]:
+                    with open(os.path.join(folder, file), "wb") as out_file:
+                        out_file.write(data)
+                self.assertEqual(lower.lower(folder, out), [])
+                expected.append(packed(out))
+                given.append(packed(folder))
+        for made, found in zip(expected, in_page(folders=given)["folders"]):
+            self.assertEqual(found["files"], made)
+        self.assertIn(b'"a0.thousandths": "23500"', base64.b64decode(expected[0]["diagram.json"]))
+        self.assertNotIn(b".thousandths", base64.b64decode(expected[1]["diagram.json"]))
+
     def test_every_type_alone_with_its_pins_on_wires(self) -> None:
         made, names, random_ = [], [], Diagrams(0)
         for kind in random_.kinds + list(TYPES["breadboards"]):
