@@ -161,7 +161,7 @@ class Lowering {
 
   keepChip(part, attrs) {
     const name = part.get('id'), chip = part.get('type').slice('chip-'.length);
-    if (!this.chipPins.has(chip)) { this.faults.push(`${name} (${part.get('type')}): the folder has no chip ${chip}`); return; }
+    if (!this.chipPins.has(chip)) { this.faults.push(`${name} (${part.get('type')}): the folder has no chip ${chip}: neither ${chip}.chip.wasm nor ${chip}.chip.c`); return; }
     const pins = this.chipPins.get(chip), kept = this.newId(name, name);
     this.pins.set(name, new Set(pins));
     for (const pin of pins) this.ends.set(nodeOf(name, pin), [`${kept}:${pin}`]);
@@ -226,7 +226,11 @@ class Lowering {
       return null;                      // of a part that is a fault itself nothing more is said
     }
     const pins = this.pins.get(name);
-    if (pins !== null && !pins.has(pin)) { this.faults.push(`connection ${place}: ${name} has no pin ${pin}`); return null; }
+    if (pins !== null && !pins.has(pin)) {
+      const its = [...pins].sort((a, b) => a.length - b.length || (a < b ? -1 : 1)).join(', ');
+      this.faults.push(`connection ${place}: ${name} has no pin ${pin}${pins.size > 0 && pins.size <= 16 ? `; it has ${its}` : ''}`);
+      return null;
+    }
     return { name, node: nodeOf(name, pin) };
   }
 
@@ -299,7 +303,8 @@ class Lowering {
     const kinds = this.parts.map(part => part.get('type')), unos = kinds.filter(kind => kind === 'wokwi-arduino-uno').length;
     if (unos !== 1) this.refuseBoard(unos ? 'there is more than one Arduino Uno' : 'there is no Arduino Uno');
     for (const [count, most, what] of [[kinds.length, MOST_PARTS, 'parts'], [this.wires.length, MOST_WIRES, 'connections'], [kinds.filter(kind => kind.startsWith('chip-')).length, MOST_CHIPS, 'parts that are chips']]) {
-      if (count > most) this.refuseBoard(`there are ${count} ${what}, and ${most} is the most`);
+      const ours = what === 'parts that are chips' ? this.parts.filter(part => this.ownChips.has(part.get('type').slice('chip-'.length))).map(part => part.get('id')).join(', ') : '';
+      if (count > most) this.refuseBoard(`there are ${count} ${what}, and ${most} is the most${ours && `; chips in place of Wokwi's parts are ${ours}`}`);
     }
     const drawn = this.scenery.length ? this.drawing() : this.diagram.get('drawn');
     return diagramText(this.diagram.has('author') ? this.diagram.get('author') : '', this.parts, this.wires, isThere(drawn) ? drawn : null);
