@@ -426,7 +426,7 @@ def level_text(value, step):
     return text
 
 
-RANGES = {"wokwi-pushbutton": 1, "wokwi-slide-switch": 1, "wokwi-dip-switch-8": 255, "wokwi-potentiometer": 1023, "wokwi-membrane-keypad": 65535}
+RANGES = {"wokwi-pushbutton": 1, "wokwi-slide-switch": 1, "wokwi-dip-switch-8": 255, "wokwi-potentiometer": 1023, "wokwi-membrane-keypad": 65535, "board-source": 2}
 
 
 def bit_of(kind, control):

@@ -70,6 +70,7 @@ static const struct { const char *type, *pins; } kinds[] = {
     {"wokwi-74hc595", "DS SHCP STCP MR OE Q0 Q1 Q2 Q3 Q4 Q5 Q6 Q7 Q7S GND VCC"},
     {"wokwi-7segment", "A B C D E F G DP COM COM.1 COM.2"}, {"wokwi-lcd1602", "VSS VDD V0 RS RW E D0 D1 D2 D3 D4 D5 D6 D7 A K"},
     {"wokwi-lcd1602 by I2C", "GND VCC SDA SCL"}, {"board-ssd1306", "GND VCC SCL SDA"}, {"wokwi-membrane-keypad", "R1 R2 R3 R4 C1 C2 C3 C4"},
+    {"board-source", "OUT"},
 };
 static int pin(struct part *p, const char *name) {
     for (int i = 0; i < p->count; i++) if (!strcmp(p->pins[i], name)) return p->first + i;
@@ -85,7 +86,7 @@ static int is(struct part *p, const char *type) { return !strcmp(p->type + strle
 static void put_part(void) {
     struct part *p = &parts[part_count++];
     char key[80], value[80];
-    p->bus_address = -1;
+    p->bus_address = p->value = -1;
     for (blanks(), text++, blanks(); *text != '}'; blanks()) {
         quoted(key, sizeof key);
         if (!strcmp(key, "type")) quoted(p->type, sizeof p->type);
@@ -103,7 +104,7 @@ static void put_part(void) {
     }
     text++;
     p->first = pin_count;
-    if (is(p, "resistor")) p->value = 0;
+    if (p->value < 0 || is(p, "resistor")) p->value = is(p, "source") ? 2 : 0;
     if (is(p, "lcd1602") && p->by_bus) strcat(p->type, " by I2C");
     if (p->bus_address < 0) p->bus_address = is(p, "ssd1306") ? 0x3C : 0x27;
     for (unsigned k = 0; k < sizeof kinds / sizeof *kinds; k++) {
@@ -355,6 +356,7 @@ static void show(struct part *p, int off) {
 static void begin(struct part *p) {
     if (is(p, "vcc")) set(p, "VCC", STRONG, 1);
     if (is(p, "gnd")) set(p, "GND", STRONG, 0);
+    if (is(p, "source")) set(p, "OUT", p->value == 2 ? NO : STRONG, p->value == 1);
     if (is(p, "potentiometer")) set(p, "SIG", WEAK, p->value >= 512);
     if (!strncmp(p->type, "wokwi-gate-", 11)) set(p, "OUT", STRONG, 1);
     if (is(p, "74hc595")) show(p, 0);
@@ -367,6 +369,7 @@ static void begin(struct part *p) {
     }
 }
 static void act(struct part *p) {
+    if (is(p, "source")) set(p, "OUT", p->value == 2 ? NO : STRONG, p->value == 1);
     if (is(p, "potentiometer")) set(p, "SIG", WEAK, p->value >= 512); /* alone on its net it reads as high from 512 on */
     if (is(p, "gate-not")) set(p, "OUT", STRONG, !one(p, "IN"));
     if (is(p, "gate-buffer")) set(p, "OUT", STRONG, one(p, "IN"));
@@ -535,7 +538,7 @@ int main(int count, char **words) {
         if (firmware) uno_cycle(uno);
         for (; next_script < script_count && given[next_script].at == t; next_script++) {
             given[next_script].part->value = given[next_script].value;
-            if (is(given[next_script].part, "potentiometer")) act(given[next_script].part);
+            if (is(given[next_script].part, "potentiometer") || is(given[next_script].part, "source")) act(given[next_script].part);
             busy = 1;
         }
     }
@@ -548,7 +551,7 @@ int main(int count, char **words) {
             struct part *p = &parts[i];
             if (p == uno && firmware) fprintf(f, "uno %s ", p->id), uno_ends(f);
             if (is(p, "led")) fprintf(f, "led %s %s lit %d\n", p->id, p->lit ? "on" : "off", p->rises);
-            if (is(p, "pushbutton") || strstr(p->type, "-switch") || is(p, "potentiometer") || is(p, "membrane-keypad")) fprintf(f, "input %s %d\n", p->id, p->value);
+            if (is(p, "pushbutton") || strstr(p->type, "-switch") || is(p, "potentiometer") || is(p, "membrane-keypad") || is(p, "source")) fprintf(f, "input %s %d\n", p->id, p->value);
             if (is(p, "74hc595")) fprintf(f, "shift %s %02X %02X\n", p->id, p->stages, p->storage);
             if (is(p, "7segment")) fprintf(f, "seg %s %02X\n", p->id, p->lit);
             if (is(p, "ssd1306")) fprintf(f, "oled %s %s\n", p->id, p->on ? "on" : "off");

@@ -374,11 +374,11 @@ OTHERS = {
     "wokwi-pushbutton": ["1.l", "1.r", "2.l", "2.r"], "wokwi-slide-switch": ["1", "2", "3"],
     "wokwi-dip-switch-8": [str(k) + side for side in "ab" for k in range(1, 9)], "wokwi-potentiometer": ["GND", "SIG", "VCC"],
     "wokwi-gate-not": ["IN", "OUT"], "wokwi-gate-buffer": ["IN", "OUT"], "wokwi-gate-and-2": ["A", "B", "OUT"],
-    "wokwi-gate-xor-2": ["A", "B", "OUT"], "wokwi-gate-nand-2": ["A", "B", "OUT"],
+    "wokwi-gate-xor-2": ["A", "B", "OUT"], "wokwi-gate-nand-2": ["A", "B", "OUT"], "board-source": ["OUT"],
 }
 KEYPAD = ["R1", "R2", "R3", "R4", "C1", "C2", "C3", "C4"]
 GREATEST = {"wokwi-membrane-keypad": 65535, "wokwi-pushbutton": 1, "wokwi-slide-switch": 1, "wokwi-dip-switch-8": 255,
-            "wokwi-potentiometer": 1023}
+            "wokwi-potentiometer": 1023, "board-source": 2}
 
 
 class Board:

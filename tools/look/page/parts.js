@@ -111,6 +111,7 @@ const ohmText = ohms => ohms >= 1e6 ? `${ohms / 1e6} MΩ` : ohms >= 1e3 ? `${ohm
 
 // ---- The table
 
+const SOURCE_LEVELS = ['L', 'H', 'Z'];      // as `set` has them: low, high, open
 const PARTS = {
   'wokwi-arduino-uno': {
     size: [274.3, 201.6],
@@ -209,6 +210,17 @@ const PARTS = {
       };
     },
     tell: (part, run, moment) => `${inputAt(run, part.id, moment.t)} of 1023`,
+  },
+
+  'board-source': {
+    size: [44, 26],
+    pins: { OUT: [44, 13] },
+    draw(g, part, run) {
+      const mark = label(17, 17.5, '', { ...middle, 'font-size': 11, fill: '#ffffff' });
+      g.append(path('M34 13H44', { class: 'lead' }), rect(0, 0, 34, 26, { rx: 3, fill: '#3d4650', stroke: '#22282e' }), mark);
+      return moment => { mark.textContent = SOURCE_LEVELS[inputAt(run, part.id, moment.t)] || ''; };
+    },
+    tell: (part, run, moment) => ['low', 'high', 'open'][inputAt(run, part.id, moment.t)] || '',
   },
 
   'wokwi-resistor': {

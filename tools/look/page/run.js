@@ -4,7 +4,8 @@
 const CYCLES_A_MICROSECOND = 16;
 const ALWAYS_LOW = makeWave([0], [0]), ALWAYS_HIGH = makeWave([0], [1]);
 const UNO_SUPPLY = /^(5V|3\.3V|VIN|IOREF|AREF)$/, UNO_GROUND = /^GND\.[123]$/;
-const SET_BY_HAND = new Set(['wokwi-pushbutton', 'wokwi-slide-switch', 'wokwi-dip-switch-8', 'wokwi-potentiometer', 'wokwi-membrane-keypad']);
+const SET_BY_HAND = new Set(['wokwi-pushbutton', 'wokwi-slide-switch', 'wokwi-dip-switch-8', 'wokwi-potentiometer', 'wokwi-membrane-keypad', 'board-source']);
+const STARTS = { 'wokwi-slide-switch': 0, 'wokwi-potentiometer': 0, 'board-source': 2 };      // by the attribute `value`, else by this
 
 // From what the program takes and writes: texts, and bytes as Uint8Array.
 // chips: {'chip-NAME': [pin, ..]}, the pins of each custom chip.
@@ -94,8 +95,8 @@ function inputsOf(parts, script) {
   const inputs = Object.create(null);
   for (const part of parts) {
     if (!SET_BY_HAND.has(part.type)) continue;
-    const starts = part.type === 'wokwi-slide-switch' || part.type === 'wokwi-potentiometer';
-    inputs[part.id] = [[0, starts ? Number(part.attrs.value) || 0 : 0]];
+    const usual = STARTS[part.type];
+    inputs[part.id] = [[0, usual === undefined ? 0 : Number(part.attrs.value ?? usual) || 0]];
   }
   for (const line of script.split('\n')) {
     const [time, action, id, value] = line.trim().split(/ +/);

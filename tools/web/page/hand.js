@@ -8,6 +8,7 @@
 const TAP = 1920000;                // 120 ms in cycles: how long a finger's tap presses
 const HANDS = {
   'wokwi-pushbutton': buttonHand, 'wokwi-slide-switch': switchHand, 'wokwi-dip-switch-8': dipHand, 'wokwi-potentiometer': wiperHand,
+  'board-source': sourceHand,
 };
 
 function makeHand({ onLine, onTap }) {
@@ -50,6 +51,12 @@ function dipHand({ id }, { onLine }) {
   let value = 0;
   const boxes = Array.from({ length: 8 }, (_, k) => make('input', { type: 'checkbox', 'aria-label': `${id} switch ${k + 1}`, title: `switch ${k + 1}`, onchange: () => onLine('set', id, value ^ (1 << k)) }));
   return { elements: boxes, update(now) { value = now; boxes.forEach((box, k) => { box.checked = (now >> k & 1) === 1; }); }, use() { boxes[0].focus(); } };
+}
+
+function sourceHand({ id }, { onLine }) {
+  const chosen = make('select', { 'aria-label': id, onchange: () => onLine('set', id, Number(chosen.value)) },
+    ...['low', 'high', 'open'].map((text, value) => make('option', { value: String(value) }, text)));
+  return { elements: [chosen], update(now) { chosen.value = String(now); }, use() { chosen.focus(); } };
 }
 
 function wiperHand({ id }, { onLine }) {
