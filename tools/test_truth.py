@@ -335,6 +335,7 @@ class Wiring(unittest.TestCase):
             self.reasons(["b wokwi-pushbutton"], ["uno:2 b:1.r", "b:2.l uno:5V"], {"uno.2": (0, 99)}), ["short"]
         )
         self.assertEqual(self.reasons([], ["uno:2 uno:3"], {"uno.2": (0, 99), "uno.3": (0, 99)}), ["short"])
+        self.assertEqual(self.reasons(["s board-source"], ["uno:2 s:OUT"], {"uno.2": (0, 99)}), ["short"])
 
     def test_a_divider_and_a_pull_up_against_a_resistor(self):
         parts, wires = ["r1 wokwi-resistor", "r2 wokwi-resistor"], [

@@ -127,18 +127,19 @@ def seen_of(given):
     formats, times = ways[0] if ways else ([], None)
     return Seen(given.title or given.name, given.us * CYCLES_A_MICROSECOND, start, max(end, start + 1), diagram, chips, script,
                 waves, sent, times, formats, [way.formats[0] for way in ways[1:]], report, shown_times(waves.waves, report, given.us, runs),
-                first_times(report, given.us, runs), left, given.note, told_of(given, report, waves))
+                first_times(report, given.us, runs), left, given.note, told_of(given, report, waves, end))
 
 
-def told_of(given, report, waves):
-    """[part, sentence] of what was not as it was meant and has no line of its own in the report; with its lines it is said."""
+def told_of(given, report, waves, end):
+    """[part, sentence] of what was not as it was meant and has no line of its own in the report; with its lines it is said. The
+    waves are held up to the cycle `end`."""
     import truth  # what it reads needs Python 3.11
 
     found = {}
     for name in truth.wiring.watched(given.folder):
         at = waves.waves[waves.of[waves.names.index(name)]] if name in waves.names else array("Q")
         if any(it & 3 == 3 for it in set(at.tobytes()[0 if sys.byteorder == "little" else at.itemsize - 1 :: at.itemsize])):
-            times = [(it >> 2, after >> 2) for it, after in zip(at, [*at[1:], waves.end << 2]) if it & 3 == 3]
+            times = [(it >> 2, after >> 2) for it, after in zip(at, [*at[1:], end << 2]) if it & 3 == 3]
             found[name] = times[0][0], sum(end - begin for begin, end in times)
     of_report = truth.of_report(report)
     others = [it for it in of_report if not it.line] + truth.of_project(given.folder) + truth.of_wiring(given.folder, found, given.sketch)
@@ -192,6 +193,7 @@ def show(given, folder):
     picture = given.svg is not None or given.svg_board is not None
     try:
         named, given.folder = given.folder, folder
+        given.sketch = given.sketch or (named if os.path.isdir(named) else None)
         seen = seen_of(given)
         text = pictured(given, seen) if picture else page_of(seen)
     except Refused as refused:

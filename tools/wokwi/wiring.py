@@ -86,11 +86,9 @@ class Plan:
         kind, pin = self.kind(end), end.split(":", 1)[1]
         if kind == "wokwi-arduino-uno":
             return not self.supply(end) and pin != "RESET"
-        return (
-            kind.startswith("chip-")
-            or kind.startswith(("wokwi-gate-", "wokwi-74hc595"))
-            and bool(OUTPUTS.fullmatch(pin))
-        )
+        if kind.startswith(("wokwi-gate-", "wokwi-74hc595")):
+            return bool(OUTPUTS.fullmatch(pin))
+        return kind == "board-source" or kind.startswith("chip-")
 
     def supplies(self, end: str, nets: Optional[Joined] = None) -> set:
         return {self.supply(it) for it in self.net(end, nets)} - {""}
