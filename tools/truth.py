@@ -91,12 +91,12 @@ def of_wiring(project: str, contradictions: dict, sketch: Optional[str] = None) 
 
 
 def findings(project: str, report: str, wave_file: Optional[str] = None, sketch: Optional[str] = None) -> list:
-    """All findings of a run: of its report, of its project, and of its wiring where its wave is there."""
-    found = of_report(report) + of_project(project)
-    if not wave_file:
-        return found
-    with open(wave_file, "rb") as wave:
-        return found + of_wiring(project, wiring.contradictions(wave, wiring.watched(project)), sketch)
+    """All findings of a run: of its report, of its project, and of its wiring, also by its wave where that is there."""
+    found, contradictions = of_report(report) + of_project(project), {}
+    if wave_file:
+        with open(wave_file, "rb") as wave:
+            contradictions = wiring.contradictions(wave, wiring.watched(project))
+    return found + of_wiring(project, contradictions, sketch)
 
 
 def texts(found: Iterable[Finding], hex_file: Optional[str] = None) -> list:

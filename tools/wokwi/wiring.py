@@ -5,6 +5,7 @@ Each fault is one sentence. They are warnings: a plan does not tell what a hand 
 import json
 import os
 import re
+import threading
 from typing import BinaryIO, Iterator, Optional
 
 import sketch as sketches
@@ -157,6 +158,26 @@ def contradictions(wave: BinaryIO, names: list) -> dict:
     for code in list(since):
         end(code, at)
     return found
+
+
+def piped(project: str, run) -> tuple:
+    """(what `run` answers, the contradictions of the wave that it writes): it is handed the name of a pipe and its descriptor, so
+    that no wave takes room."""
+    names, found = watched(project), {}
+    reads, writes = os.pipe()
+
+    def read():
+        with os.fdopen(reads, "rb") as wave:
+            found.update(contradictions(wave, names))
+
+    reader = threading.Thread(target=read)
+    reader.start()
+    try:
+        answer = run(f"/dev/fd/{writes}", writes)
+    finally:
+        os.close(writes)
+        reader.join()
+    return answer, found
 
 
 # ---- the sketch
