@@ -5,7 +5,7 @@ here=$(cd "$(dirname "$0")" && pwd)
 PROGRAM=$(realpath "${PROGRAM:-$here/../../target/mudflatjar}")
 export PROGRAM
 bad=0
-for test in test_run test_scripts test_browser; do
+for test in test_run test_scripts test_played test_browser; do
     python3 -B "$here/$test.py" || bad=1
 done
 exit $bad

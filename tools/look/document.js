@@ -22,3 +22,19 @@ class PlainElement {
 }
 globalThis.document = { createElementNS: (names, tag) => new PlainElement(tag) };
 globalThis.XMLSerializer = class { serializeToString(element) { return element.text; } };
+
+// A worker, as a page makes one of a text, for node.
+const threads = require('node:worker_threads'), { resolveObjectURL } = require('node:buffer');
+const ABOUT_IT = "const { parentPort } = require('node:worker_threads'); globalThis.onmessage = null; globalThis.postMessage = data => parentPort.postMessage(data); parentPort.on('message', data => globalThis.onmessage({ data }));\n";
+globalThis.Worker = class {
+  constructor(url) {
+    this.worker = resolveObjectURL(url).text().then(text => {
+      const worker = new threads.Worker(ABOUT_IT + text, { eval: true });
+      worker.on('message', data => { if (this.onmessage) this.onmessage({ data }); });
+      worker.on('error', error => { if (this.onerror) this.onerror({ message: error.message }); });
+      return worker;
+    });
+  }
+  postMessage(data) { this.worker.then(worker => worker.postMessage(data)); }
+  terminate() { this.onmessage = this.onerror = null; this.worker.then(worker => worker.terminate()); }
+};

@@ -67,5 +67,5 @@ def in_browser(script, call, data):
 def board_svg(seen, cycle):
     """The board at a cycle, as an SVG picture."""
     given = {"data": data_of(seen), "packed": packed(seen.waves.waves), "css": style_of(STYLES), "t": cycle}
-    return evaluated("{ const run = await runOfPage(given.data, given.packed), board = drawBoard(run); board.update({ t: given.t, since: Math.max(run.from, given.t - EYE) });"
+    return evaluated("{ const run = await runOfPage(given.data, given.packed), board = drawBoard(run); await playChips(run); board.update({ t: given.t, since: Math.max(run.from, given.t - EYE) });"
                      " return boardPicture(board, given.css); }", given) + "\n"

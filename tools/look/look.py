@@ -25,9 +25,9 @@ from page import page_of
 from picture import waves_svg
 from prepared import NoProject, project_of, script_of
 from program import Refused, ShorterRuns, run
-from project import chips_of, diagram_of, displays_of, uno_of
+from project import chips_of, diagram_of, displays_of, modules_of, played_in, uno_of
 from serial_times import decided, readings
-from shorter import first_times, shown_times
+from shorter import first_times
 from wave import Waves, moved_names, read_wave
 
 TOOLS = os.path.join(os.path.dirname(os.path.abspath(__file__)), "..")
@@ -49,6 +49,7 @@ class Seen(NamedTuple):
     end: int
     diagram: dict
     chips: dict
+    modules: dict
     script: str
     waves: Waves
     sent: bytes
@@ -56,7 +57,6 @@ class Seen(NamedTuple):
     formats: list
     others: list
     report: str
-    states: list
     firsts: dict
     left: str
     made: list
@@ -125,8 +125,8 @@ def seen_of(given):
     runs = ShorterRuns(given.folder, given.script, given.samples, given.budget)
     ways = decided(readings(transmit, sent, None if end == given.us * CYCLES_A_MICROSECOND else end), runs.sent)
     formats, times = ways[0] if ways else ([], None)
-    return Seen(given.title or given.name, given.us * CYCLES_A_MICROSECOND, start, max(end, start + 1), diagram, chips, script,
-                waves, sent, times, formats, [way.formats[0] for way in ways[1:]], report, shown_times(waves.waves, report, given.us, runs),
+    return Seen(given.title or given.name, given.us * CYCLES_A_MICROSECOND, start, max(end, start + 1), diagram, chips,
+                modules_of(given.folder, diagram), script, waves, sent, times, formats, [way.formats[0] for way in ways[1:]], report,
                 first_times(report, given.us, runs), left, given.note, told_of(given, report, waves, end))
 
 
@@ -152,11 +152,12 @@ def told_of(given, report, waves, end):
 @functools.cache
 def kept_parts(folder):
     diagram = diagram_of(folder)
-    return displays_of(diagram), uno_of(diagram) + ".1"
+    return displays_of(diagram) | played_in(diagram, modules_of(folder, diagram)), uno_of(diagram) + ".1"
 
 
 def keep_whole(folder, name):
-    """Whether a variable is kept from the start of the run on: displays and the bytes that are sent rest on their whole wave."""
+    """Whether a variable is kept from the start of the run on: displays, chips that are played and the bytes that are sent rest on
+    their whole wave."""
     displays, transmit = kept_parts(folder)
     return name == transmit or name.split(".")[0] in displays
 

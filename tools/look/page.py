@@ -13,8 +13,9 @@ from wave import moved_names
 
 HERE = os.path.join(os.path.dirname(os.path.abspath(__file__)), "page")
 # In this order, since each uses those before it. README.md says what is in which.
-SCRIPTS = ["wave.js", "vcd.js", "bus.js", "notes.js", "run.js", "display.js", "text.js", "svg.js", "parts.js", "route.js", "breadboard.js", "board.js",
+SCRIPTS = ["wave.js", "vcd.js", "bus.js", "notes.js", "run.js", "playing.js", "display.js", "text.js", "svg.js", "parts.js", "route.js", "breadboard.js", "board.js",
            "rows.js", "plot.js", "waves.js", "frame.js", "controls.js", "look.js"]
+PLAYER = "played.js"    # of the worker in which chips are played
 STYLES = ["board.css", "look.css"]
 STILL_ROWS = 24
 
@@ -25,8 +26,8 @@ def text_of(name):
 
 
 def script_of(names):
-    """Scripts one after another, as one, after the tables of the documents that they speak of."""
-    tables = f"const REGISTERS = {json_text(registers())};\nconst HALTS = {json_text(halts())};\nconst OMISSIONS = {json_text(omissions())};\nconst TRAPS = {json_text(traps())};\n"
+    """Scripts one after another, as one, after the tables of the documents that they speak of and the worker's text."""
+    tables = f"const REGISTERS = {json_text(registers())};\nconst HALTS = {json_text(halts())};\nconst OMISSIONS = {json_text(omissions())};\nconst TRAPS = {json_text(traps())};\nconst PLAYER = {json_text(text_of(PLAYER))};\n"
     return "'use strict';\n" + tables + "".join(text_of(name).replace("'use strict';\n", "", 1) for name in names)
 
 
@@ -38,8 +39,12 @@ def digest(text):
     return "'sha256-" + base64.b64encode(hashlib.sha256(text.encode()).digest()).decode() + "'"
 
 
-def policy_of(script, style):
-    return (f"default-src 'none'; script-src {digest(script)}; style-src {digest(style)}; base-uri 'none'; form-action 'none'")
+# What the policy of a page allows that plays chips: their modules, in a worker of its own.
+PLAYS = " 'wasm-unsafe-eval'; worker-src blob:"
+
+
+def policy_of(script, style, plays=""):
+    return (f"default-src 'none'; script-src {digest(script)}{plays}; style-src {digest(style)}; base-uri 'none'; form-action 'none'")
 
 
 def json_text(value):
@@ -55,9 +60,9 @@ def data_of(seen):
         for time in seen.times:
             steps.append(None if time is None else time - last)
             last = last if time is None else time
-    return {"title": seen.title, "cycles": seen.cycles, "from": seen.start, "to": seen.end, "diagram": seen.diagram, "chips": seen.chips,
+    return {"title": seen.title, "cycles": seen.cycles, "from": seen.start, "to": seen.end, "diagram": seen.diagram, "chips": seen.chips, "modules": seen.modules,
             "script": seen.script, "names": seen.waves.names, "of": seen.waves.of, "counts": [len(wave) for wave in seen.waves.waves],
-            "serial": base64.b64encode(seen.sent).decode(), "times": steps, "formats": seen.formats, "others": seen.others, "report": seen.report, "states": seen.states,
+            "serial": base64.b64encode(seen.sent).decode(), "times": steps, "formats": seen.formats, "others": seen.others, "report": seen.report,
             "firsts": seen.firsts, "left": seen.left, "made": seen.made, "told": seen.told}
 
 
@@ -81,6 +86,6 @@ def still_of(seen):
 
 def page_of(seen):
     style, script = "\n" + style_of(["page.css", *STYLES]), "\n" + script_of([*SCRIPTS, "page.js"])
-    values = {"POLICY": policy_of(script, style), "TITLE": html.escape(seen.title), "STYLE": style[1:], "SCRIPT": script[1:], "STILL": still_of(seen),
+    values = {"POLICY": policy_of(script, style, PLAYS if seen.modules else ""), "TITLE": html.escape(seen.title), "STYLE": style[1:], "SCRIPT": script[1:], "STILL": still_of(seen),
               "DATA": json_text(data_of(seen)), "WAVES": packed(seen.waves.waves)}
     return re.sub("@@([A-Z]+)@@", lambda match: values[match[1]], text_of("page.html"))

@@ -22,10 +22,10 @@ from picture import waves_svg
 from prepared import project_of
 from program import Refused, run
 from serial_times import FORMATS, decided, levels_of, readings
-from shorter import shown_times
 from wave import level_at, moved_names, read_wave
 
 MANY = 1 << 40
+PLAYED = ("chip-printf",)        # examples with a chip that a page plays
 
 
 def plain_reading(vcd):
@@ -116,6 +116,7 @@ def check_page(name):
     assert text == page_of(seen_of(given)), f"{name}: two pages of one run differ"
     policy = re.search(r'Content-Security-Policy" content="([^"]*)"', text)[1]
     assert policy.startswith("default-src 'none';"), policy
+    assert ("'wasm-unsafe-eval'; worker-src blob:" in policy) == (name in PLAYED) and ("wasm" in policy) == (name in PLAYED), "only a page with modules may play them"
     for tag in ("script", "style"):
         inside = re.findall(f"<{tag}>(.*?)</{tag}>", text, re.S)
         assert len(inside) == 1 and sha256(inside[0]) in policy, tag
@@ -196,28 +197,6 @@ def check_part_of_times():
         expected = [time if time < seen.end else None for time in whole]
         assert seen.times == expected and None in expected and expected[0] is not None, (words, seen.times, expected)
         assert json.loads(re.search(r'id="data">(.*?)</script>', page_of(seen), re.S)[1])["times"][0] == whole[0]
-
-
-class Printing:
-    """Runs with a chip that prints a line at each of some microseconds; `left` is how many may still be made."""
-    def __init__(self, times, left):
-        self.times, self.left = times, left
-
-    def report(self, us):
-        self.left -= 1
-        return "\n".join(f"chip c | {time}" for time in self.times if time < us)
-
-
-def check_shown():
-    """What a chip prints when its pin moves is found to two microseconds by two runs for each line; what it prints elsewhere, to a gap."""
-    us, edges = 4_000_000, [1_000_000, 2_000_000, 3_000_000]
-    wave = array("I", [0] + [edge * 16 << 2 | i & 1 for i, edge in enumerate(edges)])
-    for times, spent in ((edges, 2 * len(edges) + 2), (edges + [1_500_000], 30)):
-        runs = Printing(sorted(times), 64)
-        shown = shown_times([wave], runs.report(us), us, runs)
-        came = {time: next(cycle // 16 for cycle, lines in shown if f"chip c | {time}" in lines) for time in times}
-        assert all(0 < came[time] - time <= (2 if time in edges else us // 1000) for time in times), came
-        assert 64 - runs.left - 1 <= spent, (times, 64 - runs.left - 1)
 
 
 # ---- What a run leaves out: a firmware that writes where nothing is and then halts, and a chip that ends
@@ -347,8 +326,8 @@ class quiet:
 def everything():
     bad = 0
     jobs = [(f"look, wave of {name}", check_example, (name,)) for name in examples.names()]
-    jobs += [(f"look, page of {name}", check_page, (name,)) for name in ("button", "chip-echo", "lcd-i2c", "seven-segment")]
-    jobs += [("look, bytes at two speeds", check_two_speeds, ()), ("look, bytes in each format", check_formats, ()), ("look, bytes of a part of a run", check_part_of_times, ()), ("look, what a run leaves out", check_left_out, ()), ("look, what a chip prints", check_shown, ())]
+    jobs += [(f"look, page of {name}", check_page, (name,)) for name in ("button", "chip-echo", *PLAYED, "lcd-i2c", "seven-segment")]
+    jobs += [("look, bytes at two speeds", check_two_speeds, ()), ("look, bytes in each format", check_formats, ()), ("look, bytes of a part of a run", check_part_of_times, ()), ("look, what a run leaves out", check_left_out, ())]
     with concurrent.futures.ThreadPoolExecutor(4) as pool:
         for name, future in [(name, pool.submit(call, *values)) for name, call, values in jobs]:
             try:

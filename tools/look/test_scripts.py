@@ -475,20 +475,23 @@ SHOWING = {"parts": [{"type": "wokwi-arduino-uno", "id": "uno"}, {"type": "board
 
 
 def check_showing():
-    """Dots of an OLED, keys of a keypad, and pixels and lines of a chip, of which reports may tell, from states that were made up."""
+    """Dots of an OLED, keys of a keypad, and pixels and lines of chips, from what was made up for them."""
     vcd, us = bus_wave([[0x00, 0xAF], [0x40, 0x81, 0x81, 0x01]])
     drawn = evaluated("""{ const run = runFrom({ title: 'x', us: given[0], diagram: given[1], vcd: bytesOf(given[2]), report: '' }), board = drawBoard(run), out = [];
       for (const t of [10, 16 * given[0], 10]) { board.update({ t, since: t }); out.push(boardPicture(board, ''), board.texts({ t, since: t })); } return out; }""", [us, SHOWING, base64.b64encode(vcd).decode()])
     assert "M0 0h3v1h-3zM0 7h2v1h-2z" in drawn[2] and "M0 0h" not in drawn[0] and "M0 0h" not in drawn[4] and ["oled", "on, 5 dots lit"] in drawn[3] and ["oled", "off"] in drawn[1], drawn[3]
-    states = [[0, []], [160, ["chip c | hello", "chip c row 1 FF0000FF00000000", "chip d row 0 00FF00FF"]]]
-    text = evaluated("""{ const run = makeRun({ title: 'x', cycles: 1600, diagram: given[0], script: '1us set keys 33', chips: { 'chip-screen': ['A'] }, names: [], of: [], waves: [], states: given[1] }), board = drawBoard(run);
-      board.update({ t: 10, since: 10 }); const before = boardPicture(board, ''); board.update({ t: 200, since: 200 }); return [before, boardPicture(board, ''), board.texts({ t: 200, since: 200 })]; }""", [SHOWING, states])
+    drawing = {"id": "c", "t": [160], "at": [8], "size": [8], "data": [255, 0, 0, 255, 0, 0, 0, 0], "lines": [[160, "hello"]]}, {"id": "d", "t": [160], "at": [0], "size": [4], "data": [0, 255, 0, 255], "lines": []}
+    text = evaluated("""{ const run = makeRun({ title: 'x', cycles: 1600, diagram: given[0], script: '1us set keys 33', chips: { 'chip-screen': ['A'] }, modules: { 'chip-screen': { display: [2, 3] } }, names: [], of: [], waves: [] });
+      run.playing = new Playing(run);
+      for (const { id, lines, ...news } of given[1]) { const shown = run.playing.shown.get(id); shown.record.append({ ...news, data: Uint8Array.from(news.data) }); shown.lines.push(...lines); }
+      const board = drawBoard(run);
+      board.update({ t: 10, since: 10 }); const before = boardPicture(board, ''); board.update({ t: 200, since: 200 }); return [before, boardPicture(board, ''), board.texts({ t: 200, since: 200 })]; }""", [SHOWING, drawing])
     before, after, texts = text
     three = {"parts": [{"type": "wokwi-membrane-keypad", "id": "keys", "attrs": {"columns": "3"}}], "connections": []}
     pictures = evaluated("given.map(diagram => boardPicture(drawBoard(makeRun({ title: 'x', cycles: 9, diagram, names: [], of: [], waves: [] })), ''))", [SHOWING, three])
     assert [[f">{key}<" in picture for key in "1#D"] for picture in pictures] == [[True, True, True], [True, True, False]], "a keypad of three columns"
     ET.fromstring(before)
-    tall = evaluated("boardPicture(drawBoard(makeRun({ title: 'x', cycles: 9, diagram: given, chips: { 'chip-screen': ['A'] }, names: [], of: [], waves: [], states: [[5, ['chip c row 99 FF0000FF']]] })), '')",
+    tall = evaluated("boardPicture(drawBoard(makeRun({ title: 'x', cycles: 9, diagram: given, chips: { 'chip-screen': ['A'] }, modules: { 'chip-screen': { display: [1, 100] } }, names: [], of: [], waves: [] })), '')",
                      {"parts": [{"type": "chip-screen", "id": "c"}], "connections": []})
     top, screen = float(re.search(r'viewBox="\S+ (\S+) ', tall)[1]), float(re.search(r'<rect x="-2" y="(\S+)"', tall)[1])
     assert top <= screen < -400 and before.count('<rect x="-2"') == 2, f"a display is from {screen} on, its picture from {top} on"

@@ -103,7 +103,7 @@ def script_of():
 def template():
     """The page of one run, with the places that a run fills."""
     style, script = "\n" + look.style_of(["page.css", *look.STYLES]), "\n" + look.script_of([*look.SCRIPTS, "page.js"])
-    values = {"POLICY": look.policy_of(script, style), "STYLE": style[1:], "SCRIPT": script[1:]}
+    values = {"POLICY": look.policy_of(script, style, "@@PLAYS@@"), "STYLE": style[1:], "SCRIPT": script[1:]}
     return re.sub("@@([A-Z]+)@@", lambda match: values.get(match[1], match[0]), look.text_of("page.html"))
 
 

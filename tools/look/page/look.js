@@ -82,6 +82,7 @@ function addActions(look) {
 function showRun(look, run) {
   const { view, elements } = look, before = look.run;
   if (view.playing) setPlaying(look, false);
+  if (before && before !== run) stopChips(before);
   look.run = run;
   const isOwnChoice = before && view.chosen.join() !== movedNames(before).join();       // else a longer run shows what moves in it
   const kept = isOwnChoice ? view.chosen.filter(name => run.waveOf.has(name)) : [];
@@ -102,6 +103,14 @@ function showRun(look, run) {
   look.bar.speed.value = view.speed;
   arrange(look);
   if (look.useHash) readHash(look); else look.go(run.from);
+  playChips(run, () => showPlayed(look, run));
+}
+
+function showPlayed(look, run) {    // what its chips showed, as it comes
+  const { view } = look;
+  if (look.run !== run) return;
+  if (!view.playing) { look.board.update({ t: view.t, since: view.since, moving: view.moving }); showNow(look); }
+  showLeft(look);
 }
 
 const MANY_ROWS = 40;
@@ -121,7 +130,7 @@ function factsOf(run) {
 
 function showLeft(look) {           // what the run, or the page, left out, each with its time; what a tool said of the project: in words
   const { run, elements } = look, lines = run.left ? [make('li', {}, run.left)] : [];
-  for (const note of run.notes) {
+  for (const note of [...run.notes, ...(run.unplayed || [])]) {
     const within = note.t !== null && note.t >= run.from && note.t <= run.to;
     lines.push(make('li', {}, note.t === null ? '' : within ? button(`at ${inMicroseconds(note.t)}`, 'goes there', () => look.go(note.t)) : `at ${inMicroseconds(note.t)}`, ' ' + note.text));
   }

@@ -17,7 +17,8 @@ async function runOfPage(data, packed) {
   const waves = unpackWaves(await inflated(bytesOf(packed)), data.counts);
   let t = 0;
   const times = data.times && data.times.map(step => (step === null ? null : (t += step)));
-  return makeRun({ ...data, waves, serial: bytesOf(data.serial), times });
+  const modules = Object.fromEntries(Object.entries(data.modules).map(([type, { module, display }]) => [type, { module: bytesOf(module), display }]));
+  return makeRun({ ...data, modules, waves, serial: bytesOf(data.serial), times });
 }
 
 async function openPage() {
@@ -27,6 +28,7 @@ async function openPage() {
   document.getElementById('still').remove();
   const look = makeLook(document.getElementById('app'), { hash: true });
   look.show(run);
+  await playChips(run);
   document.documentElement.dataset.ready = '1';        // for tests
   return look;
 }

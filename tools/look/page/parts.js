@@ -369,6 +369,8 @@ const keypad = columns => ({
 PARTS['wokwi-membrane-keypad'] = keypad(4);
 const KEYPAD_OF_THREE = keypad(3);
 
+const MOST_LINES = 24;              // of what a chip has printed
+
 // ---- Custom chips, and types without an entry: a box with its pins, counted as on a chip with two rows of legs.
 
 function boxOf(part, wires) {
@@ -380,10 +382,10 @@ function boxOf(part, wires) {
   return {
     size: [width, height],
     pins,
-    beyond(drawn, run) { const display = displayOf(run, drawn.id, width); return display ? [[-2, display.top - 2]] : []; },
+    beyond(drawn, run) { const display = displayOf(run, drawn, width); return display ? [[-2, display.top - 2]] : []; },
     draw(g, drawn, run) {
-      const display = displayOf(run, drawn.id, width);
-      let pixels = null;            // what its display shows, once its lines have rows
+      const display = displayOf(run, drawn, width);
+      let pixels = null, shown = -1;            // what its display shows
       if (display) g.append(rect(-2, display.top - 2, display.width + 4, display.height + 4, { rx: 2, fill: '#0b0f14' }));
       g.append(rect(6, 1, width - 12, height - 2, { rx: 4, fill: '#34434f', stroke: '#141c22' }), path(`M6 19H${width - 6}`, { stroke: '#55677a', 'stroke-width': .8 }), label(width / 2, 14, title, { ...middle, 'font-size': 9.5, 'font-weight': 700, fill: '#ffffff' }));
       for (const [name, [x, y]] of Object.entries(pins)) {
@@ -391,48 +393,43 @@ function boxOf(part, wires) {
       }
       const cross = label(width / 2, height - 6, 'ended', { ...middle, 'font-size': 8, fill: '#ff9d9d' }), end = run.notes.find(note => note.part === drawn.id);
       if (end) g.append(cross);
-      let shown = null;
       return moment => {
         if (end) cross.setAttribute('opacity', end.t !== null && moment.t >= end.t ? 1 : 0);
-        const rows = sampledLines(run, drawn.id, moment.t).filter(line => line.split(' ')[2] === 'row'), all = rows.join();
-        if (all === (shown ?? '')) return;
-        shown = all;
+        const frame = display && frameAt(run, drawn, moment.t);
+        if (!frame || frame.key === shown) return;
+        shown = frame.key;
         if (pixels) pixels.remove();
-        pixels = pixelsOf(rows.map(line => line.split(' ').slice(3)), display);
+        pixels = pixelsOf(frame, display);
         g.append(pixels);
       };
     },
     tell(drawn, run, moment) {
       const end = run.notes.find(note => note.part === drawn.id && note.t !== null && moment.t >= note.t);
-      const lines = sampledLines(run, drawn.id, moment.t).filter(line => line.split(' ')[2] === '|').map(line => line.split(' | ')[1]);
+      const all = linesAt(run, drawn, moment.t), lines = all.length > MOST_LINES ? [`(${all.length - MOST_LINES} lines)`, ...all.slice(-MOST_LINES)] : all;
       return [end ? 'ended' : drawn.pins ? 'alive' : '', ...lines].join('\n') || null;
     },
   };
 }
 
-// Where a chip's display is drawn: above its box and its name, as wide as the box, and as high as what it shows at any time of the run.
-function displayOf(run, id, room) {
-  let wide = 0, high = 0;
-  for (const [, lines] of run.states) {
-    for (const line of lines) {
-      const [, part, kind, y, text] = line.split(' ');
-      if (part === id && kind === 'row') { wide = Math.max(wide, text.length / 8); high = Math.max(high, Number(y) + 1); }
-    }
-  }
-  const scale = Math.min(room / Math.max(wide, 1), 4);
-  return high ? { scale, width: scale * wide, height: scale * high, top: -Math.ceil(scale * high + 18) } : null;
+// Where a chip's display is drawn: above its box and its name, as wide as the box.
+function displayOf(run, part, room) {
+  const { display } = (run.modules || {})[part.type] || {};
+  if (!display) return null;
+  const [wide, high] = display, scale = Math.min(room / wide, 4);
+  return { scale, width: scale * wide, height: scale * high, top: -Math.ceil(scale * high + 18) };
 }
 
-// Rows of a chip's display, [[y, text of RGBA bytes], ..]; one path for each colour.
-function pixelsOf(rows, { scale, top }) {
-  const paths = new Map(), g = svg('g', { transform: `translate(0 ${top}) scale(${scale})` });
-  for (const [y, text] of rows) {
-    for (let x = 0; x < text.length / 8; x++) {
-      const color = text.slice(8 * x, 8 * x + 8);
-      if (parseInt(color.slice(6), 16)) paths.set(color, (paths.get(color) || '') + `M${x} ${y}h1v1h-1z`);
+// The pixels of a chip's display: one path for each colour, a stretch of one colour at once.
+function pixelsOf({ width, height, pixels }, { scale, top }) {
+  const paths = new Map(), g = svg('g', { transform: `translate(0 ${top}) scale(${scale})` }), words = new DataView(pixels.buffer, pixels.byteOffset, pixels.length);
+  for (let y = 0; y < height; y++) {
+    for (let x = 0, to; x < width; x = to) {
+      const color = words.getUint32(4 * (y * width + x));
+      for (to = x + 1; to < width && words.getUint32(4 * (y * width + to)) === color;) to++;
+      if (color & 255) paths.set(color, (paths.get(color) || '') + `M${x} ${y}h${to - x}v1h${x - to}z`);
     }
   }
-  for (const [color, d] of paths) g.append(path(d, { fill: '#' + color.slice(0, 6).toLowerCase(), 'fill-opacity': parseInt(color.slice(6), 16) / 255 }));
+  for (const [color, d] of paths) g.append(path(d, { fill: '#' + (color >>> 8).toString(16).padStart(6, '0'), 'fill-opacity': (color & 255) / 255 }));
   return g;
 }
 

@@ -8,22 +8,23 @@ const SET_BY_HAND = new Set(['wokwi-pushbutton', 'wokwi-slide-switch', 'wokwi-di
 const STARTS = { 'wokwi-slide-switch': 0, 'wokwi-potentiometer': 0, 'board-source': 2 };      // by the attribute `value`, else by this
 
 // From what the program takes and writes: texts, and bytes as Uint8Array.
-// chips: {'chip-NAME': [pin, ..]}, the pins of each custom chip.
-function runFrom({ title, us, diagram, chips, script, vcd, serial, report, program }) {
+// chips: {'chip-NAME': [pin, ..]}, the pins of each custom chip. modules: {'chip-NAME': {module: bytes, display: [width, height] or null}}, of
+// those that print or draw.
+function runFrom({ title, us, diagram, chips, modules, script, vcd, serial, report, program }) {
   const wave = readVcd(vcd);
-  const run = makeRun({ title, cycles: us * CYCLES_A_MICROSECOND, diagram, chips, script, names: wave.names, of: wave.of, waves: wave.waves, serial, report, program });
+  const run = makeRun({ title, cycles: us * CYCLES_A_MICROSECOND, diagram, chips, modules, script, names: wave.names, of: wave.of, waves: wave.waves, serial, report, program });
   const uno = run.parts.find(part => part.type === 'wokwi-arduino-uno');
   run.serial = serialOf(run.serial.bytes, uno && run.wave(uno.id + '.1') ? sentReadings(run.wave(uno.id + '.1'), run.serial.bytes) : []);
   return run;
 }
 
 // From waves that are read already.
-function makeRun({ title, cycles, from = 0, to = cycles, diagram, chips = {}, script = '', names, of, waves, serial, times = null, formats = [], others = [],
-  report = '', states = [], firsts = {}, left = '', made = [], told = [], program = '' }) {
+function makeRun({ title, cycles, from = 0, to = cycles, diagram, chips = {}, modules = {}, script = '', names, of, waves, serial, times = null, formats = [], others = [],
+  report = '', firsts = {}, left = '', made = [], told = [], program = '' }) {
   const drawing = typeof diagram === 'string' ? JSON.parse(diagram) : diagram;
   const parts = (drawing.parts || []).map(part => partOf(part, chips)), wires = wiresOf(drawing), { scenery, drawn } = drawnOf(drawing, wires);
   const run = {
-    title, cycles, from, to, names, waves, report, states, program, left, made,
+    title, cycles, from, to, names, waves, report, modules, program, left, made,
     parts, scenery, wires: drawn || wires,
     waveOf: new Map(names.map((name, i) => [name, of[i]])),
     inputs: inputsOf(parts, script),
@@ -113,12 +114,6 @@ function lastBefore(list, t) {      // the last entry of [[cycle, ..], ..] at or
   return low - 1;
 }
 const inputAt = (run, id, t) => { const list = run.inputs[id] || []; return list.length ? list[Math.max(lastBefore(list, t), 0)][1] : 0; };
-
-// Lines of shorter runs' reports about a part, from the last of them that ended at or before cycle t.
-function sampledLines(run, id, t) {
-  const i = lastBefore(run.states, t);
-  return i < 0 ? [] : run.states[i][1].filter(line => line.split(' ')[1] === id);
-}
 
 // How much of the time from `start` to t a light was on that needs `anode` high and `cathode` low: 0 to 1.
 function lightShare(run, anode, cathode, start, t) {

@@ -1,7 +1,7 @@
 'use strict';
 // Folders as one text or one file: ZIP archives, and links that hold a project.
 
-const utf8 = new TextEncoder(), plainText = new TextDecoder();
+const utf8 = new TextEncoder(), plainText = new TextDecoder(), latin1 = new TextDecoder('latin1');
 
 async function through(bytes, stream) { return new Uint8Array(await new Response(new Blob([bytes]).stream().pipeThrough(stream)).arrayBuffer()); }
 const inflate = (bytes, format) => through(bytes, new DecompressionStream(format));

@@ -68,13 +68,30 @@ function chipTables(project) {
   }).filter(({ name, binary }) => name && binary);
 }
 
-// The chips' pins, as a look at a run wants them: {'chip-NAME': [pin, ..]}. The simulator has accepted these files.
-function chipsOf(project) {
+// The chips, as a look at a run needs them, by 'chip-NAME': {pins, display, module}. The simulator has accepted these files.
+function allChips(project) {
   const chips = {};
   for (const { name, binary } of chipTables(project)) {
-    try { chips['chip-' + name] = JSON.parse(textOf(project, binary.replace(/\.wasm$/, '.json'))).pins; } catch { /* drawn without its pins' places */ }
+    try {
+      const { pins, display } = JSON.parse(textOf(project, binary.replace(/\.wasm$/, '.json')));
+      chips['chip-' + name] = { pins, display: display ? [display.width, display.height] : null, module: project.files.get(binary) };
+    } catch { /* drawn without its pins' places */ }
   }
   return chips;
+}
+const chipsOf = project => Object.fromEntries(Object.entries(allChips(project)).map(([type, { pins }]) => [type, pins]));
+
+// Those that can print or draw, since their modules import what does: {'chip-NAME': {module, display}}. A page plays them.
+const SHOWING = ['fd_write', 'framebufferInit'];
+function modulesOf(project) {
+  const used = new Set(), modules = {};
+  try { for (const part of JSON.parse(textOf(project, 'diagram.json').replace(/^\uFEFF/, '')).parts) used.add(part.type); } catch { return modules; }
+  for (const [type, { module, display }] of Object.entries(allChips(project))) {
+    if (!used.has(type) || !module) continue;
+    const text = latin1.decode(module);
+    if (SHOWING.some(call => text.includes(call))) modules[type] = { module, display };
+  }
+  return modules;
 }
 
 // The words of a run, and the files under the names that these words ask for.

@@ -63,6 +63,12 @@ class Page(unittest.TestCase):
         """Puts a text into the editor, as typing does."""
         self.js(f"it.editor.show({json.dumps(path)}); it.editor.text.value = {json.dumps(text)}; it.editor.text.dispatchEvent(new Event('input')); 0")
 
+    def saved(self):
+        """The page of the run that the list "save" makes."""
+        self.js("window.kept = null; if (!window.making) { window.making = URL.createObjectURL; URL.createObjectURL = blob => { if (blob.type === 'text/html') blob.text().then(text => { window.kept = text; }); return window.making(blob); }; } 0")
+        self.js("(() => { const list = document.querySelector('select[aria-label=save]'); list.value = 'page'; list.onchange(); })()")
+        return self.js("until(() => window.kept).then(() => window.kept)")
+
     def test_an_example_runs_and_is_shown(self):
         self.js("pick('button')")
         self.assertEqual(self.js("it.run.title"), "button")
@@ -81,6 +87,29 @@ class Page(unittest.TestCase):
                 self.js(f"pick({json.dumps(name)})")
                 self.assertEqual(self.js("[it.run && it.run.title, document.querySelector('.complaint').hidden]"), [name, True], self.js("said()"))
                 self.picture(name)
+
+    def test_what_a_chip_shows_is_played_here_and_in_a_page_that_is_saved(self):
+        self.js("pick('chip-display')")
+        self.js("playChips(it.run)")
+        shown = "(() => { const part = it.run.parts.find(part => part.id === 'bars1'), lit = t => frameAt(it.run, part, t).pixels.reduce((n, byte) => n + (byte === 255 ? 1 : 0), 0); return [lit(0), lit(800000), lit(it.run.to), it.run.unplayed.length]; })()"
+        rows = [line.split(" ")[4] for line in self.js("it.run.report").split("\n") if " row " in line]
+        there = self.js(shown)
+        self.assertEqual([there[0], there[2], there[3]], [0, sum(row.count("FF") for row in rows), 0])
+        self.assertTrue(0 < there[1] < there[2], there)
+        self.js("it.look.go(it.run.to); 0")
+        self.picture("chip-display")
+        kept = self.saved()
+        self.assertIn("'wasm-unsafe-eval'; worker-src blob:", kept[:2000])
+        with tempfile.TemporaryDirectory() as box:
+            name = os.path.join(box, "kept.html")
+            with open(name, "w", encoding="utf-8") as file:
+                file.write(kept)
+            self.browser.open(name)
+            self.assertEqual(self.js(shown), there)
+        self.open()
+        self.js("pick('button')")
+        kept = self.saved()
+        self.assertNotIn("wasm-unsafe-eval", kept[:2000])
 
     def test_a_button_is_pressed_at_the_cursor(self):
         self.js("pick('button')")

@@ -9,7 +9,7 @@ import { listOf } from '../call.mjs';
 
 const here = path.dirname(fileURLToPath(import.meta.url)), root = path.join(here, '../../..');
 const NAMES = ['complaintOf', 'rangeOf', 'withLine', 'unzipped', 'zipped', 'linkOf', 'projectOfLink', 'makeProject', 'projectOfFiles', 'complete', 'withFirmware', 'adviceOf',
-  'firmwareOf', 'firmwarePath', 'chipsOf', 'callOf', 'packedWaves', 'escaped', 'textOf', 'preparedOf', 'asHex', 'floatText', 'readJson', 'jsonText'];
+  'firmwareOf', 'firmwarePath', 'chipsOf', 'modulesOf', 'callOf', 'packedWaves', 'escaped', 'textOf', 'preparedOf', 'asHex', 'floatText', 'readJson', 'jsonText'];
 const textsOf = (folder, names) => names.map(name => fs.readFileSync(path.join(root, folder, name), 'utf8')).join('\n');
 const look = textsOf('tools/look/page', ['wave.js', 'run.js']);
 const own = textsOf('tools/web/page', ['places.js', 'script.js', 'archive.js', 'json.js', 'formulas.js', 'lower.js', 'firmware.js', 'project.js', 'prepare.js', 'saving.js']);
@@ -220,6 +220,17 @@ test('the words of a run name the files as they are passed', () => {
 test('the pins of chips are read of the example with a chip', () => {
   const folder = path.join(root, 'examples/chip-inverter'), project = page.makeProject('chip-inverter', fs.readdirSync(folder).filter(name => name !== 'expected').map(name => [name, new Uint8Array(fs.readFileSync(path.join(folder, name)))]));
   assert.deepEqual(page.chipsOf(project), { 'chip-inverter': JSON.parse(fs.readFileSync(path.join(folder, 'inverter.json'), 'utf8')).pins });
+});
+
+test('a page gets the modules of the chips that print or draw, and of no others', () => {
+  const read = name => page.makeProject(name, fs.readdirSync(path.join(root, 'examples', name)).filter(it => it !== 'expected').map(it => [it, new Uint8Array(fs.readFileSync(path.join(root, 'examples', name, it)))]));
+  const [[type, { module, display }]] = Object.entries(page.modulesOf(read('chip-display')));
+  assert.deepEqual([type, display, module[0], module[1]], ['chip-bars', [32, 64], 0, 97]);
+  assert.deepEqual(Object.values(page.modulesOf(read('chip-printf'))).map(it => it.display), [null]);
+  assert.deepEqual(page.modulesOf(read('chip-inverter')), {});
+  const unused = read('chip-display');
+  unused.files.set('diagram.json', bytes('{"parts": []}'));
+  assert.deepEqual(page.modulesOf(unused), {});
 });
 
 test('packed waves are those that the page of a run reads', t => {
