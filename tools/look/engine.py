@@ -12,7 +12,7 @@ from page import SCRIPTS, STYLES, data_of, json_text, script_of, style_of, text_
 
 HERE = os.path.dirname(os.path.abspath(__file__))
 BROWSERS = ("chromium", "chromium-browser", "google-chrome", "chrome")
-SECONDS = 120
+SECONDS = 240
 
 
 class EngineMissing(Exception):

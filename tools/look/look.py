@@ -159,7 +159,7 @@ def keep_whole(folder, name):
     """Whether a variable is kept from the start of the run on: displays, chips that are played and the bytes that are sent rest on
     their whole wave."""
     displays, transmit = kept_parts(folder)
-    return name == transmit or name.split(".")[0] in displays
+    return name == transmit or name in displays or name.split(".")[0] in displays
 
 
 def pictured(given, seen):

@@ -15,16 +15,20 @@ import tempfile
 import examples
 import page
 from engine import EngineMissing, evaluated
-from look import arguments, seen_of
+from look import arguments, microseconds, seen_of
 from packing import packed
-from program import program
+from program import program, run
 
-ROOT = os.path.join(os.path.dirname(os.path.abspath(__file__)), "..", "..")
+HERE = os.path.dirname(os.path.abspath(__file__))
+ROOT = os.path.join(HERE, "..", "..")
+PROJECTS = os.path.join(ROOT, "tools", "wokwi", "projects")
+# Those with parts that a chip stands for and that show something.
+SEEN = ("servo-and-analyzer", "pan-tilt", "pixel-ring", "pixel-chain", "serpentine", "clock-face", "marquee", "two-matrices", "stepper", "stepper-driver", "lcd-2004", "lcd-scroll", "twelve-servos")
 TIMES = 13
 # At each time what the report would have: rows of displays that are not all 0, and lines.
 SHOWN = """{ const run = await runOfPage(given.data, given.packed), hex = b => b.toString(16).toUpperCase().padStart(2, '0'); await playChips(run);
   const at = t => run.parts.filter(part => shownOf(run, part) && !part.shown).flatMap(part => {
-    const frame = frameAt(run, part, t), rows = [];
+    const { display, record } = shownOf(run, part), frame = display && record ? record.pictureAt(t) : null, rows = [];
     for (let y = 0; frame && y < frame.height; y++) {
       const row = frame.pixels.subarray(4 * y * frame.width, 4 * (y + 1) * frame.width);
       if (row.some(b => b)) rows.push(`chip ${part.id} row ${y} ` + [...row].map(hex).join(''));
@@ -231,11 +235,13 @@ def everything() -> int:
         if shutil.which(os.environ.get("CLANG", "clang")) and shutil.which("wasm-ld"):
             steps += [("chips that are hard to play", lambda: check_hard(box)), ("modules that do not come back", lambda: check_hostile(box))]
             if shutil.which("avr-g++"):
-                steps += [("engines", lambda: made_of("engines", engines) and compared(engines, 60000)), ("engines in pieces", lambda: check_growing(engines, 30000))]
+                steps += [("engines", lambda: made_of(os.path.join(HERE, "engines"), engines) and compared(engines, 60000)), ("engines in pieces", lambda: check_growing(engines, 30000))]
+                steps += [(f"project {name}", lambda name=name: check_project(box, name)) for name in SEEN]
             else:
                 print("look, chips with engines: skipped, there is no avr-g++", file=sys.stderr)
         else:
             print("look, chips in C: skipped, there is no clang or wasm-ld", file=sys.stderr)
+        steps += [(f"text of {name}", lambda name=name: check_text(name)) for name in ("lcd-hello", "lcd-i2c")]
         steps += [("chip-display in pieces", lambda: check_growing(examples.folder_of("chip-display"), 100000))]
         for name, step in steps:
             try:
@@ -250,10 +256,36 @@ def everything() -> int:
     return bad
 
 
-def made_of(name: str, out: str) -> bool:
-    """Makes a project of a folder here, with its sketch and its chips."""
-    subprocess.run([os.path.join(ROOT, "tools", "wokwi", "lower.py"), os.path.join(os.path.dirname(os.path.abspath(__file__)), name), out], stderr=subprocess.PIPE, check=True)
+def made_of(folder: str, out: str) -> bool:
+    """Makes a project of a folder with a sketch and chips."""
+    subprocess.run([os.path.join(ROOT, "tools", "wokwi", "lower.py"), folder, out], stderr=subprocess.PIPE, check=True)
     return True
+
+
+def check_project(box: str, name: str) -> None:
+    """Compares a project of tools/wokwi/projects, in which a chip stands for a part that shows something."""
+    folder, out = os.path.join(PROJECTS, name), os.path.join(box, name)
+    with open(os.path.join(folder, "us.txt"), encoding="ascii") as file:
+        us = microseconds(file.read().strip())
+    script = os.path.join(folder, "script.txt")
+    assert made_of(folder, out) and compared(out, us, script if os.path.exists(script) else None) > 0
+
+
+# What the report has of a text display that the page draws by a chip, as long as its text is not moved.
+TEXTS = """{ const run = await runOfPage(given.data, given.packed), part = run.parts.find(it => it.shown); await playChips(run);
+  const letter = code => code >= 0x20 && code < 0x7F ? String.fromCharCode(code) : '?';
+  return given.times.map(t => { const { pixels } = frameAt(run, part, t); return [0, 1].map(y => `lcd ${part.id} ${y + 1} |${[...pixels].filter((_, i) => i % 4 === 0).slice(16 * y, 16 * y + 16).map(letter).join('')}|`); }); }"""
+
+
+def check_text(name: str) -> None:
+    """The chip that draws a text display has the text of the report, at the times of a run."""
+    folder, us, script = examples.folder_of(name), examples.microseconds(name), examples.script_of(name)
+    seen = seen_of(arguments([folder, "--us", str(us), "--samples", "0", *(["--script", script] if script else [])]))
+    times = sorted({random.Random(name).randrange(1, us) for _ in range(TIMES - 1)} | {us})
+    given = {"data": page.data_of(seen), "packed": packed(seen.waves.waves), "times": [16 * time - 1 for time in times]}
+    for time, lines in zip(times, evaluated(TEXTS, given)):
+        report = run(folder, time, script)[1].split("\n")
+        assert [line for line in report if line.startswith("lcd ")] == lines, (name, time, lines)
 
 
 if __name__ == "__main__":

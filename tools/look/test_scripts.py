@@ -339,9 +339,9 @@ def check_parts():
 # ---- Breadboards
 
 PLUGGED = {"version": 1, "parts": [{"type": "wokwi-arduino-uno", "id": "uno", "top": 300, "attrs": {}}, {"type": "wokwi-breadboard-half", "id": "bb", "top": -20, "left": -77, "attrs": {}},
-                                   {"type": "wokwi-led", "id": "led", "attrs": {}}, {"type": "wokwi-servo", "id": "arm", "left": 400, "attrs": {}}],
+                                   {"type": "wokwi-led", "id": "led", "attrs": {}}, {"type": "wokwi-logic-analyzer", "id": "arm", "left": 400, "attrs": {}}],
            "connections": [["led:A", "bb:10t.c", "", ["$bb"]], ["led:C", "bb:9t.c", "", ["$bb"]], ["bb:10t.a", "uno:13", "green", ["v0"]], ["bb:9t.e", "bb:9b.f", "black", ["v0"]],
-                           ["bb:9b.j", "bb:bn.4", "black", ["v0"]], ["bb:bn.25", "uno:GND.1", "black", ["v0"]], ["bb:20t.a", "bb:21t.a", "red", []], ["arm:PWM", "bb:10t.d", "orange", ["v0"]]]}
+                           ["bb:9b.j", "bb:bn.4", "black", ["v0"]], ["bb:bn.25", "uno:GND.1", "black", ["v0"]], ["bb:20t.a", "bb:21t.a", "red", []], ["arm:D0", "bb:10t.d", "orange", ["v0"]]]}
 DRAWN = """{ const run = makeRun({ title: 'x', cycles: 99, diagram: given, names: ['uno.13', 'led.A', 'led.C'], of: [0, 0, 1], waves: [makeWave([0, 50], [0, 1]), makeWave([0], [0])] }), board = drawBoard(run);
   board.update({ t: 60, since: 60 });
   return boardPicture(board, ''); }"""
@@ -360,7 +360,7 @@ def check_breadboards():
     names = "{http://www.w3.org/2000/svg}"
     states = {element.find(names + "title").text: element.get("class") for element in root.iter() if element.find(names + "title") is not None and element.get("class")}
     assert states["bb:10t.a – uno:13: 1"] == "wire v1" and states["bb:bn.25: 0"] == "pin v0" and states["bb:20t.a – bb:21t.a: z, nothing drives it"] == "wire vz", states
-    assert states["arm:PWM – bb:10t.d: 1"] == "wire v1" and "arm: wokwi-servo, which was left out" in states and not any("led:A – bb" in title for title in states)
+    assert states["arm:D0 – bb:10t.d: 1"] == "wire v1" and "arm: wokwi-logic-analyzer, which was left out" in states and not any("led:A – bb" in title for title in states)
     holes = next(element for element in root.iter(names + "path") if element.get("class") == "holes").get("d")
     assert holes.count("M") == 30 * 10 + 4 * 25 and "breadboard" not in plain and "bb:" not in plain
     assert [round(x, 6) for x in hole] == [25, 42] and far == [-77, -20]

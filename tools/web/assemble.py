@@ -21,6 +21,7 @@ ROOT = os.path.join(HERE, "..", "..")
 sys.dont_write_bytecode = True
 sys.path.insert(0, os.path.join(ROOT, "tools", "look"))
 import page as look
+import project
 
 # In this order, since each uses those before it.
 SCRIPTS = ["places.js", "script.js", "archive.js", "json.js", "formulas.js", "lower.js", "firmware.js", "project.js", "prepare.js", "machine.js", "hand.js", "editor.js", "saving.js", "app.js", "start.js"]
@@ -125,7 +126,8 @@ def page_of(modules):
     style, script = "\n" + read(HERE, "page", "app.css") + look.style_of(look.STYLES), "\n" + script_of()
     policy = (f"default-src 'none'; script-src {look.digest(script)} 'wasm-unsafe-eval'; worker-src blob:; style-src {look.digest(style)}; "
               "base-uri 'none'; form-action 'none'")
-    data = {"examples": examples(), "refusals": refusals(), "types": types(), "chips": chips()}
+    data = {"examples": examples(), "refusals": refusals(), "types": types(), "chips": chips(),
+            "viewers": {kind: project.viewer_of(kind) for kind in project.VIEWERS}}
     values = {"POLICY": policy, "STYLE": style[1:], "SCRIPT": script[1:], "WORKER": worker(), "TEMPLATE": packed(template().encode()),
               "DATA": packed(json.dumps(data, separators=(",", ":"), sort_keys=True).encode()), "WIDE": "", "NARROW": ""}
     for place, name in found.items():

@@ -21,13 +21,14 @@ bad=0
 check() { # NAME COMMAND WORDS
     name=$1
     shift
-    if "$@" >"$work/log" 2>&1; then echo "wokwi: $name: ok"; else sed 's/^/    /' "$work/log"; echo "wokwi: $name: failed"; bad=1; fi
+    if "$@" >"$work/log" 2>&1; then echo "wokwi: $name: ok"; sed -n "/: skipped/p" "$work/log" >&2; else sed 's/^/    /' "$work/log"; echo "wokwi: $name: failed"; bad=1; fi
 }
 
 check "archives" python3 -B "$here/test_archive.py"
 check "lowering" python3 -B "$here/test_lower.py"
 check "what fails a test" python3 -B "$here/../test_truth.py"
 check "scenarios, tests, play" python3 -B "$here/test_runs.py"
+check "chips on waves" python3 -B "$here/test_chips.py"
 
 chips=yes
 if command -v "${CLANG:-clang}" >/dev/null && command -v wasm-ld >/dev/null; then

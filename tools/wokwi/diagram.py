@@ -8,7 +8,9 @@ import re
 from formulas import number, value_of
 
 TABLE = os.path.join(os.path.dirname(os.path.abspath(__file__)), "types.json")
-MOST_PARTS, MOST_WIRES, MOST_CHIPS = 64, 512, 8
+# What a made project keeps of a part, for a page: its type in the editor, the part that it is a piece of, its place in a chain.
+MADE = ("as", "within", "slice")
+MOST_PARTS, MOST_WIRES, MOST_CHIPS, MOST_PIXELS = 64, 512, 8, 65536
 
 
 def table():
@@ -51,6 +53,11 @@ def shape_fault(diagram):
     return None
 
 
+def attrs_of(part):
+    """The attributes of a part that are texts or numbers, as texts."""
+    return {key: str(value) for key, value in part.get("attrs", {}).items() if isinstance(value, (str, int, float)) and not isinstance(value, bool)}
+
+
 class Lowering:
     """One diagram on its way. `notes` are what a reader should know, `faults` what could not be done."""
 
@@ -60,11 +67,13 @@ class Lowering:
         self.chip_pins = chip_pins  # of each chip of the project, by name: its pins
         self.notes, self.faults = [], []
         self.parts, self.wires = [], []
-        self.own_chips = {}  # name in the new diagram: name of the file in chips/
+        self.own_chips = {}  # name in the new diagram: name of the file in chips/, size of its display, its pins where they are others
         self.ends = {}  # (part, pin): the ends that are that pin now
         self.pins = {}  # part: its pins, or None where any name is one
         self.strips = {}  # part: its columns and the length of its rails
         self.reshaped = set()  # parts that are drawn as others, with their pins elsewhere
+        self.whole = {}  # parts that are drawn as the editor draws them, whatever they have become: the ids that they have then
+        self.is_other = False  # whether a wire is drawn to a pin that the new diagram has no more
         self.scenery = []  # what the editor drew and the new diagram has no part for
         self.drawn = []  # the editor's wires, as a page draws them
         self.inner = []  # wires between the parts that one part has become
@@ -72,17 +81,57 @@ class Lowering:
         self.is_board = True  # whether what is left is one that the simulator takes
         self.nets = Joined()
         self.ids = {part["id"] for part in diagram["parts"]}
+        self.firsts = list({part["id"]: part for part in reversed(diagram["parts"])}.values())[::-1]  # without second parts of an id
+        self.heads = {}  # of each first part of a chain, the id in the new diagram
         self.begin()
         self.wires.extend(self.inner)
         self.connect()
 
     # ---- parts
 
+    def chains(self):
+        """{id: [(id, pixels), ..]}: the parts that pass on the same bits, from each that begins a chain of two or more. They
+        become one chip, as if it were a strip."""
+        sizes, after = {}, {}
+        for part in self.firsts:
+            rule = self.types["lowered"].get(part["type"], {})
+            if rule.get("chained"):
+                try:
+                    sizes[part["id"]] = {side: int(value_of(how, attrs_of(part))) for side, how in rule["display"].items()}
+                except ValueError:
+                    return {}
+        wires = [wire[:2] for wire in self.diagram["connections"]]
+        ends = [end for wire in wires for end in wire]
+        for wire in wires:
+            for one, other in (wire, wire[::-1]):
+                is_link = one.endswith(":DOUT") and other.endswith(":DIN") and one[:-5] in sizes and other[:-4] in sizes
+                if is_link and ends.count(one) == 1 and ends.count(other) == 1:
+                    after[one[:-5]] = other[:-4]
+        found = {}
+        for head in sizes:
+            if head in after and head not in after.values():
+                chain = [head]
+                while after.get(chain[-1]) in sizes and after[chain[-1]] not in chain:
+                    chain.append(after[chain[-1]])
+                found[head] = [(name, sizes[name]["width"] * sizes[name]["height"]) for name in chain]
+        return found
+
+    def viewers(self, links):
+        """The ids of parts that only show, of which the board has no room for a chip: a page shows them by the levels of their wires."""
+        rules = [(part["id"], self.types["lowered"].get(part["type"], {})) for part in self.firsts if part["id"] not in links]
+        chips = sum(len(rule.get("as") or [0]) for _, rule in rules if "chip" in rule) + sum(part["type"].startswith("chip-") for part in self.firsts)
+        ends = {end for wire in self.diagram["connections"] for end in wire[:2]}
+        free = [name for name, rule in rules if rule.get("only shows") and f"{name}:DOUT" not in ends]
+        return set(free[-max(chips - MOST_CHIPS, 0):]) if chips > MOST_CHIPS else set()
+
     def begin(self):
-        seen = set()
+        seen, chains = set(), self.chains()
+        links = {name: head for head, chain in chains.items() for name, _ in chain[1:]}
+        viewers = self.viewers(links)
+        self.heads = {name: self.new_id(name, old=name) for name in chains}
         for part in self.diagram["parts"]:
             kind, name = part["type"], part["id"]
-            attrs = {key: str(value) for key, value in part.get("attrs", {}).items() if isinstance(value, (str, int, float)) and not isinstance(value, bool)}
+            attrs = attrs_of(part)
             if name in seen:
                 self.faults.append(f"{name}: a second part has this id")
                 continue
@@ -94,7 +143,14 @@ class Lowering:
                     self.faults.append(f"{name} ({kind}): {rule['by']} is {case!r}, and not one of {', '.join(rule['cases'])}")
                     continue
                 rule = dict(rule, **{"as": rule["cases"][case]})
-            if rule and rule["as"] is not None:
+            if name in links:
+                self.link(part, attrs, rule, chains[links[name]], links[name])
+                continue
+            if name in chains:
+                rule = dict(rule, display={"width": str(sum(count for _, count in chains[name])), "height": "1"}, slice={"of": self.heads[name], "from": 0, "count": chains[name][0][1]})
+            if name in viewers:
+                self.view(part, attrs, rule)
+            elif rule and rule["as"] is not None:
                 self.replace(part, attrs, rule)
             elif kind in self.types["simulated"]:
                 self.keep(part, attrs, self.types["simulated"][kind])
@@ -122,7 +178,7 @@ class Lowering:
 
     def placed(self, part, kind, name):
         """A part of a kind and a name where the old one is."""
-        return {"type": kind, "id": name, **{key: part[key] for key in ("top", "left", "rotate", "hide") if key in part}}
+        return {"type": kind, "id": name, **{key: part[key] for key in ("top", "left", "rotate", "hide", *MADE) if key in part}}
 
     def place(self, part, kind, name, attrs):
         self.parts.append(dict(self.placed(part, kind, name), attrs=attrs))
@@ -172,6 +228,24 @@ class Lowering:
             for pin in group[1:]:
                 self.nets.join((name, group[0]), (name, pin))
 
+    def link(self, part, attrs, rule, chain, head):
+        """A part of a chain, which the chip of its first part shows."""
+        name = part["id"]
+        place = [it for it, _ in chain].index(name)
+        self.pins[name] = None
+        if place == len(chain) - 1:
+            self.ends[name, "DOUT"] = [f"{self.heads[head]}:DOUT"]
+        kept = {key: attrs[key] for key in rule["as"][0].get("keep", []) if key in attrs}
+        self.scenery.append(dict(self.placed(part, part["type"], name), attrs=kept, **{"as": part["type"], "slice": {"of": self.heads[head], "from": sum(count for _, count in chain[:place]), "count": chain[place][1]}}))
+        self.notes.append(f"{name} ({part['type']}) is shown by the chip of {head}, which is before it in the chain")
+
+    def view(self, part, attrs, rule):
+        """A part that only shows, and is no part of the board: a page plays its chip on the levels of its wires."""
+        name, piece = part["id"], rule["as"][0]
+        self.pins[name] = None
+        self.scenery.append(dict(self.placed(part, self.piece_type(part, piece, rule, attrs), name), attrs=self.given_to(part, piece, attrs), **{"as": part["type"]}))
+        self.notes.append(f"{name} ({part['type']}) is shown by the page alone: a board has room for {MOST_CHIPS} chips")
+
     def keep_chip(self, part, attrs):
         chip = part["type"][len("chip-"):]
         if chip not in self.chip_pins:
@@ -187,24 +261,32 @@ class Lowering:
 
     def replace(self, part, attrs, rule):
         name, kind = part["id"], part["type"]
-        self.reshaped.add(name)
+        is_one = rule.get("drawn as one")
+        if not is_one and not rule.get("drawn as itself"):
+            self.reshaped.add(name)
+        if is_one:
+            self.whole[name] = name
+            kept = {key: attrs[key] for key in is_one if key in attrs}
+            self.scenery.append(dict(self.placed(part, kind, name), attrs=kept, **{"as": kind}))
         self.pins[name] = set(rule.get("other pins", []))  # those that nothing here is on
         names = {}
         for piece in rule["as"]:
-            made = names[piece["id"]] = self.new_id(name + piece["id"], old=name if piece["id"] == "" else None)
-            given = {key: attrs[key] for key in piece.get("keep", []) if key in attrs}
-            for key, how in piece.get("attrs", {}).items():
-                try:
-                    given[key] = value_of(how, attrs)
-                except (ValueError, ArithmeticError) as fault:
-                    why = "is beyond what can be calculated" if isinstance(fault, ArithmeticError) else fault
-                    self.faults.append(f"{name} ({kind}): {how['from']} {attrs.get(how['from'])!r} {why}")
+            made = names[piece["id"]] = self.heads.get(name) or self.new_id(name + piece["id"], old=name if piece["id"] == "" else None)
+            given = self.given_to(part, piece, attrs)
             if piece["type"] in self.types["simulated"]:
                 given = self.fitting(name, given, self.types["simulated"][piece["type"]])
             for pin, new in piece["pins"].items():
                 self.pins[name].add(pin)
                 self.ends.setdefault((name, pin), []).append(f"{made}:{new}")
-            self.place(part, self.piece_type(piece, rule), made, given)
+            self.place(part, self.piece_type(part, piece, rule, attrs), made, given)
+            if rule.get("drawn as itself"):
+                self.parts[-1]["as"] = kind
+                self.whole[name] = made
+            if is_one:
+                self.parts[-1]["within"] = name
+            if "slice" in rule:
+                self.parts[-1]["slice"] = rule["slice"]
+                self.ends.pop((name, "DOUT"))
         for one, other in rule.get("wires", []):
             both = [names[end.split(":")[0]] + ":" + end.split(":")[1] for end in (one, other)]
             self.inner.append([*both, "", []])
@@ -212,14 +294,36 @@ class Lowering:
         if rule["as"][0]["type"] != kind or "says" in rule:
             self.notes.append(f"{name} ({kind}) is {pieces}" + (f": it {rule['says']}" if "says" in rule else ""))
 
-    def piece_type(self, piece, rule):
-        """The type of a piece; a chip of ours gets a name that no chip of the project has."""
-        if "chip" not in rule:
+    def given_to(self, part, piece, attrs):
+        """The attributes of a piece, from those of its part."""
+        given = {key: attrs[key] for key in piece.get("keep", []) if key in attrs}
+        for key, how in piece.get("attrs", {}).items():
+            try:
+                given[key] = value_of(how, attrs)
+            except (ValueError, ArithmeticError) as fault:
+                why = "is beyond what can be calculated" if isinstance(fault, ArithmeticError) else fault
+                self.faults.append(f"{part['id']} ({part['type']}): {how['from']} {attrs.get(how['from'])!r} {why}")
+        return given
+
+    def piece_type(self, part, piece, rule, attrs):
+        """The type of a piece; a chip of ours gets a name that no chip of the project has, with the size of its display where the
+        part says that."""
+        if "chip" not in rule or not piece["type"].startswith("chip-"):
             return piece["type"]
-        made = rule["chip"]
-        while made in self.chip_pins:
+        made, size = rule["chip"], {}
+        if "display" in rule:
+            try:
+                size = {side: int(value_of(how, attrs)) for side, how in rule["display"].items()}
+                if not (1 <= min(size.values()) and size["width"] * size["height"] <= MOST_PIXELS):
+                    raise ValueError(f"a display has 1 to {MOST_PIXELS} pixels")
+            except ValueError as fault:
+                self.faults.append(f"{part['id']} ({part['type']}): its display: {fault}")
+                size = {"width": 1, "height": 1}
+            made += f"-{size['width']}x{size['height']}"
+        own = (rule["chip"], size, list(dict.fromkeys(piece["pins"].values())) if rule.get("drawn as itself") else None)
+        while made in self.chip_pins or self.own_chips.get(made, own) != own:
             made += "-"
-        self.own_chips[made] = rule["chip"]
+        self.own_chips[made] = own
         return f"chip-{made}"
 
     # ---- wires
@@ -295,7 +399,9 @@ class Lowering:
     def draw(self, wire, both):
         """Keeps how the editor drew a wire. An end in a hole, or on a part that is left out, stays what it is."""
         stays = lambda node: node[0] in self.strips or self.pins[node[0]] is None
-        ends = [[end] if stays(node) else self.ends.get(node, []) for node, end in zip(both, wire[:2])]
+        whole = lambda node: [f"{self.whole[node[0]]}:{node[1]}"] if node[0] in self.whole else None
+        ends = [[end] if stays(node) else whole(node) or self.ends.get(node, []) for node, end in zip(both, wire[:2])]
+        self.is_other |= any(node[0] in self.whole and whole(node) != self.ends.get(node) for node in both)
         if all(ends):
             is_plugged = len(wire) > 3 and wire[3] == ["$bb"]
             colour, steps = [*(wire[2:] if is_plugged else self.drawing_of(wire, both)), "", []][:2]
@@ -304,6 +410,8 @@ class Lowering:
     def draw_pieces(self, nodes, colours):
         """The wires between the parts that one part has become."""
         for node in nodes:
+            if node[0] in self.whole:
+                continue
             first, *others = self.ends.get(node, [""])
             self.drawn.extend((first, other, colours[node], [], node) for other in others)
 
@@ -333,7 +441,7 @@ class Lowering:
                 ours = ", ".join(part["id"] for part in self.parts if part["type"][len("chip-"):] in self.own_chips) if what == "parts that are chips" else ""
                 self.refuse_board(f"there are {count} {what}, and {most} is the most" + (f"; chips in place of Wokwi's parts are {ours}" if ours else ""))
         made = {"version": 1, "author": self.diagram.get("author", ""), "editor": "wokwi", "parts": self.parts, "connections": self.wires, "dependencies": {}}
-        drawn = self.drawing() if self.scenery else self.diagram.get("drawn")
+        drawn = self.drawing() if self.scenery or self.is_other else self.diagram.get("drawn")
         return dict(made, drawn=drawn) if drawn else made
 
 

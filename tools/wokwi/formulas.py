@@ -80,7 +80,20 @@ def half_period(text, attrs):
     return str(round(5e8 / hertz))
 
 
-NAMED = {"ntc": ntc, "light": light, "dark": dark, "time": time, "half period": half_period}
+def address(text, attrs):
+    """An I2C address as the decimal number that a chip takes."""
+    value = int(text, 0) if re.fullmatch(r"0x[0-9a-fA-F]{1,2}", text) else int(text) if re.fullmatch(r"[0-9]{1,5}", text) else 128
+    if value > 127:
+        raise ValueError("is no address")
+    return str(value)
+
+
+def serpentine(text, attrs):
+    """Whether each second row of a matrix goes the other way."""
+    return str(int(text == "serpentine"))
+
+
+NAMED = {"address": address, "serpentine": serpentine, "ntc": ntc, "light": light, "dark": dark, "time": time, "half period": half_period}
 
 
 def value_of(rule, attrs):

@@ -60,9 +60,15 @@ def read_diagram(folder):
 def read_settings(folder, say=lambda text: None):
     """(the firmware's path or None, {name: path of the module}) by wokwi.toml, which may be absent. Where the firmware is not there
     and its `elf` is, that is taken. Says which keys no command here takes."""
+    firmware, chips, _ = all_settings(folder, say)
+    return firmware, chips
+
+
+def all_settings(folder, say=lambda text: None):
+    """The same, and {name: path of the module} of the chips that a page alone plays."""
     path = os.path.join(folder, "wokwi.toml")
     if not os.path.exists(path):
-        return None, {}
+        return None, {}, {}
     try:
         with open(path, "rb") as file:
             value = tomllib.load(file)
@@ -72,10 +78,10 @@ def read_settings(folder, say=lambda text: None):
         for key in SERVERS:
             if key in value.get("wokwi", {}):
                 say(f"wokwi.toml has {key}: no command here opens such a server, so it is not used")
-        chips = {chip["name"]: chip["binary"] for chip in value.get("chip", [])}
-        if not all(isinstance(it, str) for it in (firmware or "", *chips, *chips.values())):
+        chips, shown = ({chip["name"]: chip["binary"] for chip in value.get(key, [])} for key in ("chip", "shown"))
+        if not all(isinstance(it, str) for it in (firmware or "", *chips, *chips.values(), *shown, *shown.values())):
             raise ValueError("a name or a path is no text")
-        return firmware, chips
+        return firmware, chips, shown
     except (ValueError, KeyError, TypeError, AttributeError) as fault:
         raise Fault(f"{path}: {fault}") from None
 
@@ -189,13 +195,25 @@ def put_firmware(folder, named, out, say):
         shutil.copyfile(elf, sketches.elf_beside(made))
 
 
-def settings_text(chips):
-    """wokwi.toml with the firmware and (name, stem of the file) of each chip."""
+def settings_text(chips, shown=()):
+    """wokwi.toml with the firmware and (name, stem of the file) of each chip; `shown` are those that a page alone plays, which the
+    simulator ignores."""
     quoted = lambda text: json.dumps(text)
     text = "[wokwi]\nversion = 1\nfirmware = 'firmware.hex'\n"
     for name, stem in chips:
         text += f"\n[[chip]]\nname = {quoted(name)}\nbinary = {quoted(stem + '.wasm')}\n"
+    for name, stem in shown:
+        text += f"\n[[shown]]\nname = {quoted(name)}\nbinary = {quoted(stem + '.wasm')}\n"
     return text
+
+
+def put_own(out, name, own):
+    """Writes a chip of ours as NAME: its module, and its pin file with the size of its display and the pins that it has here."""
+    stem, size, pins = own
+    shutil.copyfile(os.path.join(CHIPS, f"{stem}.wasm"), os.path.join(out, f"{name}.wasm"))
+    file_of_pins = read_json(os.path.join(CHIPS, f"{stem}.json"), "file of pins")
+    with open(os.path.join(out, f"{name}.json"), "w", encoding="utf-8") as file:
+        json.dump(file_of_pins | ({"pins": pins} if pins else {}) | ({"display": size} if size else {}), file)
 
 
 def lower(folder, out, anyway=False, firmware=None, edit=None, change=None, say=lambda text: None):
@@ -207,7 +225,7 @@ def lower(folder, out, anyway=False, firmware=None, edit=None, change=None, say=
         value = read_diagram(folder)
         if edit:
             edit(value)
-        named, binaries = read_settings(folder, say)
+        named, binaries, only_shown = all_settings(folder, say)
         if firmware and not os.path.isfile(firmware):
             raise Fault(f"{firmware}: the firmware that is named is not there")
         chips = chips_of(folder, value, binaries)
@@ -236,10 +254,13 @@ def lower(folder, out, anyway=False, firmware=None, edit=None, change=None, say=
                 stem += "_"
             chip.put(out, stem, say)
             stems.append((name, stem))
+        shown, on_board = [], {part["type"] for part in made["parts"]}
+        for name, binary in only_shown.items():
+            Chip(folder, name, binary).put(out, f"shown-{len(shown)}", say)
+            shown.append((name, f"shown-{len(shown)}"))
         for name, own in lowering.own_chips.items():
-            for ending in (".wasm", ".json"):
-                shutil.copyfile(os.path.join(CHIPS, own + ending), os.path.join(out, own + ending))
-            stems.append((name, own))
+            put_own(out, name, own)
+            (stems if f"chip-{name}" in on_board else shown).append((name, name))
         for part in made["parts"]:
             stem = next((stem for name, stem in stems if part["type"] == f"chip-{name}"), None)
             if stem:
@@ -250,7 +271,7 @@ def lower(folder, out, anyway=False, firmware=None, edit=None, change=None, say=
         with open(os.path.join(out, "diagram.json"), "w", encoding="utf-8") as file:
             file.write(diagrams.text_of(made))
         with open(os.path.join(out, "wokwi.toml"), "w", encoding="utf-8") as file:
-            file.write(settings_text(stems))
+            file.write(settings_text(stems, shown))
     except Fault as fault:
         return [str(fault)]
     except OSError as fault:

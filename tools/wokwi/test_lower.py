@@ -60,6 +60,7 @@ class TableOfTypes(unittest.TestCase):
             if "chip" in rule:
                 with open(os.path.join(HERE, "chips", rule["chip"] + ".json"), encoding="utf-8") as file:
                     pins = json.load(file)["pins"]
+                pins = piece["pins"].values() if rule.get("drawn as itself") else pins  # it has those that the editor's part has
                 self.assertEqual(piece["type"], "chip-" + rule["chip"], kind)
             else:
                 of = self.types["simulated"][piece["type"]]
@@ -87,14 +88,14 @@ class TableOfTypes(unittest.TestCase):
 class TheProgramJudges(unittest.TestCase):
     """The program's `check` says whether a type and its pins are there."""
 
-    def check(self, value, chips=()):
+    def check(self, value, chips=None):
         with tempfile.TemporaryDirectory() as folder:
-            for name, text in (("diagram.json", json.dumps(value)), ("firmware.hex", EMPTY_HEX), ("wokwi.toml", lower.settings_text(chips))):
+            settings = lower.settings_text([(name, name) for name in chips or {}])
+            for name, text in (("diagram.json", json.dumps(value)), ("firmware.hex", EMPTY_HEX), ("wokwi.toml", settings)):
                 with open(os.path.join(folder, name), "w", encoding="utf-8") as file:
                     file.write(text)
-            for _, stem in chips:
-                for ending in (".json", ".wasm"):
-                    os.symlink(os.path.join(HERE, "chips", stem + ending), os.path.join(folder, stem + ending))
+            for name, own in (chips or {}).items():
+                lower.put_own(folder, name, own)
             ran = subprocess.run([PROGRAM, "check", folder], capture_output=True, text=True, check=False)
             return ran.stdout + ran.stderr
 
@@ -119,7 +120,7 @@ class TheProgramJudges(unittest.TestCase):
                     value["connections"] = [["it:2", f"it:{pin}", "", []] for pin in pins]
                 lowering, made = lowered(value)
                 self.assertEqual(lowering.faults, [], kind)
-                self.assertEqual(self.check(made, list(lowering.own_chips.items())), "accepted\n", f"{kind} {case}")
+                self.assertEqual(self.check(made, lowering.own_chips), "accepted\n", f"{kind} {case}")
 
 
 class Breadboards(unittest.TestCase):
@@ -158,9 +159,9 @@ class Parts(unittest.TestCase):
         self.assertEqual(made["parts"][1]["attrs"], {"color": "red"})
 
     def test_a_net_through_a_part_that_is_left_out_stays_whole(self):
-        lowering, made = lowered(uno(part("wokwi-servo", "s"), part("wokwi-led", "a"), wires=[("uno:9", "s:PWM"), ("s:PWM", "a:A"), ("uno:5V", "s:V+"), ("a:C", "s:GND")]))
+        lowering, made = lowered(uno(part("wokwi-logic-analyzer", "s"), part("wokwi-led", "a"), wires=[("uno:9", "s:D0"), ("s:D0", "a:A"), ("a:C", "s:GND")]))
         self.assertEqual(nets(made), [["a:A", "uno:9"]])
-        self.assertIn("s (wokwi-servo) only moves", lowering.notes[0])
+        self.assertIn("s (wokwi-logic-analyzer) only shows", lowering.notes[0])
 
     def test_ids_that_are_made_meet_no_other(self):
         lowering, made = lowered(uno(part("wokwi-rgb-led", "rgb"), part("wokwi-led", "rgb-r"), part("wokwi-led", "rgb-r-2"), wires=[("uno:9", "rgb:R"), ("uno:8", "rgb-r:A")]))
@@ -198,7 +199,7 @@ class Parts(unittest.TestCase):
     def test_a_chip_of_ours_meets_no_chip_of_the_project(self):
         lowering, made = lowered(uno(part("wokwi-dht22", "a"), part("chip-dht22", "b")), {"dht22": ["IN"]})
         self.assertEqual([it["type"] for it in made["parts"][1:]], ["chip-dht22-", "chip-dht22"])
-        self.assertEqual(lowering.own_chips, {"dht22-": "dht22"})
+        self.assertEqual(lowering.own_chips, {"dht22-": ("dht22", {}, None)})
 
     def test_what_cannot_be_done_is_told(self):
         cases = [
@@ -230,15 +231,44 @@ class Parts(unittest.TestCase):
         value["connections"] = [["uno:9", "bb:1t.a", "green", ["v5"]], ["bb:1t.b", "rgb:R", "", ["$bb"]], ["rgb:COM", "bb:tn.3", "black", ["h4", "v0"]],
                                 ["bb:tn.1", "uno:GND.1", "black", []], ["arm:PWM", "bb:1t.c", "gold", ["v9"]], ["bb:30b.f", "bb:30b.g", "red", ["v0"]], ["uno:1", "$serialMonitor:RX", "", []]]
         _, made = lowered(value)
-        self.assertEqual(made["drawn"]["parts"], [{"type": "wokwi-breadboard-half", "id": "bb", "top": -20, "left": 7.5, "columns": 30, "rail": 25}, {"type": "wokwi-servo", "id": "arm"}])
+        self.assertEqual(made["drawn"]["parts"], [{"type": "wokwi-rgb-led", "id": "rgb", "attrs": {}, "as": "wokwi-rgb-led"}, {"type": "wokwi-breadboard-half", "id": "bb", "top": -20, "left": 7.5, "columns": 30, "rail": 25}])
         self.assertEqual(made["drawn"]["connections"], [
-            ["uno:9", "bb:1t.a", "green", ["v5"], "uno.9"], ["bb:1t.b", "rgb-r:A", "", ["$bb"], "uno.9"], ["rgb-r:C", "bb:tn.3", "black", [], "rgb-r.C"],
-            ["bb:tn.1", "uno:GND.1", "black", [], "rgb-r.C"], ["arm:PWM", "bb:1t.c", "gold", [], "uno.9"], ["bb:30b.f", "bb:30b.g", "red", ["v0"], ""],
-            ["rgb-r:C", "rgb-g:C", "black", [], "rgb-r.C"], ["rgb-r:C", "rgb-b:C", "black", [], "rgb-r.C"]])
+            ["uno:9", "bb:1t.a", "green", ["v5"], "uno.9"], ["bb:1t.b", "rgb:R", "", ["$bb"], "uno.9"], ["rgb:COM", "bb:tn.3", "black", ["h4", "v0"], "rgb-r.C"],
+            ["bb:tn.1", "uno:GND.1", "black", [], "rgb-r.C"], ["arm:PWM", "bb:1t.c", "gold", ["v9"], "uno.9"], ["bb:30b.f", "bb:30b.g", "red", ["v0"], ""]])
         self.assertEqual(made["drawn"]["of"], diagrams.mark_of(made["connections"]))
         self.assertNotEqual(made["drawn"]["of"], diagrams.mark_of(made["connections"][1:]))
         self.assertEqual(json.loads(diagrams.text_of(made)), made)
-        self.assertNotIn("drawn", lowered(uno(part("wokwi-rgb-led", "rgb"), wires=[("uno:9", "rgb:R")]))[1])
+        self.assertEqual([it["within"] for it in made["parts"] if it["type"] == "wokwi-led"], ["rgb"] * 3)
+        self.assertNotIn("drawn", lowered(uno(part("wokwi-servo", "s"), wires=[("uno:9", "s:PWM")]))[1])
+        _, made = lowered(uno(part("wokwi-max7219-matrix", "m"), part("wokwi-led", "a"), wires=[("uno:9", "m:DIN"), ("m:V+.2", "a:A")]))
+        self.assertEqual((nets(made), made["drawn"]["connections"][1][:2]), ([["a:A", "m:V+"], ["m:DIN", "uno:9"]], ["m:V+.2", "a:A"]))
+
+    def test_pixels_in_a_chain_are_one_chip(self):
+        chain = [part("wokwi-neopixel", "a"), part("wokwi-led-ring", "b", pixels="12"), part("wokwi-neopixel-matrix", "c", rows="4", cols="4")]
+        wires = [("uno:6", "a:DIN"), ("a:DOUT", "b:DIN"), ("c:DIN", "b:DOUT"), ("c:DOUT", "uno:7")]
+        lowering, made = lowered(uno(*chain, wires=wires))
+        self.assertEqual([it["type"] for it in made["parts"][1:]], ["chip-ws2812-29x1"])
+        self.assertEqual(nets(made), [["a:DIN", "uno:6"], ["a:DOUT", "uno:7"]])
+        slices = [made["parts"][1]["slice"], *(it["slice"] for it in made["drawn"]["parts"])]
+        self.assertEqual(slices, [{"of": "a", "from": 0, "count": 1}, {"of": "a", "from": 1, "count": 12}, {"of": "a", "from": 13, "count": 16}])
+        self.assertEqual([it["as"] for it in made["drawn"]["parts"]], ["wokwi-led-ring", "wokwi-neopixel-matrix"])
+        branched, made = lowered(uno(*chain, wires=[*wires, ("a:DOUT", "uno:8")]))
+        self.assertEqual([it["type"] for it in made["parts"][1:]], ["chip-ws2812-1x1", "chip-ws2812-28x1"], "a pin that is used otherwise too is a pin")
+        self.assertIn(["a:DOUT", "b:DIN", "uno:8"], nets(made))
+        self.assertEqual([*lowering.faults, *branched.faults], [])
+
+    def test_parts_that_only_show_leave_a_full_board(self):
+        lowering, made = lowered(uno(*(part("wokwi-servo", f"s{n}") for n in range(9)), part("wokwi-dht22", "d"), wires=[("uno:2", f"s{n}:PWM") for n in range(9)]))
+        self.assertEqual(sum(it["type"].startswith("chip-") for it in made["parts"]), 8)
+        self.assertEqual([(it["id"], it["type"], it["as"]) for it in made["drawn"]["parts"]], [("s7", "chip-servo", "wokwi-servo"), ("s8", "chip-servo", "wokwi-servo")])
+        self.assertEqual(made["drawn"]["connections"][-1], ["uno:2", "s8:PWM", "green", [], "uno.2"])
+        self.assertIn("s8 (wokwi-servo) is shown by the page alone: a board has room for 8 chips", lowering.notes)
+
+    def test_a_display_has_the_size_that_its_part_says(self):
+        for attrs, fault in (({"rows": "300", "cols": "300"}, "m (wokwi-neopixel-matrix): its display: a display has 1 to 65536 pixels"), ({"rows": "0"}, "m (wokwi-neopixel-matrix): its display: a display has 1 to 65536 pixels"), ({"rows": "two"}, "m (wokwi-neopixel-matrix): its display: is no number")):
+            self.assertEqual(lowered(uno(part("wokwi-neopixel-matrix", "m", **attrs)))[0].faults, [fault])
+        lowering, _ = lowered(uno(part("wokwi-lcd2004", "a", pins="full"), part("wokwi-lcd2004", "b", pins="i2c")))
+        self.assertEqual([(name, len(pins)) for name, (_, _, pins) in lowering.own_chips.items()], [("hd44780-20x5", 16), ("hd44780-20x5-", 4)])
 
     def test_steps_that_belong_to_another_drawing_go(self):
         value = uno(part("wokwi-arduino-nano", "nano"), part("wokwi-led", "led"), part("wokwi-mpu6050", "imu"))

@@ -24,7 +24,8 @@ function drawBoard(run, on = {}) {
   const element = svg('svg', { class: 'board', role: 'img', 'aria-label': `the board: ${run.parts.map(part => part.id).join(', ')}` });
   const drawing = { run, on, layers, updates: [], tells: [], leads: [], spots: new Map(), boxes: new Map(), named: [], legs: [], free: 0, levels: new Map(), box: [Infinity, Infinity, -Infinity, -Infinity] };
   for (const [one, other, , , pin] of run.wires) if (typeof pin === 'string') for (const end of [one, other]) drawing.levels.set(end, pin);
-  for (const part of apart(run.parts, run.wires)) drawPart(drawing, part, entryOf(part, run.wires));
+  for (const part of apart(run.parts.filter(part => !isWithin(run, part)), run.wires)) drawPart(drawing, part, entryOf(part, run.wires));
+  for (const part of run.parts.filter(part => isWithin(run, part))) tellPart(drawing, part, entryOf(part, run.wires));
   for (const part of run.scenery) drawScenery(drawing, part);
   for (const wire of run.wires) drawWire(drawing, wire);
   for (const [part, box] of drawing.named) drawName(drawing, part, box);
@@ -41,6 +42,10 @@ function drawBoard(run, on = {}) {
     texts: moment => drawing.tells.map(([id, tell]) => [id, tell(moment)]).filter(([, text]) => text !== null),
   };
 }
+
+// A part that another one, which the editor drew, is made of: it is seen there, and has words of its own.
+const isWithin = (run, part) => Boolean(part.within) && run.scenery.some(it => it.id === part.within && it.as);
+function tellPart(drawing, part, entry) { if (entry.tell) drawing.tells.push([part.id, moment => entry.tell(part, drawing.run, moment)]); }
 
 // Parts that lie on one place, as those do that a tool made of one part, are drawn side by side, and above where another part lies,
 // with room for their pins and names.
@@ -85,9 +90,10 @@ function widen(drawing, [x, y]) {
   box[0] = Math.min(box[0], x); box[1] = Math.min(box[1], y); box[2] = Math.max(box[2], x); box[3] = Math.max(box[3], y);
 }
 
-// A breadboard, or a part that the run is without: it shows nothing by itself.
+// A breadboard, a part that the board has as others or that a page alone plays, or a part that the run is without, which shows nothing.
 function drawScenery(drawing, part) {
   const { run } = drawing, entry = part.columns ? breadboardOf(part, run.wires) : entryOf(part, run.wires);
+  if (part.as) { drawPart(drawing, part, entry, 'shown'); return; }
   drawPart(drawing, part.columns ? meeting(part, entry, run.wires, drawing.spots) : part, { ...entry, tell: undefined }, part.columns ? 'board' : 'left');
 }
 
@@ -97,8 +103,8 @@ function drawPart(drawing, part, entry, scenery = '') {
   const g = svg('g', { class: scenery === 'left' ? 'part left-out' : 'part', transform: `translate(${part.left} ${part.top}) rotate(${part.rotate} ${width / 2} ${height / 2})` });
   const update = entry.draw(g, part, run), corners = cornersOf(entry.size).map(place);
   if (update) drawing.updates.push(update);
-  if (entry.tell) drawing.tells.push([part.id, moment => entry.tell(part, run, moment)]);
-  g.append(svg('title', {}, `${part.id}: ${part.type}${entry.note ? ', ' + entry.note(part) : ''}${scenery === 'left' ? ', which was left out' : ''}`));
+  tellPart(drawing, part, entry);
+  g.append(svg('title', {}, `${part.id}: ${part.as || part.type}${entry.note ? ', ' + entry.note(part) : ''}${scenery === 'left' ? ', which was left out' : ''}`));
   if (!scenery) g.addEventListener('click', () => on.part && on.part(part.id));
   const isUno = part.type === 'wokwi-arduino-uno';
   if (!part.hidden) (scenery === 'board' ? layers.boards : isUno ? layers.uno : layers.parts).append(g);

@@ -5,6 +5,10 @@
 
 const LCD_PINS = { full: 'VSS VDD V0 RS RW E D0 D1 D2 D3 D4 D5 D6 D7 A K'.split(' '), i2c: 'GND VCC SDA SCL'.split(' ') };
 const isI2c = part => part.attrs.pins === 'i2c';
+function addressOf(part, usual) {
+  const text = part.attrs.i2cAddress || usual;
+  return (text.startsWith('0x') ? parseInt(text, 16) : parseInt(text, 10)) % 128;
+}
 
 class TextDisplay {
   constructor() {
@@ -72,7 +76,7 @@ function lcdByPins(run, part, taken) {
 function eachWritten(run, part, usual, visit) {
   const scl = run.wave(part.id + '.SCL'), sda = run.wave(part.id + '.SDA');
   if (!scl || !sda) return;
-  const text = part.attrs.i2cAddress || usual, mine = (text.startsWith('0x') ? parseInt(text, 16) : parseInt(text, 10)) % 128;
+  const mine = addressOf(part, usual);
   let listening = false, isFirst = false;
   walkI2c(scl, sda, {
     start: () => { listening = false; }, stop: () => { listening = false; }, bit: () => {}, answer: () => {},

@@ -17,7 +17,7 @@ async function runOfPage(data, packed) {
   const waves = unpackWaves(await inflated(bytesOf(packed)), data.counts);
   let t = 0;
   const times = data.times && data.times.map(step => (step === null ? null : (t += step)));
-  const modules = Object.fromEntries(Object.entries(data.modules).map(([type, { module, display }]) => [type, { module: bytesOf(module), display }]));
+  const modules = Object.fromEntries(Object.entries(data.modules).map(([type, made]) => [type, { ...made, module: bytesOf(made.module) }]));
   return makeRun({ ...data, modules, waves, serial: bytesOf(data.serial), times });
 }
 

@@ -52,6 +52,7 @@ function gate(kind) {
 // ---- The Uno
 
 const places = (names, xs, y) => Object.fromEntries(words(names).map((name, i) => [name, [xs[i], y]]));
+const LCD_PLACES = [32, 41.5, 51.5, 60.5, 70.5, 80, 89.5, 99.5, 109, 118.5, 128, 137.5, 147, 156.5, 166.5, 176];
 const UNO_TOP = {
   ...places('A5.2 A4.2 AREF GND.1 13 12 11 10 9 8', [87, 97, 106, 115.5, 125, 134.5, 144, 153.5, 163, 173], 9),
   ...places('7 6 5 4 3 2 1 0', [189, 198.5, 208, 217.5, 227, 236.5, 246, 255.5], 9),
@@ -287,7 +288,7 @@ const PARTS = {
 
   'wokwi-lcd1602': {
     size: [302.4, 136],
-    pins: part => isI2c(part) ? column(LCD_PINS.i2c.join(' '), 4, 32) : places(LCD_PINS.full.join(' '), [32, 41.5, 51.5, 60.5, 70.5, 80, 89.5, 99.5, 109, 118.5, 128, 137.5, 147, 156.5, 166.5, 176], 131),
+    pins: part => isI2c(part) ? column(LCD_PINS.i2c.join(' '), 4, 32) : places(LCD_PINS.full.join(' '), LCD_PLACES, 131),
     draw(g, part, run) {
       const blue = part.attrs.background === 'blue', glass = blue ? '#2448c8' : '#a3c63c', cell = blue ? '#1d3db3' : '#97bb34';
       const ink = colorOf(part.attrs.color, blue ? '#f4f6ff' : '#1c2a10');
@@ -433,5 +434,6 @@ function pixelsOf({ width, height, pixels }, { scale, top }) {
   return g;
 }
 
-const entryOf = (part, wires) => part.type === 'wokwi-membrane-keypad' && part.attrs.columns === '3' ? KEYPAD_OF_THREE : Object.hasOwn(PARTS, part.type) ? PARTS[part.type] : boxOf(part, wires);
+const entryOf = (part, wires) => shownEntry(part) || ownEntry(part, wires);
+const ownEntry = (part, wires) => part.type === 'wokwi-membrane-keypad' && part.attrs.columns === '3' ? KEYPAD_OF_THREE : Object.hasOwn(PARTS, part.type) ? PARTS[part.type] : boxOf(part, wires);
 const pinsOf = (entry, part) => typeof entry.pins === 'function' ? entry.pins(part) : entry.pins;

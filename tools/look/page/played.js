@@ -4,7 +4,8 @@
 // page knows what a chip showed in each cycle of a run.
 //
 // It is sent    { id, begin: { bytes, pins, attrs, display, last }, changes: [{ t, v }, ..], to }
-// and answers   { id, to, t, at, size, data, lines, ended, done }, several times for one that takes long, `done` in the last of them.
+// and answers   { id, begins } at once, and
+//               { id, to, t, at, size, data, lines, ended, done }, several times for one that takes long, `done` in the last of them.
 //
 // `changes` has the changes of each pin, `to` is the cycle up to which they are known. A further message without `begin` has the changes that
 // came since. `t`, `at` and `size` are the changes of the display with the places of their bytes, `data` has these bytes, one after another.
@@ -410,6 +411,7 @@ function extend(chip, changes) {
 }
 
 onmessage = ({ data: { id, begin, changes, to } }) => {
+  postMessage({ id, begins: true });
   try {
     if (begin) chips.set(id, new Played(begin));
     const chip = chips.get(id);

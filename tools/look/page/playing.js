@@ -12,11 +12,11 @@
 // Of a run that grows (`run.grows`; its `to` and its waves have more at each call) a later call goes on where it was. With `run.onlyLast` the
 // last picture alone is kept.
 
-const QUIET_MS = 10000, WHOLE_MS = 60000, LONG = 1 << 16;
+const START_MS = 60000, QUIET_MS = 20000, WHOLE_MS = 120000, LONG = 1 << 16;
 
 // The chip that shows a part: its own, or the one that a part which the simulator has is shown by.
 const playedOf = part => part.shown || part;
-const isPlayed = (run, part) => Boolean(run.modules && run.modules[playedOf(part).type] && playedOf(part).pins && !part.slice);
+const isPlayed = (run, part) => Boolean(run.modules && run.modules[playedOf(part).type] && playedOf(part).pins && (!part.slice || part.slice.of === part.id));
 
 function playChips(run, changed) {
   const playing = run.playing ||= new Playing(run);
@@ -66,7 +66,7 @@ class Playing {
     shown.upTo = Math.min(this.run.to, shown.end ? shown.end.t ?? 0 : Infinity);
     this.worker.postMessage({ id: shown.part.id, begin: shown.first, changes: changes.map(({ t, v }) => ({ t: Float64Array.from(t), v: Uint8Array.from(v) })), to: shown.upTo });
     shown.first = null;
-    this.watch(shown);
+    this.wait(shown, START_MS, `its worker did not start within ${START_MS / 1000} s`);
   }
 
   open() {
@@ -75,15 +75,20 @@ class Playing {
     this.worker.onmessage = ({ data }) => this.take(data);
     this.worker.onerror = event => { if (event.preventDefault) event.preventDefault(); if (this.current) this.leave(this.current, `the browser does not play it (${event.message || 'its worker ended'})`); };
   }
-  watch(shown) {
+  wait(shown, ms, why) {
     clearTimeout(this.timer);
-    const spent = performance.now() - shown.begun;
-    this.timer = setTimeout(() => this.leave(shown, spent > WHOLE_MS - QUIET_MS ? `it takes more than ${WHOLE_MS / 1000} s` : `it did not come back within ${QUIET_MS / 1000} s`), Math.max(Math.min(QUIET_MS, WHOLE_MS - spent), 0));
+    this.timer = setTimeout(() => this.leave(shown, why), ms);
+  }
+  watch(shown) {
+    const left = shown.begun + WHOLE_MS - performance.now();
+    if (left < QUIET_MS) this.wait(shown, Math.max(left, 0), `it takes more than ${WHOLE_MS / 1000} s`);
+    else this.wait(shown, QUIET_MS, `it did not come back within ${QUIET_MS / 1000} s`);
   }
 
-  take({ id, to, ended, done, ...news }) {
+  take({ id, begins, to, ended, done, ...news }) {
     const shown = this.shown.get(id);
     if (!shown || this.current !== shown) return;
+    if (begins) { this.watch(shown); return; }
     shown.record.append(news);
     shown.lines.push(...news.lines);
     shown.to = to;
@@ -188,8 +193,8 @@ const shownOf = (run, part) => (run.playing && run.playing.shown.get(part.id)) |
 
 function frameAt(run, part, t) {
   if (part.slice) {                 // a part of a chain shows its share of the pixels of the chain's chip
-    const head = run.parts.find(it => it.id === part.slice.of), whole = head && frameAt(run, { ...head, slice: null }, t), count = (part.entry && part.entry.count) || 1;
-    return whole && { width: count, height: 1, pixels: whole.pixels.subarray(4 * part.slice.from, 4 * (part.slice.from + count)), key: whole.key };
+    const { of, from, count } = part.slice, head = run.parts.find(it => it.id === of), whole = head && frameAt(run, { ...head, slice: null }, t);
+    return whole && { width: count, height: 1, pixels: whole.pixels.subarray(4 * from, 4 * (from + count)), key: whole.key };
   }
   const shown = shownOf(run, part);
   return shown && shown.display && shown.record ? shown.record.pictureAt(t) : null;

@@ -22,10 +22,11 @@ function runFrom({ title, us, diagram, chips, modules, script, vcd, serial, repo
 function makeRun({ title, cycles, from = 0, to = cycles, diagram, chips = {}, modules = {}, script = '', names, of, waves, serial, times = null, formats = [], others = [],
   report = '', firsts = {}, left = '', made = [], told = [], program = '' }) {
   const drawing = typeof diagram === 'string' ? JSON.parse(diagram) : diagram;
-  const parts = (drawing.parts || []).map(part => partOf(part, chips)), wires = wiresOf(drawing), { scenery, drawn } = drawnOf(drawing, wires);
+  const parts = (drawing.parts || []).map(part => withViewer(partOf(part, chips), modules)), wires = wiresOf(drawing), { scenery, drawn } = drawnOf(drawing, wires, chips);
   const run = {
     title, cycles, from, to, names, waves, report, modules, program, left, made,
     parts, scenery, wires: drawn || wires,
+    levelOf: levelsOf(drawn || []),  // of a pin that no part of the board has: one that has its level
     waveOf: new Map(names.map((name, i) => [name, of[i]])),
     inputs: inputsOf(parts, script),
     serial: { bytes: serial || new Uint8Array(0), times, formats, others },
@@ -51,10 +52,27 @@ function readSentAs(run, name) {
   run.serial = { ...serial, times: timesIn(run.wave(pinOf(uno, '1')), serial.bytes, name, run.to < run.cycles ? run.to : Infinity), formats: [name], others: names.filter(other => other !== name) };
 }
 
+function levelsOf(drawn) {
+  const levels = new Map();
+  for (const [one, other, , , level] of drawn) if (typeof level === 'string' && level) for (const end of [one, other]) levels.set(end.replace(':', '.'), level);
+  return levels;
+}
+
+// A part that the simulator has and a chip shows has that chip as `shown`.
+function withViewer(part, modules) {
+  const { pins } = modules[part.type] || {};
+  if (!pins || part.pins) return part;
+  const address = isI2c(part) ? { i2cAddress: String(addressOf(part, '0x27')) } : {};
+  return { ...part, shown: { type: part.type, id: part.id, pins, attrs: address } };
+}
+
+// `as` is the type that a part had in the editor's diagram, which a chip stands for now; `slice` its place in a chain of pixels, which the
+// chip of the first of them shows; `within` the part that is drawn in its place.
 function partOf(part, chips) {
   const number = x => typeof x === 'number' && isFinite(x) ? x : 0, attrs = Object.create(null);
   for (const [name, value] of Object.entries(part.attrs || {})) attrs[name] = String(value);
-  return { type: String(part.type), id: String(part.id), left: number(part.left), top: number(part.top), rotate: number(part.rotate),
+  const text = x => typeof x === 'string' ? x : '', { of, from, count } = part.slice || {};
+  return { type: String(part.type), id: String(part.id), as: text(part.as), within: text(part.within), slice: text(of) ? { of, from: number(from), count: number(count) } : null, shown: null, left: number(part.left), top: number(part.top), rotate: number(part.rotate),
     hidden: part.hide === true, attrs, pins: chips[part.type] || null };
 }
 
@@ -62,10 +80,10 @@ const wiresOf = drawing => (drawing.connections || []).filter(wire => Array.isAr
 
 // How the editor drew a diagram that a tool made a project of (tools/wokwi/lower.py): breadboards and parts that were left out, and the
 // wires, each with the pin whose level it has. It holds as long as the project's wires are those that it was made with.
-function drawnOf(drawing, wires) {
+function drawnOf(drawing, wires, chips) {
   const drawn = drawing.drawn, number = x => Number.isInteger(x) && x > 0 && x < 100 ? x : 0;
   if (!drawn || drawn.of !== markOf(wires)) return { scenery: [], drawn: null };
-  return { scenery: (drawn.parts || []).map(part => ({ ...partOf(part, {}), isScenery: true, columns: number(part.columns), rail: number(part.rail) })), drawn: wiresOf(drawn) };
+  return { scenery: (drawn.parts || []).map(part => ({ ...partOf(part, chips), isScenery: true, columns: number(part.columns), rail: number(part.rail) })), drawn: wiresOf(drawn) };
 }
 function markOf(wires) {            // FNV-1a, 32 bits
   let mark = 0x811C9DC5;
@@ -84,6 +102,8 @@ function sharingOf(run, of) {
 // The wave of a pin. The Uno's supplies and grounds are in no wave, since they never change.
 function waveNamed(run, name) {
   if (run.waveOf.has(name)) return run.waves[run.waveOf.get(name)];
+  const level = run.levelOf.get(name);
+  if (level && level !== name && (run.waveOf.has(level) || !run.levelOf.has(level))) return waveNamed(run, level);
   const at = name.indexOf('.'), pin = name.slice(at + 1);
   const part = run.parts.find(p => p.id === name.slice(0, at));
   if (!part || part.type !== 'wokwi-arduino-uno') return null;

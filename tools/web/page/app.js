@@ -250,7 +250,7 @@ function busy(app, is) {
 function showEnd(app, { project, notes }, ended, us) {
   const kept = app.run && { ...app.look.view, cycles: app.run.cycles };
   app.ended = ended;
-  app.shown = { diagram: textOf(project, 'diagram.json').replace(/^\uFEFF/, ''), chips: chipsOf(project), modules: modulesOf(project), script: textOf(project, SCRIPT) };
+  app.shown = { diagram: textOf(project, 'diagram.json').replace(/^\uFEFF/, ''), chips: chipsOf(project), modules: modulesOf(project, app.data.viewers), script: textOf(project, SCRIPT) };
   app.run = runFrom({ title: project.name, us, ...app.shown, vcd: ended.wave, serial: ended.serial, report: plainText.decode(ended.report), program: 'in a page' });
   app.run.made = notes;
   app.elements.stage.hidden = false;

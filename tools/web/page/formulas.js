@@ -56,6 +56,11 @@ function secondsOf(text) {
 }
 
 const FORMULAS = {
+  address(text) {
+    if (!/^(?:0x[0-9a-fA-F]{1,2}|[0-9]{1,5})$/.test(text) || Number(text) > 127) throw new ValueFault('is no address');
+    return String(Number(text));
+  },
+  serpentine: text => (text === 'serpentine' ? '1' : '0'),
   // An NTC of 10 kOhm at 25 degrees Celsius to ground, with 10 kOhm to 5V: R = 10k * exp(beta * (1/T - 1/298.15)).
   ntc(text, attrs) {
     const kelvin = numberOf(text) + 273.15;

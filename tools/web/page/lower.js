@@ -2,7 +2,9 @@
 // Makes of a diagram as Wokwi's editor writes it one whose parts the simulator has, as tools/wokwi/diagram.py does by the same table,
 // tools/wokwi/types.json. Both give the same text, the same notes and the same faults, which a test compares.
 
-const MOST_PARTS = 64, MOST_WIRES = 512, MOST_CHIPS = 8;
+const MOST_PARTS = 64, MOST_WIRES = 512, MOST_CHIPS = 8, MOST_PIXELS = 65536;
+// What a made project keeps of a part, for a page: its type in the editor, the part that it is a piece of, its place in a chain.
+const MADE = ['as', 'within', 'slice'];
 const isNumeral = it => it instanceof Numeral, ruleOf = (rules, name) => (Object.hasOwn(rules, name) ? rules[name] : undefined);
 
 // A text as Python's repr() writes it, for sentences.
@@ -52,11 +54,13 @@ function needsLowering(diagram, types) {
 class Lowering {
   constructor(diagram, chipPins, types) {
     Object.assign(this, { diagram, chipPins, types, notes: [], faults: [], parts: [], wires: [] });
-    this.ownChips = new Map();          // name in the new diagram: name of the file among the chips that the page has
+    this.ownChips = new Map();          // name in the new diagram: [name of the file among the chips that the page has, size of its display, its pins where they are others]
     this.ends = new Map();              // of a node, the ends that are that pin now
     this.pins = new Map();              // of a part, its pins, or null where any name is one
     this.strips = new Map();            // of a breadboard, its columns and the length of its rails
     this.reshaped = new Set();          // parts that are drawn as others, with their pins elsewhere
+    this.whole = new Map();             // parts that are drawn as the editor draws them, whatever they have become: the ids that they have then
+    this.isOther = false;               // whether a wire is drawn to a pin that the new diagram has no more
     this.scenery = [];                  // what the editor drew and the new diagram has no part for
     this.drawn = [];                    // the editor's wires, as a page draws them
     this.inner = [];                    // wires between the parts that one part has become
@@ -64,6 +68,7 @@ class Lowering {
     this.isBoard = true;
     this.nets = makeJoined();
     this.ids = new Set(diagram.get('parts').map(part => part.get('id')));
+    this.firsts = [...new Map([...diagram.get('parts')].reverse().map(part => [part.get('id'), part])).values()].reverse();      // without second parts of an id
     this.places = { part: [], connection: [] };     // of each new part and wire, the place of the old one, from 1; 0 of a wire that was none
     this.begin();
     for (const wire of this.inner) this.addWire(wire, 0);
@@ -72,8 +77,42 @@ class Lowering {
 
   // ---- Parts
 
+  // {id: [[id, pixels], ..]}: the parts that pass on the same bits, from each that begins a chain of two or more. They become one chip,
+  // as if it were a strip.
+  chains() {
+    const sizes = new Map(), after = new Map(), found = new Map();
+    for (const part of this.firsts) {
+      const rule = ruleOf(this.types.lowered, part.get('type'));
+      if (!rule || !rule.chained) continue;
+      try { sizes.set(part.get('id'), sizeOf(rule, attrsOf(part))); } catch (fault) { if (fault instanceof ValueFault) return found; throw fault; }
+    }
+    const wires = this.diagram.get('connections').map(wire => wire.slice(0, 2)), ends = wires.flat(), count = end => ends.filter(it => it === end).length;
+    for (const [first, second] of wires) {
+      for (const [one, other] of [[first, second], [second, first]]) {
+        const head = one.endsWith(':DOUT') && one.slice(0, -5), next = other.endsWith(':DIN') && other.slice(0, -4);
+        if (sizes.has(head) && sizes.has(next) && count(one) === 1 && count(other) === 1) after.set(head, next);
+      }
+    }
+    for (const head of sizes.keys()) {
+      if (!after.has(head) || [...after.values()].includes(head)) continue;
+      const chain = [head];
+      while (after.has(chain.at(-1)) && !chain.includes(after.get(chain.at(-1)))) chain.push(after.get(chain.at(-1)));
+      found.set(head, chain.map(name => [name, sizes.get(name).width * sizes.get(name).height]));
+    }
+    return found;
+  }
+
+  // The ids of parts that only show, of which the board has no room for a chip: a page shows them by the levels of their wires.
+  viewers(links) {
+    const rules = this.firsts.filter(part => !links.has(part.get('id'))).map(part => [part.get('id'), ruleOf(this.types.lowered, part.get('type')) || {}]);
+    const chips = rules.reduce((sum, [, rule]) => sum + ('chip' in rule ? (rule.as || [0]).length : 0), 0) + this.firsts.filter(part => part.get('type').startsWith('chip-')).length;
+    const ends = new Set(this.diagram.get('connections').flatMap(wire => wire.slice(0, 2))), free = rules.filter(([name, rule]) => rule['only shows'] && !ends.has(`${name}:DOUT`)).map(([name]) => name);
+    return new Set(chips > MOST_CHIPS ? free.slice(-(chips - MOST_CHIPS)) : []);
+  }
+
   begin() {
-    const seen = new Set();
+    const seen = new Set(), chains = this.chains(), links = new Map([...chains].flatMap(([head, chain]) => chain.slice(1).map(([name]) => [name, head]))), viewers = this.viewers(links);
+    this.heads = new Map([...chains.keys()].map(name => [name, this.newId(name, name)]));     // of each first part of a chain, the id in the new diagram
     this.diagram.get('parts').forEach((part, i) => {
       const kind = part.get('type'), name = part.get('id'), attrs = attrsOf(part);
       this.place = i + 1;
@@ -85,8 +124,11 @@ class Lowering {
         if (!Object.hasOwn(rule.cases, which)) { this.faults.push(`${name} (${kind}): ${rule.by} is ${quoted(which)}, and not one of ${Object.keys(rule.cases).join(', ')}`); return; }
         rule = { ...rule, as: rule.cases[which] };
       }
-      const simulated = ruleOf(this.types.simulated, kind), strip = ruleOf(this.types.breadboards, kind);
-      if (rule && rule.as !== null) this.replace(part, attrs, rule);
+      const simulated = ruleOf(this.types.simulated, kind), strip = ruleOf(this.types.breadboards, kind), chain = chains.get(name);
+      if (links.has(name)) { this.link(part, attrs, rule, chains.get(links.get(name)), this.heads.get(links.get(name))); return; }
+      if (chain) rule = { ...rule, display: { width: String(chain.reduce((sum, [, count]) => sum + count, 0)), height: '1' }, slice: sliceOf(this.heads.get(name), 0, chain[0][1]) };
+      if (viewers.has(name)) this.view(part, attrs, rule);
+      else if (rule && rule.as !== null) this.replace(part, attrs, rule);
       else if (simulated) this.keep(part, attrs, simulated);
       else if (strip) {
         this.strips.set(name, strip);
@@ -110,7 +152,7 @@ class Lowering {
 
   // A part of a kind and a name where the old one is.
   placed(part, kind, name) {
-    return new Map([['type', kind], ['id', name], ...['top', 'left', 'rotate', 'hide'].filter(key => part.has(key)).map(key => [key, part.get(key)])]);
+    return new Map([['type', kind], ['id', name], ...['top', 'left', 'rotate', 'hide', ...MADE].filter(key => part.has(key)).map(key => [key, part.get(key)])]);
   }
 
   put(part, kind, name, attrs) {
@@ -159,6 +201,24 @@ class Lowering {
     for (const [first, ...others] of rule.joined || []) for (const pin of others) this.nets.join(nodeOf(name, first), nodeOf(name, pin));
   }
 
+  // A part of a chain, which the chip of its first part shows; `head` is that part's id in the new diagram.
+  link(part, attrs, rule, chain, head) {
+    const name = part.get('id'), kind = part.get('type'), place = chain.findIndex(([it]) => it === name), kept = new Map((rule.as[0].keep || []).filter(key => attrs.has(key)).map(key => [key, attrs.get(key)]));
+    this.pins.set(name, null);
+    if (place === chain.length - 1) this.ends.set(nodeOf(name, 'DOUT'), [`${head}:DOUT`]);
+    const from = chain.slice(0, place).reduce((sum, [, count]) => sum + count, 0);
+    this.scenery.push(this.placed(part, kind, name).set('attrs', kept).set('as', kind).set('slice', sliceMap(sliceOf(head, from, chain[place][1]))));
+    this.notes.push(`${name} (${kind}) is shown by the chip of ${chain[0][0]}, which is before it in the chain`);
+  }
+
+  // A part that only shows, and is no part of the board: a page plays its chip on the levels of its wires.
+  view(part, attrs, rule) {
+    const name = part.get('id'), kind = part.get('type'), piece = rule.as[0];
+    this.pins.set(name, null);
+    this.scenery.push(this.placed(part, this.pieceType(part, piece, rule, attrs), name).set('attrs', this.givenTo(part, piece, attrs)).set('as', kind));
+    this.notes.push(`${name} (${kind}) is shown by the page alone: a board has room for ${MOST_CHIPS} chips`);
+  }
+
   keepChip(part, attrs) {
     const name = part.get('id'), chip = part.get('type').slice('chip-'.length);
     if (!this.chipPins.has(chip)) { this.faults.push(`${name} (${part.get('type')}): the folder has no chip ${chip}: neither ${chip}.chip.wasm nor ${chip}.chip.c`); return; }
@@ -169,16 +229,16 @@ class Lowering {
   }
 
   replace(part, attrs, rule) {
-    const name = part.get('id'), kind = part.get('type'), names = new Map(), own = new Set(rule['other pins'] || []);
-    this.reshaped.add(name);
+    const name = part.get('id'), kind = part.get('type'), names = new Map(), own = new Set(rule['other pins'] || []), asOne = rule['drawn as one'], asItself = rule['drawn as itself'];
+    if (!asOne && !asItself) this.reshaped.add(name);
+    if (asOne) {
+      this.whole.set(name, name);
+      this.scenery.push(this.placed(part, kind, name).set('attrs', new Map(asOne.filter(key => attrs.has(key)).map(key => [key, attrs.get(key)]))).set('as', kind));
+    }
     this.pins.set(name, own);
     for (const piece of rule.as) {
-      const made = this.newId(name + piece.id, piece.id === '' ? name : null), kept = new Map();
+      const made = this.heads.get(name) ?? this.newId(name + piece.id, piece.id === '' ? name : null), kept = this.givenTo(part, piece, attrs);
       names.set(piece.id, made);
-      for (const key of piece.keep || []) if (attrs.has(key)) kept.set(key, attrs.get(key));
-      for (const [key, how] of Object.entries(piece.attrs || {})) {
-        try { kept.set(key, valueOf(how, attrs)); } catch (fault) { this.valueFault(fault, `${name} (${kind}): ${how.from} ${quoted(attrs.get(how.from))}`); }
-      }
       const simulated = ruleOf(this.types.simulated, piece.type), fitted = simulated ? this.fitting(name, kept, simulated) : kept;
       for (const [pin, now] of Object.entries(piece.pins)) {
         own.add(pin);
@@ -186,19 +246,48 @@ class Lowering {
         if (!this.ends.has(node)) this.ends.set(node, []);
         this.ends.get(node).push(`${made}:${now}`);
       }
-      this.put(part, this.pieceType(piece, rule), made, fitted);
+      this.put(part, this.pieceType(part, piece, rule, attrs), made, fitted);
+      if (asItself) {
+        this.parts.at(-1).set('as', kind);
+        this.whole.set(name, made);
+      }
+      if (asOne) this.parts.at(-1).set('within', name);
+      if (rule.slice) {
+        this.parts.at(-1).set('slice', sliceMap(rule.slice));
+        this.ends.delete(nodeOf(name, 'DOUT'));
+      }
     }
     for (const both of rule.wires || []) this.inner.push([...both.map(end => `${names.get(end.split(':')[0])}:${end.split(':')[1]}`), '', []]);
     const pieces = rule.as.map(piece => `${names.get(piece.id)} (${piece.type})`).join(', ');
     if (rule.as[0].type !== kind || 'says' in rule) this.notes.push(`${name} (${kind}) is ${pieces}${'says' in rule ? `: it ${rule.says}` : ''}`);
   }
 
-  // The type of a piece; a chip of ours gets a name that no chip of the project has.
-  pieceType(piece, rule) {
-    if (!('chip' in rule)) return piece.type;
-    let made = rule.chip;
-    while (this.chipPins.has(made)) made += '-';
-    this.ownChips.set(made, rule.chip);
+  // The attributes of a piece, from those of its part.
+  givenTo(part, piece, attrs) {
+    const given = new Map((piece.keep || []).filter(key => attrs.has(key)).map(key => [key, attrs.get(key)]));
+    for (const [key, how] of Object.entries(piece.attrs || {})) {
+      try { given.set(key, valueOf(how, attrs)); } catch (fault) { this.valueFault(fault, `${part.get('id')} (${part.get('type')}): ${how.from} ${quoted(attrs.get(how.from))}`); }
+    }
+    return given;
+  }
+
+  // The type of a piece; a chip of ours gets a name that no chip of the project has, with the size of its display where the part says that.
+  pieceType(part, piece, rule, attrs) {
+    if (!('chip' in rule) || !piece.type.startsWith('chip-')) return piece.type;
+    let made = rule.chip, size = {};
+    if (rule.display) {
+      try {
+        size = sizeOf(rule, attrs);
+        if (!(Math.min(size.width, size.height) >= 1 && size.width * size.height <= MOST_PIXELS)) throw new ValueFault(`a display has 1 to ${MOST_PIXELS} pixels`);
+      } catch (fault) {
+        this.valueFault(fault, `${part.get('id')} (${part.get('type')}): its display:`);
+        size = { width: 1, height: 1 };
+      }
+      made += `-${size.width}x${size.height}`;
+    }
+    const own = [rule.chip, size, rule['drawn as itself'] ? [...new Set(Object.values(piece.pins))] : null], same = JSON.stringify(own);
+    while (this.chipPins.has(made) || (this.ownChips.has(made) && JSON.stringify(this.ownChips.get(made)) !== same)) made += '-';
+    this.ownChips.set(made, own);
     return `chip-${made}`;
   }
 
@@ -227,11 +316,11 @@ class Lowering {
     }
     const pins = this.pins.get(name);
     if (pins !== null && !pins.has(pin)) {
-      const its = [...pins].sort((a, b) => a.length - b.length || (a < b ? -1 : 1)).join(', ');
-      this.faults.push(`connection ${place}: ${name} has no pin ${pin}${pins.size > 0 && pins.size <= 16 ? `; it has ${its}` : ''}`);
+      const its = [...pins].sort(byLength).join(', ');
+      this.faults.push(`connection ${place}: ${name} has no pin ${pin}${pins.size && pins.size <= 16 ? `; it has ${its}` : ''}`);
       return null;
     }
-    return { name, node: nodeOf(name, pin) };
+    return { name, pin, node: nodeOf(name, pin) };
   }
 
   connect() {
@@ -273,7 +362,9 @@ class Lowering {
 
   // Keeps how the editor drew a wire. An end in a hole, or on a part that is left out, stays what it is.
   draw(wire, both) {
-    const ends = both.map(({ name, node }, i) => (this.strips.has(name) || this.pins.get(name) === null ? [wire[i]] : this.ends.get(node) || []));
+    const whole = both.map(({ name, pin }) => (this.whole.has(name) ? `${this.whole.get(name)}:${pin}` : null));
+    const ends = both.map(({ name, node }, i) => (this.strips.has(name) || this.pins.get(name) === null ? [wire[i]] : whole[i] !== null ? [whole[i]] : this.ends.get(node) || []));
+    if (both.some(({ node }, i) => whole[i] !== null && ((this.ends.get(node) || []).length !== 1 || this.ends.get(node)[0] !== whole[i]))) this.isOther = true;
     if (!ends.every(it => it.length)) return;
     const isPlugged = wire.length > 3 && Array.isArray(wire[3]) && wire[3].length === 1 && wire[3][0] === '$bb', [colour, steps] = [...(isPlugged ? wire.slice(2) : this.drawingOf(wire, both)), '', []];
     this.drawn.push([ends[0][0], ends[1][0], colour, steps, both[0].node]);
@@ -282,6 +373,7 @@ class Lowering {
   // The wires between the parts that one part has become.
   drawPieces(nodes, colours) {
     for (const node of nodes) {
+      if (this.whole.has(JSON.parse(node)[0])) continue;
       const [first, ...others] = this.ends.get(node) || [''];
       for (const other of others) this.drawn.push([first, other, colours.get(node), [], node]);
     }
@@ -306,11 +398,20 @@ class Lowering {
       const ours = what === 'parts that are chips' ? this.parts.filter(part => this.ownChips.has(part.get('type').slice('chip-'.length))).map(part => part.get('id')).join(', ') : '';
       if (count > most) this.refuseBoard(`there are ${count} ${what}, and ${most} is the most${ours && `; chips in place of Wokwi's parts are ${ours}`}`);
     }
-    const drawn = this.scenery.length ? this.drawing() : this.diagram.get('drawn');
+    const drawn = this.scenery.length || this.isOther ? this.drawing() : this.diagram.get('drawn');
     return diagramText(this.diagram.has('author') ? this.diagram.get('author') : '', this.parts, this.wires, isThere(drawn) ? drawn : null);
   }
 }
 
+// The size of the display of a chip that a part becomes.
+const sizeOf = (rule, attrs) => Object.fromEntries(Object.entries(rule.display).map(([side, how]) => [side, Number(valueOf(how, attrs))]));
+// Which of the pixels of a chain a part has.
+const sliceOf = (of, from, count) => ({ of, from, count }), sliceMap = ({ of, from, count }) => new Map([['of', of], ['from', new Numeral(String(from))], ['count', new Numeral(String(count))]]);
+// Shorter texts first, then in the order of their code points.
+function byLength(one, other) {
+  const [a, b] = [[...one], [...other]], at = a.findIndex((c, i) => c !== b[i]);
+  return a.length - b.length || (at < 0 ? 0 : a[at].codePointAt(0) - b[at].codePointAt(0));
+}
 const nodeOf = (name, pin) => JSON.stringify([name, pin]);
 // What Python takes for true.
 const isThere = it => !(it === undefined || it === null || it === false || it === '' || (isNumeral(it) && it.value === 0) || (Array.isArray(it) && !it.length) || (it instanceof Map && !it.size));

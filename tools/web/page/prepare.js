@@ -81,16 +81,26 @@ function handedOver(attrs, module) {
   return made;
 }
 
-// wokwi.toml with the firmware and [name, stem of the file] of each chip.
-function settingsText(chips) {
-  return "[wokwi]\nversion = 1\nfirmware = 'firmware.hex'\n" + chips.map(([name, stem]) => `\n[[chip]]\nname = ${JSON.stringify(name)}\nbinary = ${JSON.stringify(`${stem}.wasm`)}\n`).join('');
+// wokwi.toml with the firmware and [name, stem of the file] of each chip; `shown` are those that a page alone plays, which the simulator
+// ignores.
+function settingsText(chips, shown) {
+  const tables = (kind, rows) => rows.map(([name, stem]) => `\n[[${kind}]]\nname = ${JSON.stringify(name)}\nbinary = ${JSON.stringify(`${stem}.wasm`)}\n`).join('');
+  return `[wokwi]\nversion = 1\nfirmware = 'firmware.hex'\n${tables('chip', chips)}${tables('shown', shown)}`;
+}
+
+// The pin file of a chip of ours, with the size of its display and the pins that it has here.
+function ownPinFile(bytes, size, pins) {
+  const value = readJson(plainText.decode(bytes)), numbers = Object.entries(size).map(([side, n]) => [side, new Numeral(String(n))]);
+  if (pins) value.set('pins', pins);
+  if (numbers.length) value.set('display', new Map(numbers));
+  return utf8.encode(jsonText(value));
 }
 
 // Null of a diagram that the simulator is to refuse.
 function loweredProject(project, diagram, kit) {
   const chips = chipsIn(project, diagram), lowering = new Lowering(diagram, new Map([...chips].map(([name, chip]) => [name, pinsOf(project, chip)])), kit.types);
   for (const part of lowering.parts) {
-    const name = part.get('type').slice('chip-'.length), own = lowering.ownChips.get(name), module = !part.get('type').startsWith('chip-') ? null : own ? kit.chips[`${own}.wasm`] : project.files.get(chips.get(name).module);
+    const name = part.get('type').slice('chip-'.length), own = lowering.ownChips.get(name), module = !part.get('type').startsWith('chip-') ? null : own ? kit.chips[`${own[0]}.wasm`] : project.files.get(chips.get(name).module);
     if (module) part.set('attrs', handedOver(part.get('attrs'), module));
   }
   const text = lowering.outcome();
@@ -106,11 +116,18 @@ function loweredProject(project, diagram, kit) {
     files.set(`${stem}.json`, project.files.get(chip.text)).set(`${stem}.wasm`, project.files.get(chip.module));
     stems.push([name, stem]);
   }
-  for (const [name, own] of lowering.ownChips) {
-    for (const ending of ['.wasm', '.json']) files.set(own + ending, kit.chips[own + ending]);
-    stems.push([name, own]);
+  const shown = [], onBoard = new Set(lowering.parts.map(part => part.get('type')));
+  for (const { name, binary } of chipTables(project, 'shown')) {
+    const chip = chipOf(project, name, binary), stem = `shown-${shown.length}`;
+    pinsOf(project, chip);
+    files.set(`${stem}.json`, project.files.get(chip.text)).set(`${stem}.wasm`, project.files.get(chip.module));
+    shown.push([name, stem]);
   }
-  files.set('diagram.json', utf8.encode(text)).set('wokwi.toml', utf8.encode(settingsText(stems)));
+  for (const [name, [own, size, pins]] of lowering.ownChips) {
+    files.set(`${name}.wasm`, kit.chips[`${own}.wasm`]).set(`${name}.json`, ownPinFile(kit.chips[`${own}.json`], size, pins));
+    (onBoard.has(`chip-${name}`) ? stems : shown).push([name, name]);
+  }
+  files.set('diagram.json', utf8.encode(text)).set('wokwi.toml', utf8.encode(settingsText(stems, shown)));
   if (project.files.has(SCRIPT)) files.set(SCRIPT, project.files.get(SCRIPT));
   const placeOf = (place, file) => {
     if (file === SCRIPT) return place;

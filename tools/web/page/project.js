@@ -60,18 +60,19 @@ function firmwarePath(project) {
   return named && project.files.has(named) ? named : found.length === 1 ? found[0] : null;
 }
 
-// The chips that wokwi.toml names: [{name, binary}, ..].
-function chipTables(project) {
-  return textOf(project, 'wokwi.toml').split(/^[ \t]*\[\[[ \t]*chip[ \t]*\]\].*$/m).slice(1).map(table => {
+// The chips that wokwi.toml names, in tables [[chip]], or [[shown]] of those that a page alone plays: [{name, binary}, ..].
+function chipTables(project, kind = 'chip') {
+  return textOf(project, 'wokwi.toml').split(new RegExp(`^[ \\t]*\\[\\[[ \\t]*${kind}[ \\t]*\\]\\].*$`, 'm')).slice(1).map(table => {
     const value = key => (new RegExp(`^[ \\t]*${key}[ \\t]*=[ \\t]*(['"])(.*?)\\1`, 'm').exec(table) || [])[2];
     return { name: value('name'), binary: value('binary') };
   }).filter(({ name, binary }) => name && binary);
 }
 
-// The chips, as a look at a run needs them, by 'chip-NAME': {pins, display, module}. The simulator has accepted these files.
+// The chips, as a look at a run needs them, by 'chip-NAME': {pins, display, module}; those too that a page alone plays, in tables [[shown]].
+// The simulator has accepted the files of the others.
 function allChips(project) {
   const chips = {};
-  for (const { name, binary } of chipTables(project)) {
+  for (const { name, binary } of [...chipTables(project), ...chipTables(project, 'shown')]) {
     try {
       const { pins, display } = JSON.parse(textOf(project, binary.replace(/\.wasm$/, '.json')));
       chips['chip-' + name] = { pins, display: display ? [display.width, display.height] : null, module: project.files.get(binary) };
@@ -81,11 +82,16 @@ function allChips(project) {
 }
 const chipsOf = project => Object.fromEntries(Object.entries(allChips(project)).map(([type, { pins }]) => [type, pins]));
 
-// Those that can print or draw, since their modules import what does: {'chip-NAME': {module, display}}. A page plays them.
+// Those that can print or draw, since their modules import what does: {'chip-NAME': {module, display}}. A page plays them. `viewers` are
+// the chips that show parts of the simulator: {TYPE: {module, display, pins}}, the module as base64.
 const SHOWING = ['fd_write', 'framebufferInit'];
-function modulesOf(project) {
+function modulesOf(project, viewers = {}) {
   const used = new Set(), modules = {};
-  try { for (const part of JSON.parse(textOf(project, 'diagram.json').replace(/^\uFEFF/, '')).parts) used.add(part.type); } catch { return modules; }
+  try {
+    const { parts, drawn } = JSON.parse(textOf(project, 'diagram.json').replace(/^\uFEFF/, ''));
+    for (const part of [...parts, ...((drawn && drawn.parts) || [])]) used.add(part.type);
+  } catch { return modules; }
+  for (const [type, made] of Object.entries(viewers)) if (used.has(type)) modules[type] = { ...made, module: fromBase64(made.module) };
   for (const [type, { module, display }] of Object.entries(allChips(project))) {
     if (!used.has(type) || !module) continue;
     const text = latin1.decode(module);

@@ -25,7 +25,7 @@ const escaped = text => text.replace(/[&<>"]/g, c => ({ '&': '&amp;', '<': '&lt;
 // @@PLAYS@@, what the policy allows a page that plays chips.
 const PLAYS = " 'wasm-unsafe-eval'; worker-src blob:";
 async function pageOfRun(template, run, { diagram, chips, modules, script }) {
-  const carried = Object.fromEntries(Object.entries(modules).map(([type, { module, display }]) => [type, { module: toBase64(module), display }]));
+  const carried = Object.fromEntries(Object.entries(modules).map(([type, made]) => [type, { ...made, module: toBase64(made.module) }]));
   const { bytes, times, formats, others } = run.serial, steps = times && times.map((t, i) => (t === null ? null : t - (i ? times[i - 1] : 0)));
   const data = { title: run.title, cycles: run.cycles, from: run.from, to: run.to, diagram, chips, modules: carried, script, names: run.names, of: run.names.map(name => run.waveOf.get(name)),
     counts: run.waves.map(wave => wave.t.length), serial: toBase64(bytes), times: steps, formats, others, report: run.report, firsts: {}, left: run.left, made: run.made };

@@ -231,6 +231,13 @@ test('a page gets the modules of the chips that print or draw, and of no others'
   const unused = read('chip-display');
   unused.files.set('diagram.json', bytes('{"parts": []}'));
   assert.deepEqual(page.modulesOf(unused), {});
+  const viewers = { 'wokwi-lcd1602': { module: 'AAEC', display: [16, 3], pins: ['RS'] } };
+  assert.deepEqual(page.modulesOf(read('lcd-i2c'), viewers), { 'wokwi-lcd1602': { module: new Uint8Array([0, 1, 2]), display: [16, 3], pins: ['RS'] } });
+  assert.deepEqual(page.modulesOf(read('chip-inverter'), viewers), {});
+  const shown = read('chip-display');
+  shown.files.set('wokwi.toml', bytes("[[shown]]\nname = 's'\nbinary = 'bars.wasm'\n"));
+  shown.files.set('diagram.json', bytes('{"parts": [], "drawn": {"parts": [{"type": "chip-s"}]}}'));
+  assert.deepEqual(Object.keys(page.modulesOf(shown)), ['chip-s'], 'a part that is only drawn');
 });
 
 test('packed waves are those that the page of a run reads', t => {

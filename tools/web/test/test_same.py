@@ -53,7 +53,7 @@ def in_python(project: dict) -> dict:
         "faults": lowering.faults,
         "isBoard": lowering.is_board,
         "needs": diagrams.needs_lowering(value, TYPES),
-        "chips": lowering.own_chips,
+        "chips": {name: list(own) for name, own in lowering.own_chips.items()},
     }
 
 
