@@ -23,7 +23,21 @@ HERE = os.path.dirname(os.path.abspath(__file__))
 ROOT = os.path.join(HERE, "..", "..")
 PROJECTS = os.path.join(ROOT, "tools", "wokwi", "projects")
 # Those with parts that a chip stands for and that show something.
-SEEN = ("servo-and-analyzer", "pan-tilt", "pixel-ring", "pixel-chain", "serpentine", "clock-face", "marquee", "two-matrices", "stepper", "stepper-driver", "lcd-2004", "lcd-scroll", "twelve-servos")
+SEEN = (
+    "servo-and-analyzer",
+    "pan-tilt",
+    "pixel-ring",
+    "pixel-chain",
+    "serpentine",
+    "clock-face",
+    "marquee",
+    "two-matrices",
+    "stepper",
+    "stepper-driver",
+    "lcd-2004",
+    "lcd-scroll",
+    "twelve-servos",
+)
 TIMES = 13
 # At each time what the report would have: rows of displays that are not all 0, and lines.
 SHOWN = """{ const run = await runOfPage(given.data, given.packed), hex = b => b.toString(16).toUpperCase().padStart(2, '0'); await playChips(run);
@@ -47,7 +61,9 @@ def reported(folder: str, us: int, script: str | None) -> list[str]:
 
 def compared(folder: str, us: int, script: str | None = None, words: tuple[str, ...] = ()) -> int:
     """Compares page and report at some times of a run of `us` microseconds; how many chips were played. Raises AssertionError."""
-    seen = seen_of(arguments([folder, "--us", str(us), "--samples", "0", *(["--script", script] if script else []), *words]))
+    seen = seen_of(
+        arguments([folder, "--us", str(us), "--samples", "0", *(["--script", script] if script else []), *words])
+    )
     chance = random.Random(os.path.basename(folder))
     first = seen.start // 16
     times = sorted({chance.randrange(max(first, 1), us) for _ in range(TIMES - 1)} | {us})
@@ -58,7 +74,9 @@ def compared(folder: str, us: int, script: str | None = None, words: tuple[str, 
     for time, lines, again in zip(times, got["at"], reversed(got["backwards"])):
         played = {line.split(" ")[1] for line in lines}
         of_program = reported(folder, time, script)
-        assert sorted(lines) == of_program and again == lines, f"{folder} at {time} us: {sorted(lines)[:3]} .. and not {of_program[:3]} .."
+        assert (
+            sorted(lines) == of_program and again == lines
+        ), f"{folder} at {time} us: {sorted(lines)[:3]} .. and not {of_program[:3]} .."
         assert played <= {line.split(" ")[1] for line in of_program}
     return got["played"]
 
@@ -132,7 +150,13 @@ def project_with(folder: str, name: str, module: str, attrs: dict, display: dict
     files = {
         "wokwi.toml": f"[wokwi]\nversion = 1\nfirmware = '{hexes[0]}'\n[[chip]]\nname = 'c'\nbinary = 'c.wasm'\n",
         "c.json": json.dumps({"name": "c", "pins": ["", "IN"]} | ({"display": display} if display else {})),
-        "diagram.json": json.dumps({"version": 1, "parts": [{"type": "wokwi-arduino-uno", "id": "uno"}, {"type": "chip-c", "id": "c1", "attrs": attrs}], "connections": [["uno:13", "c1:IN", "", []]]}),
+        "diagram.json": json.dumps(
+            {
+                "version": 1,
+                "parts": [{"type": "wokwi-arduino-uno", "id": "uno"}, {"type": "chip-c", "id": "c1", "attrs": attrs}],
+                "connections": [["uno:13", "c1:IN", "", []]],
+            }
+        ),
     }
     for file, text in files.items():
         with open(os.path.join(out, file), "w", encoding="utf-8") as stream:
@@ -145,7 +169,9 @@ def compiled(box: str, name: str, source: str, *words: str) -> str:
     text, module = os.path.join(box, name + ".c"), os.path.join(box, name + ".wasm")
     with open(text, "w", encoding="utf-8") as file:
         file.write(source)
-    done = subprocess.run([os.path.join(ROOT, "sdk", "build.sh"), *words, "-o", module, text], stderr=subprocess.PIPE, check=False)
+    done = subprocess.run(
+        [os.path.join(ROOT, "sdk", "build.sh"), *words, "-o", module, text], stderr=subprocess.PIPE, check=False
+    )
     assert done.returncode == 0, done.stderr.decode()
     return module
 
@@ -156,7 +182,11 @@ def check_hard(box: str) -> None:
     for last in (0, 6):
         module = compiled(box, f"loops-{last}", LOOPS, f"-DLAST={last}")
         assert compared(project_with(box, f"loop-{last}", module, {}, two), 200) == 1
-        trapped = subprocess.run([program(), "run", os.path.join(box, f"loop-{last}"), "--us", "200", "--report", "-"], stdout=subprocess.PIPE, check=True)
+        trapped = subprocess.run(
+            [program(), "run", os.path.join(box, f"loop-{last}"), "--us", "200", "--report", "-"],
+            stdout=subprocess.PIPE,
+            check=True,
+        )
         assert b"chip c1 trap 9" in trapped.stdout
     module = compiled(box, "grows", GROWS, "--libc")
     assert compared(project_with(box, "grow", module, {"a": "-2147483649", "b": "4294967295"}, None), 200) == 1
@@ -183,11 +213,16 @@ HOSTILE = """{ const base = { module: bytesOf(given.module), display: [1, 1] }, 
 
 def check_hostile(box: str) -> None:
     """A module that does not come back is ended with its worker, and the others are shown; none has more than its memory."""
-    given = {name: examples_bytes(compiled(box, "hostile-" + name, LOOPS, f"-DLAST={last}")) for name, last in (("module", 99), ("loops", 1))}
+    given = {
+        name: examples_bytes(compiled(box, "hostile-" + name, LOOPS, f"-DLAST={last}"))
+        for name, last in (("module", 99), ("loops", 1))
+    }
     got = evaluated(HOSTILE, given)
     assert got["shown"] == [2, 0, 0, 0, 2], got
     assert [text.split(":")[0] for text in got["unplayed"]] == [
-        "loops is not shown as it goes on from 0.0 µs on", "none is not shown as it goes on from 0.0 µs on", "large is not shown as it goes on from 0.0 µs on",
+        "loops is not shown as it goes on from 0.0 µs on",
+        "none is not shown as it goes on from 0.0 µs on",
+        "large is not shown as it goes on from 0.0 µs on",
     ], got["unplayed"]
     assert "did not come back" in got["unplayed"][0] and "too large" in got["unplayed"][2], got["unplayed"]
 
@@ -230,12 +265,26 @@ def everything() -> int:
     bad = 0
     with tempfile.TemporaryDirectory() as box:
         engines = os.path.join(box, "engines")
-        steps = [(name, lambda name=name: compared(examples.folder_of(name), examples.microseconds(name))) for name in ("chip-display", "chip-printf", "chip-typist")]
-        steps += [("chip-display from a later time on", lambda: compared(examples.folder_of("chip-display"), 100000, words=("--from", "60000")))]
+        steps = [
+            (name, lambda name=name: compared(examples.folder_of(name), examples.microseconds(name)))
+            for name in ("chip-display", "chip-printf", "chip-typist")
+        ]
+        steps += [
+            (
+                "chip-display from a later time on",
+                lambda: compared(examples.folder_of("chip-display"), 100000, words=("--from", "60000")),
+            )
+        ]
         if shutil.which(os.environ.get("CLANG", "clang")) and shutil.which("wasm-ld"):
-            steps += [("chips that are hard to play", lambda: check_hard(box)), ("modules that do not come back", lambda: check_hostile(box))]
+            steps += [
+                ("chips that are hard to play", lambda: check_hard(box)),
+                ("modules that do not come back", lambda: check_hostile(box)),
+            ]
             if shutil.which("avr-g++"):
-                steps += [("engines", lambda: made_of(os.path.join(HERE, "engines"), engines) and compared(engines, 60000)), ("engines in pieces", lambda: check_growing(engines, 30000))]
+                steps += [
+                    ("engines", lambda: made_of(os.path.join(HERE, "engines"), engines) and compared(engines, 60000)),
+                    ("engines in pieces", lambda: check_growing(engines, 30000)),
+                ]
                 steps += [(f"project {name}", lambda name=name: check_project(box, name)) for name in SEEN]
             else:
                 print("look, chips with engines: skipped, there is no avr-g++", file=sys.stderr)

@@ -7,7 +7,20 @@ from collections.abc import Callable
 Rows = dict[int, list[bytes]]  # of a display: by its number, the pixels of each row that is not all 0, four bytes each
 
 # The segments of a digit, A in bit 0, as what it shows.
-DIGITS = {0x3F: "0", 0x06: "1", 0x5B: "2", 0x4F: "3", 0x66: "4", 0x6D: "5", 0x7D: "6", 0x07: "7", 0x7F: "8", 0x6F: "9", 0x40: "-", 0: " "}
+DIGITS = {
+    0x3F: "0",
+    0x06: "1",
+    0x5B: "2",
+    0x4F: "3",
+    0x66: "4",
+    0x6D: "5",
+    0x7D: "6",
+    0x07: "7",
+    0x7F: "8",
+    0x6F: "9",
+    0x40: "-",
+    0: " ",
+}
 BLANK = bytes(4)
 
 

@@ -1,8 +1,10 @@
 #!/usr/bin/env python3
-"""Builds a sketch for an Uno: by arduino-cli where it is there, else from Debian's packages arduino-core-avr, gcc-avr and avr-libc.
+"""Builds a sketch for an Uno: by arduino-cli where it is there, else with the core and the compiler that the Arduino IDE installed, else
+from Debian's packages arduino-core-avr, gcc-avr and avr-libc.
 
     tools/wokwi/sketch.py FOLDER|FILE.ino OUT.hex
 """
+import glob
 import hashlib
 import os
 import re
@@ -13,8 +15,22 @@ import tempfile
 
 import firmware
 
-BASE = "/usr/share/arduino/hardware/arduino/avr"
 HERE = os.path.dirname(os.path.abspath(__file__))
+
+
+def installed():
+    """(the core's folder, the folder of its compiler or ""): those of the Arduino IDE in their newest version, else Debian's, whose
+    compiler is on the path."""
+    home = os.path.expanduser("~/.arduino15/packages/arduino")
+    newest = lambda places: max(places, key=lambda place: [int(n) for n in re.findall(r"[0-9]+", place.removeprefix(home))], default="")
+    core = newest(glob.glob(f"{home}/hardware/avr/*/cores/arduino"))
+    compiler = newest(glob.glob(f"{home}/tools/avr-gcc/*/bin/avr-g++"))
+    if core and compiler:
+        return os.path.dirname(os.path.dirname(core)), os.path.dirname(compiler)
+    return "/usr/share/arduino/hardware/arduino/avr", ""
+
+
+BASE, COMPILERS = installed()
 COMMON = ["-c", "-g", "-Os", "-w", "-ffunction-sections", "-fdata-sections", "-flto", "-mmcu=atmega328p", "-DF_CPU=16000000L",
           "-DARDUINO=10819", "-DARDUINO_AVR_UNO", "-DARDUINO_ARCH_AVR", f"-I{BASE}/cores/arduino", f"-I{BASE}/variants/standard"]
 C = ["avr-gcc", "-std=gnu11", "-fno-fat-lto-objects"]
@@ -30,6 +46,10 @@ class BuildFault(Exception):
     def __init__(self, text, missing=False):
         super().__init__(text)
         self.missing = missing
+
+
+class CoreMissing(BuildFault):
+    """arduino-cli is there, and its core for the Uno is not."""
 
 
 # ---- the text of a sketch
@@ -130,30 +150,75 @@ def sketch_of(folder):
 
 # ---- libraries
 
+def sketchbooks():
+    """The folders in which the Arduino IDE and arduino-cli keep what a user installs, as their settings name them."""
+    home = os.path.expanduser("~")
+    places = [os.environ.get("ARDUINO_DIRECTORIES_USER", "")]
+    user, path = r"^\s+user:\s*[\"']?(.*?)[\"']?\s*$", r"^sketchbook\.path=(.*)$"
+    for name, form in ((".arduino15/arduino-cli.yaml", user), (".arduinoIDE/arduino-cli.yaml", user), (".arduino15/preferences.txt", path)):
+        try:
+            with open(os.path.join(home, name), encoding="utf-8", errors="replace") as file:
+                places += re.findall(form, file.read(), flags=re.M)
+        except OSError:
+            pass
+    return [place for place in (*places, f"{home}/Arduino", f"{home}/Documents/Arduino") if place]
+
+
+def platformio(folder):
+    """Where PlatformIO keeps the libraries of a project: those of the environment `uno`, then of its others."""
+    deps = os.path.join(folder, ".pio", "libdeps")
+    environments = sorted(os.listdir(deps), key=lambda name: (name != "uno", name)) if os.path.isdir(deps) else []
+    return [os.path.join(deps, name) for name in environments]
+
+
 def library_folders(folder):
+    """Where libraries may be, those of the project first."""
     above = os.path.dirname(folder) if os.path.basename(folder) == "src" else folder
-    places = [os.path.join(folder, "libraries"), os.path.join(above, "lib"), *map(os.path.abspath, filter(None, os.environ.get("ARDUINO_LIBRARIES", "").split(":"))), os.path.expanduser("~/Arduino/libraries"),
-              "/usr/share/arduino/libraries", f"{BASE}/libraries", os.path.join(HERE, "libraries")]
-    return [place for place in places if os.path.isdir(place)]
+    home = os.path.expanduser("~")
+    places = [os.path.join(folder, "libraries"), os.path.join(above, "lib"), *platformio(above),
+              *map(os.path.abspath, filter(None, os.environ.get("ARDUINO_LIBRARIES", "").split(":"))),
+              *(os.path.join(place, "libraries") for place in sketchbooks()), f"{home}/.platformio/lib",
+              f"{home}/.arduino15/libraries", "/usr/share/arduino/libraries", f"{BASE}/libraries", os.path.join(HERE, "libraries")]
+    return [place for place in dict.fromkeys(map(os.path.normpath, places)) if os.path.isdir(place)]
 
 
 def includes(text):
     return re.findall(r'^[ \t]*#[ \t]*include[ \t]*[<"]([^>"]+)[>"]', text, flags=re.M)
 
 
+def for_avr(root):
+    """Whether a library says that it is for this processor, or says nothing."""
+    try:
+        with open(os.path.join(root, "library.properties"), encoding="utf-8", errors="replace") as file:
+            found = re.search(r"^architectures=(.*)$", file.read(), flags=re.M)
+    except OSError:
+        return True
+    return not found or not found[1].strip() or bool({"*", "avr"} & set(re.split(r"[,\s]+", found[1].strip())))
+
+
 class Libraries:
     """The libraries that a sketch's includes lead to: the first folder that has such a header."""
 
     def __init__(self, folder):
-        self.headers, self.used = {}, []
+        self.headers, self.places, self.used = {}, {}, []
         for place in library_folders(folder):
             for name in sorted(os.listdir(place)):
                 root = os.path.join(place, name)
+                if not for_avr(root):
+                    continue
                 top = os.path.join(root, "src") if os.path.isdir(os.path.join(root, "src")) else root
                 if os.path.isdir(top):
                     for header in os.listdir(top):
                         if header.endswith((".h", ".hpp")):
-                            self.headers.setdefault(header, top)
+                            self.offer(header, top, place, name)
+
+    def offer(self, header, top, place, name):
+        """The first place that has a header wins, and in it the library that is called like the header."""
+        is_called = re.sub(r"[^a-z0-9]", "", re.sub(r"-(master|main|[0-9.]+)$", "", name.lower())) == re.sub(r"[^a-z0-9]", "", header.rsplit(".", 1)[0].lower())
+        known = self.headers.get(header)
+        if known is None or (is_called and self.places[header] == (place, False)):
+            self.headers[header] = top
+            self.places[header] = (place, is_called)
 
     def follow(self, text):
         for header in includes(text):
@@ -174,6 +239,12 @@ class Libraries:
             found.extend(os.path.join(here, name) for name in sorted(names) if name.endswith(endings))
         return found
 
+    def small(self):
+        """The names of the small versions of tools/wokwi/libraries that were taken, without what these include themselves."""
+        own = os.path.join(HERE, "libraries") + os.sep
+        names = (os.path.basename(os.path.dirname(top) if os.path.basename(top) == "src" else top) for top in self.used if top.startswith(own))
+        return [name for name in names if name not in ("CharacterDisplay", "unity")]
+
     def words(self):
         words = []
         for top in self.used:
@@ -185,7 +256,13 @@ class Libraries:
 
 # ---- Debian's packages
 
+def tool(name):
+    """A tool of the compiler that is used."""
+    return os.path.join(COMPILERS, name) if COMPILERS else name
+
+
 def call(words, folder):
+    words = [tool(words[0]) if words[0].startswith("avr-") else words[0], *words[1:]]
     ran = subprocess.run(words, cwd=folder, stdout=subprocess.PIPE, stderr=subprocess.STDOUT, stdin=subprocess.DEVNULL, text=True, errors="replace", check=False)
     if ran.returncode:
         raise BuildFault(ran.stdout.strip() or f"{words[0]}: status {ran.returncode}")
@@ -239,7 +316,7 @@ def core_key():
     """What the core's archive depends on."""
     core = f"{BASE}/cores/arduino"
     about = hashlib.sha256(repr((COMMON, C, CPP)).encode())
-    about.update(subprocess.run(["avr-gcc", "--version"], stdout=subprocess.PIPE, check=False).stdout)
+    about.update(subprocess.run([tool("avr-gcc"), "--version"], stdout=subprocess.PIPE, check=False).stdout)
     for name in sorted(os.listdir(core)):
         state = os.stat(os.path.join(core, name))
         about.update(f"{name} {state.st_size} {state.st_mtime_ns}\n".encode())
@@ -271,21 +348,63 @@ def library_nearby(header, folder):
     return None
 
 
+def install_words(name):
+    """The command that installs a library."""
+    return f'arduino-cli lib install "{name}"'
+
+
+def listed_libraries(folder):
+    """The names of the libraries in libraries.txt, as Wokwi's editor writes it."""
+    path = os.path.join(folder, "libraries.txt")
+    if not os.path.exists(path):
+        return []
+    with open(path, encoding="utf-8", errors="replace") as file:
+        return [line.split("@")[0].strip() for line in file if line.strip() and not line.startswith("#")]
+
+
+def install(folder, say):
+    """Installs what libraries.txt lists by arduino-cli, which asks the network for what is not installed yet."""
+    names = listed_libraries(folder)
+    if not names:
+        say(f"{folder} has no libraries.txt that lists a library: nothing to install")
+        return
+    if not shutil.which("arduino-cli"):
+        raise BuildFault(f"there is no arduino-cli to install {', '.join(names)} with. With the Arduino IDE's library manager they are installed too, and are found")
+    for name in names:
+        say(f"installing {name}")
+        call(["arduino-cli", "lib", "install", name], folder)
+
+
 def missing_library(fault, folder):
     """What to do about a header that no library has."""
     found = re.search(r"fatal error: ([^:\s]+): No such file", fault)
     if not found:
         return fault
-    listed = os.path.join(folder, "libraries.txt")
-    names = []
-    if os.path.exists(listed):
-        with open(listed, encoding="utf-8", errors="replace") as file:
-            names = [line.split("@")[0].strip() for line in file if line.strip() and not line.startswith("#")]
-    hint = f"; libraries.txt has {', '.join(names)}" if names else ""
     near = library_nearby(found[1], folder)
     if near:
         return f"{fault}\n{near} has {found[1]}, and libraries are looked for in {os.path.join(folder, 'libraries')}: move it there, or name the folder that it is in in ARDUINO_LIBRARIES"
-    return f"{fault}\nno library here has {found[1]}{hint}: put its folder into {os.path.join(folder, 'libraries')}, or name the folder of your libraries in ARDUINO_LIBRARIES"
+    names = listed_libraries(folder)
+    name = LIBRARY_NAMES.get(found[1]) or next((name for name in names if alike(name, found[1])), None)
+    install = install_words(name or "NAME")
+    which = f"The library is called {name}." if name else f"libraries.txt has {', '.join(names)}." if names else "Its documentation says what it is called."
+    return (f"{fault}\nno library here has {found[1]}. {which} Install it with the Arduino IDE's library manager or by\n    {install}\n"
+            f"and run again; or copy its folder into a folder `libraries` beside the sketch. Looked into: {', '.join(map(os.path.realpath, library_folders(folder)))}")
+
+
+# What the library manager calls the libraries whose header has another name.
+LIBRARY_NAMES = {
+    "Adafruit_NeoPixel.h": "Adafruit NeoPixel", "FastLED.h": "FastLED", "Adafruit_GFX.h": "Adafruit GFX Library", "Adafruit_SSD1306.h": "Adafruit SSD1306",
+    "Adafruit_ILI9341.h": "Adafruit ILI9341", "Adafruit_MPU6050.h": "Adafruit MPU6050", "Adafruit_Sensor.h": "Adafruit Unified Sensor", "DHT_U.h": "DHT sensor library",
+    "U8g2lib.h": "U8g2", "U8x8lib.h": "U8g2", "RTClib.h": "RTClib", "IRremote.h": "IRremote", "IRremote.hpp": "IRremote", "OneWire.h": "OneWire",
+    "DallasTemperature.h": "DallasTemperature", "TM1637Display.h": "TM1637", "LedControl.h": "LedControl", "MD_MAX72xx.h": "MD_MAX72XX", "MD_Parola.h": "MD_Parola",
+    "AccelStepper.h": "AccelStepper", "SevSeg.h": "SevSeg", "Bounce2.h": "Bounce2", "NewPing.h": "NewPing", "HX711.h": "HX711 Arduino Library", "MFRC522.h": "MFRC522",
+    "ezButton.h": "ezButton", "TimerOne.h": "TimerOne", "ArduinoJson.h": "ArduinoJson", "Encoder.h": "Encoder", "ServoEasing.hpp": "ServoEasing", "SD.h": "SD",
+}
+
+
+def alike(name, header):
+    plain = lambda text: re.sub(r"[^a-z0-9]", "", text.lower())
+    return plain(header.rsplit(".", 1)[0]) in plain(name)
 
 
 def by_debian(folder, main, out, say, flags):
@@ -296,7 +415,7 @@ def by_debian(folder, main, out, say, flags):
         own = [os.path.join(folder, name) for name in sorted(os.listdir(folder)) if os.path.splitext(name)[1] in SOURCES and not name.endswith(".chip.c")]
         tabs = [os.path.join(folder, name) for name in sorted(os.listdir(folder)) if name.endswith((".h", ".hpp"))]
         libraries.follow(text)
-        key = core_key()
+        key = core_key()  # of the core and the compiler
         about = hashlib.sha256(f"{key} {flags}\n{text}".encode())
         for file in own + tabs:
             with open(file, encoding="utf-8", errors="replace") as it:
@@ -306,6 +425,8 @@ def by_debian(folder, main, out, say, flags):
         of_libraries = [file for top in libraries.used for file in Libraries.files(top, (*SOURCES, ".h", ".hpp"))]
         for file in of_libraries:
             about.update(f"{file} {os.stat(file).st_size} {os.stat(file).st_mtime_ns}\n".encode())
+        for name in libraries.small():
+            say(f"{name} is Mudflatjar's own small version (tools/wokwi/libraries), since none is installed: the library itself may have more calls")
         kept = kept_path(f"sketch-{about.hexdigest()[:20]}.hex")
         if not os.path.exists(kept):
             sources = [file for file in of_libraries if os.path.splitext(file)[1] in SOURCES]
@@ -316,9 +437,18 @@ def by_debian(folder, main, out, say, flags):
             made = kept
         put(made, out)
     except BuildFault as fault:
-        raise BuildFault(missing_library(str(fault), folder)) from None
+        raise BuildFault(missing_call(missing_library(str(fault), folder), libraries.small())) from None
     finally:
         shutil.rmtree(work)
+
+
+def missing_call(fault, small):
+    """What a fault of the compiler may come from where small versions of libraries were taken."""
+    if not small or not re.search(r"has no member named|was not declared in this scope|no matching function for call|undefined reference to", fault):
+        return fault
+    own = " and ".join(small)
+    return (f"{fault}\n{own} {'is' if len(small) == 1 else 'are'} Mudflatjar's own small version{'s' * (len(small) > 1)} (tools/wokwi/libraries), which may lack this call. "
+            f"Install the library itself, and it is taken: {', '.join(install_words(LIBRARY_NAMES.get(name + '.h', name)) for name in small)}")
 
 
 def linked(work, folder, text, own, of_libraries, words, core):
@@ -355,14 +485,15 @@ def by_cli(folder, main, out, flags):
         if flags:
             words += ["--build-property", f"compiler.cpp.extra_flags={' '.join(flags)}"]
         above = os.path.dirname(folder) if os.path.basename(folder) == "src" else folder
-        for place in (os.path.join(copy, "libraries"), os.path.join(above, "lib"), *filter(None, os.environ.get("ARDUINO_LIBRARIES", "").split(":"))):
+        for place in (os.path.join(copy, "libraries"), os.path.join(above, "lib"), *platformio(above), *filter(None, os.environ.get("ARDUINO_LIBRARIES", "").split(":"))):
             if os.path.isdir(place):
                 words += ["--libraries", os.path.abspath(place)]
         call([*words, copy], work)
         put(os.path.join(work, "build", "sketch.ino.hex"), out)
     except BuildFault as fault:
-        text = missing_library(str(fault), folder)
-        raise BuildFault(text + ("\nor `arduino-cli lib install NAME`" if text != str(fault) else "")) from None
+        if re.search(r"platform\b.*\bnot (?:installed|found)", str(fault), flags=re.I):
+            raise CoreMissing(str(fault)) from None
+        raise BuildFault(missing_library(str(fault), folder)) from None
     finally:
         shutil.rmtree(work)
 
@@ -370,9 +501,16 @@ def by_cli(folder, main, out, flags):
 def build(folder, main, out, say=lambda text: None, flags=()):
     """Writes the Intel HEX of the sketch whose main file is `main` in a folder. `flags` are for the compiler."""
     folder = os.path.abspath(folder)
+    has_core = bool(shutil.which(tool("avr-g++"))) and os.path.isdir(f"{BASE}/cores/arduino")
     if shutil.which("arduino-cli"):
-        by_cli(folder, main, os.path.abspath(out), flags)
-    elif shutil.which("avr-g++") and os.path.isdir(f"{BASE}/cores/arduino"):
+        try:
+            by_cli(folder, main, os.path.abspath(out), flags)
+            return
+        except CoreMissing as fault:
+            if not has_core:
+                raise BuildFault(f"{fault}\nInstall the core: arduino-cli core install arduino:avr") from None
+            say("arduino-cli has no core arduino:avr, so the core and the compiler that are installed here are taken")
+    if has_core:
         by_debian(folder, main, out, say, list(flags))
     else:
         raise BuildFault("there is neither arduino-cli nor Debian's arduino-core-avr, gcc-avr and avr-libc to build the sketch with: ./mudflatjar setup sketches installs these", missing=True)

@@ -71,7 +71,9 @@ class Servo(unittest.TestCase):
 
 
 class Pixels(unittest.TestCase):
-    def bits(self, wires: Wires, colour: int, count: int = 24, zero: int = 250, one: int = 812, low: int = 437) -> Wires:
+    def bits(
+        self, wires: Wires, colour: int, count: int = 24, zero: int = 250, one: int = 812, low: int = 437
+    ) -> Wires:
         for place in range(count):
             wires.set("DIN", 1, one if colour >> (23 - place) & 1 else zero).set("DIN", 0, low)
         return wires
@@ -83,13 +85,19 @@ class Pixels(unittest.TestCase):
         return wires.wait(latch)
 
     def test_green_comes_first_and_the_rest_is_passed_on(self) -> None:
-        short, exact, long = shown("ws2812", (2, 1), *(self.frame(*(0x102030, 0x405060, 0x708090)[:n]) for n in (1, 2, 3)))
+        short, exact, long = shown(
+            "ws2812", (2, 1), *(self.frame(*(0x102030, 0x405060, 0x708090)[:n]) for n in (1, 2, 3))
+        )
         self.assertEqual(exact, [(0x20, 0x10, 0x30, 255), (0x50, 0x40, 0x60, 255)])
         self.assertEqual(long, exact)
         self.assertEqual(short[1], (0, 0, 0, 0), "what is not sent stays dark")
 
     def test_both_speeds_and_the_edges_of_the_times(self) -> None:
-        times = ({"zero": 500, "one": 1188, "low": 1312}, {"zero": 562, "one": 625, "low": 437}, {"zero": 187, "one": 937, "low": 312})
+        times = (
+            {"zero": 500, "one": 1188, "low": 1312},
+            {"zero": 562, "one": 625, "low": 437},
+            {"zero": 187, "one": 937, "low": 312},
+        )
         for pixels in shown("ws2812", (2, 1), *(self.frame(0x010280, 0xFF00FE, **it) for it in times)):
             self.assertEqual(pixels, [(2, 1, 0x80, 255), (0, 0xFF, 0xFE, 255)])
 
@@ -102,7 +110,11 @@ class Pixels(unittest.TestCase):
             self.assertEqual(pixels[0], (0x20, 0x10, 0x30, 255), cut)
 
     def test_a_pause_that_is_too_long_begins_anew_and_a_short_one_does_not(self) -> None:
-        short, long = shown("ws2812", (2, 1), *(self.frame(0x405060, wires=self.frame(0x102030, latch=pause)) for pause in (20_000, 60_000)))
+        short, long = shown(
+            "ws2812",
+            (2, 1),
+            *(self.frame(0x405060, wires=self.frame(0x102030, latch=pause)) for pause in (20_000, 60_000)),
+        )
         self.assertEqual([short[0][:3], short[1][:3]], [(0x20, 0x10, 0x30), (0x50, 0x40, 0x60)])
         self.assertEqual(long[0][:3], (0x50, 0x40, 0x60))
 
@@ -152,15 +164,22 @@ class Digits(unittest.TestCase):
     def test_four_digits_and_their_brightness(self) -> None:
         off = self.sent(*self.NUMBER, (0x87,))
         one = self.sent(*self.NUMBER, (0x44,), (0xC2, 0x7F))
-        self.assertEqual(self.cells(self.sent(*self.NUMBER), off, one), [([6, 0x5B, 0x4F, 0x66], 8), ([6, 0x5B, 0x4F, 0x66], 0), ([6, 0x5B, 0x7F, 0x66], 8)])
+        self.assertEqual(
+            self.cells(self.sent(*self.NUMBER), off, one),
+            [([6, 0x5B, 0x4F, 0x66], 8), ([6, 0x5B, 0x4F, 0x66], 0), ([6, 0x5B, 0x7F, 0x66], 8)],
+        )
 
     def test_it_is_read_at_any_speed(self) -> None:
         for cells, bright in self.cells(*(self.sent(*self.NUMBER, half=half) for half in (250, 500_000))):
             self.assertEqual((cells, bright), ([6, 0x5B, 0x4F, 0x66], 8))
 
     def test_a_byte_that_is_cut_is_none(self) -> None:
-        cut, later = (self.end(self.byte(self.begin(self.sent(*self.NUMBER)), 0xFF, 5, acknowledge=False)) for _ in range(2))
-        self.assertEqual(self.cells(cut, self.sent((0x88,), wires=later)), [([6, 0x5B, 0x4F, 0x66], 8), ([6, 0x5B, 0x4F, 0x66], 1)])
+        cut, later = (
+            self.end(self.byte(self.begin(self.sent(*self.NUMBER)), 0xFF, 5, acknowledge=False)) for _ in range(2)
+        )
+        self.assertEqual(
+            self.cells(cut, self.sent((0x88,), wires=later)), [([6, 0x5B, 0x4F, 0x66], 8), ([6, 0x5B, 0x4F, 0x66], 1)]
+        )
 
     def test_data_without_a_place_or_beyond_it_is_lost(self) -> None:
         nowhere = self.sent((0x40,), (0xC4, 1, 2, 3, 4, 5), (0x8F,))
@@ -188,7 +207,10 @@ class Matrices(unittest.TestCase):
         return [[at for at, pixel in enumerate(pixels) if pixel[0]] for pixels in shown("max7219", size, *cases)]
 
     def test_rows_are_columns_of_a_register(self) -> None:
-        self.assertEqual(self.lit(self.sent(*self.ON), self.sent(*self.ON, half=63), self.sent(*self.ON[1:])), [[0, 7, 59, 60], [0, 7, 59, 60], []])
+        self.assertEqual(
+            self.lit(self.sent(*self.ON), self.sent(*self.ON, half=63), self.sent(*self.ON[1:])),
+            [[0, 7, 59, 60], [0, 7, 59, 60], []],
+        )
 
     def test_too_few_bits_do_nothing_and_of_too_many_the_last_count(self) -> None:
         cut, many = self.sent(*self.ON, (0, 16), (0x02, 4)), self.sent(*self.ON, (0xFF0142, 24))
@@ -215,10 +237,15 @@ class Steppers(unittest.TestCase):
         return wires
 
     def half_steps(self, *cases: Wires) -> list[int]:
-        return [int.from_bytes(bytes(pixels[0][:3]), "little", signed=True) for pixels in shown("stepper", (1, 1), *cases)]
+        return [
+            int.from_bytes(bytes(pixels[0][:3]), "little", signed=True) for pixels in shown("stepper", (1, 1), *cases)
+        ]
 
     def test_it_follows_both_ways_and_counts_from_its_first_place(self) -> None:
-        self.assertEqual(sorted(self.half_steps(self.walked(*range(1, 11)), self.walked(*range(10, 0, -1)), self.walked(3))), [-18, 0, 18])
+        self.assertEqual(
+            sorted(self.half_steps(self.walked(*range(1, 11)), self.walked(*range(10, 0, -1)), self.walked(3))),
+            [-18, 0, 18],
+        )
 
     def test_the_opposite_field_and_none_move_nothing(self) -> None:
         off = self.walked(0, 1)
@@ -257,11 +284,17 @@ class Text(unittest.TestCase):
         return wires
 
     def lines(self, *cases: Wires) -> list[list[str]]:
-        return [["".join(chr(pixel[0]) for pixel in pixels[20 * y : 20 * y + 20]).rstrip() for y in range(4)] for pixels in shown("hd44780", (20, 5), *cases)]
+        return [
+            ["".join(chr(pixel[0]) for pixel in pixels[20 * y : 20 * y + 20]).rstrip() for y in range(4)]
+            for pixels in shown("hd44780", (20, 5), *cases)
+        ]
 
     def test_a_half_that_is_lost_is_found_by_beginning_again(self) -> None:
         lost = self.half(self.written(self.begun(), "abc"), 1, 6)
-        self.assertEqual(self.lines(self.written(self.begun(), "abc"), self.written(self.begun(lost), "xyz")), [["abc", "", "", ""], ["xyz", "", "", ""]])
+        self.assertEqual(
+            self.lines(self.written(self.begun(), "abc"), self.written(self.begun(lost), "xyz")),
+            [["abc", "", "", ""], ["xyz", "", "", ""]],
+        )
 
     def test_a_read_is_no_write(self) -> None:
         wires = self.begun()

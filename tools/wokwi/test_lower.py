@@ -2,10 +2,12 @@
 """Tests of the tools for Wokwi's folders that need no compiler. PROGRAM is the program; without one its part is skipped."""
 import json
 import os
+import shutil
 import subprocess
 import sys
 import tempfile
 import unittest
+import unittest.mock
 
 HERE = os.path.dirname(os.path.abspath(__file__))
 sys.path[:0] = [HERE]
@@ -442,7 +444,108 @@ class Sketches(unittest.TestCase):
             with open(os.path.join(folder, "libraries.txt"), "w", encoding="utf-8") as file:
                 file.write("# Wokwi Library List\n\nServo@1.2\n")
             text = sketch.missing_library("a.ino:1:10: fatal error: Servo.h: No such file or directory", folder)
-        self.assertIn("no library here has Servo.h; libraries.txt has Servo", text)
+        self.assertIn('no library here has Servo.h. The library is called Servo. Install it with', text)
+        self.assertIn('\n    arduino-cli lib install "Servo"\n', text)
+        for header, name in (("Adafruit_NeoPixel.h", "Adafruit NeoPixel"), ("Own.h", "NAME")):
+            self.assertIn(f'arduino-cli lib install "{name}"', sketch.missing_library(f"a.ino:1:10: fatal error: {header}: No such file or directory", "/"))
+        self.assertEqual(sketch.missing_library("a.ino:1: error: x", "/"), "a.ino:1: error: x")
+
+    def library(self, *path, header=None, text="", properties=None):
+        """A library of one header in a folder."""
+        folder = os.path.join(*path)
+        os.makedirs(folder, exist_ok=True)
+        with open(os.path.join(folder, header or path[-1] + ".h"), "w", encoding="utf-8") as file:
+            file.write(text)
+        if properties:
+            with open(os.path.join(folder, "library.properties"), "w", encoding="utf-8") as file:
+                file.write(properties)
+        return folder
+
+    def test_libraries_are_found_where_users_have_them(self):
+        with tempfile.TemporaryDirectory() as home, unittest.mock.patch.dict(os.environ, {"HOME": home, "ARDUINO_LIBRARIES": "", "ARDUINO_DIRECTORIES_USER": ""}):
+            project = os.path.join(home, "work", "it")
+            os.makedirs(project)
+            for file, text in ((".arduino15/arduino-cli.yaml", f"directories:\n  data: /x\n  user: '{home}/moved'\n"), (".arduino15/preferences.txt", f"a=b\nsketchbook.path={home}/old\n")):
+                os.makedirs(os.path.join(home, ".arduino15"), exist_ok=True)
+                with open(os.path.join(home, file), "w", encoding="utf-8") as out:
+                    out.write(text)
+            places = ["work/it/libraries", "work/it/lib", "work/it/.pio/libdeps/uno", "work/it/.pio/libdeps/nano", "moved/libraries", "old/libraries", "Arduino/libraries", "Documents/Arduino/libraries", ".platformio/lib", ".arduino15/libraries"]
+            for place in reversed(places):
+                found = self.library(home, place, "It")
+                libraries = sketch.Libraries(project)
+                libraries.follow("#include <It.h>\n")
+                self.assertEqual(libraries.used, [found], place)
+            os.environ["ARDUINO_LIBRARIES"] = os.path.join(home, "more")
+            self.assertEqual([os.path.relpath(place, home) for place in sketch.library_folders(project)][:5], places[:4] + ["moved/libraries"], "a folder that is not there is none")
+
+    def test_of_two_libraries_the_one_that_is_called_so_and_is_for_this_processor(self):
+        with tempfile.TemporaryDirectory() as folder:
+            place = os.path.join(folder, "libraries")
+            self.library(place, "A_copy", header="It.h")
+            called = self.library(place, "It-master", header="It.h")
+            self.library(place, "It", properties="name=It\narchitectures=esp32, esp8266\n")
+            self.library(place, "Z", properties="architectures=samd,avr\n")
+            libraries = sketch.Libraries(folder)
+            libraries.follow("#include <It.h>\n#include <Z.h>\n")
+            self.assertEqual(libraries.used, [called, os.path.join(place, "Z")])
+
+    def test_a_small_version_is_told(self):
+        with tempfile.TemporaryDirectory() as home, unittest.mock.patch.dict(os.environ, {"HOME": home, "ARDUINO_LIBRARIES": ""}):
+            libraries = sketch.Libraries(home)
+            libraries.follow("#include <Keypad.h>\n#include <LiquidCrystal.h>\n")
+            self.assertEqual(libraries.small(), ["Keypad", "LiquidCrystal"])
+            own = self.library(home, "libraries", "Keypad")
+            libraries = sketch.Libraries(home)
+            libraries.follow("#include <Keypad.h>\n")
+            self.assertEqual((libraries.used, libraries.small()), ([own], []))
+        fault = sketch.missing_call("a.ino:3: error: 'class Keypad' has no member named 'bitMap'", ["Keypad"])
+        self.assertIn('Keypad is Mudflatjar\'s own small version (tools/wokwi/libraries), which may lack this call. Install the library itself, and it is taken: arduino-cli lib install "Keypad"', fault)
+        self.assertEqual(sketch.missing_call("a.ino:3: error: expected ';'", ["Keypad"]), "a.ino:3: error: expected ';'")
+
+    def stand_in(self, folder, name, text):
+        """A command of a name that a script stands for."""
+        path = os.path.join(folder, name)
+        os.makedirs(folder, exist_ok=True)
+        with open(path, "w", encoding="utf-8") as file:
+            file.write("#!/bin/sh\n" + text)
+        os.chmod(path, 0o755)
+
+    def test_libraries_are_installed_by_arduino_cli(self):
+        with tempfile.TemporaryDirectory() as folder:
+            said = []
+            sketch.install(folder, said.append)
+            self.assertIn("nothing to install", said[0])
+            with open(os.path.join(folder, "libraries.txt"), "w", encoding="utf-8") as file:
+                file.write("# Wokwi Library List\n\nAdafruit NeoPixel@1.10\nOneWire\n")
+            with unittest.mock.patch.dict(os.environ, {"PATH": os.path.join(folder, "bin")}):
+                with self.assertRaisesRegex(sketch.BuildFault, "no arduino-cli to install Adafruit NeoPixel, OneWire"):
+                    sketch.install(folder, said.append)
+                self.stand_in(os.path.join(folder, "bin"), "arduino-cli", 'for word in "$@"; do printf "[%s]" "$word"; done >>said\n')
+                sketch.install(folder, said.append)
+                with open(os.path.join(folder, "said"), encoding="utf-8") as file:
+                    self.assertEqual(file.read(), "[lib][install][Adafruit NeoPixel][lib][install][OneWire]")
+                self.stand_in(os.path.join(folder, "bin"), "arduino-cli", "echo 'Library OneWire not found'; exit 1\n")
+                with self.assertRaisesRegex(sketch.BuildFault, "Library OneWire not found"):
+                    sketch.install(folder, said.append)
+
+    @unittest.skipUnless(shutil.which("avr-g++") and os.path.isdir(sketch.BASE), "no avr-g++")
+    def test_the_compiler_of_the_ide_is_preferred(self):
+        with tempfile.TemporaryDirectory() as home:
+            packages, out = os.path.join(home, ".arduino15", "packages", "arduino"), os.path.join(home, "out.hex")
+            for version in ("1.8.6", "1.8.10"):
+                os.makedirs(os.path.join(packages, "hardware", "avr"), exist_ok=True)
+                os.symlink("/usr/share/arduino/hardware/arduino/avr", os.path.join(packages, "hardware", "avr", version))
+            for name in ("avr-gcc", "avr-g++", "avr-gcc-ar", "avr-objcopy"):
+                self.stand_in(os.path.join(packages, "tools", "avr-gcc", "7.3.0", "bin"), name, f'echo "$*" >>{home}/said\nexec {shutil.which(name)} "$@"\n')
+            self.stand_in(os.path.join(home, "cli"), "arduino-cli", "echo \"Error during build: Platform 'arduino:avr' not found: platform not installed\"; exit 1\n")
+            with open(os.path.join(home, "a.ino"), "w", encoding="utf-8") as file:
+                file.write("void setup() {}\nvoid loop() {}\n")
+            for path in (os.environ["PATH"], os.path.join(home, "cli") + ":" + os.environ["PATH"]):
+                ran = subprocess.run([sys.executable, "-B", os.path.join(HERE, "sketch.py"), os.path.join(home, "a.ino"), out], env=dict(os.environ, HOME=home, PATH=path, XDG_CACHE_HOME=os.path.join(home, "cache")), capture_output=True, text=True, check=False)
+                self.assertEqual(ran.returncode, 0, ran.stderr)
+                with open(os.path.join(home, "said"), encoding="utf-8") as file:
+                    self.assertIn(f"-I{packages}/hardware/avr/1.8.10/cores/arduino", file.read())
+                os.remove(out)
 
 
 class Firmware(unittest.TestCase):
