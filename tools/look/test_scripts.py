@@ -291,7 +291,7 @@ def types_of_page():
     """The types in the table of docs/PARTS.md; `-or-2` after `wokwi-gate-and-2` is short for its gate."""
     types = []
     with open(PARTS_PAGE, encoding="utf-8") as file:
-        for line in file:
+        for line in file.read().partition("\n## Simulated parts\n")[2].splitlines():
             if not line.startswith("| `wokwi-") and not line.startswith("| `board-"):
                 continue
             for word in re.findall(r"`([^`]*)`", line.split("|")[1]):
