@@ -1,9 +1,11 @@
 """Runs scripts of page/ without a page: in node, or in a headless Chromium. For pictures of a board, and for tests."""
+import atexit
 import json
 import os
 import shutil
 import subprocess
 import tempfile
+import threading
 
 from urllib.parse import unquote
 
@@ -37,16 +39,61 @@ def evaluated(call, data):
     raise EngineMissing("this needs node or Chromium, and neither is installed")
 
 
-def in_node(script, call, data):
-    text = f"{text_of('../document.js')}\n{script}\nconst given = {json_text(data)};\n(async () => {call})().then(value => process.stdout.write(JSON.stringify(value)));\n"
-    with tempfile.TemporaryDirectory() as box:
-        file = os.path.join(box, "look.js")
+# What node does with each line that it gets: the expression of the line, with its data as `given`, and a line with what comes of it.
+SERVES = """
+const lines = require('node:readline').createInterface({ input: process.stdin, crlfDelay: Infinity });
+(async () => {
+  for await (const line of lines) {
+    const { call, data: given } = JSON.parse(line);
+    let answer;
+    try { answer = { value: await eval(`(async () => ${call})()`) }; } catch (error) { answer = { fault: String(error.stack || error) }; }
+    process.stdout.write(JSON.stringify(answer) + '\\n');
+  }
+})();
+"""
+
+
+class Node:
+    """A node that has the scripts, for all that this process asks of it."""
+
+    one = None
+    lock = threading.Lock()
+
+    def __init__(self, script):
+        self.box = tempfile.TemporaryDirectory()
+        file = os.path.join(self.box.name, "look.js")
         with open(file, "w", encoding="utf-8") as out:
-            out.write(text)
-        done = subprocess.run([node(), file], stdout=subprocess.PIPE, stderr=subprocess.PIPE, timeout=SECONDS, check=False)
-    if done.returncode:
-        raise RuntimeError(done.stderr.decode(errors="replace")[-2000:])
-    return json.loads(done.stdout)
+            out.write(f"{text_of('../document.js')}\n{script}{SERVES}")
+        self.process = subprocess.Popen([node(), file], stdin=subprocess.PIPE, stdout=subprocess.PIPE)
+        atexit.register(self.end)
+
+    def ask(self, call, data):
+        timer = threading.Timer(SECONDS, self.process.kill)
+        timer.start()
+        try:
+            self.process.stdin.write((json.dumps({"call": call, "data": data}) + "\n").encode())
+            self.process.stdin.flush()
+            line = self.process.stdout.readline()
+        finally:
+            timer.cancel()
+        if not line:
+            raise RuntimeError("node gave no answer")
+        return json.loads(line)
+
+    def end(self):
+        self.process.kill()
+        self.process.communicate()
+        self.box.cleanup()
+
+
+def in_node(script, call, data):
+    with Node.lock:
+        if Node.one is None or Node.one.process.poll() is not None:
+            Node.one = Node(script)
+        answer = Node.one.ask(call, data)
+    if "fault" in answer:
+        raise RuntimeError(answer["fault"][-2000:])
+    return answer.get("value")
 
 
 def in_browser(script, call, data):

@@ -220,9 +220,9 @@ def check_hostile(box: str) -> None:
     got = evaluated(HOSTILE, given)
     assert got["shown"] == [2, 0, 0, 0, 2], got
     assert [text.split(":")[0] for text in got["unplayed"]] == [
-        "loops is not shown as it goes on from 0.0 µs on",
-        "none is not shown as it goes on from 0.0 µs on",
-        "large is not shown as it goes on from 0.0 µs on",
+        "loops is not shown as it goes on from 0 µs on",
+        "none is not shown as it goes on from 0 µs on",
+        "large is not shown as it goes on from 0 µs on",
     ], got["unplayed"]
     assert "did not come back" in got["unplayed"][0] and "too large" in got["unplayed"][2], got["unplayed"]
 

@@ -302,12 +302,13 @@ class Text(unittest.TestCase):
         self.assertEqual(self.lines(self.written(wires, "a")), [["a", "", "", ""]])
 
     def test_lines_places_and_moves(self) -> None:
+        """The first and the third line are one of 40 places, which a moved text goes round."""
         wires = self.begun()
         for place, text in ((0x80, "one"), (0xC0, "two"), (0x94, "three"), (0xD4, "four")):
             self.written(self.put(wires, 0, place), text)
         moved = self.written(self.begun(), "moved")
         self.put(moved, 0, 0x18)
-        self.assertEqual(self.lines(wires, moved), [["one", "two", "three", "four"], ["oved", "", "", ""]])
+        self.assertEqual(self.lines(wires, moved), [["one", "two", "three", "four"], ["oved", "", " " * 19 + "m", ""]])
 
 
 def needs_an_engine(test: unittest.TestSuite) -> int:
