@@ -25,7 +25,7 @@ from serial_times import FORMATS, decided, levels_of, readings
 from wave import level_at, moved_names, read_wave
 
 MANY = 1 << 40
-PLAYED = ("chip-printf",)        # examples with a chip that a page plays
+PLAYED = ("chip-printf", "lcd-i2c")     # examples with a chip that a page plays
 
 
 def plain_reading(vcd):
@@ -326,7 +326,7 @@ class quiet:
 def everything():
     bad = 0
     jobs = [(f"look, wave of {name}", check_example, (name,)) for name in examples.names()]
-    jobs += [(f"look, page of {name}", check_page, (name,)) for name in ("button", "chip-echo", *PLAYED, "lcd-i2c", "seven-segment")]
+    jobs += [(f"look, page of {name}", check_page, (name,)) for name in ("button", "chip-echo", *PLAYED, "seven-segment")]
     jobs += [("look, bytes at two speeds", check_two_speeds, ()), ("look, bytes in each format", check_formats, ()), ("look, bytes of a part of a run", check_part_of_times, ()), ("look, what a run leaves out", check_left_out, ())]
     with concurrent.futures.ThreadPoolExecutor(4) as pool:
         for name, future in [(name, pool.submit(call, *values)) for name, call, values in jobs]:
