@@ -7,6 +7,7 @@ enum {
     ONE = 600,     // ns
     LATCH = 50000, // ns
     MOST = 65536,  // pixels
+    FULL = 0,
 };
 
 static pin_t in;
@@ -18,9 +19,8 @@ static uint32_t count;
 static uint32_t width;
 static bool is_serpentine;
 static uint32_t at;    // the pixel that takes bits
-static uint32_t bits;  // with a 1 before those that it took
-static uint64_t rose;
-static uint64_t fell;
+static uint32_t bits;  // with a 1 before those that it took, or FULL where all pixels have theirs
+static uint64_t moved; // when DIN did so last, in ns
 
 // The place of the pixel that is `at`-th on the wire.
 static uint32_t place_of(uint32_t at) {
@@ -28,40 +28,38 @@ static uint32_t place_of(uint32_t at) {
     return is_serpentine && row % 2 ? row * width + width - 1 - at % width : at;
 }
 
+// Gives a pixel its 24 bits; what comes after is the next one's.
+static uint32_t take(uint32_t colour) {
+    uint8_t *pixel = &taken[4 * place_of(at)];
+    pixel[0] = (uint8_t)(colour >> 8);
+    pixel[1] = (uint8_t)(colour >> 16);
+    pixel[2] = (uint8_t)colour;
+    pixel[3] = 255;
+    at++;
+    return at < count ? 1 : FULL;
+}
+
 static void on_edge(void *user_data, pin_t pin, uint32_t value) {
     uint64_t now = get_sim_nanos();
-    if (value) {
-        rose = now;
-    } else {
-        fell = now;
-    }
-    if (at >= count) {
+    uint64_t before = moved;
+    uint32_t all = bits;
+    moved = now;
+    if (all == FULL) {
         pin_write(out, value);
-        return;
-    }
-    if (value) {
-        return;
-    }
-    if (at == 0 && bits == 1) {
-        timer_start_ns(latch, LATCH, false);
-    }
-    bits = bits << 1 | (now - rose >= ONE);
-    if (bits >> 24) {
-        uint8_t *pixel = &taken[4 * place_of(at)];
-        pixel[0] = (uint8_t)(bits >> 8);
-        pixel[1] = (uint8_t)(bits >> 16);
-        pixel[2] = (uint8_t)bits;
-        pixel[3] = 255;
-        at++;
-        bits = 1;
+    } else if (!value) {
+        if (all == 1 && at == 0) {
+            timer_start_ns(latch, LATCH, false);
+        }
+        all = all << 1 | (now - before >= ONE);
+        bits = all >> 24 ? take(all) : all;
     }
 }
 
 // Looks again where DIN is not low for so long yet.
 static void on_latch(void *user_data) {
-    uint64_t now = get_sim_nanos();
-    if (pin_read(in) || now - fell < LATCH) {
-        timer_start_ns(latch, pin_read(in) ? LATCH : LATCH - (now - fell), false);
+    uint64_t still = get_sim_nanos() - moved;
+    if (pin_read(in) || still < LATCH) {
+        timer_start_ns(latch, pin_read(in) ? LATCH : LATCH - still, false);
         return;
     }
     buffer_write(display, 0, taken, 4 * count);
