@@ -1,11 +1,11 @@
 // A chain of WS2812 (NeoPixel): each pixel takes 24 bits, green, red, blue, each with its highest bit first, and passes the rest on.
-// A bit is 1 where DIN is high for 600 ns or more, which tells it at 800 kHz and at 400 kHz. After DIN was low for 50 us the pixels show
-// what they took. The display has a pixel for each, row by row; with the attribute `serpentine` each second row goes from right to left.
+// A bit is 1 where DIN is high for 600 ns or more, which tells it at 800 kHz and at 400 kHz. Where DIN is low and rose 51 us ago or more,
+// the pixels show what they took. The display has a pixel for each, row by row; with the attribute `serpentine` each second row goes from right to left.
 #include "wokwi-api.h"
 
 enum {
     ONE = 600,     // ns
-    LATCH = 50000, // ns
+    LATCH = 51000, // ns
     MOST = 65536,  // pixels
     FULL = 0,
 };
@@ -20,7 +20,7 @@ static uint32_t width;
 static bool is_serpentine;
 static uint32_t at;    // the pixel that takes bits
 static uint32_t bits;  // with a 1 before those that it took, or FULL where all pixels have theirs
-static uint64_t moved; // when DIN did so last, in ns
+static uint64_t rose;  // when DIN did so last, in ns
 
 // The place of the pixel that is `at`-th on the wire.
 static uint32_t place_of(uint32_t at) {
@@ -41,23 +41,26 @@ static uint32_t take(uint32_t colour) {
 
 static void on_edge(void *user_data, pin_t pin, uint32_t value) {
     uint64_t now = get_sim_nanos();
-    uint64_t before = moved;
     uint32_t all = bits;
-    moved = now;
     if (all == FULL) {
         pin_write(out, value);
-    } else if (!value) {
-        if (all == 1 && at == 0) {
+    }
+    if (value) {
+        rose = now;
+    } else if (all != FULL) {
+        all = all << 1 | (now - rose >= ONE);
+        if (all >> 24) {
+            all = take(all);
+        } else if (all < 4 && at == 0) {
             timer_start_ns(latch, LATCH, false);
         }
-        all = all << 1 | (now - before >= ONE);
-        bits = all >> 24 ? take(all) : all;
+        bits = all;
     }
 }
 
-// Looks again where DIN is not low for so long yet.
+// Looks again where DIN has risen since, or is still high.
 static void on_latch(void *user_data) {
-    uint64_t still = get_sim_nanos() - moved;
+    uint64_t still = get_sim_nanos() - rose;
     if (pin_read(in) || still < LATCH) {
         timer_start_ns(latch, pin_read(in) ? LATCH : LATCH - still, false);
         return;
