@@ -169,8 +169,8 @@ class Chips(unittest.TestCase):
         self.folder = tempfile.mkdtemp()
         self.addCleanup(shutil.rmtree, self.folder)
 
-    def project(self, example, stem, attrs, pins=None):
-        """A project with one chip of an example, and what is said of it."""
+    def project(self, example, stem, attrs, pins=None, **more):
+        """A project with one chip of an example, `more` of whose part is given, and what is said of it."""
         for ending in (".wasm", ".json"):
             shutil.copyfile(os.path.join(EXAMPLES, example, stem + ending), os.path.join(self.folder, stem + ending))
         if pins is not None:
@@ -185,7 +185,7 @@ class Chips(unittest.TestCase):
                     "version": 1,
                     "parts": [
                         {"type": "wokwi-arduino-uno", "id": "uno"},
-                        {"type": "chip-it", "id": "c1", "attrs": attrs},
+                        {"type": "chip-it", "id": "c1", "attrs": attrs, **more},
                     ],
                     "connections": [],
                 }
@@ -217,6 +217,13 @@ class Chips(unittest.TestCase):
         )
         (found,) = self.project("chip-blinker", "blinker", {"x": "1", "micros": "5"})
         self.assertEqual(found.text, 'c1: its attribute "x" ("1") is none that the chip asks for; it asks for micros')
+
+    def test_a_chip_in_place_of_a_part_of_wokwi_has_attributes_for_its_drawing_and_pins_of_its_part(self):
+        given = {"stem": "thermometer", "attrs": {"horn": "cross"}, "pins": ["GND"]}
+        self.assertEqual(len(self.project("chip-thermometer", **given)), 3)
+        self.assertEqual(self.project("chip-thermometer", **given, **{"as": "wokwi-servo"}), [])
+        (found,) = self.project("chip-thermometer", "thermometer", {"temperature": "1.5"}, **{"as": "wokwi-servo"})
+        self.assertIn("as a whole number", found.text)
 
     def test_names_that_a_chip_makes_as_it_runs_are_not_judged(self):
         self.assertEqual(self.project("chip-typist", "typist", {"text1.1": "111", "baud": "9600"}), [])

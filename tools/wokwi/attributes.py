@@ -144,6 +144,8 @@ def faults(project: str):
                 continue
             shown = json.dumps(value, ensure_ascii=False)
             if not may_ask(image, name):
+                if "as" in part:  # a part of Wokwi that this chip stands for: the page draws it by this
+                    continue
                 yield "attribute", part["id"], name, (
                     f'{part["id"]}: its attribute "{name}" ({shown}) is none that the chip asks for'
                     + nearest(name, image, names_in(pin_file, "controls"))
@@ -153,6 +155,8 @@ def faults(project: str):
                     f'{part["id"]}: the chip reads its attribute "{name}" as a whole number, and {shown} is none: the default was used. '
                     "A value has up to 10 digits, perhaps after a minus; a chip built with attr_init_thousandths takes decimals (docs/CHIPS.md)"
                 )
+        if "as" in part:  # such a chip has the pins that the part has, of all that it can have
+            continue
         pins = names_in(pin_file, "pins")
         for name in dict.fromkeys(asked(image, "pinInit")[0]):
             if name not in pins:

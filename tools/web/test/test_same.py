@@ -171,6 +171,12 @@ class Diagrams:
         "0",
         "__proto__",
         "label",
+        "pixels",
+        "rows",
+        "cols",
+        "layout",
+        "chain",
+        "horn",
     ]
     IDS = [
         "led1",
@@ -398,6 +404,36 @@ class Same(unittest.TestCase):
                     }
                 )
                 names.append(f"{kind} {attrs}")
+        self.compare(made, names)
+
+    def test_chains_of_pixels_and_parts_that_leave_a_full_board(self) -> None:
+        uno, made, names = {"type": "wokwi-arduino-uno", "id": "uno"}, [], []
+
+        def add(name: str, parts: list[dict], wires: list[list]) -> None:
+            diagram = {"version": 1, "parts": [uno, *parts], "connections": wires}
+            made.append({"diagram": json.dumps(diagram), "chips": {"own": ["IN"], "ws2812-3x1": ["IN"]}})
+            names.append(name)
+
+        kinds = [kind for kind, rule in TYPES["lowered"].items() if rule.get("chained")]
+        self.assertGreater(len(kinds), 2)
+        for ids in ("abc", ["a b", "a_b", "\u00e9"], "aab", ["__proto__", "constructor", ""]):
+            for attrs in ({}, {"pixels": "3", "rows": 2, "cols": "x"}, {"pixels": "0", "layout": "serpentine"}):
+                for last in ([], [["{2}:DOUT", "{0}:DIN"]], [["{0}:DOUT", "uno:7"]], [["{2}:DOUT", "uno:7", "red", ["h4"]]]):
+                    for kind in kinds:
+                        parts = [
+                            {"type": it, "id": one, "attrs": attrs, "top": 7.5} for it, one in zip((kind, *kinds), ids)
+                        ]
+                        wires = [["uno:6", "{0}:DIN"], ["{0}:DOUT", "{1}:DIN", "blue", ["v3"]], ["{2}:DIN", "{1}:DOUT"]]
+                        ends = [[it.format(*ids) if isinstance(it, str) else it for it in wire] for wire in wires + last]
+                        add(f"{kind} {ids} {attrs} {last}", parts, ends)
+        shows = [kind for kind, rule in TYPES["lowered"].items() if rule.get("only shows")]
+        for kind in shows:
+            for count in (8, 9, 12):
+                parts = [{"type": kind, "id": f"p {n}", "attrs": {"rows": "2"}} for n in range(count)]
+                others = [{"type": "wokwi-dht22", "id": "d"}, {"type": "wokwi-biaxial-stepper", "id": "b"}]
+                wires = [["uno:2", f"p {n}:{pin}", "green", ["v2"]] for n in range(count) for pin in ("DIN", "PWM")]
+                add(f"{count} {kind}", parts, wires)
+                add(f"{count} {kind}, others", [*parts, *others, {"type": kind, "id": "p 8"}], wires[::-1])
         self.compare(made, names)
 
     def test_diagrams_at_random(self) -> None:
