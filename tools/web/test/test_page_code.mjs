@@ -159,15 +159,15 @@ test('a breadboard becomes wires, and the files of the new project are all that 
   page.complete(project);
   const before = [...project.files.keys()], ready = page.preparedOf(project, kit);
   assert.deepEqual([...project.files.keys()], before, 'the project itself is as it was');
-  assert.deepEqual([...ready.project.files.keys()].sort(), ['diagram.json', 'firmware.hex', 'script.txt', 'wokwi.toml']);
+  assert.deepEqual([...ready.project.files.keys()].sort(), ['diagram.json', 'firmware.hex', 'script.txt', 'servo.json', 'servo.wasm', 'wokwi.toml']);
   const made = JSON.parse(fileOf(ready, 'diagram.json'));
-  assert.deepEqual(made.parts.map(part => part.id), ['uno', 'led1']);
+  assert.deepEqual(made.parts.map(part => part.id), ['uno', 's', 'led1']);
   assert.deepEqual(made.connections.map(wire => wire.slice(0, 2).sort()), [['led1:C', 'uno:GND.1'], ['led1:A', 'uno:13']]);
-  assert.equal(fileOf(ready, 'wokwi.toml'), "[wokwi]\nversion = 1\nfirmware = 'firmware.hex'\n");
+  assert.equal(fileOf(ready, 'wokwi.toml'), "[wokwi]\nversion = 1\nfirmware = 'firmware.hex'\n\n[[chip]]\nname = \"servo\"\nbinary = \"servo.wasm\"\n");
   assert.deepEqual(ready.faults, ['sd (wokwi-microsd-card): is not there']);
-  assert.match(ready.notes[0], /^s \(wokwi-servo\) only moves/);
+  assert.deepEqual(ready.notes, ['s (wokwi-servo) is s (chip-servo)']);
   const place = (what, n) => ready.placeOf({ what, n }, 'diagram.json');
-  assert.deepEqual([place('part', 2), place('connection', 1), place('connection', 2), place('part', 9)], [{ what: 'part', n: 5 }, { what: 'connection', n: 3 }, null, null]);
+  assert.deepEqual([place('part', 3), place('connection', 1), place('connection', 2), place('part', 9)], [{ what: 'part', n: 5 }, { what: 'connection', n: 3 }, null, null]);
   assert.deepEqual(ready.placeOf({ what: 'line', n: 1 }, 'script.txt'), { what: 'line', n: 1 });
   assert.equal(ready.placeOf({ what: 'chip', n: 1 }, 'wokwi.toml'), null);
 });
@@ -180,6 +180,24 @@ test('chips that parts become, and chips of the folder that no wokwi.toml names,
   assert.equal(fileOf(ready, 'chip-own.wasm'), 'module');
   assert.deepEqual(ready.project.files.get('dht22.wasm'), chips['dht22.wasm']);
   assert.deepEqual(page.chipsOf(ready.project)['chip-dht22'], JSON.parse(text(chips['dht22.json'])).pins);
+});
+
+test('a chip that a page alone plays has its table in wokwi.toml, also when the project is made of one that was made', () => {
+  const servos = Array.from({ length: 9 }, (_, n) => ({ type: 'wokwi-servo', id: `s${n}` })), lcd = { type: 'wokwi-tm1637-7segment', id: 'd' };
+  const project = folder([UNO, lcd, ...servos], [['uno:2', 's8:PWM', '', []]], { 'a.hex': HEX });
+  page.complete(project);
+  const ready = page.preparedOf(project, kit), made = JSON.parse(fileOf(ready, 'diagram.json'));
+  assert.deepEqual([made.parts.length, made.drawn.parts.map(part => [part.id, part.type, part.as])], [9, [['s7', 'chip-servo', 'wokwi-servo'], ['s8', 'chip-servo', 'wokwi-servo']]]);
+  const pixels = folder([UNO, lcd, ...servos.map(({ id }) => ({ type: 'wokwi-neopixel', id })), { type: 'wokwi-led-ring', id: 'r' }], [], { 'a.hex': HEX });
+  page.complete(pixels);
+  const whole = page.preparedOf(pixels, kit);
+  assert.match(fileOf(whole, 'wokwi.toml'), /\n\[\[shown\]\]\nname = "ws2812-16x1"\nbinary = "ws2812-16x1\.wasm"\n$/);
+  assert.deepEqual(JSON.parse(fileOf(whole, 'ws2812-16x1.json')).display, { width: 16, height: 1 });
+  assert.deepEqual(Object.keys(page.modulesOf(whole.project)).sort(), ['chip-tm1637', 'chip-ws2812-16x1', 'chip-ws2812-1x1']);
+  whole.project.files.set('diagram.json', bytes(fileOf(whole, 'diagram.json').replace('"chip-tm1637"', '"wokwi-servo"')));
+  const again = page.preparedOf(whole.project, kit);
+  assert.match(fileOf(again, 'wokwi.toml'), /\n\[\[shown\]\]\nname = "ws2812-16x1"\nbinary = "shown-0\.wasm"\n/);
+  assert.deepEqual(again.project.files.get('shown-0.wasm'), chips['ws2812.wasm']);
 });
 
 test('what a page cannot make a board of is said', () => {

@@ -418,13 +418,20 @@ class Same(unittest.TestCase):
         self.assertGreater(len(kinds), 2)
         for ids in ("abc", ["a b", "a_b", "\u00e9"], "aab", ["__proto__", "constructor", ""]):
             for attrs in ({}, {"pixels": "3", "rows": 2, "cols": "x"}, {"pixels": "0", "layout": "serpentine"}):
-                for last in ([], [["{2}:DOUT", "{0}:DIN"]], [["{0}:DOUT", "uno:7"]], [["{2}:DOUT", "uno:7", "red", ["h4"]]]):
+                for last in (
+                    [],
+                    [["{2}:DOUT", "{0}:DIN"]],
+                    [["{0}:DOUT", "uno:7"]],
+                    [["{2}:DOUT", "uno:7", "red", ["h4"]]],
+                ):
                     for kind in kinds:
                         parts = [
                             {"type": it, "id": one, "attrs": attrs, "top": 7.5} for it, one in zip((kind, *kinds), ids)
                         ]
                         wires = [["uno:6", "{0}:DIN"], ["{0}:DOUT", "{1}:DIN", "blue", ["v3"]], ["{2}:DIN", "{1}:DOUT"]]
-                        ends = [[it.format(*ids) if isinstance(it, str) else it for it in wire] for wire in wires + last]
+                        ends = [
+                            [it.format(*ids) if isinstance(it, str) else it for it in wire] for wire in wires + last
+                        ]
                         add(f"{kind} {ids} {attrs} {last}", parts, ends)
         shows = [kind for kind, rule in TYPES["lowered"].items() if rule.get("only shows")]
         for kind in shows:
