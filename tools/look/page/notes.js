@@ -1,8 +1,12 @@
 'use strict';
-// What a run left out, from its report (docs/REPORT.md): [{part, t, text}] in the order of time, t the cycle if it is known, else null.
+// What a run left out, from its report (docs/REPORT.md): [{part, t, text, isEnd}] in the order of time, t the cycle if it is known, else null;
+// isEnd of a trap that ended a chip.
 // `firsts` has, for a line of the report, the cycle at which shorter runs first had it; `told` is what tools/truth.py says beside, [part, text].
 
 // REGISTERS, OMISSIONS, HALTS and TRAPS are the tables of docs/REPORT.md and docs/CHIPS.md; told.py reads them.
+
+// The trap that ended a chip, or undefined.
+const endOf = (run, id) => run.notes.find(note => note.part === id && note.isEnd);
 
 function notesOf(report, firsts, told = []) {
   const notes = told.map(([part, text]) => ({ part, t: null, text }));
@@ -34,7 +38,7 @@ function noteOf(line) {
   }
   if (kind === 'chip' && words[2] === 'trap') {
     const what = TRAPS[words[3]];
-    return { part, t: Number(words[5]), text: `${part} was ended by trap ${words[3]}${what ? ` (${what[0]}): ${what[1]}` : ''}. After this it drives none of its pins.` };
+    return { part, isEnd: true, t: Number(words[5]), text: `${part} was ended by trap ${words[3]}${what ? ` (${what[0]}): ${what[1]}` : ''}. After this it drives none of its pins.` };
   }
   return null;
 }

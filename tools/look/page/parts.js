@@ -392,7 +392,7 @@ function boxOf(part, wires) {
       for (const [name, [x, y]] of Object.entries(pins)) {
         g.append(path(`M${x} ${y}h${x ? -6 : 6}`, { class: 'lead' }), label(x ? width - 10 : 10, y + 2.9, name, { 'font-size': 8, fill: '#dbe3e9', 'text-anchor': x ? 'end' : 'start' }));
       }
-      const cross = label(width / 2, height - 6, 'ended', { ...middle, 'font-size': 8, fill: '#ff9d9d' }), end = run.notes.find(note => note.part === drawn.id);
+      const cross = label(width / 2, height - 6, 'ended', { ...middle, 'font-size': 8, fill: '#ff9d9d' }), end = endOf(run, drawn.id);
       if (end) g.append(cross);
       return moment => {
         if (end) cross.setAttribute('opacity', end.t !== null && moment.t >= end.t ? 1 : 0);
@@ -405,7 +405,7 @@ function boxOf(part, wires) {
       };
     },
     tell(drawn, run, moment) {
-      const end = run.notes.find(note => note.part === drawn.id && note.t !== null && moment.t >= note.t);
+      const trap = endOf(run, drawn.id), end = trap && trap.t !== null && moment.t >= trap.t;
       const all = linesAt(run, drawn, moment.t), lines = all.length > MOST_LINES ? [`(${all.length - MOST_LINES} lines)`, ...all.slice(-MOST_LINES)] : all;
       return [end ? 'ended' : drawn.pins ? 'alive' : '', ...lines].join('\n') || null;
     },

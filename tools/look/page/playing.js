@@ -35,7 +35,7 @@ class Playing {
 
   begin(part) {
     const { run } = this, chip = playedOf(part), { module, display } = run.modules[chip.type];
-    const end = run.notes.find(note => note.part === part.id), shown = { part, chip, display, end, record: new Record(display || [0, 0], run.onlyLast), lines: [], sent: chip.pins.map(() => 0), to: 0, isOver: false };
+    const end = endOf(run, part.id), shown = { part, chip, display, end, record: new Record(display || [0, 0], run.onlyLast), lines: [], sent: chip.pins.map(() => 0), to: 0, isOver: false };
     this.shown.set(part.id, shown);
     shown.first = { bytes: module, pins: chip.pins, attrs: { ...chip.attrs }, display, last: Boolean(run.onlyLast) };
     if (this.wavesOf(shown).some(wave => wave.t[0] > 0)) { shown.record = null; this.give(shown, 'the waves of its pins begin later than the run'); }
