@@ -247,7 +247,7 @@ def check_left_out():
 
 def check_prepared():
     """A folder or an archive of Wokwi's editor is made a project; what is wrong with one is said, and a project stays what it is."""
-    diagram = {"version": 1, "parts": [{"type": "wokwi-arduino-uno", "id": "uno"}, {"type": "wokwi-breadboard-mini", "id": "bb"}, {"type": "wokwi-led", "id": "led"}, {"type": "wokwi-servo", "id": "s"}],
+    diagram = {"version": 1, "parts": [{"type": "wokwi-arduino-uno", "id": "uno"}, {"type": "wokwi-breadboard-mini", "id": "bb"}, {"type": "wokwi-led", "id": "led"}, {"type": "wokwi-logic-analyzer", "id": "s"}],
                "connections": [["led:A", "bb:2t.a", "", ["$bb"]], ["bb:2t.e", "uno:13", "green", []], ["led:C", "uno:GND.1", "black", []]]}
     with tempfile.TemporaryDirectory() as box, contextlib.redirect_stderr(io.StringIO()) as said:
         lab, page = os.path.join(box, "lab.zip"), os.path.join(box, "lab.html")
@@ -256,7 +256,7 @@ def check_prepared():
             out.write(os.path.join(examples.folder_of("arduino-blink"), "arduino-blink.hex"), "sketch.ino.hex")
             out.writestr("script.txt", "# nothing is pressed\n")
         assert main([lab, "--us", "2s", "-o", page]) == 0, said.getvalue()
-        assert said.getvalue().startswith("look: s (wokwi-servo) only moves, and is left out"), said.getvalue()
+        assert said.getvalue().startswith("look: s (wokwi-logic-analyzer) only shows what the wave shows (--vcd), and is left out"), said.getvalue()
         with open(page, encoding="utf-8") as file:
             text = file.read()
         data = json.loads(re.search(r'id="data">(.*?)</script>', text, re.S)[1])

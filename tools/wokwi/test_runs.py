@@ -442,7 +442,7 @@ class NotAsMeant(WithWork):
         self.assertEqual(err.count("play: pot1: its VCC and GND are not wired"), 1)
         self.assertIn("pot1: its VCC and GND are not wired", self.read("page.html"))
         self.assertEqual(call("wokwi/play", folder, "--us", "1ms", "--quiet", "--strict")[0], 1)
-        loop = self.project(":02000000FFCF30\n:00000001FF\n", "loop", parts=', {"type": "wokwi-servo", "id": "s"}')
+        loop = self.project(":02000000FFCF30\n:00000001FF\n", "loop", parts=', {"type": "wokwi-logic-analyzer", "id": "s"}')
         self.assertEqual([call("wokwi/play", loop, "--us", "1ms", *words)[0] for words in ([], ["--strict"])], [0, 1])  # a part is left out
         self.assertEqual(call("wokwi/play", self.project(":02000000FFCF30\n:00000001FF\n", "plain"), "--us", "1ms", "--strict")[0], 0)
         made = os.path.join(self.work, "made")
