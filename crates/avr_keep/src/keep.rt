@@ -17,7 +17,7 @@ use std::marker::Model;
 pub struct Keep {
     watchdog: Watchdog,
     eeprom: Eeprom,
-    cycle: u32,
+    cycle: u64,
 }
 
 impl Model for Keep {
@@ -99,7 +99,7 @@ impl Unit for Keep {
         Span::none()
     }
 
-    fn skip(&mut self, to: u32) {
+    fn skip(&mut self, to: u64) {
         self.cycle = to;
     }
 
@@ -110,7 +110,7 @@ impl Unit for Keep {
         (None, Span::none())
     }
 
-    fn due(&self) -> Option<u32> {
+    fn due(&self) -> Option<u64> {
         let windows = or_end(self.watchdog.window).min(or_end(self.eeprom.window));
         let ends = or_end(end_of(self.eeprom.programming));
         let time_out = self.watchdog.time_out().max(self.cycle);
@@ -157,7 +157,7 @@ impl Awake for Keep {
         self.watchdog.clear(self.cycle);
     }
 
-    fn resets(&self, cycle: u32) -> bool {
+    fn resets(&self, cycle: u64) -> bool {
         self.watchdog.resets(cycle)
     }
 

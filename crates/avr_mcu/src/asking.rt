@@ -14,7 +14,7 @@ use sim_base::{Level, MOST_CYCLES};
 /// `VECTORS`.
 #[derive(Clone, Copy)]
 pub(crate) struct Next {
-    pub(crate) due: u32,
+    pub(crate) due: u64,
     pub(crate) request: u8,
 }
 
@@ -54,7 +54,7 @@ pub(crate) trait Asking {
         self,
         group: &mut G,
         next: &mut Next,
-        cycle: u32,
+        cycle: u64,
         before: &[Level],
         now: &[Level],
     ) -> Self::Answer
@@ -87,7 +87,7 @@ impl Asking for Read {
         self,
         group: &mut G,
         next: &mut Next,
-        cycle: u32,
+        cycle: u64,
         before: &[Level],
         _now: &[Level],
     ) -> Option<u8> {
@@ -126,7 +126,7 @@ impl Asking for Write {
         self,
         group: &mut G,
         next: &mut Next,
-        cycle: u32,
+        cycle: u64,
         before: &[Level],
         _now: &[Level],
     ) -> Option<Span> {
@@ -165,7 +165,7 @@ impl Asking for WriteBit {
         self,
         group: &mut G,
         next: &mut Next,
-        cycle: u32,
+        cycle: u64,
         before: &[Level],
         _now: &[Level],
     ) -> Option<Span> {
@@ -208,7 +208,7 @@ impl Asking for Taken {
         self,
         group: &mut G,
         next: &mut Next,
-        cycle: u32,
+        cycle: u64,
         before: &[Level],
         _now: &[Level],
     ) {
@@ -231,7 +231,7 @@ impl Asking for Signal {
         self,
         group: &mut G,
         next: &mut Next,
-        cycle: u32,
+        cycle: u64,
         before: &[Level],
         _now: &[Level],
     ) {
@@ -259,7 +259,7 @@ impl Asking for Hear {
         self,
         group: &mut G,
         next: &mut Next,
-        cycle: u32,
+        cycle: u64,
         before: &[Level],
         now: &[Level],
     ) -> (Option<u8>, bool, Span) {
@@ -289,7 +289,7 @@ impl Asking for Turn {
         self,
         group: &mut G,
         next: &mut Next,
-        cycle: u32,
+        cycle: u64,
         before: &[Level],
         now: &[Level],
     ) -> (Option<u8>, bool, Span) {
@@ -303,7 +303,7 @@ impl Asking for Turn {
 fn step<G: AwakeGroup>(
     group: &mut G,
     next: &mut Next,
-    cycle: u32,
+    cycle: u64,
     before: &[Level],
     now: &[Level],
 ) -> (Option<u8>, bool, Span)

@@ -35,10 +35,10 @@ pub struct Mcu {
     flash: Flash,
     program: Vec<Instr>,
     core: Core,
-    next: u32,
+    next: u64,
     units: Units,
-    cycle: u32,
-    wakes: u32,
+    cycle: u64,
+    wakes: u64,
     moved: Span,
 }
 
@@ -166,11 +166,11 @@ impl Part for Mcu {
         false
     }
 
-    fn due(&self) -> Option<u32> {
+    fn due(&self) -> Option<u64> {
         first_due(&self.core, &self.units, self.next, self.cycle)
     }
 
-    fn woken(&self) -> u32 {
+    fn woken(&self) -> u64 {
         self.wakes
     }
 
@@ -184,7 +184,7 @@ impl Part for Mcu {
         self.moved
     }
 
-    fn settle(&mut self, to: u32) {
+    fn settle(&mut self, to: u64) {
         self.units.skip(to);
         self.cycle = to;
     }
@@ -223,7 +223,7 @@ impl Part for Mcu {
         turned.byte
     }
 
-    fn go_on<L: Ledger>(&mut self, limit: u32, steps: &mut Steps<L>) -> Went {
+    fn go_on<L: Ledger>(&mut self, limit: u64, steps: &mut Steps<L>) -> Went {
         let went = follow(
             &mut self.core,
             &self.program,
@@ -256,9 +256,9 @@ pub(crate) fn act_core(
     program: &[Instr],
     flash: &Flash,
     units: &mut Units,
-    next: u32,
-    cycle: u32,
-) -> (u32, Span)
+    next: u64,
+    cycle: u64,
+) -> (u64, Span)
     requires program { IsProgram flash.now program.now }
     requires here { units.old.cycle ≡ cycle }
     requires end { cycle < MOST_CYCLES }
@@ -269,7 +269,7 @@ pub(crate) fn act_core(
     let enters = enters(core, units);
     if starts(core.mode(), enters, next, cycle) {
         let (cycles, touched) = perform(core, program, flash, units, enters);
-        (cycle + cycles as u32, touched)
+        (cycle + cycles as u64, touched)
     } else {
         (next, Span::none())
     }
@@ -283,7 +283,7 @@ pub(crate) fn act_next(
     program: &[Instr],
     flash: &Flash,
     units: &mut Units,
-    cycle: u32,
+    cycle: u64,
 ) -> u8
     requires program { IsProgram flash.now program.now }
     requires here { units.old.cycle ≡ cycle }
@@ -302,7 +302,7 @@ pub(crate) fn act_next(
 
 // Whether the core does something in the cycle.
 #[inline]
-fn starts(mode: Mode, enters: bool, next: u32, cycle: u32) -> bool
+fn starts(mode: Mode, enters: bool, next: u64, cycle: u64) -> bool
     ensures value { result ≡ (not (nat_lt cycle next) && ready mode enters) }
     ensures late { result ≡ true → next ≤ cycle }
     ensures ready { result ≡ true → ready mode enters ≡ true }
@@ -386,7 +386,7 @@ fn enter(core: &mut Core, units: &mut Units) -> u8
 
 // The first cycle from `cycle` on in which the microcontroller is due, `MOST_CYCLES` where there is none.
 #[inline]
-pub(crate) fn next_due(core: &Core, units: &Units, next: u32, cycle: u32) -> u32
+pub(crate) fn next_due(core: &Core, units: &Units, next: u64, cycle: u64) -> u64
     requires here { units.now.cycle ≡ cycle }
     ensures soon { (flash : List ℕ) → result < MOST_CYCLES → IsFirstDue (mcu devices) (state_of flash core.now next units.now) cycle (Some result) }
     ensures never { (flash : List ℕ) → MOST_CYCLES ≤ result → IsFirstDue (mcu devices) (state_of flash core.now next units.now) cycle None }
@@ -399,7 +399,7 @@ pub(crate) fn next_due(core: &Core, units: &Units, next: u32, cycle: u32) -> u32
 }
 
 // The same, None where there is none.
-fn first_due(core: &Core, units: &Units, next: u32, cycle: u32) -> Option<u32>
+fn first_due(core: &Core, units: &Units, next: u64, cycle: u64) -> Option<u64>
     requires here { units.now.cycle ≡ cycle }
     ensures { (flash : List ℕ) → IsFirstDue (mcu devices) (state_of flash core.now next units.now) cycle result }
 {
@@ -409,7 +409,7 @@ fn first_due(core: &Core, units: &Units, next: u32, cycle: u32) -> Option<u32>
 
 // The cycle in which the core next does something, `MOST_CYCLES` where it does nothing any more.
 #[inline]
-fn next_start(ready: bool, next: u32, cycle: u32) -> u32
+fn next_start(ready: bool, next: u64, cycle: u64) -> u64
     ensures { result ≡ (if ready then max next cycle else MOST_CYCLES) }
 {
     if ready {

@@ -19,7 +19,7 @@ use sim_base::{Level, MOST_CYCLES};
 pub(crate) struct Turned {
     pub(crate) byte: Option<u8>,
     pub(crate) span: Span,
-    pub(crate) next: u32,
+    pub(crate) next: u64,
 }
 
 // One cycle of the units on the levels that they hold, behind the core's part, which may have touched some pins.
@@ -27,8 +27,8 @@ pub(crate) struct Turned {
 pub(crate) fn tick(
     core: &mut Core,
     units: &mut Units,
-    next: u32,
-    cycle: u32,
+    next: u64,
+    cycle: u64,
     touched: Span,
 ) -> Turned
     requires here { units.old.cycle ≡ cycle }
@@ -53,7 +53,7 @@ pub(crate) fn tick(
 
 // The same where a unit has an event.
 #[inline(always)]
-fn turn(core: &mut Core, units: &mut Units, next: u32, cycle: u32, touched: Span) -> Turned
+fn turn(core: &mut Core, units: &mut Units, next: u64, cycle: u64, touched: Span) -> Turned
     requires here { units.old.cycle ≡ cycle }
     requires end { cycle < MOST_CYCLES }
     ensures byte { result.byte ≡ devices.sends units.old.units.devices cycle }
@@ -75,8 +75,8 @@ fn turn(core: &mut Core, units: &mut Units, next: u32, cycle: u32, touched: Span
 pub(crate) fn hear(
     core: &mut Core,
     units: &mut Units,
-    next: u32,
-    cycle: u32,
+    next: u64,
+    cycle: u64,
     levels: &[Level],
     touched: Span,
 ) -> Turned
@@ -104,10 +104,10 @@ fn restart_if(
     resets: bool,
     core: &mut Core,
     units: &mut Units,
-    next: u32,
-    cycle: u32,
+    next: u64,
+    cycle: u64,
     moved: Span,
-) -> (u32, Span)
+) -> (u64, Span)
     requires here { units.old.cycle ≡ cycle }
     ensures state { (flash : List ℕ) → state_of flash core.new result.0 units.new ≡ (if resets then restarted devices (state_of flash core.old next units.old) cycle else state_of flash core.old next units.old) }
     ensures here { units.new.cycle ≡ cycle }

@@ -55,10 +55,10 @@ pub(crate) struct Units {
     smcr: u8,
     ignored: Vec<bool>,
     held: [Level; UNO_PINS],
-    cycle: u32,
+    cycle: u64,
     next: Next,
     touched: Span,
-    calm: u32,
+    calm: u64,
     asked: Omissions,
 }
 
@@ -135,7 +135,7 @@ impl Units {
 
     /// The first cycle in which a unit has an event, or `MOST_CYCLES`.
     #[inline]
-    pub(crate) fn due(&self) -> u32
+    pub(crate) fn due(&self) -> u64
         ensures { FirstDue devices self.now.units.devices self.now.cycle result }
     {
         self.next.due
@@ -151,7 +151,7 @@ impl Units {
 
     /// Whether the cycles up to this one bring instructions alone. It may answer no where they do, until `calm_down` looks.
     #[inline(always)]
-    pub(crate) fn is_calm(&self, next: u32) -> bool
+    pub(crate) fn is_calm(&self, next: u64) -> bool
         ensures before { result ≡ true → (due : ℕ) × (FirstDue devices self.now.units.devices self.now.cycle due) × (next < due) }
         ensures passes { result ≡ true → 26 ≤ request devices self.now.units self.now.held }
         ensures still { result ≡ true → nat_lt self.now.touched.from self.now.touched.to ≡ false }
@@ -274,7 +274,7 @@ impl Units {
 
     /// Goes on to a cycle, before which no unit has an event.
     #[inline]
-    pub(crate) fn skip(&mut self, to: u32)
+    pub(crate) fn skip(&mut self, to: u64)
         requires forward { self.old.cycle ≤ to }
         requires end { to ≤ MOST_CYCLES }
         requires quiet { IsQuiet devices self.old.units.devices self.old.cycle (to - self.old.cycle) }
@@ -512,7 +512,7 @@ impl Units {
 fn ask<A: Asking>(
     group: &mut Devices,
     next: &mut Next,
-    cycle: u32,
+    cycle: u64,
     before: &[Level],
     now: &[Level],
     asking: A,
@@ -530,7 +530,7 @@ fn ask<A: Asking>(
 
 // Before which cycle instructions come alone.
 #[inline]
-fn calm_of(next: Next, touched: Span) -> u32
+fn calm_of(next: Next, touched: Span) -> u64
     ensures { Calm result next.due next.request touched }
 {
     if touched.has_any() {

@@ -11,7 +11,7 @@ pub const OMISSIONS: usize = 23;
 /// A write, and the cycle in which its instruction began.
 #[derive(Clone, Copy)]
 pub struct Asked {
-    pub cycle: u32,
+    pub cycle: u64,
     pub address: u8,
     pub value: u8,
 }

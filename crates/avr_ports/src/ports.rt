@@ -37,7 +37,7 @@ pub struct Ports {
     pcif0: bool,
     pcif1: bool,
     pcif2: bool,
-    cycle: u32,
+    cycle: u64,
 }
 
 impl Model for Ports {
@@ -140,7 +140,7 @@ impl Unit for Ports {
     }
 
     #[inline]
-    fn skip(&mut self, to: u32) {
+    fn skip(&mut self, to: u64) {
         self.cycle = to;
     }
 
@@ -152,7 +152,7 @@ impl Unit for Ports {
     }
 
     #[inline]
-    fn due(&self) -> Option<u32> {
+    fn due(&self) -> Option<u64> {
         None
     }
 
@@ -201,7 +201,7 @@ impl Awake for Ports {
 
     fn wdr(&mut self) {}
 
-    fn resets(&self, _cycle: u32) -> bool {
+    fn resets(&self, _cycle: u64) -> bool {
         false
     }
 

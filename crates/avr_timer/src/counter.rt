@@ -237,7 +237,7 @@ impl Counter {
     }
 
     /// Goes from one cycle to a later one, over cycles without an event.
-    pub fn skip(&mut self, timing: &Timing, from: u32, to: u32)
+    pub fn skip(&mut self, timing: &Timing, from: u64, to: u64)
         requires mode { IsMode timing.now.mode }
         requires holds { Holds timing.now.mode.greatest self.old }
         requires begun { Begun timing.now from }
@@ -252,7 +252,7 @@ impl Counter {
     }
 
     /// Goes over one cycle.
-    pub fn step(&mut self, timing: &Timing, cycle: u32)
+    pub fn step(&mut self, timing: &Timing, cycle: u64)
         requires mode { IsMode timing.now.mode }
         requires holds { Holds timing.now.mode.greatest self.old }
         ensures state { self.new ≡ counter_step timing.now self.old cycle }
@@ -264,7 +264,7 @@ impl Counter {
     }
 
     /// The next cycle with an event, from `cycle` on.
-    pub fn due(&self, timing: &Timing, cycle: u32) -> Option<u32>
+    pub fn due(&self, timing: &Timing, cycle: u64) -> Option<u64>
         requires mode { IsMode timing.now.mode }
         requires holds { Holds timing.now.mode.greatest self.now }
         requires begun { Begun timing.now cycle }

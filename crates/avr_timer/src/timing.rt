@@ -11,11 +11,11 @@ use sim_base::MOST_CYCLES;
 pub struct Timing {
     pub mode: Mode,
     pub divisor: u16,
-    pub reset: u32,
-    pub written: u32,
+    pub reset: u64,
+    pub written: u64,
 }
 
-fn ticks_in(divisor: u32, cycles: u32) -> u32
+fn ticks_in(divisor: u64, cycles: u64) -> u64
     requires { 0 < divisor }
     ensures value { result ≡ ticks_in divisor cycles }
     ensures short { result ≤ cycles }
@@ -29,17 +29,17 @@ fn ticks_in(divisor: u32, cycles: u32) -> u32
 
 impl Timing {
     /// Whether the counter ticks in a cycle.
-    pub fn is_tick(&self, cycle: u32) -> bool
+    pub fn is_tick(&self, cycle: u64) -> bool
         ensures { result ≡ is_tick self.now cycle }
     {
         (self.divisor > 0)
             && (self.reset < cycle)
             && (self.written < cycle)
-            && ((cycle - self.reset) % u32::from(self.divisor) == 0)
+            && ((cycle - self.reset) % u64::from(self.divisor) == 0)
     }
 
-    fn begins(&self, cycle: u32) -> u32
-        requires { cycle < 4294967295 }
+    fn begins(&self, cycle: u64) -> u64
+        requires { cycle < 18446744073709551615 }
         ensures { result ≡ begins self.now cycle }
     {
         if self.written < cycle {
@@ -49,20 +49,20 @@ impl Timing {
         }
     }
 
-    fn ticks_to(&self, cycle: u32) -> u32
+    fn ticks_to(&self, cycle: u64) -> u64
         requires runs { 0 < self.now.divisor }
         requires begun { self.now.reset ≤ cycle }
         ensures value { result ≡ ticks_to self.now cycle }
         ensures short { result ≤ cycle }
     {
-        ticks_in(u32::from(self.divisor), cycle - self.reset)
+        ticks_in(u64::from(self.divisor), cycle - self.reset)
     }
 
     /// The ticks in the cycles from one to before another.
-    pub fn passed(&self, from: u32, to: u32) -> u32
+    pub fn passed(&self, from: u64, to: u64) -> u64
         requires begun { Begun self.now from }
         requires forward { from ≤ to }
-        requires end { to < 4294967295 }
+        requires end { to < 18446744073709551615 }
         ensures { result ≡ passed self.now from to }
     {
         if self.divisor == 0 {
@@ -73,7 +73,7 @@ impl Timing {
     }
 
     /// The cycle of the tick after so many more.
-    pub fn tick_after(&self, cycle: u32, ticks: u16) -> u32
+    pub fn tick_after(&self, cycle: u64, ticks: u16) -> u64
         requires runs { 0 < self.now.divisor }
         requires divisor { self.now.divisor ≤ 1024 }
         requires begun { Begun self.now cycle }
@@ -81,6 +81,6 @@ impl Timing {
         ensures { result ≡ tick_after self.now cycle ticks }
     {
         let before = self.ticks_to(self.begins(cycle));
-        self.reset + (before + u32::from(ticks) + 1) * u32::from(self.divisor)
+        self.reset + (before + u64::from(ticks) + 1) * u64::from(self.divisor)
     }
 }

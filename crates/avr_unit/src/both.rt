@@ -82,7 +82,7 @@ impl<U: Unit, G: Group> Group for Both<U, G> {
     }
 
     #[inline]
-    fn read(&mut self, cycle: u32, levels: &[Level], reg: u8) -> u8 {
+    fn read(&mut self, cycle: u64, levels: &[Level], reg: u8) -> u8 {
         if U::has(reg) {
             self.first.read(cycle, levels, reg)
         } else {
@@ -91,7 +91,7 @@ impl<U: Unit, G: Group> Group for Both<U, G> {
     }
 
     #[inline]
-    fn write(&mut self, cycle: u32, levels: &[Level], reg: u8, value: u8, touched: Span) -> Span {
+    fn write(&mut self, cycle: u64, levels: &[Level], reg: u8, value: u8, touched: Span) -> Span {
         let more = write_where(&mut self.second, cycle, levels, reg, value, touched);
         write_where(&mut self.first, cycle, levels, reg, value, more)
     }
@@ -99,7 +99,7 @@ impl<U: Unit, G: Group> Group for Both<U, G> {
     #[inline]
     fn write_bit(
         &mut self,
-        cycle: u32,
+        cycle: u64,
         levels: &[Level],
         reg: u8,
         bit: u8,
@@ -112,7 +112,7 @@ impl<U: Unit, G: Group> Group for Both<U, G> {
 
     fn step(
         &mut self,
-        cycle: u32,
+        cycle: u64,
         before: &[Level],
         now: &[Level],
         others: (Option<u8>, Span),
@@ -122,7 +122,7 @@ impl<U: Unit, G: Group> Group for Both<U, G> {
     }
 
     #[inline]
-    fn due(&self) -> u32 {
+    fn due(&self) -> u64 {
         self.first.due().min(self.second.due())
     }
 
@@ -136,7 +136,7 @@ impl<U: Unit, G: Group> Group for Both<U, G> {
         self.second.see(levels);
     }
 
-    fn taken(&mut self, cycle: u32, levels: &[Level], vector: u8) {
+    fn taken(&mut self, cycle: u64, levels: &[Level], vector: u8) {
         self.first.taken(cycle, levels, vector);
         self.second.taken(cycle, levels, vector);
     }
@@ -163,11 +163,11 @@ impl<U: Awake, G: AwakeGroup> AwakeGroup for Both<U, G> {
     }
 
     #[inline]
-    fn resets(&self, cycle: u32) -> bool {
+    fn resets(&self, cycle: u64) -> bool {
         self.first.resets(cycle) | self.second.resets(cycle)
     }
 
-    fn give(&mut self, cycle: u32, levels: &[Level], signal: Signal) {
+    fn give(&mut self, cycle: u64, levels: &[Level], signal: Signal) {
         self.first.give(cycle, levels, signal);
         self.second.give(cycle, levels, signal);
     }
@@ -188,7 +188,7 @@ pub(crate) fn first_of_two(first: Option<u8>, second: Option<u8>) -> Option<u8>
 #[inline]
 pub(crate) fn write_where<G: Group>(
     group: &mut G,
-    cycle: u32,
+    cycle: u64,
     levels: &[Level],
     reg: u8,
     value: u8,
@@ -211,7 +211,7 @@ pub(crate) fn write_where<G: Group>(
 #[inline]
 pub(crate) fn write_bit_where<G: Group>(
     group: &mut G,
-    cycle: u32,
+    cycle: u64,
     levels: &[Level],
     reg: u8,
     bit: u8,

@@ -8,8 +8,8 @@ use sim_base::MOST_CYCLES;
 /// always the same.
 #[derive(Clone, Copy, Debug, PartialEq, Eq)]
 pub enum Clock {
-    Runs(u32),
-    Stands(u32),
+    Runs(u64),
+    Stands(u64),
 }
 
 impl Clock {
@@ -26,7 +26,7 @@ impl Clock {
 
     /// The units' own cycle in a cycle of their owner.
     #[inline]
-    pub fn own(self, cycle: u32) -> u32
+    pub fn own(self, cycle: u64) -> u64
         ensures value { result ≡ own_cycle self cycle }
         ensures least { IsBegun self cycle → result ≤ cycle }
     {
@@ -38,7 +38,7 @@ impl Clock {
 
     /// The owner's cycle in which an event of the units' own cycle comes, `MOST_CYCLES` where it comes in none.
     #[inline]
-    pub fn board(self, own: u32) -> u32
+    pub fn board(self, own: u64) -> u64
         ensures { result ≡ board_cycle self own }
     {
         match self {
@@ -49,7 +49,7 @@ impl Clock {
 
     /// From this cycle on it stands.
     #[inline]
-    pub fn stopped(self, cycle: u32) -> Clock
+    pub fn stopped(self, cycle: u64) -> Clock
         ensures { result ≡ stopped self cycle }
     {
         Clock::Stands(self.own(cycle))
@@ -57,7 +57,7 @@ impl Clock {
 
     /// From this cycle on it runs.
     #[inline]
-    pub fn started(self, cycle: u32) -> Clock
+    pub fn started(self, cycle: u64) -> Clock
         requires { IsBegun self cycle }
         ensures { result ≡ started self cycle }
     {

@@ -6,7 +6,7 @@ use sim_base::MOST_CYCLES;
 
 /// Whether it comes in this cycle.
 #[inline]
-pub fn comes(event: Option<u32>, cycle: u32) -> bool
+pub fn comes(event: Option<u64>, cycle: u64) -> bool
     ensures { result ≡ comes event cycle }
 {
     match event {
@@ -17,7 +17,7 @@ pub fn comes(event: Option<u32>, cycle: u32) -> bool
 
 /// Its cycle, or `MOST_CYCLES`, the end of a board's time.
 #[inline]
-pub fn or_end(event: Option<u32>) -> u32
+pub fn or_end(event: Option<u64>) -> u64
     ensures { result ≡ or_end event }
 {
     match event {
@@ -28,7 +28,7 @@ pub fn or_end(event: Option<u32>) -> u32
 
 /// A cycle, if it lies within a board's time.
 #[inline]
-pub fn within_run(cycle: u32) -> Option<u32>
+pub fn within_run(cycle: u64) -> Option<u64>
     ensures { result ≡ within_run cycle }
 {
     if cycle < MOST_CYCLES {

@@ -59,7 +59,7 @@ pub trait Group {
         ensures { result ≡ true → WritesKeepNext machine reg };
 
     /// Reads a register in a cycle.
-    fn read(&mut self, cycle: u32, levels: &[Level], reg: u8) -> u8
+    fn read(&mut self, cycle: u64, levels: &[Level], reg: u8) -> u8
         requires register { machine.has reg ≡ true }
         requires levels { length levels.now ≡ PORT_PINS }
         requires here { stands self.old levels.now cycle }
@@ -69,7 +69,7 @@ pub trait Group {
 
     /// Writes a register in a cycle, and answers the pins that were touched before with those of which that may change what they
     /// are asked for.
-    fn write(&mut self, cycle: u32, levels: &[Level], reg: u8, value: u8, touched: Span) -> Span
+    fn write(&mut self, cycle: u64, levels: &[Level], reg: u8, value: u8, touched: Span) -> Span
         requires register { machine.has reg ≡ true }
         requires levels { length levels.now ≡ PORT_PINS }
         requires here { stands self.old levels.now cycle }
@@ -80,7 +80,7 @@ pub trait Group {
     /// Writes one bit alone, as SBI and CBI do, with the same answer.
     fn write_bit(
         &mut self,
-        cycle: u32,
+        cycle: u64,
         levels: &[Level],
         reg: u8,
         bit: u8,
@@ -100,7 +100,7 @@ pub trait Group {
     /// those of others beside them.
     fn step(
         &mut self,
-        cycle: u32,
+        cycle: u64,
         before: &[Level],
         now: &[Level],
         others: (Option<u8>, Span),
@@ -116,7 +116,7 @@ pub trait Group {
         ensures stands { stands self.new now.now (cycle + 1) };
 
     /// The first cycle with an event, or `MOST_CYCLES`.
-    fn due(&self) -> u32
+    fn due(&self) -> u64
         ensures { result ≡ until self.now };
 
     /// The least vector that is enabled and flagged, or `VECTORS`.
@@ -132,7 +132,7 @@ pub trait Group {
         ensures stands { (l : List Level) (t : ℕ) → stands self.old l t → stands self.new levels.now t };
 
     /// Clears what entering a vector in a cycle clears.
-    fn taken(&mut self, cycle: u32, levels: &[Level], vector: u8)
+    fn taken(&mut self, cycle: u64, levels: &[Level], vector: u8)
         requires levels { length levels.now ≡ PORT_PINS }
         requires here { stands self.old levels.now cycle }
         ensures state { state self.new cycle ≡ machine.taken (state self.old cycle) vector }
@@ -161,11 +161,11 @@ pub trait AwakeGroup: Group {
         ensures { (t : ℕ) → Self.stands self.now levels.now t → result ≡ Self.machine.power.rouses (Self.state self.now t) levels.now };
 
     /// Whether the step of a cycle ends in a reset.
-    fn resets(&self, cycle: u32) -> bool
+    fn resets(&self, cycle: u64) -> bool
         ensures { (l : List Level) → Self.stands self.now l cycle → result ≡ Self.machine.power.resets (Self.state self.now cycle) cycle };
 
     /// Hands on what reaches units in a cycle beside the bus and the vectors.
-    fn give(&mut self, cycle: u32, levels: &[Level], signal: Signal)
+    fn give(&mut self, cycle: u64, levels: &[Level], signal: Signal)
         requires levels { length levels.now ≡ PORT_PINS }
         requires here { Self.stands self.old levels.now cycle }
         ensures state { Self.state self.new cycle ≡ signalled Self.machine signal (Self.state self.old cycle) cycle }
@@ -174,7 +174,7 @@ pub trait AwakeGroup: Group {
 
 /// Goes on to a cycle over cycles without an event: nothing needs to be done.
 #[inline]
-pub fn wait<G: Group>(group: &G, cycle: u32, to: u32, levels: &[Level])
+pub fn wait<G: Group>(group: &G, cycle: u64, to: u64, levels: &[Level])
     requires here { G.stands group.now levels.now cycle }
     requires forward { cycle ≤ to }
     requires end { to ≤ MOST_CYCLES }
@@ -192,7 +192,7 @@ pub fn wait<G: Group>(group: &G, cycle: u32, to: u32, levels: &[Level])
 /// Whether a unit has an event or takes notice of the change of the levels; `due` is the first cycle with an event. Where none
 /// does, nothing needs to be done.
 #[inline]
-pub fn notices<G: Group>(group: &G, due: u32, cycle: u32, before: &[Level], now: &[Level]) -> bool
+pub fn notices<G: Group>(group: &G, due: u64, cycle: u64, before: &[Level], now: &[Level]) -> bool
     requires due { due ≡ G.until group.now }
     requires before { length before.now ≡ PORT_PINS }
     requires levels { length now.now ≡ PORT_PINS }

@@ -21,7 +21,7 @@ use sim_base::{Level, MOST_CYCLES};
 #[derive(Drop)]
 pub struct Late<U> {
     unit: U,
-    due: u32,
+    due: u64,
     request: u8,
 }
 
@@ -68,7 +68,7 @@ impl<U: Unit> Group for Late<U> {
         U::writing_keeps_next(reg)
     }
 
-    fn read(&mut self, cycle: u32, levels: &[Level], reg: u8) -> u8 {
+    fn read(&mut self, cycle: u64, levels: &[Level], reg: u8) -> u8 {
         catch_up(&mut self.unit, self.due, cycle);
         let value = self.unit.read(levels, reg);
         if !U::reading_keeps(reg) {
@@ -78,7 +78,7 @@ impl<U: Unit> Group for Late<U> {
         value
     }
 
-    fn write(&mut self, cycle: u32, levels: &[Level], reg: u8, value: u8, touched: Span) -> Span {
+    fn write(&mut self, cycle: u64, levels: &[Level], reg: u8, value: u8, touched: Span) -> Span {
         catch_up(&mut self.unit, self.due, cycle);
         let moved = self.unit.write(reg, value);
         self.due = first_due(&self.unit);
@@ -88,7 +88,7 @@ impl<U: Unit> Group for Late<U> {
 
     fn write_bit(
         &mut self,
-        cycle: u32,
+        cycle: u64,
         levels: &[Level],
         reg: u8,
         bit: u8,
@@ -104,7 +104,7 @@ impl<U: Unit> Group for Late<U> {
 
     fn step(
         &mut self,
-        cycle: u32,
+        cycle: u64,
         before: &[Level],
         now: &[Level],
         others: (Option<u8>, Span),
@@ -120,7 +120,7 @@ impl<U: Unit> Group for Late<U> {
     }
 
     #[inline]
-    fn due(&self) -> u32 {
+    fn due(&self) -> u64 {
         self.due
     }
 
@@ -133,7 +133,7 @@ impl<U: Unit> Group for Late<U> {
         self.request = self.unit.request(levels);
     }
 
-    fn taken(&mut self, cycle: u32, levels: &[Level], vector: u8) {
+    fn taken(&mut self, cycle: u64, levels: &[Level], vector: u8) {
         catch_up(&mut self.unit, self.due, cycle);
         self.unit.taken(vector);
         self.due = first_due(&self.unit);
@@ -161,11 +161,11 @@ impl<U: Awake> AwakeGroup for Late<U> {
     }
 
     #[inline]
-    fn resets(&self, cycle: u32) -> bool {
+    fn resets(&self, cycle: u64) -> bool {
         self.unit.resets(cycle)
     }
 
-    fn give(&mut self, cycle: u32, levels: &[Level], signal: Signal) {
+    fn give(&mut self, cycle: u64, levels: &[Level], signal: Signal) {
         catch_up(&mut self.unit, self.due, cycle);
         give(&mut self.unit, signal);
         self.due = first_due(&self.unit);
@@ -175,7 +175,7 @@ impl<U: Awake> AwakeGroup for Late<U> {
 
 // Goes on to a cycle, over cycles without an event.
 #[inline]
-fn catch_up<U: Unit>(unit: &mut U, due: u32, cycle: u32)
+fn catch_up<U: Unit>(unit: &mut U, due: u64, cycle: u64)
     requires here { Lags U.machine (U.shows unit.old) due cycle }
     ensures { U.shows unit.new ≡ record { unit = late_state U.machine (U.shows unit.old) cycle; cycle = cycle } }
 {
@@ -185,7 +185,7 @@ fn catch_up<U: Unit>(unit: &mut U, due: u32, cycle: u32)
 
 // The first cycle with an event, or `MOST_CYCLES`.
 #[inline]
-fn first_due<U: Unit>(unit: &U) -> u32
+fn first_due<U: Unit>(unit: &U) -> u64
     requires end { (U.shows unit.now).cycle ≤ MOST_CYCLES }
     ensures { FirstDue U.machine (U.shows unit.now).unit (U.shows unit.now).cycle result }
 {
@@ -197,7 +197,7 @@ fn first_due<U: Unit>(unit: &U) -> u32
 
 // Whether a cycle leaves the unit as it lags: it has no event there, and takes no notice of the change of the levels.
 #[inline(always)]
-fn rests<U: Unit>(unit: &U, due: u32, cycle: u32, before: &[Level], now: &[Level]) -> bool
+fn rests<U: Unit>(unit: &U, due: u64, cycle: u64, before: &[Level], now: &[Level]) -> bool
     requires before { length before.now ≡ PORT_PINS }
     requires levels { length now.now ≡ PORT_PINS }
     requires here { Lags U.machine (U.shows unit.now) due cycle }

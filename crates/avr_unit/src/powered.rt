@@ -86,7 +86,7 @@ impl<A: AwakeGroup, B: Group + Drop> Group for Powered<A, B> {
     }
 
     #[inline]
-    fn read(&mut self, cycle: u32, levels: &[Level], reg: u8) -> u8 {
+    fn read(&mut self, cycle: u64, levels: &[Level], reg: u8) -> u8 {
         if A::has(reg) {
             self.awake.read(cycle, levels, reg)
         } else {
@@ -95,7 +95,7 @@ impl<A: AwakeGroup, B: Group + Drop> Group for Powered<A, B> {
     }
 
     #[inline]
-    fn write(&mut self, cycle: u32, levels: &[Level], reg: u8, value: u8, touched: Span) -> Span {
+    fn write(&mut self, cycle: u64, levels: &[Level], reg: u8, value: u8, touched: Span) -> Span {
         let own = self.clock.own(cycle);
         let more = write_where(&mut self.clocked, own, levels, reg, value, touched);
         write_where(&mut self.awake, cycle, levels, reg, value, more)
@@ -104,7 +104,7 @@ impl<A: AwakeGroup, B: Group + Drop> Group for Powered<A, B> {
     #[inline]
     fn write_bit(
         &mut self,
-        cycle: u32,
+        cycle: u64,
         levels: &[Level],
         reg: u8,
         bit: u8,
@@ -118,7 +118,7 @@ impl<A: AwakeGroup, B: Group + Drop> Group for Powered<A, B> {
 
     fn step(
         &mut self,
-        cycle: u32,
+        cycle: u64,
         before: &[Level],
         now: &[Level],
         others: (Option<u8>, Span),
@@ -128,7 +128,7 @@ impl<A: AwakeGroup, B: Group + Drop> Group for Powered<A, B> {
     }
 
     #[inline]
-    fn due(&self) -> u32 {
+    fn due(&self) -> u64 {
         self.awake.due().min(self.clock.board(self.clocked.due()))
     }
 
@@ -146,7 +146,7 @@ impl<A: AwakeGroup, B: Group + Drop> Group for Powered<A, B> {
         self.clocked.see(levels);
     }
 
-    fn taken(&mut self, cycle: u32, levels: &[Level], vector: u8) {
+    fn taken(&mut self, cycle: u64, levels: &[Level], vector: u8) {
         self.awake.taken(cycle, levels, vector);
         self.clocked.taken(self.clock.own(cycle), levels, vector);
         self.clock = self.clock.started(cycle);
@@ -173,11 +173,11 @@ impl<A: AwakeGroup, B: Group + Drop> AwakeGroup for Powered<A, B> {
     }
 
     #[inline]
-    fn resets(&self, cycle: u32) -> bool {
+    fn resets(&self, cycle: u64) -> bool {
         self.awake.resets(cycle)
     }
 
-    fn give(&mut self, cycle: u32, levels: &[Level], signal: Signal) {
+    fn give(&mut self, cycle: u64, levels: &[Level], signal: Signal) {
         match signal {
             Signal::Wdr => self.awake.give(cycle, levels, Signal::Wdr),
             Signal::Doze => self.clock = self.clock.stopped(cycle),
@@ -204,7 +204,7 @@ fn is_heard<A: AwakeGroup>(awake: &A, clock: Clock, levels: &[Level]) -> bool
 fn step_clocked<B: Group>(
     units: &mut B,
     clock: Clock,
-    cycle: u32,
+    cycle: u64,
     before: &[Level],
     now: &[Level],
     others: (Option<u8>, Span),

@@ -13,7 +13,7 @@ use sim_base::Level;
 #[derive(Drop)]
 pub struct Seldom<G> {
     group: G,
-    due: u32,
+    due: u64,
     request: u8,
 }
 
@@ -64,7 +64,7 @@ impl<G: Group> Group for Seldom<G> {
     }
 
     #[inline]
-    fn read(&mut self, cycle: u32, levels: &[Level], reg: u8) -> u8 {
+    fn read(&mut self, cycle: u64, levels: &[Level], reg: u8) -> u8 {
         let value = self.group.read(cycle, levels, reg);
         if !G::reading_keeps(reg) {
             self.due = self.group.due();
@@ -74,7 +74,7 @@ impl<G: Group> Group for Seldom<G> {
     }
 
     #[inline]
-    fn write(&mut self, cycle: u32, levels: &[Level], reg: u8, value: u8, touched: Span) -> Span {
+    fn write(&mut self, cycle: u64, levels: &[Level], reg: u8, value: u8, touched: Span) -> Span {
         let moved = self.group.write(cycle, levels, reg, value, touched);
         self.due = self.group.due();
         self.request = self.group.request(levels);
@@ -84,7 +84,7 @@ impl<G: Group> Group for Seldom<G> {
     #[inline]
     fn write_bit(
         &mut self,
-        cycle: u32,
+        cycle: u64,
         levels: &[Level],
         reg: u8,
         bit: u8,
@@ -102,7 +102,7 @@ impl<G: Group> Group for Seldom<G> {
     #[inline]
     fn step(
         &mut self,
-        cycle: u32,
+        cycle: u64,
         before: &[Level],
         now: &[Level],
         others: (Option<u8>, Span),
@@ -118,7 +118,7 @@ impl<G: Group> Group for Seldom<G> {
     }
 
     #[inline]
-    fn due(&self) -> u32 {
+    fn due(&self) -> u64 {
         self.due
     }
 
@@ -132,7 +132,7 @@ impl<G: Group> Group for Seldom<G> {
         self.request = self.group.request(levels);
     }
 
-    fn taken(&mut self, cycle: u32, levels: &[Level], vector: u8) {
+    fn taken(&mut self, cycle: u64, levels: &[Level], vector: u8) {
         self.group.taken(cycle, levels, vector);
         self.due = self.group.due();
         self.request = self.group.request(levels);

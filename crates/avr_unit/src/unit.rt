@@ -80,7 +80,7 @@ pub trait Unit {
         ensures state { shows self.new ≡ record (shows self.old) { unit = machine.write_bit (shows self.old).unit (shows self.old).cycle reg bit value } };
 
     /// Goes to cycle `to`, over cycles without an event.
-    fn skip(&mut self, to: u32)
+    fn skip(&mut self, to: u64)
         requires forward { (shows self.old).cycle ≤ to }
         requires end { to ≤ MOST_CYCLES }
         requires quiet { IsQuiet machine (shows self.old).unit (shows self.old).cycle (to - (shows self.old).cycle) }
@@ -97,7 +97,7 @@ pub trait Unit {
         ensures state { shows self.new ≡ record { unit = machine.step (shows self.old).unit (shows self.old).cycle before.now now.now; cycle = (shows self.old).cycle + 1 } };
 
     /// The next cycle with an event of its own.
-    fn due(&self) -> Option<u32>
+    fn due(&self) -> Option<u64>
         ensures { IsFirstDue machine (shows self.now).unit (shows self.now).cycle result };
 
     /// The least vector that is enabled and flagged while the pins have these levels, or `VECTORS`.
@@ -132,7 +132,7 @@ pub trait Awake: Unit {
         ensures { Self.shows self.new ≡ record (Self.shows self.old) { unit = Self.machine.power.wdr (Self.shows self.old).unit (Self.shows self.old).cycle } };
 
     /// Whether the step of a cycle ends in a reset, where none before it has an event.
-    fn resets(&self, cycle: u32) -> bool
+    fn resets(&self, cycle: u64) -> bool
         ensures { result ≡ Self.machine.power.resets (Self.shows self.now).unit cycle };
 
     /// What the watchdog's reset leaves of a unit that goes on in power-down, in the cycle after the step that ended in it.

@@ -48,7 +48,7 @@ fn input_of(ids: &IndexSet<&[u8]>, kinds: &[PlanKind], row: &ScriptRow) -> Resul
     };
     match taken(row.press, row.value, kinds.get(part).copied()) {
         Some(value) => Ok(Input {
-            cycle: row.cycle,
+            cycle: u64::from(row.cycle),
             part: part as u8,
             value,
         }),

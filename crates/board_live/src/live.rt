@@ -52,9 +52,10 @@ impl<P: Part> LiveBoard<P> {
     }
 
     /// The cycle whose step comes next.
-    pub fn cycle(&self) -> u32
+    pub fn cycle(&self) -> u64
         requires { self.now.over ≡ false }
-        ensures { result ≡ self.now.cycle }
+        ensures value { result ≡ self.now.cycle }
+        ensures end { result ≤ MOST_CYCLES }
     {
         self.board.cycle()
     }
@@ -91,7 +92,7 @@ impl<P: Part> LiveBoard<P> {
     /// Goes on to cycle n, at most `MOST_CYCLES`, and hands out what the cycles before n show. If a write fails, the live board is over.
     pub fn run_to<W: Watcher, L: Ledger>(
         &mut self,
-        n: u32,
+        n: u64,
         out: &mut W,
         steps: &mut Steps<L>,
     ) -> RunEnd

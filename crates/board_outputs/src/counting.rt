@@ -16,7 +16,7 @@ use vcd_text::{WaveHead, WaveWriter};
 pub fn count<P: Part, B: Bench, L: Ledger>(
     board: &mut Board<P>,
     head: &mut WaveHead,
-    n: u32,
+    n: u64,
     bench: &mut B,
     steps: &mut Steps<L>,
 ) -> (u64, u64)

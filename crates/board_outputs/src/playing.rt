@@ -39,7 +39,7 @@ fn open_named<B: Bench>(port: Port, name: Option<&str>, bench: &mut B) -> WriteE
 fn play<P: Part, B: Bench, L: Ledger>(
     board: &mut Board<P>,
     head: &mut WaveHead,
-    n: u32,
+    n: u64,
     wave: bool,
     serial: bool,
     bench: &mut B,
@@ -67,7 +67,7 @@ fn play<P: Part, B: Bench, L: Ledger>(
 pub fn open_and_play<P: Part, B: Bench, L: Ledger>(
     board: &mut Board<P>,
     head: &mut WaveHead,
-    n: u32,
+    n: u64,
     outputs: Outputs,
     bench: &mut B,
     steps: &mut Steps<L>,

@@ -355,7 +355,7 @@ fn write_parts<P: Shown, B: Bench>(
 /// write fails. The parts of the plan and those of the board stand in the same order; chips come last, if
 /// they are to have lines.
 pub fn write_report_of<P: Shown, B: Bench>(
-    cycles: u32,
+    cycles: u64,
     chips: bool,
     plan: &[PlanPart],
     parts: &[P],

@@ -15,9 +15,9 @@ use std::sync::ledger::Ledger;
 #[inline(always)]
 fn go_alone<P: Part, L: Ledger>(
     part: &mut P,
-    due: &mut Option<u32>,
-    t: u32,
-    limit: u32,
+    due: &mut Option<u64>,
+    t: u64,
+    limit: u64,
     steps: &mut Steps<L>,
 ) -> Went
     requires order { t < limit }
@@ -37,7 +37,7 @@ impl<P: Part> Engine<P> {
     pub(crate) fn stretch<W: Watcher, L: Ledger>(
         &mut self,
         who: u8,
-        limit: u32,
+        limit: u64,
         out: &mut W,
         steps: &mut Steps<L>,
     ) -> WriteEnd

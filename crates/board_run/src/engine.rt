@@ -16,7 +16,7 @@ pub(crate) struct Engine<P> {
     pub(crate) parts: List<P>,
     pub(crate) inputs: List<Input>,
     /// The cycle whose step comes next.
-    pub(crate) cycle: u32,
+    pub(crate) cycle: u64,
     /// At which script value it continues.
     pub(crate) input: usize,
     /// Whether a drive or a contact changed since the nets were resolved.
@@ -32,7 +32,7 @@ impl<P: Part> Engine<P> {
     /// Runs the cycles up to n - 1; its parts may lag behind at the end. It ends with the cycle of the first write that fails.
     pub(crate) fn run<W: Watcher, L: Ledger>(
         &mut self,
-        n: u32,
+        n: u64,
         out: &mut W,
         steps: &mut Steps<L>,
     ) -> WriteEnd
@@ -56,7 +56,7 @@ impl<P: Part> Engine<P> {
     /// Goes on by a stretch of one part that is alone, or to the next cycle in which something may happen, and by that one.
     fn advance<W: Watcher, L: Ledger>(
         &mut self,
-        n: u32,
+        n: u64,
         out: &mut W,
         steps: &mut Steps<L>,
     ) -> WriteEnd
@@ -78,7 +78,7 @@ impl<P: Part> Engine<P> {
     #[inline(always)]
     fn next_event<W: Watcher, L: Ledger>(
         &mut self,
-        n: u32,
+        n: u64,
         out: &mut W,
         steps: &mut Steps<L>,
     ) -> WriteEnd

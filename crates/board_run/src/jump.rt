@@ -14,7 +14,7 @@ use sim_base::Input;
 
 /// The due cycle if it is before n, and else n.
 #[inline]
-fn at_most(first: Option<(u32, u8)>, n: u32) -> u32
+fn at_most(first: Option<(u64, u8)>, n: u64) -> u64
     ensures within { result ≤ n }
     ensures due { (u i : ℕ) → first ≡ Some (u, i) → result ≤ u }
     ensures one { (result ≡ n) ⊎ ((i : ℕ) × (first ≡ Some (result, i))) }
@@ -27,7 +27,7 @@ fn at_most(first: Option<(u32, u8)>, n: u32) -> u32
 
 /// The first due cycle, if it is before n, and else n.
 #[inline]
-fn first_due(dues: &DueTree, t: u32, n: u32) -> u32
+fn first_due(dues: &DueTree, t: u64, n: u64) -> u64
     requires order { t ≤ n }
     requires late { AreLate dues.now t }
     ensures from { t ≤ result }
@@ -41,7 +41,7 @@ fn first_due(dues: &DueTree, t: u32, n: u32) -> u32
 
 /// The first due cycle of the parts but one, if it is before n, and else n.
 #[inline]
-fn first_due_but(dues: &mut DueTree, who: u8, t: u32, n: u32) -> u32
+fn first_due_but(dues: &mut DueTree, who: u8, t: u64, n: u64) -> u64
     requires order { t ≤ n }
     requires who { who < length dues.old }
     requires late { AreLate dues.old t }
@@ -56,7 +56,7 @@ fn first_due_but(dues: &mut DueTree, who: u8, t: u32, n: u32) -> u32
 
 /// The cycle of the script's next value, if it is before n, and else n.
 #[inline]
-fn first_input(inputs: &[Input], input: usize, t: u32, n: u32) -> u32
+fn first_input(inputs: &[Input], input: usize, t: u64, n: u64) -> u64
     requires within { t ≤ n }
     requires order { IsInOrder inputs.now }
     requires behind { AreBehind inputs.now input t }
@@ -80,9 +80,9 @@ fn first_alone(
     dues: &mut DueTree,
     inputs: &[Input],
     input: usize,
-    t: u32,
-    n: u32,
-) -> Option<(u8, u32)>
+    t: u64,
+    n: u64,
+) -> Option<(u8, u64)>
     requires before { t < n }
     requires order { IsInOrder inputs.now }
     requires behind { AreBehind inputs.now input t }
@@ -104,7 +104,7 @@ fn first_alone(
 impl<P: Part> Engine<P> {
     /// The next cycle from its own on, not after n, in which something may happen.
     #[inline]
-    pub(crate) fn next_cycle(&self, n: u32) -> u32
+    pub(crate) fn next_cycle(&self, n: u64) -> u64
         requires within { self.now.cycle ≤ n }
         requires may { MayRun P.Part self.now }
         ensures { IsNext self.now n result }
@@ -118,7 +118,7 @@ impl<P: Part> Engine<P> {
 
     /// Goes to that cycle.
     #[inline]
-    pub(crate) fn skip(&mut self, n: u32)
+    pub(crate) fn skip(&mut self, n: u64)
         requires within { self.old.cycle ≤ n }
         requires may { MayRun P.Part self.old }
         ensures next { IsNext self.old n self.new.cycle }
@@ -129,7 +129,7 @@ impl<P: Part> Engine<P> {
 
     /// The part that may go on by itself, and up to which cycle, not after n.
     #[inline(always)]
-    pub(crate) fn find_alone(&mut self, n: u32) -> Option<(u8, u32)>
+    pub(crate) fn find_alone(&mut self, n: u64) -> Option<(u8, u64)>
         requires before { self.old.cycle < n }
         requires may { MayRun P.Part self.old }
         ensures same { self.new ≡ self.old }

@@ -1,5 +1,5 @@
 //! What a board shows in a cycle.
-ghost use Rattle.std.specs.Prelude.{◌≡◌, map};
+ghost use Rattle.std.specs.Prelude.{◌≡◌, ◌<◌, map};
 ghost use Rattle.board_run.specs.ReadingView.{IsRead, reread};
 ghost use Rattle.board_run.specs.Engine.{wiring_of, MayRun, Watches, ShowedCycle};
 
@@ -7,7 +7,7 @@ use crate::engine::Engine;
 use crate::hand::hand_row;
 use crate::part_set::PartSet;
 use part_law::Part;
-use sim_base::{Watcher, WriteEnd};
+use sim_base::{MOST_CYCLES, Watcher, WriteEnd};
 
 impl<P: Part> Engine<P> {
     /// Resolves the nets, if a drive or a contact changed, and answers whether rows show what they showed before, and which
@@ -29,6 +29,7 @@ impl<P: Part> Engine<P> {
     /// before.
     #[inline]
     pub(crate) fn show<W: Watcher>(&mut self, out: &mut W) -> (WriteEnd, PartSet)
+        requires end { self.old.cycle < MOST_CYCLES }
         requires may { MayRun P.Part self.old }
         requires watches { Watches W.Watcher self.old out.old }
         ensures { ShowedCycle P.Part W.Watcher result.0 self.old self.new result.1 out.old out.new }

@@ -13,7 +13,7 @@ use std::sync::ledger::Ledger;
 
 /// Brings a part to the cycle, and asks it when it is due.
 #[inline]
-fn settle_one<P: Part>(part: &mut P, n: u32) -> Option<u32>
+fn settle_one<P: Part>(part: &mut P, n: u64) -> Option<u64>
     requires end { n ≤ MOST_CYCLES }
     requires later { P.now part.old ≤ n }
     requires quiet { IsQuiet P.machine (P.state part.old) (P.now part.old) (n - P.now part.old) }
@@ -42,7 +42,7 @@ impl<P: Part> Engine<P> {
 
     /// Goes on, not after n, by one stretch in which nothing new is shown: of one part by itself, or of no part. It
     /// stays where a drive or a contact changed, where the script has a value and where parts are due together.
-    pub(crate) fn rest<L: Ledger>(&mut self, n: u32, steps: &mut Steps<L>)
+    pub(crate) fn rest<L: Ledger>(&mut self, n: u64, steps: &mut Steps<L>)
         requires order { self.old.cycle < n }
         requires end { n ≤ MOST_CYCLES }
         requires may { MayRun P.Part self.old }

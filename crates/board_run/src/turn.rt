@@ -24,7 +24,7 @@ pub(crate) struct Woken {
 
 /// Whether this is the due cycle.
 #[inline]
-fn is_at(due: Option<u32>, t: u32) -> bool
+fn is_at(due: Option<u64>, t: u64) -> bool
     ensures { result ≡ is_at due t }
 {
     match due {
@@ -35,7 +35,7 @@ fn is_at(due: Option<u32>, t: u32) -> bool
 
 /// Whether a part is due, addressed by the script, or has a level on its pins that it does not hold.
 #[inline]
-fn is_to_wake(due: Option<u32>, t: u32, input: Option<u16>, differs: bool) -> bool
+fn is_to_wake(due: Option<u64>, t: u64, input: Option<u16>, differs: bool) -> bool
     ensures { result ≡ to_wake due t input differs }
 {
     is_at(due, t) || input.is_some() || differs
@@ -45,10 +45,10 @@ fn is_to_wake(due: Option<u32>, t: u32, input: Option<u16>, differs: bool) -> bo
 #[inline(always)]
 fn wake_late<P: Part, L: Ledger>(
     part: &mut P,
-    due: &mut Option<u32>,
+    due: &mut Option<u64>,
     own: &[Level],
     input: Option<u16>,
-    t: u32,
+    t: u64,
     steps: &mut Steps<L>,
 ) -> (Option<u8>, bool)
     requires end { t < MOST_CYCLES }
@@ -71,11 +71,11 @@ fn wake_late<P: Part, L: Ledger>(
 #[inline(always)]
 fn take_turn_on<P: Part, L: Ledger>(
     part: &mut P,
-    due: &mut Option<u32>,
+    due: &mut Option<u64>,
     own: &[Level],
     differs: bool,
     input: Option<u16>,
-    t: u32,
+    t: u64,
     steps: &mut Steps<L>,
 ) -> (Option<u8>, bool)
     requires end { t < MOST_CYCLES }
@@ -97,9 +97,9 @@ fn take_turn_on<P: Part, L: Ledger>(
 fn hear_levels<P: Part, L: Ledger>(
     may_hear: bool,
     part: &mut P,
-    due: Option<u32>,
+    due: Option<u64>,
     levels: &[Level],
-    t: u32,
+    t: u64,
     steps: &mut Steps<L>,
 ) -> Option<bool>
     requires end { t < MOST_CYCLES }
@@ -137,7 +137,7 @@ fn with_given(parts: PartSet, given: &[Input]) -> PartSet
 
 /// The least part that is due in cycle t, or the end where none is.
 #[inline]
-fn first_at(dues: &DueTree, t: u32, end: usize) -> usize
+fn first_at(dues: &DueTree, t: u64, end: usize) -> usize
     requires end { end ≡ length dues.now }
     requires late { AreLate dues.now t }
     ensures within { result ≤ end }
@@ -153,7 +153,7 @@ fn first_at(dues: &DueTree, t: u32, end: usize) -> usize
 /// The least part that is due in cycle t, or the end, after the turn of part `i`. If it comes after part `i`, it is as before
 /// that turn.
 #[inline]
-fn first_again(dues: &DueTree, t: u32, i: usize, before: usize, end: usize) -> usize
+fn first_again(dues: &DueTree, t: u64, i: usize, before: usize, end: usize) -> usize
     requires before { before ≤ end }
     requires end { end ≡ length dues.now }
     requires late { AreLate dues.now t }

@@ -7,7 +7,7 @@ use sim_base::{Drive, Level, Watcher, WriteEnd};
 #[derive(Drop)]
 pub struct Unwatched {
     /// The cycle of the last row.
-    pub last: Option<u32>,
+    pub last: Option<u64>,
 }
 
 impl Unwatched {
@@ -35,7 +35,7 @@ impl Watcher for Unwatched {
 
     ghost place = { λ w. 0 };
 
-    fn row(&mut self, t: u32, levels: &[Level], drives: &[Drive], changed: &[u16]) -> WriteEnd {
+    fn row(&mut self, t: u64, levels: &[Level], drives: &[Drive], changed: &[u16]) -> WriteEnd {
         self.last = Some(t);
         WriteEnd::Ok
     }

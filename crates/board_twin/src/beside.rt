@@ -32,7 +32,7 @@ impl<P: Part> Beside<P> {
     }
 
     /// Goes on while the board shows nothing new and no chip is due, not after cycle n. It stays at cycle 0.
-    fn go_still<L: Ledger>(&mut self, n: u32, steps: &mut Steps<L>)
+    fn go_still<L: Ledger>(&mut self, n: u64, steps: &mut Steps<L>)
         requires way { OnWay P.Part self.old steps.old }
         requires same { difference_of P.Part self.old ≡ None }
         requires end { n ≤ MOST_CYCLES }
@@ -66,7 +66,7 @@ impl<P: Part> Beside<P> {
     }
 
     /// Goes on: while the board shows nothing new and no chip is due, or by one cycle.
-    fn advance<L: Ledger>(&mut self, n: u32, steps: &mut Steps<L>)
+    fn advance<L: Ledger>(&mut self, n: u64, steps: &mut Steps<L>)
         requires way { OnWay P.Part self.old steps.old }
         requires same { difference_of P.Part self.old ≡ None }
         requires order { self.old.board.cycle < n }
@@ -83,7 +83,7 @@ impl<P: Part> Beside<P> {
     }
 
     /// Runs a board at cycle 0 with chips beside it up to the first cycle in which one drives otherwise, or to cycle n.
-    pub(crate) fn run<L: Ledger>(&mut self, n: u32, steps: &mut Steps<L>) -> TwinEnd
+    pub(crate) fn run<L: Ledger>(&mut self, n: u64, steps: &mut Steps<L>) -> TwinEnd
         requires twins { AreTwins P.machine P.state P.now P.wakes (view_of self.old) }
         requires room { HasRoom self.old }
         requires end { n ≤ MOST_CYCLES }

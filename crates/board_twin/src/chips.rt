@@ -53,7 +53,7 @@ fn first_of(levels: &[Level], count: usize) -> &[Level]
 }
 
 /// Whether a chip is woken in a cycle: it is due, or a level on its pins differs from the one that it holds.
-fn is_to_wake(due: Option<u32>, t: u32, differs: bool) -> bool
+fn is_to_wake(due: Option<u64>, t: u64, differs: bool) -> bool
     ensures { result ≡ to_wake due t None differs }
 {
     match due {
@@ -67,7 +67,7 @@ fn take_turn<P: Part, L: Ledger>(
     chip: &mut P,
     own: &[Level],
     differs: bool,
-    t: u32,
+    t: u64,
     steps: &mut Steps<L>,
 )
     requires end { t < MOST_CYCLES }
@@ -87,7 +87,7 @@ fn take_turn<P: Part, L: Ledger>(
 }
 
 /// The cycle in which the chip is due, if it is before `n`, and else `n`.
-fn earlier<P: Part>(chip: &P, n: u32) -> u32
+fn earlier<P: Part>(chip: &P, n: u64) -> u64
     requires end { n ≤ MOST_CYCLES }
     ensures within { result ≤ n }
     ensures quiet { IsQuiet P.machine (P.state chip.now) (P.now chip.now) (result - P.now chip.now) }
@@ -99,7 +99,7 @@ fn earlier<P: Part>(chip: &P, n: u32) -> u32
 }
 
 /// The first cycle in which one of these chips is due, if it is before `n`, and else `n`.
-pub(crate) fn least_due<P: Part>(chips: &[P], n: u32) -> u32
+pub(crate) fn least_due<P: Part>(chips: &[P], n: u64) -> u64
     requires end { n ≤ MOST_CYCLES }
     ensures within { result ≤ n }
     ensures quiet { (j : ℕ) (q : _) → slice_get chips.now j ≡ Some q → IsQuiet P.machine (P.state q) (P.now q) (result - P.now q) }
@@ -118,7 +118,7 @@ impl<P: Part> Chips<P> {
         j: usize,
         nets: &[u16],
         now: &[Level],
-        t: u32,
+        t: u64,
         steps: &mut Steps<L>,
     )
         requires end { t < MOST_CYCLES }
@@ -135,7 +135,7 @@ impl<P: Part> Chips<P> {
         &mut self,
         wiring: &Wiring,
         now: &[Level],
-        t: u32,
+        t: u64,
         steps: &mut Steps<L>,
     )
         requires end { t < MOST_CYCLES }

@@ -31,7 +31,7 @@ pub(crate) fn difference<P: Part>(
     parts: &[P],
     chips: &[P],
     wiring: &Wiring,
-    t: u32,
+    t: u64,
 ) -> Option<TwinEnd>
     requires { AreComparable P.Part wiring.now parts.now chips.now }
     ensures cycle { (e : TwinEnd) → result ≡ Some e → cycle_of e 0 ≡ t }

@@ -19,7 +19,7 @@ pub enum TwinEnd {
     /// The first cycle in which a chip drives otherwise, in it the first such part, of this the first such pin, and what the
     /// two boards drive there.
     Differs {
-        cycle: u32,
+        cycle: u64,
         part: u8,
         pin: u8,
         a: Drive,
@@ -65,7 +65,7 @@ impl<P: Part + Drop> Twin<P> {
 impl<P: Part> Twin<P> {
     /// Runs the two boards as one from cycle 0 to cycle n, and stops before the first cycle in which a chip drives otherwise. What
     /// is no chip is moved once; each set of chips is woken where it is active and nowhere else.
-    pub fn run<L: Ledger>(&mut self, n: u32, steps: &mut Steps<L>) -> TwinEnd
+    pub fn run<L: Ledger>(&mut self, n: u64, steps: &mut Steps<L>) -> TwinEnd
         requires twins { AreTwins P.machine P.state P.now P.wakes self.old }
         requires end { n ≤ MOST_CYCLES }
         ensures twin { HaveNoContacts P.machine self.old.board.wiring (map P.state self.old.board.parts) (other_states P.state self.old)

@@ -72,7 +72,7 @@ impl Pins {
     }
 
     // What they read in the cycle before this one.
-    fn inputs_before(&self, cycle: u32, levels: &[Level]) -> Inputs
+    fn inputs_before(&self, cycle: u64, levels: &[Level]) -> Inputs
         ensures { result ≡ inputs_before self.now cycle levels.now }
     {
         if cycle == 0 {
@@ -123,7 +123,7 @@ impl Engine {
     }
 
     /// Its turn of a cycle, on the levels of the chip's pins in the cycle before and in this one.
-    pub fn turn(&mut self, cycle: u32, before: &[Level], now: &[Level]) -> Turn
+    pub fn turn(&mut self, cycle: u64, before: &[Level], now: &[Level]) -> Turn
         requires cycle { cycle < MOST_CYCLES }
         requires sound { IsEngine self.old }
         ensures engine { self.new ≡ (engine_turned self.old cycle before.now now.now).0 }
@@ -175,7 +175,7 @@ impl Engine {
 
     /// A UART that is told to send `count` bytes from an address, in the cycle behind this one; `early` tells that this is
     /// before cycle 0.
-    pub fn sends(self, cycle: u32, early: bool, buffer: u32, count: u32) -> Engine
+    pub fn sends(self, cycle: u64, early: bool, buffer: u32, count: u32) -> Engine
         requires cycle { cycle ≤ MOST_CYCLES }
         requires sound { IsEngine self }
         ensures value { result ≡ sends self cycle early buffer count }
@@ -197,7 +197,7 @@ impl Engine {
     }
 
     /// An SPI slave that is told to exchange `count` bytes at an address, from its next turn on.
-    pub fn exchanges(self, cycle: u32, buffer: u32, count: u32) -> Engine
+    pub fn exchanges(self, cycle: u64, buffer: u32, count: u32) -> Engine
         requires count { 0 < count }
         requires sound { IsEngine self }
         ensures value { result ≡ exchanges self cycle buffer count }
@@ -218,7 +218,7 @@ impl Engine {
     }
 
     /// An SPI slave that is told to stop, which it tells in the cycle behind this one.
-    pub fn stops(self, cycle: u32) -> Engine
+    pub fn stops(self, cycle: u64) -> Engine
         requires cycle { cycle ≤ MOST_CYCLES }
         requires sound { IsEngine self }
         ensures value { result ≡ stops self cycle }

@@ -10,35 +10,26 @@ use crate::engine::{Engine, Turn};
 use crate::serial::Serial;
 use sim_base::{Drive, Level, MOST_CYCLES};
 
-fn wide(cycle: Option<u32>) -> Option<u64>
-    ensures { result ≡ cycle }
-{
-    match cycle {
-        Some(cycle) => Some(u64::from(cycle)),
-        None => None,
-    }
-}
-
-fn first_serial(serial: &Serial, from: u32) -> Option<u32>
+fn first_serial(serial: &Serial, from: u64) -> Option<u64>
     ensures { result ≡ first_serial from serial.now }
 {
     match serial {
         Serial::Uart(uart) => earlier(
-            due_from(from, wide(uart.bit_end())),
-            due_from(from, wide(uart.next_sample())),
+            due_from(from, uart.bit_end()),
+            due_from(from, uart.next_sample()),
         ),
         Serial::Spi(spi) => {
             if spi.is_opening() {
-                due_from(from, Some(u64::from(from)))
+                due_from(from, Some(from))
             } else {
-                due_from(from, wide(spi.next_turn()))
+                due_from(from, spi.next_turn())
             }
         }
         Serial::I2c(_) => None,
     }
 }
 
-fn first_at(place: &Option<Engine>, from: u32) -> Option<u32>
+fn first_at(place: &Option<Engine>, from: u64) -> Option<u64>
     ensures { result ≡ first_at from place.now }
 {
     match place {
@@ -48,7 +39,7 @@ fn first_at(place: &Option<Engine>, from: u32) -> Option<u32>
 }
 
 /// The first cycle from one on, and below the end, in which an engine has an event though no level changes.
-pub fn first_engine(places: &[Option<Engine>], from: u32) -> Option<u32>
+pub fn first_engine(places: &[Option<Engine>], from: u64) -> Option<u64>
     ensures { result ≡ first_engine from places.now }
 {
     match places {
@@ -85,7 +76,7 @@ pub fn driven(places: &[Option<Engine>], pin: u32) -> Option<Drive>
 /// stands there.
 pub fn turn_at(
     place: &mut Option<Engine>,
-    cycle: u32,
+    cycle: u64,
     before: &[Level],
     now: &[Level],
 ) -> Option<Turn>

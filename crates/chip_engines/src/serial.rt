@@ -83,7 +83,7 @@ impl Serial {
     /// An SPI slave's transaction that waits for its first turn has it in this cycle.
     pub fn step(
         &mut self,
-        cycle: u32,
+        cycle: u64,
         before: Inputs,
         now: Inputs,
     ) -> (Option<EngineRequest>, Option<EngineRequest>)

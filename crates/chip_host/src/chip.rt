@@ -79,7 +79,7 @@ impl Chip {
     }
 
     /// The cycle whose step comes next.
-    pub fn cycle(&self) -> u32
+    pub fn cycle(&self) -> u64
         ensures { result ≡ self.now.cycle }
     {
         self.turns.cycle()
@@ -147,11 +147,11 @@ impl Part for Chip {
         false
     }
 
-    fn due(&self) -> Option<u32> {
+    fn due(&self) -> Option<u64> {
         self.turns.next_due()
     }
 
-    fn woken(&self) -> u32 {
+    fn woken(&self) -> u64 {
         self.turns.woken()
     }
 
@@ -164,7 +164,7 @@ impl Part for Chip {
         self.moved
     }
 
-    fn settle(&mut self, to: u32) {
+    fn settle(&mut self, to: u64) {
         self.turns.pass_to(to);
     }
 

@@ -39,7 +39,7 @@ pub struct ChipHost {
     attrs: List<(Text, Text)>,
     display: Option<Display>,
     init: bool,
-    cycle: u32,
+    cycle: u64,
     levels: Vec<Level>,
     pins: Vec<Option<Pin>>,
     watches: Vec<Option<Watch>>,
@@ -412,7 +412,7 @@ impl ChipHost {
             }
             HostName::GetSimNanos => {
                 none(args);
-                Ok(Some(Value::I64(125 * u64::from(self.cycle) / 2)))
+                Ok(Some(Value::I64(125 * self.cycle / 2)))
             }
             HostName::PinMode => {
                 let (i, mode) = two(args);
@@ -488,7 +488,7 @@ impl ChipHost {
         self.init = false;
     }
 
-    pub fn cycle(&self) -> u32
+    pub fn cycle(&self) -> u64
         ensures value { result ≡ self.now.moment.now }
         ensures end { result ≤ MOST_CYCLES }
     {
@@ -496,7 +496,7 @@ impl ChipHost {
     }
 
     /// Goes to a cycle.
-    pub fn pass_to(&mut self, to: u32)
+    pub fn pass_to(&mut self, to: u64)
         requires { to ≤ MOST_CYCLES }
         ensures { self.new ≡ record self.old { moment = record self.old.moment { now = to } } }
     {
@@ -527,7 +527,7 @@ impl ChipHost {
     }
 
     /// The first cycle from one on, and below the end, at which a timer or an engine is due.
-    pub fn first_due(&self, from: u32) -> Option<u32>
+    pub fn first_due(&self, from: u64) -> Option<u64>
         ensures { result ≡ earlier (first_due from self.now.inventory.timers) (first_engine from self.now.inventory.engines) }
     {
         earlier(

@@ -1,10 +1,11 @@
 //! Timers.
-ghost use Rattle.std.specs.Prelude.{◌≡◌, ◌+◌, None};
+ghost use Rattle.std.specs.Prelude.{◌≡◌, ◌+◌, ◌≤◌, None};
 ghost use Rattle.chip_host.specs.HostCall.{cycles_of, started};
 ghost use Rattle.chip_host.specs.Chip.{again, is_at};
 ghost use Rattle.chip_host.specs.FirstDue.{first_due};
 
 use chip_engines::{due_from, earlier};
+use sim_base::MOST_CYCLES;
 
 /// A delay, as it was asked.
 #[derive(Clone, Copy)]
@@ -23,23 +24,25 @@ pub struct Timer {
 }
 
 /// The cycle that a delay ends with when it begins in this one.
-fn end_of(from: u32, delay: Delay) -> u64
+fn end_of(from: u64, delay: Delay) -> u64
+    requires { from ≤ MOST_CYCLES }
     ensures { result ≡ from + cycles_of delay }
 {
     match delay {
         Delay::Micros(x) => {
             let cycles = 16 * u64::from(x);
-            u64::from(from) + (if cycles == 0 { 1 } else { cycles })
+            from + (if cycles == 0 { 1 } else { cycles })
         }
         Delay::Nanos(x) => {
             let cycles = ((2 * u128::from(x) + 124) / 125) as u64;
-            u64::from(from) + (if cycles == 0 { 1 } else { cycles })
+            from + (if cycles == 0 { 1 } else { cycles })
         }
     }
 }
 
 /// A timer that is started, and perhaps again and again.
-pub(crate) fn started(now: u32, delay: Delay, again: bool, timer: Timer) -> Timer
+pub(crate) fn started(now: u64, delay: Delay, again: bool, timer: Timer) -> Timer
+    requires { now ≤ MOST_CYCLES }
     ensures { result ≡ started now delay again timer }
 {
     Timer {
@@ -63,7 +66,8 @@ pub(crate) fn stopped(timer: Timer) -> Timer
 }
 
 /// A timer that is due, before its callback.
-pub(crate) fn again(now: u32, timer: Timer) -> Timer
+pub(crate) fn again(now: u64, timer: Timer) -> Timer
+    requires { now ≤ MOST_CYCLES }
     ensures { result ≡ again now timer }
 {
     Timer {
@@ -78,17 +82,17 @@ pub(crate) fn again(now: u32, timer: Timer) -> Timer
 }
 
 /// Whether a timer is due in this cycle.
-pub(crate) fn is_at(now: u32, due: Option<u64>) -> bool
+pub(crate) fn is_at(now: u64, due: Option<u64>) -> bool
     ensures { result ≡ is_at now due }
 {
     match due {
-        Some(cycle) => cycle == u64::from(now),
+        Some(cycle) => cycle == now,
         None => false,
     }
 }
 
 /// The first cycle from one on, and below the end, at which a timer is due.
-pub(crate) fn first_due(timers: &[Timer], from: u32) -> Option<u32>
+pub(crate) fn first_due(timers: &[Timer], from: u64) -> Option<u64>
     ensures { result ≡ first_due from timers.now }
 {
     match timers {

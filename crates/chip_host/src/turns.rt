@@ -35,7 +35,7 @@ pub(crate) struct Turns {
     host: ChipHost,
     before: Vec<Level>,
     budget: u32,
-    wakes: u32,
+    wakes: u64,
     dead: Option<Death>,
 }
 
@@ -114,14 +114,14 @@ impl Turns {
     }
 
     /// The cycle whose step comes next.
-    pub(crate) fn cycle(&self) -> u32
+    pub(crate) fn cycle(&self) -> u64
         ensures { result ≡ self.now.cycle }
     {
         self.host.cycle()
     }
 
     /// How often it took its turns.
-    pub(crate) fn woken(&self) -> u32
+    pub(crate) fn woken(&self) -> u64
         ensures { result ≡ self.now.wakes }
     {
         self.wakes
@@ -441,7 +441,7 @@ impl Turns {
         self.host.drive(pin)
     }
 
-    pub(crate) fn next_due(&self) -> Option<u32>
+    pub(crate) fn next_due(&self) -> Option<u64>
         ensures due { result ≡ next_due self.now.chip self.now.cycle }
         ensures end { self.now.cycle ≤ MOST_CYCLES }
     {
@@ -487,7 +487,7 @@ impl Turns {
         all_if(fired, called, moved)
     }
 
-    pub(crate) fn pass_to(&mut self, to: u32)
+    pub(crate) fn pass_to(&mut self, to: u64)
         requires { to ≤ MOST_CYCLES }
         ensures { self.new ≡ record self.old { cycle = to } }
     {

@@ -43,7 +43,7 @@ fn make_board(alloc: Global, plan: Plan, flash: Flash) -> Result<Board<Mcu>, Out
 fn run_bare<B: Bench, L: Ledger>(
     alloc: Global,
     flash: Flash,
-    n: u32,
+    n: u64,
     bench: &mut B,
     steps: &mut Steps<L>,
 ) -> WorkEnd
@@ -92,7 +92,7 @@ pub fn bare<B: Bench, L: Ledger>(
     ensures silent { SaidNothing (B.outside bench.old) (B.outside bench.new) }
 {
     match read_document::<HexFile, B>(alloc, hex, bench) {
-        Ok(flash) => run_bare(alloc, flash, 16 * micros, bench, steps),
+        Ok(flash) => run_bare(alloc, flash, 16 * micros as u64, bench, steps),
         Err(outcome) => outcome,
     }
 }

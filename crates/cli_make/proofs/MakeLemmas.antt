@@ -100,6 +100,7 @@ module _ (a m b : Outside) (same : SamePorts a m) where
   pub others_after : (p : Port) → m.read_faults ≡ a.read_faults → SameOthers p m b → SameOthers p a b
   others_after p reads others = record {
     files = others.files ∙ same.files;
+    requests = others.requests ∙ same.requests;
     written = λ q ne. others.written q ne ∙ same.written q;
     name = λ q ne. others.name q ne ∙ same.name q;
     opened = λ q ne. others.opened q ne ∙ same.opened q;
@@ -114,6 +115,7 @@ nothing_ran p out a m same = (((same.written p, same.name p), same.opened p), sa
 pub nothing_else : (p : Port) (a m : Outside) → SamePorts a m → m.read_faults ≡ a.read_faults → SameOthers p a m
 nothing_else p a m same reads = record {
   files = same.files;
+  requests = same.requests;
   written = λ q ne. same.written q;
   name = λ q ne. same.name q;
   opened = λ q ne. same.opened q;

@@ -22,7 +22,7 @@ use std::sync::ledger::Ledger;
 const BUDGET: u32 = 1_000_000;
 
 /// The line of what was counted.
-fn line(alloc: Global, seed: u32, n: u32, changes: u64, sent: u64) -> Result<String, AllocError>
+fn line(alloc: Global, seed: u32, n: u64, changes: u64, sent: u64) -> Result<String, AllocError>
     ensures { IfOk result (λ s. string_bytes s ≡ line seed n changes sent) }
 {
     format!(in alloc; "make {seed} cycles {n} changes {changes} serial {sent}\n")
@@ -32,7 +32,7 @@ fn line(alloc: Global, seed: u32, n: u32, changes: u64, sent: u64) -> Result<Str
 fn counted_line<B: Bench, L: Ledger>(
     alloc: Global,
     seed: u32,
-    n: u32,
+    n: u64,
     work: Work,
     bench: &mut B,
     steps: &mut Steps<L>,
@@ -64,7 +64,7 @@ fn counted_line<B: Bench, L: Ledger>(
 fn run_made<B: Bench, L: Ledger>(
     alloc: Global,
     seed: u32,
-    n: u32,
+    n: u64,
     work: Work,
     bench: &mut B,
     steps: &mut Steps<L>,
@@ -98,7 +98,7 @@ pub fn make<B: Bench, L: Ledger>(
     ensures silent { SaidNothing (B.outside bench.old) (B.outside bench.new) }
 {
     match made_work(alloc, seed) {
-        Ok(work) => run_made(alloc, seed, 16 * micros, work, bench, steps),
+        Ok(work) => run_made(alloc, seed, 16 * micros as u64, work, bench, steps),
         Err(end) => end,
     }
 }

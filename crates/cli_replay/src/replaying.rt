@@ -88,7 +88,7 @@ fn read_play<B: Bench>(
 fn play_board<B: Bench, L: Ledger>(
     alloc: Global,
     play: Play,
-    n: u32,
+    n: u64,
     outputs: Outputs,
     bench: &mut B,
     steps: &mut Steps<L>,
@@ -151,7 +151,7 @@ pub fn replay<B: Bench, L: Ledger>(
     ensures silent { SaidNothing (B.outside bench.old) (B.outside bench.new) }
 {
     match read_play(alloc, scripted, wave, 16 * micros, bench) {
-        Ok(play) => play_board(alloc, play, 16 * micros, outputs, bench, steps),
+        Ok(play) => play_board(alloc, play, 16 * micros as u64, outputs, bench, steps),
         Err(outcome) => outcome,
     }
 }

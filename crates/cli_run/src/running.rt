@@ -50,7 +50,15 @@ pub fn run<B: Bench, L: Ledger>(
                 chips: chips.as_slice(),
                 budget,
             };
-            run_board(alloc, contents, plan, 16 * micros, outputs, bench, steps)
+            run_board(
+                alloc,
+                contents,
+                plan,
+                16 * micros as u64,
+                outputs,
+                bench,
+                steps,
+            )
         }
         Err(outcome) => outcome,
     }

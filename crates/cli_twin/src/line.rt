@@ -66,7 +66,7 @@ pub(crate) fn line(
     alloc: Global,
     chips: &[ChipSource],
     parts: &[PlanPart],
-    n: u32,
+    n: u64,
     end: TwinEnd,
 ) -> Result<String, AllocError>
     ensures { IfOk result (λ s. string_bytes s ≡ line (pins_of chips.now) parts.now n (diff_of end)) }

@@ -35,7 +35,7 @@ fn run_beside<P: Part + Drop, L: Ledger>(
     parts: List<P>,
     chips: List<P>,
     wiring: Wiring,
-    n: u32,
+    n: u64,
     steps: &mut Steps<L>,
 ) -> Result<TwinEnd, OutOfMemory>
     requires wiring { IsWiring wiring }
@@ -86,7 +86,7 @@ fn found_line<L: Ledger>(
     alloc: Global,
     pair: Pair,
     budget: u32,
-    n: u32,
+    n: u64,
     steps: &mut Steps<L>,
 ) -> Result<String, OutOfMemory>
     requires ready { IsReady pair }
@@ -139,7 +139,7 @@ pub fn twin<B: Bench, L: Ledger>(
     ensures silent { SaidNothing (B.outside bench.old) (B.outside bench.new) }
 {
     match read_pair(alloc, folder, other, bench) {
-        Ok(pair) => match found_line(alloc, pair, budget, 16 * micros, steps) {
+        Ok(pair) => match found_line(alloc, pair, budget, 16 * micros as u64, steps) {
             Ok(line) => write_text(bench, Port::Report, &[line.as_bytes()]),
             Err(_) => WorkEnd::OutOfMemory,
         },

@@ -11,7 +11,7 @@ use std::marker::Model;
 /// The due cycle of each of at most 64 parts.
 #[derive(Drop)]
 pub struct DueTree {
-    dues: Vec<Option<u32>>,
+    dues: Vec<Option<u64>>,
     /// At place k, the earlier of the two entries under it, where there are more parts than k.
     best: [Entry; 64],
     /// A part but for which none is due, where that is known: it meets no other until another is due.
@@ -35,7 +35,7 @@ impl Model for DueTree {
 
 /// Part i with its due cycle.
 #[inline]
-fn leaf_of(dues: &[Option<u32>], i: usize) -> Entry
+fn leaf_of(dues: &[Option<u64>], i: usize) -> Entry
     requires few { length dues.now ≤ 64 }
     requires part { i < length dues.now }
     ensures { result ≡ leaf dues.now i }
@@ -48,7 +48,7 @@ fn leaf_of(dues: &[Option<u32>], i: usize) -> Entry
 
 /// What stands at a place.
 #[inline]
-fn at(dues: &[Option<u32>], best: &[Entry; 64], place: usize) -> Entry
+fn at(dues: &[Option<u64>], best: &[Entry; 64], place: usize) -> Entry
     requires few { length dues.now ≤ 64 }
     requires place { place < 2 * length dues.now }
     ensures { result ≡ at_place (length dues.now) dues.now best.now place }
@@ -61,7 +61,7 @@ fn at(dues: &[Option<u32>], best: &[Entry; 64], place: usize) -> Entry
 
 /// Lets part i meet the others anew, from its place to the top.
 #[inline(never)]
-fn replay(dues: &[Option<u32>], best: &mut [Entry; 64], i: usize)
+fn replay(dues: &[Option<u64>], best: &mut [Entry; 64], i: usize)
     requires few { length dues.now ≤ 64 }
     requires part { i < length dues.now }
     requires best { (k : ℕ) → 1 ≤ k → k < length dues.now → k ≢ (length dues.now + i) / 2 → IsBest (length dues.now) dues.now best.old k }
@@ -87,7 +87,7 @@ fn beside(place: usize) -> usize
 
 /// The first of the parts but part i: the earliest of what stands beside its way to the top.
 #[inline]
-fn first_without(dues: &[Option<u32>], best: &[Entry; 64], i: u8) -> Entry
+fn first_without(dues: &[Option<u64>], best: &[Entry; 64], i: u8) -> Entry
     requires few { length dues.now ≤ 64 }
     requires part { i < length dues.now }
     requires best { (k : ℕ) → 1 ≤ k → k < length dues.now → IsBest (length dues.now) dues.now best.now k }
@@ -104,7 +104,7 @@ fn first_without(dues: &[Option<u32>], best: &[Entry; 64], i: u8) -> Entry
 
 /// Whether two due cycles are the same.
 #[inline]
-fn is_same_due(a: Option<u32>, b: Option<u32>) -> bool
+fn is_same_due(a: Option<u64>, b: Option<u64>) -> bool
     ensures { result ≡ true → a ≡ b }
 {
     match (a, b) {
@@ -137,7 +137,7 @@ fn is_none_alone(alone: Option<u8>) -> bool
 }
 
 /// Lets the part that was alone meet the others.
-fn join(dues: &[Option<u32>], best: &mut [Entry; 64], alone: Option<u8>)
+fn join(dues: &[Option<u64>], best: &mut [Entry; 64], alone: Option<u8>)
     requires few { length dues.now ≤ 64 }
     requires alone { IsAlone alone dues.now }
     requires best { (k : ℕ) → 1 ≤ k → k < length dues.now → IsPlayed alone (length dues.now) k → IsBest (length dues.now) dues.now best.old k }
@@ -149,7 +149,7 @@ fn join(dues: &[Option<u32>], best: &mut [Entry; 64], alone: Option<u8>)
 }
 
 /// The part but for which none is due, if there is one.
-fn only_due(dues: &[Option<u32>], best: &[Entry; 64]) -> Option<u8>
+fn only_due(dues: &[Option<u64>], best: &[Entry; 64]) -> Option<u8>
     requires few { length dues.now ≤ 64 }
     requires some { 1 ≤ length dues.now }
     requires best { (k : ℕ) → 1 ≤ k → k < length dues.now → IsBest (length dues.now) dues.now best.now k }
@@ -167,7 +167,7 @@ fn only_due(dues: &[Option<u32>], best: &[Entry; 64]) -> Option<u8>
 
 /// The first of all, where the part that is alone meets no other.
 #[inline]
-fn first_of(dues: &[Option<u32>], best: &[Entry; 64], alone: Option<u8>) -> Option<(u32, u8)>
+fn first_of(dues: &[Option<u64>], best: &[Entry; 64], alone: Option<u8>) -> Option<(u64, u8)>
     requires few { length dues.now ≤ 64 }
     requires best { (k : ℕ) → 1 ≤ k → k < length dues.now → IsPlayed alone (length dues.now) k → IsBest (length dues.now) dues.now best.now k }
     requires alone { IsAlone alone dues.now }
@@ -185,11 +185,11 @@ fn first_of(dues: &[Option<u32>], best: &[Entry; 64], alone: Option<u8>) -> Opti
 /// The first of the parts but part i.
 #[inline]
 fn first_beside(
-    dues: &[Option<u32>],
+    dues: &[Option<u64>],
     best: &[Entry; 64],
     alone: Option<u8>,
     i: u8,
-) -> Option<(u32, u8)>
+) -> Option<(u64, u8)>
     requires few { length dues.now ≤ 64 }
     requires part { i < length dues.now }
     requires best { (k : ℕ) → 1 ≤ k → k < length dues.now → IsPlayed alone (length dues.now) k → IsBest (length dues.now) dues.now best.now k }
@@ -205,7 +205,7 @@ fn first_beside(
     first_without(dues, best, i).with_cycle()
 }
 
-fn no_dues(alloc: Global, n: usize) -> Result<Vec<Option<u32>>, AllocError>
+fn no_dues(alloc: Global, n: usize) -> Result<Vec<Option<u64>>, AllocError>
     ensures { IfOk result (λ v. v.items ≡ replicate n None) }
 {
     vec![in alloc; None; n]
@@ -232,7 +232,7 @@ impl DueTree {
 
     /// When part i is due.
     #[inline]
-    pub fn due(&self, i: u8) -> Option<u32>
+    pub fn due(&self, i: u8) -> Option<u64>
         requires { i < length self.now }
         ensures { slice_get self.now i ≡ Some result }
     {
@@ -241,7 +241,7 @@ impl DueTree {
 
     /// Part i is due in this cycle, or not at all.
     #[inline(always)]
-    pub fn set(&mut self, i: u8, due: Option<u32>)
+    pub fn set(&mut self, i: u8, due: Option<u64>)
         requires { i < length self.old }
         ensures { self.new ≡ slice_set self.old i due }
     {
@@ -262,7 +262,7 @@ impl DueTree {
 
     /// The same where a part is alone or comes to be.
     #[inline(never)]
-    fn renew(&mut self, i: u8, due: Option<u32>)
+    fn renew(&mut self, i: u8, due: Option<u64>)
         requires { i < length self.old }
         ensures { self.new ≡ slice_set self.old i due }
     {
@@ -288,7 +288,7 @@ impl DueTree {
 
     /// The least due cycle, with the least part that has it.
     #[inline]
-    pub fn first(&self) -> Option<(u32, u8)>
+    pub fn first(&self) -> Option<(u64, u8)>
         ensures { IsFirst self.now result }
     {
         first_of(&self.dues, &self.best, self.alone)
@@ -296,7 +296,7 @@ impl DueTree {
 
     /// The least due cycle of the parts but this one, with the least part that has it.
     #[inline]
-    pub fn first_but(&mut self, i: u8) -> Option<(u32, u8)>
+    pub fn first_but(&mut self, i: u8) -> Option<(u64, u8)>
         requires { i < length self.old }
         ensures same { self.new ≡ self.old }
         ensures first { IsFirst (slice_set self.old i None) result }

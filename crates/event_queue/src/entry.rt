@@ -5,14 +5,14 @@ ghost use Rattle.event_queue.specs.Places.{IsNotAfter, with_cycle};
 /// A part, and the cycle in which it is due.
 #[derive(Clone, Copy, Debug, PartialEq, Eq, Drop)]
 pub(crate) struct Entry {
-    pub(crate) due: Option<u32>,
+    pub(crate) due: Option<u64>,
     pub(crate) part: u8,
 }
 
 impl Entry {
     /// The cycle in which the part is due, with the part.
     #[inline]
-    pub(crate) fn with_cycle(self) -> Option<(u32, u8)>
+    pub(crate) fn with_cycle(self) -> Option<(u64, u8)>
         ensures { result ≡ with_cycle self }
     {
         match self.due {

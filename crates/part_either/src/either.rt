@@ -61,12 +61,12 @@ impl<A: Part, B: Part> Part for Either<A, B> {
     }
 
     #[inline(always)]
-    fn due(&self) -> Option<u32> {
+    fn due(&self) -> Option<u64> {
         on_either!(self, part => part.due())
     }
 
     #[inline(always)]
-    fn woken(&self) -> u32 {
+    fn woken(&self) -> u64 {
         on_either!(self, part => part.woken())
     }
 
@@ -81,7 +81,7 @@ impl<A: Part, B: Part> Part for Either<A, B> {
     }
 
     #[inline(always)]
-    fn settle(&mut self, to: u32) {
+    fn settle(&mut self, to: u64) {
         on_either!(self, part => part.settle(to))
     }
 
@@ -96,12 +96,12 @@ impl<A: Part, B: Part> Part for Either<A, B> {
     }
 
     #[inline(always)]
-    fn hear(&mut self, levels: &[Level], t: u32) -> Option<bool> {
+    fn hear(&mut self, levels: &[Level], t: u64) -> Option<bool> {
         on_either!(self, part => part.hear(levels, t))
     }
 
     #[inline(always)]
-    fn go_on<L: Ledger>(&mut self, limit: u32, steps: &mut Steps<L>) -> Went {
+    fn go_on<L: Ledger>(&mut self, limit: u64, steps: &mut Steps<L>) -> Went {
         on_either!(self, part => part.go_on(limit, steps))
     }
 

@@ -13,7 +13,7 @@ use std::sync::ledger::Ledger;
 #[derive(Clone, Copy, Debug, PartialEq, Eq, Drop)]
 pub struct Went {
     /// The cycle at which the part stands.
-    pub to: u32,
+    pub to: u64,
     /// Whether its last wake may have changed a drive or a contact.
     pub changed: bool,
     /// The byte that its last wake emitted.
@@ -58,11 +58,11 @@ pub trait Part {
         ensures { i < length (machine.contacts (state self.now)) → slice_get (machine.contacts (state self.now)) i ≡ Some result };
 
     /// The first cycle from now on at which the part is due though nothing changes.
-    fn due(&self) -> Option<u32>
+    fn due(&self) -> Option<u64>
         ensures { IsFirstDue machine (state self.now) (now self.now) result };
 
     /// How often the part was woken.
-    fn woken(&self) -> u32
+    fn woken(&self) -> u64
         ensures { result ≡ wakes self.now };
 
     /// Whether the last wake may have changed a drive or a contact; where it did not, an engine need
@@ -79,7 +79,7 @@ pub trait Part {
     }
 
     /// Goes on to cycle `to`, before which nothing is due: as many steps on the held levels.
-    fn settle(&mut self, to: u32)
+    fn settle(&mut self, to: u64)
         requires later { now self.old ≤ to }
         requires end { to ≤ MOST_CYCLES }
         requires quiet { IsQuiet machine (state self.old) (now self.old) (to - now self.old) }
@@ -119,7 +119,7 @@ pub trait Part {
     /// Goes on to cycle `t`, before which nothing is due, and does one step on the levels of its pins, behind which others may
     /// stand: `settle`, `wake` and `due` in one call, of a part that sends no byte then and is due in no cycle behind it. It
     /// answers whether a drive or a contact may have changed. A part may always answer None, and then stays as it is.
-    fn hear(&mut self, levels: &[Level], t: u32) -> Option<bool>
+    fn hear(&mut self, levels: &[Level], t: u64) -> Option<bool>
         requires later { now self.old ≤ t }
         requires end { t < MOST_CYCLES }
         requires quiet { IsQuiet machine (state self.old) (now self.old) (t - now self.old) }
@@ -141,7 +141,7 @@ pub trait Part {
     /// it is woken in each cycle in which it is due, up to the first wake that may have changed a drive
     /// or a contact or that emitted a byte, and else up to `limit`; after a byte it goes no further.
     /// `steps` ticks once a wake. A part may stop earlier, but goes on by one cycle at least.
-    fn go_on<L: Ledger>(&mut self, limit: u32, steps: &mut Steps<L>) -> Went
+    fn go_on<L: Ledger>(&mut self, limit: u64, steps: &mut Steps<L>) -> Went
         requires later { now self.old ≤ limit }
         requires end { limit ≤ MOST_CYCLES }
         requires count { wakes self.old ≤ now self.old }

@@ -14,8 +14,8 @@ pub struct Reactive<B: Behaviour> {
     behaviour: B,
     pins: u8,
     held: [Level; 32],
-    cycle: u32,
-    wakes: u32,
+    cycle: u64,
+    wakes: u64,
     changed: bool,
 }
 
@@ -115,11 +115,11 @@ impl<B: Behaviour> Part for Reactive<B> {
         self.behaviour.contact(i)
     }
 
-    fn due(&self) -> Option<u32> {
+    fn due(&self) -> Option<u64> {
         if self.cycle == 0 { Some(0) } else { None }
     }
 
-    fn woken(&self) -> u32 {
+    fn woken(&self) -> u64 {
         self.wakes
     }
 
@@ -127,7 +127,7 @@ impl<B: Behaviour> Part for Reactive<B> {
         self.changed
     }
 
-    fn settle(&mut self, to: u32) {
+    fn settle(&mut self, to: u64) {
         self.cycle = to;
     }
 
@@ -141,7 +141,7 @@ impl<B: Behaviour> Part for Reactive<B> {
     }
 
     #[inline(always)]
-    fn hear(&mut self, levels: &[Level], t: u32) -> Option<bool> {
+    fn hear(&mut self, levels: &[Level], t: u64) -> Option<bool> {
         let pins = usize::from(self.pins);
         let levels = &levels[..pins];
         let changed = self.behaviour.react(&self.held[..pins], levels, None);

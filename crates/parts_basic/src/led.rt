@@ -9,7 +9,7 @@ use std::marker::Model;
 /// An LED, which is lit where A reads 1 and C is Low.
 #[derive(Drop)]
 pub struct Led {
-    count: u32,
+    count: u64,
 }
 
 impl Model for Led {
@@ -38,7 +38,7 @@ impl Led {
     }
 
     /// In how many cycles it became lit.
-    pub fn count(&self) -> u32
+    pub fn count(&self) -> u64
         ensures { result ≡ self.now.count }
     {
         self.count

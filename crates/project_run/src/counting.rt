@@ -22,7 +22,7 @@ pub fn count_board<B: Bench, L: Ledger>(
     alloc: Global,
     contents: Contents<'_>,
     plan: Plan,
-    n: u32,
+    n: u64,
     bench: &mut B,
     steps: &mut Steps<L>,
 ) -> Result<(u64, u64), OutOfMemory>

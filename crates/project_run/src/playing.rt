@@ -32,7 +32,7 @@ pub struct Loaded<P: Part> {
 /// Writes the report of a board after `n` cycles, if it is wanted, with the lines of its chips or without.
 fn report<P: Part + Shown, B: Bench>(
     wanted: bool,
-    n: u32,
+    n: u64,
     chips: bool,
     loaded: &Loaded<P>,
     bench: &mut B,
@@ -59,7 +59,7 @@ fn report<P: Part + Shown, B: Bench>(
 /// and the bytes while it runs, then the report.
 pub fn write_run<P: Part + Shown + Drop, B: Bench, L: Ledger>(
     loaded: Loaded<P>,
-    n: u32,
+    n: u64,
     chips: bool,
     outputs: Outputs,
     bench: &mut B,

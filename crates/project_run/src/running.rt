@@ -88,7 +88,7 @@ pub fn run_board<B: Bench, L: Ledger>(
     alloc: Global,
     contents: Contents<'_>,
     plan: Plan,
-    n: u32,
+    n: u64,
     outputs: Outputs,
     bench: &mut B,
     steps: &mut Steps<L>,

@@ -9,7 +9,9 @@ ghost use Rattle.vcd_text.specs.Writers.{is_whole};
 
 use crate::answer::Answer;
 use crate::row::str_of;
-use sim_base::{Bench, Drive, Level, List, MemBench, OutOfMemory, Port, Watcher, WriteEnd};
+use sim_base::{
+    Bench, Drive, Level, List, MOST_CYCLES, MemBench, OutOfMemory, Port, Watcher, WriteEnd,
+};
 use std::alloc::{AllocError, Global};
 use std::mem::drop;
 use std::snapshot::Snapshot;
@@ -20,9 +22,9 @@ use vcd_text::{Source, Variable, WaveHead, WaveWriter};
 /// - `end 16`: the cycle at which the run ends
 #[derive(Drop)]
 enum Event {
-    Row(u32, Vec<Level>, Vec<Drive>),
+    Row(u64, Vec<Level>, Vec<Drive>),
     Byte(u8),
-    End(u32),
+    End(u64),
 }
 
 pub fn wave_answer(alloc: Global, made: &mut Answer, text: &[u8]) {
@@ -106,7 +108,7 @@ fn event_by(alloc: Global, words: &[&str]) -> Result<Event, AllocError> {
     }
 }
 
-fn row_of(alloc: Global, cycle: u32, words: &[&str]) -> Result<Event, AllocError> {
+fn row_of(alloc: Global, cycle: u64, words: &[&str]) -> Result<Event, AllocError> {
     let mut levels = Vec::new(alloc);
     let mut drives = Vec::new(alloc);
     read_row(words, &mut levels, &mut drives)?;
@@ -164,8 +166,8 @@ fn drive_of(word: &str) -> Drive {
     }
 }
 
-fn number(word: &str) -> u32 {
-    word.parse::<u32>().unwrap_or(0)
+fn number(word: &str) -> u64 {
+    word.parse::<u64>().unwrap_or(0)
 }
 
 fn place(word: &str) -> u16 {
@@ -252,22 +254,22 @@ fn changed_nets(alloc: Global, before: &[Level], after: &[Level]) -> Result<Vec<
 fn hand_row<W: Watcher>(
     alloc: Global,
     out: &mut W,
-    least: u32,
+    least: u64,
     before: &[Level],
-    cycle: u32,
+    cycle: u64,
     levels: &[Level],
     drives: &[Drive],
 ) -> WriteEnd
     requires whole { W.whole out.old ≡ true }
     requires behind { IsBehind W.last W.seen out.old least before.now }
     requires few { length before.now ≤ 65535 }
-    ensures cycle { result ≡ WriteEnd.Ok → cycle < 4294967295 }
+    ensures cycle { result ≡ WriteEnd.Ok → cycle < MOST_CYCLES }
     ensures few { result ≡ WriteEnd.Ok → length levels.now ≤ 65535 }
     ensures whole { result ≡ WriteEnd.Ok → W.whole out.new ≡ true }
     ensures behind { result ≡ WriteEnd.Ok → IsBehind W.last W.seen out.new (cycle + 1) levels.now }
     ensures place { W.place out.new ≡ W.place out.old }
 {
-    if cycle < least || cycle == u32::MAX || levels.len() > 65_535 {
+    if cycle < least || cycle >= MOST_CYCLES || levels.len() > 65_535 {
         return WriteEnd::Failed;
     }
     match changed_nets(alloc, before, levels) {
@@ -283,7 +285,7 @@ fn hand_out<W: Watcher>(alloc: Global, out: &mut W, events: &[Event]) -> WriteEn
     ensures whole { result ≡ WriteEnd.Ok → W.whole out.new ≡ true }
     ensures place { W.place out.new ≡ W.place out.old }
 {
-    let mut least: u32 = 0;
+    let mut least: u64 = 0;
     let mut before: &[Level] = &[];
     for event in events {
         match event {
@@ -330,7 +332,9 @@ fn end<B: Bench>(writer: &mut WaveWriter<B>, events: &[Event])
     requires { is_whole B.outside writer.old ≡ true }
 {
     if let [.., Event::End(cycle)] = events {
-        writer.end(*cycle);
+        if *cycle <= MOST_CYCLES {
+            writer.end(*cycle);
+        }
     }
 }
 

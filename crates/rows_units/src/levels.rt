@@ -1,12 +1,12 @@
 //! The levels of the Uno's pins in a row, 14 to 19 being A0 to A5.
 ghost use Rattle.std.specs.Prelude.{◌≡◌, ◌+◌, ◌<◌, ℕ, Some};
 
-use sim_base::Level;
+use sim_base::{Level, MOST_CYCLES};
 
 /// A cycle, and the levels of the pins in the cycle before it and in its own.
 #[derive(Drop)]
 pub(crate) struct Turn {
-    pub(crate) cycle: u32,
+    pub(crate) cycle: u64,
     pub(crate) before: [Level; 20],
     pub(crate) now: [Level; 20],
 }
@@ -25,7 +25,7 @@ impl Turn {
 
     /// Goes to the next cycle.
     pub(crate) fn pass(&mut self)
-        requires { self.old.cycle < 4294967295 }
+        requires { self.old.cycle < MOST_CYCLES }
         ensures { self.new.cycle ≡ self.old.cycle + 1 }
     {
         self.cycle += 1;

@@ -20,7 +20,7 @@ use slave_serial::Uart;
 /// in the one to come.
 #[derive(Drop)]
 struct Turn {
-    cycle: u32,
+    cycle: u64,
     has_come: bool,
     asked: Option<EngineRequest>,
     before: [Level; 2],
@@ -116,7 +116,7 @@ fn plays(engine: &mut Engine, turn: &mut Turn, word: &str) -> bool
         "busy" => starts(engine, turn, value) == Some(false),
         "stop" => stops(engine, turn) == Some(true),
         "idle" => stops(engine, turn) == Some(false),
-        "due" => due(engine, turn) == value.parse::<u32>().ok(),
+        "due" => due(engine, turn) == value.parse::<u64>().ok(),
         "drive" => {
             value
                 == match engine.drives(2) {
@@ -143,7 +143,7 @@ impl Turn {
     }
 
     /// The cycle of the next turn.
-    fn next(&self) -> u32 {
+    fn next(&self) -> u64 {
         if self.has_come {
             self.cycle.saturating_add(1)
         } else {
@@ -186,7 +186,7 @@ impl Turn {
 }
 
 /// The cycle of its next event, from that of its next turn on.
-fn due(engine: &Engine, turn: &Turn) -> Option<u32> {
+fn due(engine: &Engine, turn: &Turn) -> Option<u64> {
     let places = [Some(*engine)];
     first_engine(&places, turn.next())
 }
@@ -227,7 +227,7 @@ fn goes_to(engine: &mut Engine, turn: &mut Turn, value: &str) -> bool
     requires { IsEngine engine.old }
     ensures { IsEngine engine.new }
 {
-    let Ok(to) = value.parse::<u32>() else {
+    let Ok(to) = value.parse::<u64>() else {
         return false;
     };
     while turn.cycle < to && turn.cycle < MOST_CYCLES {

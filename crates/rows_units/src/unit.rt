@@ -86,7 +86,7 @@ fn goes_to<U: Unit>(unit: &mut U, turn: &mut Turn, value: &str) -> bool
     requires here { (U.shows unit.old).cycle ≡ turn.old.cycle }
     ensures here { (U.shows unit.new).cycle ≡ turn.new.cycle }
 {
-    let Ok(to) = value.parse::<u32>() else {
+    let Ok(to) = value.parse::<u64>() else {
         return false;
     };
     while turn.cycle < to && turn.cycle < MOST_CYCLES {
@@ -111,7 +111,7 @@ fn goes_over<U: Unit>(unit: &mut U, turn: &mut Turn, value: &str) -> bool
             turn.cycle = due;
             turn.pass();
             let (cycle, sent) = value.split_once(',').unwrap_or((value, ""));
-            cycle.parse::<u32>() == Ok(due) && byte == u8::from_str_radix(sent, 16).ok()
+            cycle.parse::<u64>() == Ok(due) && byte == u8::from_str_radix(sent, 16).ok()
         }
         None => value == "none",
     }

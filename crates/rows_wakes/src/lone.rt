@@ -102,7 +102,7 @@ fn lone_board(alloc: Global, flash: Flash) -> Option<Board<Mcu>>
 }
 
 /// The wakes of the first part in the cycles up to `n` of a new board, None where there is none.
-fn wakes_in<P: Part, L: Ledger>(board: &mut Board<P>, n: u32, blank: Blank) -> Option<u32>
+fn wakes_in<P: Part, L: Ledger>(board: &mut Board<P>, n: u64, blank: Blank) -> Option<u64>
     requires cycle { board.old.cycle ≡ 0 }
     requires alive { board.old.given_up ≡ false }
     requires some { 0 < n }
@@ -120,7 +120,7 @@ fn wakes_in<P: Part, L: Ledger>(board: &mut Board<P>, n: u32, blank: Blank) -> O
 }
 
 /// The wakes in `n` cycles from reset, None where the board cannot be run.
-fn run_alone<L: Ledger>(alloc: Global, flash: Flash, n: u32, blank: Blank) -> Option<u32>
+fn run_alone<L: Ledger>(alloc: Global, flash: Flash, n: u64, blank: Blank) -> Option<u64>
     requires some { 0 < n }
     requires end { n ≤ MOST_CYCLES }
     requires name { blank.name ≡ L.name }
@@ -137,7 +137,7 @@ fn run_alone<L: Ledger>(alloc: Global, flash: Flash, n: u32, blank: Blank) -> Op
     }
 }
 
-fn first_woken<P: Part>(parts: &[P]) -> Option<u32> {
+fn first_woken<P: Part>(parts: &[P]) -> Option<u64> {
     match parts.first() {
         Some(part) => Some(part.woken()),
         None => None,
@@ -145,12 +145,12 @@ fn first_woken<P: Part>(parts: &[P]) -> Option<u32> {
 }
 
 /// The wakes in so many microseconds, 16 cycles each.
-pub fn wakes_of(alloc: Global, hex: &[u8], micros: u32) -> Option<u32> {
+pub fn wakes_of(alloc: Global, hex: &[u8], micros: u32) -> Option<u64> {
     if micros == 0 || micros > 10_000_000 || hex.len() > 65_536 {
         return None;
     }
     match read_hex(alloc, hex) {
-        Ok(flash) => run_alone::<Brand>(alloc, flash, 16 * micros, Blank::new(1)),
+        Ok(flash) => run_alone::<Brand>(alloc, flash, 16 * u64::from(micros), Blank::new(1)),
         Err(_) => None,
     }
 }

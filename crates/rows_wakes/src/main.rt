@@ -46,7 +46,7 @@ fn main(rt: HostRuntime) -> io::Result<()> {
 }
 
 /// Runs a firmware, and says where it is woken more or less often.
-fn play(rt: &HostRuntime, hex: &str, micros: u32, wakes: u32) -> io::Result<()> {
+fn play(rt: &HostRuntime, hex: &str, micros: u32, wakes: u64) -> io::Result<()> {
     match wakes_of(rt.alloc(), hex.as_bytes(), micros) {
         Some(found) if found == wakes => Ok(()),
         Some(found) => println!(rt; "{found} wakes in place of {wakes}: {hex}"),

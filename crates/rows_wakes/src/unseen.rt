@@ -5,7 +5,7 @@ use sim_base::{Drive, Level, Watcher, WriteEnd};
 
 #[derive(Drop)]
 pub struct Unseen {
-    last: Option<u32>,
+    last: Option<u64>,
 }
 
 impl Unseen {
@@ -35,7 +35,7 @@ impl Watcher for Unseen {
 
     ghost place = { λ w. true };
 
-    fn row(&mut self, t: u32, _levels: &[Level], _drives: &[Drive], _changed: &[u16]) -> WriteEnd {
+    fn row(&mut self, t: u64, _levels: &[Level], _drives: &[Drive], _changed: &[u16]) -> WriteEnd {
         self.last = Some(t);
         WriteEnd::Ok
     }

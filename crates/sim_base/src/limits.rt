@@ -4,6 +4,6 @@
 /// (profile).
 pub const LONGEST_RUN: u32 = 160_000_000;
 
-/// The end of a board's time, 250 s: a cycle that comes is below it. What a unit begins in such a cycle comes before
-/// 2^32, the longest being the watchdog's 131,072,000 cycles.
-pub const MOST_CYCLES: u32 = 4_000_000_000;
+/// The end of a board's time, 7.2 days: a cycle that comes is below it. The time of such a cycle in a wave, 625 for each
+/// cycle, has at most 16 digits.
+pub const MOST_CYCLES: u64 = 10_000_000_000_000;

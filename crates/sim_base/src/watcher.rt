@@ -6,6 +6,7 @@ ghost use Rattle.sim_base.specs.Rows.{Row, Handed, Appends, AreBut};
 ghost use Rattle.sim_base.specs.declared.signal.Level.{Level};
 
 use crate::bench::WriteEnd;
+use crate::limits::MOST_CYCLES;
 use crate::signal::{Drive, Level};
 
 /// A watcher is whole until a call fails, and then has stopped within what it was handed.
@@ -34,8 +35,9 @@ pub trait Watcher {
 
     /// Is handed the levels by net and the drives by pin of a cycle after the last row's, and is told
     /// the nets: each of the others has the level that it had in the last row.
-    fn row(&mut self, t: u32, levels: &[Level], drives: &[Drive], changed: &[u16]) -> WriteEnd
+    fn row(&mut self, t: u64, levels: &[Level], drives: &[Drive], changed: &[u16]) -> WriteEnd
         requires whole { whole self.old ≡ true }
+        requires end { t < MOST_CYCLES }
         requires later { ForSome (last self.old) (λ u. u < t) }
         requires changed { ForSome (last self.old) (λ u. (before : List Level) × seen self.old before × AreBut changed.now before levels.now) }
         ensures ok { result ≡ WriteEnd.Ok → Handed whole faults stands self.old self.new (record { cycle = t; levels = levels.now; drives = drives.now } ∷ []) [] }

@@ -17,7 +17,7 @@ pub struct Wiring {
 /// One value of a script for one part, taken in the part's step of that cycle.
 #[derive(Clone, Copy, Debug, PartialEq, Eq)]
 pub struct Input {
-    pub cycle: u32,
+    pub cycle: u64,
     pub part: u8,
     pub value: u16,
 }

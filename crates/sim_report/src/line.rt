@@ -33,7 +33,7 @@ fn word(line: &mut Line, word: &[u8])
     add(line, word);
 }
 
-fn number(line: &mut Line, n: u32)
+fn number(line: &mut Line, n: u64)
     requires { length line.old.items ≤ 150 }
     ensures text { line.new.items ≡ line.old.items ++ 32 ∷ decimal n }
     ensures short { length line.new.items ≤ length line.old.items + 41 }
@@ -134,7 +134,7 @@ fn omits(omission: Omission, asked: Asked) -> Line
     line
 }
 
-fn led(lit: bool, count: u32) -> Line
+fn led(lit: bool, count: u64) -> Line
     ensures text { result.items ≡ spaced (lit_word lit ∷ codes "lit" ∷ decimal count ∷ []) }
     ensures short { length result.items ≤ 100 }
 {
@@ -149,7 +149,7 @@ fn led(lit: bool, count: u32) -> Line
     line
 }
 
-fn count(n: u32) -> Line
+fn count(n: u64) -> Line
     ensures text { result.items ≡ spaced (decimal n ∷ []) }
     ensures short { length result.items ≤ 100 }
 {
@@ -182,7 +182,7 @@ fn lcd(n: u8, text: &[u8; 16]) -> Line
     ensures short { length result.items ≤ 100 }
 {
     let mut line = Line::new();
-    number(&mut line, u32::from(n));
+    number(&mut line, u64::from(n));
     add(&mut line, b" |");
     add(&mut line, text);
     add(&mut line, b"|");
@@ -219,7 +219,7 @@ fn oled_page(page: u8, cells: &[u8; 128]) -> Line
 {
     let mut line = Line::new();
     word(&mut line, b"page");
-    number(&mut line, u32::from(page));
+    number(&mut line, u64::from(page));
     add(&mut line, b" ");
     digits(&mut line, cells);
     line
@@ -234,13 +234,13 @@ fn alive() -> Line
     line
 }
 
-fn trap(k: u8, cycle: u32) -> Line
+fn trap(k: u8, cycle: u64) -> Line
     ensures text { result.items ≡ spaced (codes "trap" ∷ decimal k ∷ codes "at" ∷ decimal cycle ∷ []) }
     ensures short { length result.items ≤ 100 }
 {
     let mut line = Line::new();
     word(&mut line, b"trap");
-    number(&mut line, u32::from(k));
+    number(&mut line, u64::from(k));
     word(&mut line, b"at");
     number(&mut line, cycle);
     line
@@ -294,7 +294,7 @@ pub(crate) fn rest(row: &ReportRow) -> Line
         ReportRow::Ignored(_, register) => ignored(*register),
         ReportRow::Omits(_, omission, asked) => omits(*omission, *asked),
         ReportRow::Led(_, lit, count) => led(*lit, *count),
-        ReportRow::Input(_, value) => count(u32::from(*value)),
+        ReportRow::Input(_, value) => count(u64::from(*value)),
         ReportRow::Seg(_, segments) => seg(*segments),
         ReportRow::Shift(_, stages, latch) => shift(*stages, *latch),
         ReportRow::Lcd(_, line, text) => lcd(*line, text),

@@ -15,7 +15,7 @@ pub enum UnoMode {
 #[derive(Drop)]
 pub enum ReportRow {
     /// `cycles N`: how many cycles of 62.5 ns were run.
-    Cycles(u32),
+    Cycles(u64),
     /// `uno ID pc 0xHHHH run`, or `sleep`, or `halt 0xHHHH`: the program counter, a word address.
     Uno(Name, u16, UnoMode),
     /// `uno ID ignored 0xHH`: the data address of a register that was written and is left out.
@@ -24,7 +24,7 @@ pub enum ReportRow {
     /// data address and the value. No report of a run has it.
     Omits(Name, Omission, Asked),
     /// `led ID on lit N` or `led ID off lit N`: whether it is lit, and in how many cycles it became so.
-    Led(Name, bool, u32),
+    Led(Name, bool, u64),
     /// `input ID V`: the value of a button, a switch or a potentiometer.
     Input(Name, u16),
     /// `seg ID HH`: the lit segments, bit 0 is A and bit 7 DP.
@@ -40,5 +40,5 @@ pub enum ReportRow {
     /// `chip ID alive`.
     Alive(Name),
     /// `chip ID trap K at T`: the trap that ended a chip, and its cycle.
-    Trap(Name, u8, u32),
+    Trap(Name, u8, u64),
 }

@@ -11,13 +11,13 @@ use slave_request::EngineRequest;
 #[derive(Clone, Copy)]
 pub struct Reception {
     pub place: u8,
-    pub sample: u32,
+    pub sample: u64,
     pub byte: u8,
 }
 
 impl Reception {
     // The next sample, from the cycle of this one.
-    fn next_bit(self, bit: u32, cycle: u32) -> Reception
+    fn next_bit(self, bit: u32, cycle: u64) -> Reception
         requires bit { IsBit bit }
         requires cycle { cycle < MOST_CYCLES }
         requires place { self.place < 9 }
@@ -26,12 +26,12 @@ impl Reception {
     {
         Reception {
             place: self.place + 1,
-            sample: cycle + bit,
+            sample: cycle + u64::from(bit),
             ..self
         }
     }
 
-    fn sampled(self, bit: u32, cycle: u32, high: bool) -> Option<Reception>
+    fn sampled(self, bit: u32, cycle: u64, high: bool) -> Option<Reception>
         requires bit { IsBit bit }
         requires cycle { cycle < MOST_CYCLES }
         ensures value { result ≡ sampled self bit cycle high }
@@ -58,7 +58,7 @@ impl Reception {
 pub(crate) fn received(
     reception: Option<Reception>,
     bit: u32,
-    cycle: u32,
+    cycle: u64,
     before: bool,
     now: bool,
 ) -> Option<Reception>
@@ -79,7 +79,7 @@ pub(crate) fn received(
             if before && !now {
                 Some(Reception {
                     place: 0,
-                    sample: cycle + bit / 2,
+                    sample: cycle + u64::from(bit / 2),
                     byte: 0,
                 })
             } else {
@@ -90,7 +90,7 @@ pub(crate) fn received(
 }
 
 /// The byte whose stop bit is sampled in a cycle.
-pub(crate) fn taken_in(reception: Option<Reception>, cycle: u32, now: bool) -> Option<EngineRequest>
+pub(crate) fn taken_in(reception: Option<Reception>, cycle: u64, now: bool) -> Option<EngineRequest>
     ensures { result ≡ taken_in reception cycle now }
 {
     match reception {
@@ -102,7 +102,7 @@ pub(crate) fn taken_in(reception: Option<Reception>, cycle: u32, now: bool) -> O
 }
 
 /// The cycle of the next sample.
-pub(crate) fn next_sample(reception: Option<Reception>) -> Option<u32>
+pub(crate) fn next_sample(reception: Option<Reception>) -> Option<u64>
     ensures { result ≡ next_sample reception }
 {
     match reception {

@@ -13,7 +13,7 @@ use slave_request::EngineRequest;
 pub struct Frame {
     pub byte: u8,
     pub place: u8,
-    pub end: u32,
+    pub end: u64,
 }
 
 impl Frame {
@@ -36,13 +36,13 @@ impl Frame {
 #[derive(Clone, Copy)]
 pub enum Sending {
     Idle,
-    Empty(u32),
-    Start(Buffer, u32),
+    Empty(u64),
+    Start(Buffer, u64),
     Bits(Buffer, Frame),
 }
 
 /// `count` bytes, from the cycle behind this one on.
-pub(crate) fn begun(count: u32, cycle: u32) -> Sending
+pub(crate) fn begun(count: u32, cycle: u64) -> Sending
     requires cycle { cycle ≤ MOST_CYCLES }
     ensures value { result ≡ begun count cycle }
     ensures stands { Sends result (cycle + 1) }
@@ -55,7 +55,7 @@ pub(crate) fn begun(count: u32, cycle: u32) -> Sending
 }
 
 // The last cycle of a bit.
-fn bit_over(buffer: Buffer, frame: Frame, bit: u32, cycle: u32) -> Sending
+fn bit_over(buffer: Buffer, frame: Frame, bit: u32, cycle: u64) -> Sending
     requires bit { IsBit bit }
     requires cycle { cycle < MOST_CYCLES }
     requires index { buffer.index < buffer.count }
@@ -67,7 +67,7 @@ fn bit_over(buffer: Buffer, frame: Frame, bit: u32, cycle: u32) -> Sending
             buffer,
             Frame {
                 place: frame.place + 1,
-                end: cycle + bit,
+                end: cycle + u64::from(bit),
                 ..frame
             },
         );
@@ -82,7 +82,7 @@ fn bit_over(buffer: Buffer, frame: Frame, bit: u32, cycle: u32) -> Sending
 
 impl Sending {
     /// One cycle.
-    pub(crate) fn sent(self, bit: u32, cycle: u32) -> Sending
+    pub(crate) fn sent(self, bit: u32, cycle: u64) -> Sending
         requires bit { IsBit bit }
         requires cycle { cycle < MOST_CYCLES }
         requires sound { IsSending self }
@@ -97,7 +97,7 @@ impl Sending {
                 Frame {
                     byte: 0,
                     place: 0,
-                    end: cycle + bit - 1,
+                    end: cycle + u64::from(bit) - 1,
                 },
             ),
             Sending::Bits(buffer, frame) if frame.end == cycle => {
@@ -108,7 +108,7 @@ impl Sending {
     }
 
     /// What is asked for in a cycle: the byte of a frame in its first one, the end of all in the last one.
-    pub(crate) fn put_out(self, cycle: u32) -> Option<EngineRequest>
+    pub(crate) fn put_out(self, cycle: u64) -> Option<EngineRequest>
         requires { IsSending self }
         ensures { result ≡ put_out self cycle }
     {
@@ -148,7 +148,7 @@ impl Sending {
     }
 
     /// The cycle of its next event.
-    pub(crate) fn bit_end(self) -> Option<u32>
+    pub(crate) fn bit_end(self) -> Option<u64>
         ensures { result ≡ bit_end self }
     {
         match self {

@@ -30,10 +30,10 @@ pub struct Shift {
 #[derive(Clone, Copy)]
 pub enum Transaction {
     Idle,
-    Opening(Buffer, u32),
+    Opening(Buffer, u64),
     Between(Buffer),
     Shifting(Buffer, Shift),
-    Stopped(u32, u32),
+    Stopped(u32, u64),
 }
 
 /// A slave: CPOL and CPHA of its mode, the bit that MISO has where it is driven, and the transaction.
@@ -125,7 +125,7 @@ impl Spi {
     /// One cycle, from what the wires read in the cycle before and read in this one: what it asks for, in this order.
     pub fn step(
         &mut self,
-        cycle: u32,
+        cycle: u64,
         before: Wires,
         now: Wires,
     ) -> (Option<EngineRequest>, Option<EngineRequest>)
@@ -142,7 +142,7 @@ impl Spi {
 
     fn go(
         &mut self,
-        cycle: u32,
+        cycle: u64,
         reads: bool,
         presents: bool,
         mosi: bool,
@@ -241,7 +241,7 @@ impl Spi {
     }
 
     /// A call of `count` bytes, whose first turn is that of this cycle.
-    pub fn begin(&mut self, count: u32, turn: u32)
+    pub fn begin(&mut self, count: u32, turn: u64)
         requires count { 0 < count }
         ensures state { self.new ≡ opened self.old count turn }
         ensures stands { (t : ℕ) → t ≤ turn → Stands self.new.transaction t }
@@ -255,7 +255,7 @@ impl Spi {
     }
 
     /// A transaction that waits for its first turn has it in this cycle.
-    pub fn open_in(&mut self, turn: u32)
+    pub fn open_in(&mut self, turn: u64)
         ensures state { self.new ≡ record self.old { transaction = opens_in self.old.transaction turn } }
         ensures sound { IsTransaction self.old.transaction → IsTransaction self.new.transaction }
     {
@@ -278,7 +278,7 @@ impl Spi {
     }
 
     /// It is stopped: no edge counts any more, and `Done` comes in this cycle's turn.
-    pub fn stop(&mut self, turn: u32)
+    pub fn stop(&mut self, turn: u64)
         ensures state { self.new ≡ record self.old { transaction = stopped self.old.transaction turn } }
         ensures sound { IsTransaction self.old.transaction → IsTransaction self.new.transaction }
         ensures stands { (t : ℕ) → t ≤ turn → Stands self.old.transaction t → Stands self.new.transaction t }
@@ -310,7 +310,7 @@ impl Spi {
     }
 
     /// The cycle in whose turn it goes on though SCK stays.
-    pub fn next_turn(&self) -> Option<u32>
+    pub fn next_turn(&self) -> Option<u64>
         ensures { result ≡ next_turn self.now.transaction }
     {
         match self.transaction {

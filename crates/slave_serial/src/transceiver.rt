@@ -36,7 +36,7 @@ impl Uart {
     /// One cycle, from what RX read in the cycle before and reads in this one: what it asks for, in this order.
     pub fn step(
         &mut self,
-        cycle: u32,
+        cycle: u64,
         before: bool,
         now: bool,
     ) -> (Option<EngineRequest>, Option<EngineRequest>)
@@ -56,7 +56,7 @@ impl Uart {
     }
 
     /// Begins to send `count` bytes in the cycle behind this one.
-    pub fn begin(&mut self, cycle: u32, count: u32)
+    pub fn begin(&mut self, cycle: u64, count: u32)
         requires cycle { cycle ≤ MOST_CYCLES }
         ensures state { self.new ≡ begins self.old cycle count }
         ensures sound { IsUart self.old → IsUart self.new }
@@ -88,14 +88,14 @@ impl Uart {
     }
 
     /// The last cycle of the bit that is sent.
-    pub fn bit_end(&self) -> Option<u32>
+    pub fn bit_end(&self) -> Option<u64>
         ensures { result ≡ bit_end self.now.sending }
     {
         self.sending.bit_end()
     }
 
     /// The cycle of the next sample.
-    pub fn next_sample(&self) -> Option<u32>
+    pub fn next_sample(&self) -> Option<u64>
         ensures { result ≡ next_sample self.now.reception }
     {
         next_sample(self.reception)

@@ -19,10 +19,10 @@ pub struct Player {
     counts: [usize; 64],
     /// The levels of its last step.
     held: [Level; 64],
-    cycle: u32,
+    cycle: u64,
     /// The cycle of the first row behind `cycle`.
-    next: Option<u32>,
-    wakes: u32,
+    next: Option<u64>,
+    wakes: u64,
     /// The pins of which a row came with its last wake.
     moved: Span,
 }
@@ -137,7 +137,7 @@ impl Part for Player {
         false
     }
 
-    fn due(&self) -> Option<u32> {
+    fn due(&self) -> Option<u64> {
         if self.cycle == 0 {
             return Some(0);
         }
@@ -147,7 +147,7 @@ impl Part for Player {
         }
     }
 
-    fn woken(&self) -> u32 {
+    fn woken(&self) -> u64 {
         self.wakes
     }
 
@@ -160,7 +160,7 @@ impl Part for Player {
         self.moved
     }
 
-    fn settle(&mut self, to: u32) {
+    fn settle(&mut self, to: u64) {
         self.cycle = to;
     }
 

@@ -9,13 +9,13 @@ use part_law::Span;
 use sim_base::{Drive, List};
 
 /// How many rows stand at or before a cycle, where so many do.
-fn count_on(rows: &[(u32, Drive)], cycle: u32, from: usize) -> usize
+fn count_on(rows: &[(u32, Drive)], cycle: u64, from: usize) -> usize
     requires order { AreInOrder rows.now }
     requires past { ArePast rows.now cycle from }
     ensures { IsCount rows.now cycle result }
 {
     let mut count = from;
-    while count < rows.len() && rows[count].0 <= cycle {
+    while count < rows.len() && u64::from(rows[count].0) <= cycle {
         count += 1;
     }
     count
@@ -35,18 +35,18 @@ pub fn drive_of(rows: &[(u32, Drive)], count: usize) -> Drive
 }
 
 /// The cycle of the first row behind so many.
-fn next_row(rows: &[(u32, Drive)], count: usize) -> Option<u32>
+fn next_row(rows: &[(u32, Drive)], count: usize) -> Option<u64>
     requires { AreInOrder rows.now }
     ensures { (cycle : ℕ) → IsCount rows.now cycle count → IsNext (has_row rows.now) cycle result }
 {
     if count < rows.len() {
-        Some(rows[count].0)
+        Some(u64::from(rows[count].0))
     } else {
         None
     }
 }
 
-fn earlier(a: Option<u32>, b: Option<u32>) -> Option<u32>
+fn earlier(a: Option<u64>, b: Option<u64>) -> Option<u64>
     ensures { result ≡ earlier a b }
 {
     match (a, b) {
@@ -83,9 +83,9 @@ fn with_moved(moved: Span, pin: usize, before: usize, count: usize) -> Span
 /// and the pins of which more are.
 pub fn count_all(
     pins: &[List<(u32, Drive)>],
-    cycle: u32,
+    cycle: u64,
     counts: &mut [usize; 64],
-) -> (Option<u32>, Span)
+) -> (Option<u64>, Span)
     requires few { length pins.now ≤ 64 }
     requires order { All AreInOrder pins.now }
     requires past { AreAllPast pins.now cycle counts.old }

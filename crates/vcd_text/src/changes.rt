@@ -10,6 +10,7 @@ use crate::buffer::Buffer;
 use crate::row::Row;
 use crate::value::of_source;
 use crate::variable::{Source, Variable};
+use sim_base::MOST_CYCLES;
 
 /// The line of variable `i`.
 #[inline]
@@ -126,17 +127,19 @@ pub(crate) fn push_changes(
 }
 
 #[inline(never)]
-pub fn push_time(cycle: u32, out: &mut Buffer)
+pub fn push_time(cycle: u64, out: &mut Buffer)
+    requires end { cycle ≤ MOST_CYCLES }
     requires room { length out.old.text + 42 ≤ out.old.room }
     ensures text { out.new ≡ record out.old { text = out.old.text ++ time_line cycle } }
     ensures short { length out.new.text ≤ length out.old.text + 42 }
 {
     out.push(b"#");
-    out.push_number(625 * u64::from(cycle));
+    out.push_number(625 * cycle);
     out.push(b"\n");
 }
 
-pub fn push_initial_values(cycle: u32, now: &[u8], out: &mut Buffer)
+pub fn push_initial_values(cycle: u64, now: &[u8], out: &mut Buffer)
+    requires end { cycle ≤ MOST_CYCLES }
     requires few { length now.now ≤ 8930 }
     requires room { length out.old.text + 57 + 4 * length now.now ≤ out.old.room }
     ensures { out.new ≡ record out.old { text = out.old.text ++ initial_values cycle now.now } }
@@ -149,7 +152,8 @@ pub fn push_initial_values(cycle: u32, now: &[u8], out: &mut Buffer)
 
 /// The head of a wave and the initial values.
 #[inline(never)]
-pub(crate) fn push_first(cycle: u32, head: &[u8], now: &[u8], out: &mut Buffer)
+pub(crate) fn push_first(cycle: u64, head: &[u8], now: &[u8], out: &mut Buffer)
+    requires end { cycle ≤ MOST_CYCLES }
     requires few { length now.now ≤ 8930 }
     requires room { length out.old.text + length head.now + 57 + 4 * length now.now ≤ out.old.room }
     ensures { out.new ≡ record out.old { text = out.old.text ++ (head.now ++ initial_values cycle now.now) } }

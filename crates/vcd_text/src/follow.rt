@@ -12,6 +12,7 @@ use crate::chains::{Links, first_of};
 use crate::changes::{push_changes, push_first, push_time, put_value};
 use crate::row::Row;
 use crate::value::{fill_values, of_net};
+use sim_base::MOST_CYCLES;
 
 /// The variables that may have other values in a row than in the one before.
 #[derive(Clone, Copy)]
@@ -121,6 +122,7 @@ fn push_lines(scope: Scope, links: &Links, row: &Row, values: &mut [u8], out: &m
 
 /// The value changes of a cycle, and how many there are.
 fn push_later(scope: Scope, links: &Links, row: &Row, values: &mut [u8], out: &mut Buffer) -> u64
+    requires end { row.now.cycle ≤ MOST_CYCLES }
     requires few { length links.now.variables.now ≤ 8930 }
     requires long { length values.old ≡ length links.now.variables.now }
     requires chains { AreChains (sources (variables_in links.now)) links.now.first.now links.now.next.now }
@@ -150,6 +152,7 @@ pub(crate) fn push_row(
     values: &mut [u8],
     out: &mut Buffer,
 ) -> u64
+    requires end { row.now.cycle ≤ MOST_CYCLES }
     requires few { length links.now.variables.now ≤ 8930 }
     requires long { length values.old ≡ length links.now.variables.now }
     requires chains { AreChains (sources (variables_in links.now)) links.now.first.now links.now.next.now }

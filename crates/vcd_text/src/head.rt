@@ -18,7 +18,7 @@ use crate::follow::{Scope, push_row};
 use crate::pins::{drive_as_kept, keep, pins_of};
 use crate::row::Row;
 use crate::variable::Variable;
-use sim_base::{Drive, Level, List, OutOfMemory};
+use sim_base::{Drive, Level, List, MOST_CYCLES, OutOfMemory};
 use std::alloc::{AllocError, Global};
 use std::marker::Model;
 
@@ -211,7 +211,8 @@ impl WaveHead {
     }
 
     /// Makes the text of the next row, for which it looks at the variables of a scope alone.
-    fn take(&mut self, cycle: u32, scope: Scope, levels: &[Level], drives: &[Drive]) -> u64
+    fn take(&mut self, cycle: u64, scope: Scope, levels: &[Level], drives: &[Drive]) -> u64
+        requires end { cycle ≤ MOST_CYCLES }
         requires room { length self.old.text ≤ gathered }
         requires rest { RestBut scope self.old.variables self.old.values levels.now drives.now }
         ensures text { self.new ≡ after_row self.old (record { cycle = cycle; levels = levels.now; drives = drives.now }) }
@@ -243,11 +244,12 @@ impl WaveHead {
     /// Where one net is told, or two, only the variables of these and of pins may have other values.
     pub(crate) fn take_row(
         &mut self,
-        cycle: u32,
+        cycle: u64,
         levels: &[Level],
         drives: &[Drive],
         changed: &[u16],
     ) -> u64
+        requires end { cycle ≤ MOST_CYCLES }
         requires room { length self.old.text ≤ gathered }
         requires told { self.old.started ≡ true → (before : List Level) × HasSeen self.old.variables self.old.values before
             × AreBut changed.now before levels.now }
@@ -259,8 +261,9 @@ impl WaveHead {
     }
 
     /// Makes the text of the time at which the run ends behind what is kept.
-    pub(crate) fn take_end(&mut self, cycle: u32)
-        requires { length self.old.text ≤ gathered }
+    pub(crate) fn take_end(&mut self, cycle: u64)
+        requires end { cycle ≤ MOST_CYCLES }
+        requires room { length self.old.text ≤ gathered }
         ensures { self.new ≡ record self.old { text = self.old.text ++ time_line cycle } }
     {
         push_time(cycle, &mut self.text);

@@ -4,7 +4,7 @@ use sim_base::{Drive, Level};
 /// The levels of the nets and the drives of the pins in a cycle.
 #[derive(Clone, Copy)]
 pub struct Row<'a> {
-    pub(crate) cycle: u32,
+    pub(crate) cycle: u64,
     pub(crate) levels: &'a [Level],
     pub(crate) drives: &'a [Drive],
 }

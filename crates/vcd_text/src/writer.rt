@@ -12,7 +12,7 @@ ghost use Rattle.vcd_text.specs.Writers.{Tied, texts_of, place_of, outside_of, l
 ghost use Rattle.vcd_text.specs.Writers.{faults_of, Stands, HasStopped, capped, state_of, marked, whole_by};
 
 use crate::head::WaveHead;
-use sim_base::{Bench, Drive, Level, Port, Watcher, WriteEnd};
+use sim_base::{Bench, Drive, Level, MOST_CYCLES, Port, Watcher, WriteEnd};
 use std::snapshot::Snapshot;
 
 /// Writes the wave of the rows on Wave and the bytes on Serial, each where it is wanted; where neither
@@ -27,7 +27,7 @@ pub struct WaveWriter<'a, B: Bench> {
     wave: bool,
     serial: bool,
     whole: bool,
-    last: u32,
+    last: u64,
     changes: u64,
     sent: u64,
 }
@@ -37,7 +37,7 @@ pub struct WaveWriter<'a, B: Bench> {
 pub struct WaveMark {
     wave: bool,
     serial: bool,
-    last: u32,
+    last: u64,
     changes: u64,
     sent: u64,
 }
@@ -124,7 +124,7 @@ impl<'a, B: Bench> Watcher for WaveWriter<'a, B> {
 
     ghost place = { place_of B.outside };
 
-    fn row(&mut self, t: u32, levels: &[Level], drives: &[Drive], changed: &[u16]) -> WriteEnd {
+    fn row(&mut self, t: u64, levels: &[Level], drives: &[Drive], changed: &[u16]) -> WriteEnd {
         if !looks_at_rows(self.wave, self.serial) {
             self.head.pass_row();
             self.last = t;
@@ -248,8 +248,9 @@ impl<'a, B: Bench> WaveWriter<'a, B> {
     }
 
     /// Ends a wanted Wave with the time of cycle `n`, the cycle at which the run ends.
-    pub fn end(&mut self, n: u32) -> WriteEnd
-        requires { is_whole B.outside self.old ≡ true }
+    pub fn end(&mut self, n: u64) -> WriteEnd
+        requires end { n ≤ MOST_CYCLES }
+        requires whole { is_whole B.outside self.old ≡ true }
         ensures ends { (rows : List Row) → (bytes : List ℕ) → Stands B.outside self.old rows bytes
             → Writes result (texts_of (place_of B.outside self.old) (wave_text (place_of B.outside self.old).variables rows n) bytes)
             (place_of B.outside self.old).start (outside_of B.outside self.new) }

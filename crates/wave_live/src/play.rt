@@ -48,7 +48,7 @@ pub fn begin<P: Part, B: Bench>(
 /// live board is over.
 pub fn play_to<P: Part, B: Bench, L: Ledger>(
     play: &mut Play<P>,
-    n: u32,
+    n: u64,
     bench: &mut B,
     start: &Snapshot<B>,
     steps: &mut Steps<L>,

@@ -21,7 +21,7 @@ rests : (g : Over) (c : After-settle g) → Rests g.P.Part c.self.inside.engine 
 rests g c = rests_settled g.P.Part g.met.P.Part.laws c.self.inside.engine c.rest.new.self c.settle.new.self c.args.steps.now c.rest.new.steps c.rest.ensures.rests c.settle.ensures.settled
 
 pub invariant_of-self : goal.invariant_of-self
-invariant_of-self g c = record { may = (rests g (goal.at.invariant_of-self g c).After-settle).on.may; at = c.settle.ensures.at }
+invariant_of-self g c = record { may = (rests g (goal.at.invariant_of-self g c).After-settle).on.may; at = c.settle.ensures.at; end = (let same = ap (λ (e : Engine g.row.P.Denot). e.cycle) c.settle.ensures.settled.same in omega (arith, same, c.rest.ensures.within, c.requires.end)) }
 
 pub returns : goal.returns
 returns g c =

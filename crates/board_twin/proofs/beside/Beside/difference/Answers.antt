@@ -24,6 +24,6 @@ returns-clause-found g c =
     let at = λ (v : Wiring) (t : ℕ) (parts chips : List g.row.P.Denot). option_map differs (part_diff p.machine v t 0 (map p.state parts) (with_chips v (map p.state parts) (map p.state chips))) in
     c.difference.ensures.found
     ∙ ap (λ (v : Wiring). at v c.cycle-t.result c.as_slice-parts.result.now c.as_slice.result.now) c.wiring.ensures
-    ∙ ap (λ (t : ℕ). at b.board.wiring t c.as_slice-parts.result.now c.as_slice.result.now) c.cycle-t.ensures
+    ∙ ap (λ (t : ℕ). at b.board.wiring t c.as_slice-parts.result.now c.as_slice.result.now) c.cycle-t.ensures.value
     ∙ ap (λ (l : List g.row.P.Denot). at b.board.wiring b.board.cycle l c.as_slice.result.now) (c.as_slice-parts.ensures ∙ c.parts.ensures)
     ∙ ap (at b.board.wiring b.board.cycle b.board.parts) c.as_slice.ensures

@@ -16,7 +16,7 @@ returns-then-t-next g c =
     let x = c.requires.way in
     let went = e.still.went in
     let near : new.cycle ≤ c.least_due-next.result = e.within in
-    let after : 0 < b.cycle = subst (λ (t : ℕ). 0 < t) c.cycle-t.ensures c.if-t-gt0.true in
+    let after : 0 < b.cycle = subst (λ (t : ℕ). 0 < t) c.cycle-t.ensures.value c.if-t-gt0.true in
     let quiet = λ (j : ℕ) (q : g.row.P.Denot) (ej : slice_get self.chips.parts j ≡ Some q) (k : ℕ) (h : k < new.cycle - p.now q).
     c.least_due-next.ensures.quiet j q (ap (λ (l : List g.row.P.Denot). slice_get l j) c.as_slice.ensures ∙ ej) k (omega (arith, near, h)) in
     record {

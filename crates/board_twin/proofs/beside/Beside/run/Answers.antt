@@ -27,7 +27,7 @@ returns-in-Some g c =
     let found : Some c.in-Some.end ≡ option_map differs (difference_of p l.self) = sym c.in-Some.is ∙ c.difference.ensures.found in
     let d = answer_of (difference_of p l.self) c.in-Some.end found in
     let at : d.0.cycle ≡ l.self.board.cycle = ap (λ (e : TwinEnd). cycle_of e 0) d.2 ∙ c.difference.ensures.cycle c.in-Some.end c.in-Some.is in
-    let less : l.self.board.cycle < c.args.n = (let e = c.cycle.ensures in let h = c.loop-self-test.true in omega (arith, e, h)) in
+    let less : l.self.board.cycle < c.args.n = (let e = c.cycle.ensures.value in let h = c.loop-self-test.true in omega (arith, e, h)) in
     record {
       room = room_kept p g.met.P.Part.laws (view_of b) l.self c.args.steps.now l.steps is;
       twin = λ free.
@@ -42,7 +42,7 @@ returns g c =
     let b = c.args.self.now in
     let l = c.loop-self in
     let is = l.invariant.abreast in
-    let at : l.self.board.cycle ≡ c.args.n = (let e = c.cycle.ensures in let h = c.loop-self-test.false in let w = l.invariant.within in omega (arith, e, h, w)) in
+    let at : l.self.board.cycle ≡ c.args.n = (let e = c.cycle.ensures.value in let h = c.loop-self-test.false in let w = l.invariant.within in omega (arith, e, h, w)) in
     record {
       room = room_kept p g.met.P.Part.laws (view_of b) l.self c.args.steps.now l.steps is;
       twin = λ free. ends_same p g.met.P.Part.laws (view_of b) l.self c.args.steps.now l.steps is free c.args.n at;

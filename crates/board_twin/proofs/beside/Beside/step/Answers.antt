@@ -14,9 +14,9 @@ turn-requires g c =
     let x = c.requires.way in
     let same = c.wiring.ensures ∙ e.wiring in
     let may = may_step p g.met.P.Part.laws x.start c.args.self.now x.steps c.args.steps.now x.is c.wiring.result.now same in
-    let shown = e.before refl ∙ shown_once p.machine b.wiring (map p.state b.parts) b.inputs c.cycle-t.result b.cycle b.before (sym c.cycle-t.ensures) in
+    let shown = e.before refl ∙ shown_once p.machine b.wiring (map p.state b.parts) b.inputs c.cycle-t.result b.cycle b.before (sym c.cycle-t.ensures.value) in
     let read = c.levels.ensures (shown_of p.machine b.wiring (map p.state b.parts)) shown in
-    let at = c.cycle-t.ensures in
+    let at = c.cycle-t.ensures.value in
     record {
       end = (let o = c.requires.end in omega (arith, o, at));
       places = may.1;
@@ -32,7 +32,7 @@ returns g c =
     let new = c.run.new.self in
     let e = c.in-Done.ensures in
     let t = c.cycle-t.result in
-    let at : t ≡ b.cycle = c.cycle-t.ensures in
+    let at : t ≡ b.cycle = c.cycle-t.ensures.value in
     let next : new.cycle ≡ t + 1 = e.cycle refl in
     let ss = map p.state b.parts in
     let went : BoardWent p b new c.args.steps.now c.run.new.steps = record {

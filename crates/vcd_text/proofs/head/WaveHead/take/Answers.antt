@@ -21,6 +21,7 @@ push_row-count-requires c =
     let s = c.self.view_is in
     let vs = c.as_slice.ensures in
     record {
+      end = c.requires.end;
       few = omega (arith, v.few, ap length vs);
       long = ap length c.deref_mut.ensures.value ∙ sym i.values.ok.0 ∙ v.values_long ∙ ap length (sym vs);
       chains = chains_moved (sym vs) (sym c.deref-2.ensures.value) (sym c.deref-3.ensures.value) v.chains;

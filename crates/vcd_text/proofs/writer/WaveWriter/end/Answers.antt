@@ -5,10 +5,10 @@ use Rattle.vcd_text.specs.Ports.{texts, BreaksOff, Writes}
 use Rattle.vcd_text.proofs.WriterLemmas.{writes_more, sum_rose, whole_room}
 use Rattle.vcd_text.proofs.writer.WaveWriter.end.Goals as goal
 
-pub take_end-requires : goal.take_end-requires
-take_end-requires g c =
+pub take_end-requires-clause-room : goal.take_end-requires-clause-room
+take_end-requires-clause-room g c =
     let w = c.args.self.now in
-    whole_room w.whole _ (length w.head.now.text) c.requires
+    whole_room w.whole _ (length w.head.now.text) c.requires.whole
 
 pub returns-clause-ends : goal.returns-clause-ends
 returns-clause-ends g c = λ rows bytes stood.

@@ -10,6 +10,9 @@ use Rattle.vcd_text.proofs.CallerLemmas.{breaks_within}
 use Rattle.vcd_text.proofs.ChainLemmas.{seen_after}
 use Rattle.vcd_text.proofs.writer.WaveWriterWatcher.row.Goals as goal
 
+pub take_row-more-requires-clause-end : goal.take_row-more-requires-clause-end
+take_row-more-requires-clause-end g c = omega (arith, c.requires.end)
+
 pub take_row-more-requires-clause-room : goal.take_row-more-requires-clause-room
 take_row-more-requires-clause-room g c =
     let w = c.args.self.now in
