@@ -5,7 +5,9 @@ ghost use Rattle.sim_base.specs.Outside.{ReadFits};
 ghost use Rattle.bench_real.specs.Sinks.{is_open};
 
 use crate::copying::{complain, print_whole, read_up_to, write_whole};
-use sim_base::{Bench, Port, ReadEnd, WriteEnd};
+use crate::lines::LineReader;
+use arrayvec::ArrayVec;
+use sim_base::{Bench, LineEnd, Port, ReadEnd, WriteEnd};
 use std::fs::File;
 use std::io::ErrorKind;
 use std::rt::{Files, Runtime};
@@ -19,12 +21,13 @@ enum Sink<F> {
 }
 
 /// The system as a bench: Serial is standard output and Complaint is standard error; Wave and
-/// Report lead to files, or with the name `-` to standard output. It tells no content.
+/// Report lead to files, or with the name `-` to standard output. Requests are the lines of standard input. It tells no content.
 #[derive(Drop)]
 pub struct RealBench<R: Runtime> {
     rt: R,
     // What stands where standard input, output or error is closed.
     stands: (Option<R::File>, Option<R::File>, Option<R::File>),
+    requests: LineReader<R::Reader>,
     wave: Sink<R::File>,
     report: Sink<R::File>,
     read_faults: u64,
@@ -38,9 +41,11 @@ impl<R: Runtime> RealBench<R> {
     /// A bench over the runtime that `main` was given, with no port of its own open.
     pub fn new(rt: R) -> RealBench<R> {
         let stands = (stand(&rt), stand(&rt), stand(&rt));
+        let requests = LineReader::new(rt.reader());
         RealBench {
             rt,
             stands,
+            requests,
             wave: Sink::Closed,
             report: Sink::Closed,
             read_faults: 0,
@@ -117,6 +122,7 @@ impl<R: Runtime> Bench for RealBench<R> {
 
     ghost outside = { λ b. record {
       files = None;
+      requests = None;
       written = λ p. None;
       name = λ p. None;
       opened = elim [ ports.Serial ↦ true | ports.Wave ↦ is_open b.wave | ports.Report ↦ is_open b.report | ports.Complaint ↦ true ];
@@ -127,6 +133,14 @@ impl<R: Runtime> Bench for RealBench<R> {
     fn read_file(&mut self, name: &str, limit: u32, into: &mut Vec<u8>) -> ReadEnd {
         let end = read_whole(&self.rt, name, limit, into);
         if end == ReadEnd::Failed {
+            self.read_faults = self.read_faults.saturating_add(1);
+        }
+        end
+    }
+
+    fn read_line(&mut self, into: &mut ArrayVec<u8, 1024>) -> LineEnd {
+        let end = self.requests.read_line(into);
+        if end == LineEnd::Failed {
             self.read_faults = self.read_faults.saturating_add(1);
         }
         end

@@ -7,8 +7,8 @@ use Rattle.sim_base.specs.Outside.{Outside, SamePorts}
 use Rattle.vcd_text.specs.Ports.{texts, Leaves, BreaksOff}
 
 -- nothing is written where nothing is wanted
-pub unwritten : (text bytes : List ℕ) (a b : Outside) → Leaves (texts false false text bytes) a b → SamePorts a b
-unwritten text bytes a b l = record { files = l.files; written = written; name = l.name; opened = l.opened; faults = l.faults }
+pub unwritten : (text bytes : List ℕ) (a b : Outside) → b.requests ≡ a.requests → Leaves (texts false false text bytes) a b → SamePorts a b
+unwritten text bytes a b same l = record { files = l.files; requests = same; written = written; name = l.name; opened = l.opened; faults = l.faults }
   where
     written : (p : Port) → b.written p ≡ a.written p
     written ports.Wave = l.written ports.Wave

@@ -83,10 +83,10 @@ module _ (folder : List ℕ) (read : List ChipSource) where
 
 -- two runs of calls leave the ports alone, and none at all does
 pub same_both : (a m b : Outside) → SamePorts a m → SamePorts m b → SamePorts a b
-same_both a m b x y = record { files = y.files ∙ x.files; written = λ p. y.written p ∙ x.written p; name = λ p. y.name p ∙ x.name p; opened = λ p. y.opened p ∙ x.opened p; faults = λ p. y.faults p ∙ x.faults p }
+same_both a m b x y = record { files = y.files ∙ x.files; requests = y.requests ∙ x.requests; written = λ p. y.written p ∙ x.written p; name = λ p. y.name p ∙ x.name p; opened = λ p. y.opened p ∙ x.opened p; faults = λ p. y.faults p ∙ x.faults p }
 
 pub same_here : (a : Outside) → SamePorts a a
-same_here a = record { files = refl; written = λ p. refl; name = λ p. refl; opened = λ p. refl; faults = λ p. refl }
+same_here a = record { files = refl; requests = refl; written = λ p. refl; name = λ p. refl; opened = λ p. refl; faults = λ p. refl }
 
 -- what is refused without a file is refused over all files
 pub rule_stops : {X : Type 0} (result : Result X Stop) (s : Stop) (said : Outcome) (a : Outside) → result ≡ Err s → (said ≡ Stopped s) ⊎ (said ≡ OutOfMemory) → ReadStops said (Is (λ (files : Files). result)) a a

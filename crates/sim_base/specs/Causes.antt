@@ -2,6 +2,8 @@
 use Rattle.std.specs.Prelude.{◌≡◌, ℕ, ◌+◌, ◌-◌, ◌^◌, ◌≤◌, min}
 use Rattle.sim_base.specs.declared.bench.ReadEnd.{ReadEnd}
 use Rattle.sim_base.specs.declared.bench.ReadEnd.TheVariants as reads
+use Rattle.sim_base.specs.declared.bench.LineEnd.{LineEnd}
+use Rattle.sim_base.specs.declared.bench.LineEnd.TheVariants as lines
 use Rattle.sim_base.specs.declared.bench.WriteEnd.{WriteEnd}
 use Rattle.sim_base.specs.declared.bench.WriteEnd.TheVariants as writes
 
@@ -16,6 +18,13 @@ ReadCause reads.Ok before now = now ≡ before
 ReadCause reads.Missing before now = now ≡ before
 ReadCause reads.TooLong before now = now ≡ before
 ReadCause reads.OutOfMemory before now = now ≡ before
+
+-- the same of reading a line of requests
+abbrev pub LineCause : LineEnd → ℕ → ℕ → Type 0
+LineCause lines.Failed before now = (before ≤ now) × Rose before now
+LineCause lines.Line before now = now ≡ before
+LineCause lines.TooLong before now = now ≡ before
+LineCause lines.Over before now = now ≡ before
 
 -- the same of writing and opening
 abbrev pub WriteCause : WriteEnd → ℕ → ℕ → Type 0

@@ -7,6 +7,8 @@ use Rattle.sim_base.specs.declared.bench.Port.{Port}
 use Rattle.sim_base.specs.declared.bench.Port.TheVariants as ports
 use Rattle.sim_base.specs.declared.bench.ReadEnd.{ReadEnd}
 use Rattle.sim_base.specs.declared.bench.ReadEnd.TheVariants as read_ends
+use Rattle.sim_base.specs.declared.bench.LineEnd.{LineEnd}
+use Rattle.sim_base.specs.declared.bench.LineEnd.TheVariants as line_ends
 use Rattle.sim_base.specs.declared.bench.WriteEnd.{WriteEnd}
 use Rattle.sim_base.specs.declared.bench.WriteEnd.TheVariants as write_ends
 use Rattle.sim_base.specs.Outside.{Outside}
@@ -18,10 +20,11 @@ pub record Store : Type 0 where
   pub name : Option (List ℕ)
   pub faults : ℕ
 
--- Files newest first, each with its name; of two of one name the newer one counts.
--- `calls` counts the calls of all three kinds, and those whose number is listed fail.
+-- Files newest first, each with its name; of two of one name the newer one counts. Lines of requests in their order.
+-- `calls` counts the calls of all four kinds, and those whose number is listed fail.
 pub record MemState : Type 0 where
   pub files : List (List ℕ × List ℕ)
+  pub requests : List (List ℕ)
   pub serial : Store
   pub wave : Store
   pub report : Store
@@ -95,6 +98,15 @@ abbrev pub read_end : Option (List ℕ) → ℕ → ReadEnd
 read_end None limit = read_ends.Missing
 read_end (Some bytes) limit = if nat_lt limit (length bytes) then read_ends.TooLong else read_ends.Ok
 
+-- what reading a line answers where the call is not to fail, and the lines that are left
+abbrev pub line_end : List (List ℕ) → LineEnd
+line_end [] = line_ends.Over
+line_end (line ∷ rest) = if nat_lt 1024 (length line) then line_ends.TooLong else line_ends.Line
+
+abbrev pub lines_left : List (List ℕ) → List (List ℕ)
+lines_left [] = []
+lines_left (line ∷ rest) = rest
+
 -- a port before it was given room, and after
 abbrev pub roomless : Store
 roomless = record { bytes = []; room = 0; name = None; faults = 0 }
@@ -103,12 +115,13 @@ abbrev pub roomy : Store → ℕ → Store
 roomy p bytes = record p { room = max p.room bytes }
 
 abbrev pub new_bench : MemState
-new_bench = record { files = []; serial = roomless; wave = roomless; report = roomless; complaint = roomless; wave_open = false; report_open = false; read_faults = 0; calls = 0; failing = [] }
+new_bench = record { files = []; requests = []; serial = roomless; wave = roomless; report = roomless; complaint = roomless; wave_open = false; report_open = false; read_faults = 0; calls = 0; failing = [] }
 
--- the environment that the bench is: it tells its files, what is written and the names of opened ports
+-- the environment that the bench is: it tells its files, its requests, what is written and the names of opened ports
 abbrev pub outside_of : MemState → Outside
 outside_of s = record {
   files = Some (from_entries s.files);
+  requests = Some s.requests;
   written = λ p. Some (port_of s p).bytes;
   name = λ p. (port_of s p).name;
   opened = is_open s;
@@ -119,6 +132,9 @@ outside_of s = record {
 -- each call counts, and fails where its number is listed
 abbrev pub after_read : MemState → MemState
 after_read s = if fails_next s then record (called s) { read_faults = raised s.read_faults } else called s
+
+abbrev pub after_line : MemState → MemState
+after_line s = if fails_next s then record (called s) { read_faults = raised s.read_faults } else record (called s) { requests = lines_left s.requests }
 
 abbrev pub after_open : MemState → Port → List ℕ → MemState
 after_open s p name = with_open (with_port (called s) p (opened (opens_on (fails_next s) name) (port_of s p) name)) p (opens_on (fails_next s) name)

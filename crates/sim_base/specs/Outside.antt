@@ -1,5 +1,5 @@
 -- The environment of the program, as a value: files, ports and counts of faults.
-use Rattle.std.specs.Prelude.{◌≡◌, ◌≢◌, ℕ, ◌≤◌, ◌<◌, List, [], ◌++◌, length, Bool, true, false, Option, None, Some, IfSome, ◌⊎◌}
+use Rattle.std.specs.Prelude.{◌≡◌, ◌≢◌, ℕ, ◌≤◌, ◌<◌, List, [], ◌∷◌, ◌++◌, length, Bool, true, false, Option, None, Some, IfSome, ◌⊎◌}
 use Rattle.std.specs.Option.{option_map}
 use Rattle.std.specs.FinMap.{FinMap, get}
 use Rattle.std.specs.Cmp.Lexicographic.{slice_cmp}
@@ -8,6 +8,8 @@ use Rattle.sim_base.specs.declared.bench.Port.{Port}
 use Rattle.sim_base.specs.declared.bench.Port.TheVariants as ports
 use Rattle.sim_base.specs.declared.bench.ReadEnd.{ReadEnd}
 use Rattle.sim_base.specs.declared.bench.ReadEnd.TheVariants as reads
+use Rattle.sim_base.specs.declared.bench.LineEnd.{LineEnd}
+use Rattle.sim_base.specs.declared.bench.LineEnd.TheVariants as lines
 use Rattle.sim_base.specs.declared.bench.WriteEnd.{WriteEnd}
 use Rattle.sim_base.specs.declared.bench.WriteEnd.TheVariants as writes
 use Rattle.sim_base.specs.Causes.{Rose}
@@ -16,10 +18,11 @@ use Rattle.sim_base.specs.Causes.{Rose}
 abbrev pub Files : Type 0
 Files = FinMap (slice_cmp nat_cmp) (List ℕ)
 
--- Files, what was written, and the names under which ports were opened are told or not (None); a bench
--- that tells nothing still says which ports are open and how many faults it has seen.
+-- Files, the lines of requests that are still to be read, what was written, and the names under which ports were opened are
+-- told or not (None); a bench that tells nothing still says which ports are open and how many faults it has seen.
 pub record Outside : Type 0 where
   pub files : Option Files
+  pub requests : Option (List (List ℕ))
   pub written : Port → Option (List ℕ)
   pub name : Port → Option (List ℕ)
   pub opened : Port → Bool
@@ -36,6 +39,7 @@ is_openable ports.Complaint = false
 -- nothing but the count of failed reads may have changed
 pub record SamePorts (a b : Outside) : Type 0 where
   pub files : b.files ≡ a.files
+  pub requests : b.requests ≡ a.requests
   pub written : (p : Port) → b.written p ≡ a.written p
   pub name : (p : Port) → b.name p ≡ a.name p
   pub opened : (p : Port) → b.opened p ≡ a.opened p
@@ -44,6 +48,7 @@ pub record SamePorts (a b : Outside) : Type 0 where
 -- nothing but one port may have changed
 pub record SameOthers (port : Port) (a b : Outside) : Type 0 where
   pub files : b.files ≡ a.files
+  pub requests : b.requests ≡ a.requests
   pub written : (p : Port) → p ≢ port → b.written p ≡ a.written p
   pub name : (p : Port) → p ≢ port → b.name p ≡ a.name p
   pub opened : (p : Port) → p ≢ port → b.opened p ≡ a.opened p
@@ -97,6 +102,17 @@ ReadsFile reads.OutOfMemory file limit into = Unit {0}
 abbrev pub ReadsTold : ReadEnd → Option Files → List ℕ → ℕ → List ℕ → Type 0
 ReadsTold end None name limit into = Unit {0}
 ReadsTold end (Some files) name limit into = ReadsFile end (get files name) limit into
+
+-- what reading a line of told ones gives, and those that are left; a line has at most 1,024 bytes
+abbrev pub TakesLine : LineEnd → List (List ℕ) → List ℕ → List (List ℕ) → Type 0
+TakesLine lines.Line old into new = (old ≡ into ∷ new) × (length into ≤ 1024)
+TakesLine lines.TooLong old into new = (line : List ℕ) × (old ≡ line ∷ new) × (1024 < length line)
+TakesLine lines.Over old into new = (old ≡ []) × (new ≡ [])
+TakesLine lines.Failed old into new = new ≡ old
+
+abbrev pub LineTold : LineEnd → Option (List (List ℕ)) → List ℕ → Option (List (List ℕ)) → Type 0
+LineTold end None into new = new ≡ None
+LineTold end (Some old) into new = (rest : List (List ℕ)) × (new ≡ Some rest) × TakesLine end old into rest
 
 -- what was read is within the limit, and nothing is left of a read that was not Ok
 abbrev pub ReadFits : ReadEnd → ℕ → List ℕ → Type 0

@@ -1,9 +1,11 @@
 //! The environment of the program, as a trait: files, ports and counts of faults.
-ghost use Rattle.std.specs.Prelude.{◌≡◌, ℕ, [], Bool, true};
+ghost use Rattle.std.specs.Prelude.{◌≡◌, ◌≢◌, ℕ, [], Bool, true};
 ghost use Rattle.sim_base.specs.declared.bench.Port.{Port};
 ghost use Rattle.sim_base.specs.declared.bench.Port.TheVariants as ports;
-ghost use Rattle.sim_base.specs.Causes.{ReadCause, WriteCause};
-ghost use Rattle.sim_base.specs.Outside.{Outside, SamePorts, SameOthers, Opens, WriteLeaves, ReadsTold, ReadFits, is_openable};
+ghost use Rattle.sim_base.specs.Causes.{ReadCause, LineCause, WriteCause};
+ghost use Rattle.sim_base.specs.Outside.{Outside, SamePorts, SameOthers, Opens, WriteLeaves, ReadsTold, ReadFits, LineTold, is_openable};
+
+use arrayvec::ArrayVec;
 
 /// Where the program writes: the serial bytes, the wave, the report, and the one line of a complaint.
 #[derive(Clone, Copy, Debug, PartialEq, Eq)]
@@ -23,16 +25,27 @@ pub enum ReadEnd {
     OutOfMemory,
 }
 
+/// What comes next where a line of requests is read.
+#[derive(Clone, Copy, Debug, PartialEq, Eq)]
+pub enum LineEnd {
+    Line,
+    /// A line of more than 1,024 bytes, which is passed over.
+    TooLong,
+    /// No line is left.
+    Over,
+    Failed,
+}
+
 #[derive(Clone, Copy, Debug, PartialEq, Eq)]
 pub enum WriteEnd {
     Ok,
     Failed,
 }
 
-/// Files and ports. A count of faults never falls, and a call raises the one count that it names
+/// Files, requests and ports. A count of faults never falls, and a call raises the one count that it names
 /// and only where it answers `Failed`.
 pub trait Bench {
-    /// Files, ports and counts of faults.
+    /// Files, requests, ports and counts of faults.
     ghost outside: { Self → Outside };
 
     /// Reads a whole file of at most `limit` bytes into an empty Vec, which stays empty after every
@@ -43,6 +56,15 @@ pub trait Bench {
         ensures fits { ReadFits result limit into.new.items }
         ensures cause { ReadCause result (outside self.old).read_faults (outside self.new).read_faults }
         ensures ports { SamePorts (outside self.old) (outside self.new) };
+
+    /// Reads the next line of requests into an empty ArrayVec, without the line feed at its end; the last line may have none.
+    /// The ArrayVec stays empty after every answer but `Line`.
+    fn read_line(&mut self, into: &mut ArrayVec<u8, 1024>) -> LineEnd
+        requires { into.old.items ≡ [] }
+        ensures told { LineTold result (outside self.old).requests into.new.items (outside self.new).requests }
+        ensures none { result ≢ LineEnd.Line → into.new.items ≡ [] }
+        ensures cause { LineCause result (outside self.old).read_faults (outside self.new).read_faults }
+        ensures ports { SamePorts (record (outside self.old) { requests = (outside self.new).requests }) (outside self.new) };
 
     /// Opens Wave or Report on the file of this name, which is empty then; `-` is standard output.
     fn open_port(&mut self, port: Port, name: &str) -> WriteEnd

@@ -17,7 +17,7 @@ mod text;
 mod watcher;
 mod wiring;
 
-pub use bench::{Bench, Port, ReadEnd, WriteEnd};
+pub use bench::{Bench, LineEnd, Port, ReadEnd, WriteEnd};
 pub use display::Display;
 pub use fault::{Fault, OutOfMemory, Place, Refusal};
 pub use flash::Flash;

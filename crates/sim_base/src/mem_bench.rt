@@ -1,13 +1,14 @@
 //! A bench in memory, for tests and for callers that keep their files themselves.
-ghost use Rattle.std.specs.Prelude.{◌≡◌, ◌≢◌, ℕ, List, [], ◌+◌, ◌^◌, ◌-◌, ◌≤◌, ◌∷◌, ◌++◌, map, Some, Bool, true, false, OnErr, OnOk, OnErr, length, vec_capacity, string_bytes, if◌then◌else◌, Option, not};
+ghost use Rattle.std.specs.Prelude.{◌≡◌, ◌≢◌, ℕ, List, [], ◌+◌, ◌^◌, ◌-◌, ◌≤◌, ◌∷◌, ◌++◌, map, Some, Bool, true, false, OnErr, OnOk, OnErr, length, vec_capacity, string_bytes, if◌then◌else◌, Option, not, nat_lt};
 ghost use Rattle.std.specs.Option.{option_map};
-ghost use Rattle.sim_base.specs.Mem.{port_of, with_port, with_open, called, fails_next, file_in, writes_on, write_end, stored, opens_on, opened, read_end, roomless, roomy, new_bench, outside_of, after_read, after_open, after_write};
-ghost use Rattle.sim_base.specs.Causes.{ReadCause, WriteCause};
-ghost use Rattle.sim_base.specs.Outside.{ReadsFile, ReadFits, ReadsTold, SamePorts, SameOthers, Opens, WriteLeaves, is_openable};
+ghost use Rattle.sim_base.specs.Mem.{port_of, with_port, with_open, called, fails_next, file_in, line_end, lines_left, writes_on, write_end, stored, opens_on, opened, read_end, roomless, roomy, new_bench, outside_of, after_read, after_line, after_open, after_write};
+ghost use Rattle.sim_base.specs.Causes.{ReadCause, LineCause, WriteCause};
+ghost use Rattle.sim_base.specs.Outside.{ReadsFile, ReadFits, ReadsTold, TakesLine, LineTold, SamePorts, SameOthers, Opens, WriteLeaves, is_openable};
 ghost use Rattle.sim_base.specs.declared.bench.Port.{Port};
 
-use crate::bench::{Bench, Port, ReadEnd, WriteEnd};
+use crate::bench::{Bench, LineEnd, Port, ReadEnd, WriteEnd};
 use crate::fault::OutOfMemory;
+use crate::list::List;
 use arrayvec::ArrayVec;
 use std::alloc::Global;
 use std::marker::Model;
@@ -124,13 +125,15 @@ impl PortStore {
     }
 }
 
-/// Keeps and tells its files, what is written, and the names under which ports were opened. A call
+/// Keeps and tells its files, its requests, what is written, and the names under which ports were opened. A call
 /// fails exactly where its number is listed, counted from 1 over the calls of `Bench`, where a write
 /// passes the room of its port, or where a port is opened under a name of more than 255 bytes.
 #[derive(Drop)]
 pub struct MemBench {
     alloc: Global,
     files: Vec<StoredFile>,
+    /// The lines that are still to be read.
+    requests: Vec<List<u8>>,
     serial: PortStore,
     wave: PortStore,
     report: PortStore,
@@ -149,6 +152,7 @@ impl Model for MemBench {
 
     ghost view = { λ a. record {
       files = a.files.items;
+      requests = a.requests.items;
       serial = a.serial;
       wave = a.wave;
       report = a.report;
@@ -159,6 +163,22 @@ impl Model for MemBench {
       calls = a.calls;
       failing = a.failing.items;
     } };
+}
+
+/// Copies a line, unless it is too long.
+fn copy_line(line: &[u8], into: &mut ArrayVec<u8, 1024>) -> LineEnd
+    requires { into.old.items ≡ [] }
+    ensures answer { result ≡ (if nat_lt 1024 (length line.now) then LineEnd.TooLong else LineEnd.Line) }
+    ensures line { result ≡ LineEnd.Line → into.new.items ≡ line.now }
+    ensures none { result ≢ LineEnd.Line → into.new.items ≡ [] }
+{
+    if line.len() > 1024 {
+        return LineEnd::TooLong;
+    }
+    for b in line {
+        into.push(*b);
+    }
+    LineEnd::Line
 }
 
 fn find_file<'a>(files: &'a [StoredFile], name: &str) -> Option<&'a StoredFile>
@@ -180,6 +200,7 @@ impl MemBench {
         MemBench {
             alloc,
             files: Vec::new(alloc),
+            requests: Vec::new(alloc),
             serial: PortStore::new(alloc),
             wave: PortStore::new(alloc),
             report: PortStore::new(alloc),
@@ -202,6 +223,16 @@ impl MemBench {
             bytes: Vec::from_slice(self.alloc, bytes)?,
         };
         self.files.insert(0, file)?;
+        Ok(())
+    }
+
+    /// Adds a line behind its requests, without the line feed at its end; if memory runs out, all is as before.
+    pub fn add_request(&mut self, line: &[u8]) -> Result<(), OutOfMemory>
+        ensures ok { OnOk result (self.new ≡ record self.old { requests = self.old.requests ++ line.now ∷ [] }) }
+        ensures err { OnErr result (self.new ≡ self.old) }
+    {
+        let line = Vec::from_slice(self.alloc, line)?;
+        self.requests.push(List::from_vec(line))?;
         Ok(())
     }
 
@@ -311,6 +342,21 @@ impl MemBench {
             },
         }
     }
+
+    /// Takes the next line of requests out.
+    fn take_line(&mut self, into: &mut ArrayVec<u8, 1024>) -> LineEnd
+        requires { into.old.items ≡ [] }
+        ensures takes { TakesLine result self.old.requests into.new.items self.new.requests }
+        ensures none { result ≢ LineEnd.Line → into.new.items ≡ [] }
+        ensures answer { result ≡ line_end self.old.requests }
+        ensures leaves { self.new ≡ record self.old { requests = lines_left self.old.requests } }
+    {
+        if self.requests.is_empty() {
+            return LineEnd::Over;
+        }
+        let line = self.requests.remove(0);
+        copy_line(line.as_slice(), into)
+    }
 }
 
 impl Bench for MemBench {
@@ -334,6 +380,23 @@ impl Bench for MemBench {
             return ReadEnd::Failed;
         }
         self.copy_file(name, limit, into)
+    }
+
+    fn read_line(&mut self, into: &mut ArrayVec<u8, 1024>) -> LineEnd
+        requires { into.old.items ≡ [] }
+        ensures told { LineTold result (outside_of self.old).requests into.new.items (outside_of self.new).requests }
+        ensures none { result ≢ LineEnd.Line → into.new.items ≡ [] }
+        ensures cause { LineCause result self.old.read_faults self.new.read_faults }
+        ensures ports { SamePorts (record (outside_of self.old) { requests = (outside_of self.new).requests }) (outside_of self.new) }
+        ensures failed { fails_next self.old ≡ true → result ≡ LineEnd.Failed }
+        ensures answer { fails_next self.old ≡ false → result ≡ line_end self.old.requests }
+        ensures leaves { self.new ≡ after_line self.old }
+    {
+        if self.count_call() {
+            self.read_faults = self.read_faults.saturating_add(1);
+            return LineEnd::Failed;
+        }
+        self.take_line(into)
     }
 
     fn open_port(&mut self, port: Port, name: &str) -> WriteEnd

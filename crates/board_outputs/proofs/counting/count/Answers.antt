@@ -41,7 +41,8 @@ returns-clause-ports g c =
     let final = c.bench-1.given.1 (sym (ap (λ (t : Tied). t.reference) place)) in
     let stood = (c.in-Done.ensures.handed refl).appended [] [] c.new-writer.ensures.stands in
     let P : Tied → Type 0 = λ tied. Leaves (texts_of tied stood.gone sent) tied.start (outside c.bench-1.given.0) in
-    unwritten stood.gone sent (outside c.args.bench.now) (outside c.bench-1.given.0) (subst P place (rw final stood.leaves))
+    let requests : (outside c.bench-1.given.0).requests ≡ (outside c.args.bench.now).requests = rw final (ap (λ (t : Tied). t.requests) place) in
+    unwritten stood.gone sent (outside c.args.bench.now) (outside c.bench-1.given.0) requests (subst P place (rw final stood.leaves))
 
 pub returns-clause-reads : goal.returns-clause-reads
 returns-clause-reads g c =

@@ -12,7 +12,7 @@ loop-i-init g c = record {
   done = ([], λ a text w. wrote_same c.args.end ports.Report text (text ++ []) a (g.B.Bench.outside c.args.bench.now) (sym (append-nil text)) w, refl);
   named = refl;
   opened = c.requires;
-  others = record { files = refl; reads = refl; written = λ q ne. refl; name = λ q ne. refl; opened = λ q ne. refl; faults = λ q ne. refl };
+  others = record { files = refl; requests = refl; reads = refl; written = λ q ne. refl; name = λ q ne. refl; opened = λ q ne. refl; faults = λ q ne. refl };
 }
 
 pub loop-i-preserved : goal.loop-i-preserved

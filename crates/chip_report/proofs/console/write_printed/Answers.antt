@@ -13,7 +13,7 @@ loop-b-init g c =
       goes = goes_none c.args.end whole (c.new-piece.result.items ++ whole) (g.B.Bench.outside c.args.bench.now) (ap (λ (l : List ℕ). l ++ whole) (sym c.new-piece.ensures));
       named = refl;
       opened = c.requires;
-      others = record { files = refl; reads = refl; written = λ q ne. refl; name = λ q ne. refl; opened = λ q ne. refl; faults = λ q ne. refl };
+      others = record { files = refl; requests = refl; reads = refl; written = λ q ne. refl; name = λ q ne. refl; opened = λ q ne. refl; faults = λ q ne. refl };
     }
 
 pub loop-b-preserved : goal.loop-b-preserved

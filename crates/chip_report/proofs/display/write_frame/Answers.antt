@@ -11,7 +11,7 @@ loop-y-init g c = record {
   size = size_begin c.args.width c.args.height _ c.requires.size;
   named = refl;
   opened = c.requires.opened;
-  others = record { files = refl; reads = refl; written = λ q ne. refl; name = λ q ne. refl; opened = λ q ne. refl; faults = λ q ne. refl };
+  others = record { files = refl; requests = refl; reads = refl; written = λ q ne. refl; name = λ q ne. refl; opened = λ q ne. refl; faults = λ q ne. refl };
 }
 
 pub split_at-requires : goal.split_at-requires

@@ -35,7 +35,7 @@ loop-next-init g c =
       );
       named = refl;
       opened = c.requires.opened;
-      others = record { files = refl; reads = refl; written = λ q ne. refl; name = λ q ne. refl; opened = λ q ne. refl; faults = λ q ne. refl };
+      others = record { files = refl; requests = refl; reads = refl; written = λ q ne. refl; name = λ q ne. refl; opened = λ q ne. refl; faults = λ q ne. refl };
     }
 
 pub hear-step-requires-clause-rising : goal.hear-step-requires-clause-rising
