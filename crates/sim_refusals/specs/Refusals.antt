@@ -1,5 +1,5 @@
 -- The numbered refusals: for each the number under its name, and a row of the table (profile: docs/REFUSALS.md lists when each comes).
-use Rattle.std.specs.Prelude.{ℕ, List, [], ◌∷◌, ◌==◌, if◌then◌else◌, codes}
+use Rattle.std.specs.Prelude.{ℕ, nat_lt, List, [], ◌∷◌, ◌==◌, if◌then◌else◌, codes}
 
 abbrev pub FileTooLong : ℕ
 FileTooLong = 10
@@ -166,8 +166,36 @@ TwinDiffers = 95
 abbrev pub WaveVar : ℕ
 WaveVar = 96
 
-abbrev pub names : List (ℕ × List ℕ)
-names =
+abbrev pub RequestUnknown : ℕ
+RequestUnknown = 100
+
+abbrev pub RequestWords : ℕ
+RequestWords = 101
+
+abbrev pub RequestNumber : ℕ
+RequestNumber = 102
+
+abbrev pub RequestPin : ℕ
+RequestPin = 103
+
+abbrev pub RequestPart : ℕ
+RequestPart = 104
+
+abbrev pub RequestValue : ℕ
+RequestValue = 105
+
+abbrev pub RequestPast : ℕ
+RequestPast = 106
+
+abbrev pub RequestLong : ℕ
+RequestLong = 107
+
+abbrev pub RequestWave : ℕ
+RequestWave = 108
+
+-- refusals of files: of a project, a module, a script or a wave
+abbrev pub files : List (ℕ × List ℕ)
+files =
     (FileTooLong, codes "FileTooLong") ∷
     (HexStart, codes "HexStart") ∷
     (HexDigit, codes "HexDigit") ∷
@@ -224,10 +252,23 @@ names =
     (TwinDiffers, codes "TwinDiffers") ∷
     (WaveVar, codes "WaveVar") ∷ []
 
+-- refusals of requests to a live board
+abbrev pub requests : List (ℕ × List ℕ)
+requests =
+    (RequestUnknown, codes "RequestUnknown") ∷
+    (RequestWords, codes "RequestWords") ∷
+    (RequestNumber, codes "RequestNumber") ∷
+    (RequestPin, codes "RequestPin") ∷
+    (RequestPart, codes "RequestPart") ∷
+    (RequestValue, codes "RequestValue") ∷
+    (RequestPast, codes "RequestPast") ∷
+    (RequestLong, codes "RequestLong") ∷
+    (RequestWave, codes "RequestWave") ∷ []
+
 abbrev pub name_in : ℕ → List (ℕ × List ℕ) → List ℕ
 name_in number [] = []
 name_in number (x ∷ xs) = if x.0 == number then x.1 else name_in number xs
 
 -- the name of a refusal's number, empty where there is no such number
 abbrev pub name_of : ℕ → List ℕ
-name_of number = name_in number names
+name_of number = if nat_lt number 100 then name_in number files else name_in number requests

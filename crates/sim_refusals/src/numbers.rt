@@ -109,3 +109,21 @@ pub const WAVE_END: u8 = 94;
 pub const TWIN_DIFFERS: u8 = 95;
 
 pub const WAVE_VAR: u8 = 96;
+
+pub const REQUEST_UNKNOWN: u8 = 100;
+
+pub const REQUEST_WORDS: u8 = 101;
+
+pub const REQUEST_NUMBER: u8 = 102;
+
+pub const REQUEST_PIN: u8 = 103;
+
+pub const REQUEST_PART: u8 = 104;
+
+pub const REQUEST_VALUE: u8 = 105;
+
+pub const REQUEST_PAST: u8 = 106;
+
+pub const REQUEST_LONG: u8 = 107;
+
+pub const REQUEST_WAVE: u8 = 108;
