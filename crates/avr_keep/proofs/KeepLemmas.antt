@@ -6,7 +6,8 @@ use Rattle.std.proofs.lemmas.Bool.Decides.{nat_tests}
 use Rattle.sim_base.specs.declared.limits.TheConstants.{MOST_CYCLES}
 use Rattle.avr_unit.specs.UnitMachine.{UnitMachine, At, IsQuiet, IsFirstDue}
 use Rattle.avr_unit.specs.Coming.{comes, IsAhead, or_end, within_run}
-use Rattle.avr_unit.proofs.StillLemmas.{stands, rests, keeps_ahead, before_it, at_it, ahead_of}
+use Rattle.avr_unit.specs.Late.{Behind}
+use Rattle.avr_unit.proofs.StillLemmas.{still, stands, rests, keeps_ahead, before_it, at_it, ahead_of}
 use Rattle.avr_keep.specs.declared.watchdog.Watchdog.{Watchdog}
 use Rattle.avr_keep.specs.Watchdog.{runs, period, times_out, watchdog_due}
 use Rattle.avr_keep.specs.Eeprom.{end_of}
@@ -16,6 +17,10 @@ use Rattle.avr_keep.specs.KeepLaws.{quiet}
 
 pub stays : (u : Keep) (t : ℕ) → keep.due u t ≡ false → keep.step u t [] [] ≡ u
 stays u t h = quiet u t h
+
+-- what it shows where it lags behind is what it has
+pub stays_behind : (s : At Keep) (t : ℕ) (u : Keep) → Behind keep s t u → u ≡ s.unit
+stays_behind s t u h = h.state ∙ still keep stays s.unit s.cycle (t - s.cycle) h.quiet
 
 -- the answer of `due`, of a unit that stays between its events, where none comes from here to there
 first_from : {U : Type 0} (m : UnitMachine U) → ((s : U) (t : ℕ) → m.due s t ≡ false → m.step s t [] [] ≡ s) → (s : U) (t d : ℕ) → t ≤ d → ((k : ℕ) → t ≤ k → k < d → m.due s k ≡ false) →

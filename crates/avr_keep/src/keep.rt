@@ -1,5 +1,5 @@
 //! Both as one unit.
-ghost use Rattle.std.specs.Prelude.{◌≡◌, ℕ, ◌+◌, ◌-◌, ◌<◌, ◌≤◌, min, true};
+ghost use Rattle.std.specs.Prelude.{◌≡◌, ℕ, ◌+◌, ◌-◌, ◌<◌, ◌≤◌, min, true, slice_index};
 ghost use Rattle.avr_unit.specs.Bits.{with_bit};
 ghost use Rattle.avr_keep.specs.Keep.{register, with_register, kept};
 ghost use Rattle.avr_keep.specs.Watchdog.{has_reset};
@@ -175,6 +175,14 @@ impl Keep {
         ensures { result ≡ has_reset self.now.unit.watchdog self.now.cycle }
     {
         self.watchdog.has_reset(self.cycle)
+    }
+
+    /// A byte of the EEPROM.
+    pub fn cell(&self, address: u16) -> u8
+        requires { address < 1024 }
+        ensures { result ≡ slice_index self.now.unit.eeprom.cells address }
+    {
+        self.eeprom.cells[address as usize]
     }
 
     fn register(&self, reg: Register) -> u8

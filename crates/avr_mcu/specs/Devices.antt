@@ -1,4 +1,5 @@
 -- The units of the microcontroller: one more is one more `beside`.
+use Rattle.std.specs.Prelude.{ℕ, List}
 use Rattle.avr_unit.specs.Reach.{Touch, Touches}
 use Rattle.avr_unit.specs.UnitMachine.{UnitMachine, Laws}
 use Rattle.avr_ports.specs.PortLaws.{ports_laws}
@@ -40,6 +41,10 @@ Devices = units.State
 
 abbrev pub devices : UnitMachine Devices
 devices = units.machine
+
+-- the bytes of the EEPROM
+abbrev pub eeprom_cells : Devices → List ℕ
+eeprom_cells d = d.0.1.eeprom.cells
 
 pub devices_laws : Laws devices
 devices_laws = units.laws

@@ -1,9 +1,10 @@
 //! The microcontroller as a part.
-ghost use Rattle.std.specs.Prelude.{◌≡◌, ◌+◌, ◌-◌, ◌<◌, ◌≤◌, List, ℕ, true, false, slice_index_or, slice_get, Some, None, IfOk, max, if◌then◌else◌, ◌&&◌, not, nat_lt, ◌==◌, length};
+ghost use Rattle.std.specs.Prelude.{◌≡◌, ◌+◌, ◌-◌, ◌<◌, ◌≤◌, List, ℕ, true, false, slice_index, slice_index_or, slice_get, Some, None, IfOk, max, if◌then◌else◌, ◌&&◌, not, nat_lt, ◌==◌, length};
 ghost use Rattle.avr_isa.specs.declared.instr.Instr.TheVariants.{Wdr, Sleep};
 ghost use Rattle.avr_core.specs.AvrStep.{IsProgram, HasHalted, Did, avr_step, flash_word, instr_at};
+ghost use Rattle.avr_core.specs.Registers.{sreg_byte};
 ghost use Rattle.avr_core.specs.declared.state.Mode.TheVariants.{Run};
-ghost use Rattle.avr_mcu.specs.Devices.{devices};
+ghost use Rattle.avr_mcu.specs.Devices.{devices, eeprom_cells};
 ghost use Rattle.avr_mcu.specs.McuOf.{mcu, start, ready, enters, starts, entering, instructed, reset_watchdog, is_deep, dozed, idled, performed, core_acted, units_acted, restarted, uno_drive};
 ghost use Rattle.avr_mcu.specs.McuState.{state_of};
 ghost use Rattle.avr_mcu.specs.Touched.{Touched, bare, Leads};
@@ -91,6 +92,69 @@ impl Mcu {
         ensures { result ≡ self.now.mcu.core.pc }
     {
         self.core.pc()
+    }
+
+    /// A register, R0 to R31.
+    pub fn register(&self, i: u8) -> u8
+        requires { i < 32 }
+        ensures { result ≡ slice_index self.now.mcu.core.regs i }
+    {
+        self.core.register(i)
+    }
+
+    /// The stack pointer.
+    pub fn sp(&self) -> u16
+        ensures { result ≡ self.now.mcu.core.sp }
+    {
+        self.core.sp()
+    }
+
+    /// SREG as the byte at its data address.
+    pub fn sreg(&self) -> u8
+        ensures { result ≡ sreg_byte self.now.mcu.core.sreg }
+    {
+        self.core.sreg()
+    }
+
+    /// A byte of the flash.
+    pub fn flash_byte(&self, address: u16) -> u8
+        requires { address < 32768 }
+        ensures { result ≡ slice_index self.now.mcu.flash address }
+    {
+        self.flash.byte(address)
+    }
+
+    /// The bytes of SRAM, from data address 0x0100 on.
+    pub fn sram(&self) -> &[u8]
+        ensures { result.now ≡ self.now.mcu.units.sram }
+    {
+        self.units.sram()
+    }
+
+    /// A byte of the EEPROM.
+    pub fn eeprom_byte(&self, address: u16) -> u8
+        requires { address < 1024 }
+        ensures { result ≡ slice_index (eeprom_cells self.now.mcu.units.devices) address }
+    {
+        self.units.eeprom_byte(address)
+    }
+
+    /// Whether the core begins an instruction in its cycle, and enters no interrupt.
+    pub fn begins(&self) -> bool
+        ensures { result ≡ (starts devices self.now.mcu self.now.cycle && not (enters devices self.now.mcu)) }
+    {
+        let enters = enters(&self.core, &self.units);
+        let starts = starts(self.core.mode(), enters, self.next, self.cycle);
+        starts & !enters
+    }
+
+    /// The vector that the core enters in its cycle, if it enters an interrupt.
+    pub fn entered(&self) -> Option<u8>
+        ensures { result ≡ (if starts devices self.now.mcu self.now.cycle && enters devices self.now.mcu then Some (request devices self.now.mcu.units self.now.mcu.held) else None) }
+    {
+        let enters = enters(&self.core, &self.units);
+        let starts = starts(self.core.mode(), enters, self.next, self.cycle);
+        vector_if(starts & enters, self.units.request())
     }
 
     /// Whether this data address was written though no register is there.
@@ -313,6 +377,12 @@ fn starts(mode: Mode, enters: bool, next: u64, cycle: u64) -> bool
     } else {
         false
     }
+}
+
+fn vector_if(enters: bool, vector: u8) -> Option<u8>
+    ensures { result ≡ (if enters then Some vector else None) }
+{
+    if enters { Some(vector) } else { None }
 }
 
 // Whether an interrupt is entered where an instruction would start.

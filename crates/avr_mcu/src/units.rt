@@ -1,12 +1,12 @@
 //! The units with SRAM and the plain registers: the data bus of the core.
-ghost use Rattle.std.specs.Prelude.{◌≡◌, ◌+◌, ◌-◌, ◌<◌, ◌≤◌, ℕ, List, length, true, false, replicate, slice_index_or, IfOk, vec_len, if◌then◌else◌, ◌%◌, ◌==◌, ◌&&◌, not, nat_lt};
+ghost use Rattle.std.specs.Prelude.{◌≡◌, ◌+◌, ◌-◌, ◌<◌, ◌≤◌, ℕ, List, length, true, false, replicate, slice_index, slice_index_or, IfOk, vec_len, if◌then◌else◌, ◌%◌, ◌==◌, ◌&&◌, not, nat_lt};
 ghost use Rattle.sim_base.specs.declared.signal.Level.{Level};
 ghost use Rattle.sim_base.specs.declared.signal.Level.TheVariants as levels;
 ghost use Rattle.avr_unit.specs.Bits.{is_set};
 ghost use Rattle.avr_unit.specs.Pad.{driven};
 ghost use Rattle.avr_unit.specs.UnitMachine.{steps, IsQuiet, FirstDue};
 ghost use Rattle.avr_adc.specs.declared.registers.TheConstants.{ADCSRA, ADSC};
-ghost use Rattle.avr_mcu.specs.Devices.{devices, devices_touch};
+ghost use Rattle.avr_mcu.specs.Devices.{devices, devices_touch, eeprom_cells};
 ghost use Rattle.avr_mcu.specs.Units.{reset, pins, request, units_step, units_restarted, above, above_in, with_above, with_asked, plain, plain_of, with_plain, register, after_read, with_register, with_register_bit};
 ghost use Rattle.avr_mcu.specs.Touched.{Touched, bare, touched_bus};
 ghost use Rattle.avr_mcu.specs.Ready.{Ready, Calm};
@@ -124,6 +124,21 @@ impl Units {
         ensures { result ≡ slice_index_or self.now.units.ignored addr false }
     {
         self.ignored[addr as usize]
+    }
+
+    /// The bytes of SRAM.
+    pub(crate) fn sram(&self) -> &[u8]
+        ensures { result.now ≡ self.now.units.sram }
+    {
+        self.sram.as_slice()
+    }
+
+    /// A byte of the EEPROM.
+    pub(crate) fn eeprom_byte(&self, address: u16) -> u8
+        requires { address < 1024 }
+        ensures { result ≡ slice_index (eeprom_cells self.now.units.devices) address }
+    {
+        self.devices.awake.second.unit().cell(address)
     }
 
     /// For each thing that is left out, the first write that asked for it.

@@ -2,7 +2,7 @@
 use Rattle.std.specs.Prelude.{◌≡◌, ℕ, ◌-◌, ◌<◌, ◌≤◌, List}
 use Rattle.std.proofs.Common.{arith}
 use Rattle.sim_base.specs.declared.signal.Level.{Level}
-use Rattle.avr_unit.specs.UnitMachine.{UnitMachine, At, least, steps, FirstDue}
+use Rattle.avr_unit.specs.UnitMachine.{UnitMachine, At, least, steps, IsQuiet, FirstDue}
 use Rattle.avr_unit.specs.Lagging.{lag_skip, lag_first}
 
 module _ {U : Type 0} (m : UnitMachine U) where
@@ -20,6 +20,12 @@ module _ {U : Type 0} (m : UnitMachine U) where
   pub record LateStands (s : At U) (due request : ℕ) (l : List Level) (t : ℕ) : Type 0 where
     pub late : Lags s due t
     pub requests : request ≡ least (m.requests s.unit l)
+
+  -- the state u at cycle t is what it becomes over cycles without an event
+  pub record Behind (s : At U) (t : ℕ) (u : U) : Type 0 where
+    pub lags : s.cycle ≤ t
+    pub quiet : IsQuiet m s.unit s.cycle (t - s.cycle)
+    pub state : u ≡ late_state s t
 
   -- cycle t, from the levels before to those now, leaves it as it lags: it has no event there, does the same as on levels that
   -- stay, and requests the same

@@ -2,7 +2,7 @@
 ghost use Rattle.std.specs.Prelude.{◌≡◌, ℕ, ◌+◌, ◌-◌, ◌<◌, ◌≤◌, List, true, false, length};
 ghost use Rattle.sim_base.specs.declared.signal.Level.{Level};
 ghost use Rattle.avr_unit.specs.UnitMachine.{At, FirstDue};
-ghost use Rattle.avr_unit.specs.Late.{LateStands, late_state, Lags, Rests};
+ghost use Rattle.avr_unit.specs.Late.{LateStands, late_state, Lags, Rests, Behind};
 ghost use Rattle.avr_unit.specs.Pad.{joined};
 ghost use Rattle.avr_unit.specs.Signals.{signalled};
 ghost use Rattle.part_law.specs.Spans.{is_in};
@@ -23,6 +23,15 @@ pub struct Late<U> {
     unit: U,
     due: u64,
     request: u8,
+}
+
+impl<U: Unit> Late<U> {
+    /// The unit, at its own cycle.
+    pub fn unit(&self) -> &U
+        ensures { (l : List Level) (t : ℕ) → ⟦<Late<U> as Group>⟧.stands self.now l t → Behind U.machine (U.shows result.now) t (⟦<Late<U> as Group>⟧.state self.now t) }
+    {
+        &self.unit
+    }
 }
 
 impl<U: Unit> Group for Late<U> {
