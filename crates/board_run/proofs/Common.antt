@@ -42,7 +42,7 @@ pub use Rattle.law_board.specs.Stretch.{IsStretch}
 pub use Rattle.net_resolve.specs.Marked.{has}
 pub use Rattle.net_resolve.proofs.ReachLemmas.{any_at, any_some}
 pub use Rattle.event_queue.proofs.TreeLemmas.{set_same}
-pub use Rattle.board_run.specs.Changes.{LastTells, Tells, HasEvent}
+pub use Rattle.board_run.specs.Changes.{LastTells, Tells, HasEvent, StaysSame}
 pub use Rattle.board_run.specs.ReadingView.{ReadingView, IsTold, retold, reread, shown_at, Suits, levels_on, pin_flags, IsOf, AreDiffering, shown, HasAt, Put}
 pub use Rattle.board_run.specs.ReadingView.{Gathered, AreStill}
 pub use Rattle.board_run.specs.Lagging.{glided, Replaced, Shifted, to_wake, MayTurn, Awaits, Turns, AreDue, AreLate, is_at, MayTurnAt, turned, HadTurn}

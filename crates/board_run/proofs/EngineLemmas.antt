@@ -1,12 +1,13 @@
 -- What an engine did on its way: ways follow on each other, and nothing is shown while it passes over cycles.
-use Rattle.board_run.proofs.Common.{◌≡◌, ◌++◌, ℕ, ◌+◌, ◌-◌, ◌<◌, ◌≤◌, ◌∙◌, List, [], Bool, true, false, refl, ap, sym, arith, subst, inl, inr, Row}
-use Rattle.board_run.proofs.Common.{StopsWithin, MOST_CYCLES, Wiring, Input, Laws, LastTells, slice_get, slice_index, Some, input_at, some_same, NetsView}
+use Rattle.board_run.proofs.Common.{◌≡◌, ◌++◌, ◌∷◌, suc, ℕ, ◌+◌, ◌-◌, ◌<◌, ◌≤◌, ◌∙◌, List, [], Bool, true, false, refl, ap, sym, arith, subst, inl, inr, Row}
+use Rattle.board_run.proofs.Common.{StopsWithin, MOST_CYCLES, Wiring, Input, Laws, LastTells, StaysSame, slice_get, slice_index, Some, input_at, some_same, NetsView}
 use Rattle.board_run.proofs.Common.{PartSet, has_part, to_wake, Replaced, Suits, levels_on, shown_at, wiring_of, kept_of, given, states_of, rows_to, bytes_to, IsNext}
 use Rattle.board_run.proofs.Common.{Watches, MayRun, MayTurnPart, TurnedAt, MayTell, WentOn, Rests, Settled, FailedIn, Showed, Engine}
 use Rattle.sim_base.specs.declared.bench.WriteEnd.{WriteEnd}
 use Rattle.sim_base.specs.declared.bench.WriteEnd.TheVariants as writes
 use Rattle.sim_base.specs.declared.watcher.Watcher.{Ghosts as Watching}
 use Rattle.part_law.specs.declared.part.Part.{Ghosts}
+use Rattle.board_model.specs.Board.{bytes, states}
 use Rattle.board_run.specs.declared.turn.Woken.{Woken}
 use Rattle.board_run.proofs.TurnLemmas.{turned_room, turned_still, turned_others, Placed, placed}
 use Rattle.board_run.proofs.HandLemmas.{handed_nothing, handed_then}
@@ -123,6 +124,33 @@ module _ {P : Type 0} (part : Ghosts P) (laws : Laws part.machine) where
         let same : e.cycle ≡ u = omega (arith, next.from, more) in
         rw (← same) (record { on = on_none e steps may; steady = λ (less : e.cycle < e.cycle). absurd (omega arith); stays = λ _. refl })
   ]
+
+  -- levels and drives stay up to there, and are the same in it
+  pub none_moved : (e : Engine P) (n u : ℕ) → MayRun part e → IsNext e n u → n ≤ MOST_CYCLES → StaysSame part.machine (wiring_of e) e.inputs (states_of part e) e.cycle (u + 1 - e.cycle)
+  unfolding states
+  none_moved e n u may next end = elim (below_or e.cycle u) [
+    | inl less ↦ (let j = jumps e n u 0 may next end less in j.1.still j.0)
+    | inr more ↦ λ t l. (let none : t ≡ 0 = omega (arith, more, l) in rw none (refl, refl))
+  ]
+
+  -- no byte comes up to there
+  pub none_sent : (e : Engine P) (n u : ℕ) → MayRun part e → IsNext e n u → n ≤ MOST_CYCLES → bytes_to part e u ≡ []
+  unfolding bytes
+  none_sent e n u may next end = elim (below_or e.cycle u) [
+    | inl less ↦ (jumps e n u 0 may next end less).1.byte_none
+    | inr more ↦ let none : u - e.cycle ≡ 0 = omega (arith, more) in rw none refl
+  ]
+
+  nil_front : (xs ys : List ℕ) → xs ++ ys ≡ [] → xs ≡ []
+  nil_front [] ys none = refl
+  nil_front (x ∷ xs) ys none = absurd (cc)
+
+  -- nor up to the cycle before
+  pub none_before : (e : Engine P) (u : ℕ) → e.cycle < u → bytes_to part e u ≡ [] → bytes_to part e (u - 1) ≡ []
+  unfolding bytes
+  none_before e u less none =
+      let last : u - e.cycle ≡ suc (u - 1 - e.cycle) = omega (arith, less) in
+      nil_front (bytes_to part e (u - 1)) _ (rw last at none)
 
   -- its parts are brought to where it is
   pub on_settled : (old mid new : Engine P) (steps more : ℕ) → WentOn part old mid steps more → Settled part mid new → WentOn part old (record mid { parts = new.parts; dues = new.dues }) steps more

@@ -3,9 +3,11 @@ use Rattle.board_run.proofs.Common.{◌≡◌, ℕ, zero, suc, ◌+◌, ◌-◌,
 use Rattle.board_run.proofs.Common.{◌∙◌, arith, subst, slice_get, slice_get_within, length-map, Wiring, Input, Machine, Laws, glide, idle, IsQuiet}
 use Rattle.board_run.proofs.Common.{glide_drives, glide_contacts, Fits, some_same, get_map_some, some_map, same_lists, flat_map_same, Alike, active_cycles}
 use Rattle.board_run.proofs.Common.{active_pairs, Stands, IsStretch, IsSteady, stands_shows, stands_holds, stands_valid, steady_states, steady_before}
-use Rattle.board_run.proofs.Common.{steady_cycles, quiet_dues, AreNone, LastTells, ReadingView, Suits, IsTold, shown_at, glided, AreDue, Kept, Lags, Leg}
+use Rattle.board_run.proofs.Common.{steady_cycles, quiet_dues, AreNone, LastTells, StaysSame, ReadingView, Suits, IsTold, shown_at, glided, AreDue, Kept, Lags, Leg}
 use Rattle.board_run.proofs.Common.{MOST_CYCLES}
-use Rattle.board_model.specs.Board.{input_at, drives_of, contacts_of, states, bytes}
+use Rattle.sim_base.specs.declared.signal.Drive.{Drive}
+use Rattle.board_model.specs.Resolve.{resolve}
+use Rattle.board_model.specs.Board.{input_at, drives_of, contacts_of, levels_of, states, bytes}
 use Rattle.board_model.specs.Rows.{chip_drives_of, shown_of, shown_before, rows}
 use Rattle.board_model.specs.Fresh.{AreFresh}
 use Rattle.law_board.proofs.StretchLaw.{stretch_states, stretch_rows, stretch_bytes, stretch_pairs}
@@ -16,6 +18,22 @@ use Rattle.board_run.proofs.TurnLemmas.{some_there, same_room}
 use Rattle.board_run.proofs.LagLemmas.{may_of, lags_stand, stand_are, lags_valid, lags_held, lags_shown, Ts}
 
 module _ {S : Type 0} (m : Machine S) where
+  -- where drives and contacts are the same, levels are
+  same_both : (w : Wiring) (xs ys : List S) → drives_of m xs ≡ drives_of m ys → contacts_of m xs ≡ contacts_of m ys → (levels_of m w xs ≡ levels_of m w ys) × (drives_of m xs ≡ drives_of m ys)
+  same_both w xs ys drives contacts = (
+    ap (λ (x : List Bool). resolve w.nets w.net_of w.contacts w.resistors x (drives_of m xs)) contacts
+        ∙ ap (λ (x : List Drive). resolve w.nets w.net_of w.contacts w.resistors (contacts_of m ys) x) drives,
+    drives,
+  )
+
+  -- in steady cycles they stay
+  pub steady_stays : (laws : Laws m) (w : Wiring) (inputs : List Input) (ss : List S) (c n : ℕ) → IsSteady m w inputs ss c n → StaysSame m w inputs ss c n
+  steady_stays laws w inputs ss c n steady = λ t l.
+      let like = steady_states m laws w inputs ss c n steady t (omega (arith, l)) in
+      same_both w (states m w inputs ss c t) ss
+      (flat_map_same m.drives (states m w inputs ss c t) ss (sym like.long) (λ k x y ex ey. rw (like.each k y x ey ex) ((steady.same k y ey).same_drives t l)))
+      (flat_map_same m.contacts (states m w inputs ss c t) ss (sym like.long) (λ k x y ex ey. rw (like.each k y x ey ex) ((steady.same k y ey).same_contacts t l)))
+
   -- gliding on from where it glided to
   pub glide_split : (s : S) (a x y : ℕ) → glide m s a (x + y) ≡ glide m (glide m s a x) (a + x) y
   glide_split s a x zero = let e : x + 0 ≡ x = omega arith in ap (glide m s a) e
@@ -186,6 +204,11 @@ module _ {S P : Type 0} (m : Machine S) (laws : Laws m) (w : Wiring) (state : P 
         let b = stays (u - t - 1) (omega arith) in
         record { same = λ _. (a.0 ∙ sym b.0, a.1 ∙ sym b.1); other = λ (one : false ≡ true). absurd cc }
 
+    pub jump_still : StaysSame m w inputs Js t (u + 1 - t)
+    jump_still = λ j l.
+        let s = stays j (omega (arith, l, order)) in
+        same_both m w (states m w inputs Js t j) Js s.0 s.1
+
     pub jump_lags : Lags m w state now wakes u parts kept
     jump_lags = record {
       few = lags.few;
@@ -208,6 +231,7 @@ module _ {S P : Type 0} (m : Machine S) (laws : Laws m) (w : Wiring) (state : P 
     pub byte_none : bytes m w inputs (Ts m laws w state now wakes t parts) t (u - t) ≡ []
     pub rests : kept.changed ≡ false → IsSteady m w inputs (Ts m laws w state now wakes t parts) t (u - t)
     pub tells : kept.changed ≡ false → LastTells m w inputs false (Ts m laws w state now wakes t parts) t (u - t)
+    pub still : kept.changed ≡ false → StaysSame m w inputs (Ts m laws w state now wakes t parts) t (u + 1 - t)
     pub lags : Lags m w state now wakes u parts kept
 
   pub jumps_to : (t u : ℕ) (parts : List P) (kept : Kept) (steps : ℕ) → Lags m w state now wakes t parts kept → 0 < t → t ≤ u → u ≤ MOST_CYCLES → (kept.changed ≡ true → u ≡ t) →
@@ -229,6 +253,7 @@ module _ {S P : Type 0} (m : Machine S) (laws : Laws m) (w : Wiring) (state : P 
             byte_none = rw none refl;
             rests = λ f. absurd cc;
             tells = λ f. absurd cc;
+            still = λ f. absurd cc;
             lags = lags;
           } in
           rw (stays e) here
@@ -238,6 +263,7 @@ module _ {S P : Type 0} (m : Machine S) (laws : Laws m) (w : Wiring) (state : P 
         byte_none = jump_bytes t u parts kept lags e after order quiet silent;
         rests = λ _. steady t u parts kept lags e after order quiet silent;
         tells = λ _. jump_tells t u parts kept lags e after order quiet silent;
+        still = λ _. jump_still t u parts kept lags e after order quiet silent;
         lags = jump_lags t u parts kept lags e after order quiet silent;
       }
 

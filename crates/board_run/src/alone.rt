@@ -1,9 +1,9 @@
 //! One part goes on by itself, while no other is due.
-ghost use Rattle.std.specs.Prelude.{◌≡◌, ◌-◌, ◌<◌, ◌≤◌, true};
+ghost use Rattle.std.specs.Prelude.{◌≡◌, ◌-◌, ◌<◌, ◌≤◌, [], true};
 ghost use Rattle.law_board.specs.Steady.{IsSteady};
 ghost use Rattle.board_run.specs.Lagging.{MayTurn};
 ghost use Rattle.board_run.specs.Legs.{WentBy};
-ghost use Rattle.board_run.specs.Engine.{wiring_of, MayRun, MayStretch, Watches, Showed, states_of};
+ghost use Rattle.board_run.specs.Engine.{wiring_of, MayRun, MayStretch, Watches, Showed, states_of, bytes_to};
 
 use crate::engine::Engine;
 use crate::hand::hand_byte;
@@ -47,6 +47,7 @@ impl<P: Part> Engine<P> {
         requires watches { Watches W.Watcher self.old out.old }
         ensures further { self.old.cycle < self.new.cycle }
         ensures within { self.new.cycle ≤ limit }
+        ensures silent { bytes_to P.Part self.old (self.new.cycle - 1) ≡ [] }
         ensures steady { IsSteady P.machine (wiring_of self.old) self.old.inputs (states_of P.Part self.old) self.old.cycle (self.new.cycle - self.old.cycle) }
         ensures showed { Showed P.Part W.Watcher result self.old self.new steps.old steps.new out.old out.new }
     {

@@ -1,6 +1,7 @@
 //! The engine of a board: it goes from one cycle in which something may happen to the next.
-ghost use Rattle.std.specs.Prelude.{◌≡◌, ◌+◌, ◌<◌, ◌≤◌};
-ghost use Rattle.board_run.specs.Engine.{MayRun, Watches, Showed};
+ghost use Rattle.std.specs.Prelude.{◌≡◌, ◌+◌, ◌-◌, ◌<◌, ◌≤◌, []};
+ghost use Rattle.board_run.specs.Changes.{StaysSame};
+ghost use Rattle.board_run.specs.Engine.{MayRun, Watches, Showed, bytes_to, states_of, wiring_of};
 
 use crate::hand::{forget, hand_sent};
 use crate::reading::Reading;
@@ -53,8 +54,9 @@ impl<P: Part> Engine<P> {
         WriteEnd::Ok
     }
 
-    /// Goes on by a stretch of one part that is alone, or to the next cycle in which something may happen, and by that one.
-    fn advance<W: Watcher, L: Ledger>(
+    /// Goes on by a stretch of one part that is alone, or to the next cycle in which something may happen, and by that one. Only
+    /// its last cycle brings bytes, and levels and drives are the same in all.
+    pub(crate) fn advance<W: Watcher, L: Ledger>(
         &mut self,
         n: u64,
         out: &mut W,
@@ -66,6 +68,8 @@ impl<P: Part> Engine<P> {
         requires watches { Watches W.Watcher self.old out.old }
         ensures further { self.old.cycle < self.new.cycle }
         ensures within { self.new.cycle ≤ n }
+        ensures silent { bytes_to P.Part self.old (self.new.cycle - 1) ≡ [] }
+        ensures still { StaysSame P.machine (wiring_of self.old) self.old.inputs (states_of P.Part self.old) self.old.cycle (self.new.cycle - self.old.cycle) }
         ensures showed { Showed P.Part W.Watcher result self.old self.new steps.old steps.new out.old out.new }
     {
         match self.find_alone(n) {
@@ -88,6 +92,8 @@ impl<P: Part> Engine<P> {
         requires watches { Watches W.Watcher self.old out.old }
         ensures further { self.old.cycle < self.new.cycle }
         ensures within { self.new.cycle ≤ n }
+        ensures silent { bytes_to P.Part self.old (self.new.cycle - 1) ≡ [] }
+        ensures still { StaysSame P.machine (wiring_of self.old) self.old.inputs (states_of P.Part self.old) self.old.cycle (self.new.cycle - self.old.cycle) }
         ensures showed { Showed P.Part W.Watcher result self.old self.new steps.old steps.new out.old out.new }
     {
         self.skip(n);

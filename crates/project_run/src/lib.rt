@@ -10,4 +10,4 @@ mod running;
 
 pub use counting::count_board;
 pub use playing::{Loaded, write_run};
-pub use running::{Contents, make_head, run_board};
+pub use running::{Contents, load_board, make_head, run_board};

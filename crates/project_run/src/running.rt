@@ -43,7 +43,7 @@ pub struct Contents<'a> {
 }
 
 /// Loads the board of a plan with these contents, and makes the head of its wave.
-pub(crate) fn load_board(
+pub fn load_board(
     alloc: Global,
     contents: Contents<'_>,
     plan: Plan,

@@ -1,8 +1,8 @@
 -- What a writer stands for, one call further.
-use Rattle.std.proofs.Common.{◌≡◌, ◌+◌, ◌≤◌, nat_le, ℕ, List, [], ◌∷◌, ◌++◌, Bool, true, false, not, ◌&&◌, ◌||◌, Option, None, Some, refl, ap, sym, ◌∙◌, arith}
+use Rattle.std.proofs.Common.{◌≡◌, ◌+◌, ◌-◌, ◌≤◌, length, nat_le, ℕ, List, [], ◌∷◌, ◌++◌, Bool, true, false, not, ◌&&◌, ◌||◌, Option, None, Some, refl, ap, sym, ◌∙◌, arith}
 use Rattle.std.specs.Prelude.{IsSome}
 use Rattle.std.proofs.lemmas.Bool.Decides.{nat_tests}
-use Rattle.std.proofs.lemmas.List.{append_assoc, append-nil}
+use Rattle.std.proofs.lemmas.List.{append_assoc, append-nil, length-append}
 use Rattle.sim_base.specs.declared.bench.Port.{Port}
 use Rattle.sim_base.specs.declared.bench.Port.TheVariants as ports
 use Rattle.sim_base.specs.declared.bench.WriteEnd.{WriteEnd}
@@ -231,3 +231,15 @@ after_still s h k rows row e f = rw (f, e) (after_more s rows row)
 pub writes_more : (end : WriteEnd) (wave serial : Bool) (t u bytes : List ℕ) (a m b : Outside) → Leaves (texts wave serial t bytes) a m → Writes end (texts wave false u []) m b → Writes end (texts wave serial (t ++ u) bytes) a b
 writes_more writes.Ok = leaves_more
 writes_more writes.Failed = breaks_off
+
+-- the length of the text, one row more
+pub text_longer : (s h : HeadState) (rows : List Row) (row : Row) (count longer : ℕ) → h ≡ after_row s row → IsAfter s rows → count ≡ capped (length (begun_text s.variables rows)) → longer ≡ length h.text - length s.text →
+    capped (count + longer) ≡ capped (length (begun_text h.variables (rows ++ row ∷ [])))
+text_longer s h rows row count longer e follows long is =
+    let sum : length h.text ≡ length s.text + length (row_text s row) = ap (λ (x : HeadState). length x.text) e ∙ length-append s.text (row_text s row) in
+    let more : longer ≡ length (row_text s row) = omega (arith, sum, is) in
+    let all : length (begun_text s.variables (rows ++ row ∷ [])) ≡ length (begun_text s.variables rows) + length (row_text s row) =
+    ap length (begun_more s rows row follows) ∙ length-append (begun_text s.variables rows) (row_text s row) in
+    let same : length (begun_text h.variables (rows ++ row ∷ [])) ≡ length (begun_text s.variables (rows ++ row ∷ [])) =
+    ap (λ (x : HeadState). length (begun_text x.variables (rows ++ row ∷ []))) e in
+    capped_more (length (begun_text s.variables rows)) longer count long ∙ ap capped (ap (λ (n : ℕ). length (begun_text s.variables rows) + n) more ∙ sym all ∙ sym same)

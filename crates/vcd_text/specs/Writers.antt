@@ -13,11 +13,12 @@ use Rattle.vcd_text.specs.declared.writer.WaveWriter.{WaveWriter}
 use Rattle.vcd_text.specs.declared.writer.WaveMark.{WaveMark}
 
 -- What no call of a writer changes: the references that it holds, to the environment and to its head, the environment as it
--- was lent, and what it is to write.
+-- was lent, the requests that are still to be read, and what it is to write.
 pub record Tied : Type 0 where
   pub reference : ℕ
   pub keeps : ℕ
   pub start : Outside
+  pub requests : Option (List (List ℕ))
   pub variables : List Variable
   pub wave : Bool
   pub serial : Bool
@@ -45,6 +46,7 @@ place_of outside w = record {
   reference = w.bench.ghost_name;
   keeps = w.head.ghost_name;
   start = outside w.start.now.value;
+  requests = (outside w.bench.now).requests;
   variables = w.head.now.variables;
   wave = w.wave;
   serial = w.serial;
@@ -63,13 +65,14 @@ pub record WriterState : Type 0 where
   pub last : ℕ
   pub changes : ℕ
   pub sent : ℕ
+  pub text_length : ℕ
 
 abbrev pub state_of : {B : Type 0} → WaveWriter B → WriterState
-state_of w = record { head = w.head.now; wave = w.wave; serial = w.serial; whole = w.whole; last = w.last; changes = w.changes; sent = w.sent }
+state_of w = record { head = w.head.now; wave = w.wave; serial = w.serial; whole = w.whole; last = w.last; changes = w.changes; sent = w.sent; text_length = w.text_length }
 
 -- a whole writer by its head and its mark
 abbrev pub marked : HeadState → WaveMark → WriterState
-marked head mark = record { head = head; wave = mark.wave; serial = mark.serial; whole = true; last = mark.last; changes = mark.changes; sent = mark.sent }
+marked head mark = record { head = head; wave = mark.wave; serial = mark.serial; whole = true; last = mark.last; changes = mark.changes; sent = mark.sent; text_length = mark.text_length }
 
 abbrev pub last_by : WriterState → Option ℕ
 last_by s = if s.head.started then Some s.last else None
@@ -109,6 +112,7 @@ pub record StandsBy (s : WriterState) (start now : Outside) (rows : List Row) (b
   pub follows : looks_at_rows s.wave s.serial ≡ true → IsAfter s.head rows
   pub changed : s.wave ≡ false → s.serial ≡ false → s.changes ≡ capped (wave_count s.head.variables rows)
   pub sent : s.serial ≡ false → s.sent ≡ capped (length bytes)
+  pub long : looks_at_rows s.wave s.serial ≡ true → s.text_length ≡ capped (length (begun_text s.head.variables rows))
 
 abbrev pub Stands : {B : Type 0} → (B → Outside) → WaveWriter B → List Row → List ℕ → Type 0
 Stands outside w rows bytes = StandsBy (state_of w) (outside w.start.now.value) (outside w.bench.now) rows bytes

@@ -145,7 +145,8 @@ impl WaveHead {
         })
     }
 
-    pub(crate) fn variables(&self) -> &[Variable]
+    /// The variables in their order.
+    pub fn variables(&self) -> &[Variable]
         ensures { variables_of result.now ≡ self.now.variables }
     {
         self.variables.as_slice()

@@ -23,5 +23,6 @@ mod writer;
 pub use head::WaveHead;
 pub use read::read_wave;
 pub use tracks::DriveRows;
+pub use value::value_of;
 pub use variable::{Source, Variable};
 pub use writer::{WaveMark, WaveWriter};

@@ -80,6 +80,20 @@ pub(crate) fn of_source(shows: Source, row: &Row) -> u8
     }
 }
 
+/// The value of a variable that shows this, in a cycle with these levels and drives.
+pub fn value_of(shows: Source, levels: &[Level], drives: &[Drive]) -> u8
+    ensures { result ≡ shown_value levels.now drives.now (source_of shows) }
+{
+    of_source(
+        shows,
+        &Row {
+            cycle: 0,
+            levels,
+            drives,
+        },
+    )
+}
+
 /// Puts the value of each variable at its place.
 #[inline(never)]
 pub fn fill_values(variables: &[Variable], row: &Row, now: &mut [u8])

@@ -30,6 +30,7 @@ pub struct WaveWriter<'a, B: Bench> {
     last: u64,
     changes: u64,
     sent: u64,
+    text_length: u64,
 }
 
 /// What a writer that is laid aside keeps beside its head.
@@ -40,11 +41,22 @@ pub struct WaveMark {
     last: u64,
     changes: u64,
     sent: u64,
+    text_length: u64,
+}
+
+impl WaveMark {
+    /// How long the text of the rows is, where rows are looked at; a number that reaches 2^64 - 1 stays there.
+    pub fn text_length(self) -> u64
+        ensures { result ≡ self.text_length }
+    {
+        self.text_length
+    }
 }
 
 fn write_wave<B: Bench>(wanted: bool, text: &[u8], bench: &mut B) -> WriteEnd
     requires { wanted ≡ true → (B.outside bench.old).opened Port.Wave ≡ true }
-    ensures { Writes result (texts wanted false text.now []) (B.outside bench.old) (B.outside bench.new) }
+    ensures wrote { Writes result (texts wanted false text.now []) (B.outside bench.old) (B.outside bench.new) }
+    ensures requests { (B.outside bench.new).requests ≡ (B.outside bench.old).requests }
 {
     if !wanted || text.is_empty() {
         return WriteEnd::Ok;
@@ -60,6 +72,7 @@ fn pass_on<B: Bench>(first: bool, wanted: bool, head: &mut WaveHead, bench: &mut
     ensures room { length head.new.text ≤ gathered }
     ensures gone { (gone : List ℕ) × (gone ++ head.new.text ≡ head.old.text)
         × Writes result (texts wanted false gone []) (B.outside bench.old) (B.outside bench.new) }
+    ensures requests { (B.outside bench.new).requests ≡ (B.outside bench.old).requests }
 {
     if wanted && !first && head.has_room() {
         return WriteEnd::Ok;
@@ -69,13 +82,14 @@ fn pass_on<B: Bench>(first: bool, wanted: bool, head: &mut WaveHead, bench: &mut
     end
 }
 
-fn write_serial<B: Bench>(wanted: bool, byte: u8, bench: &mut B) -> WriteEnd
-    ensures { Writes result (texts false wanted [] (byte ∷ [])) (B.outside bench.old) (B.outside bench.new) }
+fn write_serial<B: Bench>(wanted: bool, bytes: &[u8], bench: &mut B) -> WriteEnd
+    ensures wrote { Writes result (texts false wanted [] bytes.now) (B.outside bench.old) (B.outside bench.new) }
+    ensures requests { (B.outside bench.new).requests ≡ (B.outside bench.old).requests }
 {
     if !wanted {
         return WriteEnd::Ok;
     }
-    bench.write(Port::Serial, &[byte])
+    bench.write(Port::Serial, bytes)
 }
 
 /// Whether rows are looked at: they are written, or counted.
@@ -131,7 +145,10 @@ impl<'a, B: Bench> Watcher for WaveWriter<'a, B> {
             return WriteEnd::Ok;
         }
         let first = !self.head.has_started();
+        let before = self.head.text().len();
         let more = self.head.take_row(t, levels, drives, changed);
+        let longer = self.head.text().len().saturating_sub(before);
+        self.text_length = self.text_length.saturating_add(longer as u64);
         self.changes = counted(self.changes, self.wave, more);
         self.last = t;
         let end = pass_on(first, self.wave, self.head, self.bench);
@@ -141,7 +158,7 @@ impl<'a, B: Bench> Watcher for WaveWriter<'a, B> {
 
     fn byte(&mut self, b: u8) -> WriteEnd {
         self.sent = counted(self.sent, self.serial, 1);
-        let end = write_serial(self.serial, b, self.bench);
+        let end = write_serial(self.serial, &[b], self.bench);
         self.whole = is_ok(end);
         end
     }
@@ -163,6 +180,7 @@ impl<'a, B: Bench> WaveWriter<'a, B> {
           reference = bench.entry.ghost_name;
           keeps = head.entry.ghost_name;
           start = B.outside bench.old;
+          requests = (B.outside bench.old).requests;
           variables = head.old.variables;
           wave = wave;
           serial = serial;
@@ -182,6 +200,7 @@ impl<'a, B: Bench> WaveWriter<'a, B> {
             last: 0,
             changes: 0,
             sent: 0,
+            text_length: 0,
         }
     }
 
@@ -196,6 +215,7 @@ impl<'a, B: Bench> WaveWriter<'a, B> {
             last: self.last,
             changes: self.changes,
             sent: self.sent,
+            text_length: self.text_length,
         }
     }
 
@@ -213,6 +233,7 @@ impl<'a, B: Bench> WaveWriter<'a, B> {
           reference = bench.entry.ghost_name;
           keeps = head.entry.ghost_name;
           start = B.outside start.now.value;
+          requests = (B.outside bench.old).requests;
           variables = head.old.variables;
           wave = (marked head.old mark).wave;
           serial = (marked head.old mark).serial;
@@ -228,7 +249,24 @@ impl<'a, B: Bench> WaveWriter<'a, B> {
             last: mark.last,
             changes: mark.changes,
             sent: mark.sent,
+            text_length: mark.text_length,
         }
+    }
+
+    /// Writes more bytes on a wanted Serial, all at once.
+    pub fn send(&mut self, bytes: &[u8]) -> WriteEnd
+        requires { is_whole B.outside self.old ≡ true }
+        ensures ok { result ≡ WriteEnd.Ok → Handed (is_whole B.outside) (faults_of B.outside) (Stands B.outside) self.old self.new [] bytes.now }
+        ensures failed { result ≡ WriteEnd.Failed → Rose (faults_of B.outside self.old) (faults_of B.outside self.new)
+            × Appends (Stands B.outside self.old) (HasStopped B.outside self.new) [] bytes.now }
+        ensures head { (state_of self.new).head ≡ (state_of self.old).head }
+        ensures last { last_of self.new ≡ last_of self.old }
+        ensures place { place_of B.outside self.new ≡ place_of B.outside self.old }
+    {
+        self.sent = counted(self.sent, self.serial, bytes.len() as u64);
+        let end = write_serial(self.serial, bytes, self.bench);
+        self.whole = is_ok(end);
+        end
     }
 
     /// Writes what is kept of a wanted Wave, so that it has the text of all rows so far.

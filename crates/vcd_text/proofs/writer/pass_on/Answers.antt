@@ -7,5 +7,5 @@ pub returns-clause-gone : goal.returns-clause-gone
 returns-clause-gone g c = (
   c.text.result.now,
   ap (λ (l : List ℕ). c.text.result.now ++ l) (ap (λ (h : HeadState). h.text) c.clear.ensures) ∙ append-nil c.text.result.now ∙ c.text.ensures,
-  c.write_wave-end.ensures,
+  c.write_wave-end.ensures.wrote,
 )

@@ -8,8 +8,8 @@ pub invariant_of-self : goal.invariant_of-self
 invariant_of-self g c =
     let e = c.run.ensures in
     let alive = ap (λ (v : LiveView g.row.P.Denot). v.over) c.self.view_is ∙ c.requires.alive in
-    let order = subst (λ (v : LiveView g.row.P.Denot). v.cycle ≤ c.args.n) (sym c.self.view_is) c.requires.order in
-    played_on g.P.Part c.self.inside.start.value c.self.inside.board c.run.new.self c.args.n c.run.result c.self.invariant alive order e.wiring e.inputs e.cycle e.given_up e.states e.before
+    let further : c.self.inside.board.cycle < c.args.n = omega (arith, c.cycle.ensures.value) in
+    played_on g.P.Part c.self.inside.start.value c.self.inside.board c.run.new.self c.args.n c.run.result c.self.invariant alive further e.wiring e.inputs e.cycle e.given_up e.states e.before e.changed
 
 pub returns-clause-follows : goal.returns-clause-follows
 returns-clause-follows g c = λ is.

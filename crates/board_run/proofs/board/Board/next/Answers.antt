@@ -3,7 +3,7 @@ use Rattle.board_run.proofs.StretchLemmas.{stretch_until, unchanged, neither, ev
 use Rattle.board_run.proofs.board.Board.next.Goals as goal
 
 pub next_cycle-requires-clause-within : goal.next_cycle-requires-clause-within
-next_cycle-requires-clause-within g c = subst (λ (t : ℕ). t ≤ _) (sym (ap (λ (v : BoardView g.row.P.Denot). v.cycle) c.self.view_is)) c.requires.end
+next_cycle-requires-clause-within g c = c.self.invariant.end
 
 pub returns : goal.returns
 returns g c =

@@ -1,4 +1,5 @@
-use Rattle.board_run.proofs.Common.{◌<◌, subst, sym, arith, MayRun, MayStretch, Watches, Showed, Engine}
+use Rattle.board_run.proofs.Common.{◌≡◌, ◌-◌, ◌<◌, [], subst, sym, arith, MayRun, MayStretch, Watches, Showed, StaysSame, Engine, bytes_to, states_of, wiring_of}
+use Rattle.board_run.proofs.LegLemmas.{steady_stays}
 use Rattle.board_run.proofs.engine.Engine.advance.Goals as goal
 
 pub stretch-requires : goal.stretch-requires
@@ -18,6 +19,9 @@ returns-in-Some g c =
     let e = c.stretch.ensures in
     record {
       further = subst (λ (e : Engine g.row.P.Denot). e.cycle < new.self.cycle) c.find_alone.ensures.same e.further;
+      silent = subst (λ (e : Engine g.row.P.Denot). bytes_to g.P.Part e (new.self.cycle - 1) ≡ []) c.find_alone.ensures.same e.silent;
+      still = subst (λ (e : Engine g.row.P.Denot). StaysSame g.P.Part.machine (wiring_of e) e.inputs (states_of g.P.Part e) e.cycle (new.self.cycle - e.cycle)) c.find_alone.ensures.same
+          (steady_stays g.P.Part.machine g.met.P.Part.laws _ _ _ _ _ e.steady);
       within = omega (arith, e.within, (c.find_alone.ensures.alone (c.in-Some.who, c.in-Some.limit) c.in-Some.is).within);
       showed = subst (λ (e : Engine g.row.P.Denot). Showed g.P.Part g.W.Watcher c.stretch.result e new.self c.args.steps.now new.steps c.args.out.now new.out) c.find_alone.ensures.same e.showed;
     }
@@ -39,5 +43,7 @@ returns-in-None g c =
     record {
       further = subst (λ (e : Engine g.row.P.Denot). e.cycle < new.self.cycle) c.find_alone.ensures.same e.further;
       within = e.within;
+      still = subst (λ (e : Engine g.row.P.Denot). StaysSame g.P.Part.machine (wiring_of e) e.inputs (states_of g.P.Part e) e.cycle (new.self.cycle - e.cycle)) c.find_alone.ensures.same e.still;
+      silent = subst (λ (e : Engine g.row.P.Denot). bytes_to g.P.Part e (new.self.cycle - 1) ≡ []) c.find_alone.ensures.same e.silent;
       showed = subst (λ (e : Engine g.row.P.Denot). Showed g.P.Part g.W.Watcher c.next_event.result e new.self c.args.steps.now new.steps c.args.out.now new.out) c.find_alone.ensures.same e.showed;
     }

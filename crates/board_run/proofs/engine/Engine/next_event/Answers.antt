@@ -1,5 +1,5 @@
-use Rattle.std.proofs.Common.{arith}
-use Rattle.board_run.proofs.EngineLemmas.{showed_passed, showed_then, watches_on}
+use Rattle.std.proofs.Common.{◌≡◌, ◌+◌, ◌-◌, ◌<◌, arith}
+use Rattle.board_run.proofs.EngineLemmas.{showed_passed, showed_then, watches_on, none_sent, none_before, none_moved}
 use Rattle.board_run.proofs.engine.Engine.next_event.Goals as goal
 
 pub skip-requires : goal.skip-requires
@@ -30,6 +30,12 @@ returns-then-self-n g c =
     record {
       further = omega (arith, next.from, on.cycle);
       within = omega (arith, c.if-self-n.true, on.cycle);
+      silent =
+          let here : c.event.new.self.cycle - 1 ≡ mid.cycle = omega (arith, on.cycle) in
+          rw here (none_sent g.P.Part g.met.P.Part.laws e c.args.n mid.cycle c.requires.may next c.requires.end);
+      still =
+          let here : c.event.new.self.cycle ≡ mid.cycle + 1 = on.cycle in
+          rw here (none_moved g.P.Part g.met.P.Part.laws e c.args.n mid.cycle c.requires.may next c.requires.end);
       showed = showed_then g.P.Part g.met.P.Part.laws g.W.Watcher c.event.result e mid c.event.new.self steps steps c.event.new.steps out out c.event.new.out passed (omega (arith, on.cycle)) on.showed;
     }
 
@@ -39,5 +45,11 @@ returns-else-self-n g c =
     record {
       further = omega (arith, c.requires.order, next.within, c.if-self-n.false);
       within = next.within;
+      silent =
+          let e = c.args.self.now in
+          let u = c.skip.new.self.cycle in
+          let further : e.cycle < u = omega (arith, c.requires.order, next.within, c.if-self-n.false) in
+          none_before g.P.Part g.met.P.Part.laws e u further (none_sent g.P.Part g.met.P.Part.laws e c.args.n u c.requires.may next c.requires.end);
+      still = λ t l. none_moved g.P.Part g.met.P.Part.laws c.args.self.now c.args.n c.skip.new.self.cycle c.requires.may next c.requires.end t (omega (arith, l));
       showed = showed_passed g.P.Part g.met.P.Part.laws g.W.Watcher c.args.self.now c.skip.new.self c.args.steps.now c.args.out.now c.args.n c.requires.may c.requires.watches next c.skip.ensures.rest c.requires.end;
     }

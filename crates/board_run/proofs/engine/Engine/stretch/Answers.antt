@@ -77,6 +77,10 @@ returns g c =
     record {
       further = w.ensures.further;
       within = w.ensures.within;
+      silent =
+          went.bytes_are (w.result.to - 1 - e.cycle) before
+          ∙ ap (λ (n : ℕ). sent p.machine (glided p.machine p.state p.now p.wakes e.cycle c.item_mut.result.now) e.cycle n) last
+          ∙ w.ensures.silent;
       steady = went.steady;
       showed = subst (λ (x : Engine g.row.P.Denot). Showed p o hand.result e (record x { changed = c.tell-self.result; cycle = w.result.to }) c.args.steps.now w.new.steps c.args.out.now hand.new.out) (sym same) (record {
         on = record {

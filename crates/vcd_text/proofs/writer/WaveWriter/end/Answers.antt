@@ -18,12 +18,12 @@ returns-clause-ends g c = λ rows bytes stood.
     let all : stood.gone ++ c.text.result.now ≡ begun_text w.head.now.variables rows ++ time_line c.args.n =
     ap (λ (l : List ℕ). stood.gone ++ l) text ∙ sym (append_assoc stood.gone w.head.now.text (time_line c.args.n)) ∙ ap (λ (l : List ℕ). l ++ time_line c.args.n) stood.kept in
     subst (λ (l : List ℕ). Writes c.write_wave.result (texts w.wave w.serial l bytes) (outside w.start.now.value) (outside c.write_wave.new.bench)) all
-    (writes_more c.write_wave.result w.wave w.serial stood.gone c.text.result.now bytes (outside w.start.now.value) (outside w.bench.now) (outside c.write_wave.new.bench) stood.leaves c.write_wave.ensures)
+    (writes_more c.write_wave.result w.wave w.serial stood.gone c.text.result.now bytes (outside w.start.now.value) (outside w.bench.now) (outside c.write_wave.new.bench) stood.leaves c.write_wave.ensures.wrote)
 
 pub returns-clause-failed : goal.returns-clause-failed
 returns-clause-failed g c = λ e.
     let outside = g.B.Bench.outside in
     let w = c.args.self.now in
     let broke : BreaksOff (texts w.wave false c.text.result.now []) (outside w.bench.now) (outside c.write_wave.new.bench) =
-    rw e at c.write_wave.ensures in
+    rw e at c.write_wave.ensures.wrote in
     sum_rose w.wave c.text.result.now (outside w.bench.now) (outside c.write_wave.new.bench) broke

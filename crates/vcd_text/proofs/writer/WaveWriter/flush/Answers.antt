@@ -12,7 +12,7 @@ returns-clause-ok g c = λ e.
     let w = c.args.self.now in
     let s = w.head.now in
     let after = c.write_wave-end.new.bench in
-    let written : Leaves (texts w.wave false c.text.result.now []) (outside w.bench.now) (outside after) = rw e at c.write_wave-end.ensures in
+    let written : Leaves (texts w.wave false c.text.result.now []) (outside w.bench.now) (outside after) = rw e at c.write_wave-end.ensures.wrote in
     let wrote : Leaves (texts w.wave false s.text []) (outside w.bench.now) (outside after) =
     subst (λ (t : List ℕ). Leaves (texts w.wave false t []) (outside w.bench.now) (outside after)) c.text.ensures written in
     record {
@@ -27,5 +27,6 @@ returns-clause-ok g c = λ e.
         follows = stood.follows;
         changed = stood.changed;
         sent = stood.sent;
+        long = stood.long;
       });
     }

@@ -14,4 +14,5 @@ returns-clause-stands g c = record {
   follows = λ e. ap (λ (s : HeadState). s.started) c.restart.ensures;
   changed = λ e f. refl;
   sent = λ e. refl;
+  long = λ e. refl;
 }

@@ -1,11 +1,12 @@
-use Rattle.std.proofs.Common.{◌≡◌, ◌∙◌, ℕ, List, [], ◌∷◌, ◌++◌, length, false, arith, refl, ap, sym}
+use Rattle.std.proofs.Common.{◌≡◌, ◌∙◌, ◌+◌, ◌-◌, ℕ, List, [], ◌∷◌, ◌++◌, length, false, arith, refl, ap, sym}
 use Rattle.std.proofs.lemmas.List.{append-nil}
 use Rattle.sim_base.specs.declared.bench.Port.TheVariants as ports
 use Rattle.sim_base.specs.Rows.{Row}
 use Rattle.text_model.specs.Wave.{begun_text}
 use Rattle.vcd_text.specs.Heads.{HeadState}
 use Rattle.vcd_text.specs.Ports.{texts, Leaves, BreaksOff}
-use Rattle.vcd_text.proofs.WriterLemmas.{both_ways, counts_look, unseen_wave, leaves_more, breaks_off, sum_rose, after_still, whole_still, whole_room, changed_more, kept_more, whole_front}
+use Rattle.vcd_text.specs.Writers.{capped}
+use Rattle.vcd_text.proofs.WriterLemmas.{text_longer, both_ways, counts_look, unseen_wave, leaves_more, breaks_off, sum_rose, after_still, whole_still, whole_room, changed_more, kept_more, whole_front}
 use Rattle.vcd_text.proofs.CallerLemmas.{breaks_within}
 use Rattle.vcd_text.proofs.ChainLemmas.{seen_after}
 use Rattle.vcd_text.proofs.writer.WaveWriterWatcher.row.Goals as goal
@@ -54,6 +55,10 @@ returns-clause-ok g c = λ e.
         changed = λ unwanted silent. rw (c.counted-self.ensures, unwanted, p.ensures.rest, c.take_row-more.ensures.text)
             (changed_more s rows row w.changes c.take_row-more.result (stood.follows looks) c.take_row-more.ensures.count (stood.changed unwanted silent));
         sent = rw (append-nil bytes) stood.sent;
+        long = λ _.
+            let longer : ℕ = length h.text - length s.text in
+            let grown : capped (w.text_length + longer) ≡ c.saturating_add-self.result = omega (arith, c.saturating_add-self.ensures, c.saturating_sub-longer.ensures, ap (λ (l : List ℕ). length l) c.text.ensures, ap (λ (l : List ℕ). length l) c.text-before.ensures) in
+            rw p.ensures.rest (sym grown ∙ text_longer s h rows row w.text_length longer c.take_row-more.ensures.text (stood.follows looks) (stood.long looks) refl);
       };
     }
 
@@ -97,5 +102,6 @@ returns-then-not-looks_at_rows-clause-ok g c = λ e.
         follows = λ looks. absurd (both_ways w.wave w.serial looks blind);
         changed = λ unwanted silent. absurd (counts_look w.wave w.serial blind unwanted silent);
         sent = rw (append-nil bytes) stood.sent;
+        long = λ looks. absurd (both_ways w.wave w.serial looks blind);
       };
     }
