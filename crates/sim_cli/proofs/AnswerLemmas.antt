@@ -11,7 +11,7 @@ use Rattle.cli_project.proofs.ProjectLemmas.{one_check, check_only}
 use Rattle.sim_outcome_model.specs.Stop.{Missing, Texts}
 use Rattle.cli_module.specs.Answer.{ModuleAnswer}
 use Rattle.cli_words_model.specs.Request.{NamedBus, Request, Bare, Check, Module, Run, Replay, Twin, Make, Decode}
-use Rattle.sim_outcome_model.specs.Promises.{HoldsAnswer, IsOne}
+use Rattle.sim_outcome_model.specs.Promises.{HoldsAnswer, IsOne, IsOneStop}
 use Rattle.sim_outcome_model.proofs.PromiseLemmas.{holds_answer}
 use Rattle.law_oled.specs.OledRun.{AreShown}
 use Rattle.law_isolation.specs.ChipRun.{AreAlone}
@@ -27,7 +27,7 @@ use Rattle.cli_make.proofs.MakeLemmas.{one_make}
 use Rattle.cli_decode.proofs.AnswerLemmas.{one_decode, decode_wakes}
 use Rattle.board_outputs.specs.Run.{Outputs}
 use Rattle.cli_run.specs.Answer.{PlayAnswer, AnswerSuch}
-use Rattle.sim_cli.specs.Answers.{Answers, AnswersWith, AnswersSuch, RunBy, bus_of, first_line, outputs_to, second_line}
+use Rattle.sim_cli.specs.Answers.{Answers, AnswersWith, AnswersSuch, RunBy, bus_of, first_line, is_talk, outputs_to, second_line}
 use Rattle.sim_cli.specs.Promises.{Happens, HappensIsolated, HoldsPlay, HoldsAlone, HoldsWorlds, HoldsShown, Counts, CountsNone, CountsWakes}
 
 pub one : (r : Request) → IsOne (Answers r)
@@ -39,6 +39,9 @@ one (Replay folder wave us named) = one_replay folder wave us named.script (outp
 one (Twin folder other us budget) = one_twin folder other us budget
 one (Make seed us) = one_make seed us
 one (Decode wave bus) = one_decode wave (first_line bus) (second_line bus) (bus_of bus)
+
+pub one_stop : (r : Request) → IsOneStop (Answers r)
+one_stop r = let answer = one r in record { one_sided = answer.one_sided; one_stop = answer.one_stop }
 
 -- what answers are, the ports hold
 held_so : {R : Type 0} (one other : R → Answer) → ((r : R) (files : Files) (t : Texts) → one r files (Ok t) → other r files (Ok t)) →
@@ -57,7 +60,7 @@ with_run one other is _ files t e = e
 module _ (a b : Outside) (o : Outcome) (asked : Option Request) (happens : HappensIsolated o asked a b) where
   held : (other : RunBy) → ((r : Request) (files : Files) (t : Texts) → AnswersSuch Isolated r files (Ok t) → AnswersWith other ReplayAnswer r files (Ok t)) →
       HoldsAnswer (AnswersWith other ReplayAnswer) (status_of o) asked a b
-  held other is = held_so (AnswersSuch Isolated) (AnswersWith other ReplayAnswer) is (status_of o) asked a b (holds_answer (AnswersSuch Isolated) a b o asked happens)
+  held other is = held_so (AnswersSuch Isolated) (AnswersWith other ReplayAnswer) is (status_of o) asked a b (holds_answer (AnswersSuch Isolated) is_talk a b o asked happens)
 
   held_such : (IsSo : Fact) → Follows IsSo → HoldsAnswer (AnswersSuch IsSo) (status_of o) asked a b
   held_such IsSo follows = held (AnswerSuch IsSo) (with_run (AnswerSuch Isolated) (AnswerSuch IsSo) (such_answer IsSo follows))

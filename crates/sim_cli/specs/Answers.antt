@@ -1,5 +1,5 @@
 -- What each request is answered with: a line for each command.
-use Rattle.std.specs.Prelude.{ℕ, List, Option, None, Some, true, Result}
+use Rattle.std.specs.Prelude.{ℕ, List, Option, None, Some, Bool, true, false, Result}
 use Rattle.sim_base.specs.Outside.{Files}
 use Rattle.cli_words_model.specs.Request.{NamedBus, NamedFiles, Request, Bare, Check, Module, Run, Replay, Twin, Make, Decode, Uart, Spi, I2c}
 use Rattle.sim_outcome_model.specs.Stop.{Stop, Texts}
@@ -36,6 +36,10 @@ abbrev pub bus_of : NamedBus → Bus
 bus_of (Uart line bit) = buses.Uart bit
 bus_of (Spi clock line mode) = buses.Spi mode
 bus_of (I2c clock line) = buses.I2c
+
+-- whether a request is a conversation, which reads requests line by line: none is
+abbrev pub is_talk : Request → Bool
+is_talk request = false
 
 -- how `run` is answered, by its folder, microseconds, script, budget and outputs
 abbrev pub RunBy : Type 1

@@ -9,18 +9,18 @@ use Rattle.law_oled.specs.OledRun.{AreShown}
 use Rattle.law_isolation.specs.ChipRun.{AreAlone}
 use Rattle.law_isolation.specs.Worlds.{SeesDrivesAlone}
 use Rattle.law_isolation.specs.Isolated.{Isolated}
-use Rattle.sim_cli.specs.Answers.{Answers, PlayAnswers, AnswersSuch, RepeatAnswers}
+use Rattle.sim_cli.specs.Answers.{Answers, PlayAnswers, AnswersSuch, RepeatAnswers, is_talk}
 
 abbrev pub Happens : Outcome → Option Request → Outside → Outside → Type 0
-Happens = outcomes.Happens Answers
+Happens = outcomes.Happens Answers is_talk
 
 -- the same, where the chips of a run are isolated
 abbrev pub HappensIsolated : Outcome → Option Request → Outside → Outside → Type 0
-HappensIsolated = outcomes.Happens (AnswersSuch Isolated)
+HappensIsolated = outcomes.Happens (AnswersSuch Isolated) is_talk
 
 -- the same, where a replay of the wave that a run wrote has the texts of that run
 abbrev pub HappensRepeated : Outcome → Option Request → Outside → Outside → Type 0
-HappensRepeated = outcomes.Happens RepeatAnswers
+HappensRepeated = outcomes.Happens RepeatAnswers is_talk
 
 -- the count of wakes is that of the answer, where something is asked for
 abbrev pub Counts : Outcome → Option Request → Outside → ℕ → ℕ → Type 0
@@ -29,13 +29,13 @@ Counts outcome (Some r) a before after = outcomes.Counts (Answers r) outcome a b
 
 -- What a call of the program does: its status, Complaint and the other ports.
 abbrev pub Does : ℕ → List (List ℕ) → Outside → Outside → Type 0
-Does status words = outcomes.Does Answers (request_of words) status
+Does status words = outcomes.Does Answers is_talk (request_of words) status
 
 abbrev pub IsAnswered : ℕ → Option Request → Outside → Outside → Type 0
 IsAnswered = promises.IsAnswered Answers
 
 abbrev pub IsComplete : ℕ → Option Request → Outside → Outside → Type 0
-IsComplete = promises.IsComplete Answers
+IsComplete = promises.IsComplete Answers is_talk
 
 abbrev pub HoldsAnswer : ℕ → Option Request → Outside → Outside → Type 0
 HoldsAnswer = promises.HoldsAnswer Answers
@@ -73,6 +73,9 @@ IsTrueStop = promises.IsTrueStop Answers
 
 abbrev pub HoldsFront : ℕ → Option Request → Outside → Outside → Type 0
 HoldsFront = promises.HoldsFront Answers
+
+abbrev pub ComplainsAlone : ℕ → Option Request → Outside → Outside → Type 0
+ComplainsAlone = promises.ComplainsAlone is_talk
 
 abbrev pub CountsWakes : ℕ → Option Request → Outside → ℕ → ℕ → Type 0
 CountsWakes = promises.CountsWakes Answers

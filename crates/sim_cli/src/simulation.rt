@@ -2,10 +2,10 @@
 ghost use Rattle.std.specs.Prelude.{◌≡◌, map, string_bytes};
 ghost use Rattle.cli_words_model.specs.Request.{request_of, Decode};
 ghost use Rattle.sim_outcome_model.specs.Happens.{Ends};
-ghost use Rattle.sim_outcome_model.specs.Promises.{WordsAlone, HasCause, ComplainsAlone, IsStatus};
+ghost use Rattle.sim_outcome_model.specs.Promises.{WordsAlone, HasCause, IsStatus};
 ghost use Rattle.sim_outcome_model.specs.Work.{SaidNothing};
 ghost use Rattle.sim_cli.specs.Promises.{Happens, HappensIsolated, HappensRepeated, Counts, CountsNone, Does};
-ghost use Rattle.sim_cli.specs.Promises.{IsAnswered, IsComplete, HoldsAnswer, IsStopped, IsTrueStop, HoldsFront, CountsWakes};
+ghost use Rattle.sim_cli.specs.Promises.{IsAnswered, IsComplete, HoldsAnswer, IsStopped, IsTrueStop, HoldsFront, ComplainsAlone, CountsWakes};
 ghost use Rattle.sim_cli.specs.Promises.{HoldsPlay, HoldsAlone, HoldsWorlds, HoldsShown, HoldsRepeat};
 ghost use Rattle.sim_io.specs.Outcomes.{outcome_of};
 ghost use Rattle.cli_words.specs.Asked.{bus_by, named_by, IsNamedBus};
@@ -123,7 +123,7 @@ pub fn simulate<B: Bench, L: Ledger>(
     ensures front { HoldsFront result (request_of (map string_bytes words.now)) (B.outside bench.old) (B.outside bench.new) }
     ensures steps { CountsWakes result (request_of (map string_bytes words.now)) (B.outside bench.old) steps.old steps.new }
     ensures boardless { CountsNone (request_of (map string_bytes words.now)) steps.old steps.new }
-    ensures silent { ComplainsAlone result (B.outside bench.old) (B.outside bench.new) }
+    ensures silent { ComplainsAlone result (request_of (map string_bytes words.now)) (B.outside bench.old) (B.outside bench.new) }
 
     // And of a run, whatever its chips do: players may stand for them, each drives by its own pins alone,
     // and what they are made of is seen through their drives alone.

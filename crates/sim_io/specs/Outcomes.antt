@@ -13,6 +13,7 @@ outcome_of outcomes.NoRequest = ends.NoRequest
 outcome_of (outcomes.Missing name) = ends.Stopped (Missing (string_bytes name))
 outcome_of (outcomes.Refused name r) = ends.Stopped (Refused (string_bytes name) r)
 outcome_of (outcomes.ReadFailed name) = ends.ReadFailed (string_bytes name)
+outcome_of outcomes.RequestFailed = ends.RequestFailed
 outcome_of outcomes.WriteFailed = ends.WriteFailed
 outcome_of outcomes.OutOfMemory = ends.OutOfMemory
 

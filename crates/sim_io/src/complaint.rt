@@ -89,6 +89,11 @@ pub fn tell<B: Bench>(outcome: &WorkEnd, bench: &mut B) -> WriteEnd
             Port::Complaint,
             &[name.as_str().as_bytes(), b": read failed", b"\n"],
         ),
+        WorkEnd::RequestFailed => write_parts(
+            bench,
+            Port::Complaint,
+            &[b"standard input: read failed", b"\n"],
+        ),
         WorkEnd::WriteFailed => write_parts(bench, Port::Complaint, &[b"write failed", b"\n"]),
         WorkEnd::OutOfMemory => write_parts(bench, Port::Complaint, &[b"out of memory", b"\n"]),
     }

@@ -15,6 +15,8 @@ pub enum WorkEnd {
     Missing(String),
     Refused(String, Refusal),
     ReadFailed(String),
+    /// A line of requests could not be read.
+    RequestFailed,
     WriteFailed,
     OutOfMemory,
 }
@@ -52,7 +54,7 @@ pub fn status(outcome: &WorkEnd) -> u8
         WorkEnd::NoRequest => 2,
         WorkEnd::Refused(_, _) => 3,
         WorkEnd::Missing(_) => 4,
-        WorkEnd::ReadFailed(_) => 5,
+        WorkEnd::ReadFailed(_) | WorkEnd::RequestFailed => 5,
         WorkEnd::WriteFailed => 6,
         WorkEnd::OutOfMemory => 7,
     }

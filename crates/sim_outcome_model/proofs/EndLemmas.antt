@@ -1,5 +1,5 @@
 -- From the steps of a call to what it does.
-use Rattle.std.proofs.Common.{◌≡◌, ◌≢◌, ℕ, List, [], refl, ap, sym, ◌∙◌, Option, Some, None, Result, Ok, Err, inl, inr, IfSome}
+use Rattle.std.proofs.Common.{◌≡◌, ◌≢◌, ℕ, List, [], refl, ap, sym, ◌∙◌, Bool, true, false, Option, Some, None, Result, Ok, Err, inl, inr, IfSome}
 use Rattle.std.specs.Option.{option_map}
 use Rattle.std.specs.FinMap.{remove}
 use Rattle.sim_base.specs.declared.bench.Port.{Port}
@@ -7,9 +7,9 @@ use Rattle.sim_base.specs.declared.bench.Port.TheVariants as ports
 use Rattle.sim_base.specs.Outside.{Outside, SameOthers, SamePorts, Files, IsKept, IsNamed}
 use Rattle.sim_outcome_model.specs.Stop.{Stop, Missing, Output, Texts, report_alone}
 use Rattle.sim_outcome_model.specs.Work.{Reading, Is, ReadStops, RanOn, IsOneReading}
-use Rattle.sim_outcome_model.specs.Outcome.{Outcome, Accepted, NoRequest, Stopped, ReadFailed, WriteFailed, OutOfMemory, IsUntouched, IsOn, BeginsOn, Begin, status_of}
+use Rattle.sim_outcome_model.specs.Outcome.{Outcome, Accepted, NoRequest, Stopped, ReadFailed, RequestFailed, WriteFailed, OutOfMemory, IsUntouched, IsOn, BeginsOn, Begin, status_of}
 use Rattle.sim_outcome_model.specs.Promises.{IsOne, CountsWakes}
-use Rattle.sim_outcome_model.specs.Happens.{Answer, AnswerOf, Ends, Counts, EndsUnasked, Happens}
+use Rattle.sim_outcome_model.specs.Happens.{Answer, AnswerOf, Ends, EndsBy, Counts, EndsUnasked, Happens}
 use Rattle.sim_outcome_model.proofs.WriteLemmas.{grows_same, front_all}
 use Rattle.sim_outcome_model.proofs.ReadLemmas.{if_some, one_function, one_both}
 
@@ -149,6 +149,17 @@ module _ (a m b : Outside) (others : SameOthers ports.Complaint m b) where
   told_asked answer (ReadFailed name) quiet h = (h.0, rw others.reads h.1, λ p ne. untouched_on p ne (h.2 p ne))
   told_asked answer WriteFailed quiet h = rw (others.faults ports.Wave (λ e. cc), others.faults ports.Serial (λ e. cc), others.faults ports.Report (λ e. cc)) (h.0, begun answer h.1)
   told_asked answer OutOfMemory quiet h = λ p ne. untouched_on p ne (h p ne)
+  told_asked answer RequestFailed quiet h = absurd h
+
+  told_by : (talks : Bool) (answer : Answer) (o : Outcome) → (o ≡ Accepted → b ≡ m) → EndsBy talks answer o a m → EndsBy talks answer o a b
+  told_by false answer o quiet h = told_asked answer o quiet h
+  told_by true answer RequestFailed quiet h = (rw others.reads h.0, begun answer h.1)
+  told_by true answer Accepted quiet h = told_asked answer Accepted quiet h
+  told_by true answer NoRequest quiet h = told_asked answer NoRequest quiet h
+  told_by true answer (Stopped s) quiet h = told_asked answer (Stopped s) quiet h
+  told_by true answer (ReadFailed name) quiet h = told_asked answer (ReadFailed name) quiet h
+  told_by true answer WriteFailed quiet h = told_asked answer WriteFailed quiet h
+  told_by true answer OutOfMemory quiet h = told_asked answer OutOfMemory quiet h
 
   told_unasked : (o : Outcome) → EndsUnasked o a m → EndsUnasked o a b
   told_unasked NoRequest h = λ p ne. untouched_on p ne (h p ne)
@@ -156,6 +167,7 @@ module _ (a m b : Outside) (others : SameOthers ports.Complaint m b) where
   told_unasked _ h = absurd h
 
 -- what happened happens still once the line is on Complaint
-pub told : {R : Type 0} (answers : R → Answer) (o : Outcome) (asked : Option R) (a m b : Outside) → (o ≡ Accepted → b ≡ m) → Happens answers o asked a m → SameOthers ports.Complaint m b → Happens answers o asked a b
-told answers o None a m b quiet h others = told_unasked a m b others o h
-told answers o (Some r) a m b quiet h others = told_asked a m b others (answers r) o quiet h
+pub told : {R : Type 0} (answers : R → Answer) (talks : R → Bool) (o : Outcome) (asked : Option R) (a m b : Outside) → (o ≡ Accepted → b ≡ m) → Happens answers talks o asked a m → SameOthers ports.Complaint m b →
+    Happens answers talks o asked a b
+told answers talks o None a m b quiet h others = told_unasked a m b others o h
+told answers talks o (Some r) a m b quiet h others = told_by a m b others (talks r) (answers r) o quiet h

@@ -76,6 +76,7 @@ module _ {X : Type 0} (f : X → List ℕ) where
 pub others_more : (p : Port) (a b c : Outside) → SameOthers p a b → SameOthers p b c → SameOthers p a c
 others_more p a b c x y = record {
   files = y.files ∙ x.files;
+  requests = y.requests ∙ x.requests;
   written = λ q ne. y.written q ne ∙ x.written q ne;
   name = λ q ne. y.name q ne ∙ x.name q ne;
   opened = λ q ne. y.opened q ne ∙ x.opened q ne;

@@ -10,12 +10,13 @@ use Rattle.sim_base.specs.Causes.{Rose}
 use Rattle.sim_base.specs.Outside.{Outside, Becomes, Grows, IsFront, IsKept, IsNamed}
 use Rattle.sim_outcome_model.specs.Stop.{Stop, Missing, Refused, Output, Texts}
 
--- How the work ends. A failed read names its file.
+-- How the work ends. A failed read names its file, but for that of a request.
 pub data Outcome : Type 0 where
   Accepted : Outcome
   NoRequest : Outcome
   Stopped : Stop → Outcome
   ReadFailed : List ℕ → Outcome
+  RequestFailed : Outcome
   WriteFailed : Outcome
   OutOfMemory : Outcome
 
@@ -25,6 +26,7 @@ status_of NoRequest = 2
 status_of (Stopped (Refused name refusal)) = 3
 status_of (Stopped (Missing name)) = 4
 status_of (ReadFailed name) = 5
+status_of RequestFailed = 5
 status_of WriteFailed = 6
 status_of OutOfMemory = 7
 
@@ -47,6 +49,7 @@ parts_of (Stopped (Refused name refusal)) =
     name ∷ codes ": refused " ∷ decimal refusal.number ∷ codes " " ∷ name_of refusal.number ∷ (place_parts refusal.place ++ codes "\n" ∷ [])
 parts_of (Stopped (Missing name)) = name ∷ codes ": missing" ∷ codes "\n" ∷ []
 parts_of (ReadFailed name) = name ∷ codes ": read failed" ∷ codes "\n" ∷ []
+parts_of RequestFailed = codes "standard input: read failed" ∷ codes "\n" ∷ []
 parts_of WriteFailed = codes "write failed" ∷ codes "\n" ∷ []
 parts_of OutOfMemory = codes "out of memory" ∷ codes "\n" ∷ []
 

@@ -1,5 +1,5 @@
 -- What a caller may rest on: the status and the ports, each promise by itself, where each request has its answer.
-use Rattle.std.specs.Prelude.{◌≡◌, ◌≢◌, ◌+◌, ℕ, Option, Some, None, Result, Ok, Err, ◌⊎◌, IfSome}
+use Rattle.std.specs.Prelude.{◌≡◌, ◌≢◌, ◌+◌, ℕ, Bool, true, false, Option, Some, None, Result, Ok, Err, ◌⊎◌, IfSome}
 use Rattle.sim_base.specs.declared.bench.Port.{Port}
 use Rattle.sim_base.specs.Causes.{Rose}
 use Rattle.sim_base.specs.Outside.{Outside, Files}
@@ -16,6 +16,16 @@ pub record IsOne (answer : Answer) : Type 0 where
   pub one_sided : (files : Files) (t : Texts) (s : Stop) → answer files (Ok t) → answer files (Err s) → ⊥
   pub one_text : (files : Files) (t u : Texts) → answer files (Ok t) → answer files (Ok u) → AreSame t u
   pub one_stop : (files : Files) (t s : Stop) → answer files (Err t) → answer files (Err s) → t ≡ s
+
+-- A request is answered by one stop, or by texts and by none.
+pub record IsOneStop (answer : Answer) : Type 0 where
+  pub one_sided : (files : Files) (t : Texts) (s : Stop) → answer files (Ok t) → answer files (Err s) → ⊥
+  pub one_stop : (files : Files) (t s : Stop) → answer files (Err t) → answer files (Err s) → t ≡ s
+
+-- what is asked for is a conversation
+abbrev pub is_talk : {R : Type 0} → (R → Bool) → Option R → Bool
+is_talk talks None = false
+is_talk talks (Some r) = talks r
 
 -- no count of faults rose, so that none was answered
 abbrev pub NoneRose : Outside → Outside → Type 0
@@ -39,9 +49,9 @@ abbrev pub IsAnswered : {R : Type 0} → (R → Answer) → ℕ → Option R →
 IsAnswered answers status asked a b = NoneRose a b → status ≢ 7 → IfSome a.files (λ files. IsExpected answers status asked files)
 
 -- A good request over told files, of which none is refused, is answered unless memory runs out or a fault comes: each told port
--- holds its text.
-abbrev pub IsComplete : {R : Type 0} → (R → Answer) → ℕ → Option R → Outside → Outside → Type 0
-IsComplete {R = R} answers status asked a b = NoneRose a b → (r : R) (files : Files) (t : Texts) → asked ≡ Some r → a.files ≡ Some files → answers r files (Ok t)
+-- holds its text. A conversation has not one text alone, since each answer of it may be that memory ran out.
+abbrev pub IsComplete : {R : Type 0} → (R → Answer) → (R → Bool) → ℕ → Option R → Outside → Outside → Type 0
+IsComplete {R = R} answers talks status asked a b = NoneRose a b → (r : R) (files : Files) (t : Texts) → asked ≡ Some r → talks r ≡ false → a.files ≡ Some files → answers r files (Ok t)
     → ((status ≡ 0) × Hold t a b) ⊎ (status ≡ 7)
 
 -- With status 0 no count of faults changed, and each told port holds its text, all of it.
@@ -65,9 +75,14 @@ HasCause status a b = (status ≡ 5 → Rose a.read_faults b.read_faults) × (st
 abbrev pub HoldsFront : {R : Type 0} → (R → Answer) → ℕ → Option R → Outside → Outside → Type 0
 HoldsFront {R = R} answers status asked a b = status ≡ 6 → (files : Files) → a.files ≡ Some files → (r : R) × (t : Texts) × (asked ≡ Some r) × (answers r files (Ok t)) × Begin t a b
 
--- With every status but 0 and 6 no port but Complaint changed.
-abbrev pub ComplainsAlone : ℕ → Outside → Outside → Type 0
-ComplainsAlone status a b = status ≢ 0 → status ≢ 6 → IsSilent a b
+-- With every status but 0 and 6 no port but Complaint changed, nor with 5 where there was no conversation.
+abbrev pub ComplainsAlone : {R : Type 0} → (R → Bool) → ℕ → Option R → Outside → Outside → Type 0
+ComplainsAlone talks status asked a b = status ≢ 0 → status ≢ 6 → (status ≡ 5 → is_talk talks asked ≡ false) → IsSilent a b
+
+-- With status 5 no port but Complaint changed, or there was a conversation and each port holds a first part of its text.
+abbrev pub IsBrokenOff : {R : Type 0} → (R → Answer) → (R → Bool) → ℕ → Option R → Outside → Outside → Type 0
+IsBrokenOff {R = R} answers talks status asked a b = status ≡ 5
+    → IsSilent a b ⊎ ((r : R) × (asked ≡ Some r) × (talks r ≡ true) × ((files : Files) → a.files ≡ Some files → (t : Texts) × answers r files (Ok t) × Begin t a b))
 
 -- the status is one of these
 abbrev pub IsStatus : ℕ → Type 0
