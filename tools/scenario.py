@@ -35,6 +35,7 @@ sys.path[:0] = [HERE, os.path.join(HERE, "wokwi"), os.path.join(HERE, "script")]
 import diagram as diagrams
 import formulas
 import lower
+import moves
 import option
 import trapped
 import truth
@@ -115,7 +116,7 @@ class Run:
         if board.script:
             path = os.path.join(folder, "script.txt")
             with open(path, "w", encoding="utf-8") as file:
-                file.writelines(f"{at}cy {line}\n" for at, line in board.script)
+                file.writelines(f"{at}cy {line}\n" for at, line in board.lines())
             words += ["--script", path]
         try:
             ran = subprocess.run(words, stdout=subprocess.PIPE, stderr=subprocess.PIPE, stdin=subprocess.DEVNULL, check=False)
@@ -153,8 +154,7 @@ class Board:
         self.with_typist, self.baud = with_typist, baud
         self.script, self.typed = [], []
         self.kept = self.ended = (None, None)  # what a run was made of, and the run: the longest one, and the last of `exactly`
-        self.values = {}  # of parts whose bits are set one by one
-        self.original = self.made = self.uno = None  # parts by id before lowering; the diagram after it; the Uno's id
+        self.made = self.uno = None  # the diagram after lowering; the Uno's id
         faults = lower.lower(folder, self.folder, edit=self.edited, change=self.changed)
         if faults:
             raise Stop(FAILED, "\n".join(faults), is_error=True)
@@ -166,7 +166,6 @@ class Board:
             for name, control, value in self.set_before:
                 if part["id"] == name:
                     part.setdefault("attrs", {})[control] = str(value)
-        self.original = {part["id"]: part for part in diagram["parts"]}
 
     def changed(self, lowering, made, out):
         """Adds the chip that types, where the scenario does."""
@@ -183,6 +182,20 @@ class Board:
         shutil.copyfile(os.path.join(lower.CHIPS, "typist.json"), os.path.join(out, f"{TYPIST}.json"))
         shutil.copyfile(typist.MODULE, os.path.join(out, f"{TYPIST}.wasm"))
         return [(TYPIST, TYPIST)]
+
+    def moves(self):
+        """What the controls that were set become, in the order of the steps."""
+        made = moves.Moves(self.made)
+        for at, move in self.script:
+            move(made, at)
+        return made
+
+    def lines(self):
+        """The lines of the script so far, each with its cycle."""
+        try:
+            return self.moves().lines()
+        except moves.Fault as fault:
+            raise misused(str(fault)) from None
 
     def type(self, at, text):
         """From a cycle on the bytes of a text come on pin 0."""
@@ -325,11 +338,10 @@ class Scenario:
         self.board.type(self.now, text)
 
     def set_control(self, value):
-        name, control, new = fields(value, "set-control", "part-id", "control", "value")
+        name, control, new = fields(value, "set-control", "part-id", "control", "value", others=("bounce",))
         if self.now == 0 and (name, control, new) in self.board.set_before:
             return
-        for part, number in moved(self.board, name, control, new):
-            self.board.script.append((self.now, f"set {part} {number}"))
+        self.board.script.append((self.now, moved(self.board, str(name), str(control), new, value.get("bounce", False))))
 
     def expect_pin(self, value):
         name, pin, expected = fields(value, "expect-pin", "part-id", "pin", "value")
@@ -426,50 +438,37 @@ def level_text(value, step):
     return text
 
 
-RANGES = {"wokwi-pushbutton": 1, "wokwi-slide-switch": 1, "wokwi-dip-switch-8": 255, "wokwi-potentiometer": 1023, "wokwi-membrane-keypad": 65535, "board-source": 2}
+def moved(board, name, control, value, bounces=False):
+    """A function of moves.Moves and a cycle that does what a set-control says. It is tried once, so that what is wrong is said at its
+    step."""
+    text = {True: "1", False: "0"}.get(value, str(value)) if isinstance(value, bool) else str(value)
+    if not isinstance(bounces, bool):
+        raise misused(f"set-control: bounce is true or false, and not {bounces!r}")
 
+    def move(made, at):
+        if bounces:
+            if control not in ("pressed", "value") or text not in ("0", "1"):
+                raise moves.Fault(f"{name}: `pressed` 0 or 1 bounces, and not {control} {text}")
+            made.bounce(at, "press" if text == "1" else "release", name)
+        else:
+            made.move(at, name, control, text)
 
-def bit_of(kind, control):
-    """The bit of a part's value that a control is, if it is one: a switch of eight by its number, a key by row and column."""
-    if kind == "wokwi-dip-switch-8" and re.fullmatch("[1-8]", control):
-        return int(control) - 1
-    key = re.fullmatch("r([1-4])c([1-4])", control)
-    return 4 * (int(key[1]) - 1) + int(key[2]) - 1 if kind == "wokwi-membrane-keypad" and key else None
-
-
-def moved(board, name, control, value):
-    """The lines of the script, as (part, number), that setting a control of a part of the diagram becomes."""
-    part = board.original.get(name)
-    rule = diagrams.table()["lowered"].get(part["type"]) if part else None
-    if rule and "as" in rule:
-        attrs = {**{key: str(it) for key, it in part.get("attrs", {}).items()}, str(control): str(value)}
-        try:
-            found = [(name + piece["id"], formulas.value_of(piece["attrs"]["value"], attrs)) for piece in rule["as"]
-                     if isinstance(piece.get("attrs", {}).get("value"), dict) and piece["attrs"]["value"]["from"] == control]
-        except (ValueError, OverflowError) as fault:
-            raise misused(f"set-control: {control} {value!r} {fault}") from None
-        if found:
-            return found
-    kind = board.types.get(name)
-    if kind not in RANGES:
-        what = "it is a chip, whose attributes are set before the first other step alone" if kind and kind.startswith("chip-") else "no part of this name can be set"
-        raise misused(f"set-control: {name}: {what}")
     try:
-        number = formulas.number({True: 1, False: 0}.get(value, value) if isinstance(value, bool) else value)
-    except ValueError:
-        raise misused(f"set-control: {value!r} is no number") from None
-    if kind == "wokwi-potentiometer" and control == "position":
-        number *= 1023
-    elif bit_of(kind, str(control)) is not None:
-        bit = 1 << bit_of(kind, str(control))
-        number = board.values.get(name, 0) & ~bit | (bit if number else 0)
-    elif control not in ("value", "pressed", "position"):
-        raise misused(f"set-control: {name} has no control {control}")
-    number = round(number)
-    if not 0 <= number <= RANGES[kind]:
-        raise misused(f"set-control: {name} takes 0 to {RANGES[kind]}" + (" (position 0 to 1)" if kind == "wokwi-potentiometer" else "") + f", and not {value}")
-    board.values[name] = number
-    return [(name, number)]
+        made = board.moves()
+        if name not in made.kinds and name not in made.controls:
+            raise moves.Fault(f"{name}: no part of this name can be set")
+        if made.kinds.get(name, "").startswith("chip-") and name not in made.controls:
+            raise moves.Fault(f"{name}: it is a chip, whose attributes are set before the first other step alone")
+        move(made, board_now(board))
+        made.lines()
+    except moves.Fault as fault:
+        raise misused(f"set-control: {fault}") from None
+    return move
+
+
+def board_now(board):
+    """A cycle that no earlier line is after."""
+    return board.script[-1][0] if board.script else 0
 
 
 # ---- a scenario's file
@@ -643,7 +642,7 @@ def keep_project(board, us, folder):
     if board.script:
         words += " --script script.txt"
         with open(os.path.join(folder, "script.txt"), "w", encoding="utf-8") as file:
-            file.writelines(f"{at}cy {line}\n" for at, line in board.script)
+            file.writelines(f"{at}cy {line}\n" for at, line in board.lines())
     if board.budget:
         words += f" --budget {board.budget}"
     return put_again(folder, words)

@@ -23,7 +23,7 @@ from typing import NamedTuple
 from engine import EngineMissing, board_svg
 from page import page_of
 from picture import waves_svg
-from prepared import NoProject, project_of, script_of
+from prepared import NoProject, moves, project_of, script_of
 from program import Refused, ShorterRuns, run
 from project import chips_of, diagram_of, displays_of, modules_of, played_in, uno_of
 from serial_times import decided, readings
@@ -61,6 +61,7 @@ class Seen(NamedTuple):
     left: str
     made: list
     told: list = []
+    controls: dict = {}
 
 
 def microseconds(text):
@@ -106,7 +107,16 @@ def arguments(words):
 
 
 def seen_of(given):
-    """Runs the project as the words say."""
+    """Runs the project as the words say. Raises moves.Fault where the script moves what is not there."""
+    with tempfile.TemporaryDirectory() as box:
+        moved = []
+        if given.script:
+            given.script, moved = moves.put_expanded(given.script, given.folder, os.path.join(box, "script.txt"))
+        return seen_with(given, moved)
+
+
+def seen_with(given, moved):
+    """The run by the script that the program takes; `moved` are the controls that it moves."""
     script = ""
     start, end = given.start * CYCLES_A_MICROSECOND, given.to * CYCLES_A_MICROSECOND
     kept = functools.partial(keep_whole, given.folder)
@@ -127,7 +137,7 @@ def seen_of(given):
     formats, times = ways[0] if ways else ([], None)
     return Seen(given.title or given.name, given.us * CYCLES_A_MICROSECOND, start, max(end, start + 1), diagram, chips,
                 modules_of(given.folder, diagram), script, waves, sent, times, formats, [way.formats[0] for way in ways[1:]], report,
-                first_times(report, given.us, runs), left, given.note, told_of(given, report, waves, end))
+                first_times(report, given.us, runs), left, given.note, told_of(given, report, waves, end), moves.controls_of(diagram, moved))
 
 
 def told_of(given, report, waves, end):
@@ -201,6 +211,9 @@ def show(given, folder):
         for said in tell.no_project("look", named):
             print(f"look: {said}", file=sys.stderr)
         return refused.status
+    except moves.Fault as fault:
+        print(f"look: {fault}", file=sys.stderr)
+        return 1
     except EngineMissing as missing:
         print(f"look: {missing}", file=sys.stderr)
         return 1

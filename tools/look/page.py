@@ -13,7 +13,7 @@ from wave import moved_names
 
 HERE = os.path.join(os.path.dirname(os.path.abspath(__file__)), "page")
 # In this order, since each uses those before it. README.md says what is in which.
-SCRIPTS = ["wave.js", "vcd.js", "bus.js", "notes.js", "run.js", "playing.js", "display.js", "text.js", "svg.js", "parts.js", "shown.js", "route.js", "breadboard.js", "board.js",
+SCRIPTS = ["wave.js", "vcd.js", "bus.js", "notes.js", "run.js", "playing.js", "display.js", "text.js", "svg.js", "parts.js", "shown.js", "sensors.js", "route.js", "breadboard.js", "board.js",
            "rows.js", "plot.js", "waves.js", "frame.js", "controls.js", "look.js"]
 PLAYER = "played.js"    # of the worker in which chips are played
 STYLES = ["board.css", "look.css"]
@@ -63,7 +63,7 @@ def data_of(seen):
     return {"title": seen.title, "cycles": seen.cycles, "from": seen.start, "to": seen.end, "diagram": seen.diagram, "chips": seen.chips, "modules": seen.modules,
             "script": seen.script, "names": seen.waves.names, "of": seen.waves.of, "counts": [len(wave) for wave in seen.waves.waves],
             "serial": base64.b64encode(seen.sent).decode(), "times": steps, "formats": seen.formats, "others": seen.others, "report": seen.report,
-            "firsts": seen.firsts, "left": seen.left, "made": seen.made, "told": seen.told}
+            "firsts": seen.firsts, "left": seen.left, "made": seen.made, "told": seen.told, "controls": seen.controls}
 
 
 def still_of(seen):

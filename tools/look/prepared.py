@@ -10,6 +10,7 @@ sys.path.insert(0, WOKWI)
 import archive
 import diagram as diagrams
 import lower
+import moves
 
 sys.path[:] = BEFORE  # modules of that folder have names that others here have too
 

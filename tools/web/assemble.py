@@ -24,7 +24,7 @@ import page as look
 import project
 
 # In this order, since each uses those before it.
-SCRIPTS = ["places.js", "script.js", "archive.js", "json.js", "formulas.js", "lower.js", "firmware.js", "project.js", "prepare.js", "machine.js", "hand.js", "editor.js", "saving.js", "app.js", "start.js"]
+SCRIPTS = ["places.js", "script.js", "archive.js", "json.js", "formulas.js", "lower.js", "moves.js", "firmware.js", "project.js", "prepare.js", "machine.js", "hand.js", "editor.js", "saving.js", "app.js", "start.js"]
 MODULES = {"WIDE": "mudflatjar.wasm", "NARROW": "mudflatjar32.wasm"}
 MOST = 3_000_000            # bytes of what is made
 RULE = re.compile(r"^\| (\d\d) \| (\w+) \| (.+?) \| (.+?) \|$", re.M)

@@ -26,6 +26,7 @@ check() { # NAME COMMAND WORDS
 
 check "archives" python3 -B "$here/test_archive.py"
 check "lowering" python3 -B "$here/test_lower.py"
+check "controls" python3 -B "$here/test_moves.py"
 check "the table of parts" python3 -B "$here/parts_table.py"
 check "what fails a test" python3 -B "$here/../test_truth.py"
 check "scenarios, tests, play" python3 -B "$here/test_runs.py"

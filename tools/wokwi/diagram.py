@@ -10,6 +10,7 @@ from formulas import number, value_of
 TABLE = os.path.join(os.path.dirname(os.path.abspath(__file__)), "types.json")
 # What a made project keeps of a part, for a page: its type in the editor, the part that it is a piece of, its place in a chain.
 MADE = ("as", "within", "slice")
+CONTROL = "control"  # the pin of a chip of ours by which a script moves its controls
 MOST_PARTS, MOST_WIRES, MOST_CHIPS, MOST_PIXELS = 64, 512, 8, 65536
 
 
@@ -74,9 +75,11 @@ class Lowering:
         self.reshaped = set()  # parts that are drawn as others, with their pins elsewhere
         self.whole = {}  # parts that are drawn as the editor draws them, whatever they have become: the ids that they have then
         self.is_other = False  # whether a wire is drawn to a pin that the new diagram has no more
+        self.controls = {}  # of parts that a hand moves by more than a script of the program has: their type, attributes and pieces
         self.scenery = []  # what the editor drew and the new diagram has no part for
         self.drawn = []  # the editor's wires, as a page draws them
         self.inner = []  # wires between the parts that one part has become
+        self.unseen = []  # those to hidden ones, by which a script moves a chip's controls
         self.level = {}  # of each net, one end that is on it
         self.is_board = True  # whether what is left is one that the simulator takes
         self.nets = Joined()
@@ -84,7 +87,7 @@ class Lowering:
         self.firsts = list({part["id"]: part for part in reversed(diagram["parts"])}.values())[::-1]  # without second parts of an id
         self.heads = {}  # of each first part of a chain, the id in the new diagram
         self.begin()
-        self.wires.extend(self.inner)
+        self.wires.extend(self.inner + self.unseen)
         self.connect()
 
     # ---- parts
@@ -119,10 +122,11 @@ class Lowering:
     def viewers(self, links):
         """The ids of parts that only show, of which the board has no room for a chip: a page shows them by the levels of their wires."""
         rules = [(part["id"], self.types["lowered"].get(part["type"], {})) for part in self.firsts if part["id"] not in links]
-        chips = sum(len(rule.get("as") or [0]) for _, rule in rules if "chip" in rule) + sum(part["type"].startswith("chip-") for part in self.firsts)
+        alone = {name for name, rule in rules if "page alone" in rule}
+        chips = sum(sum("hidden" not in piece for piece in rule.get("as") or [{}]) for name, rule in rules if "chip" in rule and name not in alone) + sum(part["type"].startswith("chip-") for part in self.firsts)
         ends = {end for wire in self.diagram["connections"] for end in wire[:2]}
-        free = [name for name, rule in rules if rule.get("only shows") and f"{name}:DOUT" not in ends]
-        return set(free[-max(chips - MOST_CHIPS, 0):]) if chips > MOST_CHIPS else set()
+        free = [name for name, rule in rules if rule.get("only shows") and name not in alone and f"{name}:DOUT" not in ends]
+        return alone | (set(free[-max(chips - MOST_CHIPS, 0):]) if chips > MOST_CHIPS else set())
 
     def begin(self):
         seen, chains = set(), self.chains()
@@ -159,7 +163,8 @@ class Lowering:
                 self.scenery.append(dict(self.placed(part, kind, name), **self.strips[name]))
             elif kind in self.types["left out"]:
                 self.leave_out(name, kind)
-                self.scenery.append(self.placed(part, kind, name))
+                self.scenery.append(dict(self.placed(part, kind, name), **({"as": kind} if self.types["left out"][kind].get("drawn as itself") else {})))
+                self.control(part, kind, attrs, self.types["left out"][kind], {})
             elif kind.startswith("chip-"):
                 self.keep_chip(part, attrs)
             else:
@@ -219,11 +224,16 @@ class Lowering:
                 self.faults.append(f"{name}: {key} {attrs[key]!r} is no address")
         return fitted
 
+    def control(self, part, kind, attrs, rule, ids):
+        """Keeps of a part with controls what tools/wokwi/moves.py needs: its type, its attributes and the ids of its pieces."""
+        if "controls" in rule:
+            self.controls[part["id"]] = {"type": kind, "attrs": attrs, "ids": ids}
+
     def leave_out(self, name, kind):
         rule = self.types["left out"][kind]
         self.pins[name] = None
         self.reshaped.add(name)
-        self.notes.append(f"{name} ({kind}) {rule['why']}, and is left out; its wires stay")
+        self.notes.append(f"{name} ({kind}) {rule['why']}" + ("" if "controls" in rule else ", and is left out; its wires stay"))
         for group in rule.get("joined", []):
             for pin in group[1:]:
                 self.nets.join((name, group[0]), (name, pin))
@@ -244,7 +254,8 @@ class Lowering:
         name, piece = part["id"], rule["as"][0]
         self.pins[name] = None
         self.scenery.append(dict(self.placed(part, self.piece_type(part, piece, rule, attrs), name), attrs=self.given_to(part, piece, attrs), **{"as": part["type"]}))
-        self.notes.append(f"{name} ({part['type']}) is shown by the page alone: a board has room for {MOST_CHIPS} chips")
+        why = rule.get("page alone", f"a board has room for {MOST_CHIPS} chips")
+        self.notes.append(f"{name} ({part['type']}) is shown by the page alone: {why}")
 
     def keep_chip(self, part, attrs):
         chip = part["type"][len("chip-"):]
@@ -262,9 +273,9 @@ class Lowering:
     def replace(self, part, attrs, rule):
         name, kind = part["id"], part["type"]
         is_one = rule.get("drawn as one")
-        if not is_one and not rule.get("drawn as itself"):
+        if is_one is None and not rule.get("drawn as itself"):
             self.reshaped.add(name)
-        if is_one:
+        if is_one is not None:
             self.whole[name] = name
             kept = {key: attrs[key] for key in is_one if key in attrs}
             self.scenery.append(dict(self.placed(part, kind, name), attrs=kept, **{"as": kind}))
@@ -279,18 +290,22 @@ class Lowering:
                 self.pins[name].add(pin)
                 self.ends.setdefault((name, pin), []).append(f"{made}:{new}")
             self.place(part, self.piece_type(part, piece, rule, attrs), made, given)
+            if "hidden" in piece:
+                self.parts[-1] |= {"within": name, "hide": True}
+                continue
             if rule.get("drawn as itself"):
                 self.parts[-1]["as"] = kind
                 self.whole[name] = made
-            if is_one:
+            if is_one is not None:
                 self.parts[-1]["within"] = name
             if "slice" in rule:
                 self.parts[-1]["slice"] = rule["slice"]
                 self.ends.pop((name, "DOUT"))
         for one, other in rule.get("wires", []):
             both = [names[end.split(":")[0]] + ":" + end.split(":")[1] for end in (one, other)]
-            self.inner.append([*both, "", []])
-        pieces = ", ".join(f"{names[piece['id']]} ({piece['type']})" for piece in rule["as"])
+            (self.unseen if "controls" in rule else self.inner).append([*both, "", []])
+        self.control(part, kind, attrs, rule, names)
+        pieces = ", ".join(f"{names[piece['id']]} ({piece['type']})" for piece in rule["as"] if "hidden" not in piece)
         if rule["as"][0]["type"] != kind or "says" in rule:
             self.notes.append(f"{name} ({kind}) is {pieces}" + (f": it {rule['says']}" if "says" in rule else ""))
 
@@ -314,13 +329,14 @@ class Lowering:
         if "display" in rule:
             try:
                 size = {side: int(value_of(how, attrs)) for side, how in rule["display"].items()}
-                if not (1 <= min(size.values()) and size["width"] * size["height"] <= MOST_PIXELS):
+                if not (1 <= min(size.values()) and (size["width"] * size["height"] <= MOST_PIXELS or "page alone" in rule)):
                     raise ValueError(f"a display has 1 to {MOST_PIXELS} pixels")
             except ValueError as fault:
                 self.faults.append(f"{part['id']} ({part['type']}): its display: {fault}")
                 size = {"width": 1, "height": 1}
             made += f"-{size['width']}x{size['height']}"
-        own = (rule["chip"], size, list(dict.fromkeys(piece["pins"].values())) if rule.get("drawn as itself") else None)
+        pins = [*dict.fromkeys(piece["pins"].values()), *([CONTROL] if any("hidden" in it for it in rule["as"]) else [])]
+        own = (rule["chip"], size, pins if rule.get("drawn as itself") else None)
         while made in self.chip_pins or self.own_chips.get(made, own) != own:
             made += "-"
         self.own_chips[made] = own
@@ -442,7 +458,8 @@ class Lowering:
                 self.refuse_board(f"there are {count} {what}, and {most} is the most" + (f"; chips in place of Wokwi's parts are {ours}" if ours else ""))
         made = {"version": 1, "author": self.diagram.get("author", ""), "editor": "wokwi", "parts": self.parts, "connections": self.wires, "dependencies": {}}
         drawn = self.drawing() if self.scenery or self.is_other else self.diagram.get("drawn")
-        return dict(made, drawn=drawn) if drawn else made
+        controls = self.controls or self.diagram.get("controls")
+        return made | ({"controls": controls} if controls else {}) | ({"drawn": drawn} if drawn else {})
 
 
 def mark_of(connections):
@@ -479,6 +496,5 @@ def text_of(diagram):
         rows.extend(f"    {line(it)}," for it in diagram[name])
         rows[-1] = rows[-1].rstrip(",") if diagram[name] else rows[-1]
         rows.append("  ],")
-    if "drawn" in diagram:
-        rows.append(f'  "drawn": {line(diagram["drawn"])},')
+    rows.extend(f'  "{name}": {line(diagram[name])},' for name in ("controls", "drawn") if name in diagram)
     return "\n".join([*rows, '  "dependencies": {}', "}"]) + "\n"

@@ -51,6 +51,40 @@ def dark(text, attrs):
     return str(int(5 * ohms / (ohms + 10) > number(attrs.get("threshold", "2.5"))))
 
 
+def volts(text, attrs):
+    """What analogRead gives of a voltage."""
+    return whole(1023 * min(max(number(text), 0), 5) / 5)
+
+
+def above(text, attrs):
+    """1 where a voltage is above `threshold`, else 0."""
+    return str(int(number(text) > number(attrs.get("threshold", "2.5"))))
+
+
+def not_above(text, attrs):
+    """The opposite of `above`."""
+    return "10"[int(above(text, attrs))]
+
+
+def leftward(text, attrs):
+    """A joystick's side to side, -1 to the left and 1 to the right, as a wiper that is at its end on the left."""
+    return whole(1023 * (1 - min(max(number(text), -1), 1)) / 2)
+
+
+def upward(text, attrs):
+    """A joystick's up and down, -1 to 1, as a wiper that is at its end at the top."""
+    return whole(1023 * (1 + min(max(number(text), -1), 1)) / 2)
+
+
+def rom(text, attrs):
+    """Of a number in hexadecimal digits the last byte, by which two thermometers on one wire differ; 77 where there is none."""
+    if text == "":
+        return "77"
+    if not re.fullmatch(r"(?:0x)?[0-9a-fA-F]{1,12}", text):
+        raise ValueError("is no number of hexadecimal digits")
+    return str(int(text, 16) & 255)
+
+
 DATE = r"[0-9]{4}(-?)[0-9]{2}\1[0-9]{2}(?:[T ][0-9]{2}(?:(:?)[0-9]{2}(?:\2[0-9]{2}(?:\.[0-9]{1,6})?)?)?(?:Z|[+-][0-9]{2}:?[0-9]{2})?)?"
 
 
@@ -93,7 +127,7 @@ def serpentine(text, attrs):
     return str(int(text == "serpentine"))
 
 
-NAMED = {"address": address, "serpentine": serpentine, "ntc": ntc, "light": light, "dark": dark, "time": time, "half period": half_period}
+NAMED = {"address": address, "serpentine": serpentine, "ntc": ntc, "light": light, "dark": dark, "time": time, "half period": half_period, "volts": volts, "above": above, "not above": not_above, "leftward": leftward, "upward": upward, "rom": rom}
 
 
 def value_of(rule, attrs):

@@ -321,5 +321,95 @@ def needs_an_engine(test: unittest.TestSuite) -> int:
     return not unittest.TextTestRunner().run(test).wasSuccessful()
 
 
+
+class ColourDisplay(unittest.TestCase):
+    """An ILI9341, byte by byte on SPI."""
+
+    SIZE = (240, 320)
+    START = [(0x11,), (0x3A, 0x55), (0x36, 0x48), (0x29,)]
+
+    def send(self, *commands: tuple[int, ...], cut: int = 0, half: int = 62) -> Wires:
+        """Commands with what follows them; of the last byte `cut` bits are not sent."""
+        wires = Wires(SCK=0, MOSI=0, CS=1, RST=1, **{"D/C": 1}).wait(10_000)
+        wires.set("CS", 0, 500)
+        for number, command in enumerate(commands):
+            for place, byte in enumerate(command):
+                wires.set("D/C", int(place > 0), 200)
+                is_last = number == len(commands) - 1 and place == len(command) - 1
+                for bit in range(7, cut - 1 if is_last else -1, -1):
+                    wires.set("MOSI", byte >> bit & 1, half).set("SCK", 1, half).set("SCK", 0, half)
+        return wires.set("CS", 1, 500)
+
+    def box(self, x: int, y: int, wide: int, high: int, *colours: int) -> list[tuple[int, ...]]:
+        """A window and its pixels of 16 bits."""
+
+        def ends(first: int, count: int) -> tuple[int, ...]:
+            return first >> 8, first & 255, first + count - 1 >> 8, first + count - 1 & 255
+
+        data = [byte for colour in colours for byte in (colour >> 8, colour & 255)]
+        return [(0x2A, *ends(x, wide)), (0x2B, *ends(y, high)), (0x2C, *data)]
+
+    def lit(self, *cases: Wires) -> list[dict[tuple[int, int], tuple[int, ...]]]:
+        """The pixels that are not black, by their places."""
+        return [
+            {(at % 240, at // 240): pixel[:3] for at, pixel in enumerate(pixels) if any(pixel[:3])}
+            for pixels in shown("ili9341", self.SIZE, *cases)
+        ]
+
+    def test_a_window_is_filled_line_by_line_and_begins_again(self) -> None:
+        (found,) = self.lit(self.send(*self.START, *self.box(10, 300, 2, 2, 0xF800, 0x07E0, 0x001F, 0xFFFF, 0x8410)))
+        self.assertEqual(
+            found,
+            {
+                (10, 300): (132, 130, 132),
+                (11, 300): (0, 255, 0),
+                (10, 301): (0, 0, 255),
+                (11, 301): (255, 255, 255),
+            },
+        )
+
+    def test_orders_of_rows_columns_and_colours(self) -> None:
+        places = {0x48: (3, 5), 0x08: (236, 5), 0xC8: (3, 314), 0x28: (234, 3), 0x68: (5, 3), 0xE8: (5, 316)}
+        orders = [self.send(*self.START, (0x36, order), *self.box(3, 5, 1, 1, 0xF800)) for order in places]
+        for found, place in zip(self.lit(*orders), places.values()):
+            self.assertEqual(found, {place: (255, 0, 0)})
+        (turned,) = self.lit(self.send(*self.START, (0x36, 0x40), *self.box(3, 5, 1, 1, 0xF800)))
+        self.assertEqual(turned, {(3, 5): (0, 0, 255)})
+
+    def test_eighteen_bits_and_what_is_beyond_the_display(self) -> None:
+        wide, beyond = self.lit(
+            self.send(*self.START, (0x3A, 0x66), *self.box(0, 0, 1, 1)[:2], (0x2C, 0xFC, 0x83, 0x04)),
+            self.send(*self.START, *self.box(239, 319, 3, 3, *[0xFFFF] * 9)),
+        )
+        self.assertEqual(wide, {(0, 0): (252, 128, 4)})
+        self.assertEqual(list(beyond), [(239, 319)])
+
+    def test_it_is_black_while_it_is_off_and_keeps_its_memory(self) -> None:
+        drawn = self.box(1, 1, 1, 1, 0xFFFF)
+        off, asleep, again, inverse, reset = self.lit(
+            self.send(*self.START, *drawn, (0x28,)),
+            self.send((0x3A, 0x55), (0x36, 0x48), (0x29,), *drawn),
+            self.send(*self.START, *drawn, (0x28,), (0x29,)),
+            self.send(*self.START, *drawn, (0x21,)),
+            self.send(*self.START, *drawn, (0x01,), (0x11,), (0x29,)),
+        )
+        self.assertEqual((off, asleep), ({}, {}))
+        self.assertEqual(again, {(1, 1): (255, 255, 255)})
+        self.assertEqual(len(inverse), 240 * 320 - 1)
+        self.assertEqual(reset, again, "what was drawn stays, as in the real one")
+
+    def test_a_byte_that_is_cut_is_none(self) -> None:
+        cut, after = self.lit(
+            self.send(*self.START, *self.box(1, 1, 1, 1, 0xFFFF), cut=1),
+            self.send(*self.START, *self.box(1, 1, 1, 1, 0xFFFF), cut=8),
+        )
+        self.assertEqual((cut, after), ({}, {}))
+
+    def test_without_a_select_nothing_comes(self) -> None:
+        wires = self.send(*self.START, *self.box(1, 1, 1, 1, 0xFFFF))
+        wires.edges["CS"] = [[0, 1]]
+        self.assertEqual(self.lit(wires), [{}])
+
+
 if __name__ == "__main__":
     sys.exit(needs_an_engine(unittest.defaultTestLoader.loadTestsFromModule(sys.modules["__main__"])))

@@ -24,8 +24,8 @@ function drawBoard(run, on = {}) {
   const element = svg('svg', { class: 'board', role: 'img', 'aria-label': `the board: ${run.parts.map(part => part.id).join(', ')}` });
   const drawing = { run, on, layers, updates: [], tells: [], leads: [], spots: new Map(), boxes: new Map(), named: [], legs: [], free: 0, levels: new Map(), box: [Infinity, Infinity, -Infinity, -Infinity] };
   for (const [one, other, , , pin] of run.wires) if (typeof pin === 'string') for (const end of [one, other]) drawing.levels.set(end, pin);
-  for (const part of apart(run.parts.filter(part => !isWithin(run, part)), run.wires)) drawPart(drawing, part, entryOf(part, run.wires));
-  for (const part of run.parts.filter(part => isWithin(run, part))) tellPart(drawing, part, entryOf(part, run.wires));
+  for (const part of apart(run.parts.filter(part => !isWithin(run, part) && !isUnseen(part)), run.wires)) drawPart(drawing, part, entryOf(part, run.wires));
+  for (const part of run.parts.filter(part => isWithin(run, part) && !isUnseen(part))) tellPart(drawing, part, entryOf(part, run.wires));
   for (const part of run.scenery) drawScenery(drawing, part);
   for (const wire of run.wires) drawWire(drawing, wire);
   for (const [part, box] of drawing.named) drawName(drawing, part, box);
@@ -44,6 +44,8 @@ function drawBoard(run, on = {}) {
 }
 
 // A part that another one, which the editor drew, is made of: it is seen there, and has words of its own.
+// A part by which a script moves a control of another one: it is drawn nowhere, and has no words.
+const isUnseen = part => part.hidden && Boolean(part.within);
 const isWithin = (run, part) => Boolean(part.within) && run.scenery.some(it => it.id === part.within && it.as);
 function tellPart(drawing, part, entry) { if (entry.tell) drawing.tells.push([part.id, moment => entry.tell(part, drawing.run, moment)]); }
 

@@ -10,9 +10,9 @@ const STARTS = { 'wokwi-slide-switch': 0, 'wokwi-potentiometer': 0, 'board-sourc
 // From what the program takes and writes: texts, and bytes as Uint8Array.
 // chips: {'chip-NAME': [pin, ..]}, the pins of each custom chip. modules: {'chip-NAME': {module: bytes, display: [width, height] or null}}, of
 // those that print or draw.
-function runFrom({ title, us, diagram, chips, modules, script, vcd, serial, report, program }) {
+function runFrom({ title, us, diagram, chips, modules, script, controls, vcd, serial, report, program }) {
   const wave = readVcd(vcd);
-  const run = makeRun({ title, cycles: us * CYCLES_A_MICROSECOND, diagram, chips, modules, script, names: wave.names, of: wave.of, waves: wave.waves, serial, report, program });
+  const run = makeRun({ title, cycles: us * CYCLES_A_MICROSECOND, diagram, chips, modules, script, controls, names: wave.names, of: wave.of, waves: wave.waves, serial, report, program });
   const uno = run.parts.find(part => part.type === 'wokwi-arduino-uno');
   run.serial = serialOf(run.serial.bytes, uno && run.wave(uno.id + '.1') ? sentReadings(run.wave(uno.id + '.1'), run.serial.bytes) : []);
   return run;
@@ -20,7 +20,7 @@ function runFrom({ title, us, diagram, chips, modules, script, vcd, serial, repo
 
 // From waves that are read already.
 function makeRun({ title, cycles, from = 0, to = cycles, diagram, chips = {}, modules = {}, script = '', names, of, waves, serial, times = null, formats = [], others = [],
-  report = '', firsts = {}, left = '', made = [], told = [], program = '' }) {
+  report = '', firsts = {}, left = '', made = [], told = [], controls = {}, program = '' }) {
   const drawing = typeof diagram === 'string' ? JSON.parse(diagram) : diagram;
   const parts = (drawing.parts || []).map(part => withViewer(partOf(part, chips), modules)), wires = wiresOf(drawing), { scenery, drawn } = drawnOf(drawing, wires, chips);
   const run = {
@@ -29,6 +29,7 @@ function makeRun({ title, cycles, from = 0, to = cycles, diagram, chips = {}, mo
     levelOf: levelsOf(drawn || []),  // of a pin that no part of the board has: one that has its level
     waveOf: new Map(names.map((name, i) => [name, of[i]])),
     inputs: inputsOf(parts, script),
+    controls,                       // of the editor's parts: {part: [[control, unit, [[cycle, value], ..]], ..]}
     serial: { bytes: serial || new Uint8Array(0), times, formats, others },
     notes: notesOf(report, firsts, told),
     cache: new Map(),               // what displays and decoders found, by a name that they choose
@@ -132,6 +133,13 @@ function lastBefore(list, t) {      // the last entry of [[cycle, ..], ..] at or
   let low = 0, high = list.length;
   while (low < high) { const middle = (low + high) >> 1; if (list[middle][0] <= t) low = middle + 1; else high = middle; }
   return low - 1;
+}
+// The value of a control of a part of the editor as a text, with its unit where `withUnit`; '' of one that is not there.
+function controlAt(run, id, name, t, withUnit = false) {
+  const found = (Object.hasOwn(run.controls, id) ? run.controls[id] : []).find(([control]) => control === name);
+  if (!found) return '';
+  const [, unit, values] = found, value = values[Math.max(lastBefore(values, t), 0)][1];
+  return withUnit && unit && value !== '' ? `${value} ${unit}` : value;
 }
 const inputAt = (run, id, t) => { const list = run.inputs[id] || []; return list.length ? list[Math.max(lastBefore(list, t), 0)][1] : 0; };
 

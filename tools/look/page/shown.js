@@ -132,6 +132,21 @@ SHOWN['wokwi-a4988'] = {
   },
 };
 
+// A colour display: the picture of its chip, as the upright module has it.
+const colourDisplay = pins => byChip({
+  size: [190, 292], pins: row(pins, 40, 290, 10.5),
+  make(g) { g.append(rect(0, 0, 190, 280, { rx: 5, fill: '#23272a', stroke: '#0f1112' }), path(`M40 280V290${upTo(pins.split(' ').length - 1).map(i => `M${50.5 + 10.5 * i} 280V290`).join('')}`, { class: 'lead' }), rect(4, 8, 182, 242, { fill: '#0b0d0e' })); return { g, pixels: null }; },
+  show(made, frame) {
+    if (made.pixels) made.pixels.remove();
+    made.pixels = pixelsOf(frame, { scale: .75, top: 9 });
+    made.pixels.setAttribute('transform', 'translate(5 9) scale(.75)');
+    made.g.append(made.pixels);
+  },
+  tell: frame => { const colors = new Map(), words = new DataView(frame.pixels.buffer, frame.pixels.byteOffset, frame.pixels.length); for (let i = 0; i < frame.pixels.length; i += 4) { const color = words.getUint32(i) >>> 8; colors.set(color, (colors.get(color) || 0) + 1); } return [...colors].sort((one, other) => other[1] - one[1]).slice(0, 4).map(([color, count]) => `${percent(count / frame.width / frame.height)} #${color.toString(16).padStart(6, '0')}`).join(', '); },
+});
+SHOWN['wokwi-ili9341'] = colourDisplay('VCC GND CS RST D/C MOSI SCK LED MISO');
+SHOWN['board-ili9341-cap-touch'] = colourDisplay('VCC GND CS RST D/C MOSI SCK LED MISO SCL SDA INT');
+
 // ---- The text display, with the characters that a sketch makes
 
 const HD44780 = new Map([[0x5C, '¥'], [0x7E, '→'], [0x7F, '←'], [0xA5, '·'], [0xDF, '°'], [0xE4, 'µ'], [0xE8, '√'], [0xF4, 'Ω'], [0xF7, 'π'], [0xFD, '÷'], [0xFF, '█']]);

@@ -40,7 +40,7 @@ function buildApp(app, host) {
   parts.messages = make('div', { className: 'messages', hidden: true }, parts.advice, parts.complaint);
   for (const { name } of app.data.examples) parts.example.append(new Option(name, name));
   app.editor = makeEditor({ onEdit: () => { say(app, 'changed; Run shows what comes of it'); app.notes = []; advise(app); } });
-  app.hand = makeHand({ onLine: (action, id, value) => addLines(app, [[app.look.view.t, action, id, value]]), onTap: (id, cycles) => addLines(app, [[app.look.view.t, 'press', id], [app.look.view.t + cycles, 'release', id]]) });
+  app.hand = makeHand({ onLine: (action, id, value) => addLines(app, [[app.look.view.t, action, id, value]]), onTap: (id, cycles, how) => addLines(app, [[app.look.view.t, 'press', id, how], [app.look.view.t + cycles, 'release', id, how]]) });
   const side = make('aside', { className: 'side' }, app.hand.element, app.editor.element);
   side.addEventListener('keydown', event => { if (!(event.ctrlKey || event.metaKey)) event.stopPropagation(); });     // the keys of the look are for the rest of the page
   host.append(
@@ -49,7 +49,7 @@ function buildApp(app, host) {
       make('label', { className: 'time-label' }, 'run ', parts.time), parts.run, parts.stop, parts.progress, parts.said, parts.save, parts.folder, parts.files),
     parts.messages,
     make('main', { className: 'work' }, side, parts.stage));
-  app.look = makeLook(parts.stage, { on: { cursor: t => { if (app.run) app.hand.update(id => inputAt(app.run, id, t)); }, part: id => app.hand.use(id) } });
+  app.look = makeLook(parts.stage, { on: { cursor: t => { if (app.run) app.hand.update(...valuesAt(app, t)); }, part: id => app.hand.use(id) } });
   parts.stage.hidden = true;
 }
 
@@ -247,18 +247,22 @@ function busy(app, is) {
 }
 
 // The look stays where it is: at its cursors, in its range, and playing.
-function showEnd(app, { project, notes }, ended, us) {
+function showEnd(app, { project, notes, controls = {} }, ended, us) {
   const kept = app.run && { ...app.look.view, cycles: app.run.cycles };
   app.ended = ended;
-  app.shown = { diagram: textOf(project, 'diagram.json').replace(/^\uFEFF/, ''), chips: chipsOf(project), modules: modulesOf(project, app.data.viewers), script: textOf(project, SCRIPT) };
+  app.shown = { diagram: textOf(project, 'diagram.json').replace(/^\uFEFF/, ''), chips: chipsOf(project), modules: modulesOf(project, app.data.viewers), script: textOf(project, SCRIPT), controls };
   app.run = runFrom({ title: project.name, us, ...app.shown, vcd: ended.wave, serial: ended.serial, report: plainText.decode(ended.report), program: 'in a page' });
   app.run.made = notes;
   app.elements.stage.hidden = false;
   app.look.show(app.run);
   if (kept && kept.cycles === app.run.cycles) app.look.range(kept.from, kept.to);
   if (kept) { if (kept.b !== null) app.look.second(kept.b); app.look.go(kept.t); if (kept.playing) app.look.play(true); }
-  app.hand.show(app.run.parts, id => inputAt(app.run, id, app.look.view.t));
+  const [valueOf, controlOf] = valuesAt(app, app.look.view.t), moves = new Moves(JSON.parse(app.shown.diagram), app.kit.types);
+  app.hand.show(app.run.parts, valueOf, Object.fromEntries(Object.keys(controls).map(id => [id, moves.ruleOf(id)])), controlOf);
 }
+
+// What the parts and their controls are set to at a cycle.
+const valuesAt = (app, t) => [id => inputAt(app.run, id, t), (id, name) => controlAt(app.run, id, name, t)];
 
 // What was done by hand: lines of the script at their cycles, and the run that comes of them.
 function addLines(app, lines) {

@@ -37,6 +37,9 @@ function resistance(text, attrs) {
   return given(attrs, 'rl10', '50') * calculated((10 / lux) ** given(attrs, 'gamma', '0.7'));
 }
 
+// What lies within -1 and 1, or other ends.
+const within = (text, low, high) => Math.min(Math.max(numberOf(text), low), high);
+
 const DATE = /^(\d{4})(-?)(\d\d)\2(\d\d)(?:[T ](\d\d)(?:(:?)(\d\d)(?:\6(\d\d)(?:\.(\d{1,6}))?)?)?(Z|[+-]\d\d:?\d\d)?)?$/;
 
 // Seconds from 1970 on; a run repeats, so `now` is 2000-01-01.
@@ -71,6 +74,18 @@ const FORMULAS = {
   dark(text, attrs) {
     const ohms = resistance(text, attrs);
     return ratio(5 * ohms, ohms + 10) > given(attrs, 'threshold', '2.5') ? '1' : '0';
+  },
+  volts: text => wholeText(1023 * within(text, 0, 5) / 5),
+  above: (text, attrs) => (numberOf(text) > given(attrs, 'threshold', '2.5') ? '1' : '0'),
+  'not above': (text, attrs) => (numberOf(text) > given(attrs, 'threshold', '2.5') ? '0' : '1'),
+  // A joystick's side to side, -1 to the left and 1 to the right, as a wiper that is at its end on the left; up and down.
+  leftward: text => wholeText(1023 * (1 - within(text, -1, 1)) / 2),
+  upward: text => wholeText(1023 * (1 + within(text, -1, 1)) / 2),
+  // Of a number in hexadecimal digits the last byte, by which two thermometers on one wire differ.
+  rom(text) {
+    if (text === '') return '77';
+    if (!/^(?:0x)?[0-9a-fA-F]{1,12}$/.test(text)) throw new ValueFault('is no number of hexadecimal digits');
+    return String(parseInt(text.replace(/^0x/, '').slice(-2), 16));
   },
   time: secondsOf,
   'half period'(text) {

@@ -2,6 +2,7 @@
 // Makes of a diagram as Wokwi's editor writes it one whose parts the simulator has, as tools/wokwi/diagram.py does by the same table,
 // tools/wokwi/types.json. Both give the same text, the same notes and the same faults, which a test compares.
 
+const CONTROL = 'control';              // the pin of a chip of ours by which a script moves its controls
 const MOST_PARTS = 64, MOST_WIRES = 512, MOST_CHIPS = 8, MOST_PIXELS = 65536;
 // What a made project keeps of a part, for a page: its type in the editor, the part that it is a piece of, its place in a chain.
 const MADE = ['as', 'within', 'slice'];
@@ -61,9 +62,11 @@ class Lowering {
     this.reshaped = new Set();          // parts that are drawn as others, with their pins elsewhere
     this.whole = new Map();             // parts that are drawn as the editor draws them, whatever they have become: the ids that they have then
     this.isOther = false;               // whether a wire is drawn to a pin that the new diagram has no more
+    this.controls = new Map();          // of parts that a hand moves by more than a script of the program has: their type, attributes and pieces
     this.scenery = [];                  // what the editor drew and the new diagram has no part for
     this.drawn = [];                    // the editor's wires, as a page draws them
     this.inner = [];                    // wires between the parts that one part has become
+    this.unseen = [];                   // those to hidden ones, by which a script moves a chip's controls
     this.level = new Map();             // of each net, one end that is on it
     this.isBoard = true;
     this.nets = makeJoined();
@@ -71,7 +74,7 @@ class Lowering {
     this.firsts = [...new Map([...diagram.get('parts')].reverse().map(part => [part.get('id'), part])).values()].reverse();      // without second parts of an id
     this.places = { part: [], connection: [] };     // of each new part and wire, the place of the old one, from 1; 0 of a wire that was none
     this.begin();
-    for (const wire of this.inner) this.addWire(wire, 0);
+    for (const wire of [...this.inner, ...this.unseen]) this.addWire(wire, 0);
     this.connect();
   }
 
@@ -105,9 +108,9 @@ class Lowering {
   // The ids of parts that only show, of which the board has no room for a chip: a page shows them by the levels of their wires.
   viewers(links) {
     const rules = this.firsts.filter(part => !links.has(part.get('id'))).map(part => [part.get('id'), ruleOf(this.types.lowered, part.get('type')) || {}]);
-    const chips = rules.reduce((sum, [, rule]) => sum + ('chip' in rule ? (rule.as || [0]).length : 0), 0) + this.firsts.filter(part => part.get('type').startsWith('chip-')).length;
-    const ends = new Set(this.diagram.get('connections').flatMap(wire => wire.slice(0, 2))), free = rules.filter(([name, rule]) => rule['only shows'] && !ends.has(`${name}:DOUT`)).map(([name]) => name);
-    return new Set(chips > MOST_CHIPS ? free.slice(-(chips - MOST_CHIPS)) : []);
+    const alone = new Set(rules.filter(([, rule]) => 'page alone' in rule).map(([name]) => name)), chips = rules.reduce((sum, [name, rule]) => sum + ('chip' in rule && !alone.has(name) ? (rule.as || [{}]).filter(piece => !piece.hidden).length : 0), 0) + this.firsts.filter(part => part.get('type').startsWith('chip-')).length;
+    const ends = new Set(this.diagram.get('connections').flatMap(wire => wire.slice(0, 2))), free = rules.filter(([name, rule]) => rule['only shows'] && !alone.has(name) && !ends.has(`${name}:DOUT`)).map(([name]) => name);
+    return new Set([...alone, ...(chips > MOST_CHIPS ? free.slice(-(chips - MOST_CHIPS)) : [])]);
   }
 
   begin() {
@@ -135,7 +138,9 @@ class Lowering {
         this.scenery.push(new Map([...this.placed(part, kind, name), ...Object.entries(strip).map(([key, value]) => [key, new Numeral(String(value))])]));
       } else if (ruleOf(this.types['left out'], kind)) {
         this.leaveOut(name, kind);
-        this.scenery.push(this.placed(part, kind, name));
+        const left = this.types['left out'][kind];
+        this.scenery.push(left['drawn as itself'] ? this.placed(part, kind, name).set('as', kind) : this.placed(part, kind, name));
+        this.control(part, kind, attrs, left, new Map());
       } else if (kind.startsWith('chip-')) this.keepChip(part, attrs);
       else this.faults.push(`${name} (${kind}): ${ruleOf(this.types['not there'], kind) ?? 'is no type that is known here'}`);
     });
@@ -193,11 +198,16 @@ class Lowering {
     this.faults.push(`${what} ${fault.message}`);
   }
 
+  // Keeps of a part with controls what moves.js needs: its type, its attributes and the ids of its pieces.
+  control(part, kind, attrs, rule, ids) {
+    if (rule.controls) this.controls.set(part.get('id'), new Map([['type', kind], ['attrs', attrs], ['ids', ids]]));
+  }
+
   leaveOut(name, kind) {
     const rule = this.types['left out'][kind];
     this.pins.set(name, null);
     this.reshaped.add(name);
-    this.notes.push(`${name} (${kind}) ${rule.why}, and is left out; its wires stay`);
+    this.notes.push(`${name} (${kind}) ${rule.why}${rule.controls ? '' : ', and is left out; its wires stay'}`);
     for (const [first, ...others] of rule.joined || []) for (const pin of others) this.nets.join(nodeOf(name, first), nodeOf(name, pin));
   }
 
@@ -216,7 +226,7 @@ class Lowering {
     const name = part.get('id'), kind = part.get('type'), piece = rule.as[0];
     this.pins.set(name, null);
     this.scenery.push(this.placed(part, this.pieceType(part, piece, rule, attrs), name).set('attrs', this.givenTo(part, piece, attrs)).set('as', kind));
-    this.notes.push(`${name} (${kind}) is shown by the page alone: a board has room for ${MOST_CHIPS} chips`);
+    this.notes.push(`${name} (${kind}) is shown by the page alone: ${rule['page alone'] ?? `a board has room for ${MOST_CHIPS} chips`}`);
   }
 
   keepChip(part, attrs) {
@@ -247,6 +257,10 @@ class Lowering {
         this.ends.get(node).push(`${made}:${now}`);
       }
       this.put(part, this.pieceType(part, piece, rule, attrs), made, fitted);
+      if (piece.hidden) {
+        this.parts.at(-1).set('within', name).set('hide', true);
+        continue;
+      }
       if (asItself) {
         this.parts.at(-1).set('as', kind);
         this.whole.set(name, made);
@@ -257,8 +271,9 @@ class Lowering {
         this.ends.delete(nodeOf(name, 'DOUT'));
       }
     }
-    for (const both of rule.wires || []) this.inner.push([...both.map(end => `${names.get(end.split(':')[0])}:${end.split(':')[1]}`), '', []]);
-    const pieces = rule.as.map(piece => `${names.get(piece.id)} (${piece.type})`).join(', ');
+    for (const both of rule.wires || []) (rule.controls ? this.unseen : this.inner).push([...both.map(end => `${names.get(end.split(':')[0])}:${end.split(':')[1]}`), '', []]);
+    this.control(part, kind, attrs, rule, names);
+    const pieces = rule.as.filter(piece => !piece.hidden).map(piece => `${names.get(piece.id)} (${piece.type})`).join(', ');
     if (rule.as[0].type !== kind || 'says' in rule) this.notes.push(`${name} (${kind}) is ${pieces}${'says' in rule ? `: it ${rule.says}` : ''}`);
   }
 
@@ -278,14 +293,14 @@ class Lowering {
     if (rule.display) {
       try {
         size = sizeOf(rule, attrs);
-        if (!(Math.min(size.width, size.height) >= 1 && size.width * size.height <= MOST_PIXELS)) throw new ValueFault(`a display has 1 to ${MOST_PIXELS} pixels`);
+        if (!(Math.min(size.width, size.height) >= 1 && (size.width * size.height <= MOST_PIXELS || 'page alone' in rule))) throw new ValueFault(`a display has 1 to ${MOST_PIXELS} pixels`);
       } catch (fault) {
         this.valueFault(fault, `${part.get('id')} (${part.get('type')}): its display:`);
         size = { width: 1, height: 1 };
       }
       made += `-${size.width}x${size.height}`;
     }
-    const own = [rule.chip, size, rule['drawn as itself'] ? [...new Set(Object.values(piece.pins))] : null], same = JSON.stringify(own);
+    const pins = [...new Set(Object.values(piece.pins)), ...(rule.as.some(it => it.hidden) ? [CONTROL] : [])], own = [rule.chip, size, rule['drawn as itself'] ? pins : null], same = JSON.stringify(own);
     while (this.chipPins.has(made) || (this.ownChips.has(made) && JSON.stringify(this.ownChips.get(made)) !== same)) made += '-';
     this.ownChips.set(made, own);
     return `chip-${made}`;
@@ -399,7 +414,8 @@ class Lowering {
       if (count > most) this.refuseBoard(`there are ${count} ${what}, and ${most} is the most${ours && `; chips in place of Wokwi's parts are ${ours}`}`);
     }
     const drawn = this.scenery.length || this.isOther ? this.drawing() : this.diagram.get('drawn');
-    return diagramText(this.diagram.has('author') ? this.diagram.get('author') : '', this.parts, this.wires, isThere(drawn) ? drawn : null);
+    const controls = this.controls.size ? this.controls : this.diagram.get('controls');
+    return diagramText(this.diagram.has('author') ? this.diagram.get('author') : '', this.parts, this.wires, isThere(controls) ? controls : null, isThere(drawn) ? drawn : null);
   }
 }
 
@@ -417,8 +433,8 @@ const nodeOf = (name, pin) => JSON.stringify([name, pin]);
 const isThere = it => !(it === undefined || it === null || it === false || it === '' || (isNumeral(it) && it.value === 0) || (Array.isArray(it) && !it.length) || (it instanceof Map && !it.size));
 
 // A diagram as the editor lays it out: a part and a wire a line.
-function diagramText(author, parts, wires, drawn) {
+function diagramText(author, parts, wires, controls, drawn) {
   const list = (name, items) => [`  "${name}": [`, ...items.map((it, i) => `    ${jsonText(it)}${i < items.length - 1 ? ',' : ''}`), '  ],'];
   return ['{', '  "version": 1,', `  "author": ${jsonText(author)},`, '  "editor": "wokwi",', ...list('parts', parts), ...list('connections', wires),
-    ...(drawn ? [`  "drawn": ${jsonText(drawn)},`] : []), '  "dependencies": {}', '}'].join('\n') + '\n';
+    ...[['controls', controls], ['drawn', drawn]].filter(([, value]) => value).map(([name, value]) => `  "${name}": ${jsonText(value)},`), '  "dependencies": {}', '}'].join('\n') + '\n';
 }

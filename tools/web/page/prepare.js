@@ -3,13 +3,30 @@
 // tools/wokwi/lower.py makes one of a folder of Wokwi's editor. A page compiles nothing: firmware and chips' modules must be there.
 //
 //   preparedOf(project, { types, chips })    types: tools/wokwi/types.json; chips: {file of tools/wokwi/chips: bytes}
-//     -> { project, notes, faults, placeOf }     notes say what was changed, faults what was left out
+//     -> { project, notes, faults, placeOf, controls }   notes say what was changed, faults what was left out; controls as run.js has them
 //     -> { complaint }                           why there is nothing to run
 //   placeOf(place, file) is where a place of a new file was in the project's own; null of what is new in it.
 
 class ProjectFault extends Error {}
 
 function preparedOf(project, kit) {
+  const prepared = boardOf(project, kit);
+  if (prepared.complaint) return prepared;
+  let diagram;
+  try { diagram = JSON.parse(textOf(prepared.project, 'diagram.json').replace(/^\uFEFF/, '')); } catch { return prepared; }      // the simulator says what is wrong
+  if (!diagram || !Array.isArray(diagram.parts) || !diagram.parts.every(part => part && typeof part.id === 'string')) return prepared;
+  try {
+    const own = textOf(project, SCRIPT), { text, seen } = expanded(own, diagram, kit.types), controls = controlsOf(diagram, kit.types, seen);
+    if (text === own) return { ...prepared, controls };
+    return { ...prepared, controls, project: { ...prepared.project, files: new Map([...prepared.project.files, [SCRIPT, utf8.encode(text)]]) } };
+  } catch (fault) {
+    if (fault instanceof MoveFault) return { complaint: fault.message };
+    throw fault;
+  }
+}
+
+// The project with a board that the simulator takes, and its script as it was.
+function boardOf(project, kit) {
   const same = { project, notes: [], faults: [], placeOf: place => place };
   let diagram;
   try { diagram = readJson(textOf(project, 'diagram.json').replace(/^\uFEFF/, '')); } catch { return same; }      // the simulator says what is wrong

@@ -20,18 +20,25 @@ sys.path[:0] = [WOKWI]
 import archive
 import diagram as diagrams
 import lower
+import moves
 import test_archive
 
 PROJECTS = os.path.join(WOKWI, "projects")
 TYPES = diagrams.table()
 
 
-def in_page(archives: Sequence[bytes] = (), projects: Sequence[dict] = (), folders: Sequence[dict] = ()) -> dict:
+def in_page(
+    archives: Sequence[bytes] = (),
+    projects: Sequence[dict] = (),
+    folders: Sequence[dict] = (),
+    scripts: Sequence[dict] = (),
+) -> dict:
     """What the page's code makes of them."""
     asked = {
         "archives": [base64.b64encode(it).decode() for it in archives],
         "projects": list(projects),
         "folders": list(folders),
+        "scripts": list(scripts),
     }
     words = [shutil.which(os.environ.get("NODE", "node")), os.path.join(HERE, "same.mjs")]
     return json.loads(
@@ -455,6 +462,50 @@ class Same(unittest.TestCase):
             for _ in range(count)
         ]
         self.compare(made, [f"SEED={seed}, diagram {n}" for n in range(count)])
+
+    def test_scripts_at_random(self) -> None:
+        seed = int(os.environ.get("SEED", "1"))
+        chance, given, expected = random.Random(seed), [], []
+        moved = [(kind, rule) for key in ("lowered", "left out") for kind, rule in TYPES[key].items() if "controls" in rule]
+        self.assertGreater(len(moved), 15)
+        simulated = [(kind, {}) for kind in moves.RANGES]
+        for count in range(int(os.environ.get("COUNT", "500"))):
+            kinds = chance.sample(moved, 3) + chance.sample(simulated, 2)
+            attrs = {"delayTime": "0.01", "inhibitTime": "0.02", "retrigger": chance.choice("01"), "threshold": "1.5"}
+            parts = [
+                {"type": kind, "id": f"p{n}", "attrs": attrs if n % 2 else {}, "left": n}
+                for n, (kind, _) in enumerate(kinds)
+            ]
+            uno = {"type": "wokwi-arduino-uno", "id": "uno"}
+            lowering = diagrams.Lowering({"version": 1, "parts": [uno, *parts], "connections": []}, {}, TYPES)
+            made, lines, cycle = lowering.outcome(), [], 0
+            for _ in range(chance.randrange(1, 9)):
+                cycle += chance.choice((0, 1, 40, 16000, 333333, 3000000))
+                n = chance.randrange(5)
+                names = [*kinds[n][1].get("controls", {"value": {}})]
+                name = chance.choice(names) if chance.random() < 0.95 else chance.choice(["position", "r2c3", "3", "none"])
+                rule = kinds[n][1].get("controls", {}).get(name, {})
+                values = [*rule.get("words", [])] or [str(chance.uniform(rule.get("min", 0), rule.get("max", 1)))[:17], "1", "0"]
+                values = values if chance.random() < 0.95 else ["-3", "12.34567", "1.05", "100k", "x", "1e3"]
+                where = f"{cycle}cy" if cycle % 16 or chance.random() < 0.5 else f"{cycle // 16}us"
+                lines.append(f"{where} set p{n} {name} {chance.choice(values)}")
+                if chance.random() < 0.1:
+                    lines.append(f"{where} {chance.choice(['press', 'release'])} p{chance.randrange(3, 6)} bounce")
+                if chance.random() < 0.1:
+                    lines.append(f"{where} set p{chance.randrange(3, 6)} {chance.randrange(3)}")
+                if chance.random() < 0.03:
+                    lines.append(chance.choice(["# a word", "", "5us set p0", "x", f"{where}  set  p4   1", "0cy set p3 1 2 3"]))
+            given.append({"diagram": diagrams.text_of(made), "script": chance.choice(["\n", "\r\n"]).join(lines)})
+            try:
+                text, seen = moves.expanded(given[-1]["script"], json.loads(given[-1]["diagram"]))
+                controls = moves.controls_of(json.loads(given[-1]["diagram"]), seen)
+                expected.append({"text": text, "seen": [list(it) for it in seen], "controls": controls})
+            except moves.Fault as fault:
+                expected.append({"fault": str(fault)})
+        for n, (found, wanted) in enumerate(zip(in_page(scripts=given)["scripts"], expected)):
+            self.assertEqual(found, wanted, f"SEED={seed}, script {n}: {given[n]['script']}")
+        self.assertGreater(sum("text" in it for it in expected), len(expected) // 8)
+        self.assertGreater(sum("fault" in it for it in expected), len(expected) // 8)
 
     def test_what_is_no_diagram(self) -> None:
         texts = [

@@ -1,7 +1,8 @@
 // A sensor of temperature and humidity with one wire (AM2302/DHT22): where the wire was low for 0.8 ms it answers with 40 bits,
 // the humidity and the temperature in tenths, 16 bits each, and the sum of their bytes. A negative temperature has bit 15 set.
-// The attributes `temperature` and `humidity` are in tenths of a degree Celsius and of a percent.
-#include "wokwi-api.h"
+// The attributes `temperature` and `humidity` are in tenths of a degree Celsius and of a percent; a hand
+// moves them from -400 to 800 and from 0 to 1000.
+#include "control.h"
 
 enum {
     BITS = 40,
@@ -53,8 +54,8 @@ static void on_timer(void *user_data) {
 }
 
 static void measure(void) {
-    int32_t degrees = (int32_t)attr_read(temperature);
-    uint32_t percent = attr_read(humidity);
+    int32_t degrees = control_read(temperature);
+    uint32_t percent = (uint32_t)control_read(humidity);
     uint32_t code = degrees < 0 ? 0x8000 | (uint32_t)-degrees : (uint32_t)degrees;
     answer[0] = percent >> 8;
     answer[1] = percent;
@@ -82,8 +83,9 @@ static void on_change(void *user_data, pin_t pin, uint32_t value) {
 }
 
 void chip_init(void) {
-    temperature = attr_init("temperature", 240);
-    humidity = attr_init("humidity", 400);
+    temperature = control_init("temperature", 240, -400, 1, 1201);
+    humidity = control_init("humidity", 400, 0, 1, 1001);
+    control_watch();
     wire = pin_init("SDA", INPUT_PULLUP);
     const timer_config_t times = {.callback = on_timer};
     timer = timer_init(&times);

@@ -1,7 +1,8 @@
 // An ultrasonic distance sensor (HC-SR04): a pulse of 10 us on TRIG makes one on ECHO, which is high for the sound's way there
 // and back, 58 us for a centimetre. It begins 460 us after the pulse, when its own 8 cycles of 40 kHz are sent, and is 38 ms long
-// where nothing is within 4 m. The attribute `distance` is in millimetres.
-#include "wokwi-api.h"
+// where nothing is within 4 m. The attribute `distance` is in millimetres, and a hand
+// moves it from 20 to 4000.
+#include "control.h"
 
 enum {
     PULSE = 10,      // us
@@ -18,7 +19,7 @@ static uint64_t rose;
 static enum { IDLE, SENDING, HEARING } state;
 
 static uint64_t way_nanos(void) {
-    uint32_t mm = attr_read(distance);
+    uint32_t mm = (uint32_t)control_read(distance);
     if (mm > FARTHEST) {
         return NOTHING * 1000ull;
     }
@@ -50,7 +51,8 @@ static void on_trigger(void *user_data, pin_t pin, uint32_t value) {
 }
 
 void chip_init(void) {
-    distance = attr_init("distance", 4000);
+    distance = control_init("distance", 4000, NEAREST, 1, FARTHEST - NEAREST + 1);
+    control_watch();
     echo = pin_init("ECHO", OUTPUT_LOW);
     const timer_config_t times = {.callback = on_timer};
     timer = timer_init(&times);

@@ -1,9 +1,10 @@
 // An accelerometer and gyroscope on I2C at address 0x68, 0x69 where AD0 is high (MPU-6050): its registers as they can be read and
-// written, with acceleration, temperature and rotation that stay as the attributes say, by the ranges that are set. While it
+// written, with acceleration, temperature and rotation as the attributes say, by the ranges that are set. While it
 // sleeps, as at the beginning, they are 0. There is no motion detection, no FIFO and no interrupt.
 // accelX to accelZ are in thousandths of g, rotationX to rotationZ in thousandths of a degree a second, temperature in
-// thousandths of a degree Celsius.
-#include "wokwi-api.h"
+// thousandths of a degree Celsius. A hand moves them from -16 to 16 g by 0.01, from -2000 to 2000 degrees a second, and from -40 to
+// 85 degrees by 0.1.
+#include "control.h"
 
 enum { SIZE = 128, GYRO_CONFIG = 0x1B, ACCEL_CONFIG = 0x1C, ACCEL_XOUT = 0x3B, LAST_OUT = 0x48, POWER = 0x6B, WHO_AM_I = 0x75 };
 enum { RESET = 0x80, SLEEP = 0x40 };
@@ -34,14 +35,14 @@ static int32_t output(uint32_t word) {
         return 0;
     }
     if (word < 3) {
-        int64_t value = (int32_t)attr_read(accel[word]);
+        int64_t value = control_read(accel[word]);
         return limited(value * (16384 >> (memory[ACCEL_CONFIG] >> 3 & 3)) / 1000);
     }
     if (word == 3) {
-        int64_t value = (int32_t)attr_read(temperature);
+        int64_t value = control_read(temperature);
         return limited((value - 36530) * 340 / 1000);
     }
-    int64_t value = (int32_t)attr_read(rotation[word - 4]);
+    int64_t value = control_read(rotation[word - 4]);
     return limited(value * 131 / (1 << (memory[GYRO_CONFIG] >> 3 & 3)) / 1000);
 }
 
@@ -83,10 +84,13 @@ static bool on_write(void *user_data, uint8_t data) {
 void chip_init(void) {
     static const char *const names[] = {"accelX", "accelY", "accelZ", "rotationX", "rotationY", "rotationZ"};
     for (uint32_t axis = 0; axis < 3; axis++) {
-        accel[axis] = attr_init(names[axis], axis == 2 ? 1000 : 0);
-        rotation[axis] = attr_init(names[axis + 3], 0);
+        accel[axis] = control_init(names[axis], axis == 2 ? 1000 : 0, -16000, 10, 3201);
     }
-    temperature = attr_init("temperature", 24000);
+    for (uint32_t axis = 0; axis < 3; axis++) {
+        rotation[axis] = control_init(names[axis + 3], 0, -2000000, 1000, 4001);
+    }
+    temperature = control_init("temperature", 24000, -40000, 100, 1251);
+    control_watch();
     ad0 = pin_init("AD0", INPUT_PULLDOWN);
     reset();
     const pin_t scl = pin_init("SCL", INPUT_PULLUP);
