@@ -14,7 +14,7 @@ from wave import moved_names
 HERE = os.path.join(os.path.dirname(os.path.abspath(__file__)), "page")
 # In this order, since each uses those before it. README.md says what is in which.
 SCRIPTS = ["wave.js", "vcd.js", "bus.js", "notes.js", "run.js", "playing.js", "display.js", "text.js", "svg.js", "parts.js", "shown.js", "sensors.js", "route.js", "breadboard.js", "board.js",
-           "rows.js", "plot.js", "waves.js", "frame.js", "controls.js", "look.js"]
+           "rows.js", "plot.js", "waves.js", "frame.js", "sound.js", "controls.js", "look.js"]
 PLAYER = "played.js"    # of the worker in which chips are played
 STYLES = ["board.css", "look.css"]
 STILL_ROWS = 24

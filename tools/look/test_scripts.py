@@ -24,6 +24,7 @@ sys.path.insert(1, os.path.join(examples.HERE, "..", "peers"))
 sys.path.append(os.path.join(examples.HERE, "..", "wokwi"))
 import boards  # noqa: E402
 import diagram as diagrams  # noqa: E402
+import moves  # noqa: E402
 
 PARTS_PAGE = os.path.join(examples.HERE, "..", "..", "docs", "PARTS.md")
 SUPPLIES = {"A4.2", "A5.2", "GND.1", "GND.2", "GND.3", "5V", "3.3V", "VIN", "IOREF", "AREF", "RESET"}
@@ -510,10 +511,58 @@ def check_notes():
     assert "halted" in texts[2][2] and "0xD0" in texts[1][2] and texts[1][1] < texts[2][1], texts
 
 
+def check_sound():
+    """What buzzers sound, from a wave: the tone's frequency, silence where nothing moves, and a tone far above hearing as near to none."""
+
+    def square(hertz, begin, end):
+        edges, half, at, level = [[0, 0]], 8_000_000 / hertz, begin, 1
+        while at < end:
+            edges.append([round(at), level])
+            at, level = at + half, 1 - level
+        return [*edges, [round(end), 0]] if edges[-1][1] else edges
+
+    waves = [square(440, 4_000_000, 12_000_000), square(100_000, 0, 16_000_000), [[0, 1]]]
+    found = evaluated("""given.map(edges => { const diagram = { parts: [{ type: 'wokwi-led', id: 'bz', as: 'wokwi-buzzer' }], connections: [] };
+      const run = makeRun({ title: 'x', cycles: 16e6, diagram, names: ['bz.A', 'bz.C'], of: [0, 1], waves: [makeWave(edges.map(it => it[0]), edges.map(it => it[1])), makeWave([0], [0])] });
+      const samples = buzzerSamples(run, 0), part = (from, to) => samples.slice(from, to), most = list => Math.max(...list.map(Math.abs)), crossings = list => list.filter((it, i) => i && it > 0 && list[i - 1] <= 0).length;
+      return { count: samples.length, hertz: 2 * crossings(part(11025, 33075)), loud: most(part(11025, 33075)), before: most(part(0, 11000)), after: most(part(40000, 44100)), later: buzzerSamples(run, 8e6).length }; })""", waves)
+    tone, high, still = found
+    assert tone["count"] == 44100 and tone["later"] == 22050, tone
+    assert abs(tone["hertz"] - 440) <= 2 and 0.1 < tone["loud"] <= 0.5, tone
+    assert tone["before"] == 0 and tone["after"] < 0.001, tone
+    assert high["loud"] < 0.06 and still["loud"] == 0, (high, still)
+
+
+def check_sensors():
+    """Each part with controls is drawn as itself, with what it is set to, and its hidden source nowhere."""
+    table, given, names = diagrams.table(), [], []
+    for kind, rule in {**table["lowered"], **table["left out"]}.items():
+        if "controls" not in rule:
+            continue
+        parts = [{"type": "wokwi-arduino-uno", "id": "uno", "top": 300}, {"type": kind, "id": "it"}, {"type": "wokwi-ir-receiver", "id": "ir", "left": 300}]
+        made = diagrams.Lowering({"version": 1, "parts": parts, "connections": []}, {}).outcome()
+        name, control = next(iter(rule["controls"].items()))
+        value = "7" if "words" in control else moves.number_text(control["min" if float(control["default"]) == control["max"] else "max"])
+        script, seen = moves.expanded(f"5us set it {name} {value}\n", made)
+        given.append({"diagram": made, "script": script, "controls": moves.controls_of(made, seen)})
+        names.append((kind, name, value, control.get("unit", "")))
+    drawn = evaluated("""given.map(({ diagram, script, controls }) => { const run = makeRun({ title: 'x', cycles: 16e6, diagram, script, controls, names: [], of: [], waves: [] }), board = drawBoard(run), out = [];
+      for (const t of [10, 4e6]) { board.update({ t, since: t }); out.push(boardPicture(board, ''), Object.fromEntries(board.texts({ t, since: t }))); } return out; })""", given)
+    assert len(drawn) > 15
+    for (kind, name, value, unit), (before, _, after, words) in zip(names, drawn):
+        ET.fromstring(before)
+        ET.fromstring(after)
+        assert f"<title>it: {kind}</title>" in after and "it-control" not in after, kind
+        assert f"{name} {value}" in words.get("it", "") or before != after, f"{kind}: {words}"
+        if unit and kind != "wokwi-ky-040":
+            assert words["it"].startswith(f"{name} {value} {unit}"), words
+            assert f">{value} {unit}<" in after and f">{value} {unit}<" not in before, kind
+
+
 def everything():
     bad, decoders = 0, {}
     steps = [("every edge and byte in the scripts", lambda: decoders.update(check_reads())), ("frames", lambda: check_frames(decoders)), ("parts", check_parts),
-             ("breadboards", check_breadboards), ("geometry", check_geometry), ("places of parts", check_places), ("boards", check_board), ("names", check_names), ("notes", check_notes), ("displays", check_showing), ("formats of UART", check_formats), ("what an OLED is told", check_writes), ("how oled-hello begins", check_beginning),
+             ("breadboards", check_breadboards), ("geometry", check_geometry), ("places of parts", check_places), ("boards", check_board), ("names", check_names), ("notes", check_notes), ("sensors", check_sensors), ("sound", check_sound), ("displays", check_showing), ("formats of UART", check_formats), ("what an OLED is told", check_writes), ("how oled-hello begins", check_beginning),
              ("OLEDs on broken frames", check_broken_frames), ("oled-hello at fifty times", lambda: check_oled("oled-hello")), ("lcd-hello at fifty times", lambda: check_display("lcd-hello")), ("lcd-i2c at fifty times", lambda: check_display("lcd-i2c"))]
     for name, step in steps:
         try:

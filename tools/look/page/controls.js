@@ -18,6 +18,7 @@ function makeBar(look) {
   bar.element = make('div', { className: 'bar' },
     button('◂ edge', 'to the edge before (Left)', () => look.edge(-1)), bar.play, button('edge ▸', 'to the next edge (Right)', () => look.edge(1)),
     make('label', { className: 'speed' }, 'speed ', bar.speed),
+    look.sound.element,
     make('label', { title: 'lights show their mean over the last 20 ms: dimmed by their duty, and digits that take turns together' }, bar.eye, ' as the eye sees'),
     bar.slide, bar.time);
   return bar;

@@ -33,7 +33,7 @@ function buildLook(look) {
   parts.sent = make('pre', { className: 'sent', tabIndex: 0, title: 'a click on a character goes to the time when it was sent' }, parts.before, parts.after);
   parts.sent.addEventListener('click', event => clickedByte(look, event));
   parts.sentAs.addEventListener('change', () => look.readAs(parts.sentAs.value));
-  look.frame = makeBoardFrame(); look.bar = makeBar(look); look.list = makeRowList(look); look.finder = makeFinder(look);
+  look.frame = makeBoardFrame(); look.sound = makeSound(); look.bar = makeBar(look); look.list = makeRowList(look); look.finder = makeFinder(look);
   look.pane = makeWavePane({ cursor: t => look.go(t, false), second: t => look.second(t), range: (from, to) => look.range(from, to), pick: key => look.pick(key), fold: id => look.fold(id) });
   parts.sentBox = section('Sent by the Uno ', make('span', {}, parts.sentNote, ' ', parts.sentAs), parts.sent, 'grows'); parts.nowBox = section('Parts at cursor A', '', parts.now, 'grows'); parts.reportBox = section('Report, at the end of the run', '', parts.report, '');
   parts.save = button('board as SVG', 'saves a picture of the board at cursor A', () => saveBoard(look), { className: 'save' });
@@ -96,6 +96,7 @@ function showRun(look, run) {
   look.board = drawBoard(run, { pin: name => { look.reveal(name); if (look.on.pin) look.on.pin(name); }, part: id => { if (look.on.part) look.on.part(id); } });
   look.frame.show(look.board);
   look.list.fill(run);
+  look.sound.show(run);
   showSent(look);
   look.bar.slide.min = run.from; look.bar.slide.max = run.to;
   const wanted = (run.to - run.from) / 16e6 / 12;      // at first, a run plays in some twelve seconds
@@ -213,11 +214,13 @@ function setPlaying(look, start) {
   view.playing = start;
   setText(look.bar.play, start ? '❚❚ Pause' : '▶ Play');
   if (look.on.play) look.on.play(start);
-  if (!start) { look.go(view.t, false); return; }
-  let last = performance.now(), at = view.t, shown = view.t;
+  if (!start) { look.sound.stop(); look.go(view.t, false); return; }
+  let last = performance.now(), at = view.t, shown = view.t, heard = null;        // heard: at which speed, with which box
   const step = now => {
     if (!view.playing || look.run !== run) return;
-    if (view.t !== shown) at = view.t;                 // someone moved the cursor
+    if (view.t !== shown) { at = view.t; heard = null; }         // someone moved the cursor
+    const how = view.speed === 1 && look.sound.box.checked;
+    if (how !== heard) { if (how) look.sound.play(run, at); else look.sound.stop(); heard = how; }
     at += Math.min(now - last, 100) / 1000 * view.speed * 16e6;
     last = now;
     look.go(at);
