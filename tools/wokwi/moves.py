@@ -146,13 +146,9 @@ class Moves:
 
     def move_simulated(self, cycle: int, part: str, control: str, value: str, rules: dict) -> None:
         """Moves a part that the simulator has, by the name of its control in the editor."""
-        kind = self.kinds.get(part)
-        if kind not in RANGES or rules:
-            raise Fault(
-                f"{part} has no control {control}" + (f"; it has {', '.join(rules)}" if rules else "")
-                if part in self.kinds or rules
-                else f"there is no part {part}"
-            )
+        kind, its = self.kinds.get(part), f"; it has {', '.join(rules)}" if rules else ""
+        if kind not in RANGES:
+            raise Fault(f"{part} has no control {control}{its}" if part in self.kinds or rules else f"there is no part {part}")
         given = self.number(part, control, value)
         bit = bit_of(kind, control)
         if kind == "wokwi-potentiometer" and control == "position":
@@ -160,7 +156,7 @@ class Moves:
         elif bit is not None:
             given = self.values.get(part, 0) & ~(1 << bit) | ((1 << bit) if given else 0)
         elif control not in ("value", "pressed", "position"):
-            raise Fault(f"{part} has no control {control}")
+            raise Fault(f"{part} has no control {control}{its}")
         whole = round(given)
         if not 0 <= whole <= RANGES[kind]:
             more = " (position 0 to 1)" if kind == "wokwi-potentiometer" else ""

@@ -25,7 +25,7 @@ function drawBoard(run, on = {}) {
   const drawing = { run, on, layers, updates: [], tells: [], leads: [], spots: new Map(), boxes: new Map(), named: [], legs: [], free: 0, levels: new Map(), box: [Infinity, Infinity, -Infinity, -Infinity] };
   for (const [one, other, , , pin] of run.wires) if (typeof pin === 'string') for (const end of [one, other]) drawing.levels.set(end, pin);
   for (const part of apart(run.parts.filter(part => !isWithin(run, part) && !isUnseen(part)), run.wires)) drawPart(drawing, part, entryOf(part, run.wires));
-  for (const part of run.parts.filter(part => isWithin(run, part) && !isUnseen(part))) tellPart(drawing, part, entryOf(part, run.wires));
+  for (const part of run.parts.filter(part => isWithin(run, part) && part.id !== part.within)) tellPart(drawing, part, entryOf(part, run.wires));
   for (const part of run.scenery) drawScenery(drawing, part);
   for (const wire of run.wires) drawWire(drawing, wire);
   for (const [part, box] of drawing.named) drawName(drawing, part, box);

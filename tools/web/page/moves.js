@@ -85,13 +85,13 @@ class Moves {
 
   // Moves a part that the simulator has, by the name of its control in the editor.
   moveSimulated(cycle, part, control, value, rules) {
-    const kind = this.kinds.get(part), names = Object.keys(rules);
-    if (!Object.hasOwn(RANGES, kind ?? '') || names.length) throw new MoveFault(this.kinds.has(part) || names.length ? `${part} has no control ${control}${names.length ? `; it has ${names.join(', ')}` : ''}` : `there is no part ${part}`);
+    const kind = this.kinds.get(part), names = Object.keys(rules), its = names.length ? `; it has ${names.join(', ')}` : '';
+    if (!Object.hasOwn(RANGES, kind ?? '')) throw new MoveFault(this.kinds.has(part) || names.length ? `${part} has no control ${control}${its}` : `there is no part ${part}`);
     let given = this.number(part, control, value);
     const bit = bitOf(kind, control);
     if (kind === 'wokwi-potentiometer' && control === 'position') given *= 1023;
     else if (bit !== null) given = (this.values.get(part) || 0) & ~(1 << bit) | (given ? 1 << bit : 0);
-    else if (!['value', 'pressed', 'position'].includes(control)) throw new MoveFault(`${part} has no control ${control}`);
+    else if (!['value', 'pressed', 'position'].includes(control)) throw new MoveFault(`${part} has no control ${control}${its}`);
     const whole = Number(rounded(given));
     if (!(whole >= 0 && whole <= RANGES[kind])) throw new MoveFault(`${part} takes 0 to ${RANGES[kind]}${kind === 'wokwi-potentiometer' ? ' (position 0 to 1)' : ''}, and not ${value}`);
     this.values.set(part, whole);
