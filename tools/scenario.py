@@ -37,6 +37,7 @@ import formulas
 import lower
 import moves
 import option
+import shown as showing
 import trapped
 import truth
 import typist
@@ -361,6 +362,30 @@ class Scenario:
                 alike = [it for it in report if it.split()[:2] == words] or report
                 raise self.failed(f"the report has no line {str(line)!r}; it has\n  " + "\n  ".join(alike))
 
+    def expect_shown(self, value):
+        name, expected = fields(value, "expect-shown", "part-id", "value")
+        if self.now == 0:
+            raise misused("expect-shown: no time has passed yet")
+        said = showing.said(self.board.exactly(self.now).report(), showing.kinds_of(self.board.folder))
+        if name not in said:
+            raise misused(f"expect-shown: {name} is no part that shows something in words; there are {', '.join(said) or 'none'}")
+        pieces = [said[name], *said[name].split(", "), *said[name].split("\n")]
+        for text in expected if isinstance(expected, list) else [expected]:
+            if str(text) not in pieces and str(text) not in [piece.strip("|").rstrip() for piece in pieces]:
+                raise self.failed(f"{name} shows {said[name]!r}, and not {text!r}")
+
+    def expect_pixel(self, value):
+        name, place, expected = fields(value, "expect-pixel", "part-id", "pixel", "value")
+        if self.now == 0:
+            raise misused("expect-pixel: no time has passed yet")
+        if not isinstance(place, int) or isinstance(place, bool) or not re.fullmatch("#[0-9a-fA-F]{6}", str(expected)):
+            raise misused("expect-pixel: `pixel` is a number from 0, and `value` a colour such as \"#FF8000\"")
+        found = showing.pixel(self.board.exactly(self.now).report(), self.board.made, str(name), place)
+        if found is None:
+            raise misused(f"expect-pixel: {name} is no part of pixels on the board, or has no pixel {place}")
+        if found != str(expected).upper():
+            raise self.failed(f"pixel {place} of {name} is {found}, and not {expected}")
+
     def expect_pulse(self, value):
         name, pin, length = fields(value, "expect-pulse", "part-id", "pin", "for", others=("value", "within"))
         level = level_text(value.get("value", 1), "expect-pulse")
@@ -400,7 +425,7 @@ class Scenario:
         return 0 if run.end() > begun + most or run.us == MOST else None
 
     STEPS = {"delay": delay, "wait-serial": wait_serial, "write-serial": write_serial, "set-control": set_control, "expect-pin": expect_pin,
-             "expect-report": expect_report, "expect-pulse": expect_pulse, "expect-within": expect_within}
+             "expect-report": expect_report, "expect-shown": expect_shown, "expect-pixel": expect_pixel, "expect-pulse": expect_pulse, "expect-within": expect_within}
 
     def play(self, steps, expect_text):
         for place, (word, value, line) in enumerate(steps, 1):

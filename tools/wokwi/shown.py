@@ -2,6 +2,7 @@
 
 import json
 import os
+import re
 from collections.abc import Callable
 
 Rows = dict[int, list[bytes]]  # of a display: by its number, the pixels of each row that is not all 0, four bytes each
@@ -69,15 +70,40 @@ def kinds_of(folder: str) -> dict[str, str]:
         return {part["id"]: part["as"] for part in json.load(file)["parts"] if "as" in part}
 
 
-def said(report: list[str], kinds: dict[str, str]) -> dict[str, str]:
-    """{id: words} of the parts that have words, from the lines of a report; the others are pictures."""
+def rows_of(report: list[str]) -> dict[str, Rows]:
+    """{id: the rows of its display} of the chips of a report."""
     rows: dict[str, Rows] = {}
     for line in report:
         words = line.split(" ")
-        if words[0] != "chip" or kinds.get(words[1]) not in SAYS:
-            continue
-        shown = rows.setdefault(words[1], {})
-        if words[2] == "row":
-            data = bytes.fromhex(words[4])
-            shown[int(words[3])] = [data[at : at + 4] for at in range(0, len(data), 4)]
-    return {name: SAYS[kinds[name]](shown) for name, shown in rows.items()}
+        if words[0] == "chip":
+            found = rows.setdefault(words[1], {})
+            if words[2] == "row":
+                data = bytes.fromhex(words[4])
+                found[int(words[3])] = [data[at : at + 4] for at in range(0, len(data), 4)]
+    return rows
+
+
+def pixel(report: list[str], diagram: dict, part: str, place: int) -> str | None:
+    """The colour of a pixel of a part, `#RRGGBB`, by its place on the wire, from 0; of a matrix row by row. None where the report has
+    no such part, or the part no such pixel.
+
+    A part of a chain is a share of the pixels of the chain's first part."""
+    parts = [*diagram["parts"], *diagram.get("drawn", {}).get("parts", [])]
+    found = next((it for it in parts if it["id"] == part and "as" in it), None)
+    share = found.get("slice", {"of": part, "from": 0, "count": None}) if found else {}
+    head = next((it for it in diagram["parts"] if it["id"] == share.get("of")), None)
+    size = re.fullmatch(r".*-(\d+)x(\d+)-*", head["type"]) if head else None
+    rows = rows_of(report).get(share.get("of", ""))
+    if rows is None or not size:
+        return None
+    wide, high = int(size[1]), int(size[2])
+    if not 0 <= place < (share["count"] or wide * high):
+        return None
+    at = share["from"] + place
+    row = rows.get(at // wide, [BLANK] * wide)
+    return f"#{row[at % wide][:3].hex().upper()}"
+
+
+def said(report: list[str], kinds: dict[str, str]) -> dict[str, str]:
+    """{id: words} of the parts that have words, from the lines of a report; the others are pictures."""
+    return {name: SAYS[kinds[name]](rows) for name, rows in rows_of(report).items() if kinds.get(name) in SAYS}

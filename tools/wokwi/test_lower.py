@@ -15,6 +15,7 @@ import diagram as diagrams
 import firmware
 import formulas
 import lower
+import shown
 import sketch
 import typist
 import wave
@@ -623,6 +624,25 @@ class Waves(unittest.TestCase):
         self.assertIsNone(wave.frames(line, b"abd"))
         self.assertIsNone(wave.frames(line, b"abcd"))
         self.assertIsNone(wave.frames([(0, "0")], b"a"))
+
+
+
+class Shown(unittest.TestCase):
+    """What a scenario asks of displays, from the lines of a report."""
+
+    def test_a_pixel_of_a_matrix_and_of_a_chain(self):
+        matrix = {"parts": [{"id": "m", "type": "chip-ws2812-3x2", "as": "wokwi-neopixel-matrix"}]}
+        report = ["chip m alive", "chip m row 1 010203FF0A0B0CFF000000FF"]
+        self.assertEqual([shown.pixel(report, matrix, "m", n) for n in (0, 3, 4, 6, -1)], ["#000000", "#010203", "#0A0B0C", None, None])
+        lowering, made = lowered(uno(part("wokwi-neopixel", "a"), part("wokwi-neopixel", "b"), wires=[("uno:6", "a:DIN"), ("a:DOUT", "b:DIN")]))
+        self.assertEqual(lowering.faults, [])
+        report = ["chip a alive", "chip a row 0 010203FF0A0B0CFF"]
+        self.assertEqual([shown.pixel(report, made, *of) for of in (("a", 0), ("b", 0), ("a", 1), ("uno", 0), ("c", 0))], ["#010203", "#0A0B0C", None, None, None])
+
+    def test_words(self):
+        report = ["uno uno pc 0x0000 run", "chip s alive", "chip s row 0 5AC005FF", "chip t alive", "chip own alive"]
+        kinds = {"s": "wokwi-servo", "t": "wokwi-servo"}
+        self.assertEqual(shown.said(report, kinds), {"s": "90 degrees, pulse 1472 us", "t": "no pulse"})
 
 
 if __name__ == "__main__":
