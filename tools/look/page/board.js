@@ -21,7 +21,7 @@ function pinState(run, name, { t, moving = t }) {
 
 function drawBoard(run, on = {}) {
   const layers = { boards: svg('g'), uno: svg('g'), wires: svg('g', { class: 'wires' }), parts: svg('g'), shine: svg('g', { class: 'shine', 'aria-hidden': 'true' }), pins: svg('g'), names: svg('g') };
-  const element = svg('svg', { class: 'board', role: 'img', 'aria-label': `the board: ${run.parts.map(part => part.id).join(', ')}` });
+  const element = svg('svg', { class: 'board', role: 'img', 'aria-label': `the board: ${run.parts.filter(part => !isUnseen(part)).map(part => part.id).join(', ')}` });
   const drawing = { run, on, layers, updates: [], tells: [], leads: [], spots: new Map(), boxes: new Map(), named: [], legs: [], free: 0, levels: new Map(), box: [Infinity, Infinity, -Infinity, -Infinity] };
   for (const [one, other, , , pin] of run.wires) if (typeof pin === 'string') for (const end of [one, other]) drawing.levels.set(end, pin);
   for (const part of apart(run.parts.filter(part => !isWithin(run, part) && !isUnseen(part)), run.wires)) drawPart(drawing, part, entryOf(part, run.wires));
