@@ -37,6 +37,7 @@ SEEN = (
     "lcd-2004",
     "lcd-scroll",
     "twelve-servos",
+    "led-matrix",
 )
 TIMES = 13
 # At each time what the report would have: rows of displays that are not all 0, and lines.

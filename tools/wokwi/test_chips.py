@@ -12,12 +12,12 @@ sys.path.insert(0, os.path.join(HERE, "..", "look"))
 from engine import EngineMissing, evaluated
 
 PLAY = """{ const out = [];
-  for (const { module, display, attrs, waves } of given) {
+  for (const { module, display, attrs, waves, at } of given) {
     const pins = Object.keys(waves), names = pins.map(pin => 'it.' + pin), to = 16 + Math.max(...Object.values(waves).map(edges => edges.at(-1)[0])) + 16000000;
     const run = makeRun({ title: 'x', cycles: to, diagram: { parts: [{ type: 'chip-it', id: 'it', attrs }] }, chips: { 'chip-it': pins }, modules: { 'chip-it': { module: bytesOf(module), display } },
       names, of: names.map((_, i) => i), waves: Object.values(waves).map(edges => makeWave(edges.map(it => it[0]), edges.map(it => it[1]))) });
     await playChips(run);
-    out.push([[...frameAt(run, run.parts[0], to).pixels], run.unplayed.map(it => it.text)]);
+    out.push([[...frameAt(run, run.parts[0], at ?? to).pixels], run.unplayed.map(it => it.text)]);
   }
   return out; }"""
 
@@ -27,6 +27,7 @@ class Wires:
 
     def __init__(self, **first: int) -> None:
         self.now = 1000
+        self.at: int | None = None  # the cycle at which it is looked at; else a second after the last edge
         self.edges = {pin: [[0, level]] for pin, level in first.items()}
 
     def set(self, pin: str, level: int, after: int = 0) -> "Wires":
@@ -35,6 +36,11 @@ class Wires:
         if self.edges[pin][-1][1] != level:
             self.edges[pin].append([cycle, level])
         self.now += after
+        return self
+
+    def look(self) -> "Wires":
+        """What is shown now is what counts."""
+        self.at = round(self.now / 62.5)
         return self
 
     def wait(self, ns: int) -> "Wires":
@@ -47,7 +53,7 @@ def shown(chip: str, size: tuple[int, int], *cases: Wires, **attrs: str) -> list
     """The pixels that a chip shows at the end of each case."""
     with open(os.path.join(HERE, "chips", chip + ".wasm"), "rb") as file:
         module = base64.b64encode(file.read()).decode()
-    got = evaluated(PLAY, [{"module": module, "display": size, "attrs": attrs, "waves": case.edges} for case in cases])
+    got = evaluated(PLAY, [{"module": module, "display": size, "attrs": attrs, "waves": case.edges, "at": case.at} for case in cases])
     for _, unplayed in got:
         assert unplayed == [], unplayed
     return [[tuple(pixels[at : at + 4]) for at in range(0, len(pixels), 4)] for pixels, _ in got]
@@ -320,6 +326,44 @@ def needs_an_engine(test: unittest.TestSuite) -> int:
         return 0
     return not unittest.TextTestRunner().run(test).wasSuccessful()
 
+
+
+class Matrix(unittest.TestCase):
+    """A bare matrix of LEDs."""
+
+    def wires(self, row: int = 0, **first: int) -> Wires:
+        """All rows at one level and all columns at the other: dark, and open where the other way round."""
+        sides = {f"R{n}": row for n in range(1, 9)} | {f"C{n}": 1 - row for n in range(1, 9)}
+        return Wires(**sides | first).wait(1000)
+
+    def lit(self, *cases: Wires, **attrs: str) -> list[dict[int, int]]:
+        """{the LED, row by row from 0: how much it is lit} of each case."""
+        found = shown("led-matrix", (8, 8), *cases, **attrs)
+        return [{at: pixel[0] for at, pixel in enumerate(pixels) if pixel[0]} for pixels in found]
+
+    def test_rows_in_turn_are_seen_together(self) -> None:
+        wires = self.wires()
+        for _ in range(6):  # of eight rows of 1.25 ms the third has two LEDs, and the last one for a fifth of its time
+            for row in range(1, 9):
+                columns = (2, 7) if row == 3 else (4,) if row == 8 else ()
+                for column in columns:
+                    wires.set(f"C{column}", 0)
+                wires.set(f"R{row}", 1, 250_000)
+                wires.set("C4", 1, 1_000_000).set(f"R{row}", 0)
+                for column in columns:
+                    wires.set(f"C{column}", 1)
+        self.assertEqual(self.lit(wires.look()), [{17: 31, 22: 31, 59: 6}])
+
+    def test_steady_and_then_dark(self) -> None:
+        steady = self.wires(C2=0).set("R3", 1, 30_000_000).look()
+        ended = self.wires(C2=0).set("R3", 1, 30_000_000).set("R3", 0, 25_000_000).look()
+        again = self.wires(C2=0).set("R3", 1, 5_000_000).set("R3", 0, 60_000_000).set("R4", 1, 30_000_000).look()
+        self.assertEqual(self.lit(steady, ended, again), [{17: 255}, {}, {25: 255}])
+
+    def test_the_other_way_round(self) -> None:
+        wires = self.wires(row=1).set("R1", 0).set("C1", 1, 30_000_000).look()
+        self.assertEqual(self.lit(wires, cathode="1"), [{0: 255}])
+        self.assertEqual(len(self.lit(wires)[0]), 49)
 
 
 class ColourDisplay(unittest.TestCase):

@@ -132,6 +132,21 @@ SHOWN['wokwi-a4988'] = {
   },
 };
 
+SHOWN['wokwi-led-matrix'] = byChip({
+  size: [105, 105], pins: { ...row('R1 R2 R3 R4 R5 R6 R7 R8', 18, 103), ...row('C1 C2 C3 C4 C5 C6 C7 C8', 18, 2) },
+  make(g, part) {
+    const color = colorOf(part.attrs.color, COLORS.red);
+    g.append(rect(2, 5, 101, 95, { rx: 2, fill: '#1a1c1e', stroke: '#0f1112' }));
+    return upTo(64).map(i => { const dot = circle(13 + 11.3 * (i & 7), 13 + 11.3 * (i >> 3), 4.4); g.append(dot); return Object.assign(lamp(dot, '#40454a'), { color }); });
+  },
+  show(dots, frame) { dots.forEach((dot, i) => glow(dot.element, dot.dark, dot.color, Math.min(8 * frame.pixels[4 * i] / 255, 1))); },     // one row in eight at a time is all that a matrix can
+  tell: litCount,
+});
+SHOWN['wokwi-nlsf595'] = {
+  size: [92, 34], pins: { ...row('QB QC QD QE QF QG QH GND', 12.4, 32), ...row('VCC QA SI OE RCK SCK RST SQH', 12.4, 2) },
+  draw(g) { g.append(path(`M12.4 2V32${upTo(7).map(i => `M${22 + 9.6 * i} 2V32`).join('')}`, { class: 'lead' }), rect(4, 6, 84, 22, { rx: 1.5, fill: '#2b2f32', stroke: '#0f1112' }), label(46, 20, 'NLSF595', { ...middle, 'font-size': 8, fill: '#c9cdcf' })); },
+};
+
 // A colour display: the picture of its chip, as the upright module has it.
 const colourDisplay = pins => byChip({
   size: [190, 292], pins: row(pins, 40, 290, 10.5),
