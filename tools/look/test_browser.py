@@ -1,12 +1,15 @@
 #!/usr/bin/env python3
 """The pages in a headless Chromium: every example opens without a message, keys and mouse do what the page says, cursors show what the
 wave has. Ends with 1 where something fails, and says that it was skipped where there is no Chromium."""
+import json
 import os
+import shutil
 import sys
 import tempfile
 import time
 
 import examples
+import test_played
 from browser import Browser
 from look import arguments, seen_of
 from page import page_of
@@ -203,6 +206,29 @@ def check_screens(page, box):
     silent(page)
 
 
+def check_hostile(page, box):
+    """Modules that never come back, are none or have too much memory, in a page with its own policy: the page answers and draws all the
+    while, the worker is ended, what cannot be shown is said, and the chips before and after them are shown."""
+    if not shutil.which(os.environ.get("CLANG", "clang")):
+        print("look, hostile modules in a page: skipped, there is no clang", file=sys.stderr)
+        return
+    modules = {name: test_played.examples_bytes(test_played.compiled(box, name, test_played.LOOPS, f"-DLAST={last}")) for name, last in (("module", 99), ("loops", 1))}
+    page.open(write_page(box, "chip-display"))
+    page.js(f"window.given = {json.dumps(modules)}; window.got = null; window.drawn = 0; window.longest = 0; 0")
+    page.js("(async () => " + test_played.HOSTILE + ")().then(it => { window.got = it; }, error => { window.got = { fault: String(error) }; }); 0")
+    page.js("{ let last = performance.now(); const step = now => { drawn++; longest = Math.max(longest, now - last); last = now; if (!got) requestAnimationFrame(step); }; requestAnimationFrame(step); } 0")
+    end = time.monotonic() + 300
+    while not page.js("got !== null"):
+        assert time.monotonic() < end, "the page waits for a module"
+        page.js("it.go(Math.round(Math.random() * it.run.to)); document.title")  # the page's own look goes on
+        time.sleep(0.2)
+    got, drawn, longest = page.js("[got, drawn, longest]")
+    assert got.get("shown") == [2, 0, 0, 0, 2], got
+    assert ["did not come back" in got["unplayed"][0], "too large" in got["unplayed"][2]] == [True, True], got
+    assert drawn > 20 and longest < 10_000, f"the page drew {drawn} times, once after {longest:.0f} ms"
+    silent(page)
+
+
 def everything():
     bad = 0
     try:
@@ -214,7 +240,7 @@ def everything():
         with tempfile.TemporaryDirectory() as box:
             steps = [(f"page of {name} opens", check_opens, (page, box, name)) for name in examples.names()]
             steps += [("keys", check_keys, (page, box)), ("mouse", check_mouse, (page, box)), ("tools", check_tools, (page, box)),
-                      ("what was left out", check_left, (page, box)), ("screens", check_screens, (page, box))]
+                      ("hostile modules", check_hostile, (page, box)), ("what was left out", check_left, (page, box)), ("screens", check_screens, (page, box))]
             for name, step, values in steps:
                 try:
                     step(*values)
