@@ -108,7 +108,7 @@ SHOWN['wokwi-ir-receiver'] = {
   },
   tell: (part, run, { t }) => { const key = controlAt(run, part.id, 'key', t); return key ? `key ${key}` : null; },
 };
-const REMOTE_KEYS = words('power menu test plus back previous play next 0 minus c 1 2 3 4 5 6 7 8 9'), KEY_SIGNS = { power: '⏻', plus: '+', back: '↩', previous: '⏮', play: '▶', next: '⏭', minus: '−' };
+const REMOTE_KEYS = words('power menu test plus back previous play next 0 minus c 1 2 3 4 5 6 7 8 9'), KEY_SIGNS = { plus: '+', back: '↩', previous: '◂◂', play: '▶', next: '▸▸', minus: '−' };
 SHOWN['wokwi-ir-remote'] = {
   size: [150, 317], pins: {},
   draw(g, part, run) {
