@@ -1,6 +1,6 @@
 // Attributes that a hand moves during a run. One pulse on the chip's pin `control` moves one of them: the pulse's length in cycles
 // counts the places of all controls, one after another and from 1. So after a control of 50 places the next one has its first place at
-// 51 cycles. Until it is moved an attribute is as the diagram gives it. tools/wokwi/moves.py makes the pulses, by `places` of types.json.
+// 51 cycles. Until it is moved an attribute is as the diagram gives it. tools/wokwi/moves.py makes the pulses.
 #ifndef CONTROL_H
 #define CONTROL_H
 #include "wokwi-api.h"
@@ -38,7 +38,7 @@ static void on_control(void *user_data, pin_t pin, uint32_t value) {
 }
 
 // One more control, in the order of its places.
-static uint32_t control_init(const char *name, uint32_t given, int32_t least, int32_t step, uint32_t places) {
+__attribute__((unused)) static uint32_t control_init(const char *name, uint32_t given, int32_t least, int32_t step, uint32_t places) {
     controls[control_count] = (control_t){attr_init(name, given), least, step, places, 0};
     return control_count++;
 }

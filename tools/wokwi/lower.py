@@ -22,6 +22,7 @@ import archive
 import attributes
 import diagram as diagrams
 import firmware as firmwares
+import moves
 import sketch as sketches
 
 CHIPS = os.path.join(HERE, "chips")
@@ -129,23 +130,72 @@ class Chip:
         with open(self.source, encoding="utf-8", errors="replace") as file, open(BUILD, encoding="utf-8") as build:
             return "--libc" in build.read() and bool(re.search(r"^\s*#\s*include\s*<(?:stdio|stdlib|string|math|ctype|time)\.h>", file.read(), flags=re.M))
 
+    def moved(self, say):
+        """The controls that a script can move, as a rule of moves.py; what keeps one from it is said. A module is as it was built."""
+        rules, faults = moves.chip_rules(read_json(self.text, "file of pins"))
+        if rules and self.module:
+            faults, rules = [f"its controls keep their values: only a chip that is built from its source ({self.name}.chip.c, and no module) has what moves them"], {}
+        elif rules and (diagrams.CONTROL in self.pins() or len(self.pins()) > 63):
+            faults, rules = [f"its controls keep their values: they take a pin called {diagrams.CONTROL}"], {}
+        for fault in faults:
+            say(f"chip {self.name}: {fault}")
+        return rules
+
     def put(self, out, stem, say):
-        shutil.copyfile(self.text, os.path.join(out, f"{stem}.json"))
-        module = os.path.join(out, f"{stem}.wasm")
+        """Writes the module and the pin file, and returns the controls that a script can move."""
+        module, rules = os.path.join(out, f"{stem}.wasm"), self.moved(say)
         if self.module:
+            shutil.copyfile(self.text, os.path.join(out, f"{stem}.json"))
             shutil.copyfile(self.module, module)
-            return
+            return {}
         say(f"building chip {self.name} from {os.path.basename(self.source)}")
-        for words in ([], ["--libc"]) if self.wants_libc() else ([],):
-            ran = subprocess.run([BUILD, "--names", *words, "-o", module, self.source], stdout=subprocess.PIPE, stderr=subprocess.STDOUT, text=True, errors="replace", check=False)
-            if not ran.returncode:
-                break
-        else:
+        with tempfile.TemporaryDirectory() as work:
+            for with_rules in ([rules, {}] if rules else [{}]):
+                header = controls_header(with_rules, work)
+                for words in ([], ["--libc"]) if self.wants_libc() else ([],):
+                    ran = subprocess.run([BUILD, "--names", *words, *header, "-o", module, self.source], stdout=subprocess.PIPE, stderr=subprocess.STDOUT, text=True, errors="replace", check=False)
+                    if not ran.returncode:
+                        break
+                if not ran.returncode:
+                    break
+        if ran.returncode:
             raise Fault(f"chip {self.name}: {ran.stdout.strip()}")
+        if rules and not with_rules:
+            say(f"chip {self.name}: its controls keep their values: it does not compile with sdk/controls.h")
+        pin_file = read_json(self.text, "file of pins")
+        with open(os.path.join(out, f"{stem}.json"), "w", encoding="utf-8") as file:
+            json.dump(pin_file | ({"pins": [*pin_file["pins"], diagrams.CONTROL]} if with_rules else {}), file)
         for line in ran.stdout.splitlines():
             if line.strip() and not line.startswith(module) and not re.fullmatch(r"[0-9]+ warnings? generated\.", line):
                 say(f"chip {self.name}: {line}")
         os.chmod(module, 0o644)
+        return with_rules
+
+
+def controls_header(rules, work):
+    """The words for the compiler of a chip with these controls."""
+    if not rules:
+        return []
+    rows = ", ".join(f'{{"{name}", {it["min"]}, {it["step"]}, {(it["max"] - it["min"]) // it["step"] + 1}}}' for name, it in rules.items())
+    path = os.path.join(work, "controls.h")
+    with open(path, "w", encoding="utf-8") as file:
+        file.write(f'#define CHIP_CONTROLS {rows}\n#include "{os.path.join(os.path.dirname(os.path.realpath(BUILD)), "controls.h")}"\n')
+    return [f"-include{path}"]
+
+
+def wire_controls(lowering, made, chip, rules, say):
+    """Gives each part that is a chip with controls its hidden source of levels, by which a script moves them."""
+    for part in [it for it in made["parts"] if it["type"] == f"chip-{chip}"]:
+        if len(made["parts"]) >= diagrams.MOST_PARTS or len(made["connections"]) >= diagrams.MOST_WIRES:
+            say(f"{part['id']}: its controls keep their values: the board has no room for another part")
+            continue
+        source = lowering.new_id(part["id"] + "-control")
+        place = {key: part[key] for key in ("top", "left") if key in part}
+        made["parts"].append({"type": "board-source", "id": source, **place, "hide": True, "within": part["id"], "attrs": {"value": "0"}})
+        made["connections"].append([f"{source}:OUT", f"{part['id']}:{diagrams.CONTROL}", "", []])
+        made.setdefault("controls", {})[part["id"]] = {"type": part["type"], "attrs": part["attrs"], "ids": {"-control": source}, "rules": rules}
+    if "drawn" in made:
+        made["drawn"]["of"] = diagrams.mark_of(made["connections"])
 
 
 def chips_of(folder, diagram, binaries):
@@ -252,7 +302,9 @@ def lower(folder, out, anyway=False, firmware=None, edit=None, change=None, say=
             stem = "chip-" + re.sub(r"[^A-Za-z0-9_-]", "_", name)
             while stem in (one for _, one in stems):
                 stem += "_"
-            chip.put(out, stem, say)
+            rules = chip.put(out, stem, say)
+            if rules:
+                wire_controls(lowering, made, name, rules, say)
             stems.append((name, stem))
         shown, on_board = [], {part["type"] for part in made["parts"]}
         for name, binary in only_shown.items():

@@ -91,7 +91,10 @@ class Moves:
 
     def rule_of(self, part: str) -> dict:
         """The controls of a part of the editor."""
-        kind = self.controls.get(part, {}).get("type", "")
+        it = self.controls.get(part, {})
+        if "rules" in it:  # a chip of the project
+            return it["rules"]
+        kind = it.get("type", "")
         rule = self.types["lowered"].get(kind) or self.types["left out"].get(kind) or {}
         return rule.get("controls", {})
 
@@ -299,6 +302,27 @@ def take(moves: Moves, line: str, last: int) -> int:
         raise Fault(f"{part} takes 0 to {most}, and not {value}")
     moves.put(cycle, line.split(" ", 1)[1].lstrip(" "))
     return cycle
+
+
+def chip_rules(pin_file: dict) -> tuple[dict[str, dict], list[str]]:
+    """(the controls of a chip by its JSON file, why others cannot be moved): whole numbers, as attributes are."""
+    rules: dict[str, dict] = {}
+    faults, before = [], 0
+    found = pin_file.get("controls", [])
+    for it in found if isinstance(found, list) else []:
+        name = it.get("id") if isinstance(it, dict) else None
+        ends = [it.get(key, usual) for key, usual in (("min", None), ("max", None), ("step", 1))] if name else []
+        if not isinstance(name, str) or not re.fullmatch("[A-Za-z_][A-Za-z0-9_]{0,31}", name) or name in rules:
+            faults.append(f"control {name}: a control has an `id` of letters, digits and _ of its own")
+        elif not all(isinstance(end, (int, float)) and end == int(end) and abs(end) < 2**31 for end in ends) or ends[2] < 1 or ends[0] > ends[1]:
+            faults.append(f"control {name}: `min`, `max` and `step` are whole numbers here")
+        elif len(rules) == 8 or (ends[1] - ends[0]) // ends[2] >= 20_000:
+            faults.append(f"control {name}: a chip has 8 controls of 20,000 places at most")
+        else:
+            low, high, step = map(int, ends)
+            rules[name] = {"min": low, "max": high, "step": step, "default": "", "unit": "", "places before": before}
+            before += (high - low) // step + 1
+    return rules, faults
 
 
 def controls_of(diagram: dict, seen: list[Seen], types: dict | None = None) -> dict[str, list]:

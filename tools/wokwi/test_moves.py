@@ -126,6 +126,39 @@ class Controls(unittest.TestCase):
         )
 
 
+class Chips(unittest.TestCase):
+    """Controls of a project's own chip, by its JSON file."""
+
+    def rules(self, *controls: object) -> tuple[dict[str, dict], list[str]]:
+        return moves.chip_rules({"name": "x", "pins": [], "controls": list(controls)})
+
+    def test_places_come_one_after_another(self) -> None:
+        level = {"id": "level", "label": "Level", "type": "range", "min": -10, "max": 90, "step": 5}
+        found, faults = self.rules(level, {"id": "offset", "min": 0, "max": 20.0})
+        self.assertEqual(faults, [])
+        self.assertEqual([(it["min"], it["step"], it["places before"]) for it in found.values()], [(-10, 5, 0), (0, 1, 21)])
+        record = {"c": {"type": "chip-x", "attrs": {}, "ids": {"-control": "c-control"}, "rules": found}}
+        parts = {"parts": [{"id": "c", "type": "chip-x"}], "connections": [], "controls": record}
+        text, _ = moves.expanded("0us set c level 90\n1us set c offset 0\n", parts)
+        lines = ["0us set c-control 1", "21cy set c-control 0", "22cy set c-control 1", "44cy set c-control 0"]
+        self.assertEqual(text.splitlines(), lines)
+
+    def test_what_cannot_be_moved_is_said(self) -> None:
+        fine = {"min": 0, "max": 1}
+        for control, text in (
+            ({"id": "a b", **fine}, "control a b: a control has an `id` of letters, digits and _ of its own"),
+            (7, "control None: a control has an `id` of letters, digits and _ of its own"),
+            ({"id": "a"}, "control a: `min`, `max` and `step` are whole numbers here"),
+            ({"id": "a", "min": 0, "max": 1, "step": 0.1}, "control a: `min`, `max` and `step` are whole numbers here"),
+            ({"id": "a", "min": 2, "max": 1}, "control a: `min`, `max` and `step` are whole numbers here"),
+            ({"id": "a", "min": 0, "max": 20000}, "control a: a chip has 8 controls of 20,000 places at most"),
+        ):
+            self.assertEqual(self.rules(control), ({}, [text]))
+        many, faults = self.rules(*({"id": f"a{n}", **fine} for n in range(9)))
+        self.assertEqual((len(many), len(faults)), (8, 1))
+        self.assertEqual(moves.chip_rules({"controls": 3}), ({}, []))
+
+
 class Scripts(unittest.TestCase):
     def test_a_script_without_such_lines_is_as_it_was(self) -> None:
         for text in ("", "# set a b c\n", "5us press b\r\n\r\n1us press nobody", "nothing at all", "5us set b 1\n"):

@@ -44,6 +44,7 @@ class Moves {
   idOf(part, ending) { return this.controls[part].ids[ending]; }
   // The controls of a part of the editor.
   ruleOf(part) {
+    if (Object.hasOwn(this.controls, part) && this.controls[part].rules) return this.controls[part].rules;        // a chip of the project
     const kind = Object.hasOwn(this.controls, part) ? this.controls[part].type : '', rule = ruleOf(this.types.lowered, kind) || ruleOf(this.types['left out'], kind) || {};
     return rule.controls || {};
   }
