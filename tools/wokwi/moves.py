@@ -151,7 +151,9 @@ class Moves:
         """Moves a part that the simulator has, by the name of its control in the editor."""
         kind, its = self.kinds.get(part), f"; it has {', '.join(rules)}" if rules else ""
         if kind not in RANGES:
-            raise Fault(f"{part} has no control {control}{its}" if part in self.kinds or rules else f"there is no part {part}")
+            raise Fault(
+                f"{part} has no control {control}{its}" if part in self.kinds or rules else f"there is no part {part}"
+            )
         given = self.number(part, control, value)
         bit = bit_of(kind, control)
         if kind == "wokwi-potentiometer" and control == "position":
@@ -232,7 +234,9 @@ class Moves:
     def bounce(self, cycle: int, action: str, part: str) -> None:
         """Presses or releases a button whose contact bounces."""
         if self.kinds.get(part) != "wokwi-pushbutton":
-            raise Fault(f"{part} is no push button, which alone bounces" if part in self.kinds else f"there is no part {part}")
+            raise Fault(
+                f"{part} is no push button, which alone bounces" if part in self.kinds else f"there is no part {part}"
+            )
         other = "release" if action == "press" else "press"
         for place, us in enumerate(BOUNCES[action]):
             self.put(cycle + us * MICROSECOND, f"{other if place % 2 else action} {part}")
@@ -281,7 +285,9 @@ def take(moves: Moves, line: str, last: int) -> int:
     """Takes a line, which may not be before the cycle `last`, and returns its cycle."""
     found = LINE.fullmatch(line)
     if not found:
-        raise Fault("it is no line of a script: TIME press ID, TIME release ID, TIME set ID V or TIME set ID CONTROL VALUE")
+        raise Fault(
+            "it is no line of a script: TIME press ID, TIME release ID, TIME set ID V or TIME set ID CONTROL VALUE"
+        )
     cycle, words = int(found[1]) * (MICROSECOND if found[2] == "us" else 1), found[5].split()
     action, part = found[3], found[4]
     if not last <= cycle <= LAST:
@@ -294,7 +300,9 @@ def take(moves: Moves, line: str, last: int) -> int:
         return cycle
     value = words[0] if words else {"press": "1", "release": "0", "set": ""}[action]
     if len(words) != (action == "set") or not re.fullmatch("[0-9]{1,5}", value):
-        raise Fault("it has other words than TIME press ID, TIME release ID, TIME set ID V or TIME set ID CONTROL VALUE")
+        raise Fault(
+            "it has other words than TIME press ID, TIME release ID, TIME set ID V or TIME set ID CONTROL VALUE"
+        )
     most = RANGES.get(moves.kinds.get(part, ""))
     if most is None or action != "set" and moves.kinds[part] != "wokwi-pushbutton":
         raise Fault(f"{part} is no part that it can {action}" if part in moves.kinds else f"there is no part {part}")
@@ -314,7 +322,11 @@ def chip_rules(pin_file: dict) -> tuple[dict[str, dict], list[str]]:
         ends = [it.get(key, usual) for key, usual in (("min", None), ("max", None), ("step", 1))] if name else []
         if not isinstance(name, str) or not re.fullmatch("[A-Za-z_][A-Za-z0-9_]{0,31}", name) or name in rules:
             faults.append(f"control {name}: a control has an `id` of letters, digits and _ of its own")
-        elif not all(isinstance(end, (int, float)) and end == int(end) and abs(end) < 2**31 for end in ends) or ends[2] < 1 or ends[0] > ends[1]:
+        elif (
+            not all(isinstance(end, (int, float)) and end == int(end) and abs(end) < 2**31 for end in ends)
+            or ends[2] < 1
+            or ends[0] > ends[1]
+        ):
             faults.append(f"control {name}: `min`, `max` and `step` are whole numbers here")
         elif len(rules) == 8 or (ends[1] - ends[0]) // ends[2] >= 20_000:
             faults.append(f"control {name}: a chip has 8 controls of 20,000 places at most")

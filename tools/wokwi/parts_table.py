@@ -73,7 +73,9 @@ def rows() -> list[tuple[str, str, str, str]]:
         unlike = "; ".join(text for text in (rule.get("says", ""), rule.get("unlike", "")) if text)
         found.append((code(kind), becomes(rule), rule["pin names"], unlike))
     for kind, rule in table["left out"].items():
-        found.append((code(kind), "moved by a script" if "controls" in rule else "left out; its wires stay", "any", rule["why"]))
+        found.append(
+            (code(kind), "moved by a script" if "controls" in rule else "left out; its wires stay", "any", rule["why"])
+        )
     reasons: dict[str, list[str]] = {}
     for kind, why in table["not there"].items():
         reasons.setdefault(why, []).append(kind)

@@ -53,7 +53,10 @@ def shown(chip: str, size: tuple[int, int], *cases: Wires, **attrs: str) -> list
     """The pixels that a chip shows at the end of each case."""
     with open(os.path.join(HERE, "chips", chip + ".wasm"), "rb") as file:
         module = base64.b64encode(file.read()).decode()
-    got = evaluated(PLAY, [{"module": module, "display": size, "attrs": attrs, "waves": case.edges, "at": case.at} for case in cases])
+    got = evaluated(
+        PLAY,
+        [{"module": module, "display": size, "attrs": attrs, "waves": case.edges, "at": case.at} for case in cases],
+    )
     for _, unplayed in got:
         assert unplayed == [], unplayed
     return [[tuple(pixels[at : at + 4]) for at in range(0, len(pixels), 4)] for pixels, _ in got]
@@ -325,7 +328,6 @@ def needs_an_engine(test: unittest.TestSuite) -> int:
         print(f"wokwi, chips on waves: skipped, {missing}", file=sys.stderr)
         return 0
     return not unittest.TextTestRunner().run(test).wasSuccessful()
-
 
 
 class Matrix(unittest.TestCase):

@@ -89,16 +89,16 @@ class Controls(unittest.TestCase):
 
     def test_an_encoder_turns_both_ways(self) -> None:
         right = made("0us set k turn 1\n", k="wokwi-ky-040")
-        self.assertEqual(
-            right, ["0us set k-clk 0", "2000us set k-dt 0", "4000us set k-clk 1", "6000us set k-dt 1"]
-        )
+        self.assertEqual(right, ["0us set k-clk 0", "2000us set k-dt 0", "4000us set k-clk 1", "6000us set k-dt 1"])
         left = made("0us set k turn -2\n", k="wokwi-ky-040")
         self.assertEqual([line.split()[2] for line in left], ["k-dt", "k-clk"] * 4)
         self.assertEqual(made("0us set k turn 0\n", k="wokwi-ky-040"), [])
 
     def test_a_frame_is_read_back_from_its_edges(self) -> None:
         for key, command in (("power", 162), ("9", 82)):
-            lines = made(f"16us set r key {key}\n", r="wokwi-ir-remote", one="wokwi-ir-receiver", two="wokwi-ir-receiver")
+            lines = made(
+                f"16us set r key {key}\n", r="wokwi-ir-remote", one="wokwi-ir-receiver", two="wokwi-ir-receiver"
+            )
             times = [
                 (int(line[: line.index("us")]) * 16 if "us" in line.split()[0] else int(line.split("cy")[0]))
                 for line in lines
@@ -136,7 +136,9 @@ class Chips(unittest.TestCase):
         level = {"id": "level", "label": "Level", "type": "range", "min": -10, "max": 90, "step": 5}
         found, faults = self.rules(level, {"id": "offset", "min": 0, "max": 20.0})
         self.assertEqual(faults, [])
-        self.assertEqual([(it["min"], it["step"], it["places before"]) for it in found.values()], [(-10, 5, 0), (0, 1, 21)])
+        self.assertEqual(
+            [(it["min"], it["step"], it["places before"]) for it in found.values()], [(-10, 5, 0), (0, 1, 21)]
+        )
         record = {"c": {"type": "chip-x", "attrs": {}, "ids": {"-control": "c-control"}, "rules": found}}
         parts = {"parts": [{"id": "c", "type": "chip-x"}], "connections": [], "controls": record}
         text, _ = moves.expanded("0us set c level 90\n1us set c offset 0\n", parts)
@@ -184,12 +186,20 @@ class Scripts(unittest.TestCase):
             ("1us set u 5", "u is no part that it can set"),
             ("1us press v", "there is no part v"),
             ("1us set b 2", "b takes 0 to 1, and not 2"),
-            ("1us press b twice", "it has other words than TIME press ID, TIME release ID, TIME set ID V or TIME set ID CONTROL VALUE"),
-            ("1ms press b", "it is no line of a script: TIME press ID, TIME release ID, TIME set ID V or TIME set ID CONTROL VALUE"),
+            (
+                "1us press b twice",
+                "it has other words than TIME press ID, TIME release ID, TIME set ID V or TIME set ID CONTROL VALUE",
+            ),
+            (
+                "1ms press b",
+                "it is no line of a script: TIME press ID, TIME release ID, TIME set ID V or TIME set ID CONTROL VALUE",
+            ),
             ("160000001cy press b", "its time is above 10,000,000us"),
         ):
             self.assertEqual(fault(ours + line + "\n", **u), f"script line 2: {text}")
-        self.assertEqual(fault("9us press b\n8us press b bounce\n", **u), "script line 2: its time is below that of an earlier line")
+        self.assertEqual(
+            fault("9us press b\n8us press b bounce\n", **u), "script line 2: its time is below that of an earlier line"
+        )
         self.assertIn("it has power, menu", fault("0us set r key up\n", **u, one="wokwi-ir-receiver"))
 
     def test_too_many_lines_and_lines_beyond_the_end(self) -> None:

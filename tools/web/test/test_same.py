@@ -466,7 +466,9 @@ class Same(unittest.TestCase):
     def test_scripts_at_random(self) -> None:
         seed = int(os.environ.get("SEED", "1"))
         chance, given, expected = random.Random(seed), [], []
-        moved = [(kind, rule) for key in ("lowered", "left out") for kind, rule in TYPES[key].items() if "controls" in rule]
+        moved = [
+            (kind, rule) for key in ("lowered", "left out") for kind, rule in TYPES[key].items() if "controls" in rule
+        ]
         self.assertGreater(len(moved), 15)
         simulated = [(kind, {}) for kind in moves.RANGES]
         for count in range(int(os.environ.get("COUNT", "500"))):
@@ -483,9 +485,15 @@ class Same(unittest.TestCase):
                 cycle += chance.choice((0, 1, 40, 16000, 333333, 3000000))
                 n = chance.randrange(5)
                 names = [*kinds[n][1].get("controls", {"value": {}})]
-                name = chance.choice(names) if chance.random() < 0.95 else chance.choice(["position", "r2c3", "3", "none"])
+                name = (
+                    chance.choice(names) if chance.random() < 0.95 else chance.choice(["position", "r2c3", "3", "none"])
+                )
                 rule = kinds[n][1].get("controls", {}).get(name, {})
-                values = [*rule.get("words", [])] or [str(chance.uniform(rule.get("min", 0), rule.get("max", 1)))[:17], "1", "0"]
+                values = [*rule.get("words", [])] or [
+                    str(chance.uniform(rule.get("min", 0), rule.get("max", 1)))[:17],
+                    "1",
+                    "0",
+                ]
                 values = values if chance.random() < 0.95 else ["-3", "12.34567", "1.05", "100k", "x", "1e3"]
                 where = f"{cycle}cy" if cycle % 16 or chance.random() < 0.5 else f"{cycle // 16}us"
                 lines.append(f"{where} set p{n} {name} {chance.choice(values)}")
@@ -494,7 +502,9 @@ class Same(unittest.TestCase):
                 if chance.random() < 0.1:
                     lines.append(f"{where} set p{chance.randrange(3, 6)} {chance.randrange(3)}")
                 if chance.random() < 0.03:
-                    lines.append(chance.choice(["# a word", "", "5us set p0", "x", f"{where}  set  p4   1", "0cy set p3 1 2 3"]))
+                    lines.append(
+                        chance.choice(["# a word", "", "5us set p0", "x", f"{where}  set  p4   1", "0cy set p3 1 2 3"])
+                    )
             given.append({"diagram": diagrams.text_of(made), "script": chance.choice(["\n", "\r\n"]).join(lines)})
             try:
                 text, seen = moves.expanded(given[-1]["script"], json.loads(given[-1]["diagram"]))
