@@ -275,7 +275,7 @@ class Modules(unittest.TestCase):
         module = self.read("tools", "wokwi", "chips", "dht22.wasm")
         self.assertEqual(
             (module.names_given("pinInit"), module.names_given("attrInit"), module.names_given("none")),
-            (["SDA"], ["temperature", "humidity"], []),
+            (["control", "SDA"], ["temperature", "humidity"], []),
         )
         self.assertEqual(
             self.read("examples", "chip-typist", "typist.wasm").names_given("attrInit"), ["baud", None, None, None]

@@ -12,7 +12,7 @@ const NAMES = ['complaintOf', 'rangeOf', 'withLine', 'unzipped', 'zipped', 'link
   'firmwareOf', 'firmwarePath', 'chipsOf', 'modulesOf', 'callOf', 'packedWaves', 'escaped', 'textOf', 'preparedOf', 'asHex', 'floatText', 'readJson', 'jsonText'];
 const textsOf = (folder, names) => names.map(name => fs.readFileSync(path.join(root, folder, name), 'utf8')).join('\n');
 const look = textsOf('tools/look/page', ['wave.js', 'run.js']);
-const own = textsOf('tools/web/page', ['places.js', 'script.js', 'archive.js', 'json.js', 'formulas.js', 'lower.js', 'firmware.js', 'project.js', 'prepare.js', 'saving.js']);
+const own = textsOf('tools/web/page', ['places.js', 'script.js', 'archive.js', 'json.js', 'formulas.js', 'lower.js', 'moves.js', 'firmware.js', 'project.js', 'prepare.js', 'saving.js']);
 const page = new Function(`${look}\n{\n${own}\nreturn { ${NAMES.join(', ')} };\n}`)();
 const types = JSON.parse(fs.readFileSync(path.join(root, 'tools/wokwi/types.json'), 'utf8'));
 const chips = Object.fromEntries(fs.readdirSync(path.join(root, 'tools/wokwi/chips')).map(name => [name, new Uint8Array(fs.readFileSync(path.join(root, 'tools/wokwi/chips', name)))]));
@@ -76,6 +76,8 @@ test('lines of a script come in the order of their cycles', () => {
   script = page.withLine(script, 999999999, 'release', 'btn1');
   assert.equal(script.split('\n').at(-2), '999999999cy release btn1');
   assert.equal(page.withLine('', 0, 'press', 'b'), '0us press b\n');
+  assert.equal(page.withLine('5us press b\n', 80, 'press', 'b', 'bounce'), '5us press b bounce\n');
+  assert.equal(page.withLine('5us set u distance 3\n5us set u2 level -4.5\n', 80, 'set', 'u', 'distance 20'), '5us set u2 level -4.5\n5us set u distance 20\n');
   assert.equal(page.withLine('what is this\n5us press b\n', 160, 'press', 'b'), 'what is this\n5us press b\n10us press b\n');
 });
 
@@ -179,7 +181,7 @@ test('chips that parts become, and chips of the folder that no wokwi.toml names,
   assert.equal(fileOf(ready, 'wokwi.toml'), "[wokwi]\nversion = 1\nfirmware = 'firmware.hex'\n\n[[chip]]\nname = \"own\"\nbinary = \"chip-own.wasm\"\n\n[[chip]]\nname = \"dht22\"\nbinary = \"dht22.wasm\"\n");
   assert.equal(fileOf(ready, 'chip-own.wasm'), 'module');
   assert.deepEqual(ready.project.files.get('dht22.wasm'), chips['dht22.wasm']);
-  assert.deepEqual(page.chipsOf(ready.project)['chip-dht22'], JSON.parse(text(chips['dht22.json'])).pins);
+  assert.deepEqual(page.chipsOf(ready.project)['chip-dht22'].sort(), JSON.parse(text(chips['dht22.json'])).pins.sort());
 });
 
 test('a chip that a page alone plays has its table in wokwi.toml, also when the project is made of one that was made', () => {
@@ -269,3 +271,12 @@ test('packed waves are those that the page of a run reads', t => {
 });
 
 test('a text in the page of a run is text', () => assert.equal(page.escaped('<a & "b">'), '&lt;a &amp; &quot;b&quot;&gt;'));
+
+test('a script in words of the editor is one that the simulator takes, and the page shows what it moves', () => {
+  const sensor = JSON.stringify({ version: 1, parts: [{ type: 'wokwi-arduino-uno', id: 'uno' }, { type: 'wokwi-hc-sr04', id: 'u', attrs: { distance: '30' } }], connections: [] });
+  const project = script => page.makeProject('p', [['diagram.json', bytes(sensor)], ['a.hex', bytes(':00000001FF\n')], ['script.txt', bytes(script)]]);
+  const { project: made, controls } = page.preparedOf(project('10us set u distance 2.5\n'), kit);
+  assert.equal(page.textOf(made, 'script.txt'), '10us set u-control 1\n166cy set u-control 0\n');
+  assert.deepEqual(controls, { u: [['distance', 'cm', [[0, '30'], [160, '2.5']]]] });
+  assert.deepEqual(page.preparedOf(project('1us set u distance 1\n'), kit), { complaint: 'script line 1: u takes a distance from 2 to 400 cm, and not 1' });
+});
