@@ -323,7 +323,10 @@ def chip_rules(pin_file: dict) -> tuple[dict[str, dict], list[str]]:
         if not isinstance(name, str) or not re.fullmatch("[A-Za-z_][A-Za-z0-9_]{0,31}", name) or name in rules:
             faults.append(f"control {name}: a control has an `id` of letters, digits and _ of its own")
         elif (
-            not all(isinstance(end, (int, float)) and end == int(end) and abs(end) < 2**31 for end in ends)
+            not all(
+                isinstance(end, (int, float)) and not isinstance(end, bool) and end == int(end) and abs(end) < 2**31
+                for end in ends
+            )
             or ends[2] < 1
             or ends[0] > ends[1]
         ):

@@ -207,6 +207,20 @@ function takeLine(moves, line, last) {
   return cycle;
 }
 
+// {rules, faults}: the controls of a chip by its JSON file, and why others cannot be moved: whole numbers, as attributes are.
+function chipRules({ controls }) {
+  const rules = {}, faults = [], isNumber = it => typeof it === 'number' && Number.isInteger(it) && Math.abs(it) < 2 ** 31;
+  let before = 0;
+  for (const it of Array.isArray(controls) ? controls : []) {
+    const name = it && typeof it === 'object' && !Array.isArray(it) ? it.id : undefined, [min, max, step] = name ? [it.min, it.max, it.step === undefined ? 1 : it.step] : [];
+    if (typeof name !== 'string' || !/^[A-Za-z_][A-Za-z0-9_]{0,31}$/.test(name) || Object.hasOwn(rules, name)) faults.push(`control ${name ?? 'None'}: a control has an \`id\` of letters, digits and _ of its own`);
+    else if (![min, max, step].every(isNumber) || step < 1 || min > max) faults.push(`control ${name}: \`min\`, \`max\` and \`step\` are whole numbers here`);
+    else if (Object.keys(rules).length === 8 || Math.floor((max - min) / step) >= 20000) faults.push(`control ${name}: a chip has 8 controls of 20,000 places at most`);
+    else { rules[name] = { min, max, step, default: '', unit: '', 'places before': before }; before += Math.floor((max - min) / step) + 1; }
+  }
+  return { rules, faults };
+}
+
 // {part: [[control, unit, [[cycle, value], ..]], ..]}: each control first with the value that the diagram gives it.
 function controlsOf(diagram, types, seen) {
   const moves = new Moves(diagram, types), found = {};

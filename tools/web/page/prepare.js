@@ -113,6 +113,12 @@ function ownPinFile(bytes, size, pins) {
   return utf8.encode(jsonText(value));
 }
 
+// What is said of the controls of a chip: a module is as it was built, so they keep their values.
+function controlNotes(name, pinFile) {
+  const { rules, faults } = chipRules(pinFile);
+  return (Object.keys(rules).length ? [`its controls keep their values: only a chip that is built from its source (${name}.chip.c, and no module) has what moves them`] : faults).map(fault => `chip ${name}: ${fault}`);
+}
+
 // Null of a diagram that the simulator is to refuse.
 function loweredProject(project, diagram, kit) {
   const chips = chipsIn(project, diagram), lowering = new Lowering(diagram, new Map([...chips].map(([name, chip]) => [name, pinsOf(project, chip)])), kit.types);
@@ -131,6 +137,7 @@ function loweredProject(project, diagram, kit) {
     let stem = `chip-${name.replace(/[^A-Za-z0-9_-]/gu, '_')}`;
     while (stems.some(([, other]) => other === stem)) stem += '_';
     files.set(`${stem}.json`, project.files.get(chip.text)).set(`${stem}.wasm`, project.files.get(chip.module));
+    lowering.notes.push(...controlNotes(name, JSON.parse(textOf(project, chip.text).replace(/^\uFEFF/, ''))));
     stems.push([name, stem]);
   }
   const shown = [], onBoard = new Set(lowering.parts.map(part => part.get('type')));
