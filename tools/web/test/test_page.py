@@ -111,6 +111,28 @@ class Page(unittest.TestCase):
         kept = self.saved()
         self.assertNotIn("wasm-unsafe-eval", kept[:2000])
 
+    def test_a_sensor_is_moved_by_its_slider_and_a_button_bounces(self):
+        self.js("pick('button')")
+        parts = [{"type": "wokwi-arduino-uno", "id": "uno"}, {"type": "wokwi-hc-sr04", "id": "u", "top": -150}, {"type": "wokwi-ky-040", "id": "k", "top": 250},
+                 {"type": "wokwi-pushbutton", "id": "b", "top": 250, "left": 200}, {"type": "wokwi-pushbutton", "id": "c", "top": 250, "left": 300, "attrs": {"bounce": "0"}}]
+        self.typed("diagram.json", json.dumps({"version": 1, "parts": parts, "connections": [["b:1.l", "uno:2"], ["b:2.l", "uno:GND.1"]]}))
+        self.typed("script.txt", "")
+        self.js("press('Run'); idle()")
+        self.assertEqual(self.js("[...document.querySelectorAll('.hand-line b')].map(it => it.textContent)"), ["b", "c", "u", "k"])
+        self.js("(() => { it.look.go(1600); const slide = document.querySelector('input[aria-label=\"u distance\"]'); slide.value = '20'; slide.dispatchEvent(new Event('input')); slide.dispatchEvent(new Event('change')); })(); idle()")
+        self.assertEqual(self.js("textOf('script.txt')"), "100us set u distance 20\n")
+        self.assertEqual(self.js("[[...it.run.wave('u.control').t], controlAt(it.run, 'u', 'distance', 1599, true), controlAt(it.run, 'u', 'distance', 1600, true)]"), [[0, 1601, 1782], "400 cm", "20 cm"])
+        self.js("document.querySelector('.hand label input').checked = true; it.look.go(16000); [...document.querySelectorAll('.hand-line button')].filter(it => it.textContent === 'press').forEach(it => it.click()); idle()")
+        self.assertEqual(self.js("textOf('script.txt')"), "100us set u distance 20\n1000us press b bounce\n1000us press c\n")
+        self.assertEqual(self.js("it.run.inputs.b.length - it.run.inputs.c.length"), 6)
+        self.js("it.look.go(32000); document.querySelector('button[title=\"k turn 1\"]').click(); idle()")
+        self.assertIn("2000us set k turn 1\n", self.js("textOf('script.txt')"))
+        self.assertEqual(self.js("it.look.board.texts({ t: it.run.to - 1, since: it.run.to - 1 }).find(([id]) => id === 'k')"), ["k", "1 steps"])
+        self.picture("sensors")
+        self.typed("script.txt", "1us set u distance 1\n")
+        self.js("press('Run'); idle()")
+        self.assertEqual(self.js("document.querySelector('.complaint').textContent"), "script line 1: u takes a distance from 2 to 400 cm, and not 1")
+
     def test_a_button_is_pressed_at_the_cursor(self):
         self.js("pick('button')")
         before = self.js("textOf('script.txt')")
