@@ -3,7 +3,7 @@
 index, sum and access, and refuses request N of each command below. The command must then end with 7, with the line `out of
 memory` and nothing on standard output; one that makes fewer requests must answer as the program in PROGRAM does
 (target/mudflatjar if it is not set). The toolchain compiles anew for each number, which takes minutes of a processor;
-memory.py tries each request, of the built program.
+test_memory.py tries each request, of the built program.
 
   kit.py [N..]     these numbers, or else 5, which each command has, and 300, which the small ones have not
 Ends with 1 where a command answers otherwise.

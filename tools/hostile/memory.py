@@ -1,23 +1,18 @@
-#!/usr/bin/env python3
-"""Refused memory, one request at a time: refuse.c stands before the C library's heap and refuses request k of a command. For
-each k from the first request to the last the program must end with 7, with the line `out of memory`, with nothing on standard
-output, and with each file as it was; above the last it must answer as ever, byte for byte.
+"""A command of the program whose requests for memory are refused, one at a time: refuse.c comes before the C library's heap and
+refuses request k. The program must then end with 7, with the line `out of memory`, with nothing on standard output, and with
+each file as it was; above the last request it must answer as ever, byte for byte."""
 
-  memory.py [--all] [CASE..]    every request, or else a sample of them: some sixty of each case
-PROGRAM is the program to try, target/mudflatjar if it is not set. Needs a compiler for C. Ends with 1 where one is otherwise.
-"""
 import os
 import pathlib
 import shutil
 import subprocess
-import sys
-import tempfile
+from typing import Iterator, NamedTuple, Optional, Union
 
 TOP = pathlib.Path(__file__).resolve().parents[2]
 SAMPLE, LIMIT = 60, 300
 BOTH = "--vcd wave.vcd --report report.txt"
 # each case: the examples that it takes, and its words; {0} is the folder of the first
-CASES = {
+CASES: dict[str, tuple[list[str], str]] = {
     "bare": (["blink"], "bare {0}/blink.hex --us 1"),
     "run": (["counter"], f"run {{0}} --us 2 {BOTH}"),
     "run-script": (["keypad"], "run {0} --us 10 --script {0}/script.txt " + BOTH),
@@ -43,101 +38,104 @@ CASES = {
 }
 
 
+def refusing_heap(room: pathlib.Path) -> pathlib.Path:
+    """The library that refuses a request, made in a folder. Needs a compiler for C."""
+    library = room / "refuse.so"
+    subprocess.run(["cc", "-O2", "-shared", "-fPIC", "-o", library, TOP / "tools/hostile/refuse.c"], check=True)
+    return library
+
+
+class Ended(NamedTuple):
+    """How a call ended: its status, or what is said of one that did not end, and what it wrote on both outputs."""
+
+    status: Union[int, str]
+    out: bytes
+    said: bytes
+
+
+class Tried(NamedTuple):
+    """How many requests a command makes, how many of them were refused, and what was otherwise than it must be."""
+
+    requests: int
+    refused: int
+    wrong: list[str]
+
+
 class Case:
-    def __init__(self, name, room, library, program):
+    """A command of CASES in a folder of its own."""
+
+    def __init__(self, name: str, room: pathlib.Path, library: pathlib.Path, program: pathlib.Path) -> None:
         examples, words = CASES[name]
-        self.name, self.folder, self.library, self.program = name, room / name, library, program
+        self.folder, self.library, self.program = room / name, library, program
         self.count = room / f"{name}.count"
         self.folder.mkdir()
         for example in examples:
             shutil.copytree(TOP / "examples" / example, self.folder / example)
         self.words = words.format(*examples).split()
 
-    def begin(self):
-        """An older file stands where each output goes."""
+    def begin(self) -> None:
+        """Puts an older file in the place of each output."""
         for name in ("wave.vcd", "report.txt"):
             (self.folder / name).write_text("from before\n")
 
-    def texts(self):
+    def texts(self) -> dict[pathlib.Path, bytes]:
+        """What each file has."""
         return {path: path.read_bytes() for path in sorted(self.folder.rglob("*")) if path.is_file()}
 
-    def files(self):
+    def files(self) -> dict[str, tuple]:
         """Each file with what tells whether it was touched."""
-        seen = {}
-        for path, content in self.texts().items():
-            it = path.stat()
-            seen[str(path.relative_to(self.folder))] = (it.st_ino, it.st_mtime_ns, content)
-        return seen
+        stats = {path: path.stat() for path in self.texts()}
+        return {
+            str(path.relative_to(self.folder)): (it.st_ino, it.st_mtime_ns, path.read_bytes())
+            for path, it in stats.items()
+        }
 
-    def run(self, number=None):
-        """Status, standard output and standard error where request `number` is refused, none at 0, without the library at None."""
+    def run(self, number: Optional[int] = None) -> Ended:
+        """How it ends if request `number` is refused: none at 0, and without the library at None."""
         environment = dict(os.environ)
         if number is not None:
-            environment |= {"LD_PRELOAD": str(self.library), "REFUSE": str(number), "REFUSE_COUNT": str(self.count)}
+            environment |= {
+                "LD_PRELOAD": str(self.library),
+                "REFUSE": str(number),
+                "REFUSE_COUNT": str(self.count),
+            }
+        words = [str(self.program), *self.words]
         try:
-            ended = subprocess.run([self.program, *self.words], cwd=self.folder, env=environment, stdin=subprocess.DEVNULL, capture_output=True, timeout=LIMIT)
+            ended = subprocess.run(
+                words, cwd=self.folder, env=environment, stdin=subprocess.DEVNULL, capture_output=True, timeout=LIMIT
+            )
         except subprocess.TimeoutExpired:
-            return f"none after {LIMIT} s", b"", b""
-        return ended.returncode, ended.stdout, ended.stderr
+            return Ended(f"none after {LIMIT} s", b"", b"")
+        return Ended(ended.returncode, ended.stdout, ended.stderr)
 
-    def answer(self, number=None):
-        """What the command answers and what stands in its folder then."""
+    def answer(self, number: Optional[int] = None) -> tuple[Ended, dict[pathlib.Path, bytes]]:
+        """How it ends, and what its folder has then."""
         self.begin()
         return self.run(number), self.texts()
 
-    def refused(self, number, before):
-        """What is wrong with the answer where a request is refused."""
-        status, out, said = self.run(number)
-        now = self.files()
+    def refused(self, number: int, before: dict[str, tuple]) -> Iterator[str]:
+        """What is wrong with how it ends if a request is refused."""
+        ended, now = self.run(number), self.files()
         changed = sorted(it for it in {*now, *before} if now.get(it) != before.get(it))
-        if (status, out, said) != (7, b"", b"out of memory\n"):
-            yield f"status {status}, {len(out)} bytes on standard output, {said[-200:]!r}"
+        if ended != (7, b"", b"out of memory\n"):
+            yield f"status {ended.status}, {len(ended.out)} bytes on standard output, {ended.said[-200:]!r}"
         if changed:
             yield f"changed {' '.join(changed)}"
 
-    def tried(self, is_all):
-        """How many requests the command makes, how many of them were refused here, and what was otherwise than it must be."""
+    def tried(self, is_all: bool) -> Tried:
+        """Refuses each of its requests, or some SAMPLE of them."""
         usual = self.answer()
-        if usual[0][0] == 2 and self.words[0] == "decode":
-            return 0, 0, ["skipped, this program has no such command"]
-        bad = [] if self.answer(0) == usual else ["with the library another answer than without"]
+        wrong = [] if self.answer(0) == usual else ["with the library another answer than without"]
         last = int(self.count.read_text()) if self.count.exists() else 0
         if not last:
-            return 0, 0, ["the program does not take its memory from the C library"]
-        numbers = range(1, last + 1) if is_all else sorted({1, last, *range(1, last + 1, max(1, last // SAMPLE))})
+            return Tried(0, 0, ["the program does not take its memory from the C library"])
+        some = {1, last, *range(1, last + 1, max(1, last // SAMPLE))}
+        numbers = range(1, last + 1) if is_all else sorted(some)
         self.begin()
         before = self.files()
         for number in numbers:
-            bad += [f"request {number} of {last}: {it}" for it in self.refused(number, before)]
-        bad += [f"request {number}, which is none: another answer than ever" for number in (last + 1, last + 1000) if self.answer(number) != usual]
-        return last, len(numbers), bad
-
-
-def main(words):
-    """Status 1 where a command answered otherwise than it must."""
-    program = pathlib.Path(os.environ.get("PROGRAM") or TOP / "target/mudflatjar").resolve()
-    is_all, names = "--all" in words, [it for it in words if it != "--all"] or list(CASES)
-    if not shutil.which("cc"):
-        print("memory: skipped, no compiler for C", file=sys.stderr)
-        return 0
-    if not os.access(program, os.X_OK) or not set(names) <= set(CASES):
-        sys.exit(f"memory: there is no program {program}" if set(names) <= set(CASES) else __doc__)
-    is_bad, requests, refused = False, 0, 0
-    with tempfile.TemporaryDirectory() as folder:
-        room = pathlib.Path(folder)
-        library = room / "refuse.so"
-        subprocess.run(["cc", "-O2", "-shared", "-fPIC", "-o", library, TOP / "tools/hostile/refuse.c"], check=True)
-        for name in names:
-            last, some, bad = Case(name, room, library, program).tried(is_all)
-            requests, refused = requests + last, refused + some
-            if bad and bad[0].startswith("skipped"):
-                print(f"{name}: {bad[0]}", file=sys.stderr)
-                continue
-            is_bad |= bool(bad)
-            print(f"{name}: {last} requests, {some} refused one at a time: {'ok' if not bad else ''}{chr(10).join(bad[:20])}", flush=True)
-    print(f"memory: {requests} requests, {refused} refused")
-    return is_bad
-
-
-if __name__ == "__main__":
-    sys.exit(main(sys.argv[1:]))
+            wrong += [f"request {number} of {last}: {it}" for it in self.refused(number, before)]
+        for number in (last + 1, last + 1000):
+            if self.answer(number) != usual:
+                wrong.append(f"request {number}, which is none: another answer than ever")
+        return Tried(last, len(numbers), wrong)
