@@ -3,12 +3,14 @@
 wave has. Ends with 1 where something fails, and says that it was skipped where there is no Chromium."""
 import json
 import os
+import re
 import shutil
 import sys
 import tempfile
 import time
 
 import examples
+import measure
 import test_played
 from browser import Browser
 from look import arguments, seen_of
@@ -229,6 +231,12 @@ def check_hostile(page, box):
     silent(page)
 
 
+def check_measuring():
+    """measure.py has a line with its sizes and times."""
+    line = measure.measured(1000)
+    assert re.fullmatch(r"a wave of [\d,]+ bytes, 1,020 changes; read in .* of processor time into [\d,]+ bytes; page [\d,]+ bytes, opens in .* a frame in [\d.]+ ms", line), line
+
+
 def everything():
     bad = 0
     try:
@@ -240,7 +248,8 @@ def everything():
         with tempfile.TemporaryDirectory() as box:
             steps = [(f"page of {name} opens", check_opens, (page, box, name)) for name in examples.names()]
             steps += [("keys", check_keys, (page, box)), ("mouse", check_mouse, (page, box)), ("tools", check_tools, (page, box)),
-                      ("hostile modules", check_hostile, (page, box)), ("what was left out", check_left, (page, box)), ("screens", check_screens, (page, box))]
+                      ("hostile modules", check_hostile, (page, box)), ("what was left out", check_left, (page, box)), ("screens", check_screens, (page, box)),
+                      ("measuring", check_measuring, ())]
             for name, step, values in steps:
                 try:
                     step(*values)

@@ -15,6 +15,7 @@ import zipfile
 from array import array
 
 import examples
+import measure
 from look import SAMPLES, arguments, main, seen_of
 from packing import packed, unpacked
 from page import SCRIPTS, STYLES, page_of, script_of, style_of
@@ -323,11 +324,20 @@ class quiet:
         os.close(self.none)
 
 
+def check_measured():
+    """The page that measure.py opens is of its random wave: each change is there, and the page holds the waves."""
+    vcd, end = measure.random_wave(1000)
+    waves, _ = read_wave(io.BytesIO(vcd), 2000)
+    rows = plain_reading(vcd)
+    assert {name: edges_of(waves.waves[at]) for name, at in zip(waves.names, waves.of)} == rows, "other waves"
+    assert packed(waves.waves) in page_of(measure.run_of(waves, end))
+
+
 def everything():
     bad = 0
     jobs = [(f"look, wave of {name}", check_example, (name,)) for name in examples.names()]
     jobs += [(f"look, page of {name}", check_page, (name,)) for name in ("button", "chip-echo", *PLAYED, "seven-segment")]
-    jobs += [("look, bytes at two speeds", check_two_speeds, ()), ("look, bytes in each format", check_formats, ()), ("look, bytes of a part of a run", check_part_of_times, ()), ("look, what a run leaves out", check_left_out, ())]
+    jobs += [("look, bytes at two speeds", check_two_speeds, ()), ("look, bytes in each format", check_formats, ()), ("look, bytes of a part of a run", check_part_of_times, ()), ("look, what a run leaves out", check_left_out, ()), ("look, the page that is measured", check_measured, ())]
     with concurrent.futures.ThreadPoolExecutor(4) as pool:
         for name, future in [(name, pool.submit(call, *values)) for name, call, values in jobs]:
             try:
