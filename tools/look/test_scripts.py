@@ -410,6 +410,8 @@ def check_geometry():
 # Parts that lower.py makes of one: a rotary encoder, and ten LEDs of one bar.
 ENCODER = [("wokwi-slide-switch", "encoder1-clk"), ("wokwi-slide-switch", "encoder1-dt"), ("wokwi-pushbutton", "encoder1-sw")]
 BAR = [("wokwi-led", f"bargraph1-{n}") for n in range(1, 11)]
+# A Nano, and parts around it that would be below an Uno in its place.
+NANO = [{"type": "wokwi-arduino-uno", "as": "wokwi-arduino-nano", "id": "nano"}, {"type": "wokwi-led", "id": "led", "left": 20, "top": 90}, {"type": "wokwi-pushbutton", "id": "btn", "left": 190, "top": 20}]
 NAMED = "{ const { parts, wires } = makeRun({ title: 'x', cycles: 1, diagram: given, names: [], of: [], waves: [] }); return apart(parts, wires).map(part => boxWithName(part, wires)); }"
 
 
@@ -419,6 +421,10 @@ def check_places():
         boxes = evaluated(NAMED, {"parts": [{"type": kind, "id": name, "top": -60, "left": 60} for kind, name in group], "connections": []})
         for (one, first), (other, second) in itertools.combinations(zip(group, boxes), 2):
             assert first[2] <= second[0] or second[2] <= first[0] or first[3] <= second[1] or second[3] <= first[1], (one, first, other, second)
+    nano, *around = evaluated(NAMED, {"parts": NANO, "connections": []})
+    assert nano == [0, 0, 169.7, 67.3] and all(box[0] >= nano[2] or box[1] >= nano[3] for box in around), (nano, around)
+    levels = evaluated("{ const run = makeRun({ title: 'x', cycles: 9, diagram: given, names: ['nano.13'], of: [0], waves: [makeWave([0, 4], [0, 1])] }); return ['13.2', 'GND.3', '5V.2', '12.2'].map(pin => pinState(run, 'nano.' + pin, { t: 5 })); }", {"parts": NANO})
+    assert levels == ["1", "0", "1", "z"], levels
     covered = dict(PLUGGED, parts=[dict(part, top=-45, left=50) if part["id"] == "led" else part for part in PLUGGED["parts"]])
     for diagram, place in ((PLUGGED, ("name", -27)), (covered, ("name", 188))):
         root = ET.fromstring(evaluated(DRAWN, diagrams.Lowering(diagram, {}).outcome()))

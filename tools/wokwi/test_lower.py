@@ -276,10 +276,18 @@ class Parts(unittest.TestCase):
         self.assertEqual([(name, len(pins)) for name, (_, _, pins) in lowering.own_chips.items()], [("hd44780-20x5", 16), ("hd44780-20x5-", 4)])
 
     def test_steps_that_belong_to_another_drawing_go(self):
-        value = uno(part("wokwi-arduino-nano", "nano"), part("wokwi-led", "led"), part("wokwi-ds1307", "imu"))
-        del value["parts"][0]
-        value["connections"] = [["nano:13", "led:A", "green", ["v7"]], ["imu:5V", "led:C", "red", ["v7"]], ["led:A", "led:C", "blue", ["h3"]], ["imu:SQW", "nano:2", "gray"]]
+        value = uno(part("wokwi-relay-module", "relay"), part("wokwi-led", "led"), part("wokwi-ds1307", "clock"))
+        value["connections"] = [["relay:IN", "led:A", "green", ["v7"]], ["clock:5V", "led:C", "red", ["v7"]], ["led:A", "led:C", "blue", ["h3"]], ["clock:SQW", "uno:2", "gray"]]
         self.assertEqual([wire[2:] for wire in lowered(value)[1]["connections"]], [["green", []], ["red", []], ["blue", ["h3"]], ["gray"]])
+
+    def test_a_nano_is_drawn_as_one_with_the_steps_of_its_wires(self):
+        value = uno(part("wokwi-led", "led"))
+        value["parts"][0] = part("wokwi-arduino-nano", "nano")
+        value["connections"] = [["nano:13.2", "led:A", "green", ["v7"]], ["led:C", "nano:GND.3", "black", ["h3"]]]
+        made = lowered(value)[1]
+        self.assertEqual((made["parts"][0]["type"], made["parts"][0]["as"]), ("wokwi-arduino-uno", "wokwi-arduino-nano"))
+        self.assertEqual([wire[:4] for wire in made["drawn"]["connections"]], value["connections"])
+        self.assertEqual([wire[:2] for wire in made["connections"]], [["nano:13", "led:A"], ["led:C", "nano:GND.3"]])
 
     def test_lowering_what_is_lowered_changes_nothing(self):
         value = uno(part("wokwi-rgb-led", "rgb"), part("wokwi-breadboard", "bb"), wires=[("uno:9", "bb:1t.a"), ("bb:1t.b", "rgb:R"), ("rgb:COM", "uno:GND.1")])

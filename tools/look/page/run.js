@@ -3,7 +3,7 @@
 
 const CYCLES_A_MICROSECOND = 16;
 const ALWAYS_LOW = makeWave([0], [0]), ALWAYS_HIGH = makeWave([0], [1]);
-const UNO_SUPPLY = /^(5V|3\.3V|VIN|IOREF|AREF)$/, UNO_GROUND = /^GND\.[123]$/;
+const UNO_SUPPLY = /^(5V|3\.3V|VIN|IOREF|AREF)$/, UNO_GROUND = /^GND\.[123]$/, TWICE_ON_BOARD = /^(A4|A5|11|12|13|5V)\.2$/;      // on an Uno, and on a Nano
 const SET_BY_HAND = new Set(['wokwi-pushbutton', 'wokwi-slide-switch', 'wokwi-dip-switch-8', 'wokwi-potentiometer', 'wokwi-membrane-keypad', 'board-source']);
 const STARTS = { 'wokwi-slide-switch': 0, 'wokwi-potentiometer': 0, 'board-source': 2 };      // by the attribute `value`, else by this
 
@@ -108,7 +108,7 @@ function waveNamed(run, name) {
   const at = name.indexOf('.'), pin = name.slice(at + 1);
   const part = run.parts.find(p => p.id === name.slice(0, at));
   if (!part || part.type !== 'wokwi-arduino-uno') return null;
-  if (pin === 'A4.2' || pin === 'A5.2') return waveNamed(run, name.slice(0, -2));
+  if (TWICE_ON_BOARD.test(pin)) return waveNamed(run, name.slice(0, -2));
   return UNO_GROUND.test(pin) ? ALWAYS_LOW : UNO_SUPPLY.test(pin) ? ALWAYS_HIGH : null;
 }
 

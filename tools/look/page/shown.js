@@ -34,6 +34,36 @@ SHOWN['wokwi-servo'] = byChip({
   tell: frame => { const [angle, low, high] = pixelAt(frame, 0); return `${angle}°, pulse ${low + 256 * high} us`; },
 });
 
+// ---- The Nano: the Uno's microcontroller on a board of its own, with the holes of its header for programming at the right
+
+const NANO_PINS = {
+  ...row('12 11 10 9 8 7 6 5 4 3 2 GND.2 RESET.2 0 1', 19.7, 4.8), ...row('13 3.3V AREF A0 A1 A2 A3 A4 A5', 19.7, 62.4), ...row('5V RESET GND.1 VIN', 125.3, 62.4),
+  'GND.3': [154.1, 24], 'RESET.3': [163.7, 24], '11.2': [154.1, 33.6], '13.2': [163.7, 33.6], '5V.2': [154.1, 43.2], '12.2': [163.7, 43.2],
+};
+const NANO_TEXT = { 0: 'RX0', 1: 'TX1', 'GND.1': 'GND', 'GND.2': 'GND', RESET: 'RST', 'RESET.2': 'RST', AREF: 'REF', '3.3V': '3V3' };
+SHOWN['wokwi-arduino-nano'] = {
+  size: [169.7, 67.3], named: false, pins: NANO_PINS,
+  draw(g, part, run) {
+    const metal = { fill: '#c3c8cb', stroke: '#888f94' }, black = { fill: '#23272a', stroke: '#101314' }, silk = { fill: '#dff1f2', 'font-size': 4.1, ...middle };
+    g.append(rect(5, 0, 164.2, 67.2, { rx: 2, fill: '#12697a', stroke: '#0b4450' }), rect(0, 20, 24, 27, { ...metal, rx: 1.5 }), path('M0 26H19M0 41H19', { stroke: '#9aa1a5', fill: 'none' }));
+    g.append(rect(64.5, 20.1, 27, 27, { ...black, rx: 1, transform: 'rotate(45 78 33.6)' }), label(78, 32.6, 'ATmega', { ...middle, 'font-size': 5.4, fill: '#aab1b5' }), label(78, 38.6, '328P', { ...middle, 'font-size': 5.4, fill: '#aab1b5' }));
+    g.append(label(40, 36, 'NANO', { ...middle, 'font-size': 7.5, 'font-weight': 700, fill: '#e9f6f7', transform: 'rotate(-90 40 33.6)' }), rect(108, 28, 11, 11, { rx: 1.5, ...metal }), circle(113.5, 33.5, 3.4, { fill: '#f1f2f1', stroke: '#8a9094' }));
+    for (const [name, [x, y]] of [...Object.entries(NANO_PINS), ['A6', [106.1, 62.4]], ['A7', [115.7, 62.4]]]) {
+      g.append(circle(x, y, 3.4, { fill: '#d8b64f' }), circle(x, y, 1.9, { fill: '#1d2124' }));
+      const text = NANO_TEXT[name] || (/^\d+$/.test(name) ? 'D' + name : name);
+      if (y < 10 || y > 60) g.append(label(x, y < 10 ? 13 : 57.2, text, silk));
+    }
+    const lamps = ['TX', 'RX', 'ON', 'L'].map((name, i) => { const y = 22.6 + 7.4 * i, lamp = rect(127, y, 5, 3, { rx: .6, fill: name === 'ON' ? '#7be38a' : '#7b6a44' }); g.append(lamp, label(139, y + 3.2, name, { ...silk, 'font-size': 4.8 })); return lamp; });
+    const shine = circle(129.5, 46.3, 6, { fill: '#ffc24d' });
+    g.insertBefore(shine, lamps[3]);
+    return moment => {
+      const share = lightShare(run, pinOf(part, '13'), pinOf(part, 'GND.1'), moment.since, moment.t);
+      glow(lamps[3], '#7b6a44', '#ffd884', share);
+      shine.setAttribute('opacity', .55 * seen(share));
+    };
+  },
+};
+
 // ---- Pixels
 
 const rgbText = ([r, g, b]) => colorText([r, g, b].map(n => 255 * seen(n / 255)));
