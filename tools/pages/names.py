@@ -1,7 +1,7 @@
 #!/usr/bin/env python3
 """Looks whether what docs/PROVED.md and docs/UNO.md name is where they say it is: crates, clauses, calls, definitions, laws,
-rows and files; and whether what docs/ARCHITECTURE.md and docs/ENGINE.md name is there at all. Says each name that is not
-there, and then ends with 1.
+rows and files; and whether what docs/ARCHITECTURE.md and docs/ENGINE.md name, and the files that
+CONTRIBUTING.md names, are there at all. Says each name that is not there, and then ends with 1.
 
 How the pages name things:
   `crate`: Name (a, b), Other   modules of crates/crate/specs, and definitions in the first of them
@@ -28,6 +28,8 @@ ARM = re.compile(r"^ +(0x[0-9A-F]+) => (?:Some\()?Register::(\w+)", re.M)
 FIELD = re.compile(r"^ +(?:pub(?:\([^)]*\))? |ghost )?(\w+):", re.M)
 VARIANT = re.compile(r"^ +([A-Z]\w*)(?:\(.*\)|)(?: = .*)?,$", re.M)
 QUOTED = re.compile(r"`([^`]+)`")
+# a path, or a name with an ending
+FILE = re.compile(r"[\w.*-]+(?:/[\w.*-]*)+|[\w-]+\.(?:rt|antt|rows|py|c|S|h|js|json|sh|md|txt|edit)")
 GROUPED = re.compile(r"\(([A-Z][a-z]+\w*(?:, [A-Z][a-z]+\w*)*)\)")
 # words of the program, of the toolchain and of the documents that the pages go by, which no crate has
 WORDS = set("- accepted arrayvec axioms= bare check chipInit clap crate crates/crate/specs/Name.antt ensures examples".split()) | set(
@@ -82,6 +84,8 @@ class Anywhere:
 class Page:
     """A page of a repository, and what it names that is not there."""
 
+    where = "docs/"
+
     def __init__(self, top, name):
         self.top, self.name = top, name
         self.crates = {path.name: Crate(path) for path in (top / "crates").iterdir() if path.is_dir()}
@@ -97,7 +101,7 @@ class Page:
     def must(self, is_there, name, where):
         self.found += 1
         if not is_there:
-            self.bad.append(f"docs/{self.name}:{self.line}: there is no {name} in {where}")
+            self.bad.append(f"{self.where}{self.name}:{self.line}: there is no {name} in {where}")
         return is_there
 
     def crate(self, name):
@@ -268,15 +272,32 @@ class Tour(Page):
         return self.bad
 
 
+class Guide(Page):
+    """A page at the top whose lists name files: each is there from the top, or in a crate, or under its name alone somewhere. What has
+    two capital letters, as `crates/NAME`, is a form of names, and what begins with `target/` is made."""
+
+    where = ""
+
+    def read(self):
+        names = {path.name for place in ("crates", "tools", "docs", "examples", "bench") for path in (self.top / place).rglob("*")}
+        for self.line, line in enumerate((self.top / self.name).read_text().splitlines(), 1):
+            for name in filter(FILE.fullmatch, QUOTED.findall(line)):
+                if re.search("[A-Z]{2}", name) or name.startswith("target/"):
+                    continue
+                is_there = name.rstrip("/") in names or any(self.top.glob(name)) or any(self.top.glob(f"crates/*/{name}"))
+                self.must(is_there, name, "the repository")
+        return self.bad
+
+
 def main():
     bad, found = [], 0
-    pages = [Page(TOP, "PROVED.md"), Page(TOP, "UNO.md"), Tour(TOP, "ARCHITECTURE.md"), Tour(TOP, "ENGINE.md")]
+    pages = [Page(TOP, "PROVED.md"), Page(TOP, "UNO.md"), Tour(TOP, "ARCHITECTURE.md"), Tour(TOP, "ENGINE.md"), Guide(TOP, "CONTRIBUTING.md")]
     for page in pages:
         bad += page.read()
         found += page.found
     for line in bad:
         print(line, file=sys.stderr)
-    print(f"{found} names in {', '.join(f'docs/{page.name}' for page in pages)}: {len(bad)} that are not there")
+    print(f"{found} names in {', '.join(page.where + page.name for page in pages)}: {len(bad)} that are not there")
     return bool(bad) or not all(page.found for page in pages)
 
 

@@ -134,6 +134,19 @@ class Names(Repository):
             said = [f"docs/TOUR.md:1: there is no {name} in any crate, and no file" for name in found]
             self.assertEqual(names.Tour(self.top, "TOUR.md").read(), said)
 
+    def test_the_files_of_a_guide(self):
+        guide = "`specs/Half.antt` and `Half.antt` of `crates/low`, `tools/*.sh`; `crates/NAME`, `target/made` and `half.of` are no files.\n"
+        for old, new, found in [
+            ("", "", []),
+            ("`specs/Half.antt`", "`specs/Third.antt`", ["specs/Third.antt"]),
+            ("`Half.antt`", "`Third.antt`", ["Third.antt"]),
+            ("`crates/low`", "`crates/high`", ["crates/high"]),
+            ("`tools/*.sh`", "`tools/*.js`", ["tools/*.js"]),
+        ]:
+            self.write("GUIDE.md", guide.replace(old, new))
+            said = [f"GUIDE.md:1: there is no {name} in the repository" for name in found]
+            self.assertEqual(names.Guide(self.top, "GUIDE.md").read(), said)
+
     def test_rows_and_laws(self):
         for old, new, said in [
             ("| `half`; ", "| `half_laws`; ", "docs/UNO.md:5: there is no half_laws in specs/ and proofs/ of low"),
