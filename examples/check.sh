@@ -212,7 +212,7 @@ fi
 
 # what the typist types: the attributes in the diagram, others, and texts in its module
 if command -v python3 >/dev/null; then
-    "$here/chip-typist/check.py" "$program" || bad=1
+    PROGRAM=$program python3 -B "$here/chip-typist/test_typist.py" || bad=1
     "$here/../tools/display.py" "$here/chip-display/expected/report.txt" bars1 | same "chip-display's picture" "$here/chip-display/expected/picture.txt" || bad=1
     "$here/../tools/display.py" "$here/chip-display/expected/report.txt" bars1 --svg - | same "chip-display's picture in colors" "$here/chip-display/display.svg" || bad=1
 else
